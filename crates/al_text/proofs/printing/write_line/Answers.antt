@@ -1,0 +1,26 @@
+use Rattle.std.proofs.Common.{◌≡◌, ◌++◌, ◌∷◌, [], ℕ, List, subst, append_assoc, append-nil, refl}
+use Rattle.std.proofs.lemmas.Result.{on_ok_weaker, on_err_weaker}
+use Rattle.std.specs.Io.KnownBytes.{Appends}
+use Rattle.al_text.specs.Counted.{AppendsFront}
+use Rattle.al_text.specs.Messages.{shown}
+use Rattle.al_text.proofs.printing.write_line.Goals as goal
+
+-- parts one after another, as a sum from the left
+line_is : (p l c h f m s t k : List ℕ) →
+    p ++ ((58 ∷ []) ++ (l ++ ((58 ∷ []) ++ (c ++ ((58 ∷ 32 ∷ []) ++ (h ++ (f ++ (m ++ (s ++ (t ++ ((32 ∷ 91 ∷ []) ++ (k ++ ((93 ∷ 10 ∷ []) ++ [])))))))))))))
+    ≡ p ++ 58 ∷ [] ++ l ++ 58 ∷ [] ++ c ++ 58 ∷ 32 ∷ [] ++ (h ++ f ++ m ++ s ++ t) ++ 32 ∷ 91 ∷ (k ++ 93 ∷ 10 ∷ [])
+line_is p l c h f m s t k = simp append_assoc
+
+pub returns-clause-all : goal.returns-clause-all
+returns-clause-all g c =
+    let w = rw (c.as_bytes.ensures.value, c.as_bytes-2.ensures.value, c.as_bytes-3.ensures.value, c.as_bytes-4.ensures.value, c.as_bytes-5.ensures.value, c.as_bytes-6.ensures.value, c.as_bytes-7.ensures.value) at c.write_parts.ensures.all in
+    let a = c.args in
+    on_ok_weaker c.write_parts.result
+    (λ x. subst (Appends _ _) (line_is a.path.now a.line.now a.column.now a.words.head.now (shown a.first.now) a.words.middle.now (shown a.second.now) a.words.tail.now a.kind.now) x) w
+
+pub returns-clause-front : goal.returns-clause-front
+returns-clause-front g c =
+    let w = rw (c.as_bytes.ensures.value, c.as_bytes-2.ensures.value, c.as_bytes-3.ensures.value, c.as_bytes-4.ensures.value, c.as_bytes-5.ensures.value, c.as_bytes-6.ensures.value, c.as_bytes-7.ensures.value) at c.write_parts.ensures.front in
+    let a = c.args in
+    on_err_weaker c.write_parts.result
+    (λ x. subst (AppendsFront _ _) (line_is a.path.now a.line.now a.column.now a.words.head.now (shown a.first.now) a.words.middle.now (shown a.second.now) a.words.tail.now a.kind.now) x) w

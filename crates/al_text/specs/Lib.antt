@@ -1,0 +1,7 @@
+pub mod Streams
+pub mod Counted
+pub mod Positions
+pub mod Messages
+pub mod Parts
+pub mod Orders
+pub mod Paths

@@ -1,0 +1,20 @@
+//! Spans, paths, positions and printed faults, and the readers and writers of all calls.
+#![tactic(auto)]
+
+mod codes;
+mod faults;
+mod paths;
+mod positions;
+mod printing;
+mod stops;
+mod streams;
+mod wordings;
+
+pub use codes::{Code, Expression, Key, Yaml};
+pub use faults::{Args, Fault, Span};
+pub use paths::{PathFault, path_fault};
+pub use positions::position;
+pub use printing::write_fault;
+pub use stops::Stop;
+pub use streams::{Input, Output};
+pub use wordings::kind;
