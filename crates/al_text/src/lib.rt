@@ -12,7 +12,7 @@ mod wordings;
 
 pub use codes::{Code, Expression, Key, Yaml};
 pub use faults::{Args, Fault, Span};
-pub use paths::{PathFault, path_fault};
+pub use paths::{Path, PathFault, path_fault};
 pub use positions::position;
 pub use printing::write_fault;
 pub use stops::Stop;
