@@ -1,3 +1,4 @@
+pub mod Spans
 pub mod Streams
 pub mod Counted
 pub mod Positions

@@ -11,7 +11,7 @@ pub(crate) struct Words {
     pub(crate) tail: &'static str,
 }
 
-/// The kind that a report names behind a fault's message, in brackets.
+/// The kind that a report names behind a fault's message, in brackets. Takes no memory.
 pub fn kind(code: Code) -> &'static str
     ensures { result.now ≡ kind_of code }
 {
