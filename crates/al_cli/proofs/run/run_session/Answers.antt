@@ -1,0 +1,54 @@
+use Rattle.std.proofs.Common.{◌≡◌, ◌∙◌, ◌++◌, [], ℕ, refl, rules, arith, subst, length-append, Err}
+use Rattle.std.proofs.lemmas.Grind.{common_steps}
+use Rattle.std.proofs.lemmas.Result.{err_from_is_err_and}
+use Rattle.al_text.specs.Counted.{HasRisen}
+use Rattle.al_text.specs.declared.stops.Stop.TheVariants.{ReadFault, WriteFault}
+use Rattle.al_cli.specs.Folders.{session}
+use Rattle.al_cli.specs.Runs.{GoesOn}
+use Rattle.al_cli.proofs.Turns.{same_error, Paused-none, Paused-more, Runs-after, Stops-after}
+use Rattle.al_cli.proofs.run.run_session.Goals as goal
+
+pub loop-turn-init : goal.loop-turn-init
+loop-turn-init g c = record {
+  room = c.in_ok-piece.ensures;
+  paused = ([], omega arith, rw (c.open-session.ensures, c.new-waiting.ensures.items) (Paused-none session [] _ _));
+  turns = search (rules, common_steps);
+  reads_well = refl;
+  writes_well = refl;
+}
+
+pub returns-in_err-answer-clause-stop : goal.returns-in_err-answer-clause-stop
+returns-in_err-answer-clause-stop g c =
+    let p = err_from_is_err_and c.from_residual-in_err-answer.result c.from_residual-in_err-answer.ensures.1 in
+    let s = c.loop-turn.invariant.paused in
+    rw (p.1, p.2) (Stops-after session [] _ _ _ _ s.0 _ _ _ _ _ _ _ s.2 c.in_err-answer.ensures.err)
+
+pub returns-in_err-answer-clause-read_failed : goal.returns-in_err-answer-clause-read_failed
+returns-in_err-answer-clause-read_failed g c = λ h.
+    let p = err_from_is_err_and c.from_residual-in_err-answer.result c.from_residual-in_err-answer.ensures.1 in
+    let k : c.take_turn.result ≡ Err ReadFault = same_error _ _ _ _ _ p.1 p.2 (c.in_err-answer.was {u = tt}) h in
+    subst (λ (n : ℕ). HasRisen n c.take_turn.new.reader.failures) c.loop-turn.invariant.reads_well (c.take_turn.ensures.read_failed k)
+
+pub returns-in_err-answer-clause-write_failed : goal.returns-in_err-answer-clause-write_failed
+returns-in_err-answer-clause-write_failed g c = λ h.
+    let p = err_from_is_err_and c.from_residual-in_err-answer.result c.from_residual-in_err-answer.ensures.1 in
+    let k : c.take_turn.result ≡ Err WriteFault = same_error _ _ _ _ _ p.1 p.2 (c.in_err-answer.was {u = tt}) h in
+    subst (λ (n : ℕ). HasRisen n c.take_turn.new.writer.failures) c.loop-turn.invariant.writes_well (c.take_turn.ensures.write_failed k)
+
+pub returns-in-Some-clause-end : goal.returns-in-Some-clause-end
+returns-in-Some-clause-end g c =
+    let s = c.loop-turn.invariant.paused in
+    let r = rw c.in-Some.is at c.in_ok-answer.ensures.ok in
+    Runs-after session [] _ _ s.0 _ _ _ _ _ _ s.2 r
+
+pub loop-turn-preserved : goal.loop-turn-preserved
+loop-turn-preserved g c =
+    let s = c.loop-turn.invariant.paused in
+    let t : GoesOn session c.loop-turn.session c.take_turn.new.session c.loop-turn.waiting.items c.take_turn.new.waiting.items _ _ _ _ = rw c.in-None.is at c.in_ok-answer.ensures.ok in
+    record {
+      room = search (rules, common_steps);
+      paused = (s.0 ++ t.read, omega (arith, length-append s.0 t.read, t.some), Paused-more session [] _ _ _ _ s.0 [] _ _ _ _ _ _ s.2 t);
+      turns = search (rules, common_steps);
+      reads_well = c.in_ok-answer.ensures.read_failures ∙ c.loop-turn.invariant.reads_well;
+      writes_well = c.in_ok-answer.ensures.write_failures ∙ c.loop-turn.invariant.writes_well;
+    }

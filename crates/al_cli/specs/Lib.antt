@@ -1,0 +1,9 @@
+pub mod Script
+pub mod Runs
+pub mod Next
+pub mod Answered
+pub mod FirstPart
+pub mod Root
+pub mod Outlines
+pub mod Folders
+pub mod Kept

@@ -1,0 +1,208 @@
+ghost use Rattle.std.specs.Prelude.{◌≡◌, ◌≢◌, [], ◌<◌, MatchOption, ◌+◌, ◌≤◌, ◌++◌, ◌⊎◌, ℕ, List, length, take, drop, codes, IfOk, OnOk, OnErr, IfErr, IsErrOf, is_ok, decimal, IsOkUnless};
+ghost use Rattle.std.specs.Io.KnownBytes.{Appends, Keeps, Consumes};
+ghost use Rattle.al_text.specs.Counted.{raised, HasRisen, AppendsFront};
+ghost use Rattle.al_text.specs.Streams.{bytes_left, turns_of, read_failures, bytes_written, write_failures};
+ghost use Rattle.al_cli.specs.Next.{meaning};
+ghost use Rattle.al_cli.specs.Script.{IsPending, BeginsWithCommand};
+ghost use Rattle.al_cli.specs.Runs.{RunsToEnd, Stops, Ends, GoesOn, TurnStops};
+ghost use Rattle.al_cli.specs.Folders as folders;
+ghost use Rattle.al_cli.specs.Answered.{Progresses, IsStuck};
+ghost use Rattle.al_text.specs.declared.stops.Stop.TheVariants.{ReadFault, WriteFault, Memory, TooManyTurns};
+
+use super::commands::{Command, Next, next_command};
+use super::session::Session;
+use al_text::{Input, Output, Stop};
+use itoa::Buffer;
+use std::alloc::{AllocError, Global};
+use std::io::{Read, Write};
+
+/// The reads of one script.
+const TURNS: u32 = 1_048_576;
+
+/// The bytes that one read asks for.
+const PIECE: usize = 65_536;
+
+/// Where the bytes that wait stand once each whole command is answered.
+#[derive(Clone, Copy)]
+pub(crate) enum Progress {
+    /// So many bytes were commands, and the rest is none yet.
+    Waits(usize),
+    /// The rest is no command, and this was said.
+    Bad,
+}
+
+/// Runs the script that the reader gives.
+pub fn run_session<R: Read, W: Write>(
+    alloc: Global,
+    reader: &mut Input<R>,
+    writer: &mut Output<W>,
+) -> Result<u8, Stop>
+    ensures end { IfOk result (RunsToEnd folders.session [] [] (bytes_left R.remaining reader.old)
+        (bytes_written W.contents writer.old) (bytes_written W.contents writer.new)) }
+    ensures stop { IfErr result (Stops folders.session []
+        (bytes_left R.remaining reader.old) (bytes_left R.remaining reader.new)
+        (bytes_written W.contents writer.old) (bytes_written W.contents writer.new)) }
+    ensures reads { turns_of reader.new ≤ turns_of reader.old + 1048576 }
+    ensures read_failed { IsErrOf result Stop.ReadFault → HasRisen (read_failures reader.old) (read_failures reader.new) }
+    ensures write_failed { IsErrOf result Stop.WriteFault → HasRisen (write_failures writer.old) (write_failures writer.new) }
+    ensures all_turns { IsErrOf result Stop.TooManyTurns → turns_of reader.new ≡ raised (turns_of reader.old) 1048576 }
+{
+    // A proof knows that a count fits its type where the body reads it.
+    let _turns_before = reader.turns();
+    let mut session = Session::open(alloc);
+    let mut waiting: Vec<u8> = Vec::new(alloc);
+    let mut piece = empty_piece(alloc)?;
+    for _turn in 0..TURNS {
+        match take_turn(&mut session, &mut waiting, &mut piece, reader, writer)? {
+            Some(answer) => return Ok(answer),
+            None => {}
+        }
+    }
+    Err(Stop::TooManyTurns)
+}
+
+// Room for one read. The clause leaves the zeros out: a tactic that sees `replicate 65536 0` computes it.
+fn empty_piece(alloc: Global) -> Result<Vec<u8>, AllocError>
+    ensures { IfOk result (λ piece. 0 < length piece.items) }
+{
+    vec![in alloc; 0u8; PIECE]
+}
+
+// One read, and the answers to what came. `Some` is the answer of a run that is over.
+fn take_turn<R: Read, W: Write>(
+    session: &mut Session,
+    waiting: &mut Vec<u8>,
+    piece: &mut [u8],
+    reader: &mut Input<R>,
+    writer: &mut Output<W>,
+) -> Result<Option<u8>, Stop>
+    requires room { 0 < length piece.old }
+    requires pending { IsPending waiting.old.items }
+    ensures ok { IfOk result (λ answer. MatchOption answer
+        (GoesOn folders.session session.old session.new waiting.old.items waiting.new.items
+        (bytes_left R.remaining reader.old) (bytes_left R.remaining reader.new)
+        (bytes_written W.contents writer.old) (bytes_written W.contents writer.new))
+        (RunsToEnd folders.session session.old waiting.old.items (bytes_left R.remaining reader.old)
+        (bytes_written W.contents writer.old) (bytes_written W.contents writer.new))) }
+    ensures err { IfErr result (TurnStops folders.session session.old session.new waiting.old.items waiting.new.items
+        (bytes_left R.remaining reader.old) (bytes_left R.remaining reader.new)
+        (bytes_written W.contents writer.old) (bytes_written W.contents writer.new)) }
+    ensures turns { turns_of reader.new ≡ raised (turns_of reader.old) 1 }
+    ensures read_failures { OnOk result (read_failures reader.new ≡ read_failures reader.old) }
+    ensures write_failures { OnOk result (write_failures writer.new ≡ write_failures writer.old) }
+    ensures read_failed { IsErrOf result Stop.ReadFault → HasRisen (read_failures reader.old) (read_failures reader.new) }
+    ensures write_failed { IsErrOf result Stop.WriteFault → HasRisen (write_failures writer.old) (write_failures writer.new) }
+{
+    let count = reader.read(piece)?;
+    if count == 0 {
+        return Ok(Some(finish(session, waiting, writer)?));
+    }
+    waiting.extend_from_slice(&piece[..count])?;
+    match answer_all(session, waiting, writer)? {
+        Progress::Bad => Ok(Some(2)),
+        Progress::Waits(done) => {
+            drop_front(waiting, done);
+            writer.flush()?;
+            Ok(None)
+        }
+    }
+}
+
+// Drops the bytes that were answered.
+fn drop_front(waiting: &mut Vec<u8>, done: usize)
+    requires { done ≤ length waiting.old.items }
+    ensures { waiting.new.items ≡ drop done waiting.old.items }
+{
+    waiting.drain(..done);
+}
+
+// The end of the input.
+fn finish<W: Write>(session: &Session, waiting: &[u8], writer: &mut Output<W>) -> Result<u8, Stop>
+    requires { BeginsWithCommand waiting.now → ⊥ }
+    ensures ok { IfOk result (λ answer. (last : List ℕ) × Ends folders.session session.now waiting.now last answer
+        × Appends (bytes_written W.contents writer.old) (bytes_written W.contents writer.new) last) }
+    ensures err { OnErr result ((waiting.now ≢ []) × AppendsFront (bytes_written W.contents writer.old) (bytes_written W.contents writer.new) (codes "bad command\n")) }
+    ensures failures { OnOk result (write_failures writer.new ≡ write_failures writer.old) }
+    ensures failed { OnErr result (HasRisen (write_failures writer.old) (write_failures writer.new)) }
+    ensures only { IsOkUnless result Stop.WriteFault }
+{
+    if waiting.is_empty() {
+        return Ok(session.status());
+    }
+    writer.write_all(b"bad command\n")?;
+    Ok(2)
+}
+
+// Answers each whole command that stands first, and a bad one.
+fn answer_all<W: Write>(
+    session: &mut Session,
+    waiting: &[u8],
+    writer: &mut Output<W>,
+) -> Result<Progress, Stop>
+    ensures ok { IfOk result (λ progress. Progresses folders.session session.old session.new waiting.now progress
+        (bytes_written W.contents writer.old) (bytes_written W.contents writer.new)) }
+    ensures err { OnErr result (IsStuck folders.session session.old waiting.now
+        (bytes_written W.contents writer.old) (bytes_written W.contents writer.new)) }
+    ensures failures { OnOk result (write_failures writer.new ≡ write_failures writer.old) }
+    ensures failed { IsErrOf result Stop.WriteFault → HasRisen (write_failures writer.old) (write_failures writer.new) }
+    ensures only { IfErr result (λ e. (e ≡ WriteFault) ⊎ (e ≡ Memory)) }
+{
+    let mut done = 0;
+    while done < waiting.len() {
+        match next_command(&waiting[done..]) {
+            Next::Whole(command, count) => {
+                answer(session, command, writer)?;
+                done += count;
+            }
+            Next::Pending => return Ok(Progress::Waits(done)),
+            Next::Wrong => {
+                writer.write_all(b"bad command\n")?;
+                return Ok(Progress::Bad);
+            }
+        }
+    }
+    Ok(Progress::Waits(done))
+}
+
+// Answers one command.
+fn answer<W: Write>(
+    session: &mut Session,
+    command: Command<'_>,
+    writer: &mut Output<W>,
+) -> Result<(), Stop>
+    ensures after { OnOk result (session.new ≡ folders.folder_after session.old (meaning command.entry)) }
+    ensures ok { OnOk result (Appends (bytes_written W.contents writer.old) (bytes_written W.contents writer.new)
+        (folders.reply_to session.old (meaning command.entry))) }
+    ensures err { OnErr result (AppendsFront (bytes_written W.contents writer.old) (bytes_written W.contents writer.new)
+        (folders.reply_to session.old (meaning command.entry))) }
+    ensures failures { OnOk result (write_failures writer.new ≡ write_failures writer.old) }
+    ensures failed { IsErrOf result Stop.WriteFault → HasRisen (write_failures writer.old) (write_failures writer.new) }
+    ensures only { IfErr result (λ e. (e ≡ WriteFault) ⊎ (e ≡ Memory)) }
+{
+    match command {
+        Command::Put(path, bytes) => match session.put(path, bytes)? {
+            Ok(files) => write_number(writer, b"ok ", files as u64),
+            Err(refused) => write_number(writer, b"refused E", refused.number()),
+        },
+        Command::Report => {
+            session.report(writer)?;
+            write_number(writer, b"status ", u64::from(session.status()))
+        }
+    }
+}
+
+// Writes a line of a word and a number.
+fn write_number<W: Write>(writer: &mut Output<W>, word: &[u8], number: u64) -> Result<(), Stop>
+    ensures ok { OnOk result (Appends (bytes_written W.contents writer.old) (bytes_written W.contents writer.new)
+        (word.now ++ decimal number ++ codes "\n")) }
+    ensures err { OnErr result (AppendsFront (bytes_written W.contents writer.old) (bytes_written W.contents writer.new)
+        (word.now ++ decimal number ++ codes "\n")) }
+    ensures failures { OnOk result (write_failures writer.new ≡ write_failures writer.old) }
+    ensures failed { OnErr result (HasRisen (write_failures writer.old) (write_failures writer.new)) }
+    ensures only { IsOkUnless result Stop.WriteFault }
+{
+    let mut digits = Buffer::new();
+    writer.write_all(word)?;
+    writer.write_all(digits.format(number).as_bytes())?;
+    writer.write_all(b"\n")
+}
