@@ -1,0 +1,9 @@
+//! Tests of what no contract says: that calls find memory, and runs over readers and writers that fail.
+#![tactic(auto)]
+
+#[cfg(test)]
+mod fakes;
+#[cfg(test)]
+mod scripts;
+#[cfg(test)]
+mod texts;

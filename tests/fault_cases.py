@@ -1,0 +1,48 @@
+"""Makes cases of the examples in docs/FAULTS.md: fault_cases.py PAGE FOLDER.
+
+A section of the page is a fault: its heading has the fault's identifier and its message, and it has at least two examples, a
+file and the report of that file as the only one of a folder. The first example's report must have a line with the message,
+the last one's must have none. Each example becomes a script and its output.
+"""
+
+import pathlib
+import re
+import sys
+
+PATH = ".github/workflows/a.yml"
+EXAMPLE = re.compile(r"```yaml\n(.*?)```\n\s*```text\n(.*?)```", re.DOTALL)
+SECTION = re.compile(r"^### ([A-Z][0-9]+) `(.*)`$", re.MULTILINE)
+
+
+def message_pattern(message):
+    """The message with any text for its arguments."""
+    return re.compile(": " + ".*".join(re.escape(part) for part in re.split(r"\{[01]\}", message)) + r" \[")
+
+
+def script_and_output(file, report):
+    """The script that puts the file and reports, and what it must print."""
+    script = f"put {PATH} {len(file.encode())}\n{file}\nreport\n"
+    return script, f"ok 1\n{report}status {1 if report else 0}\n"
+
+
+def main(page, folder):
+    text = pathlib.Path(page).read_text()
+    out = pathlib.Path(folder)
+    out.mkdir(parents=True)
+    parts = SECTION.split(text)
+    sections = list(zip(parts[1::3], parts[2::3], parts[3::3]))
+    if not sections:
+        sys.exit(f"{page}: no fault")
+    for name, message, body in sections:
+        examples = EXAMPLE.findall(body)
+        pattern = message_pattern(message)
+        if len(examples) < 2 or not pattern.search(examples[0][1]) or pattern.search(examples[-1][1]):
+            sys.exit(f"{page}: {name} needs an example that gives it first, and one that doesn't last")
+        for number, (file, report) in enumerate(examples, start=1):
+            script, output = script_and_output(file, report)
+            (out / f"{name}-{number}").write_text(script)
+            (out / f"{name}-{number}.stdout").write_text(output)
+
+
+if __name__ == "__main__":
+    main(*sys.argv[1:])
