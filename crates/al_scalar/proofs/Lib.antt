@@ -1,0 +1,4 @@
+pub mod LineLemmas
+pub mod SingleLemmas
+pub mod FoldLemmas
+pub mod RunLemmas

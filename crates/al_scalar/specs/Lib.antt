@@ -1,0 +1,12 @@
+pub mod Ascii
+pub mod Line
+pub mod Places
+pub mod Taken
+pub mod Plain
+pub mod Quoted
+pub mod Block
+pub mod Class
+pub mod Scalar
+pub mod Segments
+pub mod Single
+pub mod Reads

@@ -1,0 +1,10 @@
+//! One YAML scalar: its style, its class and its decoded text, in which each byte has the offset that gave it.
+#![tactic(auto)]
+
+mod lines;
+mod reads;
+mod single;
+mod styles;
+mod texts;
+
+pub use styles::{Class, Style};

@@ -1,0 +1,110 @@
+ghost use Rattle.std.specs.Prelude.{◌≡◌, ◌+◌, ◌<◌, ◌≤◌, ◌^◌, ◌++◌, suc, length, IsTrue, IfOk, slice_index};
+ghost use Rattle.al_scalar.specs.Places.{lines_at, IsLineEnd};
+ghost use Rattle.al_scalar.specs.Quoted.{single_quoted};
+ghost use Rattle.al_scalar.specs.Reads.{Gives};
+ghost use Rattle.al_scalar.specs.Single.{part_at, StopsSo, StopsFrom, FoldsTo};
+
+use crate::lines::{after_break, blanks_end, is_break_at, is_line_end};
+use crate::reads::{FaultAt, Taken};
+use crate::texts::Text;
+use al_text::Yaml;
+use std::alloc::{AllocError, Global};
+
+/// Whether a single quote stands at an offset.
+fn begins_quote(bytes: &[u8], at: usize) -> bool
+    ensures inside { IsTrue result → at < length bytes.now }
+    ensures value { IsTrue result → slice_index bytes.now at ≡ 39 }
+    ensures none { at < length bytes.now → slice_index bytes.now at ≡ 39 → IsTrue result }
+{
+    at < bytes.len() && bytes[at] == b'\''
+}
+
+/// How a line of a quoted scalar ends: behind the closing quote at an offset, or at the break or the file's end.
+enum LineStop {
+    Closed(usize),
+    Broken(usize),
+}
+
+/// Decodes a line of a single-quoted scalar from an offset on.
+fn single_line(text: &mut Text, bytes: &[u8], at: usize) -> Result<LineStop, AllocError>
+    requires inside { at ≤ length bytes.now }
+    requires size { length bytes.now < 2 ^ 32 }
+    ensures text { IfOk result (λ _. text.new ≡ text.old ++ (part_at bytes.now at).text) }
+    ensures from { IfOk result (λ stop. StopsFrom at stop) }
+    ensures stop { IfOk result (λ stop. StopsSo bytes.now at stop) }
+{
+    let mut i = at;
+    loop {
+        let solid = blanks_end(bytes, i);
+        if is_line_end(bytes, solid) {
+            return Ok(LineStop::Broken(solid));
+        }
+        text.push_run(bytes, i, solid)?;
+        if bytes[solid] != b'\'' {
+            text.push(bytes[solid], solid)?;
+            i = solid + 1;
+        } else if begins_quote(bytes, solid + 1) {
+            text.push(bytes[solid], solid)?;
+            i = solid + 2;
+        } else {
+            return Ok(LineStop::Closed(solid + 1));
+        }
+    }
+}
+
+/// Folds the break at an offset and the empty lines behind it, and answers where the next text begins.
+fn fold_break(text: &mut Text, bytes: &[u8], end: usize) -> Result<usize, AllocError>
+    requires inside { end < length bytes.now }
+    requires is_break { IsLineEnd bytes.now end }
+    requires size { length bytes.now < 2 ^ 32 }
+    ensures inside { IfOk result (λ next. next ≤ length bytes.now) }
+    ensures after { IfOk result (λ next. end < next) }
+    ensures folds { IfOk result (λ next. FoldsTo bytes.now text.old end text.new next) }
+{
+    let mut start = after_break(bytes, end);
+    let mut folded = false;
+    'empty_lines: loop {
+        let solid = blanks_end(bytes, start);
+        if !is_break_at(bytes, solid) {
+            if !folded {
+                text.push(b' ', end)?;
+            }
+            return Ok(solid);
+        }
+        text.push(b'\n', solid)?;
+        folded = true;
+        start = after_break(bytes, solid);
+    }
+}
+
+/// Reads a single-quoted scalar from its opening quote.
+pub fn read_single(
+    alloc: Global,
+    bytes: &[u8],
+    quote: usize,
+) -> Result<Result<Taken, FaultAt>, AllocError>
+    requires inside { quote < length bytes.now }
+    requires size { length bytes.now < 2 ^ 32 }
+    ensures { IfOk result (λ read. Gives bytes.now (single_quoted quote (lines_at bytes.now (suc quote))) read) }
+{
+    let mut text = Text::new(alloc);
+    let mut at = quote + 1;
+    'text_lines: loop {
+        let stop = single_line(&mut text, bytes, at)?;
+        let end = match stop {
+            LineStop::Closed(next) => return Ok(Ok(Taken {
+                text,
+                end: next,
+                next,
+            })),
+            LineStop::Broken(end) => end,
+        };
+        if end == bytes.len() {
+            return Ok(Err(FaultAt {
+                code: Yaml::UnclosedQuote,
+                at: quote,
+            }));
+        }
+        at = fold_break(&mut text, bytes, end)?;
+    }
+}
