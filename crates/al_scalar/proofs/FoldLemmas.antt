@@ -71,7 +71,7 @@ lines-empty q b run (m ∷ ms) h r e s =
     let f : after_blanks (run ++ m.text) ≡ [] = after_blanks-run run m.text r ∙ ap after_blanks e in
     rw (f, s) refl
 
-cut-same : (x y : Line) (xs ys : List Line) → SameLine (x ∷ xs) (y ∷ ys) → cut y.text x xs ≡ y ∷ ys
+pub cut-same : (x y : Line) (xs ys : List Line) → SameLine (x ∷ xs) (y ∷ ys) → cut y.text x xs ≡ y ∷ ys
 cut-same x y xs ys s =
     ap (λ e. cut y.text (record { text = y.text; end = e; last = x.last }) xs) s.end
     ∙ ap (λ z. cut y.text (record { text = y.text; end = y.end; last = z }) xs) s.last
@@ -176,7 +176,7 @@ break-kind : (at b : ℕ) (bs : List ℕ) → (b ≡ 10) ⊎ (b ≡ 13) → (fir
 break-kind at b bs (inl e) = break-feed at b bs e
 break-kind at b bs (inr e) = break-return at b bs e
 
-break-at : (bytes : List ℕ) (i : ℕ) → i < length bytes → IsLineEnd bytes i → (first_end (lines_at bytes i) ≡ i) × (first_last (lines_at bytes i) ≡ false)
+pub break-at : (bytes : List ℕ) (i : ℕ) → i < length bytes → IsLineEnd bytes i → (first_end (lines_at bytes i) ≡ i) × (first_last (lines_at bytes i) ≡ false)
 break-at bytes i l k = rw (drop-cons bytes i 0) (break-kind i (slice_index bytes i) (drop (suc i) bytes) (k l))
 
 -- a line that its break ends, against offsets

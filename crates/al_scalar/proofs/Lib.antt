@@ -1,4 +1,13 @@
 pub mod LineLemmas
 pub mod SingleLemmas
 pub mod FoldLemmas
+pub mod RestLemmas
+pub mod PlainLemmas
+pub mod MarkerLemmas
+pub mod BlankLemmas
+pub mod PlainReadLemmas
+pub mod BlockLemmas
 pub mod RunLemmas
+pub mod HeaderLemmas
+pub mod RowLemmas
+pub mod BlockSteps

@@ -4,7 +4,6 @@ use Rattle.al_scalar.specs.Ascii as ascii
 use Rattle.al_text.specs.declared.codes.Yaml.TheVariants as yaml
 use Rattle.al_scalar.specs.Line.{Cell, Line, place, after_blanks, indent, is_empty, is_all_blank, begins_blank, is_comment}
 use Rattle.al_scalar.specs.Taken.{Fault, Taken, ◌>>=◌, fault, feeds, folded_break}
-use Rattle.al_scalar.specs.Plain.{last_end}
 
 -- What becomes of the final breaks (8.1.1.2).
 pub data Chomping : Type 0 where
@@ -138,6 +137,10 @@ text_after is_literal k last empties (r ∷ rs) =
     let with_empty = text_after is_literal k last (empties ++ r.break) rs in
     let below = text_after is_literal k (Some r) [] rs in
     if is_empty r.text then with_empty else joint is_literal last empties r ++ r.text ++ below
+
+abbrev pub last_end : List Cell → ℕ → ℕ
+last_end [] at = at
+last_end (c ∷ cs) at = last_end cs (c.1 + 1)
 
 -- the end of the last line's text that isn't empty
 abbrev pub rows_end : ℕ → List Row → ℕ

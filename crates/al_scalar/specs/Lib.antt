@@ -10,3 +10,5 @@ pub mod Scalar
 pub mod Segments
 pub mod Single
 pub mod Reads
+pub mod PlainLines
+pub mod BlockRead

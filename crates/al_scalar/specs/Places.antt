@@ -1,7 +1,7 @@
 -- The lines from an offset of a file.
-use Rattle.std.specs.Prelude.{◌≡◌, ◌⊎◌, ℕ, zero, suc, ◌-◌, ◌<◌, ◌≤◌, List, [], ◌∷◌, ◌++◌, length, slice_index, drop, Bool, true, false}
+use Rattle.std.specs.Prelude.{◌≡◌, ◌⊎◌, ℕ, zero, suc, ◌-◌, ◌<◌, ◌≤◌, List, [], ◌∷◌, ◌++◌, length, slice_index, drop, Option, Some, None, ◌+◌, Bool, true, false}
 use Rattle.al_scalar.specs.Ascii as ascii
-use Rattle.al_scalar.specs.Line.{Cell, Line, lines, cut}
+use Rattle.al_scalar.specs.Line.{Cell, Line, lines, cut, is_all_blank}
 
 abbrev pub lines_at : List ℕ → ℕ → List Line
 lines_at bytes at = lines at (drop at bytes)
@@ -78,3 +78,13 @@ IsLineEnd bytes at = at < length bytes → IsBreakByte (slice_index bytes at)
 
 abbrev pub IsBreakAt : List ℕ → ℕ → Type 0
 IsBreakAt bytes at = (at < length bytes) × IsBreakByte (slice_index bytes at)
+
+-- the end of a line of which only blanks are left
+abbrev pub BlankTo : List ℕ → ℕ → Option ℕ → Type 0
+BlankTo bytes at None = is_all_blank (text_at bytes at) ≡ false
+BlankTo bytes at (Some end) = (is_all_blank (text_at bytes at) ≡ true) × IsLineEnd bytes end × OnLine bytes at end
+
+-- the first byte of what is left of a line
+abbrev pub FirstByte : List ℕ → ℕ → Option ℕ → Type 0
+FirstByte bytes at None = text_at bytes at ≡ []
+FirstByte bytes at (Some b) = (text_at bytes at ≡ (b, at) ∷ text_at bytes (at + 1)) × OnLine bytes at (at + 1)

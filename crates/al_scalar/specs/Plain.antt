@@ -49,13 +49,9 @@ abbrev pub continues : Context → List Cell → Bool
 continues flow text = not (ends_plain flow true (after_blanks text))
 continues (block within) text = nat_le within (indent text) && not (is_comment text) && not (is_document_marker text)
 
-abbrev pub last_end : List Cell → ℕ → ℕ
-last_end [] at = at
-last_end (c ∷ cs) at = last_end cs (c.1 + 1)
-
--- what was read of a scalar up to the end of one of its parts
-abbrev pub ended_after : List Cell → List Cell → Line → List Line → Taken
-ended_after text rest l ls = record { text = []; end = last_end text l.end; left = cut rest l ls }
+-- what was read of a scalar up to where what is left of a line begins
+abbrev pub ended_before : List Cell → Line → List Line → Taken
+ended_before rest l ls = record { text = []; end = place rest l.end; left = cut rest l ls }
 
 -- The lines after a part of the scalar that ended its line with a break: what they add, folded, and where the scalar
 -- ends. Empty lines belong to it only if a line that continues it follows; empties are the breaks of those since.
@@ -65,7 +61,7 @@ plain_lines p here break empties (l ∷ ls) =
     let text = after_blanks l.text in
     let part = plain_part p true text in
     let rest = after_blanks part.1 in
-    let there = ended_after part.0 part.1 l ls in
+    let there = ended_before part.1 l ls in
     let with_empty = plain_lines p here break (empties ++ l.end ∷ []) ls in
     let below = plain_lines p there l.end [] ls in
     if is_empty text then with_empty
@@ -78,6 +74,6 @@ abbrev pub plain : Context → List Line → Result Taken Fault
 plain p [] = fault yaml.UnexpectedCharacter 0
 plain p (l ∷ ls) =
     let part = plain_part p false l.text in
-    let here = ended_after part.0 part.1 l ls in
+    let here = ended_before part.1 l ls in
     let below = plain_lines p here l.end [] ls in
     before part.0 (if is_empty (after_blanks part.1) then below else Ok here)

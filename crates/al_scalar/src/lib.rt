@@ -1,7 +1,10 @@
 //! One YAML scalar: its style, its class and its decoded text, in which each byte has the offset that gave it.
 #![tactic(auto)]
 
+mod block;
+mod header;
 mod lines;
+mod plain;
 mod reads;
 mod single;
 mod styles;
