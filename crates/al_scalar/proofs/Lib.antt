@@ -8,6 +8,7 @@ pub mod BlankLemmas
 pub mod PlainReadLemmas
 pub mod BlockLemmas
 pub mod RunLemmas
+pub mod Locating
 pub mod HeaderLemmas
 pub mod RowLemmas
 pub mod BlockSteps

@@ -1,6 +1,7 @@
 pub mod Ascii
 pub mod Line
 pub mod Places
+pub mod Characters
 pub mod Taken
 pub mod Plain
 pub mod Quoted

@@ -2,7 +2,7 @@ ghost use Rattle.std.specs.Prelude.{◌≡◌, ◌+◌, ◌<◌, ◌≤◌, ◌^
 ghost use Rattle.al_scalar.specs.Block.{block_scalar, found_indent, content_indent, row_of, own_break, chomped, joint, text_after, rows_end};
 ghost use Rattle.al_scalar.specs.BlockRead.{RowStarts, ReadsRows, last_row, row_like, RowTo, indent_from, kind, AddsRow, EndsRow, last_line, is_said};
 ghost use Rattle.al_scalar.specs.Places.{lines_at, text_at, cells_between, IsLineEnd, BlankTo};
-ghost use Rattle.al_scalar.specs.Reads.{Gives};
+ghost use Rattle.al_scalar.specs.Reads.{Gives, StaysWithin};
 ghost use Rattle.al_scalar.specs.Taken.{feeds, folded_break};
 
 use crate::header::{Chomping, HeaderRead, header_fault, indicators};
@@ -223,9 +223,11 @@ fn add_row(
 ) -> Result<(), AllocError>
     requires order { from ≤ stop }
     requires inside { stop < length bytes.now }
+    requires behind { state.old.end ≤ from }
     requires size { length bytes.now < 2 ^ 32 }
     ensures text { IfOk result (λ _. AddsRow literal text.old state.old (cells_between bytes.now from stop) (stop ∷ []) text.new state.new) }
     ensures end { IfOk result (λ _. EndsRow state.old (cells_between bytes.now from stop) state.new) }
+    ensures within { IfOk result (λ _. (state.old.end ≤ state.new.end) × (state.new.end ≤ stop)) }
 {
     if from == stop {
         state.empties.push(stop as u32)?;
@@ -252,9 +254,11 @@ fn end_row(
     style: BlockStyle,
 ) -> Result<usize, AllocError>
     requires inside { from ≤ length bytes.now }
+    requires behind { state.now.end ≤ from }
     requires size { length bytes.now < 2 ^ 32 }
     ensures text { IfOk result (λ _. text.new ≡ text.old ++ text_after style.literal (kind style.chomping) (last_row state.now.last) state.now.empties.items (last_line bytes.now from)) }
     ensures end { IfOk result (λ end. end ≡ rows_end state.now.end (last_line bytes.now from)) }
+    ensures within { IfOk result (λ end. (state.now.end ≤ end) × (end ≤ length bytes.now)) }
 {
     if from == bytes.len() {
         chomp(text, style.chomping, state.last, &state.empties)?;
@@ -282,9 +286,11 @@ fn read_rows(
     style: BlockStyle,
     header: usize,
 ) -> Result<RowsRead, AllocError>
+    requires order { header ≤ at }
     requires inside { at ≤ length bytes.now }
     requires size { length bytes.now < 2 ^ 32 }
-    ensures { IfOk result (λ r. ReadsRows bytes.now style text.old at header text.new r) }
+    ensures rows { IfOk result (λ r. ReadsRows bytes.now style text.old at header text.new r) }
+    ensures within { IfOk result (λ r. (header ≤ r.end) × (r.end ≤ r.next) × (r.next ≤ length bytes.now)) }
 {
     let mut state = RowState {
         last: None,
@@ -356,7 +362,8 @@ pub fn read_block(
     requires inside { at < length bytes.now }
     requires begins { IsLineEnd bytes.now at → ⊥ }
     requires size { length bytes.now < 2 ^ 32 }
-    ensures { IfOk result (λ read. Gives bytes.now (block_scalar literal within (lines_at bytes.now at)) read) }
+    ensures gives { IfOk result (λ read. Gives bytes.now (block_scalar literal within (lines_at bytes.now at)) read) }
+    ensures within { IfOk result (λ read. StaysWithin bytes.now at read) }
 {
     let header = indicators(bytes, at + 1);
     match header_fault(bytes, header.end) {

@@ -1,4 +1,4 @@
-ghost use Rattle.std.specs.Prelude.{◌≡◌, ◌≤◌, length};
+ghost use Rattle.std.specs.Prelude.{◌≡◌, ◌≤◌, IfSome, length};
 ghost use Rattle.al_scalar.specs.Block.{after_digit, after_sign, header, is_digit as block_digit, is_sign as block_sign, chomping_of as chomping_by};
 ghost use Rattle.al_scalar.specs.BlockRead.{Indicates, EndsHeader, kind};
 ghost use Rattle.al_scalar.specs.Places.{text_at};
@@ -24,7 +24,8 @@ pub struct HeaderRead {
 /// None where a block scalar's header may end at an offset; else the place of what stands there.
 pub fn header_fault(bytes: &[u8], at: usize) -> Option<usize>
     requires { at ≤ length bytes.now }
-    ensures { EndsHeader bytes.now at result }
+    ensures ends { EndsHeader bytes.now at result }
+    ensures within { IfSome result (λ place. (at ≤ place) × (place ≤ length bytes.now)) }
 {
     let solid = blanks_end(bytes, at);
     if is_line_end(bytes, solid) {

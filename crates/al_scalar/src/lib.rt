@@ -2,6 +2,7 @@
 #![tactic(auto)]
 
 mod block;
+mod faults;
 mod header;
 mod lines;
 mod plain;
@@ -10,4 +11,5 @@ mod single;
 mod styles;
 mod texts;
 
+pub use faults::{YamlFault, fault_at};
 pub use styles::{Class, Style};

@@ -3,7 +3,7 @@ ghost use Rattle.al_scalar.specs.Line as line;
 ghost use Rattle.al_scalar.specs.Places.{lines_at, text_at, SameLine};
 ghost use Rattle.al_scalar.specs.Plain as plain;
 ghost use Rattle.al_scalar.specs.PlainLines.{context_of, begins_blank_line, text_lines, empty_ends, PartTo};
-ghost use Rattle.al_scalar.specs.Reads.{Gives};
+ghost use Rattle.al_scalar.specs.Reads.{Gives, StaysWithin};
 ghost use Rattle.al_scalar.specs.Taken.{folded_break};
 
 use crate::lines::{
@@ -215,7 +215,8 @@ pub fn read_plain(
 ) -> Result<Result<Taken, FaultAt>, AllocError>
     requires inside { at ≤ length bytes.now }
     requires size { length bytes.now < 2 ^ 32 }
-    ensures { IfOk result (λ read. Gives bytes.now (plain.plain (context_of context) (lines_at bytes.now at)) read) }
+    ensures gives { IfOk result (λ read. Gives bytes.now (plain.plain (context_of context) (lines_at bytes.now at)) read) }
+    ensures within { IfOk result (λ read. StaysWithin bytes.now at read) }
 {
     let mut text = Text::new(alloc);
     let mut end = plain_end(bytes, at, context, false);

@@ -1,7 +1,7 @@
 ghost use Rattle.std.specs.Prelude.{◌≡◌, ◌+◌, ◌<◌, ◌≤◌, ◌^◌, ◌++◌, suc, length, IsTrue, IfOk, slice_index};
 ghost use Rattle.al_scalar.specs.Places.{lines_at, IsLineEnd};
 ghost use Rattle.al_scalar.specs.Quoted.{single_quoted};
-ghost use Rattle.al_scalar.specs.Reads.{Gives};
+ghost use Rattle.al_scalar.specs.Reads.{Gives, StaysWithin};
 ghost use Rattle.al_scalar.specs.Single.{part_at, StopsSo, StopsFrom, FoldsTo};
 
 use crate::lines::{after_break, blanks_end, is_break_at, is_line_end};
@@ -85,7 +85,8 @@ pub fn read_single(
 ) -> Result<Result<Taken, FaultAt>, AllocError>
     requires inside { quote < length bytes.now }
     requires size { length bytes.now < 2 ^ 32 }
-    ensures { IfOk result (λ read. Gives bytes.now (single_quoted quote (lines_at bytes.now (suc quote))) read) }
+    ensures gives { IfOk result (λ read. Gives bytes.now (single_quoted quote (lines_at bytes.now (suc quote))) read) }
+    ensures within { IfOk result (λ read. StaysWithin bytes.now quote read) }
 {
     let mut text = Text::new(alloc);
     let mut at = quote + 1;

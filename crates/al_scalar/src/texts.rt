@@ -1,4 +1,5 @@
 ghost use Rattle.std.specs.Prelude.{◌≡◌, ℕ, ◌+◌, ◌<◌, ◌≤◌, ◌^◌, List, [], ◌∷◌, ◌++◌, length, map, IsTrue, IfOk, OnErr};
+ghost use Rattle.al_scalar.specs.Line.{Cell};
 ghost use Rattle.al_scalar.specs.Places.{cells_between};
 ghost use Rattle.al_scalar.specs.Scalar.{offset_or};
 ghost use Rattle.al_scalar.specs.Segments.{offset_in, offset_at, cells_from, AreBehind, GoesOn};
@@ -65,6 +66,24 @@ fn begin_run(segments: &mut Vec<Segment>, index: usize, at: u32) -> Result<(), A
         moves: true,
     })?;
     Ok(())
+}
+
+/// The last run that begins at or before an index; a run from 0 on where there is none.
+fn last_run(segments: &[Segment], i: usize) -> Segment
+    ensures behind { result.index ≤ i }
+    ensures offset { offset_in result i ≡ offset_at segments.now i }
+{
+    let mut found = Segment {
+        index: 0,
+        offset: 0,
+        moves: false,
+    };
+    for segment in segments {
+        if segment.index <= i {
+            found = *segment;
+        }
+    }
+    found
 }
 
 /// Decoded bytes, each with the offset that gave it.
@@ -134,5 +153,20 @@ impl Text {
         })?;
         self.bytes.extend_from_slice(decoded)?;
         Ok(())
+    }
+
+    /// The decoded bytes.
+    pub fn as_bytes(&self) -> &[u8]
+        ensures { result.now ≡ map (λ (c : Cell). c.0) self.now }
+    {
+        self.bytes.as_slice()
+    }
+
+    /// The offset that gave the byte at an index.
+    pub fn locate(&self, i: usize) -> u32
+        requires { i < length self.now }
+        ensures { (end : ℕ) → result ≡ offset_or self.now end i }
+    {
+        last_run(&self.segments, i).locate(i)
     }
 }

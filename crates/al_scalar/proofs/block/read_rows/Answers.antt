@@ -7,6 +7,8 @@ use Rattle.al_scalar.proofs.block.read_rows.Goals as goal
 
 pub rows-init : goal.rows-init
 rows-init c = record {
+  from = omega arith;
+  behind = c.requires.order;
   inside = c.requires.inside;
   rows = ap (λ es. with_text c.args.text.now (rest_of c.args.style c.args.style.explicit None es c.args.header (lines_at c.args.bytes.now c.args.at))) (sym c.new.ensures.items);
 }
@@ -27,6 +29,8 @@ rows-preserved c =
     let is = c.add_row.new.state in
     let start : RowStarts bytes i style.indent c.rows.found (Some c.in-Some.row) = subst (λ r. RowStarts bytes i style.indent c.rows.found r) c.in-Some.is c.row_start.ensures in
     record {
+      from = omega (arith, c.rows.invariant.from, c.in_ok-add_row.ensures.within.0);
+      behind = omega (arith, c.in_ok-add_row.ensures.within.1, c.after_break-i.ensures.after);
       inside = c.after_break-i.ensures.inside;
       rows = rows-more c.add_row.new.text c.rows.text style.literal (kind style.chomping) style.indent c.rows.found c.is_found-found.result c.in-Some.row.is_blank
           (last_row was.last) (last_row is.last) was.empties.items is.empties.items was.end is.end bytes i c.in-Some.row.from c.line_end-stop.result c.after_break-i.result
@@ -34,8 +38,8 @@ rows-preserved c =
           (c.in_ok-add_row.ensures.text (kind style.chomping)) c.in_ok-add_row.ensures.end;
     }
 
-pub returns-then-stop-bytes : goal.returns-then-stop-bytes
-returns-then-stop-bytes c =
+pub returns-then-stop-bytes-clause-rows : goal.returns-then-stop-bytes-clause-rows
+returns-then-stop-bytes-clause-rows c =
     let bytes = c.args.bytes.now in
     let style = c.args.style in
     let i = c.rows.i in

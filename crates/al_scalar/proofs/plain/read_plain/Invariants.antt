@@ -7,6 +7,7 @@ use Rattle.al_scalar.proofs.plain.read_plain.Given as goal
 
 abbrev pub invariant-text_lines : goal.invariant-text_lines
 invariant-text_lines l = record {
+  from : l.at ≤ l.end;
   inside : l.end ≤ length l.bytes;
   read : plain (context_of l.context) (lines_at l.bytes l.at) ≡ before l.text (after_part (context_of l.context) l.bytes l.end);
 }

@@ -8,8 +8,8 @@ use Rattle.al_scalar.proofs.SingleLemmas.{lines_at-some}
 use Rattle.al_scalar.proofs.FoldLemmas.{quoted-closed, line_broken}
 use Rattle.al_scalar.proofs.single.read_single.Goals as goal
 
-pub returns-in-Closed : goal.returns-in-Closed
-returns-in-Closed c =
+pub returns-in-Closed-clause-gives : goal.returns-in-Closed-clause-gives
+returns-in-Closed-clause-gives c =
     let bytes = c.args.bytes.now in
     let stop : StopsSo bytes c.text_lines.at (Closed c.in-Closed.next) = subst (λ s. StopsSo bytes c.text_lines.at s) c.in-Closed.is c.in_ok-stop.ensures.stop in
     c.text_lines.invariant.read
@@ -26,9 +26,18 @@ pub text_lines-preserved : goal.text_lines-preserved
 text_lines-preserved c =
     let bytes = c.args.bytes.now in
     let stop : StopsSo bytes c.text_lines.at (Broken c.in-Broken.end) = subst (λ s. StopsSo bytes c.text_lines.at s) c.in-Broken.is c.in_ok-stop.ensures.stop in
+    let from : StopsFrom c.text_lines.at (Broken c.in-Broken.end) = subst (λ s. StopsFrom c.text_lines.at s) c.in-Broken.is c.in_ok-stop.ensures.from in
     record {
+      after = omega (arith, c.text_lines.invariant.after, from, c.in_ok-at.ensures.after);
       inside = c.in_ok-at.ensures.inside;
       read = c.text_lines.invariant.read
           ∙ line_broken c.single_line.new.text c.args.quote bytes c.text_lines.at c.in-Broken.end c.text_lines.text (omega (arith, stop.1)) stop.2 stop.0 stop.3 c.in_ok-stop.ensures.text
           ∙ c.in_ok-at.ensures.folds c.args.quote;
     }
+
+pub returns-in-Closed-clause-within : goal.returns-in-Closed-clause-within
+returns-in-Closed-clause-within c =
+    let bytes = c.args.bytes.now in
+    let stop : StopsSo bytes c.text_lines.at (Closed c.in-Closed.next) = subst (λ s. StopsSo bytes c.text_lines.at s) c.in-Closed.is c.in_ok-stop.ensures.stop in
+    let from : StopsFrom c.text_lines.at (Closed c.in-Closed.next) = subst (λ s. StopsFrom c.text_lines.at s) c.in-Closed.is c.in_ok-stop.ensures.from in
+    (omega (arith, c.text_lines.invariant.after, from), omega arith, stop.1)
