@@ -35,7 +35,7 @@ given-stop escaped q space t l ls below =
     ap (λ r. cond l.last (fault UnclosedQuote q) r) (sym (before-two space t (below None))) ∙ sym (before-cond space l.last (fault UnclosedQuote q) (before t (below None)))
 
 -- what a line gives behind a space
-line_given-before : (q : ℕ) (space : List Cell) (p : Part) (l : Line) (ls : List Line) (below : Option ℕ → Result Taken Fault)
+pub line_given-before : (q : ℕ) (space : List Cell) (p : Part) (l : Line) (ls : List Line) (below : Option ℕ → Result Taken Fault)
     → line_given q space p l ls below ≡ before space (line_given q [] p l ls below)
 line_given-before q space p l ls below = given-stop p.stop q space p.text l ls below
 
@@ -44,7 +44,7 @@ line_given-at : (q : ℕ) (p : Part) (st : Stop) (l : Line) (ls : List Line) (be
 line_given-at q p st l ls below e = ap (λ s. line_given q [] (record { text = p.text; stop = s }) l ls below) e
 
 -- the line's own text doesn't matter
-given-line : (st : Stop) (q : ℕ) (space t x : List Cell) (l : Line) (ls : List Line) (below : Option ℕ → Result Taken Fault)
+pub given-line : (st : Stop) (q : ℕ) (space t x : List Cell) (l : Line) (ls : List Line) (below : Option ℕ → Result Taken Fault)
     → line_given q space (record { text = t; stop = st }) (record { text = x; end = l.end; last = l.last }) ls below ≡ line_given q space (record { text = t; stop = st }) l ls below
 given-line (closed e rest) q space t x l ls below = refl
 given-line (cut_short at) q space t x l ls below = refl

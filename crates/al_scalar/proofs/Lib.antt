@@ -12,3 +12,10 @@ pub mod Locating
 pub mod HeaderLemmas
 pub mod RowLemmas
 pub mod BlockSteps
+pub mod QuotedLemmas
+pub mod FoldingLemmas
+pub mod DoubleLemmas
+pub mod LiteralLemmas
+pub mod MarkLemmas
+pub mod DigitLemmas
+pub mod ReadDoubleLemmas

@@ -26,13 +26,13 @@ is_blank-no c h =
 single_part-other : (c : Cell) (cs : List Cell) → c.0 ≢ 39 → single_part 0 (c ∷ cs) ≡ with_own c (single_part 0 cs)
 single_part-other c cs h = grind (arith, common_steps, h)
 
-with_own-solid : (c : Cell) (p : Part) → is_nothing p ≡ false → with_own c p ≡ with_cells (c ∷ []) p
+pub with_own-solid : (c : Cell) (p : Part) → is_nothing p ≡ false → with_own c p ≡ with_cells (c ∷ []) p
 with_own-solid c p h = grind (arith, common_steps, h)
 
-with_own-other : (c : Cell) (p : Part) → (IsBlankByte c.0 → ⊥) → with_own c p ≡ with_cells (c ∷ []) p
+pub with_own-other : (c : Cell) (p : Part) → (IsBlankByte c.0 → ⊥) → with_own c p ≡ with_cells (c ∷ []) p
 with_own-other c p h = ap (λ b. cond (b && is_empty p.text && is_broken p.stop) p (with_cells (c ∷ []) p)) (is_blank-no c h)
 
-with_own-blank : (c : Cell) (p : Part) → IsBlankByte c.0 → is_nothing p ≡ true → with_own c p ≡ p
+pub with_own-blank : (c : Cell) (p : Part) → IsBlankByte c.0 → is_nothing p ≡ true → with_own c p ≡ p
 with_own-blank c p b h = grind (arith, common_steps, h, is_blank-yes c b)
 
 blank-other : (b : ℕ) → IsBlankByte b → b ≢ 39

@@ -13,3 +13,5 @@ pub mod Single
 pub mod Reads
 pub mod PlainLines
 pub mod BlockRead
+pub mod Folding
+pub mod Double

@@ -2,7 +2,9 @@
 #![tactic(auto)]
 
 mod block;
+mod double;
 mod faults;
+mod folding;
 mod header;
 mod lines;
 mod plain;
