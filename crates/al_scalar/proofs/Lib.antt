@@ -19,3 +19,4 @@ pub mod LiteralLemmas
 pub mod MarkLemmas
 pub mod DigitLemmas
 pub mod ReadDoubleLemmas
+pub mod ScalarLemmas

@@ -16,10 +16,10 @@ offset_or-cells_from k (b ∷ bs) ss end (suc i) h =
     let e : k + suc i ≡ suc k + i = omega arith in
     offset_or-cells_from (suc k) bs ss end i (omega arith) ∙ ap (offset_at ss) (sym e)
 
-pub offset_or-end : (k : ℕ) (bs : List ℕ) (ss : List Segment) (end i : ℕ) → length bs ≤ i → offset_or (cells_from k bs ss) end i ≡ end
-offset_or-end k [] ss end i h = refl
-offset_or-end k (b ∷ bs) ss end zero h = absurd (omega arith)
-offset_or-end k (b ∷ bs) ss end (suc i) h = offset_or-end (suc k) bs ss end i (omega arith)
+pub offset_or-end : (cs : List Cell) (end i : ℕ) → length cs ≤ i → offset_or cs end i ≡ end
+offset_or-end [] end i h = refl
+offset_or-end (c ∷ cs) end zero h = absurd (omega (arith, h))
+offset_or-end (c ∷ cs) end (suc i) h = offset_or-end cs end i (omega (arith, h))
 
 pub bytes-cells_from : (k : ℕ) (bs : List ℕ) (ss : List Segment) → map (λ (c : Cell). c.0) (cells_from k bs ss) ≡ bs
 bytes-cells_from k [] ss = refl

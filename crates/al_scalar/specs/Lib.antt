@@ -15,3 +15,4 @@ pub mod PlainLines
 pub mod BlockRead
 pub mod Folding
 pub mod Double
+pub mod Contract

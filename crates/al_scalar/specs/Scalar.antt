@@ -1,10 +1,10 @@
 -- One scalar: its style, its class and its decoded bytes with their offsets (7.3, 8.1, 7.2 for the empty node).
-use Rattle.std.specs.Prelude.{ℕ, zero, suc, List, [], ◌∷◌, map, drop, Bool, true, false, ◌&&◌, if◌then◌else◌, Result, Ok, Err}
+use Rattle.std.specs.Prelude.{ℕ, zero, suc, List, [], ◌∷◌, map, drop, true, false, if◌then◌else◌, Result, Ok, Err}
 use Rattle.al_scalar.specs.Ascii as ascii
 use Rattle.al_text.specs.declared.codes.Yaml.TheVariants as yaml
 use Rattle.al_scalar.specs.Line.{Cell, Line, start, begins, cut}
 use Rattle.al_scalar.specs.Taken.{Fault, Taken, fault}
-use Rattle.al_scalar.specs.Plain.{Context, flow, block, plain}
+use Rattle.al_scalar.specs.Plain.{Context, flow, block, is_flow, plain}
 use Rattle.al_scalar.specs.Quoted.{single_quoted, double_quoted}
 use Rattle.al_scalar.specs.Block.{block_scalar}
 use Rattle.al_scalar.specs.Class.{class_of}
@@ -43,24 +43,38 @@ read_as style at (Ok t) = Ok (record {
   left = t.left;
 })
 
+-- The first character says the style (7.3.1, 7.3.2, 8.1); block scalars stand in no flow collection.
+abbrev pub style_at : Context → List Cell → Style
+style_at p text =
+    if begins ascii.single_quote text then style.SingleQuoted
+    else (if begins ascii.double_quote text then style.DoubleQuoted
+    else (if is_flow p then style.Plain
+    else (if begins ascii.bar text then style.Literal
+    else (if begins ascii.greater text then style.Folded else style.Plain))))
+
 abbrev pub within_of : Context → ℕ
 within_of flow = 0
 within_of (block within) = within
 
-abbrev pub is_block : Context → Bool
-is_block flow = false
-is_block (block within) = true
+-- the lines behind their first character
+abbrev pub after_first : List Line → List Line
+after_first [] = []
+after_first (l ∷ ls) = cut (drop 1 l.text) l ls
+
+-- what a scalar of a style takes from the lines, which begin with its first character
+abbrev pub taken_as : Context → Style → List Line → Result Taken Fault
+taken_as p style.SingleQuoted ls = single_quoted (start ls) (after_first ls)
+taken_as p style.DoubleQuoted ls = double_quoted (start ls) (after_first ls)
+taken_as p style.Literal ls = block_scalar true (within_of p) ls
+taken_as p style.Folded ls = block_scalar false (within_of p) ls
+taken_as p style.Plain ls = plain p ls
 
 -- the scalar whose first character begins the lines
 abbrev pub scalar_at : Context → List Line → Result ScalarRead Fault
 scalar_at p [] = fault yaml.UnexpectedCharacter 0
 scalar_at p (l ∷ ls) =
-    let at = start (l ∷ ls) in
-    if begins ascii.single_quote l.text then read_as style.SingleQuoted at (single_quoted at (cut (drop 1 l.text) l ls))
-    else (if begins ascii.double_quote l.text then read_as style.DoubleQuoted at (double_quoted at (cut (drop 1 l.text) l ls))
-    else (if is_block p && begins ascii.bar l.text then read_as style.Literal at (block_scalar true (within_of p) (l ∷ ls))
-    else (if is_block p && begins ascii.greater l.text then read_as style.Folded at (block_scalar false (within_of p) (l ∷ ls))
-    else read_as style.Plain at (plain p (l ∷ ls)))))
+    let kind = style_at p l.text in
+    read_as kind (start (l ∷ ls)) (taken_as p kind (l ∷ ls))
 
 -- the empty node (7.2) at an offset
 abbrev pub empty_scalar : ℕ → Scalar
@@ -78,3 +92,6 @@ offset_or (c ∷ cs) end (suc i) = offset_or cs end i
 -- what `locate` answers
 abbrev pub offset_of : Scalar → ℕ → ℕ
 offset_of s i = offset_or s.cells s.end i
+
+abbrev pub text_of : Scalar → List ℕ
+text_of s = map (λ (c : Cell). c.0) s.cells

@@ -9,9 +9,11 @@ mod header;
 mod lines;
 mod plain;
 mod reads;
+mod scalars;
 mod single;
 mod styles;
 mod texts;
 
 pub use faults::{YamlFault, fault_at};
+pub use scalars::{Place, Scalar, ScalarRead};
 pub use styles::{Class, Style};

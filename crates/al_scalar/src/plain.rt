@@ -23,7 +23,7 @@ pub enum PlainContext {
 }
 
 /// Whether a scalar stands in a flow collection.
-fn is_flow(context: PlainContext) -> bool
+pub fn is_flow(context: PlainContext) -> bool
     ensures { result ≡ plain.is_flow (context_of context) }
 {
     match context {
