@@ -1,4 +1,4 @@
--- Folding in single-quoted scalars.
+-- The lines of a quoted scalar.
 use Rattle.std.proofs.Common.{◌≡◌, ◌≢◌, ℕ, suc, ◌+◌, ◌<◌, ◌≤◌, List, [], ◌∷◌, ◌++◌, length, drop, drop-cons, slice_index, refl, sym, ap, subst, ◌∙◌, append_assoc, Bool, true, false, not, ◌&&◌, ◌==◌, cond, inl, inr, ◌⊎◌, Option, Some, None, Result, Ok, Err}
 use Rattle.std.proofs.Math.Nat.{eq-or-lt_of_le}
 use Rattle.al_text.specs.declared.codes.Yaml.TheVariants.{UnclosedQuote, WrongEscape}
@@ -51,26 +51,6 @@ given-line (cut_short at) q space t x l ls below = refl
 given-line broken q space t x l ls below = refl
 given-line escaped q space t x l ls below = refl
 
--- a line with text, or the last one, behind its leading blanks
-pub lines-text : (q : ℕ) (b : Option ℕ) (run : List Cell) (ys : List Line) → has_line ys ≡ true → AreBlank run → after_blanks (first_text ys) ≡ first_text ys
-    → (is_nothing (single_part 0 (first_text ys)) && not (first_last ys)) ≡ false
-    → single_lines q b (with_cells_before run ys) ≡ before (folded b) (single_quoted q ys)
-lines-text q b run [] h r e s = cc
-lines-text q b run (m ∷ ms) h r e s =
-    let below = (λ (o : Option ℕ). single_lines q o ms) in
-    let f : after_blanks (run ++ m.text) ≡ m.text = after_blanks-run run m.text r ∙ e in
-    rw f (ap (λ z. cond z (before ((10, m.end) ∷ []) (below None)) (line_given q (folded b) (single_part 0 m.text) (record { text = run ++ m.text; end = m.end; last = m.last }) ms below)) s
-    ∙ given-line (single_part 0 m.text).stop q (folded b) (single_part 0 m.text).text (run ++ m.text) m ms below
-    ∙ line_given-before q (folded b) (single_part 0 m.text) m ms below)
-
--- an empty line
-pub lines-empty : (q : ℕ) (b : Option ℕ) (run : List Cell) (ys : List Line) → has_line ys ≡ true → AreBlank run → first_text ys ≡ [] → first_last ys ≡ false
-    → single_lines q b (with_cells_before run ys) ≡ before ((10, first_end ys) ∷ []) (single_lines q None (later ys))
-lines-empty q b run [] h r e s = cc
-lines-empty q b run (m ∷ ms) h r e s =
-    let f : after_blanks (run ++ m.text) ≡ [] = after_blanks-run run m.text r ∙ ap after_blanks e in
-    rw (f, s) refl
-
 pub cut-same : (x y : Line) (xs ys : List Line) → SameLine (x ∷ xs) (y ∷ ys) → cut y.text x xs ≡ y ∷ ys
 cut-same x y xs ys s =
     ap (λ e. cut y.text (record { text = y.text; end = e; last = x.last }) xs) s.end
@@ -108,53 +88,13 @@ quoted-open q (x ∷ xs) h k e =
 pub after_blanks-solid : (c : Cell) (cs : List Cell) → (IsBlankByte c.0 → ⊥) → after_blanks (c ∷ cs) ≡ c ∷ cs
 after_blanks-solid c cs h = ap (λ b. cond b (after_blanks cs) (c ∷ cs)) (is_blank-no c h)
 
-part-solid : (c : Cell) (cs : List Cell) → (IsBlankByte c.0 → ⊥) → is_nothing (single_part 0 (c ∷ cs)) ≡ false
+pub part-solid : (c : Cell) (cs : List Cell) → (IsBlankByte c.0 → ⊥) → is_nothing (single_part 0 (c ∷ cs)) ≡ false
 part-solid c cs h = part-cases c cs (c.0 == 39) (begins 39 cs) refl refl h
   where
     part-cases : (c : Cell) (cs : List Cell) (x y : Bool) → (c.0 == 39) ≡ x → begins 39 cs ≡ y → (IsBlankByte c.0 → ⊥) → is_nothing (single_part 0 (c ∷ cs)) ≡ false
     part-cases c cs true true e f h = rw (e, f) refl
     part-cases c cs true false e f h = rw (e, f) refl
     part-cases c cs false y e f h = rw (e, is_blank-no c h) refl
-
--- what is no empty line, from its first byte that isn't a blank
-pub record Solid (ls : List Line) : Type 0 where
-  pub own : after_blanks (first_text ls) ≡ first_text ls
-  pub given : (is_nothing (single_part 0 (first_text ls)) && not (first_last ls)) ≡ false
-
-solid-cell : (c : Cell) (cs : List Cell) (ls : List Line) → (IsBlankByte c.0 → ⊥) → first_text ls ≡ c ∷ cs → Solid ls
-solid-cell c cs ls h e = record {
-  own = ap after_blanks e ∙ after_blanks-solid c cs h ∙ sym e;
-  given = ap (λ t. is_nothing (single_part 0 t) && not (first_last ls)) e ∙ ap (λ b. b && not (first_last ls)) (part-solid c cs h);
-}
-
-solid_at-cases : (bytes : List ℕ) (i : ℕ) → (i ≡ length bytes) ⊎ (i < length bytes) → (IsBreakAt bytes i → ⊥) → (i < length bytes → IsBlankByte (slice_index bytes i) → ⊥) → Solid (lines_at bytes i)
-solid_at-cases bytes i (inl e) h k = subst Solid (sym (lines-at_end bytes i e)) (record { own = refl; given = refl })
-solid_at-cases bytes i (inr l) h k =
-    let n : slice_index bytes i ≢ 10 = λ e. h (l, inl e) in
-    let m : slice_index bytes i ≢ 13 = λ e. h (l, inr e) in
-    solid-cell (slice_index bytes i, i) (first_text (lines_at bytes (i + 1))) (lines_at bytes i) (k l) (cell_at bytes i l n m).text
-
-pub solid_at : (bytes : List ℕ) (i : ℕ) → i ≤ length bytes → (IsBreakAt bytes i → ⊥) → (i < length bytes → IsBlankByte (slice_index bytes i) → ⊥) → Solid (lines_at bytes i)
-solid_at bytes i h = solid_at-cases bytes i (eq-or-lt_of_le h)
-
-pub fold_done : {x : Result Taken Fault} {new : List Cell} (q : ℕ) (bytes : List ℕ) (from solid : ℕ) (b : Option ℕ) (text : List Cell)
-    → x ≡ before text (single_lines q b (lines_at bytes from)) → lines_at bytes from ≡ with_cells_before (cells_between bytes from solid) (lines_at bytes solid)
-    → AreBlank (cells_between bytes from solid) → Solid (lines_at bytes solid) → new ≡ text ++ folded b → x ≡ before new (single_quoted q (lines_at bytes solid))
-fold_done q bytes from solid b text e f r s g =
-    e ∙ ap (λ ls. before text (single_lines q b ls)) f
-    ∙ ap (before text) (lines-text q b (cells_between bytes from solid) (lines_at bytes solid) (lines_at-some bytes solid) r s.own s.given)
-    ∙ before-two text (folded b) (single_quoted q (lines_at bytes solid))
-    ∙ ap (λ t. before t (single_quoted q (lines_at bytes solid))) (sym g)
-
-pub fold_more : {x : Result Taken Fault} {new : List Cell} (q : ℕ) (bytes : List ℕ) (from solid next : ℕ) (b : Option ℕ) (text : List Cell)
-    → x ≡ before text (single_lines q b (lines_at bytes from)) → lines_at bytes from ≡ with_cells_before (cells_between bytes from solid) (lines_at bytes solid)
-    → AreBlank (cells_between bytes from solid) → lines_at bytes solid ≡ broken_line solid ∷ lines_at bytes next → new ≡ text ++ (10, solid) ∷ []
-    → x ≡ before new (single_lines q None (lines_at bytes next))
-fold_more q bytes from solid next b text e f r s g =
-    e ∙ ap (λ ls. before text (single_lines q b ls)) (f ∙ ap (with_cells_before (cells_between bytes from solid)) s)
-    ∙ ap (before text) (lines-empty q b (cells_between bytes from solid) (broken_line solid ∷ lines_at bytes next) refl r refl refl)
-    ∙ before-two text ((10, solid) ∷ []) (single_lines q None (lines_at bytes next))
-    ∙ ap (λ t. before t (single_lines q None (lines_at bytes next))) (sym g)
 
 -- at a break the line ends there, and isn't the last one
 end-with_return : (at : ℕ) (ls : List Line) → has_line ls ≡ true → first_end (with_return at ls) ≡ at

@@ -19,4 +19,5 @@ pub mod LiteralLemmas
 pub mod MarkLemmas
 pub mod DigitLemmas
 pub mod ReadDoubleLemmas
+pub mod ReadSingleLemmas
 pub mod ScalarLemmas

@@ -16,3 +16,4 @@ pub mod BlockRead
 pub mod Folding
 pub mod Double
 pub mod Contract
+pub mod Rows

@@ -21,10 +21,3 @@ StopsFrom at (Broken end) = at ≤ end
 -- the lines behind a break that is a space yet, unless it was escaped or an empty line came
 abbrev pub single_lines : ℕ → Option ℕ → List Line → Result Taken Fault
 single_lines quote break ls = quoted_lines (λ text. Ok (single_part 0 text)) quote break ls
-
-abbrev pub pending : Bool → ℕ → Option ℕ
-pending folded at = cond folded None (Some at)
-
--- Text that was read up to the break, with the break and the empty lines behind it folded.
-abbrev pub FoldsTo : List ℕ → List Cell → ℕ → List Cell → ℕ → Type 0
-FoldsTo bytes old end new next = (quote : ℕ) → before old (single_lines quote (Some end) (later (lines_at bytes end))) ≡ before new (single_quoted quote (lines_at bytes next))

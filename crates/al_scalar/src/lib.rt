@@ -3,6 +3,7 @@
 
 mod block;
 mod double;
+mod examples;
 mod faults;
 mod folding;
 mod header;
@@ -14,6 +15,7 @@ mod single;
 mod styles;
 mod texts;
 
+pub use examples::rows;
 pub use faults::{YamlFault, fault_at};
 pub use scalars::{Place, Scalar, ScalarRead};
 pub use styles::{Class, Style};

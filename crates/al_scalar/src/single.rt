@@ -1,10 +1,11 @@
 ghost use Rattle.std.specs.Prelude.{◌≡◌, ◌+◌, ◌<◌, ◌≤◌, ◌^◌, ◌++◌, suc, length, IsTrue, IfOk, slice_index};
-ghost use Rattle.al_scalar.specs.Places.{lines_at, IsLineEnd};
+ghost use Rattle.al_scalar.specs.Places.{lines_at};
 ghost use Rattle.al_scalar.specs.Quoted.{single_quoted};
 ghost use Rattle.al_scalar.specs.Reads.{Gives, StaysWithin};
-ghost use Rattle.al_scalar.specs.Single.{part_at, StopsSo, StopsFrom, FoldsTo};
+ghost use Rattle.al_scalar.specs.Single.{part_at, StopsSo, StopsFrom};
 
-use crate::lines::{after_break, blanks_end, is_break_at, is_line_end};
+use crate::folding::fold_break;
+use crate::lines::{blanks_end, is_line_end};
 use crate::reads::{FaultAt, Taken};
 use crate::texts::Text;
 use al_text::Yaml;
@@ -52,32 +53,8 @@ fn single_line(text: &mut Text, bytes: &[u8], at: usize) -> Result<LineStop, All
     }
 }
 
-/// Folds the break at an offset and the empty lines behind it, and answers where the next text begins.
-fn fold_break(text: &mut Text, bytes: &[u8], end: usize) -> Result<usize, AllocError>
-    requires inside { end < length bytes.now }
-    requires is_break { IsLineEnd bytes.now end }
-    requires size { length bytes.now < 2 ^ 32 }
-    ensures inside { IfOk result (λ next. next ≤ length bytes.now) }
-    ensures after { IfOk result (λ next. end < next) }
-    ensures folds { IfOk result (λ next. FoldsTo bytes.now text.old end text.new next) }
-{
-    let mut start = after_break(bytes, end);
-    let mut folded = false;
-    'empty_lines: loop {
-        let solid = blanks_end(bytes, start);
-        if !is_break_at(bytes, solid) {
-            if !folded {
-                text.push(b' ', end)?;
-            }
-            return Ok(solid);
-        }
-        text.push(b'\n', solid)?;
-        folded = true;
-        start = after_break(bytes, solid);
-    }
-}
-
-/// Reads a single-quoted scalar from its opening quote.
+/// Reads a single-quoted scalar from its opening quote (YAML 1.2.2, 7.3.2). Where the file ends before the closing one,
+/// `UnclosedQuote` stands at the opening quote.
 pub fn read_single(
     alloc: Global,
     bytes: &[u8],
@@ -106,6 +83,6 @@ pub fn read_single(
                 at: quote,
             }));
         }
-        at = fold_break(&mut text, bytes, end)?;
+        at = fold_break(&mut text, bytes, end, false)?;
     }
 }

@@ -6,6 +6,7 @@ use Rattle.al_scalar.specs.Single.{StopsSo, StopsFrom}
 use Rattle.al_scalar.specs.declared.single.LineStop.TheVariants.{Closed, Broken}
 use Rattle.al_scalar.proofs.SingleLemmas.{lines_at-some}
 use Rattle.al_scalar.proofs.FoldLemmas.{quoted-closed, line_broken}
+use Rattle.al_scalar.proofs.ReadSingleLemmas.{read_fold}
 use Rattle.al_scalar.proofs.single.read_single.Goals as goal
 
 pub returns-in-Closed-clause-gives : goal.returns-in-Closed-clause-gives
@@ -32,7 +33,7 @@ text_lines-preserved c =
       inside = c.in_ok-at.ensures.inside;
       read = c.text_lines.invariant.read
           ∙ line_broken c.single_line.new.text c.args.quote bytes c.text_lines.at c.in-Broken.end c.text_lines.text (omega (arith, stop.1)) stop.2 stop.0 stop.3 c.in_ok-stop.ensures.text
-          ∙ c.in_ok-at.ensures.folds c.args.quote;
+          ∙ read_fold bytes c.in-Broken.end c.in_ok-at.at c.args.quote c.single_line.new.text c.in_ok-at.ensures.lines c.in_ok-at.ensures.text;
     }
 
 pub returns-in-Closed-clause-within : goal.returns-in-Closed-clause-within
