@@ -2,6 +2,7 @@
 #![tactic(auto)]
 
 mod block;
+mod class;
 mod double;
 mod examples;
 mod faults;
