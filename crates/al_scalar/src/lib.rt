@@ -10,6 +10,7 @@ mod folding;
 mod header;
 mod lines;
 mod plain;
+mod reader;
 mod reads;
 mod scalars;
 mod single;
@@ -18,5 +19,9 @@ mod texts;
 
 pub use examples::rows;
 pub use faults::{YamlFault, fault_at};
+pub use reader::read_scalar;
 pub use scalars::{Place, Scalar, ScalarRead};
 pub use styles::{Class, Style};
+
+#[cfg(test)]
+mod tests;

@@ -1,6 +1,7 @@
-ghost use Rattle.std.specs.Prelude.{◌≡◌, ◌≤◌, length};
+ghost use Rattle.std.specs.Prelude.{◌≡◌, ◌<◌, ◌≤◌, ◌^◌, length};
 ghost use Rattle.al_scalar.specs.Scalar.{offset_of, text_of};
 
+use crate::reads::Taken;
 use crate::styles::{Class, Style};
 use crate::texts::Text;
 use al_text::Span;
@@ -39,18 +40,6 @@ impl Model for Scalar {
 }
 
 impl Scalar {
-    /// A scalar of a decoded text, whose written form ends before an offset.
-    pub fn new(style: Style, class: Class, text: Text, end: u32) -> Scalar
-        ensures { result ≡ record { style = style; class = class; cells = text; end = end } }
-    {
-        Scalar {
-            style,
-            class,
-            text,
-            end,
-        }
-    }
-
     /// How it is written.
     pub fn style(&self) -> Style
         ensures { result ≡ (self.now).style }
@@ -95,4 +84,28 @@ pub struct ScalarRead {
     /// Where what is left of the file begins, in bytes: the start of the line that ends a block scalar, or the file's end;
     /// otherwise the end of the span.
     pub next: usize,
+}
+
+/// The scalar of what was taken from an offset on.
+pub fn scalar_read(at: usize, style: Style, class: Class, taken: Taken) -> ScalarRead
+    requires start { at < 2 ^ 32 }
+    requires end { taken.end < 2 ^ 32 }
+    ensures scalar { result.scalar ≡ record { style = style; class = class; cells = taken.text; end = taken.end } }
+    ensures span { result.span ≡ record { start = at; end = taken.end } }
+    ensures next { result.next ≡ taken.next }
+{
+    let end = taken.end as u32;
+    ScalarRead {
+        scalar: Scalar {
+            style,
+            class,
+            text: taken.text,
+            end,
+        },
+        span: Span {
+            start: at as u32,
+            end,
+        },
+        next: taken.next,
+    }
 }
