@@ -1,9 +1,10 @@
 -- Runs of offsets, and the cells that they stand for.
 use Rattle.std.proofs.Common.{◌≡◌, ℕ, zero, suc, ◌+◌, ◌-◌, ◌^◌, ◌<◌, ◌≤◌, List, [], ◌∷◌, ◌++◌, length, get_or, refl, sym, ap, subst, ◌∙◌, arith, Bool, true, false, not, cond, map, take, drop, drop-cons, slice_range, slice_index}
+use Rattle.std.proofs.Math.Seq.{take-suc}
 use Rattle.std.proofs.lemmas.Grind.{common_steps}
 use Rattle.al_scalar.specs.Line.{Cell}
 use Rattle.al_scalar.specs.Places.{cells_at, cells_between}
-use Rattle.al_scalar.specs.Segments.{offset_in, offset_after, offset_from, offset_at, cells_from, AreBehind, GoesOn, AreInRange}
+use Rattle.al_scalar.specs.Segments.{offset_in, offset_after, offset_from, offset_at, cells_from, AreBehind, AreFrom, IsRising, IsOrdered, GoesOn, AreInRange}
 use Rattle.al_scalar.specs.declared.texts.Segment.{Segment}
 
 after-behind : (found : ℕ) (s : Segment) (i : ℕ) → s.index ≤ i → offset_after found s i ≡ offset_in s i
@@ -30,6 +31,18 @@ AreBehind-more n (t ∷ ts) s h k = (h.0, AreBehind-more n ts s h.1 k)
 AreBehind-up : (n m : ℕ) (ss : List Segment) → AreBehind n ss → n ≤ m → AreBehind m ss
 AreBehind-up n m [] h k = tt
 AreBehind-up n m (s ∷ ss) h k = (omega (arith, h.0), AreBehind-up n m ss h.1 k)
+
+AreFrom-more : (n : ℕ) (ss : List Segment) (s : Segment) → AreFrom n ss → n ≤ s.index → AreFrom n (ss ++ s ∷ [])
+AreFrom-more n [] s h k = (k, tt)
+AreFrom-more n (t ∷ ts) s h k = (h.0, AreFrom-more n ts s h.1 k)
+
+-- a run more, behind all others
+pub IsOrdered-more : (n : ℕ) (ss : List Segment) (s : Segment) → IsOrdered n ss → s.index ≡ n → IsOrdered n (ss ++ s ∷ [])
+IsOrdered-more n ss s h e = (AreBehind-more n ss s h.0 (omega (arith, e)), rising ss h.0 h.1)
+  where
+    rising : (ss : List Segment) → AreBehind n ss → IsRising ss → IsRising (ss ++ s ∷ [])
+    rising [] b r = (tt, tt)
+    rising (t ∷ ts) b r = (AreFrom-more t.index ts s r.0 (omega (arith, b.0, e)), rising ts b.1 r.1)
 
 last-of : (n : ℕ) (d s : Segment) (ss : List Segment) → AreBehind n (s ∷ ss) → (get_or (s ∷ ss) (length ss) d).index ≤ n
 last-of n d s [] h = h.0
@@ -149,7 +162,47 @@ length-two [] ds = omega arith
 length-two (b ∷ bs) ds = let below = length-two bs ds in omega (arith, below)
 
 pub pushed-kept : (old run : List Cell) (bs ds new : List ℕ) (ss ss' : List Segment) (n : ℕ) → n ≡ length bs → new ≡ bs ++ ds → cells_from 0 bs ss ≡ old → AreInRange (cells_from 0 bs ss) → AreInRange run
-    → AreBehind n ss' → cells_from 0 new ss' ≡ old ++ run → AreBehind (length new) ss' × AreInRange (cells_from 0 new ss')
+    → IsOrdered n ss' → cells_from 0 new ss' ≡ old ++ run → IsOrdered (length new) ss' × AreInRange (cells_from 0 new ss')
 pushed-kept old run bs ds new ss ss' n e f g p q b t =
     let long : length bs ≤ length new = subst (λ xs. length bs ≤ length xs) (sym f) (length-two bs ds) in
-    (AreBehind-up n (length new) ss' b (omega (arith, long, e)), subst AreInRange (sym t) (AreInRange-two old run (subst AreInRange g p) q))
+    ((AreBehind-up n (length new) ss' b.0 (omega (arith, long, e)), b.1), subst AreInRange (sym t) (AreInRange-two old run (subst AreInRange g p) q))
+
+-- ---- the search for the last run
+
+none-above : (found n i k : ℕ) (ss : List Segment) → AreFrom k ss → i < k → offset_from found (take n ss) i ≡ found
+none-above found zero i k ss h l = refl
+none-above found (suc n) i k [] h l = refl
+none-above found (suc n) i k (s ∷ ss) h l =
+    let before : i < s.index = omega (arith, h.0, l) in
+    ap (λ o. offset_from o (take n ss) i) (after-before found s i before) ∙ none-above found n i k ss h.1 l
+
+-- from a run behind the index on, no run says its offset
+cut-from : (found n m i : ℕ) (d : Segment) (ss : List Segment) → IsRising ss → i < (get_or ss m d).index → m ≤ n → m < length ss → offset_from found (take n ss) i ≡ offset_from found (take m ss) i
+cut-from found n m i d [] r h o l = absurd (omega (arith, l))
+cut-from found zero zero i d (s ∷ ss) r h o l = refl
+cut-from found zero (suc m) i d (s ∷ ss) r h o l = absurd (omega (arith, o))
+cut-from found (suc n) zero i d (s ∷ ss) r h o l =
+    ap (λ x. offset_from x (take n ss) i) (after-before found s i h) ∙ none-above found n i s.index ss r.0 h
+cut-from found (suc n) (suc m) i d (s ∷ ss) r h o l = cut-from (offset_after found s i) n m i d ss r.1 h (omega (arith, o)) (omega (arith, l))
+
+pub search-below : (d : Segment) (ss : List Segment) (high middle i : ℕ) → IsRising ss → i < (get_or ss middle d).index → middle < high → high ≤ length ss → offset_at ss i ≡ offset_at (take high ss) i
+    → offset_at ss i ≡ offset_at (take middle ss) i
+search-below d ss high middle i r h o l e = e ∙ cut-from 0 high middle i d ss r h (omega (arith, o)) (omega (arith, o, l))
+
+take-all : (ss : List Segment) → take (length ss) ss ≡ ss
+take-all [] = refl
+take-all (s ∷ ss) = ap (λ xs. s ∷ xs) (take-all ss)
+
+pub search-all : (ss : List Segment) (i count : ℕ) → count ≡ length ss → offset_at ss i ≡ offset_at (take count ss) i
+search-all ss i count e = ap (λ xs. offset_at xs i) (sym (ap (λ n. take n ss) e ∙ take-all ss))
+
+pub search-none : (ss : List Segment) (i low : ℕ) → low ≡ 0 → offset_at ss i ≡ offset_at (take low ss) i → 0 ≡ offset_at ss i
+search-none ss i low z e = sym (e ∙ ap (λ n. offset_at (take n ss) i) z)
+
+pub search-found : (d : Segment) (ss : List Segment) (i low : ℕ) → (low ≡ 0 → ⊥) → low ≤ length ss → (get_or ss (low - 1) d).index ≤ i → offset_at ss i ≡ offset_at (take low ss) i
+    → offset_in (get_or ss (low - 1) d) i ≡ offset_at ss i
+search-found d ss i low z l h e =
+    let s = get_or ss (low - 1) d in
+    let last : low ≡ suc (low - 1) = omega (arith, z) in
+    let inside : low - 1 < length ss = omega (arith, z, l) in
+    sym (e ∙ ap (λ n. offset_at (take n ss) i) last ∙ ap (λ xs. offset_at xs i) (take-suc ss (low - 1) d inside) ∙ offset_from-more 0 (take (low - 1) ss) s i ∙ after-behind (offset_at (take (low - 1) ss) i) s i h)

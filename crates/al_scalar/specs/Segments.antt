@@ -27,6 +27,20 @@ abbrev pub AreBehind : ℕ → List Segment → Type 0
 AreBehind n [] = Unit {0}
 AreBehind n (s ∷ ss) = (s.index ≤ n) × AreBehind n ss
 
+-- each run begins at a number or behind it
+abbrev pub AreFrom : ℕ → List Segment → Type 0
+AreFrom n [] = Unit {0}
+AreFrom n (s ∷ ss) = (n ≤ s.index) × AreFrom n ss
+
+-- no run begins before an earlier one
+abbrev pub IsRising : List Segment → Type 0
+IsRising [] = Unit {0}
+IsRising (s ∷ ss) = AreFrom s.index ss × IsRising ss
+
+-- runs of a text of so many bytes
+abbrev pub IsOrdered : ℕ → List Segment → Type 0
+IsOrdered n ss = AreBehind n ss × IsRising ss
+
 -- the offsets of the bytes from an index on go up from one
 abbrev pub GoesOn : List Segment → ℕ → ℕ → Type 0
 GoesOn ss index at = (k : ℕ) → offset_at ss (index + k) ≡ at + k

@@ -2,7 +2,7 @@ ghost use Rattle.std.specs.Prelude.{◌≡◌, ℕ, ◌+◌, ◌<◌, ◌≤◌,
 ghost use Rattle.al_scalar.specs.Line.{Cell};
 ghost use Rattle.al_scalar.specs.Places.{cells_between};
 ghost use Rattle.al_scalar.specs.Scalar.{offset_or};
-ghost use Rattle.al_scalar.specs.Segments.{offset_in, offset_at, cells_from, AreBehind, GoesOn};
+ghost use Rattle.al_scalar.specs.Segments.{offset_in, offset_at, cells_from, AreBehind, IsRising, IsOrdered, GoesOn};
 
 use std::alloc::{AllocError, Global};
 use std::marker::Model;
@@ -52,8 +52,8 @@ fn goes_on(segments: &[Segment], index: usize, at: u32) -> bool
 
 /// Makes an offset that of the byte at an index, which is to come, and lets the offsets go up from there.
 fn begin_run(segments: &mut Vec<Segment>, index: usize, at: u32) -> Result<(), AllocError>
-    requires { AreBehind index segments.old.items }
-    ensures behind { AreBehind index segments.new.items }
+    requires { IsOrdered index segments.old.items }
+    ensures order { IsOrdered index segments.new.items }
     ensures cells { (bs : List ℕ) → length bs ≡ index → cells_from 0 bs segments.new.items ≡ cells_from 0 bs segments.old.items }
     ensures next { IfOk result (λ _. GoesOn segments.new.items index at) }
 {
@@ -70,20 +70,28 @@ fn begin_run(segments: &mut Vec<Segment>, index: usize, at: u32) -> Result<(), A
 
 /// The last run that begins at or before an index; a run from 0 on where there is none.
 fn last_run(segments: &[Segment], i: usize) -> Segment
+    requires { IsRising segments.now }
     ensures behind { result.index ≤ i }
     ensures offset { offset_in result i ≡ offset_at segments.now i }
 {
-    let mut found = Segment {
-        index: 0,
-        offset: 0,
-        moves: false,
-    };
-    for segment in segments {
-        if segment.index <= i {
-            found = *segment;
+    let mut low = 0;
+    let mut high = segments.len();
+    'halves: while low < high {
+        let middle = low + (high - low) / 2;
+        if segments[middle].index <= i {
+            low = middle + 1;
+        } else {
+            high = middle;
         }
     }
-    found
+    if low == 0 {
+        return Segment {
+            index: 0,
+            offset: 0,
+            moves: false,
+        };
+    }
+    segments[low - 1]
 }
 
 /// Decoded bytes, each with the offset that gave it.
@@ -96,13 +104,13 @@ pub struct Text {
 impl Model for Text {
     ghost use Rattle.std.specs.Prelude.{List, length};
     ghost use Rattle.al_scalar.specs.Line.{Cell};
-    ghost use Rattle.al_scalar.specs.Segments.{cells_from, AreBehind, AreInRange};
+    ghost use Rattle.al_scalar.specs.Segments.{cells_from, IsOrdered, AreInRange};
 
     ghost Value = { List Cell };
 
     ghost view = { λ t. cells_from 0 t.bytes.items t.segments.items };
 
-    ghost invariant = { λ t. AreBehind (length t.bytes.items) t.segments.items × AreInRange (cells_from 0 t.bytes.items t.segments.items) };
+    ghost invariant = { λ t. IsOrdered (length t.bytes.items) t.segments.items × AreInRange (cells_from 0 t.bytes.items t.segments.items) };
 }
 
 impl Text {

@@ -1,15 +1,14 @@
 use Rattle.std.proofs.Common.{◌≡◌, ◌∙◌, ◌+◌, ◌≤◌, length, true, ap, subst, sym, refl, arith}
-use Rattle.al_scalar.specs.Segments.{cells_from, AreBehind}
+use Rattle.al_scalar.specs.Segments.{cells_from, IsOrdered}
 use Rattle.al_scalar.specs.declared.texts.Segment.{Segment}
-use Rattle.al_scalar.proofs.RunLemmas.{AreBehind-more, cells_from-run, next-run}
+use Rattle.al_scalar.proofs.RunLemmas.{IsOrdered-more, cells_from-run, next-run}
 use Rattle.al_scalar.proofs.texts.begin_run.Goals as goal
 
-pub returns-clause-behind : goal.returns-clause-behind
-returns-clause-behind c =
+pub returns-clause-order : goal.returns-clause-order
+returns-clause-order c =
     let n = c.args.index in
     let s : Segment = record { index = n; offset = c.args.at; moves = true } in
-    let h : n ≤ n = omega arith in
-    subst (λ xs. AreBehind n xs) (sym c.in_ok-push.ensures.items) (AreBehind-more n c.args.segments.now.items s c.requires h)
+    subst (λ xs. IsOrdered n xs) (sym c.in_ok-push.ensures.items) (IsOrdered-more n c.args.segments.now.items s c.requires refl)
 
 pub returns-clause-cells : goal.returns-clause-cells
 returns-clause-cells c = λ bs e.

@@ -19,4 +19,4 @@ invariant_of-self-2 c =
     let text = pushed-text c.args.self.now ((c.args.byte, c.args.at) ∷ []) was.bytes.items (c.args.byte ∷ []) c.push.new.self.items was.segments.items c.begin_run.new.segments.items c.len.result
     n c.in_ok-push.ensures.items c.self.view_is c.in_ok-begin_run.ensures.cells run in
     pushed-kept c.args.self.now ((c.args.byte, c.args.at) ∷ []) was.bytes.items (c.args.byte ∷ []) c.push.new.self.items was.segments.items c.begin_run.new.segments.items c.len.result
-    n c.in_ok-push.ensures.items c.self.view_is c.self.invariant.1 (c.requires, tt) c.in_ok-begin_run.ensures.behind text
+    n c.in_ok-push.ensures.items c.self.view_is c.self.invariant.1 (c.requires, tt) c.in_ok-begin_run.ensures.order text

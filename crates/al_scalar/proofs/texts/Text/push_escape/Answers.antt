@@ -1,8 +1,8 @@
 use Rattle.std.proofs.Common.{◌≡◌, ◌∙◌, ◌++◌, ◌∷◌, [], ◌+◌, ◌≤◌, ℕ, List, length, map, false, Result, Ok, Err, OnErr, refl, sym, ap, subst, arith}
 use Rattle.al_scalar.specs.Line.{Cell}
-use Rattle.al_scalar.specs.Segments.{cells_from, AreBehind, AreInRange}
+use Rattle.al_scalar.specs.Segments.{cells_from, IsOrdered, AreInRange}
 use Rattle.al_scalar.specs.declared.texts.Segment.{Segment}
-use Rattle.al_scalar.proofs.RunLemmas.{AreBehind-more, cells_from-run, escape-cells, pushed-text, pushed-kept, AreInRange-escape}
+use Rattle.al_scalar.proofs.RunLemmas.{IsOrdered-more, cells_from-run, escape-cells, pushed-text, pushed-kept, AreInRange-escape}
 use Rattle.al_scalar.proofs.texts.Text.push_escape.Goals as goal
 
 -- a run for the next byte leaves the cells as they are
@@ -10,8 +10,8 @@ kept : (bs : List ℕ) (ss ss' : List Segment) (n at : ℕ) → n ≡ length bs 
     → (xs : List ℕ) → length xs ≡ n → cells_from 0 xs ss' ≡ cells_from 0 xs ss
 kept bs ss ss' n at e f xs g = ap (cells_from 0 xs) f ∙ cells_from-run 0 xs ss (record { index = n; offset = at; moves = false }) (omega (arith, g))
 
-behind : (ss ss' : List Segment) (n at : ℕ) → AreBehind n ss → ss' ≡ ss ++ record { index = n; offset = at; moves = false } ∷ [] → AreBehind n ss'
-behind ss ss' n at h f = let o : n ≤ n = omega arith in subst (AreBehind n) (sym f) (AreBehind-more n ss (record { index = n; offset = at; moves = false }) h o)
+behind : (ss ss' : List Segment) (n at : ℕ) → IsOrdered n ss → ss' ≡ ss ++ record { index = n; offset = at; moves = false } ∷ [] → IsOrdered n ss'
+behind ss ss' n at h f = subst (IsOrdered n) (sym f) (IsOrdered-more n ss (record { index = n; offset = at; moves = false }) h refl)
 
 run : (ds : List ℕ) (ss ss' : List Segment) (n at : ℕ) → ss' ≡ ss ++ record { index = n; offset = at; moves = false } ∷ [] → cells_from n ds ss' ≡ map (λ b. (b, at)) ds
 run ds ss ss' n at f = let o : n ≤ n = omega arith in ap (cells_from n ds) f ∙ escape-cells n ds ss (record { index = n; offset = at; moves = false }) o refl
@@ -37,7 +37,7 @@ invariant_of-self-2 c =
     let n : c.len.result ≡ length bs = omega (arith, c.len.ensures, was.bytes.ok.0) in
     let text = pushed-text c.args.self.now cells bs c.args.decoded.now c.extend_from_slice.new.self.items ss ss' c.len.result
     n c.in_ok-extend_from_slice.ensures.items c.self.view_is (kept bs ss ss' c.len.result c.args.at n c.in_ok-push.ensures.items) (run c.args.decoded.now ss ss' c.len.result c.args.at c.in_ok-push.ensures.items) in
-    let was_behind = subst (λ k. AreBehind k ss) (sym n) c.self.invariant.0 in
+    let was_behind = subst (λ k. IsOrdered k ss) (sym n) c.self.invariant.0 in
     pushed-kept c.args.self.now cells bs c.args.decoded.now c.extend_from_slice.new.self.items ss ss' c.len.result
     n c.in_ok-extend_from_slice.ensures.items c.self.view_is c.self.invariant.1 (AreInRange-escape c.args.decoded.now c.args.at c.requires) (behind ss ss' c.len.result c.args.at was_behind c.in_ok-push.ensures.items) text
 
@@ -64,8 +64,8 @@ invariant_of-self-in_err-extend_from_slice c =
     let ss' = c.push.new.self.items in
     let n : length bs ≡ c.len.result = omega (arith, c.len.ensures, was.bytes.ok.0) in
     let same = kept bs ss ss' c.len.result c.args.at (sym n) c.in_ok-push.ensures.items bs n in
-    let was_behind = behind ss ss' c.len.result c.args.at (subst (λ k. AreBehind k ss) n c.self.invariant.0) c.in_ok-push.ensures.items in
+    let was_behind = behind ss ss' c.len.result c.args.at (subst (λ k. IsOrdered k ss) n c.self.invariant.0) c.in_ok-push.ensures.items in
     let bytes = sym c.in_err-extend_from_slice.ensures.items in (
-      subst (λ xs. AreBehind (length xs) ss') bytes (subst (λ k. AreBehind k ss') (sym n) was_behind),
+      subst (λ xs. IsOrdered (length xs) ss') bytes (subst (λ k. IsOrdered k ss') (sym n) was_behind),
       subst (λ xs. AreInRange (cells_from 0 xs ss')) bytes (subst AreInRange (sym same) c.self.invariant.1),
     )

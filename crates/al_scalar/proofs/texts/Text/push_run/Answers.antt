@@ -24,4 +24,4 @@ invariant_of-self-2 c =
     n c.in_ok-extend_from_slice.ensures.items c.self.view_is c.in_ok-begin_run.ensures.cells run in
     let small : c.args.to < 2 ^ 32 = omega (arith, c.requires.inside, c.requires.size) in
     pushed-kept c.args.self.now cells was.bytes.items (slice_range file c.args.from c.args.to) c.extend_from_slice.new.self.items was.segments.items c.begin_run.new.segments.items c.len.result
-    n c.in_ok-extend_from_slice.ensures.items c.self.view_is c.self.invariant.1 (AreInRange-between file c.args.from c.args.to c.requires.order small) c.in_ok-begin_run.ensures.behind text
+    n c.in_ok-extend_from_slice.ensures.items c.self.view_is c.self.invariant.1 (AreInRange-between file c.args.from c.args.to c.requires.order small) c.in_ok-begin_run.ensures.order text
