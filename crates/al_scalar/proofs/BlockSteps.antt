@@ -1,0 +1,75 @@
+-- A block scalar from its indicator on: the header, then the rows.
+use Rattle.std.proofs.Common.{◌≡◌, ℕ, ◌+◌, List, [], ◌∷◌, length, drop, refl, sym, ap, ◌∙◌, Bool, true, false, cond, Option, None, Result, Ok, Err}
+use Rattle.al_scalar.specs.Line.{Cell, Line, place}
+use Rattle.al_scalar.specs.Taken.{Fault, Taken, ◌>>=◌, with_text}
+use Rattle.al_scalar.specs.Places.{lines_at, broken_line, SameLine, first_text, first_end, first_last, later}
+use Rattle.al_scalar.specs.Block.{Chomping, Header, Rows, header, content_indent, rows_at, block_scalar}
+use Rattle.al_scalar.specs.BlockRead.{rest, is_said}
+use Rattle.al_scalar.proofs.SingleLemmas.{has_line, cell_at, lines-at_end, lines_at-some, IsInside}
+use Rattle.al_scalar.proofs.RowLemmas.{of_rows, chomped-none}
+
+-- behind the header h of the first line
+abbrev pub rows_behind : ℕ → List Line → Header → Rows
+rows_behind within xs h =
+    cond (first_last xs) (record { rows = []; left = record { text = []; end = first_end xs; last = true } ∷ [] })
+    (rows_at (content_indent h.digit within (later xs)) (is_said h.digit) (later xs))
+
+abbrev pub body : Bool → ℕ → List Line → Header → Result Taken Fault
+body lit within xs h = Ok (of_rows lit h.chomping None [] h.end (rows_behind within xs h))
+
+block-body : (lit : Bool) (within : ℕ) (xs : List Line) → has_line xs ≡ true
+    → block_scalar lit within xs ≡ (header (place (first_text xs) (first_end xs) + 1) (drop 1 (first_text xs)) >>= body lit within xs)
+block-body lit within [] h = cc
+block-body lit within (l ∷ ls) h = refl
+
+module _ (lit : Bool) (within : ℕ) (bytes : List ℕ) (at : ℕ) (here : IsInside bytes at) (end : ℕ) (given : Result Header Fault)
+    (e : header (at + 1) (first_text (lines_at bytes (at + 1))) ≡ given) where
+  block-given : block_scalar lit within (lines_at bytes at) ≡ (given >>= body lit within (lines_at bytes at))
+  block-given =
+      let xs = lines_at bytes at in
+      block-body lit within xs (lines_at-some bytes at)
+      ∙ ap (λ t. header (place t (first_end xs) + 1) (drop 1 t) >>= body lit within xs) (cell_at bytes at here.inside here.not_feed here.not_return).text
+      ∙ ap (λ r. r >>= body lit within xs) e
+
+  pub block-fault : (f : Fault) → given ≡ Err f → block_scalar lit within (lines_at bytes at) ≡ Err f
+  block-fault f g = block-given ∙ ap (λ r. r >>= body lit within (lines_at bytes at)) g
+
+  first-same : SameLine (lines_at bytes at) (lines_at bytes (at + 1))
+  first-same = (cell_at bytes at here.inside here.not_feed here.not_return).same
+
+  -- the header's line is the file's last one
+  pub block-last : (h : Header) (new : List Cell) (stop : ℕ) → given ≡ Ok h → SameLine (lines_at bytes (at + 1)) (lines_at bytes end) → SameLine (lines_at bytes end) (lines_at bytes stop)
+      → stop ≡ length bytes → new ≡ [] → block_scalar lit within (lines_at bytes at) ≡ Ok (record { text = new; end = h.end; left = lines_at bytes stop })
+  block-last h new stop g s u z n =
+      let xs = lines_at bytes at in
+      let at_stop = lines-at_end bytes stop z in
+      let ended : first_end xs ≡ stop = first-same.end ∙ s.end ∙ u.end ∙ ap first_end at_stop in
+      let is_last : first_last xs ≡ true = first-same.last ∙ s.last ∙ u.last ∙ ap first_last at_stop in
+      block-given ∙ ap (λ r. r >>= body lit within xs) g
+      ∙ ap (λ b. Ok (of_rows lit h.chomping None [] h.end (cond b (record { rows = []; left = record { text = []; end = first_end xs; last = true } ∷ [] }) (rows_at (content_indent h.digit within (later xs)) (is_said h.digit) (later xs))))) is_last
+      ∙ ap (λ t. Ok (record { text = t; end = h.end; left = record { text = []; end = first_end xs; last = true } ∷ [] })) (chomped-none h.chomping ∙ sym n)
+      ∙ ap (λ m. Ok (record { text = new; end = h.end; left = record { text = []; end = m; last = true } ∷ [] })) ended
+      ∙ ap (λ ls. Ok (record { text = new; end = h.end; left = ls })) (sym at_stop)
+
+  -- the lines behind the header's
+  pub block-more : (h : Header) (stop first : ℕ) → given ≡ Ok h → SameLine (lines_at bytes (at + 1)) (lines_at bytes end) → SameLine (lines_at bytes end) (lines_at bytes stop)
+      → lines_at bytes stop ≡ broken_line stop ∷ lines_at bytes first
+      → block_scalar lit within (lines_at bytes at)
+      ≡ Ok (rest lit h.chomping (content_indent h.digit within (lines_at bytes first)) (is_said h.digit) None [] h.end (lines_at bytes first))
+  block-more h stop first g s u z =
+      let xs = lines_at bytes at in
+      let is_last : first_last xs ≡ false = first-same.last ∙ s.last ∙ u.last ∙ ap first_last z in
+      let behind : later xs ≡ lines_at bytes first = first-same.later ∙ s.later ∙ u.later ∙ ap later z in
+      block-given ∙ ap (λ r. r >>= body lit within xs) g
+      ∙ ap (λ b. Ok (of_rows lit h.chomping None [] h.end (cond b (record { rows = []; left = record { text = []; end = first_end xs; last = true } ∷ [] }) (rows_at (content_indent h.digit within (later xs)) (is_said h.digit) (later xs))))) is_last
+      ∙ ap (λ ls. Ok (of_rows lit h.chomping None [] h.end (rows_at (content_indent h.digit within ls) (is_said h.digit) ls))) behind
+
+-- the rest, by the style that the code took from the header
+pub rest-style : (lit lit' : Bool) (k k' : Chomping) (m m' : Option ℕ) (b b' : Bool) (end : ℕ) (old : List Cell) (ls : List Line) → lit' ≡ lit → k' ≡ k → m' ≡ m → b' ≡ b → old ≡ []
+    → rest lit k m b None [] end ls ≡ with_text old (rest lit' k' m' b' None [] end ls)
+rest-style lit lit' k k' m m' b b' end old ls e f g h n =
+    ap (λ x. rest x k m b None [] end ls) (sym e)
+    ∙ ap (λ x. rest lit' x m b None [] end ls) (sym f)
+    ∙ ap (λ x. rest lit' k' x b None [] end ls) (sym g)
+    ∙ ap (λ x. rest lit' k' m' x None [] end ls) (sym h)
+    ∙ ap (λ x. with_text x (rest lit' k' m' b' None [] end ls)) (sym n)

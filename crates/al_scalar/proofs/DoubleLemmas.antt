@@ -1,0 +1,120 @@
+-- The parts of a double-quoted scalar's lines.
+use Rattle.std.proofs.Common.{◌≡◌, ◌≢◌, ℕ, ◌+◌, ◌≤◌, List, [], ◌∷◌, ◌++◌, length, map, take, refl, sym, ap, ◌∙◌, arith, append_assoc, Bool, true, false, ◌==◌, nat_lt, cond, inl, inr, Option, Some, None, Result, Ok, Err, encode_utf8}
+use Rattle.std.proofs.lemmas.Grind.{common_steps}
+use Rattle.std.proofs.lemmas.Str.{length-encode, len_utf8_bounds}
+use Rattle.al_text.specs.declared.codes.Yaml.TheVariants as yaml
+use Rattle.al_scalar.specs.Line.{Cell, is_empty}
+use Rattle.al_scalar.specs.Taken.{Fault, fault}
+use Rattle.al_scalar.specs.Quoted.{Part, closed, broken, cut_short, part_before, own_before, written, lookup, escape_table, digits_table, hex_value, hex_escape, is_scalar_value, escape, double_part}
+use Rattle.al_scalar.specs.Places.{AreBlank, IsBlankByte}
+use Rattle.al_scalar.specs.Double.{IsMarkByte}
+use Rattle.al_scalar.proofs.SingleLemmas.{with_own-solid, with_own-other, with_own-blank}
+use Rattle.al_scalar.proofs.QuotedLemmas.{gives_nothing}
+
+abbrev pub nothing : Part
+nothing = record { text = []; stop = broken }
+
+-- ---- cells that stand for themselves
+
+pub part-none : (r : Result Part Fault) → part_before [] r ≡ r
+part-none (Ok p) = refl
+part-none (Err e) = refl
+
+pub part-two : (xs ys : List Cell) (r : Result Part Fault) → part_before xs (part_before ys r) ≡ part_before (xs ++ ys) r
+part-two xs ys (Ok p) = ap (λ t. Ok (record { text = t; stop = p.stop })) (sym (append_assoc xs ys p.text))
+part-two xs ys (Err e) = refl
+
+own-some : (c : Cell) (r : Result Part Fault) → gives_nothing r ≡ false → own_before c r ≡ part_before (c ∷ []) r
+own-some c (Ok p) h = ap Ok (with_own-solid c p h)
+own-some c (Err e) h = refl
+
+own-byte : (c : Cell) (r : Result Part Fault) → (IsBlankByte c.0 → ⊥) → own_before c r ≡ part_before (c ∷ []) r
+own-byte c (Ok p) h = ap Ok (with_own-other c p h)
+own-byte c (Err e) h = refl
+
+double-other : (c : Cell) (cs : List Cell) → c.0 ≢ 34 → c.0 ≢ 92 → double_part 0 (c ∷ cs) ≡ own_before c (double_part 0 cs)
+double-other c cs n m = grind (arith, common_steps, n, m)
+
+not_mark : (b : ℕ) → IsBlankByte b → (b ≢ 34) × (b ≢ 92)
+not_mark b (inl e) = (omega arith, omega arith)
+not_mark b (inr e) = (omega arith, omega arith)
+
+double-blank : (c : Cell) (cs : List Cell) → IsBlankByte c.0 → double_part 0 (c ∷ cs) ≡ own_before c (double_part 0 cs)
+double-blank c cs h = double-other c cs (not_mark c.0 h).0 (not_mark c.0 h).1
+
+-- blanks at the end of a line give nothing
+pub double-blanks : (cs : List Cell) → AreBlank cs → double_part 0 cs ≡ Ok nothing
+double-blanks [] h = refl
+double-blanks (c ∷ cs) h = double-blank c cs h.0 ∙ ap (own_before c) (double-blanks cs h.1) ∙ ap Ok (with_own-blank c nothing h.0 refl)
+
+some-before : (cs : List Cell) (r : Result Part Fault) → gives_nothing r ≡ false → gives_nothing (part_before cs r) ≡ false
+some-before [] (Ok p) h = h
+some-before (c ∷ cs) (Ok p) h = refl
+some-before cs (Err e) h = refl
+
+-- blanks before something stay
+pub double-run : (run rest : List Cell) → AreBlank run → gives_nothing (double_part 0 rest) ≡ false → double_part 0 (run ++ rest) ≡ part_before run (double_part 0 rest)
+double-run [] rest h s = sym (part-none (double_part 0 rest))
+double-run (c ∷ cs) rest h s =
+    double-blank c (cs ++ rest) h.0
+    ∙ ap (own_before c) (double-run cs rest h.1 s)
+    ∙ own-some c (part_before cs (double_part 0 rest)) (some-before cs (double_part 0 rest) s)
+    ∙ part-two (c ∷ []) cs (double_part 0 rest)
+
+pub double-byte : (c : Cell) (cs : List Cell) → (IsBlankByte c.0 → ⊥) → (IsMarkByte c.0 → ⊥) → double_part 0 (c ∷ cs) ≡ part_before (c ∷ []) (double_part 0 cs)
+double-byte c cs h k =
+    let n : c.0 ≢ 34 = λ e. k (inl e) in
+    let m : c.0 ≢ 92 = λ e. k (inr e) in
+    double-other c cs n m ∙ own-byte c (double_part 0 cs) h
+
+pub double-quote : (c : Cell) (cs : List Cell) → c.0 ≡ 34 → double_part 0 (c ∷ cs) ≡ Ok (record { text = []; stop = closed (c.1 + 1) cs })
+double-quote c cs e = rw e refl
+
+pub double-escape : (c : Cell) (cs : List Cell) → c.0 ≡ 92 → double_part 0 (c ∷ cs) ≡ escape c.1 cs (λ n. double_part n cs)
+double-escape c cs e = rw e refl
+
+-- ---- what is no blank gives something
+
+map-some : (at : ℕ) (bs : List ℕ) → 1 ≤ length bs → is_empty (map (λ b. (b, at)) bs) ≡ false
+map-some at [] h = absurd (omega (arith, h))
+map-some at (b ∷ bs) h = refl
+
+written-some : (at code : ℕ) → is_empty (written at code) ≡ false
+written-some at code = map-some at (encode_utf8 code) (omega (arith, length-encode code, len_utf8_bounds code))
+
+some-after : (cs : List Cell) (r : Result Part Fault) → is_empty cs ≡ false → gives_nothing (part_before cs r) ≡ false
+some-after [] r h = cc
+some-after (c ∷ cs) (Ok p) h = refl
+some-after (c ∷ cs) (Err e) h = refl
+
+hex-some : (at width : ℕ) (digits : List Cell) (code : Option ℕ) (more : Result Part Fault) → gives_nothing (hex_escape at width digits code more) ≡ false
+hex-some at width digits None more = refl
+hex-some at width digits (Some code) more = short (nat_lt (length digits) width) (is_scalar_value code)
+  where
+    short : (x y : Bool) → gives_nothing (cond x (Ok (record { text = []; stop = cut_short at })) (cond y (part_before (written at code) more) (fault yaml.WrongEscape at))) ≡ false
+    short true y = refl
+    short false true = some-after (written at code) more (written-some at code)
+    short false false = refl
+
+escape-some : (at : ℕ) (cs : List Cell) (more : ℕ → Result Part Fault) → gives_nothing (escape at cs more) ≡ false
+escape-some at [] more = refl
+escape-some at (c ∷ cs) more = kind (lookup c.0 escape_table) (lookup c.0 digits_table)
+  where
+    kind : (x y : Option ℕ) → gives_nothing (elim x [
+      | Some code ↦ part_before (written at code) (more 1)
+      | None ↦ elim y [
+        | None ↦ fault yaml.WrongEscape at
+        | Some width ↦ hex_escape at width (take width cs) (hex_value 0 (take width cs)) (more (1 + width))
+      ]
+    ]) ≡ false
+    kind (Some code) y = some-after (written at code) (more 1) (written-some at code)
+    kind None None = refl
+    kind None (Some width) = hex-some at width (take width cs) (hex_value 0 (take width cs)) (more (1 + width))
+
+pub double-some : (c : Cell) (cs : List Cell) → (IsBlankByte c.0 → ⊥) → gives_nothing (double_part 0 (c ∷ cs)) ≡ false
+double-some c cs h = kind (c.0 == 34) (c.0 == 92) refl refl
+  where
+    kind : (x y : Bool) → (c.0 == 34) ≡ x → (c.0 == 92) ≡ y → gives_nothing (double_part 0 (c ∷ cs)) ≡ false
+    kind true y e f = rw e refl
+    kind false true e f = rw (e, f) (escape-some c.1 cs (λ n. double_part n cs))
+    kind false false e f = rw (e, f) (ap gives_nothing (own-byte c (double_part 0 cs) h) ∙ some-after (c ∷ []) (double_part 0 cs) refl)

@@ -1,0 +1,31 @@
+-- Offsets of cells.
+use Rattle.std.proofs.Common.{map, ◌^◌, ◌≡◌, ℕ, zero, suc, ◌+◌, ◌<◌, ◌≤◌, List, [], ◌∷◌, length, refl, sym, ap, ◌∙◌, arith}
+use Rattle.al_scalar.specs.Segments.{AreInRange, cells_from, offset_at}
+use Rattle.al_scalar.specs.Line.{Cell}
+use Rattle.al_scalar.specs.Scalar.{offset_or}
+use Rattle.al_scalar.specs.declared.texts.Segment.{Segment}
+
+pub length-cells_from : (k : ℕ) (bs : List ℕ) (ss : List Segment) → length (cells_from k bs ss) ≡ length bs
+length-cells_from k [] ss = refl
+length-cells_from k (b ∷ bs) ss = ap suc (length-cells_from (suc k) bs ss)
+
+pub offset_or-cells_from : (k : ℕ) (bs : List ℕ) (ss : List Segment) (end i : ℕ) → i < length bs → offset_or (cells_from k bs ss) end i ≡ offset_at ss (k + i)
+offset_or-cells_from k [] ss end i h = absurd (omega arith)
+offset_or-cells_from k (b ∷ bs) ss end zero h = let e : k + 0 ≡ k = omega arith in rw e refl
+offset_or-cells_from k (b ∷ bs) ss end (suc i) h =
+    let e : k + suc i ≡ suc k + i = omega arith in
+    offset_or-cells_from (suc k) bs ss end i (omega arith) ∙ ap (offset_at ss) (sym e)
+
+pub offset_or-end : (cs : List Cell) (end i : ℕ) → length cs ≤ i → offset_or cs end i ≡ end
+offset_or-end [] end i h = refl
+offset_or-end (c ∷ cs) end zero h = absurd (omega (arith, h))
+offset_or-end (c ∷ cs) end (suc i) h = offset_or-end cs end i (omega (arith, h))
+
+pub bytes-cells_from : (k : ℕ) (bs : List ℕ) (ss : List Segment) → map (λ (c : Cell). c.0) (cells_from k bs ss) ≡ bs
+bytes-cells_from k [] ss = refl
+bytes-cells_from k (b ∷ bs) ss = ap (λ cs. b ∷ cs) (bytes-cells_from (suc k) bs ss)
+
+pub offset_or-small : (cs : List Cell) (end i : ℕ) → AreInRange cs → i < length cs → offset_or cs end i < 2 ^ 32
+offset_or-small [] end i h l = absurd (omega (arith, l))
+offset_or-small (c ∷ cs) end zero h l = h.0
+offset_or-small (c ∷ cs) end (suc i) h l = offset_or-small cs end i h.1 (omega (arith, l))

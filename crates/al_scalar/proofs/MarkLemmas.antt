@@ -1,0 +1,192 @@
+-- What ends a run of characters that stand for themselves, against offsets.
+use Rattle.std.proofs.Common.{◌≡◌, ◌≢◌, ℕ, suc, ◌+◌, ◌<◌, List, [], ◌∷◌, ◌++◌, length, take, slice_index, refl, sym, ap, subst, ◌∙◌, arith, append-nil, Bool, true, false, ◌&&◌, ◌||◌, nat_le, nat_lt, cond, inl, inr, ◌⊎◌, Option, Some, None, Result, Ok, Err}
+use Rattle.std.proofs.lemmas.Grind.{common_steps}
+use Rattle.std.specs.Char.{IsScalar}
+use Rattle.std.proofs.lemmas.List.{take_all}
+use Rattle.std.proofs.Math.Seq.{take-append_seam}
+use Rattle.al_text.specs.declared.codes.Yaml.TheVariants as yaml
+use Rattle.al_scalar.specs.Line.{Cell}
+use Rattle.al_scalar.specs.Taken.{Fault, fault}
+use Rattle.al_scalar.specs.Quoted.{Part, closed, escaped, cut_short, part_before, written, lookup, escape_table, digits_table, hex_value, hex_escape, is_scalar_value, escape, double_part, quoted_lines, double_quoted}
+use Rattle.al_scalar.specs.Places.{lines_at, text_at, first_last, later, cells_between, IsLineEnd}
+use Rattle.al_scalar.specs.Double.{ReadsOn, EndsRun, Between, read_behind}
+use Rattle.al_scalar.proofs.SingleLemmas.{lines_at-some, cell_at, run_then, RunBefore, text-line_end, lines-at_end, same_then}
+use Rattle.al_scalar.proofs.FoldLemmas.{break-at}
+use Rattle.al_scalar.proofs.QuotedLemmas.{quoted-part, given, given-closed, given-break, given-end, given-cut}
+use Rattle.al_scalar.proofs.DoubleLemmas.{nothing, double-quote, double-escape}
+use Rattle.al_scalar.proofs.LiteralLemmas.{reads_on}
+use Rattle.al_scalar.proofs.DigitLemmas.{length-cells_between}
+
+-- what a letter gives behind a backslash, by the two tables
+abbrev pub letter_given : ℕ → List Cell → (ℕ → Result Part Fault) → Option ℕ → Option ℕ → Result Part Fault
+letter_given at cs more x y = elim x [
+  | Some code ↦ part_before (written at code) (more 1)
+  | None ↦ elim y [
+    | None ↦ fault yaml.WrongEscape at
+    | Some width ↦ hex_escape at width (take width cs) (hex_value 0 (take width cs)) (more (1 + width))
+  ]
+]
+
+-- a letter that digits follow is no break
+pub letter_kind : (b count : ℕ) → lookup b digits_table ≡ Some count → (b ≢ 10) × (b ≢ 13)
+letter_kind b count e = (λ f. let no : lookup 10 digits_table ≡ Some count = subst (λ x. lookup x digits_table ≡ Some count) f e in cc, λ f. let no : lookup 13 digits_table ≡ Some count = subst (λ x. lookup x digits_table ≡ Some count) f e in cc)
+
+-- what the part of a line gives
+given_at : (bytes : List ℕ) (at q : ℕ) (r : Result Part Fault) → double_part 0 (text_at bytes at) ≡ r → double_quoted q (lines_at bytes at) ≡ elim r [ Ok p ↦ given (double_part 0) q p (lines_at bytes at) | Err e ↦ Err e ]
+given_at bytes at q (Ok p) e = quoted-part (double_part 0) q (lines_at bytes at) (Ok p) (lines_at-some bytes at) e
+given_at bytes at q (Err f) e = quoted-part (double_part 0) q (lines_at bytes at) (Err f) (lines_at-some bytes at) e
+
+pub file_end : (bytes : List ℕ) (at q : ℕ) → at ≡ length bytes → double_quoted q (lines_at bytes at) ≡ Err (record { code = yaml.UnclosedQuote; at = q })
+file_end bytes at q e = ap (double_quoted q) (lines-at_end bytes at e)
+
+pub closing : (bytes : List ℕ) (at q : ℕ) → at < length bytes → slice_index bytes at ≡ 34 → double_quoted q (lines_at bytes at) ≡ Ok (record { text = []; end = at + 1; left = lines_at bytes (at + 1) })
+closing bytes at q h e =
+    let cell = cell_at bytes at h (omega arith) (omega arith) in
+    given_at bytes at q (Ok (record { text = []; stop = closed (at + 1) (text_at bytes (at + 1)) })) (ap (double_part 0) cell.text ∙ double-quote (slice_index bytes at, at) (text_at bytes (at + 1)) e)
+    ∙ given-closed (double_part 0) q (at + 1) (lines_at bytes at) (lines_at bytes (at + 1)) (lines_at-some bytes at) (lines_at-some bytes (at + 1)) cell.same
+
+pub run_end : (bytes : List ℕ) (at : ℕ) → EndsRun bytes at → slice_index bytes at ≢ 34 → slice_index bytes at ≢ 92 → IsLineEnd bytes at
+run_end bytes at e n m h = ends (e h)
+  where
+    ends : ((slice_index bytes at ≡ 10) ⊎ (slice_index bytes at ≡ 13)) ⊎ ((slice_index bytes at ≡ 34) ⊎ (slice_index bytes at ≡ 92)) → (slice_index bytes at ≡ 10) ⊎ (slice_index bytes at ≡ 13)
+    ends (inl k) = k
+    ends (inr (inl k)) = absurd (n k)
+    ends (inr (inr k)) = absurd (m k)
+
+pub line_break : (bytes : List ℕ) (at q : ℕ) → at < length bytes → IsLineEnd bytes at → double_quoted q (lines_at bytes at) ≡ read_behind bytes at false q
+line_break bytes at q h k =
+    let broke = break-at bytes at h k in
+    given_at bytes at q (Ok nothing) (ap (double_part 0) (text-line_end bytes at (omega arith) k))
+    ∙ given-break (double_part 0) q false (lines_at bytes at) (lines_at-some bytes at) broke.1
+    ∙ ap (λ end. quoted_lines (double_part 0) q (Some end) (later (lines_at bytes at))) broke.0
+
+-- ---- behind a backslash
+
+module _ (bytes : List ℕ) (at : ℕ) (h : at < length bytes) (e : slice_index bytes at ≡ 92) where
+  slash : RunBefore ((slice_index bytes at, at) ∷ []) (lines_at bytes at) (lines_at bytes (at + 1))
+  slash = cell_at bytes at h (omega arith) (omega arith)
+
+  escape-part : (cs : List Cell) → text_at bytes (at + 1) ≡ cs → double_part 0 (text_at bytes at) ≡ escape at cs (λ n. double_part n cs)
+  escape-part cs f = ap (double_part 0) (slash.text ∙ ap (λ t. (slice_index bytes at, at) ∷ t) f) ∙ double-escape (slice_index bytes at, at) cs e
+
+  pub escape_cut : (q : ℕ) → at + 1 ≡ length bytes → double_quoted q (lines_at bytes at) ≡ Err (record { code = yaml.UnclosedQuote; at = q })
+  escape_cut q f =
+      let last : first_last (lines_at bytes at) ≡ true = slash.same.last ∙ ap first_last (lines-at_end bytes (at + 1) f) in
+      given_at bytes at q (Ok (record { text = []; stop = escaped })) (escape-part [] (text-line_end bytes (at + 1) (omega arith) (λ l. absurd (omega arith))))
+      ∙ given-end (double_part 0) q true (lines_at bytes at) (lines_at-some bytes at) last
+
+  pub escaped_break : (q : ℕ) → at + 1 < length bytes → IsLineEnd bytes (at + 1) → double_quoted q (lines_at bytes at) ≡ read_behind bytes (at + 1) true q
+  escaped_break q l k =
+      let broke = break-at bytes (at + 1) l k in
+      given_at bytes at q (Ok (record { text = []; stop = escaped })) (escape-part [] (text-line_end bytes (at + 1) (omega arith) k))
+      ∙ given-break (double_part 0) q true (lines_at bytes at) (lines_at-some bytes at) (slash.same.last ∙ broke.1)
+      ∙ ap (λ ls. quoted_lines (double_part 0) q None ls) slash.same.later
+
+  -- a letter behind it
+  module _ (l : at + 1 < length bytes) (n : slice_index bytes (at + 1) ≢ 10) (m : slice_index bytes (at + 1) ≢ 13) where
+    letter_at : RunBefore ((slice_index bytes (at + 1), at + 1) ∷ []) (lines_at bytes (at + 1)) (lines_at bytes (at + 1 + 1))
+    letter_at = cell_at bytes (at + 1) l n m
+
+    both : RunBefore (((slice_index bytes at, at) ∷ []) ++ (slice_index bytes (at + 1), at + 1) ∷ []) (lines_at bytes at) (lines_at bytes (at + 1 + 1))
+    both = run_then ((slice_index bytes at, at) ∷ []) ((slice_index bytes (at + 1), at + 1) ∷ []) slash letter_at
+
+    letter-part : (x y : Option ℕ) → lookup (slice_index bytes (at + 1)) escape_table ≡ x → lookup (slice_index bytes (at + 1)) digits_table ≡ y
+        → double_part 0 (text_at bytes at) ≡ letter_given at (text_at bytes (at + 1 + 1)) (λ n. double_part n ((slice_index bytes (at + 1), at + 1) ∷ text_at bytes (at + 1 + 1))) x y
+    letter-part x y f g =
+        let more = (λ (n : ℕ). double_part n ((slice_index bytes (at + 1), at + 1) ∷ text_at bytes (at + 1 + 1))) in
+        escape-part ((slice_index bytes (at + 1), at + 1) ∷ text_at bytes (at + 1 + 1)) letter_at.text
+        ∙ ap (λ x. letter_given at (text_at bytes (at + 1 + 1)) more x (lookup (slice_index bytes (at + 1)) digits_table)) f
+        ∙ ap (letter_given at (text_at bytes (at + 1 + 1)) more x) g
+
+    pub one_letter : (code : ℕ) → lookup (slice_index bytes (at + 1)) escape_table ≡ Some code → ReadsOn bytes at (written at code) (at + 1 + 1)
+    one_letter code f = reads_on bytes at (at + 1 + 1) (written at code) both.same (letter-part (Some code) (lookup (slice_index bytes (at + 1)) digits_table) f refl)
+
+    pub no_letter : (q : ℕ) → lookup (slice_index bytes (at + 1)) escape_table ≡ None → lookup (slice_index bytes (at + 1)) digits_table ≡ None
+        → double_quoted q (lines_at bytes at) ≡ Err (record { code = yaml.WrongEscape; at = at })
+    no_letter q f g = given_at bytes at q (Err (record { code = yaml.WrongEscape; at = at })) (letter-part None None f g)
+
+    -- digits behind the letter
+    double-skip : (ds rest : List Cell) → double_part (length ds) (ds ++ rest) ≡ double_part 0 rest
+    double-skip [] rest = refl
+    double-skip (d ∷ ds) rest = double-skip ds rest
+
+    module _ (count : ℕ) (f : lookup (slice_index bytes (at + 1)) escape_table ≡ None) (g : lookup (slice_index bytes (at + 1)) digits_table ≡ Some count) where
+      digits_at : List Cell
+      digits_at = take count (text_at bytes (at + 1 + 1))
+
+      number-part : double_part 0 (text_at bytes at) ≡ hex_escape at count (take count (text_at bytes (at + 1 + 1))) (hex_value 0 (take count (text_at bytes (at + 1 + 1)))) (double_part (1 + count) ((slice_index bytes (at + 1), at + 1) ∷ text_at bytes (at + 1 + 1)))
+      number-part = letter-part None (Some count) f g
+
+      pub wrong_digit : (q : ℕ) → hex_value 0 (take count (text_at bytes (at + 1 + 1))) ≡ None → double_quoted q (lines_at bytes at) ≡ Err (record { code = yaml.WrongEscape; at = at })
+      wrong_digit q e = given_at bytes at q (Err (record { code = yaml.WrongEscape; at = at })) (number-part ∙ ap (λ o. hex_escape at count (take count (text_at bytes (at + 1 + 1))) o (double_part (1 + count) ((slice_index bytes (at + 1), at + 1) ∷ text_at bytes (at + 1 + 1)))) e)
+
+      -- all the digits
+      module _ (b : Between bytes (at + 1 + 1) (at + 1 + 1 + count)) (code : ℕ) (v : hex_value 0 (cells_between bytes (at + 1 + 1) (at + 1 + 1 + count)) ≡ Some code) where
+        digits-taken : take count (text_at bytes (at + 1 + 1)) ≡ cells_between bytes (at + 1 + 1) (at + 1 + 1 + count)
+        digits-taken =
+            let ds = cells_between bytes (at + 1 + 1) (at + 1 + 1 + count) in
+            let size : count ≡ length ds = omega (arith, length-cells_between bytes (at + 1 + 1) (at + 1 + 1 + count)) in
+            ap (take count) b.1 ∙ ap (λ n. take n (ds ++ text_at bytes (at + 1 + 1 + count))) size ∙ take-append_seam ds (text_at bytes (at + 1 + 1 + count))
+
+        code-part : double_part 0 (text_at bytes at) ≡ cond (is_scalar_value code) (part_before (written at code) (double_part 0 (text_at bytes (at + 1 + 1 + count)))) (fault yaml.WrongEscape at)
+        code-part =
+            let ds = cells_between bytes (at + 1 + 1) (at + 1 + 1 + count) in
+            let rest = text_at bytes (at + 1 + 1 + count) in
+            let size : length ds ≡ count = omega (arith, length-cells_between bytes (at + 1 + 1) (at + 1 + 1 + count)) in
+            let long : nat_lt (length ds) count ≡ false = grind (arith, common_steps, size) in
+            let one : 1 + count ≡ suc count = omega arith in
+            let behind : double_part (1 + count) ((slice_index bytes (at + 1), at + 1) ∷ text_at bytes (at + 1 + 1)) ≡ double_part 0 rest =
+            ap (λ n. double_part n ((slice_index bytes (at + 1), at + 1) ∷ text_at bytes (at + 1 + 1))) one ∙ ap (double_part count) b.1 ∙ ap (λ n. double_part n (ds ++ rest)) (sym size) ∙ double-skip ds rest in
+            number-part
+            ∙ ap (λ t. hex_escape at count t (hex_value 0 t) (double_part (1 + count) ((slice_index bytes (at + 1), at + 1) ∷ text_at bytes (at + 1 + 1)))) digits-taken
+            ∙ ap (λ o. hex_escape at count ds o (double_part (1 + count) ((slice_index bytes (at + 1), at + 1) ∷ text_at bytes (at + 1 + 1)))) v
+            ∙ ap (λ x. cond x (Ok (record { text = []; stop = cut_short at })) (cond (is_scalar_value code) (part_before (written at code) (double_part (1 + count) ((slice_index bytes (at + 1), at + 1) ∷ text_at bytes (at + 1 + 1)))) (fault yaml.WrongEscape at))) long
+            ∙ ap (λ r. cond (is_scalar_value code) (part_before (written at code) r) (fault yaml.WrongEscape at)) behind
+
+        pub number : is_scalar_value code ≡ true → ReadsOn bytes at (written at code) (at + 1 + 1 + count)
+        number e = reads_on bytes at (at + 1 + 1 + count) (written at code) (same_then both.same b.0.same) (code-part ∙ ap (λ z. cond z (part_before (written at code) (double_part 0 (text_at bytes (at + 1 + 1 + count)))) (fault yaml.WrongEscape at)) e)
+
+        pub no_character : (q : ℕ) → is_scalar_value code ≡ false → double_quoted q (lines_at bytes at) ≡ Err (record { code = yaml.WrongEscape; at = at })
+        no_character q e = given_at bytes at q (Err (record { code = yaml.WrongEscape; at = at })) (code-part ∙ ap (λ z. cond z (part_before (written at code) (double_part 0 (text_at bytes (at + 1 + 1 + count)))) (fault yaml.WrongEscape at)) e)
+
+      -- too few digits
+      module _ (end : ℕ) (b : Between bytes (at + 1 + 1) end) (k : IsLineEnd bytes end) (few : end < at + 1 + 1 + count) (value : ℕ) (v : hex_value 0 (cells_between bytes (at + 1 + 1) end) ≡ Some value) where
+        short-part : double_part 0 (text_at bytes at) ≡ Ok (record { text = []; stop = cut_short at })
+        short-part =
+            let ds = cells_between bytes (at + 1 + 1) end in
+            let o = b.0.from in
+            let size : length ds < count = omega (arith, length-cells_between bytes (at + 1 + 1) end) in
+            let short : nat_lt (length ds) count ≡ true = grind (arith, common_steps, size) in
+            let text : text_at bytes (at + 1 + 1) ≡ ds = b.1 ∙ ap (λ t. ds ++ t) (text-line_end bytes end b.0.inside k) ∙ append-nil ds in
+            let taken : take count (text_at bytes (at + 1 + 1)) ≡ ds = ap (take count) text ∙ take_all count ds (omega (arith, size)) in
+            let more = double_part (1 + count) ((slice_index bytes (at + 1), at + 1) ∷ text_at bytes (at + 1 + 1)) in
+            number-part
+            ∙ ap (λ t. hex_escape at count t (hex_value 0 t) more) taken
+            ∙ ap (λ o. hex_escape at count ds o more) v
+            ∙ ap (λ x. cond x (Ok (record { text = []; stop = cut_short at })) (cond (is_scalar_value value) (part_before (written at value) more) (fault yaml.WrongEscape at))) short
+
+        short-given : (q : ℕ) (last : Bool) → first_last (lines_at bytes end) ≡ last → double_quoted q (lines_at bytes at) ≡ cond last (fault yaml.UnclosedQuote q) (fault yaml.WrongEscape at)
+        short-given q last e =
+            given_at bytes at q (Ok (record { text = []; stop = cut_short at })) short-part
+            ∙ given-cut (double_part 0) q at (lines_at bytes at) (lines_at-some bytes at)
+            ∙ ap (λ z. cond z (fault yaml.UnclosedQuote q) (fault yaml.WrongEscape at)) (both.same.last ∙ b.0.same.last ∙ e)
+
+        pub short_file : (q : ℕ) → end ≡ length bytes → double_quoted q (lines_at bytes at) ≡ Err (record { code = yaml.UnclosedQuote; at = q })
+        short_file q e = short-given q true (ap first_last (lines-at_end bytes end e))
+
+        pub short_line : (q : ℕ) → end < length bytes → double_quoted q (lines_at bytes at) ≡ Err (record { code = yaml.WrongEscape; at = at })
+        short_line q l = short-given q false (break-at bytes end l k).1
+
+or-cond : (x y : Bool) → (x || y) ≡ cond x true y
+or-cond true y = refl
+or-cond false y = refl
+
+not_true : (b : Bool) → (b ≡ true → ⊥) → b ≡ false
+not_true true h = absurd (h refl)
+not_true false h = refl
+
+pub scalar_value : (code : ℕ) → IsScalar code → is_scalar_value code ≡ true
+scalar_value code h = or-cond (nat_lt code 0xd800) (nat_le 0xe000 code && nat_lt code 0x110000) ∙ h
+
+pub no_scalar_value : (code : ℕ) → (IsScalar code → ⊥) → is_scalar_value code ≡ false
+no_scalar_value code h = not_true (is_scalar_value code) (λ e. h (sym (or-cond (nat_lt code 0xd800) (nat_le 0xe000 code && nat_lt code 0x110000)) ∙ e))

@@ -1,0 +1,184 @@
+-- The rows of a block scalar.
+use Rattle.std.proofs.Common.{◌≡◌, ℕ, zero, suc, ◌+◌, ◌-◌, ◌<◌, List, [], ◌∷◌, ◌++◌, length, slice_index, refl, sym, ap, ◌∙◌, arith, append_assoc, append-nil, Bool, true, false, not, ◌||◌, cond, IsTrue, ◌↔◌, Option, Some, None}
+use Rattle.al_scalar.specs.Line.{Cell, Line, is_empty, is_all_blank, begins_blank, is_blank}
+use Rattle.al_scalar.specs.Taken.{Taken, feeds, with_text}
+use Rattle.al_scalar.specs.Block.{last_end, Chomping, strip, clip, keep, Row, Rows, with_row, at_end, row_of, rows_at, rows_end, is_spaced, own_break, between_rows, joint, chomped, text_after}
+use Rattle.al_scalar.specs.Places.{lines_at, cells_at, cells_between, IsBlankByte, broken_line, SameLine, first_text, first_end, first_last, later}
+use Rattle.al_scalar.specs.BlockRead.{row_like, rest, last_line}
+use Rattle.al_scalar.proofs.LineLemmas.{cells_between-front}
+use Rattle.al_scalar.proofs.SingleLemmas.{has_line, is_blank-yes, is_blank-no, lines-at_end, lines_at-some, never}
+
+-- of a row only that matters whether it begins with a blank, and its break
+pub joint-like : (lit : Bool) (last : Option Row) (es : List ℕ) (r s : Row) → is_spaced r ≡ is_spaced s → joint lit last es r ≡ joint lit last es s
+joint-like lit None es r s e = refl
+joint-like lit (Some l) es r s e = ap (λ b. cond (lit || is_spaced l || b) (feeds (l.break ++ es)) (between_rows l.break es)) e
+
+joint-last : (lit : Bool) (r s : Row) (es : List ℕ) (x : Row) → is_spaced r ≡ is_spaced s → r.break ≡ s.break → joint lit (Some r) es x ≡ joint lit (Some s) es x
+joint-last lit r s es x e f =
+    ap (λ b. cond (lit || b || is_spaced x) (feeds (r.break ++ es)) (between_rows r.break es)) e
+    ∙ ap (λ br. cond (lit || is_spaced s || is_spaced x) (feeds (br ++ es)) (between_rows br es)) f
+
+pub text_after-like : (lit : Bool) (k : Chomping) (r s : Row) (es : List ℕ) (rs : List Row) → is_spaced r ≡ is_spaced s → r.break ≡ s.break
+    → text_after lit k (Some r) es rs ≡ text_after lit k (Some s) es rs
+text_after-like lit k r s es [] e f = ap (λ b. chomped k b es) f
+text_after-like lit k r s es (x ∷ xs) e f =
+    ap (λ w. cond (is_empty x.text) w (joint lit (Some r) es x ++ x.text ++ text_after lit k (Some x) [] xs)) (text_after-like lit k r s (es ++ x.break) xs e f)
+    ∙ ap (λ j. cond (is_empty x.text) (text_after lit k (Some s) (es ++ x.break) xs) (j ++ x.text ++ text_after lit k (Some x) [] xs)) (joint-last lit r s es x e f)
+
+spaced-like : (b : Bool) (break : List ℕ) → is_spaced (row_like b break) ≡ b
+spaced-like true break = refl
+spaced-like false break = refl
+
+-- ---- one row added
+
+pub row-empty : (lit : Bool) (k : Chomping) (last : Option Row) (es : List ℕ) (r : Row) (rs : List Row) → r.text ≡ []
+    → text_after lit k last es (r ∷ rs) ≡ text_after lit k last (es ++ r.break) rs
+row-empty lit k last es r rs e = ap (λ t. cond (is_empty t) (text_after lit k last (es ++ r.break) rs) (joint lit last es r ++ r.text ++ text_after lit k (Some r) [] rs)) e
+
+-- a row with text, whose first byte is a blank or not
+pub row-text : (new mid : List Cell) (lit : Bool) (k : Chomping) (last : Option Row) (es : List ℕ) (text : List Cell) (break : List ℕ) (rs : List Row) (old : List Cell) (b : Bool)
+    → is_empty text ≡ false → begins_blank text ≡ b → mid ≡ old ++ joint lit last es (row_like b []) → new ≡ mid ++ text
+    → old ++ text_after lit k last es (record { text = text; break = break } ∷ rs) ≡ new ++ text_after lit k (Some (row_like b break)) [] rs
+row-text new mid lit k last es text break rs old b e s f g =
+    let r : Row = record { text = text; break = break } in
+    let below = text_after lit k (Some r) [] rs in
+    let j = joint lit last es r in
+    let like : is_spaced r ≡ is_spaced (row_like b break) = s ∙ sym (spaced-like b break) in
+    let like_none : is_spaced r ≡ is_spaced (row_like b []) = s ∙ sym (spaced-like b []) in
+    let like_joint = row_like b [] in
+    let j' = joint lit last es like_joint in
+    ap (λ c. old ++ cond c (text_after lit k last (es ++ break) rs) ((j ++ text) ++ below)) e
+    ∙ ap (λ i. old ++ ((i ++ text) ++ below)) (joint-like lit last es r like_joint like_none)
+    ∙ sym (append_assoc old (j' ++ text) below)
+    ∙ ap (λ x. x ++ below) (sym (append_assoc old j' text))
+    ∙ ap (λ x. (x ++ text) ++ below) (sym f)
+    ∙ ap (λ n. n ++ below) (sym g)
+    ∙ ap (λ t. new ++ t) (text_after-like lit k r (row_like b break) [] rs like refl)
+
+pub chomped-none : (k : Chomping) → chomped k [] [] ≡ []
+chomped-none strip = refl
+chomped-none clip = refl
+chomped-none keep = refl
+
+-- the file's last line, with text
+pub row-final : (new mid : List Cell) (lit : Bool) (k : Chomping) (last : Option Row) (es : List ℕ) (text old : List Cell) (b : Bool)
+    → is_empty text ≡ false → begins_blank text ≡ b → mid ≡ old ++ joint lit last es (row_like b []) → new ≡ mid ++ text
+    → new ≡ old ++ text_after lit k last es (record { text = text; break = [] } ∷ [])
+row-final new mid lit k last es text old b e s f g =
+    sym (row-text new mid lit k last es text [] [] old b e s f g ∙ ap (λ t. new ++ t) (chomped-none k) ∙ append-nil new)
+
+-- ---- cells between offsets
+
+last_end-cells : (bytes : List ℕ) (i n at : ℕ) → last_end (cells_at bytes i (suc n)) at ≡ i + suc n
+last_end-cells bytes i zero at = refl
+last_end-cells bytes i (suc n) at = let e : suc i + suc n ≡ i + suc (suc n) = omega arith in last_end-cells bytes (suc i) n (i + 1) ∙ e
+
+pub last_end-between : (bytes : List ℕ) (from stop at : ℕ) → from < stop → last_end (cells_between bytes from stop) at ≡ stop
+last_end-between bytes from stop at h =
+    let e : stop - from ≡ suc ((stop - from) - 1) = omega arith in
+    let f : from + suc ((stop - from) - 1) ≡ stop = omega arith in
+    ap (λ n. last_end (cells_at bytes from n) at) e ∙ last_end-cells bytes from ((stop - from) - 1) at ∙ f
+
+pub some-between : (bytes : List ℕ) (from stop : ℕ) → from < stop → is_empty (cells_between bytes from stop) ≡ false
+some-between bytes from stop h = ap is_empty (cells_between-front bytes from stop h)
+
+pub spaced-between : (bytes : List ℕ) (from stop : ℕ) (b : Bool) → from < stop → is_blank (slice_index bytes from, from) ≡ b → begins_blank (cells_between bytes from stop) ≡ b
+spaced-between bytes from stop b h e = ap begins_blank (cells_between-front bytes from stop h) ∙ e
+
+-- ---- lines as rows
+
+abbrev pub stepped : Option (List Cell) → Line → List Line → Rows → Rows
+stepped o l ls below = elim o [
+  | None ↦ record { rows = []; left = l ∷ ls }
+  | Some text ↦ cond l.last (record { rows = record { text = text; break = [] } ∷ []; left = at_end l }) (with_row (record { text = text; break = l.end ∷ [] }) below)
+]
+
+rows_at-more : (m : Option ℕ) (found : Bool) (l : Line) (ls : List Line) (t : List Cell) → row_of m found l.text ≡ Some t → l.last ≡ false
+    → rows_at m found (l ∷ ls) ≡ with_row (record { text = t; break = l.end ∷ [] }) (rows_at m (found || not (is_all_blank l.text)) ls)
+rows_at-more m found l ls t e f =
+    let below = rows_at m (found || not (is_all_blank l.text)) ls in
+    ap (λ o. stepped o l ls below) e
+    ∙ ap (λ b. cond b (record { rows = record { text = t; break = [] } ∷ []; left = at_end l }) (with_row (record { text = t; break = l.end ∷ [] }) below)) f
+
+rows_at-last : (m : Option ℕ) (found : Bool) (l : Line) (ls : List Line) (t : List Cell) → row_of m found l.text ≡ Some t → l.last ≡ true
+    → rows_at m found (l ∷ ls) ≡ record { rows = record { text = t; break = [] } ∷ []; left = at_end l }
+rows_at-last m found l ls t e f =
+    let below = rows_at m (found || not (is_all_blank l.text)) ls in
+    ap (λ o. stepped o l ls below) e
+    ∙ ap (λ b. cond b (record { rows = record { text = t; break = [] } ∷ []; left = at_end l }) (with_row (record { text = t; break = l.end ∷ [] }) below)) f
+
+rows_at-none : (m : Option ℕ) (found : Bool) (l : Line) (ls : List Line) → row_of m found l.text ≡ None
+    → rows_at m found (l ∷ ls) ≡ record { rows = []; left = l ∷ ls }
+rows_at-none m found l ls e = ap (λ o. stepped o l ls (rows_at m (found || not (is_all_blank l.text)) ls)) e
+
+abbrev pub of_rows : Bool → Chomping → Option Row → List ℕ → ℕ → Rows → Taken
+of_rows lit k last es end rs = record { text = text_after lit k last es rs.rows; end = rows_end end rs.rows; left = rs.left }
+
+pub rest-more : (lit : Bool) (k : Chomping) (m : Option ℕ) (found : Bool) (last : Option Row) (es : List ℕ) (end : ℕ) (xs : List Line) (t : List Cell) → has_line xs ≡ true
+    → row_of m found (first_text xs) ≡ Some t → first_last xs ≡ false
+    → rest lit k m found last es end xs ≡ of_rows lit k last es end (with_row (record { text = t; break = first_end xs ∷ [] }) (rows_at m (found || not (is_all_blank (first_text xs))) (later xs)))
+rest-more lit k m found last es end [] t h e f = cc
+rest-more lit k m found last es end (l ∷ ls) t h e f = ap (of_rows lit k last es end) (rows_at-more m found l ls t e f)
+
+pub rest-last : (lit : Bool) (k : Chomping) (m : Option ℕ) (found : Bool) (last : Option Row) (es : List ℕ) (end : ℕ) (xs : List Line) (t : List Cell) → has_line xs ≡ true
+    → row_of m found (first_text xs) ≡ Some t → first_last xs ≡ true
+    → rest lit k m found last es end xs ≡ of_rows lit k last es end (record { rows = record { text = t; break = [] } ∷ []; left = record { text = []; end = first_end xs; last = true } ∷ [] })
+rest-last lit k m found last es end [] t h e f = cc
+rest-last lit k m found last es end (l ∷ ls) t h e f = ap (of_rows lit k last es end) (rows_at-last m found l ls t e f)
+
+pub rest-none : (lit : Bool) (k : Chomping) (m : Option ℕ) (found : Bool) (last : Option Row) (es : List ℕ) (end : ℕ) (xs : List Line) → has_line xs ≡ true
+    → row_of m found (first_text xs) ≡ None → rest lit k m found last es end xs ≡ record { text = chomped k (own_break last) es; end = end; left = xs }
+rest-none lit k m found last es end [] h e = cc
+rest-none lit k m found last es end (l ∷ ls) h e = ap (of_rows lit k last es end) (rows_at-none m found l ls e)
+
+pub is_blank-of : (c : Cell) (b : Bool) → (IsTrue b ↔ IsBlankByte c.0) → is_blank c ≡ b
+is_blank-of c true h = is_blank-yes c (h.0 refl)
+is_blank-of c false h = is_blank-no c (λ k. never (h.1 k))
+
+-- ---- the steps of the loop over the lines
+
+pub rows-none : {x : Taken} (new text : List Cell) (lit : Bool) (k : Chomping) (m : Option ℕ) (found : Bool) (last : Option Row) (es : List ℕ) (end : ℕ) (bytes : List ℕ) (i : ℕ)
+    → x ≡ with_text text (rest lit k m found last es end (lines_at bytes i)) → row_of m found (first_text (lines_at bytes i)) ≡ None
+    → new ≡ text ++ chomped k (own_break last) es → x ≡ record { text = new; end = end; left = lines_at bytes i }
+rows-none new text lit k m found last es end bytes i e r g =
+    e ∙ ap (with_text text) (rest-none lit k m found last es end (lines_at bytes i) (lines_at-some bytes i) r)
+    ∙ ap (λ t. record { text = t; end = end; left = lines_at bytes i }) (sym g)
+
+pub rows-last : {x : Taken} (new text : List Cell) (lit : Bool) (k : Chomping) (m : Option ℕ) (found : Bool) (last : Option Row) (es : List ℕ) (end to : ℕ) (bytes : List ℕ) (i from stop : ℕ)
+    → x ≡ with_text text (rest lit k m found last es end (lines_at bytes i)) → row_of m found (first_text (lines_at bytes i)) ≡ Some (first_text (lines_at bytes from))
+    → SameLine (lines_at bytes i) (lines_at bytes from) → SameLine (lines_at bytes from) (lines_at bytes stop) → first_text (lines_at bytes from) ≡ cells_between bytes from stop
+    → stop ≡ length bytes → new ≡ text ++ text_after lit k last es (last_line bytes from) → to ≡ rows_end end (last_line bytes from)
+    → x ≡ record { text = new; end = to; left = lines_at bytes stop }
+rows-last new text lit k m found last es end to bytes i from stop e r s u w z g h =
+    let at_stop = lines-at_end bytes stop z in
+    let ended : first_end (lines_at bytes i) ≡ stop = s.end ∙ u.end ∙ ap first_end at_stop in
+    let is_last : first_last (lines_at bytes i) ≡ true = s.last ∙ u.last ∙ ap first_last at_stop in
+    let row : row_of m found (first_text (lines_at bytes i)) ≡ Some (cells_between bytes from (length bytes)) = r ∙ ap Some (w ∙ ap (cells_between bytes from) z) in
+    e ∙ ap (with_text text) (rest-last lit k m found last es end (lines_at bytes i) (cells_between bytes from (length bytes)) (lines_at-some bytes i) row is_last)
+    ∙ ap (λ t. record { text = t; end = rows_end end (last_line bytes from); left = record { text = []; end = first_end (lines_at bytes i); last = true } ∷ [] }) (sym g)
+    ∙ ap (λ n. record { text = new; end = n; left = record { text = []; end = first_end (lines_at bytes i); last = true } ∷ [] }) (sym h)
+    ∙ ap (λ n. record { text = new; end = to; left = record { text = []; end = n; last = true } ∷ [] }) ended
+    ∙ ap (λ ls. record { text = new; end = to; left = ls }) (sym at_stop)
+
+pub rows-more : {x : Taken} (new text : List Cell) (lit : Bool) (k : Chomping) (m : Option ℕ) (found found' b : Bool) (last last' : Option Row) (es es' : List ℕ) (end end' : ℕ) (bytes : List ℕ) (i from stop next : ℕ)
+    → x ≡ with_text text (rest lit k m found last es end (lines_at bytes i)) → row_of m found (first_text (lines_at bytes i)) ≡ Some (first_text (lines_at bytes from))
+    → SameLine (lines_at bytes i) (lines_at bytes from) → SameLine (lines_at bytes from) (lines_at bytes stop) → first_text (lines_at bytes from) ≡ cells_between bytes from stop
+    → lines_at bytes stop ≡ broken_line stop ∷ lines_at bytes next → is_all_blank (first_text (lines_at bytes i)) ≡ b → found' ≡ (found || not b)
+    → ((rs : List Row) → text ++ text_after lit k last es (record { text = cells_between bytes from stop; break = stop ∷ [] } ∷ rs) ≡ new ++ text_after lit k last' es' rs)
+    → last_end (cells_between bytes from stop) end ≡ end'
+    → x ≡ with_text new (rest lit k m found' last' es' end' (lines_at bytes next))
+rows-more new text lit k m found found' b last last' es es' end end' bytes i from stop next e r s u w z q f g h =
+    let ls = lines_at bytes i in
+    let cells = cells_between bytes from stop in
+    let ended : first_end ls ≡ stop = s.end ∙ u.end ∙ ap first_end z in
+    let is_last : first_last ls ≡ false = s.last ∙ u.last ∙ ap first_last z in
+    let behind : later ls ≡ lines_at bytes next = s.later ∙ u.later ∙ ap later z in
+    let row : row_of m found (first_text ls) ≡ Some cells = r ∙ ap Some w in
+    let flag : (found || not (is_all_blank (first_text ls))) ≡ found' = ap (λ a. found || not a) q ∙ sym f in
+    let rs = rows_at m found' (lines_at bytes next) in
+    e ∙ ap (with_text text) (rest-more lit k m found last es end ls cells (lines_at-some bytes i) row is_last)
+    ∙ ap (λ a. with_text text (of_rows lit k last es end (with_row (record { text = cells; break = first_end ls ∷ [] }) (rows_at m a (later ls))))) flag
+    ∙ ap (λ ms. with_text text (of_rows lit k last es end (with_row (record { text = cells; break = first_end ls ∷ [] }) (rows_at m found' ms)))) behind
+    ∙ ap (λ n. with_text text (of_rows lit k last es end (with_row (record { text = cells; break = n ∷ [] }) rs))) ended
+    ∙ ap (λ t. record { text = t; end = rows_end (last_end cells end) rs.rows; left = rs.left }) (g rs.rows)
+    ∙ ap (λ n. record { text = new ++ text_after lit k last' es' rs.rows; end = rows_end n rs.rows; left = rs.left }) h

@@ -1,0 +1,208 @@
+-- Runs of offsets, and the cells that they stand for.
+use Rattle.std.proofs.Common.{◌≡◌, ℕ, zero, suc, ◌+◌, ◌-◌, ◌^◌, ◌<◌, ◌≤◌, List, [], ◌∷◌, ◌++◌, length, get_or, refl, sym, ap, subst, ◌∙◌, arith, Bool, true, false, not, cond, map, take, drop, drop-cons, slice_range, slice_index}
+use Rattle.std.proofs.Math.Seq.{take-suc}
+use Rattle.std.proofs.lemmas.Grind.{common_steps}
+use Rattle.al_scalar.specs.Line.{Cell}
+use Rattle.al_scalar.specs.Places.{cells_at, cells_between}
+use Rattle.al_scalar.specs.Segments.{offset_in, offset_after, offset_from, offset_at, cells_from, AreBehind, AreFrom, IsRising, IsOrdered, GoesOn, AreInRange}
+use Rattle.al_scalar.specs.declared.texts.Segment.{Segment}
+
+after-behind : (found : ℕ) (s : Segment) (i : ℕ) → s.index ≤ i → offset_after found s i ≡ offset_in s i
+after-behind found s i h = grind (arith, common_steps, h)
+
+after-before : (found : ℕ) (s : Segment) (i : ℕ) → i < s.index → offset_after found s i ≡ found
+after-before found s i h = grind (arith, common_steps, h)
+
+offset_from-more : (found : ℕ) (ss : List Segment) (s : Segment) (i : ℕ) → offset_from found (ss ++ s ∷ []) i ≡ offset_after (offset_from found ss i) s i
+offset_from-more found [] s i = refl
+offset_from-more found (t ∷ ts) s i = offset_from-more (offset_after found t i) ts s i
+
+-- the last run gives the offset of an index that no run begins behind
+offset_from-last : (found : ℕ) (s : Segment) (ss : List Segment) (d : Segment) (i : ℕ) → AreBehind i (s ∷ ss) → offset_from found (s ∷ ss) i ≡ offset_in (get_or (s ∷ ss) (length ss) d) i
+offset_from-last found s [] d i h = after-behind found s i h.0
+offset_from-last found s (t ∷ ts) d i h = offset_from-last (offset_after found s i) t ts d i h.1
+
+-- ---- where the runs begin
+
+pub AreBehind-more : (n : ℕ) (ss : List Segment) (s : Segment) → AreBehind n ss → s.index ≤ n → AreBehind n (ss ++ s ∷ [])
+AreBehind-more n [] s h k = (k, tt)
+AreBehind-more n (t ∷ ts) s h k = (h.0, AreBehind-more n ts s h.1 k)
+
+AreBehind-up : (n m : ℕ) (ss : List Segment) → AreBehind n ss → n ≤ m → AreBehind m ss
+AreBehind-up n m [] h k = tt
+AreBehind-up n m (s ∷ ss) h k = (omega (arith, h.0), AreBehind-up n m ss h.1 k)
+
+AreFrom-more : (n : ℕ) (ss : List Segment) (s : Segment) → AreFrom n ss → n ≤ s.index → AreFrom n (ss ++ s ∷ [])
+AreFrom-more n [] s h k = (k, tt)
+AreFrom-more n (t ∷ ts) s h k = (h.0, AreFrom-more n ts s h.1 k)
+
+-- a run more, behind all others
+pub IsOrdered-more : (n : ℕ) (ss : List Segment) (s : Segment) → IsOrdered n ss → s.index ≡ n → IsOrdered n (ss ++ s ∷ [])
+IsOrdered-more n ss s h e = (AreBehind-more n ss s h.0 (omega (arith, e)), rising ss h.0 h.1)
+  where
+    rising : (ss : List Segment) → AreBehind n ss → IsRising ss → IsRising (ss ++ s ∷ [])
+    rising [] b r = (tt, tt)
+    rising (t ∷ ts) b r = (AreFrom-more t.index ts s r.0 (omega (arith, b.0, e)), rising ts b.1 r.1)
+
+last-of : (n : ℕ) (d s : Segment) (ss : List Segment) → AreBehind n (s ∷ ss) → (get_or (s ∷ ss) (length ss) d).index ≤ n
+last-of n d s [] h = h.0
+last-of n d s (t ∷ ts) h = last-of n d t ts h.1
+
+last-is : (d s : Segment) (ss : List Segment) → get_or (s ∷ ss) (length (s ∷ ss) - 1) d ≡ get_or (s ∷ ss) (length ss) d
+last-is d s ss = let e : suc (length ss) - 1 ≡ length ss = omega arith in ap (λ k. get_or (s ∷ ss) k d) e
+
+-- the last run begins no further on than the bytes end
+pub last-behind : (d : Segment) (n : ℕ) (ss : List Segment) → AreBehind n ss → (length ss ≡ 0 → ⊥) → (get_or ss (length ss - 1) d).index ≤ n
+last-behind d n [] h z = absurd (z refl)
+last-behind d n (s ∷ ss) h z = subst (λ t. t.index ≤ n) (sym (last-is d s ss)) (last-of n d s ss h)
+
+-- ---- whether the offsets go on
+
+not-false : (b : Bool) → not b ≡ false → b ≡ true
+not-false true h = refl
+not-false false h = sym h
+
+moving : (last : Segment) (n at k : ℕ) → last.index ≤ n → not last.moves ≡ false → last.offset ≤ at → at - last.offset ≡ n - last.index → offset_in last (n + k) ≡ at + k
+moving last n at k b m o e =
+    let sum : last.offset + ((n + k) - last.index) ≡ at + k = omega (arith, b, o, e) in
+    ap (λ x. cond x (last.offset + ((n + k) - last.index)) last.offset) (not-false last.moves m) ∙ sum
+
+pub goes-on : (d : Segment) (n at : ℕ) (ss : List Segment) → AreBehind n ss → (length ss ≡ 0 → ⊥) → not (get_or ss (length ss - 1) d).moves ≡ false → (get_or ss (length ss - 1) d).offset ≤ at
+    → at - (get_or ss (length ss - 1) d).offset ≡ n - (get_or ss (length ss - 1) d).index → GoesOn ss n at
+goes-on d n at [] h z m o e = absurd (z refl)
+goes-on d n at (s ∷ ss) h z m o e = λ k.
+    let last = get_or (s ∷ ss) (length (s ∷ ss) - 1) d in
+    offset_from-last 0 s ss d (n + k) (AreBehind-up n (n + k) (s ∷ ss) h (omega arith)) ∙ ap (λ t. offset_in t (n + k)) (sym (last-is d s ss))
+    ∙ moving last n at k (last-behind d n (s ∷ ss) h z) m o e
+
+-- a run more, from the next byte on
+pub next-run : (ss new : List Segment) (s : Segment) (n at : ℕ) → s.index ≡ n → s.offset ≡ at → s.moves ≡ true → new ≡ ss ++ s ∷ [] → GoesOn new n at
+next-run ss new s n at i o m g = λ k.
+    let sum : s.offset + ((n + k) - s.index) ≡ at + k = omega (arith, i, o) in
+    ap (λ xs. offset_at xs (n + k)) g ∙ offset_from-more 0 ss s (n + k) ∙ after-behind (offset_at ss (n + k)) s (n + k) (omega (arith, i))
+    ∙ ap (λ b. cond b (s.offset + ((n + k) - s.index)) s.offset) m ∙ sum
+
+-- ---- cells
+
+-- a run that begins behind the bytes changes nothing
+pub cells_from-run : (k : ℕ) (bs : List ℕ) (ss : List Segment) (s : Segment) → k + length bs ≤ s.index → cells_from k bs (ss ++ s ∷ []) ≡ cells_from k bs ss
+cells_from-run k [] ss s h = refl
+cells_from-run k (b ∷ bs) ss s h =
+    ap (λ o. (b, o) ∷ cells_from (suc k) bs (ss ++ s ∷ [])) (offset_from-more 0 ss s k ∙ after-before (offset_at ss k) s k (omega arith))
+    ∙ ap (λ cs. (b, offset_at ss k) ∷ cs) (cells_from-run (suc k) bs ss s (omega arith))
+
+cells_from-two : (k : ℕ) (bs ds : List ℕ) (ss : List Segment) → cells_from k (bs ++ ds) ss ≡ cells_from k bs ss ++ cells_from (k + length bs) ds ss
+cells_from-two k [] ds ss = let e : k ≡ k + 0 = omega arith in ap (λ j. cells_from j ds ss) e
+cells_from-two k (b ∷ bs) ds ss =
+    let e : suc k + length bs ≡ k + suc (length bs) = omega arith in
+    ap (λ cs. (b, offset_at ss k) ∷ cs) (cells_from-two (suc k) bs ds ss ∙ ap (λ j. cells_from (suc k) bs ss ++ cells_from j ds ss) e)
+
+run-cells : (file : List ℕ) (ss : List Segment) (n from k m : ℕ) → GoesOn ss n from → from + k + m ≤ length file → cells_from (n + k) (take m (drop (from + k) file)) ss ≡ cells_at file (from + k) m
+run-cells file ss n from k zero g h = refl
+run-cells file ss n from k (suc m) g h =
+    let next : suc (from + k) ≡ from + suc k = omega arith in
+    let index : suc (n + k) ≡ n + suc k = omega arith in
+    let inside : from + k < length file = omega (arith, h) in
+    let b = slice_index file (from + k) in
+    ap (λ xs. cells_from (n + k) (take (suc m) xs) ss) (drop-cons file (from + k) 0 inside)
+    ∙ ap (λ o. (b, o) ∷ cells_from (suc (n + k)) (take m (drop (suc (from + k)) file)) ss) (g k)
+    ∙ ap (λ cs. (b, from + k) ∷ cs)
+    (ap (λ j. cells_from j (take m (drop (suc (from + k)) file)) ss) index ∙ ap (λ j. cells_from (n + suc k) (take m (drop j file)) ss) next
+    ∙ run-cells file ss n from (suc k) m g (omega (arith, h)) ∙ ap (λ j. cells_at file j m) (sym next))
+
+-- the cells of a part of the file
+pub run-between : (file : List ℕ) (ss : List Segment) (n from to : ℕ) → GoesOn ss n from → from ≤ to → to ≤ length file → cells_from n (slice_range file from to) ss ≡ cells_between file from to
+run-between file ss n from to g h l =
+    let e : from + 0 ≡ from = omega arith in
+    let i : n + 0 ≡ n = omega arith in
+    ap (λ j. cells_from j (take (to - from) (drop from file)) ss) (sym i) ∙ ap (λ j. cells_from (n + 0) (take (to - from) (drop j file)) ss) (sym e)
+    ∙ run-cells file ss n from 0 (to - from) g (omega (arith, h, l)) ∙ ap (λ j. cells_at file j (to - from)) e
+
+-- the cell of a byte
+pub byte-cell : (ss : List Segment) (n at b : ℕ) → GoesOn ss n at → cells_from n (b ∷ []) ss ≡ (b, at) ∷ []
+byte-cell ss n at b g =
+    let i : n ≡ n + 0 = omega arith in
+    let o : at + 0 ≡ at = omega arith in
+    ap (λ x. (b, x) ∷ []) (ap (offset_at ss) i ∙ g 0 ∙ o)
+
+-- the cells of an escape, whose run is the last one
+pub escape-cells : (k : ℕ) (ds : List ℕ) (ss : List Segment) (s : Segment) → s.index ≤ k → s.moves ≡ false → cells_from k ds (ss ++ s ∷ []) ≡ map (λ b. (b, s.offset)) ds
+escape-cells k [] ss s h m = refl
+escape-cells k (d ∷ ds) ss s h m =
+    let here = offset_from-more 0 ss s k ∙ after-behind (offset_at ss k) s k h ∙ ap (λ x. cond x (s.offset + (k - s.index)) s.offset) m in
+    ap (λ o. (d, o) ∷ cells_from (suc k) ds (ss ++ s ∷ [])) here ∙ ap (λ cs. (d, s.offset) ∷ cs) (escape-cells (suc k) ds ss s (omega (arith, h)) m)
+
+-- ---- what a push leaves
+
+pub pushed-text : (old run : List Cell) (bs ds new : List ℕ) (ss ss' : List Segment) (n : ℕ) → n ≡ length bs → new ≡ bs ++ ds → cells_from 0 bs ss ≡ old
+    → ((xs : List ℕ) → length xs ≡ n → cells_from 0 xs ss' ≡ cells_from 0 xs ss) → cells_from n ds ss' ≡ run → cells_from 0 new ss' ≡ old ++ run
+pushed-text old run bs ds new ss ss' n e f g h r =
+    let i : 0 + length bs ≡ n = omega (arith, e) in
+    ap (λ xs. cells_from 0 xs ss') f ∙ cells_from-two 0 bs ds ss'
+    ∙ ap (λ cs. cs ++ cells_from (0 + length bs) ds ss') (h bs (sym e) ∙ g)
+    ∙ ap (λ j. old ++ cells_from j ds ss') i ∙ ap (λ cs. old ++ cs) r
+
+AreInRange-two : (xs ys : List Cell) → AreInRange xs → AreInRange ys → AreInRange (xs ++ ys)
+AreInRange-two [] ys h k = k
+AreInRange-two (x ∷ xs) ys h k = (h.0, AreInRange-two xs ys h.1 k)
+
+AreInRange-at : (file : List ℕ) (i n : ℕ) → i + n < 2 ^ 32 → AreInRange (cells_at file i n)
+AreInRange-at file i zero h = tt
+AreInRange-at file i (suc n) h = (omega (arith, h), AreInRange-at file (suc i) n (omega (arith, h)))
+
+pub AreInRange-between : (file : List ℕ) (i j : ℕ) → i ≤ j → j < 2 ^ 32 → AreInRange (cells_between file i j)
+AreInRange-between file i j o h = AreInRange-at file i (j - i) (omega (arith, o, h))
+
+pub AreInRange-escape : (ds : List ℕ) (at : ℕ) → at < 2 ^ 32 → AreInRange (map (λ b. (b, at)) ds)
+AreInRange-escape [] at h = tt
+AreInRange-escape (d ∷ ds) at h = (h, AreInRange-escape ds at h)
+
+length-two : (bs ds : List ℕ) → length bs ≤ length (bs ++ ds)
+length-two [] ds = omega arith
+length-two (b ∷ bs) ds = let below = length-two bs ds in omega (arith, below)
+
+pub pushed-kept : (old run : List Cell) (bs ds new : List ℕ) (ss ss' : List Segment) (n : ℕ) → n ≡ length bs → new ≡ bs ++ ds → cells_from 0 bs ss ≡ old → AreInRange (cells_from 0 bs ss) → AreInRange run
+    → IsOrdered n ss' → cells_from 0 new ss' ≡ old ++ run → IsOrdered (length new) ss' × AreInRange (cells_from 0 new ss')
+pushed-kept old run bs ds new ss ss' n e f g p q b t =
+    let long : length bs ≤ length new = subst (λ xs. length bs ≤ length xs) (sym f) (length-two bs ds) in
+    ((AreBehind-up n (length new) ss' b.0 (omega (arith, long, e)), b.1), subst AreInRange (sym t) (AreInRange-two old run (subst AreInRange g p) q))
+
+-- ---- the search for the last run
+
+none-above : (found n i k : ℕ) (ss : List Segment) → AreFrom k ss → i < k → offset_from found (take n ss) i ≡ found
+none-above found zero i k ss h l = refl
+none-above found (suc n) i k [] h l = refl
+none-above found (suc n) i k (s ∷ ss) h l =
+    let before : i < s.index = omega (arith, h.0, l) in
+    ap (λ o. offset_from o (take n ss) i) (after-before found s i before) ∙ none-above found n i k ss h.1 l
+
+-- from a run behind the index on, no run says its offset
+cut-from : (found n m i : ℕ) (d : Segment) (ss : List Segment) → IsRising ss → i < (get_or ss m d).index → m ≤ n → m < length ss → offset_from found (take n ss) i ≡ offset_from found (take m ss) i
+cut-from found n m i d [] r h o l = absurd (omega (arith, l))
+cut-from found zero zero i d (s ∷ ss) r h o l = refl
+cut-from found zero (suc m) i d (s ∷ ss) r h o l = absurd (omega (arith, o))
+cut-from found (suc n) zero i d (s ∷ ss) r h o l =
+    ap (λ x. offset_from x (take n ss) i) (after-before found s i h) ∙ none-above found n i s.index ss r.0 h
+cut-from found (suc n) (suc m) i d (s ∷ ss) r h o l = cut-from (offset_after found s i) n m i d ss r.1 h (omega (arith, o)) (omega (arith, l))
+
+pub search-below : (d : Segment) (ss : List Segment) (high middle i : ℕ) → IsRising ss → i < (get_or ss middle d).index → middle < high → high ≤ length ss → offset_at ss i ≡ offset_at (take high ss) i
+    → offset_at ss i ≡ offset_at (take middle ss) i
+search-below d ss high middle i r h o l e = e ∙ cut-from 0 high middle i d ss r h (omega (arith, o)) (omega (arith, o, l))
+
+take-all : (ss : List Segment) → take (length ss) ss ≡ ss
+take-all [] = refl
+take-all (s ∷ ss) = ap (λ xs. s ∷ xs) (take-all ss)
+
+pub search-all : (ss : List Segment) (i count : ℕ) → count ≡ length ss → offset_at ss i ≡ offset_at (take count ss) i
+search-all ss i count e = ap (λ xs. offset_at xs i) (sym (ap (λ n. take n ss) e ∙ take-all ss))
+
+pub search-none : (ss : List Segment) (i low : ℕ) → low ≡ 0 → offset_at ss i ≡ offset_at (take low ss) i → 0 ≡ offset_at ss i
+search-none ss i low z e = sym (e ∙ ap (λ n. offset_at (take n ss) i) z)
+
+pub search-found : (d : Segment) (ss : List Segment) (i low : ℕ) → (low ≡ 0 → ⊥) → low ≤ length ss → (get_or ss (low - 1) d).index ≤ i → offset_at ss i ≡ offset_at (take low ss) i
+    → offset_in (get_or ss (low - 1) d) i ≡ offset_at ss i
+search-found d ss i low z l h e =
+    let s = get_or ss (low - 1) d in
+    let last : low ≡ suc (low - 1) = omega (arith, z) in
+    let inside : low - 1 < length ss = omega (arith, z, l) in
+    sym (e ∙ ap (λ n. offset_at (take n ss) i) last ∙ ap (λ xs. offset_at xs i) (take-suc ss (low - 1) d inside) ∙ offset_from-more 0 (take (low - 1) ss) s i ∙ after-behind (offset_at (take (low - 1) ss) i) s i h)

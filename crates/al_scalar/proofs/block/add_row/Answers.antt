@@ -1,0 +1,28 @@
+use Rattle.std.proofs.Common.{◌∙◌, ◌++◌, ◌∷◌, ◌<◌, [], ap, sym, arith, slice_index, Some}
+use Rattle.al_scalar.specs.Block.{joint, text_after}
+use Rattle.al_scalar.specs.Places.{cells_between}
+use Rattle.al_scalar.specs.BlockRead.{row_like, last_row}
+use Rattle.al_scalar.proofs.RowLemmas.{row-text, last_end-between, some-between, spaced-between, is_blank-of}
+use Rattle.al_scalar.proofs.block.add_row.Goals as goal
+
+pub returns-clause-text : goal.returns-clause-text
+returns-clause-text c = λ k rs.
+    let bytes = c.args.bytes.now in
+    let from = c.args.from in
+    let stop = c.args.stop in
+    let less : from < stop = omega (arith, c.requires.order, c.if-from-stop.false) in
+    let lit = c.args.literal in
+    let old = c.args.text.now in
+    let new = c.push_run.new.self in
+    let last = last_row c.args.state.now.last in
+    let es = c.args.state.now.empties.items in
+    let b = c.is_blank-spaced.result in
+    let spaced = spaced-between bytes from stop b less (is_blank-of (slice_index bytes from, from) b c.is_blank-spaced.ensures) in
+    row-text new c.push_joint.new.text lit k last es (cells_between bytes from stop) (stop ∷ []) rs old b (some-between bytes from stop less) spaced
+    (c.in_ok-push_joint.ensures ∙ ap (λ xs. old ++ joint lit last xs (row_like b [])) c.deref.ensures.value) c.in_ok-push_run.ensures.added
+    ∙ ap (λ xs. new ++ text_after lit k (Some (row_like b (stop ∷ []))) xs rs) (sym c.clear.ensures.items)
+
+pub returns-clause-end : goal.returns-clause-end
+returns-clause-end c =
+    let less : c.args.from < c.args.stop = omega (arith, c.requires.order, c.if-from-stop.false) in
+    last_end-between c.args.bytes.now c.args.from c.args.stop c.args.state.now.end less

@@ -1,0 +1,52 @@
+use Rattle.al_text.specs.declared.codes.Yaml.TheVariants.{WrongBlockHeader}
+use Rattle.std.proofs.Common.{◌∙◌, ◌≤◌, Some, None, IfSome, Ok, length, ap, subst, arith}
+use Rattle.al_scalar.specs.Taken.{Taken}
+use Rattle.al_scalar.specs.Places.{lines_at, first_text}
+use Rattle.al_scalar.specs.Block.{header_end, content_indent}
+use Rattle.al_scalar.specs.BlockRead.{EndsHeader, header_of, kind, is_said}
+use Rattle.al_scalar.proofs.SingleLemmas.{is_inside}
+use Rattle.al_scalar.proofs.BlockSteps.{block-fault, block-last, block-more, rest-style}
+use Rattle.al_scalar.proofs.block.read_block.Goals as goal
+
+pub returns-in-Some-clause-gives : goal.returns-in-Some-clause-gives
+returns-in-Some-clause-gives c =
+    let bytes = c.args.bytes.now in
+    let at = c.args.at in
+    let here = is_inside bytes at (omega (arith, c.requires.inside)) c.requires.begins in
+    let h = c.indicators-header.result in
+    let ends : EndsHeader bytes h.end (Some c.in-Some.place) = subst (λ r. EndsHeader bytes h.end r) c.in-Some.is c.header_fault.ensures.ends in
+    block-fault c.args.literal c.args.within bytes at here h.end (header_end (header_of h) (first_text (lines_at bytes h.end))) c.indicators-header.ensures.given
+    (record { code = WrongBlockHeader; at = c.in-Some.place }) (ends (header_of h))
+
+pub returns-then-end-bytes-clause-gives : goal.returns-then-end-bytes-clause-gives
+returns-then-end-bytes-clause-gives c =
+    let bytes = c.args.bytes.now in
+    let at = c.args.at in
+    let here = is_inside bytes at (omega (arith, c.requires.inside)) c.requires.begins in
+    let h = c.indicators-header.result in
+    let ends : EndsHeader bytes h.end None = subst (λ r. EndsHeader bytes h.end r) c.in-None.is c.header_fault.ensures.ends in
+    block-last c.args.literal c.args.within bytes at here h.end (header_end (header_of h) (first_text (lines_at bytes h.end))) c.indicators-header.ensures.given
+    (header_of h) c.new-text.result c.line_end-end.result (ends (header_of h)) c.indicators-header.ensures.on_line.same c.line_end-end.ensures.on_line.same c.if-end-bytes.true c.new-text.ensures
+
+pub returns-clause-gives : goal.returns-clause-gives
+returns-clause-gives c =
+    let bytes = c.args.bytes.now in
+    let at = c.args.at in
+    let here = is_inside bytes at (omega (arith, c.requires.inside)) c.requires.begins in
+    let h = c.indicators-header.result in
+    let first = c.after_break-first.result in
+    let style = c.block_style-style.result in
+    let ends : EndsHeader bytes h.end None = subst (λ r. EndsHeader bytes h.end r) c.in-None.is c.header_fault.ensures.ends in
+    block-more c.args.literal c.args.within bytes at here h.end (header_end (header_of h) (first_text (lines_at bytes h.end))) c.indicators-header.ensures.given
+    (header_of h) c.line_end-end.result first (ends (header_of h)) c.indicators-header.ensures.on_line.same c.line_end-end.ensures.on_line.same c.after_break-first.ensures.lines
+    ∙ ap (λ (t : Taken). Ok t) (rest-style c.args.literal style.literal (kind h.chomping) (kind style.chomping) (content_indent h.digit c.args.within (lines_at bytes first)) style.indent
+    (is_said h.digit) style.explicit h.end c.new-text.result (lines_at bytes first)
+    c.block_style-style.ensures.literal (ap kind c.block_style-style.ensures.chomping) c.block_style-style.ensures.indent c.block_style-style.ensures.explicit c.new-text.ensures
+    ∙ c.in_ok-rows.ensures.rows)
+
+pub returns-in-Some-clause-within : goal.returns-in-Some-clause-within
+returns-in-Some-clause-within c =
+    let n = length c.args.bytes.now in
+    let from = c.indicators-header.result.end in
+    let within : IfSome (Some c.in-Some.place) (λ place. (from ≤ place) × (place ≤ n)) = subst (λ r. IfSome r (λ place. (from ≤ place) × (place ≤ n))) c.in-Some.is c.header_fault.ensures.within in
+    (omega (arith, within.0, c.indicators-header.ensures.on_line.from), within.1)

@@ -1,0 +1,12 @@
+use Rattle.std.proofs.Common.{◌≡◌, ◌<◌, ◌-◌, ◌^◌, Some}
+use Rattle.al_scalar.specs.Places.{cells_between}
+use Rattle.al_scalar.specs.Quoted.{hex_value}
+use Rattle.al_scalar.specs.Double.{Between}
+use Rattle.al_scalar.proofs.double.read_digits.Given as goal
+
+abbrev pub invariant-loop-i : goal.invariant-loop-i
+invariant-loop-i l = record {
+  between : Between l.bytes l.from l.i;
+  value : hex_value 0 (cells_between l.bytes l.from l.i) ≡ Some l.value;
+  small : l.value < 16 ^ (l.i - l.from);
+}

@@ -1,0 +1,14 @@
+use Rattle.std.proofs.Common.{length, ◌-◌, ◌≤◌}
+use Rattle.al_scalar.specs.Places.{lines_at, cells_between}
+use Rattle.al_scalar.proofs.SingleLemmas.{RunBefore}
+use Rattle.al_scalar.proofs.lines.line_end.Given as goal
+
+abbrev pub invariant-loop-i : goal.invariant-loop-i
+invariant-loop-i l = record {
+  from : l.at ≤ l.i;
+  inside : l.i ≤ length l.bytes;
+  run : RunBefore (cells_between l.bytes l.at l.i) (lines_at l.bytes l.at) (lines_at l.bytes l.i);
+}
+
+abbrev pub decreases-loop-i : goal.decreases-loop-i
+decreases-loop-i l = length l.bytes - l.i

@@ -1,0 +1,157 @@
+-- Block scalars (8.1).
+use Rattle.std.specs.Prelude.{ℕ, ◌+◌, ◌-◌, List, [], ◌∷◌, ◌++◌, drop, Bool, true, false, not, ◌&&◌, ◌||◌, ◌==◌, nat_le, if◌then◌else◌, Option, Some, None, Result, Ok}
+use Rattle.al_scalar.specs.Ascii as ascii
+use Rattle.al_text.specs.declared.codes.Yaml.TheVariants as yaml
+use Rattle.al_scalar.specs.Line.{Cell, Line, place, after_blanks, indent, is_empty, is_all_blank, begins_blank, is_comment}
+use Rattle.al_scalar.specs.Taken.{Fault, Taken, ◌>>=◌, fault, feeds, folded_break}
+
+-- What becomes of the final breaks (8.1.1.2).
+pub data Chomping : Type 0 where
+  strip : Chomping
+  clip : Chomping
+  keep : Chomping
+
+-- The header (8.1.1): the digit if there is one, the chomping, and the end of the indicators.
+pub record Header : Type 0 where
+  pub digit : Option ℕ
+  pub chomping : Chomping
+  pub end : ℕ
+
+abbrev pub plus : ℕ
+plus = 43
+
+abbrev pub is_digit : ℕ → Bool
+is_digit b = nat_le 49 b && nat_le b 57
+
+abbrev pub is_sign : ℕ → Bool
+is_sign b = (b == plus) || (b == ascii.dash)
+
+abbrev pub chomping_of : ℕ → Chomping
+chomping_of b = if b == plus then keep else strip
+
+-- Behind the indicators only blanks, and a comment after a blank.
+abbrev pub header_end : Header → List Cell → Result Header Fault
+header_end h cs =
+    if is_empty (after_blanks cs) || (begins_blank cs && is_comment cs) then Ok h
+    else fault yaml.WrongBlockHeader (place (after_blanks cs) 0)
+
+-- The header from behind the indicator, whose end is at: a digit and a sign in either order.
+abbrev pub after_digit : ℕ → ℕ → List Cell → Result Header Fault
+after_digit d at [] = header_end (record { digit = Some d; chomping = clip; end = at }) []
+after_digit d at (c ∷ cs) =
+    if is_sign c.0 then header_end (record { digit = Some d; chomping = chomping_of c.0; end = at + 1 }) cs
+    else header_end (record { digit = Some d; chomping = clip; end = at }) (c ∷ cs)
+
+abbrev pub after_sign : Chomping → ℕ → List Cell → Result Header Fault
+after_sign k at [] = header_end (record { digit = None; chomping = k; end = at }) []
+after_sign k at (c ∷ cs) =
+    if is_digit c.0 then header_end (record { digit = Some (c.0 - 48); chomping = k; end = at + 1 }) cs
+    else header_end (record { digit = None; chomping = k; end = at }) (c ∷ cs)
+
+abbrev pub header : ℕ → List Cell → Result Header Fault
+header at [] = header_end (record { digit = None; chomping = clip; end = at }) []
+header at (c ∷ cs) =
+    if is_digit c.0 then after_digit (c.0 - 48) (at + 1) cs
+    else (if is_sign c.0 then after_sign (chomping_of c.0) (at + 1) cs
+    else header_end (record { digit = None; chomping = clip; end = at }) (c ∷ cs))
+
+-- The content indent (8.1.1.1): what the digit says, or the indent of the first line that isn't all blanks, if it
+-- is at least within; None where there is no content.
+abbrev pub found_indent : ℕ → List Line → Option ℕ
+found_indent within [] = None
+found_indent within (l ∷ ls) =
+    let below = found_indent within ls in
+    if is_all_blank l.text then below
+    else (if nat_le within (indent l.text) then Some (indent l.text) else None)
+
+abbrev pub content_indent : Option ℕ → ℕ → List Line → Option ℕ
+content_indent (Some d) within ls = Some (d + (within - 1))
+content_indent None within ls = found_indent within ls
+
+-- A line of the scalar: its text behind the indent, and its break.
+pub record Row : Type 0 where
+  pub text : List Cell
+  pub break : List ℕ
+
+abbrev pub break_of : Line → List ℕ
+break_of l = if l.last then [] else l.end ∷ []
+
+-- The row that a line is, None where it ends the scalar. found says that the line that gave the indent has come.
+abbrev pub row_of : Option ℕ → Bool → List Cell → Option (List Cell)
+row_of None found text = if is_all_blank text then Some [] else None
+row_of (Some m) found text =
+    if is_all_blank text && not found then Some []
+    else (if nat_le m (indent text) then Some (drop m text)
+    else (if is_all_blank text then Some [] else None))
+
+-- The rows, and the lines left. The last line is no row unless it has text, and nothing is left behind it but the file's end.
+pub record Rows : Type 0 where
+  pub rows : List Row
+  pub left : List Line
+
+abbrev pub with_row : Row → Rows → Rows
+with_row r more = record { rows = r ∷ more.rows; left = more.left }
+
+abbrev pub at_end : Line → List Line
+at_end l = record { text = []; end = l.end; last = true } ∷ []
+
+abbrev pub rows_at : Option ℕ → Bool → List Line → Rows
+rows_at m found [] = record { rows = []; left = [] }
+rows_at m found (l ∷ ls) =
+    let below = rows_at m (found || not (is_all_blank l.text)) ls in
+    elim (row_of m found l.text) [
+      | None ↦ record { rows = []; left = l ∷ ls }
+      | Some text ↦ (if l.last then record { rows = record { text = text; break = [] } ∷ []; left = at_end l }
+          else with_row (record { text = text; break = l.end ∷ [] }) below)
+    ]
+
+-- The breaks that stay at the end (8.1.1.2): of the last line with text, and of the empty lines behind it.
+abbrev pub chomped : Chomping → List ℕ → List ℕ → List Cell
+chomped strip own empties = []
+chomped clip own empties = feeds own
+chomped keep own empties = feeds (own ++ empties)
+
+abbrev pub is_spaced : Row → Bool
+is_spaced r = begins_blank r.text
+
+abbrev pub own_break : Option Row → List ℕ
+own_break None = []
+own_break (Some r) = r.break
+
+-- Between two lines that begin with no blank the break is folded (8.1.3).
+abbrev pub between_rows : List ℕ → List ℕ → List Cell
+between_rows [] empties = feeds empties
+between_rows (at ∷ ats) empties = folded_break at empties
+
+-- What the breaks between the last line with text, if there is one, and the next one give: all of them in literal
+-- style (8.1.2), beside a line that begins with a blank, and before the first line with text.
+abbrev pub joint : Bool → Option Row → List ℕ → Row → List Cell
+joint is_literal None empties next = feeds empties
+joint is_literal (Some r) empties next =
+    if is_literal || is_spaced r || is_spaced next then feeds (r.break ++ empties) else between_rows r.break empties
+
+-- The text of rows behind the last line with text; empties are the breaks of the empty lines since.
+abbrev pub text_after : Bool → Chomping → Option Row → List ℕ → List Row → List Cell
+text_after is_literal k last empties [] = chomped k (own_break last) empties
+text_after is_literal k last empties (r ∷ rs) =
+    let with_empty = text_after is_literal k last (empties ++ r.break) rs in
+    let below = text_after is_literal k (Some r) [] rs in
+    if is_empty r.text then with_empty else joint is_literal last empties r ++ r.text ++ below
+
+abbrev pub last_end : List Cell → ℕ → ℕ
+last_end [] at = at
+last_end (c ∷ cs) at = last_end cs (c.1 + 1)
+
+-- the end of the last line's text that isn't empty
+abbrev pub rows_end : ℕ → List Row → ℕ
+rows_end at [] = at
+rows_end at (r ∷ rs) = rows_end (last_end r.text at) rs
+
+-- a block scalar, whose indicator begins the first line
+abbrev pub block_scalar : Bool → ℕ → List Line → Result Taken Fault
+block_scalar is_literal within [] = fault yaml.UnexpectedCharacter 0
+block_scalar is_literal within (l ∷ ls) =
+    header (place l.text l.end + 1) (drop 1 l.text) >>= (λ h.
+    let m = content_indent h.digit within ls in
+    let rs = (if l.last then record { rows = []; left = at_end l } else rows_at m (elim h.digit [ None ↦ false | Some d ↦ true ]) ls) in
+    Ok (record { text = text_after is_literal h.chomping None [] rs.rows; end = rows_end h.end rs.rows; left = rs.left }))

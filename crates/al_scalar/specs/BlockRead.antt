@@ -1,0 +1,91 @@
+-- What the reader of block scalars answers, in terms of offsets.
+use Rattle.std.specs.Prelude.{◌≡◌, ℕ, ◌+◌, ◌≤◌, List, [], ◌∷◌, ◌++◌, length, Bool, true, false, Option, Some, None, Result, Ok, Err, cond, nat_le, if◌then◌else◌}
+use Rattle.al_scalar.specs.Ascii as ascii
+use Rattle.al_scalar.specs.Line.{Cell, Line, is_all_blank, indent}
+use Rattle.al_scalar.specs.Taken.{Fault, Taken, with_text}
+use Rattle.al_text.specs.declared.codes.Yaml.TheVariants.{WrongBlockHeader}
+use Rattle.al_scalar.specs.Places.{lines_at, text_at, cells_between, OnLine}
+use Rattle.al_scalar.specs.Block as block
+use Rattle.al_scalar.specs.Block.{Header, Row, last_end}
+use Rattle.al_scalar.specs.declared.header.Chomping.{Chomping}
+use Rattle.al_scalar.specs.declared.header.Chomping.TheVariants.{Strip, Clip, Keep}
+use Rattle.al_scalar.specs.declared.header.HeaderRead.{HeaderRead}
+use Rattle.al_scalar.specs.declared.block.LastLine.{LastLine}
+use Rattle.al_scalar.specs.declared.block.RowStart.{RowStart}
+use Rattle.al_scalar.specs.declared.block.BlockStyle.{BlockStyle}
+use Rattle.al_scalar.specs.declared.block.RowState.{RowState}
+use Rattle.al_scalar.specs.declared.block.RowsRead.{RowsRead}
+
+abbrev pub kind : Chomping → block.Chomping
+kind Strip = block.strip
+kind Clip = block.clip
+kind Keep = block.keep
+
+abbrev pub header_of : HeaderRead → Header
+header_of h = record { digit = h.digit; chomping = kind h.chomping; end = h.end }
+
+-- a row of which only that matters which the next row asks for
+abbrev pub row_like : Bool → List ℕ → Row
+row_like spaced break = record { text = cond spaced ((ascii.space, 0) ∷ []) []; break = break }
+
+abbrev pub last_row : Option LastLine → Option Row
+last_row None = None
+last_row (Some l) = Some (row_like l.spaced (l.at ∷ []))
+
+-- the indicators of a header read, and what comes behind them left
+pub record Indicates (bytes : List ℕ) (at : ℕ) (asked : Result Header Fault) (h : HeaderRead) : Type 0 where
+  pub given : asked ≡ block.header_end (header_of h) (text_at bytes h.end)
+  pub on_line : OnLine bytes at h.end
+
+-- whether a header may end there: None, or the place of what stands there
+abbrev pub EndsHeader : List ℕ → ℕ → Option ℕ → Type 0
+EndsHeader bytes at None = (h : Header) → block.header_end h (text_at bytes at) ≡ Ok h
+EndsHeader bytes at (Some place) = (h : Header) → block.header_end h (text_at bytes at) ≡ Err (record { code = WrongBlockHeader; at = place })
+
+-- a row read, as a function of the line's text answers it
+pub record RowAt (bytes : List ℕ) (at : ℕ) (asked : Option (List Cell)) (s : RowStart) : Type 0 where
+  pub row : asked ≡ Some (text_at bytes s.from)
+  pub blank : is_all_blank (text_at bytes at) ≡ s.is_blank
+  pub on_line : OnLine bytes at s.from
+
+abbrev pub RowTo : List ℕ → ℕ → Option (List Cell) → Option RowStart → Type 0
+RowTo bytes at asked None = asked ≡ None
+RowTo bytes at asked (Some s) = RowAt bytes at asked s
+
+abbrev pub RowStarts : List ℕ → ℕ → Option ℕ → Bool → Option RowStart → Type 0
+RowStarts bytes at m found r = RowTo bytes at (block.row_of m found (text_at bytes at)) r
+
+-- the indent that the first line that isn't all blanks gives
+abbrev pub indent_from : ℕ → List Cell → Option ℕ
+indent_from within text = if nat_le within (indent text) then Some (indent text) else None
+
+-- the scalar from a row on: found as in `rows_at`, last and empties as in `text_after`, end as in `rows_end`
+abbrev pub rest : Bool → block.Chomping → Option ℕ → Bool → Option Row → List ℕ → ℕ → List Line → Taken
+rest is_literal k m found last empties end ls =
+    let rs = block.rows_at m found ls in
+    record { text = block.text_after is_literal k last empties rs.rows; end = block.rows_end end rs.rows; left = rs.left }
+
+abbrev pub rest_of : BlockStyle → Bool → Option Row → List ℕ → ℕ → List Line → Taken
+rest_of style found last empties end ls = rest style.literal (kind style.chomping) style.indent found last empties end ls
+
+-- text read, with the rows from r on, as text read with the rows behind it
+abbrev pub AddsRow : Bool → List Cell → RowState → List Cell → List ℕ → List Cell → RowState → Type 0
+AddsRow is_literal old was text break new is =
+    (k : block.Chomping) (rs : List Row) → old ++ block.text_after is_literal k (last_row was.last) was.empties.items (record { text = text; break = break } ∷ rs)
+    ≡ new ++ block.text_after is_literal k (last_row is.last) is.empties.items rs
+
+abbrev pub EndsRow : RowState → List Cell → RowState → Type 0
+EndsRow was text is = last_end text was.end ≡ is.end
+
+-- the row of the file's last line, from an offset on
+abbrev pub last_line : List ℕ → ℕ → List Row
+last_line bytes from = record { text = cells_between bytes from (length bytes); break = [] } ∷ []
+
+abbrev pub is_said : Option ℕ → Bool
+is_said None = false
+is_said (Some d) = true
+
+-- rows read from an offset on
+abbrev pub ReadsRows : List ℕ → BlockStyle → List Cell → ℕ → ℕ → List Cell → RowsRead → Type 0
+ReadsRows bytes style old at end new r =
+    with_text old (rest_of style style.explicit None [] end (lines_at bytes at)) ≡ record { text = new; end = r.end; left = lines_at bytes r.next }

@@ -1,0 +1,54 @@
+-- What the reader of plain scalars answers, in terms of offsets.
+use Rattle.std.specs.Prelude.{◌≡◌, ℕ, List, [], ◌∷◌, Bool, true, false, not, ◌&&◌, if◌then◌else◌, Result, Ok}
+use Rattle.al_scalar.specs.Line.{Cell, Line, after_blanks, is_empty, is_all_blank}
+use Rattle.al_scalar.specs.Taken.{Fault, Taken, feeds, folded_break}
+use Rattle.al_scalar.specs.Plain.{Context, flow, block, plain_part, plain_lines}
+use Rattle.al_scalar.specs.Places.{lines_at, cells_between, text_at, first_text, first_end, later}
+use Rattle.al_scalar.specs.declared.plain.PlainContext.{PlainContext}
+use Rattle.al_scalar.specs.declared.plain.PlainContext.TheVariants as contexts
+
+abbrev pub context_of : PlainContext → Context
+context_of contexts.Flow = flow
+context_of (contexts.Block within) = block within
+
+-- a line that is all blanks, and isn't the last one
+abbrev pub is_blank_line : Line → Bool
+is_blank_line l = is_all_blank l.text && not l.last
+
+abbrev pub begins_blank_line : List Line → Bool
+begins_blank_line [] = false
+begins_blank_line (l ∷ ls) = is_blank_line l
+
+-- the lines from the first one that isn't blank
+abbrev pub text_lines : List Line → List Line
+text_lines [] = []
+text_lines (l ∷ ls) =
+    let more = text_lines ls in
+    if is_blank_line l then more else (l ∷ ls)
+
+-- the breaks of the blank lines before it
+abbrev pub empty_ends : List Line → List ℕ
+empty_ends [] = []
+empty_ends (l ∷ ls) =
+    let more = empty_ends ls in
+    if is_blank_line l then l.end ∷ more else []
+
+-- what a break and breaks of empty lines still give, where an empty line may have come before
+abbrev pub break_left : Bool → ℕ → List ℕ → List Cell
+break_left true break ends = feeds ends
+break_left false break ends = folded_break break ends
+
+-- what was read of a scalar that may end at an offset
+abbrev pub here_at : List ℕ → ℕ → Taken
+here_at bytes end = record { text = []; end = end; left = lines_at bytes end }
+
+-- what is read behind a part of the scalar that ends at an offset
+abbrev pub after_part : Context → List ℕ → ℕ → Result Taken Fault
+after_part p bytes end =
+    let ls = lines_at bytes end in
+    let below = plain_lines p (here_at bytes end) (first_end ls) [] (later ls) in
+    if is_empty (after_blanks (first_text ls)) then below else Ok (here_at bytes end)
+
+-- a part of a line from an offset to another one
+abbrev pub PartTo : Context → Bool → List ℕ → ℕ → ℕ → Type 0
+PartTo p after_blank bytes at end = plain_part p after_blank (text_at bytes at) ≡ (cells_between bytes at end, text_at bytes end)

@@ -1,0 +1,153 @@
+-- Quoted scalars (7.3.1 double-quoted, 7.3.2 single-quoted, 5.7 escaped characters, 6.5 line folding).
+use Rattle.std.specs.Prelude.{ℕ, zero, suc, ◌+◌, ◌*◌, ◌-◌, List, [], ◌∷◌, ◌++◌, length, map, take, Bool, true, false, not, ◌&&◌, ◌||◌, ◌==◌, nat_le, nat_lt, if◌then◌else◌, Option, Some, None, Result, Ok, Err, encode_utf8}
+use Rattle.al_scalar.specs.Ascii as ascii
+use Rattle.al_text.specs.declared.codes.Yaml.TheVariants as yaml
+use Rattle.al_scalar.specs.Line.{Cell, Line, cut, is_blank, after_blanks, is_empty, begins}
+use Rattle.al_scalar.specs.Taken.{Fault, Taken, ◌>>=◌, before, fault, folded}
+
+-- How a quoted scalar leaves a line: it is closed, with the cells behind the quote; it goes on after the break;
+-- it goes on after an escaped break; or the line ends within the escape at a place.
+pub data Stop : Type 0 where
+  closed : ℕ → List Cell → Stop
+  broken : Stop
+  escaped : Stop
+  cut_short : ℕ → Stop
+
+-- the decoded cells of one line
+pub record Part : Type 0 where
+  pub text : List Cell
+  pub stop : Stop
+
+abbrev pub is_broken : Stop → Bool
+is_broken broken = true
+is_broken _ = false
+
+abbrev pub with_cells : List Cell → Part → Part
+with_cells cs p = record { text = cs ++ p.text; stop = p.stop }
+
+-- A cell that stands for itself. A blank before a break goes.
+abbrev pub with_own : Cell → Part → Part
+with_own c p = if is_blank c && is_empty p.text && is_broken p.stop then p else with_cells (c ∷ []) p
+
+-- Single quotes: two quotes are a quote. The number counts the cells that belong to the one before.
+abbrev pub single_part : ℕ → List Cell → Part
+single_part n [] = record { text = []; stop = broken }
+single_part (suc n) (c ∷ cs) = single_part n cs
+single_part zero (c ∷ cs) =
+    let more = single_part 0 cs in
+    let more_after_pair = single_part 1 cs in
+    if not (c.0 == ascii.single_quote) then with_own c more
+    else (if begins ascii.single_quote cs then with_cells (c ∷ []) more_after_pair
+    else record { text = []; stop = closed (c.1 + 1) cs })
+
+-- The one-letter escapes of 5.7.
+abbrev pub escape_table : List (ℕ × ℕ)
+escape_table = (48, 0) ∷ (97, 7) ∷ (98, 8) ∷ (116, 9) ∷ (9, 9) ∷ (110, 10) ∷ (118, 11) ∷ (102, 12) ∷ (114, 13) ∷ (101, 27)
+    ∷ (32, 32) ∷ (34, 34) ∷ (47, 47) ∷ (92, 92) ∷ (78, 0x85) ∷ (95, 0xa0) ∷ (76, 0x2028) ∷ (80, 0x2029) ∷ []
+
+-- how many hexadecimal digits follow: x 2, u 4, U 8
+abbrev pub digits_table : List (ℕ × ℕ)
+digits_table = (120, 2) ∷ (117, 4) ∷ (85, 8) ∷ []
+
+abbrev pub lookup : ℕ → List (ℕ × ℕ) → Option ℕ
+lookup b [] = None
+lookup b (e ∷ es) =
+    let more = lookup b es in
+    if e.0 == b then Some e.1 else more
+
+abbrev pub hex_digit : ℕ → Option ℕ
+hex_digit b =
+    if nat_le 48 b && nat_le b 57 then Some (b - 48)
+    else (if nat_le 65 b && nat_le b 70 then Some (b - 55)
+    else (if nat_le 97 b && nat_le b 102 then Some (b - 87) else None))
+
+abbrev pub hex_push : Option ℕ → ℕ → Option ℕ
+hex_push None value = None
+hex_push (Some d) value = Some (16 * value + d)
+
+-- the value of hexadecimal digits, after those that make value
+abbrev pub hex_value : ℕ → List Cell → Option ℕ
+hex_value value [] = Some value
+hex_value value (c ∷ cs) = elim (hex_push (hex_digit c.0) value) [ None ↦ None | Some v ↦ hex_value v cs ]
+
+abbrev pub is_scalar_value : ℕ → Bool
+is_scalar_value c = nat_lt c 0xd800 || (nat_le 0xe000 c && nat_lt c 0x110000)
+
+-- the bytes of a character, all from one offset
+abbrev pub written : ℕ → ℕ → List Cell
+written at code = map (λ b. (b, at)) (encode_utf8 code)
+
+abbrev pub part_before : List Cell → Result Part Fault → Result Part Fault
+part_before cs (Ok p) = Ok (with_cells cs p)
+part_before cs (Err e) = Err e
+
+abbrev pub own_before : Cell → Result Part Fault → Result Part Fault
+own_before c (Ok p) = Ok (with_own c p)
+own_before c (Err e) = Err e
+
+-- An escape with digits, of which these stand on the line.
+abbrev pub hex_escape : ℕ → ℕ → List Cell → Option ℕ → Result Part Fault → Result Part Fault
+hex_escape at width digits None more = fault yaml.WrongEscape at
+hex_escape at width digits (Some code) more =
+    if nat_lt (length digits) width then Ok (record { text = []; stop = cut_short at })
+    else (if is_scalar_value code then part_before (written at code) more else fault yaml.WrongEscape at)
+
+-- An escape: the backslash's offset, the cells behind it, and the line's part behind the escape by its length.
+abbrev pub escape : ℕ → List Cell → (ℕ → Result Part Fault) → Result Part Fault
+escape at [] more = Ok (record { text = []; stop = escaped })
+escape at (c ∷ cs) more =
+    elim (lookup c.0 escape_table) [
+      | Some code ↦ part_before (written at code) (more 1)
+      | None ↦ elim (lookup c.0 digits_table) [
+        | None ↦ fault yaml.WrongEscape at
+        | Some width ↦ hex_escape at width (take width cs) (hex_value 0 (take width cs)) (more (1 + width))
+      ]
+    ]
+
+-- Double quotes. The number counts the cells that belong to the escape before.
+abbrev pub double_part : ℕ → List Cell → Result Part Fault
+double_part n [] = Ok (record { text = []; stop = broken })
+double_part (suc n) (c ∷ cs) = double_part n cs
+double_part zero (c ∷ cs) =
+    let more = (λ (n : ℕ). double_part n cs) in
+    let next = double_part 0 cs in
+    if c.0 == ascii.double_quote then Ok (record { text = []; stop = closed (c.1 + 1) cs })
+    else (if c.0 == ascii.backslash then escape c.1 cs more else own_before c next)
+
+-- The break after a line, which is folded unless it is escaped.
+abbrev pub break_after : Stop → Line → Option ℕ
+break_after broken l = Some l.end
+break_after _ l = None
+
+-- What a line gives, by how the scalar leaves it. quote is the opening quote.
+abbrev pub line_given : ℕ → List Cell → Part → Line → List Line → (Option ℕ → Result Taken Fault) → Result Taken Fault
+line_given quote space p l ls below =
+    elim p.stop [
+      | closed end rest ↦ Ok (record { text = space ++ p.text; end = end; left = cut rest l ls })
+      | cut_short at ↦ (if l.last then fault yaml.UnclosedQuote quote else fault yaml.WrongEscape at)
+      | _ ↦ (if l.last then fault yaml.UnclosedQuote quote else before (space ++ p.text) (below (break_after p.stop l)))
+    ]
+
+-- a line between the first and the last that is all blanks
+abbrev pub is_empty_line : Part → Line → Bool
+is_empty_line p l = is_empty p.text && is_broken p.stop && not l.last
+
+-- The lines after the first: leading blanks go, an empty line gives an LF and no space stays before it.
+abbrev pub quoted_lines : (List Cell → Result Part Fault) → ℕ → Option ℕ → List Line → Result Taken Fault
+quoted_lines part quote break [] = fault yaml.UnclosedQuote quote
+quoted_lines part quote break (l ∷ ls) =
+    let below = (λ (b : Option ℕ). quoted_lines part quote b ls) in
+    part (after_blanks l.text) >>= (λ p.
+    if is_empty_line p l then before ((ascii.line_feed, l.end) ∷ []) (below None)
+    else line_given quote (folded break) p l ls below)
+
+-- a quoted scalar, from behind its opening quote
+abbrev pub quoted : (List Cell → Result Part Fault) → ℕ → List Line → Result Taken Fault
+quoted part quote [] = fault yaml.UnclosedQuote quote
+quoted part quote (l ∷ ls) = part l.text >>= (λ p. line_given quote [] p l ls (λ b. quoted_lines part quote b ls))
+
+abbrev pub single_quoted : ℕ → List Line → Result Taken Fault
+single_quoted quote ls = quoted (λ text. Ok (single_part 0 text)) quote ls
+
+abbrev pub double_quoted : ℕ → List Line → Result Taken Fault
+double_quoted quote ls = quoted (double_part 0) quote ls

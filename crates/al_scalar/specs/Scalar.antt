@@ -1,0 +1,97 @@
+-- One scalar: its style, its class and its decoded bytes with their offsets (7.3, 8.1, 7.2 for the empty node).
+use Rattle.std.specs.Prelude.{ℕ, zero, suc, List, [], ◌∷◌, map, drop, true, false, if◌then◌else◌, Result, Ok, Err}
+use Rattle.al_scalar.specs.Ascii as ascii
+use Rattle.al_text.specs.declared.codes.Yaml.TheVariants as yaml
+use Rattle.al_scalar.specs.Line.{Cell, Line, start, begins, cut}
+use Rattle.al_scalar.specs.Taken.{Fault, Taken, fault}
+use Rattle.al_scalar.specs.Plain.{Context, flow, block, is_flow, plain}
+use Rattle.al_scalar.specs.Quoted.{single_quoted, double_quoted}
+use Rattle.al_scalar.specs.Block.{block_scalar}
+use Rattle.al_scalar.specs.Class.{class_of}
+use Rattle.al_scalar.specs.declared.styles.Style.{Style}
+use Rattle.al_scalar.specs.declared.styles.Style.TheVariants as style
+use Rattle.al_scalar.specs.declared.styles.Class.{Class}
+use Rattle.al_scalar.specs.declared.styles.Class.TheVariants as class
+use Rattle.al_text.specs.declared.faults.Span.{Span}
+
+-- the end is that of the written form, where `locate` is at the length of the text
+pub record Scalar : Type 0 where
+  pub style : Style
+  pub class : Class
+  pub cells : List Cell
+  pub end : ℕ
+
+abbrev pub span : ℕ → ℕ → Span
+span start end = record { start = start; end = end }
+
+-- what reading a scalar gives: the span of its written form, and the lines left
+pub record ScalarRead : Type 0 where
+  pub scalar : Scalar
+  pub span : Span
+  pub left : List Line
+
+-- only a plain scalar has a class of its own (10.3.2)
+abbrev pub class_in : Style → List Cell → Class
+class_in style.Plain cs = class_of (map (λ (c : Cell). c.0) cs)
+class_in _ cs = class.Str
+
+abbrev pub read_as : Style → ℕ → Result Taken Fault → Result ScalarRead Fault
+read_as style at (Err e) = Err e
+read_as style at (Ok t) = Ok (record {
+  scalar = record { style = style; class = class_in style t.text; cells = t.text; end = t.end };
+  span = span at t.end;
+  left = t.left;
+})
+
+-- The first character says the style (7.3.1, 7.3.2, 8.1); block scalars stand in no flow collection.
+abbrev pub style_at : Context → List Cell → Style
+style_at p text =
+    if begins ascii.single_quote text then style.SingleQuoted
+    else (if begins ascii.double_quote text then style.DoubleQuoted
+    else (if is_flow p then style.Plain
+    else (if begins ascii.bar text then style.Literal
+    else (if begins ascii.greater text then style.Folded else style.Plain))))
+
+abbrev pub within_of : Context → ℕ
+within_of flow = 0
+within_of (block within) = within
+
+-- the lines behind their first character
+abbrev pub after_first : List Line → List Line
+after_first [] = []
+after_first (l ∷ ls) = cut (drop 1 l.text) l ls
+
+-- what a scalar of a style takes from the lines, which begin with its first character
+abbrev pub taken_as : Context → Style → List Line → Result Taken Fault
+taken_as p style.SingleQuoted ls = single_quoted (start ls) (after_first ls)
+taken_as p style.DoubleQuoted ls = double_quoted (start ls) (after_first ls)
+taken_as p style.Literal ls = block_scalar true (within_of p) ls
+taken_as p style.Folded ls = block_scalar false (within_of p) ls
+taken_as p style.Plain ls = plain p ls
+
+-- the scalar whose first character begins the lines
+abbrev pub scalar_at : Context → List Line → Result ScalarRead Fault
+scalar_at p [] = fault yaml.UnexpectedCharacter 0
+scalar_at p (l ∷ ls) =
+    let kind = style_at p l.text in
+    read_as kind (start (l ∷ ls)) (taken_as p kind (l ∷ ls))
+
+-- the empty node (7.2) at an offset
+abbrev pub empty_scalar : ℕ → Scalar
+empty_scalar at = record { style = style.Plain; class = class.Null; cells = []; end = at }
+
+abbrev pub empty_at : List Line → ScalarRead
+empty_at ls = record { scalar = empty_scalar (start ls); span = span (start ls) (start ls); left = ls }
+
+-- the offset of cell i, and the end behind the last one
+abbrev pub offset_or : List Cell → ℕ → ℕ → ℕ
+offset_or [] end i = end
+offset_or (c ∷ cs) end zero = c.1
+offset_or (c ∷ cs) end (suc i) = offset_or cs end i
+
+-- what `locate` answers
+abbrev pub offset_of : Scalar → ℕ → ℕ
+offset_of s i = offset_or s.cells s.end i
+
+abbrev pub text_of : Scalar → List ℕ
+text_of s = map (λ (c : Cell). c.0) s.cells

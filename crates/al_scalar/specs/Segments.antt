@@ -1,0 +1,51 @@
+-- Decoded bytes with their offsets, from the runs that keep them.
+use Rattle.std.specs.Prelude.{◌≡◌, ℕ, suc, ◌^◌, ◌+◌, ◌-◌, ◌<◌, ◌≤◌, List, [], ◌∷◌, nat_le, if◌then◌else◌}
+use Rattle.al_scalar.specs.Line.{Cell}
+use Rattle.al_scalar.specs.declared.texts.Segment.{Segment}
+
+-- the offset of the byte at an index in one run: an escape gives one offset to all its bytes
+abbrev pub offset_in : Segment → ℕ → ℕ
+offset_in s i = if s.moves then s.offset + (i - s.index) else s.offset
+
+abbrev pub offset_after : ℕ → Segment → ℕ → ℕ
+offset_after found s i = if nat_le s.index i then offset_in s i else found
+
+-- by the last run that begins at or before the index
+abbrev pub offset_from : ℕ → List Segment → ℕ → ℕ
+offset_from found [] i = found
+offset_from found (s ∷ ss) i = offset_from (offset_after found s i) ss i
+
+abbrev pub offset_at : List Segment → ℕ → ℕ
+offset_at ss i = offset_from 0 ss i
+
+abbrev pub cells_from : ℕ → List ℕ → List Segment → List Cell
+cells_from i [] ss = []
+cells_from i (b ∷ bs) ss = (b, offset_at ss i) ∷ cells_from (suc i) bs ss
+
+-- no run begins behind an index
+abbrev pub AreBehind : ℕ → List Segment → Type 0
+AreBehind n [] = Unit {0}
+AreBehind n (s ∷ ss) = (s.index ≤ n) × AreBehind n ss
+
+-- each run begins at a number or behind it
+abbrev pub AreFrom : ℕ → List Segment → Type 0
+AreFrom n [] = Unit {0}
+AreFrom n (s ∷ ss) = (n ≤ s.index) × AreFrom n ss
+
+-- no run begins before an earlier one
+abbrev pub IsRising : List Segment → Type 0
+IsRising [] = Unit {0}
+IsRising (s ∷ ss) = AreFrom s.index ss × IsRising ss
+
+-- runs of a text of so many bytes
+abbrev pub IsOrdered : ℕ → List Segment → Type 0
+IsOrdered n ss = AreBehind n ss × IsRising ss
+
+-- the offsets of the bytes from an index on go up from one
+abbrev pub GoesOn : List Segment → ℕ → ℕ → Type 0
+GoesOn ss index at = (k : ℕ) → offset_at ss (index + k) ≡ at + k
+
+-- each offset fits 32 bits
+abbrev pub AreInRange : List Cell → Type 0
+AreInRange [] = Unit {0}
+AreInRange (c ∷ cs) = (c.1 < 2 ^ 32) × AreInRange cs

@@ -1,0 +1,46 @@
+-- What reading a scalar takes from the lines that are left.
+use Rattle.std.specs.Prelude.{ℕ, List, [], ◌∷◌, ◌++◌, Option, Some, None, Result, Ok, Err}
+use Rattle.al_scalar.specs.Ascii as ascii
+use Rattle.al_scalar.specs.Line.{Cell, Line}
+use Rattle.al_text.specs.declared.codes.Yaml.{Yaml}
+
+-- a fault, and the offset of the character that it is at
+pub record Fault : Type 0 where
+  pub code : Yaml
+  pub at : ℕ
+
+-- The decoded bytes, each with the offset that gave it, the end of the written form, and the lines left.
+pub record Taken : Type 0 where
+  pub text : List Cell
+  pub end : ℕ
+  pub left : List Line
+
+-- text before what was taken
+abbrev pub with_text : List Cell → Taken → Taken
+with_text cs t = record { text = cs ++ t.text; end = t.end; left = t.left }
+
+infixl 10 ◌>>=◌
+abbrev pub ◌>>=◌ : {A B : Type 0} → Result A Fault → (A → Result B Fault) → Result B Fault
+(Ok x) >>= f = f x
+(Err e) >>= f = Err e
+
+abbrev pub before : List Cell → Result Taken Fault → Result Taken Fault
+before cs (Ok t) = Ok (with_text cs t)
+before cs (Err e) = Err e
+
+abbrev pub fault : {A : Type 0} → Yaml → ℕ → Result A Fault
+fault code at = Err (record { code = code; at = at })
+
+-- A break is folded to a space, unless empty lines follow it, which give an LF each (6.5).
+abbrev pub folded : Option ℕ → List Cell
+folded None = []
+folded (Some at) = (ascii.space, at) ∷ []
+
+abbrev pub feeds : List ℕ → List Cell
+feeds [] = []
+feeds (at ∷ ats) = (ascii.line_feed, at) ∷ feeds ats
+
+-- a break with the breaks of the empty lines behind it, folded
+abbrev pub folded_break : ℕ → List ℕ → List Cell
+folded_break at [] = folded (Some at)
+folded_break at (e ∷ es) = feeds (e ∷ es)

@@ -1,0 +1,395 @@
+ghost use Rattle.std.specs.Prelude.{◌≡◌, ◌+◌, ◌<◌, ◌≤◌, ◌^◌, ◌++◌, ◌∷◌, [], ◌||◌, true, not, cond, Some, None, length, IfOk};
+ghost use Rattle.al_scalar.specs.Block.{block_scalar, found_indent, content_indent, row_of, own_break, chomped, joint, text_after, rows_end};
+ghost use Rattle.al_scalar.specs.BlockRead.{RowStarts, ReadsRows, last_row, row_like, RowTo, indent_from, kind, AddsRow, EndsRow, last_line, is_said};
+ghost use Rattle.al_scalar.specs.Places.{lines_at, text_at, cells_between, IsLineEnd, BlankTo};
+ghost use Rattle.al_scalar.specs.Reads.{Gives, StaysWithin};
+ghost use Rattle.al_scalar.specs.Taken.{feeds, folded_break};
+
+use crate::header::{Chomping, HeaderRead, header_fault, indicators};
+use crate::lines::{
+    after_break, blank_line_end, indent, is_blank, is_line_end, line_end, spaces_end,
+};
+use crate::reads::{FaultAt, Taken};
+use crate::texts::Text;
+use al_text::Yaml;
+use std::alloc::{AllocError, Global};
+
+/// The last line with text: whether it begins with a blank, and its break.
+#[derive(Clone, Copy)]
+struct LastLine {
+    spaced: bool,
+    at: u32,
+}
+
+/// Where the text of a line of a block scalar begins, and whether the line is all blanks.
+#[derive(Clone, Copy)]
+struct RowStart {
+    from: usize,
+    is_blank: bool,
+}
+
+/// How the lines of a block scalar are read; whether its header says the indent.
+#[derive(Clone, Copy)]
+struct BlockStyle {
+    literal: bool,
+    chomping: Chomping,
+    indent: Option<usize>,
+    explicit: bool,
+}
+
+/// What is kept of the rows read: the last one with text, the breaks of the empty lines since, and the text's end.
+#[derive(Drop)]
+struct RowState {
+    last: Option<LastLine>,
+    empties: Vec<u32>,
+    end: usize,
+}
+
+/// Where the text of a block scalar ends, and where the lines behind it begin.
+#[derive(Clone, Copy)]
+struct RowsRead {
+    end: usize,
+    next: usize,
+}
+
+/// Whether so many spaces stand at an offset of a line that ends as told, if it is all blanks; None where the line ends
+/// the scalar.
+fn indented_row(bytes: &[u8], at: usize, indent: usize, blank: Option<usize>) -> Option<RowStart>
+    requires inside { at ≤ length bytes.now }
+    requires blank { BlankTo bytes.now at blank }
+    ensures { RowTo bytes.now at (row_of (Some indent) true (text_at bytes.now at)) result }
+{
+    let from = spaces_end(bytes, at, indent);
+    if from - at == indent {
+        return Some(RowStart {
+            from,
+            is_blank: blank.is_some(),
+        });
+    }
+    match blank {
+        Some(end) => Some(RowStart {
+            from: end,
+            is_blank: true,
+        }),
+        None => None,
+    }
+}
+
+/// Where the row of a block scalar begins whose line begins at an offset; None where the line ends the scalar. found
+/// says that the line that gave the indent has come.
+fn row_start(bytes: &[u8], at: usize, indent: Option<usize>, found: bool) -> Option<RowStart>
+    requires { at ≤ length bytes.now }
+    ensures { RowStarts bytes.now at indent found result }
+{
+    let blank = blank_line_end(bytes, at);
+    match blank {
+        Some(end) => {
+            match indent {
+                Some(most) => {
+                    if found {
+                        return indented_row(bytes, at, most, blank);
+                    }
+                }
+                None => {}
+            }
+            Some(RowStart {
+                from: end,
+                is_blank: true,
+            })
+        }
+        None => match indent {
+            Some(most) => indented_row(bytes, at, most, blank),
+            None => None,
+        },
+    }
+}
+
+/// The indent of a line if it is at least within.
+fn indent_of(bytes: &[u8], at: usize, within: usize) -> Option<usize>
+    requires { at ≤ length bytes.now }
+    ensures { result ≡ indent_from within (text_at bytes.now at) }
+{
+    let found = spaces_end(bytes, at, bytes.len()) - at;
+    if within <= found { Some(found) } else { None }
+}
+
+/// The indent of the first line that isn't all blanks, if it is at least within.
+fn find_indent(bytes: &[u8], at: usize, within: usize) -> Option<usize>
+    requires { at ≤ length bytes.now }
+    ensures { result ≡ found_indent within (lines_at bytes.now at) }
+{
+    let mut i = at;
+    'blank_lines: loop {
+        let end = match blank_line_end(bytes, i) {
+            Some(end) => end,
+            None => return indent_of(bytes, i, within),
+        };
+        if end == bytes.len() {
+            return None;
+        }
+        i = after_break(bytes, end);
+    }
+}
+
+/// Adds a line feed for each of some breaks.
+fn push_feeds(text: &mut Text, breaks: &[u32]) -> Result<(), AllocError>
+    ensures { IfOk result (λ _. text.new ≡ text.old ++ feeds breaks.now) }
+{
+    for at in breaks {
+        text.push(b'\n', *at as usize)?;
+    }
+    Ok(())
+}
+
+/// Adds the break of the last line with text.
+fn push_own(text: &mut Text, last: Option<LastLine>) -> Result<(), AllocError>
+    ensures { IfOk result (λ _. text.new ≡ text.old ++ feeds (own_break (last_row last))) }
+{
+    match last {
+        Some(l) => {
+            text.push(b'\n', l.at as usize)?;
+            Ok(())
+        }
+        None => Ok(()),
+    }
+}
+
+/// Adds the breaks that stay at the end.
+fn chomp(
+    text: &mut Text,
+    chomping: Chomping,
+    last: Option<LastLine>,
+    empties: &[u32],
+) -> Result<(), AllocError>
+    ensures { IfOk result (λ _. text.new ≡ text.old ++ chomped (kind chomping) (own_break (last_row last)) empties.now) }
+{
+    match chomping {
+        Chomping::Strip => Ok(()),
+        Chomping::Clip => push_own(text, last),
+        Chomping::Keep => {
+            push_own(text, last)?;
+            push_feeds(text, empties)
+        }
+    }
+}
+
+/// Whether one of three holds.
+fn is_one(a: bool, b: bool, c: bool) -> bool
+    ensures { result ≡ (a || b || c) }
+{
+    a || b || c
+}
+
+/// Adds a break with the breaks of the empty lines behind it, kept or folded.
+fn push_break(text: &mut Text, keeps: bool, at: u32, empties: &[u32]) -> Result<(), AllocError>
+    ensures { IfOk result (λ _. text.new ≡ text.old ++ cond keeps (feeds (at ∷ empties.now)) (folded_break at empties.now)) }
+{
+    if keeps {
+        text.push(b'\n', at as usize)?;
+        return push_feeds(text, empties);
+    }
+    if empties.is_empty() {
+        text.push(b' ', at as usize)?;
+        return Ok(());
+    }
+    push_feeds(text, empties)
+}
+
+/// Adds what the breaks between the last line with text and the next one give; spaced says that the next one begins with
+/// a blank.
+fn push_joint(
+    text: &mut Text,
+    literal: bool,
+    last: Option<LastLine>,
+    empties: &[u32],
+    spaced: bool,
+) -> Result<(), AllocError>
+    ensures { IfOk result (λ _. text.new ≡ text.old ++ joint literal (last_row last) empties.now (row_like spaced [])) }
+{
+    match last {
+        Some(l) => push_break(text, is_one(literal, l.spaced, spaced), l.at, empties),
+        None => push_feeds(text, empties),
+    }
+}
+
+/// Adds the row of a line that ends with a break.
+fn add_row(
+    text: &mut Text,
+    state: &mut RowState,
+    bytes: &[u8],
+    from: usize,
+    stop: usize,
+    literal: bool,
+) -> Result<(), AllocError>
+    requires order { from ≤ stop }
+    requires inside { stop < length bytes.now }
+    requires behind { state.old.end ≤ from }
+    requires size { length bytes.now < 2 ^ 32 }
+    ensures text { IfOk result (λ _. AddsRow literal text.old state.old (cells_between bytes.now from stop) (stop ∷ []) text.new state.new) }
+    ensures end { IfOk result (λ _. EndsRow state.old (cells_between bytes.now from stop) state.new) }
+    ensures within { IfOk result (λ _. (state.old.end ≤ state.new.end) × (state.new.end ≤ stop)) }
+{
+    if from == stop {
+        state.empties.push(stop as u32)?;
+        return Ok(());
+    }
+    let spaced = is_blank(bytes[from]);
+    push_joint(text, literal, state.last, &state.empties, spaced)?;
+    text.push_run(bytes, from, stop)?;
+    state.last = Some(LastLine {
+        spaced,
+        at: stop as u32,
+    });
+    state.empties.clear();
+    state.end = stop;
+    Ok(())
+}
+
+/// Adds the row of the file's last line, and answers where the text ends.
+fn end_row(
+    text: &mut Text,
+    state: &RowState,
+    bytes: &[u8],
+    from: usize,
+    style: BlockStyle,
+) -> Result<usize, AllocError>
+    requires inside { from ≤ length bytes.now }
+    requires behind { state.now.end ≤ from }
+    requires size { length bytes.now < 2 ^ 32 }
+    ensures text { IfOk result (λ _. text.new ≡ text.old ++ text_after style.literal (kind style.chomping) (last_row state.now.last) state.now.empties.items (last_line bytes.now from)) }
+    ensures end { IfOk result (λ end. end ≡ rows_end state.now.end (last_line bytes.now from)) }
+    ensures within { IfOk result (λ end. (state.now.end ≤ end) × (end ≤ length bytes.now)) }
+{
+    if from == bytes.len() {
+        chomp(text, style.chomping, state.last, &state.empties)?;
+        return Ok(state.end);
+    }
+    let spaced = is_blank(bytes[from]);
+    push_joint(text, style.literal, state.last, &state.empties, spaced)?;
+    text.push_run(bytes, from, bytes.len())?;
+    Ok(bytes.len())
+}
+
+/// Whether a line that isn't all blanks has come.
+fn is_found(found: bool, is_blank: bool) -> bool
+    ensures { result ≡ (found || not is_blank) }
+{
+    found || !is_blank
+}
+
+/// Reads the rows of a block scalar from a line on; the header ends at an offset.
+fn read_rows(
+    alloc: Global,
+    text: &mut Text,
+    bytes: &[u8],
+    at: usize,
+    style: BlockStyle,
+    header: usize,
+) -> Result<RowsRead, AllocError>
+    requires order { header ≤ at }
+    requires inside { at ≤ length bytes.now }
+    requires size { length bytes.now < 2 ^ 32 }
+    ensures rows { IfOk result (λ r. ReadsRows bytes.now style text.old at header text.new r) }
+    ensures within { IfOk result (λ r. (header ≤ r.end) × (r.end ≤ r.next) × (r.next ≤ length bytes.now)) }
+{
+    let mut state = RowState {
+        last: None,
+        empties: Vec::new(alloc),
+        end: header,
+    };
+    let mut i = at;
+    let mut found = style.explicit;
+    'rows: loop {
+        let row = match row_start(bytes, i, style.indent, found) {
+            Some(row) => row,
+            None => {
+                chomp(text, style.chomping, state.last, &state.empties)?;
+                return Ok(RowsRead {
+                    end: state.end,
+                    next: i,
+                });
+            }
+        };
+        let stop = line_end(bytes, row.from);
+        if stop == bytes.len() {
+            let end = end_row(text, &state, bytes, row.from, style)?;
+            return Ok(RowsRead { end, next: stop });
+        }
+        add_row(text, &mut state, bytes, row.from, stop, style.literal)?;
+        found = is_found(found, row.is_blank);
+        i = after_break(bytes, stop);
+    }
+}
+
+/// How the lines behind a header are read, of which the first begins at an offset.
+fn block_style(
+    bytes: &[u8],
+    first: usize,
+    header: HeaderRead,
+    literal: bool,
+    within: u32,
+) -> BlockStyle
+    requires { first ≤ length bytes.now }
+    ensures literal { result.literal ≡ literal }
+    ensures chomping { result.chomping ≡ header.chomping }
+    ensures indent { result.indent ≡ content_indent header.digit within (lines_at bytes.now first) }
+    ensures explicit { result.explicit ≡ is_said header.digit }
+{
+    match header.digit {
+        Some(digit) => BlockStyle {
+            literal,
+            chomping: header.chomping,
+            indent: Some(digit as usize + (within as usize).saturating_sub(1)),
+            explicit: true,
+        },
+        None => BlockStyle {
+            literal,
+            chomping: header.chomping,
+            indent: find_indent(bytes, first, within as usize),
+            explicit: false,
+        },
+    }
+}
+
+/// Reads a block scalar from its indicator on. within is one more than the enclosing collection's indent.
+pub fn read_block(
+    alloc: Global,
+    bytes: &[u8],
+    at: usize,
+    literal: bool,
+    within: u32,
+) -> Result<Result<Taken, FaultAt>, AllocError>
+    requires inside { at < length bytes.now }
+    requires begins { IsLineEnd bytes.now at → ⊥ }
+    requires size { length bytes.now < 2 ^ 32 }
+    ensures gives { IfOk result (λ read. Gives bytes.now (block_scalar literal within (lines_at bytes.now at)) read) }
+    ensures within { IfOk result (λ read. StaysWithin bytes.now at read) }
+{
+    let header = indicators(bytes, at + 1);
+    match header_fault(bytes, header.end) {
+        Some(place) => {
+            return Ok(Err(FaultAt {
+                code: Yaml::WrongBlockHeader,
+                at: place,
+            }));
+        }
+        None => {}
+    }
+    let mut text = Text::new(alloc);
+    let end = line_end(bytes, header.end);
+    if end == bytes.len() {
+        return Ok(Ok(Taken {
+            text,
+            end: header.end,
+            next: end,
+        }));
+    }
+    let first = after_break(bytes, end);
+    let style = block_style(bytes, first, header, literal, within);
+    let rows = read_rows(alloc, &mut text, bytes, first, style, header.end)?;
+    Ok(Ok(Taken {
+        text,
+        end: rows.end,
+        next: rows.next,
+    }))
+}

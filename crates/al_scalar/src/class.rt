@@ -1,0 +1,181 @@
+ghost use Rattle.std.specs.Prelude.{◌≡◌};
+ghost use Rattle.std.specs.List.{list_any};
+ghost use Rattle.std.specs.Str.{bytes_eq};
+ghost use Rattle.al_scalar.specs.Class.{is_null, is_boolean, is_integer, is_float, is_decimal, is_fraction, is_pure_fraction, is_exponent, after_digits, begins_digit, is_prefixed, unsigned, are_digits, is_digit_in, class_of};
+
+use crate::styles::Class;
+
+/// The texts of null.
+const NULLS: [&str; 5] = ["", "null", "Null", "NULL", "~"];
+
+/// The texts of true and false.
+const BOOLEANS: [&str; 6] = ["true", "True", "TRUE", "false", "False", "FALSE"];
+
+/// The texts of infinity, which may have a sign.
+const INFINITIES: [&str; 3] = [".inf", ".Inf", ".INF"];
+
+/// The texts of what is no number.
+const NOT_NUMBERS: [&str; 3] = [".nan", ".NaN", ".NAN"];
+
+/// Whether a text is one of some words.
+fn is_one_of(words: &[&str], text: &[u8]) -> bool
+    ensures { result ≡ list_any (λ word. bytes_eq word.now text.now) words.now }
+{
+    words.iter().any(|word| word.as_bytes() == text)
+}
+
+/// Whether a text is a null.
+fn is_null(text: &[u8]) -> bool
+    ensures { result ≡ is_null text.now }
+{
+    is_one_of(&NULLS, text)
+}
+
+/// Whether a text is true or false.
+fn is_boolean(text: &[u8]) -> bool
+    ensures { result ≡ is_boolean text.now }
+{
+    is_one_of(&BOOLEANS, text)
+}
+
+/// The base of a number's digits.
+#[derive(Clone, Copy)]
+enum Base {
+    Octal,
+    Decimal,
+    Hexadecimal,
+}
+
+/// Whether a byte is a digit.
+fn is_digit(base: Base, byte: u8) -> bool
+    ensures { result ≡ is_digit_in base byte }
+{
+    match base {
+        Base::Octal => matches!(byte, b'0'..=b'7'),
+        Base::Decimal => byte.is_ascii_digit(),
+        Base::Hexadecimal => byte.is_ascii_hexdigit(),
+    }
+}
+
+/// Whether a text is one digit or more.
+fn are_digits(base: Base, text: &[u8]) -> bool
+    ensures { result ≡ are_digits base text.now }
+{
+    !text.is_empty() && text.iter().all(|byte| is_digit(base, *byte))
+}
+
+/// A text without its sign.
+fn unsigned(text: &[u8]) -> &[u8]
+    ensures { result.now ≡ unsigned text.now }
+{
+    match text {
+        [b'+' | b'-', rest @ ..] => rest,
+        _ => text,
+    }
+}
+
+/// Whether a text is a zero, a letter and digits.
+fn is_prefixed(letter: u8, base: Base, text: &[u8]) -> bool
+    ensures { result ≡ is_prefixed letter base text.now }
+{
+    match text {
+        [b'0', second, digits @ ..] => *second == letter && are_digits(base, digits),
+        _ => false,
+    }
+}
+
+/// Whether a text is a whole number.
+fn is_integer(text: &[u8]) -> bool
+    ensures { result ≡ is_integer text.now }
+{
+    are_digits(Base::Decimal, unsigned(text))
+        || is_prefixed(b'o', Base::Octal, text)
+        || is_prefixed(b'x', Base::Hexadecimal, text)
+}
+
+/// A text behind its leading decimal digits.
+fn after_digits(text: &[u8]) -> &[u8]
+    ensures { result.now ≡ after_digits text.now }
+{
+    let mut rest = text;
+    'digits: while let [first, more @ ..] = rest {
+        if !is_digit(Base::Decimal, *first) {
+            return rest;
+        }
+        rest = more;
+    }
+    rest
+}
+
+/// Whether a text begins with a decimal digit.
+fn begins_digit(text: &[u8]) -> bool
+    ensures { result ≡ begins_digit text.now }
+{
+    match text {
+        [first, ..] => is_digit(Base::Decimal, *first),
+        [] => false,
+    }
+}
+
+/// Whether a text is nothing or an exponent.
+fn is_exponent(text: &[u8]) -> bool
+    ensures { result ≡ is_exponent text.now }
+{
+    match text {
+        [] => true,
+        [b'e' | b'E', power @ ..] => are_digits(Base::Decimal, unsigned(power)),
+        _ => false,
+    }
+}
+
+/// Whether a text may follow the digits of a float.
+fn is_fraction(text: &[u8]) -> bool
+    ensures { result ≡ is_fraction text.now }
+{
+    match text {
+        [b'.', digits @ ..] => is_exponent(after_digits(digits)),
+        _ => is_exponent(text),
+    }
+}
+
+/// Whether a text is a float that begins with its point.
+fn is_pure_fraction(text: &[u8]) -> bool
+    ensures { result ≡ is_pure_fraction text.now }
+{
+    match text {
+        [b'.', digits @ ..] => begins_digit(digits) && is_exponent(after_digits(digits)),
+        _ => false,
+    }
+}
+
+/// Whether a text is a float in decimal digits, without a sign.
+fn is_decimal(text: &[u8]) -> bool
+    ensures { result ≡ is_decimal text.now }
+{
+    is_pure_fraction(text) || (begins_digit(text) && is_fraction(after_digits(text)))
+}
+
+/// Whether a text is a float, in digits or as a word.
+fn is_float(text: &[u8]) -> bool
+    ensures { result ≡ is_float text.now }
+{
+    let number = unsigned(text);
+    is_decimal(number) || is_one_of(&INFINITIES, number) || is_one_of(&NOT_NUMBERS, text)
+}
+
+/// The class of a plain scalar by its text: the core schema (YAML 1.2.2, 10.3.2).
+pub fn class_of(text: &[u8]) -> Class
+    ensures { result ≡ class_of text.now }
+{
+    if is_null(text) {
+        Class::Null
+    } else if is_boolean(text) {
+        Class::Bool
+    } else if is_integer(text) {
+        Class::Int
+    } else if is_float(text) {
+        Class::Float
+    } else {
+        Class::Str
+    }
+}

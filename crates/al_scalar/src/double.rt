@@ -1,0 +1,285 @@
+ghost use Rattle.std.specs.Prelude.{◌≡◌, ◌+◌, ◌<◌, ◌≤◌, ◌^◌, ◌++◌, suc, length, IfOk, IfSome, slice_index, IsTrue, ◌↔◌, Some, None};
+ghost use Rattle.al_scalar.specs.Places.{lines_at, cells_between};
+ghost use Rattle.al_scalar.specs.Quoted.{double_quoted, written, lookup, escape_table, digits_table, hex_digit};
+ghost use Rattle.al_scalar.specs.Reads.{Gives, StaysWithin};
+ghost use Rattle.al_scalar.specs.Double.{IsMarkByte, ReadsOn, EndsRun, GivesMark, GivesDigits};
+
+use crate::folding::fold_break;
+use crate::lines::{blanks_end, is_break_at, is_line_end};
+use crate::reads::{FaultAt, Taken};
+use crate::texts::Text;
+use al_text::Yaml;
+use std::alloc::{AllocError, Global};
+
+/// Whether a byte is a double quote or a backslash.
+fn is_mark(byte: u8) -> bool
+    ensures { IsTrue result ↔ IsMarkByte byte }
+{
+    byte == b'"' || byte == b'\\'
+}
+
+/// A run of characters that stand for themselves: the offset behind its last character, and that of the quote, the
+/// backslash, the break or the file's end that follows. Only blanks before a line's end lie between.
+#[derive(Clone, Copy)]
+struct Run {
+    end: usize,
+    next: usize,
+}
+
+/// Reads the characters that stand for themselves from an offset on.
+fn literal_run(bytes: &[u8], at: usize) -> Run
+    requires { at ≤ length bytes.now }
+    ensures from { at ≤ result.end }
+    ensures order { result.end ≤ result.next }
+    ensures inside { result.next ≤ length bytes.now }
+    ensures ends { EndsRun bytes.now result.next }
+    ensures reads { ReadsOn bytes.now at (cells_between bytes.now at result.end) result.next }
+{
+    let mut end = at;
+    'characters: loop {
+        let solid = blanks_end(bytes, end);
+        if is_line_end(bytes, solid) {
+            return Run { end, next: solid };
+        }
+        if is_mark(bytes[solid]) {
+            return Run {
+                end: solid,
+                next: solid,
+            };
+        }
+        end = solid + 1;
+    }
+}
+
+/// What ends a run of characters that stand for themselves.
+enum Mark {
+    /// The closing quote.
+    Quote,
+    /// An escaped character, and the offset behind the escape.
+    Character { character: char, next: usize },
+    /// A break at an offset.
+    Break { end: usize, escaped: bool },
+    /// A backslash that begins no escape.
+    WrongEscape,
+    /// The end of the file, which may cut an escape.
+    FileEnd,
+}
+
+/// The character that a letter behind a backslash stands for (YAML 1.2.2, 5.7).
+fn escaped_character(letter: u8) -> Option<char>
+    ensures { result ≡ lookup letter escape_table }
+{
+    match letter {
+        b'0' => Some('\0'),
+        b'a' => Some('\u{7}'),
+        b'b' => Some('\u{8}'),
+        b't' | b'\t' => Some('\t'),
+        b'n' => Some('\n'),
+        b'v' => Some('\u{b}'),
+        b'f' => Some('\u{c}'),
+        b'r' => Some('\r'),
+        b'e' => Some('\u{1b}'),
+        b' ' => Some(' '),
+        b'"' => Some('"'),
+        b'/' => Some('/'),
+        b'\\' => Some('\\'),
+        b'N' => Some('\u{85}'),
+        b'_' => Some('\u{a0}'),
+        b'L' => Some('\u{2028}'),
+        b'P' => Some('\u{2029}'),
+        _ => None,
+    }
+}
+
+/// How many hexadecimal digits follow a letter behind a backslash (YAML 1.2.2, 5.7).
+fn digit_count(letter: u8) -> Option<usize>
+    ensures value { result ≡ lookup letter digits_table }
+    ensures few { IfSome result (λ count. count ≤ 8) }
+{
+    match letter {
+        b'x' => Some(2),
+        b'u' => Some(4),
+        b'U' => Some(8),
+        _ => None,
+    }
+}
+
+/// The value of a hexadecimal digit.
+fn digit_value(byte: u8) -> Option<u32>
+    ensures value { result ≡ hex_digit byte }
+    ensures small { IfSome result (λ digit. digit < 16) }
+{
+    match byte {
+        b'0'..=b'9' => Some(u32::from(byte - b'0')),
+        b'A'..=b'F' => Some(u32::from(byte - b'A') + 10),
+        b'a'..=b'f' => Some(u32::from(byte - b'a') + 10),
+        _ => None,
+    }
+}
+
+/// The hexadecimal digits of an escape.
+enum Digits {
+    /// All of them, and the number that they make.
+    Code(u32),
+    /// A character that is no digit.
+    Wrong,
+    /// Digits up to the line's end at an offset, but too few of them.
+    Short(usize),
+}
+
+/// Reads so many hexadecimal digits at an offset.
+fn read_digits(bytes: &[u8], from: usize, count: usize) -> Digits
+    requires inside { from ≤ length bytes.now }
+    requires size { length bytes.now < 2 ^ 32 }
+    requires few { count ≤ 8 }
+    ensures { GivesDigits bytes.now from count result }
+{
+    let mut value = 0;
+    for i in from..from + count {
+        if is_line_end(bytes, i) {
+            return Digits::Short(i);
+        }
+        match digit_value(bytes[i]) {
+            Some(digit) => value = 16 * value + digit,
+            None => return Digits::Wrong,
+        }
+    }
+    Digits::Code(value)
+}
+
+/// Reads the escape of a character by its number: a backslash, a letter and so many hexadecimal digits.
+fn numeric_escape(bytes: &[u8], backslash: usize, count: usize) -> Mark
+    requires inside { backslash + 1 < length bytes.now }
+    requires size { length bytes.now < 2 ^ 32 }
+    requires escape { slice_index bytes.now backslash ≡ 92 }
+    requires other { lookup (slice_index bytes.now (backslash + 1)) escape_table ≡ None }
+    requires letter { lookup (slice_index bytes.now (backslash + 1)) digits_table ≡ Some count }
+    requires few { count ≤ 8 }
+    ensures { GivesMark bytes.now backslash result }
+{
+    let letter = backslash + 1;
+    let from = letter + 1;
+    let code = match read_digits(bytes, from, count) {
+        Digits::Code(code) => code,
+        Digits::Wrong => return Mark::WrongEscape,
+        Digits::Short(end) if end == bytes.len() => return Mark::FileEnd,
+        Digits::Short(_) => return Mark::WrongEscape,
+    };
+    match char::from_u32(code) {
+        Some(character) => Mark::Character {
+            character,
+            next: from + count,
+        },
+        None => Mark::WrongEscape,
+    }
+}
+
+/// Reads the escape that begins with a backslash at an offset.
+fn escape_at(bytes: &[u8], backslash: usize) -> Mark
+    requires inside { backslash < length bytes.now }
+    requires size { length bytes.now < 2 ^ 32 }
+    requires escape { slice_index bytes.now backslash ≡ 92 }
+    ensures { GivesMark bytes.now backslash result }
+{
+    let at = backslash + 1;
+    if at == bytes.len() {
+        return Mark::FileEnd;
+    }
+    if is_break_at(bytes, at) {
+        return Mark::Break {
+            end: at,
+            escaped: true,
+        };
+    }
+    let letter = bytes[at];
+    if let Some(character) = escaped_character(letter) {
+        return Mark::Character {
+            character,
+            next: at + 1,
+        };
+    }
+    match digit_count(letter) {
+        Some(count) => numeric_escape(bytes, backslash, count),
+        None => Mark::WrongEscape,
+    }
+}
+
+/// Reads what ends a run of characters that stand for themselves.
+fn mark_at(bytes: &[u8], at: usize) -> Mark
+    requires inside { at ≤ length bytes.now }
+    requires size { length bytes.now < 2 ^ 32 }
+    requires ends { EndsRun bytes.now at }
+    ensures { GivesMark bytes.now at result }
+{
+    if at == bytes.len() {
+        return Mark::FileEnd;
+    }
+    if bytes[at] == b'"' {
+        return Mark::Quote;
+    }
+    if bytes[at] == b'\\' {
+        return escape_at(bytes, at);
+    }
+    Mark::Break {
+        end: at,
+        escaped: false,
+    }
+}
+
+/// Adds an escaped character, by the offset of its backslash.
+fn push_character(text: &mut Text, character: char, at: usize) -> Result<(), AllocError>
+    requires { at < 2 ^ 32 }
+    ensures { IfOk result (λ _. text.new ≡ text.old ++ written at character) }
+{
+    let mut buffer = [0; 4];
+    text.push_escape(character.encode_utf8(&mut buffer).as_bytes(), at)
+}
+
+/// Reads a double-quoted scalar from its opening quote (YAML 1.2.2, 7.3.1).
+///
+/// `UnclosedQuote` stands at the opening quote, where the file ends before the closing one, also within an escape;
+/// `WrongEscape` at the backslash of an escape that YAML doesn't have, or whose number is that of no character.
+pub fn read_double(
+    alloc: Global,
+    bytes: &[u8],
+    quote: usize,
+) -> Result<Result<Taken, FaultAt>, AllocError>
+    requires inside { quote < length bytes.now }
+    requires size { length bytes.now < 2 ^ 32 }
+    ensures gives { IfOk result (λ read. Gives bytes.now (double_quoted quote (lines_at bytes.now (suc quote))) read) }
+    ensures within { IfOk result (λ read. StaysWithin bytes.now quote read) }
+{
+    let mut text = Text::new(alloc);
+    let mut at = quote + 1;
+    'runs: loop {
+        let run = literal_run(bytes, at);
+        text.push_run(bytes, at, run.end)?;
+        at = match mark_at(bytes, run.next) {
+            Mark::Quote => {
+                let next = run.next + 1;
+                return Ok(Ok(Taken {
+                    text,
+                    end: next,
+                    next,
+                }));
+            }
+            Mark::Character { character, next } => {
+                push_character(&mut text, character, run.next)?;
+                next
+            }
+            Mark::Break { end, escaped } => fold_break(&mut text, bytes, end, escaped)?,
+            Mark::WrongEscape => {
+                return Ok(Err(FaultAt {
+                    code: Yaml::WrongEscape,
+                    at: run.next,
+                }));
+            }
+            Mark::FileEnd => {
+                return Ok(Err(FaultAt {
+                    code: Yaml::UnclosedQuote,
+                    at: quote,
+                }));
+            }
+        };
+    }
+}

@@ -1,0 +1,51 @@
+ghost use Rattle.std.specs.Prelude.{◌≡◌, ◌+◌, ◌<◌, ◌≤◌, ◌^◌, drop, length};
+ghost use Rattle.al_scalar.specs.Characters.{character_at, character_length};
+ghost use Rattle.al_text.specs.Positions.{begins_char};
+
+use al_text::{Span, Yaml};
+
+/// What is wrong with a file as YAML, and the character that it is at; at the file's end an empty span.
+#[derive(Clone, Copy, PartialEq, Eq, Debug)]
+pub struct YamlFault {
+    pub code: Yaml,
+    pub span: Span,
+}
+
+/// A fault at the character that begins at an offset, or at the file's end.
+pub fn fault_at(bytes: &[u8], at: usize, code: Yaml) -> YamlFault
+    requires inside { at ≤ length bytes.now }
+    requires size { length bytes.now < 2 ^ 32 }
+    ensures code { result.code ≡ code }
+    ensures span { result.span ≡ character_at bytes.now at }
+{
+    YamlFault {
+        code,
+        span: Span {
+            start: at as u32,
+            end: character_end(bytes, at) as u32,
+        },
+    }
+}
+
+/// The offset behind the character at an offset; the offset itself at the file's end.
+fn character_end(bytes: &[u8], at: usize) -> usize
+    requires { at ≤ length bytes.now }
+    ensures inside { result ≤ length bytes.now }
+    ensures end { result ≡ at + character_length (drop at bytes.now) }
+{
+    if at == bytes.len() {
+        return at;
+    }
+    let mut end = at + 1;
+    while end < bytes.len() && !is_char_start(bytes[end]) {
+        end += 1;
+    }
+    end
+}
+
+/// Whether a byte begins a character in UTF-8.
+fn is_char_start(byte: u8) -> bool
+    ensures { result ≡ begins_char byte }
+{
+    byte < 0x80 || byte >= 0xc0
+}

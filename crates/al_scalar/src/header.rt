@@ -1,0 +1,148 @@
+ghost use Rattle.std.specs.Prelude.{◌≡◌, ◌≤◌, IfSome, length};
+ghost use Rattle.al_scalar.specs.Block.{after_digit, after_sign, header, is_digit as block_digit, is_sign as block_sign, chomping_of as chomping_by};
+ghost use Rattle.al_scalar.specs.BlockRead.{Indicates, EndsHeader, kind};
+ghost use Rattle.al_scalar.specs.Places.{text_at};
+
+use crate::lines::{blanks_end, first_byte, is_line_end};
+
+/// What becomes of the final breaks of a block scalar.
+#[derive(Clone, Copy)]
+pub enum Chomping {
+    Strip,
+    Clip,
+    Keep,
+}
+
+/// The indicators of a block scalar's header, and the offset behind them.
+#[derive(Clone, Copy)]
+pub struct HeaderRead {
+    pub digit: Option<u8>,
+    pub chomping: Chomping,
+    pub end: usize,
+}
+
+/// None where a block scalar's header may end at an offset; else the place of what stands there.
+pub fn header_fault(bytes: &[u8], at: usize) -> Option<usize>
+    requires { at ≤ length bytes.now }
+    ensures ends { EndsHeader bytes.now at result }
+    ensures within { IfSome result (λ place. (at ≤ place) × (place ≤ length bytes.now)) }
+{
+    let solid = blanks_end(bytes, at);
+    if is_line_end(bytes, solid) {
+        return None;
+    }
+    if bytes[solid] != b'#' {
+        return Some(solid);
+    }
+    if at == solid {
+        return Some(solid);
+    }
+    None
+}
+
+fn is_digit(byte: u8) -> bool
+    ensures { result ≡ block_digit byte }
+{
+    b'1' <= byte && byte <= b'9'
+}
+
+fn is_sign(byte: u8) -> bool
+    ensures { result ≡ block_sign byte }
+{
+    byte == b'+' || byte == b'-'
+}
+
+fn chomping_of(byte: u8) -> Chomping
+    ensures { kind result ≡ chomping_by byte }
+{
+    if byte == b'+' {
+        Chomping::Keep
+    } else {
+        Chomping::Strip
+    }
+}
+
+/// The header behind its digit.
+fn behind_digit(bytes: &[u8], at: usize, digit: u8) -> HeaderRead
+    requires { at ≤ length bytes.now }
+    ensures { Indicates bytes.now at (after_digit digit at (text_at bytes.now at)) result }
+{
+    match first_byte(bytes, at) {
+        Some(b) => {
+            if is_sign(b) {
+                HeaderRead {
+                    digit: Some(digit),
+                    chomping: chomping_of(b),
+                    end: at + 1,
+                }
+            } else {
+                HeaderRead {
+                    digit: Some(digit),
+                    chomping: Chomping::Clip,
+                    end: at,
+                }
+            }
+        }
+        None => HeaderRead {
+            digit: Some(digit),
+            chomping: Chomping::Clip,
+            end: at,
+        },
+    }
+}
+
+/// The header behind its sign.
+fn behind_sign(bytes: &[u8], at: usize, chomping: Chomping) -> HeaderRead
+    requires { at ≤ length bytes.now }
+    ensures { Indicates bytes.now at (after_sign (kind chomping) at (text_at bytes.now at)) result }
+{
+    match first_byte(bytes, at) {
+        Some(b) => {
+            if is_digit(b) {
+                HeaderRead {
+                    digit: Some(b - b'0'),
+                    chomping,
+                    end: at + 1,
+                }
+            } else {
+                HeaderRead {
+                    digit: None,
+                    chomping,
+                    end: at,
+                }
+            }
+        }
+        None => HeaderRead {
+            digit: None,
+            chomping,
+            end: at,
+        },
+    }
+}
+
+/// The header behind the indicator that begins the scalar.
+pub fn indicators(bytes: &[u8], at: usize) -> HeaderRead
+    requires { at ≤ length bytes.now }
+    ensures { Indicates bytes.now at (header at (text_at bytes.now at)) result }
+{
+    match first_byte(bytes, at) {
+        Some(b) => {
+            if is_digit(b) {
+                behind_digit(bytes, at + 1, b - b'0')
+            } else if is_sign(b) {
+                behind_sign(bytes, at + 1, chomping_of(b))
+            } else {
+                HeaderRead {
+                    digit: None,
+                    chomping: Chomping::Clip,
+                    end: at,
+                }
+            }
+        }
+        None => HeaderRead {
+            digit: None,
+            chomping: Chomping::Clip,
+            end: at,
+        },
+    }
+}

@@ -1,0 +1,27 @@
+//! One YAML scalar: its style, its class and its decoded text, in which each byte has the offset that gave it.
+#![tactic(auto)]
+
+mod block;
+mod class;
+mod double;
+mod examples;
+mod faults;
+mod folding;
+mod header;
+mod lines;
+mod plain;
+mod reader;
+mod reads;
+mod scalars;
+mod single;
+mod styles;
+mod texts;
+
+pub use examples::rows;
+pub use faults::{YamlFault, fault_at};
+pub use reader::read_scalar;
+pub use scalars::{Place, Scalar, ScalarRead};
+pub use styles::{Class, Style};
+
+#[cfg(test)]
+mod tests;

@@ -1,0 +1,168 @@
+ghost use Rattle.std.specs.Prelude.{◌≡◌, ◌≢◌, ◌∷◌, ◌+◌, ◌<◌, ◌≤◌, length, IsTrue, ◌↔◌, slice_index};
+ghost use Rattle.al_scalar.specs.Line as line;
+ghost use Rattle.al_scalar.specs.Places.{lines_at, text_at, cells_between, with_cells_before, broken_line, AreBlank, AreSpaces, IsBlankByte, IsLineEnd, IsBreakAt, OnLine, BlankTo, FirstByte};
+
+/// Whether no text of the line is left at an offset.
+pub fn is_line_end(bytes: &[u8], at: usize) -> bool
+    requires { at ≤ length bytes.now }
+    ensures { IsTrue result ↔ IsLineEnd bytes.now at }
+{
+    at == bytes.len() || bytes[at] == b'\n' || bytes[at] == b'\r'
+}
+
+/// Whether a break stands at an offset.
+pub fn is_break_at(bytes: &[u8], at: usize) -> bool
+    ensures { IsTrue result ↔ IsBreakAt bytes.now at }
+{
+    at < bytes.len() && (bytes[at] == b'\n' || bytes[at] == b'\r')
+}
+
+/// The offset behind the break at an offset.
+pub fn after_break(bytes: &[u8], at: usize) -> usize
+    requires inside { at < length bytes.now }
+    requires is_break { IsLineEnd bytes.now at }
+    ensures after { at < result }
+    ensures inside { result ≤ length bytes.now }
+    ensures lines { lines_at bytes.now at ≡ broken_line at ∷ lines_at bytes.now result }
+{
+    if bytes[at] == b'\r' && at + 1 < bytes.len() && bytes[at + 1] == b'\n' {
+        at + 2
+    } else {
+        at + 1
+    }
+}
+
+/// Whether a byte is a space or a tab.
+pub fn is_blank(byte: u8) -> bool
+    ensures { IsTrue result ↔ IsBlankByte byte }
+{
+    byte == b' ' || byte == b'\t'
+}
+
+/// The offset behind the blanks at an offset.
+pub fn blanks_end(bytes: &[u8], at: usize) -> usize
+    requires { at ≤ length bytes.now }
+    ensures from { at ≤ result }
+    ensures inside { result ≤ length bytes.now }
+    ensures blanks { AreBlank (cells_between bytes.now at result) }
+    ensures not_blank { result < length bytes.now → IsBlankByte (slice_index bytes.now result) → ⊥ }
+    ensures lines { lines_at bytes.now at ≡ with_cells_before (cells_between bytes.now at result) (lines_at bytes.now result) }
+{
+    let mut i = at;
+    while i < bytes.len() && is_blank(bytes[i]) {
+        i += 1;
+    }
+    i
+}
+
+/// The offset behind the spaces at an offset, of which so many are asked for.
+pub fn spaces_end(bytes: &[u8], at: usize, most: usize) -> usize
+    requires { at ≤ length bytes.now }
+    ensures from { at ≤ result }
+    ensures inside { result ≤ length bytes.now }
+    ensures most { result ≤ at + most }
+    ensures spaces { AreSpaces (cells_between bytes.now at result) }
+    ensures stops { result < length bytes.now → result < at + most → slice_index bytes.now result ≢ 32 }
+    ensures lines { lines_at bytes.now at ≡ with_cells_before (cells_between bytes.now at result) (lines_at bytes.now result) }
+{
+    let mut i = at;
+    while i < bytes.len() && i - at < most && bytes[i] == b' ' {
+        i += 1;
+    }
+    i
+}
+
+/// The end of the line that an offset is on.
+pub fn line_end(bytes: &[u8], at: usize) -> usize
+    requires { at ≤ length bytes.now }
+    ensures is_end { IsLineEnd bytes.now result }
+    ensures on_line { OnLine bytes.now at result }
+    ensures text { text_at bytes.now at ≡ cells_between bytes.now at result }
+{
+    let mut i = at;
+    while !is_line_end(bytes, i) {
+        i += 1;
+    }
+    i
+}
+
+/// The line's end if what is left of the line is all blanks.
+pub fn blank_line_end(bytes: &[u8], at: usize) -> Option<usize>
+    requires { at ≤ length bytes.now }
+    ensures { BlankTo bytes.now at result }
+{
+    let solid = blanks_end(bytes, at);
+    if is_line_end(bytes, solid) {
+        Some(solid)
+    } else {
+        None
+    }
+}
+
+/// The byte at an offset, unless the line ends there.
+pub fn first_byte(bytes: &[u8], at: usize) -> Option<u8>
+    requires { at ≤ length bytes.now }
+    ensures { FirstByte bytes.now at result }
+{
+    if is_line_end(bytes, at) {
+        None
+    } else {
+        Some(bytes[at])
+    }
+}
+
+/// How many spaces stand at an offset.
+pub fn indent(bytes: &[u8], at: usize) -> usize
+    requires { at ≤ length bytes.now }
+    ensures { result ≡ line.indent (text_at bytes.now at) }
+{
+    spaces_end(bytes, at, bytes.len()) - at
+}
+
+/// Whether a blank or the line's end stands at an offset.
+pub fn is_blank_or_end(bytes: &[u8], at: usize) -> bool
+    requires { at ≤ length bytes.now }
+    ensures { result ≡ line.is_blank_or_end (text_at bytes.now at) }
+{
+    is_line_end(bytes, at) || is_blank(bytes[at])
+}
+
+/// Whether a line's text goes on with a byte at an offset.
+pub fn begins(bytes: &[u8], at: usize, byte: u8) -> bool
+    requires { at ≤ length bytes.now }
+    ensures value { result ≡ line.begins byte (text_at bytes.now at) }
+    ensures inside { IsTrue result → at < length bytes.now }
+{
+    if is_line_end(bytes, at) {
+        return false;
+    }
+    bytes[at] == byte
+}
+
+/// Whether a byte three times and then a blank or the line's end stand at an offset.
+pub fn is_marker(bytes: &[u8], at: usize, byte: u8) -> bool
+    requires { at ≤ length bytes.now }
+    ensures { result ≡ line.is_marker byte (text_at bytes.now at) }
+{
+    if !begins(bytes, at, byte) {
+        return false;
+    }
+    if !begins(bytes, at + 1, byte) {
+        return false;
+    }
+    if !begins(bytes, at + 2, byte) {
+        return false;
+    }
+    is_blank_or_end(bytes, at + 3)
+}
+
+/// Whether a document marker stands at a line's start.
+pub fn is_document_marker(bytes: &[u8], at: usize) -> bool
+    requires { at ≤ length bytes.now }
+    ensures { result ≡ line.is_document_marker (text_at bytes.now at) }
+{
+    if is_marker(bytes, at, b'-') {
+        return true;
+    }
+    is_marker(bytes, at, b'.')
+}

@@ -1,0 +1,255 @@
+ghost use Rattle.std.specs.Prelude.{◌≡◌, ◌<◌, ◌≤◌, ◌^◌, ◌++◌, false, not, ◌&&◌, ◌||◌, nat_lt, length, IfOk};
+ghost use Rattle.al_scalar.specs.Line as line;
+ghost use Rattle.al_scalar.specs.Places.{lines_at, text_at, SameLine};
+ghost use Rattle.al_scalar.specs.Plain as plain;
+ghost use Rattle.al_scalar.specs.PlainLines.{context_of, begins_blank_line, text_lines, empty_ends, PartTo};
+ghost use Rattle.al_scalar.specs.Reads.{Gives, StaysWithin};
+ghost use Rattle.al_scalar.specs.Taken.{folded_break};
+
+use crate::lines::{
+    after_break, begins, blanks_end, indent, is_blank_or_end, is_break_at, is_document_marker,
+    is_line_end,
+};
+use crate::reads::{FaultAt, Taken};
+use crate::texts::Text;
+use al_text::Yaml;
+use std::alloc::{AllocError, Global};
+
+/// The context of a plain scalar: a flow collection, or block context with the least indent of further lines.
+#[derive(Clone, Copy)]
+pub enum PlainContext {
+    Flow,
+    Block(u32),
+}
+
+/// Whether a scalar stands in a flow collection.
+pub fn is_flow(context: PlainContext) -> bool
+    ensures { result ≡ plain.is_flow (context_of context) }
+{
+    match context {
+        PlainContext::Flow => true,
+        PlainContext::Block(_) => false,
+    }
+}
+
+/// Whether a byte is one of `,[]{}`.
+fn is_flow_indicator(byte: u8) -> bool
+    ensures { result ≡ plain.is_flow_indicator byte }
+{
+    byte == b',' || byte == b'[' || byte == b']' || byte == b'{' || byte == b'}'
+}
+
+/// Whether a colon before an offset parts a key from its value.
+fn ends_key(bytes: &[u8], at: usize, context: PlainContext) -> bool
+    requires { at ≤ length bytes.now }
+    ensures { result ≡ plain.ends_key (context_of context) (text_at bytes.now at) }
+{
+    if is_blank_or_end(bytes, at) {
+        return true;
+    }
+    is_flow(context) && is_flow_indicator(bytes[at])
+}
+
+/// Whether a colon that parts a key from its value stands at an offset.
+fn is_value_colon(bytes: &[u8], at: usize, context: PlainContext) -> bool
+    requires { at ≤ length bytes.now }
+    ensures { result ≡ plain.is_value_colon (context_of context) (text_at bytes.now at) }
+{
+    if is_line_end(bytes, at) {
+        return false;
+    }
+    if bytes[at] != b':' {
+        return false;
+    }
+    ends_key(bytes, at + 1, context)
+}
+
+/// Whether a plain scalar ends before an offset.
+fn ends_plain(bytes: &[u8], at: usize, context: PlainContext, after_blank: bool) -> bool
+    requires { at ≤ length bytes.now }
+    ensures { result ≡ plain.ends_plain (context_of context) after_blank (text_at bytes.now at) }
+{
+    if is_line_end(bytes, at) {
+        return true;
+    }
+    let byte = bytes[at];
+    if byte == b':' {
+        return ends_key(bytes, at + 1, context);
+    }
+    if byte == b'#' {
+        return after_blank;
+    }
+    is_flow(context) && is_flow_indicator(byte)
+}
+
+/// Whether a blank stands before an offset, behind the blanks from another one on.
+fn is_behind_blank(before: bool, from: usize, to: usize) -> bool
+    requires { from ≤ to }
+    ensures { result ≡ (before || nat_lt from to) }
+{
+    before || from < to
+}
+
+/// The offset behind the part of a plain scalar on one line, without trailing blanks.
+fn plain_end(bytes: &[u8], at: usize, context: PlainContext, after_blank: bool) -> usize
+    requires { at ≤ length bytes.now }
+    ensures from { at ≤ result }
+    ensures inside { result ≤ length bytes.now }
+    ensures part { PartTo (context_of context) after_blank bytes.now at result }
+    ensures same { SameLine (lines_at bytes.now at) (lines_at bytes.now result) }
+{
+    let mut end = at;
+    let mut behind_blank = after_blank;
+    'words: loop {
+        let solid = blanks_end(bytes, end);
+        let flag = is_behind_blank(behind_blank, end, solid);
+        if ends_plain(bytes, solid, context, flag) {
+            return end;
+        }
+        end = solid + 1;
+        behind_blank = false;
+    }
+}
+
+/// The start of the first line from an offset on that isn't blank, or of the last line.
+fn text_line(bytes: &[u8], from: usize) -> usize
+    requires { from ≤ length bytes.now }
+    ensures from { from ≤ result }
+    ensures inside { result ≤ length bytes.now }
+    ensures lines { text_lines (lines_at bytes.now from) ≡ lines_at bytes.now result }
+    ensures text { begins_blank_line (lines_at bytes.now result) ≡ false }
+{
+    let mut start = from;
+    'blank_lines: loop {
+        let solid = blanks_end(bytes, start);
+        if !is_break_at(bytes, solid) {
+            return start;
+        }
+        start = after_break(bytes, solid);
+    }
+}
+
+/// Adds a break and the breaks of the blank lines behind it, folded.
+fn push_break(text: &mut Text, bytes: &[u8], end: usize, next: usize) -> Result<(), AllocError>
+    requires order { end < length bytes.now }
+    requires inside { next ≤ length bytes.now }
+    requires size { length bytes.now < 2 ^ 32 }
+    ensures { IfOk result (λ _. text.new ≡ text.old ++ folded_break end (empty_ends (lines_at bytes.now next))) }
+{
+    let mut start = next;
+    let mut folded = false;
+    'blank_lines: loop {
+        let solid = blanks_end(bytes, start);
+        if !is_break_at(bytes, solid) {
+            if !folded {
+                text.push(b' ', end)?;
+            }
+            return Ok(());
+        }
+        let behind = after_break(bytes, solid);
+        text.push(b'\n', solid)?;
+        folded = true;
+        start = behind;
+    }
+}
+
+/// Whether a line in block context continues a plain scalar; its text begins at the second offset.
+fn continues_block(bytes: &[u8], start: usize, solid: usize, within: u32) -> bool
+    requires order { start ≤ length bytes.now }
+    requires inside { solid ≤ length bytes.now }
+    requires solid { line.after_blanks (text_at bytes.now start) ≡ text_at bytes.now solid }
+    ensures { result ≡ plain.continues (plain.block within) (text_at bytes.now start) }
+{
+    if indent(bytes, start) < within as usize {
+        return false;
+    }
+    if begins(bytes, solid, b'#') {
+        return false;
+    }
+    !is_document_marker(bytes, start)
+}
+
+/// Whether a line continues a plain scalar; its text begins at the second offset.
+fn continues(bytes: &[u8], start: usize, solid: usize, context: PlainContext) -> bool
+    requires order { start ≤ length bytes.now }
+    requires inside { solid ≤ length bytes.now }
+    requires solid { line.after_blanks (text_at bytes.now start) ≡ text_at bytes.now solid }
+    ensures { result ≡ plain.continues (context_of context) (text_at bytes.now start) }
+{
+    match context {
+        PlainContext::Flow => !ends_plain(bytes, solid, context, true),
+        PlainContext::Block(within) => continues_block(bytes, start, solid, within),
+    }
+}
+
+/// Whether a line has text and continues a plain scalar.
+fn goes_on(bytes: &[u8], start: usize, solid: usize, context: PlainContext) -> bool
+    requires order { start ≤ length bytes.now }
+    requires inside { solid ≤ length bytes.now }
+    requires solid { line.after_blanks (text_at bytes.now start) ≡ text_at bytes.now solid }
+    ensures { result ≡ (not (line.is_empty (text_at bytes.now solid)) && plain.continues (context_of context) (text_at bytes.now start)) }
+{
+    if is_line_end(bytes, solid) {
+        return false;
+    }
+    continues(bytes, start, solid, context)
+}
+
+/// Whether a colon behind a further line of a plain scalar would make the line a key.
+fn makes_key(bytes: &[u8], at: usize, context: PlainContext) -> bool
+    requires { at ≤ length bytes.now }
+    ensures { result ≡ (not (plain.is_flow (context_of context)) && plain.is_value_colon (context_of context) (text_at bytes.now at)) }
+{
+    if is_flow(context) {
+        return false;
+    }
+    is_value_colon(bytes, at, context)
+}
+
+/// Reads a plain scalar from its first character.
+pub fn read_plain(
+    alloc: Global,
+    bytes: &[u8],
+    at: usize,
+    context: PlainContext,
+) -> Result<Result<Taken, FaultAt>, AllocError>
+    requires inside { at ≤ length bytes.now }
+    requires size { length bytes.now < 2 ^ 32 }
+    ensures gives { IfOk result (λ read. Gives bytes.now (plain.plain (context_of context) (lines_at bytes.now at)) read) }
+    ensures within { IfOk result (λ read. StaysWithin bytes.now at read) }
+{
+    let mut text = Text::new(alloc);
+    let mut end = plain_end(bytes, at, context, false);
+    text.push_run(bytes, at, end)?;
+    'text_lines: loop {
+        let line_end = blanks_end(bytes, end);
+        if !is_break_at(bytes, line_end) {
+            return Ok(Ok(Taken {
+                text,
+                end,
+                next: end,
+            }));
+        }
+        let next = after_break(bytes, line_end);
+        let start = text_line(bytes, next);
+        let solid = blanks_end(bytes, start);
+        if !goes_on(bytes, start, solid, context) {
+            return Ok(Ok(Taken {
+                text,
+                end,
+                next: end,
+            }));
+        }
+        let part_end = plain_end(bytes, solid, context, true);
+        let rest = blanks_end(bytes, part_end);
+        if makes_key(bytes, rest, context) {
+            return Ok(Err(FaultAt {
+                code: Yaml::UnexpectedCharacter,
+                at: rest,
+            }));
+        }
+        push_break(&mut text, bytes, line_end, next)?;
+        text.push_run(bytes, solid, part_end)?;
+        end = part_end;
+    }
+}

@@ -1,0 +1,17 @@
+use crate::texts::Text;
+use al_text::Yaml;
+
+/// What the reader of one style took: the text, the end of the written form, and where what is left begins.
+#[derive(Drop)]
+pub struct Taken {
+    pub text: Text,
+    pub end: usize,
+    pub next: usize,
+}
+
+/// A fault, and the offset of the character that it is at.
+#[derive(Clone, Copy)]
+pub struct FaultAt {
+    pub code: Yaml,
+    pub at: usize,
+}
