@@ -1,0 +1,13 @@
+//! Expressions of workflows and actions, `${{ .. }}`: their tokens and chunks, their trees, and what is wrong with them.
+#![tactic(auto)]
+
+mod ast;
+mod law;
+mod name;
+mod parser;
+mod token;
+
+pub use ast::{Expr, Operand, Step, Word};
+pub use law::grammar;
+pub use name::{Context, Function};
+pub use token::{Keyword, Operator, Token, TokenKind};
