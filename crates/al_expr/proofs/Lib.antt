@@ -4,3 +4,4 @@ pub mod Rules
 pub mod Chains
 pub mod Total
 pub mod Trees
+pub mod Front
