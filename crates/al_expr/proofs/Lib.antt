@@ -5,3 +5,5 @@ pub mod Chains
 pub mod Total
 pub mod Trees
 pub mod Front
+pub mod Fitting
+pub mod Lexing

@@ -3,7 +3,9 @@
 
 mod ast;
 mod law;
+mod lexer;
 mod name;
+mod number;
 mod parser;
 mod token;
 
