@@ -7,3 +7,5 @@ pub mod Trees
 pub mod Front
 pub mod Fitting
 pub mod Lexing
+pub mod Left
+pub mod Quotes

@@ -138,3 +138,10 @@ NoClose _ = Unit {0}
 pub record IsStray (ts : List Lexeme) (k : TokenKind) (e : ParseError) : Type 0 where
   pub fault : e ≡ fault_at ts
   pub other : (rest : List TokenKind) → kinds ts ≢ k ∷ rest
+
+-- Unless memory ran out, the table comes to this fault.
+abbrev pub IsVerdict : ParseError → Verdict → Type 0
+IsVerdict error.Memory v = Unit {0}
+IsVerdict error.Early v = v ≡ Early
+IsVerdict (error.Unexpected left) v = v ≡ Unexpected left
+IsVerdict (error.TooDeep left) v = v ≡ TooDeep left

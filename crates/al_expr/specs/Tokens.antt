@@ -196,6 +196,10 @@ abbrev pub last_place : (ℕ → Bool) → ℕ → List ℕ → Option ℕ
 last_place p at [] = None
 last_place p at (b ∷ bs) = if_none (last_place p (at + 1) bs) (if p b then Some at else None)
 
+-- the place of the last quote
+abbrev pub last_quote : List ℕ → Option ℕ
+last_quote bs = last_place (λ b. nat_eq b 39) 0 bs
+
 -- where tokens are not all read
 abbrev pub unread : LexError → Lexed
 unread (error.BadCharacter s) = Bad s

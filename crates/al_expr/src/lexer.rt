@@ -1,15 +1,17 @@
-ghost use Rattle.std.specs.Prelude.{map, ℕ, IfOk, IfSome, MatchOption, MatchResult, ◌≡◌, ◌≤◌, ◌<◌, ◌+◌, ◌^◌, [], ◌∷◌, length, false};
+ghost use Rattle.std.specs.Prelude.{map, ℕ, IfOk, IfSome, MatchOption, MatchResult, ◌≡◌, ◌≤◌, ◌<◌, ◌+◌, ◌^◌, Some, [], ◌∷◌, length, false};
 ghost use Rattle.al_expr.specs.Lexeme.{seen};
-ghost use Rattle.al_expr.specs.Tokens.{begins_name, goes_on_name, is_blank, is_sign, is_inside, run, begins, or_equal, doubled, mark, word_kind, text_tail, text_read, name_read, number_read, number_len, read, tokens_of, AllRead, unread, Fits};
+ghost use Rattle.al_expr.specs.Tokens.{begins_name, goes_on_name, is_blank, is_sign, is_inside, run, begins, or_equal, doubled, mark, word_kind, text_tail, text_read, name_read, number_read, number_len, read, tokens_of, AllRead, unread, Fits, last_quote};
+ghost use Rattle.al_expr.specs.Refusal.{fault_of_lexed};
 
+use crate::faults::plain_fault;
 use crate::number::{digit, number};
 use crate::token::{Keyword, Operator, Token, TokenKind};
-use al_text::Span;
+use al_text::{Expression, Fault, Span};
 use std::alloc::{AllocError, Global};
 
 /// What stands at the front of the rest of a content.
 #[derive(Clone, Copy)]
-pub enum Read {
+enum Read {
     /// A byte between tokens.
     Blank,
     /// A token of so many bytes.
@@ -22,7 +24,7 @@ pub enum Read {
 
 /// Why the tokens of a content were not all read.
 #[derive(Clone, Copy)]
-pub enum LexError {
+enum LexError {
     /// At this character.
     BadCharacter(Span),
     OpenText,
@@ -229,7 +231,7 @@ fn read_at(bytes: &[u8]) -> Read
 }
 
 /// The tokens of a content, or why they are not all read.
-pub fn tokens(alloc: Global, content: &str) -> Result<Result<Vec<Token>, LexError>, AllocError>
+fn tokens(alloc: Global, content: &str) -> Result<Result<Vec<Token>, LexError>, AllocError>
     requires { length content.now < 2 ^ 32 }
     ensures { IfOk result (λ r. MatchResult r (λ v. tokens_of content.now ≡ AllRead (map seen v.items)) (λ e. tokens_of content.now ≡ unread e)) }
 {
@@ -264,4 +266,46 @@ pub fn tokens(alloc: Global, content: &str) -> Result<Result<Vec<Token>, LexErro
         }
     }
     Ok(Ok(tokens))
+}
+
+/// The last quote.
+fn last_quote(bytes: &[u8]) -> Option<usize>
+    ensures value { result ≡ last_quote bytes.now }
+    ensures within { IfSome result (λ n. n < length bytes.now) }
+{
+    let mut last = None;
+    for (i, b) in bytes.iter().enumerate() {
+        if *b == b'\'' {
+            last = Some(i);
+        }
+    }
+    last
+}
+
+/// The tokens of a content, in order; their texts and places are those in the content.
+///
+/// The fault is X1 at the first character that begins no token, or X2 at the content's last quote where a text is never
+/// closed. The outer error is want of memory.
+pub fn lex(alloc: Global, content: &str) -> Result<Result<Vec<Token>, Fault>, AllocError>
+    requires { length content.now ≤ 4194304 }
+    ensures { IfOk result (λ r. MatchResult r (λ v. tokens_of content.now ≡ AllRead (map seen v.items)) (λ f. fault_of_lexed content.now (tokens_of content.now) ≡ Some f)) }
+{
+    match tokens(alloc, content)? {
+        Ok(read) => Ok(Ok(read)),
+        Err(LexError::BadCharacter(span)) => Ok(Err(plain_fault(
+            alloc,
+            Expression::BadCharacter,
+            span,
+        ))),
+        Err(LexError::OpenText) => {
+            let Some(quote) = last_quote(content.as_bytes()) else {
+                unreachable!()
+            };
+            let span = Span {
+                start: quote as u32,
+                end: quote as u32 + 1,
+            };
+            Ok(Err(plain_fault(alloc, Expression::UnclosedText, span)))
+        }
+    }
 }

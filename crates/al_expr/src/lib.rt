@@ -2,6 +2,8 @@
 #![tactic(auto)]
 
 mod ast;
+mod expression;
+mod faults;
 mod law;
 mod lexer;
 mod name;
@@ -10,6 +12,8 @@ mod parser;
 mod token;
 
 pub use ast::{Expr, Operand, Step, Word};
+pub use expression::parse_expr;
 pub use law::grammar;
+pub use lexer::lex;
 pub use name::{Context, Function};
 pub use token::{Keyword, Operator, Token, TokenKind};

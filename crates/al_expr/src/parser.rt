@@ -1,9 +1,10 @@
 ghost use Rattle.std.specs.Prelude.{map, ℕ, IfOk, ◌≡◌, ◌≢◌, ◌+◌, ◌<◌, MatchOption, MatchResult, List, [], ◌∷◌, string_bytes};
 ghost use Rattle.al_expr.specs.Lexeme.{seen, kinds, kind_of, text_of, span_of};
-ghost use Rattle.al_expr.specs.Parsed.{EndsPath, IsStray, NoOperator, Parsed, Refused, StepRead, StepRefused, ArgumentsRead, ArgumentsRefused, NoClose, NoBang};
+ghost use Rattle.al_expr.specs.Parsed.{EndsPath, IsStray, NoOperator, Parsed, Refused, StepRead, StepRefused, ArgumentsRead, ArgumentsRefused, NoClose, NoBang, IsVerdict};
 ghost use Rattle.al_expr.specs.View.{tree_of, step_of, operand_of};
 ghost use Rattle.al_expr.specs.Tree.{path_of, chain_of};
-ghost use Rattle.al_expr.specs.Grammar.{Binary, Unary, Postfix, Primary, level_of, below};
+ghost use Rattle.al_expr.specs.Grammar.{Binary, Unary, Postfix, Primary, level_of, below, IsTreeOf};
+ghost use Rattle.al_expr.specs.Table.{Fine, verdict_of};
 ghost use Rattle.al_expr.specs.declared.parser.ParseError.TheVariants.{Memory, TooDeep};
 ghost use Rattle.al_expr.specs.declared.token.TokenKind.{TokenKind};
 ghost use Rattle.al_expr.specs.declared.token.TokenKind.TheVariants.{Infix, Name, Open, OpenIndex, Close, Dot};
@@ -378,5 +379,20 @@ fn operand<'t, 'a>(
         binary(alloc, level + 1, tokens, room)
     } else {
         unary(alloc, tokens, room)
+    }
+}
+
+/// The deepest nesting of brackets and negations.
+const MAX_NESTING: u32 = 50;
+
+/// The tree of the tokens, or the first fault in them.
+pub fn parse(alloc: Global, tokens: &[Token]) -> Result<Expr, ParseError>
+    ensures { MatchResult result (λ e. (verdict_of (kinds (map seen tokens.now)) ≡ Fine) × IsTreeOf (tree_of e) (map seen tokens.now)) (λ e. IsVerdict e (verdict_of (kinds (map seen tokens.now)))) }
+{
+    let (expr, rest) = binary(alloc, 0, tokens, MAX_NESTING)?;
+    if rest.is_empty() {
+        Ok(expr)
+    } else {
+        Err(ParseError::Unexpected(rest.len()))
     }
 }
