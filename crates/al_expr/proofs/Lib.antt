@@ -9,3 +9,4 @@ pub mod Fitting
 pub mod Lexing
 pub mod Left
 pub mod Quotes
+pub mod Chunking

@@ -2,6 +2,7 @@
 #![tactic(auto)]
 
 mod ast;
+mod chunk;
 mod expression;
 mod faults;
 mod law;
@@ -12,8 +13,12 @@ mod parser;
 mod token;
 
 pub use ast::{Expr, Operand, Step, Word};
+pub use chunk::{Chunk, chunks};
 pub use expression::parse_expr;
 pub use law::grammar;
 pub use lexer::lex;
 pub use name::{Context, Function};
 pub use token::{Keyword, Operator, Token, TokenKind};
+
+#[cfg(test)]
+mod tests;

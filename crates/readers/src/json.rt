@@ -1,3 +1,4 @@
+use al_expr::Chunk;
 use al_text::{Code, Expression, Fault};
 use std::alloc::{AllocError, Global};
 
@@ -91,5 +92,20 @@ pub fn push_fault(alloc: Global, out: &mut String, fault: &Fault) -> Result<(), 
     out.push_str(&head)?;
     push_texts(out, fault.args.texts())?;
     out.push('}')?;
+    Ok(())
+}
+
+/// Where the contents of chunks lie.
+pub fn push_spans(alloc: Global, out: &mut String, chunks: &[Chunk]) -> Result<(), AllocError> {
+    out.push('[')?;
+    for (i, chunk) in chunks.iter().enumerate() {
+        if i > 0 {
+            out.push(',')?;
+        }
+        let start = chunk.span.start;
+        let end = chunk.span.end;
+        out.push_str(&format!(in alloc; "[{start},{end}]")?)?;
+    }
+    out.push(']')?;
     Ok(())
 }

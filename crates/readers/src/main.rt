@@ -4,8 +4,8 @@
 mod json;
 mod trees;
 
-use al_expr::parse_expr;
-use json::{push_fault, push_text};
+use al_expr::{chunks, parse_expr};
+use json::{push_fault, push_spans, push_text};
 use std::alloc::{AllocError, Global};
 use std::process::ExitCode;
 use std::{env, io};
@@ -14,12 +14,16 @@ use trees::push_expr;
 /// The readers that a word can name.
 #[derive(Clone, Copy)]
 enum Reader {
+    /// The tree of an expression, or its fault.
     Expr,
+    /// The chunks of a text.
+    Chunks,
 }
 
 fn reader_named(word: &str) -> Option<Reader> {
     match word {
         "expr" => Some(Reader::Expr),
+        "chunks" => Some(Reader::Chunks),
         _ => None,
     }
 }
@@ -51,9 +55,31 @@ fn expression_line(alloc: Global, content: &str) -> Result<String, AllocError> {
     Ok(line)
 }
 
+/// The longest text whose chunks are shown, in bytes.
+const MAX_TEXT: usize = 4_194_304;
+
+/// The chunks of a text, and the fault at its end. Nothing is shown of a text that is too long.
+fn chunks_line(alloc: Global, text: &str) -> Result<String, AllocError> {
+    let mut line = String::new(alloc);
+    if text.len() > MAX_TEXT {
+        return Ok(line);
+    }
+    let (found, fault) = chunks(alloc, text)?;
+    line.push_str("{\"chunks\":")?;
+    push_spans(alloc, &mut line, &found)?;
+    line.push_str(",\"fault\":")?;
+    match fault {
+        Some(fault) => push_fault(alloc, &mut line, &fault)?,
+        None => line.push_str("null")?,
+    }
+    line.push_str("}\n")?;
+    Ok(line)
+}
+
 fn answer(alloc: Global, reader: Reader, text: &str) -> Result<String, AllocError> {
     match reader {
         Reader::Expr => expression_line(alloc, text),
+        Reader::Chunks => chunks_line(alloc, text),
     }
 }
 
