@@ -23,20 +23,20 @@ fn code_name(code: Code) -> &'static str {
     }
 }
 
-fn hex_digit(n: u16) -> char {
-    match n {
-        0..=9 => (b'0' + n as u8) as char,
-        _ => (b'a' + (n as u8 - 10)) as char,
-    }
+/// The lowest four bits as a digit.
+fn hex_digit(bits: u16) -> char {
+    let n = (bits % 16) as u8;
+    let digit = if n < 10 { b'0' + n } else { b'a' + (n - 10) };
+    digit as char
 }
 
 /// A code unit of UTF-16 as `\uXXXX`.
 fn push_unit(out: &mut String, unit: u16) -> Result<(), AllocError> {
     out.push_str("\\u")?;
     out.push(hex_digit(unit >> 12))?;
-    out.push(hex_digit(unit >> 8 & 15))?;
-    out.push(hex_digit(unit >> 4 & 15))?;
-    out.push(hex_digit(unit & 15))?;
+    out.push(hex_digit(unit >> 8))?;
+    out.push(hex_digit(unit >> 4))?;
+    out.push(hex_digit(unit))?;
     Ok(())
 }
 

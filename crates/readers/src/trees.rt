@@ -22,10 +22,11 @@ fn operator_text(operator: Operator) -> &'static str {
     }
 }
 
-/// The one operator of a level, or none where the level has several.
-fn level_operator(operator: Operator) -> Option<Operator> {
-    match operator {
-        Operator::Or | Operator::And => Some(operator),
+/// The operator of the level where the level has only one, else none.
+fn level_operator(operands: &[Operand]) -> Option<Operator> {
+    match operands.first()?.operator {
+        Operator::Or => Some(Operator::Or),
+        Operator::And => Some(Operator::And),
         _ => None,
     }
 }
@@ -61,7 +62,18 @@ pub fn push_expr(out: &mut String, content: &[u8], expr: &Expr) -> Result<(), Al
             }
             out.push(')')?;
         }
-        Expr::Chain(first, operands) => push_chain(out, content, first, operands)?,
+        Expr::Chain(first, operands) => {
+            let single = level_operator(operands);
+            out.push('(')?;
+            out.push_str(single.map_or("compare", operator_text))?;
+            out.push(' ')?;
+            push_expr(out, content, first)?;
+            for operand in operands {
+                out.push(' ')?;
+                push_operand(out, content, operand, single.is_none())?;
+            }
+            out.push(')')?;
+        }
     }
     Ok(())
 }
@@ -87,27 +99,15 @@ fn push_step(out: &mut String, content: &[u8], step: &Step) -> Result<(), AllocE
 }
 
 #[cycle(trees)]
-fn push_chain(
+fn push_operand(
     out: &mut String,
     content: &[u8],
-    first: &Expr,
-    operands: &[Operand],
+    operand: &Operand,
+    with_operator: bool,
 ) -> Result<(), AllocError> {
-    let single = operands
-        .first()
-        .and_then(|operand| level_operator(operand.operator));
-    out.push('(')?;
-    out.push_str(single.map_or("compare", operator_text))?;
-    out.push(' ')?;
-    push_expr(out, content, first)?;
-    for operand in operands {
+    if with_operator {
+        out.push_str(operator_text(operand.operator))?;
         out.push(' ')?;
-        if single.is_none() {
-            out.push_str(operator_text(operand.operator))?;
-            out.push(' ')?;
-        }
-        push_expr(out, content, &operand.expr)?;
     }
-    out.push(')')?;
-    Ok(())
+    push_expr(out, content, &operand.expr)
 }
