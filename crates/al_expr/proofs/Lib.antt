@@ -4,3 +4,6 @@ pub mod Rules
 pub mod Chains
 pub mod Total
 pub mod Trees
+pub mod TypeForms
+pub mod TypeFields
+pub mod SameName

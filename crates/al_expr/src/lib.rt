@@ -3,11 +3,17 @@
 
 mod ast;
 mod law;
-mod name;
+mod names;
 mod parser;
+mod relations;
+mod signatures;
 mod token;
+mod types;
 
 pub use ast::{Expr, Operand, Step, Word};
 pub use law::grammar;
-pub use name::{Context, Function};
+pub use names::{Context, Function, is_same_name};
+pub use relations::{assignable, comparable};
+pub use signatures::{Parameters, Returned, Signature, Wanted, signature_of};
 pub use token::{Keyword, Operator, Token, TokenKind};
+pub use types::{Field, Form, Object, Ty, copy};
