@@ -7,3 +7,4 @@ pub mod Trees
 pub mod TypeForms
 pub mod TypeFields
 pub mod SameName
+pub mod Fused

@@ -8,14 +8,7 @@ use Rattle.al_expr.specs.declared.types.Field.{Field}
 use Rattle.al_expr.specs.declared.types.Object.{Object, Object', Object-F, out-Object, roll-Object, out-roll-Object}
 use Rattle.al_expr.specs.declared.types.Ty.TheBlock.{Row_of-Field, end_of-Field, more_of-Field, Held-Object-rest, None', Some', items-the_row-Field, items_shown-the_row-Field-0}
 use Rattle.al_expr.specs.Types.{Type', ObjectOf, Fields, FieldThen, NoField, Rest, Strict, Loose}
-use Rattle.al_expr.specs.TypeViews.{ty_of, object_of, fields_in, rest_in, rest_of}
-
-abbrev pub field_of : Field → (List ℕ × Type')
-field_of f = (string_bytes f.name, ty_of f.ty)
-
-abbrev pub fields_of : List (List ℕ × Type') → Fields
-fields_of [] = NoField
-fields_of (f ∷ fs) = FieldThen f.0 f.1 (fields_of fs)
+use Rattle.al_expr.specs.TypeViews.{ty_of, object_of, fields_in, rest_in, rest_of, field_of, fields_of}
 
 pub rows : (n : _) (k : Row_of-Field n) → fields_in k ≡ fields_of (map field_of (items-the_row-Field n k))
 rows _ end_of-Field = refl

@@ -1,13 +1,14 @@
 -- What clauses see of the code's types: the type alone, without where it lies in memory.
-use Rattle.std.specs.Prelude.{ℕ, List, Bool, true, false, Option, Some, None, string_bytes, Box}
+use Rattle.std.specs.Prelude.{ℕ, List, Bool, true, false, Option, Some, None, string_bytes, Box, [], ◌∷◌, not, if◌then◌else◌}
 use Rattle.std.specs.Global.{Global}
 use Rattle.al_expr.specs.declared.types.Ty.{Ty}
+use Rattle.al_expr.specs.declared.types.Field.{Field}
 use Rattle.al_expr.specs.declared.types.Object.{Object, Object'}
 use Rattle.al_expr.specs.declared.types.Form.{Form}
 use Rattle.al_expr.specs.declared.types.Form.TheVariants as form
 use Rattle.al_expr.specs.declared.types.Ty.TheBlock as code
 use Rattle.al_expr.specs.declared.types.Ty.TheBlock.{Row_of-Field, end_of-Field, more_of-Field, Held-Object-rest, None', Some'}
-use Rattle.al_expr.specs.Types.{Type', Any, Null, Number, Bool', String, ArrayOf, ObjectOf, Fields, NoField, FieldThen, Rest, Strict, Loose}
+use Rattle.al_expr.specs.Types.{Type', Any, Null, Number, Bool', String, ArrayOf, ObjectOf, Fields, NoField, FieldThen, Rest, Strict, Loose, has_field}
 
 abbrev mutual
   pub ty_of : Ty → Type'
@@ -67,3 +68,34 @@ is_plain_form form.Number = true
 is_plain_form form.Bool = true
 is_plain_form form.String = true
 is_plain_form _ = false
+
+-- fields as a list
+abbrev pub field_of : Field → (List ℕ × Type')
+field_of f = (string_bytes f.name, ty_of f.ty)
+
+abbrev pub fields_of : List (List ℕ × Type') → Fields
+fields_of [] = NoField
+fields_of (f ∷ fs) = FieldThen f.0 f.1 (fields_of fs)
+
+abbrev pub fields_of_type : Type' → Fields
+fields_of_type (ObjectOf fs r) = fs
+fields_of_type _ = NoField
+
+-- `missing_fields` as a list
+abbrev pub missing_list : Fields → Fields → List (List ℕ × Type')
+missing_list fs NoField = []
+missing_list fs (FieldThen n t gs) = let more = missing_list fs gs in if has_field n fs then more else (n, t) ∷ more
+
+-- `fuse_type` of a scalar with a type of this form
+abbrev pub fuse_with_form : Form → Form → Type'
+fuse_with_form form.Null form.Null = Null
+fuse_with_form form.Number form.Number = Number
+fuse_with_form form.Number form.Bool = String
+fuse_with_form form.Number form.String = String
+fuse_with_form form.Bool form.Bool = Bool'
+fuse_with_form form.Bool form.Number = String
+fuse_with_form form.Bool form.String = String
+fuse_with_form form.String form.String = String
+fuse_with_form form.String form.Number = String
+fuse_with_form form.String form.Bool = String
+fuse_with_form _ _ = Any

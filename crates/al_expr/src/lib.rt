@@ -2,6 +2,7 @@
 #![tactic(auto)]
 
 mod ast;
+mod fusing;
 mod law;
 mod names;
 mod parser;
@@ -11,6 +12,7 @@ mod token;
 mod types;
 
 pub use ast::{Expr, Operand, Step, Word};
+pub use fusing::fuse;
 pub use law::grammar;
 pub use names::{Context, Function, is_same_name};
 pub use relations::{assignable, comparable};

@@ -1,7 +1,8 @@
-ghost use Rattle.std.specs.Prelude.{◌≡◌, IfOk};
-ghost use Rattle.al_expr.specs.Types.{is_collection, is_plain};
-ghost use Rattle.al_expr.specs.TypeViews.{ty_of, object_of, rest_of, form_of};
+ghost use Rattle.std.specs.Prelude.{◌≡◌, IfOk, option_map};
+ghost use Rattle.al_expr.specs.Types.{field_at, has_field, is_collection, is_plain};
+ghost use Rattle.al_expr.specs.TypeViews.{ty_of, object_of, rest_of, form_of, fields_of_type};
 
+use crate::names::is_same_name;
 use std::alloc::{AllocError, Global};
 
 /// The type of a value, as far as it is known before a workflow runs.
@@ -79,6 +80,29 @@ impl Ty {
     }
 }
 
+impl Object {
+    /// The type of the first field of a name, in any ASCII case: none where no field has it. The type of other fields
+    /// is not looked at.
+    pub fn field(&self, name: &str) -> Option<&Ty>
+        ensures { option_map (λ t. ty_of t.now) result ≡ field_at name.now (fields_of_type (object_of self.now)) }
+    {
+        for field in &self.fields {
+            if is_same_name(field.name.as_str(), name) {
+                return Some(&field.ty);
+            }
+        }
+        None
+    }
+
+    /// Whether there is a field of this name, in any ASCII case.
+    #[tactic(auto, using(crate::proofs::Fused::has_field_at))]
+    pub fn has_field(&self, name: &str) -> bool
+        ensures { result ≡ has_field name.now (fields_of_type (object_of self.now)) }
+    {
+        self.field(name).is_some()
+    }
+}
+
 /// The same type once more, in memory of its own. Fails for want of memory alone.
 #[cycle(copying)]
 pub fn copy(alloc: Global, ty: &Ty) -> Result<Ty, AllocError>
@@ -110,7 +134,10 @@ fn copy_object(alloc: Global, object: &Object) -> Result<Object, AllocError>
 }
 
 #[cycle(copying)]
-fn copy_rest(alloc: Global, rest: &Option<Box<Ty>>) -> Result<Option<Box<Ty>>, AllocError>
+pub(crate) fn copy_rest(
+    alloc: Global,
+    rest: &Option<Box<Ty>>,
+) -> Result<Option<Box<Ty>>, AllocError>
     ensures { IfOk result (λ r. rest_of r ≡ rest_of rest.now) }
 {
     match rest {

@@ -1,6 +1,7 @@
 use Rattle.std.proofs.Common.{◌≡◌, refl, sym, ap, ◌∙◌, take, map, arith}
 use Rattle.al_expr.specs.declared.types.Object.{out-Object}
-use Rattle.al_expr.proofs.TypeFields.{take_all, object_fields, object_made, field_of, fields_of}
+use Rattle.al_expr.specs.TypeViews.{field_of, fields_of}
+use Rattle.al_expr.proofs.TypeFields.{take_all, object_fields, object_made}
 use Rattle.al_expr.proofs.types.+copying.Goals as goal
 
 pub copy_object-returns : goal.copy_object-returns
