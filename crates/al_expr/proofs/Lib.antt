@@ -8,3 +8,5 @@ pub mod TypeForms
 pub mod TypeFields
 pub mod SameName
 pub mod Fused
+pub mod RestItems
+pub mod TreeViews

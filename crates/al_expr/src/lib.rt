@@ -2,8 +2,10 @@
 #![tactic(auto)]
 
 mod ast;
+mod extents;
 mod fusing;
 mod law;
+mod literals;
 mod names;
 mod parser;
 mod relations;
@@ -12,6 +14,7 @@ mod token;
 mod types;
 
 pub use ast::{Expr, Operand, Step, Word};
+pub use extents::extent;
 pub use fusing::fuse;
 pub use law::grammar;
 pub use names::{Context, Function, is_same_name};
