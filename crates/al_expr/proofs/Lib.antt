@@ -8,5 +8,6 @@ pub mod TypeForms
 pub mod TypeFields
 pub mod SameName
 pub mod Fused
+pub mod Indices
 pub mod RestItems
 pub mod TreeViews

@@ -8,6 +8,7 @@ mod law;
 mod literals;
 mod names;
 mod parser;
+mod placeholders;
 mod relations;
 mod signatures;
 mod token;
