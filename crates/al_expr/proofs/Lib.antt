@@ -9,5 +9,8 @@ pub mod TypeFields
 pub mod SameName
 pub mod Fused
 pub mod Indices
+pub mod Growing
+pub mod TypedSteps
+pub mod Paths
 pub mod RestItems
 pub mod TreeViews

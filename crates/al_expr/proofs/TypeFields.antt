@@ -8,7 +8,7 @@ use Rattle.al_expr.specs.declared.types.Field.{Field}
 use Rattle.al_expr.specs.declared.types.Object.{Object, Object', Object-F, out-Object, roll-Object, out-roll-Object}
 use Rattle.al_expr.specs.declared.types.Ty.TheBlock.{Row_of-Field, end_of-Field, more_of-Field, Held-Object-rest, None', Some', items-the_row-Field, items_shown-the_row-Field-0}
 use Rattle.al_expr.specs.Types.{Type', ObjectOf, Fields, FieldThen, NoField, Rest, Strict, Loose}
-use Rattle.al_expr.specs.TypeViews.{ty_of, object_of, fields_in, rest_in, rest_of, field_of, fields_of}
+use Rattle.al_expr.specs.TypeViews.{ty_of, object_of, fields_in, rest_in, rest_of, rest_of_type, field_of, fields_of}
 
 pub rows : (n : _) (k : Row_of-Field n) → fields_in k ≡ fields_of (map field_of (items-the_row-Field n k))
 rows _ end_of-Field = refl
@@ -24,3 +24,6 @@ object_made o = object_fields (roll-Object o) ∙ ap (λ x. ObjectOf (fields_of 
 
 pub take_all : {A : Type 0} (n : ℕ) (xs : List A) → length xs ≤ n → take n xs ≡ xs
 take_all n xs h = grind (arith, common_steps)
+
+pub rest_field : (o : Object) → rest_of_type (object_of o) ≡ rest_of (out-Object o).rest
+rest_field o = ap rest_of_type (object_fields o)

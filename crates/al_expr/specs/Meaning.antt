@@ -13,14 +13,14 @@ use Rattle.al_expr.specs.declared.signatures.Parameters.{Parameters}
 use Rattle.al_expr.specs.Refusal.{fault}
 use Rattle.al_expr.specs.Names.{context_of, function_of}
 use Rattle.al_expr.specs.Placeholders.{used_arguments}
-use Rattle.al_expr.specs.Types.{Type', Any, Null, Number, Bool', String, ArrayOf, ObjectOf, Fields, NoField, FieldThen, Rest, Strict, Loose, field_at, fuse_type, comparable_types}
+use Rattle.al_expr.specs.Types.{Type', Any, Null, Number, Bool', String, ArrayOf, ObjectOf, Fields, NoField, FieldThen, Rest, Strict, Loose, field_at, field_or_rest, fuse_type, comparable_types}
 use Rattle.al_expr.specs.Signatures.{signature, takes, wanted, accepts, returned_type}
 use Rattle.al_expr.specs.Scopes.{Scope}
 use Rattle.al_expr.specs.Extents.{extent, across}
 use Rattle.al_expr.specs.Literals.{literal_text, type_of_keyword}
 use Rattle.al_expr.specs.Untrusted.{untrusted_chains, chain_among, part_of_index, with_dots}
 use Rattle.al_expr.specs.Tree as tree
-use Rattle.al_expr.specs.Tree.{Tree, Sign, sign, Constant, Named, Call, Group, Negated, Path, Chain, Steps, NoStep, PropertyThen, AllThen, IndexThen, Operands, NoOperand, OperandThen, Arguments, NoArgument, ArgumentThen}
+use Rattle.al_expr.specs.Tree.{Tree, Sign, sign, Constant, Named, Call, Group, Negated, Path, Chain, StepTree, Steps, NoStep, PropertyThen, AllThen, IndexThen, Operands, NoOperand, OperandThen, Arguments, NoArgument, ArgumentThen}
 
 -- a type with the faults found on the way
 pub data Typed : Type 0 where
@@ -56,13 +56,12 @@ abbrev pub or_fault : Fault → Option Type' → Typed
 or_fault f None = typed Any (f ∷ [])
 or_fault f (Some t) = typed t []
 
-abbrev pub field_or_rest : Option Type' → Rest → Option Type'
-field_or_rest (Some t) r = Some t
-field_or_rest None Strict = None
-field_or_rest None (Loose t) = Some t
-
 abbrev pub array_of : Typed → Typed
 array_of (typed t fs) = typed (ArrayOf t) fs
+
+-- X14
+abbrev pub not_indexable : Span → Typed
+not_indexable whole = typed Any (fault code.NotIndexable whole [] ∷ [])
 
 -- A property: the field, else the type of other fields, else X13. Of an array, an array of the elements' property. A
 -- scalar has none: X14.
@@ -70,7 +69,7 @@ abbrev pub property_of : List ℕ → Span → Span → Type' → Typed
 property_of n at whole Any = typed Any []
 property_of n at whole (ObjectOf fs r) = or_fault (fault code.UndefinedProperty at (n ∷ [])) (field_or_rest (field_at n fs) r)
 property_of n at whole (ArrayOf t) = array_of (property_of n at whole t)
-property_of n at whole _ = typed Any (fault code.NotIndexable whole [] ∷ [])
+property_of n at whole _ = not_indexable whole
 
 abbrev pub fuse_next : Option Type' → Type' → Type'
 fuse_next None t = t
@@ -88,19 +87,19 @@ abbrev pub all_of : Span → Type' → Typed
 all_of whole Any = typed Any []
 all_of whole (ArrayOf t) = typed (ArrayOf t) []
 all_of whole (ObjectOf fs r) = typed (ArrayOf (fuse_all None fs r)) []
-all_of whole _ = typed Any (fault code.NotIndexable whole [] ∷ [])
+all_of whole _ = not_indexable whole
 
 -- the element of an array, by an index of this type
 abbrev pub element_at : Span → Type' → Type' → Typed
 element_at whole t Any = typed t []
 element_at whole t Number = typed t []
-element_at whole t _ = typed Any (fault code.NotIndexable whole [] ∷ [])
+element_at whole t _ = not_indexable whole
 
 abbrev pub index_of : Span → Type' → Type' → Typed
 index_of whole Any i = typed Any []
 index_of whole (ObjectOf fs r) i = typed Any []
 index_of whole (ArrayOf t) i = element_at whole t i
-index_of whole _ i = typed Any (fault code.NotIndexable whole [] ∷ [])
+index_of whole _ i = not_indexable whole
 
 -- `['p']` is a property, any other index an element.
 abbrev pub indexed : Option (List ℕ × Span) → Span → Type' → Typed → Typed
@@ -117,10 +116,18 @@ abbrev pub untrusted_fault : Span → Option (List (List ℕ)) → List Fault
 untrusted_fault whole None = []
 untrusted_fault whole (Some chain) = fault code.Untrusted whole (with_dots chain ∷ []) ∷ []
 
--- X19: a whole path that is an untrusted chain. Its base is a name itself, so a bracket ends a chain.
-abbrev pub untrusted : Bool → Tree → Steps → Span → List Fault
-untrusted true (Named b s) ss whole = untrusted_fault whole (chain_among untrusted_chains (b ∷ parts_of ss))
-untrusted _ t ss whole = []
+-- the name that a path begins with, if it begins with one: a bracket ends a chain
+abbrev pub base_name : Tree → Option (List ℕ)
+base_name (Named b s) = Some b
+base_name _ = None
+
+abbrev pub untrusted_from : Option (List ℕ) → Steps → Span → List Fault
+untrusted_from None ss whole = []
+untrusted_from (Some b) ss whole = untrusted_fault whole (chain_among untrusted_chains (b ∷ parts_of ss))
+
+-- X19: a whole path that is an untrusted chain, where a text could do harm.
+abbrev pub untrusted : Bool → Tree → Steps → List Fault
+untrusted exposed t ss = if exposed then untrusted_from (base_name t) ss (extent (Path t ss)) else []
 
 abbrev pub is_logic : Operator → Bool
 is_logic operator.Or = true
@@ -182,13 +189,14 @@ format_faults function.Format (ArgumentThen t ts) as' = format_text (literal_tex
 format_faults _ ts as' = []
 
 -- A call: X9 where there is no such function, X10 where it isn't available here.
-abbrev pub called : Scope → List ℕ → Span → Option Function → Arguments → AllTyped → Typed
-called sc b s None ts (all_typed as' fs) = typed Any (fs ++ fault code.UndefinedFunction s (b ∷ []) ∷ [])
-called sc b s (Some f) ts (all_typed as' fs) =
+abbrev pub called_with : Scope → List ℕ → Span → Option Function → Arguments → List (Type' × Span) → Typed
+called_with sc b s None ts as' = typed Any (fault code.UndefinedFunction s (b ∷ []) ∷ [])
+called_with sc b s (Some f) ts as' =
     typed (returned_type (signature f).returned)
-    (((fs ++ give (not (sc.allowed f)) (fault code.UnavailableFunction s (b ∷ [])))
-    ++ argument_faults b s (signature f).parameters as')
-    ++ format_faults f ts as')
+    (give (not (sc.allowed f)) (fault code.UnavailableFunction s (b ∷ [])) ++ argument_faults b s (signature f).parameters as' ++ format_faults f ts as')
+
+abbrev pub called : Scope → List ℕ → Span → Option Function → Arguments → AllTyped → Typed
+called sc b s f ts (all_typed as' fs) = behind fs (called_with sc b s f ts as')
 
 -- The type of an expression, with its faults. The flag: whether it stands where X19 isn't given, in an argument of a
 -- function that only tests it, or in an operand of a comparison or of `!`.
@@ -202,7 +210,7 @@ abbrev mutual
   meaning sc safe (Group t s e) = meaning sc safe t
   meaning sc safe (Negated s t) = and_then (meaning sc true t) (λ u. typed Bool' [])
   meaning sc safe (Path t ss) =
-      before (untrusted (sc.in_run && not safe) t ss (extent (Path t ss))) (and_then (meaning sc safe t) (λ u. walked sc safe ss u))
+      before (untrusted (sc.in_run && not safe) t ss) (and_then (meaning sc safe t) (λ u. walked sc safe ss u))
   meaning sc safe (Chain t os) =
       and_then (meaning sc (safe || not (begins_logic os)) t) (λ u. chained sc (safe || not (begins_logic os)) os u)
 
@@ -222,6 +230,16 @@ abbrev mutual
   pub meanings : Scope → Bool → Arguments → AllTyped
   meanings sc safe NoArgument = all_typed [] []
   meanings sc safe (ArgumentThen t ts) = typed_then (meaning sc safe t) (extent t) (meanings sc safe ts)
+
+-- one step of a path
+abbrev pub stepped : Scope → Bool → StepTree → Type' → Typed
+stepped sc safe (tree.Property d b s) u = property_of b s (across d s) u
+stepped sc safe (tree.All a b) u = all_of (across a b) u
+stepped sc safe (tree.Index a t b) u = indexed (literal_text t) (across a b) u (meaning sc safe t)
+
+-- the same with these arguments and faults before the others
+abbrev pub all_behind : List (Type' × Span) → List Fault → AllTyped → AllTyped
+all_behind before' old (all_typed as' fs) = all_typed (before' ++ as') (old ++ fs)
 
 abbrev pub meaning_of : Scope → Tree → Typed
 meaning_of sc t = meaning sc false t

@@ -81,6 +81,10 @@ abbrev pub fields_of_type : Type' → Fields
 fields_of_type (ObjectOf fs r) = fs
 fields_of_type _ = NoField
 
+abbrev pub rest_of_type : Type' → Rest
+rest_of_type (ObjectOf fs r) = r
+rest_of_type _ = Strict
+
 -- `missing_fields` as a list
 abbrev pub missing_list : Fields → Fields → List (List ℕ × Type')
 missing_list fs NoField = []

@@ -32,6 +32,12 @@ abbrev pub has_field : List ℕ → Fields → Bool
 has_field n NoField = false
 has_field n (FieldThen m t fs) = same_name m n || has_field n fs
 
+-- the type of a field, else of every other field
+abbrev pub field_or_rest : Option Type' → Rest → Option Type'
+field_or_rest (Some t) r = Some t
+field_or_rest None Strict = None
+field_or_rest None (Loose t) = Some t
+
 -- Whether a value of the one type may stand where the other is wanted.
 abbrev pub assignable_type : Type' → Type' → Bool
 assignable_type Any to = true

@@ -1,7 +1,7 @@
 ghost use Rattle.std.specs.Prelude.{◌≡◌, map};
 ghost use Rattle.al_expr.specs.Extents as extents;
 ghost use Rattle.al_expr.specs.Extents.{extent, end_of_step};
-ghost use Rattle.al_expr.specs.Tree.{steps_of, operands_of};
+ghost use Rattle.al_expr.specs.Tree.{Path, steps_of, operands_of};
 ghost use Rattle.al_expr.specs.View.{tree_of, step_of, operand_of};
 
 use crate::ast::{Expr, Operand, Step};
@@ -14,6 +14,16 @@ pub fn extent(expr: &Expr) -> Span
     Span {
         start: start_of(expr),
         end: end_of(expr),
+    }
+}
+
+/// Where a path stands.
+pub(crate) fn path_extent(base: &Expr, steps: &[Step]) -> Span
+    ensures { result ≡ extent (Path (tree_of base.now) (steps_of (map step_of steps.now))) }
+{
+    Span {
+        start: start_of(base),
+        end: end_of_steps(end_of(base), steps),
     }
 }
 

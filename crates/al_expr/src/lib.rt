@@ -2,6 +2,7 @@
 #![tactic(auto)]
 
 mod ast;
+mod calls;
 mod extents;
 mod fusing;
 mod law;
@@ -10,10 +11,13 @@ mod names;
 mod parser;
 mod placeholders;
 mod relations;
+mod reports;
 mod scope;
 mod signatures;
+mod steps;
 mod token;
 mod types;
+mod typing;
 mod untrusted;
 
 pub use ast::{Expr, Operand, Step, Word};
@@ -26,3 +30,4 @@ pub use scope::{ContextSet, ContextTypes, FunctionSet, Scope};
 pub use signatures::{Parameters, Returned, Signature, Wanted, signature_of};
 pub use token::{Keyword, Operator, Token, TokenKind};
 pub use types::{Field, Form, Object, Ty, copy};
+pub use typing::type_of;

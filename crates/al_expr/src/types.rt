@@ -1,6 +1,6 @@
 ghost use Rattle.std.specs.Prelude.{◌≡◌, IfOk, option_map};
-ghost use Rattle.al_expr.specs.Types.{field_at, has_field, is_collection, is_plain};
-ghost use Rattle.al_expr.specs.TypeViews.{ty_of, object_of, rest_of, form_of, fields_of_type};
+ghost use Rattle.al_expr.specs.Types.{field_at, field_or_rest, has_field, is_collection, is_plain};
+ghost use Rattle.al_expr.specs.TypeViews.{ty_of, object_of, rest_of, form_of, fields_of_type, rest_of_type};
 
 use crate::names::is_same_name;
 use std::alloc::{AllocError, Global};
@@ -92,6 +92,20 @@ impl Object {
             }
         }
         None
+    }
+
+    /// The type of a property: of the first field of its name, else of other fields, where there may be others.
+    #[tactic(auto, using(crate::proofs::TypeFields::rest_field))]
+    pub fn property(&self, name: &str) -> Option<&Ty>
+        ensures { option_map (λ t. ty_of t.now) result ≡ field_or_rest (field_at name.now (fields_of_type (object_of self.now))) (rest_of_type (object_of self.now)) }
+    {
+        match self.field(name) {
+            Some(ty) => Some(ty),
+            None => match &self.rest {
+                Some(ty) => Some(ty),
+                None => None,
+            },
+        }
     }
 
     /// Whether there is a field of this name, in any ASCII case.
