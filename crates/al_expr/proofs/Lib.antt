@@ -14,3 +14,9 @@ pub mod TypedSteps
 pub mod Paths
 pub mod RestItems
 pub mod TreeViews
+pub mod Front
+pub mod Fitting
+pub mod Lexing
+pub mod Left
+pub mod Quotes
+pub mod Chunking

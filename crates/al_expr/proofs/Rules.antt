@@ -10,7 +10,7 @@ use Rattle.al_expr.specs.Tree as tree
 use Rattle.al_expr.specs.Tree.{Sign, sign, Tree, Named, Negated, Path, Chain, StepTree, Property, All, steps_of, operands_of, arguments_of, path_of, chain_of}
 use Rattle.al_expr.specs.Grammar.{Part, Binary, Unary, Postfix, Primary, level_of, below, Derives, single, chain, positive, negated, bare, path, name, call_empty, call, group, Operators, no_more, one_more, Walks, arrived, to_property, to_keyword, to_all, to_each, to_index, Lists, listed, and_next}
 use Rattle.al_expr.specs.Table.{Verdict, Early, Unexpected, TooDeep, E, A, I, S, O, N, Frame, Group, Call, Index, outside, scan}
-use Rattle.al_expr.specs.Parsed.{Goes, EndsPath, EndsLevel, Parsed, Refused, PartOfCall, StepRead, GoesAfter, StepRefused, fault_at}
+use Rattle.al_expr.specs.Parsed.{Goes, EndsPath, EndsLevel, Parsed, Refused, PartOfCall, StepRead, GoesAfter, StepRefused, fault_at, NoClose}
 use Rattle.al_expr.proofs.Shape.{NoCall}
 use Rattle.std.proofs.lemmas.Bool.Decides.{nat_tests}
 
@@ -52,11 +52,6 @@ uncalled k [] [] h = refl
 uncalled k (f ∷ st) [] h = refl
 uncalled k st (Open ∷ ts) h = absurd h
 uncalled k st (t ∷ ts) h = refl
-
--- No closing bracket comes first.
-abbrev pub NoClose : List TokenKind → Type 0
-NoClose (Close ∷ ts) = ⊥
-NoClose _ = Unit {0}
 
 -- No star comes first.
 abbrev pub NoStar : List TokenKind → Type 0

@@ -1,10 +1,11 @@
 -- What each function of the parser answers.
 use Rattle.std.specs.Prelude.{◌≡◌, ◌≢◌, ℕ, ◌+◌, ◌<◌, ◌≤◌, List, [], ◌∷◌, length}
 use Rattle.al_expr.specs.declared.token.TokenKind.{TokenKind}
-use Rattle.al_expr.specs.declared.token.TokenKind.TheVariants.{OpenIndex, Bang, Dot, Infix}
+use Rattle.al_expr.specs.declared.token.TokenKind.TheVariants.{Name, Open, Close, OpenIndex, Comma, Bang, Dot, Infix}
 use Rattle.al_expr.specs.declared.parser.ParseError.{ParseError}
 use Rattle.al_expr.specs.declared.parser.ParseError.TheVariants as error
-use Rattle.al_expr.specs.Lexeme.{Lexeme, kinds}
+use Rattle.al_text.specs.declared.faults.Span.{Span}
+use Rattle.al_expr.specs.Lexeme.{Lexeme, lexeme, kinds}
 use Rattle.al_expr.specs.Tree.{Sign, Tree, StepTree}
 use Rattle.al_expr.specs.Grammar.{Part, Binary, Unary, Postfix, Primary, level_of, Derives, Operators, Walks, Lists}
 use Rattle.al_expr.specs.Table.{Verdict, Early, Unexpected, TooDeep, E, O, Frame, Call, outside, scan}
@@ -95,6 +96,29 @@ abbrev pub fault_at : List Lexeme → ParseError
 fault_at [] = error.Early
 fault_at (t ∷ ts) = error.Unexpected (length (t ∷ ts))
 
+-- No comma comes first.
+abbrev pub NoComma : List TokenKind → Type 0
+NoComma (Comma ∷ ts) = ⊥
+NoComma _ = Unit {0}
+
+-- the arguments of a call as far as they were read, of which there is at least one
+pub record ArgumentsPart (room : ℕ) (ts : List Lexeme) (all : List Tree) (rest : List Lexeme) : Type 0 where
+  pub first : Tree
+  pub more : List Tree
+  pub mid : List Lexeme
+  pub is : all ≡ first ∷ more
+  pub begins : Parsed (Binary 0) room ts first mid
+  pub goes_on : PartOfCall room mid more rest
+
+-- all arguments of a call
+pub record ArgumentsRead (room : ℕ) (ts : List Lexeme) (all : List Tree) (rest : List Lexeme) : Type 0 where
+  pub part : ArgumentsPart room ts all rest
+  pub ends : NoComma (kinds rest)
+
+-- A call with these tokens behind its opening bracket is refused.
+abbrev pub ArgumentsRefused : ℕ → List Lexeme → ParseError → Type 0
+ArgumentsRefused room ts e = (outer : ℕ) (b c : List ℕ) (s u : Span) → room + 1 ≡ outer → Refused Primary outer (lexeme Name b s ∷ lexeme Open c u ∷ ts) e
+
 -- No operator of this level comes first.
 abbrev pub NoOperator : ℕ → List TokenKind → Type 0
 NoOperator l (Infix o ∷ ts) = level_of o ≢ l
@@ -105,7 +129,19 @@ abbrev pub NoBang : List TokenKind → Type 0
 NoBang (Bang ∷ ts) = ⊥
 NoBang _ = Unit {0}
 
+-- No closing bracket comes first.
+abbrev pub NoClose : List TokenKind → Type 0
+NoClose (Close ∷ ts) = ⊥
+NoClose _ = Unit {0}
+
 -- The token that has to come first isn't of this kind.
 pub record IsStray (ts : List Lexeme) (k : TokenKind) (e : ParseError) : Type 0 where
   pub fault : e ≡ fault_at ts
   pub other : (rest : List TokenKind) → kinds ts ≢ k ∷ rest
+
+-- Unless memory ran out, the table comes to this fault.
+abbrev pub IsVerdict : ParseError → Verdict → Type 0
+IsVerdict error.Memory v = Unit {0}
+IsVerdict error.Early v = v ≡ Early
+IsVerdict (error.Unexpected left) v = v ≡ Unexpected left
+IsVerdict (error.TooDeep left) v = v ≡ TooDeep left

@@ -1,12 +1,17 @@
 -- The tokens of a content.
 use Rattle.al_expr.specs.declared.token.Operator.TheVariants.{Or, And, Equal, NotEqual, Less, LessEqual, Greater, GreaterEqual}
 use Rattle.al_expr.specs.declared.token.Keyword.TheVariants as keyword
+use Rattle.al_expr.specs.declared.lexer.LexError.{LexError}
+use Rattle.al_expr.specs.declared.lexer.LexError.TheVariants as error
+use Rattle.al_expr.specs.declared.lexer.Read.{Read}
+use Rattle.al_expr.specs.declared.lexer.Read.TheVariants.{Blank, Token, BadCharacter, OpenText}
 use Rattle.al_expr.specs.declared.token.TokenKind.{TokenKind}
 use Rattle.al_expr.specs.declared.token.TokenKind.TheVariants.{Name, Keyword, Number, Text, Open, Close, OpenIndex, CloseIndex, Dot, Comma, Star, Bang, Infix}
 use Rattle.al_text.specs.declared.faults.Span.{Span}
 use Rattle.al_expr.specs.Lexeme.{Lexeme, lexeme}
 use Rattle.std.specs.List.{prefix_len}
-use Rattle.std.specs.Prelude.{codes, ◌<◌, ◌≤◌, ℕ, zero, suc, ◌+◌, ◌-◌, List, [], ◌∷◌, ◌++◌, Bool, true, false, ◌&&◌, ◌||◌, nat_eq, nat_le, if◌then◌else◌, max, take, drop, Option, Some, None}
+use Rattle.std.specs.Str.{bytes_eq}
+use Rattle.std.specs.Prelude.{codes, ◌<◌, ◌≤◌, ℕ, zero, suc, ◌+◌, ◌-◌, List, [], ◌∷◌, ◌++◌, Bool, true, false, ◌&&◌, ◌||◌, nat_eq, nat_le, if◌then◌else◌, max, take, drop, Option, Some, None, slice_index, length}
 
 abbrev pub is_digit : ℕ → Bool
 is_digit b = nat_le 48 b && nat_le b 57
@@ -85,26 +90,13 @@ text_tail false [] = None
 text_tail true [] = Some 0
 text_tail quote (b ∷ bs) = after_byte quote (nat_eq b 39) (λ q. text_tail q bs)
 
--- the same bytes
-abbrev pub same_bytes : List ℕ → List ℕ → Bool
-same_bytes [] [] = true
-same_bytes (a ∷ as') (b ∷ bs) = nat_eq a b && same_bytes as' bs
-same_bytes _ _ = false
-
 -- `null`, `true` and `false` are words of their own
 abbrev pub word_kind : List ℕ → TokenKind
 word_kind b =
-    if same_bytes b (codes "null") then Keyword keyword.Null
-    else if same_bytes b (codes "true") then Keyword keyword.True
-    else if same_bytes b (codes "false") then Keyword keyword.False
+    if bytes_eq b (codes "null") then Keyword keyword.Null
+    else if bytes_eq b (codes "true") then Keyword keyword.True
+    else if bytes_eq b (codes "false") then Keyword keyword.False
     else Name
-
--- what comes first: a blank, a token of so many bytes, a character that begins none, or a text that is never closed
-pub data Read : Type 0 where
-  Blank : Read
-  Token : TokenKind → ℕ → Read
-  BadCharacter : Read
-  OpenText : Read
 
 -- the same mark alone or before `=`
 abbrev pub or_equal : Bool → TokenKind → TokenKind → Read
@@ -145,11 +137,14 @@ abbrev pub number_read : ℕ → Read
 number_read zero = BadCharacter
 number_read (suc n) = Token Number (suc n)
 
+abbrev pub name_read : List ℕ → Read
+name_read bs = Token (word_kind (take (run goes_on_name bs) bs)) (run goes_on_name bs)
+
 abbrev pub read : List ℕ → Read
 read [] = BadCharacter
 read (b ∷ bs) =
     if is_blank b then Blank
-    else if begins_name b then Token (word_kind (take (run goes_on_name (b ∷ bs)) (b ∷ bs))) (run goes_on_name (b ∷ bs))
+    else if begins_name b then name_read (b ∷ bs)
     else if nat_eq b 39 then text_read (text_tail false bs)
     else if is_digit b || is_sign b then number_read (number_len (b ∷ bs))
     else mark b bs
@@ -201,7 +196,17 @@ abbrev pub last_place : (ℕ → Bool) → ℕ → List ℕ → Option ℕ
 last_place p at [] = None
 last_place p at (b ∷ bs) = if_none (last_place p (at + 1) bs) (if p b then Some at else None)
 
--- A token has a byte, and lies in so many.
-abbrev pub TokenFits : ℕ → Read → Type 0
-TokenFits len (Token k n) = (0 < n) × (n ≤ len)
-TokenFits len _ = Unit {0}
+-- the place of the last quote
+abbrev pub last_quote : List ℕ → Option ℕ
+last_quote bs = last_place (λ b. nat_eq b 39) 0 bs
+
+-- where tokens are not all read
+abbrev pub unread : LexError → Lexed
+unread (error.BadCharacter s) = Bad s
+unread error.OpenText = Unclosed
+
+-- A token has a byte and lies in these, and a character ends with it, as after a blank.
+abbrev pub Fits : List ℕ → Read → Type 0
+Fits bs Blank = slice_index bs 0 < 128
+Fits bs (Token k n) = (0 < n) × (n ≤ length bs) × (slice_index bs (n - 1) < 128)
+Fits bs _ = Unit {0}

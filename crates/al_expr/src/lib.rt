@@ -3,11 +3,16 @@
 
 mod ast;
 mod calls;
+mod chunk;
+mod expression;
 mod extents;
+mod faults;
 mod fusing;
 mod law;
+mod lexer;
 mod literals;
 mod names;
+mod number;
 mod parser;
 mod placeholders;
 mod relations;
@@ -21,9 +26,12 @@ mod typing;
 mod untrusted;
 
 pub use ast::{Expr, Operand, Step, Word};
+pub use chunk::{Chunk, chunks};
+pub use expression::parse_expr;
 pub use extents::extent;
 pub use fusing::fuse;
 pub use law::grammar;
+pub use lexer::lex;
 pub use names::{Context, Function, is_same_name};
 pub use relations::{assignable, comparable};
 pub use scope::{ContextSet, ContextTypes, FunctionSet, Scope};
@@ -31,3 +39,6 @@ pub use signatures::{Parameters, Returned, Signature, Wanted, signature_of};
 pub use token::{Keyword, Operator, Token, TokenKind};
 pub use types::{Field, Form, Object, Ty, copy};
 pub use typing::type_of;
+
+#[cfg(test)]
+mod tests;
