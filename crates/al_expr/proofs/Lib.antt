@@ -4,6 +4,16 @@ pub mod Rules
 pub mod Chains
 pub mod Total
 pub mod Trees
+pub mod TypeForms
+pub mod TypeFields
+pub mod SameName
+pub mod Fused
+pub mod Indices
+pub mod Growing
+pub mod TypedSteps
+pub mod Paths
+pub mod RestItems
+pub mod TreeViews
 pub mod Front
 pub mod Fitting
 pub mod Lexing
