@@ -1,0 +1,48 @@
+use al_text::Span;
+
+/// An operator between two operands.
+#[derive(Clone, Copy, PartialEq, Eq, Debug)]
+pub enum Operator {
+    Or,
+    And,
+    Equal,
+    NotEqual,
+    Less,
+    LessEqual,
+    Greater,
+    GreaterEqual,
+}
+
+/// A word that is a literal, in lower case only. After a dot it names a property.
+#[derive(Clone, Copy, PartialEq, Eq, Debug)]
+pub enum Keyword {
+    Null,
+    True,
+    False,
+}
+
+/// What a token is.
+#[derive(Clone, Copy, PartialEq, Eq, Debug)]
+pub enum TokenKind {
+    Name,
+    Keyword(Keyword),
+    Number,
+    Text,
+    Open,
+    Close,
+    OpenIndex,
+    CloseIndex,
+    Dot,
+    Comma,
+    Star,
+    Bang,
+    Infix(Operator),
+}
+
+/// A token of a content, with its text as written (a text literal's with its quotes) and its place in the content.
+#[derive(Clone, Copy)]
+pub struct Token<'a> {
+    pub kind: TokenKind,
+    pub text: &'a str,
+    pub span: Span,
+}
