@@ -2,10 +2,13 @@
 #![tactic(auto)]
 
 mod json;
+mod scalars;
 mod trees;
 
 use al_expr::{chunks, parse_expr};
+use al_scalar::{Place, read_scalar};
 use json::{push_fault, push_spans, push_text};
+use scalars::{push_scalar, push_yaml_fault};
 use std::alloc::{AllocError, Global};
 use std::process::ExitCode;
 use std::{env, io};
@@ -18,12 +21,15 @@ enum Reader {
     Expr,
     /// The chunks of a text.
     Chunks,
+    /// The scalar at a file's start, in block context.
+    Scalar,
 }
 
 fn reader_named(word: &str) -> Option<Reader> {
     match word {
         "expr" => Some(Reader::Expr),
         "chunks" => Some(Reader::Chunks),
+        "scalar" => Some(Reader::Scalar),
         _ => None,
     }
 }
@@ -76,10 +82,34 @@ fn chunks_line(alloc: Global, text: &str) -> Result<String, AllocError> {
     Ok(line)
 }
 
+/// The longest file that is read as YAML, in bytes.
+const MAX_FILE: usize = 1_048_576;
+
+/// The scalar at a file's start, or its fault. Nothing is shown of a file that is too long.
+fn scalar_line(alloc: Global, file: &str) -> Result<String, AllocError> {
+    let mut line = String::new(alloc);
+    if file.len() > MAX_FILE {
+        return Ok(line);
+    }
+    match read_scalar(alloc, file.as_bytes(), 0, Place::Block(0))? {
+        Ok(read) => {
+            line.push_str("{\"tree\":")?;
+            push_scalar(alloc, &mut line, &read.scalar, read.span)?;
+        }
+        Err(fault) => {
+            line.push_str("{\"fault\":")?;
+            push_yaml_fault(alloc, &mut line, fault)?;
+        }
+    }
+    line.push_str("}\n")?;
+    Ok(line)
+}
+
 fn answer(alloc: Global, reader: Reader, text: &str) -> Result<String, AllocError> {
     match reader {
         Reader::Expr => expression_line(alloc, text),
         Reader::Chunks => chunks_line(alloc, text),
+        Reader::Scalar => scalar_line(alloc, text),
     }
 }
 

@@ -1,0 +1,52 @@
+"""How the time to read one scalar grows with its bytes: bench/scalars.py, after ./test or a build of crates/readers.
+
+Each shape of scalar is read at a quarter, half and the whole of its size by the program `readers`, which also prints its
+text with the offset of each byte. Where reading is linear, the time doubles with the size. The times are the least of
+several runs in one run of this program, less the time of the empty scalar.
+"""
+
+import pathlib
+import subprocess
+import sys
+import time
+
+TOP = pathlib.Path(__file__).resolve().parent.parent
+PROGRAM = TOP / "crates" / "readers" / "out" / "readers"
+RUNS = 5
+SIZE = 1_000_000
+
+SHAPES = {
+    "plain, one line": lambda size: b"ab" * (size // 2),
+    "plain, lines of three bytes": lambda size: b"a\n" + b"b \n" * (size // 3),
+    "single-quoted, pairs of quotes": lambda size: b"'" + b"''" * (size // 2) + b"'",
+    "double-quoted, one line": lambda size: b'"' + b"ab" * (size // 2) + b'"',
+    "double-quoted, escapes": lambda size: b'"' + b"\\x61" * (size // 4) + b'"',
+    "double-quoted, lines of three bytes": lambda size: b'"' + b"b \n" * (size // 3) + b'"',
+    "literal, lines of three bytes": lambda size: b"|\n" + b" b\n" * (size // 3),
+    "folded, lines of three bytes": lambda size: b">\n" + b" b\n" * (size // 3),
+    "literal, empty lines": lambda size: b"|+\n b\n" + b"\n" * size,
+}
+
+
+def seconds(file):
+    """The least time of some runs."""
+    best = None
+    for _ in range(RUNS):
+        start = time.perf_counter()
+        subprocess.run([PROGRAM, "scalar"], input=file, stdout=subprocess.DEVNULL, check=True)
+        took = time.perf_counter() - start
+        best = took if best is None else min(best, took)
+    return best
+
+
+def main():
+    """Prints a table."""
+    nothing = seconds(b"")
+    print(f"{'scalar':38} {'quarter':>9} {'half':>9} {'whole':>9}  half/quarter whole/half")
+    for name, shape in SHAPES.items():
+        quarter, half, whole = (seconds(shape(size)) - nothing for size in (SIZE // 4, SIZE // 2, SIZE))
+        print(f"{name:38} {quarter:8.3f}s {half:8.3f}s {whole:8.3f}s  {half / quarter:12.2f} {whole / half:10.2f}")
+
+
+if __name__ == "__main__":
+    sys.exit(main())
