@@ -6,3 +6,4 @@ pub mod Messages
 pub mod Parts
 pub mod Orders
 pub mod Paths
+pub mod LineStarts

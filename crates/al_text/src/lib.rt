@@ -3,6 +3,7 @@
 
 mod codes;
 mod faults;
+mod lines;
 mod paths;
 mod positions;
 mod printing;
@@ -12,6 +13,7 @@ mod wordings;
 
 pub use codes::{Code, Expression, Key, Yaml};
 pub use faults::{Args, Fault, Span};
+pub use lines::Lines;
 pub use paths::{Path, PathFault, path_fault};
 pub use positions::position;
 pub use printing::write_fault;
