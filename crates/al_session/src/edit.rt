@@ -192,8 +192,8 @@ pub(crate) fn remove_file<L: Lint>(
 {
     let old = files.remove(index);
     match recheck(lint, alloc, files) {
-        Ok((lists, paths)) => {
-            set_faults(files, lists);
+        Ok((faults, paths)) => {
+            set_faults(files, faults);
             Ok(paths)
         }
         Err(error) => {

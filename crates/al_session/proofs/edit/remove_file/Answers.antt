@@ -14,16 +14,16 @@ pub recheck-requires-clause-ordered : goal.recheck-requires-clause-ordered
 recheck-requires-clause-ordered g c = rw (c.deref.ensures.value, c.remove-old.ensures.items) (remove_sorted c.args.files.now.items c.args.index c.requires.linted.ordered)
 
 pub set_faults-requires : goal.set_faults-requires
-set_faults-requires g c = as_many g.L.Lint.meaning c.remove-old.new.self.items c.in-Ok.lists.items (rw c.deref.ensures.value at c.in-Ok.ensures.faults)
+set_faults-requires g c = as_many g.L.Lint.meaning c.remove-old.new.self.items c.in-Ok.faults.items (rw c.deref.ensures.value at c.in-Ok.ensures.faults)
 
 pub returns-in-Ok-clause-linted : goal.returns-in-Ok-clause-linted
-returns-in-Ok-clause-linted g c = rw c.set_faults.ensures (relinted g.L.Lint.meaning g.L.Lint.is_unit c.remove-old.new.self.items c.in-Ok.lists.items _ (rw c.remove-old.ensures.items (all_remove _ c.args.files.now.items c.args.index c.requires.linted.kept)) (rw c.remove-old.ensures.items (remove_sorted c.args.files.now.items c.args.index c.requires.linted.ordered)) (omega (arith, c.requires.linted.few, length-remove c.args.files.now.items c.args.index, ap length c.remove-old.ensures.items)) (omega (arith, c.in-Ok.ensures.checks)) (rw c.deref.ensures.value at c.in-Ok.ensures.faults))
+returns-in-Ok-clause-linted g c = rw c.set_faults.ensures (relinted g.L.Lint.meaning g.L.Lint.is_unit c.remove-old.new.self.items c.in-Ok.faults.items _ (rw c.remove-old.ensures.items (all_remove _ c.args.files.now.items c.args.index c.requires.linted.kept)) (rw c.remove-old.ensures.items (remove_sorted c.args.files.now.items c.args.index c.requires.linted.ordered)) (omega (arith, c.requires.linted.few, length-remove c.args.files.now.items c.args.index, ap length c.remove-old.ensures.items)) (omega (arith, c.in-Ok.ensures.checks)) (rw c.deref.ensures.value at c.in-Ok.ensures.faults))
 
 pub returns-in-Ok-clause-folder : goal.returns-in-Ok-clause-folder
-returns-in-Ok-clause-folder g c = rw c.set_faults.ensures (folder_of-with_faults c.remove-old.new.self.items c.in-Ok.lists.items) ∙ ap folder_of c.remove-old.ensures.items ∙ remove_is c.args.files.now.items c.args.path.now c.args.index c.requires.place
+returns-in-Ok-clause-folder g c = rw c.set_faults.ensures (folder_of-with_faults c.remove-old.new.self.items c.in-Ok.faults.items) ∙ ap folder_of c.remove-old.ensures.items ∙ remove_is c.args.files.now.items c.args.path.now c.args.index c.requires.place
 
 pub returns-in-Ok-clause-rechecked : goal.returns-in-Ok-clause-rechecked
-returns-in-Ok-clause-rechecked g c = (rw c.deref.ensures.value at c.in-Ok.ensures.paths) ∙ ap paths_of (sym (rw c.set_faults.ensures (folder_of-with_faults c.remove-old.new.self.items c.in-Ok.lists.items)))
+returns-in-Ok-clause-rechecked g c = (rw c.deref.ensures.value at c.in-Ok.ensures.paths) ∙ ap paths_of (sym (rw c.set_faults.ensures (folder_of-with_faults c.remove-old.new.self.items c.in-Ok.faults.items)))
 
 pub returns-in-Ok-insert-clause-linted : goal.returns-in-Ok-insert-clause-linted
 returns-in-Ok-insert-clause-linted g c =
