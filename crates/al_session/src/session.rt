@@ -145,6 +145,7 @@ impl<L: Lint> Session<L> {
         ensures no_check { IfErr result (λ refused. refused ≢ Refused.Memory → self.new.checks ≡ self.old.checks) }
         ensures few_checks { OnErr result (IsUpTo self.old.checks self.new.checks
             (length (with_file self.old.folder path.now bytes.now))) }
+        ensures reads { OnOk result (self.new.reads ≡ counted self.old.reads 1) }
     {
         if let Some(refused) = self.put_refused(path, bytes) {
             return Err(refused);
