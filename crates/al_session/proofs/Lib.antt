@@ -1,0 +1,10 @@
+pub mod Answering
+pub mod Places
+pub mod Searches
+pub mod Lists
+pub mod Puts
+pub mod Refusals
+pub mod Replies
+pub mod Reports
+pub mod Writes
+pub mod Missings

@@ -1,0 +1,255 @@
+//! A folder of files, kept linted.
+
+ghost use Rattle.std.specs.Prelude.{◌≡◌, ◌≢◌, ℕ, List, [], Err, None, Some, length, IfOk, OnOk, OnErr, IfErr, IfSome};
+ghost use Rattle.std.specs.List.{AllByRecursion};
+ghost use Rattle.std.specs.Io.KnownBytes.{Appends, Keeps};
+ghost use Rattle.std.specs.Option.{option_copied};
+ghost use Rattle.al_text.specs.Counted.{HasRisen, AppendsFront};
+ghost use Rattle.al_text.specs.Spans.{LiesIn};
+ghost use Rattle.al_text.specs.Streams.{bytes_written, write_failures};
+ghost use Rattle.al_session.specs.Folder.{bytes_at, faults_at, put_refusal, delete_refusal, with_file, without_file, paths_of, refusal_or_memory};
+ghost use Rattle.al_session.specs.Meaning.{counted, IsUpTo};
+ghost use Rattle.al_session.specs.Missing.{missing_in};
+ghost use Rattle.al_session.specs.Report.{status_of, report_of};
+
+use crate::check::place;
+use crate::edit::{put_file, remove_file};
+use crate::kept::KeptFile;
+use crate::lint::{Lint, Refused};
+use crate::missing::missing_paths;
+use crate::paths::Paths;
+use crate::report::{has_faults, write_files};
+use al_text::{Fault, Output, Path, Stop, path_fault};
+use std::alloc::{AllocError, Global};
+use std::io::Write;
+use std::marker::Model;
+
+/// The greatest size of a file, in bytes.
+const LARGEST_FILE: usize = 1_048_576;
+
+/// The greatest number of files.
+const MOST_FILES: usize = 4_096;
+
+/// What an accepted edit did.
+#[derive(Drop)]
+pub struct Edit {
+    /// The files that were checked again, in order of path: all files of the folder.
+    pub rechecked: Paths,
+}
+
+/// A folder of files, kept linted.
+///
+/// Contracts see its folder, a list of paths and bytes in order of path, and its linter's two counts. What
+/// [`faults`](Session::faults), [`status`](Session::status), [`report`](Session::report) and
+/// [`missing`](Session::missing) answer is defined by that folder alone.
+#[derive(Drop)]
+pub struct Session<L: Lint> {
+    alloc: Global,
+    lint: L,
+    files: Vec<KeptFile<L::Unit, L::Iface>>,
+}
+
+impl<L: Lint> Model for Session<L> {
+    ghost use Rattle.al_session.specs.Kept.{SessionState, folder_of, AreLinted};
+
+    ghost Value = { SessionState };
+
+    ghost view = { λ s. record { folder = folder_of s.files.items; checks = L.checks_of s.lint; reads = L.reads_of s.lint } };
+
+    ghost invariant = { λ s. AreLinted L.meaning L.is_unit s.files.items (L.checks_of s.lint) };
+}
+
+impl<L: Lint> Session<L> {
+    /// A session over the empty folder. Takes no memory; what later calls need comes from `alloc`.
+    pub fn open(alloc: Global, lint: L) -> Session<L>
+        ensures folder { result.folder ≡ [] }
+        ensures checks { result.checks ≡ L.checks_of lint }
+        ensures reads { result.reads ≡ L.reads_of lint }
+    {
+        // A count is at most the greatest `u64`, which the call shows.
+        let _checks = lint.checks();
+        Session {
+            alloc,
+            lint,
+            files: Vec::new(alloc),
+        }
+    }
+
+    /// How many checks the linter has made, those of refused edits too. It stays at its greatest value. Takes no
+    /// memory.
+    pub fn meter(&self) -> u64
+        ensures { result ≡ self.now.checks }
+    {
+        self.lint.checks()
+    }
+
+    /// The bytes of a file; `None` where no file has this path. Takes no memory.
+    pub fn bytes(&self, path: &str) -> Option<&[u8]>
+        ensures { option_copied result ≡ bytes_at self.now.folder path.now }
+    {
+        match place(&self.files, path) {
+            Ok(index) => Some(self.files[index].bytes.as_slice()),
+            Err(_) => None,
+        }
+    }
+
+    /// The faults of a file, in order, each of which lies in the file; `None` where no file has this path. Takes no
+    /// memory.
+    pub fn faults(&self, path: &str) -> Option<&[Fault]>
+        ensures value { option_copied result ≡ faults_at L.meaning self.now.folder path.now }
+        ensures spans { IfSome result (λ faults. (b : List ℕ) → bytes_at self.now.folder path.now ≡ Some b
+            → AllByRecursion (λ fault. LiesIn (length b) fault.span) faults.now) }
+    {
+        match place(&self.files, path) {
+            Ok(index) => Some(self.files[index].faults.as_slice()),
+            Err(_) => None,
+        }
+    }
+
+    // Why a put is refused, other than for memory.
+    fn put_refused(&self, path: &str, bytes: &[u8]) -> Option<Refused>
+        ensures { result ≡ put_refusal L.meaning self.now.folder path.now bytes.now }
+    {
+        if path_fault(path).is_some() {
+            return Some(Refused::BadPath);
+        }
+        if !self.lint.accepts(path) {
+            return Some(Refused::NotAccepted);
+        }
+        if bytes.len() > LARGEST_FILE {
+            return Some(Refused::TooLarge);
+        }
+        if self.files.len() >= MOST_FILES && self.bytes(path).is_none() {
+            return Some(Refused::Full);
+        }
+        None
+    }
+
+    /// Sets the bytes of a file, which is new or stands in the place of the one with its path, and checks the files
+    /// again.
+    ///
+    /// # Errors
+    ///
+    /// The first of E1 to E4 that applies, and E6, only where none of these does, where memory ran out. The folder is
+    /// then as before, and so is all that is defined by it; the meter is as before after E1 to E4, and after E6 it has
+    /// risen by at most the number of files that the folder would have had.
+    pub fn put(&mut self, path: &str, bytes: &[u8]) -> Result<Edit, Refused>
+        ensures accepted { OnOk result (put_refusal L.meaning self.old.folder path.now bytes.now ≡ None) }
+        ensures folder { OnOk result (self.new.folder ≡ with_file self.old.folder path.now bytes.now) }
+        ensures rechecked { IfOk result (λ edit. edit.rechecked ≡ paths_of self.new.folder) }
+        ensures meter { IfOk result (λ edit.
+            self.new.checks ≡ counted self.old.checks (length edit.rechecked)) }
+        ensures refused { IfErr result (λ refused.
+            refused ≡ refusal_or_memory (put_refusal L.meaning self.old.folder path.now bytes.now)) }
+        ensures as_before { OnErr result (self.new.folder ≡ self.old.folder) }
+        ensures no_check { IfErr result (λ refused. refused ≢ Refused.Memory → self.new.checks ≡ self.old.checks) }
+        ensures few_checks { OnErr result (IsUpTo self.old.checks self.new.checks
+            (length (with_file self.old.folder path.now bytes.now))) }
+        ensures reads { OnOk result (self.new.reads ≡ counted self.old.reads 1) }
+    {
+        if let Some(refused) = self.put_refused(path, bytes) {
+            return Err(refused);
+        }
+        match put_file(&mut self.lint, self.alloc, &mut self.files, path, bytes) {
+            Ok(rechecked) => Ok(Edit { rechecked }),
+            Err(_) => Err(Refused::Memory),
+        }
+    }
+
+    // Why a delete is refused, other than for memory.
+    fn delete_refused(&self, path: &str) -> Option<Refused>
+        ensures { result ≡ delete_refusal L.meaning self.now.folder path.now }
+    {
+        if path_fault(path).is_some() {
+            return Some(Refused::BadPath);
+        }
+        if !self.lint.accepts(path) {
+            return Some(Refused::NotAccepted);
+        }
+        if self.bytes(path).is_none() {
+            return Some(Refused::NoSuchFile);
+        }
+        None
+    }
+
+    /// Takes a file out of the folder, and checks the others again.
+    ///
+    /// # Errors
+    ///
+    /// The first of E1, E2 and E5 that applies, and E6, only where none of these does, where memory ran out. The
+    /// folder is then as before, and so is all that is defined by it; the meter is as before after E1, E2 and E5, and
+    /// after E6 it has risen by at most the number of files that the folder would have had.
+    pub fn delete(&mut self, path: &str) -> Result<Edit, Refused>
+        ensures accepted { OnOk result (delete_refusal L.meaning self.old.folder path.now ≡ None) }
+        ensures folder { OnOk result (self.new.folder ≡ without_file self.old.folder path.now) }
+        ensures rechecked { IfOk result (λ edit. edit.rechecked ≡ paths_of self.new.folder) }
+        ensures meter { IfOk result (λ edit.
+            self.new.checks ≡ counted self.old.checks (length edit.rechecked)) }
+        ensures refused { IfErr result (λ refused.
+            refused ≡ refusal_or_memory (delete_refusal L.meaning self.old.folder path.now)) }
+        ensures as_before { OnErr result (self.new.folder ≡ self.old.folder) }
+        ensures no_check { IfErr result (λ refused. refused ≢ Refused.Memory → self.new.checks ≡ self.old.checks) }
+        ensures few_checks { OnErr result (IsUpTo self.old.checks self.new.checks
+            (length (without_file self.old.folder path.now))) }
+        ensures reads { self.new.reads ≡ self.old.reads }
+    {
+        if let Some(refused) = self.delete_refused(path) {
+            return Err(refused);
+        }
+        match place(&self.files, path) {
+            Ok(index) => match remove_file(
+                &mut self.lint,
+                self.alloc,
+                &mut self.files,
+                path,
+                index,
+            ) {
+                Ok(rechecked) => Ok(Edit { rechecked }),
+                Err(_) => Err(Refused::Memory),
+            },
+            Err(_) => Err(Refused::NoSuchFile),
+        }
+    }
+
+    /// 0 where no file has a fault, and else 1.
+    ///
+    /// # Errors
+    ///
+    /// [`AllocError`] where memory ran out.
+    pub fn status(&self) -> Result<u8, AllocError>
+        ensures { IfOk result (λ status. status ≡ status_of L.meaning self.now.folder) }
+    {
+        Ok(if has_faults(&self.files) { 1 } else { 0 })
+    }
+
+    /// Writes the faults of all files, a line each, file by file in order of path.
+    ///
+    /// # Errors
+    ///
+    /// [`Stop::WriteFault`] where the writer failed, which then holds a front of the report, and [`Stop::Memory`]
+    /// where memory ran out, which happens only before the first byte. No other stop is answered.
+    pub fn report<W: Write>(&self, writer: &mut Output<W>) -> Result<(), Stop>
+        ensures all { OnOk result (Appends (bytes_written W.contents writer.old) (bytes_written W.contents writer.new)
+            (report_of L.meaning self.now.folder)) }
+        ensures front { OnErr result (AppendsFront (bytes_written W.contents writer.old) (bytes_written W.contents writer.new)
+            (report_of L.meaning self.now.folder)) }
+        ensures memory { result ≡ Err Stop.Memory
+            → Keeps (bytes_written W.contents writer.old) (bytes_written W.contents writer.new) }
+        ensures failures { result ≢ Err Stop.WriteFault → write_failures writer.new ≡ write_failures writer.old }
+        ensures failed { result ≡ Err Stop.WriteFault → HasRisen (write_failures writer.old) (write_failures writer.new) }
+        ensures no_read { (result ≢ Err Stop.ReadFault) × (result ≢ Err Stop.TooManyTurns) }
+    {
+        write_files(writer, &self.files)
+    }
+
+    /// The candidates of calls that are not in the folder, in order of path, each once.
+    ///
+    /// # Errors
+    ///
+    /// [`AllocError`] where memory ran out.
+    pub fn missing(&self) -> Result<Vec<Path>, AllocError>
+        ensures { IfOk result (λ paths. paths.items ≡ missing_in L.meaning self.now.folder) }
+    {
+        missing_paths(&self.lint, self.alloc, &self.files)
+    }
+}
