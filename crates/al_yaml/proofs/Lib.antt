@@ -1,0 +1,7 @@
+pub mod LineLemmas
+pub mod MarkerLemmas
+pub mod ContentLemmas
+pub mod RunLemmas
+pub mod KeyLemmas
+pub mod ReadLemmas
+pub mod FlowLemmas
