@@ -98,7 +98,7 @@ end-steps bytes i (suc n) h =
     let e : i + suc n ≡ i + n + 1 = omega arith in
     rw e (omega (arith, below, step))
 
-end-order : (bytes : List ℕ) (i j : ℕ) → i ≤ j → j ≤ length bytes → first_end (lines_at bytes i) ≤ first_end (lines_at bytes j)
+pub end-order : (bytes : List ℕ) (i j : ℕ) → i ≤ j → j ≤ length bytes → first_end (lines_at bytes i) ≤ first_end (lines_at bytes j)
 end-order bytes i j h k =
     let e : i + (j - i) ≡ j = omega arith in
     let inside : i + (j - i) ≤ length bytes = omega arith in

@@ -5,3 +5,4 @@ pub mod RunLemmas
 pub mod KeyLemmas
 pub mod ReadLemmas
 pub mod FlowLemmas
+pub mod BlockLemmas

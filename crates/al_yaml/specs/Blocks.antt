@@ -41,10 +41,17 @@ abbrev pub is_behind_key : Spot → Bool
 is_behind_key behind_key = true
 is_behind_key _ = false
 
--- a tab before a compact collection
+-- the tab before a compact collection
+abbrev pub tab_before : Spot → Option ℕ
+tab_before (compact tab) = tab
+tab_before _ = None
+
+abbrev pub unless_at : {A : Type 0} → Option ℕ → Reading A → Reading A
+unless_at (Some at) r = fails yaml.TabInIndentation at
+unless_at None r = r
+
 abbrev pub unless_tab : {A : Type 0} → Spot → Reading A → Reading A
-unless_tab (compact (Some at)) r = fails yaml.TabInIndentation at
-unless_tab _ r = r
+unless_tab spot r = unless_at (tab_before spot) r
 
 -- the spot behind blanks on the line
 abbrev pub spot_behind : List Cell → Spot → Spot
@@ -139,15 +146,15 @@ mapping_entries node collection (suc turns) column depth done key = do
       (part (with_entry done (scalar_node key.scalar) x.value) x.end x.left)
 
 -- what is left behind a scalar: a block scalar ends with its last line
-abbrev pub scalar_left : List Line → ScalarRead → Result (List Line) Fault
-scalar_left ls r = if is_block_start (first_text ls) then Ok r.left else line_ended r.left
+abbrev pub scalar_left : List Line → List Line → Result (List Line) Fault
+scalar_left ls left = if is_block_start (first_text ls) then Ok left else line_ended left
 
 -- a scalar, and the whole lines behind its line
 abbrev pub scalar_node_at : ℕ → List Line → Reading (Part Node)
 scalar_node_at within ls =
     starting_scalar (start ls) (do
       r ← given (scalar_at (block within) ls)
-      left ← given (scalar_left ls r)
+      left ← given (scalar_left ls r.left)
       gives (part (scalar_node r) r.span.end left))
 
 -- The rest of a line, given the flow collection just read on it: no colon may stand there that would make it a key.

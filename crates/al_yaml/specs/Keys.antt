@@ -32,9 +32,13 @@ abbrev pub read_with_lines : List Line → Result ScalarRead Fault → Result Sc
 read_with_lines ls (Err e) = Err e
 read_with_lines ls (Ok r) = Ok (record { scalar = r.scalar; span = r.span; left = with_lines r.left ls })
 
+-- a plain scalar as far as it stands on its line
+abbrev pub plain_on_line : List Line → Result ScalarRead Fault
+plain_on_line ls = read_with_lines ls (scalar_at (block 0) (one_line ls))
+
 -- a scalar as far as it tells whether a key begins here: a plain one on its line, a quoted one whole
 abbrev pub key_scalar : List Line → Result ScalarRead Fault
-key_scalar ls = if is_quote (first_text ls) then scalar_at (block 0) ls else read_with_lines ls (scalar_at (block 0) (one_line ls))
+key_scalar ls = if is_quote (first_text ls) then scalar_at (block 0) ls else plain_on_line ls
 
 -- whether a colon follows that parts a key from its value
 abbrev pub has_colon : List Line → Bool

@@ -12,3 +12,4 @@ pub mod Contract
 pub mod Rows
 pub mod Places
 pub mod Reads
+pub mod BlockReads

@@ -2,7 +2,7 @@
 use Rattle.std.specs.Prelude.{◌≡◌, ℕ, ◌<◌, ◌≤◌, List, length, Bool, Option, Some, None, Result, Ok, Err}
 use Rattle.al_text.specs.declared.codes.Yaml.{Yaml}
 use Rattle.al_scalar.specs.Line.{Line}
-use Rattle.al_scalar.specs.Places.{lines_at}
+use Rattle.al_scalar.specs.Places.{IsLineEnd, first_end, lines_at}
 use Rattle.al_scalar.specs.Taken.{Fault}
 use Rattle.al_scalar.specs.declared.scalars.ScalarRead.{ScalarRead}
 use Rattle.al_yaml.specs.Content as content
@@ -43,3 +43,7 @@ pub record IsReadInside (bytes : List ℕ) (at : ℕ) (r : ScalarRead) : Type 0 
   pub from : at ≤ r.span.end
   pub end : r.span.end ≤ r.next
   pub inside : r.next ≤ length bytes
+
+-- the end of the line on which an offset stands
+abbrev pub IsLineTo : List ℕ → ℕ → ℕ → Type 0
+IsLineTo bytes at end = IsLineEnd bytes end × (first_end (lines_at bytes at) ≡ end)

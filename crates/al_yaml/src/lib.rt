@@ -2,6 +2,7 @@
 #![tactic(auto)]
 
 mod content;
+mod entries;
 mod faults;
 mod flow;
 mod keys;
