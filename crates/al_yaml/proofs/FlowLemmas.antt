@@ -1,0 +1,411 @@
+-- Flow collections against offsets.
+use Rattle.std.proofs.Common.{◌≡◌, ◌≢◌, ℕ, zero, suc, ◌+◌, ◌-◌, ◌<◌, ◌≤◌, List, [], ◌∷◌, ◌++◌, length, slice_index, refl, sym, ap, subst, ◌∙◌, arith, Bool, true, false, not, ◌&&◌, ◌||◌, ◌==◌, cond, Option, Some, None, Result, Ok, Err}
+use Rattle.al_text.specs.declared.codes.Yaml.{Yaml}
+use Rattle.al_text.specs.declared.codes.Yaml.TheVariants as yaml
+use Rattle.al_scalar.specs.Line.{Cell, Line, start, begins, is_empty}
+use Rattle.al_scalar.specs.Places.{lines_at, first_text, text_at, IsLineEnd}
+use Rattle.al_scalar.specs.Taken.{Fault, fault}
+use Rattle.al_scalar.specs.Scalar.{ScalarRead}
+use Rattle.al_yaml.specs.Node as tree
+use Rattle.al_yaml.specs.Reading.{Reading, Part, part, gives, given, fails, starting_scalar, start_of, listed, with_aliases, spanned, ◌>>=◌}
+use Rattle.al_yaml.specs.Limits.{broken_limit}
+use Rattle.al_scalar.specs.Plain.{flow}
+use Rattle.al_scalar.specs.Scalar.{scalar_at}
+use Rattle.al_yaml.specs.Content.{behind, is_quote, is_simple_key, is_property, is_flow_start, has_no_name, flow_fault, unless}
+use Rattle.al_yaml.specs.Flow.{After, goes_on, closes, after_item, gap, is_file_end, FlowReader, CollectionReader, FlowSlot, flow_items, flow_items_rest, flow_entries, flow_entries_rest, flow_key, flow_value, flow_entry_value, flow_content, flow_property, flow_node_over, flow_collection, empty_node, FlowKey, flow_key_of, key_colon, unless_late, behind_colon, is_late_colon}
+use Rattle.al_yaml.specs.Reads.{State, run, counted, Stops, Refuses}
+use Rattle.al_yaml.specs.declared.faults.Stop.{Stop}
+use Rattle.al_yaml.proofs.ReadLemmas.{stops-bind, stops-from, stops-same, stops-given, bind-ok, given-ok, positive, scalar_reading}
+use Rattle.al_yaml.proofs.LineLemmas.{behind-one, start-at, text-line_end, never}
+use Rattle.al_yaml.proofs.MarkerLemmas.{begins-inside}
+use Rattle.al_yaml.proofs.RunLemmas.{run-gives, run-fails, run-start, run-broken, run-stop, run-refused}
+
+pub if-true : {A : Type 0} (b : Bool) (x y : A) → true ≡ b → cond b x y ≡ x
+if-true b x y h = ap (λ c. cond c x y) (sym h)
+
+pub if-false : {A : Type 0} (b : Bool) (x y : A) → false ≡ b → cond b x y ≡ y
+if-false b x y h = ap (λ c. cond c x y) (sym h)
+
+-- ---- behind an item
+
+module _ (bytes : List ℕ) (opening close at : ℕ) (inside : at ≤ length bytes) (some : false ≡ is_empty (text_at bytes at)) where
+  pub after-comma : (next : ℕ) → true ≡ begins 44 (text_at bytes at) → gap false (lines_at bytes (at + 1)) ≡ lines_at bytes next → after_item opening close (lines_at bytes at) ≡ Ok (goes_on (lines_at bytes next))
+  after-comma next h g =
+      if-false (is_file_end (lines_at bytes at)) _ _ some ∙ if-true (begins 44 (text_at bytes at)) _ _ h
+      ∙ ap (λ ls. Ok (goes_on (gap false ls))) (behind-one bytes at inside (begins-inside bytes at 44 inside h)) ∙ ap (λ ls. Ok (goes_on ls)) g
+
+  module _ (no_comma : false ≡ begins 44 (text_at bytes at)) where
+    pub after-close : true ≡ begins close (text_at bytes at) → after_item opening close (lines_at bytes at) ≡ Ok (closes (at + 1) (lines_at bytes (at + 1)))
+    after-close h =
+        if-false (is_file_end (lines_at bytes at)) _ _ some ∙ if-false (begins 44 (text_at bytes at)) _ _ no_comma ∙ if-true (begins close (text_at bytes at)) _ _ h
+        ∙ ap (λ ls. Ok (closes (start (lines_at bytes at) + 1) ls)) (behind-one bytes at inside (begins-inside bytes at close inside h))
+        ∙ ap (λ i. Ok (closes (i + 1) (lines_at bytes (at + 1)))) (start-at bytes at inside)
+
+    pub after-other : false ≡ begins close (text_at bytes at) → after_item opening close (lines_at bytes at) ≡ fault yaml.UnexpectedCharacter at
+    after-other h =
+        if-false (is_file_end (lines_at bytes at)) _ _ some ∙ if-false (begins 44 (text_at bytes at)) _ _ no_comma ∙ if-false (begins close (text_at bytes at)) _ _ h
+        ∙ ap (fault yaml.UnexpectedCharacter) (start-at bytes at inside)
+
+-- ---- keys
+
+module _ (bytes : List ℕ) (at : ℕ) (inside : at ≤ length bytes) (r : ScalarRead) where
+  pub key-not_simple : false ≡ is_simple_key (lines_at bytes at) r → key_colon (lines_at bytes at) r ≡ fault yaml.WrongKey at
+  key-not_simple h = if-true (not (is_simple_key (lines_at bytes at) r)) _ _ (ap not h) ∙ ap (fault yaml.WrongKey) (start-at bytes at inside)
+
+  module _ (simple : true ≡ is_simple_key (lines_at bytes at) r) where
+    simple_key : key_colon (lines_at bytes at) r ≡ unless_late (lines_at bytes at) r (behind_colon (is_quote (text_at bytes at)) r.left)
+    simple_key = if-false (not (is_simple_key (lines_at bytes at) r)) _ _ (ap not simple)
+
+    pub key-colon : (left : List Line) → behind_colon (is_quote (text_at bytes at)) r.left ≡ Some left → key_colon (lines_at bytes at) r ≡ Ok (Some left)
+    key-colon left h = simple_key ∙ ap (unless_late (lines_at bytes at) r) h
+
+    module _ (none : behind_colon (is_quote (text_at bytes at)) r.left ≡ None) where
+      pub key-late : true ≡ is_late_colon r.left → key_colon (lines_at bytes at) r ≡ fault yaml.WrongKey at
+      key-late h = simple_key ∙ ap (unless_late (lines_at bytes at) r) none ∙ if-true (is_late_colon r.left) _ _ h ∙ ap (fault yaml.WrongKey) (start-at bytes at inside)
+
+      pub key-alone : false ≡ is_late_colon r.left → key_colon (lines_at bytes at) r ≡ Ok None
+      key-alone h = simple_key ∙ ap (unless_late (lines_at bytes at) r) none ∙ if-false (is_late_colon r.left) _ _ h
+
+-- ---- items
+
+module _ (node : FlowReader) (turns opening depth n : ℕ) (done : tree.Nodes) (bytes : List ℕ) (at : ℕ) (inside : at ≤ length bytes) where
+  pub items-open : true ≡ is_empty (text_at bytes at) → run (counted n) (flow_items node (suc turns) opening depth done (lines_at bytes at)) ≡ Err (record { code = yaml.UnclosedFlow; at = opening })
+  unfolding flow_items
+  items-open h = ap (run (counted n)) (if-true (is_file_end (lines_at bytes at)) _ _ h) ∙ run-fails n yaml.UnclosedFlow opening
+
+  pub items-closed : false ≡ is_empty (text_at bytes at) → true ≡ begins 93 (text_at bytes at)
+      → run (counted n) (flow_items node (suc turns) opening depth done (lines_at bytes at)) ≡ Ok (part done (at + 1) (lines_at bytes (at + 1)), counted n)
+  unfolding flow_items
+  items-closed h k =
+      ap (run (counted n)) (if-false (is_file_end (lines_at bytes at)) _ _ h ∙ if-true (begins 93 (text_at bytes at)) _ _ k
+      ∙ ap (λ ls. gives (part done (start (lines_at bytes at) + 1) ls)) (behind-one bytes at inside (begins-inside bytes at 93 inside k))
+      ∙ ap (λ i. gives (part done (i + 1) (lines_at bytes (at + 1)))) (start-at bytes at inside))
+      ∙ run-gives n (part done (at + 1) (lines_at bytes (at + 1)))
+
+  abbrev pub item_slot : FlowSlot
+  item_slot = record { opening = opening; empty = None }
+
+  abbrev pub items_behind : Part tree.Node → Reading (Part tree.Nodes)
+  items_behind x = flow_items_rest (λ left. flow_items node turns opening depth (tree.with_item done x.value) left) opening (tree.with_item done x.value) x.left
+
+  module _ (some : false ≡ is_empty (text_at bytes at)) (other : false ≡ begins 93 (text_at bytes at)) where
+    items-step : flow_items node (suc turns) opening depth done (lines_at bytes at) ≡ (node item_slot depth (lines_at bytes at) >>= items_behind)
+    unfolding flow_items
+    items-step = if-false (is_file_end (lines_at bytes at)) _ _ some ∙ if-false (begins 93 (text_at bytes at)) _ _ other
+
+    pub items-stop : (e : Stop) → Stops (node item_slot depth (lines_at bytes at)) n e → Stops (flow_items node (suc turns) opening depth done (lines_at bytes at)) n e
+    items-stop e h = stops-same _ _ n e items-step (stops-bind (node item_slot depth (lines_at bytes at)) items_behind n e h)
+
+    module _ (m : ℕ) (x : Part tree.Node) (read : run (counted n) (node item_slot depth (lines_at bytes at)) ≡ Ok (x, counted m)) where
+      items-behind : run (counted n) (flow_items node (suc turns) opening depth done (lines_at bytes at)) ≡ run (counted m) (items_behind x)
+      items-behind = ap (run (counted n)) items-step ∙ bind-ok (node item_slot depth (lines_at bytes at)) items_behind n m x read
+
+      abbrev pub items_next : After → Reading (Part tree.Nodes)
+      items_next found = elim found [ goes_on next ↦ flow_items node turns opening depth (tree.with_item done x.value) next | closes end next ↦ gives (part (tree.with_item done x.value) end next) ]
+
+      pub items-refused : (e : Stop) → Refuses (after_item opening 93 (gap false x.left)) e → Stops (flow_items node (suc turns) opening depth done (lines_at bytes at)) n e
+      items-refused e h = stops-from _ _ n m e items-behind (stops-given (after_item opening 93 (gap false x.left)) items_next m e h)
+
+      pub items-more : (next : List Line) → after_item opening 93 (gap false x.left) ≡ Ok (goes_on next)
+          → run (counted n) (flow_items node (suc turns) opening depth done (lines_at bytes at)) ≡ run (counted m) (flow_items node turns opening depth (tree.with_item done x.value) next)
+      items-more next h = items-behind ∙ given-ok (after_item opening 93 (gap false x.left)) items_next m (goes_on next) h
+
+      pub items-end : (end : ℕ) (next : List Line) → after_item opening 93 (gap false x.left) ≡ Ok (closes end next)
+          → run (counted n) (flow_items node (suc turns) opening depth done (lines_at bytes at)) ≡ Ok (part (tree.with_item done x.value) end next, counted m)
+      items-end end next h = items-behind ∙ given-ok (after_item opening 93 (gap false x.left)) items_next m (closes end next) h ∙ run-gives m (part (tree.with_item done x.value) end next)
+
+module _ (node : FlowReader) (opening depth n : ℕ) (done : tree.Nodes) (bytes : List ℕ) (at turns : ℕ) (inside : at ≤ length bytes) (pos : 0 < turns) where
+  pub items-open_at : true ≡ is_empty (text_at bytes at) → run (counted n) (flow_items node turns opening depth done (lines_at bytes at)) ≡ Err (record { code = yaml.UnclosedFlow; at = opening })
+  items-open_at h = positive (λ t. run (counted n) (flow_items node t opening depth done (lines_at bytes at)) ≡ Err (record { code = yaml.UnclosedFlow; at = opening })) turns pos (λ k _. items-open node k opening depth n done bytes at inside h)
+
+  pub items-closed_at : false ≡ is_empty (text_at bytes at) → true ≡ begins 93 (text_at bytes at) → run (counted n) (flow_items node turns opening depth done (lines_at bytes at)) ≡ Ok (part done (at + 1) (lines_at bytes (at + 1)), counted n)
+  items-closed_at h j = positive (λ t. run (counted n) (flow_items node t opening depth done (lines_at bytes at)) ≡ Ok (part done (at + 1) (lines_at bytes (at + 1)), counted n)) turns pos (λ k _. items-closed node k opening depth n done bytes at inside h j)
+
+  module _ (some : false ≡ is_empty (text_at bytes at)) (other : false ≡ begins 93 (text_at bytes at)) where
+    pub items-stop_at : (e : Stop) → Stops (node (record { opening = opening; empty = None }) depth (lines_at bytes at)) n e → Stops (flow_items node turns opening depth done (lines_at bytes at)) n e
+    items-stop_at e h = positive (λ t. Stops (flow_items node t opening depth done (lines_at bytes at)) n e) turns pos (λ k _. items-stop node k opening depth n done bytes at inside some other e h)
+
+    module _ (m : ℕ) (x : Part tree.Node) (read : run (counted n) (node (record { opening = opening; empty = None }) depth (lines_at bytes at)) ≡ Ok (x, counted m)) where
+      pub items-refused_at : (e : Stop) → Refuses (after_item opening 93 (gap false x.left)) e → Stops (flow_items node turns opening depth done (lines_at bytes at)) n e
+      items-refused_at e h = positive (λ t. Stops (flow_items node t opening depth done (lines_at bytes at)) n e) turns pos (λ k _. items-refused node k opening depth n done bytes at inside some other m x read e h)
+
+      pub items-more_at : (next : List Line) (r : Result (Part tree.Nodes × State) Fault) → after_item opening 93 (gap false x.left) ≡ Ok (goes_on next)
+          → ((k : ℕ) → turns ≡ suc k → run (counted m) (flow_items node k opening depth (tree.with_item done x.value) next) ≡ r) → run (counted n) (flow_items node turns opening depth done (lines_at bytes at)) ≡ r
+      items-more_at next r h f = positive (λ t. run (counted n) (flow_items node t opening depth done (lines_at bytes at)) ≡ r) turns pos (λ k e. items-more node k opening depth n done bytes at inside some other m x read next h ∙ f k e)
+
+      pub items-end_at : (end : ℕ) (next : List Line) → after_item opening 93 (gap false x.left) ≡ Ok (closes end next)
+          → run (counted n) (flow_items node turns opening depth done (lines_at bytes at)) ≡ Ok (part (tree.with_item done x.value) end next, counted m)
+      items-end_at end next h = positive (λ t. run (counted n) (flow_items node t opening depth done (lines_at bytes at)) ≡ Ok (part (tree.with_item done x.value) end next, counted m)) turns pos (λ k _. items-end node k opening depth n done bytes at inside some other m x read end next h)
+
+-- ---- entries
+
+module _ (node : FlowReader) (collection : CollectionReader) (turns opening depth n : ℕ) (done : tree.Entries) (bytes : List ℕ) (at : ℕ) (inside : at ≤ length bytes) where
+  pub entries-open : true ≡ is_empty (text_at bytes at) → run (counted n) (flow_entries node collection (suc turns) opening depth done (lines_at bytes at)) ≡ Err (record { code = yaml.UnclosedFlow; at = opening })
+  unfolding flow_entries
+  entries-open h = ap (run (counted n)) (if-true (is_file_end (lines_at bytes at)) _ _ h) ∙ run-fails n yaml.UnclosedFlow opening
+
+  pub entries-closed : false ≡ is_empty (text_at bytes at) → true ≡ begins 125 (text_at bytes at)
+      → run (counted n) (flow_entries node collection (suc turns) opening depth done (lines_at bytes at)) ≡ Ok (part done (at + 1) (lines_at bytes (at + 1)), counted n)
+  unfolding flow_entries
+  entries-closed h k =
+      ap (run (counted n)) (if-false (is_file_end (lines_at bytes at)) _ _ h ∙ if-true (begins 125 (text_at bytes at)) _ _ k
+      ∙ ap (λ ls. gives (part done (start (lines_at bytes at) + 1) ls)) (behind-one bytes at inside (begins-inside bytes at 125 inside k))
+      ∙ ap (λ i. gives (part done (i + 1) (lines_at bytes (at + 1)))) (start-at bytes at inside))
+      ∙ run-gives n (part done (at + 1) (lines_at bytes (at + 1)))
+
+  abbrev pub entry_behind : FlowKey → Part tree.Node → Reading (Part tree.Entries)
+  entry_behind key x =
+      flow_entries_rest (λ left. flow_entries node collection turns opening depth (tree.with_entry done (tree.scalar_node key.scalar) x.value) left) opening (tree.with_entry done (tree.scalar_node key.scalar) x.value) x.left
+
+  abbrev pub key_behind : FlowKey → Reading (Part tree.Entries)
+  key_behind key = flow_entry_value node opening depth key >>= entry_behind key
+
+  module _ (some : false ≡ is_empty (text_at bytes at)) (other : false ≡ begins 125 (text_at bytes at)) where
+    entries-step : flow_entries node collection (suc turns) opening depth done (lines_at bytes at) ≡ (flow_key collection depth (lines_at bytes at) >>= key_behind)
+    unfolding flow_entries
+    entries-step = if-false (is_file_end (lines_at bytes at)) _ _ some ∙ if-false (begins 125 (text_at bytes at)) _ _ other
+
+    pub entries-stop : (e : Stop) → Stops (flow_key collection depth (lines_at bytes at)) n e → Stops (flow_entries node collection (suc turns) opening depth done (lines_at bytes at)) n e
+    entries-stop e h = stops-same _ _ n e entries-step (stops-bind (flow_key collection depth (lines_at bytes at)) key_behind n e h)
+
+    module _ (m : ℕ) (key : FlowKey) (read : run (counted n) (flow_key collection depth (lines_at bytes at)) ≡ Ok (key, counted m)) where
+      key-read : run (counted n) (flow_entries node collection (suc turns) opening depth done (lines_at bytes at)) ≡ run (counted m) (key_behind key)
+      key-read = ap (run (counted n)) entries-step ∙ bind-ok (flow_key collection depth (lines_at bytes at)) key_behind n m key read
+
+      pub value-stop : (e : Stop) → Stops (flow_entry_value node opening depth key) m e → Stops (flow_entries node collection (suc turns) opening depth done (lines_at bytes at)) n e
+      value-stop e h = stops-from _ _ n m e key-read (stops-bind (flow_entry_value node opening depth key) (entry_behind key) m e h)
+
+      module _ (k : ℕ) (x : Part tree.Node) (value : run (counted m) (flow_entry_value node opening depth key) ≡ Ok (x, counted k)) where
+        value-read : run (counted n) (flow_entries node collection (suc turns) opening depth done (lines_at bytes at)) ≡ run (counted k) (entry_behind key x)
+        value-read = key-read ∙ bind-ok (flow_entry_value node opening depth key) (entry_behind key) m k x value
+
+        abbrev pub all : tree.Entries
+        all = tree.with_entry done (tree.scalar_node key.scalar) x.value
+
+        abbrev pub entries_next : After → Reading (Part tree.Entries)
+        entries_next found = elim found [ goes_on next ↦ flow_entries node collection turns opening depth all next | closes end next ↦ gives (part all end next) ]
+
+        pub entries-refused : (e : Stop) → Refuses (after_item opening 125 (gap false x.left)) e → Stops (flow_entries node collection (suc turns) opening depth done (lines_at bytes at)) n e
+        entries-refused e h = stops-from _ _ n k e value-read (stops-given (after_item opening 125 (gap false x.left)) entries_next k e h)
+
+        pub entries-more : (next : List Line) → after_item opening 125 (gap false x.left) ≡ Ok (goes_on next)
+            → run (counted n) (flow_entries node collection (suc turns) opening depth done (lines_at bytes at)) ≡ run (counted k) (flow_entries node collection turns opening depth all next)
+        entries-more next h = value-read ∙ given-ok (after_item opening 125 (gap false x.left)) entries_next k (goes_on next) h
+
+        pub entries-end : (end : ℕ) (next : List Line) → after_item opening 125 (gap false x.left) ≡ Ok (closes end next)
+            → run (counted n) (flow_entries node collection (suc turns) opening depth done (lines_at bytes at)) ≡ Ok (part all end next, counted k)
+        entries-end end next h = value-read ∙ given-ok (after_item opening 125 (gap false x.left)) entries_next k (closes end next) h ∙ run-gives k (part all end next)
+
+module _ (node : FlowReader) (collection : CollectionReader) (opening depth n : ℕ) (done : tree.Entries) (bytes : List ℕ) (at turns : ℕ) (inside : at ≤ length bytes) (pos : 0 < turns) where
+  pub entries-open_at : true ≡ is_empty (text_at bytes at) → run (counted n) (flow_entries node collection turns opening depth done (lines_at bytes at)) ≡ Err (record { code = yaml.UnclosedFlow; at = opening })
+  entries-open_at h = positive (λ t. run (counted n) (flow_entries node collection t opening depth done (lines_at bytes at)) ≡ Err (record { code = yaml.UnclosedFlow; at = opening })) turns pos (λ k _. entries-open node collection k opening depth n done bytes at inside h)
+
+  pub entries-closed_at : false ≡ is_empty (text_at bytes at) → true ≡ begins 125 (text_at bytes at) → run (counted n) (flow_entries node collection turns opening depth done (lines_at bytes at)) ≡ Ok (part done (at + 1) (lines_at bytes (at + 1)), counted n)
+  entries-closed_at h j = positive (λ t. run (counted n) (flow_entries node collection t opening depth done (lines_at bytes at)) ≡ Ok (part done (at + 1) (lines_at bytes (at + 1)), counted n)) turns pos (λ k _. entries-closed node collection k opening depth n done bytes at inside h j)
+
+  module _ (some : false ≡ is_empty (text_at bytes at)) (other : false ≡ begins 125 (text_at bytes at)) where
+    pub entries-stop_at : (e : Stop) → Stops (flow_key collection depth (lines_at bytes at)) n e → Stops (flow_entries node collection turns opening depth done (lines_at bytes at)) n e
+    entries-stop_at e h = positive (λ t. Stops (flow_entries node collection t opening depth done (lines_at bytes at)) n e) turns pos (λ k _. entries-stop node collection k opening depth n done bytes at inside some other e h)
+
+    module _ (m : ℕ) (key : FlowKey) (read : run (counted n) (flow_key collection depth (lines_at bytes at)) ≡ Ok (key, counted m)) where
+      pub value-stop_at : (e : Stop) → Stops (flow_entry_value node opening depth key) m e → Stops (flow_entries node collection turns opening depth done (lines_at bytes at)) n e
+      value-stop_at e h = positive (λ t. Stops (flow_entries node collection t opening depth done (lines_at bytes at)) n e) turns pos (λ k _. value-stop node collection k opening depth n done bytes at inside some other m key read e h)
+
+      module _ (j : ℕ) (x : Part tree.Node) (value : run (counted m) (flow_entry_value node opening depth key) ≡ Ok (x, counted j)) where
+        pub entries-refused_at : (e : Stop) → Refuses (after_item opening 125 (gap false x.left)) e → Stops (flow_entries node collection turns opening depth done (lines_at bytes at)) n e
+        entries-refused_at e h = positive (λ t. Stops (flow_entries node collection t opening depth done (lines_at bytes at)) n e) turns pos (λ k _. entries-refused node collection k opening depth n done bytes at inside some other m key read j x value e h)
+
+        pub entries-more_at : (next : List Line) (r : Result (Part tree.Entries × State) Fault) → after_item opening 125 (gap false x.left) ≡ Ok (goes_on next)
+            → ((k : ℕ) → turns ≡ suc k → run (counted j) (flow_entries node collection k opening depth (tree.with_entry done (tree.scalar_node key.scalar) x.value) next) ≡ r) → run (counted n) (flow_entries node collection turns opening depth done (lines_at bytes at)) ≡ r
+        entries-more_at next r h f = positive (λ t. run (counted n) (flow_entries node collection t opening depth done (lines_at bytes at)) ≡ r) turns pos (λ k e. entries-more node collection k opening depth n done bytes at inside some other m key read j x value next h ∙ f k e)
+
+        pub entries-end_at : (end : ℕ) (next : List Line) → after_item opening 125 (gap false x.left) ≡ Ok (closes end next)
+            → run (counted n) (flow_entries node collection turns opening depth done (lines_at bytes at)) ≡ Ok (part (tree.with_entry done (tree.scalar_node key.scalar) x.value) end next, counted j)
+        entries-end_at end next h = positive (λ t. run (counted n) (flow_entries node collection t opening depth done (lines_at bytes at)) ≡ Ok (part (tree.with_entry done (tree.scalar_node key.scalar) x.value) end next, counted j)) turns pos (λ k _. entries-end node collection k opening depth n done bytes at inside some other m key read j x value end next h)
+
+-- ---- nodes
+
+pub run-aliases : {A : Type 0} (n at : ℕ) (r : Reading A) → run (counted n) (with_aliases at r) ≡ Err (record { code = yaml.AnchorOrAlias; at = at })
+unfolding run
+run-aliases n at r = refl
+
+module _ (collection : CollectionReader) (slot : FlowSlot) (depth n : ℕ) (bytes : List ℕ) (at : ℕ) (inside : at ≤ length bytes) where
+  pub node-property : true ≡ is_property (text_at bytes at) → run (counted n) (flow_node_over collection slot depth (lines_at bytes at)) ≡ Err (record { code = yaml.AnchorOrAlias; at = at })
+  node-property h =
+      ap (run (counted n)) (if-true (is_property (text_at bytes at)) _ _ h) ∙ run-aliases n (start (lines_at bytes at)) (flow_property collection slot depth (lines_at bytes at))
+      ∙ ap (λ i. Err (record { code = yaml.AnchorOrAlias; at = i })) (start-at bytes at inside)
+
+  module _ (plain : false ≡ is_property (text_at bytes at)) where
+    node-content : flow_node_over collection slot depth (lines_at bytes at) ≡ flow_content collection slot depth (lines_at bytes at)
+    node-content = if-false (is_property (text_at bytes at)) _ _ plain
+
+    abbrev pub node_inside : Reading (Part tree.Node)
+    node_inside =
+        cond (is_property (text_at bytes at)) (fails yaml.UnexpectedCharacter (start (lines_at bytes at)))
+        (cond (is_flow_start (text_at bytes at)) (collection depth (lines_at bytes at)) (starting_scalar (start (lines_at bytes at)) (scalar_reading (scalar_at flow (lines_at bytes at)))))
+
+    content-unless : flow_content collection slot depth (lines_at bytes at) ≡ unless (flow_fault (text_at bytes at)) (start (lines_at bytes at)) node_inside
+    unfolding flow_content
+    content-unless = refl
+
+    pub node-fault : (code : Yaml) → Some code ≡ flow_fault (text_at bytes at) → run (counted n) (flow_node_over collection slot depth (lines_at bytes at)) ≡ Err (record { code = code; at = at })
+    node-fault code h =
+        ap (run (counted n)) (node-content ∙ content-unless ∙ ap (λ o. unless o (start (lines_at bytes at)) node_inside) (sym h)) ∙ run-fails n code (start (lines_at bytes at))
+        ∙ ap (λ i. Err (record { code = code; at = i })) (start-at bytes at inside)
+
+    module _ (right : None ≡ flow_fault (text_at bytes at)) where
+      node-right : flow_node_over collection slot depth (lines_at bytes at) ≡ node_inside
+      node-right = node-content ∙ content-unless ∙ ap (λ o. unless o (start (lines_at bytes at)) node_inside) (sym right)
+
+      pub node-collection : true ≡ is_flow_start (text_at bytes at) → flow_node_over collection slot depth (lines_at bytes at) ≡ collection depth (lines_at bytes at)
+      node-collection h = node-right ∙ if-false (is_property (text_at bytes at)) _ _ plain ∙ if-true (is_flow_start (text_at bytes at)) _ _ h
+
+      pub node-scalar : false ≡ is_flow_start (text_at bytes at) → flow_node_over collection slot depth (lines_at bytes at) ≡ listed (start_of at 1 0) (scalar_reading (scalar_at flow (lines_at bytes at)))
+      node-scalar h =
+          node-right ∙ if-false (is_property (text_at bytes at)) _ _ plain ∙ if-false (is_flow_start (text_at bytes at)) _ _ h
+          ∙ ap (λ i. listed (start_of i 1 0) (scalar_reading (scalar_at flow (lines_at bytes at)))) (start-at bytes at inside)
+
+-- ---- keys of entries
+
+module _ (collection : CollectionReader) (depth n : ℕ) (bytes : List ℕ) (at : ℕ) (inside : at ≤ length bytes) where
+  abbrev pub key_inside : Reading FlowKey
+  key_inside =
+      cond (is_property (text_at bytes at)) (with_aliases (start (lines_at bytes at)) (fails (cond (has_no_name (lines_at bytes at)) yaml.UnexpectedCharacter yaml.AnchorOrAlias) (start (lines_at bytes at))))
+      (cond (is_flow_start (text_at bytes at)) (collection depth (lines_at bytes at) >>= (λ x. fails yaml.WrongKey (start (lines_at bytes at))))
+      (given (scalar_at flow (lines_at bytes at)) >>= (λ r. flow_key_of (lines_at bytes at) r)))
+
+  key-unless : flow_key collection depth (lines_at bytes at) ≡ unless (flow_fault (text_at bytes at)) (start (lines_at bytes at)) key_inside
+  unfolding flow_key
+  key-unless = refl
+
+  pub key-fault : (code : Yaml) → Some code ≡ flow_fault (text_at bytes at) → run (counted n) (flow_key collection depth (lines_at bytes at)) ≡ Err (record { code = code; at = at })
+  key-fault code h =
+      ap (run (counted n)) (key-unless ∙ ap (λ o. unless o (start (lines_at bytes at)) key_inside) (sym h)) ∙ run-fails n code (start (lines_at bytes at))
+      ∙ ap (λ i. Err (record { code = code; at = i })) (start-at bytes at inside)
+
+  module _ (right : None ≡ flow_fault (text_at bytes at)) where
+    key-right : flow_key collection depth (lines_at bytes at) ≡ key_inside
+    key-right = key-unless ∙ ap (λ o. unless o (start (lines_at bytes at)) key_inside) (sym right)
+
+    pub key-property : true ≡ is_property (text_at bytes at) → run (counted n) (flow_key collection depth (lines_at bytes at)) ≡ Err (record { code = yaml.AnchorOrAlias; at = at })
+    key-property h =
+        ap (run (counted n)) (key-right ∙ if-true (is_property (text_at bytes at)) _ _ h) ∙ run-aliases n (start (lines_at bytes at)) (fails (cond (has_no_name (lines_at bytes at)) yaml.UnexpectedCharacter yaml.AnchorOrAlias) (start (lines_at bytes at)))
+        ∙ ap (λ i. Err (record { code = yaml.AnchorOrAlias; at = i })) (start-at bytes at inside)
+
+    module _ (plain : false ≡ is_property (text_at bytes at)) where
+      key-step : true ≡ is_flow_start (text_at bytes at) → flow_key collection depth (lines_at bytes at) ≡ (collection depth (lines_at bytes at) >>= (λ x. fails yaml.WrongKey (start (lines_at bytes at))))
+      key-step h = key-right ∙ if-false (is_property (text_at bytes at)) _ _ plain ∙ if-true (is_flow_start (text_at bytes at)) _ _ h
+
+      pub key-stop : true ≡ is_flow_start (text_at bytes at) → (e : Stop) → Stops (collection depth (lines_at bytes at)) n e → Stops (flow_key collection depth (lines_at bytes at)) n e
+      key-stop h e k = stops-same _ _ n e (key-step h) (stops-bind (collection depth (lines_at bytes at)) (λ x. fails yaml.WrongKey (start (lines_at bytes at))) n e k)
+
+      pub key-refused : true ≡ is_flow_start (text_at bytes at) → (m : ℕ) (x : Part tree.Node) → run (counted n) (collection depth (lines_at bytes at)) ≡ Ok (x, counted m)
+          → run (counted n) (flow_key collection depth (lines_at bytes at)) ≡ Err (record { code = yaml.WrongKey; at = at })
+      key-refused h m x k =
+          ap (run (counted n)) (key-step h) ∙ bind-ok (collection depth (lines_at bytes at)) (λ x. fails yaml.WrongKey (start (lines_at bytes at))) n m x k ∙ run-fails m yaml.WrongKey (start (lines_at bytes at))
+          ∙ ap (λ i. Err (record { code = yaml.WrongKey; at = i })) (start-at bytes at inside)
+
+      module _ (scalar : false ≡ is_flow_start (text_at bytes at)) where
+        key-scalar : flow_key collection depth (lines_at bytes at) ≡ (given (scalar_at flow (lines_at bytes at)) >>= (λ r. flow_key_of (lines_at bytes at) r))
+        key-scalar = key-right ∙ if-false (is_property (text_at bytes at)) _ _ plain ∙ if-false (is_flow_start (text_at bytes at)) _ _ scalar
+
+        pub key-unread : (e : Stop) → Refuses (scalar_at flow (lines_at bytes at)) e → Stops (flow_key collection depth (lines_at bytes at)) n e
+        key-unread e h = stops-same _ _ n e key-scalar (stops-given (scalar_at flow (lines_at bytes at)) (λ r. flow_key_of (lines_at bytes at) r) n e h)
+
+        module _ (r : ScalarRead) (read : scalar_at flow (lines_at bytes at) ≡ Ok r) where
+          abbrev pub with_colon : Option (List Line) → Reading FlowKey
+          with_colon colon = starting_scalar (start (lines_at bytes at)) (gives (record { scalar = r; behind = colon }))
+
+          scalar-read : run (counted n) (flow_key collection depth (lines_at bytes at)) ≡ run (counted n) (given (key_colon (lines_at bytes at) r) >>= with_colon)
+          scalar-read = ap (run (counted n)) key-scalar ∙ given-ok (scalar_at flow (lines_at bytes at)) (λ r. flow_key_of (lines_at bytes at) r) n r read
+
+          pub key-wrong : (f : Fault) → key_colon (lines_at bytes at) r ≡ Err f → run (counted n) (flow_key collection depth (lines_at bytes at)) ≡ Err f
+          key-wrong f h = scalar-read ∙ run-stop (counted n) (given (key_colon (lines_at bytes at) r)) with_colon f (run-refused n (key_colon (lines_at bytes at) r) f h)
+
+          module _ (colon : Option (List Line)) (found : key_colon (lines_at bytes at) r ≡ Ok colon) where
+            key-found : run (counted n) (flow_key collection depth (lines_at bytes at)) ≡ run (counted n) (listed (start_of at 1 0) (gives (record { scalar = r; behind = colon })))
+            key-found =
+                scalar-read ∙ given-ok (key_colon (lines_at bytes at) r) with_colon n colon found
+                ∙ ap (λ i. run (counted n) (listed (start_of i 1 0) (gives (record { scalar = r; behind = colon })))) (start-at bytes at inside)
+
+            pub key-broken : (f : Fault) → broken_limit n 0 (start_of at 1 0 ∷ []) ≡ Some f → run (counted n) (flow_key collection depth (lines_at bytes at)) ≡ Err f
+            key-broken f h = key-found ∙ run-broken n 1 at 0 (gives (record { scalar = r; behind = colon })) f h
+
+            pub key-ok : (m : ℕ) → broken_limit n 0 (start_of at 1 0 ∷ []) ≡ None → m ≡ n + 1 → run (counted n) (flow_key collection depth (lines_at bytes at)) ≡ Ok (record { scalar = r; behind = colon }, counted m)
+            key-ok m h e =
+                let x : FlowKey = record { scalar = r; behind = colon } in
+                key-found ∙ run-start n 1 at 0 (gives x) h ∙ run-gives (n + 1) x ∙ ap (λ i. Ok (x, counted i)) (sym e)
+
+-- ---- values
+
+module _ (node : FlowReader) (opening depth n : ℕ) (bytes : List ℕ) (scalar : ScalarRead) where
+  pub value-none : (o : Option (List Line)) → o ≡ None → flow_entry_value node opening depth (record { scalar = scalar; behind = o }) ≡ empty_node scalar.span.end scalar.left
+  unfolding flow_entry_value
+  value-none o h = ap (λ b. flow_entry_value node opening depth (record { scalar = scalar; behind = b })) h
+
+  module _ (o : Option (List Line)) (colon at : ℕ) (inside : colon ≤ length bytes) (here : at ≤ length bytes) (is : o ≡ Some (lines_at bytes colon)) (gapped : gap false (lines_at bytes colon) ≡ lines_at bytes at) where
+    abbrev pub value_slot : FlowSlot
+    value_slot = record { opening = opening; empty = Some colon }
+
+    value-some : flow_entry_value node opening depth (record { scalar = scalar; behind = o }) ≡ flow_value node value_slot depth (lines_at bytes at)
+    unfolding flow_entry_value
+    value-some =
+        ap (λ b. flow_entry_value node opening depth (record { scalar = scalar; behind = b })) is
+        ∙ ap (λ i. flow_value node (record { opening = opening; empty = Some i }) depth (gap false (lines_at bytes colon))) (start-at bytes colon inside)
+        ∙ ap (flow_value node value_slot depth) gapped
+
+    pub value-open : true ≡ is_empty (text_at bytes at) → run (counted n) (flow_entry_value node opening depth (record { scalar = scalar; behind = o })) ≡ Err (record { code = yaml.UnclosedFlow; at = opening })
+    value-open h = ap (run (counted n)) (value-some ∙ if-true (is_file_end (lines_at bytes at)) _ _ h) ∙ run-fails n yaml.UnclosedFlow opening
+
+    module _ (some : false ≡ is_empty (text_at bytes at)) where
+      pub value-empty : true ≡ (begins 44 (text_at bytes at) || begins 125 (text_at bytes at)) → flow_entry_value node opening depth (record { scalar = scalar; behind = o }) ≡ empty_node colon (lines_at bytes at)
+      value-empty h = value-some ∙ if-false (is_file_end (lines_at bytes at)) _ _ some ∙ if-true (begins 44 (text_at bytes at) || begins 125 (text_at bytes at)) _ _ h
+
+      pub value-node : false ≡ (begins 44 (text_at bytes at) || begins 125 (text_at bytes at)) → flow_entry_value node opening depth (record { scalar = scalar; behind = o }) ≡ node value_slot depth (lines_at bytes at)
+      value-node h = value-some ∙ if-false (is_file_end (lines_at bytes at)) _ _ some ∙ if-false (begins 44 (text_at bytes at) || begins 125 (text_at bytes at)) _ _ h
+
+-- ---- collections
+
+pub flow_start-solid : (bytes : List ℕ) (at : ℕ) → at ≤ length bytes → is_flow_start (text_at bytes at) ≡ true → IsLineEnd bytes at → ⊥
+flow_start-solid bytes at h b k = never (sym (ap is_flow_start (text-line_end bytes at h k)) ∙ b)
+
+module _ (bound depth n : ℕ) (bytes : List ℕ) (at : ℕ) (here : at ≤ length bytes) where
+  abbrev pub collection_from : ℕ → List Line → Reading (Part tree.Node)
+  collection_from i ls =
+      cond (begins 91 (text_at bytes at)) (spanned tree.sequence i (flow_items (flow_node_over (flow_collection bound)) (suc bound) i (depth + 1) tree.no_nodes ls))
+      (spanned tree.mapping i (flow_entries (flow_node_over (flow_collection bound)) (flow_collection bound) (suc bound) i (depth + 1) tree.no_entries ls))
+
+  collection-first : flow_collection (suc bound) depth (lines_at bytes at) ≡ listed (start_of at 1 depth) (collection_from at (gap false (behind 1 (lines_at bytes at))))
+  unfolding flow_collection
+  collection-first = ap (λ i. listed (start_of i 1 depth) (collection_from i (gap false (behind 1 (lines_at bytes at))))) (start-at bytes at here)
+
+  pub collection-broken : (f : Fault) → broken_limit n 0 (start_of at 1 depth ∷ []) ≡ Some f → run (counted n) (flow_collection (suc bound) depth (lines_at bytes at)) ≡ Err f
+  collection-broken f h = ap (run (counted n)) collection-first ∙ run-broken n 1 at depth (collection_from at (gap false (behind 1 (lines_at bytes at)))) f h
+
+module _ (bound depth n : ℕ) (bytes : List ℕ) (at inside : ℕ) (here : at ≤ length bytes) (solid : IsLineEnd bytes at → ⊥) (gapped : gap false (lines_at bytes (at + 1)) ≡ lines_at bytes inside) where
+  abbrev pub node_reader : FlowReader
+  node_reader = flow_node_over (flow_collection bound)
+
+  abbrev pub collection_inside : ℕ → List Line → Reading (Part tree.Node)
+  collection_inside i ls =
+      cond (begins 91 (text_at bytes at)) (spanned tree.sequence i (flow_items node_reader (suc bound) i (depth + 1) tree.no_nodes ls)) (spanned tree.mapping i (flow_entries node_reader (flow_collection bound) (suc bound) i (depth + 1) tree.no_entries ls))
+
+  collection-step : flow_collection (suc bound) depth (lines_at bytes at) ≡ listed (start_of at 1 depth) (collection_inside at (lines_at bytes inside))
+  unfolding flow_collection
+  collection-step =
+      ap (λ i. listed (start_of i 1 depth) (collection_inside i (gap false (behind 1 (lines_at bytes at))))) (start-at bytes at here)
+      ∙ ap (λ ls. listed (start_of at 1 depth) (collection_inside at (gap false ls))) (behind-one bytes at here solid)
+      ∙ ap (λ ls. listed (start_of at 1 depth) (collection_inside at ls)) gapped
+
+  module _ (m : ℕ) (fits : broken_limit n 0 (start_of at 1 depth ∷ []) ≡ None) (more : m ≡ n + 1) where
+    collection-starts : run (counted n) (flow_collection (suc bound) depth (lines_at bytes at)) ≡ run (counted m) (collection_inside at (lines_at bytes inside))
+    collection-starts =
+        ap (run (counted n)) collection-step ∙ run-start n 1 at depth (collection_inside at (lines_at bytes inside)) fits ∙ ap (λ i. run (counted i) (collection_inside at (lines_at bytes inside))) (sym more)
+
+    pub collection-sequence : true ≡ begins 91 (text_at bytes at)
+        → run (counted n) (flow_collection (suc bound) depth (lines_at bytes at)) ≡ run (counted m) (spanned tree.sequence at (flow_items node_reader (suc bound) at (depth + 1) tree.no_nodes (lines_at bytes inside)))
+    collection-sequence h = collection-starts ∙ ap (run (counted m)) (if-true (begins 91 (text_at bytes at)) _ _ h)
+
+    pub collection-mapping : false ≡ begins 91 (text_at bytes at)
+        → run (counted n) (flow_collection (suc bound) depth (lines_at bytes at)) ≡ run (counted m) (spanned tree.mapping at (flow_entries node_reader (flow_collection bound) (suc bound) at (depth + 1) tree.no_entries (lines_at bytes inside)))
+    collection-mapping h = collection-starts ∙ ap (run (counted m)) (if-false (begins 91 (text_at bytes at)) _ _ h)

@@ -1,0 +1,24 @@
+use Rattle.std.proofs.Common.{◌≡◌, ◌∙◌, ℕ, List, Some, None, Ok, Err, ap, sym, refl, arith, take, true, false}
+use Rattle.std.proofs.lemmas.Result.{err_from_is_err_and}
+use Rattle.al_scalar.specs.Places.{lines_at, text_at}
+use Rattle.al_scalar.specs.Contract.{read_of}
+use Rattle.al_scalar.specs.Plain.{block}
+use Rattle.al_scalar.specs.Scalar.{scalar_at}
+use Rattle.al_yaml.specs.Places.{fault_of}
+use Rattle.al_yaml.proofs.BlockLemmas.{line-broken, line-unread, line-wrong, line-ok}
+use Rattle.al_yaml.proofs.entries.read_line_scalar.Goals as goal
+
+pub returns-in_err-start-clause-is : goal.returns-in_err-start-clause-is
+returns-in_err-start-clause-is c = let p = err_from_is_err_and c.from_residual.result c.from_residual.ensures.1 in
+    rw (p.1, p.2) (line-broken c.args.within c.args.count.now.nodes c.args.at c.args.bytes.now c.requires.inside (fault_of c.in_err-start.field-0.0) c.in_err-start.ensures.limits)
+
+pub returns-in_err-read-clause-is : goal.returns-in_err-read-clause-is
+returns-in_err-read-clause-is c = let p = err_from_is_err_and c.from_residual-in_err-read.result c.from_residual-in_err-read.ensures.1 in
+    rw (p.1, p.2) (line-unread c.args.within c.args.count.now.nodes c.args.at c.args.bytes.now c.requires.inside c.start.new.self.nodes c.in_ok-start.ensures.limits c.in_ok-start.ensures.nodes c.in_err-read.field-0.0 c.in_err-read.ensures.is)
+
+pub returns-in_err-next-clause-is : goal.returns-in_err-next-clause-is
+returns-in_err-next-clause-is c = let p = err_from_is_err_and c.from_residual-in_err-next.result c.from_residual-in_err-next.ensures.1 in
+    rw (p.1, p.2) (line-wrong c.args.within c.args.count.now.nodes c.args.at c.args.bytes.now c.requires.inside c.start.new.self.nodes c.in_ok-start.ensures.limits c.in_ok-start.ensures.nodes c.in_ok-read.read c.in_ok-read.ensures.is (fault_of c.in_err-next.field-0.0) c.in_err-next.ensures.is)
+
+pub returns-clause-is : goal.returns-clause-is
+returns-clause-is c = line-ok c.args.within c.args.count.now.nodes c.args.at c.args.bytes.now c.requires.inside c.start.new.self.nodes c.in_ok-start.ensures.limits c.in_ok-start.ensures.nodes c.in_ok-read.read c.in_ok-read.ensures.is c.in_ok-next.next c.scalar_part.result c.in_ok-next.ensures.is c.scalar_part.ensures.node c.scalar_part.ensures.end c.scalar_part.ensures.next

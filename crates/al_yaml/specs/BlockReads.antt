@@ -1,0 +1,23 @@
+-- How contracts speak of keys and slots of block collections.
+use Rattle.std.specs.Prelude.{ℕ, ◌<◌, ◌≤◌, List, length, Option, Some, None}
+use Rattle.al_scalar.specs.Contract.{read_of}
+use Rattle.al_scalar.specs.Places.{lines_at}
+use Rattle.al_yaml.specs.Keys as keys
+use Rattle.al_yaml.specs.Places.{IsReadInside}
+use Rattle.al_yaml.specs.declared.entries.Key.{Key}
+
+abbrev pub key_seen : List ℕ → Key → keys.Key
+key_seen bytes key = record { scalar = read_of bytes key.read; behind = lines_at bytes key.behind }
+
+abbrev pub option_key : List ℕ → Option Key → Option keys.Key
+option_key bytes None = None
+option_key bytes (Some key) = Some (key_seen bytes key)
+
+pub record IsKeyBehind (bytes : List ℕ) (at : ℕ) (key : Key) : Type 0 where
+  pub read : IsReadInside bytes at key.read
+  pub from : key.read.next < key.behind
+  pub inside : key.behind ≤ length bytes
+
+abbrev pub IsOptionKey : List ℕ → ℕ → Option Key → Type 0
+IsOptionKey bytes at None = Unit {0}
+IsOptionKey bytes at (Some key) = IsKeyBehind bytes at key

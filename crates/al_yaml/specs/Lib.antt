@@ -1,0 +1,15 @@
+pub mod Node
+pub mod Reading
+pub mod Limits
+pub mod Content
+pub mod Flow
+pub mod Keys
+pub mod Blocks
+pub mod Bytes
+pub mod Document
+pub mod View
+pub mod Contract
+pub mod Rows
+pub mod Places
+pub mod Reads
+pub mod BlockReads
