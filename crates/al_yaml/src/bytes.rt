@@ -1,7 +1,7 @@
 ghost use Rattle.al_scalar.specs.Places.{lines_at};
 ghost use Rattle.al_yaml.specs.ByteFaults.{IsByteFault};
 ghost use Rattle.al_yaml.specs.Bytes as definition;
-ghost use Rattle.std.specs.Prelude.{◌+◌, ◌<◌, ◌≡◌, ◌≤◌, ◌^◌, IsTrue, MatchOption, None, drop, false, length, slice_index, true, zero};
+ghost use Rattle.std.specs.Prelude.{◌+◌, ◌<◌, ◌≡◌, ◌≤◌, ◌^◌, IsTrue, MatchOption, None, false, length, slice_index, true};
 
 use al_scalar::{YamlFault, fault_at};
 use al_text::{Span, Yaml};

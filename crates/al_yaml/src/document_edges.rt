@@ -3,7 +3,7 @@ ghost use Rattle.al_yaml.specs.Content as content;
 ghost use Rattle.al_yaml.specs.Document as document;
 ghost use Rattle.al_yaml.specs.DocumentLines.{IsBehindMarker, text_line};
 ghost use Rattle.al_yaml.specs.Places.{Shows};
-ghost use Rattle.std.specs.Prelude.{◌<◌, ◌≡◌, ◌≤◌, IfOk, IsTrue, false, length};
+ghost use Rattle.std.specs.Prelude.{◌<◌, ◌≡◌, ◌≤◌, IfOk, false, length};
 
 use crate::content::{is_skipped, line_ended};
 use crate::faults::FaultAt;
