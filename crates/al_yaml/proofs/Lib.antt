@@ -6,3 +6,6 @@ pub mod KeyLemmas
 pub mod ReadLemmas
 pub mod FlowLemmas
 pub mod BlockLemmas
+pub mod ByteLemmas
+pub mod DocumentLemmas
+pub mod ViewLemmas

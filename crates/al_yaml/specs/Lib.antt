@@ -13,3 +13,6 @@ pub mod Rows
 pub mod Places
 pub mod Reads
 pub mod BlockReads
+pub mod Access
+pub mod ByteFaults
+pub mod DocumentLines
