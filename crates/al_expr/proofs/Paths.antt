@@ -1,15 +1,19 @@
 -- Paths, levels and arguments, item by item.
 use Rattle.std.proofs.Common.{◌≡◌, ℕ, List, [], ◌∷◌, ◌++◌, Bool, true, map, Option, Some, None, refl, sym, ap, ◌∙◌, append_assoc}
-use Rattle.std.specs.Prelude.{option_map}
+use Rattle.std.specs.Prelude.{option_map, if◌then◌else◌}
 use Rattle.al_text.specs.declared.faults.Fault.{Fault}
 use Rattle.al_text.specs.declared.faults.Span.{Span}
+use Rattle.al_text.specs.declared.codes.Expression.TheVariants as code
+use Rattle.al_expr.specs.declared.names.Context.{Context}
 use Rattle.al_expr.specs.declared.names.Function.{Function}
-use Rattle.al_expr.specs.Types.{Type'}
-use Rattle.al_expr.specs.Tree.{Tree, Path, Sign, sign, Arguments, Steps, StepTree, Property, All, Index, steps_of, operands_of, arguments_of}
+use Rattle.al_expr.specs.Refusal.{fault}
+use Rattle.al_expr.specs.Names.{context_of}
+use Rattle.al_expr.specs.Types.{Type', Any}
+use Rattle.al_expr.specs.Tree.{Tree, Named, Path, Sign, sign, Arguments, Steps, StepTree, Property, All, Index, steps_of, operands_of, arguments_of}
 use Rattle.al_expr.specs.Scopes.{Scope}
 use Rattle.al_expr.specs.Extents.{extent}
 use Rattle.al_expr.specs.Untrusted.{part_of, chain_among, untrusted_chains, with_dots}
-use Rattle.al_expr.specs.Meaning.{Typed, typed, behind, before, called, called_with, base_name, untrusted, untrusted_from, untrusted_fault, and_then, AllTyped, all_typed, typed_then, all_behind, parts_of, stepped, indexed, index_of, operated, meaning, walked, chained, meanings}
+use Rattle.al_expr.specs.Meaning.{Typed, typed, behind, before, named, called, called_with, base_name, untrusted, untrusted_from, untrusted_fault, and_then, AllTyped, all_typed, typed_then, all_behind, parts_of, stepped, indexed, index_of, operated, meaning, walked, chained, meanings}
 use Rattle.al_expr.proofs.TypedSteps.{follows, behind-behind, behind-before}
 
 pub parts_of-steps : (ss : List StepTree) → parts_of (steps_of ss) ≡ map part_of ss
@@ -78,3 +82,7 @@ untrusted_none name t ss h k =
 pub indexed_on : (o : Option (List ℕ × Span)) (whole : Span) (u by v : Type') (old mid new : List Fault) (x : Typed) → None ≡ o → typed by mid ≡ behind old x → typed v new ≡ behind mid (index_of whole u by) → typed v new ≡ behind old (indexed o whole u x)
 indexed_on None whole u by v old mid new x h e f = f ∙ follows old mid by x (λ w. index_of whole u w) e
 indexed_on (Some n) whole u by v old mid new x h e f = absurd cc
+
+-- a name of a context that is available
+pub named_available : (sc : Scope) (b : List ℕ) (s : Span) (k : Context) → Some k ≡ context_of b → sc.available k ≡ true → (safe : Bool) → meaning sc safe (Named b s) ≡ typed (sc.types k) []
+named_available sc b s k h a safe = ap (named sc b s) (sym h) ∙ ap (λ y. if y then typed (sc.types k) [] else typed Any (fault code.UnavailableContext s (b ∷ []) ∷ [])) a

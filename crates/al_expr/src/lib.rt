@@ -42,3 +42,5 @@ pub use typing::type_of;
 
 #[cfg(test)]
 mod tests;
+#[cfg(test)]
+mod type_tests;

@@ -1,5 +1,6 @@
-ghost use Rattle.std.specs.Prelude.{◌≡◌, ◌++◌, ◌||◌, ◌&&◌, not, [], IfOk, OnOk, map, string_bytes, option_map};
+ghost use Rattle.std.specs.Prelude.{◌≡◌, ◌++◌, ◌||◌, ◌&&◌, not, [], Bool, IfOk, OnOk, MatchOption, map, string_bytes, option_map};
 ghost use Rattle.al_expr.specs.CallViews.{argument_of};
+ghost use Rattle.al_expr.specs.FoundTypes.{found_type};
 ghost use Rattle.al_expr.specs.Growth.{BeginsWith};
 ghost use Rattle.al_expr.specs.Meaning.{typed, type_in, faults_in, behind, meaning_of, walked, chained, meanings, operated, is_logic, begins_logic, untrusted, all_typed, all_behind, stepped, base_name};
 ghost use Rattle.al_expr.specs.Meaning as meaning;
@@ -76,7 +77,7 @@ fn expression(
             Ok(ty)
         }
         Expr::Path(base, steps) => {
-            let start = expression(alloc, scope, safe, base, out)?;
+            let start = base_type(alloc, scope, safe, base, out)?;
             let ty = walk(alloc, scope, safe, steps, start, out)?;
             check_untrusted(alloc, is_exposed(scope, safe), base, steps, out)?;
             Ok(ty)
@@ -127,24 +128,94 @@ fn named(alloc: Global, scope: &Scope, word: &Word, out: &mut Vec<Fault>) -> Res
     Ok(Ty::Any)
 }
 
+// A type, which may be a context's and large, so that it is better read where it stands.
+#[derive(Drop)]
+enum Found<'s> {
+    Lent(&'s Ty),
+    Owned(Ty),
+}
+
+impl<'s> Found<'s> {
+    fn get(&self) -> &Ty
+        ensures { ty_of result.now ≡ found_type self.now }
+    {
+        match self {
+            Found::Lent(ty) => ty,
+            Found::Owned(ty) => ty,
+        }
+    }
+
+    fn into_ty(self, alloc: Global) -> Result<Ty, AllocError>
+        ensures { IfOk result (λ t. ty_of t ≡ found_type self.entry) }
+    {
+        match self {
+            Found::Lent(ty) => copy(alloc, ty),
+            Found::Owned(ty) => Ok(ty),
+        }
+    }
+}
+
+// The type of a path's base.
+#[tactic(auto, using(crate::proofs::Growing::growth, crate::proofs::TypedSteps::typing))]
+#[cycle(typing)]
+fn base_type<'s>(
+    alloc: Global,
+    scope: &'s Scope,
+    safe: bool,
+    base: &Expr,
+    out: &mut Vec<Fault>,
+) -> Result<Found<'s>, AllocError>
+    ensures ok { IfOk result (λ f. typed (found_type f) out.new.items ≡ behind out.old.items (meaning.meaning (scope_of scope.now) safe (tree_of base.now))) }
+    ensures begins { BeginsWith out.new.items out.old.items }
+{
+    match available_context(scope, base) {
+        Some(ty) => Ok(Found::Lent(ty)),
+        None => {
+            let ty = expression(alloc, scope, safe, base, out)?;
+            Ok(Found::Owned(ty))
+        }
+    }
+}
+
+// The type of the context that an expression names, where it is available.
+fn available_context<'s>(scope: &'s Scope, expr: &Expr) -> Option<&'s Ty>
+    ensures { MatchOption result (Unit {0}) (λ t. (safe : Bool) → meaning.meaning (scope_of scope.now) safe (tree_of expr.now) ≡ typed (ty_of t.now) []) }
+{
+    let Expr::Name(word) = expr else {
+        return None;
+    };
+    let name = word.text.as_str();
+    let found = Context::named(name);
+    let Some(context) = found else {
+        return None;
+    };
+    if !scope.contexts.contains(context) {
+        return None;
+    }
+    let ty = scope.types.get(context);
+    Some(ty)
+}
+
 // The type behind the steps of a path, from the type before them.
 #[tactic(auto, using(crate::proofs::Growing::growth, crate::proofs::TypedSteps::typing))]
 #[cycle(typing)]
-fn walk(
+fn walk<'s>(
     alloc: Global,
     scope: &Scope,
     safe: bool,
     steps: &[Step],
-    start: Ty,
+    start: Found<'s>,
     out: &mut Vec<Fault>,
 ) -> Result<Ty, AllocError>
-    ensures ok { IfOk result (λ t. typed (ty_of t) out.new.items ≡ behind out.old.items (walked (scope_of scope.now) safe (steps_of (map step_of steps.now)) (ty_of start))) }
+    ensures ok { IfOk result (λ t. typed (ty_of t) out.new.items ≡ behind out.old.items (walked (scope_of scope.now) safe (steps_of (map step_of steps.now)) (found_type start.entry))) }
     ensures begins { BeginsWith out.new.items out.old.items }
 {
-    let mut ty = start;
+    let mut here = start;
     for step in steps {
-        ty = step_from(alloc, scope, safe, step, &ty, out)?;
+        let next = step_from(alloc, scope, safe, step, here.get(), out)?;
+        here = Found::Owned(next);
     }
+    let ty = here.into_ty(alloc)?;
     Ok(ty)
 }
 

@@ -3,6 +3,7 @@ use Rattle.std.specs.Prelude.{not, ◌||◌}
 use Rattle.std.proofs.lemmas.List.{map-append}
 use Rattle.al_expr.specs.CallViews.{argument_of}
 use Rattle.al_expr.specs.Extents.{across}
+use Rattle.al_expr.specs.FoundTypes.{found_type}
 use Rattle.al_expr.specs.Literals.{literal_text}
 use Rattle.al_expr.specs.Types.{Number, String, Bool'}
 use Rattle.al_expr.specs.Names.{function_of}
@@ -62,6 +63,9 @@ expression-returns-in_ok-check_untrusted-in-Path-clause-ok t c =
     let h = rw (c.is_exposed.ensures, c.deref-in-Path-3.ensures, c.deref-in-Path-4.ensures.value) at c.in_ok-check_untrusted-in-Path.ensures.ok in
     rw e (path_on _ _ _ _ _ _ _ _ (λ u. walked (scope_of c.args.scope.now) c.args.safe (steps_of (map step_of c.in-Path.steps.items)) u) f g h)
 
+pub base_type-returns-in-Some-clause-ok : goal.base_type-returns-in-Some-clause-ok
+base_type-returns-in-Some-clause-ok t c = rw (c.in-Some.ensures c.args.safe) (unchanged _ _)
+
 pub expression-returns-in_ok-ty-in-Chain-clause-ok : goal.expression-returns-in_ok-ty-in-Chain-clause-ok
 expression-returns-in_ok-ty-in-Chain-clause-ok t c =
     let e = ap tree_of c.in-Chain.is ∙ tree_of-Chain c.in-Chain.first c.in-Chain.operands in
@@ -103,7 +107,8 @@ walk-loop-step-preserved t c =
     let x = c.step-item.result in
     let r = rest_item c.args.steps.now c.loop-step.step-index x c.loop-step-test.true c.step-item.is in
     let i = rw r at c.loop-step.invariant.so_far in
+    let f = rw c.get.ensures at c.in_ok-next.ensures.ok in
     record {
-      begins = begins_trans _ _ _ c.loop-step.invariant.begins c.in_ok-ty.ensures.begins;
-      so_far = walked_on (scope_of c.args.scope.now) c.args.safe (step_of x) (map step_of (drop (c.loop-step.step-index + 1) c.args.steps.now)) (ty_of c.loop-step.ty) (ty_of c.in_ok-ty.ty) _ _ c.in_ok-ty.ensures.ok ∙ i;
+      begins = begins_trans _ _ _ c.loop-step.invariant.begins c.in_ok-next.ensures.begins;
+      so_far = walked_on (scope_of c.args.scope.now) c.args.safe (step_of x) (map step_of (drop (c.loop-step.step-index + 1) c.args.steps.now)) (found_type c.loop-step.here) (ty_of c.in_ok-next.next) _ _ f ∙ i;
     }

@@ -1,5 +1,6 @@
 use Rattle.std.proofs.Common.{◌≡◌, [], map, drop}
 use Rattle.al_expr.specs.CallViews.{argument_of}
+use Rattle.al_expr.specs.FoundTypes.{found_type}
 use Rattle.al_expr.specs.Growth.{BeginsWith}
 use Rattle.al_expr.specs.Scopes.{scope_of}
 use Rattle.al_expr.specs.Tree.{steps_of, operands_of, arguments_of}
@@ -11,7 +12,7 @@ use Rattle.al_expr.proofs.typing.+typing.Given as goal
 abbrev pub invariant-walk-loop-step : goal.invariant-walk-loop-step
 invariant-walk-loop-step l = record {
   begins : BeginsWith l.out.items l.initial.out.items;
-  so_far : behind l.out.items (walked (scope_of l.scope) l.safe (steps_of (map step_of (drop l.step-index l.steps))) (ty_of l.ty)) ≡ behind l.initial.out.items (walked (scope_of l.scope) l.safe (steps_of (map step_of l.steps)) (ty_of l.fn.start));
+  so_far : behind l.out.items (walked (scope_of l.scope) l.safe (steps_of (map step_of (drop l.step-index l.steps))) (found_type l.here)) ≡ behind l.initial.out.items (walked (scope_of l.scope) l.safe (steps_of (map step_of l.steps)) (found_type l.initial.here));
 }
 
 abbrev pub invariant-operations-loop-operand : goal.invariant-operations-loop-operand

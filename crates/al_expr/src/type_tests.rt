@@ -1,0 +1,257 @@
+use crate::{
+    ContextSet, ContextTypes, Field, Form, FunctionSet, Object, Scope, Ty, assignable, fuse,
+    parse_expr, signature_of, type_of,
+};
+use al_text::{Code, Expression, Fault};
+use std::alloc::{AllocError, Global};
+use std::test::Fail;
+
+fn field(alloc: Global, name: &str, ty: Ty) -> Result<Field, AllocError> {
+    Ok(Field {
+        name: String::from_str(alloc, name)?,
+        ty,
+    })
+}
+
+/// A step's `run` in which every context but `secrets` is available, and `hashFiles` alone of the special functions.
+/// `github` is an object with the string `head_ref` and the unknown `event`; every other context is any.
+fn step_run(alloc: Global) -> Result<Scope, AllocError> {
+    let mut fields = Vec::new(alloc);
+    fields.push(field(alloc, "head_ref", Ty::String)?)?;
+    fields.push(field(alloc, "event", Ty::Any)?)?;
+    Ok(Scope {
+        types: ContextTypes {
+            github: Ty::Object(Object { fields, rest: None }),
+            env: Ty::Any,
+            vars: Ty::Any,
+            secrets: Ty::Any,
+            runner: Ty::Any,
+            job: Ty::Any,
+            strategy: Ty::Any,
+            needs: Ty::Any,
+            jobs: Ty::Any,
+            steps: Ty::Any,
+            matrix: Ty::Any,
+            inputs: Ty::Any,
+        },
+        contexts: ContextSet {
+            github: true,
+            env: true,
+            vars: true,
+            secrets: false,
+            runner: true,
+            job: true,
+            strategy: true,
+            needs: true,
+            jobs: true,
+            steps: true,
+            matrix: true,
+            inputs: true,
+        },
+        functions: FunctionSet {
+            hash_files: true,
+            success: false,
+            always: false,
+            cancelled: false,
+            failure: false,
+        },
+        in_run: true,
+    })
+}
+
+/// An expression, its type's form, and its one fault, if it has one, with the fault's place and texts.
+struct Row {
+    content: &'static str,
+    form: Form,
+    fault: Option<(Expression, u32, u32, &'static [&'static str])>,
+}
+
+const ROWS: [Row; 20] = [
+    Row {
+        content: "format('{0} {2}', 'a', 'b')",
+        form: Form::String,
+        fault: Some((Expression::WrongPlaceholder, 7, 16, &[])),
+    },
+    Row {
+        content: "format('{0}', 'a', 'b')",
+        form: Form::String,
+        fault: Some((Expression::UnusedArgument, 19, 22, &["3"])),
+    },
+    Row {
+        content: "format('{{}}{00}', 'a')",
+        form: Form::String,
+        fault: None,
+    },
+    Row {
+        content: "startsWith('a')",
+        form: Form::Bool,
+        fault: Some((Expression::ArgumentCount, 0, 10, &["startsWith"])),
+    },
+    Row {
+        content: "contains(github, 'a')",
+        form: Form::Bool,
+        fault: Some((Expression::ArgumentType, 9, 15, &["1", "contains"])),
+    },
+    Row {
+        content: "join(1)",
+        form: Form::String,
+        fault: None,
+    },
+    Row {
+        content: "nope",
+        form: Form::Any,
+        fault: Some((Expression::UndefinedContext, 0, 4, &["nope"])),
+    },
+    Row {
+        content: "secrets.T",
+        form: Form::Any,
+        fault: Some((Expression::UnavailableContext, 0, 7, &["secrets"])),
+    },
+    Row {
+        content: "nofun()",
+        form: Form::Any,
+        fault: Some((Expression::UndefinedFunction, 0, 5, &["nofun"])),
+    },
+    Row {
+        content: "failure()",
+        form: Form::Bool,
+        fault: Some((Expression::UnavailableFunction, 0, 7, &["failure"])),
+    },
+    Row {
+        content: "github['it''s']",
+        form: Form::Any,
+        fault: Some((Expression::UndefinedProperty, 7, 14, &["it's"])),
+    },
+    Row {
+        content: "'a'.b",
+        form: Form::Any,
+        fault: Some((Expression::NotIndexable, 3, 5, &[])),
+    },
+    Row {
+        content: "github == 1",
+        form: Form::Bool,
+        fault: Some((Expression::NotComparable, 7, 9, &[])),
+    },
+    Row {
+        content: "github.head_ref || 1",
+        form: Form::String,
+        fault: Some((Expression::Untrusted, 0, 15, &["github.head_ref"])),
+    },
+    Row {
+        content: "GitHub.event['Issue'].title",
+        form: Form::Any,
+        fault: Some((Expression::Untrusted, 0, 27, &["github.event.issue.title"])),
+    },
+    Row {
+        content: "github.event.commits[0].message",
+        form: Form::Any,
+        fault: Some((
+            Expression::Untrusted,
+            0,
+            31,
+            &["github.event.commits.*.message"],
+        )),
+    },
+    Row {
+        content: "github.event.issue.title.x",
+        form: Form::Any,
+        fault: None,
+    },
+    Row {
+        content: "(github.event).issue.title",
+        form: Form::Any,
+        fault: None,
+    },
+    Row {
+        content: "contains(github.head_ref, 'a')",
+        form: Form::Bool,
+        fault: None,
+    },
+    Row {
+        content: "github.head_ref == 'a'",
+        form: Form::Bool,
+        fault: None,
+    },
+];
+
+fn is_fault(found: &Fault, code: Expression, start: u32, end: u32, texts: &[&str]) -> bool {
+    let given = found.args.texts();
+    found.code == Code::Expression(code)
+        && found.span.start == start
+        && found.span.end == end
+        && given.len() == texts.len()
+        && given.iter().zip(texts).all(|(a, b)| a.as_str() == *b)
+}
+
+fn are_faults(found: &[Fault], row: &Row) -> bool {
+    match row.fault {
+        None => found.len() == 0,
+        Some((code, start, end, texts)) => match found {
+            [only] => is_fault(only, code, start, end, texts),
+            _ => false,
+        },
+    }
+}
+
+fn holds(alloc: Global, scope: &Scope, row: &Row) -> Result<bool, AllocError> {
+    let Ok(expr) = parse_expr(alloc, row.content)? else {
+        return Ok(false);
+    };
+    let mut out = Vec::new(alloc);
+    let ty = type_of(alloc, scope, &expr, &mut out)?;
+    Ok(ty.form() == row.form && are_faults(&out, row))
+}
+
+#[test]
+fn rows(rt: HostRuntime) -> Result<(), Fail> {
+    let scope = step_run(rt.alloc())?;
+    for row in &ROWS {
+        let holds = holds(rt.alloc(), &scope, row)?;
+        let content = row.content;
+        assert!(rt; holds, "at {content}");
+    }
+    Ok(())
+}
+
+#[test]
+fn types(rt: HostRuntime) -> Result<(), Fail> {
+    let both = fuse(rt.alloc(), &Ty::Number, &Ty::String)?;
+    assert!(rt; both.form() == Form::String);
+    let unknown = fuse(rt.alloc(), &Ty::Null, &Ty::Number)?;
+    assert!(rt; unknown.form() == Form::Any);
+    assert!(rt; assignable(&Ty::Bool, &Ty::String) && !assignable(&Ty::String, &Ty::Number));
+    assert!(rt; signature_of("TOJSON").is_some() && signature_of("toXML").is_none());
+    Ok(())
+}
+
+/// `first`, and so many times `more`.
+fn repeated(alloc: Global, first: &str, more: &str, times: usize) -> Result<String, AllocError> {
+    let mut content = String::from_str(alloc, first)?;
+    for _ in 0..times {
+        content.push_str(more)?;
+    }
+    Ok(content)
+}
+
+fn form_of(alloc: Global, content: &str) -> Result<Option<Form>, AllocError> {
+    let scope = step_run(alloc)?;
+    let Ok(expr) = parse_expr(alloc, content)? else {
+        return Ok(None);
+    };
+    let mut out = Vec::new(alloc);
+    let ty = type_of(alloc, &scope, &expr, &mut out)?;
+    Ok(if out.len() == 0 {
+        Some(ty.form())
+    } else {
+        None
+    })
+}
+
+#[test]
+fn long_expressions(rt: HostRuntime) -> Result<(), Fail> {
+    let path = repeated(rt.alloc(), "github.event", ".a", 10400)?;
+    assert!(rt; form_of(rt.alloc(), path.as_str())? == Some(Form::Any));
+    let chain = repeated(rt.alloc(), "1", "||1", 6900)?;
+    assert!(rt; form_of(rt.alloc(), chain.as_str())? == Some(Form::Number));
+    Ok(())
+}
