@@ -117,6 +117,9 @@ fn a_file_has_1048576_bytes(rt: HostRuntime) -> Result<(), Fail> {
     script.extend_from_slice(b"put ../x.yml 0\n\nput x.yml 0\n\n")?;
     let (status, output) = answer(rt.alloc(), &script, 65_536, false);
     assert_eq!(rt; status, Ok(1));
-    assert_eq!(rt; output.as_slice(), b"refused E3\nok 1\nrefused E1\nrefused E2\n".as_slice());
+    assert_eq!(rt;
+        output.as_slice(),
+        b"refused E3\nok 1\nrefused E1\nrefused E2\n".as_slice()
+    );
     Ok(())
 }

@@ -26,7 +26,14 @@ fn paths(rt: HostRuntime) -> Result<(), Fail> {
 fn positions(rt: HostRuntime) {
     // One break, and characters of two and three bytes.
     let bytes = "a\r\né\u{20ac}b\rc".as_bytes();
-    for (offset, place) in [(0, (1, 1)), (2, (1, 3)), (3, (2, 1)), (5, (2, 2)), (8, (2, 3)), (10, (3, 1))] {
+    for (offset, place) in [
+        (0, (1, 1)),
+        (2, (1, 3)),
+        (3, (2, 1)),
+        (5, (2, 2)),
+        (8, (2, 3)),
+        (10, (3, 1)),
+    ] {
         assert_eq!(rt; position(bytes, offset), place, "at {offset}");
     }
 }
@@ -42,6 +49,9 @@ fn control_bytes_are_not_printed(rt: HostRuntime) -> Result<(), Fail> {
     };
     let mut output = Vec::new(rt.alloc());
     write_fault(&mut Output::new(&mut output), "x.yml", b"a\r\nb", &fault)?;
-    assert_eq!(rt; output.as_slice(), b"x.yml:2:1: unexpected key \"a?b?\" [syntax-check]\n".as_slice());
+    assert_eq!(rt;
+        output.as_slice(),
+        b"x.yml:2:1: unexpected key \"a?b?\" [syntax-check]\n".as_slice()
+    );
     Ok(())
 }
