@@ -6,6 +6,7 @@ pub mod KeyLemmas
 pub mod ReadLemmas
 pub mod FlowLemmas
 pub mod BlockLemmas
+pub mod BlockNodeLemmas
 pub mod ByteLemmas
 pub mod DocumentLemmas
 pub mod ViewLemmas

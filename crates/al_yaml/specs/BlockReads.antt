@@ -4,6 +4,10 @@ use Rattle.al_scalar.specs.Contract.{read_of}
 use Rattle.al_scalar.specs.Places.{lines_at}
 use Rattle.al_yaml.specs.Keys as keys
 use Rattle.al_yaml.specs.Places.{IsReadInside}
+use Rattle.al_yaml.specs.Blocks as block
+use Rattle.al_yaml.specs.declared.block.Slot.{Slot}
+use Rattle.al_yaml.specs.declared.block.Spot.{Spot}
+use Rattle.al_yaml.specs.declared.block.Spot.TheVariants as spot
 use Rattle.al_yaml.specs.declared.entries.Key.{Key}
 
 abbrev pub key_seen : List ℕ → Key → keys.Key
@@ -21,3 +25,11 @@ pub record IsKeyBehind (bytes : List ℕ) (at : ℕ) (key : Key) : Type 0 where
 abbrev pub IsOptionKey : List ℕ → ℕ → Option Key → Type 0
 IsOptionKey bytes at None = Unit {0}
 IsOptionKey bytes at (Some key) = IsKeyBehind bytes at key
+
+abbrev pub spot_of : Spot → block.Spot
+spot_of spot.OwnLine = block.own_line
+spot_of (spot.Compact tab) = block.compact tab
+spot_of spot.BehindKey = block.behind_key
+
+abbrev pub slot_of : Slot → block.Slot
+slot_of s = record { spot = spot_of s.spot; within = s.within; in_mapping = s.in_mapping; empty = s.empty }

@@ -1,5 +1,5 @@
 -- A document (YAML 1.2.2, 9.1).
-use Rattle.std.specs.Prelude.{ℕ, suc, List, [], ◌∷◌, length, drop, Bool, false, if◌then◌else◌, Some, None, Result, Ok, Err}
+use Rattle.std.specs.Prelude.{ℕ, suc, List, [], ◌∷◌, length, Bool, false, if◌then◌else◌, Some, None, Result, Ok, Err}
 use Rattle.al_text.specs.declared.codes.Yaml.TheVariants as yaml
 use Rattle.al_scalar.specs.Ascii as ascii
 use Rattle.al_scalar.specs.Line.{Line, start, begins, is_marker, dot}

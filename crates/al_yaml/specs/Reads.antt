@@ -8,10 +8,7 @@ use Rattle.al_yaml.specs.Limits.{limited_from, nodes_listed, text_listed}
 use Rattle.al_yaml.specs.View.{view}
 use Rattle.al_yaml.specs.Places.{fault_of, option_lines, IsReadInside}
 use Rattle.al_yaml.specs.Flow as flow
-use Rattle.al_scalar.specs.Contract.{read_of, reading_at}
-use Rattle.al_scalar.specs.declared.scalars.Place.{Place}
-use Rattle.al_scalar.specs.declared.scalars.ScalarRead.{ScalarRead}
-use Rattle.al_yaml.specs.declared.faults.FaultAt.{FaultAt}
+use Rattle.al_scalar.specs.Contract.{read_of}
 use Rattle.al_yaml.specs.declared.flow.After.{After}
 use Rattle.al_yaml.specs.declared.flow.After.TheVariants as after
 use Rattle.al_yaml.specs.declared.flow.FlowKey.{FlowKey}

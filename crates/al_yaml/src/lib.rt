@@ -2,6 +2,7 @@
 #![tactic(auto)]
 
 mod access;
+mod block;
 mod bytes;
 mod content;
 mod document_edges;

@@ -1,9 +1,5 @@
-use Rattle.std.proofs.Common.{◌≡◌, ◌∙◌, ℕ, List, Some, None, Ok, Err, ap, sym, refl, arith, take, true, false}
 use Rattle.std.proofs.lemmas.Result.{err_from_is_err_and}
-use Rattle.al_scalar.specs.Places.{lines_at, text_at}
 use Rattle.al_scalar.specs.Contract.{read_of}
-use Rattle.al_scalar.specs.Plain.{block}
-use Rattle.al_scalar.specs.Scalar.{scalar_at}
 use Rattle.al_yaml.specs.Flow.{flow_collection}
 use Rattle.al_yaml.specs.Reads.{part_of}
 use Rattle.al_yaml.proofs.BlockLemmas.{entry-fault, entry-property, entry-stop, entry-flow, entry-unread, entry-quoted, entry-other}

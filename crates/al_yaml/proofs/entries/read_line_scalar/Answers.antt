@@ -1,9 +1,4 @@
-use Rattle.std.proofs.Common.{◌≡◌, ◌∙◌, ℕ, List, Some, None, Ok, Err, ap, sym, refl, arith, take, true, false}
 use Rattle.std.proofs.lemmas.Result.{err_from_is_err_and}
-use Rattle.al_scalar.specs.Places.{lines_at, text_at}
-use Rattle.al_scalar.specs.Contract.{read_of}
-use Rattle.al_scalar.specs.Plain.{block}
-use Rattle.al_scalar.specs.Scalar.{scalar_at}
 use Rattle.al_yaml.specs.Places.{fault_of}
 use Rattle.al_yaml.proofs.BlockLemmas.{line-broken, line-unread, line-wrong, line-ok}
 use Rattle.al_yaml.proofs.entries.read_line_scalar.Goals as goal
