@@ -85,4 +85,4 @@ IsColonInside from size (Some at) = (from ≤ at) × (at ≤ size)
 
 pub record IsKeyInside (bytes : List ℕ) (at : ℕ) (key : FlowKey) : Type 0 where
   pub read : IsReadInside bytes at key.read
-  pub colon : IsColonInside at (length bytes) key.colon
+  pub colon : IsColonInside key.read.next (length bytes) key.colon

@@ -9,6 +9,8 @@ ghost use Rattle.al_yaml.specs.Node as tree;
 ghost use Rattle.al_yaml.specs.Places.{IsLineTo, IsReadInside, Shows};
 ghost use Rattle.al_yaml.specs.Reading as reading;
 ghost use Rattle.al_yaml.specs.Reads.{Answers, IsBehind, IsRead, Stops, part_of};
+ghost use Rattle.al_yaml.specs.Spans.{IsWithin};
+ghost use Rattle.al_yaml.specs.View.{view};
 ghost use Rattle.std.specs.Prelude.{ℕ, ◌+◌, ◌<◌, ◌≡◌, ◌≤◌, ◌&&◌, ◌||◌, IfOk, MatchResult, length, true};
 
 use crate::content::{is_dash, line_ended};
@@ -209,6 +211,7 @@ pub fn read_line_scalar(
     requires within { within ≤ 1048577 }
     ensures is { IsRead (part_of bytes.now) (block.scalar_node_at within (lines_at bytes.now at)) count.old.nodes result count.new.nodes }
     ensures within { IfOk result (λ part. IsBehind bytes.now at part) }
+    ensures nested { IfOk result (λ part. IsWithin at part.end (view part.node)) }
 {
     count.start(at, 1, 0)?;
     let read = scalar_at(alloc, bytes, at, Place::Block(within as u32))?;
