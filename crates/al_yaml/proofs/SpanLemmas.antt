@@ -52,25 +52,25 @@ behind-entry low at high (entry l w es) k v a b h x y = (
   behind-entry (span_of w).end at high es k v (bounds (span_of l).end at w h.1).to b h.2 x y,
 )
 
-high-over : (low high : ℕ) (n : Node) → IsWithin low high n → low ≤ high
-high-over low high n h = let b = bounds low high n h in omega (arith, b.from, b.ordered, b.to)
+pub over : (low high : ℕ) (n : Node) → IsWithin low high n → low ≤ high
+over low high n h = let b = bounds low high n h in omega (arith, b.from, b.ordered, b.to)
 
 -- an item that was read from an offset on, behind those that end before it
 pub items-more : (low at high end : ℕ) (xs ys : List node.Node) (x : node.Node) → ys ≡ xs ++ x ∷ [] → low ≤ at → high ≤ end → AreInOrder low at (nodes_of (map view xs)) → IsWithin at high (view x)
     → AreInOrder low end (nodes_of (map view ys))
 items-more low at high end xs ys x e a b h w =
     subst (AreInOrder low end) (sym (ap (λ zs. nodes_of (map view zs)) e ∙ nodes_of-more xs x))
-    (behind-item low at end (nodes_of (map view xs)) (view x) a (let c = high-over at high (view x) w in omega (arith, c, b)) h (wider at high at end (view x) (omega arith) b w))
+    (behind-item low at end (nodes_of (map view xs)) (view x) a (let c = over at high (view x) w in omega (arith, c, b)) h (wider at high at end (view x) (omega arith) b w))
 
 -- an entry whose key stands in a span, behind those that end before it
 pub entries-more : (low at high end : ℕ) (xs ys : List pair.Entry) (x : pair.Entry) (s : Scalar) (key : Span) (value : Node) → ys ≡ xs ++ x ∷ [] → ◌≡◌ {A = Node × Node} (entry_view x) (scalar s key, value)
     → low ≤ at → at ≤ key.start → key.start ≤ key.end → high ≤ end → EntriesInOrder low at (entries_of (map entry_view xs)) → IsWithin key.end high value
     → EntriesInOrder low end (entries_of (map entry_view ys))
 entries-more low at high end xs ys x s key value e f a b c d h w =
-    let over = high-over key.end high value w in
+    let ordered = over key.end high value w in
     subst (EntriesInOrder low end) (sym (ap (λ zs. entries_of (map entry_view zs)) e ∙ entries_of-more xs x (scalar s key) value f))
-    (behind-entry low at end (entries_of (map entry_view xs)) (scalar s key) value a (omega (arith, b, c, d, over)) h
-    (record { from = b; ordered = c; to = omega (arith, over, d) }) (wider key.end high key.end end value (omega arith) d w))
+    (behind-entry low at end (entries_of (map entry_view xs)) (scalar s key) value a (omega (arith, b, c, d, ordered)) h
+    (record { from = b; ordered = c; to = omega (arith, ordered, d) }) (wider key.end high key.end end value (omega arith) d w))
 
 -- ---- parts
 
