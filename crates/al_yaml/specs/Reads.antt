@@ -86,3 +86,8 @@ IsColonInside from size (Some at) = (from ≤ at) × (at ≤ size)
 pub record IsKeyInside (bytes : List ℕ) (at : ℕ) (key : FlowKey) : Type 0 where
   pub read : IsReadInside bytes at key.read
   pub colon : IsColonInside at (length bytes) key.colon
+
+-- a fault stands in the file, or at its end
+abbrev pub IsStopInside : ℕ → Stop → Type 0
+IsStopInside size (stop.Fault f) = f.at ≤ size
+IsStopInside size stop.Memory = Unit {0}

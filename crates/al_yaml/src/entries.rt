@@ -8,8 +8,8 @@ ghost use Rattle.al_yaml.specs.Keys as keys;
 ghost use Rattle.al_yaml.specs.Node as tree;
 ghost use Rattle.al_yaml.specs.Places.{IsLineTo, IsReadInside, Shows};
 ghost use Rattle.al_yaml.specs.Reading as reading;
-ghost use Rattle.al_yaml.specs.Reads.{Answers, IsBehind, IsRead, Stops, part_of};
-ghost use Rattle.std.specs.Prelude.{ℕ, ◌+◌, ◌<◌, ◌≡◌, ◌≤◌, ◌&&◌, ◌||◌, IfOk, MatchResult, length, true};
+ghost use Rattle.al_yaml.specs.Reads.{Answers, IsBehind, IsRead, IsStopInside, Stops, part_of};
+ghost use Rattle.std.specs.Prelude.{ℕ, ◌+◌, ◌<◌, ◌≡◌, ◌≤◌, ◌&&◌, ◌||◌, IfErr, IfOk, MatchResult, length, true};
 
 use crate::content::{is_dash, line_ended};
 use crate::faults::{FaultAt, Stop};
@@ -38,6 +38,7 @@ fn plain_on_line(alloc: Global, bytes: &[u8], at: usize, end: usize) -> Result<S
     requires inside { end ≤ length bytes.now }
     requires size { length bytes.now ≤ 1048576 }
     requires line { IsLineTo bytes.now at end }
+    ensures fault { IfErr result (IsStopInside (length bytes.now)) }
     ensures is { Answers (read_of bytes.now) (keys.plain_on_line (lines_at bytes.now at)) result }
     ensures inside { IfOk result (λ read. IsReadInside bytes.now at read) }
 {
@@ -48,6 +49,7 @@ fn plain_on_line(alloc: Global, bytes: &[u8], at: usize, end: usize) -> Result<S
 fn key_scalar(alloc: Global, bytes: &[u8], at: usize) -> Result<ScalarRead, Stop>
     requires inside { at ≤ length bytes.now }
     requires size { length bytes.now ≤ 1048576 }
+    ensures fault { IfErr result (IsStopInside (length bytes.now)) }
     ensures is { Answers (read_of bytes.now) (keys.key_scalar (lines_at bytes.now at)) result }
     ensures inside { IfOk result (λ read. IsReadInside bytes.now at read) }
 {
@@ -61,6 +63,7 @@ fn key_scalar(alloc: Global, bytes: &[u8], at: usize) -> Result<ScalarRead, Stop
 pub fn key_at(alloc: Global, bytes: &[u8], at: usize) -> Result<Option<Key>, Stop>
     requires inside { at ≤ length bytes.now }
     requires size { length bytes.now ≤ 1048576 }
+    ensures fault { IfErr result (IsStopInside (length bytes.now)) }
     ensures is { Answers (option_key bytes.now) (keys.key_at (lines_at bytes.now at)) result }
     ensures inside { IfOk result (λ found. IsOptionKey bytes.now at found) }
 {
@@ -96,7 +99,8 @@ pub fn no_entry(
     requires inside { at ≤ length bytes.now }
     requires size { length bytes.now ≤ 1048576 }
     requires depth { depth ≤ 65 }
-    ensures { MatchResult result (λ _. ⊥) (λ stop. (bound : ℕ) → length bytes.now < bound + at → Stops (keys.no_entry {A = reading.Part tree.Nodes} (flow.flow_collection bound) depth (lines_at bytes.now at)) count.old.nodes stop) }
+    ensures fault { IfErr result (IsStopInside (length bytes.now)) }
+    ensures is { MatchResult result (λ _. ⊥) (λ stop. (bound : ℕ) → length bytes.now < bound + at → Stops (keys.no_entry {A = reading.Part tree.Nodes} (flow.flow_collection bound) depth (lines_at bytes.now at)) count.old.nodes stop) }
 {
     let unexpected = Stop::Fault(FaultAt {
         code: Yaml::UnexpectedCharacter,
@@ -141,6 +145,7 @@ pub fn entry_key(
     requires inside { at ≤ length bytes.now }
     requires size { length bytes.now ≤ 1048576 }
     requires depth { depth ≤ 65 }
+    ensures fault { IfErr result (IsStopInside (length bytes.now)) }
     ensures is { (bound : ℕ) → length bytes.now < bound + at → IsRead (key_seen bytes.now) (keys.entry_key (flow.flow_collection bound) depth (lines_at bytes.now at)) count.old.nodes result count.new.nodes }
     ensures inside { IfOk result (λ key. IsKeyBehind bytes.now at key) }
 {
@@ -186,6 +191,7 @@ pub fn entry_key(
 fn scalar_left(bytes: &[u8], at: usize, next: usize) -> Result<usize, FaultAt>
     requires at { at ≤ length bytes.now }
     requires inside { next ≤ length bytes.now }
+    ensures fault { IfErr result (λ f. f.at ≤ length bytes.now) }
     ensures is { Shows (lines_at bytes.now) (block.scalar_left (lines_at bytes.now at) (lines_at bytes.now next)) result }
     ensures inside { IfOk result (λ left. left ≤ length bytes.now) }
     ensures from { IfOk result (λ left. next ≤ left) }
@@ -207,6 +213,7 @@ pub fn read_line_scalar(
     requires inside { at ≤ length bytes.now }
     requires size { length bytes.now ≤ 1048576 }
     requires within { within ≤ 1048577 }
+    ensures fault { IfErr result (IsStopInside (length bytes.now)) }
     ensures is { IsRead (part_of bytes.now) (block.scalar_node_at within (lines_at bytes.now at)) count.old.nodes result count.new.nodes }
     ensures within { IfOk result (λ part. IsBehind bytes.now at part) }
 {
