@@ -10,3 +10,4 @@ pub mod BlockNodeLemmas
 pub mod ByteLemmas
 pub mod DocumentLemmas
 pub mod ViewLemmas
+pub mod RootLemmas
