@@ -11,3 +11,4 @@ pub mod ByteLemmas
 pub mod DocumentLemmas
 pub mod ViewLemmas
 pub mod SpanLemmas
+pub mod RootLemmas

@@ -1,15 +1,15 @@
 ghost use Rattle.al_scalar.specs.Places.{lines_at, text_at};
-ghost use Rattle.al_yaml.specs.BlockReads.{IsKeyBehind, key_seen, slot_of, spot_of};
+ghost use Rattle.al_yaml.specs.BlockReads.{IsKeyBehind, IsTabInside, key_seen, slot_of, spot_of};
 ghost use Rattle.al_yaml.specs.Blocks as block;
 ghost use Rattle.al_yaml.specs.Content as content;
 ghost use Rattle.al_yaml.specs.Flow as flow;
 ghost use Rattle.al_yaml.specs.Keys as keys;
 ghost use Rattle.al_yaml.specs.Node as tree;
 ghost use Rattle.al_yaml.specs.Reading as reading;
-ghost use Rattle.al_yaml.specs.Reads.{IsBehind, IsRead, part_of};
+ghost use Rattle.al_yaml.specs.Reads.{IsBehind, IsRead, IsStopInside, part_of};
 ghost use Rattle.al_yaml.specs.Spans.{IsWithin};
 ghost use Rattle.al_yaml.specs.View.{view};
-ghost use Rattle.std.specs.Prelude.{ℕ, suc, ◌+◌, ◌<◌, ◌≡◌, ◌≤◌, ◌&&◌, ◌||◌, IfOk, length, not, true};
+ghost use Rattle.std.specs.Prelude.{ℕ, suc, ◌+◌, ◌<◌, ◌≡◌, ◌≤◌, ◌&&◌, ◌||◌, IfErr, IfOk, length, not, true};
 
 use crate::content::{Next, first_tab, is_dash, is_skipped, line_ended, next_content, next_entry};
 use crate::entries::{Key, entry_key, key_at, no_entry, read_line_scalar};
@@ -45,8 +45,10 @@ pub struct Slot {
 
 /// The spot behind the blanks at an offset.
 fn spot_behind(bytes: &[u8], at: usize, spot: Spot) -> Spot
-    requires { at ≤ length bytes.now }
-    ensures { spot_of result ≡ block.spot_behind (text_at bytes.now at) (spot_of spot) }
+    requires inside { at ≤ length bytes.now }
+    requires tab { IsTabInside (length bytes.now) spot }
+    ensures is { spot_of result ≡ block.spot_behind (text_at bytes.now at) (spot_of spot) }
+    ensures tab { IsTabInside (length bytes.now) result }
 {
     match spot {
         Spot::OwnLine => Spot::Compact(first_tab(bytes, at)),
@@ -125,6 +127,7 @@ fn read_line_flow(
     requires bracket { content.is_flow_start (text_at bytes.now at) ≡ true }
     requires size { length bytes.now ≤ 1048576 }
     requires depth { depth ≤ 65 }
+    ensures fault { IfErr result (IsStopInside (length bytes.now)) }
     ensures is { (bound : ℕ) → length bytes.now < bound + at → IsRead (part_of bytes.now) (block.flow_at (flow.flow_collection bound) (spot_of spot) depth (lines_at bytes.now at)) count.old.nodes result count.new.nodes }
     ensures within { IfOk result (λ part. IsBehind bytes.now at part) }
     ensures nested { IfOk result (λ part. IsWithin at part.end (view part.node)) }
@@ -160,7 +163,8 @@ pub fn read_block_node(
     requires depth { depth ≤ 65 }
     requires column { column ≤ at }
     requires within { slot.within ≤ at + 1 }
-    requires empty { slot.empty ≤ at }
+    requires tab { IsTabInside (length bytes.now) slot.spot }
+    ensures fault { IfErr result (IsStopInside (length bytes.now)) }
     ensures is { (bound : ℕ) → length bytes.now < bound + at → IsRead (part_of bytes.now) (block.block_node bound (slot_of slot) depth column (lines_at bytes.now at)) count.old.nodes result count.new.nodes }
     ensures within { IfOk result (λ part. IsBehind bytes.now at part) }
     ensures nested { IfOk result (λ part. IsWithin at part.end (view part.node)) }
@@ -205,6 +209,8 @@ fn read_block_sequence(
     requires size { length bytes.now ≤ 1048576 }
     requires depth { depth ≤ 65 }
     requires column { column ≤ at }
+    requires tab { IsTabInside (length bytes.now) slot.spot }
+    ensures fault { IfErr result (IsStopInside (length bytes.now)) }
     ensures is { (bound turns : ℕ) → length bytes.now < suc bound + at → length bytes.now < turns + at → IsRead (part_of bytes.now) (block.block_sequence (block.block_node bound) (flow.flow_collection (suc bound)) turns (slot_of slot) depth column (lines_at bytes.now at)) count.old.nodes result count.new.nodes }
     ensures within { IfOk result (λ part. IsBehind bytes.now at part) }
     ensures nested { IfOk result (λ part. IsWithin at part.end (view part.node)) }
@@ -241,6 +247,7 @@ fn read_sequence(
     requires size { length bytes.now ≤ 1048576 }
     requires depth { depth ≤ 65 }
     requires column { column ≤ start }
+    ensures fault { IfErr result (IsStopInside (length bytes.now)) }
     ensures is { (bound turns : ℕ) → length bytes.now < suc bound + start → length bytes.now < turns + start → IsRead (part_of bytes.now) (reading.spanned tree.sequence start (block.sequence_entries (block.block_node bound) (flow.flow_collection (suc bound)) turns in_mapping column depth tree.no_nodes (lines_at bytes.now start))) count.old.nodes result count.new.nodes }
     ensures within { IfOk result (λ part. IsBehind bytes.now start part) }
     ensures nested { IfOk result (λ part. IsWithin start part.end (view part.node)) }
@@ -285,6 +292,8 @@ fn read_block_mapping(
     requires size { length bytes.now ≤ 1048576 }
     requires depth { depth ≤ 65 }
     requires column { column ≤ at }
+    requires tab { IsTabInside (length bytes.now) spot }
+    ensures fault { IfErr result (IsStopInside (length bytes.now)) }
     ensures is { (bound turns : ℕ) → length bytes.now < suc bound + at → length bytes.now < turns + at → IsRead (part_of bytes.now) (block.block_mapping (block.block_node bound) (flow.flow_collection (suc bound)) turns (spot_of spot) depth column (lines_at bytes.now at) (key_seen bytes.now key)) count.old.nodes result count.new.nodes }
     ensures within { IfOk result (λ part. IsBehind bytes.now at part) }
     ensures nested { IfOk result (λ part. IsWithin at part.end (view part.node)) }
@@ -324,6 +333,7 @@ fn read_mapping(
     requires size { length bytes.now ≤ 1048576 }
     requires depth { depth ≤ 65 }
     requires column { column ≤ start }
+    ensures fault { IfErr result (IsStopInside (length bytes.now)) }
     ensures is { (bound turns : ℕ) → length bytes.now < suc bound + start → length bytes.now < turns + start → IsRead (part_of bytes.now) (reading.spanned tree.mapping start (block.mapping_entries (block.block_node bound) (flow.flow_collection (suc bound)) turns column depth tree.no_entries (key_seen bytes.now first))) count.old.nodes result count.new.nodes }
     ensures within { IfOk result (λ part. IsBehind bytes.now start part) }
     ensures nested { IfOk result (λ part. IsWithin start part.end (view part.node)) }
@@ -368,6 +378,8 @@ fn read_rest(
     requires column { column ≤ from }
     requires within { slot.within ≤ rest + 1 }
     requires empty { slot.empty ≤ rest }
+    requires tab { IsTabInside (length bytes.now) slot.spot }
+    ensures fault { IfErr result (IsStopInside (length bytes.now)) }
     ensures is { (bound : ℕ) → length bytes.now < bound + rest → IsRead (part_of bytes.now) (block.rest_node (block.block_node bound) (slot_of slot) depth column (lines_at bytes.now from) (lines_at bytes.now rest)) count.old.nodes result count.new.nodes }
     ensures within { IfOk result (λ part. IsBehind bytes.now rest part) }
     ensures nested { IfOk result (λ part. IsWithin slot.empty part.end (view part.node)) }
@@ -404,6 +416,7 @@ fn read_below(
     requires depth { depth ≤ 65 }
     requires within { slot.within ≤ at + 1 }
     requires empty { slot.empty ≤ at }
+    ensures fault { IfErr result (IsStopInside (length bytes.now)) }
     ensures is { (bound : ℕ) → length bytes.now < bound + at → IsRead (part_of bytes.now) (block.node_below (block.block_node bound) (slot_of slot) depth (lines_at bytes.now at)) count.old.nodes result count.new.nodes }
     ensures within { IfOk result (λ part. IsBehind bytes.now at part) }
     ensures nested { IfOk result (λ part. IsWithin slot.empty part.end (view part.node)) }

@@ -128,7 +128,7 @@ read_rest-returns-then-is_skipped-clause-is t c = λ bound h.
 pub read_rest-returns-clause-is : goal.read_rest-returns-clause-is
 read_rest-returns-clause-is t c = λ bound h.
     read-from (part_of c.args.bytes.now) (rest_node (block_node bound) (slot_of c.args.slot) c.args.depth c.args.column (lines_at c.args.bytes.now c.args.from) (lines_at c.args.bytes.now c.args.rest)) (block_node bound (at_spot (spot_of c.spot_behind-spot.result) (slot_of c.args.slot)) c.args.depth (c.args.column + c.characters.result) (lines_at c.args.bytes.now c.blanks_end-at.result)) c.args.count.now.nodes c.args.count.now.nodes c.read_block_node.new.count.nodes c.read_block_node.result
-    (ap (run (counted c.args.count.now.nodes)) (rest-here (block_node bound) (slot_of c.args.slot) c.args.depth c.args.column c.args.count.now.nodes c.args.bytes.now c.args.from c.args.rest c.blanks_end-at.result c.characters.result (spot_of c.spot_behind-spot.result) c.blanks_end-at.ensures.inside c.if-is_skipped.ensures c.blanks_end-at.ensures.lines c.characters.ensures.is c.spot_behind-spot.ensures))
+    (ap (run (counted c.args.count.now.nodes)) (rest-here (block_node bound) (slot_of c.args.slot) c.args.depth c.args.column c.args.count.now.nodes c.args.bytes.now c.args.from c.args.rest c.blanks_end-at.result c.characters.result (spot_of c.spot_behind-spot.result) c.blanks_end-at.ensures.inside c.if-is_skipped.ensures c.blanks_end-at.ensures.lines c.characters.ensures.is c.spot_behind-spot.ensures.is))
     (c.read_block_node.ensures.is bound (omega (arith, h, c.blanks_end-at.ensures.from)))
 
 pub read_sequence-returns-in_err-entry-clause-is : goal.read_sequence-returns-in_err-entry-clause-is
@@ -169,10 +169,10 @@ read_sequence-returns-in_err-no_entry-clause-is t c = λ bound turns h k.
     let p = err_from_is_err_and c.from_residual-in_err-no_entry.result c.from_residual-in_err-no_entry.ensures.1 in
     rw (p.1, p.2) (spanned-stops tree.sequence c.args.start (sequence_entries (block_node bound) (flow_collection (suc bound)) turns c.args.in_mapping c.args.column c.args.depth tree.no_nodes (lines_at c.args.bytes.now c.args.start)) c.args.count.now.nodes c.in_err-no_entry.field-0.0
     (loop-stops (sequence_entries (block_node bound) (flow_collection (suc bound)) turns c.args.in_mapping c.args.column c.args.depth tree.no_nodes (lines_at c.args.bytes.now c.args.start)) c.args.count.now.nodes c.entries.count.nodes (length c.args.bytes.now) c.entries.at (λ t. (sequence_entries (block_node bound) (flow_collection (suc bound)) t c.args.in_mapping c.args.column c.args.depth (nodes_of (map view c.entries.items.items)) (lines_at c.args.bytes.now c.entries.at))) c.in_err-no_entry.field-0.0 (λ x g. c.entries.invariant.reads bound x h g turns k)
-    (λ t l. positive (λ u. Stops (sequence_entries (block_node bound) (flow_collection (suc bound)) u c.args.in_mapping c.args.column c.args.depth (nodes_of (map view c.entries.items.items)) (lines_at c.args.bytes.now c.entries.at)) c.entries.count.nodes c.in_err-no_entry.field-0.0) t (omega (arith, l, c.entries.invariant.inside)) (λ j _. sequence-none (block_node bound) (flow_collection (suc bound)) j c.args.in_mapping c.args.column c.args.depth c.entries.count.nodes (nodes_of (map view c.entries.items.items)) c.args.bytes.now c.entries.at c.entries.invariant.inside (dash-solid c.args.bytes.now c.entries.at (omega (arith, c.entries.invariant.inside)) c.entries.invariant.dash) c.read_rest.new.count.nodes (part_of c.args.bytes.now c.in_ok-entry.entry) (c.in_ok-entry.ensures.is bound room) c.in-Some.next (c.in_ok-next.ensures.is ∙ ap (λ o. Ok (option_lines c.args.bytes.now o)) c.in-Some.is) c.if-not-is_dash.ensures.value (sym c.if-in_mapping.false) c.in_err-no_entry.field-0.0 (c.in_err-no_entry.ensures (suc bound) (omega (arith, h, c.entries.invariant.from, c.in_ok-entry.ensures.within.from, rw c.in-Some.is at c.in_ok-next.ensures.from)))))))
+    (λ t l. positive (λ u. Stops (sequence_entries (block_node bound) (flow_collection (suc bound)) u c.args.in_mapping c.args.column c.args.depth (nodes_of (map view c.entries.items.items)) (lines_at c.args.bytes.now c.entries.at)) c.entries.count.nodes c.in_err-no_entry.field-0.0) t (omega (arith, l, c.entries.invariant.inside)) (λ j _. sequence-none (block_node bound) (flow_collection (suc bound)) j c.args.in_mapping c.args.column c.args.depth c.entries.count.nodes (nodes_of (map view c.entries.items.items)) c.args.bytes.now c.entries.at c.entries.invariant.inside (dash-solid c.args.bytes.now c.entries.at (omega (arith, c.entries.invariant.inside)) c.entries.invariant.dash) c.read_rest.new.count.nodes (part_of c.args.bytes.now c.in_ok-entry.entry) (c.in_ok-entry.ensures.is bound room) c.in-Some.next (c.in_ok-next.ensures.is ∙ ap (λ o. Ok (option_lines c.args.bytes.now o)) c.in-Some.is) c.if-not-is_dash.ensures.value (sym c.if-in_mapping.false) c.in_err-no_entry.field-0.0 (c.in_err-no_entry.ensures.is (suc bound) (omega (arith, h, c.entries.invariant.from, c.in_ok-entry.ensures.within.from, rw c.in-Some.is at c.in_ok-next.ensures.from)))))))
 
 pub read_sequence-read_rest-requires : goal.read_sequence-read_rest-requires
-read_sequence-read_rest-requires t c = (search rules, (omega arith, (omega (arith, c.entries.invariant.inside), (same_line-next c.args.bytes.now c.entries.at (omega (arith, c.entries.invariant.inside)) (dash-solid c.args.bytes.now c.entries.at (omega (arith, c.entries.invariant.inside)) c.entries.invariant.dash), (c.requires.size, (c.requires.depth, (c.entries.invariant.column, (omega (arith, c.entries.invariant.column), omega arith))))))))
+read_sequence-read_rest-requires t c = (search rules, (omega arith, (omega (arith, c.entries.invariant.inside), (same_line-next c.args.bytes.now c.entries.at (omega (arith, c.entries.invariant.inside)) (dash-solid c.args.bytes.now c.entries.at (omega (arith, c.entries.invariant.inside)) c.entries.invariant.dash), (c.requires.size, (c.requires.depth, (c.entries.invariant.column, (omega (arith, c.entries.invariant.column), (omega arith, tt)))))))))
 
 pub read_sequence-entries-preserved : goal.read_sequence-entries-preserved
 read_sequence-entries-preserved t c = record {
@@ -221,7 +221,7 @@ read_mapping-returns-in_err-key-clause-is t c = λ bound turns h k.
     (λ t l. positive (λ u. Stops (mapping_entries (block_node bound) (flow_collection (suc bound)) u c.args.column c.args.depth (entries_of (map entry_view c.entries.entries.items)) (key_seen c.args.bytes.now c.entries.key)) c.entries.count.nodes c.in_err-key.field-0.0) t (omega (arith, l, c.entries.invariant.key.inside, c.entries.invariant.key.from, c.entries.invariant.key.read.from, c.entries.invariant.key.read.end)) (λ j _. mapping-key_stop (block_node bound) (flow_collection (suc bound)) j c.args.column c.args.depth c.entries.count.nodes (entries_of (map entry_view c.entries.entries.items)) c.args.bytes.now (read_of c.args.bytes.now c.entries.key.read) c.entries.key.behind c.entries.invariant.key.inside c.read_rest.new.count.nodes (part_of c.args.bytes.now c.in_ok-value.value) (c.in_ok-value.ensures.is bound room) c.in-Some.next (c.in_ok-next.ensures.is ∙ ap (λ o. Ok (option_lines c.args.bytes.now o)) c.in-Some.is) c.in_err-key.field-0.0 (c.in_err-key.ensures.is (suc bound) (omega (arith, h, c.entries.invariant.from, c.entries.invariant.key.from, c.entries.invariant.key.read.from, c.entries.invariant.key.read.end, c.in_ok-next.ensures.from, c.in_ok-value.ensures.within.from, rw c.in-Some.is at c.in_ok-next.ensures.from)))))))
 
 pub read_mapping-read_rest-requires : goal.read_mapping-read_rest-requires
-read_mapping-read_rest-requires t c = (search rules, (omega arith, (c.entries.invariant.key.inside, (same_line-own (lines_at c.args.bytes.now c.entries.key.behind), (c.requires.size, (c.requires.depth, (omega arith, (omega (arith, c.entries.invariant.column, c.entries.invariant.from, c.entries.invariant.key.from, c.entries.invariant.key.read.from, c.entries.invariant.key.read.end), omega arith))))))))
+read_mapping-read_rest-requires t c = (search rules, (omega arith, (c.entries.invariant.key.inside, (same_line-own (lines_at c.args.bytes.now c.entries.key.behind), (c.requires.size, (c.requires.depth, (omega arith, (omega (arith, c.entries.invariant.column, c.entries.invariant.from, c.entries.invariant.key.from, c.entries.invariant.key.read.from, c.entries.invariant.key.read.end), (omega arith, tt)))))))))
 
 pub read_mapping-entries-preserved : goal.read_mapping-entries-preserved
 read_mapping-entries-preserved t c = record {
