@@ -57,7 +57,8 @@ fn read_document(alloc: Global, bytes: &[u8]) -> Result<Node, Stop>
 /// The file has at most 1,048,576 bytes. Faults of its bytes come first. Then it is read from its start to its end, with
 /// at most 100,000 nodes and 64 collections inside one another; anchors, aliases, tags, explicit keys, directives and
 /// further documents are faults. A fault's span is the character at which it stands, in bytes of the file: one byte where
-/// the file isn't UTF-8, and nothing at the file's end. Fails with `AllocError` for want of memory.
+/// the file isn't UTF-8, and nothing at the file's end. A node's span lies in that of the node around it, behind those of
+/// the nodes before it. Fails with `AllocError` for want of memory.
 pub fn read_yaml(alloc: Global, bytes: &[u8]) -> Result<Result<Doc, YamlFault>, AllocError>
     requires { length bytes.now ≤ 1048576 }
     ensures tree { IfOk result (GivesTree bytes.now) }
