@@ -1,8 +1,7 @@
-pub mod Names
-pub mod Table
-pub mod Growth
-pub mod Keys
-pub mod Faults
-pub mod Tree
-pub mod Sections
-pub mod Rows
+pub use Rattle.al_shape.specs.Faults
+pub use Rattle.al_shape.specs.Growth
+pub use Rattle.al_shape.specs.Keys
+pub use Rattle.al_shape.specs.Names
+pub use Rattle.al_shape.specs.Table
+pub use Rattle.al_shape.specs.Values
+pub mod Files

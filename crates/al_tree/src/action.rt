@@ -1,21 +1,14 @@
-ghost use Rattle.al_tree.specs.Faults.{root_faults};
-ghost use Rattle.al_tree.specs.Growth.{SameSet};
-ghost use Rattle.al_tree.specs.Tree.{items_at, text_at, value_at};
-ghost use Rattle.al_tree.specs.declared.table.Shape.TheVariants.{Action as ActionShape};
+ghost use Rattle.al_shape.specs.Values.{items_at, text_at, value_at, word_of};
 ghost use Rattle.al_yaml.specs.View.{view};
-ghost use Rattle.std.specs.Option.{option_copied};
-ghost use Rattle.std.specs.Prelude.{◌≡◌, codes, map, option_map, IfOk};
+ghost use Rattle.std.specs.Prelude.{◌≡◌, codes, map, option_map};
 
-use crate::check::shape_faults;
-use crate::nodes::{items_under, text_under, value};
-use crate::table::Shape;
-use crate::workflow::Workflow;
-use al_scalar::Scalar;
-use al_text::Fault;
-use al_yaml::{Doc, Node};
-use std::alloc::{AllocError, Global};
+use al_shape::{Word, items_under, text_under, value};
+use al_yaml::Node;
 
 /// An action, by the root of its file (GitHub, "Metadata syntax for GitHub Actions").
+///
+/// A method answers what stands under the key that it names: of equal keys the first, and none where the value is of a
+/// wrong kind.
 #[derive(Drop)]
 pub struct Action {
     pub root: Node,
@@ -23,15 +16,22 @@ pub struct Action {
 
 impl Action {
     /// `name`.
-    pub fn name(&self) -> Option<&Scalar>
-        ensures { option_copied result ≡ text_at (codes "name") (view self.now.root) }
+    pub fn name(&self) -> Option<Word<'_>>
+        ensures { option_map word_of result ≡ text_at (codes "name") (view self.now.root) }
     {
         text_under(&self.root, "name")
     }
 
+    /// `author`.
+    pub fn author(&self) -> Option<Word<'_>>
+        ensures { option_map word_of result ≡ text_at (codes "author") (view self.now.root) }
+    {
+        text_under(&self.root, "author")
+    }
+
     /// `description`.
-    pub fn description(&self) -> Option<&Scalar>
-        ensures { option_copied result ≡ text_at (codes "description") (view self.now.root) }
+    pub fn description(&self) -> Option<Word<'_>>
+        ensures { option_map word_of result ≡ text_at (codes "description") (view self.now.root) }
     {
         text_under(&self.root, "description")
     }
@@ -58,6 +58,13 @@ impl Action {
             node: value(&self.root, "runs")?,
         })
     }
+
+    /// `branding`.
+    pub fn branding(&self) -> Option<&Node>
+        ensures { option_map (λ n. view n.now) result ≡ value_at (codes "branding") (view self.now.root) }
+    {
+        value(&self.root, "branding")
+    }
 }
 
 /// How an action runs (`runs`).
@@ -68,8 +75,8 @@ pub struct Runs<'a> {
 
 impl<'a> Runs<'a> {
     /// `using`: what the action is.
-    pub fn using(self) -> Option<&'a Scalar>
-        ensures { option_copied result ≡ text_at (codes "using") (view self.entry.node.now) }
+    pub fn using(self) -> Option<Word<'a>>
+        ensures { option_map word_of result ≡ text_at (codes "using") (view self.entry.node.now) }
     {
         text_under(self.node, "using")
     }
@@ -82,15 +89,43 @@ impl<'a> Runs<'a> {
     }
 
     /// `main` of a JavaScript action.
-    pub fn main(self) -> Option<&'a Scalar>
-        ensures { option_copied result ≡ text_at (codes "main") (view self.entry.node.now) }
+    pub fn main(self) -> Option<Word<'a>>
+        ensures { option_map word_of result ≡ text_at (codes "main") (view self.entry.node.now) }
     {
         text_under(self.node, "main")
     }
 
+    /// `pre` of a JavaScript action.
+    pub fn pre(self) -> Option<Word<'a>>
+        ensures { option_map word_of result ≡ text_at (codes "pre") (view self.entry.node.now) }
+    {
+        text_under(self.node, "pre")
+    }
+
+    /// `pre-if`: the condition under which the part before runs.
+    pub fn pre_if(self) -> Option<Word<'a>>
+        ensures { option_map word_of result ≡ text_at (codes "pre-if") (view self.entry.node.now) }
+    {
+        text_under(self.node, "pre-if")
+    }
+
+    /// `post` of a JavaScript action.
+    pub fn post(self) -> Option<Word<'a>>
+        ensures { option_map word_of result ≡ text_at (codes "post") (view self.entry.node.now) }
+    {
+        text_under(self.node, "post")
+    }
+
+    /// `post-if`: the condition under which the part behind runs.
+    pub fn post_if(self) -> Option<Word<'a>>
+        ensures { option_map word_of result ≡ text_at (codes "post-if") (view self.entry.node.now) }
+    {
+        text_under(self.node, "post-if")
+    }
+
     /// `image` of a Docker action.
-    pub fn image(self) -> Option<&'a Scalar>
-        ensures { option_copied result ≡ text_at (codes "image") (view self.entry.node.now) }
+    pub fn image(self) -> Option<Word<'a>>
+        ensures { option_map word_of result ≡ text_at (codes "image") (view self.entry.node.now) }
     {
         text_under(self.node, "image")
     }
@@ -101,25 +136,32 @@ impl<'a> Runs<'a> {
     {
         value(self.node, "env")
     }
-}
 
-/// A workflow or an action.
-#[derive(Drop)]
-pub enum Tree {
-    Workflow(Workflow),
-    Action(Action),
-}
+    /// `entrypoint` of a Docker action.
+    pub fn entrypoint(self) -> Option<Word<'a>>
+        ensures { option_map word_of result ≡ text_at (codes "entrypoint") (view self.entry.node.now) }
+    {
+        text_under(self.node, "entrypoint")
+    }
 
-/// The action that a document is, and what in it breaks the syntax of actions: its faults in the order of the document,
-/// which are exactly those that the syntax's table gives.
-///
-/// Fails with `AllocError` for want of memory.
-#[tactic(auto, using(crate::proofs::Lists::same_set))]
-pub fn read_action(alloc: Global, doc: Doc) -> Result<(Action, Vec<Fault>), AllocError>
-    ensures tree { IfOk result (λ r. view r.0.root ≡ view doc.root) }
-    ensures list { IfOk result (λ r. r.1.items ≡ root_faults ActionShape (view doc.root)) }
-    ensures set { IfOk result (λ r. SameSet r.1.items (root_faults ActionShape (view doc.root))) }
-{
-    let faults = shape_faults(alloc, Shape::Action, &doc.root)?;
-    Ok((Action { root: doc.root }, faults))
+    /// `pre-entrypoint` of a Docker action.
+    pub fn pre_entrypoint(self) -> Option<Word<'a>>
+        ensures { option_map word_of result ≡ text_at (codes "pre-entrypoint") (view self.entry.node.now) }
+    {
+        text_under(self.node, "pre-entrypoint")
+    }
+
+    /// `post-entrypoint` of a Docker action.
+    pub fn post_entrypoint(self) -> Option<Word<'a>>
+        ensures { option_map word_of result ≡ text_at (codes "post-entrypoint") (view self.entry.node.now) }
+    {
+        text_under(self.node, "post-entrypoint")
+    }
+
+    /// `args` of a Docker action.
+    pub fn args(self) -> Option<&'a Node>
+        ensures { option_map (λ n. view n.now) result ≡ value_at (codes "args") (view self.entry.node.now) }
+    {
+        value(self.node, "args")
+    }
 }

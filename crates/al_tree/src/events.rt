@@ -1,10 +1,8 @@
-ghost use Rattle.al_tree.specs.Tree.{items_at, text_at, value_at};
+ghost use Rattle.al_shape.specs.Values.{items_at, text_at, value_at, word_of};
 ghost use Rattle.al_yaml.specs.View.{view};
-ghost use Rattle.std.specs.Option.{option_copied};
 ghost use Rattle.std.specs.Prelude.{◌≡◌, codes, map, option_map};
 
-use crate::nodes::{items_under, text_under, value};
-use al_scalar::Scalar;
+use al_shape::{Word, items_under, text_under, value};
 use al_yaml::Node;
 
 /// What stands under an event of `on` (GitHub, "Workflow syntax", `on`).
@@ -92,6 +90,28 @@ impl<'a> Event<'a> {
     }
 }
 
+/// When a workflow is triggered: an item of `on.schedule`.
+#[derive(Clone, Copy)]
+pub struct Schedule<'a> {
+    pub node: &'a Node,
+}
+
+impl<'a> Schedule<'a> {
+    /// `cron`.
+    pub fn cron(self) -> Option<Word<'a>>
+        ensures { option_map word_of result ≡ text_at (codes "cron") (view self.entry.node.now) }
+    {
+        text_under(self.node, "cron")
+    }
+
+    /// `timezone`.
+    pub fn timezone(self) -> Option<Word<'a>>
+        ensures { option_map word_of result ≡ text_at (codes "timezone") (view self.entry.node.now) }
+    {
+        text_under(self.node, "timezone")
+    }
+}
+
 /// An input, a secret or an output of an event or an action.
 #[derive(Clone, Copy)]
 pub struct Declared<'a> {
@@ -100,15 +120,15 @@ pub struct Declared<'a> {
 
 impl<'a> Declared<'a> {
     /// `description`.
-    pub fn description(self) -> Option<&'a Scalar>
-        ensures { option_copied result ≡ text_at (codes "description") (view self.entry.node.now) }
+    pub fn description(self) -> Option<Word<'a>>
+        ensures { option_map word_of result ≡ text_at (codes "description") (view self.entry.node.now) }
     {
         text_under(self.node, "description")
     }
 
     /// `required`.
-    pub fn required(self) -> Option<&'a Scalar>
-        ensures { option_copied result ≡ text_at (codes "required") (view self.entry.node.now) }
+    pub fn required(self) -> Option<Word<'a>>
+        ensures { option_map word_of result ≡ text_at (codes "required") (view self.entry.node.now) }
     {
         text_under(self.node, "required")
     }
@@ -121,8 +141,8 @@ impl<'a> Declared<'a> {
     }
 
     /// `type` of an input.
-    pub fn input_type(self) -> Option<&'a Scalar>
-        ensures { option_copied result ≡ text_at (codes "type") (view self.entry.node.now) }
+    pub fn input_type(self) -> Option<Word<'a>>
+        ensures { option_map word_of result ≡ text_at (codes "type") (view self.entry.node.now) }
     {
         text_under(self.node, "type")
     }
@@ -134,9 +154,16 @@ impl<'a> Declared<'a> {
         items_under(self.node, "options")
     }
 
+    /// `deprecationMessage` of an input.
+    pub fn deprecation_message(self) -> Option<Word<'a>>
+        ensures { option_map word_of result ≡ text_at (codes "deprecationMessage") (view self.entry.node.now) }
+    {
+        text_under(self.node, "deprecationMessage")
+    }
+
     /// `value` of an output.
-    pub fn value(self) -> Option<&'a Scalar>
-        ensures { option_copied result ≡ text_at (codes "value") (view self.entry.node.now) }
+    pub fn value(self) -> Option<Word<'a>>
+        ensures { option_map word_of result ≡ text_at (codes "value") (view self.entry.node.now) }
     {
         text_under(self.node, "value")
     }

@@ -1,10 +1,8 @@
-ghost use Rattle.al_tree.specs.Tree.{items_at, text_at, text_below, value_at, value_below};
+ghost use Rattle.al_shape.specs.Values.{items_at, text_at, value_at, value_below, word_of};
 ghost use Rattle.al_yaml.specs.View.{view};
-ghost use Rattle.std.specs.Option.{option_copied};
 ghost use Rattle.std.specs.Prelude.{◌≡◌, [], ◌∷◌, codes, map, option_map};
 
-use crate::nodes::{items_under, text_under, value};
-use al_scalar::Scalar;
+use al_shape::{Word, items_under, text_under, value};
 use al_yaml::Node;
 
 /// A job, with its key (GitHub, "Workflow syntax", `jobs.<job_id>`).
@@ -16,8 +14,8 @@ pub struct Job<'a> {
 
 impl<'a> Job<'a> {
     /// `name`.
-    pub fn name(self) -> Option<&'a Scalar>
-        ensures { option_copied result ≡ text_at (codes "name") (view self.entry.node.now) }
+    pub fn name(self) -> Option<Word<'a>>
+        ensures { option_map word_of result ≡ text_at (codes "name") (view self.entry.node.now) }
     {
         text_under(self.node, "name")
     }
@@ -37,8 +35,8 @@ impl<'a> Job<'a> {
     }
 
     /// `if`: the condition under which the job runs.
-    pub fn condition(self) -> Option<&'a Scalar>
-        ensures { option_copied result ≡ text_at (codes "if") (view self.entry.node.now) }
+    pub fn condition(self) -> Option<Word<'a>>
+        ensures { option_map word_of result ≡ text_at (codes "if") (view self.entry.node.now) }
     {
         text_under(self.node, "if")
     }
@@ -93,8 +91,8 @@ impl<'a> Job<'a> {
     }
 
     /// `timeout-minutes`.
-    pub fn timeout_minutes(self) -> Option<&'a Scalar>
-        ensures { option_copied result ≡ text_at (codes "timeout-minutes") (view self.entry.node.now) }
+    pub fn timeout_minutes(self) -> Option<Word<'a>>
+        ensures { option_map word_of result ≡ text_at (codes "timeout-minutes") (view self.entry.node.now) }
     {
         text_under(self.node, "timeout-minutes")
     }
@@ -107,8 +105,8 @@ impl<'a> Job<'a> {
     }
 
     /// `continue-on-error`.
-    pub fn continue_on_error(self) -> Option<&'a Scalar>
-        ensures { option_copied result ≡ text_at (codes "continue-on-error") (view self.entry.node.now) }
+    pub fn continue_on_error(self) -> Option<Word<'a>>
+        ensures { option_map word_of result ≡ text_at (codes "continue-on-error") (view self.entry.node.now) }
     {
         text_under(self.node, "continue-on-error")
     }
@@ -128,8 +126,8 @@ impl<'a> Job<'a> {
     }
 
     /// `uses`: the workflow that the job calls.
-    pub fn uses(self) -> Option<&'a Scalar>
-        ensures { option_copied result ≡ text_at (codes "uses") (view self.entry.node.now) }
+    pub fn uses(self) -> Option<Word<'a>>
+        ensures { option_map word_of result ≡ text_at (codes "uses") (view self.entry.node.now) }
     {
         text_under(self.node, "uses")
     }
@@ -148,6 +146,13 @@ impl<'a> Job<'a> {
         value(self.node, "secrets")
     }
 
+    /// `snapshot`.
+    pub fn snapshot(self) -> Option<&'a Node>
+        ensures { option_map (λ n. view n.now) result ≡ value_at (codes "snapshot") (view self.entry.node.now) }
+    {
+        value(self.node, "snapshot")
+    }
+
     /// `strategy.matrix`.
     pub fn matrix(self) -> Option<&'a Node>
         ensures { option_map (λ n. view n.now) result ≡ value_below (codes "strategy" ∷ codes "matrix" ∷ []) (view self.entry.node.now) }
@@ -156,38 +161,53 @@ impl<'a> Job<'a> {
     }
 }
 
-/// A container that a job runs in, or a service of it (`jobs.<job_id>.container`, `jobs.<job_id>.services.<service_id>`).
+/// The runners of a job (`runs-on`), where it is a mapping.
 #[derive(Clone, Copy)]
-pub struct Container<'a> {
+pub struct RunsOn<'a> {
     pub node: &'a Node,
 }
 
-impl<'a> Container<'a> {
-    /// `image`.
-    pub fn image(self) -> Option<&'a Scalar>
-        ensures { option_copied result ≡ text_at (codes "image") (view self.entry.node.now) }
+impl<'a> RunsOn<'a> {
+    /// `group`: the group of runners.
+    pub fn group(self) -> Option<Word<'a>>
+        ensures { option_map word_of result ≡ text_at (codes "group") (view self.entry.node.now) }
     {
-        text_under(self.node, "image")
+        text_under(self.node, "group")
     }
 
-    /// `credentials`.
-    pub fn credentials(self) -> Option<&'a Node>
-        ensures { option_map (λ n. view n.now) result ≡ value_at (codes "credentials") (view self.entry.node.now) }
+    /// `labels`: the labels that a runner must have.
+    pub fn labels(self) -> Option<&'a Node>
+        ensures { option_map (λ n. view n.now) result ≡ value_at (codes "labels") (view self.entry.node.now) }
     {
-        value(self.node, "credentials")
-    }
-
-    /// `env`: the environment variables.
-    pub fn env(self) -> Option<&'a Node>
-        ensures { option_map (λ n. view n.now) result ≡ value_at (codes "env") (view self.entry.node.now) }
-    {
-        value(self.node, "env")
+        value(self.node, "labels")
     }
 }
 
-/// The `shell` of `defaults.run` of a workflow or a job.
-pub fn default_shell(node: &Node) -> Option<&Scalar>
-    ensures { option_copied result ≡ text_below (codes "defaults" ∷ codes "run" ∷ codes "shell" ∷ []) (view node.now) }
-{
-    text_under(value(value(node, "defaults")?, "run")?, "shell")
+/// How often a job runs, and with which values (`strategy`).
+#[derive(Clone, Copy)]
+pub struct Strategy<'a> {
+    pub node: &'a Node,
+}
+
+impl<'a> Strategy<'a> {
+    /// `matrix`.
+    pub fn matrix(self) -> Option<&'a Node>
+        ensures { option_map (λ n. view n.now) result ≡ value_at (codes "matrix") (view self.entry.node.now) }
+    {
+        value(self.node, "matrix")
+    }
+
+    /// `fail-fast`.
+    pub fn fail_fast(self) -> Option<Word<'a>>
+        ensures { option_map word_of result ≡ text_at (codes "fail-fast") (view self.entry.node.now) }
+    {
+        text_under(self.node, "fail-fast")
+    }
+
+    /// `max-parallel`.
+    pub fn max_parallel(self) -> Option<Word<'a>>
+        ensures { option_map word_of result ≡ text_at (codes "max-parallel") (view self.entry.node.now) }
+    {
+        text_under(self.node, "max-parallel")
+    }
 }

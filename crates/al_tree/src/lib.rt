@@ -1,32 +1,27 @@
-//! Workflows and actions: the syntax of their sections, what in a file breaks it, and typed access to its nodes.
+//! Workflows and actions: typed access to the sections of a file's tree, and what in it breaks the syntax.
+//!
+//! The table of the syntax, and what stands under any key of a node, are those of `al_shape`, which this crate hands on.
 #![tactic(auto)]
 
 mod action;
-mod action_rows;
-mod check;
-mod entries;
-mod event_rows;
+mod containers;
 mod events;
-mod examples;
+mod files;
 mod jobs;
-mod keys;
-mod names;
-mod nodes;
-mod reports;
-mod scalars;
-mod standings;
+mod settings;
 mod steps;
-mod table;
 mod workflow;
-mod workflow_rows;
 
-pub use action::{Action, Runs, Tree, read_action};
-pub use check::shape_faults;
-pub use events::{Declared, Event};
-pub use examples::rows;
-pub use jobs::{Container, Job, default_shell};
-pub use nodes::{Member, items, items_under, members, text, text_under, value};
-pub use scalars::{contains_chunk, is_null_scalar};
+pub use action::{Action, Runs};
+pub use al_shape::{
+    Clash, KeySet, Keys, Member, Need, Others, Row, Rule, Shape, Word, Words, contains_chunk,
+    is_among, is_event, is_null_scalar, items, items_under, key, key_of, key_text, members,
+    rule_of, shape_faults, text, text_under, texts, texts_under, value,
+};
+pub use containers::Container;
+pub use events::{Declared, Event, Schedule};
+pub use files::{FileKind, Tree, read_action, read_workflow};
+pub use jobs::{Job, RunsOn, Strategy};
+pub use settings::{Concurrency, default_shell, default_working_directory};
 pub use steps::Step;
-pub use table::{Clash, Keys, Need, Others, Row, Rule, Shape, Words, rule_of};
-pub use workflow::{Workflow, read_workflow};
+pub use workflow::Workflow;

@@ -1,19 +1,11 @@
-ghost use Rattle.al_tree.specs.Faults.{root_faults};
-ghost use Rattle.al_tree.specs.Growth.{SameSet};
-ghost use Rattle.al_tree.specs.Sections.{job_of, member_of};
-ghost use Rattle.al_tree.specs.Tree.{entries_at, text_at, value_at, value_below};
-ghost use Rattle.al_tree.specs.declared.table.Shape.TheVariants.{Workflow as WorkflowShape};
+ghost use Rattle.al_shape.specs.Values.{entries_at, member_of, text_at, value_at, value_below, word_of};
+ghost use Rattle.al_tree.specs.Files.{job_of};
 ghost use Rattle.al_yaml.specs.View.{view};
-ghost use Rattle.std.specs.Option.{option_copied};
 ghost use Rattle.std.specs.Prelude.{◌≡◌, [], ◌∷◌, codes, map, option_map, IfOk};
 
-use crate::check::shape_faults;
 use crate::jobs::Job;
-use crate::nodes::{Member, members, text_under, value};
-use crate::table::Shape;
-use al_scalar::Scalar;
-use al_text::Fault;
-use al_yaml::{Doc, Node};
+use al_shape::{Member, Word, members, text_under, value};
+use al_yaml::Node;
 use std::alloc::{AllocError, Global};
 
 /// A workflow, by the root of its file (GitHub, "Workflow syntax for GitHub Actions").
@@ -27,15 +19,15 @@ pub struct Workflow {
 
 impl Workflow {
     /// `name`.
-    pub fn name(&self) -> Option<&Scalar>
-        ensures { option_copied result ≡ text_at (codes "name") (view self.now.root) }
+    pub fn name(&self) -> Option<Word<'_>>
+        ensures { option_map word_of result ≡ text_at (codes "name") (view self.now.root) }
     {
         text_under(&self.root, "name")
     }
 
     /// `run-name`.
-    pub fn run_name(&self) -> Option<&Scalar>
-        ensures { option_copied result ≡ text_at (codes "run-name") (view self.now.root) }
+    pub fn run_name(&self) -> Option<Word<'_>>
+        ensures { option_map word_of result ≡ text_at (codes "run-name") (view self.now.root) }
     {
         text_under(&self.root, "run-name")
     }
@@ -105,18 +97,4 @@ fn jobs_of<'a>(alloc: Global, members: &[Member<'a>]) -> Result<Vec<Job<'a>>, Al
         })?;
     }
     Ok(jobs)
-}
-
-/// The workflow that a document is, and what in it breaks the syntax of workflows: its faults in the order of the document,
-/// which are exactly those that the syntax's table gives.
-///
-/// Fails with `AllocError` for want of memory.
-#[tactic(auto, using(crate::proofs::Lists::same_set))]
-pub fn read_workflow(alloc: Global, doc: Doc) -> Result<(Workflow, Vec<Fault>), AllocError>
-    ensures tree { IfOk result (λ r. view r.0.root ≡ view doc.root) }
-    ensures list { IfOk result (λ r. r.1.items ≡ root_faults WorkflowShape (view doc.root)) }
-    ensures set { IfOk result (λ r. SameSet r.1.items (root_faults WorkflowShape (view doc.root))) }
-{
-    let faults = shape_faults(alloc, Shape::Workflow, &doc.root)?;
-    Ok((Workflow { root: doc.root }, faults))
 }

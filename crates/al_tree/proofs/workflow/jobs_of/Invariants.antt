@@ -1,5 +1,6 @@
 use Rattle.std.proofs.Common.{◌≡◌, take, map}
-use Rattle.al_tree.specs.Sections.{job_of, member_of}
+use Rattle.al_shape.specs.Values.{member_of}
+use Rattle.al_tree.specs.Files.{job_of}
 use Rattle.al_tree.proofs.workflow.jobs_of.Given as goal
 
 abbrev pub invariant-loop-member : goal.invariant-loop-member

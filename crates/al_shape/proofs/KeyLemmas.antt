@@ -1,0 +1,47 @@
+-- Sets of keys as tests of texts.
+use Rattle.std.proofs.Common.{◌≡◌, ℕ, Bool, true, false, cond, List, [], ◌∷◌, ◌++◌, refl, ap, ◌∙◌, ◌||◌}
+use Rattle.std.specs.Str.{bytes_eq}
+use Rattle.std.specs.Ordering.{nat_cmp, is_eq}
+use Rattle.std.specs.Cmp.{nat_eq_equiv, partial_equiv_from_equiv, IsPartialEquivalence}
+use Rattle.std.specs.Cmp.Lexicographic.{slice_cmp, lists_per}
+use Rattle.std.proofs.lemmas.Map.Text.{is_eq-slice_cmp}
+use Rattle.al_shape.specs.Names.{among}
+use Rattle.std.specs.BTreeSet.{Updates}
+use Rattle.std.proofs.Common.{Bor}
+use Rattle.al_shape.specs.Keys.{and_text, holds}
+use Rattle.al_shape.specs.declared.keys.KeySet.{KeySet}
+
+or_assoc : (a b c : Bool) → ((a || b) || c) ≡ (a || (b || c))
+or_assoc true b c = refl
+or_assoc false b c = refl
+
+or_comm : (a b : Bool) → (a || b) ≡ (b || a)
+or_comm true true = refl
+or_comm true false = refl
+or_comm false true = refl
+or_comm false false = refl
+
+cond_or : (a b : Bool) → cond a true b ≡ (b || a)
+cond_or true true = refl
+cond_or true false = refl
+cond_or false true = refl
+cond_or false false = refl
+
+bytes_swap : (a b : List ℕ) → bytes_eq a b ≡ bytes_eq b a
+bytes_swap a b = let p : IsPartialEquivalence bytes_eq = lists_per (partial_equiv_from_equiv nat_eq_equiv) in p.symm a b
+
+among_more_at : (ks : List (List ℕ)) (k text : List ℕ) → and_text (among ks) k text ≡ among (ks ++ k ∷ []) text
+among_more_at [] k text = or_comm false (bytes_eq text k)
+among_more_at (x ∷ xs) k text = or_assoc (bytes_eq text x) (among xs text) (bytes_eq text k) ∙ ap (λ b. bytes_eq text x || b) (among_more_at xs k text)
+
+-- the texts of a list and one more
+pub among_more : (ks : List (List ℕ)) (k : List ℕ) → and_text (among ks) k ≡ among (ks ++ k ∷ [])
+among_more ks k = λ i text. among_more_at ks k text i
+
+pub added_at : (k text : List ℕ) (old : Bool) → cond (is_eq (slice_cmp nat_cmp k text)) true old ≡ (old || bytes_eq text k)
+added_at k text old =
+    ap (λ b. cond b true old) (is_eq-slice_cmp k text ∙ bytes_swap k text) ∙ cond_or (bytes_eq text k) old
+
+pub inserted : (old new : KeySet) (key : Bor (List ℕ)) → Updates (λ a b. slice_cmp nat_cmp a.now b.now) old.keys new.keys key true → holds new ≡ and_text (holds old) key.now
+unfolding holds
+inserted old new key u = λ i text. (u.0 (record key { now = text }) ∙ added_at key.now text (holds old text)) i

@@ -1,0 +1,26 @@
+-- The faults of a node that the program holds as a sequence or a mapping.
+use Rattle.std.proofs.Common.{◌≡◌, ℕ, Bool, List, [], ap, map, ◌∙◌, Vec}
+use Rattle.std.specs.declared.alloc.Global.{Global}
+use Rattle.al_yaml.specs.View.{entries_of, entry_view, nodes_of, view}
+use Rattle.al_yaml.specs.declared.node.Entry.{Entry}
+use Rattle.al_yaml.specs.declared.node.Kind.TheVariants.{Mapping, Sequence}
+use Rattle.al_yaml.specs.declared.node.Node.{Node}
+use Rattle.al_yaml.proofs.ViewLemmas.{entries_again, view_mapping, view_sequence}
+use Rattle.al_text.specs.declared.codes.Key.TheVariants.{WrongKind}
+use Rattle.al_shape.specs.Faults.{entries_faults, faults, items_faults, mapping_faults, one_fault, refined, sequence_faults}
+use Rattle.al_shape.specs.Keys.{keys_in}
+use Rattle.al_shape.specs.Names.{among}
+use Rattle.al_shape.specs.Table.{rule}
+use Rattle.al_shape.specs.declared.table.Shape.{Shape}
+
+pub faults_sequence : (s : Shape) (null : Bool) (above : List ℕ) (n : Node) (v : Vec Node Global) → n.kind ≡ Sequence v →
+    faults s null above (view n) ≡ sequence_faults (rule s) (one_fault WrongKind n.span above) (λ inner. items_faults inner above (nodes_of (map view v.items)))
+faults_sequence s null above n v e = ap (faults s null above) (view_sequence n v e)
+
+pub faults_mapping : (s : Shape) (null : Bool) (above : List ℕ) (n : Node) (v : Vec Entry Global) → n.kind ≡ Mapping v →
+    faults s null above (view n)
+    ≡ mapping_faults (rule (refined s (map entry_view v.items))) above (among (keys_in (map entry_view v.items))) n.span
+    (λ ks. entries_faults ks [] (among (keys_in (map entry_view v.items))) (entries_of (map entry_view v.items)))
+faults_mapping s null above n v e =
+    ap (faults s null above) (view_mapping n v e)
+    ∙ ap (λ es. mapping_faults (rule (refined s es)) above (among (keys_in es)) n.span (λ ks. entries_faults ks [] (among (keys_in es)) (entries_of (map entry_view v.items)))) (entries_again (map entry_view v.items))

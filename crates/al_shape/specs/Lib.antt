@@ -1,0 +1,7 @@
+pub mod Names
+pub mod Table
+pub mod Growth
+pub mod Keys
+pub mod Faults
+pub mod Values
+pub mod Rows

@@ -1,0 +1,70 @@
+ghost use Rattle.al_shape.specs.Keys.{and_text, holds, key_of as key_in, key_text as text_in, keys_in};
+ghost use Rattle.al_shape.specs.Names.{among};
+ghost use Rattle.al_yaml.specs.View.{entry_view, view};
+ghost use Rattle.std.specs.Prelude.{◌≡◌, [], map, IfOk, OnOk};
+
+use al_yaml::{Entry, Node};
+use std::alloc::{AllocError, Global};
+use std::collections::BTreeSet;
+
+/// The text of a key, empty where that is no scalar.
+pub fn key_text(key: &Node) -> &[u8]
+    ensures { result.now ≡ text_in (view key.now) }
+{
+    match key.scalar() {
+        Some(scalar) => scalar.text(),
+        None => &[],
+    }
+}
+
+/// The text of an entry's key.
+#[tactic(auto, using(al_yaml::proofs::ViewLemmas::entry_parts))]
+pub fn key_of(entry: &Entry) -> &[u8]
+    ensures { result.now ≡ key_in (entry_view entry.now) }
+{
+    key_text(&entry.key)
+}
+
+/// A set of keys. Adding one and looking one up take time that grows with the logarithm of their number.
+#[derive(Drop)]
+pub struct KeySet<'a> {
+    keys: BTreeSet<&'a [u8]>,
+}
+
+impl<'a> KeySet<'a> {
+    /// A set without keys. Takes no memory.
+    pub fn new(alloc: Global) -> KeySet<'a>
+        ensures { holds result ≡ among [] }
+    {
+        KeySet {
+            keys: BTreeSet::new(alloc),
+        }
+    }
+
+    /// Adds a key. Fails with `AllocError` for want of memory.
+    pub fn insert(&mut self, key: &'a [u8]) -> Result<(), AllocError>
+        ensures { OnOk result (holds self.new ≡ and_text (holds self.old) key.now) }
+    {
+        self.keys.insert(key)?;
+        Ok(())
+    }
+
+    /// Whether a key is in the set.
+    pub fn contains(&self, key: &'a [u8]) -> bool
+        ensures { result ≡ holds self.now key.now }
+    {
+        self.keys.contains(&key)
+    }
+
+    /// The keys of some entries. Fails with `AllocError` for want of memory.
+    #[tactic(auto, using(crate::proofs::KeyLemmas::among_more))]
+    pub fn of(alloc: Global, entries: &'a [Entry]) -> Result<KeySet<'a>, AllocError>
+        ensures { IfOk result (λ s. holds s ≡ among (keys_in (map entry_view entries.now))) }
+    {
+        let mut set = KeySet::new(alloc);
+        for entry in entries {
+            set.insert(key_of(entry))?;
+        }
+        Ok(set)
+    }
+}

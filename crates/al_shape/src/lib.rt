@@ -1,0 +1,26 @@
+//! The syntax of workflows and actions as a table of sections, what in a node breaks it, and what stands under a key.
+#![tactic(auto)]
+
+mod action_rows;
+mod check;
+mod entries;
+mod event_rows;
+mod examples;
+mod keys;
+mod names;
+mod reports;
+mod scalars;
+mod standings;
+mod table;
+mod values;
+mod workflow_rows;
+
+pub use check::shape_faults;
+pub use examples::rows;
+pub use keys::{KeySet, key_of, key_text};
+pub use names::{is_among, is_event};
+pub use scalars::{contains_chunk, is_null_scalar};
+pub use table::{Clash, Keys, Need, Others, Row, Rule, Shape, Words, rule_of};
+pub use values::{
+    Member, Word, items, items_under, key, members, text, text_under, texts, texts_under, value,
+};

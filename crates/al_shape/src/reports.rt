@@ -1,0 +1,67 @@
+ghost use Rattle.al_shape.specs.Faults.{fault};
+ghost use Rattle.std.specs.Prelude.{◌≡◌, [], ◌∷◌, ◌++◌, OnErr, OnOk};
+
+use al_text::{Args, Code, Fault, Key, Span};
+use std::alloc::{AllocError, Global};
+
+/// Adds a fault that names one text.
+pub(crate) fn report(
+    alloc: Global,
+    out: &mut Vec<Fault>,
+    key: Key,
+    span: Span,
+    text: &[u8],
+) -> Result<(), AllocError>
+    ensures ok { OnOk result (out.new.items ≡ out.old.items ++ fault key span (text.now ∷ []) ∷ []) }
+    ensures err { OnErr result (out.new.items ≡ out.old.items) }
+{
+    let mut texts = Vec::new(alloc);
+    texts.push(String::from_utf8_lossy(alloc, text)?)?;
+    out.push(Fault {
+        span,
+        code: Code::Key(key),
+        args: Args::new(texts),
+    })?;
+    Ok(())
+}
+
+/// Adds a fault that names two texts.
+pub(crate) fn report_two(
+    alloc: Global,
+    out: &mut Vec<Fault>,
+    key: Key,
+    span: Span,
+    first: &[u8],
+    second: &[u8],
+) -> Result<(), AllocError>
+    ensures ok { OnOk result (out.new.items ≡ out.old.items ++ fault key span (first.now ∷ second.now ∷ []) ∷ []) }
+    ensures err { OnErr result (out.new.items ≡ out.old.items) }
+{
+    let mut texts = Vec::new(alloc);
+    texts.push(String::from_utf8_lossy(alloc, first)?)?;
+    texts.push(String::from_utf8_lossy(alloc, second)?)?;
+    out.push(Fault {
+        span,
+        code: Code::Key(key),
+        args: Args::new(texts),
+    })?;
+    Ok(())
+}
+
+/// Adds a fault that names no text.
+pub(crate) fn report_plain(
+    alloc: Global,
+    out: &mut Vec<Fault>,
+    key: Key,
+    span: Span,
+) -> Result<(), AllocError>
+    ensures ok { OnOk result (out.new.items ≡ out.old.items ++ fault key span [] ∷ []) }
+    ensures err { OnErr result (out.new.items ≡ out.old.items) }
+{
+    out.push(Fault {
+        span,
+        code: Code::Key(key),
+        args: Args::new(Vec::new(alloc)),
+    })?;
+    Ok(())
+}

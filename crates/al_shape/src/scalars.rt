@@ -1,0 +1,68 @@
+ghost use Rattle.al_shape.specs.Faults.{has_chunk, is_bool_class, is_null, is_number_class, unless_taken, word_fault};
+ghost use Rattle.std.specs.Prelude.{◌≡◌};
+
+use crate::table::Words;
+use al_scalar::{Class, Scalar};
+use al_text::Key;
+
+/// Whether a text has a `${{`.
+pub fn contains_chunk(text: &[u8]) -> bool
+    ensures { result ≡ has_chunk text.now }
+{
+    let mut rest = text;
+    while let Some((_, tail)) = rest.split_first() {
+        if rest.starts_with(b"${{") {
+            return true;
+        }
+        rest = tail;
+    }
+    false
+}
+
+/// Whether a scalar is null.
+pub fn is_null_scalar(scalar: &Scalar) -> bool
+    ensures { result ≡ is_null scalar.now }
+{
+    matches!(scalar.class(), Class::Null)
+}
+
+/// Whether a scalar is `true` or `false`.
+fn is_bool(scalar: &Scalar) -> bool
+    ensures { result ≡ is_bool_class (scalar.now).class }
+{
+    matches!(scalar.class(), Class::Bool)
+}
+
+/// Whether a scalar is a number.
+fn is_number(scalar: &Scalar) -> bool
+    ensures { result ≡ is_number_class (scalar.now).class }
+{
+    matches!(scalar.class(), Class::Int | Class::Float)
+}
+
+/// A fault, where a scalar isn't taken.
+fn unless(taken: bool, key: Key) -> Option<Key>
+    ensures { result ≡ unless_taken taken key }
+{
+    if taken { None } else { Some(key) }
+}
+
+/// What is wrong with a scalar where these are taken.
+pub(crate) fn fault_of(words: Words, scalar: &Scalar) -> Option<Key>
+    ensures { result ≡ word_fault words scalar.now }
+{
+    match words {
+        Words::AnyWord => None,
+        Words::NoWord => Some(Key::WrongKind),
+        Words::NotNull => unless(!is_null_scalar(scalar), Key::WrongType),
+        Words::Bools => unless(
+            is_bool(scalar) || contains_chunk(scalar.text()),
+            Key::WrongType,
+        ),
+        Words::Numbers => unless(
+            is_number(scalar) || contains_chunk(scalar.text()),
+            Key::WrongType,
+        ),
+        Words::Chunks => unless(contains_chunk(scalar.text()), Key::WrongKind),
+    }
+}

@@ -1,5 +1,0 @@
-use Rattle.al_tree.proofs.KeyLemmas.{inserted}
-use Rattle.al_tree.proofs.keys.KeySet.insert.Goals as goal
-
-pub returns : goal.returns
-returns c = inserted c.args.self.now (record { keys = c.insert.new.self }) c.args.key c.in_ok-insert.ensures.updates

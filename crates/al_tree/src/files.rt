@@ -1,0 +1,55 @@
+ghost use Rattle.al_shape.specs.Faults.{root_faults};
+ghost use Rattle.al_shape.specs.Growth.{SameSet};
+ghost use Rattle.al_shape.specs.declared.table.Shape.TheVariants.{Action as ActionShape, Workflow as WorkflowShape};
+ghost use Rattle.al_tree.specs.Files.{shape_of};
+ghost use Rattle.al_yaml.specs.View.{view};
+ghost use Rattle.std.specs.Prelude.{◌≡◌, IfOk};
+
+use crate::action::Action;
+use crate::workflow::Workflow;
+use al_shape::{Shape, shape_faults};
+use al_text::Fault;
+use al_yaml::Doc;
+use std::alloc::{AllocError, Global};
+
+/// A workflow or an action.
+#[derive(Drop)]
+pub enum Tree {
+    Workflow(Workflow),
+    Action(Action),
+}
+
+/// What a file is read as.
+#[derive(Clone, Copy)]
+pub enum FileKind {
+    Workflow,
+    Action,
+}
+
+/// The workflow that a document is, and what in it breaks the syntax of workflows: its faults in the order of the document,
+/// which are exactly those that the syntax's table gives.
+///
+/// Fails with `AllocError` for want of memory.
+#[tactic(auto, using(al_shape::proofs::Lists::same_set))]
+pub fn read_workflow(alloc: Global, doc: Doc) -> Result<(Workflow, Vec<Fault>), AllocError>
+    ensures tree { IfOk result (λ r. view r.0.root ≡ view doc.root) }
+    ensures list { IfOk result (λ r. r.1.items ≡ root_faults WorkflowShape (view doc.root)) }
+    ensures set { IfOk result (λ r. SameSet r.1.items (root_faults WorkflowShape (view doc.root))) }
+{
+    let faults = shape_faults(alloc, Shape::Workflow, &doc.root)?;
+    Ok((Workflow { root: doc.root }, faults))
+}
+
+/// The action that a document is, and what in it breaks the syntax of actions: its faults in the order of the document,
+/// which are exactly those that the syntax's table gives.
+///
+/// Fails with `AllocError` for want of memory.
+#[tactic(auto, using(al_shape::proofs::Lists::same_set))]
+pub fn read_action(alloc: Global, doc: Doc) -> Result<(Action, Vec<Fault>), AllocError>
+    ensures tree { IfOk result (λ r. view r.0.root ≡ view doc.root) }
+    ensures list { IfOk result (λ r. r.1.items ≡ root_faults ActionShape (view doc.root)) }
+    ensures set { IfOk result (λ r. SameSet r.1.items (root_faults ActionShape (view doc.root))) }
+{
+    let faults = shape_faults(alloc, Shape::Action, &doc.root)?;
+    Ok((Action { root: doc.root }, faults))
+}
