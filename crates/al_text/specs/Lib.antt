@@ -5,5 +5,9 @@ pub mod Positions
 pub mod Messages
 pub mod Parts
 pub mod Orders
+pub mod InOrder
+pub mod FaultLists
+pub mod FaultLaws
+pub mod Rows
 pub mod Paths
 pub mod LineStarts

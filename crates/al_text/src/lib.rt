@@ -2,8 +2,10 @@
 #![tactic(auto)]
 
 mod codes;
+mod examples;
 mod faults;
 mod lines;
+mod lists;
 mod paths;
 mod positions;
 mod printing;
@@ -12,8 +14,10 @@ mod streams;
 mod wordings;
 
 pub use codes::{Code, Expression, Key, Yaml};
+pub use examples::rows;
 pub use faults::{Args, Fault, Span};
 pub use lines::Lines;
+pub use lists::{fault_lists, ordered};
 pub use paths::{Path, PathFault, path_fault};
 pub use positions::position;
 pub use printing::write_fault;

@@ -1,0 +1,157 @@
+-- The order of faults is the derived one, it is total, and it tells equal faults.
+use Rattle.std.proofs.Common.{◌≡◌, ℕ, List, [], ◌∷◌, get_or, refl, sym, ap, ◌∙◌, arith}
+use Rattle.std.specs.Cmp.{IsTotalOrder}
+use Rattle.std.specs.List.{AllByRecursion, Contains}
+use Rattle.std.specs.List.Sorted.{IsStrictlySortedBy}
+use Rattle.std.specs.FinMap.{IsAntisymmetric, nat_cmp-IsAntisymmetric, slice_cmp-IsAntisymmetric}
+use Rattle.std.specs.Ordering.{nat_cmp, ordering_then, eq_by_cmp, is_eq}
+use Rattle.std.specs.declared.cmp.Ordering.{Ordering}
+use Rattle.std.specs.declared.cmp.Ordering.TheVariants.{Less, Equal, Greater}
+use Rattle.std.proofs.lemmas.Cmp.{nat_cmp_total, on_total, then_total}
+use Rattle.al_text.specs.Orders.{args_cmp, args_total}
+use Rattle.al_text.specs.FaultLists.{fault_cmp, fault_list, kind_place, place_in_kind, yaml_place, key_place, expression_place}
+use Rattle.al_text.specs.declared.codes.Code.{Code}
+use Rattle.al_text.specs.declared.codes.Code.TheVariants as C
+use Rattle.al_text.specs.declared.codes.Yaml.{Yaml}
+use Rattle.al_text.specs.declared.codes.Yaml.TheVariants.{NotUtf8, ControlCharacter, TabInIndentation, WrongIndentation, UnclosedQuote, UnclosedFlow, AnchorOrAlias, Tag, ExplicitKey, Directive, SecondDocument, WrongEscape, UnexpectedCharacter, NestingTooDeep, TooManyNodes, WrongBlockHeader, WrongKey, UnknownAlias}
+use Rattle.al_text.specs.declared.codes.Key.{Key}
+use Rattle.al_text.specs.declared.codes.Key.TheVariants.{Unexpected, Missing, Repeated, WrongKind, WrongType, NotBeside, EmptyFile}
+use Rattle.al_text.specs.declared.codes.Expression.{Expression}
+use Rattle.al_text.specs.declared.codes.Expression.TheVariants.{BadCharacter, UnclosedText, UnexpectedToken, EndsEarly, TooLong, TooDeep, UndefinedContext, UnavailableContext, UndefinedFunction, UnavailableFunction, ArgumentCount, ArgumentType, UndefinedProperty, NotIndexable, NotComparable, WrongPlaceholder, UnusedArgument, NotText, Untrusted, UnclosedChunk}
+use Rattle.al_text.specs.declared.faults.Fault.{Fault}
+use Rattle.al_text.specs.contracts.codes.YamlOrd.TheImpl as yaml
+use Rattle.al_text.specs.contracts.codes.KeyOrd.TheImpl as key
+use Rattle.al_text.specs.contracts.codes.ExpressionOrd.TheImpl as expression
+use Rattle.al_text.specs.contracts.codes.CodeOrd.TheImpl as code
+use Rattle.al_text.specs.contracts.faults.FaultOrd.TheImpl as derived
+use Rattle.al_text.specs.contracts.faults.FaultOrd.TheImpl.Laws.{matches_eq-law}
+use Rattle.al_text.specs.contracts.faults.FaultPartialEq.TheImpl as derived_eq
+use Rattle.al_text.proofs.InOrder.{IsStrictlySortedBy-in_order, Contains-in_order, Contains-from_in_order, AllByRecursion-in_order, in_order-same, in_order-sorted}
+
+-- ---- the derived order: each code beside each other one, by computation
+
+yaml_is : (a b : Yaml) → yaml.ghosts.cmp a b ≡ nat_cmp (yaml_place a) (yaml_place b)
+yaml_is NotUtf8 NotUtf8 = refl
+yaml_is _ NotUtf8 = refl
+yaml_is _ _ = refl
+
+key_is : (a b : Key) → key.ghosts.cmp a b ≡ nat_cmp (key_place a) (key_place b)
+key_is Unexpected Unexpected = refl
+key_is _ Unexpected = refl
+key_is _ _ = refl
+
+expression_is : (a b : Expression) → expression.ghosts.cmp a b ≡ nat_cmp (expression_place a) (expression_place b)
+expression_is BadCharacter BadCharacter = refl
+expression_is _ BadCharacter = refl
+expression_is _ _ = refl
+
+code_is : (a b : Code) → code.ghosts.cmp a b ≡ ordering_then (nat_cmp (kind_place a) (kind_place b)) (nat_cmp (place_in_kind a) (place_in_kind b))
+code_is (C.Yaml a) (C.Yaml b) = yaml_is a b
+code_is (C.Key a) (C.Key b) = key_is a b
+code_is (C.Expression a) (C.Expression b) = expression_is a b
+code_is (C.Yaml a) (C.Key b) = refl
+code_is (C.Yaml a) (C.Expression b) = refl
+code_is (C.Key a) (C.Yaml b) = refl
+code_is (C.Key a) (C.Expression b) = refl
+code_is (C.Expression a) (C.Yaml b) = refl
+code_is (C.Expression a) (C.Key b) = refl
+
+then_assoc : (p c l : Ordering) → ordering_then (ordering_then p c) l ≡ ordering_then p (ordering_then c l)
+then_assoc Less c l = refl
+then_assoc Equal c l = refl
+then_assoc Greater c l = refl
+
+joined : (s e c k p a : Ordering) → c ≡ ordering_then k p → ordering_then (ordering_then s e) (ordering_then c a) ≡ ordering_then s (ordering_then e (ordering_then k (ordering_then p a)))
+joined s e c k p a is =
+    then_assoc s e (ordering_then c a) ∙ ap (λ r. ordering_then s (ordering_then e (ordering_then r a))) is
+    ∙ ap (λ r. ordering_then s (ordering_then e r)) (then_assoc k p a)
+
+pub derived_is : (x y : Fault) → derived.ghosts.cmp x y ≡ fault_cmp x y
+derived_is x y =
+    joined (nat_cmp x.span.start y.span.start) (nat_cmp x.span.end y.span.end) (code.ghosts.cmp x.code y.code)
+    (nat_cmp (kind_place x.code) (kind_place y.code)) (nat_cmp (place_in_kind x.code) (place_in_kind y.code)) (args_cmp x.args y.args) (code_is x.code y.code)
+
+-- `==` is true where the order answers `Equal`
+pub derived_ties : (x y : Fault) → derived_eq.ghosts.eq x y ≡ eq_by_cmp fault_cmp x y
+derived_ties x y = matches_eq-law x y ∙ ap is_eq (derived_is x y)
+
+-- ---- the laws
+
+pub fault_cmp_total : IsTotalOrder fault_cmp
+fault_cmp_total =
+    then_total (on_total (λ (fault : Fault). fault.span.start) nat_cmp_total)
+    (then_total (on_total (λ (fault : Fault). fault.span.end) nat_cmp_total)
+    (then_total (on_total (λ (fault : Fault). kind_place fault.code) nat_cmp_total)
+    (then_total (on_total (λ (fault : Fault). place_in_kind fault.code) nat_cmp_total)
+    (on_total (λ (fault : Fault). fault.args) args_total))))
+
+-- the code at each place
+yaml_at : ℕ → Yaml
+yaml_at n = get_or (NotUtf8 ∷ ControlCharacter ∷ TabInIndentation ∷ WrongIndentation ∷ UnclosedQuote ∷ UnclosedFlow ∷ AnchorOrAlias ∷ Tag ∷ ExplicitKey ∷ Directive ∷ SecondDocument ∷ WrongEscape ∷ UnexpectedCharacter ∷ NestingTooDeep ∷ TooManyNodes ∷ WrongBlockHeader ∷ WrongKey ∷ UnknownAlias ∷ []) n NotUtf8
+
+yaml_back : (a : Yaml) → yaml_at (yaml_place a) ≡ a
+unfolding yaml_at
+yaml_back NotUtf8 = refl
+yaml_back _ = refl
+
+key_at : ℕ → Key
+key_at n = get_or (Unexpected ∷ Missing ∷ Repeated ∷ WrongKind ∷ WrongType ∷ NotBeside ∷ EmptyFile ∷ []) n Unexpected
+
+key_back : (a : Key) → key_at (key_place a) ≡ a
+unfolding key_at
+key_back Unexpected = refl
+key_back _ = refl
+
+expression_at : ℕ → Expression
+expression_at n = get_or (BadCharacter ∷ UnclosedText ∷ UnexpectedToken ∷ EndsEarly ∷ TooLong ∷ TooDeep ∷ UndefinedContext ∷ UnavailableContext ∷ UndefinedFunction ∷ UnavailableFunction ∷ ArgumentCount ∷ ArgumentType ∷ UndefinedProperty ∷ NotIndexable ∷ NotComparable ∷ WrongPlaceholder ∷ UnusedArgument ∷ NotText ∷ Untrusted ∷ UnclosedChunk ∷ []) n BadCharacter
+
+expression_back : (a : Expression) → expression_at (expression_place a) ≡ a
+unfolding expression_at
+expression_back BadCharacter = refl
+expression_back _ = refl
+
+one_code : (a b : Code) → kind_place a ≡ kind_place b → place_in_kind a ≡ place_in_kind b → a ≡ b
+one_code (C.Yaml a) (C.Yaml b) k p = ap C.Yaml (sym (yaml_back a) ∙ ap yaml_at p ∙ yaml_back b)
+one_code (C.Key a) (C.Key b) k p = ap C.Key (sym (key_back a) ∙ ap key_at p ∙ key_back b)
+one_code (C.Expression a) (C.Expression b) k p = ap C.Expression (sym (expression_back a) ∙ ap expression_at p ∙ expression_back b)
+one_code _ _ k p = absurd (omega arith)
+
+both_equal : (r s : Ordering) → ordering_then r s ≡ Equal → (r ≡ Equal) × (s ≡ Equal)
+both_equal Less s e = absurd cc
+both_equal Equal s e = (refl, e)
+both_equal Greater s e = absurd cc
+
+pub fault_cmp_same : IsAntisymmetric fault_cmp
+fault_cmp_same x y e =
+    let one = both_equal _ _ e in
+    let two = both_equal _ _ one.1 in
+    let three = both_equal _ _ two.1 in
+    let four = both_equal _ _ three.1 in
+    let start : x.span.start ≡ y.span.start = nat_cmp-IsAntisymmetric _ _ one.0 in
+    let end : x.span.end ≡ y.span.end = nat_cmp-IsAntisymmetric _ _ two.0 in
+    let code : x.code ≡ y.code = one_code x.code y.code (nat_cmp-IsAntisymmetric _ _ three.0) (nat_cmp-IsAntisymmetric _ _ four.0) in
+    let args : x.args ≡ y.args = slice_cmp-IsAntisymmetric (slice_cmp-IsAntisymmetric nat_cmp-IsAntisymmetric) x.args y.args four.1 in
+    λ i. record { span = record { start = start i; end = end i }; code = code i; args = args i }
+
+-- ---- what a list of faults has
+
+pub IsStrictlySortedBy-fault_list : (faults : List Fault) → IsStrictlySortedBy fault_cmp (fault_list faults)
+IsStrictlySortedBy-fault_list faults = IsStrictlySortedBy-in_order fault_cmp_total fault_cmp_same faults
+
+pub Contains-fault_list : (faults : List Fault) (fault : Fault) → Contains faults fault → Contains (fault_list faults) fault
+Contains-fault_list faults fault h = Contains-in_order fault_cmp_total fault_cmp_same faults fault h
+
+pub Contains-from_fault_list : (faults : List Fault) (fault : Fault) → Contains (fault_list faults) fault → Contains faults fault
+Contains-from_fault_list faults fault h = Contains-from_in_order fault_cmp_total fault_cmp_same faults fault h
+
+-- what holds of each fault, as that it lies in the file
+pub AllByRecursion-fault_list : (P : Fault → Type 0) (faults : List Fault) → AllByRecursion P faults → AllByRecursion P (fault_list faults)
+AllByRecursion-fault_list P faults all = AllByRecursion-in_order fault_cmp_total fault_cmp_same P faults all
+
+-- two lists with the same faults
+pub fault_list-same : (a b : List Fault) → ((fault : Fault) → Contains a fault → Contains b fault) → ((fault : Fault) → Contains b fault → Contains a fault) → fault_list a ≡ fault_list b
+fault_list-same a b f g = in_order-same fault_cmp_total fault_cmp_same a b f g
+
+-- a list that is in order with each fault once
+pub fault_list-sorted : (faults : List Fault) → IsStrictlySortedBy fault_cmp faults → fault_list faults ≡ faults
+fault_list-sorted faults s = in_order-sorted fault_cmp_total fault_cmp_same faults s
