@@ -1,7 +1,7 @@
 -- Content lines and gaps against offsets.
-use Rattle.std.proofs.Common.{◌≡◌, ◌≢◌, ℕ, ◌+◌, ◌-◌, ◌<◌, ◌≤◌, List, [], ◌∷◌, length, slice_index, refl, sym, ap, ◌∙◌, arith, Bool, true, false, ◌&&◌, ◌||◌, ◌==◌, cond, Result, Ok, Err, Option, Some, None}
-use Rattle.al_scalar.specs.Line.{Cell, Line, start, place, cut, indent, is_document_marker, after_blanks, after_spaces, is_empty, begins, begins_blank, is_blank_or_end, is_all_blank, is_comment, is_blank}
-use Rattle.al_scalar.specs.Places.{lines_at, first_text, text_at, IsLineEnd}
+use Rattle.std.proofs.Common.{◌≡◌, ◌≢◌, ℕ, ◌+◌, ◌≤◌, List, [], ◌∷◌, length, slice_index, refl, sym, ap, ◌∙◌, arith, Bool, true, false, ◌&&◌, ◌||◌, ◌==◌, cond, Result, Ok, Option, Some, None}
+use Rattle.al_scalar.specs.Line.{Cell, Line, start, cut, indent, is_document_marker, after_blanks, after_spaces, is_empty, begins, is_blank_or_end, is_comment}
+use Rattle.al_scalar.specs.Places.{lines_at, first_text, text_at}
 use Rattle.al_scalar.specs.Block.{at_end}
 use native.Mathlib.Decide.{ℕ_discrete}
 use Rattle.al_text.specs.declared.codes.Yaml.TheVariants as yaml
@@ -12,7 +12,7 @@ use Rattle.std.proofs.lemmas.Grind.{common_steps}
 use Rattle.std.specs.Prelude.{nat_lt}
 use Rattle.al_yaml.specs.Blocks.{next_at, next_from}
 use Rattle.al_yaml.proofs.MarkerLemmas.{begins-inside}
-use Rattle.al_yaml.proofs.LineLemmas.{start-at, has_line, lines_at-some, lines-at_end, text-line_end, text_at-cell, never, Kind, at_file_end, at_break, at_byte, kind}
+use Rattle.al_yaml.proofs.LineLemmas.{start-at, has_line, lines_at-some, lines-at_end, text_at-cell}
 
 -- ---- the text behind blanks and spaces
 

@@ -1,9 +1,9 @@
 -- Flow collections against offsets.
-use Rattle.std.proofs.Common.{◌≡◌, ◌≢◌, ℕ, zero, suc, ◌+◌, ◌-◌, ◌<◌, ◌≤◌, List, [], ◌∷◌, ◌++◌, length, slice_index, refl, sym, ap, subst, ◌∙◌, arith, Bool, true, false, not, ◌&&◌, ◌||◌, ◌==◌, cond, Option, Some, None, Result, Ok, Err}
+use Rattle.std.proofs.Common.{◌≡◌, ℕ, suc, ◌+◌, ◌<◌, ◌≤◌, List, [], ◌∷◌, length, refl, sym, ap, ◌∙◌, Bool, true, false, not, ◌||◌, cond, Option, Some, None, Result, Ok, Err}
 use Rattle.al_text.specs.declared.codes.Yaml.{Yaml}
 use Rattle.al_text.specs.declared.codes.Yaml.TheVariants as yaml
-use Rattle.al_scalar.specs.Line.{Cell, Line, start, begins, is_empty}
-use Rattle.al_scalar.specs.Places.{lines_at, first_text, text_at, IsLineEnd}
+use Rattle.al_scalar.specs.Line.{Line, start, begins, is_empty}
+use Rattle.al_scalar.specs.Places.{lines_at, text_at, IsLineEnd}
 use Rattle.al_scalar.specs.Taken.{Fault, fault}
 use Rattle.al_scalar.specs.Scalar.{ScalarRead}
 use Rattle.al_yaml.specs.Node as tree

@@ -6,6 +6,8 @@ pub mod KeyLemmas
 pub mod ReadLemmas
 pub mod FlowLemmas
 pub mod BlockLemmas
+pub mod BlockNodeLemmas
 pub mod ByteLemmas
 pub mod DocumentLemmas
 pub mod ViewLemmas
+pub mod RootLemmas

@@ -3,7 +3,7 @@ ghost use Rattle.al_yaml.specs.Blocks as block;
 ghost use Rattle.al_yaml.specs.Content as content;
 ghost use Rattle.al_yaml.specs.Flow as flow;
 ghost use Rattle.al_yaml.specs.Places.{IsLineFrom, Shows, next_of, option_lines};
-ghost use Rattle.std.specs.Prelude.{◌<◌, ◌≡◌, ◌≤◌, IfOk, IfSome, IsTrue, false, length, ◌+◌};
+ghost use Rattle.std.specs.Prelude.{◌<◌, ◌≡◌, ◌≤◌, IfErr, IfOk, IfSome, IsTrue, false, length, ◌+◌};
 
 use crate::faults::FaultAt;
 use crate::lines::{
@@ -34,6 +34,7 @@ pub fn is_skipped(bytes: &[u8], at: usize) -> bool
 /// What a line that is no blank line and no comment begins.
 fn content_line(bytes: &[u8], at: usize) -> Result<Next, FaultAt>
     requires { at ≤ length bytes.now }
+    ensures fault { IfErr result (λ f. f.at ≤ length bytes.now) }
     ensures is { Shows (next_of bytes.now) (content.content_line (lines_at bytes.now at)) result }
     ensures from { IfOk result (λ next. IsLineFrom at (length bytes.now) next) }
 {
@@ -56,6 +57,7 @@ fn content_line(bytes: &[u8], at: usize) -> Result<Next, FaultAt>
 /// The first content line from the start of a line on.
 pub fn next_content(bytes: &[u8], at: usize) -> Result<Next, FaultAt>
     requires { at ≤ length bytes.now }
+    ensures fault { IfErr result (λ f. f.at ≤ length bytes.now) }
     ensures is { Shows (next_of bytes.now) (content.content (lines_at bytes.now at)) result }
     ensures from { IfOk result (λ next. IsLineFrom at (length bytes.now) next) }
 {
@@ -89,6 +91,7 @@ fn ends_line(bytes: &[u8], at: usize) -> bool
 /// The start of the line behind a node that ends its line.
 pub fn line_ended(bytes: &[u8], at: usize) -> Result<usize, FaultAt>
     requires { at ≤ length bytes.now }
+    ensures fault { IfErr result (λ f. f.at ≤ length bytes.now) }
     ensures is { Shows (lines_at bytes.now) (content.line_ended (lines_at bytes.now at)) result }
     ensures inside { IfOk result (λ next. next ≤ length bytes.now) }
     ensures from { IfOk result (λ next. at ≤ next) }
@@ -117,7 +120,8 @@ pub fn is_dash(bytes: &[u8], at: usize) -> bool
 /// The first tab among the blanks at an offset.
 pub fn first_tab(bytes: &[u8], at: usize) -> Option<usize>
     requires { at ≤ length bytes.now }
-    ensures { result ≡ content.tab_among (text_at bytes.now at) }
+    ensures is { result ≡ content.tab_among (text_at bytes.now at) }
+    ensures inside { IfSome result (λ tab. tab ≤ length bytes.now) }
 {
     let spaces = spaces_end(bytes, at);
     if begins(bytes, spaces, b'\t') {
@@ -129,6 +133,7 @@ pub fn first_tab(bytes: &[u8], at: usize) -> Option<usize>
 /// The next entry of a block collection in a column, if the collection goes on.
 pub fn next_entry(bytes: &[u8], column: usize, at: usize) -> Result<Option<usize>, FaultAt>
     requires { at ≤ length bytes.now }
+    ensures fault { IfErr result (λ f. f.at ≤ length bytes.now) }
     ensures is { Shows (option_lines bytes.now) (block.next_at column (lines_at bytes.now at)) result }
     ensures from { IfOk result (λ found. IfSome found (λ next. at ≤ next)) }
     ensures inside { IfOk result (λ found. IfSome found (λ next. next ≤ length bytes.now)) }

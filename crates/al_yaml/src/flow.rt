@@ -7,9 +7,9 @@ ghost use Rattle.al_yaml.specs.Flow as flow;
 ghost use Rattle.al_yaml.specs.Node as tree;
 ghost use Rattle.al_yaml.specs.Places.{IsReadInside, Shows, option_lines};
 ghost use Rattle.al_yaml.specs.Reading as reading;
-ghost use Rattle.al_yaml.specs.Reads.{Answers, IsAfter, IsBehind, IsColonInside, IsKeyInside, IsRead, after_of, flow_key_of, part_of};
+ghost use Rattle.al_yaml.specs.Reads.{Answers, IsAfter, IsBehind, IsColonInside, IsKeyInside, IsRead, IsStopInside, after_of, flow_key_of, part_of};
 ghost use Rattle.al_yaml.specs.View.{entries_of, entry_view, nodes_of, view};
-ghost use Rattle.std.specs.Prelude.{ℕ, ◌+◌, ◌<◌, ◌≡◌, ◌≤◌, IfOk, ◌^◌, ◌||◌, length, map, true};
+ghost use Rattle.std.specs.Prelude.{ℕ, ◌+◌, ◌<◌, ◌≡◌, ◌≤◌, IfErr, IfOk, ◌^◌, ◌||◌, length, map, true};
 
 use crate::content::gap;
 use crate::faults::{FaultAt, Stop};
@@ -42,6 +42,7 @@ pub struct FlowKey {
 pub fn scalar_at(alloc: Global, bytes: &[u8], at: usize, place: Place) -> Result<ScalarRead, Stop>
     requires inside { at ≤ length bytes.now }
     requires size { length bytes.now ≤ 1048576 }
+    ensures fault { IfErr result (IsStopInside (length bytes.now)) }
     ensures is { Answers (read_of bytes.now) (reading_at place (lines_at bytes.now at)) result }
     ensures inside { IfOk result (λ read. IsReadInside bytes.now at read) }
 {
@@ -109,6 +110,8 @@ pub fn mapping_part(entries: Vec<Entry>, start: usize, end: usize, next: usize) 
 /// What stands behind an item or entry and the gap behind it.
 fn after_item(bytes: &[u8], opening: usize, close: u8, at: usize) -> Result<After, FaultAt>
     requires inside { at ≤ length bytes.now }
+    requires opening { opening ≤ length bytes.now }
+    ensures fault { IfErr result (λ f. f.at ≤ length bytes.now) }
     ensures is { Shows (after_of bytes.now) (flow.after_item opening close (lines_at bytes.now at)) result }
     ensures after { IfOk result (λ after. IsAfter at (length bytes.now) after) }
 {
@@ -134,6 +137,7 @@ fn after_item(bytes: &[u8], opening: usize, close: u8, at: usize) -> Result<Afte
 fn key_colon(bytes: &[u8], at: usize, read: &ScalarRead) -> Result<Option<usize>, FaultAt>
     requires at { at ≤ length bytes.now }
     requires inside { IsReadInside bytes.now at read.now }
+    ensures fault { IfErr result (λ f. f.at ≤ length bytes.now) }
     ensures is { Shows (option_lines bytes.now) (flow.key_colon (lines_at bytes.now at) (read_of bytes.now read.now)) result }
     ensures inside { IfOk result (λ colon. IsColonInside at (length bytes.now) colon) }
 {
@@ -165,6 +169,7 @@ fn read_flow_key(
     requires inside { at ≤ length bytes.now }
     requires size { length bytes.now ≤ 1048576 }
     requires depth { depth ≤ 65 }
+    ensures fault { IfErr result (IsStopInside (length bytes.now)) }
     ensures is { (bound : ℕ) → length bytes.now < bound + at → IsRead (flow_key_of bytes.now) (flow.flow_key (flow.flow_collection bound) depth (lines_at bytes.now at)) count.old.nodes result count.new.nodes }
     ensures within { IfOk result (λ key. IsKeyInside bytes.now at key) }
 {
@@ -200,6 +205,7 @@ pub fn empty_part(
 ) -> Result<Part, Stop>
     requires inside { at ≤ length bytes.now }
     requires size { length bytes.now ≤ 1048576 }
+    ensures fault { IfErr result (IsStopInside (length bytes.now)) }
     ensures is { IsRead (part_of bytes.now) (flow.empty_node at (lines_at bytes.now next)) count.old.nodes result count.new.nodes }
     ensures end { IfOk result (λ part. part.end ≡ at) }
     ensures next { IfOk result (λ part. part.next ≡ next) }
@@ -228,8 +234,10 @@ fn read_flow_value(
     key: &FlowKey,
 ) -> Result<Part, Stop>
     requires inside { IsKeyInside bytes.now key.now.read.span.start key.now }
+    requires opening { opening ≤ length bytes.now }
     requires size { length bytes.now ≤ 1048576 }
     requires depth { depth ≤ 65 }
+    ensures fault { IfErr result (IsStopInside (length bytes.now)) }
     ensures is { (bound : ℕ) → length bytes.now < bound + key.now.read.span.start → IsRead (part_of bytes.now) (flow.flow_entry_value (flow.flow_node_over (flow.flow_collection bound)) opening depth (flow_key_of bytes.now key.now)) count.old.nodes result count.new.nodes }
     ensures within { IfOk result (λ part. IsBehind bytes.now key.now.read.span.start part) }
 {
@@ -267,6 +275,7 @@ fn read_flow_node(
     requires inside { at ≤ length bytes.now }
     requires size { length bytes.now ≤ 1048576 }
     requires depth { depth ≤ 65 }
+    ensures fault { IfErr result (IsStopInside (length bytes.now)) }
     ensures is { (bound : ℕ) (slot : flow.FlowSlot) → length bytes.now < bound + at → IsRead (part_of bytes.now) (flow.flow_node_over (flow.flow_collection bound) slot depth (lines_at bytes.now at)) count.old.nodes result count.new.nodes }
     ensures within { IfOk result (λ part. IsBehind bytes.now at part) }
 {
@@ -302,6 +311,7 @@ fn read_flow_sequence(
     requires opening { opening ≤ start }
     requires size { length bytes.now ≤ 1048576 }
     requires depth { depth ≤ 65 }
+    ensures fault { IfErr result (IsStopInside (length bytes.now)) }
     ensures is { (bound turns : ℕ) → length bytes.now < bound + start → length bytes.now < turns + start → IsRead (part_of bytes.now) (reading.spanned tree.sequence opening (flow.flow_items (flow.flow_node_over (flow.flow_collection bound)) turns opening depth tree.no_nodes (lines_at bytes.now start))) count.old.nodes result count.new.nodes }
     ensures within { IfOk result (λ part. IsBehind bytes.now start part) }
 {
@@ -341,6 +351,7 @@ fn read_flow_mapping(
     requires opening { opening ≤ start }
     requires size { length bytes.now ≤ 1048576 }
     requires depth { depth ≤ 65 }
+    ensures fault { IfErr result (IsStopInside (length bytes.now)) }
     ensures is { (bound turns : ℕ) → length bytes.now < bound + start → length bytes.now < turns + start → IsRead (part_of bytes.now) (reading.spanned tree.mapping opening (flow.flow_entries (flow.flow_node_over (flow.flow_collection bound)) (flow.flow_collection bound) turns opening depth tree.no_entries (lines_at bytes.now start))) count.old.nodes result count.new.nodes }
     ensures within { IfOk result (λ part. IsBehind bytes.now start part) }
 {
@@ -381,6 +392,7 @@ pub fn read_flow_collection(
     requires bracket { content.is_flow_start (text_at bytes.now at) ≡ true }
     requires size { length bytes.now ≤ 1048576 }
     requires depth { depth ≤ 65 }
+    ensures fault { IfErr result (IsStopInside (length bytes.now)) }
     ensures is { (bound : ℕ) → length bytes.now < bound + at → IsRead (part_of bytes.now) (flow.flow_collection bound depth (lines_at bytes.now at)) count.old.nodes result count.new.nodes }
     ensures within { IfOk result (λ part. IsBehind bytes.now at part) }
 {

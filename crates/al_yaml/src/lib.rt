@@ -2,8 +2,10 @@
 #![tactic(auto)]
 
 mod access;
+mod block;
 mod bytes;
 mod content;
+mod document;
 mod document_edges;
 mod entries;
 mod faults;
@@ -16,6 +18,7 @@ mod starts;
 mod worked;
 
 pub use bytes::{byte_fault, mark_end};
+pub use document::read_yaml;
 pub use document_edges::{document_end, document_start};
 pub use node::{Doc, Entry, Kind, Node, entry_of, mapping_node, scalar_node, sequence_node};
 pub use worked::rows;

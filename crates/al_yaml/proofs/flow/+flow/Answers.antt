@@ -1,19 +1,17 @@
-use Rattle.std.proofs.Common.{◌≡◌, ℕ, suc, ◌+◌, ◌<◌, ◌≤◌, List, [], ◌∷◌, ◌++◌, length, map, refl, sym, ap, ◌∙◌, arith, Result, Ok, Err, Option, Some, None}
+use Rattle.std.proofs.Common.{◌≡◌, suc, ◌+◌, ◌<◌, length, map, refl, sym, ap, ◌∙◌, arith, Ok, Err, Some, None}
 use Rattle.std.proofs.lemmas.Result.{err_from_is_err_and}
 use Rattle.al_text.specs.declared.codes.Yaml.TheVariants as yaml
 use Rattle.al_scalar.specs.Contract.{read_of}
-use Rattle.al_scalar.specs.Places.{lines_at, text_at}
+use Rattle.al_scalar.specs.Places.{lines_at}
 use Rattle.al_scalar.specs.Plain.{flow}
 use Rattle.al_scalar.specs.Scalar.{scalar_at, span}
-use Rattle.al_scalar.specs.Taken.{Fault}
 use Rattle.al_yaml.specs.Node as tree
-use Rattle.al_yaml.specs.Reading.{Part, Reading, part, spanned, listed, start_of}
-use Rattle.al_yaml.specs.Flow.{FlowSlot, FlowReader, CollectionReader, After, gap, after_item, empty_node, flow_items, flow_entries, flow_key, flow_entry_value, flow_node_over, flow_collection}
+use Rattle.al_yaml.specs.Reading.{part, spanned, listed, start_of}
+use Rattle.al_yaml.specs.Flow.{FlowSlot, after_item, empty_node, flow_items, flow_entries, flow_entry_value, flow_node_over, flow_collection}
 use Rattle.al_yaml.specs.Places.{fault_of, option_lines}
-use Rattle.al_yaml.specs.Reads.{State, run, counted, Stops, IsRead, part_of, after_of, flow_key_of}
+use Rattle.al_yaml.specs.Reads.{run, counted, IsRead, part_of, after_of, flow_key_of}
 use Rattle.al_yaml.specs.View.{view, entry_view, nodes_of, entries_of}
 use Rattle.al_yaml.specs.declared.faults.FaultAt.{FaultAt}
-use Rattle.al_yaml.specs.declared.faults.Stop.{Stop}
 use Rattle.al_yaml.specs.declared.faults.Stop.TheVariants as stop
 use Rattle.al_yaml.proofs.RunLemmas.{run-broken}
 use Rattle.al_yaml.proofs.ReadLemmas.{stops-same, read-from, same_part, scalar_reading, scalar-stops, scalar-ok, spanned-ok, spanned-stops, loop-stops, positive, nodes_of-more, entries_of-more, behind-from}

@@ -1,0 +1,375 @@
+-- Block nodes against offsets. Each lemma is one way through `block_node`, `sequence_entries`, `mapping_entries`,
+-- `rest_node` or `node_below`.
+use Rattle.std.proofs.Common.{◌≡◌, ℕ, suc, ◌+◌, ◌<◌, ◌≤◌, List, [], ◌∷◌, length, refl, sym, ap, ◌∙◌, arith, Bool, true, false, not, ◌&&◌, ◌||◌, cond, Option, Some, None, Ok, Err}
+use Rattle.al_text.specs.declared.codes.Yaml.{Yaml}
+use Rattle.al_text.specs.declared.codes.Yaml.TheVariants as yaml
+use Rattle.al_scalar.specs.Line.{Line, start}
+use Rattle.al_scalar.specs.Places.{lines_at, text_at}
+use Rattle.al_scalar.specs.Taken.{Fault}
+use Rattle.al_yaml.specs.Node as tree
+use Rattle.al_yaml.specs.Reading.{Reading, Part, part, gives, given, fails, listed, start_of, spanned, ◌>>=◌}
+use Rattle.al_yaml.specs.Limits.{broken_limit}
+use Rattle.al_yaml.specs.Content.{ended, at_line, content, is_property, is_flow_start, is_dash, is_skipped, block_fault, unless, blanks_dropped, whole_lines, characters, line_ended, same_line, is_short_key}
+use Rattle.al_yaml.specs.Flow.{CollectionReader, empty_node, flow_collection}
+use Rattle.al_yaml.specs.Keys.{Key, key_at, is_block_start, has_colon, no_entry, entry_key}
+use Rattle.al_yaml.specs.Blocks.{BlockReader, Slot, Spot, at_spot, own_line, spot_behind, is_behind_key, is_deeper, node_found, node_below, rest_node, next_at, sequence_entry, sequence_next, sequence_rest, sequence_entries, entry_slot, value_slot, mapping_value, mapping_next, mapping_rest, mapping_entries, scalar_node_at, flow_at, flow_rest, block_sequence, block_mapping, keyed_node, block_content, block_property, block_node_over, block_node, tab_before, unless_at}
+use Rattle.al_yaml.specs.Reads.{run, counted, Stops, Refuses}
+use Rattle.al_yaml.specs.declared.faults.Stop.{Stop}
+use Rattle.al_scalar.specs.Places.{IsLineEnd}
+use Rattle.al_scalar.specs.Scalar.{ScalarRead}
+use Rattle.std.proofs.Common.{◌==◌}
+use Rattle.std.proofs.lemmas.Grind.{common_steps}
+use Rattle.std.proofs.lemmas.Bool.{eqb-true}
+use Rattle.al_scalar.specs.Places.{first_end}
+use Rattle.al_yaml.proofs.KeyLemmas.{end-more}
+use Rattle.al_yaml.proofs.LineLemmas.{start-at, behind-one, is_inside, never, text-line_end}
+use Rattle.al_yaml.proofs.RunLemmas.{run-gives, run-fails, run-start, run-broken, run-stop, run-refused}
+use Rattle.al_yaml.proofs.ReadLemmas.{stops-bind, stops-from, stops-same, stops-given, bind-ok, given-ok}
+use Rattle.al_yaml.proofs.FlowLemmas.{if-true, if-false, run-aliases}
+
+-- ---- a node
+
+module _ (bound : ℕ) (slot : Slot) (depth column n : ℕ) (bytes : List ℕ) (at : ℕ) (inside : at ≤ length bytes) where
+  abbrev pub inner : BlockReader
+  inner = block_node bound
+
+  abbrev pub collection : CollectionReader
+  collection = flow_collection (suc bound)
+
+  abbrev pub whole : Reading (Part tree.Node)
+  whole = block_node (suc bound) slot depth column (lines_at bytes at)
+
+  node-over : whole ≡ block_node_over inner collection (suc bound) slot depth column (lines_at bytes at)
+  unfolding block_node
+  node-over = refl
+
+  node_wrong : (code : Yaml) → run (counted n) (fails {A = Part tree.Node} code (start (lines_at bytes at))) ≡ Err (record { code = code; at = at })
+  node_wrong code = run-fails n code (start (lines_at bytes at)) ∙ ap (λ i. Err (record { code = code; at = i })) (start-at bytes at inside)
+
+  pub block-property : true ≡ is_property (text_at bytes at) → run (counted n) whole ≡ Err (record { code = yaml.AnchorOrAlias; at = at })
+  block-property h =
+      ap (run (counted n)) (node-over ∙ if-true (is_property (text_at bytes at)) _ _ h)
+      ∙ run-aliases n (start (lines_at bytes at)) (block_property (block_content inner collection (suc bound)) slot depth column (lines_at bytes at))
+      ∙ ap (λ i. Err (record { code = yaml.AnchorOrAlias; at = i })) (start-at bytes at inside)
+
+  module _ (plain : false ≡ is_property (text_at bytes at)) where
+    abbrev pub behind_dash : Reading (Part tree.Node)
+    behind_dash =
+        cond (is_property (text_at bytes at)) (fails yaml.UnexpectedCharacter (start (lines_at bytes at)))
+        (cond (is_flow_start (text_at bytes at)) (flow_at collection slot.spot depth (lines_at bytes at))
+        (cond (is_block_start (text_at bytes at) || is_behind_key slot.spot) (scalar_node_at slot.within (lines_at bytes at))
+        (given (key_at (lines_at bytes at)) >>= keyed_node inner collection (suc bound) slot depth column (lines_at bytes at))))
+
+    node-content : whole ≡ cond (is_dash (text_at bytes at)) (block_sequence inner collection (suc bound) slot depth column (lines_at bytes at))
+        (unless (block_fault (text_at bytes at)) (start (lines_at bytes at)) behind_dash)
+    unfolding block_content
+    node-content = node-over ∙ if-false (is_property (text_at bytes at)) _ _ plain
+
+    pub block-dash : true ≡ is_dash (text_at bytes at) → whole ≡ block_sequence inner collection (suc bound) slot depth column (lines_at bytes at)
+    block-dash h = node-content ∙ if-true (is_dash (text_at bytes at)) _ _ h
+
+    module _ (no_dash : false ≡ is_dash (text_at bytes at)) where
+      pub block-fault : (code : Yaml) → Some code ≡ block_fault (text_at bytes at) → run (counted n) whole ≡ Err (record { code = code; at = at })
+      block-fault code h =
+          ap (run (counted n)) (node-content ∙ if-false (is_dash (text_at bytes at)) _ _ no_dash ∙ ap (λ o. unless o (start (lines_at bytes at)) behind_dash) (sym h)) ∙ node_wrong code
+
+      module _ (right : None ≡ block_fault (text_at bytes at)) where
+        node-right : whole ≡ behind_dash
+        node-right = node-content ∙ if-false (is_dash (text_at bytes at)) _ _ no_dash ∙ ap (λ o. unless o (start (lines_at bytes at)) behind_dash) (sym right)
+
+        pub block-flow : true ≡ is_flow_start (text_at bytes at) → whole ≡ flow_at collection slot.spot depth (lines_at bytes at)
+        block-flow h = node-right ∙ if-false (is_property (text_at bytes at)) _ _ plain ∙ if-true (is_flow_start (text_at bytes at)) _ _ h
+
+        module _ (no_flow : false ≡ is_flow_start (text_at bytes at)) where
+          pub block-scalar : true ≡ (is_block_start (text_at bytes at) || is_behind_key slot.spot) → whole ≡ scalar_node_at slot.within (lines_at bytes at)
+          block-scalar h =
+              node-right ∙ if-false (is_property (text_at bytes at)) _ _ plain ∙ if-false (is_flow_start (text_at bytes at)) _ _ no_flow
+              ∙ if-true (is_block_start (text_at bytes at) || is_behind_key slot.spot) _ _ h
+
+          module _ (other : false ≡ (is_block_start (text_at bytes at) || is_behind_key slot.spot)) where
+            node-keyed : whole ≡ (given (key_at (lines_at bytes at)) >>= keyed_node inner collection (suc bound) slot depth column (lines_at bytes at))
+            node-keyed =
+                node-right ∙ if-false (is_property (text_at bytes at)) _ _ plain ∙ if-false (is_flow_start (text_at bytes at)) _ _ no_flow
+                ∙ if-false (is_block_start (text_at bytes at) || is_behind_key slot.spot) _ _ other
+
+            pub block-unread : (e : Stop) → Refuses (key_at (lines_at bytes at)) e → Stops whole n e
+            block-unread e h = stops-same _ _ n e node-keyed (stops-given (key_at (lines_at bytes at)) (keyed_node inner collection (suc bound) slot depth column (lines_at bytes at)) n e h)
+
+            pub block-alone : key_at (lines_at bytes at) ≡ Ok None → run (counted n) whole ≡ run (counted n) (scalar_node_at slot.within (lines_at bytes at))
+            block-alone h = ap (run (counted n)) node-keyed ∙ given-ok (key_at (lines_at bytes at)) (keyed_node inner collection (suc bound) slot depth column (lines_at bytes at)) n None h
+
+            pub block-key : (key : Key) → key_at (lines_at bytes at) ≡ Ok (Some key)
+                → run (counted n) whole ≡ run (counted n) (block_mapping inner collection (suc bound) slot.spot depth column (lines_at bytes at) key)
+            block-key key h = ap (run (counted n)) node-keyed ∙ given-ok (key_at (lines_at bytes at)) (keyed_node inner collection (suc bound) slot depth column (lines_at bytes at)) n (Some key) h
+
+-- ---- what stands behind a dash or a colon
+
+module _ (node : BlockReader) (slot : Slot) (depth column n : ℕ) (bytes : List ℕ) (from rest : ℕ) where
+  pub rest-below : (next : ℕ) → true ≡ is_skipped (text_at bytes rest) → whole_lines (lines_at bytes rest) ≡ lines_at bytes next
+      → rest_node node slot depth column (lines_at bytes from) (lines_at bytes rest) ≡ node_below node slot depth (lines_at bytes next)
+  rest-below next h w = if-true (is_skipped (text_at bytes rest)) _ _ h ∙ ap (node_below node slot depth) w
+
+  pub rest-here : (at width : ℕ) (spot : Spot) → at ≤ length bytes → false ≡ is_skipped (text_at bytes rest) → blanks_dropped (lines_at bytes rest) ≡ lines_at bytes at
+      → width ≡ characters at (text_at bytes from) → spot ≡ spot_behind (text_at bytes rest) slot.spot
+      → rest_node node slot depth column (lines_at bytes from) (lines_at bytes rest) ≡ node (at_spot spot slot) depth (column + width) (lines_at bytes at)
+  rest-here at width spot inside h b w s =
+      if-false (is_skipped (text_at bytes rest)) _ _ h
+      ∙ ap (λ ls. node (at_spot (spot_behind (text_at bytes rest) slot.spot) slot) depth (column + characters (start ls) (text_at bytes from)) ls) b
+      ∙ ap (λ i. node (at_spot (spot_behind (text_at bytes rest) slot.spot) slot) depth (column + characters i (text_at bytes from)) (lines_at bytes at)) (start-at bytes at inside)
+      ∙ ap (λ i. node (at_spot (spot_behind (text_at bytes rest) slot.spot) slot) depth (column + i) (lines_at bytes at)) (sym w)
+      ∙ ap (λ x. node (at_spot x slot) depth (column + width) (lines_at bytes at)) (sym s)
+
+module _ (node : BlockReader) (slot : Slot) (depth n : ℕ) (bytes : List ℕ) (at : ℕ) where
+  pub below-fault : (f : Fault) → content (lines_at bytes at) ≡ Err f → run (counted n) (node_below node slot depth (lines_at bytes at)) ≡ Err f
+  below-fault f h = run-stop (counted n) (given (content (lines_at bytes at))) (node_found node slot depth (lines_at bytes at)) f (run-refused n (content (lines_at bytes at)) f h)
+
+  pub below-ended : content (lines_at bytes at) ≡ Ok ended → run (counted n) (node_below node slot depth (lines_at bytes at)) ≡ run (counted n) (empty_node slot.empty (lines_at bytes at))
+  below-ended h = given-ok (content (lines_at bytes at)) (node_found node slot depth (lines_at bytes at)) n ended h
+
+  module _ (indent next : ℕ) (found : content (lines_at bytes at) ≡ Ok (at_line indent (lines_at bytes next))) where
+    below-found : run (counted n) (node_below node slot depth (lines_at bytes at)) ≡ run (counted n) (node_found node slot depth (lines_at bytes at) (at_line indent (lines_at bytes next)))
+    below-found = given-ok (content (lines_at bytes at)) (node_found node slot depth (lines_at bytes at)) n (at_line indent (lines_at bytes next)) found
+
+    pub below-deeper : true ≡ is_deeper slot indent (lines_at bytes next) → run (counted n) (node_below node slot depth (lines_at bytes at)) ≡ run (counted n) (node (at_spot own_line slot) depth indent (lines_at bytes next))
+    below-deeper h = below-found ∙ ap (run (counted n)) (if-true (is_deeper slot indent (lines_at bytes next)) _ _ h)
+
+    pub below-empty : false ≡ is_deeper slot indent (lines_at bytes next) → run (counted n) (node_below node slot depth (lines_at bytes at)) ≡ run (counted n) (empty_node slot.empty (lines_at bytes at))
+    below-empty h = below-found ∙ ap (run (counted n)) (if-false (is_deeper slot indent (lines_at bytes next)) _ _ h)
+
+-- ---- the entries of a sequence
+
+module _ (node : BlockReader) (collection : CollectionReader) (turns : ℕ) (in_mapping : Bool) (column depth n : ℕ) (done : tree.Nodes) (bytes : List ℕ) (at : ℕ) (inside : at < length bytes) (solid : IsLineEnd bytes at → ⊥) where
+  abbrev pub all_entries : Reading (Part tree.Nodes)
+  all_entries = sequence_entries node collection (suc turns) in_mapping column depth done (lines_at bytes at)
+
+  abbrev pub one_entry : Reading (Part tree.Node)
+  one_entry = rest_node node (entry_slot column (at + 1)) depth column (lines_at bytes at) (lines_at bytes (at + 1))
+
+  abbrev pub entries_behind : Part tree.Node → Reading (Part tree.Nodes)
+  entries_behind x =
+      sequence_rest collection (λ left. sequence_entries node collection turns in_mapping column depth (tree.with_item done x.value) left) in_mapping column depth (part (tree.with_item done x.value) x.end x.left)
+
+  entry-is : sequence_entry node column depth (lines_at bytes at) ≡ one_entry
+  entry-is =
+      ap (λ ls. rest_node node (entry_slot column (start ls)) depth column (lines_at bytes at) ls) (behind-one bytes at (omega arith) solid)
+      ∙ ap (λ i. rest_node node (entry_slot column i) depth column (lines_at bytes at) (lines_at bytes (at + 1))) (start-at bytes (at + 1) (omega arith))
+
+  entries-step : all_entries ≡ (one_entry >>= entries_behind)
+  unfolding sequence_entries
+  entries-step = ap (λ r. r >>= entries_behind) entry-is
+
+  pub sequence-stop : (e : Stop) → Stops one_entry n e → Stops all_entries n e
+  sequence-stop e h = stops-same all_entries (one_entry >>= entries_behind) n e entries-step (stops-bind one_entry entries_behind n e h)
+
+  module _ (m : ℕ) (x : Part tree.Node) (read : run (counted n) one_entry ≡ Ok (x, counted m)) where
+    abbrev pub items_now : tree.Nodes
+    items_now = tree.with_item done x.value
+
+    abbrev pub items_next : Option (List Line) → Reading (Part tree.Nodes)
+    items_next found = sequence_next collection (λ left. sequence_entries node collection turns in_mapping column depth items_now left) in_mapping depth (part items_now x.end x.left) found
+
+    entries-read : run (counted n) all_entries ≡ run (counted m) (given (next_at column x.left) >>= items_next)
+    entries-read = ap (run (counted n)) entries-step ∙ bind-ok one_entry entries_behind n m x read
+
+    pub sequence-wrong : (f : Fault) → next_at column x.left ≡ Err f → run (counted n) all_entries ≡ Err f
+    sequence-wrong f h = entries-read ∙ run-stop (counted m) (given (next_at column x.left)) items_next f (run-refused m (next_at column x.left) f h)
+
+    pub sequence-ended : next_at column x.left ≡ Ok None → run (counted n) all_entries ≡ Ok (part items_now x.end x.left, counted m)
+    sequence-ended h = entries-read ∙ given-ok (next_at column x.left) items_next m None h ∙ run-gives m (part items_now x.end x.left)
+
+    module _ (next : ℕ) (found : next_at column x.left ≡ Ok (Some (lines_at bytes next))) where
+      next-read : run (counted n) all_entries ≡ run (counted m) (items_next (Some (lines_at bytes next)))
+      next-read = entries-read ∙ given-ok (next_at column x.left) items_next m (Some (lines_at bytes next)) found
+
+      pub sequence-more : true ≡ is_dash (text_at bytes next)
+          → run (counted n) all_entries ≡ run (counted m) (sequence_entries node collection turns in_mapping column depth items_now (lines_at bytes next))
+      sequence-more h = next-read ∙ ap (run (counted m)) (if-true (is_dash (text_at bytes next)) _ _ h)
+
+      pub sequence-closed : false ≡ is_dash (text_at bytes next) → true ≡ in_mapping → run (counted n) all_entries ≡ Ok (part items_now x.end x.left, counted m)
+      sequence-closed h k = next-read ∙ ap (run (counted m)) (if-false (is_dash (text_at bytes next)) _ _ h ∙ if-true in_mapping _ _ k) ∙ run-gives m (part items_now x.end x.left)
+
+      pub sequence-none : false ≡ is_dash (text_at bytes next) → false ≡ in_mapping → (e : Stop) → Stops (no_entry {A = Part tree.Nodes} collection depth (lines_at bytes next)) m e → Stops all_entries n e
+      sequence-none h k e s =
+          stops-from all_entries (no_entry collection depth (lines_at bytes next)) n m e (next-read ∙ ap (run (counted m)) (if-false (is_dash (text_at bytes next)) _ _ h ∙ if-false in_mapping _ _ k)) s
+
+-- ---- the entries of a mapping
+
+module _ (node : BlockReader) (collection : CollectionReader) (turns column depth n : ℕ) (done : tree.Entries) (bytes : List ℕ) (scalar : ScalarRead) (behind : ℕ) (inside : behind ≤ length bytes) where
+  abbrev pub this_key : Key
+  this_key = record { scalar = scalar; behind = lines_at bytes behind }
+
+  abbrev pub all_values : Reading (Part tree.Entries)
+  all_values = mapping_entries node collection (suc turns) column depth done this_key
+
+  abbrev pub one_value : Reading (Part tree.Node)
+  one_value = rest_node node (value_slot column behind) depth 0 (lines_at bytes behind) (lines_at bytes behind)
+
+  abbrev pub entries_with : Part tree.Node → tree.Entries
+  entries_with x = tree.with_entry done (tree.scalar_node scalar) x.value
+
+  abbrev pub values_behind : Part tree.Node → Reading (Part tree.Entries)
+  values_behind x = mapping_rest collection (λ k. mapping_entries node collection turns column depth (entries_with x) k) column depth (part (entries_with x) x.end x.left)
+
+  value-is : mapping_value node column depth this_key ≡ one_value
+  value-is = ap (λ i. rest_node node (value_slot column i) depth 0 (lines_at bytes behind) (lines_at bytes behind)) (start-at bytes behind inside)
+
+  values-step : all_values ≡ (one_value >>= values_behind)
+  unfolding mapping_entries
+  values-step = ap (λ r. r >>= values_behind) value-is
+
+  pub mapping-stop : (e : Stop) → Stops one_value n e → Stops all_values n e
+  mapping-stop e h = stops-same all_values (one_value >>= values_behind) n e values-step (stops-bind one_value values_behind n e h)
+
+  module _ (m : ℕ) (x : Part tree.Node) (read : run (counted n) one_value ≡ Ok (x, counted m)) where
+    abbrev pub values_next : Option (List Line) → Reading (Part tree.Entries)
+    values_next found = mapping_next collection (λ k. mapping_entries node collection turns column depth (entries_with x) k) depth (part (entries_with x) x.end x.left) found
+
+    values-read : run (counted n) all_values ≡ run (counted m) (given (next_at column x.left) >>= values_next)
+    values-read = ap (run (counted n)) values-step ∙ bind-ok one_value values_behind n m x read
+
+    pub mapping-wrong : (f : Fault) → next_at column x.left ≡ Err f → run (counted n) all_values ≡ Err f
+    mapping-wrong f h = values-read ∙ run-stop (counted m) (given (next_at column x.left)) values_next f (run-refused m (next_at column x.left) f h)
+
+    pub mapping-ended : next_at column x.left ≡ Ok None → run (counted n) all_values ≡ Ok (part (entries_with x) x.end x.left, counted m)
+    mapping-ended h = values-read ∙ given-ok (next_at column x.left) values_next m None h ∙ run-gives m (part (entries_with x) x.end x.left)
+
+    module _ (next : ℕ) (found : next_at column x.left ≡ Ok (Some (lines_at bytes next))) where
+      abbrev pub next_key : Reading Key
+      next_key = entry_key collection depth (lines_at bytes next)
+
+      abbrev pub key_then : Key → Reading (Part tree.Entries)
+      key_then k = mapping_entries node collection turns column depth (entries_with x) k
+
+      key-next : run (counted n) all_values ≡ run (counted m) (next_key >>= key_then)
+      key-next = values-read ∙ given-ok (next_at column x.left) values_next m (Some (lines_at bytes next)) found
+
+      pub mapping-key_stop : (e : Stop) → Stops next_key m e → Stops all_values n e
+      mapping-key_stop e h = stops-from all_values (next_key >>= key_then) n m e key-next (stops-bind next_key key_then m e h)
+
+      pub mapping-more : (k : ℕ) (key : Key) → run (counted m) next_key ≡ Ok (key, counted k) → run (counted n) all_values ≡ run (counted k) (mapping_entries node collection turns column depth (entries_with x) key)
+      mapping-more k key h = key-next ∙ bind-ok next_key key_then m k key h
+
+-- ---- starts of collections
+
+module _ (node : BlockReader) (collection : CollectionReader) (turns : ℕ) (slot : Slot) (depth column n : ℕ) (bytes : List ℕ) (at : ℕ) (inside : at ≤ length bytes) where
+  abbrev pub this_sequence : Reading (Part tree.Node)
+  this_sequence = block_sequence node collection turns slot depth column (lines_at bytes at)
+
+  abbrev pub sequence_inside : ℕ → Reading (Part tree.Node)
+  sequence_inside i = spanned tree.sequence i (sequence_entries node collection turns slot.in_mapping column (depth + 1) tree.no_nodes (lines_at bytes at))
+
+  pub sequence-behind_key : true ≡ is_behind_key slot.spot → run (counted n) this_sequence ≡ Err (record { code = yaml.UnexpectedCharacter; at = at })
+  sequence-behind_key h =
+      ap (run (counted n)) (if-true (is_behind_key slot.spot) _ _ h) ∙ run-fails n yaml.UnexpectedCharacter (start (lines_at bytes at))
+      ∙ ap (λ i. Err (record { code = yaml.UnexpectedCharacter; at = i })) (start-at bytes at inside)
+
+  module _ (free : false ≡ is_behind_key slot.spot) where
+    pub sequence-tab : (tab : ℕ) → Some tab ≡ tab_before slot.spot → run (counted n) this_sequence ≡ Err (record { code = yaml.TabInIndentation; at = tab })
+    sequence-tab tab h =
+        ap (run (counted n)) (if-false (is_behind_key slot.spot) _ _ free
+        ∙ ap (λ o. unless_at o (listed (start_of (start (lines_at bytes at)) 1 depth) (sequence_inside (start (lines_at bytes at))))) (sym h)) ∙ run-fails n yaml.TabInIndentation tab
+
+    module _ (clean : None ≡ tab_before slot.spot) where
+      sequence-listed : this_sequence ≡ listed (start_of at 1 depth) (sequence_inside at)
+      sequence-listed =
+          if-false (is_behind_key slot.spot) _ _ free
+          ∙ ap (λ o. unless_at o (listed (start_of (start (lines_at bytes at)) 1 depth) (sequence_inside (start (lines_at bytes at))))) (sym clean)
+          ∙ ap (λ i. listed (start_of i 1 depth) (sequence_inside i)) (start-at bytes at inside)
+
+      pub sequence-broken : (f : Fault) → broken_limit n 0 (start_of at 1 depth ∷ []) ≡ Some f → run (counted n) this_sequence ≡ Err f
+      sequence-broken f h = ap (run (counted n)) sequence-listed ∙ run-broken n 1 at depth (sequence_inside at) f h
+
+      pub sequence-starts : (m : ℕ) → broken_limit n 0 (start_of at 1 depth ∷ []) ≡ None → m ≡ n + 1 → run (counted n) this_sequence ≡ run (counted m) (sequence_inside at)
+      sequence-starts m h e = ap (run (counted n)) sequence-listed ∙ run-start n 1 at depth (sequence_inside at) h ∙ ap (λ i. run (counted i) (sequence_inside at)) (sym e)
+
+module _ (node : BlockReader) (collection : CollectionReader) (turns : ℕ) (spot : Spot) (depth column n : ℕ) (bytes : List ℕ) (at : ℕ) (inside : at ≤ length bytes) (key : Key) where
+  abbrev pub this_mapping : Reading (Part tree.Node)
+  this_mapping = block_mapping node collection turns spot depth column (lines_at bytes at) key
+
+  abbrev pub mapping_inside : ℕ → Reading (Part tree.Node)
+  mapping_inside i = spanned tree.mapping i (mapping_entries node collection turns column (depth + 1) tree.no_entries key)
+
+  abbrev pub if_short : Reading (Part tree.Node)
+  if_short =
+      cond (not (is_short_key (lines_at bytes at) key.scalar)) (fails yaml.WrongKey (start (lines_at bytes at)))
+      (listed (start_of (start (lines_at bytes at)) 2 depth) (mapping_inside (start (lines_at bytes at))))
+
+  wrong_here : run (counted n) (fails {A = Part tree.Node} yaml.WrongKey (start (lines_at bytes at))) ≡ Err (record { code = yaml.WrongKey; at = at })
+  wrong_here = run-fails n yaml.WrongKey (start (lines_at bytes at)) ∙ ap (λ i. Err (record { code = yaml.WrongKey; at = i })) (start-at bytes at inside)
+
+  pub mapping-lines : false ≡ same_line (lines_at bytes at) key.scalar.left → run (counted n) this_mapping ≡ Err (record { code = yaml.WrongKey; at = at })
+  mapping-lines h = ap (run (counted n)) (if-true (not (same_line (lines_at bytes at) key.scalar.left)) _ _ (ap not h)) ∙ wrong_here
+
+  module _ (one : true ≡ same_line (lines_at bytes at) key.scalar.left) where
+    pub mapping-tab : (tab : ℕ) → Some tab ≡ tab_before spot → run (counted n) this_mapping ≡ Err (record { code = yaml.TabInIndentation; at = tab })
+    mapping-tab tab h =
+        ap (run (counted n)) (if-false (not (same_line (lines_at bytes at) key.scalar.left)) _ _ (ap not one) ∙ ap (λ o. unless_at o if_short) (sym h)) ∙ run-fails n yaml.TabInIndentation tab
+
+    module _ (clean : None ≡ tab_before spot) where
+      mapping-short : this_mapping ≡ if_short
+      mapping-short = if-false (not (same_line (lines_at bytes at) key.scalar.left)) _ _ (ap not one) ∙ ap (λ o. unless_at o if_short) (sym clean)
+
+      pub mapping-long : false ≡ is_short_key (lines_at bytes at) key.scalar → run (counted n) this_mapping ≡ Err (record { code = yaml.WrongKey; at = at })
+      mapping-long h = ap (run (counted n)) (mapping-short ∙ if-true (not (is_short_key (lines_at bytes at) key.scalar)) _ _ (ap not h)) ∙ wrong_here
+
+      module _ (short : true ≡ is_short_key (lines_at bytes at) key.scalar) where
+        mapping-listed : this_mapping ≡ listed (start_of at 2 depth) (mapping_inside at)
+        mapping-listed =
+            mapping-short ∙ if-false (not (is_short_key (lines_at bytes at) key.scalar)) _ _ (ap not short) ∙ ap (λ i. listed (start_of i 2 depth) (mapping_inside i)) (start-at bytes at inside)
+
+        pub mapping-broken : (f : Fault) → broken_limit n 0 (start_of at 2 depth ∷ []) ≡ Some f → run (counted n) this_mapping ≡ Err f
+        mapping-broken f h = ap (run (counted n)) mapping-listed ∙ run-broken n 2 at depth (mapping_inside at) f h
+
+        pub mapping-starts : (m : ℕ) → broken_limit n 0 (start_of at 2 depth ∷ []) ≡ None → m ≡ n + 2 → run (counted n) this_mapping ≡ run (counted m) (mapping_inside at)
+        mapping-starts m h e = ap (run (counted n)) mapping-listed ∙ run-start n 2 at depth (mapping_inside at) h ∙ ap (λ i. run (counted i) (mapping_inside at)) (sym e)
+
+-- ---- a flow collection with the rest of its line
+
+module _ (collection : CollectionReader) (spot : Spot) (depth n : ℕ) (bytes : List ℕ) (at : ℕ) (inside : at ≤ length bytes) where
+  abbrev pub flow_line : Reading (Part tree.Node)
+  flow_line = flow_at collection spot depth (lines_at bytes at)
+
+  pub flow-stop : (e : Stop) → Stops (collection depth (lines_at bytes at)) n e → Stops flow_line n e
+  flow-stop e h = stops-bind (collection depth (lines_at bytes at)) (flow_rest spot (start (lines_at bytes at))) n e h
+
+  module _ (m : ℕ) (x : Part tree.Node) (read : run (counted n) (collection depth (lines_at bytes at)) ≡ Ok (x, counted m)) where
+    flow-read : run (counted n) flow_line ≡ run (counted m) (flow_rest spot (start (lines_at bytes at)) x)
+    flow-read = bind-ok (collection depth (lines_at bytes at)) (flow_rest spot (start (lines_at bytes at))) n m x read
+
+    pub flow-key : true ≡ (not (is_behind_key spot) && has_colon x.left) → run (counted n) flow_line ≡ Err (record { code = yaml.WrongKey; at = at })
+    flow-key h =
+        flow-read ∙ ap (run (counted m)) (if-true (not (is_behind_key spot) && has_colon x.left) _ _ h) ∙ run-fails m yaml.WrongKey (start (lines_at bytes at))
+        ∙ ap (λ i. Err (record { code = yaml.WrongKey; at = i })) (start-at bytes at inside)
+
+    module _ (no_key : false ≡ (not (is_behind_key spot) && has_colon x.left)) where
+      flow-line : run (counted n) flow_line ≡ run (counted m) (given (line_ended x.left) >>= (λ left. gives (part x.value x.end left)))
+      flow-line = flow-read ∙ ap (run (counted m)) (if-false (not (is_behind_key spot) && has_colon x.left) _ _ no_key)
+
+      pub flow-wrong : (f : Fault) → line_ended x.left ≡ Err f → run (counted n) flow_line ≡ Err f
+      flow-wrong f h = flow-line ∙ run-stop (counted m) (given (line_ended x.left)) (λ left. gives (part x.value x.end left)) f (run-refused m (line_ended x.left) f h)
+
+      pub flow-ok : (left : List Line) → line_ended x.left ≡ Ok left → run (counted n) flow_line ≡ Ok (part x.value x.end left, counted m)
+      flow-ok left h = flow-line ∙ given-ok (line_ended x.left) (λ left. gives (part x.value x.end left)) m left h ∙ run-gives m (part x.value x.end left)
+
+-- ---- lines
+
+pub dash-solid : (bytes : List ℕ) (at : ℕ) → at ≤ length bytes → is_dash (text_at bytes at) ≡ true → IsLineEnd bytes at → ⊥
+dash-solid bytes at h d k = never (sym (ap is_dash (text-line_end bytes at h k)) ∙ d)
+
+same_number : (a b : ℕ) → a ≡ b → (a == b) ≡ true
+same_number a b h = grind (arith, common_steps, h)
+
+pub same_line-own : (ls : List Line) → same_line ls ls ≡ true
+same_line-own ls = same_number (first_end ls) (first_end ls) refl
+
+pub same_line-next : (bytes : List ℕ) (at : ℕ) → at ≤ length bytes → (IsLineEnd bytes at → ⊥) → same_line (lines_at bytes at) (lines_at bytes (at + 1)) ≡ true
+same_line-next bytes at h k =
+    let here = is_inside bytes at h k in
+    same_number (first_end (lines_at bytes at)) (first_end (lines_at bytes (at + 1))) (end-more bytes at at here.inside here.not_feed here.not_return refl)
+
+end-blanks : (ls : List Line) → first_end (blanks_dropped ls) ≡ first_end ls
+end-blanks [] = refl
+end-blanks (l ∷ ls) = refl
+
+pub same_line-blanks : (xs ys zs : List Line) → same_line xs ys ≡ true → blanks_dropped ys ≡ zs → same_line xs zs ≡ true
+same_line-blanks xs ys zs h e = same_number (first_end xs) (first_end zs) (eqb-true (first_end xs) (first_end ys) h ∙ sym (end-blanks ys) ∙ ap first_end e)
