@@ -2,11 +2,12 @@
 use Rattle.std.proofs.Common.{◌≡◌, ℕ, List, [], ◌∷◌, get_or, refl, sym, ap, ◌∙◌, arith}
 use Rattle.std.specs.Cmp.{IsTotalOrder}
 use Rattle.std.specs.List.{AllByRecursion, Contains}
-use Rattle.std.specs.List.Sorted.{IsStrictlySortedBy}
+use Rattle.std.specs.List.Sorted.{IsPermutation, IsStrictlySortedBy}
 use Rattle.std.specs.FinMap.{IsAntisymmetric, nat_cmp-IsAntisymmetric, slice_cmp-IsAntisymmetric}
 use Rattle.std.specs.Ordering.{nat_cmp, ordering_then, eq_by_cmp, is_eq}
 use Rattle.std.specs.declared.cmp.Ordering.{Ordering}
 use Rattle.std.specs.declared.cmp.Ordering.TheVariants.{Less, Equal, Greater}
+use Rattle.std.proofs.lemmas.List.Sorted.{Contains-permutation, IsPermutation-sym}
 use Rattle.std.proofs.lemmas.Cmp.{nat_cmp_total, on_total, then_total}
 use Rattle.al_text.specs.Orders.{args_cmp, args_total}
 use Rattle.al_text.specs.FaultLists.{fault_cmp, fault_list, kind_place, place_in_kind, yaml_place, key_place, expression_place}
@@ -151,6 +152,10 @@ AllByRecursion-fault_list P faults all = AllByRecursion-in_order fault_cmp_total
 -- two lists with the same faults
 pub fault_list-same : (a b : List Fault) → ((fault : Fault) → Contains a fault → Contains b fault) → ((fault : Fault) → Contains b fault → Contains a fault) → fault_list a ≡ fault_list b
 fault_list-same a b f g = in_order-same fault_cmp_total fault_cmp_same a b f g
+
+-- a list and another order of it
+pub fault_list-permutation : (a b : List Fault) → IsPermutation a b → fault_list a ≡ fault_list b
+fault_list-permutation a b moved = fault_list-same a b (λ fault. Contains-permutation a b fault moved) (λ fault. Contains-permutation b a fault (IsPermutation-sym a b moved))
 
 -- a list that is in order with each fault once
 pub fault_list-sorted : (faults : List Fault) → IsStrictlySortedBy fault_cmp faults → fault_list faults ≡ faults

@@ -10,11 +10,9 @@ ghost use Rattle.al_text.specs.Spans.{LiesIn};
 
 use super::faults::Fault;
 use super::positions::{is_break_end, is_char_start};
-use super::printing::{argument_at, write_line};
+use super::printing::write_fault_at;
 use super::stops::Stop;
 use super::streams::Output;
-use super::wordings::{kind, wording_of};
-use itoa::Buffer;
 use std::alloc::{AllocError, Global};
 use std::io::Write;
 use std::marker::Model;
@@ -106,19 +104,7 @@ impl Lines {
         ensures err { IsOkUnless result Stop.WriteFault }
     {
         let (line, column) = self.position(bytes, fault.span.start);
-        let mut lines = Buffer::new();
-        let mut columns = Buffer::new();
-        let texts = fault.args.texts();
-        write_line(
-            writer,
-            path,
-            lines.format(line),
-            columns.format(column),
-            wording_of(fault.code),
-            argument_at(texts, 0),
-            argument_at(texts, 1),
-            kind(fault.code),
-        )
+        write_fault_at(writer, path, line, column, fault)
     }
 }
 
