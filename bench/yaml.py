@@ -2,21 +2,21 @@
 build of crates/readers.
 
 It needs a C compiler and libyaml with its headers (Debian's libyaml-dev). Each file ends with a line at which both readers
-stop with a fault, so that neither prints a tree, and all before it is read by both. Each time is the least of several runs
-in one run of this program, less the time for an empty file. Each shape is read at half and at its whole size: where reading
-is linear, the time grows as the bytes do.
+stop with a fault, so that neither prints a tree, and all before it is read by both. Each time is the least processor time of
+several runs in one run of this program, less that for this line alone. Each shape is read at half and at its whole size:
+where reading is linear, the time grows as the bytes do.
 """
 
 import json
 import pathlib
+import resource
 import subprocess
 import sys
 import tempfile
-import time
 
 TOP = pathlib.Path(__file__).resolve().parent.parent
 PROGRAM = TOP / "crates" / "readers" / "out" / "readers"
-RUNS = 7
+RUNS = 25
 SIZE = 1_000_000
 
 # an indicator that begins no node, at the start of a line
@@ -66,28 +66,42 @@ def shapes(size):
     yield "double-quoted scalar, escapes", b'on: push\njobs: "' + b"\\x61" * (size // 4) + b'"\n'
     yield "block scalar, lines of four bytes", b"on: push\njobs: |\n" + b"  b\n" * (size // 4)
     yield "keys", b"on: push\njobs:\n" + b"".join(b"  key%08d: v\n" % n for n in range(49_000 * size // SIZE))
+    yield "items in brackets, one line", b"on: push\njobs: [" + b"abcdefghi, " * (90_000 * size // SIZE) + b"]\n"
     yield "brackets, beside one another", b"on: push\njobs: [" + b"[]," * (60_000 * size // SIZE) + b"]\n"
     yield "comments", b"on: push\njobs: v\n" + b"# c\n" * (size // 4)
 
 
-def seconds(command, file):
-    """The least time of some runs, and the last output."""
-    best = None
-    for _ in range(RUNS):
-        start = time.perf_counter()
-        done = subprocess.run(command, input=file, capture_output=True, check=False)
-        took = time.perf_counter() - start
-        best = took if best is None else min(best, took)
-    return best, done.stdout
+def processor_time():
+    """The processor time of all runs so far, in seconds."""
+    used = resource.getrusage(resource.RUSAGE_CHILDREN)
+    return used.ru_utime + used.ru_stime
 
 
-def ours(file):
-    """The time to read the file up to the fault on its last line."""
-    took, out = seconds([PROGRAM, "yaml"], file)
+def read_once(command, file):
+    """The processor time of one run, and its output."""
+    start = processor_time()
+    done = subprocess.run(command, input=file, capture_output=True, check=False)
+    return processor_time() - start, done.stdout
+
+
+def check_fault(file, out):
+    """That the file was read up to its last line."""
     start = json.loads(out)["fault"]["start"]
     if start != len(file) - len(LAST):
         sys.exit(f"a fault at {start} of {len(file)} bytes")
-    return took
+
+
+def least(events, files):
+    """For each file the least times to read it, here and by libyaml. The runs take turns, so that all of them see the same
+    load of the machine."""
+    times = [[1e9, 1e9] for _ in files]
+    for _ in range(RUNS):
+        for file, best in zip(files, times):
+            took, out = read_once([PROGRAM, "yaml"], file)
+            check_fault(file, out)
+            best[0] = min(best[0], took)
+            best[1] = min(best[1], read_once([events], file)[0])
+    return times
 
 
 def main():
@@ -95,14 +109,11 @@ def main():
     with tempfile.TemporaryDirectory() as folder:
         events = pathlib.Path(folder) / "yaml_events"
         subprocess.run(["cc", "-O2", "-o", events, TOP / "bench" / "yaml_events.c", "-lyaml"], check=True)
-        started = ours(LAST)
-        started_events, _ = seconds([events], LAST)
         print(f"{'file':36} {'bytes':>9} {'this':>9} {'libyaml':>9} {'this/libyaml':>12}  whole/half of bytes")
         for (name, whole), (_, half) in zip(shapes(SIZE), shapes(SIZE // 2)):
-            took = ours(whole + LAST) - started
-            smaller = ours(half + LAST) - started
-            theirs = seconds([events], whole + LAST)[0] - started_events
-            growth = f"{took / smaller:.2f} of {len(whole) / len(half):.2f}"
+            nothing, smaller, all_of_it = least(events, [LAST, half + LAST, whole + LAST])
+            took, theirs = (a - b for a, b in zip(all_of_it, nothing))
+            growth = f"{took / (smaller[0] - nothing[0]):.2f} of {len(whole) / len(half):.2f}"
             print(f"{name:36} {len(whole):9} {took:8.3f}s {theirs:8.3f}s {took / theirs:12.2f}  {growth}")
 
 
