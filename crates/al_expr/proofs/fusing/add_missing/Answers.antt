@@ -1,6 +1,0 @@
-use Rattle.std.proofs.Common.{◌≡◌, refl, sym, ap}
-use Rattle.al_expr.proofs.TypeFields.{object_fields}
-use Rattle.al_expr.proofs.fusing.add_missing.Goals as goal
-
-pub loop-field-init : goal.loop-field-init
-loop-field-init c = let h = object_fields c.args.y.now in let v = c.deref-field-items.ensures.value in rw (h, v) refl

@@ -1,6 +1,0 @@
-use Rattle.std.proofs.Common.{◌≡◌, ◌++◌, map, drop}
-use Rattle.al_expr.specs.TypeViews.{field_of, fields_of, fields_of_type, object_of, missing_list}
-use Rattle.al_expr.proofs.fusing.add_missing.Given as goal
-
-abbrev pub invariant-loop-field : goal.invariant-loop-field
-invariant-loop-field l = map field_of l.fields.items ++ missing_list (fields_of_type (object_of l.x)) (fields_of (map field_of (drop l.field-index l.field-items))) ≡ map field_of l.initial.fields.items ++ missing_list (fields_of_type (object_of l.x)) (fields_of_type (object_of l.y))

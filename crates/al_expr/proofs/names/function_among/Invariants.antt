@@ -1,6 +1,0 @@
-use Rattle.std.proofs.Common.{◌≡◌, drop}
-use Rattle.al_expr.specs.Names.{first_named, function_name}
-use Rattle.al_expr.proofs.names.function_among.Given as goal
-
-abbrev pub invariant-loop-function : goal.invariant-loop-function
-invariant-loop-function l = first_named function_name l.name (drop l.function-index l.functions) ≡ first_named function_name l.name l.functions

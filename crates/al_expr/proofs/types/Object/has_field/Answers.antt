@@ -1,9 +1,0 @@
-use Rattle.std.proofs.Common.{◌≡◌, refl, sym, ap, ◌∙◌, Option}
-use Rattle.std.specs.Prelude.{is_some}
-use Rattle.al_expr.specs.Types.{Type', field_at}
-use Rattle.al_expr.specs.TypeViews.{fields_of_type, object_of}
-use Rattle.al_expr.proofs.Fused.{has_field_at, some_mapped}
-use Rattle.al_expr.proofs.types.Object.has_field.Goals as goal
-
-pub returns : goal.returns
-returns c = c.is_some.ensures ∙ sym (some_mapped _ c.field.result) ∙ ap is_some c.field.ensures ∙ has_field_at c.args.name.now (fields_of_type (object_of c.args.self.now))

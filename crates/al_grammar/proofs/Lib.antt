@@ -1,0 +1,14 @@
+pub mod Shape
+pub mod Unique
+pub mod Rules
+pub mod Chains
+pub mod Total
+pub mod Trees
+pub mod RestItems
+pub mod TreeViews
+pub mod Front
+pub mod Fitting
+pub mod Lexing
+pub mod Left
+pub mod Quotes
+pub mod Chunking

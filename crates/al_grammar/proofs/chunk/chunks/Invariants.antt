@@ -1,0 +1,15 @@
+use Rattle.std.proofs.Common.{◌≡◌, ◌≤◌, ◌-◌, length, drop, map}
+use Rattle.std.specs.Prelude.{All}
+use Rattle.al_grammar.specs.Chunks.{chunks_of, chunks_from, behind_chunks, span_of_chunk, IsCutFrom, StandsIn}
+use Rattle.al_grammar.proofs.chunk.chunks.Given as goal
+
+abbrev pub invariant-text : goal.invariant-text
+invariant-text l = record {
+  within : l.at ≤ length l.text;
+  stands : StandsIn l.text l.at l.place;
+  contents : All (IsCutFrom l.text) l.found.items;
+  so_far : chunks_of l.text ≡ behind_chunks (map span_of_chunk l.found.items) (chunks_from 0 l.place l.at (drop l.at l.text));
+}
+
+abbrev pub decreases-text : goal.decreases-text
+decreases-text l = length l.text - l.at

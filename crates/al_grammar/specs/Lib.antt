@@ -1,0 +1,11 @@
+pub mod Tree
+pub mod Lexeme
+pub mod Table
+pub mod Grammar
+pub mod Tokens
+pub mod Refusal
+pub mod Chunks
+pub mod Extents
+pub mod Law
+pub mod View
+pub mod Parsed

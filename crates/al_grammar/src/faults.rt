@@ -1,0 +1,34 @@
+ghost use Rattle.std.specs.Prelude.{◌≡◌, IfOk, [], ◌∷◌};
+ghost use Rattle.al_grammar.specs.Refusal.{fault};
+
+use al_text::{Args, Code, Expression, Fault, Span};
+use std::alloc::{AllocError, Global};
+
+/// A fault whose message names nothing.
+pub fn plain_fault(alloc: Global, code: Expression, span: Span) -> Fault
+    ensures { result ≡ fault code span [] }
+{
+    Fault {
+        span,
+        code: Code::Expression(code),
+        args: Args::new(Vec::new(alloc)),
+    }
+}
+
+/// A fault whose message names one text.
+pub fn named_fault(
+    alloc: Global,
+    code: Expression,
+    span: Span,
+    name: &str,
+) -> Result<Fault, AllocError>
+    ensures { IfOk result (λ f. f ≡ fault code span (name.now ∷ [])) }
+{
+    let mut texts = Vec::new(alloc);
+    texts.push(String::from_str(alloc, name)?)?;
+    Ok(Fault {
+        span,
+        code: Code::Expression(code),
+        args: Args::new(texts),
+    })
+}

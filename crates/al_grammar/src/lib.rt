@@ -1,0 +1,21 @@
+//! The grammar of expressions, `${{ .. }}`: chunks of a text, tokens, trees, and the fault of what is no expression.
+#![tactic(auto)]
+
+mod ast;
+mod chunk;
+mod expression;
+mod extents;
+mod faults;
+mod law;
+mod lexer;
+mod number;
+mod parser;
+mod token;
+
+pub use ast::{Expr, Operand, Step, Word};
+pub use chunk::{Chunk, chunks};
+pub use expression::parse_expr;
+pub use extents::{across, extent, path_extent};
+pub use law::grammar;
+pub use lexer::lex;
+pub use token::{Keyword, Operator, Token, TokenKind};

@@ -1,0 +1,4 @@
+pub mod Indices
+pub mod Growing
+pub mod TypedSteps
+pub mod Paths

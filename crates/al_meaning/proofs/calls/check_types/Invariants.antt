@@ -1,0 +1,11 @@
+use Rattle.std.proofs.Common.{◌≡◌, ◌++◌, map, drop, string_bytes}
+use Rattle.al_meaning.specs.CallViews.{argument_of}
+use Rattle.al_meaning.specs.Growth.{BeginsWith}
+use Rattle.al_meaning.specs.Meaning.{wrong_arguments}
+use Rattle.al_meaning.proofs.calls.check_types.Given as goal
+
+abbrev pub invariant-loop-index : goal.invariant-loop-index
+invariant-loop-index l = record {
+  begins : BeginsWith l.out.items l.initial.out.items;
+  so_far : l.out.items ++ wrong_arguments (string_bytes l.name.text) l.parameters l.index (map argument_of (drop l.index l.arguments)) ≡ l.initial.out.items ++ wrong_arguments (string_bytes l.name.text) l.parameters 0 (map argument_of l.arguments);
+}

@@ -1,0 +1,11 @@
+use Rattle.std.proofs.Common.{◌≡◌, ◌++◌, map, drop}
+use Rattle.al_meaning.specs.CallViews.{argument_of}
+use Rattle.al_meaning.specs.Growth.{BeginsWith}
+use Rattle.al_meaning.specs.Meaning.{unused}
+use Rattle.al_meaning.proofs.calls.check_used.Given as goal
+
+abbrev pub invariant-loop-index : goal.invariant-loop-index
+invariant-loop-index l = record {
+  begins : BeginsWith l.out.items l.initial.out.items;
+  so_far : l.out.items ++ unused l.index (drop l.index l.used) (map argument_of (drop l.index l.arguments)) ≡ l.initial.out.items ++ unused 0 l.used (map argument_of l.arguments);
+}

@@ -1,0 +1,10 @@
+pub mod Untrusted
+pub mod Placeholders
+pub mod PlaceholderViews
+pub mod Literals
+pub mod LiteralViews
+pub mod Meaning
+pub mod Growth
+pub mod CallViews
+pub mod FoundTypes
+pub mod Comparison

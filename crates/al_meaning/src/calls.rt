@@ -1,0 +1,258 @@
+ghost use Rattle.std.specs.Prelude.{◌≡◌, ◌++◌, ◌+◌, ◌^◌, ◌<◌, IfOk, OnOk, not, map, length, string_bytes, ◌∷◌, []};
+ghost use Rattle.al_meaning.specs.Growth.{BeginsWith};
+ghost use Rattle.al_meaning.specs.Meaning.{typed, behind, give, is_test, called_with, argument_faults, wrong_arguments, format_faults, placeholder_faults, unused};
+ghost use Rattle.al_meaning.specs.Meaning as meaning;
+ghost use Rattle.al_meaning.specs.Placeholders.{used_arguments};
+ghost use Rattle.al_grammar.specs.Refusal.{fault};
+ghost use Rattle.al_meaning.specs.CallViews.{argument_of};
+ghost use Rattle.al_types.specs.Scopes.{scope_of};
+ghost use Rattle.al_types.specs.Signatures.{accepts, wanted};
+ghost use Rattle.al_grammar.specs.Tree.{arguments_of};
+ghost use Rattle.al_types.specs.TypeViews.{ty_of};
+ghost use Rattle.al_grammar.specs.View.{tree_of};
+ghost use Rattle.std.specs.Fmt.{decimal};
+ghost use Rattle.al_text.specs.declared.codes.Expression.TheVariants as code;
+
+use crate::literals::{Literal, literal_text};
+use crate::placeholders::used_arguments;
+use crate::reports::{report, report_plain, report_text};
+use al_grammar::{Expr, Word};
+use al_text::{Expression, Fault, Span};
+use al_types::{Function, Parameters, Scope, Ty};
+use std::alloc::{AllocError, Global};
+
+/// An argument's type and place.
+#[derive(Drop)]
+pub(crate) struct Argument {
+    pub ty: Ty,
+    pub span: Span,
+}
+
+/// Whether a function only tests its arguments, so that no text of theirs gets into a script.
+pub(crate) fn is_test(function: Option<Function>) -> bool
+    ensures { result ≡ is_test function }
+{
+    match function {
+        Some(Function::Contains) => true,
+        Some(Function::StartsWith) => true,
+        Some(Function::EndsWith) => true,
+        Some(Function::Format) => false,
+        Some(Function::Join) => false,
+        Some(Function::ToJson) => false,
+        Some(Function::FromJson) => false,
+        Some(Function::HashFiles) => false,
+        Some(Function::Success) => false,
+        Some(Function::Always) => false,
+        Some(Function::Cancelled) => false,
+        Some(Function::Failure) => false,
+        None => false,
+    }
+}
+
+/// The type of a call whose arguments have these types.
+#[tactic(auto, using(crate::proofs::Growing::growth))]
+pub(crate) fn called(
+    alloc: Global,
+    scope: &Scope,
+    name: &Word,
+    function: Option<Function>,
+    exprs: &[Expr],
+    arguments: &[Argument],
+    out: &mut Vec<Fault>,
+) -> Result<Ty, AllocError>
+    ensures ok { IfOk result (λ t. typed (ty_of t) out.new.items ≡ behind out.old.items (called_with (scope_of scope.now) (string_bytes name.now.text) name.now.span function (arguments_of (map tree_of exprs.now)) (map argument_of arguments.now))) }
+    ensures begins { BeginsWith out.new.items out.old.items }
+{
+    let Some(function) = function else {
+        report_text(
+            alloc,
+            out,
+            Expression::UndefinedFunction,
+            name.span,
+            name.text.as_str(),
+        )?;
+        return Ok(Ty::Any);
+    };
+    check_available(alloc, scope, name, function, out)?;
+    let signature = function.signature();
+    check_arguments(alloc, name, signature.parameters, arguments, out)?;
+    check_format(alloc, function, exprs, arguments, out)?;
+    Ok(signature.returned.ty())
+}
+
+#[tactic(auto, using(crate::proofs::Growing::growth))]
+fn check_available(
+    alloc: Global,
+    scope: &Scope,
+    name: &Word,
+    function: Function,
+    out: &mut Vec<Fault>,
+) -> Result<(), AllocError>
+    ensures ok { OnOk result (out.new.items ≡ out.old.items ++ give (not ((scope_of scope.now).allowed function)) (fault code.UnavailableFunction name.now.span (string_bytes name.now.text ∷ []))) }
+    ensures begins { BeginsWith out.new.items out.old.items }
+{
+    if !scope.functions.allows(function) {
+        report_text(
+            alloc,
+            out,
+            Expression::UnavailableFunction,
+            name.span,
+            name.text.as_str(),
+        )?;
+    }
+    Ok(())
+}
+
+#[tactic(auto, using(crate::proofs::Growing::growth))]
+fn check_arguments(
+    alloc: Global,
+    name: &Word,
+    parameters: Parameters,
+    arguments: &[Argument],
+    out: &mut Vec<Fault>,
+) -> Result<(), AllocError>
+    ensures ok { OnOk result (out.new.items ≡ out.old.items ++ argument_faults (string_bytes name.now.text) name.now.span parameters (map argument_of arguments.now)) }
+    ensures begins { BeginsWith out.new.items out.old.items }
+{
+    if parameters.takes(arguments.len()) {
+        check_types(alloc, name, parameters, arguments, out)
+    } else {
+        report_text(
+            alloc,
+            out,
+            Expression::ArgumentCount,
+            name.span,
+            name.text.as_str(),
+        )
+    }
+}
+
+#[tactic(auto, using(crate::proofs::Growing::growth))]
+fn check_types(
+    alloc: Global,
+    name: &Word,
+    parameters: Parameters,
+    arguments: &[Argument],
+    out: &mut Vec<Fault>,
+) -> Result<(), AllocError>
+    ensures ok { OnOk result (out.new.items ≡ out.old.items ++ wrong_arguments (string_bytes name.now.text) parameters 0 (map argument_of arguments.now)) }
+    ensures begins { BeginsWith out.new.items out.old.items }
+{
+    for (index, argument) in arguments.iter().enumerate() {
+        check_type(alloc, name, parameters, index, argument, out)?;
+    }
+    Ok(())
+}
+
+#[tactic(auto, using(crate::proofs::Growing::growth))]
+fn check_type(
+    alloc: Global,
+    name: &Word,
+    parameters: Parameters,
+    index: usize,
+    argument: &Argument,
+    out: &mut Vec<Fault>,
+) -> Result<(), AllocError>
+    requires { index + 2 < 2 ^ 64 }
+    ensures ok { OnOk result (out.new.items ≡ out.old.items ++ give (not (accepts (wanted parameters index) (ty_of argument.now.ty))) (fault code.ArgumentType argument.now.span (decimal (index + 1) ∷ string_bytes name.now.text ∷ []))) }
+    ensures begins { BeginsWith out.new.items out.old.items }
+{
+    if !parameters.wanted(index).accepts(&argument.ty) {
+        let mut texts = Vec::new(alloc);
+        texts.push((index + 1).to_string(alloc)?)?;
+        texts.push(name.text.clone()?)?;
+        report(out, Expression::ArgumentType, argument.span, texts)?;
+    }
+    Ok(())
+}
+
+#[tactic(auto, using(crate::proofs::Growing::growth))]
+fn check_format(
+    alloc: Global,
+    function: Function,
+    exprs: &[Expr],
+    arguments: &[Argument],
+    out: &mut Vec<Fault>,
+) -> Result<(), AllocError>
+    ensures ok { OnOk result (out.new.items ≡ out.old.items ++ format_faults function (arguments_of (map tree_of exprs.now)) (map argument_of arguments.now)) }
+    ensures begins { BeginsWith out.new.items out.old.items }
+{
+    if function != Function::Format {
+        return Ok(());
+    }
+    let [first, ..] = exprs else {
+        return Ok(());
+    };
+    match literal_text(alloc, first)? {
+        Some(literal) => check_placeholders(alloc, &literal, behind_first(arguments), out),
+        None => Ok(()),
+    }
+}
+
+fn behind_first(arguments: &[Argument]) -> &[Argument]
+    ensures { map argument_of result.now ≡ meaning.rest_of (map argument_of arguments.now) }
+{
+    match arguments {
+        [] => &[],
+        [_, rest @ ..] => rest,
+    }
+}
+
+#[tactic(auto, using(crate::proofs::Growing::growth))]
+fn check_placeholders(
+    alloc: Global,
+    literal: &Literal,
+    arguments: &[Argument],
+    out: &mut Vec<Fault>,
+) -> Result<(), AllocError>
+    ensures ok { OnOk result (out.new.items ≡ out.old.items ++ placeholder_faults literal.now.span (used_arguments (length arguments.now) (string_bytes literal.now.value)) (map argument_of arguments.now)) }
+    ensures begins { BeginsWith out.new.items out.old.items }
+{
+    match used_arguments(alloc, literal.value.as_str(), arguments.len())? {
+        Some(used) => check_used(alloc, &used, arguments, out),
+        None => report_plain(alloc, out, Expression::WrongPlaceholder, literal.span),
+    }
+}
+
+#[tactic(auto, using(crate::proofs::Growing::growth))]
+fn check_used(
+    alloc: Global,
+    used: &[bool],
+    arguments: &[Argument],
+    out: &mut Vec<Fault>,
+) -> Result<(), AllocError>
+    ensures ok { OnOk result (out.new.items ≡ out.old.items ++ unused 0 used.now (map argument_of arguments.now)) }
+    ensures begins { BeginsWith out.new.items out.old.items }
+{
+    for (index, argument) in arguments.iter().enumerate() {
+        if index < used.len() {
+            check_argument(alloc, used[index], index, argument.span, out)?;
+        }
+    }
+    Ok(())
+}
+
+#[tactic(auto, using(crate::proofs::Growing::growth))]
+fn check_argument(
+    alloc: Global,
+    used: bool,
+    index: usize,
+    span: Span,
+    out: &mut Vec<Fault>,
+) -> Result<(), AllocError>
+    requires { index + 2 < 2 ^ 64 }
+    ensures ok { OnOk result (out.new.items ≡ out.old.items ++ give (not used) (fault code.UnusedArgument span (decimal (index + 2) ∷ []))) }
+    ensures begins { BeginsWith out.new.items out.old.items }
+{
+    if !used {
+        let number = (index + 2).to_string(alloc)?;
+        report_text(
+            alloc,
+            out,
+            Expression::UnusedArgument,
+            span,
+            number.as_str(),
+        )?;
+    }
+    Ok(())
+}

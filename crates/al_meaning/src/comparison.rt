@@ -1,0 +1,26 @@
+ghost use Rattle.std.specs.Prelude.{◌≡◌};
+ghost use Rattle.al_meaning.specs.Comparison.{comparable_types};
+ghost use Rattle.al_types.specs.TypeViews.{ty_of};
+
+use al_grammar::Operator;
+use al_types::Ty;
+
+/// Whether an operator that compares may stand between values of these types: not between an array or object and a
+/// number, bool or string, and of arrays and objects only `==` and `!=`.
+pub fn comparable(operator: Operator, a: &Ty, b: &Ty) -> bool
+    ensures { result ≡ comparable_types operator (ty_of a.now) (ty_of b.now) }
+{
+    let (a_collection, b_collection) = (a.is_collection(), b.is_collection());
+    let (a_plain, b_plain) = (a.is_plain(), b.is_plain());
+    match operator {
+        Operator::Equal | Operator::NotEqual => {
+            !(a_collection && b_plain) && !(b_collection && a_plain)
+        }
+        Operator::Or
+        | Operator::And
+        | Operator::Less
+        | Operator::LessEqual
+        | Operator::Greater
+        | Operator::GreaterEqual => !a_collection && !b_collection,
+    }
+}

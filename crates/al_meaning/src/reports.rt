@@ -1,0 +1,56 @@
+ghost use Rattle.std.specs.Prelude.{◌≡◌, ◌++◌, ◌∷◌, [], OnOk, map, string_bytes};
+ghost use Rattle.al_grammar.specs.Refusal.{fault};
+ghost use Rattle.al_meaning.specs.Growth.{BeginsWith};
+
+use al_text::{Args, Code, Expression, Fault, Span};
+use std::alloc::{AllocError, Global};
+
+/// Adds a fault whose message names these texts.
+#[tactic(auto, using(crate::proofs::Growing::growth))]
+pub(crate) fn report(
+    out: &mut Vec<Fault>,
+    code: Expression,
+    span: Span,
+    texts: Vec<String>,
+) -> Result<(), AllocError>
+    ensures ok { OnOk result (out.new.items ≡ out.old.items ++ fault code span (map string_bytes texts.items) ∷ []) }
+    ensures begins { BeginsWith out.new.items out.old.items }
+{
+    out.push(Fault {
+        span,
+        code: Code::Expression(code),
+        args: Args::new(texts),
+    })?;
+    Ok(())
+}
+
+/// Adds a fault whose message names nothing.
+#[tactic(auto, using(crate::proofs::Growing::growth))]
+pub(crate) fn report_plain(
+    alloc: Global,
+    out: &mut Vec<Fault>,
+    code: Expression,
+    span: Span,
+) -> Result<(), AllocError>
+    ensures ok { OnOk result (out.new.items ≡ out.old.items ++ fault code span [] ∷ []) }
+    ensures begins { BeginsWith out.new.items out.old.items }
+{
+    report(out, code, span, Vec::new(alloc))
+}
+
+/// Adds a fault whose message names one text.
+#[tactic(auto, using(crate::proofs::Growing::growth))]
+pub(crate) fn report_text(
+    alloc: Global,
+    out: &mut Vec<Fault>,
+    code: Expression,
+    span: Span,
+    text: &str,
+) -> Result<(), AllocError>
+    ensures ok { OnOk result (out.new.items ≡ out.old.items ++ fault code span (text.now ∷ []) ∷ []) }
+    ensures begins { BeginsWith out.new.items out.old.items }
+{
+    let mut texts = Vec::new(alloc);
+    texts.push(String::from_str(alloc, text)?)?;
+    report(out, code, span, texts)
+}

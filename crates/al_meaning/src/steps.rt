@@ -1,0 +1,157 @@
+ghost use Rattle.std.specs.Prelude.{◌≡◌, IfOk, None, option_map};
+ghost use Rattle.al_meaning.specs.Growth.{BeginsWith};
+ghost use Rattle.al_meaning.specs.Meaning.{typed, behind, property_of, all_of, index_of, element_at, not_indexable, fuse_all, fuse_next};
+ghost use Rattle.al_types.specs.Types.{NoField};
+ghost use Rattle.al_types.specs.TypeViews.{ty_of, object_of, fields_of_type, rest_of, rest_of_type};
+
+use crate::reports::{report_plain, report_text};
+use al_text::{Expression, Fault, Span};
+use al_types::{Object, Ty, copy, fuse};
+use std::alloc::{AllocError, Global};
+
+/// The type of a property, whose name stands at `at`, of a value of this type.
+#[tactic(auto, using(crate::proofs::Growing::growth, crate::proofs::TypedSteps::typing, crate::proofs::TypedSteps::object_steps))]
+pub(crate) fn property(
+    alloc: Global,
+    ty: &Ty,
+    name: &str,
+    at: Span,
+    whole: Span,
+    out: &mut Vec<Fault>,
+) -> Result<Ty, AllocError>
+    ensures ok { IfOk result (λ t. typed (ty_of t) out.new.items ≡ behind out.old.items (property_of name.now at whole (ty_of ty.now))) }
+    ensures begins { BeginsWith out.new.items out.old.items }
+{
+    match ty {
+        Ty::Any => Ok(Ty::Any),
+        Ty::Object(object) => match object.property(name) {
+            Some(found) => copy(alloc, found),
+            None => {
+                report_text(alloc, out, Expression::UndefinedProperty, at, name)?;
+                Ok(Ty::Any)
+            }
+        },
+        Ty::Array(element) => {
+            let of = property(alloc, element, name, at, whole, out)?;
+            Ok(Ty::Array(Box::new(alloc, of)?))
+        }
+        Ty::Null => not_indexable(alloc, whole, out),
+        Ty::Number => not_indexable(alloc, whole, out),
+        Ty::Bool => not_indexable(alloc, whole, out),
+        Ty::String => not_indexable(alloc, whole, out),
+    }
+}
+
+/// The type of the element of a value of this type that an index of the type `by` names.
+#[tactic(auto, using(crate::proofs::Growing::growth, crate::proofs::TypedSteps::typing, crate::proofs::TypedSteps::object_steps))]
+pub(crate) fn element(
+    alloc: Global,
+    ty: &Ty,
+    by: &Ty,
+    whole: Span,
+    out: &mut Vec<Fault>,
+) -> Result<Ty, AllocError>
+    ensures ok { IfOk result (λ t. typed (ty_of t) out.new.items ≡ behind out.old.items (index_of whole (ty_of ty.now) (ty_of by.now))) }
+    ensures begins { BeginsWith out.new.items out.old.items }
+{
+    match ty {
+        Ty::Any => Ok(Ty::Any),
+        Ty::Object(_) => Ok(Ty::Any),
+        Ty::Array(of) => element_of(alloc, of, by, whole, out),
+        Ty::Null => not_indexable(alloc, whole, out),
+        Ty::Number => not_indexable(alloc, whole, out),
+        Ty::Bool => not_indexable(alloc, whole, out),
+        Ty::String => not_indexable(alloc, whole, out),
+    }
+}
+
+#[tactic(auto, using(crate::proofs::Growing::growth, crate::proofs::TypedSteps::typing, crate::proofs::TypedSteps::object_steps))]
+fn element_of(
+    alloc: Global,
+    of: &Ty,
+    by: &Ty,
+    whole: Span,
+    out: &mut Vec<Fault>,
+) -> Result<Ty, AllocError>
+    ensures ok { IfOk result (λ t. typed (ty_of t) out.new.items ≡ behind out.old.items (element_at whole (ty_of of.now) (ty_of by.now))) }
+    ensures begins { BeginsWith out.new.items out.old.items }
+{
+    match by {
+        Ty::Any => copy(alloc, of),
+        Ty::Number => copy(alloc, of),
+        Ty::Null => not_indexable(alloc, whole, out),
+        Ty::Bool => not_indexable(alloc, whole, out),
+        Ty::String => not_indexable(alloc, whole, out),
+        Ty::Array(_) => not_indexable(alloc, whole, out),
+        Ty::Object(_) => not_indexable(alloc, whole, out),
+    }
+}
+
+#[tactic(auto, using(crate::proofs::Growing::growth))]
+fn not_indexable(alloc: Global, whole: Span, out: &mut Vec<Fault>) -> Result<Ty, AllocError>
+    ensures ok { IfOk result (λ t. typed (ty_of t) out.new.items ≡ behind out.old.items (not_indexable whole)) }
+    ensures begins { BeginsWith out.new.items out.old.items }
+{
+    report_plain(alloc, out, Expression::NotIndexable, whole)?;
+    Ok(Ty::Any)
+}
+
+/// The type of `.*` of a value of this type: an array of what its elements, or its fields, have in common.
+#[tactic(auto, using(crate::proofs::Growing::growth, crate::proofs::TypedSteps::typing, crate::proofs::TypedSteps::object_steps))]
+pub(crate) fn all(
+    alloc: Global,
+    ty: &Ty,
+    whole: Span,
+    out: &mut Vec<Fault>,
+) -> Result<Ty, AllocError>
+    ensures ok { IfOk result (λ t. typed (ty_of t) out.new.items ≡ behind out.old.items (all_of whole (ty_of ty.now))) }
+    ensures begins { BeginsWith out.new.items out.old.items }
+{
+    match ty {
+        Ty::Any => Ok(Ty::Any),
+        Ty::Array(_) => copy(alloc, ty),
+        Ty::Object(object) => {
+            let of = fuse_all(alloc, object)?;
+            Ok(Ty::Array(Box::new(alloc, of)?))
+        }
+        Ty::Null => not_indexable(alloc, whole, out),
+        Ty::Number => not_indexable(alloc, whole, out),
+        Ty::Bool => not_indexable(alloc, whole, out),
+        Ty::String => not_indexable(alloc, whole, out),
+    }
+}
+
+// What all fields of an object, and those beside them, have in common: any where there are none.
+fn fuse_all(alloc: Global, object: &Object) -> Result<Ty, AllocError>
+    ensures { IfOk result (λ t. ty_of t ≡ fuse_all None (fields_of_type (object_of object.now)) (rest_of_type (object_of object.now))) }
+{
+    let mut common = None;
+    for field in &object.fields {
+        common = Some(fuse_next(alloc, common, &field.ty)?);
+    }
+    let all = fuse_beside(alloc, common, &object.rest)?;
+    Ok(all)
+}
+
+// The same with the type of other fields, where all named ones are fused.
+#[tactic(auto, using(crate::proofs::TypedSteps::fused_beside))]
+fn fuse_beside(alloc: Global, common: Option<Ty>, rest: &Option<Box<Ty>>) -> Result<Ty, AllocError>
+    ensures { IfOk result (λ t. ty_of t ≡ fuse_all (option_map ty_of common) NoField (rest_of rest.now)) }
+{
+    match rest {
+        Some(ty) => fuse_next(alloc, common, ty),
+        None => match common {
+            Some(common) => Ok(common),
+            None => Ok(Ty::Any),
+        },
+    }
+}
+
+fn fuse_next(alloc: Global, common: Option<Ty>, ty: &Ty) -> Result<Ty, AllocError>
+    ensures { IfOk result (λ t. ty_of t ≡ fuse_next (option_map ty_of common) (ty_of ty.now)) }
+{
+    match common {
+        Some(common) => fuse(alloc, &common, ty),
+        None => copy(alloc, ty),
+    }
+}

@@ -1,0 +1,400 @@
+ghost use Rattle.std.specs.Prelude.{◌≡◌, ◌++◌, ◌||◌, ◌&&◌, not, [], Bool, IfOk, OnOk, MatchOption, map, string_bytes, option_map};
+ghost use Rattle.al_meaning.specs.CallViews.{argument_of};
+ghost use Rattle.al_meaning.specs.FoundTypes.{found_type};
+ghost use Rattle.al_meaning.specs.Growth.{BeginsWith};
+ghost use Rattle.al_meaning.specs.Meaning.{typed, type_in, faults_in, behind, meaning_of, walked, chained, meanings, operated, is_logic, begins_logic, untrusted, all_typed, all_behind, stepped, base_name};
+ghost use Rattle.al_meaning.specs.Meaning as meaning;
+ghost use Rattle.al_types.specs.Names.{context_of, function_of};
+ghost use Rattle.al_types.specs.Scopes.{scope_of};
+ghost use Rattle.al_grammar.specs.Tree.{steps_of, operands_of, arguments_of};
+ghost use Rattle.al_types.specs.TypeViews.{ty_of};
+ghost use Rattle.al_grammar.specs.View.{tree_of, step_of, operand_of};
+
+use crate::calls::{Argument, called, is_test};
+use crate::comparison::comparable;
+use crate::literals::{literal_text, type_of_keyword};
+use crate::reports::{report_plain, report_text};
+use crate::steps::{all, element, property};
+use crate::untrusted::untrusted_chain;
+use al_grammar::{Expr, Operand, Operator, Step, Word, across, extent, path_extent};
+use al_text::{Expression, Fault, Span};
+use al_types::{Context, Function, Scope, Ty, copy, fuse};
+use std::alloc::{AllocError, Global};
+
+/// The type of an expression under a scope, with the faults in it added to `out` in the order in which it is read:
+/// X7 to X17 and X19. Spans are places in the expression's content. Where memory is wanting, `out` begins with what it
+/// held. Recursion goes no deeper than the expression's nesting.
+pub fn type_of(
+    alloc: Global,
+    env: &Scope,
+    expr: &Expr,
+    out: &mut Vec<Fault>,
+) -> Result<Ty, AllocError>
+    ensures ty { IfOk result (λ t. ty_of t ≡ type_in (meaning_of (scope_of env.now) (tree_of expr.now))) }
+    ensures faults { OnOk result (out.new.items ≡ out.old.items ++ faults_in (meaning_of (scope_of env.now) (tree_of expr.now))) }
+    ensures begins { BeginsWith out.new.items out.old.items }
+{
+    let ty = expression(alloc, env, false, expr, out)?;
+    Ok(ty)
+}
+
+// `safe`: whether the expression stands where untrusted text does no harm.
+#[tactic(auto, using(crate::proofs::Growing::growth, crate::proofs::TypedSteps::typing, al_grammar::proofs::TreeViews::tree_views))]
+#[cycle(typing)]
+fn expression(
+    alloc: Global,
+    scope: &Scope,
+    safe: bool,
+    expr: &Expr,
+    out: &mut Vec<Fault>,
+) -> Result<Ty, AllocError>
+    ensures ok { IfOk result (λ t. typed (ty_of t) out.new.items ≡ behind out.old.items (meaning.meaning (scope_of scope.now) safe (tree_of expr.now))) }
+    ensures begins { BeginsWith out.new.items out.old.items }
+{
+    match expr {
+        Expr::Keyword(keyword, _) => Ok(type_of_keyword(*keyword)),
+        Expr::Number(_) => Ok(Ty::Number),
+        Expr::Text(_) => Ok(Ty::String),
+        Expr::Name(word) => named(alloc, scope, word, out),
+        Expr::Group(inner, _, _) => {
+            let ty = expression(alloc, scope, safe, inner, out)?;
+            Ok(ty)
+        }
+        Expr::Not(_, operand) => {
+            let _ty = expression(alloc, scope, true, operand, out)?;
+            Ok(Ty::Bool)
+        }
+        Expr::Call(name, arguments, _) => {
+            let function = Function::named(name.text.as_str());
+            let tested = is_tested(safe, function);
+            let given = typed_arguments(alloc, scope, tested, arguments, out)?;
+            let ty = called(alloc, scope, name, function, arguments, &given, out)?;
+            Ok(ty)
+        }
+        Expr::Path(base, steps) => {
+            let start = base_type(alloc, scope, safe, base, out)?;
+            let ty = walk(alloc, scope, safe, steps, start, out)?;
+            check_untrusted(alloc, is_exposed(scope, safe), base, steps, out)?;
+            Ok(ty)
+        }
+        Expr::Chain(first, operands) => {
+            let compared = is_compared(safe, operands);
+            let start = expression(alloc, scope, compared, first, out)?;
+            let ty = operations(alloc, scope, compared, operands, start, out)?;
+            Ok(ty)
+        }
+    }
+}
+
+fn is_tested(safe: bool, function: Option<Function>) -> bool
+    ensures { result ≡ (safe || meaning.is_test function) }
+{
+    safe || is_test(function)
+}
+
+fn is_compared(safe: bool, operands: &[Operand]) -> bool
+    ensures { result ≡ (safe || not (begins_logic (operands_of (map operand_of operands.now)))) }
+{
+    safe || !begins_logic(operands)
+}
+
+fn is_exposed(scope: &Scope, safe: bool) -> bool
+    ensures { result ≡ ((scope_of scope.now).in_run && not safe) }
+{
+    scope.in_run && !safe
+}
+
+#[tactic(auto, using(crate::proofs::Growing::growth, crate::proofs::TypedSteps::typing))]
+fn named(alloc: Global, scope: &Scope, word: &Word, out: &mut Vec<Fault>) -> Result<Ty, AllocError>
+    ensures ok { IfOk result (λ t. typed (ty_of t) out.new.items ≡ behind out.old.items (meaning.named (scope_of scope.now) (string_bytes word.now.text) word.now.span (context_of (string_bytes word.now.text)))) }
+    ensures begins { BeginsWith out.new.items out.old.items }
+{
+    let name = word.text.as_str();
+    let code = match Context::named(name) {
+        Some(context) => {
+            if scope.contexts.contains(context) {
+                return copy(alloc, scope.types.get(context));
+            }
+            Expression::UnavailableContext
+        }
+        None => Expression::UndefinedContext,
+    };
+    report_text(alloc, out, code, word.span, name)?;
+    Ok(Ty::Any)
+}
+
+// A type, which may be a context's and large, so that it is better read where it stands.
+#[derive(Drop)]
+enum Found<'s> {
+    Lent(&'s Ty),
+    Owned(Ty),
+}
+
+impl<'s> Found<'s> {
+    fn get(&self) -> &Ty
+        ensures { ty_of result.now ≡ found_type self.now }
+    {
+        match self {
+            Found::Lent(ty) => ty,
+            Found::Owned(ty) => ty,
+        }
+    }
+
+    fn into_ty(self, alloc: Global) -> Result<Ty, AllocError>
+        ensures { IfOk result (λ t. ty_of t ≡ found_type self.entry) }
+    {
+        match self {
+            Found::Lent(ty) => copy(alloc, ty),
+            Found::Owned(ty) => Ok(ty),
+        }
+    }
+}
+
+// The type of a path's base.
+#[tactic(auto, using(crate::proofs::Growing::growth, crate::proofs::TypedSteps::typing))]
+#[cycle(typing)]
+fn base_type<'s>(
+    alloc: Global,
+    scope: &'s Scope,
+    safe: bool,
+    base: &Expr,
+    out: &mut Vec<Fault>,
+) -> Result<Found<'s>, AllocError>
+    ensures ok { IfOk result (λ f. typed (found_type f) out.new.items ≡ behind out.old.items (meaning.meaning (scope_of scope.now) safe (tree_of base.now))) }
+    ensures begins { BeginsWith out.new.items out.old.items }
+{
+    match available_context(scope, base) {
+        Some(ty) => Ok(Found::Lent(ty)),
+        None => {
+            let ty = expression(alloc, scope, safe, base, out)?;
+            Ok(Found::Owned(ty))
+        }
+    }
+}
+
+// The type of the context that an expression names, where it is available.
+fn available_context<'s>(scope: &'s Scope, expr: &Expr) -> Option<&'s Ty>
+    ensures { MatchOption result (Unit {0}) (λ t. (safe : Bool) → meaning.meaning (scope_of scope.now) safe (tree_of expr.now) ≡ typed (ty_of t.now) []) }
+{
+    let Expr::Name(word) = expr else {
+        return None;
+    };
+    let name = word.text.as_str();
+    let found = Context::named(name);
+    let Some(context) = found else {
+        return None;
+    };
+    if !scope.contexts.contains(context) {
+        return None;
+    }
+    let ty = scope.types.get(context);
+    Some(ty)
+}
+
+// The type behind the steps of a path, from the type before them.
+#[tactic(auto, using(crate::proofs::Growing::growth, crate::proofs::TypedSteps::typing))]
+#[cycle(typing)]
+fn walk<'s>(
+    alloc: Global,
+    scope: &Scope,
+    safe: bool,
+    steps: &[Step],
+    start: Found<'s>,
+    out: &mut Vec<Fault>,
+) -> Result<Ty, AllocError>
+    ensures ok { IfOk result (λ t. typed (ty_of t) out.new.items ≡ behind out.old.items (walked (scope_of scope.now) safe (steps_of (map step_of steps.now)) (found_type start.entry))) }
+    ensures begins { BeginsWith out.new.items out.old.items }
+{
+    let mut here = start;
+    for step in steps {
+        let next = step_from(alloc, scope, safe, step, here.get(), out)?;
+        here = Found::Owned(next);
+    }
+    let ty = here.into_ty(alloc)?;
+    Ok(ty)
+}
+
+#[tactic(auto, using(crate::proofs::Growing::growth, crate::proofs::TypedSteps::typing, al_grammar::proofs::TreeViews::step_views))]
+#[cycle(typing)]
+fn step_from(
+    alloc: Global,
+    scope: &Scope,
+    safe: bool,
+    step: &Step,
+    ty: &Ty,
+    out: &mut Vec<Fault>,
+) -> Result<Ty, AllocError>
+    ensures ok { IfOk result (λ t. typed (ty_of t) out.new.items ≡ behind out.old.items (stepped (scope_of scope.now) safe (step_of step.now) (ty_of ty.now))) }
+    ensures begins { BeginsWith out.new.items out.old.items }
+{
+    match step {
+        Step::Property(dot, name) => {
+            property(
+                alloc,
+                ty,
+                name.text.as_str(),
+                name.span,
+                across(*dot, name.span),
+                out,
+            )
+        }
+        Step::All(first, last) => all(alloc, ty, across(*first, *last), out),
+        Step::Index(open, index, close) => {
+            let whole = across(*open, *close);
+            let literal = literal_text(alloc, index)?;
+            match literal {
+                Some(name) => property(alloc, ty, name.value.as_str(), name.span, whole, out),
+                None => {
+                    let by = expression(alloc, scope, safe, index, out)?;
+                    let of = element(alloc, ty, &by, whole, out)?;
+                    Ok(of)
+                }
+            }
+        }
+    }
+}
+
+// The type of the operators of one level and their operands, from the type of the first operand.
+#[tactic(auto, using(crate::proofs::Growing::growth, crate::proofs::TypedSteps::typing))]
+#[cycle(typing)]
+fn operations(
+    alloc: Global,
+    scope: &Scope,
+    safe: bool,
+    operands: &[Operand],
+    start: Ty,
+    out: &mut Vec<Fault>,
+) -> Result<Ty, AllocError>
+    ensures ok { IfOk result (λ t. typed (ty_of t) out.new.items ≡ behind out.old.items (chained (scope_of scope.now) safe (operands_of (map operand_of operands.now)) (ty_of start))) }
+    ensures begins { BeginsWith out.new.items out.old.items }
+{
+    let mut ty = start;
+    for operand in operands {
+        let other = expression(alloc, scope, safe, &operand.expr, out)?;
+        ty = operation(alloc, operand.operator, operand.at, &ty, &other, out)?;
+    }
+    Ok(ty)
+}
+
+#[tactic(auto, using(crate::proofs::Growing::growth, crate::proofs::TypedSteps::typing))]
+fn operation(
+    alloc: Global,
+    operator: Operator,
+    at: Span,
+    a: &Ty,
+    b: &Ty,
+    out: &mut Vec<Fault>,
+) -> Result<Ty, AllocError>
+    ensures ok { IfOk result (λ t. typed (ty_of t) out.new.items ≡ behind out.old.items (operated operator at (ty_of a.now) (ty_of b.now))) }
+    ensures begins { BeginsWith out.new.items out.old.items }
+{
+    if is_logic(operator) {
+        let ty = fuse(alloc, a, b)?;
+        return Ok(ty);
+    }
+    if !comparable(operator, a, b) {
+        report_plain(alloc, out, Expression::NotComparable, at)?;
+    }
+    Ok(Ty::Bool)
+}
+
+fn is_logic(operator: Operator) -> bool
+    ensures { result ≡ is_logic operator }
+{
+    match operator {
+        Operator::Or => true,
+        Operator::And => true,
+        Operator::Equal => false,
+        Operator::NotEqual => false,
+        Operator::Less => false,
+        Operator::LessEqual => false,
+        Operator::Greater => false,
+        Operator::GreaterEqual => false,
+    }
+}
+
+// All operators of a level are of one kind, so the first tells.
+#[tactic(auto, using(al_grammar::proofs::TreeViews::operand_view))]
+fn begins_logic(operands: &[Operand]) -> bool
+    ensures { result ≡ begins_logic (operands_of (map operand_of operands.now)) }
+{
+    match operands {
+        [first, ..] => is_logic(first.operator),
+        [] => false,
+    }
+}
+
+// The types and places of arguments.
+#[tactic(auto, using(crate::proofs::Growing::growth))]
+#[cycle(typing)]
+fn typed_arguments(
+    alloc: Global,
+    scope: &Scope,
+    safe: bool,
+    exprs: &[Expr],
+    out: &mut Vec<Fault>,
+) -> Result<Vec<Argument>, AllocError>
+    ensures ok { IfOk result (λ v. all_typed (map argument_of v.items) out.new.items ≡ all_behind [] out.old.items (meanings (scope_of scope.now) safe (arguments_of (map tree_of exprs.now)))) }
+    ensures begins { BeginsWith out.new.items out.old.items }
+{
+    let mut arguments = Vec::new(alloc);
+    for expr in exprs {
+        let ty = expression(alloc, scope, safe, expr, out)?;
+        arguments.push(Argument {
+            ty,
+            span: extent(expr),
+        })?;
+    }
+    Ok(arguments)
+}
+
+// Adds the fault of a path that is an untrusted chain, where its text could do harm.
+#[tactic(auto, using(crate::proofs::Growing::growth, crate::proofs::Paths::parts))]
+fn check_untrusted(
+    alloc: Global,
+    exposed: bool,
+    base: &Expr,
+    steps: &[Step],
+    out: &mut Vec<Fault>,
+) -> Result<(), AllocError>
+    ensures ok { OnOk result (out.new.items ≡ out.old.items ++ untrusted exposed (tree_of base.now) (steps_of (map step_of steps.now))) }
+    ensures begins { BeginsWith out.new.items out.old.items }
+{
+    if !exposed {
+        return Ok(());
+    }
+    let Some(name) = base_name(base) else {
+        return Ok(());
+    };
+    let chain = untrusted_chain(alloc, name, steps)?;
+    match chain {
+        Some(chain) => {
+            report_text(
+                alloc,
+                out,
+                Expression::Untrusted,
+                path_extent(base, steps),
+                chain.as_str(),
+            )
+        }
+        None => Ok(()),
+    }
+}
+
+// The name that a path begins with: a bracket ends a chain.
+#[tactic(auto, using(al_grammar::proofs::TreeViews::tree_views))]
+fn base_name(base: &Expr) -> Option<&str>
+    ensures { option_map (λ n. n.now) result ≡ base_name (tree_of base.now) }
+{
+    match base {
+        Expr::Name(word) => Some(word.text.as_str()),
+        Expr::Keyword(_, _) => None,
+        Expr::Number(_) => None,
+        Expr::Text(_) => None,
+        Expr::Call(_, _, _) => None,
+        Expr::Group(_, _, _) => None,
+        Expr::Not(_, _) => None,
+        Expr::Path(_, _) => None,
+        Expr::Chain(_, _) => None,
+    }
+}

@@ -1,0 +1,4 @@
+pub mod TypeForms
+pub mod TypeFields
+pub mod SameName
+pub mod Fused

@@ -1,0 +1,5 @@
+pub mod Names
+pub mod Types
+pub mod TypeViews
+pub mod Signatures
+pub mod Scopes

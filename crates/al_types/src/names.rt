@@ -1,0 +1,154 @@
+ghost use Rattle.std.specs.Prelude.{◌≡◌};
+ghost use Rattle.al_types.specs.Names.{same_name, context_name, function_name, first_named};
+ghost use Rattle.al_types.specs.Names as names;
+
+/// A context of GitHub Actions, such as `github` or `steps`.
+#[derive(Clone, Copy, PartialEq, Eq, Debug)]
+pub enum Context {
+    Github,
+    Env,
+    Vars,
+    Secrets,
+    Runner,
+    Job,
+    Strategy,
+    Needs,
+    Jobs,
+    Steps,
+    Matrix,
+    Inputs,
+}
+
+/// A function that an expression can call, such as `contains`.
+#[derive(Clone, Copy, PartialEq, Eq, Debug)]
+pub enum Function {
+    Contains,
+    StartsWith,
+    EndsWith,
+    Format,
+    Join,
+    ToJson,
+    FromJson,
+    HashFiles,
+    Success,
+    Always,
+    Cancelled,
+    Failure,
+}
+
+const CONTEXTS: [Context; 12] = [
+    Context::Github,
+    Context::Env,
+    Context::Vars,
+    Context::Secrets,
+    Context::Runner,
+    Context::Job,
+    Context::Strategy,
+    Context::Needs,
+    Context::Jobs,
+    Context::Steps,
+    Context::Matrix,
+    Context::Inputs,
+];
+
+const FUNCTIONS: [Function; 12] = [
+    Function::Contains,
+    Function::StartsWith,
+    Function::EndsWith,
+    Function::Format,
+    Function::Join,
+    Function::ToJson,
+    Function::FromJson,
+    Function::HashFiles,
+    Function::Success,
+    Function::Always,
+    Function::Cancelled,
+    Function::Failure,
+];
+
+impl Context {
+    /// The context's name as GitHub writes it.
+    pub fn name(self) -> &'static str
+        ensures { result.now ≡ context_name self }
+    {
+        match self {
+            Context::Github => "github",
+            Context::Env => "env",
+            Context::Vars => "vars",
+            Context::Secrets => "secrets",
+            Context::Runner => "runner",
+            Context::Job => "job",
+            Context::Strategy => "strategy",
+            Context::Needs => "needs",
+            Context::Jobs => "jobs",
+            Context::Steps => "steps",
+            Context::Matrix => "matrix",
+            Context::Inputs => "inputs",
+        }
+    }
+
+    /// The context of a name, in any ASCII case.
+    pub fn named(name: &str) -> Option<Context>
+        ensures { result ≡ names.context_of name.now }
+    {
+        context_among(&CONTEXTS, name)
+    }
+}
+
+impl Function {
+    /// The function's name as GitHub writes it.
+    pub fn name(self) -> &'static str
+        ensures { result.now ≡ function_name self }
+    {
+        match self {
+            Function::Contains => "contains",
+            Function::StartsWith => "startsWith",
+            Function::EndsWith => "endsWith",
+            Function::Format => "format",
+            Function::Join => "join",
+            Function::ToJson => "toJSON",
+            Function::FromJson => "fromJSON",
+            Function::HashFiles => "hashFiles",
+            Function::Success => "success",
+            Function::Always => "always",
+            Function::Cancelled => "cancelled",
+            Function::Failure => "failure",
+        }
+    }
+
+    /// The function of a name, in any ASCII case.
+    pub fn named(name: &str) -> Option<Function>
+        ensures { result ≡ names.function_of name.now }
+    {
+        function_among(&FUNCTIONS, name)
+    }
+}
+
+fn context_among(contexts: &[Context], name: &str) -> Option<Context>
+    ensures { result ≡ first_named context_name name.now contexts.now }
+{
+    for context in contexts {
+        if is_same_name(context.name(), name) {
+            return Some(*context);
+        }
+    }
+    None
+}
+
+fn function_among(functions: &[Function], name: &str) -> Option<Function>
+    ensures { result ≡ first_named function_name name.now functions.now }
+{
+    for function in functions {
+        if is_same_name(function.name(), name) {
+            return Some(*function);
+        }
+    }
+    None
+}
+
+/// Whether two names are the same, but for ASCII case.
+pub fn is_same_name(a: &str, b: &str) -> bool
+    ensures { result ≡ same_name a.now b.now }
+{
+    a.eq_ignore_ascii_case(b)
+}

@@ -1,0 +1,156 @@
+ghost use Rattle.std.specs.Prelude.{◌≡◌, option_map};
+ghost use Rattle.al_types.specs.Names.{function_of};
+ghost use Rattle.al_types.specs.Signatures.{signature, takes, wanted, accepts, returned_type};
+ghost use Rattle.al_types.specs.TypeViews.{ty_of};
+
+use crate::names::Function;
+use crate::relations::assignable;
+use crate::types::{Form, Ty};
+
+/// What an argument of a function may be.
+#[derive(Clone, Copy, PartialEq, Eq, Debug)]
+pub enum Wanted {
+    Any,
+    /// Anything but an object.
+    NotObject,
+    /// Anything but an array or an object.
+    NotCollection,
+    /// What can be assigned to a string.
+    String,
+    /// An array, or what can be assigned to a string.
+    ArrayOrString,
+}
+
+/// How many arguments a function takes, and what they may be.
+#[derive(Clone, Copy, PartialEq, Eq, Debug)]
+pub enum Parameters {
+    Zero,
+    One(Wanted),
+    Two(Wanted, Wanted),
+    /// The second may be left out.
+    OneOrTwo(Wanted, Wanted),
+    /// Any number of further arguments, each of which may be the second.
+    OneOrMore(Wanted, Wanted),
+}
+
+/// What a function returns.
+#[derive(Clone, Copy, PartialEq, Eq, Debug)]
+pub enum Returned {
+    Any,
+    Bool,
+    String,
+}
+
+/// What a function takes and returns.
+#[derive(Clone, Copy, PartialEq, Eq, Debug)]
+pub struct Signature {
+    pub parameters: Parameters,
+    pub returned: Returned,
+}
+
+/// The signature of the function of a name, in any ASCII case: none where there is no such function.
+pub fn signature_of(name: &str) -> Option<Signature>
+    ensures { result ≡ option_map signature (function_of name.now) }
+{
+    match Function::named(name) {
+        Some(function) => Some(function.signature()),
+        None => None,
+    }
+}
+
+impl Function {
+    /// What the function takes and returns.
+    pub fn signature(self) -> Signature
+        ensures { result ≡ signature self }
+    {
+        let (parameters, returned) = match self {
+            Function::Contains => (
+                Parameters::Two(Wanted::NotObject, Wanted::NotCollection),
+                Returned::Bool,
+            ),
+            Function::StartsWith | Function::EndsWith => {
+                (
+                    Parameters::Two(Wanted::String, Wanted::String),
+                    Returned::Bool,
+                )
+            }
+            Function::Format => (
+                Parameters::OneOrMore(Wanted::String, Wanted::Any),
+                Returned::String,
+            ),
+            Function::Join => (
+                Parameters::OneOrTwo(Wanted::ArrayOrString, Wanted::String),
+                Returned::String,
+            ),
+            Function::ToJson => (Parameters::One(Wanted::Any), Returned::String),
+            Function::FromJson => (Parameters::One(Wanted::String), Returned::Any),
+            Function::HashFiles => (
+                Parameters::OneOrMore(Wanted::String, Wanted::String),
+                Returned::String,
+            ),
+            Function::Success | Function::Always | Function::Cancelled | Function::Failure => {
+                (Parameters::Zero, Returned::Bool)
+            }
+        };
+        Signature {
+            parameters,
+            returned,
+        }
+    }
+}
+
+impl Parameters {
+    /// Whether a call may have so many arguments.
+    pub fn takes(self, count: usize) -> bool
+        ensures { result ≡ takes self count }
+    {
+        match self {
+            Parameters::Zero => count == 0,
+            Parameters::One(_) => count == 1,
+            Parameters::Two(_, _) => count == 2,
+            Parameters::OneOrTwo(_, _) => count == 1 || count == 2,
+            Parameters::OneOrMore(_, _) => count != 0,
+        }
+    }
+
+    /// What the argument of an index, counted from 0, may be.
+    pub fn wanted(self, index: usize) -> Wanted
+        ensures { result ≡ wanted self index }
+    {
+        match self {
+            Parameters::Zero => Wanted::Any,
+            Parameters::One(first) => first,
+            Parameters::Two(first, more)
+            | Parameters::OneOrTwo(first, more)
+            | Parameters::OneOrMore(first, more) => if index == 0 { first } else { more },
+        }
+    }
+}
+
+impl Wanted {
+    /// Whether a value of this type may be the argument.
+    pub fn accepts(self, ty: &Ty) -> bool
+        ensures { result ≡ accepts self (ty_of ty.now) }
+    {
+        match self {
+            Wanted::Any => true,
+            Wanted::NotObject => ty.form() != Form::Object,
+            Wanted::NotCollection => !ty.is_collection(),
+            Wanted::String => assignable(ty, &Ty::String),
+            Wanted::ArrayOrString => ty.form() == Form::Array || assignable(ty, &Ty::String),
+        }
+    }
+}
+
+impl Returned {
+    /// The type of what is returned.
+    pub fn ty(self) -> Ty
+        ensures { ty_of result ≡ returned_type self }
+    {
+        match self {
+            Returned::Any => Ty::Any,
+            Returned::Bool => Ty::Bool,
+            Returned::String => Ty::String,
+        }
+    }
+}
