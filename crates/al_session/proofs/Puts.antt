@@ -5,13 +5,14 @@ use Rattle.std.specs.declared.cmp.Ordering.TheVariants.{Less}
 use Rattle.std.specs.Cmp.Lexicographic.{slice_cmp}
 use Rattle.std.specs.List.{insert, remove, AllByRecursion}
 use Rattle.std.proofs.lemmas.List.{map-set, set-set, set-get_or}
+use Rattle.std.proofs.lemmas.List.Elements.{All-from_recursion}
 use Rattle.al_session.specs.Meaning.{Meaning, IsUpTo}
 use Rattle.al_session.specs.Folder.{Folder, with_file, without_file, paths_of, faults_in, faults_at, bytes_at, answers}
 use Rattle.al_text.specs.Spans.{LiesIn}
 use Rattle.al_session.specs.Place.{place_of}
 use Rattle.al_session.specs.Kept.{folder_of, entry_of, IsKept, AllKept, AreLinted, kept_faults, faults_of_all}
 use Rattle.al_session.specs.declared.kept.KeptFile.{KeptFile}
-use Rattle.al_session.proofs.Places.{found, gap, length-folder_of, sorted_put, found_within}
+use Rattle.al_session.proofs.Places.{found, file_is, gap, length-folder_of, sorted_put, found_within}
 use Rattle.std.specs.Option.{option_map, unwrap_or}
 use Rattle.std.proofs.lemmas.Option.{slice_get-map, slice_get-get_or}
 use Rattle.al_text.specs.declared.faults.Fault.{Fault}
@@ -126,10 +127,25 @@ module _ {A : Type 0} where
 
 -- the faults of a file lie in it
 pub spans_inside : {I : Type 0} (m : Meaning I) (f : Folder) (p b : List ℕ) (faults : List Fault)
-    → ((p b : List ℕ) (given : List (Option I)) → AllByRecursion (λ (fault : Fault). LiesIn (length b) fault.span) (m.faults p b given))
+    → ((given : List (Option I)) → AllByRecursion (λ (fault : Fault). LiesIn (length b) fault.span) (m.faults p b given))
     → bytes_at f p ≡ Some b → Some faults ≡ faults_at m f p → AllByRecursion (λ (fault : Fault). LiesIn (length b) fault.span) faults
 unfolding faults_in
 spans_inside m f p b faults law there value =
     let P : List Fault → Type 0 = λ l. AllByRecursion (λ (fault : Fault). LiesIn (length b) fault.span) l in
     let same : Some faults ≡ Some (faults_in m f p b) = value ∙ ap (option_map (faults_in m f p)) there in
-    subst P (sym (ap (λ o. unwrap_or o faults) same)) (law p b (answers m f p b))
+    subst P (sym (ap (λ o. unwrap_or o faults) same)) (law (answers m f p b))
+
+-- the file that was found was read, so its faults lie in it
+pub read_inside : {U I : Type 0} (m : Meaning I) (is_unit : U → List ℕ → List ℕ → Type 0) (files : List (KeptFile U I)) (p b : List ℕ) (i : ℕ) (d : KeptFile U I)
+    → place_of (paths_of (folder_of files)) p ≡ Ok i → AllKept m is_unit files
+    → ((unit : U) (p b : List ℕ) (given : List (Option I)) → is_unit unit p b → AllByRecursion (λ (fault : Fault). LiesIn (length b) fault.span) (m.faults p b given))
+    → bytes_at (folder_of files) p ≡ Some b
+    → (given : List (Option I)) → AllByRecursion (λ (fault : Fault). LiesIn (length b) fault.span) (m.faults p b given)
+read_inside m is_unit files p b i d is kept law there given =
+    let file = get_or files i d in
+    let h : IsKept m is_unit file = All-from_recursion (IsKept m is_unit) files kept i d (found_within files p i is) in
+    let f = file_is files p i is d in
+    let same : Some b ≡ Some file.bytes.items = sym there ∙ f.1 in
+    let bytes : b ≡ file.bytes.items = ap (λ o. unwrap_or o b) same in
+    let u : is_unit file.unit p file.bytes.items = subst (λ q. is_unit file.unit q file.bytes.items) f.0 h.unit in
+    law file.unit p b given (subst (is_unit file.unit p) (sym bytes) u)

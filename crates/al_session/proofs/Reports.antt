@@ -36,13 +36,13 @@ module _ {U I : Type 0} (m : Meaning I) (f : Folder) where
       rw (first, rest) refl
 
   pub printable : (is_unit : U → List ℕ → List ℕ → Type 0) (files : List (KeptFile U I))
-      → ((p b : List ℕ) (given : List (Option I)) → AllByRecursion (λ (fault : Fault). LiesIn (length b) fault.span) (m.faults p b given))
+      → ((unit : U) (p b : List ℕ) (given : List (Option I)) → is_unit unit p b → AllByRecursion (λ (fault : Fault). LiesIn (length b) fault.span) (m.faults p b given))
       → AllKept m is_unit files → kept_faults files ≡ faults_of_all m f (folder_of files) → AllByRecursion IsPrintable files
   unfolding faults_in
   printable is_unit [] law kept h = tt
   printable is_unit (file ∷ files) law kept h =
       let P : List Fault → Type 0 = λ l. AllByRecursion (λ (fault : Fault). LiesIn (length file.bytes.items) fault.span) l in
-      let first : P file.faults.items = subst P (sym (first_faults file files h)) (law file.path file.bytes.items (answers m f file.path file.bytes.items)) in
+      let first : P file.faults.items = subst P (sym (first_faults file files h)) (law file.unit file.path file.bytes.items (answers m f file.path file.bytes.items) kept.0.unit) in
       (record { small = kept.0.small; lines = kept.0.lines; inside = first }, printable is_unit files law kept.1 (rest_faults file files h))
 
 module _ {U I : Type 0} (m : Meaning I) (files : List (KeptFile U I)) (faults : kept_faults files ≡ faults_of_all m (folder_of files) (folder_of files)) where

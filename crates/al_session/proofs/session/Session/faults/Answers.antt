@@ -3,7 +3,7 @@ use Rattle.al_session.specs.Kept.{folder_of}
 use Rattle.al_session.specs.Folder.{bytes_at, faults_at, faults_in}
 use Rattle.std.specs.Option.{option_map}
 use Rattle.al_session.proofs.Places.{found_within, file_is, absent}
-use Rattle.al_session.proofs.Puts.{faults_found, spans_inside}
+use Rattle.al_session.proofs.Puts.{faults_found, read_inside, spans_inside}
 use Rattle.al_session.proofs.session.Session.faults.Goals as goal
 
 pub index-requires : goal.index-requires
@@ -25,4 +25,5 @@ pub returns-in-Ok-clause-spans : goal.returns-in-Ok-clause-spans
 returns-in-Ok-clause-spans g c =
     let is = sym (rw c.deref.ensures.value at c.place.ensures) ∙ c.in-Ok.is in
     let value = ap Some (c.as_slice.ensures.value ∙ ap (λ h. h.faults.items) c.index.ensures) ∙ faults_found g.L.Lint.meaning c.self.inside.files.items c.args.path.now c.in-Ok.index c.index.result.now is c.self.invariant.faults in
-    rw (← c.self.view_is) (λ b there. spans_inside g.L.Lint.meaning (folder_of c.self.inside.files.items) c.args.path.now b c.as_slice.result.now g.met.L.Lint.inside there value)
+    rw (← c.self.view_is) (λ b there. spans_inside g.L.Lint.meaning (folder_of c.self.inside.files.items) c.args.path.now b c.as_slice.result.now
+    (read_inside g.L.Lint.meaning g.L.Lint.is_unit c.self.inside.files.items c.args.path.now b c.in-Ok.index c.index.result.now is c.self.invariant.kept g.met.L.Lint.inside there) there value)
