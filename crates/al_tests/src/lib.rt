@@ -9,3 +9,5 @@ mod fakes;
 mod scripts;
 #[cfg(test)]
 mod texts;
+#[cfg(test)]
+mod trees;
