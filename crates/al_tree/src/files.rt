@@ -1,14 +1,14 @@
 ghost use Rattle.al_shape.specs.Faults.{root_faults};
 ghost use Rattle.al_shape.specs.Growth.{SameSet};
 ghost use Rattle.al_shape.specs.declared.table.Shape.TheVariants.{Action as ActionShape, Workflow as WorkflowShape};
-ghost use Rattle.al_tree.specs.Files.{shape_of};
+ghost use Rattle.al_tree.specs.Files.{key_faults, shape_of};
 ghost use Rattle.al_yaml.specs.View.{view};
 ghost use Rattle.std.specs.Prelude.{◌≡◌, IfOk};
 
 use crate::action::Action;
 use crate::workflow::Workflow;
 use al_shape::{Shape, shape_faults};
-use al_text::Fault;
+use al_text::{Fault, ordered};
 use al_yaml::Doc;
 use std::alloc::{AllocError, Global};
 
@@ -52,4 +52,24 @@ pub fn read_action(alloc: Global, doc: Doc) -> Result<(Action, Vec<Fault>), Allo
 {
     let faults = shape_faults(alloc, Shape::Action, &doc.root)?;
     Ok((Action { root: doc.root }, faults))
+}
+
+/// The section that a file's root should be.
+fn root_shape(kind: FileKind) -> Shape
+    ensures { result ≡ shape_of kind }
+{
+    match kind {
+        FileKind::Workflow => Shape::Workflow,
+        FileKind::Action => Shape::Action,
+    }
+}
+
+/// What in a document breaks the syntax of workflows or of actions: the faults of its keys and values in the order of
+/// reports, each once.
+///
+/// Fails with `AllocError` for want of memory.
+pub fn document_faults(alloc: Global, kind: FileKind, doc: &Doc) -> Result<Vec<Fault>, AllocError>
+    ensures { IfOk result (λ found. found.items ≡ key_faults kind (view doc.now.root)) }
+{
+    Ok(ordered(shape_faults(alloc, root_shape(kind), &doc.root)?))
 }

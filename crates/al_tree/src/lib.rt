@@ -20,7 +20,7 @@ pub use al_shape::{
 };
 pub use containers::Container;
 pub use events::{Declared, Event, Schedule};
-pub use files::{FileKind, Tree, read_action, read_workflow};
+pub use files::{FileKind, Tree, document_faults, read_action, read_workflow};
 pub use jobs::{Job, RunsOn, Strategy};
 pub use settings::{Concurrency, default_shell, default_working_directory};
 pub use steps::Step;
