@@ -3,6 +3,9 @@
 A section of the page is a fault: its heading has the fault's identifier and its message, and it has at least two examples, a
 file and the report of that file as the only one of a folder. The first example's report must have a line with the message,
 the last one's must have none. Each example becomes a script and its output.
+
+In a file marked `yaml escaped`, `\\xHH` stands for the byte with that hexadecimal value, and `\\*N{TEXT}` for TEXT written N
+times.
 """
 
 import pathlib
@@ -10,7 +13,8 @@ import re
 import sys
 
 PATH = ".github/workflows/a.yml"
-EXAMPLE = re.compile(r"```yaml\n(.*?)```\n\s*```text\n(.*?)```", re.DOTALL)
+EXAMPLE = re.compile(r"```yaml( escaped)?\n(.*?)```\n\s*```text\n(.*?)```", re.DOTALL)
+ESCAPE = re.compile(rb"\\x([0-9a-f]{2})|\\\*([0-9]+)\{([^}]*)\}")
 SECTION = re.compile(r"^### ([A-Z][0-9]+) `(.*)`$", re.MULTILINE)
 
 
@@ -19,9 +23,16 @@ def message_pattern(message):
     return re.compile(": " + ".*".join(re.escape(part) for part in re.split(r"\{[01]\}", message)) + r" \[")
 
 
-def script_and_output(file, report):
+def unescaped(match):
+    """The bytes that an escape stands for."""
+    value, count, text = match.groups()
+    return bytes([int(value, 16)]) if value else text * int(count)
+
+
+def script_and_output(escaped, file, report):
     """The script that puts the file and reports, and what it must print."""
-    script = f"put {PATH} {len(file.encode())}\n{file}\nreport\n"
+    data = ESCAPE.sub(unescaped, file.encode()) if escaped else file.encode()
+    script = f"put {PATH} {len(data)}\n".encode() + data + b"\nreport\n"
     return script, f"ok 1\n{report}status {1 if report else 0}\n"
 
 
@@ -36,11 +47,11 @@ def main(page, folder):
     for name, message, body in sections:
         examples = EXAMPLE.findall(body)
         pattern = message_pattern(message)
-        if len(examples) < 2 or not pattern.search(examples[0][1]) or pattern.search(examples[-1][1]):
+        if len(examples) < 2 or not pattern.search(examples[0][2]) or pattern.search(examples[-1][2]):
             sys.exit(f"{page}: {name} needs an example that gives it first, and one that doesn't last")
-        for number, (file, report) in enumerate(examples, start=1):
-            script, output = script_and_output(file, report)
-            (out / f"{name}-{number}").write_text(script)
+        for number, example in enumerate(examples, start=1):
+            script, output = script_and_output(*example)
+            (out / f"{name}-{number}").write_bytes(script)
             (out / f"{name}-{number}.stdout").write_text(output)
 
 

@@ -7,7 +7,7 @@ use lib.Ieee.Fits.{and_l, and_r}
 use Rattle.std.specs.Fmt.{decimal}
 use Rattle.std.proofs.lemmas.Fmt.{decimal_injective, decimal_by_steps}
 use Rattle.std.proofs.lemmas.List.Elements.{All-tail, All-append, All-cons, All-nil}
-use Rattle.al_cli.specs.Script.{Command, Put, Report, Line, PutLine, ReportLine, IsLine, line_bytes, line_of, body_of, HasNoBreak, command_bytes, IsCommand, IsWrong, BeginsWithCommand}
+use Rattle.al_cli.specs.Script.{Command, Put, Delete, Report, Line, PutLine, DeleteLine, ReportLine, IsLine, line_bytes, line_of, body_of, HasNoBreak, command_bytes, IsCommand, IsWrong, BeginsWithCommand}
 
 -- the first k of a list splits it in one way
 pub first_unique : (k : ℕ) (xs ys u v : List ℕ) → All (λ b. b ≢ k) xs → All (λ b. b ≢ k) ys → xs ++ k ∷ u ≡ ys ++ k ∷ v → (xs ≡ ys) × (u ≡ v)
@@ -65,6 +65,7 @@ line_unbroken (PutLine path len) l =
     let digits : HasNoBreak (decimal len) = digits_without 10 len (omega arith) (let h : len < 10 ^ 7 = l.words.1 in omega arith) in
     All-append (λ b. b ≢ 10) ((codes "put " ++ path) ++ codes " ") (decimal len)
     (All-append (λ b. b ≢ 10) (codes "put " ++ path) (codes " ") (All-append (λ b. b ≢ 10) (codes "put ") path (unbroken (codes "put ") tt) l.words.0.one_line) (unbroken (codes " ") tt)) digits
+line_unbroken (DeleteLine path) l = All-append (λ b. b ≢ 10) (codes "delete ") path (unbroken (codes "delete ") tt) l.words.one_line
 line_unbroken ReportLine l = unbroken (codes "report") tt
 
 first_byte : (xs ys : List ℕ) → xs ≡ ys → get_or xs 0 0 ≡ get_or ys 0 0
@@ -80,8 +81,13 @@ line_unique (PutLine p n) (PutLine q m) a b e =
     let x : p ≡ q = s.0 in
     let y : n ≡ m = decimal_injective n m hn hm s.1 in
     cc
+line_unique (PutLine p n) (DeleteLine q) a b e = absurd (let h : 112 ≡ 100 = first_byte _ _ e in omega arith)
 line_unique (PutLine p n) ReportLine a b e = absurd (let h : 112 ≡ 114 = first_byte _ _ e in omega arith)
+line_unique (DeleteLine p) (PutLine q m) a b e = absurd (let h : 100 ≡ 112 = first_byte _ _ e in omega arith)
+line_unique (DeleteLine p) (DeleteLine q) a b e = ap DeleteLine (ap (drop 7) e)
+line_unique (DeleteLine p) ReportLine a b e = absurd (let h : 100 ≡ 114 = first_byte _ _ e in omega arith)
 line_unique ReportLine (PutLine q m) a b e = absurd (let h : 114 ≡ 112 = first_byte _ _ e in omega arith)
+line_unique ReportLine (DeleteLine q) a b e = absurd (let h : 114 ≡ 100 = first_byte _ _ e in omega arith)
 line_unique ReportLine ReportLine a b e = refl
 
 same_front : (a b x y : List ℕ) → length a ≡ length b → a ++ x ≡ b ++ y → (a ≡ b) × (x ≡ y)
@@ -102,8 +108,13 @@ body_unique (Put p b) (Put q a) x y l e =
     let s = same_front (b ++ 10 ∷ []) (a ++ 10 ∷ []) x y m e in
     let t = same_front b a (10 ∷ []) (10 ∷ []) n s.0 in
     let f : b ≡ a = t.0 in (cc, s.1)
+body_unique (Put p b) (Delete q) x y l e = absurd cc
 body_unique (Put p b) Report x y l e = absurd cc
+body_unique (Delete p) (Put q a) x y l e = absurd cc
+body_unique (Delete p) (Delete q) x y l e = let f : p ≡ q = cc in (ap Delete f, e)
+body_unique (Delete p) Report x y l e = absurd cc
 body_unique Report (Put q a) x y l e = absurd cc
+body_unique Report (Delete q) x y l e = absurd cc
 body_unique Report Report x y l e = (refl, e)
 
 pub command_unique : (c d : Command) (x y : List ℕ) → IsCommand c → IsCommand d → command_bytes c ++ x ≡ command_bytes d ++ y → (c ≡ d) × (x ≡ y)
@@ -136,6 +147,7 @@ end_of (Put p b) path put end x y l e =
     let f : put ++ end ∷ x ≡ b ++ 10 ∷ y = e ∙ append_assoc b (10 ∷ []) y in
     let s = same_front put b (end ∷ x) (10 ∷ y) n f in
     let t : end ∷ x ≡ 10 ∷ y = s.1 in cc
+end_of (Delete p) path put end x y l e = absurd cc
 end_of Report path put end x y l e = absurd cc
 
 pub wrong_never : (bytes more : List ℕ) → IsWrong bytes → BeginsWithCommand (bytes ++ more) → ⊥

@@ -2,11 +2,4 @@ pub mod Serving
 pub mod Laws
 pub mod Turns
 pub mod Fronts
-pub mod Words
-pub mod Steps
-pub mod Splits
-pub mod Keys
-pub mod Inside
-pub mod Places
-pub mod Reports
-pub mod Refusals
+pub mod Replying

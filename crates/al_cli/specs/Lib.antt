@@ -2,8 +2,7 @@ pub mod Script
 pub mod Runs
 pub mod Next
 pub mod Answered
-pub mod FirstPart
-pub mod Root
-pub mod Outlines
-pub mod Folders
-pub mod Kept
+pub mod Kinds
+pub mod Files
+pub mod Replies
+pub mod FileLaws

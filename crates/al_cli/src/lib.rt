@@ -1,16 +1,11 @@
-//! Scripts: commands that put files into a folder and report their faults.
+//! Scripts: commands that change a folder and report its faults.
 #![tactic(auto)]
 
 mod commands;
 mod kinds;
-mod lines;
-mod outline;
-mod refusal;
-mod root;
+mod lint;
 mod run;
-mod session;
 
 pub use commands::{Command, Next, next_command};
-pub use refusal::Refused;
-pub use root::check_workflow;
+pub use lint::{FileLint, NoInterface, ReadFile};
 pub use run::run_session;

@@ -1,16 +1,19 @@
-ghost use Rattle.std.specs.Prelude.{◌≡◌, ◌≢◌, [], ◌<◌, MatchOption, ◌+◌, ◌≤◌, ◌++◌, ◌⊎◌, ℕ, List, length, take, drop, codes, IfOk, OnOk, OnErr, IfErr, IsErrOf, is_ok, decimal, IsOkUnless};
+ghost use Rattle.std.specs.Prelude.{Err, ◌≡◌, ◌≢◌, [], ◌<◌, MatchOption, ◌+◌, ◌≤◌, ◌++◌, ◌⊎◌, ℕ, List, length, take, drop, codes, IfOk, OnOk, OnErr, IfErr, IsErrOf, is_ok, decimal, IsOkUnless};
 ghost use Rattle.std.specs.Io.KnownBytes.{Appends, Keeps, Consumes};
 ghost use Rattle.al_text.specs.Counted.{raised, HasRisen, AppendsFront};
 ghost use Rattle.al_text.specs.Streams.{bytes_left, turns_of, read_failures, bytes_written, write_failures};
 ghost use Rattle.al_cli.specs.Next.{meaning};
 ghost use Rattle.al_cli.specs.Script.{IsPending, BeginsWithCommand};
 ghost use Rattle.al_cli.specs.Runs.{RunsToEnd, Stops, Ends, GoesOn, TurnStops};
-ghost use Rattle.al_cli.specs.Folders as folders;
+ghost use Rattle.al_cli.specs.Replies as replies;
+ghost use Rattle.al_cli.specs.Script as script;
+ghost use Rattle.al_session.specs.declared.lint.Refused.TheVariants as refused;
 ghost use Rattle.al_cli.specs.Answered.{Progresses, IsStuck};
 ghost use Rattle.al_text.specs.declared.stops.Stop.TheVariants.{ReadFault, WriteFault, Memory, TooManyTurns};
 
 use super::commands::{Command, Next, next_command};
-use super::session::Session;
+use super::lint::FileLint;
+use al_session::{Edit, Refused, Session};
 use al_text::{Input, Output, Stop};
 use itoa::Buffer;
 use std::alloc::{AllocError, Global};
@@ -37,9 +40,9 @@ pub fn run_session<R: Read, W: Write>(
     reader: &mut Input<R>,
     writer: &mut Output<W>,
 ) -> Result<u8, Stop>
-    ensures end { IfOk result (RunsToEnd folders.session [] [] (bytes_left R.remaining reader.old)
+    ensures end { IfOk result (RunsToEnd replies.session [] [] (bytes_left R.remaining reader.old)
         (bytes_written W.contents writer.old) (bytes_written W.contents writer.new)) }
-    ensures stop { IfErr result (Stops folders.session []
+    ensures stop { IfErr result (Stops replies.session []
         (bytes_left R.remaining reader.old) (bytes_left R.remaining reader.new)
         (bytes_written W.contents writer.old) (bytes_written W.contents writer.new)) }
     ensures reads { turns_of reader.new ≤ turns_of reader.old + 1048576 }
@@ -49,7 +52,7 @@ pub fn run_session<R: Read, W: Write>(
 {
     // A proof knows that a count fits its type where the body reads it.
     let _turns_before = reader.turns();
-    let mut session = Session::open(alloc);
+    let mut session = Session::open(alloc, FileLint::new());
     let mut waiting: Vec<u8> = Vec::new(alloc);
     let mut piece = empty_piece(alloc)?;
     for _turn in 0..TURNS {
@@ -70,7 +73,7 @@ fn empty_piece(alloc: Global) -> Result<Vec<u8>, AllocError>
 
 // One read, and the answers to what came. `Some` is the answer of a run that is over.
 fn take_turn<R: Read, W: Write>(
-    session: &mut Session,
+    session: &mut Session<FileLint>,
     waiting: &mut Vec<u8>,
     piece: &mut [u8],
     reader: &mut Input<R>,
@@ -79,12 +82,12 @@ fn take_turn<R: Read, W: Write>(
     requires room { 0 < length piece.old }
     requires pending { IsPending waiting.old.items }
     ensures ok { IfOk result (λ answer. MatchOption answer
-        (GoesOn folders.session session.old session.new waiting.old.items waiting.new.items
+        (GoesOn replies.session session.old.folder session.new.folder waiting.old.items waiting.new.items
         (bytes_left R.remaining reader.old) (bytes_left R.remaining reader.new)
         (bytes_written W.contents writer.old) (bytes_written W.contents writer.new))
-        (RunsToEnd folders.session session.old waiting.old.items (bytes_left R.remaining reader.old)
+        (RunsToEnd replies.session session.old.folder waiting.old.items (bytes_left R.remaining reader.old)
         (bytes_written W.contents writer.old) (bytes_written W.contents writer.new))) }
-    ensures err { IfErr result (TurnStops folders.session session.old session.new waiting.old.items waiting.new.items
+    ensures err { IfErr result (TurnStops replies.session session.old.folder session.new.folder waiting.old.items waiting.new.items
         (bytes_left R.remaining reader.old) (bytes_left R.remaining reader.new)
         (bytes_written W.contents writer.old) (bytes_written W.contents writer.new)) }
     ensures turns { turns_of reader.new ≡ raised (turns_of reader.old) 1 }
@@ -117,17 +120,22 @@ fn drop_front(waiting: &mut Vec<u8>, done: usize)
 }
 
 // The end of the input.
-fn finish<W: Write>(session: &Session, waiting: &[u8], writer: &mut Output<W>) -> Result<u8, Stop>
+fn finish<W: Write>(
+    session: &Session<FileLint>,
+    waiting: &[u8],
+    writer: &mut Output<W>,
+) -> Result<u8, Stop>
     requires { BeginsWithCommand waiting.now → ⊥ }
-    ensures ok { IfOk result (λ answer. (last : List ℕ) × Ends folders.session session.now waiting.now last answer
+    ensures ok { IfOk result (λ answer. (last : List ℕ) × Ends replies.session session.now.folder waiting.now last answer
         × Appends (bytes_written W.contents writer.old) (bytes_written W.contents writer.new) last) }
-    ensures err { OnErr result ((waiting.now ≢ []) × AppendsFront (bytes_written W.contents writer.old) (bytes_written W.contents writer.new) (codes "bad command\n")) }
+    ensures err { OnErr result (((waiting.now ≢ []) × AppendsFront (bytes_written W.contents writer.old) (bytes_written W.contents writer.new) (codes "bad command\n"))
+        ⊎ Keeps (bytes_written W.contents writer.old) (bytes_written W.contents writer.new)) }
     ensures failures { OnOk result (write_failures writer.new ≡ write_failures writer.old) }
-    ensures failed { OnErr result (HasRisen (write_failures writer.old) (write_failures writer.new)) }
-    ensures only { IsOkUnless result Stop.WriteFault }
+    ensures failed { IsErrOf result Stop.WriteFault → HasRisen (write_failures writer.old) (write_failures writer.new) }
+    ensures only { IfErr result (λ e. (e ≡ WriteFault) ⊎ (e ≡ Memory)) }
 {
     if waiting.is_empty() {
-        return Ok(session.status());
+        return Ok(session.status()?);
     }
     writer.write_all(b"bad command\n")?;
     Ok(2)
@@ -135,13 +143,13 @@ fn finish<W: Write>(session: &Session, waiting: &[u8], writer: &mut Output<W>) -
 
 // Answers each whole command that stands first, and a bad one.
 fn answer_all<W: Write>(
-    session: &mut Session,
+    session: &mut Session<FileLint>,
     waiting: &[u8],
     writer: &mut Output<W>,
 ) -> Result<Progress, Stop>
-    ensures ok { IfOk result (λ progress. Progresses folders.session session.old session.new waiting.now progress
+    ensures ok { IfOk result (λ progress. Progresses replies.session session.old.folder session.new.folder waiting.now progress
         (bytes_written W.contents writer.old) (bytes_written W.contents writer.new)) }
-    ensures err { OnErr result (IsStuck folders.session session.old waiting.now
+    ensures err { OnErr result (IsStuck replies.session session.old.folder waiting.now
         (bytes_written W.contents writer.old) (bytes_written W.contents writer.new)) }
     ensures failures { OnOk result (write_failures writer.new ≡ write_failures writer.old) }
     ensures failed { IsErrOf result Stop.WriteFault → HasRisen (write_failures writer.old) (write_failures writer.new) }
@@ -166,29 +174,67 @@ fn answer_all<W: Write>(
 
 // Answers one command.
 fn answer<W: Write>(
-    session: &mut Session,
+    session: &mut Session<FileLint>,
     command: Command<'_>,
     writer: &mut Output<W>,
 ) -> Result<(), Stop>
-    ensures after { OnOk result (session.new ≡ folders.folder_after session.old (meaning command.entry)) }
+    ensures after { OnOk result (session.new.folder ≡ replies.folder_after session.old.folder (meaning command.entry)) }
     ensures ok { OnOk result (Appends (bytes_written W.contents writer.old) (bytes_written W.contents writer.new)
-        (folders.reply_to session.old (meaning command.entry))) }
+        (replies.reply_to session.old.folder (meaning command.entry))) }
     ensures err { OnErr result (AppendsFront (bytes_written W.contents writer.old) (bytes_written W.contents writer.new)
-        (folders.reply_to session.old (meaning command.entry))) }
+        (replies.reply_to session.old.folder (meaning command.entry))) }
     ensures failures { OnOk result (write_failures writer.new ≡ write_failures writer.old) }
     ensures failed { IsErrOf result Stop.WriteFault → HasRisen (write_failures writer.old) (write_failures writer.new) }
     ensures only { IfErr result (λ e. (e ≡ WriteFault) ⊎ (e ≡ Memory)) }
 {
     match command {
-        Command::Put(path, bytes) => match session.put(path, bytes)? {
-            Ok(files) => write_number(writer, b"ok ", files as u64),
-            Err(refused) => write_number(writer, b"refused E", refused.number()),
-        },
-        Command::Report => {
-            session.report(writer)?;
-            write_number(writer, b"status ", u64::from(session.status()))
-        }
+        Command::Put(path, bytes) => write_reply(writer, session.put(path, bytes)),
+        Command::Delete(path) => write_reply(writer, session.delete(path)),
+        Command::Report => write_report(writer, session),
     }
+}
+
+// Writes the reply to an edit. Want of memory has none.
+fn write_reply<W: Write>(writer: &mut Output<W>, reply: Result<Edit, Refused>) -> Result<(), Stop>
+    ensures ok { OnOk result ((reply ≢ Err refused.Memory) × Appends (bytes_written W.contents writer.old) (bytes_written W.contents writer.new) (replies.reply_bytes reply)) }
+    ensures err { IfErr result (replies.ReplyStops reply (bytes_written W.contents writer.old) (bytes_written W.contents writer.new)) }
+    ensures failures { OnOk result (write_failures writer.new ≡ write_failures writer.old) }
+    ensures failed { IsErrOf result Stop.WriteFault → HasRisen (write_failures writer.old) (write_failures writer.new) }
+{
+    match reply {
+        Ok(edit) => write_number(writer, b"ok ", edit.rechecked.as_slice().len() as u64),
+        Err(Refused::Memory) => Err(Stop::Memory),
+        Err(refused) => write_number(writer, b"refused E", number_of(refused)),
+    }
+}
+
+// The number that a reply gives.
+fn number_of(refused: Refused) -> u64
+    ensures { result ≡ replies.number_of refused }
+{
+    match refused {
+        Refused::BadPath => 1,
+        Refused::NotAccepted => 2,
+        Refused::TooLarge => 3,
+        Refused::Full => 4,
+        Refused::NoSuchFile => 5,
+        Refused::Memory => 6,
+    }
+}
+
+// Writes each file's faults, and the status.
+fn write_report<W: Write>(writer: &mut Output<W>, session: &Session<FileLint>) -> Result<(), Stop>
+    ensures ok { OnOk result (Appends (bytes_written W.contents writer.old) (bytes_written W.contents writer.new)
+        (replies.reply_to session.now.folder script.Report)) }
+    ensures err { OnErr result (AppendsFront (bytes_written W.contents writer.old) (bytes_written W.contents writer.new)
+        (replies.reply_to session.now.folder script.Report)) }
+    ensures failures { OnOk result (write_failures writer.new ≡ write_failures writer.old) }
+    ensures failed { IsErrOf result Stop.WriteFault → HasRisen (write_failures writer.old) (write_failures writer.new) }
+    ensures only { IfErr result (λ e. (e ≡ WriteFault) ⊎ (e ≡ Memory)) }
+{
+    session.report(writer)?;
+    let status = session.status()?;
+    write_number(writer, b"status ", u64::from(status))
 }
 
 // Writes a line of a word and a number.

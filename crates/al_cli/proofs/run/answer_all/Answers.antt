@@ -4,7 +4,7 @@ use Rattle.std.proofs.KnownBytes.{Appends-trans}
 use Rattle.std.proofs.lemmas.Result.{err_from_is_err_and}
 use Rattle.al_cli.specs.Script.{IsWrong}
 use Rattle.al_cli.specs.Next.{meaning}
-use Rattle.al_cli.specs.Folders.{session}
+use Rattle.al_cli.specs.Replies.{session}
 use Rattle.al_cli.proofs.Serving.{rest_is, Answering-push, IsStuck-in_reply, IsStuck-in_bad}
 use Rattle.al_cli.proofs.run.answer_all.Goals as goal
 

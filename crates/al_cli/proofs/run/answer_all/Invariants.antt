@@ -1,12 +1,12 @@
 use Rattle.std.proofs.Common.{length, ◌-◌, ◌≡◌, ◌≤◌}
-use Rattle.al_cli.specs.Folders.{session}
+use Rattle.al_cli.specs.Replies.{session}
 use Rattle.al_cli.proofs.Serving.{Answering}
 use Rattle.al_cli.proofs.run.answer_all.Given as goal
 
 abbrev pub invariant-loop-done : goal.invariant-loop-done
 invariant-loop-done g l = record {
   within : l.done ≤ length l.waiting;
-  served : Answering session l.fn.session l.session l.waiting l.done (g.W.Write.contents l.fn.writer.inner) (g.W.Write.contents l.writer.inner);
+  served : Answering session l.fn.session.folder l.session.folder l.waiting l.done (g.W.Write.contents l.fn.writer.inner) (g.W.Write.contents l.writer.inner);
   unfailed : l.writer.failures ≡ l.fn.writer.failures;
 }
 

@@ -3,7 +3,7 @@ use Rattle.std.proofs.lemmas.Grind.{common_steps}
 use Rattle.std.proofs.lemmas.Result.{err_from_is_err_and}
 use Rattle.al_text.specs.Counted.{HasRisen}
 use Rattle.al_text.specs.declared.stops.Stop.TheVariants.{ReadFault, WriteFault}
-use Rattle.al_cli.specs.Folders.{session}
+use Rattle.al_cli.specs.Replies.{session}
 use Rattle.al_cli.specs.Runs.{GoesOn}
 use Rattle.al_cli.proofs.Turns.{same_error, Paused-none, Paused-more, Runs-after, Stops-after}
 use Rattle.al_cli.proofs.run.run_session.Goals as goal
@@ -11,7 +11,7 @@ use Rattle.al_cli.proofs.run.run_session.Goals as goal
 pub loop-turn-init : goal.loop-turn-init
 loop-turn-init g c = record {
   room = c.in_ok-piece.ensures;
-  paused = ([], omega arith, rw (c.open-session.ensures, c.new-waiting.ensures.items) (Paused-none session [] _ _));
+  paused = ([], omega arith, rw (c.open-session.ensures.folder, c.new-waiting.ensures.items) (Paused-none session [] _ _));
   turns = search (rules, common_steps);
   reads_well = refl;
   writes_well = refl;
@@ -44,7 +44,7 @@ returns-in-Some-clause-end g c =
 pub loop-turn-preserved : goal.loop-turn-preserved
 loop-turn-preserved g c =
     let s = c.loop-turn.invariant.paused in
-    let t : GoesOn session c.loop-turn.session c.take_turn.new.session c.loop-turn.waiting.items c.take_turn.new.waiting.items _ _ _ _ = rw c.in-None.is at c.in_ok-answer.ensures.ok in
+    let t : GoesOn session c.loop-turn.session.folder c.take_turn.new.session.folder c.loop-turn.waiting.items c.take_turn.new.waiting.items _ _ _ _ = rw c.in-None.is at c.in_ok-answer.ensures.ok in
     record {
       room = search (rules, common_steps);
       paused = (s.0 ++ t.read, omega (arith, length-append s.0 t.read, t.some), Paused-more session [] _ _ _ _ s.0 [] _ _ _ _ _ _ s.2 t);

@@ -1,13 +1,13 @@
 use Rattle.std.proofs.Common.{◌≡◌, ◌<◌, ◌≤◌, length, List, ℕ, []}
 use Rattle.al_text.specs.Counted.{raised}
 use Rattle.al_cli.specs.Runs.{PausesAfter}
-use Rattle.al_cli.specs.Folders.{session}
+use Rattle.al_cli.specs.Replies.{session}
 use Rattle.al_cli.proofs.run.run_session.Given as goal
 
 abbrev pub invariant-loop-turn : goal.invariant-loop-turn
 invariant-loop-turn g l = record {
   room : 0 < length l.piece.items;
-  paused : (read : List ℕ) × (l._turn ≤ length read) × PausesAfter session [] l.session l.waiting.items
+  paused : (read : List ℕ) × (l._turn ≤ length read) × PausesAfter session [] l.session.folder l.waiting.items
       (g.R.Read.remaining l.fn.reader.inner) (g.R.Read.remaining l.reader.inner) (g.W.Write.contents l.fn.writer.inner) (g.W.Write.contents l.writer.inner) read;
   turns : l.reader.turns ≡ raised l.fn.reader.turns l._turn;
   reads_well : l.reader.failures ≡ l.fn.reader.failures;

@@ -1,8 +1,8 @@
-use Rattle.std.proofs.Common.{◌≡◌, ◌++◌, rules, take}
+use Rattle.std.proofs.Common.{◌≡◌, ◌++◌, rules, take, inl, inr}
 use Rattle.std.proofs.lemmas.Grind.{common_steps}
 use Rattle.std.proofs.KnownBytes.{Keeps-refl, Appends-kept}
 use Rattle.std.proofs.lemmas.Result.{err_from_is_err_and}
-use Rattle.al_cli.specs.Folders.{session}
+use Rattle.al_cli.specs.Replies.{session}
 use Rattle.al_cli.proofs.Turns.{turn_end, turn_end_cut, turn_unwritten, turn_stuck, turn_answered, turn_bad, TurnStops-cut}
 use Rattle.al_cli.proofs.run.take_turn.Goals as goal
 
@@ -14,9 +14,13 @@ returns-in_err-finish-clause-err g c =
     let p = err_from_is_err_and c.from_residual-in_err-finish.result c.from_residual-in_err-finish.ensures.1 in
     let z : c.in_ok-count.count ≡ 0 = search rules in
     let k = rw z at c.in_ok-count.ensures.bytes.0 in
+    let end = c.in_ok-count.ensures.bytes.1 z (search rules) in
     let w = rw c.deref.ensures.value at c.in_err-finish.ensures.err in
-    rw (p.1, p.2, c.in_err-finish.ensures.only)
-    (turn_end_cut session _ _ _ _ _ _ k (c.in_ok-count.ensures.bytes.1 z (search rules)) c.requires.pending.unfinished w.0 w.1)
+    rw (p.1, p.2) (TurnStops-cut session _ _ _ _ _ _ _ _ _ c.in_err-finish.ensures.only
+    (elim w [
+      | inl x ↦ turn_end_cut session _ _ _ _ _ _ k end c.requires.pending.unfinished x.0 x.1
+      | inr x ↦ turn_unwritten session _ _ _ _ _ x
+    ]))
 
 pub returns-then-count-eq0-clause-ok : goal.returns-then-count-eq0-clause-ok
 returns-then-count-eq0-clause-ok g c =

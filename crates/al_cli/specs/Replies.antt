@@ -1,0 +1,62 @@
+-- What a script's session does at a command: the folder, replies and the status.
+use Rattle.std.specs.Prelude.{◌≡◌, ◌≢◌, ◌⊎◌, ℕ, List, ◌++◌, length, codes, decimal, Option, None, Some, Result, Ok, Err}
+use Rattle.std.specs.Io.KnownBytes.{Keeps}
+use Rattle.al_text.specs.Counted.{AppendsFront}
+use Rattle.al_text.specs.declared.stops.Stop.{Stop}
+use Rattle.al_text.specs.declared.stops.Stop.TheVariants as stops
+use Rattle.al_session.specs.declared.session.Edit.{Edit}
+use Rattle.al_session.specs.Folder.{Folder, put_refusal, delete_refusal, with_file, without_file}
+use Rattle.al_session.specs.Report.{report_of, status_of}
+use Rattle.al_session.specs.declared.lint.Refused.{Refused}
+use Rattle.al_session.specs.declared.lint.Refused.TheVariants.{BadPath, NotAccepted, TooLarge, Full, NoSuchFile, Memory}
+use Rattle.al_cli.specs.Files.{linting}
+use Rattle.al_cli.specs.Script.{Command, Put, Delete, Report}
+use Rattle.al_cli.specs.Runs.{Steps}
+
+-- the number that a reply gives
+abbrev pub number_of : Refused → ℕ
+number_of BadPath = 1
+number_of NotAccepted = 2
+number_of TooLarge = 3
+number_of Full = 4
+number_of NoSuchFile = 5
+number_of Memory = 6
+
+abbrev pub accepted_reply : ℕ → List ℕ
+accepted_reply files = codes "ok " ++ decimal files ++ codes "\n"
+
+abbrev pub refused_reply : Refused → List ℕ
+refused_reply refused = codes "refused E" ++ decimal (number_of refused) ++ codes "\n"
+
+-- an edit that may be refused leaves the folder as it was, or another one
+abbrev pub edited : Option Refused → Folder → Folder → Folder
+edited None old new = new
+edited (Some refused) old new = old
+
+abbrev pub edit_reply : Option Refused → Folder → List ℕ
+edit_reply None new = accepted_reply (length new)
+edit_reply (Some refused) new = refused_reply refused
+
+abbrev pub folder_after : Folder → Command → Folder
+folder_after folder (Put path bytes) = edited (put_refusal linting folder path bytes) folder (with_file folder path bytes)
+folder_after folder (Delete path) = edited (delete_refusal linting folder path) folder (without_file folder path)
+folder_after folder Report = folder
+
+abbrev pub reply_to : Folder → Command → List ℕ
+reply_to folder (Put path bytes) = edit_reply (put_refusal linting folder path bytes) (with_file folder path bytes)
+reply_to folder (Delete path) = edit_reply (delete_refusal linting folder path) (without_file folder path)
+reply_to folder Report = report_of linting folder ++ (codes "status " ++ decimal (status_of linting folder) ++ codes "\n")
+
+-- the session of a script, over its folders
+abbrev pub session : Steps Folder
+session = record { reply = reply_to; after = folder_after; status = status_of linting }
+
+-- ---- what a reply to an edit writes
+
+abbrev pub reply_bytes : Result Edit Refused → List ℕ
+reply_bytes (Ok edit) = accepted_reply (length edit.rechecked)
+reply_bytes (Err refused) = refused_reply refused
+
+-- nothing was written for want of memory, or a front of the reply
+abbrev pub ReplyStops : Result Edit Refused → Option (List ℕ) → Option (List ℕ) → Stop → Type 0
+ReplyStops reply wrote now stop = ((stop ≡ stops.Memory) × Keeps wrote now) ⊎ ((stop ≡ stops.WriteFault) × (reply ≢ Err Memory) × AppendsFront wrote now (reply_bytes reply))
