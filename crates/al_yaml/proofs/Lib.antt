@@ -10,4 +10,5 @@ pub mod BlockNodeLemmas
 pub mod ByteLemmas
 pub mod DocumentLemmas
 pub mod ViewLemmas
+pub mod SpanLemmas
 pub mod RootLemmas

@@ -16,3 +16,4 @@ pub mod BlockReads
 pub mod Access
 pub mod ByteFaults
 pub mod DocumentLines
+pub mod Spans

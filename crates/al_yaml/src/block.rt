@@ -7,6 +7,8 @@ ghost use Rattle.al_yaml.specs.Keys as keys;
 ghost use Rattle.al_yaml.specs.Node as tree;
 ghost use Rattle.al_yaml.specs.Reading as reading;
 ghost use Rattle.al_yaml.specs.Reads.{IsBehind, IsRead, IsStopInside, part_of};
+ghost use Rattle.al_yaml.specs.Spans.{IsWithin};
+ghost use Rattle.al_yaml.specs.View.{view};
 ghost use Rattle.std.specs.Prelude.{ℕ, suc, ◌+◌, ◌<◌, ◌≡◌, ◌≤◌, ◌&&◌, ◌||◌, IfErr, IfOk, length, not, true};
 
 use crate::content::{Next, first_tab, is_dash, is_skipped, line_ended, next_content, next_entry};
@@ -128,6 +130,7 @@ fn read_line_flow(
     ensures fault { IfErr result (IsStopInside (length bytes.now)) }
     ensures is { (bound : ℕ) → length bytes.now < bound + at → IsRead (part_of bytes.now) (block.flow_at (flow.flow_collection bound) (spot_of spot) depth (lines_at bytes.now at)) count.old.nodes result count.new.nodes }
     ensures within { IfOk result (λ part. IsBehind bytes.now at part) }
+    ensures nested { IfOk result (λ part. IsWithin at part.end (view part.node)) }
 {
     let part = read_flow_collection(alloc, bytes, count, depth, at)?;
     if is_refused_key(bytes, spot, part.next) {
@@ -164,6 +167,7 @@ pub fn read_block_node(
     ensures fault { IfErr result (IsStopInside (length bytes.now)) }
     ensures is { (bound : ℕ) → length bytes.now < bound + at → IsRead (part_of bytes.now) (block.block_node bound (slot_of slot) depth column (lines_at bytes.now at)) count.old.nodes result count.new.nodes }
     ensures within { IfOk result (λ part. IsBehind bytes.now at part) }
+    ensures nested { IfOk result (λ part. IsWithin at part.end (view part.node)) }
 {
     if is_property(bytes, at) {
         return Err(Stop::Fault(FaultAt {
@@ -209,6 +213,7 @@ fn read_block_sequence(
     ensures fault { IfErr result (IsStopInside (length bytes.now)) }
     ensures is { (bound turns : ℕ) → length bytes.now < suc bound + at → length bytes.now < turns + at → IsRead (part_of bytes.now) (block.block_sequence (block.block_node bound) (flow.flow_collection (suc bound)) turns (slot_of slot) depth column (lines_at bytes.now at)) count.old.nodes result count.new.nodes }
     ensures within { IfOk result (λ part. IsBehind bytes.now at part) }
+    ensures nested { IfOk result (λ part. IsWithin at part.end (view part.node)) }
 {
     if is_behind_key(slot.spot) {
         return Err(Stop::Fault(FaultAt {
@@ -245,6 +250,7 @@ fn read_sequence(
     ensures fault { IfErr result (IsStopInside (length bytes.now)) }
     ensures is { (bound turns : ℕ) → length bytes.now < suc bound + start → length bytes.now < turns + start → IsRead (part_of bytes.now) (reading.spanned tree.sequence start (block.sequence_entries (block.block_node bound) (flow.flow_collection (suc bound)) turns in_mapping column depth tree.no_nodes (lines_at bytes.now start))) count.old.nodes result count.new.nodes }
     ensures within { IfOk result (λ part. IsBehind bytes.now start part) }
+    ensures nested { IfOk result (λ part. IsWithin start part.end (view part.node)) }
 {
     let mut items = Vec::new(alloc);
     let mut at = start;
@@ -290,6 +296,7 @@ fn read_block_mapping(
     ensures fault { IfErr result (IsStopInside (length bytes.now)) }
     ensures is { (bound turns : ℕ) → length bytes.now < suc bound + at → length bytes.now < turns + at → IsRead (part_of bytes.now) (block.block_mapping (block.block_node bound) (flow.flow_collection (suc bound)) turns (spot_of spot) depth column (lines_at bytes.now at) (key_seen bytes.now key)) count.old.nodes result count.new.nodes }
     ensures within { IfOk result (λ part. IsBehind bytes.now at part) }
+    ensures nested { IfOk result (λ part. IsWithin at part.end (view part.node)) }
 {
     let wrong = Stop::Fault(FaultAt {
         code: Yaml::WrongKey,
@@ -329,6 +336,7 @@ fn read_mapping(
     ensures fault { IfErr result (IsStopInside (length bytes.now)) }
     ensures is { (bound turns : ℕ) → length bytes.now < suc bound + start → length bytes.now < turns + start → IsRead (part_of bytes.now) (reading.spanned tree.mapping start (block.mapping_entries (block.block_node bound) (flow.flow_collection (suc bound)) turns column depth tree.no_entries (key_seen bytes.now first))) count.old.nodes result count.new.nodes }
     ensures within { IfOk result (λ part. IsBehind bytes.now start part) }
+    ensures nested { IfOk result (λ part. IsWithin start part.end (view part.node)) }
 {
     let mut entries = Vec::new(alloc);
     let mut key = first;
@@ -374,6 +382,7 @@ fn read_rest(
     ensures fault { IfErr result (IsStopInside (length bytes.now)) }
     ensures is { (bound : ℕ) → length bytes.now < bound + rest → IsRead (part_of bytes.now) (block.rest_node (block.block_node bound) (slot_of slot) depth column (lines_at bytes.now from) (lines_at bytes.now rest)) count.old.nodes result count.new.nodes }
     ensures within { IfOk result (λ part. IsBehind bytes.now rest part) }
+    ensures nested { IfOk result (λ part. IsWithin slot.empty part.end (view part.node)) }
 {
     if is_skipped(bytes, rest) {
         return read_below(alloc, bytes, count, slot, depth, next_line(bytes, rest));
@@ -410,6 +419,7 @@ fn read_below(
     ensures fault { IfErr result (IsStopInside (length bytes.now)) }
     ensures is { (bound : ℕ) → length bytes.now < bound + at → IsRead (part_of bytes.now) (block.node_below (block.block_node bound) (slot_of slot) depth (lines_at bytes.now at)) count.old.nodes result count.new.nodes }
     ensures within { IfOk result (λ part. IsBehind bytes.now at part) }
+    ensures nested { IfOk result (λ part. IsWithin slot.empty part.end (view part.node)) }
 {
     let Next::Line { indent, at: first } = next_content(bytes, at)? else {
         return empty_part(alloc, bytes, count, slot.empty, at);

@@ -1,8 +1,8 @@
 ghost use Rattle.al_scalar.specs.Places.{lines_at};
-ghost use Rattle.al_text.specs.Spans.{LiesIn};
-ghost use Rattle.al_yaml.specs.Contract.{GivesTree};
+ghost use Rattle.al_yaml.specs.Contract.{GivesInside, GivesTree};
 ghost use Rattle.al_yaml.specs.Document as document;
 ghost use Rattle.al_yaml.specs.Reads.{Answers, IsRead, IsStopInside, part_of};
+ghost use Rattle.al_yaml.specs.Spans.{IsWithin};
 ghost use Rattle.al_yaml.specs.View.{view};
 ghost use Rattle.std.specs.Prelude.{◌≤◌, IfErr, IfOk, false, length};
 
@@ -23,6 +23,7 @@ fn read_root(alloc: Global, bytes: &[u8], count: &mut Count, at: usize) -> Resul
     requires size { length bytes.now ≤ 1048576 }
     ensures is { IsRead (part_of bytes.now) (document.root (length bytes.now) (lines_at bytes.now at)) count.old.nodes result count.new.nodes }
     ensures inside { IfOk result (λ part. part.next ≤ length bytes.now) }
+    ensures nested { IfOk result (λ part. IsWithin at (length bytes.now) (view part.node)) }
     ensures fault { IfErr result (IsStopInside (length bytes.now)) }
 {
     let Next::Line { indent, at: first } = next_content(bytes, at)? else {
@@ -41,6 +42,7 @@ fn read_root(alloc: Global, bytes: &[u8], count: &mut Count, at: usize) -> Resul
 fn read_document(alloc: Global, bytes: &[u8]) -> Result<Node, Stop>
     requires { length bytes.now ≤ 1048576 }
     ensures is { Answers view (document.document_of false bytes.now) result }
+    ensures nested { IfOk result (λ root. IsWithin 0 (length bytes.now) (view root)) }
     ensures fault { IfErr result (IsStopInside (length bytes.now)) }
 {
     let start = document_start(bytes, mark_end(bytes))?;
@@ -55,11 +57,13 @@ fn read_document(alloc: Global, bytes: &[u8]) -> Result<Node, Stop>
 /// The file has at most 1,048,576 bytes. Faults of its bytes come first. Then it is read from its start to its end, with
 /// at most 100,000 nodes and 64 collections inside one another; anchors, aliases, tags, explicit keys, directives and
 /// further documents are faults. A fault's span is the character at which it stands, in bytes of the file: one byte where
-/// the file isn't UTF-8, and nothing at the file's end. Fails with `AllocError` for want of memory.
+/// the file isn't UTF-8, and nothing at the file's end. A node's span lies in that of the node around it, behind those of
+/// the nodes before it. Fails with `AllocError` for want of memory.
 pub fn read_yaml(alloc: Global, bytes: &[u8]) -> Result<Result<Doc, YamlFault>, AllocError>
     requires { length bytes.now ≤ 1048576 }
     ensures tree { IfOk result (GivesTree bytes.now) }
-    ensures fault { IfOk result (λ read. IfErr read (λ fault. LiesIn (length bytes.now) fault.span)) }
+    ensures inside { IfOk result (GivesInside (length bytes.now)) }
+    ensures nested { IfOk result (λ read. IfOk read (λ doc. IsWithin 0 (length bytes.now) (view doc.root))) }
 {
     if let Some(fault) = byte_fault(bytes) {
         return Ok(Err(fault));

@@ -8,6 +8,7 @@ ghost use Rattle.al_yaml.specs.Node as tree;
 ghost use Rattle.al_yaml.specs.Places.{IsReadInside, Shows, option_lines};
 ghost use Rattle.al_yaml.specs.Reading as reading;
 ghost use Rattle.al_yaml.specs.Reads.{Answers, IsAfter, IsBehind, IsColonInside, IsKeyInside, IsRead, IsStopInside, after_of, flow_key_of, part_of};
+ghost use Rattle.al_yaml.specs.Spans.{IsWithin};
 ghost use Rattle.al_yaml.specs.View.{entries_of, entry_view, nodes_of, view};
 ghost use Rattle.std.specs.Prelude.{ℕ, ◌+◌, ◌<◌, ◌≡◌, ◌≤◌, IfErr, IfOk, ◌^◌, ◌||◌, length, map, true};
 
@@ -139,7 +140,7 @@ fn key_colon(bytes: &[u8], at: usize, read: &ScalarRead) -> Result<Option<usize>
     requires inside { IsReadInside bytes.now at read.now }
     ensures fault { IfErr result (λ f. f.at ≤ length bytes.now) }
     ensures is { Shows (option_lines bytes.now) (flow.key_colon (lines_at bytes.now at) (read_of bytes.now read.now)) result }
-    ensures inside { IfOk result (λ colon. IsColonInside at (length bytes.now) colon) }
+    ensures inside { IfOk result (λ colon. IsColonInside read.now.next (length bytes.now) colon) }
 {
     let wrong = FaultAt {
         code: Yaml::WrongKey,
@@ -209,6 +210,7 @@ pub fn empty_part(
     ensures is { IsRead (part_of bytes.now) (flow.empty_node at (lines_at bytes.now next)) count.old.nodes result count.new.nodes }
     ensures end { IfOk result (λ part. part.end ≡ at) }
     ensures next { IfOk result (λ part. part.next ≡ next) }
+    ensures nested { IfOk result (λ part. IsWithin at part.end (view part.node)) }
 {
     count.start(at, 1, 0)?;
     let read = scalar_at(alloc, bytes, at, Place::Empty)?;
@@ -240,6 +242,7 @@ fn read_flow_value(
     ensures fault { IfErr result (IsStopInside (length bytes.now)) }
     ensures is { (bound : ℕ) → length bytes.now < bound + key.now.read.span.start → IsRead (part_of bytes.now) (flow.flow_entry_value (flow.flow_node_over (flow.flow_collection bound)) opening depth (flow_key_of bytes.now key.now)) count.old.nodes result count.new.nodes }
     ensures within { IfOk result (λ part. IsBehind bytes.now key.now.read.span.start part) }
+    ensures nested { IfOk result (λ part. IsWithin key.now.read.span.end part.end (view part.node)) }
 {
     let Some(colon) = key.colon else {
         return empty_part(
@@ -278,6 +281,7 @@ fn read_flow_node(
     ensures fault { IfErr result (IsStopInside (length bytes.now)) }
     ensures is { (bound : ℕ) (slot : flow.FlowSlot) → length bytes.now < bound + at → IsRead (part_of bytes.now) (flow.flow_node_over (flow.flow_collection bound) slot depth (lines_at bytes.now at)) count.old.nodes result count.new.nodes }
     ensures within { IfOk result (λ part. IsBehind bytes.now at part) }
+    ensures nested { IfOk result (λ part. IsWithin at part.end (view part.node)) }
 {
     if is_property(bytes, at) {
         return Err(Stop::Fault(FaultAt {
@@ -314,6 +318,7 @@ fn read_flow_sequence(
     ensures fault { IfErr result (IsStopInside (length bytes.now)) }
     ensures is { (bound turns : ℕ) → length bytes.now < bound + start → length bytes.now < turns + start → IsRead (part_of bytes.now) (reading.spanned tree.sequence opening (flow.flow_items (flow.flow_node_over (flow.flow_collection bound)) turns opening depth tree.no_nodes (lines_at bytes.now start))) count.old.nodes result count.new.nodes }
     ensures within { IfOk result (λ part. IsBehind bytes.now start part) }
+    ensures nested { IfOk result (λ part. IsWithin opening part.end (view part.node)) }
 {
     let mut items = Vec::new(alloc);
     let mut at = start;
@@ -354,6 +359,7 @@ fn read_flow_mapping(
     ensures fault { IfErr result (IsStopInside (length bytes.now)) }
     ensures is { (bound turns : ℕ) → length bytes.now < bound + start → length bytes.now < turns + start → IsRead (part_of bytes.now) (reading.spanned tree.mapping opening (flow.flow_entries (flow.flow_node_over (flow.flow_collection bound)) (flow.flow_collection bound) turns opening depth tree.no_entries (lines_at bytes.now start))) count.old.nodes result count.new.nodes }
     ensures within { IfOk result (λ part. IsBehind bytes.now start part) }
+    ensures nested { IfOk result (λ part. IsWithin opening part.end (view part.node)) }
 {
     let mut entries = Vec::new(alloc);
     let mut at = start;
@@ -395,6 +401,7 @@ pub fn read_flow_collection(
     ensures fault { IfErr result (IsStopInside (length bytes.now)) }
     ensures is { (bound : ℕ) → length bytes.now < bound + at → IsRead (part_of bytes.now) (flow.flow_collection bound depth (lines_at bytes.now at)) count.old.nodes result count.new.nodes }
     ensures within { IfOk result (λ part. IsBehind bytes.now at part) }
+    ensures nested { IfOk result (λ part. IsWithin at part.end (view part.node)) }
 {
     count.start(at, 1, depth)?;
     let inside = gap(bytes, at + 1);

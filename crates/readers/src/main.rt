@@ -2,14 +2,18 @@
 #![tactic(auto)]
 
 mod json;
+mod nodes;
 mod scalars;
 mod trees;
 
 use al_expr::{chunks, parse_expr};
 use al_scalar::{Place, read_scalar};
+use al_yaml::read_yaml;
 use json::{push_fault, push_spans, push_text};
+use nodes::push_node;
 use scalars::{push_scalar, push_yaml_fault};
 use std::alloc::{AllocError, Global};
+use std::io::Read;
 use std::process::ExitCode;
 use std::{env, io};
 use trees::push_expr;
@@ -23,6 +27,8 @@ enum Reader {
     Chunks,
     /// The scalar at a file's start, in block context.
     Scalar,
+    /// The tree of a file, or its fault.
+    Yaml,
 }
 
 fn reader_named(word: &str) -> Option<Reader> {
@@ -30,6 +36,7 @@ fn reader_named(word: &str) -> Option<Reader> {
         "expr" => Some(Reader::Expr),
         "chunks" => Some(Reader::Chunks),
         "scalar" => Some(Reader::Scalar),
+        "yaml" => Some(Reader::Yaml),
         _ => None,
     }
 }
@@ -86,12 +93,12 @@ fn chunks_line(alloc: Global, text: &str) -> Result<String, AllocError> {
 const MAX_FILE: usize = 1_048_576;
 
 /// The scalar at a file's start, or its fault. Nothing is shown of a file that is too long.
-fn scalar_line(alloc: Global, file: &str) -> Result<String, AllocError> {
+fn scalar_line(alloc: Global, file: &[u8]) -> Result<String, AllocError> {
     let mut line = String::new(alloc);
     if file.len() > MAX_FILE {
         return Ok(line);
     }
-    match read_scalar(alloc, file.as_bytes(), 0, Place::Block(0))? {
+    match read_scalar(alloc, file, 0, Place::Block(0))? {
         Ok(read) => {
             line.push_str("{\"tree\":")?;
             push_scalar(alloc, &mut line, &read.scalar, read.span)?;
@@ -105,17 +112,47 @@ fn scalar_line(alloc: Global, file: &str) -> Result<String, AllocError> {
     Ok(line)
 }
 
-fn answer(alloc: Global, reader: Reader, text: &str) -> Result<String, AllocError> {
-    match reader {
-        Reader::Expr => expression_line(alloc, text),
-        Reader::Chunks => chunks_line(alloc, text),
-        Reader::Scalar => scalar_line(alloc, text),
+/// The tree of a file, or its fault. Nothing is shown of a file that is too long.
+fn yaml_line(alloc: Global, file: &[u8]) -> Result<String, AllocError> {
+    let mut line = String::new(alloc);
+    if file.len() > MAX_FILE {
+        return Ok(line);
+    }
+    match read_yaml(alloc, file)? {
+        Ok(doc) => {
+            line.push_str("{\"tree\":")?;
+            push_node(alloc, &mut line, &doc.root)?;
+        }
+        Err(fault) => {
+            line.push_str("{\"fault\":")?;
+            push_yaml_fault(alloc, &mut line, fault)?;
+        }
+    }
+    line.push_str("}\n")?;
+    Ok(line)
+}
+
+fn text_of(bytes: &[u8]) -> io::Result<&str> {
+    match str::from_utf8(bytes) {
+        Ok(text) => Ok(text),
+        Err(_) => Err(io::Error::from(io::ErrorKind::InvalidData)),
     }
 }
 
+/// The line to print. Expressions and texts are UTF-8, a file may hold any bytes.
+fn answer(alloc: Global, reader: Reader, bytes: &[u8]) -> io::Result<String> {
+    Ok(match reader {
+        Reader::Expr => expression_line(alloc, text_of(bytes)?)?,
+        Reader::Chunks => chunks_line(alloc, text_of(bytes)?)?,
+        Reader::Scalar => scalar_line(alloc, bytes)?,
+        Reader::Yaml => yaml_line(alloc, bytes)?,
+    })
+}
+
 fn run(rt: &HostRuntime, reader: Reader) -> io::Result<()> {
-    let text = io::read_to_string(rt.alloc(), rt.stdin())?;
-    let line = answer(rt.alloc(), reader, &text)?;
+    let mut bytes = Vec::new(rt.alloc());
+    rt.stdin().read_to_end(&mut bytes)?;
+    let line = answer(rt.alloc(), reader, &bytes)?;
     print!(rt; "{line}")
 }
 

@@ -16,6 +16,7 @@ use Rattle.al_yaml.specs.declared.faults.Stop.{Stop}
 use Rattle.al_yaml.specs.declared.faults.Stop.TheVariants as stop
 use Rattle.al_yaml.proofs.ReadLemmas.{read-from, same_part, spanned-ok, spanned-stops, loop-stops, positive, nodes_of-more, entries_of-more}
 use Rattle.al_yaml.proofs.BlockNodeLemmas.{block-property, block-dash, block-fault, block-flow, block-scalar, block-unread, block-alone, block-key, rest-below, rest-here, below-fault, below-ended, below-deeper, below-empty, sequence-stop, sequence-wrong, sequence-ended, sequence-more, sequence-closed, sequence-none, mapping-stop, mapping-wrong, mapping-ended, mapping-key_stop, mapping-more, sequence-behind_key, sequence-tab, sequence-broken, sequence-starts, mapping-lines, mapping-tab, mapping-long, mapping-broken, mapping-starts, dash-solid, same_line-own, same_line-next}
+use Rattle.al_yaml.proofs.SpanLemmas.{wider, over, items-more, entries-more, sequence-nested, mapping-nested, nested-wider}
 use Rattle.al_yaml.proofs.block.+block.Goals as goal
 
 pub read_block_node-returns-then-is_property-clause-is : goal.read_block_node-returns-then-is_property-clause-is
@@ -179,6 +180,8 @@ read_sequence-entries-preserved t c = record {
   inside = c.if-not-is_dash.ensures.inside refl;
   dash = sym c.if-not-is_dash.ensures.value;
   column = rw c.in-Some.is at c.in_ok-next.ensures.column;
+  nested = items-more c.args.start c.entries.at c.in_ok-entry.entry.end c.in-Some.next c.entries.items.items c.push.new.self.items c.in_ok-entry.entry.node c.in_ok-push.ensures.items (omega (arith, c.entries.invariant.from)) (omega (arith, c.in_ok-entry.ensures.within.end, rw c.in-Some.is at c.in_ok-next.ensures.from)) c.entries.invariant.nested
+      (wider (c.entries.at + 1) c.in_ok-entry.entry.end c.entries.at c.in_ok-entry.entry.end (view c.in_ok-entry.entry.node) (omega arith) (omega arith) c.in_ok-entry.ensures.nested);
   reads = λ bound r h g.
       let room : length c.args.bytes.now < bound + (c.entries.at + 1) = omega (arith, h, c.entries.invariant.from) in
       c.entries.invariant.reads bound r h (λ t l. positive (λ u. run (counted c.entries.count.nodes) (sequence_entries (block_node bound) (flow_collection (suc bound)) u c.args.in_mapping c.args.column c.args.depth (nodes_of (map view c.entries.items.items)) (lines_at c.args.bytes.now c.entries.at)) ≡ r) t (omega (arith, l, c.entries.invariant.inside)) (λ j e.
@@ -225,9 +228,40 @@ read_mapping-entries-preserved t c = record {
   from = omega (arith, c.entries.invariant.from, c.entries.invariant.key.from, c.entries.invariant.key.read.from, c.entries.invariant.key.read.end, c.in_ok-value.ensures.within.from, rw c.in-Some.is at c.in_ok-next.ensures.from, c.in_ok-key.ensures.inside.read.start);
   key = subst (λ i. IsKeyBehind c.args.bytes.now i c.in_ok-key.key) (sym c.in_ok-key.ensures.inside.read.start) c.in_ok-key.ensures.inside;
   column = omega (arith, rw c.in-Some.is at c.in_ok-next.ensures.column, c.in_ok-key.ensures.inside.read.start);
+  nested = entries-more c.args.start c.entries.key.read.span.start c.in_ok-value.value.end c.in_ok-key.key.read.span.start c.entries.entries.items c.push.new.self.items c.entry_of.result c.entries.key.read.scalar c.entries.key.read.span (view c.in_ok-value.value.node) c.in_ok-push.ensures.items (c.entry_of.ensures ∙ ap (λ x. (x, (view c.in_ok-value.value.node))) c.scalar_node-node.ensures)
+      (omega (arith, c.entries.invariant.from)) (omega arith) (omega (arith, c.entries.invariant.key.read.from)) (omega (arith, c.in_ok-value.ensures.within.end, rw c.in-Some.is at c.in_ok-next.ensures.from, c.in_ok-key.ensures.inside.read.start)) c.entries.invariant.nested
+      (wider c.entries.key.behind c.in_ok-value.value.end c.entries.key.read.span.end c.in_ok-value.value.end (view c.in_ok-value.value.node) (omega (arith, c.entries.invariant.key.read.end, c.entries.invariant.key.from)) (omega arith) c.in_ok-value.ensures.nested);
   reads = λ bound r h g.
       let room : length c.args.bytes.now < bound + c.entries.key.behind = omega (arith, h, c.entries.invariant.from, c.entries.invariant.key.from, c.entries.invariant.key.read.from, c.entries.invariant.key.read.end) in
       let further : length c.args.bytes.now < suc bound + c.in-Some.next = omega (arith, h, c.entries.invariant.from, c.entries.invariant.key.from, c.entries.invariant.key.read.from, c.entries.invariant.key.read.end, c.in_ok-value.ensures.within.from, rw c.in-Some.is at c.in_ok-next.ensures.from) in
       c.entries.invariant.reads bound r h (λ t l. positive (λ u. run (counted c.entries.count.nodes) (mapping_entries (block_node bound) (flow_collection (suc bound)) u c.args.column c.args.depth (entries_of (map entry_view c.entries.entries.items)) (key_seen c.args.bytes.now c.entries.key)) ≡ r) t (omega (arith, l, c.entries.invariant.key.inside, c.entries.invariant.key.from, c.entries.invariant.key.read.from, c.entries.invariant.key.read.end)) (λ j e.
       mapping-more (block_node bound) (flow_collection (suc bound)) j c.args.column c.args.depth c.entries.count.nodes (entries_of (map entry_view c.entries.entries.items)) c.args.bytes.now (read_of c.args.bytes.now c.entries.key.read) c.entries.key.behind c.entries.invariant.key.inside c.read_rest.new.count.nodes (part_of c.args.bytes.now c.in_ok-value.value) (c.in_ok-value.ensures.is bound room) c.in-Some.next (c.in_ok-next.ensures.is ∙ ap (λ o. Ok (option_lines c.args.bytes.now o)) c.in-Some.is) c.entry_key.new.count.nodes (key_seen c.args.bytes.now c.in_ok-key.key) (c.in_ok-key.ensures.is (suc bound) further) ∙ ap (λ d. run (counted c.entry_key.new.count.nodes) (mapping_entries (block_node bound) (flow_collection (suc bound)) j c.args.column c.args.depth d (key_seen c.args.bytes.now c.in_ok-key.key))) (sym (ap (λ xs. entries_of (map entry_view xs)) c.in_ok-push.ensures.items ∙ entries_of-more c.entries.entries.items c.entry_of.result (tree.scalar c.entries.key.read.scalar c.entries.key.read.span) (view c.in_ok-value.value.node) (c.entry_of.ensures ∙ ap (λ x. (x, (view c.in_ok-value.value.node))) c.scalar_node-node.ensures))) ∙ g j (omega (arith, l, e, c.entries.invariant.from, c.entries.invariant.key.from, c.entries.invariant.key.read.from, c.entries.invariant.key.read.end, c.in_ok-value.ensures.within.from, rw c.in-Some.is at c.in_ok-next.ensures.from, c.in_ok-key.ensures.inside.read.start))));
 }
+
+pub read_sequence-returns-in_default-clause-nested : goal.read_sequence-returns-in_default-clause-nested
+read_sequence-returns-in_default-clause-nested t c = let low = over (c.entries.at + 1) c.in_ok-entry.entry.end (view c.in_ok-entry.entry.node) c.in_ok-entry.ensures.nested in
+    sequence-nested c.sequence_part.result (nodes_of (map view c.push.new.self.items)) c.args.start c.in_ok-entry.entry.end c.sequence_part.ensures.node c.sequence_part.ensures.end (omega (arith, c.entries.invariant.from, low))
+    (items-more c.args.start c.entries.at c.in_ok-entry.entry.end c.in_ok-entry.entry.end c.entries.items.items c.push.new.self.items c.in_ok-entry.entry.node c.in_ok-push.ensures.items (omega (arith, c.entries.invariant.from)) (omega arith) c.entries.invariant.nested
+    (wider (c.entries.at + 1) c.in_ok-entry.entry.end c.entries.at c.in_ok-entry.entry.end (view c.in_ok-entry.entry.node) (omega arith) (omega arith) c.in_ok-entry.ensures.nested))
+
+pub read_sequence-returns-then-in_mapping-clause-nested : goal.read_sequence-returns-then-in_mapping-clause-nested
+read_sequence-returns-then-in_mapping-clause-nested t c = let low = over (c.entries.at + 1) c.in_ok-entry.entry.end (view c.in_ok-entry.entry.node) c.in_ok-entry.ensures.nested in
+    sequence-nested c.sequence_part-then-in_mapping.result (nodes_of (map view c.push.new.self.items)) c.args.start c.in_ok-entry.entry.end c.sequence_part-then-in_mapping.ensures.node c.sequence_part-then-in_mapping.ensures.end (omega (arith, c.entries.invariant.from, low))
+    (items-more c.args.start c.entries.at c.in_ok-entry.entry.end c.in_ok-entry.entry.end c.entries.items.items c.push.new.self.items c.in_ok-entry.entry.node c.in_ok-push.ensures.items (omega (arith, c.entries.invariant.from)) (omega arith) c.entries.invariant.nested
+    (wider (c.entries.at + 1) c.in_ok-entry.entry.end c.entries.at c.in_ok-entry.entry.end (view c.in_ok-entry.entry.node) (omega arith) (omega arith) c.in_ok-entry.ensures.nested))
+
+pub read_mapping-returns-in_default-clause-nested : goal.read_mapping-returns-in_default-clause-nested
+read_mapping-returns-in_default-clause-nested t c = let low = over c.entries.key.behind c.in_ok-value.value.end (view c.in_ok-value.value.node) c.in_ok-value.ensures.nested in
+    mapping-nested c.mapping_part.result (entries_of (map entry_view c.push.new.self.items)) c.args.start c.in_ok-value.value.end c.mapping_part.ensures.node c.mapping_part.ensures.end
+    (omega (arith, c.entries.invariant.from, c.entries.invariant.key.from, c.entries.invariant.key.read.from, c.entries.invariant.key.read.end, low))
+    (entries-more c.args.start c.entries.key.read.span.start c.in_ok-value.value.end c.in_ok-value.value.end c.entries.entries.items c.push.new.self.items c.entry_of.result c.entries.key.read.scalar c.entries.key.read.span (view c.in_ok-value.value.node) c.in_ok-push.ensures.items (c.entry_of.ensures ∙ ap (λ x. (x, (view c.in_ok-value.value.node))) c.scalar_node-node.ensures)
+    (omega (arith, c.entries.invariant.from)) (omega arith) (omega (arith, c.entries.invariant.key.read.from)) (omega arith) c.entries.invariant.nested
+    (wider c.entries.key.behind c.in_ok-value.value.end c.entries.key.read.span.end c.in_ok-value.value.end (view c.in_ok-value.value.node) (omega (arith, c.entries.invariant.key.read.end, c.entries.invariant.key.from)) (omega arith) c.in_ok-value.ensures.nested))
+
+pub read_below-returns-clause-nested : goal.read_below-returns-clause-nested
+read_below-returns-clause-nested t c =
+    let from = rw c.in-Line.is at c.in_ok-indent.ensures.from in
+    nested-wider c.in-Line.first c.args.slot.empty c.read_block_node.result (omega (arith, from.0, c.requires.empty)) c.read_block_node.ensures.nested
+
+pub read_rest-returns-clause-nested : goal.read_rest-returns-clause-nested
+read_rest-returns-clause-nested t c = nested-wider c.blanks_end-at.result c.args.slot.empty c.read_block_node.result (omega (arith, c.blanks_end-at.ensures.from, c.requires.empty)) c.read_block_node.ensures.nested

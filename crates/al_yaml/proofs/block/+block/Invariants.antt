@@ -8,6 +8,7 @@ use Rattle.al_yaml.specs.Flow.{flow_collection}
 use Rattle.al_yaml.specs.Blocks.{block_node, sequence_entries, mapping_entries}
 use Rattle.al_yaml.specs.BlockReads.{IsKeyBehind, key_seen}
 use Rattle.al_yaml.specs.Reads.{State, run, counted}
+use Rattle.al_yaml.specs.Spans.{AreInOrder, EntriesInOrder}
 use Rattle.al_yaml.specs.View.{view, entry_view, nodes_of, entries_of}
 use Rattle.al_yaml.proofs.block.+block.Given as goal
 
@@ -38,6 +39,7 @@ invariant-read_sequence-entries l = record {
   inside : l.at < length l.bytes;
   dash : is_dash (text_at l.bytes l.at) ≡ true;
   column : l.column ≤ l.at;
+  nested : AreInOrder l.start l.at (nodes_of (map view l.items.items));
   reads : (bound : ℕ) (r : Result (Part Nodes × State) Fault) → length l.bytes < suc bound + l.start
       → ((turns : ℕ) → length l.bytes < turns + l.at → run (counted l.count.nodes) (sequence_entries (block_node bound) (flow_collection (suc bound)) turns l.in_mapping l.column l.depth (nodes_of (map view l.items.items)) (lines_at l.bytes l.at)) ≡ r)
       → (turns : ℕ) → length l.bytes < turns + l.start → run (counted l.initial.count.nodes) (sequence_entries (block_node bound) (flow_collection (suc bound)) turns l.in_mapping l.column l.depth no_nodes (lines_at l.bytes l.start)) ≡ r;
@@ -52,6 +54,7 @@ invariant-read_mapping-entries l = record {
   from : l.start ≤ l.key.read.span.start;
   key : IsKeyBehind l.bytes l.key.read.span.start l.key;
   column : l.column ≤ l.key.read.span.start;
+  nested : EntriesInOrder l.start l.key.read.span.start (entries_of (map entry_view l.entries.items));
   reads : (bound : ℕ) (r : Result (Part Entries × State) Fault) → length l.bytes < suc bound + l.start
       → ((turns : ℕ) → length l.bytes < turns + l.key.read.span.start → run (counted l.count.nodes) (mapping_entries (block_node bound) (flow_collection (suc bound)) turns l.column l.depth (entries_of (map entry_view l.entries.items)) (key_seen l.bytes l.key)) ≡ r)
       → (turns : ℕ) → length l.bytes < turns + l.start → run (counted l.initial.count.nodes) (mapping_entries (block_node bound) (flow_collection (suc bound)) turns l.column l.depth no_entries (key_seen l.bytes l.fn.first)) ≡ r;

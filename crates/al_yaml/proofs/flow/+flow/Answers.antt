@@ -16,6 +16,7 @@ use Rattle.al_yaml.specs.declared.faults.Stop.TheVariants as stop
 use Rattle.al_yaml.proofs.RunLemmas.{run-broken}
 use Rattle.al_yaml.proofs.ReadLemmas.{stops-same, read-from, same_part, scalar_reading, scalar-stops, scalar-ok, spanned-ok, spanned-stops, loop-stops, positive, nodes_of-more, entries_of-more, behind-from}
 use Rattle.al_yaml.proofs.FlowLemmas.{node-property, node-fault, node-collection, node-scalar, key-fault, key-property, key-stop, key-refused, key-unread, key-wrong, key-broken, key-ok, value-none, value-open, value-empty, value-node, flow_start-solid, collection-broken, collection-sequence, collection-mapping, items-open_at, items-closed_at, items-stop_at, items-refused_at, items-more_at, items-end_at, entries-open_at, entries-closed_at, entries-stop_at, value-stop_at, entries-refused_at, entries-more_at, entries-end_at}
+use Rattle.al_yaml.proofs.SpanLemmas.{items-wider, entries-wider, items-more, entries-more, scalar-nested, sequence-nested, mapping-nested, nested-wider}
 use Rattle.al_yaml.proofs.flow.+flow.Goals as goal
 
 pub read_flow_collection-returns-in_err-start-clause-is : goal.read_flow_collection-returns-in_err-start-clause-is
@@ -168,6 +169,7 @@ read_flow_sequence-items-preserved t c = let inside = rw c.in-GoesOn.is at c.in_
     record {
       from = omega (arith, c.items.invariant.from, inside, c.gap-behind.ensures.from, c.in_ok-item.ensures.within.from);
       inside = inside.1;
+      nested = items-more c.args.opening c.items.at c.in_ok-item.item.end c.in-GoesOn.next c.items.items.items c.push.new.self.items c.in_ok-item.item.node c.in_ok-push.ensures.items (omega (arith, c.requires.opening, c.items.invariant.from)) (omega (arith, inside.0, c.gap-behind.ensures.from, c.in_ok-item.ensures.within.end)) c.items.invariant.nested c.in_ok-item.ensures.nested;
       reads = λ bound r h g.
           let slot : FlowSlot = record { opening = c.args.opening; empty = None } in
           let room : length c.args.bytes.now < bound + c.items.at = omega (arith, h, c.items.invariant.from) in
@@ -222,6 +224,8 @@ read_flow_mapping-entries-preserved t c = let inside = rw c.in-GoesOn.is at c.in
     record {
       from = omega (arith, c.entries.invariant.from, inside, c.gap-behind.ensures.from, c.in_ok-value.ensures.within.from, c.in_ok-key.ensures.within.read.start);
       inside = inside.1;
+      nested = entries-more c.args.opening c.entries.at c.in_ok-value.value.end c.in-GoesOn.next c.entries.entries.items c.push.new.self.items c.entry_of.result c.in_ok-key.key.read.scalar c.in_ok-key.key.read.span (view c.in_ok-value.value.node) c.in_ok-push.ensures.items (c.entry_of.ensures ∙ ap (λ x. (x, (view c.in_ok-value.value.node))) c.scalar_node-key.ensures)
+          (omega (arith, c.requires.opening, c.entries.invariant.from)) (omega (arith, c.in_ok-key.ensures.within.read.start)) (omega (arith, c.in_ok-key.ensures.within.read.start, c.in_ok-key.ensures.within.read.from)) (omega (arith, inside.0, c.gap-behind.ensures.from, c.in_ok-value.ensures.within.end)) c.entries.invariant.nested c.in_ok-value.ensures.nested;
       reads = λ bound r h g.
           let room : length c.args.bytes.now < bound + c.entries.at = omega (arith, h, c.entries.invariant.from) in
           let kroom : length c.args.bytes.now < bound + c.in_ok-key.key.read.span.start = omega (arith, room, c.in_ok-key.ensures.within.read.start) in
@@ -236,3 +240,37 @@ read_flow_mapping-returns-in-Closes-clause-is t c = λ bound turns h k.
     spanned-ok tree.mapping c.args.opening (flow_entries (flow_node_over (flow_collection bound)) (flow_collection bound) turns c.args.opening c.args.depth tree.no_entries (lines_at c.args.bytes.now c.args.start)) c.args.count.now.nodes c.read_flow_value.new.count.nodes (tree.with_entry (entries_of (map entry_view c.entries.entries.items)) (tree.scalar c.in_ok-key.key.read.scalar c.in_ok-key.key.read.span) (view c.in_ok-value.value.node)) c.in-Closes.next (lines_at c.args.bytes.now c.in-Closes.next)
     (c.entries.invariant.reads bound (Ok (part (tree.with_entry (entries_of (map entry_view c.entries.entries.items)) (tree.scalar c.in_ok-key.key.read.scalar c.in_ok-key.key.read.span) (view c.in_ok-value.value.node)) c.in-Closes.next (lines_at c.args.bytes.now c.in-Closes.next), counted c.read_flow_value.new.count.nodes)) h (λ t l. entries-end_at (flow_node_over (flow_collection bound)) (flow_collection bound) c.args.opening c.args.depth c.entries.count.nodes (entries_of (map entry_view c.entries.entries.items)) c.args.bytes.now c.entries.at t c.entries.invariant.inside (omega (arith, l, c.entries.invariant.inside)) c.if-is_text_end.ensures.text c.if-begins.ensures.value c.read_flow_key.new.count.nodes (flow_key_of c.args.bytes.now c.in_ok-key.key) (c.in_ok-key.ensures.is bound room) c.read_flow_value.new.count.nodes (part_of c.args.bytes.now c.in_ok-value.value) (c.in_ok-value.ensures.is bound kroom) c.in-Closes.next (lines_at c.args.bytes.now c.in-Closes.next) (ap (after_item c.args.opening 125) c.gap-behind.ensures.lines ∙ c.in_ok-next.ensures.is ∙ ap (λ a. Ok (after_of c.args.bytes.now a)) c.in-Closes.is)) turns k)
     ∙ same_part (tree.mapping (tree.with_entry (entries_of (map entry_view c.entries.entries.items)) (tree.scalar c.in_ok-key.key.read.scalar c.in_ok-key.key.read.span) (view c.in_ok-value.value.node)) (span c.args.opening c.in-Closes.next)) (view c.mapping_part-in-Closes.result.node) c.in-Closes.next c.mapping_part-in-Closes.result.end (lines_at c.args.bytes.now c.in-Closes.next) (lines_at c.args.bytes.now c.mapping_part-in-Closes.result.next) c.read_flow_value.new.count.nodes c.read_flow_value.new.count.nodes (ap (λ d. tree.mapping d (span c.args.opening c.in-Closes.next)) (sym (ap (λ xs. entries_of (map entry_view xs)) c.in_ok-push.ensures.items ∙ entries_of-more c.entries.entries.items c.entry_of.result (tree.scalar c.in_ok-key.key.read.scalar c.in_ok-key.key.read.span) (view c.in_ok-value.value.node) (c.entry_of.ensures ∙ ap (λ x. (x, (view c.in_ok-value.value.node))) c.scalar_node-key.ensures))) ∙ sym c.mapping_part-in-Closes.ensures.node) (sym c.mapping_part-in-Closes.ensures.end) (ap (lines_at c.args.bytes.now) (sym c.mapping_part-in-Closes.ensures.next)) refl
+
+pub read_flow_node-returns-clause-nested : goal.read_flow_node-returns-clause-nested
+read_flow_node-returns-clause-nested t c = scalar-nested c.args.bytes.now c.args.at c.in_ok-read.read c.scalar_part.result c.in_ok-read.ensures.inside c.scalar_part.ensures.node c.scalar_part.ensures.end
+
+pub read_flow_value-returns-then-ends_value-clause-nested : goal.read_flow_value-returns-then-ends_value-clause-nested
+read_flow_value-returns-then-ends_value-clause-nested t c = let inside = rw c.in-Some.is at c.requires.inside.colon in
+    nested-wider c.in-Some.colon c.args.key.now.read.span.end c.empty_part-then-ends_value.result (omega (arith, inside.0, c.requires.inside.read.end)) c.empty_part-then-ends_value.ensures.nested
+
+pub read_flow_value-returns-clause-nested : goal.read_flow_value-returns-clause-nested
+read_flow_value-returns-clause-nested t c = let inside = rw c.in-Some.is at c.requires.inside.colon in
+    nested-wider c.gap-at.result c.args.key.now.read.span.end c.read_flow_node.result (omega (arith, inside.0, c.requires.inside.read.end, c.gap-at.ensures.from)) c.read_flow_node.ensures.nested
+
+pub read_flow_sequence-returns-then-begins-clause-nested : goal.read_flow_sequence-returns-then-begins-clause-nested
+read_flow_sequence-returns-then-begins-clause-nested t c =
+    let ns = nodes_of (map view c.items.items.items) in
+    sequence-nested c.sequence_part.result ns c.args.opening (c.items.at + 1) c.sequence_part.ensures.node c.sequence_part.ensures.end (omega (arith, c.requires.opening, c.items.invariant.from)) (items-wider c.args.opening c.items.at (c.items.at + 1) ns (omega arith) c.items.invariant.nested)
+
+pub read_flow_sequence-returns-in-Closes-clause-nested : goal.read_flow_sequence-returns-in-Closes-clause-nested
+read_flow_sequence-returns-in-Closes-clause-nested t c = let inside = rw c.in-Closes.is at c.in_ok-next.ensures.after in
+    sequence-nested c.sequence_part-in-Closes.result (nodes_of (map view c.push.new.self.items)) c.args.opening c.in-Closes.next c.sequence_part-in-Closes.ensures.node c.sequence_part-in-Closes.ensures.end
+    (omega (arith, c.requires.opening, c.items.invariant.from, inside.0, c.gap-behind.ensures.from, c.in_ok-item.ensures.within.from))
+    (items-more c.args.opening c.items.at c.in_ok-item.item.end c.in-Closes.next c.items.items.items c.push.new.self.items c.in_ok-item.item.node c.in_ok-push.ensures.items (omega (arith, c.requires.opening, c.items.invariant.from)) (omega (arith, inside.0, c.gap-behind.ensures.from, c.in_ok-item.ensures.within.end)) c.items.invariant.nested c.in_ok-item.ensures.nested)
+
+pub read_flow_mapping-returns-then-begins-clause-nested : goal.read_flow_mapping-returns-then-begins-clause-nested
+read_flow_mapping-returns-then-begins-clause-nested t c =
+    let es = entries_of (map entry_view c.entries.entries.items) in
+    mapping-nested c.mapping_part.result es c.args.opening (c.entries.at + 1) c.mapping_part.ensures.node c.mapping_part.ensures.end (omega (arith, c.requires.opening, c.entries.invariant.from)) (entries-wider c.args.opening c.entries.at (c.entries.at + 1) es (omega arith) c.entries.invariant.nested)
+
+pub read_flow_mapping-returns-in-Closes-clause-nested : goal.read_flow_mapping-returns-in-Closes-clause-nested
+read_flow_mapping-returns-in-Closes-clause-nested t c = let inside = rw c.in-Closes.is at c.in_ok-next.ensures.after in
+    mapping-nested c.mapping_part-in-Closes.result (entries_of (map entry_view c.push.new.self.items)) c.args.opening c.in-Closes.next c.mapping_part-in-Closes.ensures.node c.mapping_part-in-Closes.ensures.end
+    (omega (arith, c.requires.opening, c.entries.invariant.from, inside.0, c.gap-behind.ensures.from, c.in_ok-value.ensures.within.from, c.in_ok-key.ensures.within.read.start))
+    (entries-more c.args.opening c.entries.at c.in_ok-value.value.end c.in-Closes.next c.entries.entries.items c.push.new.self.items c.entry_of.result c.in_ok-key.key.read.scalar c.in_ok-key.key.read.span (view c.in_ok-value.value.node) c.in_ok-push.ensures.items (c.entry_of.ensures ∙ ap (λ x. (x, (view c.in_ok-value.value.node))) c.scalar_node-key.ensures)
+    (omega (arith, c.requires.opening, c.entries.invariant.from)) (omega (arith, c.in_ok-key.ensures.within.read.start)) (omega (arith, c.in_ok-key.ensures.within.read.start, c.in_ok-key.ensures.within.read.from)) (omega (arith, inside.0, c.gap-behind.ensures.from, c.in_ok-value.ensures.within.end)) c.entries.invariant.nested c.in_ok-value.ensures.nested)

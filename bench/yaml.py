@@ -1,0 +1,121 @@
+"""How long a file of YAML takes to read, beside libyaml's event parser on the same bytes: bench/yaml.py, after ./test or a
+build of crates/readers.
+
+It needs a C compiler and libyaml with its headers (Debian's libyaml-dev). Each file ends with a line at which both readers
+stop with a fault, so that neither prints a tree, and all before it is read by both. Each time is the least processor time of
+several runs in one run of this program, less that for this line alone. Each shape is read at half and at its whole size:
+where reading is linear, the time grows as the bytes do.
+"""
+
+import json
+import pathlib
+import resource
+import subprocess
+import sys
+import tempfile
+
+TOP = pathlib.Path(__file__).resolve().parent.parent
+PROGRAM = TOP / "crates" / "readers" / "out" / "readers"
+RUNS = 25
+SIZE = 1_000_000
+
+# an indicator that begins no node, at the start of a line
+LAST = b"@\n"
+
+JOB = """  job{n}:
+    name: "Build and test, part {n}"
+    runs-on: ubuntu-latest
+    strategy:
+      matrix:
+        version: [3.10, 3.11, 3.12]
+        os: {{linux: ubuntu-latest, 'mac': macos-14}}
+    steps:
+      - uses: actions/checkout@v4
+      - name: Build
+        run: |
+          set -eu
+          make -j2 all
+          make check
+        env:
+          VERBOSE: 'yes'  # for the log
+      - name: Note
+        if: failure()
+        run: >-
+          echo "part {n}
+          has failed"
+"""
+
+
+def workflow(size):
+    """A workflow of jobs of the usual kind, of about so many bytes."""
+    parts = ["on: push\njobs:\n"]
+    length = len(parts[0])
+    number = 0
+    while length < size:
+        parts.append(JOB.format(n=number))
+        length += len(parts[-1])
+        number += 1
+    return "".join(parts).encode()
+
+
+def shapes(size):
+    """Files of one shape each, of about so many bytes."""
+    yield "a workflow", workflow(size)
+    yield "plain scalar, one line", b"on: push\njobs: " + b"a b " * (size // 4) + b"\n"
+    yield "plain scalar, lines of three bytes", b"on: push\njobs: a\n" + b" b\n" * (size // 3)
+    yield "double-quoted scalar, escapes", b'on: push\njobs: "' + b"\\x61" * (size // 4) + b'"\n'
+    yield "block scalar, lines of four bytes", b"on: push\njobs: |\n" + b"  b\n" * (size // 4)
+    yield "keys", b"on: push\njobs:\n" + b"".join(b"  key%08d: v\n" % n for n in range(49_000 * size // SIZE))
+    yield "items in brackets, one line", b"on: push\njobs: [" + b"abcdefghi, " * (90_000 * size // SIZE) + b"]\n"
+    yield "brackets, beside one another", b"on: push\njobs: [" + b"[]," * (60_000 * size // SIZE) + b"]\n"
+    yield "comments", b"on: push\njobs: v\n" + b"# c\n" * (size // 4)
+
+
+def processor_time():
+    """The processor time of all runs so far, in seconds."""
+    used = resource.getrusage(resource.RUSAGE_CHILDREN)
+    return used.ru_utime + used.ru_stime
+
+
+def read_once(command, file):
+    """The processor time of one run, and its output."""
+    start = processor_time()
+    done = subprocess.run(command, input=file, capture_output=True, check=False)
+    return processor_time() - start, done.stdout
+
+
+def check_fault(file, out):
+    """That the file was read up to its last line."""
+    start = json.loads(out)["fault"]["start"]
+    if start != len(file) - len(LAST):
+        sys.exit(f"a fault at {start} of {len(file)} bytes")
+
+
+def least(events, files):
+    """For each file the least times to read it, here and by libyaml. The runs take turns, so that all of them see the same
+    load of the machine."""
+    times = [[1e9, 1e9] for _ in files]
+    for _ in range(RUNS):
+        for file, best in zip(files, times):
+            took, out = read_once([PROGRAM, "yaml"], file)
+            check_fault(file, out)
+            best[0] = min(best[0], took)
+            best[1] = min(best[1], read_once([events], file)[0])
+    return times
+
+
+def main():
+    """Prints a table."""
+    with tempfile.TemporaryDirectory() as folder:
+        events = pathlib.Path(folder) / "yaml_events"
+        subprocess.run(["cc", "-O2", "-o", events, TOP / "bench" / "yaml_events.c", "-lyaml"], check=True)
+        print(f"{'file':36} {'bytes':>9} {'this':>9} {'libyaml':>9} {'this/libyaml':>12}  whole/half of bytes")
+        for (name, whole), (_, half) in zip(shapes(SIZE), shapes(SIZE // 2)):
+            nothing, smaller, all_of_it = least(events, [LAST, half + LAST, whole + LAST])
+            took, theirs = (a - b for a, b in zip(all_of_it, nothing))
+            growth = f"{took / (smaller[0] - nothing[0]):.2f} of {len(whole) / len(half):.2f}"
+            print(f"{name:36} {len(whole):9} {took:8.3f}s {theirs:8.3f}s {took / theirs:12.2f}  {growth}")
+
+
+if __name__ == "__main__":
+    sys.exit(main())
