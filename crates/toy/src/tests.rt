@@ -1,5 +1,5 @@
 use crate::linter::Toy;
-use al_session::{Change, Refused, Session, apply_changes};
+use al_session::{Change, Refused, Session, apply_change, apply_changes};
 use al_text::{Output, Stop};
 use std::alloc::AllocError;
 use std::test::Fail;
@@ -9,6 +9,10 @@ const NEED: &[u8] = b"need b.toy c.toy";
 const ABSENT: &[u8] = b"a.toy:1:1: unexpected key \"b.toy\" [syntax-check]\n";
 
 const EMPTY: &[u8] = b"a.toy:1:1: wrong kind of value for \"b.toy\" [syntax-check]\n";
+
+const TWO_CALLS: &[u8] = b"a.toy:1:1: wrong kind of value for \"b.toy\" [syntax-check]
+b.toy:1:1: unexpected key \"z.toy\" [syntax-check]
+";
 
 // These tell a test's proof nothing, which keeps it short.
 
@@ -77,31 +81,118 @@ fn a_folder_is_full(rt: HostRuntime) -> Result<(), Fail> {
     Ok(())
 }
 
-// What is reported, asked for twice, so that one allocation may be refused.
-fn report_again(rt: &HostRuntime, session: &Session<Toy>) -> Result<Vec<u8>, Stop> {
-    match report(rt, session) {
-        Err(Stop::Memory) => report(rt, session),
-        other => other,
+// What a session shows.
+#[derive(Clone, Copy)]
+struct Shown {
+    report: &'static [u8],
+    missing: &'static [&'static str],
+    // The bytes of `a.toy`, `b.toy` and `c.toy`.
+    a: Option<&'static [u8]>,
+    b: Option<&'static [u8]>,
+    c: Option<&'static [u8]>,
+}
+
+fn shows(rt: &HostRuntime, session: &Session<Toy>, wanted: &Shown) -> Result<bool, Stop> {
+    let status = if wanted.report.is_empty() { 0 } else { 1 };
+    Ok(
+        report(rt, session)?.as_slice() == wanted.report
+            && session.status()? == status
+            && misses(session, wanted.missing)?
+            && session.bytes("a.toy") == wanted.a
+            && session.bytes("b.toy") == wanted.b
+            && session.bytes("c.toy") == wanted.c,
+    )
+}
+
+// Asked for once more where it stops: the one allocation that is refused may be one of the report.
+fn shows_again(rt: &HostRuntime, session: &Session<Toy>, wanted: &Shown) -> Result<bool, Stop> {
+    match shows(rt, session, wanted) {
+        Ok(is_shown) => Ok(is_shown),
+        Err(_) => shows(rt, session, wanted),
     }
 }
+
+fn change(session: &mut Session<Toy>, change: &Change) -> Result<usize, Refused> {
+    apply_change(session, change).map(|edit| edit.rechecked.as_slice().len())
+}
+
+const NOTHING: Shown = Shown {
+    report: b"",
+    missing: &[],
+    a: None,
+    b: None,
+    c: None,
+};
+
+const ONE_CALL: Shown = Shown {
+    report: ABSENT,
+    missing: &["b.toy", "c.toy"],
+    a: Some(NEED),
+    b: None,
+    c: None,
+};
 
 // To be run with each allocation refused in turn, too.
 #[test]
 fn a_refused_edit_changes_nothing(rt: HostRuntime) -> Result<(), Fail> {
-    let mut session = Session::open(rt.alloc(), Toy::new());
-    let script: [(&str, &[u8], &[u8]); 4] = [
-        ("a.toy", NEED, ABSENT),
-        ("c.toy", b"", EMPTY),
-        ("c.toy", b"have x", b""),
-        ("c.toy", b"have", EMPTY),
+    let script = [
+        (Change::Put("a.toy", NEED), 1, ONE_CALL),
+        (
+            Change::Put("c.toy", b""),
+            2,
+            Shown {
+                report: EMPTY,
+                missing: &["b.toy"],
+                c: Some(b""),
+                ..ONE_CALL
+            },
+        ),
+        (
+            Change::Put("c.toy", b"have x"),
+            2,
+            Shown {
+                report: b"",
+                missing: &["b.toy"],
+                c: Some(b"have x"),
+                ..ONE_CALL
+            },
+        ),
+        (
+            Change::Put("b.toy", b"need z.toy"),
+            3,
+            Shown {
+                report: TWO_CALLS,
+                missing: &["z.toy"],
+                b: Some(b"need z.toy"),
+                c: Some(b"have x"),
+                ..ONE_CALL
+            },
+        ),
+        (
+            Change::Delete("b.toy"),
+            2,
+            Shown {
+                report: b"",
+                missing: &["b.toy"],
+                c: Some(b"have x"),
+                ..ONE_CALL
+            },
+        ),
+        (Change::Delete("c.toy"), 1, ONE_CALL),
+        (Change::Delete("a.toy"), 0, NOTHING),
     ];
-    let mut before: &[u8] = b"";
-    for (path, bytes, after) in script {
-        if put(&mut session, path, bytes) == Some(Refused::Memory) {
-            assert_eq!(rt; report_again(&rt, &session)?.as_slice(), before);
-            assert_eq!(rt; put(&mut session, path, bytes), None);
+    let mut session = Session::open(rt.alloc(), Toy::new());
+    let mut before = NOTHING;
+    for (edit, files, after) in script {
+        let checks = session.meter();
+        let mut reply = change(&mut session, &edit);
+        if reply == Err(Refused::Memory) {
+            assert!(rt; shows_again(&rt, &session, &before)?);
+            assert!(rt; session.meter() <= checks.saturating_add(files as u64));
+            reply = change(&mut session, &edit);
         }
-        assert_eq!(rt; report_again(&rt, &session)?.as_slice(), after);
+        assert_eq!(rt; reply, Ok(files));
+        assert!(rt; shows_again(&rt, &session, &after)?);
         before = after;
     }
     Ok(())
