@@ -11,7 +11,7 @@ use Rattle.al_shape.specs.Faults.{is_key, is_null, value_in}
 use Rattle.al_shape.specs.Keys.{key_of}
 use Rattle.al_shape.specs.Names.{among}
 use Rattle.al_shape.specs.declared.values.Member.{Member}
-use Rattle.al_shape.specs.declared.values.Word.{Word}
+use Rattle.al_shape.specs.declared.values.ScalarNode.{ScalarNode}
 
 -- the entries whose keys no earlier one has, behind entries with the keys that were seen
 abbrev pub firsts : List (List ℕ) → List (Node × Node) → List (Node × Node)
@@ -70,8 +70,8 @@ abbrev pub texts_at : List ℕ → Node → List (Scalar × Span)
 texts_at k n = option_map_or texts_in (value_at k n) []
 
 -- what the program's views of a scalar and of an entry stand for
-abbrev pub word_of : Word → Scalar × Span
-word_of w = (w.scalar.now, w.span)
+abbrev pub scalar_node_of : ScalarNode → Scalar × Span
+scalar_node_of s = (s.scalar.now, s.span)
 
 abbrev pub member_of : Member → Node × Node
 member_of m = (view m.key.now, view m.value.now)

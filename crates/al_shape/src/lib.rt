@@ -22,5 +22,6 @@ pub use names::{is_among, is_event};
 pub use scalars::{contains_chunk, is_null_scalar};
 pub use table::{Clash, Keys, Need, Others, Row, Rule, Shape, Words, rule_of};
 pub use values::{
-    Member, Word, items, items_under, key, members, text, text_under, texts, texts_under, value,
+    Member, ScalarNode, items, items_under, key, members, text, text_under, texts, texts_under,
+    value,
 };

@@ -1,4 +1,4 @@
-ghost use Rattle.al_shape.specs.Values.{entries_in, firsts, items_at, items_in, key_at, member_of, text_at, text_in, texts_at, texts_in, unless_null, value_at, word_of};
+ghost use Rattle.al_shape.specs.Values.{entries_in, firsts, items_at, items_in, key_at, member_of, text_at, text_in, texts_at, texts_in, unless_null, value_at, scalar_node_of};
 ghost use Rattle.al_yaml.specs.View.{entry_view, view};
 ghost use Rattle.std.specs.List.{filter_map};
 ghost use Rattle.std.specs.Option.{option_copied, option_to_list};
@@ -49,25 +49,25 @@ fn unless_null_scalar(scalar: &Scalar) -> Option<&Scalar>
 
 /// A scalar that isn't null, and the span of its written form.
 #[derive(Clone, Copy)]
-pub struct Word<'a> {
+pub struct ScalarNode<'a> {
     pub scalar: &'a Scalar,
     pub span: Span,
 }
 
 /// The scalar that a node is, unless it is null.
-pub fn text(node: &Node) -> Option<Word<'_>>
-    ensures { option_map word_of result ≡ text_in (view node.now) }
+pub fn text(node: &Node) -> Option<ScalarNode<'_>>
+    ensures { option_map scalar_node_of result ≡ text_in (view node.now) }
 {
     let scalar = unless_null_scalar(node.scalar()?)?;
-    Some(Word {
+    Some(ScalarNode {
         scalar,
         span: node.span(),
     })
 }
 
 /// The scalar under a key, unless it is null.
-pub fn text_under<'a>(node: &'a Node, key: &str) -> Option<Word<'a>>
-    ensures { option_map word_of result ≡ text_at key.now (view node.now) }
+pub fn text_under<'a>(node: &'a Node, key: &str) -> Option<ScalarNode<'a>>
+    ensures { option_map scalar_node_of result ≡ text_at key.now (view node.now) }
 {
     text(value(node, key)?)
 }
@@ -75,8 +75,8 @@ pub fn text_under<'a>(node: &'a Node, key: &str) -> Option<Word<'a>>
 /// What a scalar or a sequence of scalars says: those that aren't null, in order.
 ///
 /// Fails with `AllocError` for want of memory.
-pub fn texts(alloc: Global, node: &Node) -> Result<Vec<Word<'_>>, AllocError>
-    ensures { IfOk result (λ v. map word_of v.items ≡ texts_in (view node.now)) }
+pub fn texts(alloc: Global, node: &Node) -> Result<Vec<ScalarNode<'_>>, AllocError>
+    ensures { IfOk result (λ v. map scalar_node_of v.items ≡ texts_in (view node.now)) }
 {
     match node.sequence() {
         Some(items) => item_texts(alloc, items),
@@ -85,27 +85,30 @@ pub fn texts(alloc: Global, node: &Node) -> Result<Vec<Word<'_>>, AllocError>
 }
 
 /// The scalars among some nodes, without those that are null.
-fn item_texts(alloc: Global, nodes: &[Node]) -> Result<Vec<Word<'_>>, AllocError>
-    ensures { IfOk result (λ v. map word_of v.items ≡ filter_map text_in (map view nodes.now)) }
+fn item_texts(alloc: Global, nodes: &[Node]) -> Result<Vec<ScalarNode<'_>>, AllocError>
+    ensures { IfOk result (λ v. map scalar_node_of v.items ≡ filter_map text_in (map view nodes.now)) }
 {
-    let mut words = Vec::new(alloc);
+    let mut found = Vec::new(alloc);
     for node in nodes {
-        if let Some(word) = text(node) {
-            words.push(word)?;
+        if let Some(scalar) = text(node) {
+            found.push(scalar)?;
         }
     }
-    Ok(words)
+    Ok(found)
 }
 
 /// A scalar as a list of one; none as an empty one.
-fn one_text(alloc: Global, word: Option<Word<'_>>) -> Result<Vec<Word<'_>>, AllocError>
-    ensures { IfOk result (λ v. map word_of v.items ≡ option_to_list (option_map word_of word.entry)) }
+fn one_text(
+    alloc: Global,
+    scalar: Option<ScalarNode<'_>>,
+) -> Result<Vec<ScalarNode<'_>>, AllocError>
+    ensures { IfOk result (λ v. map scalar_node_of v.items ≡ option_to_list (option_map scalar_node_of scalar.entry)) }
 {
-    let mut words = Vec::new(alloc);
-    if let Some(word) = word {
-        words.push(word)?;
+    let mut found = Vec::new(alloc);
+    if let Some(scalar) = scalar {
+        found.push(scalar)?;
     }
-    Ok(words)
+    Ok(found)
 }
 
 /// What stands under a key as a scalar or a sequence of scalars. Fails with `AllocError` for want of memory.
@@ -113,8 +116,8 @@ pub fn texts_under<'a>(
     alloc: Global,
     node: &'a Node,
     key: &str,
-) -> Result<Vec<Word<'a>>, AllocError>
-    ensures { IfOk result (λ v. map word_of v.items ≡ texts_at key.now (view node.now)) }
+) -> Result<Vec<ScalarNode<'a>>, AllocError>
+    ensures { IfOk result (λ v. map scalar_node_of v.items ≡ texts_at key.now (view node.now)) }
 {
     match value(node, key) {
         Some(node) => texts(alloc, node),

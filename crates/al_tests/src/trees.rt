@@ -2,9 +2,9 @@
 
 use al_text::{Code, Fault, Key, position};
 use al_tree::{
-    Concurrency, Container, Declared, Event, FileKind, Job, RunsOn, Schedule, Step, Strategy, Word,
-    default_shell, default_working_directory, document_faults, items, key, key_text, members,
-    read_action, read_workflow, texts, texts_under, value,
+    Concurrency, Container, Declared, Event, FileKind, Job, RunsOn, ScalarNode, Schedule, Step,
+    Strategy, default_shell, default_working_directory, document_faults, items, key, key_text,
+    members, read_action, read_workflow, texts, texts_under, value,
 };
 use al_yaml::{Doc, Node, read_yaml};
 use std::alloc::Global;
@@ -96,7 +96,7 @@ fn assert_fault(rt: &impl Abort, text: &[u8], fault: &Fault, told: Told) {
 }
 
 // Compares texts with what they should be; none is as an empty one.
-fn assert_words(rt: &impl Abort, rows: &[(Option<Word<'_>>, &str)]) {
+fn assert_scalars(rt: &impl Abort, rows: &[(Option<ScalarNode<'_>>, &str)]) {
     for (word, text) in rows {
         let found: &[u8] = match word {
             Some(word) => word.scalar.text(),
@@ -132,7 +132,7 @@ fn sections_of_a_workflow(rt: HostRuntime) -> Result<(), Fail> {
     let alloc = rt.alloc();
     let (workflow, faults) = read_workflow(alloc, document(&rt, alloc, WORKFLOW))?;
     assert_eq!(rt; faults.len(), 2);
-    assert_words(
+    assert_scalars(
         &rt,
         &[
             (workflow.name(), "Build"),
@@ -146,11 +146,11 @@ fn sections_of_a_workflow(rt: HostRuntime) -> Result<(), Fail> {
     };
     let branches = texts(alloc, there(&rt, push.branches()))?;
     assert_eq!(rt; branches.len(), 2);
-    assert_words(&rt, &[(branches.get(1).copied(), "v*")]);
+    assert_scalars(&rt, &[(branches.get(1).copied(), "v*")]);
     let times = items(there(&rt, workflow.event("schedule")));
     assert_eq!(rt; times.len(), 1);
     let time = Schedule { node: &times[0] };
-    assert_words(&rt, &[(time.cron(), "0 0 * * 0"), (time.timezone(), "UTC")]);
+    assert_scalars(&rt, &[(time.cron(), "0 0 * * 0"), (time.timezone(), "UTC")]);
     let call = Event {
         node: there(&rt, workflow.event("workflow_call")),
     };
@@ -160,7 +160,7 @@ fn sections_of_a_workflow(rt: HostRuntime) -> Result<(), Fail> {
     let input = Declared {
         node: inputs[0].value,
     };
-    assert_words(
+    assert_scalars(
         &rt,
         &[
             (input.input_type(), "number"),
@@ -201,7 +201,7 @@ fn sections_of_a_job(rt: HostRuntime) -> Result<(), Fail> {
     let step = Step {
         node: &job.steps()[0],
     };
-    assert_words(
+    assert_scalars(
         &rt,
         &[
             (runners.group(), "large"),
@@ -231,7 +231,7 @@ fn sections_of_an_action(rt: HostRuntime) -> Result<(), Fail> {
     let Some(runs) = action.runs() else {
         panic!(&rt; "no runs");
     };
-    assert_words(
+    assert_scalars(
         &rt,
         &[
             (action.name(), "A"),

@@ -1,8 +1,8 @@
-ghost use Rattle.al_shape.specs.Values.{items_at, text_at, value_at, word_of};
+ghost use Rattle.al_shape.specs.Values.{items_at, text_at, value_at, scalar_node_of};
 ghost use Rattle.al_yaml.specs.View.{view};
 ghost use Rattle.std.specs.Prelude.{◌≡◌, codes, map, option_map};
 
-use al_shape::{Word, items_under, text_under, value};
+use al_shape::{ScalarNode, items_under, text_under, value};
 use al_yaml::Node;
 
 /// An action, by the root of its file (GitHub, "Metadata syntax for GitHub Actions").
@@ -16,22 +16,22 @@ pub struct Action {
 
 impl Action {
     /// `name`.
-    pub fn name(&self) -> Option<Word<'_>>
-        ensures { option_map word_of result ≡ text_at (codes "name") (view self.now.root) }
+    pub fn name(&self) -> Option<ScalarNode<'_>>
+        ensures { option_map scalar_node_of result ≡ text_at (codes "name") (view self.now.root) }
     {
         text_under(&self.root, "name")
     }
 
     /// `author`.
-    pub fn author(&self) -> Option<Word<'_>>
-        ensures { option_map word_of result ≡ text_at (codes "author") (view self.now.root) }
+    pub fn author(&self) -> Option<ScalarNode<'_>>
+        ensures { option_map scalar_node_of result ≡ text_at (codes "author") (view self.now.root) }
     {
         text_under(&self.root, "author")
     }
 
     /// `description`.
-    pub fn description(&self) -> Option<Word<'_>>
-        ensures { option_map word_of result ≡ text_at (codes "description") (view self.now.root) }
+    pub fn description(&self) -> Option<ScalarNode<'_>>
+        ensures { option_map scalar_node_of result ≡ text_at (codes "description") (view self.now.root) }
     {
         text_under(&self.root, "description")
     }
@@ -75,8 +75,8 @@ pub struct Runs<'a> {
 
 impl<'a> Runs<'a> {
     /// `using`: what the action is.
-    pub fn using(self) -> Option<Word<'a>>
-        ensures { option_map word_of result ≡ text_at (codes "using") (view self.entry.node.now) }
+    pub fn using(self) -> Option<ScalarNode<'a>>
+        ensures { option_map scalar_node_of result ≡ text_at (codes "using") (view self.entry.node.now) }
     {
         text_under(self.node, "using")
     }
@@ -89,43 +89,43 @@ impl<'a> Runs<'a> {
     }
 
     /// `main` of a JavaScript action.
-    pub fn main(self) -> Option<Word<'a>>
-        ensures { option_map word_of result ≡ text_at (codes "main") (view self.entry.node.now) }
+    pub fn main(self) -> Option<ScalarNode<'a>>
+        ensures { option_map scalar_node_of result ≡ text_at (codes "main") (view self.entry.node.now) }
     {
         text_under(self.node, "main")
     }
 
     /// `pre` of a JavaScript action.
-    pub fn pre(self) -> Option<Word<'a>>
-        ensures { option_map word_of result ≡ text_at (codes "pre") (view self.entry.node.now) }
+    pub fn pre(self) -> Option<ScalarNode<'a>>
+        ensures { option_map scalar_node_of result ≡ text_at (codes "pre") (view self.entry.node.now) }
     {
         text_under(self.node, "pre")
     }
 
     /// `pre-if`: the condition under which the part before runs.
-    pub fn pre_if(self) -> Option<Word<'a>>
-        ensures { option_map word_of result ≡ text_at (codes "pre-if") (view self.entry.node.now) }
+    pub fn pre_if(self) -> Option<ScalarNode<'a>>
+        ensures { option_map scalar_node_of result ≡ text_at (codes "pre-if") (view self.entry.node.now) }
     {
         text_under(self.node, "pre-if")
     }
 
     /// `post` of a JavaScript action.
-    pub fn post(self) -> Option<Word<'a>>
-        ensures { option_map word_of result ≡ text_at (codes "post") (view self.entry.node.now) }
+    pub fn post(self) -> Option<ScalarNode<'a>>
+        ensures { option_map scalar_node_of result ≡ text_at (codes "post") (view self.entry.node.now) }
     {
         text_under(self.node, "post")
     }
 
     /// `post-if`: the condition under which the part behind runs.
-    pub fn post_if(self) -> Option<Word<'a>>
-        ensures { option_map word_of result ≡ text_at (codes "post-if") (view self.entry.node.now) }
+    pub fn post_if(self) -> Option<ScalarNode<'a>>
+        ensures { option_map scalar_node_of result ≡ text_at (codes "post-if") (view self.entry.node.now) }
     {
         text_under(self.node, "post-if")
     }
 
     /// `image` of a Docker action.
-    pub fn image(self) -> Option<Word<'a>>
-        ensures { option_map word_of result ≡ text_at (codes "image") (view self.entry.node.now) }
+    pub fn image(self) -> Option<ScalarNode<'a>>
+        ensures { option_map scalar_node_of result ≡ text_at (codes "image") (view self.entry.node.now) }
     {
         text_under(self.node, "image")
     }
@@ -138,22 +138,22 @@ impl<'a> Runs<'a> {
     }
 
     /// `entrypoint` of a Docker action.
-    pub fn entrypoint(self) -> Option<Word<'a>>
-        ensures { option_map word_of result ≡ text_at (codes "entrypoint") (view self.entry.node.now) }
+    pub fn entrypoint(self) -> Option<ScalarNode<'a>>
+        ensures { option_map scalar_node_of result ≡ text_at (codes "entrypoint") (view self.entry.node.now) }
     {
         text_under(self.node, "entrypoint")
     }
 
     /// `pre-entrypoint` of a Docker action.
-    pub fn pre_entrypoint(self) -> Option<Word<'a>>
-        ensures { option_map word_of result ≡ text_at (codes "pre-entrypoint") (view self.entry.node.now) }
+    pub fn pre_entrypoint(self) -> Option<ScalarNode<'a>>
+        ensures { option_map scalar_node_of result ≡ text_at (codes "pre-entrypoint") (view self.entry.node.now) }
     {
         text_under(self.node, "pre-entrypoint")
     }
 
     /// `post-entrypoint` of a Docker action.
-    pub fn post_entrypoint(self) -> Option<Word<'a>>
-        ensures { option_map word_of result ≡ text_at (codes "post-entrypoint") (view self.entry.node.now) }
+    pub fn post_entrypoint(self) -> Option<ScalarNode<'a>>
+        ensures { option_map scalar_node_of result ≡ text_at (codes "post-entrypoint") (view self.entry.node.now) }
     {
         text_under(self.node, "post-entrypoint")
     }

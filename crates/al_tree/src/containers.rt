@@ -1,8 +1,8 @@
-ghost use Rattle.al_shape.specs.Values.{text_at, text_below, value_at, word_of};
+ghost use Rattle.al_shape.specs.Values.{text_at, text_below, value_at, scalar_node_of};
 ghost use Rattle.al_yaml.specs.View.{view};
 ghost use Rattle.std.specs.Prelude.{◌≡◌, [], ◌∷◌, codes, option_map};
 
-use al_shape::{Word, text_under, value};
+use al_shape::{ScalarNode, text_under, value};
 use al_yaml::Node;
 
 /// A container that a job runs in, or a service of it (`jobs.<job_id>.container`, `jobs.<job_id>.services.<service_id>`),
@@ -14,8 +14,8 @@ pub struct Container<'a> {
 
 impl<'a> Container<'a> {
     /// `image`.
-    pub fn image(self) -> Option<Word<'a>>
-        ensures { option_map word_of result ≡ text_at (codes "image") (view self.entry.node.now) }
+    pub fn image(self) -> Option<ScalarNode<'a>>
+        ensures { option_map scalar_node_of result ≡ text_at (codes "image") (view self.entry.node.now) }
     {
         text_under(self.node, "image")
     }
@@ -28,15 +28,15 @@ impl<'a> Container<'a> {
     }
 
     /// `credentials.username`.
-    pub fn username(self) -> Option<Word<'a>>
-        ensures { option_map word_of result ≡ text_below (codes "credentials" ∷ codes "username" ∷ []) (view self.entry.node.now) }
+    pub fn username(self) -> Option<ScalarNode<'a>>
+        ensures { option_map scalar_node_of result ≡ text_below (codes "credentials" ∷ codes "username" ∷ []) (view self.entry.node.now) }
     {
         text_under(self.credentials()?, "username")
     }
 
     /// `credentials.password`.
-    pub fn password(self) -> Option<Word<'a>>
-        ensures { option_map word_of result ≡ text_below (codes "credentials" ∷ codes "password" ∷ []) (view self.entry.node.now) }
+    pub fn password(self) -> Option<ScalarNode<'a>>
+        ensures { option_map scalar_node_of result ≡ text_below (codes "credentials" ∷ codes "password" ∷ []) (view self.entry.node.now) }
     {
         text_under(self.credentials()?, "password")
     }
@@ -63,8 +63,8 @@ impl<'a> Container<'a> {
     }
 
     /// `options`.
-    pub fn options(self) -> Option<Word<'a>>
-        ensures { option_map word_of result ≡ text_at (codes "options") (view self.entry.node.now) }
+    pub fn options(self) -> Option<ScalarNode<'a>>
+        ensures { option_map scalar_node_of result ≡ text_at (codes "options") (view self.entry.node.now) }
     {
         text_under(self.node, "options")
     }

@@ -1,8 +1,8 @@
-ghost use Rattle.al_shape.specs.Values.{items_at, text_at, value_at, word_of};
+ghost use Rattle.al_shape.specs.Values.{items_at, text_at, value_at, scalar_node_of};
 ghost use Rattle.al_yaml.specs.View.{view};
 ghost use Rattle.std.specs.Prelude.{◌≡◌, codes, map, option_map};
 
-use al_shape::{Word, items_under, text_under, value};
+use al_shape::{ScalarNode, items_under, text_under, value};
 use al_yaml::Node;
 
 /// What stands under an event of `on` (GitHub, "Workflow syntax", `on`).
@@ -98,15 +98,15 @@ pub struct Schedule<'a> {
 
 impl<'a> Schedule<'a> {
     /// `cron`.
-    pub fn cron(self) -> Option<Word<'a>>
-        ensures { option_map word_of result ≡ text_at (codes "cron") (view self.entry.node.now) }
+    pub fn cron(self) -> Option<ScalarNode<'a>>
+        ensures { option_map scalar_node_of result ≡ text_at (codes "cron") (view self.entry.node.now) }
     {
         text_under(self.node, "cron")
     }
 
     /// `timezone`.
-    pub fn timezone(self) -> Option<Word<'a>>
-        ensures { option_map word_of result ≡ text_at (codes "timezone") (view self.entry.node.now) }
+    pub fn timezone(self) -> Option<ScalarNode<'a>>
+        ensures { option_map scalar_node_of result ≡ text_at (codes "timezone") (view self.entry.node.now) }
     {
         text_under(self.node, "timezone")
     }
@@ -120,15 +120,15 @@ pub struct Declared<'a> {
 
 impl<'a> Declared<'a> {
     /// `description`.
-    pub fn description(self) -> Option<Word<'a>>
-        ensures { option_map word_of result ≡ text_at (codes "description") (view self.entry.node.now) }
+    pub fn description(self) -> Option<ScalarNode<'a>>
+        ensures { option_map scalar_node_of result ≡ text_at (codes "description") (view self.entry.node.now) }
     {
         text_under(self.node, "description")
     }
 
     /// `required`.
-    pub fn required(self) -> Option<Word<'a>>
-        ensures { option_map word_of result ≡ text_at (codes "required") (view self.entry.node.now) }
+    pub fn required(self) -> Option<ScalarNode<'a>>
+        ensures { option_map scalar_node_of result ≡ text_at (codes "required") (view self.entry.node.now) }
     {
         text_under(self.node, "required")
     }
@@ -141,8 +141,8 @@ impl<'a> Declared<'a> {
     }
 
     /// `type` of an input.
-    pub fn input_type(self) -> Option<Word<'a>>
-        ensures { option_map word_of result ≡ text_at (codes "type") (view self.entry.node.now) }
+    pub fn input_type(self) -> Option<ScalarNode<'a>>
+        ensures { option_map scalar_node_of result ≡ text_at (codes "type") (view self.entry.node.now) }
     {
         text_under(self.node, "type")
     }
@@ -155,15 +155,15 @@ impl<'a> Declared<'a> {
     }
 
     /// `deprecationMessage` of an input.
-    pub fn deprecation_message(self) -> Option<Word<'a>>
-        ensures { option_map word_of result ≡ text_at (codes "deprecationMessage") (view self.entry.node.now) }
+    pub fn deprecation_message(self) -> Option<ScalarNode<'a>>
+        ensures { option_map scalar_node_of result ≡ text_at (codes "deprecationMessage") (view self.entry.node.now) }
     {
         text_under(self.node, "deprecationMessage")
     }
 
     /// `value` of an output.
-    pub fn value(self) -> Option<Word<'a>>
-        ensures { option_map word_of result ≡ text_at (codes "value") (view self.entry.node.now) }
+    pub fn value(self) -> Option<ScalarNode<'a>>
+        ensures { option_map scalar_node_of result ≡ text_at (codes "value") (view self.entry.node.now) }
     {
         text_under(self.node, "value")
     }

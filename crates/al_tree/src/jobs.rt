@@ -1,8 +1,8 @@
-ghost use Rattle.al_shape.specs.Values.{items_at, text_at, value_at, value_below, word_of};
+ghost use Rattle.al_shape.specs.Values.{items_at, text_at, value_at, value_below, scalar_node_of};
 ghost use Rattle.al_yaml.specs.View.{view};
 ghost use Rattle.std.specs.Prelude.{◌≡◌, [], ◌∷◌, codes, map, option_map};
 
-use al_shape::{Word, items_under, text_under, value};
+use al_shape::{ScalarNode, items_under, text_under, value};
 use al_yaml::Node;
 
 /// A job, with its key (GitHub, "Workflow syntax", `jobs.<job_id>`).
@@ -14,8 +14,8 @@ pub struct Job<'a> {
 
 impl<'a> Job<'a> {
     /// `name`.
-    pub fn name(self) -> Option<Word<'a>>
-        ensures { option_map word_of result ≡ text_at (codes "name") (view self.entry.node.now) }
+    pub fn name(self) -> Option<ScalarNode<'a>>
+        ensures { option_map scalar_node_of result ≡ text_at (codes "name") (view self.entry.node.now) }
     {
         text_under(self.node, "name")
     }
@@ -35,8 +35,8 @@ impl<'a> Job<'a> {
     }
 
     /// `if`: the condition under which the job runs.
-    pub fn condition(self) -> Option<Word<'a>>
-        ensures { option_map word_of result ≡ text_at (codes "if") (view self.entry.node.now) }
+    pub fn condition(self) -> Option<ScalarNode<'a>>
+        ensures { option_map scalar_node_of result ≡ text_at (codes "if") (view self.entry.node.now) }
     {
         text_under(self.node, "if")
     }
@@ -91,8 +91,8 @@ impl<'a> Job<'a> {
     }
 
     /// `timeout-minutes`.
-    pub fn timeout_minutes(self) -> Option<Word<'a>>
-        ensures { option_map word_of result ≡ text_at (codes "timeout-minutes") (view self.entry.node.now) }
+    pub fn timeout_minutes(self) -> Option<ScalarNode<'a>>
+        ensures { option_map scalar_node_of result ≡ text_at (codes "timeout-minutes") (view self.entry.node.now) }
     {
         text_under(self.node, "timeout-minutes")
     }
@@ -105,8 +105,8 @@ impl<'a> Job<'a> {
     }
 
     /// `continue-on-error`.
-    pub fn continue_on_error(self) -> Option<Word<'a>>
-        ensures { option_map word_of result ≡ text_at (codes "continue-on-error") (view self.entry.node.now) }
+    pub fn continue_on_error(self) -> Option<ScalarNode<'a>>
+        ensures { option_map scalar_node_of result ≡ text_at (codes "continue-on-error") (view self.entry.node.now) }
     {
         text_under(self.node, "continue-on-error")
     }
@@ -126,8 +126,8 @@ impl<'a> Job<'a> {
     }
 
     /// `uses`: the workflow that the job calls.
-    pub fn uses(self) -> Option<Word<'a>>
-        ensures { option_map word_of result ≡ text_at (codes "uses") (view self.entry.node.now) }
+    pub fn uses(self) -> Option<ScalarNode<'a>>
+        ensures { option_map scalar_node_of result ≡ text_at (codes "uses") (view self.entry.node.now) }
     {
         text_under(self.node, "uses")
     }
@@ -169,8 +169,8 @@ pub struct RunsOn<'a> {
 
 impl<'a> RunsOn<'a> {
     /// `group`: the group of runners.
-    pub fn group(self) -> Option<Word<'a>>
-        ensures { option_map word_of result ≡ text_at (codes "group") (view self.entry.node.now) }
+    pub fn group(self) -> Option<ScalarNode<'a>>
+        ensures { option_map scalar_node_of result ≡ text_at (codes "group") (view self.entry.node.now) }
     {
         text_under(self.node, "group")
     }
@@ -198,15 +198,15 @@ impl<'a> Strategy<'a> {
     }
 
     /// `fail-fast`.
-    pub fn fail_fast(self) -> Option<Word<'a>>
-        ensures { option_map word_of result ≡ text_at (codes "fail-fast") (view self.entry.node.now) }
+    pub fn fail_fast(self) -> Option<ScalarNode<'a>>
+        ensures { option_map scalar_node_of result ≡ text_at (codes "fail-fast") (view self.entry.node.now) }
     {
         text_under(self.node, "fail-fast")
     }
 
     /// `max-parallel`.
-    pub fn max_parallel(self) -> Option<Word<'a>>
-        ensures { option_map word_of result ≡ text_at (codes "max-parallel") (view self.entry.node.now) }
+    pub fn max_parallel(self) -> Option<ScalarNode<'a>>
+        ensures { option_map scalar_node_of result ≡ text_at (codes "max-parallel") (view self.entry.node.now) }
     {
         text_under(self.node, "max-parallel")
     }

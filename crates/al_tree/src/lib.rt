@@ -14,7 +14,7 @@ mod workflow;
 
 pub use action::{Action, Runs};
 pub use al_shape::{
-    Clash, KeySet, Keys, Member, Need, Others, Row, Rule, Shape, Word, Words, contains_chunk,
+    Clash, KeySet, Keys, Member, Need, Others, Row, Rule, ScalarNode, Shape, Words, contains_chunk,
     is_among, is_event, is_null_scalar, items, items_under, key, key_of, key_text, members,
     rule_of, shape_faults, text, text_under, texts, texts_under, value,
 };

@@ -1,10 +1,10 @@
-ghost use Rattle.al_shape.specs.Values.{entries_at, member_of, text_at, value_at, value_below, word_of};
+ghost use Rattle.al_shape.specs.Values.{entries_at, member_of, text_at, value_at, value_below, scalar_node_of};
 ghost use Rattle.al_tree.specs.Files.{job_of};
 ghost use Rattle.al_yaml.specs.View.{view};
 ghost use Rattle.std.specs.Prelude.{◌≡◌, [], ◌∷◌, codes, map, option_map, IfOk};
 
 use crate::jobs::Job;
-use al_shape::{Member, Word, members, text_under, value};
+use al_shape::{Member, ScalarNode, members, text_under, value};
 use al_yaml::Node;
 use std::alloc::{AllocError, Global};
 
@@ -19,15 +19,15 @@ pub struct Workflow {
 
 impl Workflow {
     /// `name`.
-    pub fn name(&self) -> Option<Word<'_>>
-        ensures { option_map word_of result ≡ text_at (codes "name") (view self.now.root) }
+    pub fn name(&self) -> Option<ScalarNode<'_>>
+        ensures { option_map scalar_node_of result ≡ text_at (codes "name") (view self.now.root) }
     {
         text_under(&self.root, "name")
     }
 
     /// `run-name`.
-    pub fn run_name(&self) -> Option<Word<'_>>
-        ensures { option_map word_of result ≡ text_at (codes "run-name") (view self.now.root) }
+    pub fn run_name(&self) -> Option<ScalarNode<'_>>
+        ensures { option_map scalar_node_of result ≡ text_at (codes "run-name") (view self.now.root) }
     {
         text_under(&self.root, "run-name")
     }
