@@ -1,22 +1,22 @@
 use crate::{Expr, Operator, Step, TokenKind, chunks, lex, parse_expr};
-use al_text::{Code, Expression, Fault};
+use al_text::{Code, ExpressionCode, Fault};
 use std::alloc::{AllocError, Global};
 use std::test::Fail;
 
 /// Contents that are no expression, each with its fault and the fault's place.
-const FAULTS: [(&str, Expression, u32); 9] = [
-    ("", Expression::EndsEarly, 0),
-    ("1 2", Expression::UnexpectedToken, 2),
-    ("a.", Expression::EndsEarly, 2),
-    ("f(,a)", Expression::UnexpectedToken, 2),
-    ("a[*", Expression::EndsEarly, 3),
-    ("[1]", Expression::UnexpectedToken, 0),
-    ("true(", Expression::UnexpectedToken, 4),
-    ("a # b", Expression::BadCharacter, 2),
-    ("'ab", Expression::UnclosedText, 0),
+const FAULTS: [(&str, ExpressionCode, u32); 9] = [
+    ("", ExpressionCode::EndsEarly, 0),
+    ("1 2", ExpressionCode::UnexpectedToken, 2),
+    ("a.", ExpressionCode::EndsEarly, 2),
+    ("f(,a)", ExpressionCode::UnexpectedToken, 2),
+    ("a[*", ExpressionCode::EndsEarly, 3),
+    ("[1]", ExpressionCode::UnexpectedToken, 0),
+    ("true(", ExpressionCode::UnexpectedToken, 4),
+    ("a # b", ExpressionCode::BadCharacter, 2),
+    ("'ab", ExpressionCode::UnclosedText, 0),
 ];
 
-fn is_fault(found: &Result<Expr, Fault>, code: Expression, start: u32) -> bool {
+fn is_fault(found: &Result<Expr, Fault>, code: ExpressionCode, start: u32) -> bool {
     match found {
         Ok(_) => false,
         Err(fault) => fault.code == Code::Expression(code) && fault.span.start == start,
@@ -51,9 +51,9 @@ fn nesting(rt: HostRuntime) -> Result<(), Fail> {
     let deep = parse_expr(alloc, &bracketed(alloc, 50)?)?;
     assert!(rt; deep.is_ok());
     let deeper = parse_expr(alloc, &bracketed(alloc, 51)?)?;
-    assert!(rt; is_fault(&deeper, Expression::TooDeep, 50));
+    assert!(rt; is_fault(&deeper, ExpressionCode::TooDeep, 50));
     let long = parse_expr(alloc, &bracketed(alloc, 10_500)?)?;
-    assert!(rt; is_fault(&long, Expression::TooLong, 0));
+    assert!(rt; is_fault(&long, ExpressionCode::TooLong, 0));
     Ok(())
 }
 

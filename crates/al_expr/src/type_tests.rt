@@ -2,7 +2,7 @@ use crate::{
     ContextSet, ContextTypes, Field, Form, FunctionSet, Object, Scope, Ty, assignable, fuse,
     parse_expr, signature_of, type_of,
 };
-use al_text::{Code, Expression, Fault};
+use al_text::{Code, ExpressionCode, Fault};
 use std::alloc::{AllocError, Global};
 use std::test::Fail;
 
@@ -63,19 +63,19 @@ fn step_run(alloc: Global) -> Result<Scope, AllocError> {
 struct Row {
     content: &'static str,
     form: Form,
-    fault: Option<(Expression, u32, u32, &'static [&'static str])>,
+    fault: Option<(ExpressionCode, u32, u32, &'static [&'static str])>,
 }
 
 const ROWS: [Row; 20] = [
     Row {
         content: "format('{0} {2}', 'a', 'b')",
         form: Form::String,
-        fault: Some((Expression::WrongPlaceholder, 7, 16, &[])),
+        fault: Some((ExpressionCode::WrongPlaceholder, 7, 16, &[])),
     },
     Row {
         content: "format('{0}', 'a', 'b')",
         form: Form::String,
-        fault: Some((Expression::UnusedArgument, 19, 22, &["3"])),
+        fault: Some((ExpressionCode::UnusedArgument, 19, 22, &["3"])),
     },
     Row {
         content: "format('{{}}{00}', 'a')",
@@ -85,12 +85,12 @@ const ROWS: [Row; 20] = [
     Row {
         content: "startsWith('a')",
         form: Form::Bool,
-        fault: Some((Expression::ArgumentCount, 0, 10, &["startsWith"])),
+        fault: Some((ExpressionCode::ArgumentCount, 0, 10, &["startsWith"])),
     },
     Row {
         content: "contains(github, 'a')",
         form: Form::Bool,
-        fault: Some((Expression::ArgumentType, 9, 15, &["1", "contains"])),
+        fault: Some((ExpressionCode::ArgumentType, 9, 15, &["1", "contains"])),
     },
     Row {
         content: "join(1)",
@@ -100,53 +100,53 @@ const ROWS: [Row; 20] = [
     Row {
         content: "nope",
         form: Form::Any,
-        fault: Some((Expression::UndefinedContext, 0, 4, &["nope"])),
+        fault: Some((ExpressionCode::UndefinedContext, 0, 4, &["nope"])),
     },
     Row {
         content: "secrets.T",
         form: Form::Any,
-        fault: Some((Expression::UnavailableContext, 0, 7, &["secrets"])),
+        fault: Some((ExpressionCode::UnavailableContext, 0, 7, &["secrets"])),
     },
     Row {
         content: "nofun()",
         form: Form::Any,
-        fault: Some((Expression::UndefinedFunction, 0, 5, &["nofun"])),
+        fault: Some((ExpressionCode::UndefinedFunction, 0, 5, &["nofun"])),
     },
     Row {
         content: "failure()",
         form: Form::Bool,
-        fault: Some((Expression::UnavailableFunction, 0, 7, &["failure"])),
+        fault: Some((ExpressionCode::UnavailableFunction, 0, 7, &["failure"])),
     },
     Row {
         content: "github['it''s']",
         form: Form::Any,
-        fault: Some((Expression::UndefinedProperty, 7, 14, &["it's"])),
+        fault: Some((ExpressionCode::UndefinedProperty, 7, 14, &["it's"])),
     },
     Row {
         content: "'a'.b",
         form: Form::Any,
-        fault: Some((Expression::NotIndexable, 3, 5, &[])),
+        fault: Some((ExpressionCode::NotIndexable, 3, 5, &[])),
     },
     Row {
         content: "github == 1",
         form: Form::Bool,
-        fault: Some((Expression::NotComparable, 7, 9, &[])),
+        fault: Some((ExpressionCode::NotComparable, 7, 9, &[])),
     },
     Row {
         content: "github.head_ref || 1",
         form: Form::String,
-        fault: Some((Expression::Untrusted, 0, 15, &["github.head_ref"])),
+        fault: Some((ExpressionCode::Untrusted, 0, 15, &["github.head_ref"])),
     },
     Row {
         content: "GitHub.event['Issue'].title",
         form: Form::Any,
-        fault: Some((Expression::Untrusted, 0, 27, &["github.event.issue.title"])),
+        fault: Some((ExpressionCode::Untrusted, 0, 27, &["github.event.issue.title"])),
     },
     Row {
         content: "github.event.commits[0].message",
         form: Form::Any,
         fault: Some((
-            Expression::Untrusted,
+            ExpressionCode::Untrusted,
             0,
             31,
             &["github.event.commits.*.message"],
@@ -174,7 +174,7 @@ const ROWS: [Row; 20] = [
     },
 ];
 
-fn is_fault(found: &Fault, code: Expression, start: u32, end: u32, texts: &[&str]) -> bool {
+fn is_fault(found: &Fault, code: ExpressionCode, start: u32, end: u32, texts: &[&str]) -> bool {
     let given = found.args.texts();
     found.code == Code::Expression(code)
         && found.span.start == start

@@ -1,7 +1,7 @@
 -- The chunks of a text, `${{ .. }}`.
 use Rattle.std.specs.Prelude.{◌≡◌, ◌≤◌, ◌<◌, ℕ, zero, suc, ◌+◌, ◌-◌, ◌^◌, List, [], ◌∷◌, ◌++◌, length, Bool, ◌&&◌, nat_eq, if◌then◌else◌, drop, slice_range, Option, Some, None}
 use Rattle.std.specs.Str.{IsCharBoundary}
-use Rattle.al_text.specs.declared.codes.Expression.TheVariants as code
+use Rattle.al_text.specs.declared.codes.ExpressionCode.TheVariants as code
 use Rattle.al_text.specs.declared.faults.Fault.{Fault}
 use Rattle.al_text.specs.declared.faults.Span.{Span}
 use Rattle.al_grammar.specs.declared.chunk.Chunk.{Chunk}

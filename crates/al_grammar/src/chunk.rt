@@ -4,7 +4,7 @@ ghost use Rattle.al_grammar.specs.Tokens.{span};
 ghost use Rattle.al_grammar.specs.Chunks.{chunks_of, closes, move, open_fault, opens, span_of_chunk, EndFits, IsCutFrom, MoveFits};
 
 use crate::faults::plain_fault;
-use al_text::{Expression, Fault, Span};
+use al_text::{ExpressionCode, Fault, Span};
 use std::alloc::{AllocError, Global};
 
 /// What stands between the braces of a `${{ .. }}`, and its place in the text.
@@ -76,14 +76,14 @@ fn end_fault(alloc: Global, place: Place) -> Option<Fault>
                 start: start as u32 - 3,
                 end: start as u32,
             };
-            Some(plain_fault(alloc, Expression::UnclosedChunk, span))
+            Some(plain_fault(alloc, ExpressionCode::UnclosedChunk, span))
         }
         Place::Quoted(_, quote) => {
             let span = Span {
                 start: quote as u32,
                 end: quote as u32 + 1,
             };
-            Some(plain_fault(alloc, Expression::UnclosedText, span))
+            Some(plain_fault(alloc, ExpressionCode::UnclosedText, span))
         }
     }
 }

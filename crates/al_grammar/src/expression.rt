@@ -11,7 +11,7 @@ use crate::faults::{named_fault, plain_fault};
 use crate::lexer::lex;
 use crate::parser::{ParseError, parse};
 use crate::token::Token;
-use al_text::{Expression, Fault, Span};
+use al_text::{ExpressionCode, Fault, Span};
 use std::alloc::{AllocError, Global};
 
 /// The most bytes of a content.
@@ -40,7 +40,7 @@ fn parse_fault(
         ParseError::Memory => Err(AllocError),
         ParseError::Early => Ok(plain_fault(
             alloc,
-            Expression::EndsEarly,
+            ExpressionCode::EndsEarly,
             Span {
                 start: length,
                 end: length,
@@ -48,11 +48,11 @@ fn parse_fault(
         )),
         ParseError::Unexpected(left) => {
             let token = token_at(tokens, left);
-            named_fault(alloc, Expression::UnexpectedToken, token.span, token.text)
+            named_fault(alloc, ExpressionCode::UnexpectedToken, token.span, token.text)
         }
         ParseError::TooDeep(left) => {
             let token = token_at(tokens, left);
-            Ok(plain_fault(alloc, Expression::TooDeep, token.span))
+            Ok(plain_fault(alloc, ExpressionCode::TooDeep, token.span))
         }
     }
 }
@@ -69,7 +69,7 @@ pub fn parse_expr(alloc: Global, content: &str) -> Result<Result<Expr, Fault>, A
 {
     if content.len() > MAX_LENGTH {
         let first = Span { start: 0, end: 1 };
-        return Ok(Err(plain_fault(alloc, Expression::TooLong, first)));
+        return Ok(Err(plain_fault(alloc, ExpressionCode::TooLong, first)));
     }
     let tokens = match lex(alloc, content)? {
         Ok(tokens) => tokens,

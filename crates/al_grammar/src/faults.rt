@@ -1,11 +1,11 @@
 ghost use Rattle.std.specs.Prelude.{◌≡◌, IfOk, [], ◌∷◌};
 ghost use Rattle.al_grammar.specs.Refusal.{fault};
 
-use al_text::{Args, Code, Expression, Fault, Span};
+use al_text::{Args, Code, ExpressionCode, Fault, Span};
 use std::alloc::{AllocError, Global};
 
 /// A fault whose message names nothing.
-pub fn plain_fault(alloc: Global, code: Expression, span: Span) -> Fault
+pub fn plain_fault(alloc: Global, code: ExpressionCode, span: Span) -> Fault
     ensures { result ≡ fault code span [] }
 {
     Fault {
@@ -18,7 +18,7 @@ pub fn plain_fault(alloc: Global, code: Expression, span: Span) -> Fault
 /// A fault whose message names one text.
 pub fn named_fault(
     alloc: Global,
-    code: Expression,
+    code: ExpressionCode,
     span: Span,
     name: &str,
 ) -> Result<Fault, AllocError>

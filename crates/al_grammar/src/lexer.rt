@@ -6,7 +6,7 @@ ghost use Rattle.al_grammar.specs.Refusal.{fault_of_lexed};
 use crate::faults::plain_fault;
 use crate::number::{digit, number};
 use crate::token::{Keyword, Operator, Token, TokenKind};
-use al_text::{Expression, Fault, Span};
+use al_text::{ExpressionCode, Fault, Span};
 use std::alloc::{AllocError, Global};
 
 /// What stands at the front of the rest of a content.
@@ -294,7 +294,7 @@ pub fn lex(alloc: Global, content: &str) -> Result<Result<Vec<Token>, Fault>, Al
         Ok(read) => Ok(Ok(read)),
         Err(LexError::BadCharacter(span)) => Ok(Err(plain_fault(
             alloc,
-            Expression::BadCharacter,
+            ExpressionCode::BadCharacter,
             span,
         ))),
         Err(LexError::OpenText) => {
@@ -305,7 +305,7 @@ pub fn lex(alloc: Global, content: &str) -> Result<Result<Vec<Token>, Fault>, Al
                 start: quote as u32,
                 end: quote as u32 + 1,
             };
-            Ok(Err(plain_fault(alloc, Expression::UnclosedText, span)))
+            Ok(Err(plain_fault(alloc, ExpressionCode::UnclosedText, span)))
         }
     }
 }

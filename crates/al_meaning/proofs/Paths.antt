@@ -3,7 +3,7 @@ use Rattle.std.proofs.Common.{◌≡◌, ℕ, List, [], ◌∷◌, ◌++◌, Boo
 use Rattle.std.specs.Prelude.{option_map, if◌then◌else◌}
 use Rattle.al_text.specs.declared.faults.Fault.{Fault}
 use Rattle.al_text.specs.declared.faults.Span.{Span}
-use Rattle.al_text.specs.declared.codes.Expression.TheVariants as code
+use Rattle.al_text.specs.declared.codes.ExpressionCode.TheVariants as code
 use Rattle.al_types.specs.declared.names.Context.{Context}
 use Rattle.al_types.specs.declared.names.Function.{Function}
 use Rattle.al_grammar.specs.Refusal.{fault}

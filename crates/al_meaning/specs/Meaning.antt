@@ -1,7 +1,7 @@
 -- The type of an expression under a scope, and the faults in it, in the order in which it is read.
 use Rattle.std.specs.Prelude.{◌≡◌, ℕ, ◌+◌, List, [], ◌∷◌, ◌++◌, Bool, true, false, ◌&&◌, ◌||◌, not, nat_eq, if◌then◌else◌, Option, Some, None, length, map, slice_get}
 use Rattle.std.specs.Fmt.{decimal}
-use Rattle.al_text.specs.declared.codes.Expression.TheVariants as code
+use Rattle.al_text.specs.declared.codes.ExpressionCode.TheVariants as code
 use Rattle.al_text.specs.declared.faults.Fault.{Fault}
 use Rattle.al_text.specs.declared.faults.Span.{Span}
 use Rattle.al_grammar.specs.declared.token.Operator.{Operator}

@@ -11,13 +11,13 @@ ghost use Rattle.al_grammar.specs.Tree.{arguments_of};
 ghost use Rattle.al_types.specs.TypeViews.{ty_of};
 ghost use Rattle.al_grammar.specs.View.{tree_of};
 ghost use Rattle.std.specs.Fmt.{decimal};
-ghost use Rattle.al_text.specs.declared.codes.Expression.TheVariants as code;
+ghost use Rattle.al_text.specs.declared.codes.ExpressionCode.TheVariants as code;
 
 use crate::literals::{Literal, literal_text};
 use crate::placeholders::used_arguments;
 use crate::reports::{report, report_plain, report_text};
 use al_grammar::{Expr, Word};
-use al_text::{Expression, Fault, Span};
+use al_text::{ExpressionCode, Fault, Span};
 use al_types::{Function, Parameters, Scope, Ty};
 use std::alloc::{AllocError, Global};
 
@@ -67,7 +67,7 @@ pub(crate) fn called(
         report_text(
             alloc,
             out,
-            Expression::UndefinedFunction,
+            ExpressionCode::UndefinedFunction,
             name.span,
             name.text.as_str(),
         )?;
@@ -95,7 +95,7 @@ fn check_available(
         report_text(
             alloc,
             out,
-            Expression::UnavailableFunction,
+            ExpressionCode::UnavailableFunction,
             name.span,
             name.text.as_str(),
         )?;
@@ -120,7 +120,7 @@ fn check_arguments(
         report_text(
             alloc,
             out,
-            Expression::ArgumentCount,
+            ExpressionCode::ArgumentCount,
             name.span,
             name.text.as_str(),
         )
@@ -161,7 +161,7 @@ fn check_type(
         let mut texts = Vec::new(alloc);
         texts.push((index + 1).to_string(alloc)?)?;
         texts.push(name.text.clone()?)?;
-        report(out, Expression::ArgumentType, argument.span, texts)?;
+        report(out, ExpressionCode::ArgumentType, argument.span, texts)?;
     }
     Ok(())
 }
@@ -210,7 +210,7 @@ fn check_placeholders(
 {
     match used_arguments(alloc, literal.value.as_str(), arguments.len())? {
         Some(used) => check_used(alloc, &used, arguments, out),
-        None => report_plain(alloc, out, Expression::WrongPlaceholder, literal.span),
+        None => report_plain(alloc, out, ExpressionCode::WrongPlaceholder, literal.span),
     }
 }
 
@@ -249,7 +249,7 @@ fn check_argument(
         report_text(
             alloc,
             out,
-            Expression::UnusedArgument,
+            ExpressionCode::UnusedArgument,
             span,
             number.as_str(),
         )?;

@@ -2,14 +2,14 @@ ghost use Rattle.std.specs.Prelude.{◌≡◌, ◌++◌, ◌∷◌, [], OnOk, ma
 ghost use Rattle.al_grammar.specs.Refusal.{fault};
 ghost use Rattle.al_meaning.specs.Growth.{BeginsWith};
 
-use al_text::{Args, Code, Expression, Fault, Span};
+use al_text::{Args, Code, ExpressionCode, Fault, Span};
 use std::alloc::{AllocError, Global};
 
 /// Adds a fault whose message names these texts.
 #[tactic(auto, using(crate::proofs::Growing::growth))]
 pub(crate) fn report(
     out: &mut Vec<Fault>,
-    code: Expression,
+    code: ExpressionCode,
     span: Span,
     texts: Vec<String>,
 ) -> Result<(), AllocError>
@@ -29,7 +29,7 @@ pub(crate) fn report(
 pub(crate) fn report_plain(
     alloc: Global,
     out: &mut Vec<Fault>,
-    code: Expression,
+    code: ExpressionCode,
     span: Span,
 ) -> Result<(), AllocError>
     ensures ok { OnOk result (out.new.items ≡ out.old.items ++ fault code span [] ∷ []) }
@@ -43,7 +43,7 @@ pub(crate) fn report_plain(
 pub(crate) fn report_text(
     alloc: Global,
     out: &mut Vec<Fault>,
-    code: Expression,
+    code: ExpressionCode,
     span: Span,
     text: &str,
 ) -> Result<(), AllocError>

@@ -5,7 +5,7 @@ ghost use Rattle.al_types.specs.Types.{NoField};
 ghost use Rattle.al_types.specs.TypeViews.{ty_of, object_of, fields_of_type, rest_of, rest_of_type};
 
 use crate::reports::{report_plain, report_text};
-use al_text::{Expression, Fault, Span};
+use al_text::{ExpressionCode, Fault, Span};
 use al_types::{Object, Ty, copy, fuse};
 use std::alloc::{AllocError, Global};
 
@@ -27,7 +27,7 @@ pub(crate) fn property(
         Ty::Object(object) => match object.property(name) {
             Some(found) => copy(alloc, found),
             None => {
-                report_text(alloc, out, Expression::UndefinedProperty, at, name)?;
+                report_text(alloc, out, ExpressionCode::UndefinedProperty, at, name)?;
                 Ok(Ty::Any)
             }
         },
@@ -92,7 +92,7 @@ fn not_indexable(alloc: Global, whole: Span, out: &mut Vec<Fault>) -> Result<Ty,
     ensures ok { IfOk result (λ t. typed (ty_of t) out.new.items ≡ behind out.old.items (not_indexable whole)) }
     ensures begins { BeginsWith out.new.items out.old.items }
 {
-    report_plain(alloc, out, Expression::NotIndexable, whole)?;
+    report_plain(alloc, out, ExpressionCode::NotIndexable, whole)?;
     Ok(Ty::Any)
 }
 

@@ -17,7 +17,7 @@ use crate::reports::{report_plain, report_text};
 use crate::steps::{all, element, property};
 use crate::untrusted::untrusted_chain;
 use al_grammar::{Expr, Operand, Operator, Step, Word, across, extent, path_extent};
-use al_text::{Expression, Fault, Span};
+use al_text::{ExpressionCode, Fault, Span};
 use al_types::{Context, Function, Scope, Ty, copy, fuse};
 use std::alloc::{AllocError, Global};
 
@@ -115,9 +115,9 @@ fn named(alloc: Global, scope: &Scope, word: &Word, out: &mut Vec<Fault>) -> Res
             if scope.contexts.contains(context) {
                 return copy(alloc, scope.types.get(context));
             }
-            Expression::UnavailableContext
+            ExpressionCode::UnavailableContext
         }
-        None => Expression::UndefinedContext,
+        None => ExpressionCode::UndefinedContext,
     };
     report_text(alloc, out, code, word.span, name)?;
     Ok(Ty::Any)
@@ -293,7 +293,7 @@ fn operation(
         return Ok(ty);
     }
     if !comparable(operator, a, b) {
-        report_plain(alloc, out, Expression::NotComparable, at)?;
+        report_plain(alloc, out, ExpressionCode::NotComparable, at)?;
     }
     Ok(Ty::Bool)
 }
@@ -372,7 +372,7 @@ fn check_untrusted(
             report_text(
                 alloc,
                 out,
-                Expression::Untrusted,
+                ExpressionCode::Untrusted,
                 path_extent(base, steps),
                 chain.as_str(),
             )

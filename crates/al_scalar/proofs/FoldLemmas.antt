@@ -1,7 +1,7 @@
 -- The lines of a quoted scalar.
 use Rattle.std.proofs.Common.{◌≡◌, ◌≢◌, ℕ, suc, ◌+◌, ◌<◌, ◌≤◌, List, [], ◌∷◌, ◌++◌, length, drop, drop-cons, slice_index, refl, sym, ap, subst, ◌∙◌, append_assoc, Bool, true, false, not, ◌&&◌, ◌==◌, cond, inl, inr, ◌⊎◌, Option, Some, None, Result, Ok, Err}
 use Rattle.std.proofs.Math.Nat.{eq-or-lt_of_le}
-use Rattle.al_text.specs.declared.codes.Yaml.TheVariants.{UnclosedQuote, WrongEscape}
+use Rattle.al_text.specs.declared.codes.YamlCode.TheVariants.{UnclosedQuote, WrongEscape}
 use Rattle.al_scalar.specs.Line.{Cell, Line, lines, with_return, cut, after_blanks, begins}
 use Rattle.al_scalar.specs.Taken.{Fault, Taken, before, folded, fault}
 use Rattle.al_scalar.specs.Quoted.{Part, Stop, closed, broken, escaped, cut_short, single_part, line_given, single_quoted}

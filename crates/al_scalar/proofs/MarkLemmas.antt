@@ -4,7 +4,7 @@ use Rattle.std.proofs.lemmas.Grind.{common_steps}
 use Rattle.std.specs.Char.{IsScalar}
 use Rattle.std.proofs.lemmas.List.{take_all}
 use Rattle.std.proofs.Math.Seq.{take-append_seam}
-use Rattle.al_text.specs.declared.codes.Yaml.TheVariants as yaml
+use Rattle.al_text.specs.declared.codes.YamlCode.TheVariants as yaml
 use Rattle.al_scalar.specs.Line.{Cell}
 use Rattle.al_scalar.specs.Taken.{Fault, fault}
 use Rattle.al_scalar.specs.Quoted.{Part, closed, escaped, cut_short, part_before, written, lookup, escape_table, digits_table, hex_value, hex_escape, is_scalar_value, escape, double_part, quoted_lines, double_quoted}

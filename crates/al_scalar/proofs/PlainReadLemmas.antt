@@ -1,6 +1,6 @@
 -- The reader of plain scalars, one line after the other.
 use Rattle.std.proofs.Common.{◌≡◌, ◌≢◌, ℕ, zero, suc, ◌+◌, ◌-◌, ◌<◌, ◌≤◌, List, [], ◌∷◌, ◌++◌, length, drop, slice_index, refl, sym, ap, ◌∙◌, arith, add-one, append_assoc, append-nil, Bool, true, false, not, ◌&&◌, ◌||◌, ◌==◌, nat_le, cond, inl, inr, ◌⊎◌, eq-or-lt_of_le, Result, Ok, Err}
-use Rattle.al_text.specs.declared.codes.Yaml.TheVariants.{UnexpectedCharacter}
+use Rattle.al_text.specs.declared.codes.YamlCode.TheVariants.{UnexpectedCharacter}
 use Rattle.al_scalar.specs.Line.{Cell, Line, lines, with_cell, with_return, is_break, place, cut, after_blanks, indent, is_empty, is_blank, begins, is_comment, is_document_marker}
 use Rattle.al_scalar.specs.Taken.{Fault, Taken, before, fault, folded_break}
 use Rattle.al_scalar.specs.Plain.{Context, flow, block, is_flow, is_value_colon, ends_plain, plain_part, continues, ended_before, plain_lines, plain}

@@ -2,11 +2,11 @@
 use Rattle.std.specs.Prelude.{ℕ, List, [], ◌∷◌, ◌++◌, Option, Some, None, Result, Ok, Err}
 use Rattle.al_scalar.specs.Ascii as ascii
 use Rattle.al_scalar.specs.Line.{Cell, Line}
-use Rattle.al_text.specs.declared.codes.Yaml.{Yaml}
+use Rattle.al_text.specs.declared.codes.YamlCode.{YamlCode}
 
 -- a fault, and the offset of the character that it is at
 pub record Fault : Type 0 where
-  pub code : Yaml
+  pub code : YamlCode
   pub at : ℕ
 
 -- The decoded bytes, each with the offset that gave it, the end of the written form, and the lines left.
@@ -28,7 +28,7 @@ abbrev pub before : List Cell → Result Taken Fault → Result Taken Fault
 before cs (Ok t) = Ok (with_text cs t)
 before cs (Err e) = Err e
 
-abbrev pub fault : {A : Type 0} → Yaml → ℕ → Result A Fault
+abbrev pub fault : {A : Type 0} → YamlCode → ℕ → Result A Fault
 fault code at = Err (record { code = code; at = at })
 
 -- A break is folded to a space, unless empty lines follow it, which give an LF each (6.5).

@@ -11,7 +11,7 @@ use crate::lines::{
 };
 use crate::reads::{FaultAt, Taken};
 use crate::texts::Text;
-use al_text::Yaml;
+use al_text::YamlCode;
 use std::alloc::{AllocError, Global};
 
 /// The last line with text: whether it begins with a blank, and its break.
@@ -369,7 +369,7 @@ pub fn read_block(
     match header_fault(bytes, header.end) {
         Some(place) => {
             return Ok(Err(FaultAt {
-                code: Yaml::WrongBlockHeader,
+                code: YamlCode::WrongBlockHeader,
                 at: place,
             }));
         }

@@ -8,7 +8,7 @@ use crate::folding::fold_break;
 use crate::lines::{blanks_end, is_break_at, is_line_end};
 use crate::reads::{FaultAt, Taken};
 use crate::texts::Text;
-use al_text::Yaml;
+use al_text::YamlCode;
 use std::alloc::{AllocError, Global};
 
 /// Whether a byte is a double quote or a backslash.
@@ -270,13 +270,13 @@ pub fn read_double(
             Mark::Break { end, escaped } => fold_break(&mut text, bytes, end, escaped)?,
             Mark::WrongEscape => {
                 return Ok(Err(FaultAt {
-                    code: Yaml::WrongEscape,
+                    code: YamlCode::WrongEscape,
                     at: run.next,
                 }));
             }
             Mark::FileEnd => {
                 return Ok(Err(FaultAt {
-                    code: Yaml::UnclosedQuote,
+                    code: YamlCode::UnclosedQuote,
                     at: quote,
                 }));
             }

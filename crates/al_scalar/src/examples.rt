@@ -4,7 +4,7 @@ ghost use Rattle.al_scalar.specs.Rows.{in_block, in_flow, reads};
 ghost use Rattle.al_scalar.specs.Taken.{fault};
 
 use crate::styles::{Class, Style};
-use al_text::Yaml;
+use al_text::YamlCode;
 
 const SINGLE: &[u8] = b"a: 'it''s'\n";
 
@@ -109,7 +109,7 @@ pub fn rows()
     ensures single_lines { in_block 0 SINGLE_LINES.now 0 ≡ reads Style.SingleQuoted Class.Str (97 ∷ 10 ∷ 98 ∷ []) (1 ∷ 4 ∷ 7 ∷ 9 ∷ []) 9 }
     ensures single_crlf { in_block 0 SINGLE_CRLF.now 0 ≡ reads Style.SingleQuoted Class.Str (codes "a b") (1 ∷ 2 ∷ 4 ∷ 6 ∷ []) 6 }
     ensures single_cr { in_block 0 SINGLE_CR.now 0 ≡ reads Style.SingleQuoted Class.Str (codes "a b") (1 ∷ 2 ∷ 3 ∷ 5 ∷ []) 5 }
-    ensures single_open { in_block 0 SINGLE_OPEN.now 0 ≡ fault Yaml.UnclosedQuote 0 }
+    ensures single_open { in_block 0 SINGLE_OPEN.now 0 ≡ fault YamlCode.UnclosedQuote 0 }
 
     // double quotes: each escape, and an escaped break
     ensures hex { in_block 1 HEX.now 3 ≡ reads Style.DoubleQuoted Class.Str (120 ∷ 195 ∷ 169 ∷ []) (4 ∷ 5 ∷ 5 ∷ 12 ∷ []) 12 }
@@ -118,12 +118,12 @@ pub fn rows()
     ensures numbers { in_block 0 NUMBERS.now 0 ≡ reads Style.DoubleQuoted Class.Str (65 ∷ 195 ∷ 169 ∷ 240 ∷ 159 ∷ 152 ∷ 128 ∷ []) (1 ∷ 5 ∷ 5 ∷ 11 ∷ 11 ∷ 11 ∷ 11 ∷ 22 ∷ []) 22 }
     ensures escaped_break { in_block 0 ESCAPED_BREAK.now 0 ≡ reads Style.DoubleQuoted Class.Str (97 ∷ 32 ∷ 10 ∷ 98 ∷ []) (1 ∷ 2 ∷ 5 ∷ 8 ∷ 10 ∷ []) 10 }
     ensures blanks_first { in_block 0 BLANKS_FIRST.now 0 ≡ reads Style.DoubleQuoted Class.Str (codes "a b") (1 ∷ 2 ∷ 8 ∷ 10 ∷ []) 10 }
-    ensures surrogate { in_block 0 SURROGATE.now 0 ≡ fault Yaml.WrongEscape 1 }
-    ensures too_large { in_block 0 TOO_LARGE.now 0 ≡ fault Yaml.WrongEscape 1 }
-    ensures no_escape { in_block 0 NO_ESCAPE.now 0 ≡ fault Yaml.WrongEscape 2 }
-    ensures wrong_digit { in_block 0 WRONG_DIGIT.now 0 ≡ fault Yaml.WrongEscape 1 }
-    ensures digit_behind_break { in_block 0 DIGIT_BEHIND_BREAK.now 0 ≡ fault Yaml.WrongEscape 1 }
-    ensures cut_escape { in_block 0 CUT_ESCAPE.now 0 ≡ fault Yaml.UnclosedQuote 0 }
+    ensures surrogate { in_block 0 SURROGATE.now 0 ≡ fault YamlCode.WrongEscape 1 }
+    ensures too_large { in_block 0 TOO_LARGE.now 0 ≡ fault YamlCode.WrongEscape 1 }
+    ensures no_escape { in_block 0 NO_ESCAPE.now 0 ≡ fault YamlCode.WrongEscape 2 }
+    ensures wrong_digit { in_block 0 WRONG_DIGIT.now 0 ≡ fault YamlCode.WrongEscape 1 }
+    ensures digit_behind_break { in_block 0 DIGIT_BEHIND_BREAK.now 0 ≡ fault YamlCode.WrongEscape 1 }
+    ensures cut_escape { in_block 0 CUT_ESCAPE.now 0 ≡ fault YamlCode.UnclosedQuote 0 }
 
     // plain scalars: lines, comments, markers, indents, keys
     ensures plain { in_block 1 PLAIN.now 3 ≡ reads Style.Plain Class.Str (98 ∷ 32 ∷ 99 ∷ 10 ∷ 100 ∷ []) (3 ∷ 5 ∷ 7 ∷ 9 ∷ 11 ∷ 12 ∷ []) 12 }
@@ -132,7 +132,7 @@ pub fn rows()
     ensures plain_comment { in_block 1 PLAIN_COMMENT.now 3 ≡ reads Style.Plain Class.Str (codes "b") (3 ∷ 4 ∷ []) 4 }
     ensures plain_marker { in_block 0 PLAIN_MARKER.now 0 ≡ reads Style.Plain Class.Str (codes "a") (0 ∷ 1 ∷ []) 1 }
     ensures plain_indent { in_block 1 PLAIN_INDENT.now 3 ≡ reads Style.Plain Class.Str (codes "b") (3 ∷ 4 ∷ []) 4 }
-    ensures plain_key { in_block 0 PLAIN_KEY.now 0 ≡ fault Yaml.UnexpectedCharacter 4 }
+    ensures plain_key { in_block 0 PLAIN_KEY.now 0 ≡ fault YamlCode.UnexpectedCharacter 4 }
     ensures flow { in_flow FLOW.now 1 ≡ reads Style.Plain Class.Str (codes "a b") (1 ∷ 2 ∷ 4 ∷ 5 ∷ []) 5 }
     ensures flow_comment { in_flow FLOW_COMMENT.now 1 ≡ reads Style.Plain Class.Str (codes "a") (1 ∷ 2 ∷ []) 2 }
 
@@ -160,10 +160,10 @@ pub fn rows()
     ensures folded_tab { in_block 1 FOLDED_TAB.now 2 ≡ reads Style.Folded Class.Str (10 ∷ 100 ∷ []) (6 ∷ 8 ∷ 9 ∷ []) 9 }
 
     // headers of block scalars
-    ensures header_text { in_block 1 HEADER_TEXT.now 3 ≡ fault Yaml.WrongBlockHeader 5 }
-    ensures header_comment { in_block 1 HEADER_COMMENT.now 3 ≡ fault Yaml.WrongBlockHeader 4 }
-    ensures header_digits { in_block 1 HEADER_DIGITS.now 3 ≡ fault Yaml.WrongBlockHeader 5 }
-    ensures header_zero { in_block 1 HEADER_ZERO.now 3 ≡ fault Yaml.WrongBlockHeader 4 }
+    ensures header_text { in_block 1 HEADER_TEXT.now 3 ≡ fault YamlCode.WrongBlockHeader 5 }
+    ensures header_comment { in_block 1 HEADER_COMMENT.now 3 ≡ fault YamlCode.WrongBlockHeader 4 }
+    ensures header_digits { in_block 1 HEADER_DIGITS.now 3 ≡ fault YamlCode.WrongBlockHeader 5 }
+    ensures header_zero { in_block 1 HEADER_ZERO.now 3 ≡ fault YamlCode.WrongBlockHeader 4 }
 
     // classes of plain scalars
     ensures nulls { map class_of ([] ∷ codes "null" ∷ codes "Null" ∷ codes "NULL" ∷ codes "~" ∷ []) ≡ Class.Null ∷ Class.Null ∷ Class.Null ∷ Class.Null ∷ Class.Null ∷ [] }

@@ -2,17 +2,17 @@ ghost use Rattle.std.specs.Prelude.{◌≡◌, ◌+◌, ◌<◌, ◌≤◌, ◌^
 ghost use Rattle.al_scalar.specs.Characters.{character_at, character_length};
 ghost use Rattle.al_text.specs.Positions.{begins_char};
 
-use al_text::{Span, Yaml};
+use al_text::{Span, YamlCode};
 
 /// What is wrong with a file as YAML, and the character that it is at; at the file's end an empty span.
 #[derive(Clone, Copy, PartialEq, Eq, Debug)]
 pub struct YamlFault {
-    pub code: Yaml,
+    pub code: YamlCode,
     pub span: Span,
 }
 
 /// A fault at the character that begins at an offset, or at the file's end.
-pub fn fault_at(bytes: &[u8], at: usize, code: Yaml) -> YamlFault
+pub fn fault_at(bytes: &[u8], at: usize, code: YamlCode) -> YamlFault
     requires inside { at ≤ length bytes.now }
     requires size { length bytes.now < 2 ^ 32 }
     ensures code { result.code ≡ code }

@@ -12,7 +12,7 @@ use crate::lines::{
 };
 use crate::reads::{FaultAt, Taken};
 use crate::texts::Text;
-use al_text::Yaml;
+use al_text::YamlCode;
 use std::alloc::{AllocError, Global};
 
 /// The context of a plain scalar: a flow collection, or block context with the least indent of further lines.
@@ -244,7 +244,7 @@ pub fn read_plain(
         let rest = blanks_end(bytes, part_end);
         if makes_key(bytes, rest, context) {
             return Ok(Err(FaultAt {
-                code: Yaml::UnexpectedCharacter,
+                code: YamlCode::UnexpectedCharacter,
                 at: rest,
             }));
         }

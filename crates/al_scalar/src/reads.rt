@@ -1,5 +1,5 @@
 use crate::texts::Text;
-use al_text::Yaml;
+use al_text::YamlCode;
 
 /// What the reader of one style took: the text, the end of the written form, and where what is left begins.
 #[derive(Drop)]
@@ -12,6 +12,6 @@ pub struct Taken {
 /// A fault, and the offset of the character that it is at.
 #[derive(Clone, Copy)]
 pub struct FaultAt {
-    pub code: Yaml,
+    pub code: YamlCode,
     pub at: usize,
 }

@@ -8,7 +8,7 @@ use crate::folding::fold_break;
 use crate::lines::{blanks_end, is_line_end};
 use crate::reads::{FaultAt, Taken};
 use crate::texts::Text;
-use al_text::Yaml;
+use al_text::YamlCode;
 use std::alloc::{AllocError, Global};
 
 /// Whether a single quote stands at an offset.
@@ -79,7 +79,7 @@ pub fn read_single(
         };
         if end == bytes.len() {
             return Ok(Err(FaultAt {
-                code: Yaml::UnclosedQuote,
+                code: YamlCode::UnclosedQuote,
                 at: quote,
             }));
         }

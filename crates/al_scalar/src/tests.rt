@@ -1,5 +1,5 @@
 use crate::{Class, Place, Style, read_scalar};
-use al_text::Yaml;
+use al_text::YamlCode;
 use std::alloc::{AllocError, Global};
 use std::process::Abort;
 
@@ -123,12 +123,12 @@ fn reads_scalars(rt: HostRuntime) -> Result<(), AllocError> {
 }
 
 /// Files with a fault inside the scalar, its code, and the offsets of the character that it is at.
-const FAULTS: [(&[u8], usize, Yaml, u32, u32); 5] = [
-    (b"a: 'b\n", 3, Yaml::UnclosedQuote, 3, 4),
-    (b"a: \"b\\ud800\"", 3, Yaml::WrongEscape, 5, 6),
-    (b"a: \"\\x4", 3, Yaml::UnclosedQuote, 3, 4),
-    (b"a\n b: c", 0, Yaml::UnexpectedCharacter, 4, 5),
-    (b"a: | \xc3\xa9\n", 3, Yaml::WrongBlockHeader, 5, 7),
+const FAULTS: [(&[u8], usize, YamlCode, u32, u32); 5] = [
+    (b"a: 'b\n", 3, YamlCode::UnclosedQuote, 3, 4),
+    (b"a: \"b\\ud800\"", 3, YamlCode::WrongEscape, 5, 6),
+    (b"a: \"\\x4", 3, YamlCode::UnclosedQuote, 3, 4),
+    (b"a\n b: c", 0, YamlCode::UnexpectedCharacter, 4, 5),
+    (b"a: | \xc3\xa9\n", 3, YamlCode::WrongBlockHeader, 5, 7),
 ];
 
 #[test]

@@ -4,8 +4,8 @@ use Rattle.std.proofs.Common.{cond, arith}
 use Rattle.std.proofs.lemmas.List.Elements.{All-append, All-from_recursion}
 use Rattle.std.specs.Option.{option_map_or}
 use Rattle.al_text.specs.Spans.{LiesIn}
-use Rattle.al_text.specs.declared.codes.Key as codes_key
-use Rattle.al_text.specs.declared.codes.Key.TheVariants.{Unexpected}
+use Rattle.al_text.specs.declared.codes.KeyCode as codes_key
+use Rattle.al_text.specs.declared.codes.KeyCode.TheVariants.{Unexpected}
 use Rattle.al_text.specs.declared.faults.Fault.{Fault}
 use Rattle.al_text.specs.declared.faults.Span.{Span}
 use Rattle.al_scalar.specs.Scalar.{Scalar}
@@ -43,7 +43,7 @@ module _ (size : ℕ) where
   span_lies (sequence ns at) i = i.0
   span_lies (mapping es at) i = i.0
 
-  word_lies : (key : Option codes_key.Key) (above : List ℕ) (at : Span) → LiesIn size at → All (Lies size) (word_faults key above at)
+  word_lies : (key : Option codes_key.KeyCode) (above : List ℕ) (at : Span) → LiesIn size at → All (Lies size) (word_faults key above at)
   word_lies None above at i = none_lie
   word_lies (Some key) above at i = one_lies _ i
 

@@ -10,8 +10,8 @@ use Rattle.al_scalar.specs.declared.styles.Class.TheVariants as class
 use Rattle.al_scalar.specs.declared.styles.Style.{Style}
 use Rattle.al_scalar.specs.declared.styles.Style.TheVariants as style
 use Rattle.al_text.specs.declared.codes.Code.TheVariants as code
-use Rattle.al_text.specs.declared.codes.Key as codes_key
-use Rattle.al_text.specs.declared.codes.Key.TheVariants.{Unexpected, Missing, Repeated, WrongKind, WrongType, NotBeside, EmptyFile}
+use Rattle.al_text.specs.declared.codes.KeyCode as codes_key
+use Rattle.al_text.specs.declared.codes.KeyCode.TheVariants.{Unexpected, Missing, Repeated, WrongKind, WrongType, NotBeside, EmptyFile}
 use Rattle.al_text.specs.declared.faults.Fault.{Fault}
 use Rattle.al_text.specs.declared.faults.Span.{Span}
 use Rattle.al_yaml.specs.Access.{entries, scalar_in}
@@ -26,10 +26,10 @@ use Rattle.al_shape.specs.declared.table.Words.{Words}
 use Rattle.al_shape.specs.declared.table.Words.TheVariants.{NoWord, AnyWord, NotNull, Bools, Numbers, Chunks}
 
 -- A fault that names these texts. Its arguments are UTF-8: bytes that aren't, of which reading a file gives none, are U+FFFD.
-abbrev pub fault : codes_key.Key → Span → List (List ℕ) → Fault
+abbrev pub fault : codes_key.KeyCode → Span → List (List ℕ) → Fault
 fault key at texts = record { span = at; code = code.Key key; args = map utf8_lossy texts }
 
-abbrev pub one_fault : codes_key.Key → Span → List ℕ → List Fault
+abbrev pub one_fault : codes_key.KeyCode → Span → List ℕ → List Fault
 one_fault key at text = fault key at (text ∷ []) ∷ []
 
 -- the text has a `${{`
@@ -64,11 +64,11 @@ is_key k e = bytes_eq (key_of e) k
 abbrev pub value_in : List ℕ → List (Node × Node) → Option Node
 value_in k es = option_map (λ e. e.1) (find (is_key k) es)
 
-abbrev pub unless_taken : Bool → codes_key.Key → Option codes_key.Key
+abbrev pub unless_taken : Bool → codes_key.KeyCode → Option codes_key.KeyCode
 unless_taken taken key = if taken then None else Some key
 
 -- A scalar that isn't taken: of a wrong class where some scalars are taken, else of a wrong kind.
-abbrev pub word_fault : Words → Scalar → Option codes_key.Key
+abbrev pub word_fault : Words → Scalar → Option codes_key.KeyCode
 word_fault AnyWord s = None
 word_fault NoWord s = Some WrongKind
 word_fault NotNull s = unless_taken (not (is_null s)) WrongType
@@ -76,7 +76,7 @@ word_fault Bools s = unless_taken (is_bool_class s.class || has_chunk (text_of s
 word_fault Numbers s = unless_taken (is_number_class s.class || has_chunk (text_of s)) WrongType
 word_fault Chunks s = unless_taken (has_chunk (text_of s)) WrongKind
 
-abbrev pub word_faults : Option codes_key.Key → List ℕ → Span → List Fault
+abbrev pub word_faults : Option codes_key.KeyCode → List ℕ → Span → List Fault
 word_faults None above at = []
 word_faults (Some key) above at = one_fault key at above
 

@@ -12,7 +12,7 @@ use crate::scalars::{fault_of, is_null_scalar};
 use crate::standings::{Standing, is_needed, refine, standing_of, takes_null};
 use crate::table::{Keys, Row, Shape, rule_of};
 use al_scalar::Style;
-use al_text::{Fault, Key, Span};
+use al_text::{Fault, KeyCode, Span};
 use al_yaml::{Entry, Kind, Node};
 use std::alloc::{AllocError, Global};
 
@@ -33,7 +33,7 @@ fn check_row(
             start: at.start,
             end: at.start,
         };
-        report(alloc, out, Key::Missing, start, row.key.as_bytes())?;
+        report(alloc, out, KeyCode::Missing, start, row.key.as_bytes())?;
     }
     Ok(())
 }
@@ -72,7 +72,7 @@ fn check_beside(
         Some(other) => report_two(
             alloc,
             out,
-            Key::NotBeside,
+            KeyCode::NotBeside,
             key.span(),
             key_text(key),
             other.as_bytes(),
@@ -110,7 +110,7 @@ fn check(
         Kind::Sequence(nodes) => match rule_of(shape) {
             None => Ok(()),
             Some(rule) => match rule.items {
-                None => report(alloc, out, Key::WrongKind, node.span, above),
+                None => report(alloc, out, KeyCode::WrongKind, node.span, above),
                 Some(inner) => check_items(alloc, inner, above, nodes.as_slice(), out),
             },
         },
@@ -146,7 +146,7 @@ fn check_keyed(
     ensures begins { BeginsWith out.new.items out.old.items }
 {
     match keys {
-        Keys::No => report(alloc, out, Key::WrongKind, at, above),
+        Keys::No => report(alloc, out, KeyCode::WrongKind, at, above),
         Keys::Free(_) => {
             let all = KeySet::of(alloc, entries)?;
             check_entries(alloc, keys, entries, &all, out)
@@ -215,9 +215,9 @@ fn check_entry(
 {
     let key = key_of(entry);
     match standing {
-        Standing::Repeated => report(alloc, out, Key::Repeated, entry.key.span(), key),
+        Standing::Repeated => report(alloc, out, KeyCode::Repeated, entry.key.span(), key),
         Standing::Unexpected(other) => {
-            report(alloc, out, Key::Unexpected, entry.key.span(), key)?;
+            report(alloc, out, KeyCode::Unexpected, entry.key.span(), key)?;
             check_beside(alloc, other, &entry.key, out)
         }
         Standing::Ignored => Ok(()),
@@ -250,7 +250,7 @@ pub fn shape_faults(alloc: Global, shape: Shape, root: &Node) -> Result<Vec<Faul
     let mut out = Vec::new(alloc);
     if is_empty(root) {
         let span = Span { start: 0, end: 0 };
-        report_plain(alloc, &mut out, Key::EmptyFile, span)?;
+        report_plain(alloc, &mut out, KeyCode::EmptyFile, span)?;
     } else {
         check(alloc, shape, false, b"file", root, &mut out)?;
     }

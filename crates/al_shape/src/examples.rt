@@ -1,4 +1,4 @@
-ghost use Rattle.al_text.specs.declared.codes.Key.TheVariants.{EmptyFile, Missing, NotBeside, Repeated, Unexpected, WrongKind, WrongType};
+ghost use Rattle.al_text.specs.declared.codes.KeyCode.TheVariants.{EmptyFile, Missing, NotBeside, Repeated, Unexpected, WrongKind, WrongType};
 ghost use Rattle.al_shape.specs.Faults.{fault, root_faults};
 ghost use Rattle.al_shape.specs.Rows as file;
 ghost use Rattle.al_shape.specs.Rows.{at};

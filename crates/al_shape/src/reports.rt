@@ -1,14 +1,14 @@
 ghost use Rattle.al_shape.specs.Faults.{fault};
 ghost use Rattle.std.specs.Prelude.{◌≡◌, [], ◌∷◌, ◌++◌, OnErr, OnOk};
 
-use al_text::{Args, Code, Fault, Key, Span};
+use al_text::{Args, Code, Fault, KeyCode, Span};
 use std::alloc::{AllocError, Global};
 
 /// Adds a fault that names one text.
 pub(crate) fn report(
     alloc: Global,
     out: &mut Vec<Fault>,
-    key: Key,
+    key: KeyCode,
     span: Span,
     text: &[u8],
 ) -> Result<(), AllocError>
@@ -29,7 +29,7 @@ pub(crate) fn report(
 pub(crate) fn report_two(
     alloc: Global,
     out: &mut Vec<Fault>,
-    key: Key,
+    key: KeyCode,
     span: Span,
     first: &[u8],
     second: &[u8],
@@ -52,7 +52,7 @@ pub(crate) fn report_two(
 pub(crate) fn report_plain(
     alloc: Global,
     out: &mut Vec<Fault>,
-    key: Key,
+    key: KeyCode,
     span: Span,
 ) -> Result<(), AllocError>
     ensures ok { OnOk result (out.new.items ≡ out.old.items ++ fault key span [] ∷ []) }

@@ -3,7 +3,7 @@ ghost use Rattle.std.specs.Prelude.{◌≡◌};
 
 use crate::table::Words;
 use al_scalar::{Class, Scalar};
-use al_text::Key;
+use al_text::KeyCode;
 
 /// Whether a text has a `${{`.
 pub fn contains_chunk(text: &[u8]) -> bool
@@ -41,28 +41,28 @@ fn is_number(scalar: &Scalar) -> bool
 }
 
 /// A fault, where a scalar isn't taken.
-fn unless(taken: bool, key: Key) -> Option<Key>
+fn unless(taken: bool, key: KeyCode) -> Option<KeyCode>
     ensures { result ≡ unless_taken taken key }
 {
     if taken { None } else { Some(key) }
 }
 
 /// What is wrong with a scalar where these are taken.
-pub(crate) fn fault_of(words: Words, scalar: &Scalar) -> Option<Key>
+pub(crate) fn fault_of(words: Words, scalar: &Scalar) -> Option<KeyCode>
     ensures { result ≡ word_fault words scalar.now }
 {
     match words {
         Words::AnyWord => None,
-        Words::NoWord => Some(Key::WrongKind),
-        Words::NotNull => unless(!is_null_scalar(scalar), Key::WrongType),
+        Words::NoWord => Some(KeyCode::WrongKind),
+        Words::NotNull => unless(!is_null_scalar(scalar), KeyCode::WrongType),
         Words::Bools => unless(
             is_bool(scalar) || contains_chunk(scalar.text()),
-            Key::WrongType,
+            KeyCode::WrongType,
         ),
         Words::Numbers => unless(
             is_number(scalar) || contains_chunk(scalar.text()),
-            Key::WrongType,
+            KeyCode::WrongType,
         ),
-        Words::Chunks => unless(contains_chunk(scalar.text()), Key::WrongKind),
+        Words::Chunks => unless(contains_chunk(scalar.text()), KeyCode::WrongKind),
     }
 }

@@ -1,6 +1,6 @@
 //! Paths, positions and printed faults.
 
-use al_text::{Args, Code, Fault, Key, Output, Path, PathFault, Span, position, write_fault};
+use al_text::{Args, Code, Fault, KeyCode, Output, Path, PathFault, Span, position, write_fault};
 use std::test::Fail;
 
 #[test]
@@ -44,7 +44,7 @@ fn control_bytes_are_not_printed(rt: HostRuntime) -> Result<(), Fail> {
     texts.push(String::from_str(rt.alloc(), "a\tb\u{7f}")?)?;
     let fault = Fault {
         span: Span { start: 3, end: 4 },
-        code: Code::Key(Key::Unexpected),
+        code: Code::Key(KeyCode::Unexpected),
         args: Args::new(texts),
     };
     let mut output = Vec::new(rt.alloc());

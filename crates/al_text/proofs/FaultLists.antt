@@ -10,19 +10,28 @@ use Rattle.std.specs.declared.cmp.Ordering.TheVariants.{Less, Equal, Greater}
 use Rattle.std.proofs.lemmas.List.Sorted.{Contains-permutation, IsPermutation-sym}
 use Rattle.std.proofs.lemmas.Cmp.{nat_cmp_total, on_total, then_total}
 use Rattle.al_text.specs.Orders.{args_cmp, args_total}
-use Rattle.al_text.specs.FaultLists.{fault_cmp, fault_list, kind_place, place_in_kind, yaml_place, key_place, expression_place}
+use Rattle.al_text.specs.FaultLists.{fault_cmp, fault_list, kind_place, place_in_kind, yaml_place, key_place, rule_place, expression_place, call_place}
 use Rattle.al_text.specs.declared.codes.Code.{Code}
 use Rattle.al_text.specs.declared.codes.Code.TheVariants as C
-use Rattle.al_text.specs.declared.codes.Yaml.{Yaml}
-use Rattle.al_text.specs.declared.codes.Yaml.TheVariants.{NotUtf8, ControlCharacter, TabInIndentation, WrongIndentation, UnclosedQuote, UnclosedFlow, AnchorOrAlias, Tag, ExplicitKey, Directive, SecondDocument, WrongEscape, UnexpectedCharacter, NestingTooDeep, TooManyNodes, WrongBlockHeader, WrongKey, UnknownAlias}
-use Rattle.al_text.specs.declared.codes.Key.{Key}
-use Rattle.al_text.specs.declared.codes.Key.TheVariants.{Unexpected, Missing, Repeated, WrongKind, WrongType, NotBeside, EmptyFile}
-use Rattle.al_text.specs.declared.codes.Expression.{Expression}
-use Rattle.al_text.specs.declared.codes.Expression.TheVariants.{BadCharacter, UnclosedText, UnexpectedToken, EndsEarly, TooLong, TooDeep, UndefinedContext, UnavailableContext, UndefinedFunction, UnavailableFunction, ArgumentCount, ArgumentType, UndefinedProperty, NotIndexable, NotComparable, WrongPlaceholder, UnusedArgument, NotText, Untrusted, UnclosedChunk}
+use Rattle.al_text.specs.declared.codes.YamlCode.{YamlCode}
+use Rattle.al_text.specs.declared.codes.YamlCode.TheVariants.{NotUtf8, ControlCharacter, TabInIndentation, WrongIndentation, UnclosedQuote, UnclosedFlow, AnchorOrAlias, Tag, ExplicitKey, Directive, SecondDocument, WrongEscape, UnexpectedCharacter, NestingTooDeep, TooManyNodes, WrongBlockHeader, WrongKey, UnknownAlias}
+use Rattle.al_text.specs.declared.codes.KeyCode.{KeyCode}
+use Rattle.al_text.specs.declared.codes.KeyCode.TheVariants.{Unexpected, Missing, Repeated, WrongKind, WrongType, NotBeside, EmptyFile}
+use Rattle.al_text.specs.declared.codes.RuleCode.{RuleCode}
+use Rattle.al_text.specs.declared.codes.RuleCode.TheVariants.{UnknownEvent, UnknownActivity, WrongPattern, WrongSchedule, ScheduleTooOften, WrongId, RepeatedId, UndefinedJob, NeedsCycle, WrongMatrix, UnknownMatrixRow, UnknownShell, UnknownPermission, WrongPermission, WrongVariable, PasswordNotExpression, DeprecatedCommand, AlwaysTrue, UnknownInputType, UnknownUsing, MissingShell, MissingOutputValue}
+use Rattle.al_text.specs.declared.codes.CallCode.{CallCode}
+use Rattle.al_text.specs.declared.codes.CallCode.TheVariants.{NoWorkflow, UndefinedInput, MissingInput, WrongInput, UndefinedSecret, MissingSecret, WrongUses, NotCallable, LeadsBack}
+use Rattle.al_text.specs.declared.codes.Caller.{Caller}
+use Rattle.al_text.specs.declared.codes.Caller.TheVariants as caller
+use Rattle.al_text.specs.declared.codes.ExpressionCode.{ExpressionCode}
+use Rattle.al_text.specs.declared.codes.ExpressionCode.TheVariants.{BadCharacter, UnclosedText, UnexpectedToken, EndsEarly, TooLong, TooDeep, UndefinedContext, UnavailableContext, UndefinedFunction, UnavailableFunction, ArgumentCount, ArgumentType, UndefinedProperty, NotIndexable, NotComparable, WrongPlaceholder, UnusedArgument, NotText, Untrusted, UnclosedChunk}
 use Rattle.al_text.specs.declared.faults.Fault.{Fault}
-use Rattle.al_text.specs.contracts.codes.YamlOrd.TheImpl as yaml
-use Rattle.al_text.specs.contracts.codes.KeyOrd.TheImpl as key
-use Rattle.al_text.specs.contracts.codes.ExpressionOrd.TheImpl as expression
+use Rattle.al_text.specs.contracts.codes.YamlCodeOrd.TheImpl as yaml
+use Rattle.al_text.specs.contracts.codes.KeyCodeOrd.TheImpl as key
+use Rattle.al_text.specs.contracts.codes.RuleCodeOrd.TheImpl as rule
+use Rattle.al_text.specs.contracts.codes.ExpressionCodeOrd.TheImpl as expression
+use Rattle.al_text.specs.contracts.codes.CallCodeOrd.TheImpl as call
+use Rattle.al_text.specs.contracts.codes.CallerOrd.TheImpl as by_caller
 use Rattle.al_text.specs.contracts.codes.CodeOrd.TheImpl as code
 use Rattle.al_text.specs.contracts.faults.FaultOrd.TheImpl as derived
 use Rattle.al_text.specs.contracts.faults.FaultOrd.TheImpl.Laws.{matches_eq-law}
@@ -31,31 +40,78 @@ use Rattle.al_text.proofs.InOrder.{IsStrictlySortedBy-in_order, Contains-in_orde
 
 -- ---- the derived order: each code beside each other one, by computation
 
-yaml_is : (a b : Yaml) → yaml.ghosts.cmp a b ≡ nat_cmp (yaml_place a) (yaml_place b)
+yaml_is : (a b : YamlCode) → yaml.ghosts.cmp a b ≡ nat_cmp (yaml_place a) (yaml_place b)
 yaml_is NotUtf8 NotUtf8 = refl
 yaml_is _ NotUtf8 = refl
 yaml_is _ _ = refl
 
-key_is : (a b : Key) → key.ghosts.cmp a b ≡ nat_cmp (key_place a) (key_place b)
+key_is : (a b : KeyCode) → key.ghosts.cmp a b ≡ nat_cmp (key_place a) (key_place b)
 key_is Unexpected Unexpected = refl
 key_is _ Unexpected = refl
 key_is _ _ = refl
 
-expression_is : (a b : Expression) → expression.ghosts.cmp a b ≡ nat_cmp (expression_place a) (expression_place b)
+rule_is : (a b : RuleCode) → rule.ghosts.cmp a b ≡ nat_cmp (rule_place a) (rule_place b)
+rule_is UnknownEvent UnknownEvent = refl
+rule_is _ UnknownEvent = refl
+rule_is _ _ = refl
+
+expression_is : (a b : ExpressionCode) → expression.ghosts.cmp a b ≡ nat_cmp (expression_place a) (expression_place b)
 expression_is BadCharacter BadCharacter = refl
 expression_is _ BadCharacter = refl
 expression_is _ _ = refl
 
+jobs_are : (a b : CallCode) → ordering_then (call.ghosts.cmp a b) (by_caller.ghosts.cmp caller.Job caller.Job) ≡ nat_cmp (call_place a caller.Job) (call_place b caller.Job)
+jobs_are NoWorkflow NoWorkflow = refl
+jobs_are _ NoWorkflow = refl
+jobs_are _ _ = refl
+
+job_step : (a b : CallCode) → ordering_then (call.ghosts.cmp a b) (by_caller.ghosts.cmp caller.Job caller.Step) ≡ nat_cmp (call_place a caller.Job) (call_place b caller.Step)
+job_step NoWorkflow NoWorkflow = refl
+job_step _ NoWorkflow = refl
+job_step _ _ = refl
+
+step_job : (a b : CallCode) → ordering_then (call.ghosts.cmp a b) (by_caller.ghosts.cmp caller.Step caller.Job) ≡ nat_cmp (call_place a caller.Step) (call_place b caller.Job)
+step_job NoWorkflow NoWorkflow = refl
+step_job _ NoWorkflow = refl
+step_job _ _ = refl
+
+steps_are : (a b : CallCode) → ordering_then (call.ghosts.cmp a b) (by_caller.ghosts.cmp caller.Step caller.Step) ≡ nat_cmp (call_place a caller.Step) (call_place b caller.Step)
+steps_are NoWorkflow NoWorkflow = refl
+steps_are _ NoWorkflow = refl
+steps_are _ _ = refl
+
+call_is : (a : CallCode) (c : Caller) (b : CallCode) (d : Caller) → ordering_then (call.ghosts.cmp a b) (by_caller.ghosts.cmp c d) ≡ nat_cmp (call_place a c) (call_place b d)
+call_is a caller.Job b caller.Job = jobs_are a b
+call_is a caller.Job b caller.Step = job_step a b
+call_is a caller.Step b caller.Job = step_job a b
+call_is a caller.Step b caller.Step = steps_are a b
+
 code_is : (a b : Code) → code.ghosts.cmp a b ≡ ordering_then (nat_cmp (kind_place a) (kind_place b)) (nat_cmp (place_in_kind a) (place_in_kind b))
 code_is (C.Yaml a) (C.Yaml b) = yaml_is a b
 code_is (C.Key a) (C.Key b) = key_is a b
+code_is (C.Rule a) (C.Rule b) = rule_is a b
 code_is (C.Expression a) (C.Expression b) = expression_is a b
 code_is (C.Yaml a) (C.Key b) = refl
+code_is (C.Yaml a) (C.Rule b) = refl
 code_is (C.Yaml a) (C.Expression b) = refl
 code_is (C.Key a) (C.Yaml b) = refl
+code_is (C.Key a) (C.Rule b) = refl
 code_is (C.Key a) (C.Expression b) = refl
+code_is (C.Rule a) (C.Yaml b) = refl
+code_is (C.Rule a) (C.Key b) = refl
+code_is (C.Rule a) (C.Expression b) = refl
 code_is (C.Expression a) (C.Yaml b) = refl
 code_is (C.Expression a) (C.Key b) = refl
+code_is (C.Expression a) (C.Rule b) = refl
+code_is (C.Call a c) (C.Call b d) = call_is a c b d
+code_is (C.Yaml a) (C.Call b d) = refl
+code_is (C.Call a c) (C.Yaml b) = refl
+code_is (C.Key a) (C.Call b d) = refl
+code_is (C.Call a c) (C.Key b) = refl
+code_is (C.Rule a) (C.Call b d) = refl
+code_is (C.Call a c) (C.Rule b) = refl
+code_is (C.Expression a) (C.Call b d) = refl
+code_is (C.Call a c) (C.Expression b) = refl
 
 then_assoc : (p c l : Ordering) → ordering_then (ordering_then p c) l ≡ ordering_then p (ordering_then c l)
 then_assoc Less c l = refl
@@ -87,34 +143,61 @@ fault_cmp_total =
     (on_total (λ (fault : Fault). fault.args) args_total))))
 
 -- the code at each place
-yaml_at : ℕ → Yaml
+yaml_at : ℕ → YamlCode
 yaml_at n = get_or (NotUtf8 ∷ ControlCharacter ∷ TabInIndentation ∷ WrongIndentation ∷ UnclosedQuote ∷ UnclosedFlow ∷ AnchorOrAlias ∷ Tag ∷ ExplicitKey ∷ Directive ∷ SecondDocument ∷ WrongEscape ∷ UnexpectedCharacter ∷ NestingTooDeep ∷ TooManyNodes ∷ WrongBlockHeader ∷ WrongKey ∷ UnknownAlias ∷ []) n NotUtf8
 
-yaml_back : (a : Yaml) → yaml_at (yaml_place a) ≡ a
+yaml_back : (a : YamlCode) → yaml_at (yaml_place a) ≡ a
 unfolding yaml_at
 yaml_back NotUtf8 = refl
 yaml_back _ = refl
 
-key_at : ℕ → Key
+key_at : ℕ → KeyCode
 key_at n = get_or (Unexpected ∷ Missing ∷ Repeated ∷ WrongKind ∷ WrongType ∷ NotBeside ∷ EmptyFile ∷ []) n Unexpected
 
-key_back : (a : Key) → key_at (key_place a) ≡ a
+key_back : (a : KeyCode) → key_at (key_place a) ≡ a
 unfolding key_at
 key_back Unexpected = refl
 key_back _ = refl
 
-expression_at : ℕ → Expression
+rule_at : ℕ → RuleCode
+rule_at n = get_or (UnknownEvent ∷ UnknownActivity ∷ WrongPattern ∷ WrongSchedule ∷ ScheduleTooOften ∷ WrongId ∷ RepeatedId ∷ UndefinedJob ∷ NeedsCycle ∷ WrongMatrix ∷ UnknownMatrixRow ∷ UnknownShell ∷ UnknownPermission ∷ WrongPermission ∷ WrongVariable ∷ PasswordNotExpression ∷ DeprecatedCommand ∷ AlwaysTrue ∷ UnknownInputType ∷ UnknownUsing ∷ MissingShell ∷ MissingOutputValue ∷ []) n UnknownEvent
+
+rule_back : (a : RuleCode) → rule_at (rule_place a) ≡ a
+unfolding rule_at
+rule_back UnknownEvent = refl
+rule_back _ = refl
+
+expression_at : ℕ → ExpressionCode
 expression_at n = get_or (BadCharacter ∷ UnclosedText ∷ UnexpectedToken ∷ EndsEarly ∷ TooLong ∷ TooDeep ∷ UndefinedContext ∷ UnavailableContext ∷ UndefinedFunction ∷ UnavailableFunction ∷ ArgumentCount ∷ ArgumentType ∷ UndefinedProperty ∷ NotIndexable ∷ NotComparable ∷ WrongPlaceholder ∷ UnusedArgument ∷ NotText ∷ Untrusted ∷ UnclosedChunk ∷ []) n BadCharacter
 
-expression_back : (a : Expression) → expression_at (expression_place a) ≡ a
+expression_back : (a : ExpressionCode) → expression_at (expression_place a) ≡ a
 unfolding expression_at
 expression_back BadCharacter = refl
 expression_back _ = refl
 
+call_at : ℕ → Code
+call_at n = get_or (C.Call NoWorkflow caller.Job ∷ C.Call NoWorkflow caller.Step ∷ C.Call UndefinedInput caller.Job ∷ C.Call UndefinedInput caller.Step ∷ C.Call MissingInput caller.Job ∷ C.Call MissingInput caller.Step ∷ C.Call WrongInput caller.Job ∷ C.Call WrongInput caller.Step ∷ C.Call UndefinedSecret caller.Job ∷ C.Call UndefinedSecret caller.Step ∷ C.Call MissingSecret caller.Job ∷ C.Call MissingSecret caller.Step ∷ C.Call WrongUses caller.Job ∷ C.Call WrongUses caller.Step ∷ C.Call NotCallable caller.Job ∷ C.Call NotCallable caller.Step ∷ C.Call LeadsBack caller.Job ∷ C.Call LeadsBack caller.Step ∷ []) n (C.Call NoWorkflow caller.Job)
+
+job_back : (a : CallCode) → call_at (call_place a caller.Job) ≡ C.Call a caller.Job
+unfolding call_at
+job_back NoWorkflow = refl
+job_back _ = refl
+
+step_back : (a : CallCode) → call_at (call_place a caller.Step) ≡ C.Call a caller.Step
+unfolding call_at
+step_back NoWorkflow = refl
+step_back _ = refl
+
+call_back : (a : CallCode) (c : Caller) → call_at (call_place a c) ≡ C.Call a c
+call_back a caller.Job = job_back a
+call_back a caller.Step = step_back a
+
 one_code : (a b : Code) → kind_place a ≡ kind_place b → place_in_kind a ≡ place_in_kind b → a ≡ b
 one_code (C.Yaml a) (C.Yaml b) k p = ap C.Yaml (sym (yaml_back a) ∙ ap yaml_at p ∙ yaml_back b)
 one_code (C.Key a) (C.Key b) k p = ap C.Key (sym (key_back a) ∙ ap key_at p ∙ key_back b)
+one_code (C.Rule a) (C.Rule b) k p = ap C.Rule (sym (rule_back a) ∙ ap rule_at p ∙ rule_back b)
 one_code (C.Expression a) (C.Expression b) k p = ap C.Expression (sym (expression_back a) ∙ ap expression_at p ∙ expression_back b)
+one_code (C.Call a c) (C.Call b d) k p = sym (call_back a c) ∙ ap call_at p ∙ call_back b d
 one_code _ _ k p = absurd (omega arith)
 
 both_equal : (r s : Ordering) → ordering_then r s ≡ Equal → (r ≡ Equal) × (s ≡ Equal)

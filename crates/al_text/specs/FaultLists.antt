@@ -6,16 +6,22 @@ use Rattle.al_text.specs.Orders.{args_cmp}
 use Rattle.al_text.specs.InOrder.{in_order}
 use Rattle.al_text.specs.declared.codes.Code.{Code}
 use Rattle.al_text.specs.declared.codes.Code.TheVariants as C
-use Rattle.al_text.specs.declared.codes.Yaml.{Yaml}
-use Rattle.al_text.specs.declared.codes.Yaml.TheVariants.{NotUtf8, ControlCharacter, TabInIndentation, WrongIndentation, UnclosedQuote, UnclosedFlow, AnchorOrAlias, Tag, ExplicitKey, Directive, SecondDocument, WrongEscape, UnexpectedCharacter, NestingTooDeep, TooManyNodes, WrongBlockHeader, WrongKey, UnknownAlias}
-use Rattle.al_text.specs.declared.codes.Key.{Key}
-use Rattle.al_text.specs.declared.codes.Key.TheVariants.{Unexpected, Missing, Repeated, WrongKind, WrongType, NotBeside, EmptyFile}
-use Rattle.al_text.specs.declared.codes.Expression.{Expression}
-use Rattle.al_text.specs.declared.codes.Expression.TheVariants.{BadCharacter, UnclosedText, UnexpectedToken, EndsEarly, TooLong, TooDeep, UndefinedContext, UnavailableContext, UndefinedFunction, UnavailableFunction, ArgumentCount, ArgumentType, UndefinedProperty, NotIndexable, NotComparable, WrongPlaceholder, UnusedArgument, NotText, Untrusted, UnclosedChunk}
+use Rattle.al_text.specs.declared.codes.YamlCode.{YamlCode}
+use Rattle.al_text.specs.declared.codes.YamlCode.TheVariants.{NotUtf8, ControlCharacter, TabInIndentation, WrongIndentation, UnclosedQuote, UnclosedFlow, AnchorOrAlias, Tag, ExplicitKey, Directive, SecondDocument, WrongEscape, UnexpectedCharacter, NestingTooDeep, TooManyNodes, WrongBlockHeader, WrongKey, UnknownAlias}
+use Rattle.al_text.specs.declared.codes.KeyCode.{KeyCode}
+use Rattle.al_text.specs.declared.codes.KeyCode.TheVariants.{Unexpected, Missing, Repeated, WrongKind, WrongType, NotBeside, EmptyFile}
+use Rattle.al_text.specs.declared.codes.RuleCode.{RuleCode}
+use Rattle.al_text.specs.declared.codes.RuleCode.TheVariants.{UnknownEvent, UnknownActivity, WrongPattern, WrongSchedule, ScheduleTooOften, WrongId, RepeatedId, UndefinedJob, NeedsCycle, WrongMatrix, UnknownMatrixRow, UnknownShell, UnknownPermission, WrongPermission, WrongVariable, PasswordNotExpression, DeprecatedCommand, AlwaysTrue, UnknownInputType, UnknownUsing, MissingShell, MissingOutputValue}
+use Rattle.al_text.specs.declared.codes.CallCode.{CallCode}
+use Rattle.al_text.specs.declared.codes.CallCode.TheVariants.{NoWorkflow, UndefinedInput, MissingInput, WrongInput, UndefinedSecret, MissingSecret, WrongUses, NotCallable, LeadsBack}
+use Rattle.al_text.specs.declared.codes.Caller.{Caller}
+use Rattle.al_text.specs.declared.codes.Caller.TheVariants as caller
+use Rattle.al_text.specs.declared.codes.ExpressionCode.{ExpressionCode}
+use Rattle.al_text.specs.declared.codes.ExpressionCode.TheVariants.{BadCharacter, UnclosedText, UnexpectedToken, EndsEarly, TooLong, TooDeep, UndefinedContext, UnavailableContext, UndefinedFunction, UnavailableFunction, ArgumentCount, ArgumentType, UndefinedProperty, NotIndexable, NotComparable, WrongPlaceholder, UnusedArgument, NotText, Untrusted, UnclosedChunk}
 use Rattle.al_text.specs.declared.faults.Fault.{Fault}
 
 -- where a code stands among those of its kind
-abbrev pub yaml_place : Yaml → ℕ
+abbrev pub yaml_place : YamlCode → ℕ
 yaml_place NotUtf8 = 0
 yaml_place ControlCharacter = 1
 yaml_place TabInIndentation = 2
@@ -35,7 +41,7 @@ yaml_place WrongBlockHeader = 15
 yaml_place WrongKey = 16
 yaml_place UnknownAlias = 17
 
-abbrev pub key_place : Key → ℕ
+abbrev pub key_place : KeyCode → ℕ
 key_place Unexpected = 0
 key_place Missing = 1
 key_place Repeated = 2
@@ -44,7 +50,31 @@ key_place WrongType = 4
 key_place NotBeside = 5
 key_place EmptyFile = 6
 
-abbrev pub expression_place : Expression → ℕ
+abbrev pub rule_place : RuleCode → ℕ
+rule_place UnknownEvent = 0
+rule_place UnknownActivity = 1
+rule_place WrongPattern = 2
+rule_place WrongSchedule = 3
+rule_place ScheduleTooOften = 4
+rule_place WrongId = 5
+rule_place RepeatedId = 6
+rule_place UndefinedJob = 7
+rule_place NeedsCycle = 8
+rule_place WrongMatrix = 9
+rule_place UnknownMatrixRow = 10
+rule_place UnknownShell = 11
+rule_place UnknownPermission = 12
+rule_place WrongPermission = 13
+rule_place WrongVariable = 14
+rule_place PasswordNotExpression = 15
+rule_place DeprecatedCommand = 16
+rule_place AlwaysTrue = 17
+rule_place UnknownInputType = 18
+rule_place UnknownUsing = 19
+rule_place MissingShell = 20
+rule_place MissingOutputValue = 21
+
+abbrev pub expression_place : ExpressionCode → ℕ
 expression_place BadCharacter = 0
 expression_place UnclosedText = 1
 expression_place UnexpectedToken = 2
@@ -66,16 +96,41 @@ expression_place NotText = 17
 expression_place Untrusted = 18
 expression_place UnclosedChunk = 19
 
+-- by number, and a job's before a step's
+abbrev pub call_place : CallCode → Caller → ℕ
+call_place NoWorkflow caller.Job = 0
+call_place NoWorkflow caller.Step = 1
+call_place UndefinedInput caller.Job = 2
+call_place UndefinedInput caller.Step = 3
+call_place MissingInput caller.Job = 4
+call_place MissingInput caller.Step = 5
+call_place WrongInput caller.Job = 6
+call_place WrongInput caller.Step = 7
+call_place UndefinedSecret caller.Job = 8
+call_place UndefinedSecret caller.Step = 9
+call_place MissingSecret caller.Job = 10
+call_place MissingSecret caller.Step = 11
+call_place WrongUses caller.Job = 12
+call_place WrongUses caller.Step = 13
+call_place NotCallable caller.Job = 14
+call_place NotCallable caller.Step = 15
+call_place LeadsBack caller.Job = 16
+call_place LeadsBack caller.Step = 17
+
 abbrev pub place_in_kind : Code → ℕ
 place_in_kind (C.Yaml code) = yaml_place code
 place_in_kind (C.Key code) = key_place code
+place_in_kind (C.Rule code) = rule_place code
 place_in_kind (C.Expression code) = expression_place code
+place_in_kind (C.Call code by) = call_place code by
 
--- faults of YAML before those of keys, and these before those of expressions
+-- faults of YAML, then of keys, then of rules, of expressions, of calls
 abbrev pub kind_place : Code → ℕ
 kind_place (C.Yaml code) = 0
 kind_place (C.Key code) = 1
-kind_place (C.Expression code) = 2
+kind_place (C.Rule code) = 2
+kind_place (C.Expression code) = 3
+kind_place (C.Call code by) = 4
 
 -- by start, by end, by code, and then by the arguments
 abbrev pub fault_cmp : Fault → Fault → Ordering

@@ -3,12 +3,18 @@ use Rattle.std.specs.Prelude.{ℕ, ◌+◌, Bool, ◌||◌, ◌==◌, nat_lt, Li
 use Rattle.al_text.specs.Positions.{line_at, column_at}
 use Rattle.al_text.specs.declared.codes.Code.{Code}
 use Rattle.al_text.specs.declared.codes.Code.TheVariants as C
-use Rattle.al_text.specs.declared.codes.Yaml.{Yaml}
-use Rattle.al_text.specs.declared.codes.Yaml.TheVariants.{NotUtf8, ControlCharacter, TabInIndentation, WrongIndentation, UnclosedQuote, UnclosedFlow, AnchorOrAlias, Tag, ExplicitKey, Directive, SecondDocument, WrongEscape, UnexpectedCharacter, NestingTooDeep, TooManyNodes, WrongBlockHeader, WrongKey, UnknownAlias}
-use Rattle.al_text.specs.declared.codes.Key.{Key}
-use Rattle.al_text.specs.declared.codes.Key.TheVariants.{Unexpected, Missing, Repeated, WrongKind, WrongType, NotBeside, EmptyFile}
-use Rattle.al_text.specs.declared.codes.Expression.{Expression}
-use Rattle.al_text.specs.declared.codes.Expression.TheVariants.{BadCharacter, UnclosedText, UnexpectedToken, EndsEarly, TooLong, TooDeep, UndefinedContext, UnavailableContext, UndefinedFunction, UnavailableFunction, ArgumentCount, ArgumentType, UndefinedProperty, NotIndexable, NotComparable, WrongPlaceholder, UnusedArgument, NotText, Untrusted, UnclosedChunk}
+use Rattle.al_text.specs.declared.codes.YamlCode.{YamlCode}
+use Rattle.al_text.specs.declared.codes.YamlCode.TheVariants.{NotUtf8, ControlCharacter, TabInIndentation, WrongIndentation, UnclosedQuote, UnclosedFlow, AnchorOrAlias, Tag, ExplicitKey, Directive, SecondDocument, WrongEscape, UnexpectedCharacter, NestingTooDeep, TooManyNodes, WrongBlockHeader, WrongKey, UnknownAlias}
+use Rattle.al_text.specs.declared.codes.KeyCode.{KeyCode}
+use Rattle.al_text.specs.declared.codes.KeyCode.TheVariants.{Unexpected, Missing, Repeated, WrongKind, WrongType, NotBeside, EmptyFile}
+use Rattle.al_text.specs.declared.codes.RuleCode.{RuleCode}
+use Rattle.al_text.specs.declared.codes.RuleCode.TheVariants.{UnknownEvent, UnknownActivity, WrongPattern, WrongSchedule, ScheduleTooOften, WrongId, RepeatedId, UndefinedJob, NeedsCycle, WrongMatrix, UnknownMatrixRow, UnknownShell, UnknownPermission, WrongPermission, WrongVariable, PasswordNotExpression, DeprecatedCommand, AlwaysTrue, UnknownInputType, UnknownUsing, MissingShell, MissingOutputValue}
+use Rattle.al_text.specs.declared.codes.CallCode.{CallCode}
+use Rattle.al_text.specs.declared.codes.CallCode.TheVariants.{NoWorkflow, UndefinedInput, MissingInput, WrongInput, UndefinedSecret, MissingSecret, WrongUses, NotCallable, LeadsBack}
+use Rattle.al_text.specs.declared.codes.Caller.{Caller}
+use Rattle.al_text.specs.declared.codes.Caller.TheVariants as caller
+use Rattle.al_text.specs.declared.codes.ExpressionCode.{ExpressionCode}
+use Rattle.al_text.specs.declared.codes.ExpressionCode.TheVariants.{BadCharacter, UnclosedText, UnexpectedToken, EndsEarly, TooLong, TooDeep, UndefinedContext, UnavailableContext, UndefinedFunction, UnavailableFunction, ArgumentCount, ArgumentType, UndefinedProperty, NotIndexable, NotComparable, WrongPlaceholder, UnusedArgument, NotText, Untrusted, UnclosedChunk}
 use Rattle.al_text.specs.declared.faults.Fault.{Fault}
 
 -- a message's words, before, between and after its arguments
@@ -24,7 +30,7 @@ abbrev pub plain : List ℕ → Wording
 plain head = words head [] []
 
 -- YAML faults
-abbrev pub yaml_wording : Yaml → Wording
+abbrev pub yaml_wording : YamlCode → Wording
 yaml_wording NotUtf8 = plain (codes "file is not UTF-8")
 yaml_wording ControlCharacter = plain (codes "control character")
 yaml_wording TabInIndentation = plain (codes "tab in indentation")
@@ -45,7 +51,7 @@ yaml_wording WrongKey = plain (codes "key is not a scalar on one line")
 yaml_wording UnknownAlias = plain (codes "unknown alias")
 
 -- faults of keys and their values
-abbrev pub key_wording : Key → Wording
+abbrev pub key_wording : KeyCode → Wording
 key_wording Unexpected = words (codes "unexpected key \"") (codes "\"") []
 key_wording Missing = words (codes "key \"") (codes "\" is missing") []
 key_wording Repeated = words (codes "key \"") (codes "\" is repeated") []
@@ -54,8 +60,33 @@ key_wording WrongType = words (codes "wrong type of value for \"") (codes "\"") 
 key_wording NotBeside = words (codes "\"") (codes "\" cannot stand beside \"") (codes "\"")
 key_wording EmptyFile = plain (codes "file is empty")
 
+-- faults of rules inside a file
+abbrev pub rule_wording : RuleCode → Wording
+rule_wording UnknownEvent = words (codes "unknown event \"") (codes "\"") []
+rule_wording UnknownActivity = words (codes "unknown activity type \"") (codes "\"") []
+rule_wording WrongPattern = words (codes "wrong filter pattern \"") (codes "\"") []
+rule_wording WrongSchedule = words (codes "wrong schedule \"") (codes "\"") []
+rule_wording ScheduleTooOften = words (codes "schedule \"") (codes "\" runs more often than every 5 minutes") []
+rule_wording WrongId = words (codes "wrong id \"") (codes "\"") []
+rule_wording RepeatedId = words (codes "id \"") (codes "\" is repeated") []
+rule_wording UndefinedJob = words (codes "job \"") (codes "\" is not defined") []
+rule_wording NeedsCycle = words (codes "\"") (codes "\" needs \"") (codes "\" in a cycle")
+rule_wording WrongMatrix = words (codes "wrong shape of matrix \"") (codes "\"") []
+rule_wording UnknownMatrixRow = words (codes "\"") (codes "\" is not a matrix row") []
+rule_wording UnknownShell = words (codes "unknown shell \"") (codes "\"") []
+rule_wording UnknownPermission = words (codes "unknown permission \"") (codes "\"") []
+rule_wording WrongPermission = words (codes "wrong permission value \"") (codes "\"") []
+rule_wording WrongVariable = words (codes "wrong name \"") (codes "\" of environment variable") []
+rule_wording PasswordNotExpression = plain (codes "password must be one expression")
+rule_wording DeprecatedCommand = words (codes "command \"") (codes "\" is deprecated") []
+rule_wording AlwaysTrue = plain (codes "condition is always true")
+rule_wording UnknownInputType = words (codes "unknown input type \"") (codes "\"") []
+rule_wording UnknownUsing = words (codes "unknown using \"") (codes "\"") []
+rule_wording MissingShell = plain (codes "shell is required here")
+rule_wording MissingOutputValue = words (codes "output \"") (codes "\" needs a value") []
+
 -- faults of expressions
-abbrev pub expression_wording : Expression → Wording
+abbrev pub expression_wording : ExpressionCode → Wording
 expression_wording BadCharacter = plain (codes "bad character in expression")
 expression_wording UnclosedText = plain (codes "text in expression is not closed")
 expression_wording UnexpectedToken = words (codes "unexpected token \"") (codes "\"") []
@@ -77,16 +108,62 @@ expression_wording NotText = plain (codes "object or array in a text")
 expression_wording Untrusted = words (codes "\"") (codes "\" is untrusted, pass it by env") []
 expression_wording UnclosedChunk = plain (codes "braces of expression are not closed")
 
+-- faults of calls
+abbrev pub call_wording : CallCode → Wording
+call_wording NoWorkflow = words (codes "workflow \"") (codes "\" is not in the folder") []
+call_wording UndefinedInput = words (codes "input \"") (codes "\" is not defined in \"") (codes "\"")
+call_wording MissingInput = words (codes "required input \"") (codes "\" of \"") (codes "\" is missing")
+call_wording WrongInput = words (codes "input \"") (codes "\" must be ") []
+call_wording UndefinedSecret = words (codes "secret \"") (codes "\" is not defined in \"") (codes "\"")
+call_wording MissingSecret = words (codes "required secret \"") (codes "\" of \"") (codes "\" is missing")
+call_wording WrongUses = words (codes "\"") (codes "\" is not a valid uses") []
+call_wording NotCallable = words (codes "\"") (codes "\" cannot be called here") []
+call_wording LeadsBack = words (codes "call of \"") (codes "\" leads back to this file") []
+
 abbrev pub wording : Code → Wording
 wording (C.Yaml fault) = yaml_wording fault
 wording (C.Key fault) = key_wording fault
+wording (C.Rule fault) = rule_wording fault
 wording (C.Expression fault) = expression_wording fault
+wording (C.Call fault by) = call_wording fault
+
+-- the kinds of faults of calls
+abbrev pub call_kind : Caller → List ℕ
+call_kind caller.Job = codes "workflow-call"
+call_kind caller.Step = codes "action"
+
+-- the kinds of faults of rules
+abbrev pub rule_kind : RuleCode → List ℕ
+rule_kind UnknownEvent = codes "events"
+rule_kind UnknownActivity = codes "events"
+rule_kind WrongPattern = codes "glob"
+rule_kind WrongSchedule = codes "events"
+rule_kind ScheduleTooOften = codes "events"
+rule_kind WrongId = codes "id"
+rule_kind RepeatedId = codes "id"
+rule_kind UndefinedJob = codes "job-needs"
+rule_kind NeedsCycle = codes "job-needs"
+rule_kind WrongMatrix = codes "matrix"
+rule_kind UnknownMatrixRow = codes "matrix"
+rule_kind UnknownShell = codes "shell-name"
+rule_kind UnknownPermission = codes "permissions"
+rule_kind WrongPermission = codes "permissions"
+rule_kind WrongVariable = codes "env-var"
+rule_kind PasswordNotExpression = codes "credentials"
+rule_kind DeprecatedCommand = codes "deprecated-commands"
+rule_kind AlwaysTrue = codes "if-cond"
+rule_kind UnknownInputType = codes "events"
+rule_kind UnknownUsing = codes "action"
+rule_kind MissingShell = codes "action"
+rule_kind MissingOutputValue = codes "action"
 
 -- the kind that a report names
 abbrev pub kind_of : Code → List ℕ
 kind_of (C.Yaml fault) = codes "syntax-check"
 kind_of (C.Key fault) = codes "syntax-check"
+kind_of (C.Rule fault) = rule_kind fault
 kind_of (C.Expression fault) = codes "expression"
+kind_of (C.Call fault by) = call_kind by
 
 -- a byte of an argument as it is printed
 abbrev pub shown_byte : ℕ → ℕ

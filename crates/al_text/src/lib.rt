@@ -9,12 +9,13 @@ mod lists;
 mod paths;
 mod positions;
 mod printing;
+mod snippets;
 mod stops;
 mod streams;
 mod wordings;
 
-pub use codes::{Code, Expression, Key, Yaml};
-pub use examples::rows;
+pub use codes::{CallCode, Caller, Code, ExpressionCode, KeyCode, RuleCode, YamlCode};
+pub use examples::{rows, snippet_rows};
 pub use faults::{Args, Fault, Span};
 pub use lines::Lines;
 pub use lists::{fault_lists, ordered};

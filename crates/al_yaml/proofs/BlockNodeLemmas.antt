@@ -1,8 +1,8 @@
 -- Block nodes against offsets. Each lemma is one way through `block_node`, `sequence_entries`, `mapping_entries`,
 -- `rest_node` or `node_below`.
 use Rattle.std.proofs.Common.{◌≡◌, ℕ, suc, ◌+◌, ◌<◌, ◌≤◌, List, [], ◌∷◌, length, refl, sym, ap, ◌∙◌, arith, Bool, true, false, not, ◌&&◌, ◌||◌, cond, Option, Some, None, Ok, Err}
-use Rattle.al_text.specs.declared.codes.Yaml.{Yaml}
-use Rattle.al_text.specs.declared.codes.Yaml.TheVariants as yaml
+use Rattle.al_text.specs.declared.codes.YamlCode.{YamlCode}
+use Rattle.al_text.specs.declared.codes.YamlCode.TheVariants as yaml
 use Rattle.al_scalar.specs.Line.{Line, start}
 use Rattle.al_scalar.specs.Places.{lines_at, text_at}
 use Rattle.al_scalar.specs.Taken.{Fault}
@@ -43,7 +43,7 @@ module _ (bound : ℕ) (slot : Slot) (depth column n : ℕ) (bytes : List ℕ) (
   unfolding block_node
   node-over = refl
 
-  node_wrong : (code : Yaml) → run (counted n) (fails {A = Part tree.Node} code (start (lines_at bytes at))) ≡ Err (record { code = code; at = at })
+  node_wrong : (code : YamlCode) → run (counted n) (fails {A = Part tree.Node} code (start (lines_at bytes at))) ≡ Err (record { code = code; at = at })
   node_wrong code = run-fails n code (start (lines_at bytes at)) ∙ ap (λ i. Err (record { code = code; at = i })) (start-at bytes at inside)
 
   pub block-property : true ≡ is_property (text_at bytes at) → run (counted n) whole ≡ Err (record { code = yaml.AnchorOrAlias; at = at })
@@ -69,7 +69,7 @@ module _ (bound : ℕ) (slot : Slot) (depth column n : ℕ) (bytes : List ℕ) (
     block-dash h = node-content ∙ if-true (is_dash (text_at bytes at)) _ _ h
 
     module _ (no_dash : false ≡ is_dash (text_at bytes at)) where
-      pub block-fault : (code : Yaml) → Some code ≡ block_fault (text_at bytes at) → run (counted n) whole ≡ Err (record { code = code; at = at })
+      pub block-fault : (code : YamlCode) → Some code ≡ block_fault (text_at bytes at) → run (counted n) whole ≡ Err (record { code = code; at = at })
       block-fault code h =
           ap (run (counted n)) (node-content ∙ if-false (is_dash (text_at bytes at)) _ _ no_dash ∙ ap (λ o. unless o (start (lines_at bytes at)) behind_dash) (sym h)) ∙ node_wrong code
 

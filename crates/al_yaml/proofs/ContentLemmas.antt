@@ -4,7 +4,7 @@ use Rattle.al_scalar.specs.Line.{Cell, Line, start, cut, indent, is_document_mar
 use Rattle.al_scalar.specs.Places.{lines_at, first_text, text_at}
 use Rattle.al_scalar.specs.Block.{at_end}
 use native.Mathlib.Decide.{ℕ_discrete}
-use Rattle.al_text.specs.declared.codes.Yaml.TheVariants as yaml
+use Rattle.al_text.specs.declared.codes.YamlCode.TheVariants as yaml
 use Rattle.al_scalar.specs.Taken.{Fault, fault}
 use Rattle.al_yaml.specs.Content.{Next, ended, at_line, ends_line, line_ended, whole_lines, blanks_dropped, spaces_dropped, is_skipped, content, content_line, is_dash, tab_among}
 use Rattle.al_yaml.specs.Flow.{gap, is_gap_line}

@@ -1,7 +1,7 @@
 -- Flow collections against offsets.
 use Rattle.std.proofs.Common.{◌≡◌, ℕ, suc, ◌+◌, ◌<◌, ◌≤◌, List, [], ◌∷◌, length, refl, sym, ap, ◌∙◌, Bool, true, false, not, ◌||◌, cond, Option, Some, None, Result, Ok, Err}
-use Rattle.al_text.specs.declared.codes.Yaml.{Yaml}
-use Rattle.al_text.specs.declared.codes.Yaml.TheVariants as yaml
+use Rattle.al_text.specs.declared.codes.YamlCode.{YamlCode}
+use Rattle.al_text.specs.declared.codes.YamlCode.TheVariants as yaml
 use Rattle.al_scalar.specs.Line.{Line, start, begins, is_empty}
 use Rattle.al_scalar.specs.Places.{lines_at, text_at, IsLineEnd}
 use Rattle.al_scalar.specs.Taken.{Fault, fault}
@@ -248,7 +248,7 @@ module _ (collection : CollectionReader) (slot : FlowSlot) (depth n : ℕ) (byte
     unfolding flow_content
     content-unless = refl
 
-    pub node-fault : (code : Yaml) → Some code ≡ flow_fault (text_at bytes at) → run (counted n) (flow_node_over collection slot depth (lines_at bytes at)) ≡ Err (record { code = code; at = at })
+    pub node-fault : (code : YamlCode) → Some code ≡ flow_fault (text_at bytes at) → run (counted n) (flow_node_over collection slot depth (lines_at bytes at)) ≡ Err (record { code = code; at = at })
     node-fault code h =
         ap (run (counted n)) (node-content ∙ content-unless ∙ ap (λ o. unless o (start (lines_at bytes at)) node_inside) (sym h)) ∙ run-fails n code (start (lines_at bytes at))
         ∙ ap (λ i. Err (record { code = code; at = i })) (start-at bytes at inside)
@@ -278,7 +278,7 @@ module _ (collection : CollectionReader) (depth n : ℕ) (bytes : List ℕ) (at 
   unfolding flow_key
   key-unless = refl
 
-  pub key-fault : (code : Yaml) → Some code ≡ flow_fault (text_at bytes at) → run (counted n) (flow_key collection depth (lines_at bytes at)) ≡ Err (record { code = code; at = at })
+  pub key-fault : (code : YamlCode) → Some code ≡ flow_fault (text_at bytes at) → run (counted n) (flow_key collection depth (lines_at bytes at)) ≡ Err (record { code = code; at = at })
   key-fault code h =
       ap (run (counted n)) (key-unless ∙ ap (λ o. unless o (start (lines_at bytes at)) key_inside) (sym h)) ∙ run-fails n code (start (lines_at bytes at))
       ∙ ap (λ i. Err (record { code = code; at = i })) (start-at bytes at inside)

@@ -22,7 +22,7 @@ use crate::limits::Count;
 use crate::lines::{blanks_end, next_line};
 use crate::node::{Part, entry_of, scalar_node};
 use crate::starts::block_fault;
-use al_text::Yaml;
+use al_text::YamlCode;
 use std::alloc::Global;
 
 /// Where a node begins: on a line of its own; behind a dash, with the first tab before it; behind a key on its line.
@@ -135,7 +135,7 @@ fn read_line_flow(
     let part = read_flow_collection(alloc, bytes, count, depth, at)?;
     if is_refused_key(bytes, spot, part.next) {
         return Err(Stop::Fault(FaultAt {
-            code: Yaml::WrongKey,
+            code: YamlCode::WrongKey,
             at,
         }));
     }
@@ -171,7 +171,7 @@ pub fn read_block_node(
 {
     if is_property(bytes, at) {
         return Err(Stop::Fault(FaultAt {
-            code: Yaml::AnchorOrAlias,
+            code: YamlCode::AnchorOrAlias,
             at,
         }));
     }
@@ -217,13 +217,13 @@ fn read_block_sequence(
 {
     if is_behind_key(slot.spot) {
         return Err(Stop::Fault(FaultAt {
-            code: Yaml::UnexpectedCharacter,
+            code: YamlCode::UnexpectedCharacter,
             at,
         }));
     }
     if let Some(tab) = tab_before(slot.spot) {
         return Err(Stop::Fault(FaultAt {
-            code: Yaml::TabInIndentation,
+            code: YamlCode::TabInIndentation,
             at: tab,
         }));
     }
@@ -299,7 +299,7 @@ fn read_block_mapping(
     ensures nested { IfOk result (λ part. IsWithin at part.end (view part.node)) }
 {
     let wrong = Stop::Fault(FaultAt {
-        code: Yaml::WrongKey,
+        code: YamlCode::WrongKey,
         at,
     });
     if !same_line(bytes, at, key.read.next) {
@@ -307,7 +307,7 @@ fn read_block_mapping(
     }
     if let Some(tab) = tab_before(spot) {
         return Err(Stop::Fault(FaultAt {
-            code: Yaml::TabInIndentation,
+            code: YamlCode::TabInIndentation,
             at: tab,
         }));
     }

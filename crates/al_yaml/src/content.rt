@@ -9,7 +9,7 @@ use crate::faults::FaultAt;
 use crate::lines::{
     begins, blanks_end, is_blank_or_end, is_document_marker, is_text_end, next_line, spaces_end,
 };
-use al_text::Yaml;
+use al_text::YamlCode;
 
 /// The next content line of the document, or its end.
 #[derive(Clone, Copy)]
@@ -44,7 +44,7 @@ fn content_line(bytes: &[u8], at: usize) -> Result<Next, FaultAt>
     let solid = spaces_end(bytes, at);
     if begins(bytes, solid, b'\t') {
         return Err(FaultAt {
-            code: Yaml::TabInIndentation,
+            code: YamlCode::TabInIndentation,
             at: solid,
         });
     }
@@ -100,7 +100,7 @@ pub fn line_ended(bytes: &[u8], at: usize) -> Result<usize, FaultAt>
         return Ok(next_line(bytes, at));
     }
     Err(FaultAt {
-        code: Yaml::UnexpectedCharacter,
+        code: YamlCode::UnexpectedCharacter,
         at: blanks_end(bytes, at),
     })
 }
@@ -150,7 +150,7 @@ pub fn next_entry(bytes: &[u8], column: usize, at: usize) -> Result<Option<usize
         return Ok(None);
     }
     Err(FaultAt {
-        code: Yaml::WrongIndentation,
+        code: YamlCode::WrongIndentation,
         at: next,
     })
 }

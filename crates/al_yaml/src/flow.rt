@@ -22,7 +22,7 @@ use crate::lines::{begins, is_text_end};
 use crate::node::{Entry, Node, Part, entry_of, mapping_node, scalar_node, sequence_node};
 use crate::starts::flow_fault;
 use al_scalar::{Place, ScalarRead, read_scalar};
-use al_text::{Span, Yaml};
+use al_text::{Span, YamlCode};
 use std::alloc::Global;
 
 /// What stands behind an item: a comma, with the offset of what follows it, or the closer, with the offset behind it.
@@ -118,7 +118,7 @@ fn after_item(bytes: &[u8], opening: usize, close: u8, at: usize) -> Result<Afte
 {
     if is_text_end(bytes, at) {
         return Err(FaultAt {
-            code: Yaml::UnclosedFlow,
+            code: YamlCode::UnclosedFlow,
             at: opening,
         });
     }
@@ -129,7 +129,7 @@ fn after_item(bytes: &[u8], opening: usize, close: u8, at: usize) -> Result<Afte
         return Ok(After::Closes(at + 1));
     }
     Err(FaultAt {
-        code: Yaml::UnexpectedCharacter,
+        code: YamlCode::UnexpectedCharacter,
         at,
     })
 }
@@ -143,7 +143,7 @@ fn key_colon(bytes: &[u8], at: usize, read: &ScalarRead) -> Result<Option<usize>
     ensures inside { IfOk result (λ colon. IsColonInside read.now.next (length bytes.now) colon) }
 {
     let wrong = FaultAt {
-        code: Yaml::WrongKey,
+        code: YamlCode::WrongKey,
         at,
     };
     if !is_simple_key(bytes, at, read) {
@@ -179,14 +179,14 @@ fn read_flow_key(
     }
     if is_property(bytes, at) {
         return Err(Stop::Fault(FaultAt {
-            code: Yaml::AnchorOrAlias,
+            code: YamlCode::AnchorOrAlias,
             at,
         }));
     }
     if is_flow_start(bytes, at) {
         read_flow_collection(alloc, bytes, count, depth, at)?;
         return Err(Stop::Fault(FaultAt {
-            code: Yaml::WrongKey,
+            code: YamlCode::WrongKey,
             at,
         }));
     }
@@ -256,7 +256,7 @@ fn read_flow_value(
     let at = gap(bytes, colon);
     if is_text_end(bytes, at) {
         return Err(Stop::Fault(FaultAt {
-            code: Yaml::UnclosedFlow,
+            code: YamlCode::UnclosedFlow,
             at: opening,
         }));
     }
@@ -285,7 +285,7 @@ fn read_flow_node(
 {
     if is_property(bytes, at) {
         return Err(Stop::Fault(FaultAt {
-            code: Yaml::AnchorOrAlias,
+            code: YamlCode::AnchorOrAlias,
             at,
         }));
     }
@@ -325,7 +325,7 @@ fn read_flow_sequence(
     'items: loop {
         if is_text_end(bytes, at) {
             return Err(Stop::Fault(FaultAt {
-                code: Yaml::UnclosedFlow,
+                code: YamlCode::UnclosedFlow,
                 at: opening,
             }));
         }
@@ -366,7 +366,7 @@ fn read_flow_mapping(
     'entries: loop {
         if is_text_end(bytes, at) {
             return Err(Stop::Fault(FaultAt {
-                code: Yaml::UnclosedFlow,
+                code: YamlCode::UnclosedFlow,
                 at: opening,
             }));
         }

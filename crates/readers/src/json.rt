@@ -1,17 +1,17 @@
 use al_expr::Chunk;
-use al_text::{Code, Expression, Fault};
+use al_text::{Code, ExpressionCode, Fault};
 use std::alloc::{AllocError, Global};
 
 /// The identifier of an expression's fault.
-pub fn identifier(code: Expression) -> &'static str {
+pub fn identifier(code: ExpressionCode) -> &'static str {
     match code {
-        Expression::BadCharacter => "X1",
-        Expression::UnclosedText => "X2",
-        Expression::UnexpectedToken => "X3",
-        Expression::EndsEarly => "X4",
-        Expression::TooLong => "X5",
-        Expression::TooDeep => "X6",
-        Expression::UnclosedChunk => "X20",
+        ExpressionCode::BadCharacter => "X1",
+        ExpressionCode::UnclosedText => "X2",
+        ExpressionCode::UnexpectedToken => "X3",
+        ExpressionCode::EndsEarly => "X4",
+        ExpressionCode::TooLong => "X5",
+        ExpressionCode::TooDeep => "X6",
+        ExpressionCode::UnclosedChunk => "X20",
         _ => "X",
     }
 }

@@ -28,7 +28,7 @@ enum Reader {
     /// The scalar at a file's start, in block context.
     Scalar,
     /// The tree of a file, or its fault.
-    Yaml,
+    YamlCode,
 }
 
 fn reader_named(word: &str) -> Option<Reader> {
@@ -36,7 +36,7 @@ fn reader_named(word: &str) -> Option<Reader> {
         "expr" => Some(Reader::Expr),
         "chunks" => Some(Reader::Chunks),
         "scalar" => Some(Reader::Scalar),
-        "yaml" => Some(Reader::Yaml),
+        "yaml" => Some(Reader::YamlCode),
         _ => None,
     }
 }
@@ -145,7 +145,7 @@ fn answer(alloc: Global, reader: Reader, bytes: &[u8]) -> io::Result<String> {
         Reader::Expr => expression_line(alloc, text_of(bytes)?)?,
         Reader::Chunks => chunks_line(alloc, text_of(bytes)?)?,
         Reader::Scalar => scalar_line(alloc, bytes)?,
-        Reader::Yaml => yaml_line(alloc, bytes)?,
+        Reader::YamlCode => yaml_line(alloc, bytes)?,
     })
 }
 

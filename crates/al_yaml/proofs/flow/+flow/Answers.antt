@@ -1,6 +1,6 @@
 use Rattle.std.proofs.Common.{◌≡◌, suc, ◌+◌, ◌<◌, length, map, refl, sym, ap, ◌∙◌, arith, Ok, Err, Some, None}
 use Rattle.std.proofs.lemmas.Result.{err_from_is_err_and}
-use Rattle.al_text.specs.declared.codes.Yaml.TheVariants as yaml
+use Rattle.al_text.specs.declared.codes.YamlCode.TheVariants as yaml
 use Rattle.al_scalar.specs.Contract.{read_of}
 use Rattle.al_scalar.specs.Places.{lines_at}
 use Rattle.al_scalar.specs.Plain.{flow}
