@@ -1,6 +1,6 @@
 -- The fault of a content that is no expression.
 use Rattle.std.specs.Prelude.{◌≡◌, ℕ, ◌+◌, ◌-◌, List, [], ◌∷◌, nat_lt, if◌then◌else◌, length, drop, Option, Some, None}
-use Rattle.al_text.specs.declared.codes.Code.TheVariants.{ExpressionCode}
+use Rattle.al_text.specs.declared.codes.Code.TheVariants.{Expression}
 use Rattle.al_text.specs.declared.codes.ExpressionCode as codes
 use Rattle.al_text.specs.declared.codes.ExpressionCode.TheVariants as code
 use Rattle.al_text.specs.declared.faults.Fault.{Fault}
@@ -13,7 +13,7 @@ use Rattle.al_grammar.specs.Table.{Verdict, Fine, Early, Unexpected, TooDeep, ve
 
 -- a fault of an expression: what it is, where it stands, and its arguments
 abbrev pub fault : codes.ExpressionCode → Span → List (List ℕ) → Fault
-fault x s args = record { span = s; code = ExpressionCode x; args = args }
+fault x s args = record { span = s; code = Expression x; args = args }
 
 -- the fault at the first of these tokens
 abbrev pub fault_at : (Span → List ℕ → Fault) → List Lexeme → Option Fault

@@ -154,7 +154,7 @@ module _ (node : BlockReader) (collection : CollectionReader) (turns : ℕ) (in_
       ap (λ ls. rest_node node (entry_slot column (start ls)) depth column (lines_at bytes at) ls) (behind-one bytes at (omega arith) solid)
       ∙ ap (λ i. rest_node node (entry_slot column i) depth column (lines_at bytes at) (lines_at bytes (at + 1))) (start-at bytes (at + 1) (omega arith))
 
-  entries-step : all_entries ≡ (one_entry >>= entries_behind)
+  pub entries-step : all_entries ≡ (one_entry >>= entries_behind)
   unfolding sequence_entries
   entries-step = ap (λ r. r >>= entries_behind) entry-is
 
@@ -213,7 +213,7 @@ module _ (node : BlockReader) (collection : CollectionReader) (turns column dept
   value-is : mapping_value node column depth this_key ≡ one_value
   value-is = ap (λ i. rest_node node (value_slot column i) depth 0 (lines_at bytes behind) (lines_at bytes behind)) (start-at bytes behind inside)
 
-  values-step : all_values ≡ (one_value >>= values_behind)
+  pub values-step : all_values ≡ (one_value >>= values_behind)
   unfolding mapping_entries
   values-step = ap (λ r. r >>= values_behind) value-is
 

@@ -10,7 +10,7 @@ use Rattle.al_yaml.specs.Content.{Next, ended, at_line, ends_line, line_ended, w
 use Rattle.al_yaml.specs.Flow.{gap, is_gap_line}
 use Rattle.std.proofs.lemmas.Grind.{common_steps}
 use Rattle.std.specs.Prelude.{nat_lt}
-use Rattle.al_yaml.specs.Blocks.{next_at, next_from}
+use Rattle.al_yaml.specs.Blocks.{next_at, next_from, next_found}
 use Rattle.al_yaml.proofs.MarkerLemmas.{begins-inside}
 use Rattle.al_yaml.proofs.LineLemmas.{start-at, has_line, lines_at-some, lines-at_end, text_at-cell}
 
@@ -157,6 +157,13 @@ is_not a b h = grind (arith, common_steps, h)
 
 not_less : (a b : ℕ) → b ≤ a → nat_lt a b ≡ false
 not_less a b h = grind (arith, common_steps, h)
+
+pub next_found-fault : (bytes : List ℕ) (column indent next : ℕ) → next ≤ length bytes → indent ≢ column → column ≤ indent
+    → next_found column (at_line indent (lines_at bytes next)) ≡ fault yaml.WrongIndentation next
+next_found-fault bytes column i next inside n m =
+    ap (λ b. cond b (Ok (Some (lines_at bytes next))) (cond (nat_lt i column) (Ok None) (fault yaml.WrongIndentation (start (lines_at bytes next))))) (is_not i column n)
+    ∙ ap (λ b. cond b (Ok None) (fault yaml.WrongIndentation (start (lines_at bytes next)))) (not_less i column m)
+    ∙ ap (fault yaml.WrongIndentation) (start-at bytes next inside)
 
 pub next_at-fault : (bytes : List ℕ) (column at indent next : ℕ) → next ≤ length bytes → content (lines_at bytes at) ≡ Ok (at_line indent (lines_at bytes next)) → indent ≢ column → column ≤ indent
     → next_at column (lines_at bytes at) ≡ fault yaml.WrongIndentation next

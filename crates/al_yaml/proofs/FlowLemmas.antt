@@ -89,53 +89,9 @@ module _ (node : FlowReader) (turns opening depth n : ℕ) (done : tree.Nodes) (
   items_behind x = flow_items_rest (λ left. flow_items node turns opening depth (tree.with_item done x.value) left) opening (tree.with_item done x.value) x.left
 
   module _ (some : false ≡ is_empty (text_at bytes at)) (other : false ≡ begins 93 (text_at bytes at)) where
-    items-step : flow_items node (suc turns) opening depth done (lines_at bytes at) ≡ (node item_slot depth (lines_at bytes at) >>= items_behind)
+    pub items-step : flow_items node (suc turns) opening depth done (lines_at bytes at) ≡ (node item_slot depth (lines_at bytes at) >>= items_behind)
     unfolding flow_items
     items-step = if-false (is_file_end (lines_at bytes at)) _ _ some ∙ if-false (begins 93 (text_at bytes at)) _ _ other
-
-    pub items-stop : (e : Stop) → Stops (node item_slot depth (lines_at bytes at)) n e → Stops (flow_items node (suc turns) opening depth done (lines_at bytes at)) n e
-    items-stop e h = stops-same _ _ n e items-step (stops-bind (node item_slot depth (lines_at bytes at)) items_behind n e h)
-
-    module _ (m : ℕ) (x : Part tree.Node) (read : run (counted n) (node item_slot depth (lines_at bytes at)) ≡ Ok (x, counted m)) where
-      items-behind : run (counted n) (flow_items node (suc turns) opening depth done (lines_at bytes at)) ≡ run (counted m) (items_behind x)
-      items-behind = ap (run (counted n)) items-step ∙ bind-ok (node item_slot depth (lines_at bytes at)) items_behind n m x read
-
-      abbrev pub items_next : After → Reading (Part tree.Nodes)
-      items_next found = elim found [ goes_on next ↦ flow_items node turns opening depth (tree.with_item done x.value) next | closes end next ↦ gives (part (tree.with_item done x.value) end next) ]
-
-      pub items-refused : (e : Stop) → Refuses (after_item opening 93 (gap false x.left)) e → Stops (flow_items node (suc turns) opening depth done (lines_at bytes at)) n e
-      items-refused e h = stops-from _ _ n m e items-behind (stops-given (after_item opening 93 (gap false x.left)) items_next m e h)
-
-      pub items-more : (next : List Line) → after_item opening 93 (gap false x.left) ≡ Ok (goes_on next)
-          → run (counted n) (flow_items node (suc turns) opening depth done (lines_at bytes at)) ≡ run (counted m) (flow_items node turns opening depth (tree.with_item done x.value) next)
-      items-more next h = items-behind ∙ given-ok (after_item opening 93 (gap false x.left)) items_next m (goes_on next) h
-
-      pub items-end : (end : ℕ) (next : List Line) → after_item opening 93 (gap false x.left) ≡ Ok (closes end next)
-          → run (counted n) (flow_items node (suc turns) opening depth done (lines_at bytes at)) ≡ Ok (part (tree.with_item done x.value) end next, counted m)
-      items-end end next h = items-behind ∙ given-ok (after_item opening 93 (gap false x.left)) items_next m (closes end next) h ∙ run-gives m (part (tree.with_item done x.value) end next)
-
-module _ (node : FlowReader) (opening depth n : ℕ) (done : tree.Nodes) (bytes : List ℕ) (at turns : ℕ) (inside : at ≤ length bytes) (pos : 0 < turns) where
-  pub items-open_at : true ≡ is_empty (text_at bytes at) → run (counted n) (flow_items node turns opening depth done (lines_at bytes at)) ≡ Err (record { code = yaml.UnclosedFlow; at = opening })
-  items-open_at h = positive (λ t. run (counted n) (flow_items node t opening depth done (lines_at bytes at)) ≡ Err (record { code = yaml.UnclosedFlow; at = opening })) turns pos (λ k _. items-open node k opening depth n done bytes at inside h)
-
-  pub items-closed_at : false ≡ is_empty (text_at bytes at) → true ≡ begins 93 (text_at bytes at) → run (counted n) (flow_items node turns opening depth done (lines_at bytes at)) ≡ Ok (part done (at + 1) (lines_at bytes (at + 1)), counted n)
-  items-closed_at h j = positive (λ t. run (counted n) (flow_items node t opening depth done (lines_at bytes at)) ≡ Ok (part done (at + 1) (lines_at bytes (at + 1)), counted n)) turns pos (λ k _. items-closed node k opening depth n done bytes at inside h j)
-
-  module _ (some : false ≡ is_empty (text_at bytes at)) (other : false ≡ begins 93 (text_at bytes at)) where
-    pub items-stop_at : (e : Stop) → Stops (node (record { opening = opening; empty = None }) depth (lines_at bytes at)) n e → Stops (flow_items node turns opening depth done (lines_at bytes at)) n e
-    items-stop_at e h = positive (λ t. Stops (flow_items node t opening depth done (lines_at bytes at)) n e) turns pos (λ k _. items-stop node k opening depth n done bytes at inside some other e h)
-
-    module _ (m : ℕ) (x : Part tree.Node) (read : run (counted n) (node (record { opening = opening; empty = None }) depth (lines_at bytes at)) ≡ Ok (x, counted m)) where
-      pub items-refused_at : (e : Stop) → Refuses (after_item opening 93 (gap false x.left)) e → Stops (flow_items node turns opening depth done (lines_at bytes at)) n e
-      items-refused_at e h = positive (λ t. Stops (flow_items node t opening depth done (lines_at bytes at)) n e) turns pos (λ k _. items-refused node k opening depth n done bytes at inside some other m x read e h)
-
-      pub items-more_at : (next : List Line) (r : Result (Part tree.Nodes × State) Fault) → after_item opening 93 (gap false x.left) ≡ Ok (goes_on next)
-          → ((k : ℕ) → turns ≡ suc k → run (counted m) (flow_items node k opening depth (tree.with_item done x.value) next) ≡ r) → run (counted n) (flow_items node turns opening depth done (lines_at bytes at)) ≡ r
-      items-more_at next r h f = positive (λ t. run (counted n) (flow_items node t opening depth done (lines_at bytes at)) ≡ r) turns pos (λ k e. items-more node k opening depth n done bytes at inside some other m x read next h ∙ f k e)
-
-      pub items-end_at : (end : ℕ) (next : List Line) → after_item opening 93 (gap false x.left) ≡ Ok (closes end next)
-          → run (counted n) (flow_items node turns opening depth done (lines_at bytes at)) ≡ Ok (part (tree.with_item done x.value) end next, counted m)
-      items-end_at end next h = positive (λ t. run (counted n) (flow_items node t opening depth done (lines_at bytes at)) ≡ Ok (part (tree.with_item done x.value) end next, counted m)) turns pos (λ k _. items-end node k opening depth n done bytes at inside some other m x read end next h)
 
 -- ---- entries
 
@@ -161,67 +117,9 @@ module _ (node : FlowReader) (collection : CollectionReader) (turns opening dept
   key_behind key = flow_entry_value node opening depth key >>= entry_behind key
 
   module _ (some : false ≡ is_empty (text_at bytes at)) (other : false ≡ begins 125 (text_at bytes at)) where
-    entries-step : flow_entries node collection (suc turns) opening depth done (lines_at bytes at) ≡ (flow_key collection depth (lines_at bytes at) >>= key_behind)
+    pub entries-step : flow_entries node collection (suc turns) opening depth done (lines_at bytes at) ≡ (flow_key collection depth (lines_at bytes at) >>= key_behind)
     unfolding flow_entries
     entries-step = if-false (is_file_end (lines_at bytes at)) _ _ some ∙ if-false (begins 125 (text_at bytes at)) _ _ other
-
-    pub entries-stop : (e : Stop) → Stops (flow_key collection depth (lines_at bytes at)) n e → Stops (flow_entries node collection (suc turns) opening depth done (lines_at bytes at)) n e
-    entries-stop e h = stops-same _ _ n e entries-step (stops-bind (flow_key collection depth (lines_at bytes at)) key_behind n e h)
-
-    module _ (m : ℕ) (key : FlowKey) (read : run (counted n) (flow_key collection depth (lines_at bytes at)) ≡ Ok (key, counted m)) where
-      key-read : run (counted n) (flow_entries node collection (suc turns) opening depth done (lines_at bytes at)) ≡ run (counted m) (key_behind key)
-      key-read = ap (run (counted n)) entries-step ∙ bind-ok (flow_key collection depth (lines_at bytes at)) key_behind n m key read
-
-      pub value-stop : (e : Stop) → Stops (flow_entry_value node opening depth key) m e → Stops (flow_entries node collection (suc turns) opening depth done (lines_at bytes at)) n e
-      value-stop e h = stops-from _ _ n m e key-read (stops-bind (flow_entry_value node opening depth key) (entry_behind key) m e h)
-
-      module _ (k : ℕ) (x : Part tree.Node) (value : run (counted m) (flow_entry_value node opening depth key) ≡ Ok (x, counted k)) where
-        value-read : run (counted n) (flow_entries node collection (suc turns) opening depth done (lines_at bytes at)) ≡ run (counted k) (entry_behind key x)
-        value-read = key-read ∙ bind-ok (flow_entry_value node opening depth key) (entry_behind key) m k x value
-
-        abbrev pub all : tree.Entries
-        all = tree.with_entry done (tree.scalar_node key.scalar) x.value
-
-        abbrev pub entries_next : After → Reading (Part tree.Entries)
-        entries_next found = elim found [ goes_on next ↦ flow_entries node collection turns opening depth all next | closes end next ↦ gives (part all end next) ]
-
-        pub entries-refused : (e : Stop) → Refuses (after_item opening 125 (gap false x.left)) e → Stops (flow_entries node collection (suc turns) opening depth done (lines_at bytes at)) n e
-        entries-refused e h = stops-from _ _ n k e value-read (stops-given (after_item opening 125 (gap false x.left)) entries_next k e h)
-
-        pub entries-more : (next : List Line) → after_item opening 125 (gap false x.left) ≡ Ok (goes_on next)
-            → run (counted n) (flow_entries node collection (suc turns) opening depth done (lines_at bytes at)) ≡ run (counted k) (flow_entries node collection turns opening depth all next)
-        entries-more next h = value-read ∙ given-ok (after_item opening 125 (gap false x.left)) entries_next k (goes_on next) h
-
-        pub entries-end : (end : ℕ) (next : List Line) → after_item opening 125 (gap false x.left) ≡ Ok (closes end next)
-            → run (counted n) (flow_entries node collection (suc turns) opening depth done (lines_at bytes at)) ≡ Ok (part all end next, counted k)
-        entries-end end next h = value-read ∙ given-ok (after_item opening 125 (gap false x.left)) entries_next k (closes end next) h ∙ run-gives k (part all end next)
-
-module _ (node : FlowReader) (collection : CollectionReader) (opening depth n : ℕ) (done : tree.Entries) (bytes : List ℕ) (at turns : ℕ) (inside : at ≤ length bytes) (pos : 0 < turns) where
-  pub entries-open_at : true ≡ is_empty (text_at bytes at) → run (counted n) (flow_entries node collection turns opening depth done (lines_at bytes at)) ≡ Err (record { code = yaml.UnclosedFlow; at = opening })
-  entries-open_at h = positive (λ t. run (counted n) (flow_entries node collection t opening depth done (lines_at bytes at)) ≡ Err (record { code = yaml.UnclosedFlow; at = opening })) turns pos (λ k _. entries-open node collection k opening depth n done bytes at inside h)
-
-  pub entries-closed_at : false ≡ is_empty (text_at bytes at) → true ≡ begins 125 (text_at bytes at) → run (counted n) (flow_entries node collection turns opening depth done (lines_at bytes at)) ≡ Ok (part done (at + 1) (lines_at bytes (at + 1)), counted n)
-  entries-closed_at h j = positive (λ t. run (counted n) (flow_entries node collection t opening depth done (lines_at bytes at)) ≡ Ok (part done (at + 1) (lines_at bytes (at + 1)), counted n)) turns pos (λ k _. entries-closed node collection k opening depth n done bytes at inside h j)
-
-  module _ (some : false ≡ is_empty (text_at bytes at)) (other : false ≡ begins 125 (text_at bytes at)) where
-    pub entries-stop_at : (e : Stop) → Stops (flow_key collection depth (lines_at bytes at)) n e → Stops (flow_entries node collection turns opening depth done (lines_at bytes at)) n e
-    entries-stop_at e h = positive (λ t. Stops (flow_entries node collection t opening depth done (lines_at bytes at)) n e) turns pos (λ k _. entries-stop node collection k opening depth n done bytes at inside some other e h)
-
-    module _ (m : ℕ) (key : FlowKey) (read : run (counted n) (flow_key collection depth (lines_at bytes at)) ≡ Ok (key, counted m)) where
-      pub value-stop_at : (e : Stop) → Stops (flow_entry_value node opening depth key) m e → Stops (flow_entries node collection turns opening depth done (lines_at bytes at)) n e
-      value-stop_at e h = positive (λ t. Stops (flow_entries node collection t opening depth done (lines_at bytes at)) n e) turns pos (λ k _. value-stop node collection k opening depth n done bytes at inside some other m key read e h)
-
-      module _ (j : ℕ) (x : Part tree.Node) (value : run (counted m) (flow_entry_value node opening depth key) ≡ Ok (x, counted j)) where
-        pub entries-refused_at : (e : Stop) → Refuses (after_item opening 125 (gap false x.left)) e → Stops (flow_entries node collection turns opening depth done (lines_at bytes at)) n e
-        entries-refused_at e h = positive (λ t. Stops (flow_entries node collection t opening depth done (lines_at bytes at)) n e) turns pos (λ k _. entries-refused node collection k opening depth n done bytes at inside some other m key read j x value e h)
-
-        pub entries-more_at : (next : List Line) (r : Result (Part tree.Entries × State) Fault) → after_item opening 125 (gap false x.left) ≡ Ok (goes_on next)
-            → ((k : ℕ) → turns ≡ suc k → run (counted j) (flow_entries node collection k opening depth (tree.with_entry done (tree.scalar_node key.scalar) x.value) next) ≡ r) → run (counted n) (flow_entries node collection turns opening depth done (lines_at bytes at)) ≡ r
-        entries-more_at next r h f = positive (λ t. run (counted n) (flow_entries node collection t opening depth done (lines_at bytes at)) ≡ r) turns pos (λ k e. entries-more node collection k opening depth n done bytes at inside some other m key read j x value next h ∙ f k e)
-
-        pub entries-end_at : (end : ℕ) (next : List Line) → after_item opening 125 (gap false x.left) ≡ Ok (closes end next)
-            → run (counted n) (flow_entries node collection turns opening depth done (lines_at bytes at)) ≡ Ok (part (tree.with_entry done (tree.scalar_node key.scalar) x.value) end next, counted j)
-        entries-end_at end next h = positive (λ t. run (counted n) (flow_entries node collection t opening depth done (lines_at bytes at)) ≡ Ok (part (tree.with_entry done (tree.scalar_node key.scalar) x.value) end next, counted j)) turns pos (λ k _. entries-end node collection k opening depth n done bytes at inside some other m key read j x value end next h)
 
 -- ---- nodes
 
@@ -293,17 +191,11 @@ module _ (collection : CollectionReader) (depth n : ℕ) (bytes : List ℕ) (at 
         ∙ ap (λ i. Err (record { code = yaml.AnchorOrAlias; at = i })) (start-at bytes at inside)
 
     module _ (plain : false ≡ is_property (text_at bytes at)) where
-      key-step : true ≡ is_flow_start (text_at bytes at) → flow_key collection depth (lines_at bytes at) ≡ (collection depth (lines_at bytes at) >>= (λ x. fails yaml.WrongKey (start (lines_at bytes at))))
+      pub key-step : true ≡ is_flow_start (text_at bytes at) → flow_key collection depth (lines_at bytes at) ≡ (collection depth (lines_at bytes at) >>= (λ x. fails yaml.WrongKey (start (lines_at bytes at))))
       key-step h = key-right ∙ if-false (is_property (text_at bytes at)) _ _ plain ∙ if-true (is_flow_start (text_at bytes at)) _ _ h
 
-      pub key-stop : true ≡ is_flow_start (text_at bytes at) → (e : Stop) → Stops (collection depth (lines_at bytes at)) n e → Stops (flow_key collection depth (lines_at bytes at)) n e
-      key-stop h e k = stops-same _ _ n e (key-step h) (stops-bind (collection depth (lines_at bytes at)) (λ x. fails yaml.WrongKey (start (lines_at bytes at))) n e k)
-
-      pub key-refused : true ≡ is_flow_start (text_at bytes at) → (m : ℕ) (x : Part tree.Node) → run (counted n) (collection depth (lines_at bytes at)) ≡ Ok (x, counted m)
-          → run (counted n) (flow_key collection depth (lines_at bytes at)) ≡ Err (record { code = yaml.WrongKey; at = at })
-      key-refused h m x k =
-          ap (run (counted n)) (key-step h) ∙ bind-ok (collection depth (lines_at bytes at)) (λ x. fails yaml.WrongKey (start (lines_at bytes at))) n m x k ∙ run-fails m yaml.WrongKey (start (lines_at bytes at))
-          ∙ ap (λ i. Err (record { code = yaml.WrongKey; at = i })) (start-at bytes at inside)
+      pub key-opens : true ≡ is_flow_start (text_at bytes at) → run (counted n) (flow_key collection depth (lines_at bytes at)) ≡ run (counted n) (collection depth (lines_at bytes at) >>= (λ _. fails yaml.WrongKey at))
+      key-opens h = ap (run (counted n)) (key-step h) ∙ ap (λ i. run (counted n) (collection depth (lines_at bytes at) >>= (λ _. fails yaml.WrongKey i))) (start-at bytes at inside)
 
       module _ (scalar : false ≡ is_flow_start (text_at bytes at)) where
         key-scalar : flow_key collection depth (lines_at bytes at) ≡ (given (scalar_at flow (lines_at bytes at)) >>= (λ r. flow_key_of (lines_at bytes at) r))

@@ -17,3 +17,8 @@ pub mod Access
 pub mod ByteFaults
 pub mod DocumentLines
 pub mod Spans
+pub mod Texts
+pub mod Cells
+pub mod Frames
+pub mod FlowFrames
+pub mod BlockFrames

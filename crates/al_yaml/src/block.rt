@@ -1,17 +1,21 @@
+ghost use Rattle.al_scalar.specs.Contract.{read_of};
+ghost use Rattle.al_scalar.specs.Offsets.{IsPlaced};
 ghost use Rattle.al_scalar.specs.Places.{lines_at, text_at};
+ghost use Rattle.al_yaml.specs.BlockFrames as frames;
+ghost use Rattle.al_yaml.specs.BlockFrames.{Begins, Enters, FindsBlock, IsBegun, IsEntered, IsFoundFrom, IsNextAt, IsNextBehind, IsNextInside, IsNodeAt, IsOpenAt, IsOpenFrom, IsResumed, ResumesBlock, IsBlockWaitingFrom, block_open_of, block_waiting_of, block_rest};
 ghost use Rattle.al_yaml.specs.BlockReads.{IsKeyBehind, IsTabInside, key_seen, slot_of, spot_of};
 ghost use Rattle.al_yaml.specs.Blocks as block;
 ghost use Rattle.al_yaml.specs.Content as content;
 ghost use Rattle.al_yaml.specs.Flow as flow;
 ghost use Rattle.al_yaml.specs.Keys as keys;
-ghost use Rattle.al_yaml.specs.Node as tree;
-ghost use Rattle.al_yaml.specs.Reading as reading;
+ghost use Rattle.al_yaml.specs.Places.{Shows, next_of, option_lines};
 ghost use Rattle.al_yaml.specs.Reads.{IsBehind, IsRead, IsStopInside, part_of};
-ghost use Rattle.al_yaml.specs.Spans.{IsWithin};
-ghost use Rattle.al_yaml.specs.View.{view};
-ghost use Rattle.std.specs.Prelude.{ℕ, suc, ◌+◌, ◌<◌, ◌≡◌, ◌≤◌, ◌&&◌, ◌||◌, IfErr, IfOk, length, not, true};
+ghost use Rattle.al_yaml.specs.Spans.{AreInOrder, EntriesInOrder, IsWithin};
+ghost use Rattle.al_yaml.specs.View.{entries_of, entry_view, nodes_of, view};
+ghost use Rattle.std.specs.Prelude.{ℕ, suc, ◌+◌, ◌<◌, ◌≡◌, ◌≤◌, ◌&&◌, ◌||◌, IfErr, IfOk, IfSome, length, map, not, true};
 
-use crate::content::{Next, first_tab, is_dash, is_skipped, line_ended, next_content, next_entry};
+use crate::block_stack::BlockStack;
+use crate::content::{Next, first_tab, is_dash, is_skipped, line_ended, next_content};
 use crate::entries::{Key, entry_key, key_at, no_entry, read_line_scalar};
 use crate::faults::{FaultAt, Stop};
 use crate::flow::{empty_part, mapping_part, read_flow_collection, sequence_part};
@@ -20,8 +24,9 @@ use crate::keys::{
 };
 use crate::limits::Count;
 use crate::lines::{blanks_end, next_line};
-use crate::node::{Part, entry_of, scalar_node};
+use crate::node::{Entry, Node, Part, entry_of, scalar_node};
 use crate::starts::block_fault;
+use al_scalar::ScalarRead;
 use al_text::YamlCode;
 use std::alloc::Global;
 
@@ -41,6 +46,49 @@ pub struct Slot {
     pub within: usize,
     pub in_mapping: bool,
     pub empty: usize,
+}
+
+/// What was read of an open block collection: of a sequence the items before a dash, and whether it is the value of a
+/// mapping's entry; of a mapping the entries before a key, and the key.
+#[derive(Drop)]
+pub enum BlockOpen {
+    Items(bool, Vec<Node>),
+    Entries(Vec<Entry>, Key),
+}
+
+/// What a block collection waits with while a node in it is read: the items before it; or the entries before it and the
+/// key whose value it is.
+#[derive(Drop)]
+pub enum BlockWaiting {
+    Item(bool, Vec<Node>),
+    Value(Vec<Entry>, ScalarRead),
+}
+
+/// A block collection in which a node is read, by its start and its column.
+#[derive(Drop)]
+pub struct BlockFrame {
+    pub start: usize,
+    pub column: usize,
+    pub waiting: BlockWaiting,
+}
+
+/// What is to be read next: a node, whose first character stands in a column; the innermost collection, from a dash or
+/// a key on; what stands behind a node that was read, where the next content line was found or not yet.
+#[derive(Drop)]
+pub enum BlockTask {
+    Node {
+        slot: Slot,
+        column: usize,
+        at: usize,
+    },
+    Inside {
+        start: usize,
+        column: usize,
+        has: BlockOpen,
+        at: usize,
+    },
+    Read(Part),
+    Found(Part, Next),
 }
 
 /// The spot behind the blanks at an offset.
@@ -147,9 +195,9 @@ fn read_line_flow(
     })
 }
 
-/// Reads a node in block context, whose first character stands in this column.
-#[cycle(block)]
-pub fn read_block_node(
+/// Reads a node in block context, whose first character stands in this column, if it is no block collection; else it
+/// begins the collection.
+fn read_node(
     alloc: Global,
     bytes: &[u8],
     count: &mut Count,
@@ -157,17 +205,14 @@ pub fn read_block_node(
     depth: u32,
     column: usize,
     at: usize,
-) -> Result<Part, Stop>
+) -> Result<BlockTask, Stop>
     requires inside { at ≤ length bytes.now }
     requires size { length bytes.now ≤ 1048576 }
     requires depth { depth ≤ 65 }
-    requires column { column ≤ at }
-    requires within { slot.within ≤ at + 1 }
-    requires tab { IsTabInside (length bytes.now) slot.spot }
+    requires node { IsNodeAt bytes.now slot column at }
     ensures fault { IfErr result (IsStopInside (length bytes.now)) }
-    ensures is { (bound : ℕ) → length bytes.now < bound + at → IsRead (part_of bytes.now) (block.block_node bound (slot_of slot) depth column (lines_at bytes.now at)) count.old.nodes result count.new.nodes }
-    ensures within { IfOk result (λ part. IsBehind bytes.now at part) }
-    ensures nested { IfOk result (λ part. IsWithin at part.end (view part.node)) }
+    ensures is { (bound : ℕ) → length bytes.now < suc bound + at → Begins bytes.now bound depth (block.block_node (suc bound) (slot_of slot) depth column (lines_at bytes.now at)) count.old.nodes result count.new.nodes }
+    ensures within { IfOk result (λ task. IsBegun bytes.now at depth task) }
 {
     if is_property(bytes, at) {
         return Err(Stop::Fault(FaultAt {
@@ -176,26 +221,28 @@ pub fn read_block_node(
         }));
     }
     if is_dash(bytes, at) {
-        return read_block_sequence(alloc, bytes, count, slot, depth, column, at);
+        return begin_sequence(alloc, bytes, count, slot, depth, column, at);
     }
     if let Some(code) = block_fault(bytes, at) {
         return Err(Stop::Fault(FaultAt { code, at }));
     }
     if is_flow_start(bytes, at) {
-        return read_line_flow(alloc, bytes, count, slot.spot, depth, at);
+        let part = read_line_flow(alloc, bytes, count, slot.spot, depth, at)?;
+        return Ok(BlockTask::Read(part));
     }
     if is_no_key(bytes, slot.spot, at) {
-        return read_line_scalar(alloc, bytes, count, slot.within, at);
+        let part = read_line_scalar(alloc, bytes, count, slot.within, at)?;
+        return Ok(BlockTask::Read(part));
     }
     let Some(key) = key_at(alloc, bytes, at)? else {
-        return read_line_scalar(alloc, bytes, count, slot.within, at);
+        let part = read_line_scalar(alloc, bytes, count, slot.within, at)?;
+        return Ok(BlockTask::Read(part));
     };
-    read_block_mapping(alloc, bytes, count, slot.spot, depth, column, at, key)
+    begin_mapping(alloc, bytes, count, slot.spot, depth, column, at, key)
 }
 
-/// Reads the sequence whose first dash stands at an offset.
-#[cycle(block)]
-fn read_block_sequence(
+/// Begins the sequence whose first dash stands at an offset.
+fn begin_sequence(
     alloc: Global,
     bytes: &[u8],
     count: &mut Count,
@@ -203,17 +250,14 @@ fn read_block_sequence(
     depth: u32,
     column: usize,
     at: usize,
-) -> Result<Part, Stop>
+) -> Result<BlockTask, Stop>
     requires dash { content.is_dash (text_at bytes.now at) ≡ true }
     requires inside { at < length bytes.now }
     requires size { length bytes.now ≤ 1048576 }
-    requires depth { depth ≤ 65 }
-    requires column { column ≤ at }
-    requires tab { IsTabInside (length bytes.now) slot.spot }
+    requires node { IsNodeAt bytes.now slot column at }
     ensures fault { IfErr result (IsStopInside (length bytes.now)) }
-    ensures is { (bound turns : ℕ) → length bytes.now < suc bound + at → length bytes.now < turns + at → IsRead (part_of bytes.now) (block.block_sequence (block.block_node bound) (flow.flow_collection (suc bound)) turns (slot_of slot) depth column (lines_at bytes.now at)) count.old.nodes result count.new.nodes }
-    ensures within { IfOk result (λ part. IsBehind bytes.now at part) }
-    ensures nested { IfOk result (λ part. IsWithin at part.end (view part.node)) }
+    ensures is { (bound : ℕ) → Begins bytes.now bound depth (block.block_sequence (block.block_node bound) (flow.flow_collection (suc bound)) (suc bound) (slot_of slot) depth column (lines_at bytes.now at)) count.old.nodes result count.new.nodes }
+    ensures within { IfOk result (λ task. IsBegun bytes.now at depth task) }
 {
     if is_behind_key(slot.spot) {
         return Err(Stop::Fault(FaultAt {
@@ -228,57 +272,16 @@ fn read_block_sequence(
         }));
     }
     count.start(at, 1, depth)?;
-    read_sequence(alloc, bytes, count, slot.in_mapping, depth + 1, column, at)
+    Ok(BlockTask::Inside {
+        start: at,
+        column,
+        has: BlockOpen::Items(slot.in_mapping, Vec::new(alloc)),
+        at,
+    })
 }
 
-/// Reads the entries of a sequence from its first dash on.
-#[cycle(block)]
-fn read_sequence(
-    alloc: Global,
-    bytes: &[u8],
-    count: &mut Count,
-    in_mapping: bool,
-    depth: u32,
-    column: usize,
-    start: usize,
-) -> Result<Part, Stop>
-    requires dash { content.is_dash (text_at bytes.now start) ≡ true }
-    requires inside { start < length bytes.now }
-    requires size { length bytes.now ≤ 1048576 }
-    requires depth { depth ≤ 65 }
-    requires column { column ≤ start }
-    ensures fault { IfErr result (IsStopInside (length bytes.now)) }
-    ensures is { (bound turns : ℕ) → length bytes.now < suc bound + start → length bytes.now < turns + start → IsRead (part_of bytes.now) (reading.spanned tree.sequence start (block.sequence_entries (block.block_node bound) (flow.flow_collection (suc bound)) turns in_mapping column depth tree.no_nodes (lines_at bytes.now start))) count.old.nodes result count.new.nodes }
-    ensures within { IfOk result (λ part. IsBehind bytes.now start part) }
-    ensures nested { IfOk result (λ part. IsWithin start part.end (view part.node)) }
-{
-    let mut items = Vec::new(alloc);
-    let mut at = start;
-    'entries: loop {
-        let slot = Slot {
-            spot: Spot::Compact(None),
-            within: column + 1,
-            in_mapping: false,
-            empty: at + 1,
-        };
-        let entry = read_rest(alloc, bytes, count, slot, depth, column, at, at + 1)?;
-        items.push(entry.node)?;
-        let Some(next) = next_entry(bytes, column, entry.next)? else {
-            return Ok(sequence_part(items, start, entry.end, entry.next));
-        };
-        if !is_dash(bytes, next) {
-            if in_mapping {
-                return Ok(sequence_part(items, start, entry.end, entry.next));
-            }
-            no_entry(alloc, bytes, count, depth, next)?;
-        }
-        at = next;
-    }
-}
-
-/// Reads the mapping whose first key was read from an offset on.
-#[cycle(block)]
-fn read_block_mapping(
+/// Begins the mapping whose first key was read from an offset on.
+fn begin_mapping(
     alloc: Global,
     bytes: &[u8],
     count: &mut Count,
@@ -287,16 +290,14 @@ fn read_block_mapping(
     column: usize,
     at: usize,
     key: Key,
-) -> Result<Part, Stop>
+) -> Result<BlockTask, Stop>
     requires key { IsKeyBehind bytes.now at key }
     requires size { length bytes.now ≤ 1048576 }
-    requires depth { depth ≤ 65 }
     requires column { column ≤ at }
     requires tab { IsTabInside (length bytes.now) spot }
     ensures fault { IfErr result (IsStopInside (length bytes.now)) }
-    ensures is { (bound turns : ℕ) → length bytes.now < suc bound + at → length bytes.now < turns + at → IsRead (part_of bytes.now) (block.block_mapping (block.block_node bound) (flow.flow_collection (suc bound)) turns (spot_of spot) depth column (lines_at bytes.now at) (key_seen bytes.now key)) count.old.nodes result count.new.nodes }
-    ensures within { IfOk result (λ part. IsBehind bytes.now at part) }
-    ensures nested { IfOk result (λ part. IsWithin at part.end (view part.node)) }
+    ensures is { (bound : ℕ) → Begins bytes.now bound depth (block.block_mapping (block.block_node bound) (flow.flow_collection (suc bound)) (suc bound) (spot_of spot) depth column (lines_at bytes.now at) (key_seen bytes.now key)) count.old.nodes result count.new.nodes }
+    ensures within { IfOk result (λ task. IsBegun bytes.now at depth task) }
 {
     let wrong = Stop::Fault(FaultAt {
         code: YamlCode::WrongKey,
@@ -315,126 +316,336 @@ fn read_block_mapping(
         return Err(wrong);
     }
     count.start(at, 2, depth)?;
-    read_mapping(alloc, bytes, count, depth + 1, column, at, key)
+    Ok(BlockTask::Inside {
+        start: at,
+        column,
+        has: BlockOpen::Entries(Vec::new(alloc), key),
+        at,
+    })
 }
 
-/// Reads the entries of a mapping from behind its first key on.
-#[cycle(block)]
-fn read_mapping(
-    alloc: Global,
-    bytes: &[u8],
-    count: &mut Count,
-    depth: u32,
-    column: usize,
-    start: usize,
-    first: Key,
-) -> Result<Part, Stop>
-    requires key { IsKeyBehind bytes.now start first }
-    requires size { length bytes.now ≤ 1048576 }
-    requires depth { depth ≤ 65 }
-    requires column { column ≤ start }
-    ensures fault { IfErr result (IsStopInside (length bytes.now)) }
-    ensures is { (bound turns : ℕ) → length bytes.now < suc bound + start → length bytes.now < turns + start → IsRead (part_of bytes.now) (reading.spanned tree.mapping start (block.mapping_entries (block.block_node bound) (flow.flow_collection (suc bound)) turns column depth tree.no_entries (key_seen bytes.now first))) count.old.nodes result count.new.nodes }
-    ensures within { IfOk result (λ part. IsBehind bytes.now start part) }
-    ensures nested { IfOk result (λ part. IsWithin start part.end (view part.node)) }
-{
-    let mut entries = Vec::new(alloc);
-    let mut key = first;
-    'entries: loop {
-        let behind = key.behind;
-        let slot = Slot {
-            spot: Spot::BehindKey,
-            within: column + 1,
-            in_mapping: true,
-            empty: behind,
-        };
-        let value = read_rest(alloc, bytes, count, slot, depth, 0, behind, behind)?;
-        let node = scalar_node(key.read.scalar, key.read.span);
-        entries.push(entry_of(node, value.node))?;
-        let Some(next) = next_entry(bytes, column, value.next)? else {
-            return Ok(mapping_part(entries, start, value.end, value.next));
-        };
-        key = entry_key(alloc, bytes, count, depth, next)?;
-    }
-}
-
-/// Reads the node behind a dash or a colon: on the line, or else below it. The column is that of `from`.
-#[cycle(block)]
-fn read_rest(
+/// Finds the node behind a dash or a colon: on the line, or else below it; or reads the empty node. The column is that of
+/// `from`.
+fn find_rest(
     alloc: Global,
     bytes: &[u8],
     count: &mut Count,
     slot: Slot,
-    depth: u32,
     column: usize,
     from: usize,
     rest: usize,
-) -> Result<Part, Stop>
+) -> Result<BlockTask, Stop>
     requires order { from ≤ rest }
     requires inside { rest ≤ length bytes.now }
     requires line { content.same_line (lines_at bytes.now from) (lines_at bytes.now rest) ≡ true }
     requires size { length bytes.now ≤ 1048576 }
-    requires depth { depth ≤ 65 }
     requires column { column ≤ from }
     requires within { slot.within ≤ rest + 1 }
     requires empty { slot.empty ≤ rest }
     requires tab { IsTabInside (length bytes.now) slot.spot }
     ensures fault { IfErr result (IsStopInside (length bytes.now)) }
-    ensures is { (bound : ℕ) → length bytes.now < bound + rest → IsRead (part_of bytes.now) (block.rest_node (block.block_node bound) (slot_of slot) depth column (lines_at bytes.now from) (lines_at bytes.now rest)) count.old.nodes result count.new.nodes }
-    ensures within { IfOk result (λ part. IsBehind bytes.now rest part) }
-    ensures nested { IfOk result (λ part. IsWithin slot.empty part.end (view part.node)) }
+    ensures is { (node : block.BlockReader) (depth : ℕ) → FindsBlock bytes.now node depth (block.rest_node node (slot_of slot) depth column (lines_at bytes.now from) (lines_at bytes.now rest)) count.old.nodes result count.new.nodes }
+    ensures within { IfOk result (λ task. IsFoundFrom bytes.now rest slot.empty task) }
 {
     if is_skipped(bytes, rest) {
-        return read_below(alloc, bytes, count, slot, depth, next_line(bytes, rest));
+        return find_below(alloc, bytes, count, slot, next_line(bytes, rest));
     }
     let at = blanks_end(bytes, rest);
     let spot = spot_behind(bytes, rest, slot.spot);
     let column = column + characters(bytes, from, at);
-    read_block_node(
-        alloc,
-        bytes,
-        count,
-        Slot { spot, ..slot },
-        depth,
+    Ok(BlockTask::Node {
+        slot: Slot { spot, ..slot },
         column,
         at,
-    )
+    })
 }
 
-/// Reads the node on the next content line if that holds it, or else the empty node.
-#[cycle(block)]
-fn read_below(
+/// Finds the node on the next content line if that holds it, or else reads the empty node.
+fn find_below(
     alloc: Global,
     bytes: &[u8],
     count: &mut Count,
     slot: Slot,
+    at: usize,
+) -> Result<BlockTask, Stop>
+    requires inside { at ≤ length bytes.now }
+    requires size { length bytes.now ≤ 1048576 }
+    requires within { slot.within ≤ at + 1 }
+    requires empty { slot.empty ≤ at }
+    ensures fault { IfErr result (IsStopInside (length bytes.now)) }
+    ensures is { (node : block.BlockReader) (depth : ℕ) → FindsBlock bytes.now node depth (block.node_below node (slot_of slot) depth (lines_at bytes.now at)) count.old.nodes result count.new.nodes }
+    ensures within { IfOk result (λ task. IsFoundFrom bytes.now at slot.empty task) }
+{
+    let found = next_content(bytes, at)?;
+    let Next::Line { indent, at: first } = found else {
+        let part = empty_part(alloc, bytes, count, slot.empty, at)?;
+        return Ok(BlockTask::Found(part, found));
+    };
+    if !is_deeper(bytes, slot, indent, first) {
+        let part = empty_part(alloc, bytes, count, slot.empty, at)?;
+        return Ok(BlockTask::Found(part, found));
+    }
+    Ok(BlockTask::Node {
+        slot: Slot {
+            spot: Spot::OwnLine,
+            ..slot
+        },
+        column: indent,
+        at: first,
+    })
+}
+
+/// Goes on with the innermost collection from a dash or a key on: what it waits with, and the node that it waits for.
+fn enter(
+    alloc: Global,
+    bytes: &[u8],
+    count: &mut Count,
+    start: usize,
+    column: usize,
+    has: BlockOpen,
+    at: usize,
+) -> Result<(BlockWaiting, BlockTask), Stop>
+    requires has { IsOpenAt bytes.now column at has }
+    requires from { IsOpenFrom start at has }
+    requires size { length bytes.now ≤ 1048576 }
+    ensures fault { IfErr result (IsStopInside (length bytes.now)) }
+    ensures within { IfOk result (λ r. IsEntered bytes.now start at r) }
+    ensures is { (bound turns depth : ℕ) → Enters bytes.now bound turns depth start column (block_rest (suc turns) bound depth start column (block_open_of bytes.now has) (lines_at bytes.now at)) count.old.nodes result count.new.nodes }
+{
+    match has {
+        BlockOpen::Items(in_mapping, items) => {
+            let slot = Slot {
+                spot: Spot::Compact(None),
+                within: column + 1,
+                in_mapping: false,
+                empty: at + 1,
+            };
+            let task = find_rest(alloc, bytes, count, slot, column, at, at + 1)?;
+            Ok((BlockWaiting::Item(in_mapping, items), task))
+        }
+        BlockOpen::Entries(entries, key) => {
+            let behind = key.behind;
+            let slot = Slot {
+                spot: Spot::BehindKey,
+                within: column + 1,
+                in_mapping: true,
+                empty: behind,
+            };
+            let task = find_rest(alloc, bytes, count, slot, 0, behind, behind)?;
+            Ok((BlockWaiting::Value(entries, key.read), task))
+        }
+    }
+}
+
+/// The next entry of a collection in a column on the next content line, if the collection goes on.
+fn entry_on(bytes: &[u8], column: usize, next: Next) -> Result<Option<usize>, FaultAt>
+    requires { IsNextInside (length bytes.now) next }
+    ensures fault { IfErr result (λ f. f.at ≤ length bytes.now) }
+    ensures is { Shows (option_lines bytes.now) (block.next_found column (next_of bytes.now next)) result }
+    ensures inside { IfOk result (λ found. IfSome found (λ at. at ≤ length bytes.now)) }
+    ensures column { IfOk result (λ found. IfSome found (λ at. column ≤ at)) }
+    ensures here { IfOk result (λ found. IfSome found (IsNextAt next)) }
+{
+    let (indent, at) = match next {
+        Next::Ended => return Ok(None),
+        Next::Line { indent, at } => (indent, at),
+    };
+    if indent == column {
+        return Ok(Some(at));
+    }
+    if indent < column {
+        return Ok(None);
+    }
+    Err(FaultAt {
+        code: YamlCode::WrongIndentation,
+        at,
+    })
+}
+
+/// Goes on behind an item that was read in a sequence.
+fn put_block_item(
+    alloc: Global,
+    bytes: &[u8],
+    count: &mut Count,
     depth: u32,
+    start: usize,
+    column: usize,
+    in_mapping: bool,
+    items: Vec<Node>,
+    part: Part,
+    next: Next,
+) -> Result<BlockTask, Stop>
+    requires inside { part.next ≤ length bytes.now }
+    requires end { part.end ≤ part.next }
+    requires start { start ≤ part.end }
+    requires next { IsNextBehind bytes.now part next }
+    requires size { length bytes.now ≤ 1048576 }
+    requires depth { depth ≤ 65 }
+    ensures fault { IfErr result (IsStopInside (length bytes.now)) }
+    ensures is { (bound turns : ℕ) → length bytes.now < suc bound + part.next → ResumesBlock bytes.now bound turns depth start column (frames.item in_mapping (nodes_of (map view items.items))) (part_of bytes.now part) count.old.nodes result count.new.nodes }
+    ensures within { (low : ℕ) → start ≤ low → AreInOrder start low (nodes_of (map view items.items)) → IsWithin low part.end (view part.node) → IfOk result (λ task. IsResumed bytes.now start part.next task) }
+{
+    let mut items = items;
+    items.push(part.node)?;
+    let Some(at) = entry_on(bytes, column, next)? else {
+        return Ok(BlockTask::Found(sequence_part(items, start, part.end, part.next), next));
+    };
+    if is_dash(bytes, at) {
+        return Ok(BlockTask::Inside {
+            start,
+            column,
+            has: BlockOpen::Items(in_mapping, items),
+            at,
+        });
+    }
+    if in_mapping {
+        return Ok(BlockTask::Found(sequence_part(items, start, part.end, part.next), next));
+    }
+    no_entry(alloc, bytes, count, depth, at)?;
+    Ok(BlockTask::Inside {
+        start,
+        column,
+        has: BlockOpen::Items(in_mapping, items),
+        at,
+    })
+}
+
+/// Goes on behind a value that was read in a mapping.
+fn put_block_entry(
+    alloc: Global,
+    bytes: &[u8],
+    count: &mut Count,
+    depth: u32,
+    start: usize,
+    column: usize,
+    entries: Vec<Entry>,
+    key: ScalarRead,
+    part: Part,
+    next: Next,
+) -> Result<BlockTask, Stop>
+    requires inside { part.next ≤ length bytes.now }
+    requires end { part.end ≤ part.next }
+    requires start { start ≤ part.end }
+    requires next { IsNextBehind bytes.now part next }
+    requires size { length bytes.now ≤ 1048576 }
+    requires depth { depth ≤ 65 }
+    ensures fault { IfErr result (IsStopInside (length bytes.now)) }
+    ensures is { (bound turns : ℕ) → length bytes.now < suc bound + part.next → ResumesBlock bytes.now bound turns depth start column (frames.value (entries_of (map entry_view entries.items)) (read_of bytes.now key)) (part_of bytes.now part) count.old.nodes result count.new.nodes }
+    ensures within { (low : ℕ) → start ≤ key.span.start → key.span.start ≤ key.span.end → key.span.end ≤ low → EntriesInOrder start key.span.start (entries_of (map entry_view entries.items)) → IsPlaced 1048576 key.scalar key.span → IsWithin low part.end (view part.node) → IfOk result (λ task. IsResumed bytes.now start part.next task) }
+{
+    let mut entries = entries;
+    let key = scalar_node(key.scalar, key.span);
+    entries.push(entry_of(key, part.node))?;
+    let Some(at) = entry_on(bytes, column, next)? else {
+        return Ok(BlockTask::Found(mapping_part(entries, start, part.end, part.next), next));
+    };
+    let key = entry_key(alloc, bytes, count, depth, at)?;
+    Ok(BlockTask::Inside {
+        start,
+        column,
+        has: BlockOpen::Entries(entries, key),
+        at,
+    })
+}
+
+/// Goes on behind a node that was read in a collection which waited for it.
+fn resume_block(
+    alloc: Global,
+    bytes: &[u8],
+    count: &mut Count,
+    depth: u32,
+    frame: BlockFrame,
+    part: Part,
+    next: Next,
+) -> Result<BlockTask, Stop>
+    requires inside { part.next ≤ length bytes.now }
+    requires end { part.end ≤ part.next }
+    requires start { frame.start ≤ part.end }
+    requires next { IsNextBehind bytes.now part next }
+    requires waits { (low : ℕ) × IsBlockWaitingFrom frame.start low frame.waiting × IsWithin low part.end (view part.node) }
+    requires size { length bytes.now ≤ 1048576 }
+    requires depth { depth ≤ 65 }
+    ensures fault { IfErr result (IsStopInside (length bytes.now)) }
+    ensures is { (bound turns : ℕ) → length bytes.now < suc bound + part.next → ResumesBlock bytes.now bound turns depth frame.start frame.column (block_waiting_of bytes.now frame.waiting) (part_of bytes.now part) count.old.nodes result count.new.nodes }
+    ensures within { IfOk result (λ task. IsResumed bytes.now frame.start part.next task) }
+{
+    let BlockFrame {
+        start,
+        column,
+        waiting,
+    } = frame;
+    match waiting {
+        BlockWaiting::Item(in_mapping, items) => put_block_item(
+            alloc, bytes, count, depth, start, column, in_mapping, items, part, next,
+        ),
+        BlockWaiting::Value(entries, key) => {
+            put_block_entry(
+                alloc, bytes, count, depth, start, column, entries, key, part, next,
+            )
+        }
+    }
+}
+
+/// Reads a node in block context, whose first character stands in this column.
+///
+/// The block collections that are open in it stand on a stack of 64.
+pub fn read_block_node(
+    alloc: Global,
+    bytes: &[u8],
+    count: &mut Count,
+    slot: Slot,
+    column: usize,
     at: usize,
 ) -> Result<Part, Stop>
     requires inside { at ≤ length bytes.now }
     requires size { length bytes.now ≤ 1048576 }
-    requires depth { depth ≤ 65 }
+    requires column { column ≤ at }
     requires within { slot.within ≤ at + 1 }
-    requires empty { slot.empty ≤ at }
+    requires tab { IsTabInside (length bytes.now) slot.spot }
     ensures fault { IfErr result (IsStopInside (length bytes.now)) }
-    ensures is { (bound : ℕ) → length bytes.now < bound + at → IsRead (part_of bytes.now) (block.node_below (block.block_node bound) (slot_of slot) depth (lines_at bytes.now at)) count.old.nodes result count.new.nodes }
+    ensures is { (bound : ℕ) → length bytes.now < bound + at → IsRead (part_of bytes.now) (block.block_node bound (slot_of slot) 1 column (lines_at bytes.now at)) count.old.nodes result count.new.nodes }
     ensures within { IfOk result (λ part. IsBehind bytes.now at part) }
-    ensures nested { IfOk result (λ part. IsWithin slot.empty part.end (view part.node)) }
+    ensures nested { IfOk result (λ part. IsWithin at part.end (view part.node)) }
 {
-    let Next::Line { indent, at: first } = next_content(bytes, at)? else {
-        return empty_part(alloc, bytes, count, slot.empty, at);
-    };
-    if !is_deeper(bytes, slot, indent, first) {
-        return empty_part(alloc, bytes, count, slot.empty, at);
+    let mut stack = BlockStack::new();
+    let mut task = BlockTask::Node { slot, column, at };
+    'nodes: loop {
+        let depth = stack.len() as u32 + 1;
+        match task {
+            BlockTask::Node {
+                slot,
+                column,
+                at: from,
+            } => {
+                task = read_node(alloc, bytes, count, slot, depth, column, from)?;
+            }
+            BlockTask::Inside {
+                start,
+                column,
+                has,
+                at: from,
+            } => {
+                let (waiting, inner) = enter(alloc, bytes, count, start, column, has, from)?;
+                stack.push(BlockFrame {
+                    start,
+                    column,
+                    waiting,
+                });
+                task = inner;
+            }
+            BlockTask::Read(part) => {
+                if stack.len() == 0 {
+                    return Ok(part);
+                }
+                let next = next_content(bytes, part.next)?;
+                task = BlockTask::Found(part, next);
+            }
+            BlockTask::Found(part, next) => {
+                let Some(frame) = stack.pop() else {
+                    return Ok(part);
+                };
+                task = resume_block(alloc, bytes, count, depth, frame, part, next)?;
+            }
+        }
     }
-    let spot = Spot::OwnLine;
-    read_block_node(
-        alloc,
-        bytes,
-        count,
-        Slot { spot, ..slot },
-        depth,
-        indent,
-        first,
-    )
 }

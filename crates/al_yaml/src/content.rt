@@ -1,8 +1,7 @@
 ghost use Rattle.al_scalar.specs.Places.{lines_at, text_at};
-ghost use Rattle.al_yaml.specs.Blocks as block;
 ghost use Rattle.al_yaml.specs.Content as content;
 ghost use Rattle.al_yaml.specs.Flow as flow;
-ghost use Rattle.al_yaml.specs.Places.{IsLineFrom, Shows, next_of, option_lines};
+ghost use Rattle.al_yaml.specs.Places.{IsLineFrom, Shows, next_of};
 ghost use Rattle.std.specs.Prelude.{◌<◌, ◌≡◌, ◌≤◌, IfErr, IfOk, IfSome, IsTrue, false, length, ◌+◌};
 
 use crate::faults::FaultAt;
@@ -128,31 +127,6 @@ pub fn first_tab(bytes: &[u8], at: usize) -> Option<usize>
         return Some(spaces);
     }
     None
-}
-
-/// The next entry of a block collection in a column, if the collection goes on.
-pub fn next_entry(bytes: &[u8], column: usize, at: usize) -> Result<Option<usize>, FaultAt>
-    requires { at ≤ length bytes.now }
-    ensures fault { IfErr result (λ f. f.at ≤ length bytes.now) }
-    ensures is { Shows (option_lines bytes.now) (block.next_at column (lines_at bytes.now at)) result }
-    ensures from { IfOk result (λ found. IfSome found (λ next. at ≤ next)) }
-    ensures inside { IfOk result (λ found. IfSome found (λ next. next ≤ length bytes.now)) }
-    ensures column { IfOk result (λ found. IfSome found (λ next. column ≤ next)) }
-{
-    let (indent, next) = match next_content(bytes, at)? {
-        Next::Ended => return Ok(None),
-        Next::Line { indent, at } => (indent, at),
-    };
-    if indent == column {
-        return Ok(Some(next));
-    }
-    if indent < column {
-        return Ok(None);
-    }
-    Err(FaultAt {
-        code: YamlCode::WrongIndentation,
-        at: next,
-    })
 }
 
 /// Whether a gap goes on with the next line.

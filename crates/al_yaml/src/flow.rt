@@ -1,16 +1,21 @@
 ghost use Rattle.al_scalar.specs.Contract.{read_of, reading_at};
+ghost use Rattle.al_scalar.specs.Offsets.{IsPlaced};
 ghost use Rattle.al_scalar.specs.Places.{lines_at, text_at};
 ghost use Rattle.al_scalar.specs.Line as line;
 ghost use Rattle.al_scalar.specs.Scalar as scalar;
 ghost use Rattle.al_yaml.specs.Content as content;
 ghost use Rattle.al_yaml.specs.Flow as flow;
+ghost use Rattle.al_yaml.specs.FlowFrames.{Finds, FindsKey, IsFound, IsFoundKey, IsNested, IsOpenTo, IsStep, IsTask, Resumes, Steps, open_of, waiting_of};
+ghost use Rattle.al_yaml.specs.Frames as frames;
+ghost use Rattle.al_yaml.specs.Frames.{open_rest};
+ghost use Rattle.al_yaml.specs.Limits.{broken_limit};
 ghost use Rattle.al_yaml.specs.Node as tree;
 ghost use Rattle.al_yaml.specs.Places.{IsReadInside, Shows, option_lines};
-ghost use Rattle.al_yaml.specs.Reading as reading;
-ghost use Rattle.al_yaml.specs.Reads.{Answers, IsAfter, IsBehind, IsColonInside, IsKeyInside, IsRead, IsStopInside, after_of, flow_key_of, part_of};
-ghost use Rattle.al_yaml.specs.Spans.{IsWithin};
+ghost use Rattle.al_yaml.specs.Reading.{start_of};
+ghost use Rattle.al_yaml.specs.Reads.{Answers, IsAfter, IsBehind, IsColonInside, IsKeyInside, IsRead, IsStopInside, after_of, counted, flow_key_of, part_of, run};
+ghost use Rattle.al_yaml.specs.Spans.{AreInOrder, EntriesInOrder, IsWithin};
 ghost use Rattle.al_yaml.specs.View.{entries_of, entry_view, nodes_of, view};
-ghost use Rattle.std.specs.Prelude.{ℕ, ◌+◌, ◌<◌, ◌≡◌, ◌≤◌, IfErr, IfOk, ◌^◌, ◌||◌, length, map, true};
+ghost use Rattle.std.specs.Prelude.{ℕ, suc, ◌+◌, ◌<◌, ◌≡◌, ◌≤◌, ◌∷◌, [], IfErr, IfOk, None, ◌^◌, ◌||◌, length, map, true};
 
 use crate::content::gap;
 use crate::faults::{FaultAt, Stop};
@@ -20,6 +25,7 @@ use crate::keys::{
 use crate::limits::Count;
 use crate::lines::{begins, is_text_end};
 use crate::node::{Entry, Node, Part, entry_of, mapping_node, scalar_node, sequence_node};
+use crate::stack::Stack;
 use crate::starts::flow_fault;
 use al_scalar::{Place, ScalarRead, read_scalar};
 use al_text::{Span, YamlCode};
@@ -37,6 +43,63 @@ pub enum After {
 pub struct FlowKey {
     pub read: ScalarRead,
     pub colon: Option<usize>,
+}
+
+/// What stands where a node is due in a flow collection: a scalar or an empty node, which was read, or the bracket of a
+/// collection.
+#[derive(Drop)]
+pub enum Found {
+    Node(Part),
+    Opens(usize),
+}
+
+/// What stands where a key is due in a flow mapping: a scalar, which was read, or the bracket of a collection.
+#[derive(Drop)]
+pub enum FoundKey {
+    Key(FlowKey),
+    Opens,
+}
+
+/// What was read of an open flow collection, up to an item, an entry or the closer.
+#[derive(Drop)]
+pub enum Open {
+    Items(Vec<Node>),
+    Entries(Vec<Entry>),
+}
+
+/// What a flow collection waits with while a node in it is read: the items before it; the entries before it and the
+/// key whose value it is; or the place of a collection that stands where a key is due.
+#[derive(Drop)]
+pub enum Waiting {
+    Item(Vec<Node>),
+    Value(Vec<Entry>, ScalarRead),
+    Key(usize),
+}
+
+/// A flow collection in which another one is open, by its bracket.
+#[derive(Drop)]
+pub struct FlowFrame {
+    pub opening: usize,
+    pub waiting: Waiting,
+}
+
+/// How far one step reads: to the closer, to the end of a node, or to the bracket of a collection inside.
+#[derive(Drop)]
+pub enum Step {
+    Closed(Part),
+    Read(Waiting, Part),
+    Opens(Waiting, usize),
+}
+
+/// What is to be read next: the innermost open collection, from an offset on; or what stands behind a node that was read.
+#[derive(Drop)]
+pub enum Task {
+    Inside {
+        opening: usize,
+        has: Open,
+        at: usize,
+    },
+    Read(Part),
 }
 
 /// Reads the scalar at an offset.
@@ -158,21 +221,18 @@ fn key_colon(bytes: &[u8], at: usize, read: &ScalarRead) -> Result<Option<usize>
     Ok(None)
 }
 
-/// Reads the key of a flow mapping's entry.
-#[cycle(flow)]
+/// Reads the key of a flow mapping's entry, if no collection stands there.
 fn read_flow_key(
     alloc: Global,
     bytes: &[u8],
     count: &mut Count,
-    depth: u32,
     at: usize,
-) -> Result<FlowKey, Stop>
+) -> Result<FoundKey, Stop>
     requires inside { at ≤ length bytes.now }
     requires size { length bytes.now ≤ 1048576 }
-    requires depth { depth ≤ 65 }
     ensures fault { IfErr result (IsStopInside (length bytes.now)) }
-    ensures is { (bound : ℕ) → length bytes.now < bound + at → IsRead (flow_key_of bytes.now) (flow.flow_key (flow.flow_collection bound) depth (lines_at bytes.now at)) count.old.nodes result count.new.nodes }
-    ensures within { IfOk result (λ key. IsKeyInside bytes.now at key) }
+    ensures is { (depth : ℕ) → FindsKey bytes.now at (λ collection. flow.flow_key collection depth (lines_at bytes.now at)) depth count.old.nodes result count.new.nodes }
+    ensures within { IfOk result (λ key. IsFoundKey bytes.now at key) }
 {
     if let Some(code) = flow_fault(bytes, at) {
         return Err(Stop::Fault(FaultAt { code, at }));
@@ -184,16 +244,12 @@ fn read_flow_key(
         }));
     }
     if is_flow_start(bytes, at) {
-        read_flow_collection(alloc, bytes, count, depth, at)?;
-        return Err(Stop::Fault(FaultAt {
-            code: YamlCode::WrongKey,
-            at,
-        }));
+        return Ok(FoundKey::Opens);
     }
     let read = scalar_at(alloc, bytes, at, Place::Flow)?;
     let colon = key_colon(bytes, at, &read)?;
     count.start(at, 1, 0)?;
-    Ok(FlowKey { read, colon })
+    Ok(FoundKey::Key(FlowKey { read, colon }))
 }
 
 /// The empty node at an offset (7.2), which counts as a node; what is left begins at `next`.
@@ -225,63 +281,13 @@ fn ends_value(bytes: &[u8], at: usize) -> bool
     begins(bytes, at, b',') || begins(bytes, at, b'}')
 }
 
-/// Reads the value of a flow mapping's entry, which may be empty.
-#[cycle(flow)]
-fn read_flow_value(
-    alloc: Global,
-    bytes: &[u8],
-    count: &mut Count,
-    depth: u32,
-    opening: usize,
-    key: &FlowKey,
-) -> Result<Part, Stop>
-    requires inside { IsKeyInside bytes.now key.now.read.span.start key.now }
-    requires opening { opening ≤ length bytes.now }
-    requires size { length bytes.now ≤ 1048576 }
-    requires depth { depth ≤ 65 }
-    ensures fault { IfErr result (IsStopInside (length bytes.now)) }
-    ensures is { (bound : ℕ) → length bytes.now < bound + key.now.read.span.start → IsRead (part_of bytes.now) (flow.flow_entry_value (flow.flow_node_over (flow.flow_collection bound)) opening depth (flow_key_of bytes.now key.now)) count.old.nodes result count.new.nodes }
-    ensures within { IfOk result (λ part. IsBehind bytes.now key.now.read.span.start part) }
-    ensures nested { IfOk result (λ part. IsWithin key.now.read.span.end part.end (view part.node)) }
-{
-    let Some(colon) = key.colon else {
-        return empty_part(
-            alloc,
-            bytes,
-            count,
-            key.read.span.end as usize,
-            key.read.next,
-        );
-    };
-    let at = gap(bytes, colon);
-    if is_text_end(bytes, at) {
-        return Err(Stop::Fault(FaultAt {
-            code: YamlCode::UnclosedFlow,
-            at: opening,
-        }));
-    }
-    if ends_value(bytes, at) {
-        return empty_part(alloc, bytes, count, colon, at);
-    }
-    read_flow_node(alloc, bytes, count, depth, at)
-}
-
-/// Reads a node in a flow collection.
-#[cycle(flow)]
-fn read_flow_node(
-    alloc: Global,
-    bytes: &[u8],
-    count: &mut Count,
-    depth: u32,
-    at: usize,
-) -> Result<Part, Stop>
+/// Reads a node in a flow collection, if it is no collection.
+fn read_flow_node(alloc: Global, bytes: &[u8], count: &mut Count, at: usize) -> Result<Found, Stop>
     requires inside { at ≤ length bytes.now }
     requires size { length bytes.now ≤ 1048576 }
-    requires depth { depth ≤ 65 }
     ensures fault { IfErr result (IsStopInside (length bytes.now)) }
-    ensures is { (bound : ℕ) (slot : flow.FlowSlot) → length bytes.now < bound + at → IsRead (part_of bytes.now) (flow.flow_node_over (flow.flow_collection bound) slot depth (lines_at bytes.now at)) count.old.nodes result count.new.nodes }
-    ensures within { IfOk result (λ part. IsBehind bytes.now at part) }
-    ensures nested { IfOk result (λ part. IsWithin at part.end (view part.node)) }
+    ensures is { (depth : ℕ) (slot : flow.FlowSlot) → Finds bytes.now (λ collection. flow.flow_node_over collection slot depth (lines_at bytes.now at)) depth count.old.nodes result count.new.nodes }
+    ensures within { IfOk result (λ found. IsFound bytes.now at at found) }
 {
     if is_property(bytes, at) {
         return Err(Stop::Fault(FaultAt {
@@ -293,100 +299,231 @@ fn read_flow_node(
         return Err(Stop::Fault(FaultAt { code, at }));
     }
     if is_flow_start(bytes, at) {
-        return read_flow_collection(alloc, bytes, count, depth, at);
+        return Ok(Found::Opens(at));
     }
     count.start(at, 1, 0)?;
     let read = scalar_at(alloc, bytes, at, Place::Flow)?;
     let next = read.next;
-    Ok(scalar_part(read, next))
+    Ok(Found::Node(scalar_part(read, next)))
 }
 
-/// Reads the items of a flow sequence, whose bracket stands at `opening`.
-#[cycle(flow)]
-fn read_flow_sequence(
+/// Reads the value of a flow mapping's entry, which may be empty, if it is no collection.
+fn read_flow_value(
     alloc: Global,
     bytes: &[u8],
     count: &mut Count,
-    depth: u32,
     opening: usize,
-    start: usize,
-) -> Result<Part, Stop>
-    requires inside { start ≤ length bytes.now }
-    requires opening { opening ≤ start }
+    key: &FlowKey,
+) -> Result<Found, Stop>
+    requires inside { IsKeyInside bytes.now key.now.read.span.start key.now }
+    requires opening { opening ≤ length bytes.now }
     requires size { length bytes.now ≤ 1048576 }
-    requires depth { depth ≤ 65 }
     ensures fault { IfErr result (IsStopInside (length bytes.now)) }
-    ensures is { (bound turns : ℕ) → length bytes.now < bound + start → length bytes.now < turns + start → IsRead (part_of bytes.now) (reading.spanned tree.sequence opening (flow.flow_items (flow.flow_node_over (flow.flow_collection bound)) turns opening depth tree.no_nodes (lines_at bytes.now start))) count.old.nodes result count.new.nodes }
-    ensures within { IfOk result (λ part. IsBehind bytes.now start part) }
-    ensures nested { IfOk result (λ part. IsWithin opening part.end (view part.node)) }
+    ensures is { (depth : ℕ) → Finds bytes.now (λ collection. flow.flow_entry_value (flow.flow_node_over collection) opening depth (flow_key_of bytes.now key.now)) depth count.old.nodes result count.new.nodes }
+    ensures within { IfOk result (λ found. IsFound bytes.now key.now.read.span.start key.now.read.span.end found) }
 {
-    let mut items = Vec::new(alloc);
-    let mut at = start;
-    'items: loop {
-        if is_text_end(bytes, at) {
-            return Err(Stop::Fault(FaultAt {
-                code: YamlCode::UnclosedFlow,
-                at: opening,
-            }));
-        }
-        if begins(bytes, at, b']') {
-            return Ok(sequence_part(items, opening, at + 1, at + 1));
-        }
-        let item = read_flow_node(alloc, bytes, count, depth, at)?;
-        let behind = gap(bytes, item.next);
-        items.push(item.node)?;
-        match after_item(bytes, opening, b']', behind)? {
-            After::GoesOn(next) => at = next,
-            After::Closes(next) => return Ok(sequence_part(items, opening, next, next)),
-        }
+    let Some(colon) = key.colon else {
+        let part = empty_part(
+            alloc,
+            bytes,
+            count,
+            key.read.span.end as usize,
+            key.read.next,
+        )?;
+        return Ok(Found::Node(part));
+    };
+    let at = gap(bytes, colon);
+    if is_text_end(bytes, at) {
+        return Err(Stop::Fault(FaultAt {
+            code: YamlCode::UnclosedFlow,
+            at: opening,
+        }));
     }
+    if ends_value(bytes, at) {
+        let part = empty_part(alloc, bytes, count, colon, at)?;
+        return Ok(Found::Node(part));
+    }
+    read_flow_node(alloc, bytes, count, at)
 }
 
-/// Reads the entries of a flow mapping, whose brace stands at `opening`.
-#[cycle(flow)]
-fn read_flow_mapping(
+/// Reads an open sequence to the end of its next item, to its closer or to a bracket in it.
+fn read_item(
     alloc: Global,
     bytes: &[u8],
     count: &mut Count,
-    depth: u32,
     opening: usize,
-    start: usize,
-) -> Result<Part, Stop>
-    requires inside { start ≤ length bytes.now }
-    requires opening { opening ≤ start }
+    items: Vec<Node>,
+    at: usize,
+) -> Result<Step, Stop>
+    requires inside { at ≤ length bytes.now }
+    requires nested { (opening ≤ at) × AreInOrder opening at (nodes_of (map view items.items)) }
     requires size { length bytes.now ≤ 1048576 }
-    requires depth { depth ≤ 65 }
     ensures fault { IfErr result (IsStopInside (length bytes.now)) }
-    ensures is { (bound turns : ℕ) → length bytes.now < bound + start → length bytes.now < turns + start → IsRead (part_of bytes.now) (reading.spanned tree.mapping opening (flow.flow_entries (flow.flow_node_over (flow.flow_collection bound)) (flow.flow_collection bound) turns opening depth tree.no_entries (lines_at bytes.now start))) count.old.nodes result count.new.nodes }
-    ensures within { IfOk result (λ part. IsBehind bytes.now start part) }
-    ensures nested { IfOk result (λ part. IsWithin opening part.end (view part.node)) }
+    ensures is { (depth : ℕ) → Steps bytes.now depth opening (λ c t. open_rest c t depth opening (frames.items (nodes_of (map view items.items))) (lines_at bytes.now at)) count.old.nodes result count.new.nodes }
+    ensures within { IfOk result (λ step. IsStep bytes.now opening at step) }
 {
-    let mut entries = Vec::new(alloc);
-    let mut at = start;
-    'entries: loop {
-        if is_text_end(bytes, at) {
-            return Err(Stop::Fault(FaultAt {
-                code: YamlCode::UnclosedFlow,
-                at: opening,
-            }));
-        }
-        if begins(bytes, at, b'}') {
-            return Ok(mapping_part(entries, opening, at + 1, at + 1));
-        }
-        let key = read_flow_key(alloc, bytes, count, depth, at)?;
-        let value = read_flow_value(alloc, bytes, count, depth, opening, &key)?;
-        let behind = gap(bytes, value.next);
-        let key = scalar_node(key.read.scalar, key.read.span);
-        entries.push(entry_of(key, value.node))?;
-        match after_item(bytes, opening, b'}', behind)? {
-            After::GoesOn(next) => at = next,
-            After::Closes(next) => return Ok(mapping_part(entries, opening, next, next)),
-        }
+    if is_text_end(bytes, at) {
+        return Err(Stop::Fault(FaultAt {
+            code: YamlCode::UnclosedFlow,
+            at: opening,
+        }));
     }
+    if begins(bytes, at, b']') {
+        return Ok(Step::Closed(sequence_part(items, opening, at + 1, at + 1)));
+    }
+    match read_flow_node(alloc, bytes, count, at)? {
+        Found::Node(part) => Ok(Step::Read(Waiting::Item(items), part)),
+        Found::Opens(at) => Ok(Step::Opens(Waiting::Item(items), at)),
+    }
+}
+
+/// Reads an open mapping to the end of its next entry, to its closer or to a bracket in it.
+fn read_entry(
+    alloc: Global,
+    bytes: &[u8],
+    count: &mut Count,
+    opening: usize,
+    entries: Vec<Entry>,
+    at: usize,
+) -> Result<Step, Stop>
+    requires inside { at ≤ length bytes.now }
+    requires nested { (opening ≤ at) × EntriesInOrder opening at (entries_of (map entry_view entries.items)) }
+    requires size { length bytes.now ≤ 1048576 }
+    ensures fault { IfErr result (IsStopInside (length bytes.now)) }
+    ensures is { (depth : ℕ) → Steps bytes.now depth opening (λ c t. open_rest c t depth opening (frames.entries (entries_of (map entry_view entries.items))) (lines_at bytes.now at)) count.old.nodes result count.new.nodes }
+    ensures within { IfOk result (λ step. IsStep bytes.now opening at step) }
+{
+    if is_text_end(bytes, at) {
+        return Err(Stop::Fault(FaultAt {
+            code: YamlCode::UnclosedFlow,
+            at: opening,
+        }));
+    }
+    if begins(bytes, at, b'}') {
+        return Ok(Step::Closed(mapping_part(entries, opening, at + 1, at + 1)));
+    }
+    let key = match read_flow_key(alloc, bytes, count, at)? {
+        FoundKey::Key(key) => key,
+        FoundKey::Opens => return Ok(Step::Opens(Waiting::Key(at), at)),
+    };
+    match read_flow_value(alloc, bytes, count, opening, &key)? {
+        Found::Node(part) => Ok(Step::Read(Waiting::Value(entries, key.read), part)),
+        Found::Opens(at) => Ok(Step::Opens(Waiting::Value(entries, key.read), at)),
+    }
+}
+
+/// Puts an item that was read into its sequence, and reads what stands behind it.
+fn put_item(bytes: &[u8], opening: usize, items: Vec<Node>, part: Part) -> Result<Task, Stop>
+    requires inside { part.next ≤ length bytes.now }
+    requires opening { opening ≤ part.next }
+    requires size { length bytes.now ≤ 1048576 }
+    requires end { part.end ≤ part.next }
+    ensures fault { IfErr result (IsStopInside (length bytes.now)) }
+    ensures is { (depth n : ℕ) → Resumes bytes.now depth opening (frames.item (nodes_of (map view items.items))) (part_of bytes.now part) n result }
+    ensures within { (start : ℕ) → opening ≤ start → AreInOrder opening start (nodes_of (map view items.items)) → IsWithin start part.end (view part.node) → IfOk result (λ task. IsTask bytes.now opening part.next task) }
+{
+    let mut items = items;
+    items.push(part.node)?;
+    match after_item(bytes, opening, b']', gap(bytes, part.next))? {
+        After::GoesOn(at) => Ok(Task::Inside {
+            opening,
+            has: Open::Items(items),
+            at,
+        }),
+        After::Closes(next) => Ok(Task::Read(sequence_part(items, opening, next, next))),
+    }
+}
+
+/// Puts an entry whose value was read into its mapping, and reads what stands behind it.
+fn put_entry(
+    bytes: &[u8],
+    opening: usize,
+    entries: Vec<Entry>,
+    key: ScalarRead,
+    part: Part,
+) -> Result<Task, Stop>
+    requires inside { part.next ≤ length bytes.now }
+    requires opening { opening ≤ part.next }
+    requires size { length bytes.now ≤ 1048576 }
+    requires end { part.end ≤ part.next }
+    ensures fault { IfErr result (IsStopInside (length bytes.now)) }
+    ensures is { (depth n : ℕ) → Resumes bytes.now depth opening (frames.value (entries_of (map entry_view entries.items)) (read_of bytes.now key)) (part_of bytes.now part) n result }
+    ensures within { (start : ℕ) → opening ≤ key.span.start → key.span.start ≤ key.span.end → key.span.end ≤ start → EntriesInOrder opening key.span.start (entries_of (map entry_view entries.items)) → IsPlaced 1048576 key.scalar key.span → IsWithin start part.end (view part.node) → IfOk result (λ task. IsTask bytes.now opening part.next task) }
+{
+    let mut entries = entries;
+    let key = scalar_node(key.scalar, key.span);
+    entries.push(entry_of(key, part.node))?;
+    match after_item(bytes, opening, b'}', gap(bytes, part.next))? {
+        After::GoesOn(at) => Ok(Task::Inside {
+            opening,
+            has: Open::Entries(entries),
+            at,
+        }),
+        After::Closes(next) => Ok(Task::Read(mapping_part(entries, opening, next, next))),
+    }
+}
+
+/// Reads an open collection to the end of the next node in it, to its closer or to a bracket in it.
+fn read_inside(
+    alloc: Global,
+    bytes: &[u8],
+    count: &mut Count,
+    opening: usize,
+    has: Open,
+    at: usize,
+) -> Result<Step, Stop>
+    requires inside { at ≤ length bytes.now }
+    requires nested { IsOpenTo opening at has }
+    requires size { length bytes.now ≤ 1048576 }
+    ensures fault { IfErr result (IsStopInside (length bytes.now)) }
+    ensures is { (depth : ℕ) → Steps bytes.now depth opening (λ c t. open_rest c t depth opening (open_of has) (lines_at bytes.now at)) count.old.nodes result count.new.nodes }
+    ensures within { IfOk result (λ step. IsStep bytes.now opening at step) }
+{
+    match has {
+        Open::Items(items) => read_item(alloc, bytes, count, opening, items, at),
+        Open::Entries(entries) => read_entry(alloc, bytes, count, opening, entries, at),
+    }
+}
+
+/// Goes on behind a node that was read in a collection which waited for it.
+fn resume(bytes: &[u8], opening: usize, waiting: Waiting, part: Part) -> Result<Task, Stop>
+    requires inside { part.next ≤ length bytes.now }
+    requires nested { IsNested opening waiting part }
+    requires end { part.end ≤ part.next }
+    requires size { length bytes.now ≤ 1048576 }
+    ensures fault { IfErr result (IsStopInside (length bytes.now)) }
+    ensures is { (depth n : ℕ) → Resumes bytes.now depth opening (waiting_of bytes.now waiting) (part_of bytes.now part) n result }
+    ensures within { IfOk result (λ task. IsTask bytes.now opening part.next task) }
+{
+    match waiting {
+        Waiting::Item(items) => put_item(bytes, opening, items, part),
+        Waiting::Value(entries, key) => put_entry(bytes, opening, entries, key, part),
+        Waiting::Key(at) => Err(Stop::Fault(FaultAt {
+            code: YamlCode::WrongKey,
+            at,
+        })),
+    }
+}
+
+/// What stands in the collection whose bracket or brace stands at an offset: nothing yet, and where that begins.
+fn open_at(alloc: Global, bytes: &[u8], at: usize) -> (Open, usize)
+    requires inside { at < length bytes.now }
+    requires bracket { content.is_flow_start (text_at bytes.now at) ≡ true }
+    ensures is { (bound depth n m : ℕ) → broken_limit n 0 (start_of at 1 depth ∷ []) ≡ None → m ≡ n + 1 → run (counted n) (flow.flow_collection (suc bound) depth (lines_at bytes.now at)) ≡ run (counted m) (open_rest (flow.flow_collection bound) (suc bound) (depth + 1) at (open_of result.0) (lines_at bytes.now result.1)) }
+    ensures nested { IsOpenTo at result.1 result.0 }
+    ensures from { at < result.1 }
+    ensures end { result.1 ≤ length bytes.now }
+{
+    let inside = gap(bytes, at + 1);
+    if begins(bytes, at, b'[') {
+        return (Open::Items(Vec::new(alloc)), inside);
+    }
+    (Open::Entries(Vec::new(alloc)), inside)
 }
 
 /// Reads the flow collection whose bracket or brace stands at an offset.
-#[cycle(flow)]
+///
+/// The collections that are open in it stand on a stack of 64.
 pub fn read_flow_collection(
     alloc: Global,
     bytes: &[u8],
@@ -404,9 +541,41 @@ pub fn read_flow_collection(
     ensures nested { IfOk result (λ part. IsWithin at part.end (view part.node)) }
 {
     count.start(at, 1, depth)?;
-    let inside = gap(bytes, at + 1);
-    if begins(bytes, at, b'[') {
-        return read_flow_sequence(alloc, bytes, count, depth + 1, at, inside);
+    let (has, inside) = open_at(alloc, bytes, at);
+    let mut stack = Stack::new();
+    let mut task = Task::Inside {
+        opening: at,
+        has,
+        at: inside,
+    };
+    'nodes: loop {
+        match task {
+            Task::Inside {
+                opening,
+                has,
+                at: from,
+            } => {
+                match read_inside(alloc, bytes, count, opening, has, from)? {
+                    Step::Closed(part) => task = Task::Read(part),
+                    Step::Read(waiting, part) => task = resume(bytes, opening, waiting, part)?,
+                    Step::Opens(waiting, bracket) => {
+                        count.start(bracket, 1, depth + 1 + stack.len() as u32)?;
+                        stack.push(FlowFrame { opening, waiting });
+                        let (has, inside) = open_at(alloc, bytes, bracket);
+                        task = Task::Inside {
+                            opening: bracket,
+                            has,
+                            at: inside,
+                        };
+                    }
+                }
+            }
+            Task::Read(part) => {
+                let Some(frame) = stack.pop() else {
+                    return Ok(part);
+                };
+                task = resume(bytes, frame.opening, frame.waiting, part)?;
+            }
+        }
     }
-    read_flow_mapping(alloc, bytes, count, depth + 1, at, inside)
 }

@@ -1,0 +1,244 @@
+-- Offsets of a block scalar's text.
+use Rattle.std.proofs.Common.{◌≡◌, ℕ, ◌+◌, ◌-◌, ◌<◌, ◌≤◌, List, [], ◌∷◌, ◌++◌, drop, refl, sym, subst, arith, Bool, true, false, not, if◌then◌else◌, ◌&&◌, ◌||◌, nat_le, Option, Some, None, Result, Ok, Err}
+use Rattle.al_scalar.specs.Ascii as ascii
+use Rattle.al_scalar.specs.Line.{Cell, Line, place, start, is_empty, begins, after_blanks, begins_blank, is_comment, indent, is_all_blank}
+use Rattle.al_scalar.specs.Block.{Chomping, strip, clip, keep, Header, header_end, after_digit, after_sign, header, is_digit, is_sign, chomping_of, content_indent, Row, Rows, row_of, at_end, with_row, rows_at, chomped, is_spaced, own_break, between_rows, joint, text_after, last_end, rows_end, block_scalar}
+use Rattle.al_scalar.specs.Offsets.{AreBefore, AreClimbing, IsTail, AreLines}
+use Rattle.al_scalar.specs.Taken.{Fault, Taken, ◌>>=◌, feeds}
+use Rattle.al_scalar.proofs.OffsetLemmas.{IsFrom, choose, from-none, from-one, from-join, from-wider, from-order, climbing-order, climbing-lower, climbing-place, climbing-drop, climbing-from, tail-lines, feeds-join}
+
+-- ---- rows
+
+-- where a row's break stands and where it ends; the last row has none
+abbrev break_at : ℕ → List ℕ → ℕ
+break_at high [] = high
+break_at high (e ∷ es) = e
+
+abbrev break_behind : ℕ → List ℕ → ℕ
+break_behind high [] = high
+break_behind high (e ∷ es) = e + 1
+
+abbrev AreRows : ℕ → ℕ → List Row → Type 0
+AreRows low high [] = low ≤ high
+AreRows low high (r ∷ rs) = AreClimbing low (break_at high r.break) r.text × IsFrom (break_at high r.break) (break_behind high r.break) (feeds r.break) × AreRows (break_behind high r.break) high rs
+
+abbrev IsRowText : ℕ → ℕ → Option (List Cell) → Type 0
+IsRowText low end None = Unit {0}
+IsRowText low end (Some text) = AreClimbing low end text
+
+row-from : (m : Option ℕ) (found : Bool) (low end : ℕ) (cs : List Cell) → AreClimbing low end cs → IsRowText low end (row_of m found cs)
+row-from None found low end cs h = choose (IsRowText low end) (is_all_blank cs) (λ _. climbing-order low end cs h) (λ _. tt)
+row-from (Some m) found low end cs h =
+    choose (IsRowText low end) (is_all_blank cs && not found) (λ _. climbing-order low end cs h)
+    (λ _. choose (IsRowText low end) (nat_le m (indent cs)) (λ _. climbing-drop m low end cs h)
+    (λ _. choose (IsRowText low end) (is_all_blank cs) (λ _. climbing-order low end cs h) (λ _. tt)))
+
+abbrev IsRows : ℕ → Rows → Type 0
+IsRows low rs = AreRows low (start rs.left) rs.rows
+
+rows-by : (low : ℕ) (l : Line) (ls : List Line) (below : Rows) → AreLines low (l ∷ ls) → (AreLines (l.end + 1) ls → IsRows (l.end + 1) below) → (o : Option (List Cell)) → IsRowText low l.end o
+    → IsRows low (elim o [
+      | None ↦ record { rows = []; left = l ∷ ls }
+      | Some text ↦ (if l.last then record { rows = record { text = text; break = [] } ∷ []; left = at_end l }
+          else with_row (record { text = text; break = l.end ∷ [] }) below)
+    ])
+rows-by low l ls below h more None k = (climbing-place low l.end l.text h.0).0
+rows-by low l ls below h more (Some text) k = choose (IsRows low) l.last
+    (λ _. (k, from-none l.end l.end (omega arith), omega arith))
+    (λ e. (k, from-one l.end (l.end + 1) ascii.line_feed l.end (omega arith) (omega arith), more (tail-lines l.end l.last ls e h.1)))
+
+rows-from : (m : Option ℕ) (found : Bool) (low : ℕ) (ls : List Line) → AreLines low ls → IsRows low (rows_at m found ls)
+rows-from m found low [] h = absurd h
+rows-from m found low (l ∷ ls) h =
+    let next = found || not (is_all_blank l.text) in
+    rows-by low l ls (rows_at m next ls) h (λ k. rows-from m next (l.end + 1) ls k) (row_of m found l.text) (row-from m found low l.end l.text h.0)
+
+-- ---- the text of rows
+
+-- the break of the last line with text, and those of the empty lines since
+record ArePending (low mid high : ℕ) (last : Option Row) (empties : List ℕ) : Type 0 where
+  own : IsFrom low mid (feeds (own_break last))
+  since : IsFrom mid high (feeds empties)
+
+chomped-from : (k : Chomping) (low mid high : ℕ) (last : Option Row) (empties : List ℕ) → ArePending low mid high last empties → IsFrom low high (chomped k (own_break last) empties)
+chomped-from strip low mid high last empties h =
+    let a = from-order low mid (feeds (own_break last)) h.own in
+    let b = from-order mid high (feeds empties) h.since in
+    from-none low high (omega (arith, a, b))
+chomped-from clip low mid high last empties h = from-wider low mid low high (feeds (own_break last)) (omega arith) (from-order mid high (feeds empties) h.since) h.own
+chomped-from keep low mid high last empties h = subst (IsFrom low high) (sym (feeds-join (own_break last) empties)) (from-join low mid high (feeds (own_break last)) (feeds empties) h.own h.since)
+
+between-from : (low mid high : ℕ) (own empties : List ℕ) → IsFrom low mid (feeds own) → IsFrom mid high (feeds empties) → IsFrom low high (between_rows own empties)
+between-from low mid high [] empties h k = from-wider mid high low high (feeds empties) (from-order low mid [] h) (omega arith) k
+between-from low mid high (e ∷ es) [] h k =
+    let a = h.rising.0 in
+    let b = h.rising.1 in
+    let c = from-order mid high [] k in
+    from-one low high ascii.space e a (omega (arith, b, c))
+between-from low mid high (e ∷ es) (x ∷ xs) h k = from-wider mid high low high (feeds (x ∷ xs)) (from-order low mid (feeds (e ∷ es)) h) (omega arith) k
+
+joint-from : (is_literal : Bool) (low mid high : ℕ) (last : Option Row) (empties : List ℕ) (next : Row) → ArePending low mid high last empties → IsFrom low high (joint is_literal last empties next)
+joint-from is_literal low mid high None empties next h = from-wider mid high low high (feeds empties) (from-order low mid [] h.own) (omega arith) h.since
+joint-from is_literal low mid high (Some r) empties next h =
+    choose (IsFrom low high) (is_literal || is_spaced r || is_spaced next)
+    (λ _. subst (IsFrom low high) (sym (feeds-join r.break empties)) (from-join low mid high (feeds r.break) (feeds empties) h.own h.since))
+    (λ _. between-from low mid high r.break empties h.own h.since)
+
+pending-more : (low mid high to to' : ℕ) (last : Option Row) (empties more : List ℕ) → high ≤ to → ArePending low mid high last empties → IsFrom to to' (feeds more) → ArePending low mid to' last (empties ++ more)
+pending-more low mid high to to' last empties more a h k = record {
+  own = h.own;
+  since = subst (IsFrom mid to') (sym (feeds-join empties more)) (from-join mid high to' (feeds empties) (feeds more) h.since (from-wider to to' high to' (feeds more) a (omega arith) k));
+}
+
+text-from : (is_literal : Bool) (k : Chomping) (low mid next high : ℕ) (last : Option Row) (empties : List ℕ) (rs : List Row) → ArePending low mid next last empties → AreRows next high rs
+    → IsFrom low high (text_after is_literal k last empties rs)
+text-from is_literal k low mid next high last empties [] h rows = from-wider low next low high (chomped k (own_break last) empties) (omega arith) rows (chomped-from k low mid next last empties h)
+text-from is_literal k low mid next high last empties (r ∷ rs) h rows =
+    let at = break_at high r.break in
+    let behind = break_behind high r.break in
+    choose (IsFrom low high) (is_empty r.text)
+    (λ _. text-from is_literal k low mid behind high last (empties ++ r.break) rs (pending-more low mid next at behind last empties r.break (climbing-order next at r.text rows.0) h rows.1) rows.2)
+    (λ _. from-join low at high (joint is_literal last empties r ++ r.text) (text_after is_literal k (Some r) [] rs)
+    (from-join low next at (joint is_literal last empties r) r.text (joint-from is_literal low mid next last empties r h) (climbing-from next at r.text rows.0))
+    (text-from is_literal k at behind behind high (Some r) [] rs (record { own = rows.1; since = from-none behind behind (omega arith) }) rows.2))
+
+-- ---- bytes before the end
+
+before-join : (end : ℕ) (xs ys : List Cell) → AreBefore end xs → AreBefore end ys → AreBefore end (xs ++ ys)
+before-join end [] ys h k = k
+before-join end (c ∷ cs) ys h k = (h.0, before-join end cs ys h.1 k)
+
+before-feeds : (end : ℕ) (ats : List ℕ) → AreBefore end (feeds ats)
+before-feeds end [] = tt
+before-feeds end (a ∷ ats) = ((λ n. absurd (n refl)), before-feeds end ats)
+
+before-chomped : (end : ℕ) (k : Chomping) (own empties : List ℕ) → AreBefore end (chomped k own empties)
+before-chomped end strip own empties = tt
+before-chomped end clip own empties = before-feeds end own
+before-chomped end keep own empties = before-feeds end (own ++ empties)
+
+last-order : (low high at : ℕ) (cs : List Cell) → AreClimbing low high cs → at ≤ low → at ≤ last_end cs at
+last-order low high at [] h a = omega arith
+last-order low high at (c ∷ cs) h a = let k = last-order (c.1 + 1) high (c.1 + 1) cs h.1 (omega arith) in let b = h.0 in omega (arith, k, b, a)
+
+before-climbing : (low high end at : ℕ) (cs : List Cell) → AreClimbing low high cs → last_end cs at ≤ end → AreBefore end cs
+before-climbing low high end at [] h a = tt
+before-climbing low high end at (c ∷ cs) h a = ((λ _. let k = last-order (c.1 + 1) high (c.1 + 1) cs h.1 (omega arith) in omega (arith, k, a)), before-climbing (c.1 + 1) high end (c.1 + 1) cs h.1 a)
+
+last-below : (low high at : ℕ) (cs : List Cell) → AreClimbing low high cs → at ≤ low → last_end cs at ≤ high
+last-below low high at [] h a = omega (arith, h)
+last-below low high at (c ∷ cs) h a = last-below (c.1 + 1) high (c.1 + 1) cs h.1 (omega arith)
+
+last-behind : (low high at : ℕ) (cs : List Cell) → AreClimbing low high cs → is_empty cs ≡ false → low < last_end cs at
+last-behind low high at [] h e = absurd cc
+last-behind low high at (c ∷ cs) h e = let k = last-order (c.1 + 1) high (c.1 + 1) cs h.1 (omega arith) in let b = h.0 in omega (arith, k, b)
+
+rows-end : (at next high : ℕ) (rs : List Row) → AreRows next high rs → at ≤ next → at ≤ rows_end at rs
+rows-end at next high [] h a = omega arith
+rows-end at next high (r ∷ rs) h a =
+    let first = last-order next (break_at high r.break) at r.text h.0 a in
+    let last = last-below next (break_at high r.break) at r.text h.0 a in
+    let break = from-order (break_at high r.break) (break_behind high r.break) (feeds r.break) h.1 in
+    let more = rows-end (last_end r.text at) (break_behind high r.break) high rs h.2 (omega (arith, last, break)) in
+    omega (arith, first, more)
+
+before-between : (low mid next end : ℕ) (own empties : List ℕ) → IsFrom low mid (feeds own) → mid ≤ end → AreBefore end (between_rows own empties)
+before-between low mid next end [] empties h a = before-feeds end empties
+before-between low mid next end (e ∷ es) [] h a = let b = h.rising.1 in ((λ _. omega (arith, b, a)), tt)
+before-between low mid next end (e ∷ es) (x ∷ xs) h a = before-feeds end (x ∷ xs)
+
+before-joint : (is_literal : Bool) (low mid high end : ℕ) (last : Option Row) (empties : List ℕ) (next : Row) → ArePending low mid high last empties → high ≤ end → AreBefore end (joint is_literal last empties next)
+before-joint is_literal low mid high end None empties next h a = before-feeds end empties
+before-joint is_literal low mid high end (Some r) empties next h a =
+    let b = from-order mid high (feeds empties) h.since in
+    choose (AreBefore end) (is_literal || is_spaced r || is_spaced next) (λ _. before-feeds end (r.break ++ empties))
+    (λ _. before-between low mid high end r.break empties h.own (omega (arith, a, b)))
+
+text-before : (is_literal : Bool) (k : Chomping) (low mid next high : ℕ) (last : Option Row) (empties : List ℕ) (at : ℕ) (rs : List Row) → ArePending low mid next last empties → AreRows next high rs → at ≤ next
+    → AreBefore (rows_end at rs) (text_after is_literal k last empties rs)
+text-before is_literal k low mid next high last empties at [] h rows a = before-chomped at k (own_break last) empties
+text-before is_literal k low mid next high last empties at (r ∷ rs) h rows a =
+    let break = break_at high r.break in
+    let behind = break_behind high r.break in
+    let now = last_end r.text at in
+    let end = rows_end now rs in
+    let order = from-order break behind (feeds r.break) rows.1 in
+    let below = last-below next break at r.text rows.0 a in
+    let inside : now ≤ behind = omega (arith, order, below) in
+    let ends = rows-end now behind high rs rows.2 inside in
+    choose (AreBefore end) (is_empty r.text)
+    (λ _. text-before is_literal k low mid behind high last (empties ++ r.break) now rs (pending-more low mid next break behind last empties r.break (climbing-order next break r.text rows.0) h rows.1) rows.2 inside)
+    (λ e. let first = last-behind next break at r.text rows.0 e in before-join end (joint is_literal last empties r ++ r.text) (text_after is_literal k (Some r) [] rs)
+    (before-join end (joint is_literal last empties r) r.text (before-joint is_literal low mid next end last empties r h (omega (arith, first, ends))) (before-climbing next break end at r.text rows.0 ends))
+    (text-before is_literal k break behind behind high (Some r) [] now rs (record { own = rows.1; since = from-none behind behind (omega arith) }) rows.2 inside))
+
+-- ---- the header
+
+abbrev EndsBefore : ℕ → Result Header Fault → Type 0
+EndsBefore end (Ok h) = h.end ≤ end
+EndsBefore end (Err e) = Unit {0}
+
+header_end-from : (end : ℕ) (h : Header) (cs : List Cell) → h.end ≤ end → EndsBefore end (header_end h cs)
+header_end-from end h cs a = choose (EndsBefore end) (is_empty (after_blanks cs) || (begins_blank cs && is_comment cs)) (λ _. a) (λ _. tt)
+
+after_digit-from : (d at end : ℕ) (cs : List Cell) → AreClimbing at end cs → EndsBefore end (after_digit d at cs)
+after_digit-from d at end [] h = header_end-from end (record { digit = Some d; chomping = clip; end = at }) [] h
+after_digit-from d at end (c ∷ cs) h =
+    let a = climbing-order (c.1 + 1) end cs h.1 in
+    let b = h.0 in
+    choose (EndsBefore end) (is_sign c.0) (λ _. header_end-from end (record { digit = Some d; chomping = chomping_of c.0; end = at + 1 }) cs (omega (arith, a, b)))
+    (λ _. header_end-from end (record { digit = Some d; chomping = clip; end = at }) (c ∷ cs) (omega (arith, a, b)))
+
+after_sign-from : (k : Chomping) (at end : ℕ) (cs : List Cell) → AreClimbing at end cs → EndsBefore end (after_sign k at cs)
+after_sign-from k at end [] h = header_end-from end (record { digit = None; chomping = k; end = at }) [] h
+after_sign-from k at end (c ∷ cs) h =
+    let a = climbing-order (c.1 + 1) end cs h.1 in
+    let b = h.0 in
+    choose (EndsBefore end) (is_digit c.0) (λ _. header_end-from end (record { digit = Some (c.0 - 48); chomping = k; end = at + 1 }) cs (omega (arith, a, b)))
+    (λ _. header_end-from end (record { digit = None; chomping = k; end = at }) (c ∷ cs) (omega (arith, a, b)))
+
+header-from : (at end : ℕ) (cs : List Cell) → AreClimbing at end cs → EndsBefore end (header at cs)
+header-from at end [] h = header_end-from end (record { digit = None; chomping = clip; end = at }) [] h
+header-from at end (c ∷ cs) h =
+    let a = climbing-order (c.1 + 1) end cs h.1 in
+    let b = h.0 in
+    let more = climbing-lower (c.1 + 1) (at + 1) end cs (omega (arith, b)) h.1 in
+    choose (EndsBefore end) (is_digit c.0) (λ _. after_digit-from (c.0 - 48) (at + 1) end cs more)
+    (λ _. choose (EndsBefore end) (is_sign c.0) (λ _. after_sign-from (chomping_of c.0) (at + 1) end cs more)
+    (λ _. header_end-from end (record { digit = None; chomping = clip; end = at }) (c ∷ cs) (omega (arith, a, b))))
+
+behind-indicator : (q low end : ℕ) (cs : List Cell) → begins q cs ≡ true → AreClimbing low end cs → AreClimbing (place cs end + 1) end (drop 1 cs)
+behind-indicator q low end [] e h = absurd cc
+behind-indicator q low end (c ∷ cs) e h = h.1
+
+-- ---- the scalar
+
+abbrev pub IsBlockTaken : ℕ → Result Taken Fault → Type 0
+IsBlockTaken low (Ok t) = IsFrom low (start t.left) t.text × AreBefore t.end t.text
+IsBlockTaken low (Err e) = Unit {0}
+
+lines-lower : (low low' : ℕ) (ls : List Line) → low' ≤ low → AreLines low ls → AreLines low' ls
+lines-lower low low' [] a h = h
+lines-lower low low' (l ∷ ls) a h = (climbing-lower low low' l.end l.text a h.0, h.1)
+
+block-by : (is_literal : Bool) (within low : ℕ) (l : Line) (ls : List Line) → low ≤ l.end → IsTail l.end l.last ls → (r : Result Header Fault) → EndsBefore l.end r
+    → IsBlockTaken low (r >>= (λ h.
+    let m = content_indent h.digit within ls in
+    let rs = (if l.last then record { rows = []; left = at_end l } else rows_at m (elim h.digit [ None ↦ false | Some d ↦ true ]) ls) in
+    Ok (record { text = text_after is_literal h.chomping None [] rs.rows; end = rows_end h.end rs.rows; left = rs.left })))
+block-by is_literal within low l ls a k (Err e) r = tt
+block-by is_literal within low l ls a k (Ok h) r =
+    let m = content_indent h.digit within ls in
+    let rs : Rows = (if l.last then record { rows = []; left = at_end l } else rows_at m (elim h.digit [ None ↦ false | Some d ↦ true ]) ls) in
+    let rows : IsRows l.end rs = choose (IsRows l.end) l.last (λ _. omega arith)
+    (λ e. rows-from m (elim h.digit [ None ↦ false | Some d ↦ true ]) l.end ls (lines-lower (l.end + 1) l.end ls (omega arith) (tail-lines l.end l.last ls e k))) in
+    let none : ArePending low l.end l.end None [] = record { own = from-none low l.end a; since = from-none l.end l.end (omega arith) } in (
+      text-from is_literal h.chomping low l.end l.end (start rs.left) None [] rs.rows none rows,
+      text-before is_literal h.chomping low l.end l.end (start rs.left) None [] h.end rs.rows none rows r,
+    )
+
+pub block-from : (is_literal : Bool) (within low q : ℕ) (l : Line) (ls : List Line) → begins q l.text ≡ true → AreLines low (l ∷ ls) → IsBlockTaken (place l.text l.end) (block_scalar is_literal within (l ∷ ls))
+block-from is_literal within low q l ls e h =
+    let at = place l.text l.end in
+    block-by is_literal within at l ls (climbing-order at l.end l.text (climbing-place low l.end l.text h.0).1) h.1
+    (header (at + 1) (drop 1 l.text)) (header-from (at + 1) l.end (drop 1 l.text) (behind-indicator q low l.end l.text e h.0))

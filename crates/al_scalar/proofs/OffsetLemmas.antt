@@ -1,0 +1,170 @@
+-- Offsets of a scalar's text: they never fall, and lie in what the scalar takes; and how many bytes it has.
+use Rattle.std.proofs.Common.{◌≡◌, ℕ, zero, suc, ◌+◌, ◌*◌, ◌<◌, ◌≤◌, List, [], ◌∷◌, ◌++◌, length, length-append, drop, refl, sym, ap, subst, ◌∙◌, arith, Bool, true, false, not, ◌&&◌, ◌||◌, ◌==◌, if◌then◌else◌, Result, Ok, Err}
+use Rattle.al_scalar.specs.Ascii as ascii
+use Rattle.al_scalar.specs.Line.{Cell, Line, lines, place, start, is_blank, after_blanks, is_break, begins_with, with_cell, with_return}
+use Rattle.al_scalar.specs.Places.{first_text}
+use Rattle.al_scalar.specs.Offsets.{AreRising, AreClimbing, IsTail, AreLines}
+use Rattle.al_scalar.specs.Taken.{Fault, Taken, before, feeds, folded_break}
+
+-- ---- cells that are taken
+
+-- the cells come from between two offsets, which leave room for them
+pub record IsFrom (low high : ℕ) (cs : List Cell) : Type 0 where
+  pub rising : AreRising low high cs
+  pub size : length cs + 4 * low ≤ 4 * high
+
+pub rising-order : (low high : ℕ) (cs : List Cell) → AreRising low high cs → low ≤ high
+rising-order low high [] h = h
+rising-order low high (c ∷ cs) h = omega (arith, h.0, h.1)
+
+rising-lower : (low low' high : ℕ) (cs : List Cell) → low' ≤ low → AreRising low high cs → AreRising low' high cs
+rising-lower low low' high [] a h = omega (arith, h)
+rising-lower low low' high (c ∷ cs) a h = (omega (arith, h.0), h.1, h.2)
+
+pub rising-higher : (low high high' : ℕ) (cs : List Cell) → high ≤ high' → AreRising low high cs → AreRising low high' cs
+rising-higher low high high' [] a h = omega (arith, h)
+rising-higher low high high' (c ∷ cs) a h = (h.0, omega (arith, h.1), rising-higher c.1 high high' cs a h.2)
+
+rising-join : (low mid high : ℕ) (xs ys : List Cell) → AreRising low mid xs → AreRising mid high ys → AreRising low high (xs ++ ys)
+rising-join low mid high [] ys h k = rising-lower mid low high ys h k
+rising-join low mid high (c ∷ cs) ys h k = let o = rising-order mid high ys k in (h.0, omega (arith, h.1, o), rising-join c.1 mid high cs ys h.2 k)
+
+pub from-order : (low high : ℕ) (cs : List Cell) → IsFrom low high cs → low ≤ high
+from-order low high cs h = rising-order low high cs h.rising
+
+pub from-join : (low mid high : ℕ) (xs ys : List Cell) → IsFrom low mid xs → IsFrom mid high ys → IsFrom low high (xs ++ ys)
+from-join low mid high xs ys h k = record { rising = rising-join low mid high xs ys h.rising k.rising; size = omega (arith, length-append xs ys, h.size, k.size) }
+
+pub from-none : (low high : ℕ) → low ≤ high → IsFrom low high []
+from-none low high h = record { rising = h; size = omega arith }
+
+pub from-one : (low high b at : ℕ) → low ≤ at → at < high → IsFrom low high ((b, at) ∷ [])
+from-one low high b at h k = record { rising = (h, k, omega arith); size = omega arith }
+
+pub from-wider : (low high low' high' : ℕ) (cs : List Cell) → low' ≤ low → high ≤ high' → IsFrom low high cs → IsFrom low' high' cs
+from-wider low high low' high' cs a b h = record { rising = rising-lower low low' high' cs a (rising-higher low high high' cs b h.rising); size = omega (arith, h.size) }
+
+-- ---- cells of a line
+
+pub climbing-order : (low end : ℕ) (cs : List Cell) → AreClimbing low end cs → low ≤ end
+climbing-order low end [] h = h
+climbing-order low end (c ∷ cs) h = let k = climbing-order (c.1 + 1) end cs h.1 in omega (arith, h.0, k)
+
+pub climbing-lower : (low low' end : ℕ) (cs : List Cell) → low' ≤ low → AreClimbing low end cs → AreClimbing low' end cs
+climbing-lower low low' end [] a h = omega (arith, h)
+climbing-lower low low' end (c ∷ cs) a h = (omega (arith, h.0), h.1)
+
+-- where the cells begin
+pub climbing-place : (low end : ℕ) (cs : List Cell) → AreClimbing low end cs → (low ≤ place cs end) × AreClimbing (place cs end) end cs
+climbing-place low end [] h = (h, omega arith)
+climbing-place low end (c ∷ cs) h = (h.0, (omega arith, h.1))
+
+-- without the first cell
+climbing-behind : (low end : ℕ) (c : Cell) (cs : List Cell) → AreClimbing low end (c ∷ cs) → AreClimbing low end cs
+climbing-behind low end c cs h = climbing-lower (c.1 + 1) low end cs (omega (arith, h.0)) h.1
+
+pub climbing-from : (low end : ℕ) (cs : List Cell) → AreClimbing low end cs → IsFrom low end cs
+climbing-from low end [] h = from-none low end h
+climbing-from low end (c ∷ cs) h =
+    let more = climbing-from (c.1 + 1) end cs h.1 in
+    let o = climbing-order (c.1 + 1) end cs h.1 in
+    record { rising = (h.0, omega (arith, o), rising-lower (c.1 + 1) c.1 end cs (omega arith) more.rising); size = omega (arith, h.0, more.size) }
+
+-- ---- choices
+
+pub choose : {A : Type 0} (P : A → Type 0) (b : Bool) {x y : A} → (b ≡ true → P x) → (b ≡ false → P y) → P (if b then x else y)
+choose P true h k = h refl
+choose P false h k = k refl
+
+pub climbing-blanks : (low end : ℕ) (cs : List Cell) → AreClimbing low end cs → AreClimbing low end (after_blanks cs)
+climbing-blanks low end [] h = h
+climbing-blanks low end (c ∷ cs) h =
+    choose (AreClimbing low end) (is_blank c) (λ _. climbing-blanks low end cs (climbing-behind low end c cs h)) (λ _. h)
+
+pub climbing-drop : (n low end : ℕ) (cs : List Cell) → AreClimbing low end cs → AreClimbing low end (drop n cs)
+climbing-drop zero low end cs h = h
+climbing-drop (suc n) low end [] h = h
+climbing-drop (suc n) low end (c ∷ cs) h = climbing-drop n low end cs (climbing-behind low end c cs h)
+
+-- ---- lines
+
+pub tail-lines : (end : ℕ) (last : Bool) (ls : List Line) → last ≡ false → IsTail end last ls → AreLines (end + 1) ls
+tail-lines end last [] e h = let wrong : false ≡ true = sym e ∙ h in absurd (cc)
+tail-lines end last (l ∷ ls) e h = (h.1, h.2)
+
+lines-tail : (end : ℕ) (ls : List Line) → AreLines (end + 1) ls → IsTail end false ls
+lines-tail end [] h = absurd h
+lines-tail end (l ∷ ls) h = (refl, h.0, h.1)
+
+break-chosen : (p q r : Bool) → (p || (q && not r)) ≡ false → q ≡ true → r ≡ true
+break-chosen p q true h k = refl
+break-chosen true q false h k = cc
+break-chosen false true false h k = cc
+break-chosen false false false h k = cc
+
+feed-text : (at : ℕ) (bs : List ℕ) → begins_with 10 bs ≡ true → first_text (lines at bs) ≡ []
+feed-text at [] h = cc
+feed-text at (b ∷ bs) h = rw h refl
+
+tail-lower : (end end' : ℕ) (last : Bool) (ls : List Line) → end' ≤ end → IsTail end last ls → IsTail end' last ls
+tail-lower end end' last [] a h = h
+tail-lower end end' last (l ∷ ls) a h = (h.0, climbing-lower (end + 1) (end' + 1) l.end l.text (omega arith) h.1, h.2)
+
+returned : (at : ℕ) (ls : List Line) → first_text ls ≡ [] → AreLines (at + 1) ls → AreLines at (with_return at ls)
+returned at [] e h = absurd h
+returned at (l ∷ ls) e h = let o = climbing-order (at + 1) l.end l.text h.0 in
+    (subst (AreClimbing at at) (sym e) (omega arith), tail-lower l.end at l.last ls (omega (arith, o)) h.1)
+
+celled : (at b : ℕ) (ls : List Line) → AreLines (at + 1) ls → AreLines at (with_cell (b, at) ls)
+celled at b [] h = absurd h
+celled at b (l ∷ ls) h = ((omega arith, h.0), h.1)
+
+pub lines-climb : (at : ℕ) (bs : List ℕ) → AreLines at (lines at bs)
+lines-climb at [] = (omega arith, refl)
+lines-climb at (b ∷ bs) =
+    let more = lines-climb (at + 1) bs in
+    choose (AreLines at) (is_break b bs) (λ _. (omega arith, lines-tail at (lines (at + 1) bs) more))
+    (λ e. choose (AreLines at) (b == 13)
+    (λ k. returned at (lines (at + 1) bs) (feed-text (at + 1) bs (break-chosen (b == 10) (b == 13) (begins_with 10 bs) e k)) more)
+    (λ _. celled at b (lines (at + 1) bs) more))
+
+pub lines-start : (low : ℕ) (ls : List Line) → AreLines low ls → low ≤ start ls
+lines-start low [] h = absurd h
+lines-start low (l ∷ ls) h = (climbing-place low l.end l.text h.0).0
+
+-- ---- what is taken
+
+-- what was taken comes from between an offset and its end, and what is left begins there or behind
+abbrev pub AreTaken : ℕ → Result Taken Fault → Type 0
+AreTaken low (Ok t) = IsFrom low t.end t.text × (t.end ≤ start t.left)
+AreTaken low (Err e) = Unit {0}
+
+pub taken-behind : (low mid : ℕ) (cs : List Cell) (r : Result Taken Fault) → IsFrom low mid cs → AreTaken mid r → AreTaken low (before cs r)
+taken-behind low mid cs (Ok t) h k = (from-join low mid t.end cs t.text h k.0, k.1)
+taken-behind low mid cs (Err e) h k = tt
+
+-- ---- breaks
+
+pub feeds-join : (xs ys : List ℕ) → feeds (xs ++ ys) ≡ feeds xs ++ feeds ys
+feeds-join [] ys = refl
+feeds-join (x ∷ xs) ys = ap (λ cs. (ascii.line_feed, x) ∷ cs) (feeds-join xs ys)
+
+-- a break and the breaks of empty lines behind it
+pub record AreBreaks (low high break : ℕ) (empties : List ℕ) : Type 0 where
+  pub from : low ≤ break
+  pub below : break < high
+  pub feeds : IsFrom (break + 1) high (feeds empties)
+
+pub breaks-folded : (low high break : ℕ) (es : List ℕ) → AreBreaks low high break es → IsFrom low high (folded_break break es)
+breaks-folded low high break [] h = from-one low high ascii.space break h.from h.below
+breaks-folded low high break (e ∷ es) h = let a = h.from in from-wider (break + 1) high low high (feeds (e ∷ es)) (omega (arith, a)) (omega arith) h.feeds
+
+pub breaks-more : (low high break : ℕ) (es : List ℕ) (e : ℕ) → high ≤ e → AreBreaks low high break es → AreBreaks low (e + 1) break (es ++ e ∷ [])
+breaks-more low high break es e a h = let b = h.below in record {
+  from = h.from;
+  below = omega (arith, a, b);
+  feeds = subst (IsFrom (break + 1) (e + 1)) (sym (feeds-join es (e ∷ []))) (from-join (break + 1) high (e + 1) (feeds es) ((ascii.line_feed, e) ∷ []) h.feeds (from-one high (e + 1) ascii.line_feed e a (omega arith)));
+}
+
+pub breaks-one : (low break : ℕ) → low ≤ break → AreBreaks low (break + 1) break []
+breaks-one low break a = record { from = a; below = omega arith; feeds = from-none (break + 1) (break + 1) (omega arith) }

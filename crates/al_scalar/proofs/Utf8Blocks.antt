@@ -1,0 +1,88 @@
+-- Texts of block scalars are UTF-8 where the lines are.
+use Rattle.std.proofs.Common.{◌≡◌, ℕ, zero, suc, ◌+◌, ◌≤◌, List, [], ◌∷◌, ◌++◌, drop, refl, arith, Bool, true, false, not, if◌then◌else◌, ◌&&◌, ◌||◌, ◌==◌, nat_le, Option, Some, None, Result, Ok, Err}
+use Rattle.std.proofs.lemmas.Bool.Decides.{nat_tests}
+use Rattle.std.proofs.lemmas.Str.{IsUtf8-nil}
+use Rattle.al_scalar.specs.Ascii as ascii
+use Rattle.al_scalar.specs.Line.{Cell, Line, place, is_empty, indent, is_all_blank}
+use Rattle.al_scalar.specs.Block.{Chomping, strip, clip, keep, Header, header, content_indent, Row, Rows, row_of, at_end, with_row, rows_at, chomped, is_spaced, own_break, between_rows, joint, text_after, rows_end, block_scalar}
+use Rattle.al_scalar.specs.Taken.{Fault, ◌>>=◌}
+use Rattle.al_scalar.proofs.OffsetLemmas.{choose}
+use Rattle.al_scalar.proofs.Utf8Lemmas.{AreUtf8, bytes_of, split-behind, equal-ascii}
+use Rattle.al_scalar.proofs.Utf8Texts.{IsText, TakesText, text-join, text-feeds, text-break}
+
+indent-step : (b : Bool) (m n : ℕ) → nat_le (suc m) (if b then n + 1 else 0) ≡ true → (b ≡ true) × (nat_le m n ≡ true)
+indent-step true m n h = (refl, grind (arith, nat_tests, h))
+indent-step false m n h = let wrong : suc m ≤ 0 = grind (arith, nat_tests, h) in absurd (omega (arith, wrong))
+
+drop-text : (m : ℕ) (cs : List Cell) → nat_le m (indent cs) ≡ true → IsText cs → IsText (drop m cs)
+drop-text zero cs h u = u
+drop-text (suc m) [] h u = u
+drop-text (suc m) (c ∷ cs) h u =
+    let s = indent-step (c.0 == ascii.space) m (indent cs) h in
+    drop-text m cs s.1 (split-behind c.0 (bytes_of cs) (equal-ascii c.0 32 (omega arith) s.0) u)
+
+abbrev IsRowText : Option (List Cell) → Type 0
+IsRowText None = Unit {0}
+IsRowText (Some text) = IsText text
+
+row-text : (m : Option ℕ) (found : Bool) (cs : List Cell) → IsText cs → IsRowText (row_of m found cs)
+row-text None found cs u = choose IsRowText (is_all_blank cs) (λ _. IsUtf8-nil) (λ _. tt)
+row-text (Some m) found cs u =
+    choose IsRowText (is_all_blank cs && not found) (λ _. IsUtf8-nil)
+    (λ _. choose IsRowText (nat_le m (indent cs)) (λ e. drop-text m cs e u) (λ _. choose IsRowText (is_all_blank cs) (λ _. IsUtf8-nil) (λ _. tt)))
+
+abbrev AreTexts : List Row → Type 0
+AreTexts [] = Unit {0}
+AreTexts (r ∷ rs) = IsText r.text × AreTexts rs
+
+abbrev RowsTexts : Rows → Type 0
+RowsTexts rs = AreTexts rs.rows
+
+rows-by : (l : Line) (ls : List Line) (below : Rows) → RowsTexts below → (o : Option (List Cell)) → IsRowText o
+    → RowsTexts (elim o [
+      | None ↦ record { rows = []; left = l ∷ ls }
+      | Some text ↦ (if l.last then record { rows = record { text = text; break = [] } ∷ []; left = at_end l }
+          else with_row (record { text = text; break = l.end ∷ [] }) below)
+    ])
+rows-by l ls below more None k = tt
+rows-by l ls below more (Some text) k = choose RowsTexts l.last (λ _. (k, tt)) (λ _. (k, more))
+
+rows-texts : (m : Option ℕ) (found : Bool) (ls : List Line) → AreUtf8 ls → RowsTexts (rows_at m found ls)
+rows-texts m found [] u = tt
+rows-texts m found (l ∷ ls) u =
+    let next = found || not (is_all_blank l.text) in
+    rows-by l ls (rows_at m next ls) (rows-texts m next ls u.1) (row_of m found l.text) (row-text m found l.text u.0)
+
+text-between : (own empties : List ℕ) → IsText (between_rows own empties)
+text-between [] empties = text-feeds empties
+text-between (e ∷ es) empties = text-break e empties
+
+text-joint : (is_literal : Bool) (last : Option Row) (empties : List ℕ) (next : Row) → IsText (joint is_literal last empties next)
+text-joint is_literal None empties next = text-feeds empties
+text-joint is_literal (Some r) empties next = choose IsText (is_literal || is_spaced r || is_spaced next) (λ _. text-feeds (r.break ++ empties)) (λ _. text-between r.break empties)
+
+text-chomped : (k : Chomping) (own empties : List ℕ) → IsText (chomped k own empties)
+text-chomped strip own empties = IsUtf8-nil
+text-chomped clip own empties = text-feeds own
+text-chomped keep own empties = text-feeds (own ++ empties)
+
+rows-text : (is_literal : Bool) (k : Chomping) (last : Option Row) (empties : List ℕ) (rs : List Row) → AreTexts rs → IsText (text_after is_literal k last empties rs)
+rows-text is_literal k last empties [] u = text-chomped k (own_break last) empties
+rows-text is_literal k last empties (r ∷ rs) u =
+    choose IsText (is_empty r.text) (λ _. rows-text is_literal k last (empties ++ r.break) rs u.1)
+    (λ _. text-join (joint is_literal last empties r ++ r.text) (text_after is_literal k (Some r) [] rs) (text-join (joint is_literal last empties r) r.text (text-joint is_literal last empties r) u.0) (rows-text is_literal k (Some r) [] rs u.1))
+
+block-by : (is_literal : Bool) (within : ℕ) (l : Line) (ls : List Line) → AreUtf8 ls → (r : Result Header Fault)
+    → TakesText (r >>= (λ h.
+    let m = content_indent h.digit within ls in
+    let rs = (if l.last then record { rows = []; left = at_end l } else rows_at m (elim h.digit [ None ↦ false | Some d ↦ true ]) ls) in
+    Ok (record { text = text_after is_literal h.chomping None [] rs.rows; end = rows_end h.end rs.rows; left = rs.left })))
+block-by is_literal within l ls u (Err e) = tt
+block-by is_literal within l ls u (Ok h) =
+    let m = content_indent h.digit within ls in
+    let rs : Rows = (if l.last then record { rows = []; left = at_end l } else rows_at m (elim h.digit [ None ↦ false | Some d ↦ true ]) ls) in
+    rows-text is_literal h.chomping None [] rs.rows (choose RowsTexts l.last (λ _. tt) (λ _. rows-texts m (elim h.digit [ None ↦ false | Some d ↦ true ]) ls u))
+
+pub block-text : (is_literal : Bool) (within : ℕ) (ls : List Line) → AreUtf8 ls → TakesText (block_scalar is_literal within ls)
+block-text is_literal within [] u = tt
+block-text is_literal within (l ∷ ls) u = block-by is_literal within l ls u.1 (header (place l.text l.end + 1) (drop 1 l.text))

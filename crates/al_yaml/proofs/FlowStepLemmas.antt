@@ -1,0 +1,198 @@
+-- Steps of open flow collections, one lemma for each way.
+use Rattle.std.proofs.Common.{◌≡◌, ℕ, suc, ◌+◌, ◌<◌, ◌≤◌, List, [], ◌∷◌, ◌++◌, length, map, refl, sym, ap, ◌∙◌, Bool, true, false, Option, Some, None, Result, Ok, Err}
+use Rattle.al_text.specs.declared.codes.YamlCode.TheVariants as yaml
+use Rattle.al_scalar.specs.Contract.{read_of}
+use Rattle.al_scalar.specs.Line.{Line, begins, is_empty}
+use Rattle.al_scalar.specs.Places.{lines_at, text_at}
+use Rattle.al_scalar.specs.Scalar.{ScalarRead, span}
+use Rattle.al_scalar.specs.Taken.{Fault}
+use Rattle.al_yaml.specs.Node as tree
+use Rattle.al_yaml.specs.Reading.{Reading, Part, part, fails, gives, given, spanned, ◌>>=◌}
+use Rattle.al_yaml.specs.Flow.{After, goes_on, closes, after_item, gap, CollectionReader, FlowReader, FlowSlot, FlowKey, flow_items, flow_items_rest, flow_entries, flow_key, flow_entries_rest, flow_entry_value, flow_node_over}
+use Rattle.al_yaml.specs.Frames.{Answer, answered, open_rest, waiting_rest, items, entries, item, value, key}
+use Rattle.al_yaml.specs.Reads.{State, run, counted, Stops, Refuses, part_of}
+use Rattle.al_yaml.specs.FlowFrames.{Finds}
+use Rattle.al_yaml.specs.View.{view, entry_view, nodes_of, entries_of}
+use Rattle.al_yaml.specs.declared.flow.Found.{Found}
+use Rattle.al_yaml.specs.declared.flow.Found.TheVariants as found
+use Rattle.al_yaml.specs.declared.faults.FaultAt.{FaultAt}
+use Rattle.al_yaml.specs.declared.faults.Stop.{Stop}
+use Rattle.al_yaml.specs.declared.faults.Stop.TheVariants as stop
+use Rattle.al_yaml.specs.declared.node.Node as node_code
+use Rattle.al_yaml.specs.declared.node.Entry as entry_code
+use Rattle.al_yaml.specs.declared.node.Part as code
+use Rattle.al_yaml.proofs.RunLemmas.{run-given, run-gives}
+use Rattle.al_yaml.proofs.ReadLemmas.{stops-bind, stops-same, stops-given, spanned-ok, spanned-stops, same_part, nodes_of-more, entries_of-more}
+use Rattle.al_yaml.proofs.FlowLemmas.{items-open, items-closed, items-step, entries-open, entries-closed, entries-step}
+use Rattle.al_yaml.proofs.FrameLemmas.{bind-answer, answered-fails, spanned-answer}
+
+abbrev unclosed : ℕ → Stop
+unclosed opening = stop.Fault (record { code = yaml.UnclosedFlow; at = opening })
+
+-- a part that was made of what a definition gives
+made : {A : Type 0} (f : A → tree.Node) (bytes : List ℕ) (n end : ℕ) (v : A) (p : code.Part) → view p.node ≡ f v → p.end ≡ end → p.next ≡ end
+    → ◌≡◌ {A = Answer (Part tree.Node)} (Ok (part (f v) end (lines_at bytes end), counted n)) (Ok (part_of bytes p, counted n))
+made f bytes n end v p a b c = same_part (f v) (view p.node) end p.end (lines_at bytes end) (lines_at bytes p.next) n n (sym a) (sym b) (ap (lines_at bytes) (sym c)) refl
+
+-- ---- sequences
+
+module _ (c : CollectionReader) (turns opening depth n : ℕ) (done : tree.Nodes) (bytes : List ℕ) (at : ℕ) (inside : at ≤ length bytes) where
+  abbrev sequence_now : Reading (Part tree.Node)
+  sequence_now = open_rest c (suc turns) depth opening (items done) (lines_at bytes at)
+
+  pub item-open : true ≡ is_empty (text_at bytes at) → Stops sequence_now n (unclosed opening)
+  item-open h =
+      spanned-stops tree.sequence opening (flow_items (flow_node_over c) (suc turns) opening depth done (lines_at bytes at)) n (unclosed opening)
+      (items-open (flow_node_over c) turns opening depth n done bytes at inside h)
+
+  module _ (some : false ≡ is_empty (text_at bytes at)) where
+    pub item-closed : true ≡ begins 93 (text_at bytes at) → (p : code.Part) → view p.node ≡ tree.sequence done (span opening (at + 1)) → p.end ≡ at + 1 → p.next ≡ at + 1
+        → run (counted n) sequence_now ≡ Ok (part_of bytes p, counted n)
+    item-closed h p a b e =
+        spanned-ok tree.sequence opening (flow_items (flow_node_over c) (suc turns) opening depth done (lines_at bytes at)) n n done (at + 1) (lines_at bytes (at + 1))
+        (items-closed (flow_node_over c) turns opening depth n done bytes at inside some h)
+        ∙ made (λ d. tree.sequence d (span opening (at + 1))) bytes n (at + 1) done p a b e
+
+    module _ (other : false ≡ begins 93 (text_at bytes at)) where
+      abbrev item_reading : Reading (Part tree.Node)
+      item_reading = flow_node_over c (record { opening = opening; empty = None }) depth (lines_at bytes at)
+
+      abbrev item_behind : Part tree.Node → Reading (Part tree.Nodes)
+      item_behind x = flow_items_rest (λ left. flow_items (flow_node_over c) turns opening depth (tree.with_item done x.value) left) opening (tree.with_item done x.value) x.left
+
+      pub item-stop : (e : Stop) → Stops item_reading n e → Stops sequence_now n e
+      item-stop e h =
+          spanned-stops tree.sequence opening (flow_items (flow_node_over c) (suc turns) opening depth done (lines_at bytes at)) n e
+          (stops-same _ _ n e (items-step (flow_node_over c) turns opening depth n done bytes at inside some other)
+          (stops-bind item_reading item_behind n e h))
+
+      pub item-answer : run (counted n) sequence_now ≡ answered (run (counted n) item_reading) (waiting_rest c turns depth opening (item done))
+      item-answer =
+          ap (λ r. run (counted n) (spanned tree.sequence opening r)) (items-step (flow_node_over c) turns opening depth n done bytes at inside some other)
+          ∙ spanned-answer tree.sequence opening (counted n) item_reading item_behind
+
+-- ---- mappings
+
+module _ (c : CollectionReader) (turns opening depth n : ℕ) (done : tree.Entries) (bytes : List ℕ) (at : ℕ) (inside : at ≤ length bytes) where
+  abbrev mapping_now : Reading (Part tree.Node)
+  mapping_now = open_rest c (suc turns) depth opening (entries done) (lines_at bytes at)
+
+  pub entry-open : true ≡ is_empty (text_at bytes at) → Stops mapping_now n (unclosed opening)
+  entry-open h =
+      spanned-stops tree.mapping opening (flow_entries (flow_node_over c) c (suc turns) opening depth done (lines_at bytes at)) n (unclosed opening)
+      (entries-open (flow_node_over c) c turns opening depth n done bytes at inside h)
+
+  module _ (some : false ≡ is_empty (text_at bytes at)) where
+    pub entry-closed : true ≡ begins 125 (text_at bytes at) → (p : code.Part) → view p.node ≡ tree.mapping done (span opening (at + 1)) → p.end ≡ at + 1 → p.next ≡ at + 1
+        → run (counted n) mapping_now ≡ Ok (part_of bytes p, counted n)
+    entry-closed h p a b e =
+        spanned-ok tree.mapping opening (flow_entries (flow_node_over c) c (suc turns) opening depth done (lines_at bytes at)) n n done (at + 1) (lines_at bytes (at + 1))
+        (entries-closed (flow_node_over c) c turns opening depth n done bytes at inside some h)
+        ∙ made (λ d. tree.mapping d (span opening (at + 1))) bytes n (at + 1) done p a b e
+
+    module _ (other : false ≡ begins 125 (text_at bytes at)) where
+      abbrev key_reading : Reading FlowKey
+      key_reading = flow_key c depth (lines_at bytes at)
+
+      abbrev value_reading : FlowKey → Reading (Part tree.Node)
+      value_reading k = flow_entry_value (flow_node_over c) opening depth k
+
+      abbrev entry_behind : FlowKey → Part tree.Node → Reading (Part tree.Entries)
+      entry_behind k x =
+          flow_entries_rest (λ left. flow_entries (flow_node_over c) c turns opening depth (tree.with_entry done (tree.scalar_node k.scalar) x.value) left) opening
+          (tree.with_entry done (tree.scalar_node k.scalar) x.value) x.left
+
+      abbrev behind_key : FlowKey → Reading (Part tree.Entries)
+      behind_key k = value_reading k >>= entry_behind k
+
+      pub entry-stop : (e : Stop) → Stops key_reading n e → Stops mapping_now n e
+      entry-stop e h =
+          spanned-stops tree.mapping opening (flow_entries (flow_node_over c) c (suc turns) opening depth done (lines_at bytes at)) n e
+          (stops-same _ _ n e (entries-step (flow_node_over c) c turns opening depth n done bytes at inside some other)
+          (stops-bind key_reading behind_key n e h))
+
+      entry-answer : run (counted n) mapping_now ≡ answered (run (counted n) key_reading) (λ k. spanned tree.mapping opening (behind_key k))
+      entry-answer =
+          ap (λ r. run (counted n) (spanned tree.mapping opening r)) (entries-step (flow_node_over c) c turns opening depth n done bytes at inside some other)
+          ∙ spanned-answer tree.mapping opening (counted n) key_reading behind_key
+
+      pub entry-key_opens : (m : ℕ) → run (counted n) key_reading ≡ run (counted m) (c depth (lines_at bytes at) >>= (λ _. fails yaml.WrongKey at))
+          → run (counted n) mapping_now ≡ answered (run (counted m) (c depth (lines_at bytes at))) (waiting_rest c turns depth opening (key at))
+      entry-key_opens m h =
+          entry-answer ∙ ap (λ o. answered o (λ k. spanned tree.mapping opening (behind_key k))) (h ∙ bind-answer (counted m) (c depth (lines_at bytes at)) (λ _. fails yaml.WrongKey at))
+          ∙ answered-fails (run (counted m) (c depth (lines_at bytes at))) yaml.WrongKey at (λ k. spanned tree.mapping opening (behind_key k))
+
+      module _ (m : ℕ) (k : FlowKey) (read : run (counted n) key_reading ≡ Ok (k, counted m)) where
+        pub value-answer : run (counted n) mapping_now ≡ answered (run (counted m) (value_reading k)) (waiting_rest c turns depth opening (value done k.scalar))
+        value-answer =
+            entry-answer ∙ ap (λ o. answered o (λ k. spanned tree.mapping opening (behind_key k))) read
+            ∙ spanned-answer tree.mapping opening (counted m) (value_reading k) (entry_behind k)
+
+        pub value-stop : (e : Stop) → Stops (value_reading k) m e → Stops mapping_now n e
+        value-stop (stop.Fault f) h = value-answer ∙ ap (λ o. answered o (waiting_rest c turns depth opening (value done k.scalar))) h
+        value-stop stop.Memory h = tt
+
+-- ---- behind an item or entry
+
+module _ (c : CollectionReader) (turns opening depth n : ℕ) (bytes : List ℕ) (x : Part tree.Node) where
+  abbrev after_it : ℕ → Result After Fault
+  after_it close = after_item opening close (gap false x.left)
+
+  module _ (done : tree.Nodes) where
+    abbrev all_items : tree.Nodes
+    all_items = tree.with_item done x.value
+
+    abbrev items_next : After → Reading (Part tree.Nodes)
+    items_next found = elim found [ goes_on next ↦ flow_items (flow_node_over c) turns opening depth all_items next | closes end next ↦ gives (part all_items end next) ]
+
+    pub item-refused : (e : Stop) → Refuses (after_it 93) e → Stops (waiting_rest c turns depth opening (item done) x) n e
+    item-refused e h = spanned-stops tree.sequence opening (given (after_it 93) >>= items_next) n e (stops-given (after_it 93) items_next n e h)
+
+    item-behind : (found : After) → after_it 93 ≡ Ok found → run (counted n) (waiting_rest c turns depth opening (item done) x) ≡ run (counted n) (spanned tree.sequence opening (items_next found))
+    item-behind found h =
+        spanned-answer tree.sequence opening (counted n) (given (after_it 93)) items_next
+        ∙ ap (λ o. answered o (λ f. spanned tree.sequence opening (items_next f))) (run-given n (after_it 93) found h)
+
+    pub item-more : (next : List Line) (xs : tree.Nodes) → after_it 93 ≡ Ok (goes_on next) → xs ≡ all_items
+        → run (counted n) (waiting_rest c turns depth opening (item done) x) ≡ run (counted n) (open_rest c turns depth opening (items xs) next)
+    item-more next xs h e = item-behind (goes_on next) h ∙ ap (λ d. run (counted n) (open_rest c turns depth opening (items d) next)) (sym e)
+
+    pub item-end : (end : ℕ) (xs : tree.Nodes) (p : code.Part) → after_it 93 ≡ Ok (closes end (lines_at bytes end)) → xs ≡ all_items → view p.node ≡ tree.sequence xs (span opening end) → p.end ≡ end → p.next ≡ end
+        → run (counted n) (waiting_rest c turns depth opening (item done) x) ≡ Ok (part_of bytes p, counted n)
+    item-end end xs p h e a b d =
+        item-behind (closes end (lines_at bytes end)) h
+        ∙ spanned-ok tree.sequence opening (gives (part all_items end (lines_at bytes end))) n n all_items end (lines_at bytes end) (run-gives n (part all_items end (lines_at bytes end)))
+        ∙ made (λ d. tree.sequence d (span opening end)) bytes n end all_items p (a ∙ ap (λ d. tree.sequence d (span opening end)) e) b d
+
+  module _ (done : tree.Entries) (k : ScalarRead) where
+    abbrev all_entries : tree.Entries
+    all_entries = tree.with_entry done (tree.scalar_node k) x.value
+
+    abbrev entries_next : After → Reading (Part tree.Entries)
+    entries_next found = elim found [ goes_on next ↦ flow_entries (flow_node_over c) c turns opening depth all_entries next | closes end next ↦ gives (part all_entries end next) ]
+
+    pub entry-refused : (e : Stop) → Refuses (after_it 125) e → Stops (waiting_rest c turns depth opening (value done k) x) n e
+    entry-refused e h = spanned-stops tree.mapping opening (given (after_it 125) >>= entries_next) n e (stops-given (after_it 125) entries_next n e h)
+
+    entry-behind : (found : After) → after_it 125 ≡ Ok found → run (counted n) (waiting_rest c turns depth opening (value done k) x) ≡ run (counted n) (spanned tree.mapping opening (entries_next found))
+    entry-behind found h =
+        spanned-answer tree.mapping opening (counted n) (given (after_it 125)) entries_next
+        ∙ ap (λ o. answered o (λ f. spanned tree.mapping opening (entries_next f))) (run-given n (after_it 125) found h)
+
+    pub entry-more : (next : List Line) (xs : tree.Entries) → after_it 125 ≡ Ok (goes_on next) → xs ≡ all_entries
+        → run (counted n) (waiting_rest c turns depth opening (value done k) x) ≡ run (counted n) (open_rest c turns depth opening (entries xs) next)
+    entry-more next xs h e = entry-behind (goes_on next) h ∙ ap (λ d. run (counted n) (open_rest c turns depth opening (entries d) next)) (sym e)
+
+    pub entry-end : (end : ℕ) (xs : tree.Entries) (p : code.Part) → after_it 125 ≡ Ok (closes end (lines_at bytes end)) → xs ≡ all_entries → view p.node ≡ tree.mapping xs (span opening end) → p.end ≡ end → p.next ≡ end
+        → run (counted n) (waiting_rest c turns depth opening (value done k) x) ≡ Ok (part_of bytes p, counted n)
+    entry-end end xs p h e a b d =
+        entry-behind (closes end (lines_at bytes end)) h
+        ∙ spanned-ok tree.mapping opening (gives (part all_entries end (lines_at bytes end))) n n all_entries end (lines_at bytes end) (run-gives n (part all_entries end (lines_at bytes end)))
+        ∙ made (λ d. tree.mapping d (span opening end)) bytes n end all_entries p (a ∙ ap (λ d. tree.mapping d (span opening end)) e) b d
+
+-- ---- what was found
+
+pub finds-same : (bytes : List ℕ) (f g : CollectionReader → Reading (Part tree.Node)) (depth n m : ℕ) (result : Result Found Stop) → ((c : CollectionReader) → f c ≡ g c) → Finds bytes g depth n result m → Finds bytes f depth n result m
+finds-same bytes f g depth n m (Ok (found.Node p)) e h = λ c. ap (run (counted n)) (e c) ∙ h c
+finds-same bytes f g depth n m (Ok (found.Opens i)) e h = λ c. ap (run (counted n)) (e c) ∙ h c
+finds-same bytes f g depth n m (Err x) e h = λ c. stops-same (f c) (g c) n x (e c) (h c)
