@@ -2,7 +2,6 @@ pub mod Script
 pub mod Runs
 pub mod Next
 pub mod Answered
-pub mod Kinds
 pub mod Files
 pub mod Replies
 pub mod FileLaws

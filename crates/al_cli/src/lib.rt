@@ -2,7 +2,6 @@
 #![tactic(auto)]
 
 mod commands;
-mod kinds;
 mod lint;
 mod run;
 

@@ -1,19 +1,17 @@
 //! The syntax of workflows and actions as a table of sections, what in a node breaks it, and what stands under a key.
 #![tactic(auto)]
 
-mod action_rows;
 mod check;
 mod entries;
-mod event_rows;
 mod examples;
 mod keys;
 mod names;
 mod reports;
 mod scalars;
+mod sections;
 mod standings;
 mod table;
 mod values;
-mod workflow_rows;
 
 pub use check::shape_faults;
 pub use examples::rows;

@@ -1,10 +1,9 @@
 -- How contracts speak of open flow collections.
-use Rattle.std.specs.Prelude.{◌≡◌, ℕ, suc, ◌+◌, ◌<◌, ◌≤◌, List, [], ◌∷◌, length, map, true, Result, Ok, Err}
+use Rattle.std.specs.Prelude.{◌≡◌, ℕ, suc, ◌<◌, ◌≤◌, List, [], ◌∷◌, length, map, true, Result, Ok, Err}
 use Rattle.al_text.specs.declared.codes.YamlCode.TheVariants as yaml
 use Rattle.al_scalar.specs.Contract.{read_of}
 use Rattle.al_scalar.specs.Offsets.{IsPlaced}
 use Rattle.al_scalar.specs.Places.{lines_at, text_at}
-use Rattle.al_scalar.specs.declared.scalars.ScalarRead.{ScalarRead}
 use Rattle.al_yaml.specs.Node as tree
 use Rattle.al_yaml.specs.Reading.{Reading, Part, fails, ◌>>=◌}
 use Rattle.al_yaml.specs.Flow.{CollectionReader}
@@ -17,7 +16,6 @@ use Rattle.al_yaml.specs.Reads.{run, counted, Stops, IsBehind, IsKeyInside, part
 use Rattle.al_yaml.specs.Spans.{IsWithin, AreInOrder, EntriesInOrder}
 use Rattle.al_yaml.specs.View.{view, entry_view, nodes_of, entries_of}
 use Rattle.al_yaml.specs.declared.faults.Stop.{Stop}
-use Rattle.al_yaml.specs.declared.flow.FlowKey.{FlowKey}
 use Rattle.al_yaml.specs.declared.flow.Found.{Found}
 use Rattle.al_yaml.specs.declared.flow.Found.TheVariants as found
 use Rattle.al_yaml.specs.declared.flow.FoundKey.{FoundKey}

@@ -523,11 +523,12 @@ fn open_at(alloc: Global, bytes: &[u8], at: usize) -> (Open, usize)
 
 /// Reads the flow collection whose bracket or brace stands at an offset.
 ///
-/// The collections that are open in it stand on a stack of 64.
+/// The collections that are open in it stand on the stack while they are read.
 pub fn read_flow_collection(
     alloc: Global,
     bytes: &[u8],
     count: &mut Count,
+    stack: &mut Stack,
     depth: u32,
     at: usize,
 ) -> Result<Part, Stop>
@@ -535,14 +536,17 @@ pub fn read_flow_collection(
     requires bracket { content.is_flow_start (text_at bytes.now at) ≡ true }
     requires size { length bytes.now ≤ 1048576 }
     requires depth { depth ≤ 65 }
+    requires outside { stack.old.flows ≡ [] }
+    requires room { length stack.old.blocks ≤ depth }
     ensures fault { IfErr result (IsStopInside (length bytes.now)) }
     ensures is { (bound : ℕ) → length bytes.now < bound + at → IsRead (part_of bytes.now) (flow.flow_collection bound depth (lines_at bytes.now at)) count.old.nodes result count.new.nodes }
     ensures within { IfOk result (λ part. IsBehind bytes.now at part) }
     ensures nested { IfOk result (λ part. IsWithin at part.end (view part.node)) }
+    ensures same { IfOk result (λ _. stack.new ≡ stack.old) }
 {
     count.start(at, 1, depth)?;
+    let outside = stack.len();
     let (has, inside) = open_at(alloc, bytes, at);
-    let mut stack = Stack::new();
     let mut task = Task::Inside {
         opening: at,
         has,
@@ -559,8 +563,8 @@ pub fn read_flow_collection(
                     Step::Closed(part) => task = Task::Read(part),
                     Step::Read(waiting, part) => task = resume(bytes, opening, waiting, part)?,
                     Step::Opens(waiting, bracket) => {
-                        count.start(bracket, 1, depth + 1 + stack.len() as u32)?;
-                        stack.push(FlowFrame { opening, waiting });
+                        count.start(bracket, 1, depth + 1 + (stack.len() - outside) as u32)?;
+                        stack.push_flow(FlowFrame { opening, waiting });
                         let (has, inside) = open_at(alloc, bytes, bracket);
                         task = Task::Inside {
                             opening: bracket,
@@ -571,7 +575,7 @@ pub fn read_flow_collection(
                 }
             }
             Task::Read(part) => {
-                let Some(frame) = stack.pop() else {
+                let Some(frame) = stack.pop_flow() else {
                     return Ok(part);
                 };
                 task = resume(bytes, frame.opening, frame.waiting, part)?;

@@ -1,0 +1,5 @@
+pub mod SameText
+pub mod Pieces
+pub mod ScheduleLemmas
+pub mod RowWords
+pub mod TextRows

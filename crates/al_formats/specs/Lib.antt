@@ -1,0 +1,6 @@
+pub mod Texts
+pub mod Names
+pub mod Patterns
+pub mod Schedules
+pub mod Views
+pub mod Chunks

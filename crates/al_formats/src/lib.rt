@@ -1,0 +1,14 @@
+//! The small languages that stand in the texts of workflows and actions: filter patterns, schedules, names, and texts that are one expression.
+#![tactic(auto)]
+
+mod chunks;
+mod names;
+mod patterns;
+mod schedules;
+mod texts;
+
+pub use chunks::{Around, is_lone_chunk};
+pub use names::{is_id, is_variable};
+pub use patterns::{Filter, is_pattern};
+pub use schedules::{Item, is_too_often, schedule};
+pub use texts::{has_part, is_same_text};
