@@ -2,7 +2,7 @@
 
 A section of the page is a fault: its heading has the fault's identifier and its message, and it has at least two examples, a
 file and the report of that file as the only one of a folder. The first example's report must have a line with the message,
-the last one's must have none. Each example becomes a script and its output.
+the last one's must have none. Each example becomes a script and its output. A file marked `yaml action` is an action.
 
 In a file marked `yaml escaped`, `\\xHH` stands for the byte with that hexadecimal value, and `\\*N{TEXT}` for TEXT written N
 times.
@@ -12,8 +12,9 @@ import pathlib
 import re
 import sys
 
+PATHS = {" action": "action.yml"}
 PATH = ".github/workflows/a.yml"
-EXAMPLE = re.compile(r"```yaml( escaped)?\n(.*?)```\n\s*```text\n(.*?)```", re.DOTALL)
+EXAMPLE = re.compile(r"```yaml( escaped| action)?\n(.*?)```\n\s*```text\n(.*?)```", re.DOTALL)
 ESCAPE = re.compile(rb"\\x([0-9a-f]{2})|\\\*([0-9]+)\{([^}]*)\}")
 SECTION = re.compile(r"^### ([A-Z][0-9]+) `(.*)`$", re.MULTILINE)
 
@@ -29,10 +30,10 @@ def unescaped(match):
     return bytes([int(value, 16)]) if value else text * int(count)
 
 
-def script_and_output(escaped, file, report):
+def script_and_output(mark, file, report):
     """The script that puts the file and reports, and what it must print."""
-    data = ESCAPE.sub(unescaped, file.encode()) if escaped else file.encode()
-    script = f"put {PATH} {len(data)}\n".encode() + data + b"\nreport\n"
+    data = ESCAPE.sub(unescaped, file.encode()) if mark == " escaped" else file.encode()
+    script = f"put {PATHS.get(mark, PATH)} {len(data)}\n".encode() + data + b"\nreport\n"
     return script, f"ok 1\n{report}status {1 if report else 0}\n"
 
 
