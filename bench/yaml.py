@@ -1,5 +1,5 @@
-"""How long a file of YAML takes to read, beside libyaml's event parser on the same bytes: bench/yaml.py, after ./test or a
-build of crates/readers.
+"""How long a file of YAML takes to read, beside libyaml's event parser on the same bytes: bench/yaml.py [BEFORE], after ./test
+or a build of crates/readers. BEFORE is a `readers` program of another version, whose times are taken in the same run.
 
 It needs a C compiler and libyaml with its headers (Debian's libyaml-dev). Each file ends with a line at which both readers
 stop with a fault, so that neither prints a tree, and all before it is read by both. Each time is the least processor time of
@@ -68,7 +68,10 @@ def shapes(size):
     yield "keys", b"on: push\njobs:\n" + b"".join(b"  key%08d: v\n" % n for n in range(49_000 * size // SIZE))
     yield "items in brackets, one line", b"on: push\njobs: [" + b"abcdefghi, " * (90_000 * size // SIZE) + b"]\n"
     yield "brackets, beside one another", b"on: push\njobs: [" + b"[]," * (60_000 * size // SIZE) + b"]\n"
+    yield "lists of two, one a line", b"on: push\njobs:\n" + b"  - [a, b]\n" * (19_000 * size // SIZE)
     yield "comments", b"on: push\njobs: v\n" + b"# c\n" * (size // 4)
+    yield "blank lines in one collection", b"- v\n" + b"\n" * size
+    yield "blank lines in 63 collections", b"- " * 63 + b"v\n" + b"\n" * size
 
 
 def processor_time():
@@ -91,16 +94,17 @@ def check_fault(file, out):
         sys.exit(f"a fault at {start} of {len(file)} bytes")
 
 
-def least(events, files):
-    """For each file the least times to read it, here and by libyaml. The runs take turns, so that all of them see the same
+def least(commands, files):
+    """For each file the least time that each command takes to read it. The runs take turns, so that all of them see the same
     load of the machine."""
-    times = [[1e9, 1e9] for _ in files]
+    times = [[1e9 for _ in commands] for _ in files]
     for _ in range(RUNS):
         for file, best in zip(files, times):
-            took, out = read_once([PROGRAM, "yaml"], file)
-            check_fault(file, out)
-            best[0] = min(best[0], took)
-            best[1] = min(best[1], read_once([events], file)[0])
+            for number, command in enumerate(commands):
+                took, out = read_once(command, file)
+                if number > 0:
+                    check_fault(file, out)
+                best[number] = min(best[number], took)
     return times
 
 
@@ -109,12 +113,15 @@ def main():
     with tempfile.TemporaryDirectory() as folder:
         events = pathlib.Path(folder) / "yaml_events"
         subprocess.run(["cc", "-O2", "-o", events, TOP / "bench" / "yaml_events.c", "-lyaml"], check=True)
-        print(f"{'file':36} {'bytes':>9} {'this':>9} {'libyaml':>9} {'this/libyaml':>12}  whole/half of bytes")
+        commands = [[events]] + [[program, "yaml"] for program in [PROGRAM, *sys.argv[1:]]]
+        before = "  this/before" if sys.argv[1:] else ""
+        print(f"{'file':36} {'bytes':>9} {'this':>9} {'libyaml':>9} {'this/libyaml':>12}{before}  whole/half of bytes")
         for (name, whole), (_, half) in zip(shapes(SIZE), shapes(SIZE // 2)):
-            nothing, smaller, all_of_it = least(events, [LAST, half + LAST, whole + LAST])
-            took, theirs = (a - b for a, b in zip(all_of_it, nothing))
-            growth = f"{took / (smaller[0] - nothing[0]):.2f} of {len(whole) / len(half):.2f}"
-            print(f"{name:36} {len(whole):9} {took:8.3f}s {theirs:8.3f}s {took / theirs:12.2f}  {growth}")
+            nothing, smaller, all_of_it = least(commands, [LAST, half + LAST, whole + LAST])
+            theirs, took, *others = (a - b for a, b in zip(all_of_it, nothing))
+            beside = "".join(f"{took / other:13.2f}" for other in others)
+            growth = f"{took / (smaller[1] - nothing[1]):.2f} of {len(whole) / len(half):.2f}"
+            print(f"{name:36} {len(whole):9} {took:8.3f}s {theirs:8.3f}s {took / theirs:12.2f}{beside}  {growth}", flush=True)
 
 
 if __name__ == "__main__":

@@ -12,3 +12,4 @@ pub mod Lexing
 pub mod Left
 pub mod Quotes
 pub mod Chunking
+pub mod Inside

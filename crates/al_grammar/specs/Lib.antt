@@ -9,3 +9,4 @@ pub mod Extents
 pub mod Law
 pub mod View
 pub mod Parsed
+pub mod Inside

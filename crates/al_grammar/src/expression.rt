@@ -48,7 +48,12 @@ fn parse_fault(
         )),
         ParseError::Unexpected(left) => {
             let token = token_at(tokens, left);
-            named_fault(alloc, ExpressionCode::UnexpectedToken, token.span, token.text)
+            named_fault(
+                alloc,
+                ExpressionCode::UnexpectedToken,
+                token.span,
+                token.text,
+            )
         }
         ParseError::TooDeep(left) => {
             let token = token_at(tokens, left);

@@ -1,3 +1,4 @@
+ghost use Rattle.al_grammar.specs.Inside.{ChunksLie, ContentFaultLies, EndFaultLies, ExtentLies, TokenFaultLies};
 ghost use Rattle.al_grammar.specs.Law.{FaultsSpellNothing, NoWayOn, OneTree, SomeTree};
 
 /// The law of the grammar and the table of next steps.
@@ -10,4 +11,16 @@ pub fn grammar()
     ensures nothing { NoWayOn }
     ensures one { OneTree }
     ensures some { SomeTree }
+{}
+
+/// Where chunks, expressions and faults stand.
+///
+/// The content of each chunk of a text lies in the text, and so does the fault at its end. The fault of a content, of its
+/// tokens and of its tree, lies in the content, and so does an expression that it spells. Does nothing.
+pub fn all_lie_inside()
+    ensures chunks { ChunksLie }
+    ensures end { EndFaultLies }
+    ensures tokens { TokenFaultLies }
+    ensures content { ContentFaultLies }
+    ensures extent { ExtentLies }
 {}

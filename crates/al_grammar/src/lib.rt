@@ -16,6 +16,6 @@ pub use ast::{Expr, Operand, Step, Word};
 pub use chunk::{Chunk, chunks};
 pub use expression::parse_expr;
 pub use extents::{across, extent, path_extent};
-pub use law::grammar;
+pub use law::{all_lie_inside, grammar};
 pub use lexer::lex;
 pub use token::{Keyword, Operator, Token, TokenKind};

@@ -8,3 +8,4 @@ pub mod Growth
 pub mod CallViews
 pub mod FoundTypes
 pub mod Comparison
+pub mod Inside

@@ -3,6 +3,7 @@
 
 mod calls;
 mod comparison;
+mod law;
 mod literals;
 mod placeholders;
 mod reports;
@@ -11,4 +12,5 @@ mod typing;
 mod untrusted;
 
 pub use comparison::comparable;
+pub use law::all_lie_in_content;
 pub use typing::type_of;

@@ -1,4 +1,4 @@
-ghost use Rattle.std.specs.Prelude.{◌≡◌, ◌<◌, ◌≤◌, ◌^◌, length};
+ghost use Rattle.std.specs.Prelude.{◌≡◌, ◌<◌, ◌≤◌, ◌^◌, length, IsUtf8};
 ghost use Rattle.al_scalar.specs.Scalar.{offset_of, text_of};
 
 use crate::reads::Taken;
@@ -59,6 +59,15 @@ impl Scalar {
         ensures { result.now ≡ text_of self.now }
     {
         self.text.as_bytes()
+    }
+
+    /// The decoded bytes as text, which isn't looked at: what knows that the file is UTF-8 knows it of the bytes.
+    pub fn as_str(&self) -> &str
+        requires { IsUtf8 (text_of self.now) }
+        ensures { result.now ≡ text_of self.now }
+    {
+        // The bytes are UTF-8, as is required.
+        unsafe { str::from_utf8_unchecked(self.text.as_bytes()) }
     }
 
     /// The offset in the file, in bytes, that gave the byte of the text at an index; for the text's length the end of the

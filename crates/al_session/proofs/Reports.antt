@@ -1,55 +1,133 @@
 -- What the kept faults of a folder's files say of its report and status.
-use Rattle.std.proofs.Common.{◌≡◌, ℕ, ◌≤◌, Bool, true, false, cond, not, eqb, List, [], ◌∷◌, ◌++◌, length, map, Option, refl, sym, ◌∙◌, ap, subst, ◌||◌}
+use Rattle.std.proofs.Common.{◌≡◌, ℕ, Bool, true, false, cond, not, List, [], ◌∷◌, length, Option, refl, sym, ◌∙◌, ap, subst, ◌||◌}
+use Rattle.std.specs.Prelude.{string_bytes, bytes_eq}
+use Rattle.std.specs.Global.{Global}
+use Rattle.std.specs.Option.{option_map, unwrap_or}
+use Rattle.std.proofs.Common.{String, Some, None, slice_get, zero, suc, take}
+use Rattle.al_session.proofs.Views.{bytes_kept, bytes_same, kept_at}
 use Rattle.std.specs.Bool.{◌==◌}
 use Rattle.std.specs.List.{AllByRecursion, flat_map, list_any}
+use Rattle.std.specs.List.Sorted.{IsStrictlySortedBy}
+use Rattle.al_text.specs.FaultLists.{fault_cmp}
 use Rattle.al_text.specs.declared.faults.Fault.{Fault}
-use Rattle.al_text.specs.Messages.{fault_line}
+use Rattle.al_text.specs.Snippets.{fault_text}
 use Rattle.al_text.specs.Spans.{LiesIn}
 use Rattle.al_session.specs.Meaning.{Meaning}
-use Rattle.al_session.specs.Folder.{Folder, faults_in, answers}
+use Rattle.al_session.specs.Folder.{Folder, faults_in, answers, bytes_at}
 use Rattle.al_session.specs.Report.{status_of, report_of}
-use Rattle.al_session.specs.Kept.{SessionState, folder_of, AllKept, IsPrintable, kept_faults, faults_of_all, lines_of}
+use Rattle.al_session.specs.Kept.{Files, folder_of, file_at, AllKept, AllChecked, IsKept, IsPrintable, lines_of}
 use Rattle.al_session.specs.declared.kept.KeptFile.{KeptFile}
 
 module _ {U I : Type 0} (m : Meaning I) (f : Folder) where
-  -- the faults of the first file, and of the rest
-  first_faults : (file : KeptFile U I) (files : List (KeptFile U I)) → kept_faults (file ∷ files) ≡ faults_of_all m f (folder_of (file ∷ files)) → file.faults.items ≡ faults_in m f file.path file.bytes.items
-  first_faults file files h = cc
-
-  rest_faults : (file : KeptFile U I) (files : List (KeptFile U I)) → kept_faults (file ∷ files) ≡ faults_of_all m f (folder_of (file ∷ files)) → kept_faults files ≡ faults_of_all m f (folder_of files)
-  rest_faults file files h = cc
-
-  any_fault : (files : List (KeptFile U I)) → kept_faults files ≡ faults_of_all m f (folder_of files)
-      → list_any (λ (file : KeptFile U I). not (length file.faults.items == 0)) files ≡ list_any (λ e. not (length (faults_in m f e.0 e.1) == 0)) (folder_of files)
+  any_fault : (files : Files U I) → AllChecked m f files
+      → list_any (λ (e : String Global × KeptFile U I). not (length e.1.faults.items == 0)) files ≡ list_any (λ e. not (length (faults_in m f e.0 e.1) == 0)) (folder_of files)
   any_fault [] h = refl
-  any_fault (file ∷ files) h =
-      let first = first_faults file files h in
-      let rest = any_fault files (rest_faults file files h) in
+  any_fault (e ∷ es) h =
+      let first = h.0 in
+      let rest = any_fault es h.1 in
       rw (first, rest) refl
 
-  all_lines : (files : List (KeptFile U I)) → kept_faults files ≡ faults_of_all m f (folder_of files)
-      → flat_map lines_of files ≡ flat_map (λ e. flat_map (fault_line e.0 e.1) (faults_in m f e.0 e.1)) (folder_of files)
-  all_lines [] h = refl
-  all_lines (file ∷ files) h =
-      let first = first_faults file files h in
-      let rest = all_lines files (rest_faults file files h) in
+  all_lines : (oneline : Bool) (files : Files U I) → AllChecked m f files
+      → flat_map (λ (e : String Global × KeptFile U I). lines_of oneline (string_bytes e.0) e.1) files ≡ flat_map (λ e. flat_map (fault_text oneline e.0 e.1) (faults_in m f e.0 e.1)) (folder_of files)
+  all_lines oneline [] h = refl
+  all_lines oneline (e ∷ es) h =
+      let first = h.0 in
+      let rest = all_lines oneline es h.1 in
       rw (first, rest) refl
 
-  pub printable : (is_unit : U → List ℕ → List ℕ → Type 0) (files : List (KeptFile U I))
+  pub printable : (is_unit : U → List ℕ → List ℕ → Type 0) (files : Files U I)
       → ((unit : U) (p b : List ℕ) (given : List (Option I)) → is_unit unit p b → AllByRecursion (λ (fault : Fault). LiesIn (length b) fault.span) (m.faults p b given))
-      → AllKept m is_unit files → kept_faults files ≡ faults_of_all m f (folder_of files) → AllByRecursion IsPrintable files
+      → AllKept m is_unit files → AllChecked m f files → AllByRecursion (λ (e : String Global × KeptFile U I). IsPrintable e.1) files
   unfolding faults_in
   printable is_unit [] law kept h = tt
-  printable is_unit (file ∷ files) law kept h =
-      let P : List Fault → Type 0 = λ l. AllByRecursion (λ (fault : Fault). LiesIn (length file.bytes.items) fault.span) l in
-      let first : P file.faults.items = subst P (sym (first_faults file files h)) (law file.unit file.path file.bytes.items (answers m f file.path file.bytes.items) kept.0.unit) in
-      (record { small = kept.0.small; lines = kept.0.lines; inside = first }, printable is_unit files law kept.1 (rest_faults file files h))
+  printable is_unit (e ∷ es) law kept h =
+      let p = string_bytes e.0 in
+      let P : List Fault → Type 0 = λ l. AllByRecursion (λ (fault : Fault). LiesIn (length e.1.bytes.items) fault.span) l in
+      let first : P e.1.faults.items = subst P (sym h.0) (law e.1.unit p e.1.bytes.items (answers m f p e.1.bytes.items) kept.0.unit) in
+      (record { small = kept.0.small; lines = kept.0.lines; inside = first }, printable is_unit es law kept.1 h.1)
 
-module _ {U I : Type 0} (m : Meaning I) (files : List (KeptFile U I)) (faults : kept_faults files ≡ faults_of_all m (folder_of files) (folder_of files)) where
-  pub report_is : flat_map lines_of files ≡ report_of m (folder_of files)
+  -- the faults that are kept at a path
+  pub faults_kept : (files : Files U I) (q : List ℕ) → AllChecked m f files → option_map (λ (file : KeptFile U I). file.faults.items) (file_at files q) ≡ option_map (faults_in m f q) (bytes_at (folder_of files) q)
+  faults_kept files q h = by files h ∙ ap (option_map (faults_in m f q)) (sym (bytes_kept files q))
+    where
+      by : (es : Files U I) → AllChecked m f es → option_map (λ (file : KeptFile U I). file.faults.items) (file_at es q) ≡ option_map (faults_in m f q) (option_map (λ (file : KeptFile U I). file.bytes.items) (file_at es q))
+      by [] h = refl
+      by (e ∷ es) h = step (bytes_eq q (string_bytes e.0)) refl (by es h.1)
+        where
+          step : (t : Bool) → bytes_eq q (string_bytes e.0) ≡ t
+              → option_map (λ (file : KeptFile U I). file.faults.items) (file_at es q) ≡ option_map (faults_in m f q) (option_map (λ (file : KeptFile U I). file.bytes.items) (file_at es q))
+              → option_map (λ (file : KeptFile U I). file.faults.items) (file_at (e ∷ es) q) ≡ option_map (faults_in m f q) (option_map (λ (file : KeptFile U I). file.bytes.items) (file_at (e ∷ es) q))
+          step true a rest = rw a (ap Some (h.0 ∙ ap (λ x. faults_in m f x e.1.bytes.items) (sym (bytes_same q (string_bytes e.0) a))))
+          step false a rest = rw a rest
+
+module _ {U I : Type 0} (m : Meaning I) (files : Files U I) (checked : AllChecked m (folder_of files) files) where
+  pub report_is : (oneline : Bool) → flat_map (λ (e : String Global × KeptFile U I). lines_of oneline (string_bytes e.0) e.1) files ≡ report_of oneline m (folder_of files)
   unfolding report_of
-  report_is = all_lines m (folder_of files) files faults
+  report_is oneline = all_lines m (folder_of files) oneline files checked
 
-  pub status_is : (some : Bool) → some ≡ list_any (λ (file : KeptFile U I). not (length file.faults.items == 0)) files → cond some 1 0 ≡ status_of m (folder_of files)
+  pub status_is : (some : Bool) → some ≡ list_any (λ (e : String Global × KeptFile U I). not (length e.1.faults.items == 0)) files → cond some 1 0 ≡ status_of m (folder_of files)
   unfolding status_of
-  status_is some h = ap (λ b. cond b 1 0) (h ∙ any_fault m (folder_of files) files faults)
+  status_is some h = ap (λ b. cond b 1 0) (h ∙ any_fault m (folder_of files) files checked)
+
+-- the list that is kept at a path
+list_kept : {U I : Type 0} (m : Meaning I) (files : Files U I) (q : List ℕ) (file : KeptFile U I) → AllChecked m (folder_of files) files → Some file ≡ file_at files q
+    → file.faults.items ≡ m.faults q file.bytes.items (answers m (folder_of files) q file.bytes.items)
+unfolding faults_in
+list_kept m files q file checked found =
+    let there : bytes_at (folder_of files) q ≡ Some file.bytes.items = bytes_kept files q ∙ ap (option_map (λ file. file.bytes.items)) (sym found) in
+    let is : Some file.faults.items ≡ Some (m.faults q file.bytes.items (answers m (folder_of files) q file.bytes.items)) = ap (option_map (λ file. file.faults.items)) found ∙ faults_kept m (folder_of files) files q checked ∙ ap (option_map (faults_in m (folder_of files) q)) there in
+    ap (λ o. unwrap_or o file.faults.items) is
+
+-- the faults that are kept at a path are in order
+pub order_kept : {U I : Type 0} (m : Meaning I) (is_unit : U → List ℕ → List ℕ → Type 0)
+    → ((unit : U) (p b : List ℕ) (given : List (Option I)) → is_unit unit p b → IsStrictlySortedBy fault_cmp (m.faults p b given))
+    → (files : Files U I) (q : List ℕ) (faults : List Fault) (file : KeptFile U I) → AllKept m is_unit files → AllChecked m (folder_of files) files → Some file ≡ file_at files q → faults ≡ file.faults.items
+    → IsStrictlySortedBy fault_cmp faults
+order_kept m is_unit law files q faults file kept checked found same =
+    let one : IsKept m is_unit q file = kept_at m is_unit files q file kept (sym found) in
+    subst (IsStrictlySortedBy fault_cmp) (sym (same ∙ list_kept m files q file checked found)) (law file.unit q file.bytes.items (answers m (folder_of files) q file.bytes.items) one.unit)
+
+-- the faults that are kept at a path lie in the file
+pub spans_kept : {U I : Type 0} (m : Meaning I) (is_unit : U → List ℕ → List ℕ → Type 0)
+    → ((unit : U) (p b : List ℕ) (given : List (Option I)) → is_unit unit p b → AllByRecursion (λ (fault : Fault). LiesIn (length b) fault.span) (m.faults p b given))
+    → (files : Files U I) (q b : List ℕ) (faults : List Fault) (file : KeptFile U I) → AllKept m is_unit files → AllChecked m (folder_of files) files → Some file ≡ file_at files q → bytes_at (folder_of files) q ≡ Some b → faults ≡ file.faults.items
+    → AllByRecursion (λ (fault : Fault). LiesIn (length b) fault.span) faults
+spans_kept m is_unit law files q b faults file kept checked found there same =
+    let one : IsKept m is_unit q file = kept_at m is_unit files q file kept (sym found) in
+    let here : Some file.bytes.items ≡ Some b = sym (bytes_kept files q ∙ ap (option_map (λ file. file.bytes.items)) (sym found)) ∙ there in
+    let bytes : file.bytes.items ≡ b = ap (λ o. unwrap_or o b) here in
+    let list : file.faults.items ≡ m.faults q file.bytes.items (answers m (folder_of files) q file.bytes.items) = list_kept m files q file checked found in
+    let P : List Fault → Type 0 = λ l. AllByRecursion (λ (fault : Fault). LiesIn (length b) fault.span) l in
+    let Q : List ℕ → Type 0 = λ x. AllByRecursion (λ (fault : Fault). LiesIn (length x) fault.span) (m.faults q file.bytes.items (answers m (folder_of files) q file.bytes.items)) in
+    subst P (sym (same ∙ list)) (subst Q bytes (law file.unit q file.bytes.items (answers m (folder_of files) q file.bytes.items) one.unit))
+
+pub any_found : {X : Type 0} (T : X → Bool) (xs : List X) (i : ℕ) (x : X) → slice_get xs i ≡ Some x → T x ≡ true → list_any T xs ≡ true
+any_found T [] i x h t = absurd (wrong h)
+  where
+    wrong : None ≡ Some x → ⊥
+    wrong h = cc
+any_found T (y ∷ ys) zero x h t = ap (λ b. b || list_any T ys) (ap T (ap (λ o. unwrap_or o x) h) ∙ t)
+any_found T (y ∷ ys) (suc i) x h t = ap (λ b. T y || b) (any_found T ys i x h t) ∙ or_true (T y)
+  where
+    or_true : (b : Bool) → b || true ≡ true
+    or_true true = refl
+    or_true false = refl
+
+take_none : {X : Type 0} (xs : List X) → take 0 xs ≡ []
+take_none [] = refl
+take_none (x ∷ xs) = refl
+
+pub any_none : {X : Type 0} (T : X → Bool) (xs : List X) (i : ℕ) (x : X) → slice_get xs i ≡ Some x → T x ≡ false → list_any T (take i xs) ≡ false → list_any T (take (suc i) xs) ≡ false
+any_none T [] i x h t before = absurd (wrong h)
+  where
+    wrong : None ≡ Some x → ⊥
+    wrong h = cc
+any_none T (y ∷ ys) zero x h t before = ap (λ b. b || list_any T (take 0 ys)) (ap T (ap (λ o. unwrap_or o x) h) ∙ t) ∙ ap (list_any T) (take_none ys)
+any_none T (y ∷ ys) (suc i) x h t before = by (T y) refl (λ rest. any_none T ys i x h t rest)
+  where
+    by : (b : Bool) → T y ≡ b → (list_any T (take i ys) ≡ false → list_any T (take (suc i) ys) ≡ false) → T y || list_any T (take (suc i) ys) ≡ false
+    by true a rest = absurd (wrong (sym (ap (λ b. b || list_any T (take i ys)) a) ∙ before))
+      where
+        wrong : true ≡ false → ⊥
+        wrong h = cc
+    by false a rest = ap (λ b. b || list_any T (take (suc i) ys)) a ∙ rest (sym (ap (λ b. b || list_any T (take i ys)) a) ∙ before)

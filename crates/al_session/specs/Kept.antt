@@ -1,17 +1,23 @@
 -- What a session keeps, and what is true of it.
-use Rattle.std.specs.Prelude.{◌≡◌, ℕ, ◌≤◌, ◌^◌, ◌-◌, true, List, [], ◌∷◌, length, map, Vec}
+use Rattle.std.specs.Prelude.{◌≡◌, ℕ, ◌≤◌, ◌^◌, ◌-◌, Bool, true, false, List, [], ◌∷◌, Option, Some, None, length, map, Vec, String, string_bytes, bytes_eq, cond}
 use Rattle.std.specs.Global.{Global}
-use Rattle.std.specs.List.{AllByRecursion, flat_map}
+use Rattle.std.specs.Option.{option_map, option_map_or}
+use Rattle.std.specs.List.{AllByRecursion, flat_map, list_any}
 use Rattle.std.specs.List.Sorted.{IsStrictlySortedBy}
 use Rattle.std.specs.Ordering.{nat_cmp}
 use Rattle.std.specs.Cmp.Lexicographic.{slice_cmp}
+use Rattle.std.specs.Map.{lookup}
+use Rattle.indexmap.specs.IndexMap.{IndexMap, get_by_text}
+use Rattle.indexmap.specs.IndexSet.{IndexSet, contains_text}
 use Rattle.al_text.specs.declared.faults.Fault.{Fault}
 use Rattle.al_text.specs.LineStarts.{line_starts}
-use Rattle.al_text.specs.Messages.{fault_line}
+use Rattle.al_text.specs.Snippets.{fault_text}
+use Rattle.al_text.specs.Paths.{path_fault_of}
 use Rattle.al_text.specs.Spans.{LiesIn}
-use Rattle.al_session.specs.Meaning.{Meaning}
-use Rattle.al_session.specs.Folder.{Folder, faults_in, paths_of}
+use Rattle.al_session.specs.Meaning.{Meaning, candidates}
+use Rattle.al_session.specs.Folder.{Folder, bytes_at, faults_in, paths_of, with_file, without_file}
 use Rattle.al_session.specs.declared.kept.KeptFile.{KeptFile}
+use Rattle.al_session.specs.declared.lint.Target.{Target}
 
 -- What contracts see of a session: its folder, and its linter's two counts.
 pub record SessionState : Type 0 where
@@ -19,48 +25,119 @@ pub record SessionState : Type 0 where
   pub checks : ℕ
   pub reads : ℕ
 
-abbrev pub entry_of : {U I : Type 0} → KeptFile U I → List ℕ × List ℕ
-entry_of file = (file.path, file.bytes.items)
+-- Kept files by their paths, in order of path.
+abbrev pub Files : Type 0 → Type 0 → Type 0
+Files U I = List (String Global × KeptFile U I)
+
+abbrev pub entry_of : {U I : Type 0} → String Global × KeptFile U I → List ℕ × List ℕ
+entry_of e = (string_bytes e.0, e.1.bytes.items)
 
 -- the folder that kept files make
-abbrev pub folder_of : {U I : Type 0} → List (KeptFile U I) → Folder
+abbrev pub folder_of : {U I : Type 0} → Files U I → Folder
 folder_of files = map entry_of files
 
+-- the kept file at a path
+abbrev pub file_at : {U I : Type 0} → Files U I → List ℕ → Option (KeptFile U I)
+file_at files q = lookup (λ k. bytes_eq q (string_bytes k)) files
+
+-- whether a path is a candidate of one of these calls
+abbrev pub is_candidate : List Target → List ℕ → Bool
+is_candidate ts c = list_any (λ t. list_any (bytes_eq c) (candidates t)) ts
+
 -- A kept file is one that the linter takes, and its parts are those of its bytes.
-pub record IsKept {U I : Type 0} (m : Meaning I) (is_unit : U → List ℕ → List ℕ → Type 0) (file : KeptFile U I) : Type 0 where
-  pub accepted : m.accepts file.path ≡ true
+pub record IsKept {U I : Type 0} (m : Meaning I) (is_unit : U → List ℕ → List ℕ → Type 0) (path : List ℕ) (file : KeptFile U I) : Type 0 where
+  pub valid : path_fault_of path ≡ None
+  pub accepted : m.accepts path ≡ true
   pub small : length file.bytes.items ≤ 1048576
   pub lines : file.lines ≡ line_starts file.bytes.items
-  pub unit : is_unit file.unit file.path file.bytes.items
-  pub iface : file.iface ≡ m.interface file.path file.bytes.items
+  pub unit : is_unit file.unit path file.bytes.items
+  pub iface : file.iface ≡ m.interface path file.bytes.items
+  pub calls : file.calls.items ≡ m.calls path file.bytes.items
+  pub candidates : (c : List ℕ) → contains_text file.candidates c ≡ is_candidate (m.calls path file.bytes.items) c
 
-abbrev pub AllKept : {U I : Type 0} → Meaning I → (U → List ℕ → List ℕ → Type 0) → List (KeptFile U I) → Type 0
-AllKept m is_unit files = AllByRecursion (IsKept m is_unit) files
+abbrev pub AllKept : {U I : Type 0} → Meaning I → (U → List ℕ → List ℕ → Type 0) → Files U I → Type 0
+AllKept m is_unit files = AllByRecursion (λ e. IsKept m is_unit (string_bytes e.0) e.1) files
 
--- the faults of each of these files of a folder
-abbrev pub faults_of_all : {I : Type 0} → Meaning I → Folder → Folder → List (List Fault)
-faults_of_all m f es = map (λ e. faults_in m f e.0 e.1) es
+-- each file has the faults that it has in this folder
+abbrev pub AllChecked : {U I : Type 0} → Meaning I → Folder → Files U I → Type 0
+AllChecked m f files = AllByRecursion (λ e. e.1.faults.items ≡ faults_in m f (string_bytes e.0) e.1.bytes.items) files
 
-abbrev pub kept_faults : {U I : Type 0} → List (KeptFile U I) → List (List Fault)
-kept_faults files = map (λ file. file.faults.items) files
+-- The index: from a candidate, present or not, the paths of the files that call it.
+abbrev pub Callers : Type 0 → Type 0 → Type 0
+Callers S R = IndexMap (String Global) (IndexSet (String Global) S) R
 
--- What is true of the kept files of a session: their faults are those of their folder.
-pub record AreLinted {U I : Type 0} (m : Meaning I) (is_unit : U → List ℕ → List ℕ → Type 0) (files : List (KeptFile U I)) (checks : ℕ) : Type 0 where
+-- whether the index has q among the callers of c
+abbrev pub is_caller : {S R : Type 0} → Callers S R → List ℕ → List ℕ → Bool
+is_caller callers c q = option_map_or (λ known. contains_text known q) (get_by_text callers c) false
+
+-- whether the file at q is in the folder and has a call with the candidate c
+abbrev pub calls_at : {I : Type 0} → Meaning I → Folder → List ℕ → List ℕ → Bool
+calls_at m f c q = option_map_or (λ b. is_candidate (m.calls q b) c) (bytes_at f q) false
+
+-- the index has, for every path, just the files that call it
+abbrev pub IsIndex : {S R I : Type 0} → Meaning I → Folder → Callers S R → Type 0
+IsIndex m f callers = (c q : List ℕ) → is_caller callers c q ≡ calls_at m f c q
+
+-- Kept files that are read: in order of path, each what its bytes make.
+pub record AreKept {U I : Type 0} (m : Meaning I) (is_unit : U → List ℕ → List ℕ → Type 0) (files : Files U I) : Type 0 where
   pub ordered : IsStrictlySortedBy (slice_cmp nat_cmp) (paths_of (folder_of files))
   pub few : length files ≤ 4096
   pub kept : AllKept m is_unit files
-  pub faults : kept_faults files ≡ faults_of_all m (folder_of files) (folder_of files)
+
+-- What is true of what a session keeps: the faults are those of its folder, and so is the index.
+pub record AreLinted {U I S R : Type 0} (m : Meaning I) (is_unit : U → List ℕ → List ℕ → Type 0) (files : Files U I) (callers : Callers S R) (checks : ℕ) : Type 0 where
+  pub kept : AreKept m is_unit files
+  pub faults : AllChecked m (folder_of files) files
+  pub index : IsIndex m (folder_of files) callers
   pub counted : checks ≤ 2 ^ 64 - 1
 
--- files with other faults
-abbrev pub with_faults : {U I : Type 0} → List (KeptFile U I) → List (Vec Fault Global) → List (KeptFile U I)
-with_faults files [] = files
-with_faults [] (list ∷ lists) = []
-with_faults (file ∷ files) (list ∷ lists) = record file { faults = list } ∷ with_faults files lists
+-- A change of one path
 
--- the lines of a kept file's faults
-abbrev pub lines_of : {U I : Type 0} → KeptFile U I → List ℕ
-lines_of file = flat_map (fault_line file.path file.bytes.items) file.faults.items
+-- the folder with these bytes at a path, or without the path
+abbrev pub changed : Folder → List ℕ → Option (List ℕ) → Folder
+changed f p None = without_file f p
+changed f p (Some b) = with_file f p b
+
+-- the folder of kept files with another file, or none, at a path
+abbrev pub after : {U I : Type 0} → Files U I → List ℕ → Option (KeptFile U I) → Folder
+after files p now = changed (folder_of files) p (option_map (λ file. file.bytes.items) now)
+
+-- the file at q where at p there is this one, or none
+abbrev pub file_after : {U I : Type 0} → Files U I → List ℕ → Option (KeptFile U I) → List ℕ → Option (KeptFile U I)
+file_after files p now q = cond (bytes_eq q p) now (file_at files q)
+
+-- a file that is to stand at a path is one that the linter takes there
+abbrev pub IsKeptIf : {U I : Type 0} → Meaning I → (U → List ℕ → List ℕ → Type 0) → List ℕ → Option (KeptFile U I) → Type 0
+IsKeptIf m is_unit p None = Unit {0}
+IsKeptIf m is_unit p (Some file) = IsKept m is_unit p file
+
+-- What a change is looked at with: the kept files, and what is to stand at one path.
+pub record IsView {U I : Type 0} (m : Meaning I) (is_unit : U → List ℕ → List ℕ → Type 0) (files : Files U I) (p : List ℕ) (now : Option (KeptFile U I)) : Type 0 where
+  pub kept : AreKept m is_unit files
+  pub next : IsKeptIf m is_unit p now
+
+-- Faults that are given
+
+-- the file at a path with other faults
+abbrev pub with_faults : {U I : Type 0} → Files U I → List ℕ → Vec Fault Global → Files U I
+with_faults [] p list = []
+with_faults (e ∷ es) p list = cond (bytes_eq p (string_bytes e.0)) ((e.0, record e.1 { faults = list }) ∷ es) (e ∷ with_faults es p list)
+
+-- each of these files with its list
+abbrev pub with_lists : {U I : Type 0} → Files U I → List (List ℕ) → List (Vec Fault Global) → Files U I
+with_lists files [] lists = files
+with_lists files (p ∷ ps) [] = files
+with_lists files (p ∷ ps) (list ∷ lists) = with_faults (with_lists files ps lists) p list
+
+-- the faults of the file at a path in a folder
+abbrev pub faults_of : {I : Type 0} → Meaning I → Folder → List ℕ → List Fault
+faults_of m f q = option_map_or (faults_in m f q) (bytes_at f q) []
+
+-- Printing
+
+-- what a report prints of a kept file's faults
+abbrev pub lines_of : {U I : Type 0} → Bool → List ℕ → KeptFile U I → List ℕ
+lines_of oneline path file = flat_map (fault_text oneline path file.bytes.items) file.faults.items
 
 -- A kept file whose faults can be printed: they lie in it.
 pub record IsPrintable {U I : Type 0} (file : KeptFile U I) : Type 0 where

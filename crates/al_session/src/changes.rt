@@ -1,7 +1,7 @@
 //! Lists of changes.
 
-ghost use Rattle.std.specs.Prelude.{◌≡◌, IfOk};
-ghost use Rattle.al_session.specs.Changes.{IsReply, AreReplies, folder_after};
+ghost use Rattle.std.specs.Prelude.{◌≡◌, IfOk, OnErr};
+ghost use Rattle.al_session.specs.Changes.{IsReply, AreReplies, AreFrontReplies, folder_after};
 
 use crate::lint::{Lint, Refused};
 use crate::session::{Edit, Session};
@@ -18,7 +18,7 @@ pub enum Change<'a> {
 
 /// Applies one change, and answers its reply.
 pub fn apply_change<L: Lint>(session: &mut Session<L>, change: &Change) -> Result<Edit, Refused>
-    ensures { IsReply L.meaning session.old.folder change.now result session.new.folder }
+    ensures { IsReply L.Iface.eq L.meaning session.old.folder change.now result session.new.folder }
 {
     match *change {
         Change::Put(path, bytes) => session.put(path, bytes),
@@ -33,16 +33,18 @@ pub fn apply_change<L: Lint>(session: &mut Session<L>, change: &Change) -> Resul
 ///
 /// # Errors
 ///
-/// [`AllocError`] where there is no room for the replies; some of the changes may have been applied then.
+/// [`AllocError`] where there is no room for the replies; a front of the changes has been applied then, as long as the
+/// list or shorter, and the folder is that which the accepted ones of it leave.
 pub fn apply_changes<L: Lint>(
     alloc: Global,
     session: &mut Session<L>,
     changes: &[Change],
 ) -> Result<Vec<Result<Edit, Refused>>, AllocError>
     ensures replies { IfOk result (λ replies.
-        AreReplies L.meaning session.old.folder changes.now replies.items session.new.folder) }
+        AreReplies L.Iface.eq L.meaning session.old.folder changes.now replies.items session.new.folder) }
     ensures folder { IfOk result (λ replies.
         session.new.folder ≡ folder_after session.old.folder changes.now replies.items) }
+    ensures front { OnErr result (AreFrontReplies L.Iface.eq L.meaning session.old.folder changes.now session.new.folder) }
 {
     let mut replies = Vec::new(alloc);
     for change in changes {

@@ -1,56 +1,75 @@
 //! What a folder's files print.
 
-ghost use Rattle.std.specs.Prelude.{◌≡◌, ◌≤◌, not, length, ◌==◌, OnOk, OnErr, IsOkUnless};
+ghost use Rattle.std.specs.Prelude.{◌≡◌, ◌≤◌, not, length, string_bytes, ◌==◌, OnOk, OnErr, IsOkUnless};
 ghost use Rattle.std.specs.List.{AllByRecursion, flat_map, list_any};
 ghost use Rattle.std.specs.Io.KnownBytes.{Appends};
 ghost use Rattle.al_text.specs.Counted.{HasRisen, AppendsFront};
 ghost use Rattle.al_text.specs.Streams.{bytes_written, write_failures};
 ghost use Rattle.al_session.specs.Kept.{IsPrintable, lines_of};
 
-use crate::kept::KeptFile;
+use crate::kept::{Files, KeptFile};
+use crate::place::file_number;
 use al_text::{Output, Stop};
 use std::io::Write;
 
 /// Whether a file has a fault.
-pub(crate) fn has_faults<U, I>(files: &[KeptFile<U, I>]) -> bool
-    ensures { result ≡ list_any (λ file. not (length file.faults.items == 0)) files.now }
+pub(crate) fn has_faults<U, I>(files: &Files<U, I>) -> bool
+    ensures { result ≡ list_any (λ e. not (length e.1.faults.items == 0)) files.now.entries }
 {
-    files.iter().any(|file| !file.faults.is_empty())
+    for index in 0..files.len() {
+        let (_, file) = file_number(files, index);
+        if !is_clean(file) {
+            return true;
+        }
+    }
+    false
 }
 
-/// Writes the faults of all files, a line each.
+// Whether a file has no fault.
+fn is_clean<U, I>(file: &KeptFile<U, I>) -> bool
+    ensures { result ≡ (length file.now.faults.items == 0) }
+{
+    file.faults.is_empty()
+}
+
+/// Writes the faults of all files, each as its line, and its snippet unless `oneline` is asked for.
 pub(crate) fn write_files<U, I, W: Write>(
     writer: &mut Output<W>,
-    files: &[KeptFile<U, I>],
+    files: &Files<U, I>,
+    oneline: bool,
 ) -> Result<(), Stop>
-    requires { AllByRecursion IsPrintable files.now }
+    requires { AllByRecursion (λ e. IsPrintable e.1) files.now.entries }
     ensures all { OnOk result (Appends (bytes_written W.contents writer.old) (bytes_written W.contents writer.new)
-        (flat_map lines_of files.now)) }
+        (flat_map (λ e. lines_of oneline (string_bytes e.0) e.1) files.now.entries)) }
     ensures front { OnErr result (AppendsFront (bytes_written W.contents writer.old) (bytes_written W.contents writer.new)
-        (flat_map lines_of files.now)) }
+        (flat_map (λ e. lines_of oneline (string_bytes e.0) e.1) files.now.entries)) }
     ensures failures { OnOk result (write_failures writer.new ≡ write_failures writer.old) }
     ensures failed { OnErr result (HasRisen (write_failures writer.old) (write_failures writer.new)) }
     ensures err { IsOkUnless result Stop.WriteFault }
 {
-    for file in files {
-        write_file(writer, file)?;
+    for index in 0..files.len() {
+        let (path, file) = file_number(files, index);
+        write_file(writer, path.as_str(), file, oneline)?;
     }
     Ok(())
 }
 
-fn write_file<U, I, W: Write>(writer: &mut Output<W>, file: &KeptFile<U, I>) -> Result<(), Stop>
+// Writes the faults of one file.
+fn write_file<U, I, W: Write>(
+    writer: &mut Output<W>,
+    path: &str,
+    file: &KeptFile<U, I>,
+    oneline: bool,
+) -> Result<(), Stop>
     requires { IsPrintable file.now }
     ensures all { OnOk result (Appends (bytes_written W.contents writer.old) (bytes_written W.contents writer.new)
-        (lines_of file.now)) }
+        (lines_of oneline path.now file.now)) }
     ensures front { OnErr result (AppendsFront (bytes_written W.contents writer.old) (bytes_written W.contents writer.new)
-        (lines_of file.now)) }
+        (lines_of oneline path.now file.now)) }
     ensures failures { OnOk result (write_failures writer.new ≡ write_failures writer.old) }
     ensures failed { OnErr result (HasRisen (write_failures writer.old) (write_failures writer.new)) }
     ensures err { IsOkUnless result Stop.WriteFault }
 {
-    for fault in &file.faults {
-        file.lines
-            .write_fault(writer, file.path.as_str(), &file.bytes, fault)?;
-    }
-    Ok(())
+    file.lines
+        .write_faults(writer, path, &file.bytes, &file.faults, oneline)
 }

@@ -2,24 +2,30 @@
 
 ghost use Rattle.std.specs.Prelude.{◌≡◌, ◌≢◌, ℕ, List, [], Err, None, Some, length, IfOk, OnOk, OnErr, IfErr, IfSome};
 ghost use Rattle.std.specs.List.{AllByRecursion};
+ghost use Rattle.std.specs.List.Sorted.{IsStrictlySortedBy};
+ghost use Rattle.std.specs.Ordering.{nat_cmp};
+ghost use Rattle.std.specs.Cmp.Lexicographic.{slice_cmp};
 ghost use Rattle.std.specs.Io.KnownBytes.{Appends, Keeps};
 ghost use Rattle.std.specs.Option.{option_copied};
 ghost use Rattle.al_text.specs.Counted.{HasRisen, AppendsFront};
+ghost use Rattle.al_text.specs.FaultLists.{fault_cmp};
 ghost use Rattle.al_text.specs.Spans.{LiesIn};
 ghost use Rattle.al_text.specs.Streams.{bytes_written, write_failures};
 ghost use Rattle.al_session.specs.Folder.{bytes_at, faults_at, put_refusal, delete_refusal, with_file, without_file, paths_of, refusal_or_memory};
+ghost use Rattle.std.specs.Bool.{Decides};
+ghost use Rattle.al_session.specs.Affected.{affected};
 ghost use Rattle.al_session.specs.Meaning.{counted, IsUpTo};
 ghost use Rattle.al_session.specs.Missing.{missing_in};
 ghost use Rattle.al_session.specs.Report.{status_of, report_of};
 
-use crate::check::place;
 use crate::edit::{put_file, remove_file};
-use crate::kept::KeptFile;
+use crate::kept::{Callers, Files};
 use crate::lint::{Lint, Refused};
 use crate::missing::missing_paths;
 use crate::paths::Paths;
 use crate::report::{has_faults, write_files};
 use al_text::{Fault, Output, Path, Stop, path_fault};
+use indexmap::IndexMap;
 use std::alloc::{AllocError, Global};
 use std::io::Write;
 use std::marker::Model;
@@ -33,7 +39,8 @@ const MOST_FILES: usize = 4_096;
 /// What an accepted edit did.
 #[derive(Drop)]
 pub struct Edit {
-    /// The files that were checked again, in order of path: all files of the folder.
+    /// The files that were checked again, in order of path: those that are new, whose bytes differ, or one of whose
+    /// calls has another answer than before.
     pub rechecked: Paths,
 }
 
@@ -46,17 +53,20 @@ pub struct Edit {
 pub struct Session<L: Lint> {
     alloc: Global,
     lint: L,
-    files: Vec<KeptFile<L::Unit, L::Iface>>,
+    files: Files<L::Unit, L::Iface>,
+    callers: Callers,
 }
 
 impl<L: Lint> Model for Session<L> {
+    ghost use Rattle.std.specs.Prelude.{◌≤◌, ◌^◌, ◌-◌};
     ghost use Rattle.al_session.specs.Kept.{SessionState, folder_of, AreLinted};
 
     ghost Value = { SessionState };
 
-    ghost view = { λ s. record { folder = folder_of s.files.items; checks = L.checks_of s.lint; reads = L.reads_of s.lint } };
+    ghost view = { λ s. record { folder = folder_of s.files.entries; checks = L.checks_of s.lint; reads = L.reads_of s.lint } };
 
-    ghost invariant = { λ s. AreLinted L.meaning L.is_unit s.files.items (L.checks_of s.lint) };
+    ghost invariant = { λ s. AreLinted L.meaning L.is_unit s.files.entries s.callers (L.checks_of s.lint)
+        × (L.reads_of s.lint ≤ 2 ^ 64 - 1) };
 }
 
 impl<L: Lint> Session<L> {
@@ -66,12 +76,14 @@ impl<L: Lint> Session<L> {
         ensures checks { result.checks ≡ L.checks_of lint }
         ensures reads { result.reads ≡ L.reads_of lint }
     {
-        // A count is at most the greatest `u64`, which the call shows.
+        // A count is at most the greatest `u64`, which the calls show.
         let _checks = lint.checks();
+        let _reads = lint.reads();
         Session {
             alloc,
             lint,
-            files: Vec::new(alloc),
+            files: IndexMap::new(alloc),
+            callers: IndexMap::new(alloc),
         }
     }
 
@@ -87,22 +99,23 @@ impl<L: Lint> Session<L> {
     pub fn bytes(&self, path: &str) -> Option<&[u8]>
         ensures { option_copied result ≡ bytes_at self.now.folder path.now }
     {
-        match place(&self.files, path) {
-            Ok(index) => Some(self.files[index].bytes.as_slice()),
-            Err(_) => None,
+        match self.files.get(path) {
+            Some(file) => Some(file.bytes.as_slice()),
+            None => None,
         }
     }
 
-    /// The faults of a file, in order, each of which lies in the file; `None` where no file has this path. Takes no
-    /// memory.
+    /// The faults of a file in the order of reports, each once, each of which lies in the file; `None` where no file has
+    /// this path. Takes no memory.
     pub fn faults(&self, path: &str) -> Option<&[Fault]>
         ensures value { option_copied result ≡ faults_at L.meaning self.now.folder path.now }
         ensures spans { IfSome result (λ faults. (b : List ℕ) → bytes_at self.now.folder path.now ≡ Some b
             → AllByRecursion (λ fault. LiesIn (length b) fault.span) faults.now) }
+        ensures ordered { IfSome result (λ faults. IsStrictlySortedBy fault_cmp faults.now) }
     {
-        match place(&self.files, path) {
-            Ok(index) => Some(self.files[index].faults.as_slice()),
-            Err(_) => None,
+        match self.files.get(path) {
+            Some(file) => Some(file.faults.as_slice()),
+            None => None,
         }
     }
 
@@ -125,18 +138,29 @@ impl<L: Lint> Session<L> {
         None
     }
 
+    // Whether a file has just these bytes.
+    fn has_bytes(&self, path: &str, bytes: &[u8]) -> bool
+        ensures { Decides result (bytes_at self.now.folder path.now ≡ Some bytes.now) }
+    {
+        match self.bytes(path) {
+            Some(old) => old == bytes,
+            None => false,
+        }
+    }
+
     /// Sets the bytes of a file, which is new or stands in the place of the one with its path, and checks the files
-    /// again.
+    /// again that this affects. It reads the file put and no other, and not even that where it has just these bytes.
     ///
     /// # Errors
     ///
     /// The first of E1 to E4 that applies, and E6, only where none of these does, where memory ran out. The folder is
     /// then as before, and so is all that is defined by it; the meter is as before after E1 to E4, and after E6 it has
-    /// risen by at most the number of files that the folder would have had.
+    /// risen by at most the number of files that the edit would have checked again.
     pub fn put(&mut self, path: &str, bytes: &[u8]) -> Result<Edit, Refused>
         ensures accepted { OnOk result (put_refusal L.meaning self.old.folder path.now bytes.now ≡ None) }
         ensures folder { OnOk result (self.new.folder ≡ with_file self.old.folder path.now bytes.now) }
-        ensures rechecked { IfOk result (λ edit. edit.rechecked ≡ paths_of self.new.folder) }
+        ensures rechecked { IfOk result (λ edit.
+            edit.rechecked ≡ affected L.Iface.eq L.meaning self.old.folder self.new.folder) }
         ensures meter { IfOk result (λ edit.
             self.new.checks ≡ counted self.old.checks (length edit.rechecked)) }
         ensures refused { IfErr result (λ refused.
@@ -144,13 +168,27 @@ impl<L: Lint> Session<L> {
         ensures as_before { OnErr result (self.new.folder ≡ self.old.folder) }
         ensures no_check { IfErr result (λ refused. refused ≢ Refused.Memory → self.new.checks ≡ self.old.checks) }
         ensures few_checks { OnErr result (IsUpTo self.old.checks self.new.checks
-            (length (with_file self.old.folder path.now bytes.now))) }
-        ensures reads { OnOk result (self.new.reads ≡ counted self.old.reads 1) }
+            (length (affected L.Iface.eq L.meaning self.old.folder
+            (with_file self.old.folder path.now bytes.now)))) }
+        ensures reads { IsUpTo self.old.reads self.new.reads 1 }
+        ensures no_read { IfErr result (λ refused. refused ≢ Refused.Memory → self.new.reads ≡ self.old.reads) }
     {
         if let Some(refused) = self.put_refused(path, bytes) {
             return Err(refused);
         }
-        match put_file(&mut self.lint, self.alloc, &mut self.files, path, bytes) {
+        if self.has_bytes(path, bytes) {
+            return Ok(Edit {
+                rechecked: Paths::new(Vec::new(self.alloc)),
+            });
+        }
+        match put_file(
+            &mut self.lint,
+            self.alloc,
+            &mut self.files,
+            &mut self.callers,
+            path,
+            bytes,
+        ) {
             Ok(rechecked) => Ok(Edit { rechecked }),
             Err(_) => Err(Refused::Memory),
         }
@@ -172,17 +210,18 @@ impl<L: Lint> Session<L> {
         None
     }
 
-    /// Takes a file out of the folder, and checks the others again.
+    /// Takes a file out of the folder, and checks the files again that this affects. It reads no file.
     ///
     /// # Errors
     ///
     /// The first of E1, E2 and E5 that applies, and E6, only where none of these does, where memory ran out. The
     /// folder is then as before, and so is all that is defined by it; the meter is as before after E1, E2 and E5, and
-    /// after E6 it has risen by at most the number of files that the folder would have had.
+    /// after E6 it has risen by at most the number of files that the edit would have checked again.
     pub fn delete(&mut self, path: &str) -> Result<Edit, Refused>
         ensures accepted { OnOk result (delete_refusal L.meaning self.old.folder path.now ≡ None) }
         ensures folder { OnOk result (self.new.folder ≡ without_file self.old.folder path.now) }
-        ensures rechecked { IfOk result (λ edit. edit.rechecked ≡ paths_of self.new.folder) }
+        ensures rechecked { IfOk result (λ edit.
+            edit.rechecked ≡ affected L.Iface.eq L.meaning self.old.folder self.new.folder) }
         ensures meter { IfOk result (λ edit.
             self.new.checks ≡ counted self.old.checks (length edit.rechecked)) }
         ensures refused { IfErr result (λ refused.
@@ -190,24 +229,21 @@ impl<L: Lint> Session<L> {
         ensures as_before { OnErr result (self.new.folder ≡ self.old.folder) }
         ensures no_check { IfErr result (λ refused. refused ≢ Refused.Memory → self.new.checks ≡ self.old.checks) }
         ensures few_checks { OnErr result (IsUpTo self.old.checks self.new.checks
-            (length (without_file self.old.folder path.now))) }
+            (length (affected L.Iface.eq L.meaning self.old.folder (without_file self.old.folder path.now)))) }
         ensures reads { self.new.reads ≡ self.old.reads }
     {
         if let Some(refused) = self.delete_refused(path) {
             return Err(refused);
         }
-        match place(&self.files, path) {
-            Ok(index) => match remove_file(
-                &mut self.lint,
-                self.alloc,
-                &mut self.files,
-                path,
-                index,
-            ) {
-                Ok(rechecked) => Ok(Edit { rechecked }),
-                Err(_) => Err(Refused::Memory),
-            },
-            Err(_) => Err(Refused::NoSuchFile),
+        match remove_file(
+            &mut self.lint,
+            self.alloc,
+            &mut self.files,
+            &mut self.callers,
+            path,
+        ) {
+            Ok(rechecked) => Ok(Edit { rechecked }),
+            Err(_) => Err(Refused::Memory),
         }
     }
 
@@ -222,24 +258,26 @@ impl<L: Lint> Session<L> {
         Ok(if has_faults(&self.files) { 1 } else { 0 })
     }
 
-    /// Writes the faults of all files, a line each, file by file in order of path.
+    /// Writes the faults of all files, file by file in order of path: each as its line, and the line of the file at which
+    /// it starts, with marks under its span, unless `oneline` is asked for.
     ///
     /// # Errors
     ///
     /// [`Stop::WriteFault`] where the writer failed, which then holds a front of the report, and [`Stop::Memory`]
     /// where memory ran out, which happens only before the first byte. No other stop is answered.
-    pub fn report<W: Write>(&self, writer: &mut Output<W>) -> Result<(), Stop>
+    pub fn report<W: Write>(&self, writer: &mut Output<W>, oneline: bool) -> Result<(), Stop>
         ensures all { OnOk result (Appends (bytes_written W.contents writer.old) (bytes_written W.contents writer.new)
-            (report_of L.meaning self.now.folder)) }
+            (report_of oneline L.meaning self.now.folder)) }
         ensures front { OnErr result (AppendsFront (bytes_written W.contents writer.old) (bytes_written W.contents writer.new)
-            (report_of L.meaning self.now.folder)) }
+            (report_of oneline L.meaning self.now.folder)) }
+        ensures in_order { IsStrictlySortedBy (slice_cmp nat_cmp) (paths_of self.now.folder) }
         ensures memory { result ≡ Err Stop.Memory
             → Keeps (bytes_written W.contents writer.old) (bytes_written W.contents writer.new) }
         ensures failures { result ≢ Err Stop.WriteFault → write_failures writer.new ≡ write_failures writer.old }
         ensures failed { result ≡ Err Stop.WriteFault → HasRisen (write_failures writer.old) (write_failures writer.new) }
         ensures no_read { (result ≢ Err Stop.ReadFault) × (result ≢ Err Stop.TooManyTurns) }
     {
-        write_files(writer, &self.files)
+        write_files(writer, &self.files, oneline)
     }
 
     /// The candidates of calls that are not in the folder, in order of path, each once.
@@ -250,6 +288,6 @@ impl<L: Lint> Session<L> {
     pub fn missing(&self) -> Result<Vec<Path>, AllocError>
         ensures { IfOk result (λ paths. paths.items ≡ missing_in L.meaning self.now.folder) }
     {
-        missing_paths(&self.lint, self.alloc, &self.files)
+        missing_paths::<L>(self.alloc, &self.files)
     }
 }

@@ -1,12 +1,10 @@
 ghost use Rattle.al_shape.specs.Table.{rule, rule_view};
 ghost use Rattle.std.specs.Prelude.{◌≡◌, option_map};
 
-use crate::action_rows::{ACTION, COMPOSITE_RUNS, DOCKER_RUNS, NODE_RUNS, RUNS};
-use crate::event_rows::{
-    CALL, CALL_INPUT, CALL_OUTPUT, CALL_SECRET, CRON, DISPATCH, DISPATCH_INPUT, EVENT, ON,
-};
-use crate::workflow_rows::{
-    CONCURRENCY, CONTAINER, DEFAULTS, JOB, RUN_DEFAULTS, RUNS_ON, STEP, STRATEGY, WORKFLOW,
+use crate::sections::{
+    ACTION, CALL, CALL_INPUT, CALL_OUTPUT, CALL_SECRET, COMPOSITE_RUNS, CONCURRENCY, CONTAINER,
+    CRON, DEFAULTS, DISPATCH, DISPATCH_INPUT, DOCKER_RUNS, EVENT, JOB, NODE_RUNS, ON, RUN_DEFAULTS,
+    RUNS, RUNS_ON, STEP, STRATEGY, WORKFLOW,
 };
 
 /// What a value should be: a section of the syntax, or a plain kind of value.
@@ -113,206 +111,77 @@ pub struct Rule {
     pub keys: Keys,
 }
 
+// What a shape takes: which scalars; of which shape the items of a sequence are; and of a mapping either any key, with values of
+// a shape, or the keys of a section and what all others are.
+macro_rules! rule {
+    ($words:ident) => {
+        rule!(@ $words, None, Keys::No)
+    };
+    ($words:ident, items $item:ident) => {
+        rule!(@ $words, Some(Shape::$item), Keys::No)
+    };
+    ($words:ident, any key $value:ident) => {
+        rule!(@ $words, None, Keys::Free(Shape::$value))
+    };
+    ($words:ident, keys $rows:ident, others $others:ident $(($beside:literal))?) => {
+        rule!(@ $words, None, Keys::These($rows, Others::$others $(($beside))?))
+    };
+    ($words:ident, items $item:ident, keys $rows:ident, others $others:ident) => {
+        rule!(@ $words, Some(Shape::$item), Keys::These($rows, Others::$others))
+    };
+    (@ $words:ident, $items:expr, $keys:expr) => {
+        Rule {
+            words: Words::$words,
+            items: $items,
+            keys: $keys,
+        }
+    };
+}
+
 /// What a shape takes; None where that is anything.
 pub fn rule_of(shape: Shape) -> Option<Rule>
     ensures { option_map rule_view result ≡ rule shape }
 {
     Some(match shape {
         Shape::Any => return None,
-        Shape::Text => Rule {
-            words: Words::AnyWord,
-            items: None,
-            keys: Keys::No,
-        },
-        Shape::Flag => Rule {
-            words: Words::Bools,
-            items: None,
-            keys: Keys::No,
-        },
-        Shape::Number => Rule {
-            words: Words::Numbers,
-            items: None,
-            keys: Keys::No,
-        },
-        Shape::Texts => Rule {
-            words: Words::AnyWord,
-            items: Some(Shape::Text),
-            keys: Keys::No,
-        },
-        Shape::TextList => Rule {
-            words: Words::NoWord,
-            items: Some(Shape::Text),
-            keys: Keys::No,
-        },
-        Shape::TextMap => Rule {
-            words: Words::NoWord,
-            items: None,
-            keys: Keys::Free(Shape::Text),
-        },
-        Shape::TextOrMap => Rule {
-            words: Words::AnyWord,
-            items: None,
-            keys: Keys::Free(Shape::Text),
-        },
-        Shape::AnyMap => Rule {
-            words: Words::NoWord,
-            items: None,
-            keys: Keys::Free(Shape::Any),
-        },
-        Shape::Env => Rule {
-            words: Words::Chunks,
-            items: None,
-            keys: Keys::Free(Shape::Text),
-        },
-        Shape::Workflow => Rule {
-            words: Words::NoWord,
-            items: None,
-            keys: Keys::These(WORKFLOW, Others::Wrong),
-        },
-        Shape::On => Rule {
-            words: Words::NotNull,
-            items: Some(Shape::Text),
-            keys: Keys::These(ON, Others::Events),
-        },
-        Shape::Schedule => Rule {
-            words: Words::NoWord,
-            items: Some(Shape::Cron),
-            keys: Keys::No,
-        },
-        Shape::Cron => Rule {
-            words: Words::NoWord,
-            items: None,
-            keys: Keys::These(CRON, Others::Wrong),
-        },
-        Shape::Dispatch => Rule {
-            words: Words::NoWord,
-            items: None,
-            keys: Keys::These(DISPATCH, Others::Wrong),
-        },
-        Shape::DispatchInputs => Rule {
-            words: Words::NoWord,
-            items: None,
-            keys: Keys::Free(Shape::DispatchInput),
-        },
-        Shape::DispatchInput => Rule {
-            words: Words::NoWord,
-            items: None,
-            keys: Keys::These(DISPATCH_INPUT, Others::Wrong),
-        },
-        Shape::Call => Rule {
-            words: Words::NoWord,
-            items: None,
-            keys: Keys::These(CALL, Others::Wrong),
-        },
-        Shape::CallInputs => Rule {
-            words: Words::NoWord,
-            items: None,
-            keys: Keys::Free(Shape::CallInput),
-        },
-        Shape::CallInput => Rule {
-            words: Words::NoWord,
-            items: None,
-            keys: Keys::These(CALL_INPUT, Others::Wrong),
-        },
-        Shape::CallSecrets => Rule {
-            words: Words::NoWord,
-            items: None,
-            keys: Keys::Free(Shape::CallSecret),
-        },
-        Shape::CallSecret => Rule {
-            words: Words::NoWord,
-            items: None,
-            keys: Keys::These(CALL_SECRET, Others::Wrong),
-        },
-        Shape::CallOutputs => Rule {
-            words: Words::NoWord,
-            items: None,
-            keys: Keys::Free(Shape::CallOutput),
-        },
-        Shape::CallOutput => Rule {
-            words: Words::NoWord,
-            items: None,
-            keys: Keys::These(CALL_OUTPUT, Others::Wrong),
-        },
-        Shape::Event => Rule {
-            words: Words::NoWord,
-            items: None,
-            keys: Keys::These(EVENT, Others::Wrong),
-        },
-        Shape::Defaults => Rule {
-            words: Words::NoWord,
-            items: None,
-            keys: Keys::These(DEFAULTS, Others::Wrong),
-        },
-        Shape::RunDefaults => Rule {
-            words: Words::NoWord,
-            items: None,
-            keys: Keys::These(RUN_DEFAULTS, Others::Wrong),
-        },
-        Shape::Concurrency => Rule {
-            words: Words::AnyWord,
-            items: None,
-            keys: Keys::These(CONCURRENCY, Others::Wrong),
-        },
-        Shape::Jobs => Rule {
-            words: Words::NoWord,
-            items: None,
-            keys: Keys::Free(Shape::Job),
-        },
-        Shape::Job => Rule {
-            words: Words::NoWord,
-            items: None,
-            keys: Keys::These(JOB, Others::WrongBeside("uses")),
-        },
-        Shape::RunsOn => Rule {
-            words: Words::AnyWord,
-            items: Some(Shape::Text),
-            keys: Keys::These(RUNS_ON, Others::Wrong),
-        },
-        Shape::Strategy => Rule {
-            words: Words::Chunks,
-            items: None,
-            keys: Keys::These(STRATEGY, Others::Wrong),
-        },
-        Shape::Container => Rule {
-            words: Words::AnyWord,
-            items: None,
-            keys: Keys::These(CONTAINER, Others::Wrong),
-        },
-        Shape::Steps => Rule {
-            words: Words::NoWord,
-            items: Some(Shape::Step),
-            keys: Keys::No,
-        },
-        Shape::Step => Rule {
-            words: Words::NoWord,
-            items: None,
-            keys: Keys::These(STEP, Others::Wrong),
-        },
-        Shape::Action => Rule {
-            words: Words::NoWord,
-            items: None,
-            keys: Keys::These(ACTION, Others::Wrong),
-        },
-        Shape::Runs => Rule {
-            words: Words::NoWord,
-            items: None,
-            keys: Keys::These(RUNS, Others::Unchecked),
-        },
-        Shape::NodeRuns => Rule {
-            words: Words::NoWord,
-            items: None,
-            keys: Keys::These(NODE_RUNS, Others::Wrong),
-        },
-        Shape::CompositeRuns => Rule {
-            words: Words::NoWord,
-            items: None,
-            keys: Keys::These(COMPOSITE_RUNS, Others::Wrong),
-        },
-        Shape::DockerRuns => Rule {
-            words: Words::NoWord,
-            items: None,
-            keys: Keys::These(DOCKER_RUNS, Others::Wrong),
-        },
+        Shape::Text => rule!(AnyWord),
+        Shape::Flag => rule!(Bools),
+        Shape::Number => rule!(Numbers),
+        Shape::Texts => rule!(AnyWord, items Text),
+        Shape::TextList => rule!(NoWord, items Text),
+        Shape::TextMap => rule!(NoWord, any key Text),
+        Shape::TextOrMap => rule!(AnyWord, any key Text),
+        Shape::AnyMap => rule!(NoWord, any key Any),
+        Shape::Env => rule!(Chunks, any key Text),
+        Shape::Workflow => rule!(NoWord, keys WORKFLOW, others Wrong),
+        Shape::On => rule!(NotNull, items Text, keys ON, others Events),
+        Shape::Schedule => rule!(NoWord, items Cron),
+        Shape::Cron => rule!(NoWord, keys CRON, others Wrong),
+        Shape::Dispatch => rule!(NoWord, keys DISPATCH, others Wrong),
+        Shape::DispatchInputs => rule!(NoWord, any key DispatchInput),
+        Shape::DispatchInput => rule!(NoWord, keys DISPATCH_INPUT, others Wrong),
+        Shape::Call => rule!(NoWord, keys CALL, others Wrong),
+        Shape::CallInputs => rule!(NoWord, any key CallInput),
+        Shape::CallInput => rule!(NoWord, keys CALL_INPUT, others Wrong),
+        Shape::CallSecrets => rule!(NoWord, any key CallSecret),
+        Shape::CallSecret => rule!(NoWord, keys CALL_SECRET, others Wrong),
+        Shape::CallOutputs => rule!(NoWord, any key CallOutput),
+        Shape::CallOutput => rule!(NoWord, keys CALL_OUTPUT, others Wrong),
+        Shape::Event => rule!(NoWord, keys EVENT, others Wrong),
+        Shape::Defaults => rule!(NoWord, keys DEFAULTS, others Wrong),
+        Shape::RunDefaults => rule!(NoWord, keys RUN_DEFAULTS, others Wrong),
+        Shape::Concurrency => rule!(AnyWord, keys CONCURRENCY, others Wrong),
+        Shape::Jobs => rule!(NoWord, any key Job),
+        Shape::Job => rule!(NoWord, keys JOB, others WrongBeside("uses")),
+        Shape::RunsOn => rule!(AnyWord, items Text, keys RUNS_ON, others Wrong),
+        Shape::Strategy => rule!(Chunks, keys STRATEGY, others Wrong),
+        Shape::Container => rule!(AnyWord, keys CONTAINER, others Wrong),
+        Shape::Steps => rule!(NoWord, items Step),
+        Shape::Step => rule!(NoWord, keys STEP, others Wrong),
+        Shape::Action => rule!(NoWord, keys ACTION, others Wrong),
+        Shape::Runs => rule!(NoWord, keys RUNS, others Unchecked),
+        Shape::NodeRuns => rule!(NoWord, keys NODE_RUNS, others Wrong),
+        Shape::CompositeRuns => rule!(NoWord, keys COMPOSITE_RUNS, others Wrong),
+        Shape::DockerRuns => rule!(NoWord, keys DOCKER_RUNS, others Wrong),
     })
 }

@@ -6,6 +6,8 @@ mod documents;
 #[cfg(test)]
 mod fakes;
 #[cfg(test)]
+mod longest_text;
+#[cfg(test)]
 mod scripts;
 #[cfg(test)]
 mod texts;

@@ -57,3 +57,16 @@ pub AppendsFront-item : {X : Type 0} (f : X → ℕ) (xs : List X) (i : ℕ) (d 
     → Appends a b (map f (take i xs)) → AppendsFront b c (f (get_or xs i d) ∷ []) → AppendsFront a c (map f xs)
 AppendsFront-item f xs i d a b c h p w =
     subst (AppendsFront a c) (flat_map_single f xs) (AppendsFront-part (λ y. f y ∷ []) xs i d a b c h (subst (Appends a b) (sym (flat_map_single f (take i xs))) p) w)
+
+-- what a loop has appended that writes a part for each element of a list, where x is the next element
+module _ {X : Type 0} (f : X → List ℕ) (parts : List X) (i : ℕ) (x : X) (within : i < length parts) (read : x ≡ get_or parts i x) (a b c : Option (List ℕ)) (so_far : Appends a b (flat_map f (take i parts))) where
+  -- one part more
+  pub Appends-next : Appends b c (f x) → Appends a c (flat_map f (take (i + 1) parts))
+  Appends-next more =
+      let whole : flat_map f (take (i + 1) parts) ≡ flat_map f (take i parts) ++ f x =
+      ap (flat_map f) (take_more parts i x within ∙ ap (λ y. take i parts ++ y ∷ []) (sym read)) ∙ flat_map-append f (take i parts) (x ∷ []) ∙ ap (λ l. flat_map f (take i parts) ++ l) (append-nil (f x)) in
+      subst (Appends a c) (sym whole) (Appends-trans a b c (flat_map f (take i parts)) (f x) so_far more)
+
+  -- a front of the next part is one of them all
+  pub AppendsFront-next : AppendsFront b c (f x) → AppendsFront a c (flat_map f parts)
+  AppendsFront-next front = AppendsFront-part f parts i x a b c within so_far (subst (λ (y : X). AppendsFront b c (f y)) read front)

@@ -62,3 +62,14 @@ column_at-char bytes k e b = column_at-more bytes k e ∙ ap (λ t. column_at by
 
 pub column_at-inner : (bytes : List ℕ) (k : ℕ) → ends_break bytes k ≡ false → begins_char (get_or bytes k 0) ≡ false → column_at bytes (k + 1) ≡ column_at bytes k
 column_at-inner bytes k e b = column_at-more bytes k e ∙ ap (λ t. column_at bytes k + cond t 1 0) b ∙ add-zero (column_at bytes k)
+
+count_below-small : (p : ℕ → Bool) (n : ℕ) → count_below p n ≤ n
+count_below-small p zero = omega arith
+count_below-small p (suc n) = by (p n) refl (count_below-small p n)
+  where
+    by : (b : Bool) → p n ≡ b → count_below p n ≤ n → count_below p n + cond (p n) 1 0 ≤ suc n
+    by true e h = rw e (omega (arith, h))
+    by false e h = rw e (omega (arith, h))
+
+pub column_at-small : (bytes : List ℕ) (n : ℕ) → column_at bytes n ≤ n + 1
+column_at-small bytes n = let h = count_below-small (λ k. eqb (line_at bytes k) (line_at bytes n) && begins_char (get_or bytes k 0)) n in omega (arith, h)

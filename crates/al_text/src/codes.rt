@@ -1,101 +1,177 @@
 /// What reading a file as YAML can find wrong (YAML 1.2.2, in the profile that `docs/` describes).
 #[derive(Clone, Copy, PartialEq, Eq, PartialOrd, Ord, Debug)]
 pub enum YamlCode {
+    /// Y1: the file is not UTF-8.
     NotUtf8,
+    /// Y2: a character that is not printable.
     ControlCharacter,
+    /// Y3: a tab where spaces indent.
     TabInIndentation,
+    /// Y4: a line's indent fits no open collection.
     WrongIndentation,
+    /// Y5: a quoted scalar that is not closed.
     UnclosedQuote,
+    /// Y6: a flow collection that is not closed.
     UnclosedFlow,
+    /// Y7: an anchor or alias.
     AnchorOrAlias,
+    /// Y8: a tag.
     Tag,
+    /// Y9: an explicit key, `? `.
     ExplicitKey,
+    /// Y10: a directive, `%`.
     Directive,
+    /// Y11: a second document.
     SecondDocument,
+    /// Y12: an escape that double quotes do not have.
     WrongEscape,
+    /// Y13: a character that cannot stand there.
     UnexpectedCharacter,
+    /// Y14: collections nested more than 64 deep.
     NestingTooDeep,
+    /// Y15: more than 100,000 nodes.
     TooManyNodes,
+    /// Y16: a block scalar's header that is none.
     WrongBlockHeader,
+    /// Y17: a key that is no scalar on one line.
     WrongKey,
+    /// Y18: an alias of no complete anchor.
     UnknownAlias,
 }
 
 /// What the keys and values of a workflow or action can break of GitHub's syntax.
 #[derive(Clone, Copy, PartialEq, Eq, PartialOrd, Ord, Debug)]
 pub enum KeyCode {
+    /// K1: a key that is not known there.
     Unexpected,
+    /// K2: a required key that is missing.
     Missing,
+    /// K3: a key that stands there already.
     Repeated,
+    /// K4: a node of the wrong kind.
     WrongKind,
+    /// K5: a scalar of the wrong type.
     WrongType,
+    /// K6: a key that cannot stand beside another.
     NotBeside,
+    /// K7: an empty file.
     EmptyFile,
 }
 
 /// What the rules of workflows and actions find wrong in a file by itself.
 #[derive(Clone, Copy, PartialEq, Eq, PartialOrd, Ord, Debug)]
 pub enum RuleCode {
+    /// G1: an event that GitHub does not have.
     UnknownEvent,
+    /// G2: an activity type that the event does not have.
     UnknownActivity,
+    /// G3: a filter pattern outside its grammar.
     WrongPattern,
+    /// G4: a schedule outside cron's grammar.
     WrongSchedule,
+    /// G5: a schedule that runs more often than every 5 minutes.
     ScheduleTooOften,
+    /// G6: an id of other characters than names have.
     WrongId,
+    /// G7: an id that another job or step has.
     RepeatedId,
+    /// G8: a job in `needs` that is not there.
     UndefinedJob,
+    /// G9: a job that waits for itself.
     NeedsCycle,
+    /// G10: a matrix, row, `include` or `exclude` of the wrong shape.
     WrongMatrix,
+    /// G11: a key in `exclude` that is no row.
     UnknownMatrixRow,
+    /// G12: a shell that is not known.
     UnknownShell,
+    /// G13: a permission scope that is not known.
     UnknownPermission,
+    /// G14: a permission value that is not known.
     WrongPermission,
+    /// G15: a name that no environment variable can have.
     WrongVariable,
+    /// G16: a password that is more than one expression.
     PasswordNotExpression,
+    /// G17: a workflow command that is deprecated.
     DeprecatedCommand,
+    /// G18: a condition that is always true, since text stands beside its expression.
     AlwaysTrue,
+    /// G19: an input type that is not known.
     UnknownInputType,
+    /// G20: a `using` that is not known.
     UnknownUsing,
+    /// G21: a composite action's `run` without `shell`.
     MissingShell,
+    /// G22: a composite action's output without `value`.
     MissingOutputValue,
 }
 
 /// What an expression, `${{ .. }}`, can have wrong: its tokens, its grammar, then its meaning.
 #[derive(Clone, Copy, PartialEq, Eq, PartialOrd, Ord, Debug)]
 pub enum ExpressionCode {
+    /// X1: a character that begins no token.
     BadCharacter,
+    /// X2: a text that is not closed.
     UnclosedText,
+    /// X3: a token that cannot stand there.
     UnexpectedToken,
+    /// X4: tokens that end too early.
     EndsEarly,
+    /// X5: more than 21,000 bytes.
     TooLong,
+    /// X6: nested more than 50 deep.
     TooDeep,
+    /// X7: a name that is no context.
     UndefinedContext,
+    /// X8: a context that is not available there.
     UnavailableContext,
+    /// X9: a name that is no function.
     UndefinedFunction,
+    /// X10: a function that is not available there.
     UnavailableFunction,
+    /// X11: a wrong number of arguments.
     ArgumentCount,
+    /// X12: an argument of the wrong type.
     ArgumentType,
+    /// X13: a property that the type does not have.
     UndefinedProperty,
+    /// X14: an index into what has none.
     NotIndexable,
+    /// X15: operands that cannot be compared.
     NotComparable,
+    /// X16: a placeholder that `format` does not have.
     WrongPlaceholder,
+    /// X17: an argument that `format` does not use.
     UnusedArgument,
+    /// X18: an object or array in a text.
     NotText,
+    /// X19: text from outside in a script.
     Untrusted,
+    /// X20: `${{` without `}}`.
     UnclosedChunk,
 }
 
 /// What a call of a file of the folder can have wrong.
 #[derive(Clone, Copy, PartialEq, Eq, PartialOrd, Ord, Debug)]
 pub enum CallCode {
+    /// C1: a workflow that is not in the folder.
     NoWorkflow,
+    /// C2: an input that is not declared.
     UndefinedInput,
+    /// C3: a required input that is missing.
     MissingInput,
+    /// C4: an input of the wrong type.
     WrongInput,
+    /// C5: a secret that is not declared.
     UndefinedSecret,
+    /// C6: a required secret that is missing.
     MissingSecret,
+    /// C7: a `uses` that is none.
     WrongUses,
+    /// C8: a file that cannot be called there.
     NotCallable,
+    /// C9: a call that leads back to its file.
     LeadsBack,
 }
 

@@ -5,3 +5,4 @@ pub use Rattle.al_shape.specs.Names
 pub use Rattle.al_shape.specs.Table
 pub use Rattle.al_shape.specs.Values
 pub mod Files
+pub mod Kinds

@@ -1,6 +1,6 @@
 -- Block nodes against offsets. Each lemma is one way through `block_node`, `sequence_entries`, `mapping_entries`,
 -- `rest_node` or `node_below`.
-use Rattle.std.proofs.Common.{◌≡◌, ℕ, suc, ◌+◌, ◌<◌, ◌≤◌, List, [], ◌∷◌, length, refl, sym, ap, ◌∙◌, arith, Bool, true, false, not, ◌&&◌, ◌||◌, cond, Option, Some, None, Ok, Err}
+use Rattle.std.proofs.Common.{◌≡◌, ℕ, suc, ◌+◌, ◌<◌, ◌≤◌, List, [], ◌∷◌, length, refl, sym, ap, ◌∙◌, arith, Bool, true, false, not, ◌&&◌, ◌||◌, cond, Some, None, Ok, Err}
 use Rattle.al_text.specs.declared.codes.YamlCode.{YamlCode}
 use Rattle.al_text.specs.declared.codes.YamlCode.TheVariants as yaml
 use Rattle.al_scalar.specs.Line.{Line, start}
@@ -9,22 +9,23 @@ use Rattle.al_scalar.specs.Taken.{Fault}
 use Rattle.al_yaml.specs.Node as tree
 use Rattle.al_yaml.specs.Reading.{Reading, Part, part, gives, given, fails, listed, start_of, spanned, ◌>>=◌}
 use Rattle.al_yaml.specs.Limits.{broken_limit}
-use Rattle.al_yaml.specs.Content.{ended, at_line, content, is_property, is_flow_start, is_dash, is_skipped, block_fault, unless, blanks_dropped, whole_lines, characters, line_ended, same_line, is_short_key}
+use Rattle.al_yaml.specs.Content.{ended, at_line, content, is_property, is_flow_start, is_dash, is_skipped, block_fault, unless, blanks_dropped, characters, line_ended, same_line, is_short_key}
 use Rattle.al_yaml.specs.Flow.{CollectionReader, empty_node, flow_collection}
-use Rattle.al_yaml.specs.Keys.{Key, key_at, is_block_start, has_colon, no_entry, entry_key}
-use Rattle.al_yaml.specs.Blocks.{BlockReader, Slot, Spot, at_spot, own_line, spot_behind, is_behind_key, is_deeper, node_found, node_below, rest_node, next_at, sequence_entry, sequence_next, sequence_rest, sequence_entries, entry_slot, value_slot, mapping_value, mapping_next, mapping_rest, mapping_entries, scalar_node_at, flow_at, flow_rest, block_sequence, block_mapping, keyed_node, block_content, block_property, block_node_over, block_node, tab_before, unless_at}
+use Rattle.al_yaml.specs.Keys.{Key, key_at, is_block_start, has_colon}
+use Rattle.al_yaml.specs.Blocks.{BlockReader, Slot, Spot, at_spot, spot_behind, is_behind_key, is_deeper, node_found, node_below, rest_node, sequence_entry, sequence_rest, sequence_entries, entry_slot, value_slot, mapping_value, mapping_rest, mapping_entries, scalar_node_at, flow_at, flow_rest, block_sequence, block_mapping, keyed_node, block_content, block_property, block_node_over, block_node, tab_before, unless_at}
 use Rattle.al_yaml.specs.Reads.{run, counted, Stops, Refuses}
 use Rattle.al_yaml.specs.declared.faults.Stop.{Stop}
 use Rattle.al_scalar.specs.Places.{IsLineEnd}
 use Rattle.al_scalar.specs.Scalar.{ScalarRead}
 use Rattle.std.proofs.Common.{◌==◌}
 use Rattle.std.proofs.lemmas.Grind.{common_steps}
-use Rattle.std.proofs.lemmas.Bool.{eqb-true}
 use Rattle.al_scalar.specs.Places.{first_end}
 use Rattle.al_yaml.proofs.KeyLemmas.{end-more}
-use Rattle.al_yaml.proofs.LineLemmas.{start-at, behind-one, is_inside, never, text-line_end}
+use Rattle.al_yaml.proofs.LineLemmas.{behind-one}
+use Rattle.al_scalar.proofs.RestLemmas.{start-at}
+use Rattle.al_scalar.proofs.SingleLemmas.{is_inside, never, text-line_end}
 use Rattle.al_yaml.proofs.RunLemmas.{run-gives, run-fails, run-start, run-broken, run-stop, run-refused}
-use Rattle.al_yaml.proofs.ReadLemmas.{stops-bind, stops-from, stops-same, stops-given, bind-ok, given-ok}
+use Rattle.al_yaml.proofs.ReadLemmas.{stops-bind, stops-same, stops-given, bind-ok, given-ok}
 use Rattle.al_yaml.proofs.FlowLemmas.{if-true, if-false, run-aliases}
 
 -- ---- a node
@@ -105,10 +106,6 @@ module _ (bound : ℕ) (slot : Slot) (depth column n : ℕ) (bytes : List ℕ) (
 -- ---- what stands behind a dash or a colon
 
 module _ (node : BlockReader) (slot : Slot) (depth column n : ℕ) (bytes : List ℕ) (from rest : ℕ) where
-  pub rest-below : (next : ℕ) → true ≡ is_skipped (text_at bytes rest) → whole_lines (lines_at bytes rest) ≡ lines_at bytes next
-      → rest_node node slot depth column (lines_at bytes from) (lines_at bytes rest) ≡ node_below node slot depth (lines_at bytes next)
-  rest-below next h w = if-true (is_skipped (text_at bytes rest)) _ _ h ∙ ap (node_below node slot depth) w
-
   pub rest-here : (at width : ℕ) (spot : Spot) → at ≤ length bytes → false ≡ is_skipped (text_at bytes rest) → blanks_dropped (lines_at bytes rest) ≡ lines_at bytes at
       → width ≡ characters at (text_at bytes from) → spot ≡ spot_behind (text_at bytes rest) slot.spot
       → rest_node node slot depth column (lines_at bytes from) (lines_at bytes rest) ≡ node (at_spot spot slot) depth (column + width) (lines_at bytes at)
@@ -129,9 +126,6 @@ module _ (node : BlockReader) (slot : Slot) (depth n : ℕ) (bytes : List ℕ) (
   module _ (indent next : ℕ) (found : content (lines_at bytes at) ≡ Ok (at_line indent (lines_at bytes next))) where
     below-found : run (counted n) (node_below node slot depth (lines_at bytes at)) ≡ run (counted n) (node_found node slot depth (lines_at bytes at) (at_line indent (lines_at bytes next)))
     below-found = given-ok (content (lines_at bytes at)) (node_found node slot depth (lines_at bytes at)) n (at_line indent (lines_at bytes next)) found
-
-    pub below-deeper : true ≡ is_deeper slot indent (lines_at bytes next) → run (counted n) (node_below node slot depth (lines_at bytes at)) ≡ run (counted n) (node (at_spot own_line slot) depth indent (lines_at bytes next))
-    below-deeper h = below-found ∙ ap (run (counted n)) (if-true (is_deeper slot indent (lines_at bytes next)) _ _ h)
 
     pub below-empty : false ≡ is_deeper slot indent (lines_at bytes next) → run (counted n) (node_below node slot depth (lines_at bytes at)) ≡ run (counted n) (empty_node slot.empty (lines_at bytes at))
     below-empty h = below-found ∙ ap (run (counted n)) (if-false (is_deeper slot indent (lines_at bytes next)) _ _ h)
@@ -158,40 +152,6 @@ module _ (node : BlockReader) (collection : CollectionReader) (turns : ℕ) (in_
   unfolding sequence_entries
   entries-step = ap (λ r. r >>= entries_behind) entry-is
 
-  pub sequence-stop : (e : Stop) → Stops one_entry n e → Stops all_entries n e
-  sequence-stop e h = stops-same all_entries (one_entry >>= entries_behind) n e entries-step (stops-bind one_entry entries_behind n e h)
-
-  module _ (m : ℕ) (x : Part tree.Node) (read : run (counted n) one_entry ≡ Ok (x, counted m)) where
-    abbrev pub items_now : tree.Nodes
-    items_now = tree.with_item done x.value
-
-    abbrev pub items_next : Option (List Line) → Reading (Part tree.Nodes)
-    items_next found = sequence_next collection (λ left. sequence_entries node collection turns in_mapping column depth items_now left) in_mapping depth (part items_now x.end x.left) found
-
-    entries-read : run (counted n) all_entries ≡ run (counted m) (given (next_at column x.left) >>= items_next)
-    entries-read = ap (run (counted n)) entries-step ∙ bind-ok one_entry entries_behind n m x read
-
-    pub sequence-wrong : (f : Fault) → next_at column x.left ≡ Err f → run (counted n) all_entries ≡ Err f
-    sequence-wrong f h = entries-read ∙ run-stop (counted m) (given (next_at column x.left)) items_next f (run-refused m (next_at column x.left) f h)
-
-    pub sequence-ended : next_at column x.left ≡ Ok None → run (counted n) all_entries ≡ Ok (part items_now x.end x.left, counted m)
-    sequence-ended h = entries-read ∙ given-ok (next_at column x.left) items_next m None h ∙ run-gives m (part items_now x.end x.left)
-
-    module _ (next : ℕ) (found : next_at column x.left ≡ Ok (Some (lines_at bytes next))) where
-      next-read : run (counted n) all_entries ≡ run (counted m) (items_next (Some (lines_at bytes next)))
-      next-read = entries-read ∙ given-ok (next_at column x.left) items_next m (Some (lines_at bytes next)) found
-
-      pub sequence-more : true ≡ is_dash (text_at bytes next)
-          → run (counted n) all_entries ≡ run (counted m) (sequence_entries node collection turns in_mapping column depth items_now (lines_at bytes next))
-      sequence-more h = next-read ∙ ap (run (counted m)) (if-true (is_dash (text_at bytes next)) _ _ h)
-
-      pub sequence-closed : false ≡ is_dash (text_at bytes next) → true ≡ in_mapping → run (counted n) all_entries ≡ Ok (part items_now x.end x.left, counted m)
-      sequence-closed h k = next-read ∙ ap (run (counted m)) (if-false (is_dash (text_at bytes next)) _ _ h ∙ if-true in_mapping _ _ k) ∙ run-gives m (part items_now x.end x.left)
-
-      pub sequence-none : false ≡ is_dash (text_at bytes next) → false ≡ in_mapping → (e : Stop) → Stops (no_entry {A = Part tree.Nodes} collection depth (lines_at bytes next)) m e → Stops all_entries n e
-      sequence-none h k e s =
-          stops-from all_entries (no_entry collection depth (lines_at bytes next)) n m e (next-read ∙ ap (run (counted m)) (if-false (is_dash (text_at bytes next)) _ _ h ∙ if-false in_mapping _ _ k)) s
-
 -- ---- the entries of a mapping
 
 module _ (node : BlockReader) (collection : CollectionReader) (turns column depth n : ℕ) (done : tree.Entries) (bytes : List ℕ) (scalar : ScalarRead) (behind : ℕ) (inside : behind ≤ length bytes) where
@@ -216,38 +176,6 @@ module _ (node : BlockReader) (collection : CollectionReader) (turns column dept
   pub values-step : all_values ≡ (one_value >>= values_behind)
   unfolding mapping_entries
   values-step = ap (λ r. r >>= values_behind) value-is
-
-  pub mapping-stop : (e : Stop) → Stops one_value n e → Stops all_values n e
-  mapping-stop e h = stops-same all_values (one_value >>= values_behind) n e values-step (stops-bind one_value values_behind n e h)
-
-  module _ (m : ℕ) (x : Part tree.Node) (read : run (counted n) one_value ≡ Ok (x, counted m)) where
-    abbrev pub values_next : Option (List Line) → Reading (Part tree.Entries)
-    values_next found = mapping_next collection (λ k. mapping_entries node collection turns column depth (entries_with x) k) depth (part (entries_with x) x.end x.left) found
-
-    values-read : run (counted n) all_values ≡ run (counted m) (given (next_at column x.left) >>= values_next)
-    values-read = ap (run (counted n)) values-step ∙ bind-ok one_value values_behind n m x read
-
-    pub mapping-wrong : (f : Fault) → next_at column x.left ≡ Err f → run (counted n) all_values ≡ Err f
-    mapping-wrong f h = values-read ∙ run-stop (counted m) (given (next_at column x.left)) values_next f (run-refused m (next_at column x.left) f h)
-
-    pub mapping-ended : next_at column x.left ≡ Ok None → run (counted n) all_values ≡ Ok (part (entries_with x) x.end x.left, counted m)
-    mapping-ended h = values-read ∙ given-ok (next_at column x.left) values_next m None h ∙ run-gives m (part (entries_with x) x.end x.left)
-
-    module _ (next : ℕ) (found : next_at column x.left ≡ Ok (Some (lines_at bytes next))) where
-      abbrev pub next_key : Reading Key
-      next_key = entry_key collection depth (lines_at bytes next)
-
-      abbrev pub key_then : Key → Reading (Part tree.Entries)
-      key_then k = mapping_entries node collection turns column depth (entries_with x) k
-
-      key-next : run (counted n) all_values ≡ run (counted m) (next_key >>= key_then)
-      key-next = values-read ∙ given-ok (next_at column x.left) values_next m (Some (lines_at bytes next)) found
-
-      pub mapping-key_stop : (e : Stop) → Stops next_key m e → Stops all_values n e
-      mapping-key_stop e h = stops-from all_values (next_key >>= key_then) n m e key-next (stops-bind next_key key_then m e h)
-
-      pub mapping-more : (k : ℕ) (key : Key) → run (counted m) next_key ≡ Ok (key, counted k) → run (counted n) all_values ≡ run (counted k) (mapping_entries node collection turns column depth (entries_with x) key)
-      mapping-more k key h = key-next ∙ bind-ok next_key key_then m k key h
 
 -- ---- starts of collections
 
@@ -359,17 +287,7 @@ dash-solid bytes at h d k = never (sym (ap is_dash (text-line_end bytes at h k))
 same_number : (a b : ℕ) → a ≡ b → (a == b) ≡ true
 same_number a b h = grind (arith, common_steps, h)
 
-pub same_line-own : (ls : List Line) → same_line ls ls ≡ true
-same_line-own ls = same_number (first_end ls) (first_end ls) refl
-
 pub same_line-next : (bytes : List ℕ) (at : ℕ) → at ≤ length bytes → (IsLineEnd bytes at → ⊥) → same_line (lines_at bytes at) (lines_at bytes (at + 1)) ≡ true
 same_line-next bytes at h k =
     let here = is_inside bytes at h k in
     same_number (first_end (lines_at bytes at)) (first_end (lines_at bytes (at + 1))) (end-more bytes at at here.inside here.not_feed here.not_return refl)
-
-end-blanks : (ls : List Line) → first_end (blanks_dropped ls) ≡ first_end ls
-end-blanks [] = refl
-end-blanks (l ∷ ls) = refl
-
-pub same_line-blanks : (xs ys zs : List Line) → same_line xs ys ≡ true → blanks_dropped ys ≡ zs → same_line xs zs ≡ true
-same_line-blanks xs ys zs h e = same_number (first_end xs) (first_end zs) (eqb-true (first_end xs) (first_end ys) h ∙ sym (end-blanks ys) ∙ ap first_end e)

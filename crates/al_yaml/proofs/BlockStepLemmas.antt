@@ -1,6 +1,5 @@
 -- Steps of open block collections, one lemma for each way.
-use Rattle.std.proofs.Common.{◌≡◌, ℕ, suc, ◌+◌, ◌<◌, ◌≤◌, List, [], ◌∷◌, ◌++◌, length, map, refl, sym, ap, ◌∙◌, arith, Bool, true, false, Option, Some, None, Result, Ok, Err}
-use Rattle.al_scalar.specs.Contract.{read_of}
+use Rattle.std.proofs.Common.{◌≡◌, ℕ, suc, ◌+◌, ◌<◌, ◌≤◌, List, length, ap, ◌∙◌, arith, Bool, true, false, Option, Some, None, Result, Ok, Err}
 use Rattle.al_scalar.specs.Line.{Line}
 use Rattle.al_scalar.specs.Places.{lines_at, text_at, IsLineEnd}
 use Rattle.al_scalar.specs.Scalar.{ScalarRead, span}
@@ -10,26 +9,23 @@ use Rattle.al_yaml.specs.Content.{Next, content, is_dash}
 use Rattle.al_yaml.specs.Reading.{Reading, Part, part, given, gives, spanned, ◌>>=◌}
 use Rattle.al_yaml.specs.Flow.{flow_collection}
 use Rattle.al_yaml.specs.Keys.{Key, no_entry, entry_key}
-use Rattle.al_yaml.specs.Blocks.{BlockReader, block_node, rest_node, entry_slot, value_slot, next_found, next_from, next_at, sequence_entries, sequence_rest, sequence_next, mapping_entries, mapping_rest, mapping_next}
-use Rattle.al_yaml.specs.BlockFrames.{block_rest, block_waits, items, entries, item, value, FindsBlock, Begins, Enters, EntersWith, IsFoundFrom, IsNextAt, block_waiting_of}
-use Rattle.al_yaml.specs.BlockReads.{slot_of}
+use Rattle.al_yaml.specs.Blocks.{block_node, rest_node, entry_slot, value_slot, next_found, next_from, next_at, sequence_entries, sequence_rest, sequence_next, mapping_entries, mapping_rest, mapping_next}
+use Rattle.al_yaml.specs.BlockFrames.{block_rest, block_waits, items, entries, item, value, FindsBlock, Begins, EntersWith, IsFoundFrom, IsNextAt, block_waiting_of}
 use Rattle.al_yaml.specs.Places.{IsLineFrom}
 use Rattle.al_yaml.specs.declared.content.Next as next_code
 use Rattle.al_yaml.specs.declared.content.Next.TheVariants as next_line
-use Rattle.al_yaml.specs.Frames.{Answer, answered}
-use Rattle.al_yaml.specs.Reads.{State, run, counted, Stops, Refuses, part_of}
-use Rattle.al_yaml.specs.View.{view, entry_view, nodes_of, entries_of}
+use Rattle.al_yaml.specs.Frames.{answered}
+use Rattle.al_yaml.specs.Reads.{run, counted, Stops}
 use Rattle.al_yaml.specs.declared.block.BlockTask.{BlockTask}
 use Rattle.al_yaml.specs.declared.block.BlockTask.TheVariants as task
 use Rattle.al_yaml.specs.declared.block.BlockWaiting.{BlockWaiting}
 use Rattle.al_yaml.specs.declared.faults.Stop.{Stop}
 use Rattle.al_yaml.specs.declared.faults.Stop.TheVariants as stop
-use Rattle.al_yaml.specs.declared.node.Part as code
 use Rattle.al_yaml.proofs.RunLemmas.{run-given, run-gives, run-refused}
-use Rattle.al_yaml.proofs.ReadLemmas.{stops-bind, stops-same, stops-from, stops-given, spanned-ok, spanned-stops, same_part}
+use Rattle.al_yaml.proofs.ReadLemmas.{stops-from, stops-given, spanned-ok, spanned-stops}
 use Rattle.al_yaml.proofs.FlowLemmas.{if-true, if-false}
 use Rattle.al_yaml.proofs.BlockNodeLemmas.{entries-step, values-step}
-use Rattle.al_yaml.proofs.FrameLemmas.{bind-answer, spanned-answer}
+use Rattle.al_yaml.proofs.FrameLemmas.{spanned-answer}
 
 -- ---- from a dash, from behind a key
 
@@ -74,15 +70,6 @@ enters-with bytes bound turns depth start column reading rest n m w (task.Inside
 pub enters-stops : (reading rest : Reading (Part tree.Node)) (n : ℕ) (f : Part tree.Node → Reading (Part tree.Node)) (e : Stop) → run (counted n) reading ≡ answered (run (counted n) rest) f → Stops rest n e → Stops reading n e
 enters-stops reading rest n f (stop.Fault x) g h = g ∙ ap (λ o. answered o f) h
 enters-stops reading rest n f stop.Memory g h = tt
-
--- ---- what was found is what another reading gives
-
-pub finds-from : (bytes : List ℕ) (node : BlockReader) (depth n m : ℕ) (r q : Reading (Part tree.Node)) (result : Result BlockTask Stop) → r ≡ q → FindsBlock bytes node depth q n result m → FindsBlock bytes node depth r n result m
-finds-from bytes node depth n m r q (Ok (task.Node s c at)) e h = ap (run (counted n)) e ∙ h
-finds-from bytes node depth n m r q (Ok (task.Found p x)) e h = ap (run (counted n)) e ∙ h
-finds-from bytes node depth n m r q (Ok (task.Read p)) e h = h
-finds-from bytes node depth n m r q (Ok (task.Inside s c has at)) e h = h
-finds-from bytes node depth n m r q (Err x) e h = stops-same r q n x e h
 
 -- ---- behind an item or value
 

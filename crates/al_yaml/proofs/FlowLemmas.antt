@@ -1,5 +1,5 @@
 -- Flow collections against offsets.
-use Rattle.std.proofs.Common.{◌≡◌, ℕ, suc, ◌+◌, ◌<◌, ◌≤◌, List, [], ◌∷◌, length, refl, sym, ap, ◌∙◌, Bool, true, false, not, ◌||◌, cond, Option, Some, None, Result, Ok, Err}
+use Rattle.std.proofs.Common.{◌≡◌, ℕ, suc, ◌+◌, ◌≤◌, List, [], ◌∷◌, length, refl, sym, ap, ◌∙◌, Bool, true, false, not, ◌||◌, cond, Option, Some, None, Ok, Err}
 use Rattle.al_text.specs.declared.codes.YamlCode.{YamlCode}
 use Rattle.al_text.specs.declared.codes.YamlCode.TheVariants as yaml
 use Rattle.al_scalar.specs.Line.{Line, start, begins, is_empty}
@@ -12,12 +12,14 @@ use Rattle.al_yaml.specs.Limits.{broken_limit}
 use Rattle.al_scalar.specs.Plain.{flow}
 use Rattle.al_scalar.specs.Scalar.{scalar_at}
 use Rattle.al_yaml.specs.Content.{behind, is_quote, is_simple_key, is_property, is_flow_start, has_no_name, flow_fault, unless}
-use Rattle.al_yaml.specs.Flow.{After, goes_on, closes, after_item, gap, is_file_end, FlowReader, CollectionReader, FlowSlot, flow_items, flow_items_rest, flow_entries, flow_entries_rest, flow_key, flow_value, flow_entry_value, flow_content, flow_property, flow_node_over, flow_collection, empty_node, FlowKey, flow_key_of, key_colon, unless_late, behind_colon, is_late_colon}
-use Rattle.al_yaml.specs.Reads.{State, run, counted, Stops, Refuses}
+use Rattle.al_yaml.specs.Flow.{goes_on, closes, after_item, gap, is_file_end, FlowReader, CollectionReader, FlowSlot, flow_items, flow_items_rest, flow_entries, flow_entries_rest, flow_key, flow_value, flow_entry_value, flow_content, flow_property, flow_node_over, flow_collection, empty_node, FlowKey, flow_key_of, key_colon, unless_late, behind_colon, is_late_colon}
+use Rattle.al_yaml.specs.Reads.{run, counted, Stops, Refuses}
 use Rattle.al_yaml.specs.declared.faults.Stop.{Stop}
-use Rattle.al_yaml.proofs.ReadLemmas.{stops-bind, stops-from, stops-same, stops-given, bind-ok, given-ok, positive, scalar_reading}
-use Rattle.al_yaml.proofs.LineLemmas.{behind-one, start-at, text-line_end, never}
-use Rattle.al_yaml.proofs.MarkerLemmas.{begins-inside}
+use Rattle.al_yaml.proofs.ReadLemmas.{stops-same, stops-given, given-ok, scalar_reading}
+use Rattle.al_yaml.proofs.LineLemmas.{behind-one}
+use Rattle.al_scalar.proofs.RestLemmas.{start-at}
+use Rattle.al_scalar.proofs.SingleLemmas.{text-line_end, never}
+use Rattle.al_scalar.proofs.MarkerLemmas.{begins-inside}
 use Rattle.al_yaml.proofs.RunLemmas.{run-gives, run-fails, run-start, run-broken, run-stop, run-refused}
 
 pub if-true : {A : Type 0} (b : Bool) (x y : A) → true ≡ b → cond b x y ≡ x
@@ -56,15 +58,9 @@ module _ (bytes : List ℕ) (at : ℕ) (inside : at ≤ length bytes) (r : Scala
     simple_key : key_colon (lines_at bytes at) r ≡ unless_late (lines_at bytes at) r (behind_colon (is_quote (text_at bytes at)) r.left)
     simple_key = if-false (not (is_simple_key (lines_at bytes at) r)) _ _ (ap not simple)
 
-    pub key-colon : (left : List Line) → behind_colon (is_quote (text_at bytes at)) r.left ≡ Some left → key_colon (lines_at bytes at) r ≡ Ok (Some left)
-    key-colon left h = simple_key ∙ ap (unless_late (lines_at bytes at) r) h
-
     module _ (none : behind_colon (is_quote (text_at bytes at)) r.left ≡ None) where
       pub key-late : true ≡ is_late_colon r.left → key_colon (lines_at bytes at) r ≡ fault yaml.WrongKey at
       key-late h = simple_key ∙ ap (unless_late (lines_at bytes at) r) none ∙ if-true (is_late_colon r.left) _ _ h ∙ ap (fault yaml.WrongKey) (start-at bytes at inside)
-
-      pub key-alone : false ≡ is_late_colon r.left → key_colon (lines_at bytes at) r ≡ Ok None
-      key-alone h = simple_key ∙ ap (unless_late (lines_at bytes at) r) none ∙ if-false (is_late_colon r.left) _ _ h
 
 -- ---- items
 

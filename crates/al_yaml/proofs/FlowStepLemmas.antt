@@ -1,28 +1,24 @@
 -- Steps of open flow collections, one lemma for each way.
-use Rattle.std.proofs.Common.{◌≡◌, ℕ, suc, ◌+◌, ◌<◌, ◌≤◌, List, [], ◌∷◌, ◌++◌, length, map, refl, sym, ap, ◌∙◌, Bool, true, false, Option, Some, None, Result, Ok, Err}
+use Rattle.std.proofs.Common.{◌≡◌, ℕ, suc, ◌+◌, ◌≤◌, List, length, refl, sym, ap, ◌∙◌, true, false, None, Result, Ok, Err}
 use Rattle.al_text.specs.declared.codes.YamlCode.TheVariants as yaml
-use Rattle.al_scalar.specs.Contract.{read_of}
 use Rattle.al_scalar.specs.Line.{Line, begins, is_empty}
 use Rattle.al_scalar.specs.Places.{lines_at, text_at}
 use Rattle.al_scalar.specs.Scalar.{ScalarRead, span}
 use Rattle.al_scalar.specs.Taken.{Fault}
 use Rattle.al_yaml.specs.Node as tree
 use Rattle.al_yaml.specs.Reading.{Reading, Part, part, fails, gives, given, spanned, ◌>>=◌}
-use Rattle.al_yaml.specs.Flow.{After, goes_on, closes, after_item, gap, CollectionReader, FlowReader, FlowSlot, FlowKey, flow_items, flow_items_rest, flow_entries, flow_key, flow_entries_rest, flow_entry_value, flow_node_over}
+use Rattle.al_yaml.specs.Flow.{After, goes_on, closes, after_item, gap, CollectionReader, FlowKey, flow_items, flow_items_rest, flow_entries, flow_key, flow_entries_rest, flow_entry_value, flow_node_over}
 use Rattle.al_yaml.specs.Frames.{Answer, answered, open_rest, waiting_rest, items, entries, item, value, key}
-use Rattle.al_yaml.specs.Reads.{State, run, counted, Stops, Refuses, part_of}
+use Rattle.al_yaml.specs.Reads.{run, counted, Stops, Refuses, part_of}
 use Rattle.al_yaml.specs.FlowFrames.{Finds}
-use Rattle.al_yaml.specs.View.{view, entry_view, nodes_of, entries_of}
+use Rattle.al_yaml.specs.View.{view}
 use Rattle.al_yaml.specs.declared.flow.Found.{Found}
 use Rattle.al_yaml.specs.declared.flow.Found.TheVariants as found
-use Rattle.al_yaml.specs.declared.faults.FaultAt.{FaultAt}
 use Rattle.al_yaml.specs.declared.faults.Stop.{Stop}
 use Rattle.al_yaml.specs.declared.faults.Stop.TheVariants as stop
-use Rattle.al_yaml.specs.declared.node.Node as node_code
-use Rattle.al_yaml.specs.declared.node.Entry as entry_code
 use Rattle.al_yaml.specs.declared.node.Part as code
 use Rattle.al_yaml.proofs.RunLemmas.{run-given, run-gives}
-use Rattle.al_yaml.proofs.ReadLemmas.{stops-bind, stops-same, stops-given, spanned-ok, spanned-stops, same_part, nodes_of-more, entries_of-more}
+use Rattle.al_yaml.proofs.ReadLemmas.{stops-bind, stops-same, stops-given, spanned-ok, spanned-stops, same_part}
 use Rattle.al_yaml.proofs.FlowLemmas.{items-open, items-closed, items-step, entries-open, entries-closed, entries-step}
 use Rattle.al_yaml.proofs.FrameLemmas.{bind-answer, answered-fails, spanned-answer}
 

@@ -19,6 +19,7 @@ pub mod DocumentLines
 pub mod Spans
 pub mod Texts
 pub mod Cells
+pub mod Stacks
 pub mod Frames
 pub mod FlowFrames
 pub mod BlockFrames

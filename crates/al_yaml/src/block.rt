@@ -1,8 +1,10 @@
+//! Nodes in block context, read forward: the loop over the open block collections, and its steps.
+
 ghost use Rattle.al_scalar.specs.Contract.{read_of};
 ghost use Rattle.al_scalar.specs.Offsets.{IsPlaced};
 ghost use Rattle.al_scalar.specs.Places.{lines_at, text_at};
 ghost use Rattle.al_yaml.specs.BlockFrames as frames;
-ghost use Rattle.al_yaml.specs.BlockFrames.{Begins, Enters, FindsBlock, IsBegun, IsEntered, IsFoundFrom, IsNextAt, IsNextBehind, IsNextInside, IsNodeAt, IsOpenAt, IsOpenFrom, IsResumed, ResumesBlock, IsBlockWaitingFrom, block_open_of, block_waiting_of, block_rest};
+ghost use Rattle.al_yaml.specs.BlockFrames.{Begins, Enters, FindsBlock, IsBegun, IsBlockWaitingFrom, IsEntered, IsFoundFrom, IsNextAt, IsNextBehind, IsNextInside, IsNodeAt, IsOpenAt, IsOpenFrom, IsResumed, ResumesBlock, block_open_of, block_rest, block_waiting_of};
 ghost use Rattle.al_yaml.specs.BlockReads.{IsKeyBehind, IsTabInside, key_seen, slot_of, spot_of};
 ghost use Rattle.al_yaml.specs.Blocks as block;
 ghost use Rattle.al_yaml.specs.Content as content;
@@ -12,41 +14,23 @@ ghost use Rattle.al_yaml.specs.Places.{Shows, next_of, option_lines};
 ghost use Rattle.al_yaml.specs.Reads.{IsBehind, IsRead, IsStopInside, part_of};
 ghost use Rattle.al_yaml.specs.Spans.{AreInOrder, EntriesInOrder, IsWithin};
 ghost use Rattle.al_yaml.specs.View.{entries_of, entry_view, nodes_of, view};
-ghost use Rattle.std.specs.Prelude.{ℕ, suc, ◌+◌, ◌<◌, ◌≡◌, ◌≤◌, ◌&&◌, ◌||◌, IfErr, IfOk, IfSome, length, map, not, true};
+ghost use Rattle.std.specs.Prelude.{IfErr, IfOk, IfSome, [], length, map, not, suc, true, ℕ, ◌&&◌, ◌+◌, ◌<◌, ◌||◌, ◌≡◌, ◌≤◌};
 
-use crate::block_stack::BlockStack;
-use crate::content::{Next, first_tab, is_dash, is_skipped, line_ended, next_content};
-use crate::entries::{Key, entry_key, key_at, no_entry, read_line_scalar};
+use crate::content::{Next, is_dash, is_skipped, line_ended, next_content};
+use crate::entries::{entry_key, no_entry};
 use crate::faults::{FaultAt, Stop};
-use crate::flow::{empty_part, mapping_part, read_flow_collection, sequence_part};
-use crate::keys::{
-    behind_colon, characters, is_block_start, is_flow_start, is_property, is_short_key, same_line,
-};
+use crate::flow::read_flow_collection;
+use crate::keys::{Key, behind_colon, is_short_key, key_at};
 use crate::limits::Count;
-use crate::lines::{blanks_end, next_line};
-use crate::node::{Entry, Node, Part, entry_of, scalar_node};
-use crate::starts::block_fault;
+use crate::lines::{blanks_end, characters, next_line, same_line};
+use crate::node::{Entry, Node, Part, entry_of, mapping_part, scalar_node, sequence_part};
+use crate::scalars::{empty_part, read_line_scalar};
+use crate::slots::{Slot, Spot, is_behind_key, is_deeper, spot_behind, tab_before};
+use crate::stack::Stack;
+use crate::starts::{block_fault, is_block_start, is_flow_start, is_property};
 use al_scalar::ScalarRead;
 use al_text::YamlCode;
 use std::alloc::Global;
-
-/// Where a node begins: on a line of its own; behind a dash, with the first tab before it; behind a key on its line.
-#[derive(Clone, Copy)]
-pub enum Spot {
-    OwnLine,
-    Compact(Option<usize>),
-    BehindKey,
-}
-
-/// What surrounds a node: its spot; the least indent of its further lines; whether it is the value of a mapping's
-/// entry; and the offset at which an empty node would stand in its place.
-#[derive(Clone, Copy)]
-pub struct Slot {
-    pub spot: Spot,
-    pub within: usize,
-    pub in_mapping: bool,
-    pub empty: usize,
-}
 
 /// What was read of an open block collection: of a sequence the items before a dash, and whether it is the value of a
 /// mapping's entry; of a mapping the entries before a key, and the key.
@@ -64,7 +48,7 @@ pub enum BlockWaiting {
     Value(Vec<Entry>, ScalarRead),
 }
 
-/// A block collection in which a node is read, by its start and its column.
+/// A block collection that waits for a node, by its start, before which its own anchor would stand, and its column.
 #[derive(Drop)]
 pub struct BlockFrame {
     pub start: usize,
@@ -91,41 +75,6 @@ pub enum BlockTask {
     Found(Part, Next),
 }
 
-/// The spot behind the blanks at an offset.
-fn spot_behind(bytes: &[u8], at: usize, spot: Spot) -> Spot
-    requires inside { at ≤ length bytes.now }
-    requires tab { IsTabInside (length bytes.now) spot }
-    ensures is { spot_of result ≡ block.spot_behind (text_at bytes.now at) (spot_of spot) }
-    ensures tab { IsTabInside (length bytes.now) result }
-{
-    match spot {
-        Spot::OwnLine => Spot::Compact(first_tab(bytes, at)),
-        Spot::Compact(None) => Spot::Compact(first_tab(bytes, at)),
-        Spot::Compact(Some(tab)) => Spot::Compact(Some(tab)),
-        Spot::BehindKey => Spot::BehindKey,
-    }
-}
-
-/// The tab before a compact collection.
-fn tab_before(spot: Spot) -> Option<usize>
-    ensures { result ≡ block.tab_before (spot_of spot) }
-{
-    match spot {
-        Spot::Compact(tab) => tab,
-        Spot::OwnLine | Spot::BehindKey => None,
-    }
-}
-
-/// Whether a node is a value on its key's line.
-fn is_behind_key(spot: Spot) -> bool
-    ensures { result ≡ block.is_behind_key (spot_of spot) }
-{
-    match spot {
-        Spot::BehindKey => true,
-        Spot::OwnLine | Spot::Compact(_) => false,
-    }
-}
-
 /// Whether a scalar that stands here is no key: a block scalar, or a value on its key's line.
 fn is_no_key(bytes: &[u8], spot: Spot, at: usize) -> bool
     requires { at ≤ length bytes.now }
@@ -148,25 +97,12 @@ fn is_refused_key(bytes: &[u8], spot: Spot, next: usize) -> bool
     }
 }
 
-/// Whether a content line holds the node: one deeper than what encloses it, or a sequence at the indent of its key.
-fn is_deeper(bytes: &[u8], slot: Slot, indent: usize, at: usize) -> bool
-    requires { at ≤ length bytes.now }
-    ensures { result ≡ block.is_deeper (slot_of slot) indent (lines_at bytes.now at) }
-{
-    if slot.within <= indent {
-        return true;
-    }
-    if !slot.in_mapping || slot.within != indent + 1 {
-        return false;
-    }
-    is_dash(bytes, at)
-}
-
 /// Reads a flow collection in block context with the rest of its line.
 fn read_line_flow(
     alloc: Global,
     bytes: &[u8],
     count: &mut Count,
+    stack: &mut Stack,
     spot: Spot,
     depth: u32,
     at: usize,
@@ -175,12 +111,15 @@ fn read_line_flow(
     requires bracket { content.is_flow_start (text_at bytes.now at) ≡ true }
     requires size { length bytes.now ≤ 1048576 }
     requires depth { depth ≤ 65 }
+    requires outside { stack.old.flows ≡ [] }
+    requires room { length stack.old.blocks ≤ depth }
     ensures fault { IfErr result (IsStopInside (length bytes.now)) }
     ensures is { (bound : ℕ) → length bytes.now < bound + at → IsRead (part_of bytes.now) (block.flow_at (flow.flow_collection bound) (spot_of spot) depth (lines_at bytes.now at)) count.old.nodes result count.new.nodes }
     ensures within { IfOk result (λ part. IsBehind bytes.now at part) }
     ensures nested { IfOk result (λ part. IsWithin at part.end (view part.node)) }
+    ensures same { IfOk result (λ _. stack.new ≡ stack.old) }
 {
-    let part = read_flow_collection(alloc, bytes, count, depth, at)?;
+    let part = read_flow_collection(alloc, bytes, count, stack, depth, at)?;
     if is_refused_key(bytes, spot, part.next) {
         return Err(Stop::Fault(FaultAt {
             code: YamlCode::WrongKey,
@@ -201,6 +140,7 @@ fn read_node(
     alloc: Global,
     bytes: &[u8],
     count: &mut Count,
+    stack: &mut Stack,
     slot: Slot,
     depth: u32,
     column: usize,
@@ -209,10 +149,13 @@ fn read_node(
     requires inside { at ≤ length bytes.now }
     requires size { length bytes.now ≤ 1048576 }
     requires depth { depth ≤ 65 }
+    requires outside { stack.old.flows ≡ [] }
+    requires room { length stack.old.blocks ≤ depth }
     requires node { IsNodeAt bytes.now slot column at }
     ensures fault { IfErr result (IsStopInside (length bytes.now)) }
     ensures is { (bound : ℕ) → length bytes.now < suc bound + at → Begins bytes.now bound depth (block.block_node (suc bound) (slot_of slot) depth column (lines_at bytes.now at)) count.old.nodes result count.new.nodes }
     ensures within { IfOk result (λ task. IsBegun bytes.now at depth task) }
+    ensures same { IfOk result (λ _. stack.new ≡ stack.old) }
 {
     if is_property(bytes, at) {
         return Err(Stop::Fault(FaultAt {
@@ -227,7 +170,7 @@ fn read_node(
         return Err(Stop::Fault(FaultAt { code, at }));
     }
     if is_flow_start(bytes, at) {
-        let part = read_line_flow(alloc, bytes, count, slot.spot, depth, at)?;
+        let part = read_line_flow(alloc, bytes, count, stack, slot.spot, depth, at)?;
         return Ok(BlockTask::Read(part));
     }
     if is_no_key(bytes, slot.spot, at) {
@@ -467,6 +410,7 @@ fn put_block_item(
     alloc: Global,
     bytes: &[u8],
     count: &mut Count,
+    stack: &mut Stack,
     depth: u32,
     start: usize,
     column: usize,
@@ -481,9 +425,12 @@ fn put_block_item(
     requires next { IsNextBehind bytes.now part next }
     requires size { length bytes.now ≤ 1048576 }
     requires depth { depth ≤ 65 }
+    requires outside { stack.old.flows ≡ [] }
+    requires room { length stack.old.blocks ≤ depth }
     ensures fault { IfErr result (IsStopInside (length bytes.now)) }
     ensures is { (bound turns : ℕ) → length bytes.now < suc bound + part.next → ResumesBlock bytes.now bound turns depth start column (frames.item in_mapping (nodes_of (map view items.items))) (part_of bytes.now part) count.old.nodes result count.new.nodes }
     ensures within { (low : ℕ) → start ≤ low → AreInOrder start low (nodes_of (map view items.items)) → IsWithin low part.end (view part.node) → IfOk result (λ task. IsResumed bytes.now start part.next task) }
+    ensures same { IfOk result (λ _. stack.new ≡ stack.old) }
 {
     let mut items = items;
     items.push(part.node)?;
@@ -501,7 +448,7 @@ fn put_block_item(
     if in_mapping {
         return Ok(BlockTask::Found(sequence_part(items, start, part.end, part.next), next));
     }
-    no_entry(alloc, bytes, count, depth, at)?;
+    no_entry(alloc, bytes, count, stack, depth, at)?;
     Ok(BlockTask::Inside {
         start,
         column,
@@ -515,6 +462,7 @@ fn put_block_entry(
     alloc: Global,
     bytes: &[u8],
     count: &mut Count,
+    stack: &mut Stack,
     depth: u32,
     start: usize,
     column: usize,
@@ -529,9 +477,12 @@ fn put_block_entry(
     requires next { IsNextBehind bytes.now part next }
     requires size { length bytes.now ≤ 1048576 }
     requires depth { depth ≤ 65 }
+    requires outside { stack.old.flows ≡ [] }
+    requires room { length stack.old.blocks ≤ depth }
     ensures fault { IfErr result (IsStopInside (length bytes.now)) }
     ensures is { (bound turns : ℕ) → length bytes.now < suc bound + part.next → ResumesBlock bytes.now bound turns depth start column (frames.value (entries_of (map entry_view entries.items)) (read_of bytes.now key)) (part_of bytes.now part) count.old.nodes result count.new.nodes }
     ensures within { (low : ℕ) → start ≤ key.span.start → key.span.start ≤ key.span.end → key.span.end ≤ low → EntriesInOrder start key.span.start (entries_of (map entry_view entries.items)) → IsPlaced 1048576 key.scalar key.span → IsWithin low part.end (view part.node) → IfOk result (λ task. IsResumed bytes.now start part.next task) }
+    ensures same { IfOk result (λ _. stack.new ≡ stack.old) }
 {
     let mut entries = entries;
     let key = scalar_node(key.scalar, key.span);
@@ -539,7 +490,7 @@ fn put_block_entry(
     let Some(at) = entry_on(bytes, column, next)? else {
         return Ok(BlockTask::Found(mapping_part(entries, start, part.end, part.next), next));
     };
-    let key = entry_key(alloc, bytes, count, depth, at)?;
+    let key = entry_key(alloc, bytes, count, stack, depth, at)?;
     Ok(BlockTask::Inside {
         start,
         column,
@@ -553,6 +504,7 @@ fn resume_block(
     alloc: Global,
     bytes: &[u8],
     count: &mut Count,
+    stack: &mut Stack,
     depth: u32,
     frame: BlockFrame,
     part: Part,
@@ -565,9 +517,12 @@ fn resume_block(
     requires waits { (low : ℕ) × IsBlockWaitingFrom frame.start low frame.waiting × IsWithin low part.end (view part.node) }
     requires size { length bytes.now ≤ 1048576 }
     requires depth { depth ≤ 65 }
+    requires outside { stack.old.flows ≡ [] }
+    requires room { length stack.old.blocks ≤ depth }
     ensures fault { IfErr result (IsStopInside (length bytes.now)) }
     ensures is { (bound turns : ℕ) → length bytes.now < suc bound + part.next → ResumesBlock bytes.now bound turns depth frame.start frame.column (block_waiting_of bytes.now frame.waiting) (part_of bytes.now part) count.old.nodes result count.new.nodes }
     ensures within { IfOk result (λ task. IsResumed bytes.now frame.start part.next task) }
+    ensures same { IfOk result (λ _. stack.new ≡ stack.old) }
 {
     let BlockFrame {
         start,
@@ -576,11 +531,11 @@ fn resume_block(
     } = frame;
     match waiting {
         BlockWaiting::Item(in_mapping, items) => put_block_item(
-            alloc, bytes, count, depth, start, column, in_mapping, items, part, next,
+            alloc, bytes, count, stack, depth, start, column, in_mapping, items, part, next,
         ),
         BlockWaiting::Value(entries, key) => {
             put_block_entry(
-                alloc, bytes, count, depth, start, column, entries, key, part, next,
+                alloc, bytes, count, stack, depth, start, column, entries, key, part, next,
             )
         }
     }
@@ -588,11 +543,12 @@ fn resume_block(
 
 /// Reads a node in block context, whose first character stands in this column.
 ///
-/// The block collections that are open in it stand on a stack of 64.
+/// The collections that are open in it stand on the stack, which is empty at first.
 pub fn read_block_node(
     alloc: Global,
     bytes: &[u8],
     count: &mut Count,
+    stack: &mut Stack,
     slot: Slot,
     column: usize,
     at: usize,
@@ -602,12 +558,13 @@ pub fn read_block_node(
     requires column { column ≤ at }
     requires within { slot.within ≤ at + 1 }
     requires tab { IsTabInside (length bytes.now) slot.spot }
+    requires outside { stack.old.flows ≡ [] }
+    requires none { stack.old.blocks ≡ [] }
     ensures fault { IfErr result (IsStopInside (length bytes.now)) }
     ensures is { (bound : ℕ) → length bytes.now < bound + at → IsRead (part_of bytes.now) (block.block_node bound (slot_of slot) 1 column (lines_at bytes.now at)) count.old.nodes result count.new.nodes }
     ensures within { IfOk result (λ part. IsBehind bytes.now at part) }
     ensures nested { IfOk result (λ part. IsWithin at part.end (view part.node)) }
 {
-    let mut stack = BlockStack::new();
     let mut task = BlockTask::Node { slot, column, at };
     'nodes: loop {
         let depth = stack.len() as u32 + 1;
@@ -617,7 +574,7 @@ pub fn read_block_node(
                 column,
                 at: from,
             } => {
-                task = read_node(alloc, bytes, count, slot, depth, column, from)?;
+                task = read_node(alloc, bytes, count, stack, slot, depth, column, from)?;
             }
             BlockTask::Inside {
                 start,
@@ -626,7 +583,7 @@ pub fn read_block_node(
                 at: from,
             } => {
                 let (waiting, inner) = enter(alloc, bytes, count, start, column, has, from)?;
-                stack.push(BlockFrame {
+                stack.push_block(BlockFrame {
                     start,
                     column,
                     waiting,
@@ -641,10 +598,10 @@ pub fn read_block_node(
                 task = BlockTask::Found(part, next);
             }
             BlockTask::Found(part, next) => {
-                let Some(frame) = stack.pop() else {
+                let Some(frame) = stack.pop_block() else {
                     return Ok(part);
                 };
-                task = resume_block(alloc, bytes, count, depth, frame, part, next)?;
+                task = resume_block(alloc, bytes, count, stack, depth, frame, part, next)?;
             }
         }
     }

@@ -1,16 +1,29 @@
-use Rattle.std.proofs.Common.{rules, arith, ap, ◌∙◌, ◌<◌, length}
+use Rattle.std.proofs.Common.{arith, ◌∙◌, String, sym, subst}
+use Rattle.std.specs.Prelude.{string_bytes}
+use Rattle.std.specs.Global.{Global}
 use Rattle.std.proofs.lemmas.Result.{err_from_is_err_and}
-use Rattle.al_session.specs.Kept.{lines_of}
-use Rattle.al_session.proofs.Writes.{Appends-next, AppendsFront-next}
+use Rattle.std.proofs.lemmas.List.Elements.{All-from_recursion}
+use Rattle.al_session.specs.Kept.{lines_of, IsPrintable}
+use Rattle.al_session.specs.declared.kept.KeptFile.{KeptFile}
+use Rattle.al_session.proofs.Missings.{read_is}
+use Rattle.al_text.proofs.Bytes.{Appends-next, AppendsFront-next}
 use Rattle.al_session.proofs.report.write_files.Goals as goal
+
+pub write_file-requires : goal.write_file-requires
+write_file-requires g c =
+    let read = read_is c.args.files.now.entries c.loop-index.index (c.file_number.result.0.now, c.file_number.result.1.now) c.file_number.ensures in
+    let P : String Global × KeptFile _ _ → Type 0 = λ e. IsPrintable e.1 in
+    subst P (sym read) (All-from_recursion P c.args.files.now.entries c.requires c.loop-index.index (c.file_number.result.0.now, c.file_number.result.1.now) (omega (arith, c.len-index-end.ensures.len)))
 
 pub returns-in_err-write_file-clause-front : goal.returns-in_err-write_file-clause-front
 returns-in_err-write_file-clause-front g c =
     let p = err_from_is_err_and c.from_residual.result c.from_residual.ensures.1 in
-    rw p.1 (AppendsFront-next lines_of c.args.files.now c.loop-file.file-index c.file-item.result (omega (arith, c.loop-file-test.true)) c.file-item.is _ _ _ c.loop-file.invariant.appended c.in_err-write_file.ensures.front)
+    rw p.1 (AppendsFront-next (λ e. lines_of c.args.oneline (string_bytes e.0) e.1) c.args.files.now.entries c.loop-index.index (c.file_number.result.0.now, c.file_number.result.1.now) (omega (arith, c.len-index-end.ensures.len)) (read_is c.args.files.now.entries c.loop-index.index (c.file_number.result.0.now, c.file_number.result.1.now) c.file_number.ensures) _ _ _ c.loop-index.invariant.appended
+    (rw c.as_str.ensures.value at c.in_err-write_file.ensures.front))
 
-pub loop-file-preserved : goal.loop-file-preserved
-loop-file-preserved g c = record {
-  appended = Appends-next lines_of c.args.files.now c.loop-file.file-index c.file-item.result (omega (arith, c.loop-file-test.true)) c.file-item.is _ _ _ c.loop-file.invariant.appended c.in_ok-write_file.ensures.all;
-  unfailed = c.in_ok-write_file.ensures.failures ∙ c.loop-file.invariant.unfailed;
+pub loop-index-preserved : goal.loop-index-preserved
+loop-index-preserved g c = record {
+  appended = Appends-next (λ e. lines_of c.args.oneline (string_bytes e.0) e.1) c.args.files.now.entries c.loop-index.index (c.file_number.result.0.now, c.file_number.result.1.now) (omega (arith, c.len-index-end.ensures.len)) (read_is c.args.files.now.entries c.loop-index.index (c.file_number.result.0.now, c.file_number.result.1.now) c.file_number.ensures) _ _ _ c.loop-index.invariant.appended
+      (rw c.as_str.ensures.value at c.in_ok-write_file.ensures.all);
+  unfailed = c.in_ok-write_file.ensures.failures ∙ c.loop-index.invariant.unfailed;
 }

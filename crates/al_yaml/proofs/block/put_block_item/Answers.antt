@@ -1,4 +1,4 @@
-use Rattle.std.proofs.Common.{◌≡◌, suc, ◌+◌, ◌<◌, ◌≤◌, map, length, refl, sym, ap, ◌∙◌, arith, Ok, Err, Some, None}
+use Rattle.std.proofs.Common.{suc, map, length, refl, sym, ap, ◌∙◌, arith, Ok}
 use Rattle.std.proofs.lemmas.Result.{err_from_is_err_and}
 use Rattle.al_scalar.specs.Places.{lines_at}
 use Rattle.al_scalar.specs.Scalar.{span}

@@ -1,4 +1,4 @@
-use Rattle.std.proofs.Common.{◌≡◌, suc, ◌+◌, ◌<◌, ◌≤◌, map, refl, sym, ap, ◌∙◌, arith, Ok, Err}
+use Rattle.std.proofs.Common.{◌≤◌, map, refl, ap, ◌∙◌, arith, Ok}
 use Rattle.std.proofs.lemmas.Result.{err_from_is_err_and}
 use Rattle.al_scalar.specs.Places.{lines_at}
 use Rattle.al_yaml.specs.Flow.{after_item}
@@ -7,7 +7,7 @@ use Rattle.al_yaml.specs.View.{view, nodes_of}
 use Rattle.al_yaml.specs.declared.faults.Stop.TheVariants as stop
 use Rattle.al_yaml.proofs.ReadLemmas.{nodes_of-more}
 use Rattle.al_yaml.proofs.FlowStepLemmas.{item-refused, item-more, item-end}
-use Rattle.al_yaml.proofs.SpanLemmas.{items-more, sequence-nested, over}
+use Rattle.al_yaml.proofs.SpanLemmas.{items-more, sequence-nested}
 use Rattle.al_yaml.proofs.flow.put_item.Goals as goal
 
 pub returns-in_err-at-clause-is : goal.returns-in_err-at-clause-is

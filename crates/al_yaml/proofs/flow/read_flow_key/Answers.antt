@@ -1,12 +1,6 @@
-use Rattle.std.proofs.Common.{◌≡◌, sym, ap, ◌∙◌, arith}
 use Rattle.std.proofs.lemmas.Result.{err_from_is_err_and}
 use Rattle.al_scalar.specs.Contract.{read_of}
-use Rattle.al_scalar.specs.Places.{lines_at}
-use Rattle.al_text.specs.declared.codes.YamlCode.TheVariants as yaml
-use Rattle.al_yaml.specs.Reading.{Reading, Part, fails, ◌>>=◌}
-use Rattle.al_yaml.specs.Reads.{run, counted}
 use Rattle.al_yaml.specs.Places.{fault_of, option_lines}
-use Rattle.al_yaml.proofs.LineLemmas.{start-at}
 use Rattle.al_yaml.proofs.FlowLemmas.{key-fault, key-property, key-opens, key-unread, key-wrong, key-broken, key-ok}
 use Rattle.al_yaml.proofs.flow.read_flow_key.Goals as goal
 

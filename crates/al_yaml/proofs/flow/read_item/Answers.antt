@@ -1,4 +1,4 @@
-use Rattle.std.proofs.Common.{◌≡◌, suc, ◌+◌, ◌<◌, ◌≤◌, map, sym, ap, ◌∙◌, arith, None}
+use Rattle.std.proofs.Common.{◌+◌, map, ap, ◌∙◌, arith, None}
 use Rattle.std.proofs.lemmas.Result.{err_from_is_err_and}
 use Rattle.al_yaml.specs.Flow.{FlowSlot}
 use Rattle.al_yaml.specs.Frames.{answered, waiting_rest, item}

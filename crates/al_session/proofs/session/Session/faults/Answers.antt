@@ -1,29 +1,19 @@
-use Rattle.std.proofs.Common.{arith, sym, ap, ◌∙◌, Some}
-use Rattle.al_session.specs.Kept.{folder_of}
-use Rattle.al_session.specs.Folder.{bytes_at, faults_at, faults_in}
+use Rattle.std.proofs.Common.{ap, ◌∙◌, Some}
 use Rattle.std.specs.Option.{option_map}
-use Rattle.al_session.proofs.Places.{found_within, file_is, absent}
-use Rattle.al_session.proofs.Puts.{faults_found, read_inside, spans_inside}
+use Rattle.al_session.specs.Kept.{folder_of}
+use Rattle.al_session.proofs.Reports.{faults_kept, spans_kept, order_kept}
 use Rattle.al_session.proofs.session.Session.faults.Goals as goal
 
-pub index-requires : goal.index-requires
-index-requires g c =
-    let within = found_within c.self.inside.files.items c.args.path.now c.in-Ok.index (sym (rw c.deref.ensures.value at c.place.ensures) ∙ c.in-Ok.is) in
-    omega (arith, within, c.self.inside.files.ok.0)
+pub returns-in-Some-clause-value : goal.returns-in-Some-clause-value
+returns-in-Some-clause-value g c = rw (← c.self.view_is) (ap Some c.as_slice.ensures.value ∙ ap (option_map (λ h. h.faults.items)) c.in-Some.ensures.value ∙ faults_kept g.L.Lint.meaning (folder_of c.self.inside.files.entries) c.self.inside.files.entries c.args.path.now c.self.invariant.0.faults)
 
-pub returns-in-Ok-clause-value : goal.returns-in-Ok-clause-value
-returns-in-Ok-clause-value g c =
-    let is = sym (rw c.deref.ensures.value at c.place.ensures) ∙ c.in-Ok.is in
-    rw (← c.self.view_is) (ap Some (c.as_slice.ensures.value ∙ ap (λ h. h.faults.items) c.index.ensures) ∙ faults_found g.L.Lint.meaning c.self.inside.files.items c.args.path.now c.in-Ok.index c.index.result.now is c.self.invariant.faults)
+pub returns-in-None-clause-value : goal.returns-in-None-clause-value
+returns-in-None-clause-value g c = rw (← c.self.view_is) (ap (option_map (λ h. h.faults.items)) c.in-None.ensures.value ∙ faults_kept g.L.Lint.meaning (folder_of c.self.inside.files.entries) c.self.inside.files.entries c.args.path.now c.self.invariant.0.faults)
 
-pub returns-in-Err-clause-value : goal.returns-in-Err-clause-value
-returns-in-Err-clause-value g c =
-    let none = absent (folder_of c.self.inside.files.items) c.args.path.now _ c.self.invariant.ordered (sym (rw c.deref.ensures.value at c.place.ensures) ∙ c.in-Err.is) in
-    rw (← c.self.view_is) (sym (ap (option_map (faults_in g.L.Lint.meaning (folder_of c.self.inside.files.items) c.args.path.now)) none))
+pub returns-in-Some-clause-spans : goal.returns-in-Some-clause-spans
+returns-in-Some-clause-spans g c = rw (← c.self.view_is) (λ b there. spans_kept g.L.Lint.meaning g.L.Lint.is_unit g.met.L.Lint.inside c.self.inside.files.entries c.args.path.now b c.as_slice.result.now c.in-Some.file.now
+    c.self.invariant.0.kept.kept c.self.invariant.0.faults c.in-Some.ensures.value there c.as_slice.ensures.value)
 
-pub returns-in-Ok-clause-spans : goal.returns-in-Ok-clause-spans
-returns-in-Ok-clause-spans g c =
-    let is = sym (rw c.deref.ensures.value at c.place.ensures) ∙ c.in-Ok.is in
-    let value = ap Some (c.as_slice.ensures.value ∙ ap (λ h. h.faults.items) c.index.ensures) ∙ faults_found g.L.Lint.meaning c.self.inside.files.items c.args.path.now c.in-Ok.index c.index.result.now is c.self.invariant.faults in
-    rw (← c.self.view_is) (λ b there. spans_inside g.L.Lint.meaning (folder_of c.self.inside.files.items) c.args.path.now b c.as_slice.result.now
-    (read_inside g.L.Lint.meaning g.L.Lint.is_unit c.self.inside.files.items c.args.path.now b c.in-Ok.index c.index.result.now is c.self.invariant.kept g.met.L.Lint.inside there) there value)
+pub returns-in-Some-clause-ordered : goal.returns-in-Some-clause-ordered
+returns-in-Some-clause-ordered g c = order_kept g.L.Lint.meaning g.L.Lint.is_unit g.met.L.Lint.ordered c.self.inside.files.entries c.args.path.now c.as_slice.result.now c.in-Some.file.now
+    c.self.invariant.0.kept.kept c.self.invariant.0.faults c.in-Some.ensures.value c.as_slice.ensures.value

@@ -1,0 +1,3 @@
+pub mod Declarations
+pub mod Inputs
+pub mod NameSets

@@ -1,0 +1,8 @@
+ghost use Rattle.al_meaning.specs.Inside.{MeaningFaultsLie};
+
+/// Where the faults of a meaning stand.
+///
+/// Each fault that [`type_of`](crate::type_of) adds for a tree that a content spells lies in the content. Does nothing.
+pub fn all_lie_in_content()
+    ensures { MeaningFaultsLie }
+{}
