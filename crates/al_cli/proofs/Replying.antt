@@ -1,29 +1,46 @@
--- What the reply to an edit says of the folder.
-use Rattle.std.proofs.Common.{◌≡◌, ◌≢◌, ℕ, List, length, Option, None, Some, Result, Ok, Err, refl, sym, ap, ◌∙◌}
-use Rattle.std.proofs.lemmas.List.{length-map}
-use Rattle.std.specs.Prelude.{OnOk, OnErr, IfOk, IfErr}
-use Rattle.al_session.specs.Folder.{Folder, paths_of, refusal_or_memory}
+-- What it says of an edit that the run stops at its reply for want of memory.
+use Rattle.std.proofs.Common.{◌≡◌, inl, inr, List, [], ◌∷◌, ℕ, Bool, true, false, Option, None, Result, Ok, Err, refl, sym, subst}
+use Rattle.std.specs.Prelude.{IfErr}
+use Rattle.al_text.specs.declared.stops.Stop.{Stop}
+use Rattle.al_text.specs.declared.stops.Stop.TheVariants as stops
+use Rattle.al_session.specs.Meaning.{Meaning}
+use Rattle.al_session.specs.Folder.{Folder, first_refusal, put_refusal, delete_refusal, refusal_or_memory}
 use Rattle.al_session.specs.declared.lint.Refused.{Refused}
-use Rattle.al_session.specs.declared.lint.Refused.TheVariants.{Memory}
+use Rattle.al_session.specs.declared.lint.Refused.TheVariants.{BadPath, NotAccepted, TooLarge, Full, NoSuchFile, Memory}
 use Rattle.al_session.specs.declared.session.Edit.{Edit}
-use Rattle.al_cli.specs.Replies.{edited, edit_reply, reply_bytes, accepted_reply, refused_reply}
+use Rattle.al_cli.specs.Replies.{ReplyStops}
 
--- an edit with this reply, other than want of memory, left the folder `after`
-pub record Replied (refusal : Option Refused) (old new after : Folder) (reply : Result Edit Refused) : Type 0 where
-  pub bytes : reply_bytes reply ≡ edit_reply refusal new
-  pub folder : after ≡ edited refusal old new
+-- the session answered want of memory
+wanted_memory : {T : Type 0} (r : Result T Stop) (reply : Result Edit Refused) (refusal : Option Refused) (old new : Option (List ℕ))
+    → IfErr r (ReplyStops reply old new) → IfErr reply (λ x. x ≡ refusal_or_memory refusal) → r ≡ Err stops.Memory → refusal_or_memory refusal ≡ Memory
+wanted_memory (Ok x) reply refusal old new s q e = absurd cc
+wanted_memory (Err stop) reply refusal old new s q e = elim s [
+  | inl x ↦ sym (subst (λ (r : Result Edit Refused). IfErr r (λ y. y ≡ refusal_or_memory refusal)) x.1 q)
+  | inr x ↦ let w : stop ≡ stops.WriteFault = x.0 in absurd cc
+]
 
-pub replied : (refusal : Option Refused) (old new after : Folder) (reply : Result Edit Refused)
-    → OnOk reply (refusal ≡ None) → OnOk reply (after ≡ new) → IfOk reply (λ edit. edit.rechecked ≡ paths_of after)
-    → IfErr reply (λ refused. refused ≡ refusal_or_memory refusal) → OnErr reply (after ≡ old) → reply ≢ Err Memory
-    → Replied refusal old new after reply
-replied None old new after (Ok edit) allowed leaves checked refused kept some = record {
-  bytes = ap (λ (l : List (List ℕ)). accepted_reply (length l)) checked ∙ ap accepted_reply (length-map after (λ (e : List ℕ × List ℕ). e.0) ∙ ap length leaves);
-  folder = leaves;
-}
-replied (Some x) old new after (Ok edit) allowed leaves checked refused kept some = absurd (not_none x allowed)
-  where
-    not_none : (x : Refused) → Some x ≡ None → ⊥
-    not_none x e = cc
-replied None old new after (Err e) allowed leaves checked refused kept some = absurd (some (ap Err refused))
-replied (Some x) old new after (Err e) allowed leaves checked refused kept some = record { bytes = ap refused_reply refused; folder = kept }
+-- no other reason is want of memory
+put_reason : (a b c d : Bool) → refusal_or_memory (first_refusal ((a, BadPath) ∷ (b, NotAccepted) ∷ (c, TooLarge) ∷ (d, Full) ∷ [])) ≡ Memory
+    → first_refusal ((a, BadPath) ∷ (b, NotAccepted) ∷ (c, TooLarge) ∷ (d, Full) ∷ []) ≡ None
+put_reason true b c d e = absurd cc
+put_reason false true c d e = absurd cc
+put_reason false false true d e = absurd cc
+put_reason false false false true e = absurd cc
+put_reason false false false false e = refl
+
+delete_reason : (a b c : Bool) → refusal_or_memory (first_refusal ((a, BadPath) ∷ (b, NotAccepted) ∷ (c, NoSuchFile) ∷ [])) ≡ Memory
+    → first_refusal ((a, BadPath) ∷ (b, NotAccepted) ∷ (c, NoSuchFile) ∷ []) ≡ None
+delete_reason true b c e = absurd cc
+delete_reason false true c e = absurd cc
+delete_reason false false true e = absurd cc
+delete_reason false false false e = refl
+
+module _ {I T : Type 0} (m : Meaning I) (folder : Folder) (path : List ℕ) (r : Result T Stop) (reply : Result Edit Refused) (old new : Option (List ℕ))
+    (stopped : IfErr r (ReplyStops reply old new)) (memory : r ≡ Err stops.Memory) where
+  pub put_allowed : (bytes : List ℕ) → IfErr reply (λ x. x ≡ refusal_or_memory (put_refusal m folder path bytes)) → put_refusal m folder path bytes ≡ None
+  unfolding put_refusal
+  put_allowed bytes q = put_reason _ _ _ _ (wanted_memory r reply (put_refusal m folder path bytes) old new stopped q memory)
+
+  pub delete_allowed : IfErr reply (λ x. x ≡ refusal_or_memory (delete_refusal m folder path)) → delete_refusal m folder path ≡ None
+  unfolding delete_refusal
+  delete_allowed q = delete_reason _ _ _ (wanted_memory r reply (delete_refusal m folder path) old new stopped q memory)

@@ -1,15 +1,17 @@
 -- What a script's session does at a command: the folder, replies and the status.
-use Rattle.std.specs.Prelude.{◌≡◌, ◌≢◌, ◌⊎◌, ℕ, List, ◌++◌, length, codes, decimal, Option, None, Some, Result, Ok, Err}
+use Rattle.std.specs.Prelude.{◌≡◌, ◌≢◌, ◌⊎◌, ℕ, Bool, List, ◌++◌, length, codes, decimal, Option, None, Some, Result, Ok, Err}
 use Rattle.std.specs.Io.KnownBytes.{Keeps}
 use Rattle.al_text.specs.Counted.{AppendsFront}
 use Rattle.al_text.specs.declared.stops.Stop.{Stop}
 use Rattle.al_text.specs.declared.stops.Stop.TheVariants as stops
 use Rattle.al_session.specs.declared.session.Edit.{Edit}
+use Rattle.al_session.specs.Affected.{affected}
 use Rattle.al_session.specs.Folder.{Folder, put_refusal, delete_refusal, with_file, without_file}
 use Rattle.al_session.specs.Report.{report_of, status_of}
 use Rattle.al_session.specs.declared.lint.Refused.{Refused}
 use Rattle.al_session.specs.declared.lint.Refused.TheVariants.{BadPath, NotAccepted, TooLarge, Full, NoSuchFile, Memory}
 use Rattle.al_cli.specs.Files.{linting}
+use Rattle.al_cli.specs.contracts.lint.NoInterfacePartialEq.TheImpl as interface
 use Rattle.al_cli.specs.Script.{Command, Put, Delete, Report}
 use Rattle.al_cli.specs.Runs.{Steps}
 
@@ -33,23 +35,31 @@ abbrev pub edited : Option Refused → Folder → Folder → Folder
 edited None old new = new
 edited (Some refused) old new = old
 
-abbrev pub edit_reply : Option Refused → Folder → List ℕ
-edit_reply None new = accepted_reply (length new)
-edit_reply (Some refused) new = refused_reply refused
+-- an accepted edit is answered by the number of the files that it can change
+abbrev pub edit_reply : Option Refused → Folder → Folder → List ℕ
+edit_reply None old new = accepted_reply (length (affected interface.ghosts.eq linting old new))
+edit_reply (Some refused) old new = refused_reply refused
 
 abbrev pub folder_after : Folder → Command → Folder
 folder_after folder (Put path bytes) = edited (put_refusal linting folder path bytes) folder (with_file folder path bytes)
 folder_after folder (Delete path) = edited (delete_refusal linting folder path) folder (without_file folder path)
 folder_after folder Report = folder
 
-abbrev pub reply_to : Folder → Command → List ℕ
-reply_to folder (Put path bytes) = edit_reply (put_refusal linting folder path bytes) (with_file folder path bytes)
-reply_to folder (Delete path) = edit_reply (delete_refusal linting folder path) (without_file folder path)
-reply_to folder Report = report_of linting folder ++ (codes "status " ++ decimal (status_of linting folder) ++ codes "\n")
+-- to a report with snippets, or of lines alone
+abbrev pub reply_to : Bool → Folder → Command → List ℕ
+reply_to oneline folder (Put path bytes) = edit_reply (put_refusal linting folder path bytes) folder (with_file folder path bytes)
+reply_to oneline folder (Delete path) = edit_reply (delete_refusal linting folder path) folder (without_file folder path)
+reply_to oneline folder Report = report_of oneline linting folder ++ (codes "status " ++ decimal (status_of linting folder) ++ codes "\n")
+
+-- why a command is refused, other than for memory
+abbrev pub refusal_of : Folder → Command → Option Refused
+refusal_of folder (Put path bytes) = put_refusal linting folder path bytes
+refusal_of folder (Delete path) = delete_refusal linting folder path
+refusal_of folder Report = None
 
 -- the session of a script, over its folders
-abbrev pub session : Steps Folder
-session = record { reply = reply_to; after = folder_after; status = status_of linting }
+abbrev pub session : Bool → Steps Folder
+session oneline = record { reply = reply_to oneline; after = folder_after; status = status_of linting }
 
 -- ---- what a reply to an edit writes
 
@@ -57,6 +67,7 @@ abbrev pub reply_bytes : Result Edit Refused → List ℕ
 reply_bytes (Ok edit) = accepted_reply (length edit.rechecked)
 reply_bytes (Err refused) = refused_reply refused
 
--- nothing was written for want of memory, or a front of the reply
+-- the session answered want of memory and nothing was written, or a write failed behind a front of the reply
 abbrev pub ReplyStops : Result Edit Refused → Option (List ℕ) → Option (List ℕ) → Stop → Type 0
-ReplyStops reply wrote now stop = ((stop ≡ stops.Memory) × Keeps wrote now) ⊎ ((stop ≡ stops.WriteFault) × (reply ≢ Err Memory) × AppendsFront wrote now (reply_bytes reply))
+ReplyStops reply wrote now stop = ((stop ≡ stops.Memory) × (reply ≡ Err Memory) × Keeps wrote now)
+    ⊎ ((stop ≡ stops.WriteFault) × (reply ≢ Err Memory) × AppendsFront wrote now (reply_bytes reply))

@@ -1,7 +1,7 @@
-ghost use Rattle.std.specs.Prelude.{Err, ◌≡◌, ◌≢◌, [], ◌<◌, MatchOption, ◌+◌, ◌≤◌, ◌++◌, ◌⊎◌, ℕ, List, length, take, drop, codes, IfOk, OnOk, OnErr, IfErr, IsErrOf, is_ok, decimal, IsOkUnless};
+ghost use Rattle.std.specs.Prelude.{Err, None, false, max, ◌≡◌, ◌≢◌, [], ◌<◌, MatchOption, ◌+◌, ◌≤◌, ◌++◌, ◌⊎◌, ℕ, List, length, take, drop, codes, IfOk, OnOk, OnErr, IfErr, IsErrOf, is_ok, decimal, IsOkUnless};
 ghost use Rattle.std.specs.Io.KnownBytes.{Appends, Keeps, Consumes};
 ghost use Rattle.al_text.specs.Counted.{raised, HasRisen, AppendsFront};
-ghost use Rattle.al_text.specs.Streams.{bytes_left, turns_of, read_failures, bytes_written, write_failures};
+ghost use Rattle.al_text.specs.Streams.{bytes_left, turns_of, read_failures, largest_ask, bytes_written, write_failures};
 ghost use Rattle.al_cli.specs.Next.{meaning};
 ghost use Rattle.al_cli.specs.Script.{IsPending, BeginsWithCommand};
 ghost use Rattle.al_cli.specs.Runs.{RunsToEnd, Stops, Ends, GoesOn, TurnStops};
@@ -34,21 +34,23 @@ pub(crate) enum Progress {
     Bad,
 }
 
-/// Runs the script that the reader gives.
+/// Runs the script that the reader gives. Its reports print faults as lines alone where `oneline` is asked for.
 pub fn run_session<R: Read, W: Write>(
     alloc: Global,
     reader: &mut Input<R>,
     writer: &mut Output<W>,
+    oneline: bool,
 ) -> Result<u8, Stop>
-    ensures end { IfOk result (RunsToEnd replies.session [] [] (bytes_left R.remaining reader.old)
+    ensures end { IfOk result (RunsToEnd (replies.session oneline) [] [] (bytes_left R.remaining reader.old)
         (bytes_written W.contents writer.old) (bytes_written W.contents writer.new)) }
-    ensures stop { IfErr result (Stops replies.session []
+    ensures stop { IfErr result (Stops (replies.session oneline) []
         (bytes_left R.remaining reader.old) (bytes_left R.remaining reader.new)
         (bytes_written W.contents writer.old) (bytes_written W.contents writer.new)) }
     ensures reads { turns_of reader.new ≤ turns_of reader.old + 1048576 }
     ensures read_failed { IsErrOf result Stop.ReadFault → HasRisen (read_failures reader.old) (read_failures reader.new) }
     ensures write_failed { IsErrOf result Stop.WriteFault → HasRisen (write_failures writer.old) (write_failures writer.new) }
     ensures all_turns { IsErrOf result Stop.TooManyTurns → turns_of reader.new ≡ raised (turns_of reader.old) 1048576 }
+    ensures asked { largest_ask reader.new ≤ max (largest_ask reader.old) 65536 }
 {
     // A proof knows that a count fits its type where the body reads it.
     let _turns_before = reader.turns();
@@ -56,7 +58,14 @@ pub fn run_session<R: Read, W: Write>(
     let mut waiting: Vec<u8> = Vec::new(alloc);
     let mut piece = empty_piece(alloc)?;
     for _turn in 0..TURNS {
-        match take_turn(&mut session, &mut waiting, &mut piece, reader, writer)? {
+        match take_turn(
+            &mut session,
+            &mut waiting,
+            &mut piece,
+            reader,
+            writer,
+            oneline,
+        )? {
             Some(answer) => return Ok(answer),
             None => {}
         }
@@ -66,7 +75,7 @@ pub fn run_session<R: Read, W: Write>(
 
 // Room for one read. The clause leaves the zeros out: a tactic that sees `replicate 65536 0` computes it.
 fn empty_piece(alloc: Global) -> Result<Vec<u8>, AllocError>
-    ensures { IfOk result (λ piece. 0 < length piece.items) }
+    ensures { IfOk result (λ piece. (0 < length piece.items) × (length piece.items ≤ 65536)) }
 {
     vec![in alloc; 0u8; PIECE]
 }
@@ -78,19 +87,22 @@ fn take_turn<R: Read, W: Write>(
     piece: &mut [u8],
     reader: &mut Input<R>,
     writer: &mut Output<W>,
+    oneline: bool,
 ) -> Result<Option<u8>, Stop>
     requires room { 0 < length piece.old }
+    requires small { length piece.old ≤ 65536 }
     requires pending { IsPending waiting.old.items }
     ensures ok { IfOk result (λ answer. MatchOption answer
-        (GoesOn replies.session session.old.folder session.new.folder waiting.old.items waiting.new.items
+        (GoesOn (replies.session oneline) session.old.folder session.new.folder waiting.old.items waiting.new.items
         (bytes_left R.remaining reader.old) (bytes_left R.remaining reader.new)
         (bytes_written W.contents writer.old) (bytes_written W.contents writer.new))
-        (RunsToEnd replies.session session.old.folder waiting.old.items (bytes_left R.remaining reader.old)
+        (RunsToEnd (replies.session oneline) session.old.folder waiting.old.items (bytes_left R.remaining reader.old)
         (bytes_written W.contents writer.old) (bytes_written W.contents writer.new))) }
-    ensures err { IfErr result (TurnStops replies.session session.old.folder session.new.folder waiting.old.items waiting.new.items
+    ensures err { IfErr result (TurnStops (replies.session oneline) session.old.folder session.new.folder waiting.old.items waiting.new.items
         (bytes_left R.remaining reader.old) (bytes_left R.remaining reader.new)
         (bytes_written W.contents writer.old) (bytes_written W.contents writer.new)) }
     ensures turns { turns_of reader.new ≡ raised (turns_of reader.old) 1 }
+    ensures asked { largest_ask reader.new ≤ max (largest_ask reader.old) 65536 }
     ensures read_failures { OnOk result (read_failures reader.new ≡ read_failures reader.old) }
     ensures write_failures { OnOk result (write_failures writer.new ≡ write_failures writer.old) }
     ensures read_failed { IsErrOf result Stop.ReadFault → HasRisen (read_failures reader.old) (read_failures reader.new) }
@@ -101,7 +113,7 @@ fn take_turn<R: Read, W: Write>(
         return Ok(Some(finish(session, waiting, writer)?));
     }
     waiting.extend_from_slice(&piece[..count])?;
-    match answer_all(session, waiting, writer)? {
+    match answer_all(session, waiting, writer, oneline)? {
         Progress::Bad => Ok(Some(2)),
         Progress::Waits(done) => {
             drop_front(waiting, done);
@@ -119,14 +131,14 @@ fn drop_front(waiting: &mut Vec<u8>, done: usize)
     waiting.drain(..done);
 }
 
-// The end of the input.
+// The end of the input, whatever reports print.
 fn finish<W: Write>(
     session: &Session<FileLint>,
     waiting: &[u8],
     writer: &mut Output<W>,
 ) -> Result<u8, Stop>
     requires { BeginsWithCommand waiting.now → ⊥ }
-    ensures ok { IfOk result (λ answer. (last : List ℕ) × Ends replies.session session.now.folder waiting.now last answer
+    ensures ok { IfOk result (λ answer. (last : List ℕ) × Ends (replies.session false) session.now.folder waiting.now last answer
         × Appends (bytes_written W.contents writer.old) (bytes_written W.contents writer.new) last) }
     ensures err { OnErr result (((waiting.now ≢ []) × AppendsFront (bytes_written W.contents writer.old) (bytes_written W.contents writer.new) (codes "bad command\n"))
         ⊎ Keeps (bytes_written W.contents writer.old) (bytes_written W.contents writer.new)) }
@@ -146,10 +158,11 @@ fn answer_all<W: Write>(
     session: &mut Session<FileLint>,
     waiting: &[u8],
     writer: &mut Output<W>,
+    oneline: bool,
 ) -> Result<Progress, Stop>
-    ensures ok { IfOk result (λ progress. Progresses replies.session session.old.folder session.new.folder waiting.now progress
+    ensures ok { IfOk result (λ progress. Progresses (replies.session oneline) session.old.folder session.new.folder waiting.now progress
         (bytes_written W.contents writer.old) (bytes_written W.contents writer.new)) }
-    ensures err { OnErr result (IsStuck replies.session session.old.folder waiting.now
+    ensures err { OnErr result (IsStuck (replies.session oneline) session.old.folder waiting.now
         (bytes_written W.contents writer.old) (bytes_written W.contents writer.new)) }
     ensures failures { OnOk result (write_failures writer.new ≡ write_failures writer.old) }
     ensures failed { IsErrOf result Stop.WriteFault → HasRisen (write_failures writer.old) (write_failures writer.new) }
@@ -159,7 +172,7 @@ fn answer_all<W: Write>(
     while done < waiting.len() {
         match next_command(&waiting[done..]) {
             Next::Whole(command, count) => {
-                answer(session, command, writer)?;
+                answer(session, command, writer, oneline)?;
                 done += count;
             }
             Next::Pending => return Ok(Progress::Waits(done)),
@@ -177,24 +190,26 @@ fn answer<W: Write>(
     session: &mut Session<FileLint>,
     command: Command<'_>,
     writer: &mut Output<W>,
+    oneline: bool,
 ) -> Result<(), Stop>
     ensures after { OnOk result (session.new.folder ≡ replies.folder_after session.old.folder (meaning command.entry)) }
     ensures ok { OnOk result (Appends (bytes_written W.contents writer.old) (bytes_written W.contents writer.new)
-        (replies.reply_to session.old.folder (meaning command.entry))) }
+        (replies.reply_to oneline session.old.folder (meaning command.entry))) }
     ensures err { OnErr result (AppendsFront (bytes_written W.contents writer.old) (bytes_written W.contents writer.new)
-        (replies.reply_to session.old.folder (meaning command.entry))) }
+        (replies.reply_to oneline session.old.folder (meaning command.entry))) }
     ensures failures { OnOk result (write_failures writer.new ≡ write_failures writer.old) }
     ensures failed { IsErrOf result Stop.WriteFault → HasRisen (write_failures writer.old) (write_failures writer.new) }
     ensures only { IfErr result (λ e. (e ≡ WriteFault) ⊎ (e ≡ Memory)) }
+    ensures memory { IsErrOf result Stop.Memory → replies.refusal_of session.old.folder (meaning command.entry) ≡ None }
 {
     match command {
         Command::Put(path, bytes) => write_reply(writer, session.put(path, bytes)),
         Command::Delete(path) => write_reply(writer, session.delete(path)),
-        Command::Report => write_report(writer, session),
+        Command::Report => write_report(writer, session, oneline),
     }
 }
 
-// Writes the reply to an edit. Want of memory has none.
+// Writes the reply to an edit. Want of memory has none, and ends the run; no other reply does.
 fn write_reply<W: Write>(writer: &mut Output<W>, reply: Result<Edit, Refused>) -> Result<(), Stop>
     ensures ok { OnOk result ((reply ≢ Err refused.Memory) × Appends (bytes_written W.contents writer.old) (bytes_written W.contents writer.new) (replies.reply_bytes reply)) }
     ensures err { IfErr result (replies.ReplyStops reply (bytes_written W.contents writer.old) (bytes_written W.contents writer.new)) }
@@ -208,8 +223,8 @@ fn write_reply<W: Write>(writer: &mut Output<W>, reply: Result<Edit, Refused>) -
     }
 }
 
-// The number that a reply gives.
-fn number_of(refused: Refused) -> u64
+/// The number of a refusal (E1 to E6).
+pub fn number_of(refused: Refused) -> u64
     ensures { result ≡ replies.number_of refused }
 {
     match refused {
@@ -223,16 +238,20 @@ fn number_of(refused: Refused) -> u64
 }
 
 // Writes each file's faults, and the status.
-fn write_report<W: Write>(writer: &mut Output<W>, session: &Session<FileLint>) -> Result<(), Stop>
+fn write_report<W: Write>(
+    writer: &mut Output<W>,
+    session: &Session<FileLint>,
+    oneline: bool,
+) -> Result<(), Stop>
     ensures ok { OnOk result (Appends (bytes_written W.contents writer.old) (bytes_written W.contents writer.new)
-        (replies.reply_to session.now.folder script.Report)) }
+        (replies.reply_to oneline session.now.folder script.Report)) }
     ensures err { OnErr result (AppendsFront (bytes_written W.contents writer.old) (bytes_written W.contents writer.new)
-        (replies.reply_to session.now.folder script.Report)) }
+        (replies.reply_to oneline session.now.folder script.Report)) }
     ensures failures { OnOk result (write_failures writer.new ≡ write_failures writer.old) }
     ensures failed { IsErrOf result Stop.WriteFault → HasRisen (write_failures writer.old) (write_failures writer.new) }
     ensures only { IfErr result (λ e. (e ≡ WriteFault) ⊎ (e ≡ Memory)) }
 {
-    session.report(writer)?;
+    session.report(writer, oneline)?;
     let status = session.status()?;
     write_number(writer, b"status ", u64::from(status))
 }

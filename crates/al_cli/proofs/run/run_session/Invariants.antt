@@ -1,4 +1,4 @@
-use Rattle.std.proofs.Common.{◌≡◌, ◌<◌, ◌≤◌, length, List, ℕ, []}
+use Rattle.std.proofs.Common.{◌≡◌, ◌<◌, ◌≤◌, length, max, List, ℕ, []}
 use Rattle.al_text.specs.Counted.{raised}
 use Rattle.al_cli.specs.Runs.{PausesAfter}
 use Rattle.al_cli.specs.Replies.{session}
@@ -7,7 +7,9 @@ use Rattle.al_cli.proofs.run.run_session.Given as goal
 abbrev pub invariant-loop-turn : goal.invariant-loop-turn
 invariant-loop-turn g l = record {
   room : 0 < length l.piece.items;
-  paused : (read : List ℕ) × (l._turn ≤ length read) × PausesAfter session [] l.session.folder l.waiting.items
+  small : length l.piece.items ≤ 65536;
+  asked : l.reader.largest_ask ≤ max l.fn.reader.largest_ask 65536;
+  paused : (read : List ℕ) × (l._turn ≤ length read) × PausesAfter (session l.oneline) [] l.session.folder l.waiting.items
       (g.R.Read.remaining l.fn.reader.inner) (g.R.Read.remaining l.reader.inner) (g.W.Write.contents l.fn.writer.inner) (g.W.Write.contents l.writer.inner) read;
   turns : l.reader.turns ≡ raised l.fn.reader.turns l._turn;
   reads_well : l.reader.failures ≡ l.fn.reader.failures;
