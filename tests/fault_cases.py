@@ -4,6 +4,8 @@ A section of the page is a fault: its heading has the fault's identifier and its
 file and the report of that file as the only one of a folder. The first example's report must have a line with the message,
 the last one's must have none. Each example becomes a script and its output.
 
+Before the file may stand other files of the folder, marked `yaml PATH`, which have no faults. They are put first.
+
 In a file marked `yaml escaped`, `\\xHH` stands for the byte with that hexadecimal value, and `\\*N{TEXT}` for TEXT written N
 times.
 """
@@ -13,7 +15,8 @@ import re
 import sys
 
 PATH = ".github/workflows/a.yml"
-EXAMPLE = re.compile(r"```yaml( escaped)?\n(.*?)```\n\s*```text\n(.*?)```", re.DOTALL)
+OTHER = re.compile(r"```yaml (\S+\.ya?ml)\n(.*?)```\n\s*", re.DOTALL)
+EXAMPLE = re.compile(r"((?:```yaml \S+\.ya?ml\n(?:(?!```).)*```\n\s*)*)```yaml( escaped)?\n(.*?)```\n\s*```text\n(.*?)```", re.DOTALL)
 ESCAPE = re.compile(rb"\\x([0-9a-f]{2})|\\\*([0-9]+)\{([^}]*)\}")
 SECTION = re.compile(r"^### ([A-Z][0-9]+) `(.*)`$", re.MULTILINE)
 
@@ -29,11 +32,16 @@ def unescaped(match):
     return bytes([int(value, 16)]) if value else text * int(count)
 
 
-def script_and_output(escaped, file, report):
-    """The script that puts the file and reports, and what it must print."""
+def put(path, data):
+    """The command that puts a file."""
+    return f"put {path} {len(data)}\n".encode() + data + b"\n"
+
+
+def script_and_output(others, escaped, file, report):
+    """The script that puts the files and reports, and what it must print. No file that is put is called by one before it."""
     data = ESCAPE.sub(unescaped, file.encode()) if escaped else file.encode()
-    script = f"put {PATH} {len(data)}\n".encode() + data + b"\nreport\n"
-    return script, f"ok 1\n{report}status {1 if report else 0}\n"
+    puts = [put(path, text.encode()) for path, text in OTHER.findall(others)] + [put(PATH, data)]
+    return b"".join(puts) + b"report\n", "ok 1\n" * len(puts) + f"{report}status {1 if report else 0}\n"
 
 
 def main(page, folder):
@@ -47,7 +55,7 @@ def main(page, folder):
     for name, message, body in sections:
         examples = EXAMPLE.findall(body)
         pattern = message_pattern(message)
-        if len(examples) < 2 or not pattern.search(examples[0][2]) or pattern.search(examples[-1][2]):
+        if len(examples) < 2 or not pattern.search(examples[0][-1]) or pattern.search(examples[-1][-1]):
             sys.exit(f"{page}: {name} needs an example that gives it first, and one that doesn't last")
         for number, example in enumerate(examples, start=1):
             script, output = script_and_output(*example)

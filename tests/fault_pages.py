@@ -1,7 +1,7 @@
-"""Compares the pages of faults with the code and the definitions: fault_pages.py TOP.
+"""Compares the pages of faults with the code and the definitions: fault_pages.py TOP LETTERS.
 
-Each fault code of al_text names its identifier (`/// K2: ..`) and has its message in al_text's table; each has one entry on a page
-docs/FAULTS*.md, with that message. Each entry says which definitions decide it: after `crate/specs/File.antt`, a colon and the
+Each fault code of al_text names its identifier (`/// K2: ..`) and has its message in al_text's table; each whose identifier begins
+with one of LETTERS (the kinds of faults that the program prints) has one entry on a page docs/FAULTS*.md, with that message. Each entry says which definitions decide it: after `crate/specs/File.antt`, a colon and the
 names, each in backquotes. The file must exist below crates/ and define each of the names.
 """
 
@@ -67,7 +67,7 @@ def undefined(top, body):
                 yield f"names {name}, which {file} doesn't define"
 
 
-def main(folder):
+def main(folder, letters):
     top = pathlib.Path(folder)
     found, wrong = entries(top)
     table = messages(top)
@@ -79,7 +79,8 @@ def main(folder):
         if words is None:
             wrong.append(f"{name}: the table of messages has no row for {variant}")
         elif name not in found:
-            wrong.append(f"{name} has no entry")
+            if name[0] in letters:
+                wrong.append(f"{name} has no entry")
         elif not shown_in(words, found[name][0]):
             wrong.append(f"{name}: its entry has another message than the table")
     for name in found.keys() - {name for name, _ in every}:

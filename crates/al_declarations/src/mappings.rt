@@ -5,23 +5,22 @@ ghost use Rattle.al_declarations.specs.Declarations as declarations;
 ghost use Rattle.al_shape.specs.Values.{member_of};
 ghost use Rattle.al_yaml.specs.View.{view};
 
-use crate::names::is_named_among;
+use crate::name_sets::NameSet;
 use al_shape::{Member, key_text, members};
 use al_yaml::Node;
 use std::alloc::{AllocError, Global};
 
 /// Of members with equal names the first.
+#[tactic(auto, using(crate::proofs::NameLemmas::named_more))]
 fn first_named<'a>(alloc: Global, members: &[Member<'a>]) -> Result<Vec<Member<'a>>, AllocError>
     ensures { IfOk result (λ v. map member_of v.items ≡ declarations.first_named [] (map member_of members.now)) }
 {
-    let mut seen = Vec::new(alloc);
+    let mut names = NameSet::new(alloc);
     let mut found = Vec::new(alloc);
     for member in members {
-        let name = key_text(member.key);
-        if !is_named_among(seen.as_slice(), name) {
+        if names.insert(alloc, key_text(member.key))? {
             found.push(*member)?;
         }
-        seen.push(name)?;
     }
     Ok(found)
 }

@@ -1,13 +1,12 @@
 -- The lines of a quoted scalar.
-use Rattle.std.proofs.Common.{◌≡◌, ◌≢◌, ℕ, suc, ◌+◌, ◌<◌, ◌≤◌, List, [], ◌∷◌, ◌++◌, length, drop, drop-cons, slice_index, refl, sym, ap, subst, ◌∙◌, append_assoc, Bool, true, false, not, ◌&&◌, ◌==◌, cond, inl, inr, ◌⊎◌, Option, Some, None, Result, Ok, Err}
-use Rattle.std.proofs.Math.Nat.{eq-or-lt_of_le}
+use Rattle.std.proofs.Common.{◌≡◌, ℕ, suc, ◌<◌, List, [], ◌∷◌, ◌++◌, length, drop, drop-cons, slice_index, refl, sym, ap, ◌∙◌, append_assoc, Bool, true, false, ◌==◌, cond, inl, inr, ◌⊎◌, Option, Some, None, Result, Ok, Err}
 use Rattle.al_text.specs.declared.codes.YamlCode.TheVariants.{UnclosedQuote, WrongEscape}
 use Rattle.al_scalar.specs.Line.{Cell, Line, lines, with_return, cut, after_blanks, begins}
-use Rattle.al_scalar.specs.Taken.{Fault, Taken, before, folded, fault}
+use Rattle.al_scalar.specs.Taken.{Fault, Taken, before, fault}
 use Rattle.al_scalar.specs.Quoted.{Part, Stop, closed, broken, escaped, cut_short, single_part, line_given, single_quoted}
-use Rattle.al_scalar.specs.Places.{lines_at, cells_between, with_cells_before, AreBlank, IsBlankByte, IsLineEnd, IsBreakAt, broken_line, SameLine, first_text, first_end, first_last, later}
+use Rattle.al_scalar.specs.Places.{lines_at, AreBlank, IsBlankByte, IsLineEnd, SameLine, first_text, first_end, first_last, later}
 use Rattle.al_scalar.specs.Single.{part_at, single_lines}
-use Rattle.al_scalar.proofs.SingleLemmas.{has_line, lines_at-some, lines-at_end, cell_at, is_nothing, is_blank-yes, is_blank-no}
+use Rattle.al_scalar.proofs.SingleLemmas.{has_line, lines_at-some, is_nothing, is_blank-yes, is_blank-no}
 
 pub before-two : (a b : List Cell) (r : Result Taken Fault) → before a (before b r) ≡ before (a ++ b) r
 before-two a b (Ok t) = ap (λ c. Ok (record { text = c; end = t.end; left = t.left })) (sym (append_assoc a b t.text))

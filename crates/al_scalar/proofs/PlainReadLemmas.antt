@@ -1,16 +1,15 @@
 -- The reader of plain scalars, one line after the other.
-use Rattle.std.proofs.Common.{◌≡◌, ◌≢◌, ℕ, zero, suc, ◌+◌, ◌-◌, ◌<◌, ◌≤◌, List, [], ◌∷◌, ◌++◌, length, drop, slice_index, refl, sym, ap, ◌∙◌, arith, add-one, append_assoc, append-nil, Bool, true, false, not, ◌&&◌, ◌||◌, ◌==◌, nat_le, cond, inl, inr, ◌⊎◌, eq-or-lt_of_le, Result, Ok, Err}
+use Rattle.std.proofs.Common.{◌≡◌, ◌≢◌, ℕ, ◌+◌, ◌<◌, ◌≤◌, List, [], ◌∷◌, ◌++◌, length, drop, slice_index, refl, sym, ap, ◌∙◌, append_assoc, append-nil, Bool, true, false, not, ◌&&◌, ◌==◌, cond, inl, inr, ◌⊎◌, eq-or-lt_of_le, Result, Ok, Err}
 use Rattle.al_text.specs.declared.codes.YamlCode.TheVariants.{UnexpectedCharacter}
-use Rattle.al_scalar.specs.Line.{Cell, Line, lines, with_cell, with_return, is_break, place, cut, after_blanks, indent, is_empty, is_blank, begins, is_comment, is_document_marker}
+use Rattle.al_scalar.specs.Line.{Cell, Line, lines, with_cell, with_return, is_break, place, cut, after_blanks, is_empty}
 use Rattle.al_scalar.specs.Taken.{Fault, Taken, before, fault, folded_break}
-use Rattle.al_scalar.specs.Plain.{Context, flow, block, is_flow, is_value_colon, ends_plain, plain_part, continues, ended_before, plain_lines, plain}
-use Rattle.al_scalar.specs.Places.{lines_at, cells_at, cells_between, with_cells_before, AreBlank, IsBlankByte, IsBreakAt, SameLine, broken_line, first_text, first_end, first_last, later, text_at}
+use Rattle.al_scalar.specs.Plain.{Context, is_flow, is_value_colon, plain_part, continues, ended_before, plain_lines, plain}
+use Rattle.al_scalar.specs.Places.{lines_at, cells_between, with_cells_before, AreBlank, IsBlankByte, IsBreakAt, SameLine, broken_line, first_text, first_end, first_last, later, text_at}
 use Rattle.al_scalar.specs.PlainLines.{is_blank_line, begins_blank_line, text_lines, empty_ends, here_at, after_part, PartTo}
-use Rattle.al_scalar.proofs.LineLemmas.{lines_at-other, cells_between-none}
-use Rattle.al_scalar.proofs.SingleLemmas.{has_line, lines_at-some, lines-at_end, text-line_end, cell_at, run_at, byte_kind, is_blank-no, never}
+use Rattle.al_scalar.proofs.LineLemmas.{lines_at-other}
+use Rattle.al_scalar.proofs.SingleLemmas.{has_line, lines_at-some, lines-at_end, run_at, never}
 use Rattle.al_scalar.proofs.FoldLemmas.{after_blanks-run, after_blanks-solid, before-two, cut-same}
 use Rattle.al_scalar.proofs.RestLemmas.{text_kind, place-same}
-use Rattle.al_scalar.proofs.PlainLemmas.{part-step}
 use Rattle.al_scalar.proofs.BlankLemmas.{after_blanks-none}
 
 -- ---- the text at an offset

@@ -74,7 +74,7 @@ has_line-cond : (b : Bool) (xs ys : List Line) → has_line xs ≡ true → has_
 has_line-cond true xs ys h k = h
 has_line-cond false xs ys h k = k
 
-lines-some : (at : ℕ) (bs : List ℕ) → has_line (lines at bs) ≡ true
+pub lines-some : (at : ℕ) (bs : List ℕ) → has_line (lines at bs) ≡ true
 lines-some at [] = refl
 lines-some at (b ∷ bs) =
     let some = lines-some (at + 1) bs in

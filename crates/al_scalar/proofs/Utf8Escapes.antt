@@ -100,7 +100,7 @@ own-both : (c : Cell) (cs : List Cell) (r : Result Part Fault) → PartKeeps cs 
 own-both c cs (Ok t) k = own-keeps c cs t k
 own-both c cs (Err e) k = tt
 
-choose-option : {A : Type 0} (P : A → Type 0) (o : Option ℕ) {x : A} {f : ℕ → A} → P x → ((n : ℕ) → o ≡ Some n → P (f n)) → P (elim o [ None ↦ x | Some n ↦ f n ])
+pub choose-option : {A : Type 0} (P : A → Type 0) (o : Option ℕ) {x : A} {f : ℕ → A} → P x → ((n : ℕ) → o ≡ Some n → P (f n)) → P (elim o [ None ↦ x | Some n ↦ f n ])
 choose-option P None h k = h
 choose-option P (Some n) h k = k n refl
 

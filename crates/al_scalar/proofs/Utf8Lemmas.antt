@@ -70,7 +70,7 @@ pub both-left : (a b : Bool) → (a && b) ≡ true → a ≡ true
 both-left true b h = refl
 both-left false b h = cc
 
-not-false : (a : Bool) → not a ≡ false → a ≡ true
+pub not-false : (a : Bool) → not a ≡ false → a ≡ true
 not-false true h = refl
 not-false false h = cc
 

@@ -23,7 +23,7 @@ IsText cs = IsUtf8 (bytes_of cs)
 pub text-join : (xs ys : List Cell) → IsText xs → IsText ys → IsText (xs ++ ys)
 text-join xs ys h k = subst IsUtf8 (sym (bytes-join xs ys)) (IsUtf8-append (bytes_of xs) (bytes_of ys) h k)
 
-one-ascii : (b : ℕ) → b < 128 → IsUtf8 (b ∷ [])
+pub one-ascii : (b : ℕ) → b < 128 → IsUtf8 (b ∷ [])
 one-ascii b l = IsUtf8-from_ascii (b ∷ []) below
   where
     below : (i : ℕ) → slice_index (b ∷ []) i < 128
@@ -106,11 +106,11 @@ behind-text q l ls a h u = (first-text q l.text a h u.0, u.1)
 
 -- ---- plain
 
-both-right : (a b : Bool) → (a && b) ≡ true → b ≡ true
+pub both-right : (a b : Bool) → (a && b) ≡ true → b ≡ true
 both-right true b h = h
 both-right false b h = cc
 
-indicator-ascii : (b : ℕ) → is_flow_indicator b ≡ true → b < 128
+pub indicator-ascii : (b : ℕ) → is_flow_indicator b ≡ true → b < 128
 indicator-ascii b h = four (either (((b == ascii.comma) || (b == ascii.open_bracket) || (b == ascii.close_bracket)) || (b == ascii.open_brace)) (b == ascii.close_brace) h)
   where
     two : ((b == ascii.comma) ≡ true) ⊎ ((b == ascii.open_bracket) ≡ true) → b < 128
@@ -129,7 +129,7 @@ indicator-ascii b h = four (either (((b == ascii.comma) || (b == ascii.open_brac
     four (inl e) = brace (either ((b == ascii.comma) || (b == ascii.open_bracket) || (b == ascii.close_bracket)) (b == ascii.open_brace) e)
     four (inr e) = equal-ascii b ascii.close_brace (omega arith) e
 
-ends-ascii : (p : Context) (blank : Bool) (c : Cell) (cs : List Cell) → ends_plain p blank (c ∷ cs) ≡ true → c.0 < 128
+pub ends-ascii : (p : Context) (blank : Bool) (c : Cell) (cs : List Cell) → ends_plain p blank (c ∷ cs) ≡ true → c.0 < 128
 ends-ascii p blank c cs h = last (either (is_value_colon p (c ∷ cs) || (begins ascii.hash (c ∷ cs) && blank)) (is_flow p && begins_flow_indicator (c ∷ cs)) h)
   where
     first : (is_value_colon p (c ∷ cs) ≡ true) ⊎ ((begins ascii.hash (c ∷ cs) && blank) ≡ true) → c.0 < 128

@@ -8,7 +8,7 @@ mod examples;
 mod faults;
 mod folding;
 mod header;
-mod lines;
+pub mod lines;
 mod plain;
 mod reader;
 mod reads;

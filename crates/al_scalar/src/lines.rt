@@ -1,3 +1,5 @@
+//! What stands on a line at an offset of a file, which is at most its length.
+
 ghost use Rattle.std.specs.Prelude.{◌≡◌, ◌≢◌, ◌∷◌, ◌+◌, ◌<◌, ◌≤◌, length, IsTrue, ◌↔◌, slice_index};
 ghost use Rattle.al_scalar.specs.Line as line;
 ghost use Rattle.al_scalar.specs.Places.{lines_at, text_at, cells_between, with_cells_before, broken_line, AreBlank, AreSpaces, IsBlankByte, IsLineEnd, IsBreakAt, OnLine, BlankTo, FirstByte};

@@ -48,7 +48,7 @@ fn unless(taken: bool, key: KeyCode) -> Option<KeyCode>
 }
 
 /// What is wrong with a scalar where these are taken.
-pub(crate) fn fault_of(words: Words, scalar: &Scalar) -> Option<KeyCode>
+pub fn fault_of(words: Words, scalar: &Scalar) -> Option<KeyCode>
     ensures { result ≡ word_fault words scalar.now }
 {
     match words {

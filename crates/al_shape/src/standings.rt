@@ -26,7 +26,7 @@ fn runs_of(using_text: &[u8]) -> Shape
 }
 
 /// The shape of a mapping with these entries, which for `runs` depends on one of its keys.
-pub(crate) fn refine(shape: Shape, entries: &[Entry]) -> Shape
+pub fn refine(shape: Shape, entries: &[Entry]) -> Shape
     ensures { result ≡ refined shape (map entry_view entries.now) }
 {
     match shape {
@@ -70,7 +70,7 @@ pub(crate) fn is_needed(need: Need, all: &KeySet<'_>) -> bool
 
 /// How an entry stands in its mapping. A text is a key that is there and beside which it cannot stand.
 #[derive(Clone, Copy)]
-pub(crate) enum Standing {
+pub enum Standing {
     Repeated,
     Unexpected(Option<&'static str>),
     Ignored,
@@ -129,7 +129,7 @@ fn standing_without_row<'a>(
 }
 
 /// How an entry with a key stands behind the keys that were seen, in a mapping with all these.
-pub(crate) fn standing_of<'a>(
+pub fn standing_of<'a>(
     keys: Keys,
     seen: &KeySet<'a>,
     all: &KeySet<'_>,

@@ -21,7 +21,9 @@ use Rattle.std.proofs.Common.{◌==◌}
 use Rattle.std.proofs.lemmas.Grind.{common_steps}
 use Rattle.al_scalar.specs.Places.{first_end}
 use Rattle.al_yaml.proofs.KeyLemmas.{end-more}
-use Rattle.al_yaml.proofs.LineLemmas.{start-at, behind-one, is_inside, never, text-line_end}
+use Rattle.al_yaml.proofs.LineLemmas.{behind-one}
+use Rattle.al_scalar.proofs.RestLemmas.{start-at}
+use Rattle.al_scalar.proofs.SingleLemmas.{is_inside, never, text-line_end}
 use Rattle.al_yaml.proofs.RunLemmas.{run-gives, run-fails, run-start, run-broken, run-stop, run-refused}
 use Rattle.al_yaml.proofs.ReadLemmas.{stops-bind, stops-same, stops-given, bind-ok, given-ok}
 use Rattle.al_yaml.proofs.FlowLemmas.{if-true, if-false, run-aliases}

@@ -9,8 +9,9 @@ use Rattle.al_yaml.specs.Content.{Next, ended, at_line, ends_line, line_ended, w
 use Rattle.std.proofs.lemmas.Grind.{common_steps}
 use Rattle.std.specs.Prelude.{nat_lt}
 use Rattle.al_yaml.specs.Blocks.{next_found}
-use Rattle.al_yaml.proofs.MarkerLemmas.{begins-inside}
-use Rattle.al_yaml.proofs.LineLemmas.{start-at, text_at-cell}
+use Rattle.al_scalar.proofs.MarkerLemmas.{begins-inside}
+use Rattle.al_scalar.proofs.RestLemmas.{start-at}
+use Rattle.al_scalar.proofs.PlainLemmas.{text_at-cell}
 
 -- ---- the text behind blanks and spaces
 

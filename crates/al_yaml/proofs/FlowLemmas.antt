@@ -16,8 +16,10 @@ use Rattle.al_yaml.specs.Flow.{goes_on, closes, after_item, gap, is_file_end, Fl
 use Rattle.al_yaml.specs.Reads.{run, counted, Stops, Refuses}
 use Rattle.al_yaml.specs.declared.faults.Stop.{Stop}
 use Rattle.al_yaml.proofs.ReadLemmas.{stops-same, stops-given, given-ok, scalar_reading}
-use Rattle.al_yaml.proofs.LineLemmas.{behind-one, start-at, text-line_end, never}
-use Rattle.al_yaml.proofs.MarkerLemmas.{begins-inside}
+use Rattle.al_yaml.proofs.LineLemmas.{behind-one}
+use Rattle.al_scalar.proofs.RestLemmas.{start-at}
+use Rattle.al_scalar.proofs.SingleLemmas.{text-line_end, never}
+use Rattle.al_scalar.proofs.MarkerLemmas.{begins-inside}
 use Rattle.al_yaml.proofs.RunLemmas.{run-gives, run-fails, run-start, run-broken, run-stop, run-refused}
 
 pub if-true : {A : Type 0} (b : Bool) (x y : A) → true ≡ b → cond b x y ≡ x

@@ -1,8 +1,10 @@
+//! Nodes in block context, read forward: the loop over the open block collections, and its steps.
+
 ghost use Rattle.al_scalar.specs.Contract.{read_of};
 ghost use Rattle.al_scalar.specs.Offsets.{IsPlaced};
 ghost use Rattle.al_scalar.specs.Places.{lines_at, text_at};
 ghost use Rattle.al_yaml.specs.BlockFrames as frames;
-ghost use Rattle.al_yaml.specs.BlockFrames.{Begins, Enters, FindsBlock, IsBegun, IsEntered, IsFoundFrom, IsNextAt, IsNextBehind, IsNextInside, IsNodeAt, IsOpenAt, IsOpenFrom, IsResumed, ResumesBlock, IsBlockWaitingFrom, block_open_of, block_waiting_of, block_rest};
+ghost use Rattle.al_yaml.specs.BlockFrames.{Begins, Enters, FindsBlock, IsBegun, IsBlockWaitingFrom, IsEntered, IsFoundFrom, IsNextAt, IsNextBehind, IsNextInside, IsNodeAt, IsOpenAt, IsOpenFrom, IsResumed, ResumesBlock, block_open_of, block_rest, block_waiting_of};
 ghost use Rattle.al_yaml.specs.BlockReads.{IsKeyBehind, IsTabInside, key_seen, slot_of, spot_of};
 ghost use Rattle.al_yaml.specs.Blocks as block;
 ghost use Rattle.al_yaml.specs.Content as content;
@@ -12,41 +14,23 @@ ghost use Rattle.al_yaml.specs.Places.{Shows, next_of, option_lines};
 ghost use Rattle.al_yaml.specs.Reads.{IsBehind, IsRead, IsStopInside, part_of};
 ghost use Rattle.al_yaml.specs.Spans.{AreInOrder, EntriesInOrder, IsWithin};
 ghost use Rattle.al_yaml.specs.View.{entries_of, entry_view, nodes_of, view};
-ghost use Rattle.std.specs.Prelude.{ℕ, suc, ◌+◌, ◌<◌, ◌≡◌, ◌≤◌, ◌&&◌, ◌||◌, [], IfErr, IfOk, IfSome, length, map, not, true};
+ghost use Rattle.std.specs.Prelude.{IfErr, IfOk, IfSome, [], length, map, not, suc, true, ℕ, ◌&&◌, ◌+◌, ◌<◌, ◌||◌, ◌≡◌, ◌≤◌};
 
-use crate::content::{Next, first_tab, is_dash, is_skipped, line_ended, next_content};
-use crate::entries::{Key, entry_key, key_at, no_entry, read_line_scalar};
+use crate::content::{Next, is_dash, is_skipped, line_ended, next_content};
+use crate::entries::{entry_key, no_entry};
 use crate::faults::{FaultAt, Stop};
-use crate::flow::{empty_part, mapping_part, read_flow_collection, sequence_part};
-use crate::keys::{
-    behind_colon, characters, is_block_start, is_flow_start, is_property, is_short_key, same_line,
-};
+use crate::flow::read_flow_collection;
+use crate::keys::{Key, behind_colon, is_short_key, key_at};
 use crate::limits::Count;
-use crate::lines::{blanks_end, next_line};
-use crate::node::{Entry, Node, Part, entry_of, scalar_node};
+use crate::lines::{blanks_end, characters, next_line, same_line};
+use crate::node::{Entry, Node, Part, entry_of, mapping_part, scalar_node, sequence_part};
+use crate::scalars::{empty_part, read_line_scalar};
+use crate::slots::{Slot, Spot, is_behind_key, is_deeper, spot_behind, tab_before};
 use crate::stack::Stack;
-use crate::starts::block_fault;
+use crate::starts::{block_fault, is_block_start, is_flow_start, is_property};
 use al_scalar::ScalarRead;
 use al_text::YamlCode;
 use std::alloc::Global;
-
-/// Where a node begins: on a line of its own; behind a dash, with the first tab before it; behind a key on its line.
-#[derive(Clone, Copy)]
-pub enum Spot {
-    OwnLine,
-    Compact(Option<usize>),
-    BehindKey,
-}
-
-/// What surrounds a node: its spot; the least indent of its further lines; whether it is the value of a mapping's
-/// entry; and the offset at which an empty node would stand in its place.
-#[derive(Clone, Copy)]
-pub struct Slot {
-    pub spot: Spot,
-    pub within: usize,
-    pub in_mapping: bool,
-    pub empty: usize,
-}
 
 /// What was read of an open block collection: of a sequence the items before a dash, and whether it is the value of a
 /// mapping's entry; of a mapping the entries before a key, and the key.
@@ -64,7 +48,7 @@ pub enum BlockWaiting {
     Value(Vec<Entry>, ScalarRead),
 }
 
-/// A block collection in which a node is read, by its start and its column.
+/// A block collection that waits for a node, by its start, before which its own anchor would stand, and its column.
 #[derive(Drop)]
 pub struct BlockFrame {
     pub start: usize,
@@ -91,41 +75,6 @@ pub enum BlockTask {
     Found(Part, Next),
 }
 
-/// The spot behind the blanks at an offset.
-fn spot_behind(bytes: &[u8], at: usize, spot: Spot) -> Spot
-    requires inside { at ≤ length bytes.now }
-    requires tab { IsTabInside (length bytes.now) spot }
-    ensures is { spot_of result ≡ block.spot_behind (text_at bytes.now at) (spot_of spot) }
-    ensures tab { IsTabInside (length bytes.now) result }
-{
-    match spot {
-        Spot::OwnLine => Spot::Compact(first_tab(bytes, at)),
-        Spot::Compact(None) => Spot::Compact(first_tab(bytes, at)),
-        Spot::Compact(Some(tab)) => Spot::Compact(Some(tab)),
-        Spot::BehindKey => Spot::BehindKey,
-    }
-}
-
-/// The tab before a compact collection.
-fn tab_before(spot: Spot) -> Option<usize>
-    ensures { result ≡ block.tab_before (spot_of spot) }
-{
-    match spot {
-        Spot::Compact(tab) => tab,
-        Spot::OwnLine | Spot::BehindKey => None,
-    }
-}
-
-/// Whether a node is a value on its key's line.
-fn is_behind_key(spot: Spot) -> bool
-    ensures { result ≡ block.is_behind_key (spot_of spot) }
-{
-    match spot {
-        Spot::BehindKey => true,
-        Spot::OwnLine | Spot::Compact(_) => false,
-    }
-}
-
 /// Whether a scalar that stands here is no key: a block scalar, or a value on its key's line.
 fn is_no_key(bytes: &[u8], spot: Spot, at: usize) -> bool
     requires { at ≤ length bytes.now }
@@ -146,20 +95,6 @@ fn is_refused_key(bytes: &[u8], spot: Spot, next: usize) -> bool
         Some(_) => true,
         None => false,
     }
-}
-
-/// Whether a content line holds the node: one deeper than what encloses it, or a sequence at the indent of its key.
-fn is_deeper(bytes: &[u8], slot: Slot, indent: usize, at: usize) -> bool
-    requires { at ≤ length bytes.now }
-    ensures { result ≡ block.is_deeper (slot_of slot) indent (lines_at bytes.now at) }
-{
-    if slot.within <= indent {
-        return true;
-    }
-    if !slot.in_mapping || slot.within != indent + 1 {
-        return false;
-    }
-    is_dash(bytes, at)
 }
 
 /// Reads a flow collection in block context with the rest of its line.

@@ -1,13 +1,14 @@
+//! Content lines, and the gaps between what stands in flow collections.
+
 ghost use Rattle.al_scalar.specs.Places.{lines_at, text_at};
 ghost use Rattle.al_yaml.specs.Content as content;
 ghost use Rattle.al_yaml.specs.Flow as flow;
 ghost use Rattle.al_yaml.specs.Places.{IsLineFrom, Shows, next_of};
-ghost use Rattle.std.specs.Prelude.{◌<◌, ◌≡◌, ◌≤◌, IfErr, IfOk, IfSome, IsTrue, false, length, ◌+◌};
+ghost use Rattle.std.specs.Prelude.{IfErr, IfOk, IfSome, IsTrue, false, length, ◌<◌, ◌≡◌, ◌≤◌};
 
 use crate::faults::FaultAt;
-use crate::lines::{
-    begins, blanks_end, is_blank_or_end, is_document_marker, is_text_end, next_line, spaces_end,
-};
+use crate::lines::{blanks_end, is_text_end, next_line, spaces_end};
+use al_scalar::lines::{begins, is_blank_or_end, is_document_marker};
 use al_text::YamlCode;
 
 /// The next content line of the document, or its end.

@@ -1,34 +1,34 @@
-ghost use Rattle.al_scalar.specs.Contract.{read_of, reading_at};
+//! Flow collections, read forward: the loop over the open ones, and its steps.
+
+ghost use Rattle.al_scalar.specs.Contract.{read_of};
+ghost use Rattle.al_scalar.specs.Line as line;
 ghost use Rattle.al_scalar.specs.Offsets.{IsPlaced};
 ghost use Rattle.al_scalar.specs.Places.{lines_at, text_at};
-ghost use Rattle.al_scalar.specs.Line as line;
-ghost use Rattle.al_scalar.specs.Scalar as scalar;
 ghost use Rattle.al_yaml.specs.Content as content;
 ghost use Rattle.al_yaml.specs.Flow as flow;
 ghost use Rattle.al_yaml.specs.FlowFrames.{Finds, FindsKey, IsFound, IsFoundKey, IsNested, IsOpenTo, IsStep, IsTask, Resumes, Steps, open_of, waiting_of};
 ghost use Rattle.al_yaml.specs.Frames as frames;
 ghost use Rattle.al_yaml.specs.Frames.{open_rest};
 ghost use Rattle.al_yaml.specs.Limits.{broken_limit};
-ghost use Rattle.al_yaml.specs.Node as tree;
 ghost use Rattle.al_yaml.specs.Places.{IsReadInside, Shows, option_lines};
 ghost use Rattle.al_yaml.specs.Reading.{start_of};
-ghost use Rattle.al_yaml.specs.Reads.{Answers, IsAfter, IsBehind, IsColonInside, IsKeyInside, IsRead, IsStopInside, after_of, counted, flow_key_of, part_of, run};
+ghost use Rattle.al_yaml.specs.Reads.{IsAfter, IsBehind, IsColonInside, IsKeyInside, IsRead, IsStopInside, after_of, counted, flow_key_of, part_of, run};
 ghost use Rattle.al_yaml.specs.Spans.{AreInOrder, EntriesInOrder, IsWithin};
 ghost use Rattle.al_yaml.specs.View.{entries_of, entry_view, nodes_of, view};
-ghost use Rattle.std.specs.Prelude.{ℕ, suc, ◌+◌, ◌<◌, ◌≡◌, ◌≤◌, ◌∷◌, [], IfErr, IfOk, None, ◌^◌, ◌||◌, length, map, true};
+ghost use Rattle.std.specs.Prelude.{IfErr, IfOk, None, [], length, map, suc, true, ℕ, ◌+◌, ◌<◌, ◌||◌, ◌∷◌, ◌≡◌, ◌≤◌};
 
 use crate::content::gap;
 use crate::faults::{FaultAt, Stop};
-use crate::keys::{
-    behind_flow_colon, is_flow_start, is_late_colon, is_property, is_quote, is_simple_key,
-};
+use crate::keys::{behind_flow_colon, is_late_colon, is_simple_key};
 use crate::limits::Count;
-use crate::lines::{begins, is_text_end};
-use crate::node::{Entry, Node, Part, entry_of, mapping_node, scalar_node, sequence_node};
+use crate::lines::is_text_end;
+use crate::node::{Entry, Node, Part, entry_of, mapping_part, scalar_node, sequence_part};
+use crate::scalars::{empty_part, scalar_at, scalar_part};
 use crate::stack::Stack;
-use crate::starts::flow_fault;
-use al_scalar::{Place, ScalarRead, read_scalar};
-use al_text::{Span, YamlCode};
+use crate::starts::{flow_fault, is_flow_start, is_property, is_quote};
+use al_scalar::lines::begins;
+use al_scalar::{Place, ScalarRead};
+use al_text::YamlCode;
 use std::alloc::Global;
 
 /// What stands behind an item: a comma, with the offset of what follows it, or the closer, with the offset behind it.
@@ -76,7 +76,7 @@ pub enum Waiting {
     Key(usize),
 }
 
-/// A flow collection in which another one is open, by its bracket.
+/// A flow collection that waits for a node, by its bracket, before which its own anchor would stand.
 #[derive(Drop)]
 pub struct FlowFrame {
     pub opening: usize,
@@ -91,7 +91,8 @@ pub enum Step {
     Opens(Waiting, usize),
 }
 
-/// What is to be read next: the innermost open collection, from an offset on; or what stands behind a node that was read.
+/// What is to be done next: to read the innermost open collection, from an offset on; to find what waits for a collection
+/// that was read; or to hand a complete node to the collection that waits for it.
 #[derive(Drop)]
 pub enum Task {
     Inside {
@@ -100,75 +101,7 @@ pub enum Task {
         at: usize,
     },
     Read(Part),
-}
-
-/// Reads the scalar at an offset.
-pub fn scalar_at(alloc: Global, bytes: &[u8], at: usize, place: Place) -> Result<ScalarRead, Stop>
-    requires inside { at ≤ length bytes.now }
-    requires size { length bytes.now ≤ 1048576 }
-    ensures fault { IfErr result (IsStopInside (length bytes.now)) }
-    ensures is { Answers (read_of bytes.now) (reading_at place (lines_at bytes.now at)) result }
-    ensures inside { IfOk result (λ read. IsReadInside bytes.now at read) }
-{
-    match read_scalar(alloc, bytes, at, place)? {
-        Ok(read) => Ok(read),
-        Err(fault) => Err(Stop::Fault(FaultAt {
-            code: fault.code,
-            at: fault.span.start as usize,
-        })),
-    }
-}
-
-/// The node that a scalar is, with the offset behind it.
-pub fn scalar_part(read: ScalarRead, next: usize) -> Part
-    ensures node { view result.node ≡ tree.scalar read.scalar read.span }
-    ensures end { result.end ≡ read.span.end }
-    ensures next { result.next ≡ next }
-{
-    let end = read.span.end as usize;
-    Part {
-        node: scalar_node(read.scalar, read.span),
-        end,
-        next,
-    }
-}
-
-/// A sequence that was read from an offset to another one.
-pub fn sequence_part(items: Vec<Node>, start: usize, end: usize, next: usize) -> Part
-    requires start { start < 2 ^ 32 }
-    requires end { end < 2 ^ 32 }
-    ensures node { view result.node ≡ tree.sequence (nodes_of (map view items.items)) (scalar.span start end) }
-    ensures end { result.end ≡ end }
-    ensures next { result.next ≡ next }
-{
-    let span = Span {
-        start: start as u32,
-        end: end as u32,
-    };
-    Part {
-        node: sequence_node(items, span),
-        end,
-        next,
-    }
-}
-
-/// A mapping that was read from an offset to another one.
-pub fn mapping_part(entries: Vec<Entry>, start: usize, end: usize, next: usize) -> Part
-    requires start { start < 2 ^ 32 }
-    requires end { end < 2 ^ 32 }
-    ensures node { view result.node ≡ tree.mapping (entries_of (map entry_view entries.items)) (scalar.span start end) }
-    ensures end { result.end ≡ end }
-    ensures next { result.next ≡ next }
-{
-    let span = Span {
-        start: start as u32,
-        end: end as u32,
-    };
-    Part {
-        node: mapping_node(entries, span),
-        end,
-        next,
-    }
+    Complete(FlowFrame, Part),
 }
 
 /// What stands behind an item or entry and the gap behind it.
@@ -250,27 +183,6 @@ fn read_flow_key(
     let colon = key_colon(bytes, at, &read)?;
     count.start(at, 1, 0)?;
     Ok(FoundKey::Key(FlowKey { read, colon }))
-}
-
-/// The empty node at an offset (7.2), which counts as a node; what is left begins at `next`.
-pub fn empty_part(
-    alloc: Global,
-    bytes: &[u8],
-    count: &mut Count,
-    at: usize,
-    next: usize,
-) -> Result<Part, Stop>
-    requires inside { at ≤ length bytes.now }
-    requires size { length bytes.now ≤ 1048576 }
-    ensures fault { IfErr result (IsStopInside (length bytes.now)) }
-    ensures is { IsRead (part_of bytes.now) (flow.empty_node at (lines_at bytes.now next)) count.old.nodes result count.new.nodes }
-    ensures end { IfOk result (λ part. part.end ≡ at) }
-    ensures next { IfOk result (λ part. part.next ≡ next) }
-    ensures nested { IfOk result (λ part. IsWithin at part.end (view part.node)) }
-{
-    count.start(at, 1, 0)?;
-    let read = scalar_at(alloc, bytes, at, Place::Empty)?;
-    Ok(scalar_part(read, next))
 }
 
 /// Whether a comma or a closing brace stands at an offset.
@@ -561,7 +473,9 @@ pub fn read_flow_collection(
             } => {
                 match read_inside(alloc, bytes, count, opening, has, from)? {
                     Step::Closed(part) => task = Task::Read(part),
-                    Step::Read(waiting, part) => task = resume(bytes, opening, waiting, part)?,
+                    Step::Read(waiting, part) => {
+                        task = Task::Complete(FlowFrame { opening, waiting }, part);
+                    }
                     Step::Opens(waiting, bracket) => {
                         count.start(bracket, 1, depth + 1 + (stack.len() - outside) as u32)?;
                         stack.push_flow(FlowFrame { opening, waiting });
@@ -578,6 +492,9 @@ pub fn read_flow_collection(
                 let Some(frame) = stack.pop_flow() else {
                     return Ok(part);
                 };
+                task = Task::Complete(frame, part);
+            }
+            Task::Complete(frame, part) => {
                 task = resume(bytes, frame.opening, frame.waiting, part)?;
             }
         }

@@ -1,5 +1,7 @@
+//! The stack of open collections.
+
 ghost use Rattle.al_yaml.specs.Stacks.{Opened};
-ghost use Rattle.std.specs.Prelude.{◌≡◌, ◌+◌, ◌<◌, ◌≤◌, ◌∷◌, [], MatchOption, None, length, slice_index_or, slice_set};
+ghost use Rattle.std.specs.Prelude.{◌≡◌, ◌+◌, ◌<◌, ◌≤◌, ◌∷◌, [], MatchOption, length, slice_index_or, slice_set};
 
 use crate::block::BlockFrame;
 use crate::flow::FlowFrame;

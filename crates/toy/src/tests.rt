@@ -4,15 +4,15 @@ use al_text::{Output, Stop};
 use std::alloc::AllocError;
 use std::test::Fail;
 
+const NAMES: [&str; 7] = [
+    "a.toy", "b.toy", "c.toy", "d/a.toy", "d/b.toy", "e.toy", "r.toy",
+];
+
 const NEED: &[u8] = b"need b.toy c.toy";
 
 const ABSENT: &[u8] = b"a.toy:1:1: unexpected key \"b.toy\" [syntax-check]\n";
 
 const EMPTY: &[u8] = b"a.toy:1:1: wrong kind of value for \"b.toy\" [syntax-check]\n";
-
-const TWO_CALLS: &[u8] = b"a.toy:1:1: wrong kind of value for \"b.toy\" [syntax-check]
-b.toy:1:1: unexpected key \"z.toy\" [syntax-check]
-";
 
 // These tell a test's proof nothing, which keeps it short.
 
@@ -26,7 +26,7 @@ fn delete(session: &mut Session<Toy>, path: &str) -> Option<Refused> {
 
 fn report(rt: &HostRuntime, session: &Session<Toy>) -> Result<Vec<u8>, Stop> {
     let mut bytes = Vec::new(rt.alloc());
-    session.report(&mut Output::new(&mut bytes))?;
+    session.report(&mut Output::new(&mut bytes), true)?;
     Ok(bytes)
 }
 
@@ -81,15 +81,27 @@ fn a_folder_is_full(rt: HostRuntime) -> Result<(), Fail> {
     Ok(())
 }
 
-// What a session shows.
+// What a session shows: its report, what is missing, and the files among `NAMES`.
 #[derive(Clone, Copy)]
 struct Shown {
     report: &'static [u8],
     missing: &'static [&'static str],
-    // The bytes of `a.toy`, `b.toy` and `c.toy`.
-    a: Option<&'static [u8]>,
-    b: Option<&'static [u8]>,
-    c: Option<&'static [u8]>,
+    files: &'static [(&'static str, &'static [u8])],
+}
+
+fn bytes_in(files: &[(&str, &'static [u8])], name: &str) -> Option<&'static [u8]> {
+    for (path, bytes) in files {
+        if *path == name {
+            return Some(*bytes);
+        }
+    }
+    None
+}
+
+fn has_files(session: &Session<Toy>, files: &[(&str, &'static [u8])]) -> bool {
+    NAMES
+        .iter()
+        .all(|name| session.bytes(name) == bytes_in(files, name))
 }
 
 fn shows(rt: &HostRuntime, session: &Session<Toy>, wanted: &Shown) -> Result<bool, Stop> {
@@ -98,9 +110,7 @@ fn shows(rt: &HostRuntime, session: &Session<Toy>, wanted: &Shown) -> Result<boo
         report(rt, session)?.as_slice() == wanted.report
             && session.status()? == status
             && misses(session, wanted.missing)?
-            && session.bytes("a.toy") == wanted.a
-            && session.bytes("b.toy") == wanted.b
-            && session.bytes("c.toy") == wanted.c,
+            && has_files(session, wanted.files),
     )
 }
 
@@ -119,74 +129,128 @@ fn change(session: &mut Session<Toy>, change: &Change) -> Result<usize, Refused>
 const NOTHING: Shown = Shown {
     report: b"",
     missing: &[],
-    a: None,
-    b: None,
-    c: None,
+    files: &[],
 };
 
-const ONE_CALL: Shown = Shown {
-    report: ABSENT,
-    missing: &["b.toy", "c.toy"],
-    a: Some(NEED),
-    b: None,
-    c: None,
-};
+const CALLER: &[u8] = b"need d/a.toy d/b.toy";
 
-// To be run with each allocation refused in turn, too.
+const ABSENT_CALL: &[u8] = b"c.toy:1:1: unexpected key \"d/a.toy\" [syntax-check]\n";
+
+const EMPTY_CALL: &[u8] = b"c.toy:1:1: wrong kind of value for \"d/a.toy\" [syntax-check]\n";
+
+const OWN_CALL: &[u8] = b"r.toy:1:1: wrong kind of value for \"r.toy\" [syntax-check]\n";
+
+// Ten edits, each with the number of files that it checks and what the session shows then.
+fn edits() -> [(Change<'static>, usize, Shown); 10] {
+    let first = Shown {
+        files: &[("a.toy", b"have a")],
+        ..NOTHING
+    };
+    let called = Shown {
+        report: EMPTY_CALL,
+        missing: &["d/b.toy"],
+        files: &[("a.toy", b"have a"), ("c.toy", CALLER), ("d/a.toy", b"")],
+    };
+    let other = Shown {
+        files: &[("a.toy", b"have a"), ("c.toy", CALLER), ("d/a.toy", b"# e")],
+        ..called
+    };
+    [
+        (Change::Put("a.toy", b"have a"), 1, first),
+        (Change::Put("a.toy", b"have a"), 0, first),
+        (
+            Change::Put("c.toy", CALLER),
+            1,
+            Shown {
+                report: ABSENT_CALL,
+                missing: &["d/a.toy", "d/b.toy"],
+                files: &[("a.toy", b"have a"), ("c.toy", CALLER)],
+            },
+        ),
+        (Change::Put("d/a.toy", b""), 2, called),
+        (Change::Put("d/a.toy", b"# e"), 1, other),
+        (
+            Change::Put("d/b.toy", b"have x"),
+            1,
+            Shown {
+                missing: &[],
+                files: &[
+                    ("a.toy", b"have a"),
+                    ("c.toy", CALLER),
+                    ("d/a.toy", b"# e"),
+                    ("d/b.toy", b"have x"),
+                ],
+                ..other
+            },
+        ),
+        (
+            Change::Delete("d/a.toy"),
+            1,
+            Shown {
+                report: b"",
+                missing: &["d/a.toy"],
+                files: &[
+                    ("a.toy", b"have a"),
+                    ("c.toy", CALLER),
+                    ("d/b.toy", b"have x"),
+                ],
+            },
+        ),
+        (
+            Change::Put("r.toy", b"need r.toy\nhave x"),
+            1,
+            Shown {
+                report: b"",
+                missing: &["d/a.toy"],
+                files: &[
+                    ("a.toy", b"have a"),
+                    ("c.toy", CALLER),
+                    ("d/b.toy", b"have x"),
+                    ("r.toy", b"need r.toy\nhave x"),
+                ],
+            },
+        ),
+        (
+            Change::Put("r.toy", b"need r.toy"),
+            1,
+            Shown {
+                report: OWN_CALL,
+                missing: &["d/a.toy"],
+                files: &[
+                    ("a.toy", b"have a"),
+                    ("c.toy", CALLER),
+                    ("d/b.toy", b"have x"),
+                    ("r.toy", b"need r.toy"),
+                ],
+            },
+        ),
+        (
+            Change::Delete("c.toy"),
+            0,
+            Shown {
+                report: OWN_CALL,
+                missing: &[],
+                files: &[
+                    ("a.toy", b"have a"),
+                    ("d/b.toy", b"have x"),
+                    ("r.toy", b"need r.toy"),
+                ],
+            },
+        ),
+    ]
+}
+
+// To be run with each allocation refused in turn, too: the edit that is refused for memory is made again.
 #[test]
-fn a_refused_edit_changes_nothing(rt: HostRuntime) -> Result<(), Fail> {
-    let script = [
-        (Change::Put("a.toy", NEED), 1, ONE_CALL),
-        (
-            Change::Put("c.toy", b""),
-            2,
-            Shown {
-                report: EMPTY,
-                missing: &["b.toy"],
-                c: Some(b""),
-                ..ONE_CALL
-            },
-        ),
-        (
-            Change::Put("c.toy", b"have x"),
-            2,
-            Shown {
-                report: b"",
-                missing: &["b.toy"],
-                c: Some(b"have x"),
-                ..ONE_CALL
-            },
-        ),
-        (
-            Change::Put("b.toy", b"need z.toy"),
-            3,
-            Shown {
-                report: TWO_CALLS,
-                missing: &["z.toy"],
-                b: Some(b"need z.toy"),
-                c: Some(b"have x"),
-                ..ONE_CALL
-            },
-        ),
-        (
-            Change::Delete("b.toy"),
-            2,
-            Shown {
-                report: b"",
-                missing: &["b.toy"],
-                c: Some(b"have x"),
-                ..ONE_CALL
-            },
-        ),
-        (Change::Delete("c.toy"), 1, ONE_CALL),
-        (Change::Delete("a.toy"), 0, NOTHING),
-    ];
+fn a_change_refused_for_memory_changes_nothing(rt: HostRuntime) -> Result<(), Fail> {
     let mut session = Session::open(rt.alloc(), Toy::new());
     let mut before = NOTHING;
-    for (edit, files, after) in script {
+    let mut is_refused = false;
+    for (edit, files, after) in edits() {
         let checks = session.meter();
         let mut reply = change(&mut session, &edit);
         if reply == Err(Refused::Memory) {
+            is_refused = true;
             assert!(rt; shows_again(&rt, &session, &before)?);
             assert!(rt; session.meter() <= checks.saturating_add(files as u64));
             reply = change(&mut session, &edit);
@@ -195,6 +259,7 @@ fn a_refused_edit_changes_nothing(rt: HostRuntime) -> Result<(), Fail> {
         assert!(rt; shows_again(&rt, &session, &after)?);
         before = after;
     }
+    assert!(rt; is_refused || session.meter() == 9);
     Ok(())
 }
 
@@ -209,5 +274,189 @@ fn changes_are_applied_in_order(rt: HostRuntime) -> Result<(), Fail> {
     let replies = apply_changes(rt.alloc(), &mut session, &changes)?;
     assert_eq!(rt; replies.iter().filter(|reply| reply.is_ok()).count(), 2);
     assert_eq!(rt; session.bytes("a.toy"), None);
+    Ok(())
+}
+
+// Whether an edit was accepted and checked just these files again, each with one check.
+fn rechecks(session: &mut Session<Toy>, edit: &Change, wanted: &[&str]) -> bool {
+    let checks = session.meter();
+    match apply_change(session, edit) {
+        Err(_) => false,
+        Ok(edit) => {
+            let paths = edit.rechecked.as_slice();
+            session.meter() == checks.saturating_add(wanted.len() as u64)
+                && paths.len() == wanted.len()
+                && paths
+                    .iter()
+                    .zip(wanted)
+                    .all(|(path, text)| path.as_str() == *text)
+        }
+    }
+}
+
+// An edit, the files that it checks again, and the report then.
+type Step = (Change<'static>, &'static [&'static str], &'static [u8]);
+
+fn follows(rt: &HostRuntime, session: &mut Session<Toy>, steps: &[Step]) -> Result<bool, Stop> {
+    for (edit, wanted, text) in steps {
+        if !rechecks(session, edit, wanted) || report(rt, session)?.as_slice() != *text {
+            return Ok(false);
+        }
+    }
+    Ok(true)
+}
+
+// A call of an absent file, which then comes, with nothing to offer. A file without calls stands beside them.
+const CALLED: [Step; 3] = [
+    (Change::Put("z.toy", b"have z"), &["z.toy"], b""),
+    (Change::Put("c.toy", CALLER), &["c.toy"], ABSENT_CALL),
+    (
+        Change::Put("d/a.toy", b""),
+        &["c.toy", "d/a.toy"],
+        EMPTY_CALL,
+    ),
+];
+
+#[test]
+fn the_second_candidate_comes_to_answer(rt: HostRuntime) -> Result<(), Fail> {
+    let mut session = Session::open(rt.alloc(), Toy::new());
+    assert!(rt; follows(&rt, &mut session, &CALLED)?);
+    assert!(rt;
+        follows(
+            &rt,
+            &mut session,
+            &[
+                (Change::Put("d/b.toy", b"have x"), &["d/b.toy"], EMPTY_CALL),
+                (Change::Delete("d/a.toy"), &["c.toy"], b""),
+            ]
+        )?
+    );
+    assert_eq!(rt; session.status()?, 0);
+    Ok(())
+}
+
+#[test]
+fn other_bytes_with_the_same_interface_check_no_caller(rt: HostRuntime) -> Result<(), Fail> {
+    let mut session = Session::open(rt.alloc(), Toy::new());
+    assert!(rt; follows(&rt, &mut session, &CALLED)?);
+    assert!(rt;
+        follows(
+            &rt,
+            &mut session,
+            &[
+                (Change::Put("d/a.toy", b"# e"), &["d/a.toy"], EMPTY_CALL),
+                (Change::Put("d/a.toy", b"# e"), &[], EMPTY_CALL),
+            ]
+        )?
+    );
+    assert_eq!(rt; session.status()?, 1);
+    Ok(())
+}
+
+#[test]
+fn an_equal_answer_checks_no_caller(rt: HostRuntime) -> Result<(), Fail> {
+    let mut session = Session::open(rt.alloc(), Toy::new());
+    assert!(rt; follows(&rt, &mut session, &CALLED)?);
+    assert!(rt;
+        follows(
+            &rt,
+            &mut session,
+            &[
+                (Change::Put("d/b.toy", b""), &["d/b.toy"], EMPTY_CALL),
+                (Change::Delete("d/a.toy"), &[], EMPTY_CALL),
+                (Change::Put("d/a.toy", b""), &["d/a.toy"], EMPTY_CALL),
+                (
+                    Change::Put("d/a.toy", b"have x"),
+                    &["c.toy", "d/a.toy"],
+                    b""
+                ),
+            ]
+        )?
+    );
+    Ok(())
+}
+
+#[test]
+fn files_that_stopped_calling_are_not_checked(rt: HostRuntime) -> Result<(), Fail> {
+    let mut session = Session::open(rt.alloc(), Toy::new());
+    assert!(rt; follows(&rt, &mut session, &CALLED)?);
+    assert!(rt;
+        follows(
+            &rt,
+            &mut session,
+            &[
+                (Change::Put("c.toy", b"have c"), &["c.toy"], b""),
+                (Change::Put("d/a.toy", b"have x"), &["d/a.toy"], b""),
+                (Change::Delete("d/a.toy"), &[], b""),
+            ]
+        )?
+    );
+    Ok(())
+}
+
+#[test]
+fn a_file_that_calls_itself_has_its_new_interface(rt: HostRuntime) -> Result<(), Fail> {
+    let mut session = Session::open(rt.alloc(), Toy::new());
+    assert!(rt;
+        follows(
+            &rt,
+            &mut session,
+            &[
+                (Change::Put("r.toy", b"need r.toy\nhave x"), &["r.toy"], b""),
+                (Change::Put("r.toy", b"need r.toy"), &["r.toy"], OWN_CALL),
+                (Change::Delete("r.toy"), &[], b""),
+            ]
+        )?
+    );
+    assert_eq!(rt; session.status()?, 0);
+    Ok(())
+}
+
+const TEXTS: [&[u8]; 7] = [
+    b"",
+    b"have x",
+    b"have x\nneed a.toy b.toy",
+    b"need a.toy\nneed e.toy d/a.toy",
+    b"need c.toy b.toy\nhave y",
+    b"need d/b.toy\nneed d/b.toy\nneed e.toy",
+    b"need a.toy d/b.toy\nhave x",
+];
+
+// Whether a new session with the same files gives the same report and names the same paths as missing.
+fn is_as_new(rt: &HostRuntime, session: &Session<Toy>) -> Result<bool, Stop> {
+    let mut anew = Session::open(rt.alloc(), Toy::new());
+    for name in NAMES {
+        if let Some(bytes) = session.bytes(name) {
+            let _ = anew.put(name, bytes);
+        }
+    }
+    let missing = session.missing()?;
+    let wanted = anew.missing()?;
+    Ok(
+        report(rt, session)?.as_slice() == report(rt, &anew)?.as_slice()
+            && session.status()? == anew.status()?
+            && missing.len() == wanted.len()
+            && missing
+                .iter()
+                .zip(&wanted)
+                .all(|(one, other)| one.as_str() == other.as_str()),
+    )
+}
+
+#[test]
+fn edits_are_as_from_scratch(rt: HostRuntime) -> Result<(), Fail> {
+    let mut session = Session::open(rt.alloc(), Toy::new());
+    let mut state: u32 = 7;
+    for _turn in 0..200 {
+        state = state.wrapping_mul(1_664_525).wrapping_add(1_013_904_223);
+        let name = NAMES[((state >> 8) % 7) as usize];
+        let text = TEXTS[((state >> 16) % 7) as usize];
+        if (state >> 24) % 4 == 0 {
+            let _ = session.delete(name);
+        } else {
+            let _ = session.put(name, text);
+        }
+        assert!(rt; is_as_new(&rt, &session)?);
+    }
     Ok(())
 }

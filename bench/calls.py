@@ -1,0 +1,111 @@
+"""How the time to check calls grows with their size: bench/calls.py, after ./test or a build of crates/actionlint.
+
+Each folder is checked at half and at its whole size by one script: the called file is put first, then its caller. Each time is the
+least of several runs in one run of this program, less the time for a small folder. Where checking is linear but for a logarithm the
+time doubles with the size, or a little more; where each name were compared with all others it would grow fourfold.
+
+The second column of times puts the same bytes with `uses` and `with` under keys that nothing looks at, so that they are read and not
+checked as calls: what the check of calls takes is the difference.
+"""
+
+import pathlib
+import subprocess
+import sys
+import time
+
+TOP = pathlib.Path(__file__).resolve().parent.parent
+PROGRAM = TOP / "crates" / "actionlint" / "out" / "actionlint"
+WORDS = ["--session", "--oneline"]
+RUNS = 5
+INPUTS = 10_000
+CALLS = 20_000
+ATS = 400_000
+
+ACTION = "name: A\ndescription: d\nruns:\n  using: composite\n  steps: []\n"
+CALLER = "on: push\njobs:\n  a:\n    runs-on: u\n    steps:\n"
+
+
+def action(number):
+    """An action of required inputs."""
+    return ACTION + "inputs:\n" + "".join(f"  i{n:05}:\n    required: true\n" for n in range(number))
+
+
+def workflow(number):
+    """A callable workflow of required inputs."""
+    inputs = "".join(f"      i{n:05}:\n        type: string\n        required: true\n" for n in range(number))
+    return f"on:\n  workflow_call:\n    inputs:\n{inputs}jobs: {{}}\n"
+
+
+def given(number, indent):
+    """What gives each of these inputs."""
+    return "".join(f"{' ' * indent}I{n:05}: v\n" for n in range(number))
+
+
+def step_giving_all(number):
+    """An action of inputs, and a step that gives all of them."""
+    return [("a/action.yml", action(number)), (".github/workflows/c.yml", f"{CALLER}      - uses: ./a\n        with:\n{given(number, 10)}")]
+
+
+def step_giving_none(number):
+    """An action of inputs, and a step that gives others."""
+    others = given(number, 10).replace("I", "o")
+    return [("a/action.yml", action(number)), (".github/workflows/c.yml", f"{CALLER}      - uses: ./a\n        with:\n{others}")]
+
+
+def job_giving_all(number):
+    """A workflow of inputs, and a job that gives all of them."""
+    caller = f"on: push\njobs:\n  a:\n    uses: ./.github/workflows/w.yml\n    with:\n{given(number, 6)}"
+    return [(".github/workflows/w.yml", workflow(number)), (".github/workflows/c.yml", caller)]
+
+
+def many_calls(number):
+    """Steps that call one action."""
+    return [("a/action.yml", ACTION), (".github/workflows/c.yml", CALLER + "      - uses: ./a\n" * number)]
+
+
+def many_ats(number):
+    """One `uses` that may be cut at many places, none of them right."""
+    return [(".github/workflows/c.yml", f"{CALLER}      - uses: {'a@' * (number // 2)}\n")]
+
+
+# each folder by its size, and that size
+FOLDERS = {
+    f"a step that gives {INPUTS} inputs": (step_giving_all, INPUTS),
+    f"a step that gives {INPUTS} others": (step_giving_none, INPUTS),
+    f"a job that gives {INPUTS} inputs": (job_giving_all, INPUTS),
+    f"{CALLS} steps that call one action": (many_calls, CALLS),
+    f"a uses of {ATS} bytes": (many_ats, ATS),
+}
+
+
+def seconds(files):
+    """The least time of some runs that put files."""
+    script = b"".join(f"put {path} {len(text.encode())}\n".encode() + text.encode() + b"\n" for path, text in files)
+    best = None
+    for _ in range(RUNS):
+        start = time.perf_counter()
+        run = subprocess.run([PROGRAM, *WORDS], input=script, stdout=subprocess.PIPE, check=False)
+        took = time.perf_counter() - start
+        if run.stdout.count(b"ok ") != len(files):
+            sys.exit(f"the folder was not taken: {run.stdout[:80]}")
+        best = took if best is None else min(best, took)
+    return best
+
+
+def unchecked(files):
+    """The same files, with the calls under a key that isn't looked at."""
+    return [(path, text.replace("uses:", "used:")) for path, text in files]
+
+
+def main():
+    """Prints a table."""
+    nothing = seconds(many_calls(1))
+    print(f"{'folder':36} {'half':>9} {'whole':>9} whole/half {'only read':>10} whole/half")
+    for name, (folder, size) in FOLDERS.items():
+        half, whole = (seconds(folder(count)) - nothing for count in (size // 2, size))
+        half_read, whole_read = (seconds(unchecked(folder(count))) - nothing for count in (size // 2, size))
+        print(f"{name:36} {half:8.3f}s {whole:8.3f}s {whole / half:10.2f} {whole_read:9.3f}s {whole_read / half_read:10.2f}")
+
+
+if __name__ == "__main__":
+    sys.exit(main())

@@ -1,0 +1,4 @@
+pub mod FileFaults
+pub mod Reading
+pub mod Linting
+pub mod Laws

@@ -1,0 +1,41 @@
+-- What reading a file gave.
+use Rattle.std.specs.Prelude.{◌≡◌, ℕ, List, length, false, Result, Ok, Err}
+use Rattle.al_scalar.specs.declared.faults.YamlFault.{YamlFault}
+use Rattle.al_text.specs.Spans.{LiesIn}
+use Rattle.al_tree.specs.declared.files.FileKind.{FileKind}
+use Rattle.al_tree.specs.declared.files.FileKind.TheVariants as kind
+use Rattle.al_tree.specs.declared.files.Tree.{Tree}
+use Rattle.al_tree.specs.declared.files.Tree.TheVariants as tree
+use Rattle.al_yaml.specs.ByteFaults.{fault_span}
+use Rattle.al_yaml.specs.Document.{tree_of}
+use Rattle.al_yaml.specs.Node.{Node}
+use Rattle.al_yaml.specs.Spans.{IsInside}
+use Rattle.al_yaml.specs.View.{view}
+use Rattle.al_check.specs.declared.files.ReadFile.{ReadFile}
+
+abbrev pub root_of : Tree → Node
+root_of (tree.Workflow w) = view w.root
+root_of (tree.Action a) = view a.root
+
+abbrev pub kind_in : Tree → FileKind
+kind_in (tree.Workflow w) = kind.Workflow
+kind_in (tree.Action a) = kind.Action
+
+-- the document of these bytes, which lies in them, as a file of this kind
+pub record IsTree (file : FileKind) (bytes : List ℕ) (t : Tree) : Type 0 where
+  pub kind_is : kind_in t ≡ file
+  pub root_is : tree_of false bytes ≡ Ok (root_of t)
+  pub inside : IsInside (length bytes) (root_of t)
+
+-- their fault as YAML, which lies in them
+pub record IsFault (bytes : List ℕ) (f : YamlFault) : Type 0 where
+  pub fault_is : tree_of false bytes ≡ Err (record { code = f.code; at = f.span.start })
+  pub span_is : f.span ≡ fault_span bytes f.span.start
+  pub inside : LiesIn (length bytes) f.span
+
+abbrev pub IsGiven : FileKind → List ℕ → Result Tree YamlFault → Type 0
+IsGiven file bytes (Ok t) = IsTree file bytes t
+IsGiven file bytes (Err f) = IsFault bytes f
+
+pub record IsRead (read : ReadFile) (file : FileKind) (bytes : List ℕ) : Type 0 where
+  pub given : IsGiven file bytes read.tree

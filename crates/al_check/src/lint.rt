@@ -1,0 +1,98 @@
+//! The linter, as a session of a folder asks for it.
+ghost use Rattle.std.specs.Prelude.{◌≡◌, ◌≤◌, List, ℕ, length, map, true, IfOk, Option};
+ghost use Rattle.std.specs.List.{AllByRecursion};
+ghost use Rattle.std.specs.List.Sorted.{IsStrictlySortedBy};
+ghost use Rattle.al_text.specs.FaultLists.{fault_cmp};
+ghost use Rattle.al_text.specs.Spans.{LiesIn};
+ghost use Rattle.al_session.specs.Meaning.{counted};
+ghost use Rattle.al_tree.specs.Kinds.{kind_of};
+ghost use Rattle.al_check.specs.Linting.{linting};
+ghost use Rattle.al_check.specs.Reading.{IsRead};
+ghost use Rattle.al_check.specs.Laws.{faults_inside, faults_ordered, same_interface};
+
+use crate::files::{ReadFile, file_faults, read_file};
+use al_session::{Lint, Target};
+use al_text::Fault;
+use al_tree::{is_action, is_workflow, kind_of};
+use std::alloc::{AllocError, Global};
+
+/// The linter of workflows and actions, with its counts.
+#[derive(Drop)]
+pub struct Actions {
+    checks: u64,
+    reads: u64,
+}
+
+/// What a file offers to those that call it, which is nothing.
+#[derive(Clone, Copy, PartialEq, Eq, Debug)]
+pub struct NoInterface {}
+
+impl Actions {
+    /// A linter that has read and checked nothing. Takes no memory.
+    pub fn new() -> Actions
+        ensures checks { result.checks ≡ 0 }
+        ensures reads { result.reads ≡ 0 }
+    {
+        Actions {
+            checks: 0,
+            reads: 0,
+        }
+    }
+}
+
+impl Lint for Actions {
+    type Unit = ReadFile;
+
+    type Iface = NoInterface;
+
+    ghost meaning = { linting };
+
+    ghost is_unit = { λ unit path bytes. IsRead unit (kind_of path) bytes };
+
+    ghost checks_of = { λ lint. lint.checks };
+
+    ghost reads_of = { λ lint. lint.reads };
+
+    fn accepts(&self, path: &str) -> bool {
+        is_workflow(path.as_bytes()) || is_action(path.as_bytes())
+    }
+
+    fn read(&mut self, alloc: Global, path: &str, bytes: &[u8]) -> Result<ReadFile, AllocError> {
+        self.reads = self.reads.saturating_add(1);
+        read_file(alloc, kind_of(path.as_bytes()), bytes)
+    }
+
+    fn iface(&self, alloc: Global, path: &str, unit: &ReadFile) -> Result<NoInterface, AllocError> {
+        Ok(NoInterface {})
+    }
+
+    fn calls(&self, alloc: Global, path: &str, unit: &ReadFile) -> Result<Vec<Target>, AllocError> {
+        Ok(Vec::new(alloc))
+    }
+
+    fn check(
+        &mut self,
+        alloc: Global,
+        path: &str,
+        bytes: &[u8],
+        unit: &ReadFile,
+        answers: &[Option<&NoInterface>],
+    ) -> Result<Vec<Fault>, AllocError> {
+        self.checks = self.checks.saturating_add(1);
+        file_faults(alloc, kind_of(path.as_bytes()), bytes, unit)
+    }
+
+    fn checks(&self) -> u64 {
+        self.checks
+    }
+
+    fn reads(&self) -> u64 {
+        self.reads
+    }
+
+    ghost exact = { λ a b same. same_interface a b };
+
+    ghost inside = { λ unit path bytes answers read. faults_inside unit (kind_of path) bytes read };
+
+    ghost ordered = { λ unit path bytes answers read. faults_ordered unit (kind_of path) bytes read };
+}

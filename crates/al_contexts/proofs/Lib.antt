@@ -1,0 +1,6 @@
+pub mod Puts
+pub mod Seen
+pub mod Sections
+pub mod Values
+pub mod Sets
+pub mod Outside

@@ -1,0 +1,10 @@
+use Rattle.al_contexts.proofs.env.Env.new.Goals as goal
+
+pub returns : goal.returns
+returns c = record {
+  members = c.in_ok-jobs.ensures;
+  fixed = c.in_ok-types.ensures.fixed;
+  section = c.in_ok-types.ensures.section;
+  owner = c.first_owner-owner.ensures;
+  steps = c.in_ok-types.ensures.steps;
+}

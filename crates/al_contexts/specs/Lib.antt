@@ -1,0 +1,11 @@
+pub mod Fixed
+pub mod Objects
+pub mod Matrix
+pub mod Inputs
+pub mod Contexts
+pub mod Answered
+pub mod Environment
+pub mod Scopes
+pub mod Standing
+pub mod RowWords
+pub mod RowFiles

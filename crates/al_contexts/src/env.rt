@@ -1,0 +1,359 @@
+//! The types of contexts, as the walk through a file goes on.
+ghost use Rattle.std.specs.Prelude.{◌≡◌, ◌≤◌, IfOk, OnOk, IsTrue, length, map, option_map};
+ghost use Rattle.al_types.specs.Scopes.{type_of_context};
+ghost use Rattle.al_types.specs.TypeViews.{ty_of};
+ghost use Rattle.al_types.specs.declared.names.Context.{Context};
+ghost use Rattle.al_yaml.specs.View.{view};
+ghost use Rattle.al_places.specs.Positions.{before, position_view, section_view, seen_view};
+ghost use Rattle.al_shape.specs.Values.{member_of};
+ghost use Rattle.al_contexts.specs.Answered.{known_of};
+ghost use Rattle.al_tree.specs.declared.files.FileKind.TheVariants as kind;
+ghost use Rattle.al_contexts.specs.Contexts.{jobs_of, needs_type_of, type_at, type_in_job};
+ghost use Rattle.al_contexts.specs.Environment as environment;
+ghost use Rattle.al_contexts.specs.Fixed.{strategy_type};
+ghost use Rattle.al_contexts.specs.Matrix as specs;
+ghost use Rattle.al_contexts.specs.Environment.{Fixed, OfSection, owned, owner_in, owner_view};
+ghost use Rattle.al_contexts.specs.Scopes.{scope_at};
+ghost use Rattle.al_contexts.specs.Standing.{Stands};
+ghost use Rattle.al_places.specs.Places.{place_of};
+ghost use Rattle.al_types.specs.Scopes.{scope_of};
+
+use crate::fixed::strategy;
+use crate::jobs::{job_of, jobs_in, jobs_type, needs_type};
+use crate::known::Answer;
+use crate::matrix::matrix_type;
+use crate::scopes::{context_set, function_set};
+use crate::start::{NO_CONTEXTS, NO_FUNCTIONS, first_owner, first_types};
+use crate::steps::{no_steps, seen_count, seen_steps};
+use al_places::{Place, Position, Section, Seen};
+use al_shape::{Member, items_under, key_text};
+use al_tree::FileKind;
+use al_types::{Scope, Ty};
+use al_yaml::Node;
+use std::alloc::{AllocError, Global};
+use std::mem::replace;
+
+/// A file: what it is, its tree, and what is known of the outputs behind its calls.
+#[derive(Clone, Copy)]
+pub struct File<'a> {
+    pub kind: FileKind,
+    pub root: &'a Node,
+    pub known: &'a [Answer<'a>],
+}
+
+/// Steps, and the key of the job whose they are; none of an action's.
+#[derive(Clone, Copy)]
+pub struct Owner<'a> {
+    pub(crate) job: Option<&'a [u8]>,
+    pub(crate) steps: &'a [Node],
+}
+
+/// The types of contexts at a position. From one position to the next only those are made anew that change.
+#[derive(Drop)]
+pub struct Env<'a> {
+    section: Section<'a>,
+    owner: Option<Owner<'a>>,
+    seen: usize,
+    jobs: Vec<Member<'a>>,
+    pub scope: Scope,
+}
+
+/// Whether two sections are the same.
+fn is_same_section(a: Section<'_>, b: Section<'_>) -> bool
+    ensures { IsTrue result → section_view a.entry ≡ section_view b.entry }
+{
+    match a {
+        Section::Apart => match b {
+            Section::Apart => true,
+            _ => false,
+        },
+        Section::On => match b {
+            Section::On => true,
+            _ => false,
+        },
+        Section::Job(x) => match b {
+            Section::Job(y) => x == y,
+            _ => false,
+        },
+    }
+}
+
+/// Goes on to what is seen in the same section.
+fn see(alloc: Global, file: File<'_>, env: &mut Env<'_>, seen: Seen) -> Result<(), AllocError>
+    requires fixed { Fixed file (env.old).scope.types }
+    requires section { OfSection file (env.old).scope.types (section_view (env.old).section) }
+    requires owner { option_map owner_view (env.old).owner ≡ owner_in file.kind (view file.root.now) (section_view (env.old).section) }
+    requires steps { ty_of (env.old).scope.types.steps ≡ owned (known_of file.known.now) (option_map owner_view (env.old).owner)
+        (before (env.old).seen) }
+    ensures fixed { OnOk result (Fixed file.entry (env.new).scope.types) }
+    ensures section { OnOk result (OfSection file.entry (env.new).scope.types (section_view (env.new).section)) }
+    ensures same { OnOk result ((section_view (env.new).section) ≡ (section_view (env.old).section)) }
+    ensures members { OnOk result (map member_of (env.new).jobs.items ≡ map member_of (env.old).jobs.items) }
+    ensures owner { OnOk result (option_map owner_view (env.new).owner ≡ option_map owner_view (env.old).owner) }
+    ensures steps { OnOk result (ty_of (env.new).scope.types.steps ≡ owned (known_of (file.entry).known.now) (option_map owner_view
+        (env.new).owner) (before (env.new).seen)) }
+    ensures seen { OnOk result (ty_of (env.new).scope.types.steps ≡ owned (known_of (file.entry).known.now) (option_map owner_view
+        (env.new).owner) (seen_view seen)) }
+{
+    match env.owner {
+        None => Ok(()),
+        Some(owner) => {
+            let count = seen_count(seen, owner.steps);
+            let old = replace(&mut env.scope.types.steps, Ty::Any);
+            let new = seen_steps(
+                alloc,
+                file.known,
+                owner.job,
+                owner.steps,
+                old,
+                env.seen,
+                count,
+            )?;
+            env.scope.types.steps = new;
+            env.seen = count;
+            Ok(())
+        }
+    }
+}
+
+/// Whether the jobs are seen in a section.
+fn shows_jobs(section: Section<'_>) -> bool
+    ensures { result ≡ environment.shows_jobs (section_view section.entry) }
+{
+    match section {
+        Section::Apart => false,
+        Section::On => true,
+        Section::Job(_) => true,
+    }
+}
+
+fn strategy_at(alloc: Global, job: Option<Member<'_>>) -> Result<Ty, AllocError>
+    ensures { IfOk result (λ t. ty_of t ≡ type_in_job (λ j. strategy_type) (option_map member_of job.entry)) }
+{
+    match job {
+        None => Ok(Ty::Any),
+        Some(_) => strategy(alloc),
+    }
+}
+
+fn matrix_at(alloc: Global, job: Option<Member<'_>>) -> Result<Ty, AllocError>
+    ensures { IfOk result (λ t. ty_of t ≡ type_in_job (λ j. specs.matrix_type j.1) (option_map member_of job.entry)) }
+{
+    match job {
+        None => Ok(Ty::Any),
+        Some(job) => matrix_type(alloc, job.value),
+    }
+}
+
+fn needs_at(
+    alloc: Global,
+    known: &[Answer<'_>],
+    jobs: &[Member<'_>],
+    job: Option<Member<'_>>,
+) -> Result<Ty, AllocError>
+    ensures { IfOk result (λ t. ty_of t ≡ type_in_job (λ j. needs_type_of (known_of known.now) (map member_of jobs.now) j.1)
+        (option_map member_of job.entry)) }
+{
+    match job {
+        None => Ok(Ty::Any),
+        Some(job) => needs_type(alloc, known, jobs, job.value),
+    }
+}
+
+/// The type of `jobs` in a section of a workflow, from that in another.
+#[tactic(auto, using(crate::proofs::Sections::jobs_shown))]
+fn jobs_at(
+    alloc: Global,
+    known: &[Answer<'_>],
+    jobs: &[Member<'_>],
+    old: Ty,
+    was: Section<'_>,
+    now: Section<'_>,
+) -> Result<Ty, AllocError>
+    requires { ty_of old ≡ environment.jobs_shown (known_of known.now) (map member_of jobs.now) (section_view was) }
+    ensures { IfOk result (λ t. ty_of t ≡ environment.jobs_shown (known_of known.now) (map member_of jobs.now)
+        (section_view now.entry)) }
+{
+    if !shows_jobs(now) {
+        return Ok(Ty::Any);
+    }
+    if shows_jobs(was) {
+        return Ok(old);
+    }
+    jobs_type(alloc, known, jobs)
+}
+
+/// The steps of a job.
+fn owner_at<'a>(job: Option<Member<'a>>) -> Option<Owner<'a>>
+    ensures { option_map owner_view result ≡ option_map environment.owner_of (option_map member_of job.entry) }
+{
+    let job = job?;
+    Some(Owner {
+        job: Some(key_text(job.key)),
+        steps: items_under(job.value, "steps"),
+    })
+}
+
+/// The type of `steps` where no step is seen.
+pub(crate) fn start_steps(alloc: Global, known: &[Answer<'_>], owner: Option<Owner<'_>>) -> Ty
+    ensures { ty_of result ≡ owned (known_of known.now) (option_map owner_view owner.entry) (before 0) }
+{
+    match owner {
+        None => Ty::Any,
+        Some(owner) => no_steps(alloc, known, owner.job, owner.steps),
+    }
+}
+
+/// Goes on to another section of a workflow, where no step is seen.
+fn enter_workflow<'a>(
+    alloc: Global,
+    file: File<'a>,
+    env: &mut Env<'a>,
+    section: Section<'a>,
+) -> Result<(), AllocError>
+    requires kind { file.kind ≡ kind.Workflow }
+    requires members { map member_of (env.old).jobs.items ≡ jobs_of (view file.root.now) }
+    requires fixed { Fixed file (env.old).scope.types }
+    requires section { OfSection file (env.old).scope.types (section_view (env.old).section) }
+    ensures members { OnOk result (map member_of (env.new).jobs.items ≡ jobs_of (view (file.entry).root.now)) }
+    ensures fixed { OnOk result (Fixed file.entry (env.new).scope.types) }
+    ensures section { OnOk result (OfSection file.entry (env.new).scope.types (section_view (env.new).section)) }
+    ensures same { OnOk result (section_view (env.new).section ≡ section_view section.entry) }
+    ensures owner { OnOk result (option_map owner_view (env.new).owner
+        ≡ owner_in (file.entry).kind (view (file.entry).root.now) (section_view section.entry)) }
+    ensures steps { OnOk result (ty_of (env.new).scope.types.steps ≡ owned (known_of (file.entry).known.now) (option_map owner_view
+        (env.new).owner) (before (env.new).seen)) }
+{
+    let job = job_of(env.jobs.as_slice(), section);
+    let strategy = strategy_at(alloc, job)?;
+    let needs = needs_at(alloc, file.known, env.jobs.as_slice(), job)?;
+    let matrix = matrix_at(alloc, job)?;
+    let old = replace(&mut env.scope.types.jobs, Ty::Any);
+    let jobs = jobs_at(
+        alloc,
+        file.known,
+        env.jobs.as_slice(),
+        old,
+        env.section,
+        section,
+    )?;
+    let owner = owner_at(job);
+    env.scope.types.strategy = strategy;
+    env.scope.types.needs = needs;
+    env.scope.types.matrix = matrix;
+    env.scope.types.jobs = jobs;
+    env.scope.types.steps = start_steps(alloc, file.known, owner);
+    env.owner = owner;
+    env.seen = 0;
+    env.section = section;
+    Ok(())
+}
+
+/// Goes on to a section.
+fn enter<'a>(
+    alloc: Global,
+    file: File<'a>,
+    env: &mut Env<'a>,
+    section: Section<'a>,
+) -> Result<(), AllocError>
+    requires members { map member_of (env.old).jobs.items ≡ jobs_of (view file.root.now) }
+    requires fixed { Fixed file (env.old).scope.types }
+    requires section { OfSection file (env.old).scope.types (section_view (env.old).section) }
+    requires owner { option_map owner_view (env.old).owner ≡ owner_in file.kind (view file.root.now) (section_view (env.old).section) }
+    requires steps { ty_of (env.old).scope.types.steps ≡ owned (known_of file.known.now) (option_map owner_view (env.old).owner)
+        (before (env.old).seen) }
+    ensures members { OnOk result (map member_of (env.new).jobs.items ≡ jobs_of (view (file.entry).root.now)) }
+    ensures fixed { OnOk result (Fixed file.entry (env.new).scope.types) }
+    ensures section { OnOk result (OfSection file.entry (env.new).scope.types (section_view (env.new).section)) }
+    ensures same { OnOk result (section_view (env.new).section ≡ section_view section.entry) }
+    ensures owner { OnOk result (option_map owner_view (env.new).owner
+        ≡ owner_in (file.entry).kind (view (file.entry).root.now) (section_view (env.new).section)) }
+    ensures steps { OnOk result (ty_of (env.new).scope.types.steps ≡ owned (known_of (file.entry).known.now) (option_map owner_view
+        (env.new).owner) (before (env.new).seen)) }
+{
+    if is_same_section(env.section, section) {
+        return Ok(());
+    }
+    match file.kind {
+        FileKind::Workflow => enter_workflow(alloc, file, env, section),
+        FileKind::Action => {
+            env.section = section;
+            Ok(())
+        }
+    }
+}
+
+/// Goes on to a position of the file.
+fn go<'a>(
+    alloc: Global,
+    file: File<'a>,
+    env: &mut Env<'a>,
+    position: Position<'a>,
+) -> Result<(), AllocError>
+    requires members { map member_of (env.old).jobs.items ≡ jobs_of (view file.root.now) }
+    requires fixed { Fixed file (env.old).scope.types }
+    requires section { OfSection file (env.old).scope.types (section_view (env.old).section) }
+    requires owner { option_map owner_view (env.old).owner ≡ owner_in file.kind (view file.root.now) (section_view (env.old).section) }
+    requires steps { ty_of (env.old).scope.types.steps ≡ owned (known_of file.known.now) (option_map owner_view (env.old).owner)
+        (before (env.old).seen) }
+    ensures members { OnOk result (map member_of (env.new).jobs.items ≡ jobs_of (view (file.entry).root.now)) }
+    ensures fixed { OnOk result (Fixed file.entry (env.new).scope.types) }
+    ensures section { OnOk result (OfSection file.entry (env.new).scope.types (section_view (env.new).section)) }
+    ensures owner { OnOk result (option_map owner_view (env.new).owner
+        ≡ owner_in (file.entry).kind (view (file.entry).root.now) (section_view (env.new).section)) }
+    ensures steps { OnOk result (ty_of (env.new).scope.types.steps ≡ owned (known_of (file.entry).known.now) (option_map owner_view
+        (env.new).owner) (before (env.new).seen)) }
+    ensures types { OnOk result ((c : Context) → type_of_context (env.new).scope.types c
+        ≡ type_at (file.entry).kind (known_of (file.entry).known.now) (view (file.entry).root.now) (position_view position.entry) c) }
+{
+    enter(alloc, file, env, position.section)?;
+    see(alloc, file, env, position.seen)?;
+    Ok(())
+}
+
+impl<'a> Env<'a> {
+    /// The environment at the start of a file: outside its jobs, where no step is seen and nothing is available.
+    ///
+    /// Fails with `AllocError` for want of memory.
+    pub fn new(alloc: Global, file: File<'a>) -> Result<Env<'a>, AllocError>
+        ensures { IfOk result (λ e. Stands file.entry e) }
+    {
+        let jobs = jobs_in(alloc, file.root)?;
+        let owner = first_owner(file.kind, file.root);
+        let types = first_types(alloc, file, owner)?;
+        Ok(Env {
+            section: Section::Apart,
+            owner,
+            seen: 0,
+            jobs,
+            scope: Scope {
+                types,
+                contexts: NO_CONTEXTS,
+                functions: NO_FUNCTIONS,
+                in_run: false,
+            },
+        })
+    }
+
+    /// Goes on to a place of the file: `scope` is then what an expression can refer to there. From one place to the next one of
+    /// the file only what changes is made anew; places can come in any order.
+    ///
+    /// Fails with `AllocError` for want of memory; the environment isn't to be used any more then.
+    pub fn go_to(
+        &mut self,
+        alloc: Global,
+        file: File<'a>,
+        place: Place<'a>,
+    ) -> Result<(), AllocError>
+        requires { Stands file self.old }
+        ensures stands { OnOk result (Stands file.entry self.new) }
+        ensures scope { OnOk result (scope_of (self.new).scope ≡ scope_at (file.entry).kind (known_of (file.entry).known.now)
+            (view (file.entry).root.now) (place_of place.entry)) }
+    {
+        go(alloc, file, self, place.position)?;
+        self.scope.contexts = context_set(file.kind, place.available);
+        self.scope.functions = function_set(file.kind, place.available, place.is_condition);
+        self.scope.in_run = place.is_script;
+        Ok(())
+    }
+}

@@ -1,0 +1,66 @@
+//! The types of `inputs`.
+ghost use Rattle.std.specs.Prelude.{◌≡◌, IfOk, map};
+ghost use Rattle.al_contexts.specs.Environment.{inputs_in};
+ghost use Rattle.al_contexts.specs.Inputs as inputs;
+ghost use Rattle.al_shape.specs.Values.{member_of};
+ghost use Rattle.al_types.specs.TypeViews.{field_of, ty_of};
+ghost use Rattle.al_yaml.specs.View.{view};
+
+use crate::objects::{field, fuse_fields, named_strings, strict_of};
+use al_declarations::{declared_at, input_of, type_of, value_below_three};
+use al_shape::{Member, key_text, value};
+use al_tree::FileKind;
+use al_types::{Field, Ty};
+use al_yaml::Node;
+use std::alloc::{AllocError, Global};
+
+/// The field that an input is. Fails with `AllocError` for want of memory, as all here.
+fn input_field(alloc: Global, input: Member<'_>) -> Result<Field, AllocError>
+    ensures { IfOk result (λ f. field_of f ≡ inputs.input_field (member_of input.entry)) }
+{
+    field(alloc, key_text(input.key), type_of(input_of(input.value)))
+}
+
+/// The inputs that an event of a workflow declares.
+fn event_inputs(alloc: Global, root: &Node, event: &str) -> Result<Vec<Field>, AllocError>
+    ensures { IfOk result (λ v. map field_of v.items ≡ inputs.event_inputs event.now (view root.now)) }
+{
+    let mut fields = Vec::new(alloc);
+    let declared = declared_at(alloc, value_below_three(root, "on", event, "inputs"))?;
+    for input in declared.as_slice() {
+        fields.push(input_field(alloc, *input)?)?;
+    }
+    Ok(fields)
+}
+
+/// The type of `inputs` in a workflow.
+fn workflow_inputs(alloc: Global, root: &Node) -> Result<Ty, AllocError>
+    ensures { IfOk result (λ t. ty_of t ≡ inputs.workflow_inputs (view root.now)) }
+{
+    let mut fields = event_inputs(alloc, root, "workflow_call")?;
+    let more = event_inputs(alloc, root, "workflow_dispatch")?;
+    fuse_fields(alloc, &mut fields, more)?;
+    Ok(strict_of(fields))
+}
+
+/// The type of `inputs` in an action.
+fn action_inputs(alloc: Global, root: &Node) -> Result<Ty, AllocError>
+    ensures { IfOk result (λ t. ty_of t ≡ inputs.action_inputs (view root.now)) }
+{
+    let mut names = Vec::new(alloc);
+    let declared = declared_at(alloc, value(root, "inputs"))?;
+    for input in declared.as_slice() {
+        names.push(key_text(input.key))?;
+    }
+    named_strings(alloc, names.as_slice())
+}
+
+/// The type of `inputs` in a file.
+pub(crate) fn inputs_type(alloc: Global, kind: FileKind, root: &Node) -> Result<Ty, AllocError>
+    ensures { IfOk result (λ t. ty_of t ≡ inputs_in kind (view root.now)) }
+{
+    match kind {
+        FileKind::Workflow => workflow_inputs(alloc, root),
+        FileKind::Action => action_inputs(alloc, root),
+    }
+}

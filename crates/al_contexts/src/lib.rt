@@ -1,0 +1,19 @@
+//! What an expression can refer to at each place of a workflow or an action: the types of contexts, and which contexts and special
+//! functions stand there.
+#![tactic(auto)]
+
+mod env;
+mod fixed;
+mod inputs;
+mod jobs;
+mod known;
+mod matrix;
+mod objects;
+mod scopes;
+mod start;
+mod steps;
+mod worked;
+
+pub use env::{Env, File, Owner};
+pub use known::Answer;
+pub use worked::rows;

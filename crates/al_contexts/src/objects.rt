@@ -1,0 +1,157 @@
+//! Object types, made of names with their types.
+ghost use Rattle.std.specs.Prelude.{◌≡◌, ◌++◌, [], ◌∷◌, IfOk, OnOk, map, string_bytes};
+ghost use Rattle.std.specs.List.{list_any};
+ghost use Rattle.al_types.specs.TypeViews.{field_of, fields_of, ty_of};
+ghost use Rattle.al_contexts.specs.Objects as objects;
+ghost use Rattle.al_contexts.specs.Objects.{first_at, loosely, named_as, put, put_all, put_new, strictly, strings};
+
+use al_declarations::is_same_name;
+use al_types::{Field, Object, Ty, fuse};
+use std::alloc::{AllocError, Global};
+
+/// A name as a text of its own. Names of a file that was read are UTF-8: so this fails for want of memory alone.
+fn name_of(alloc: Global, name: &[u8]) -> Result<String, AllocError>
+    ensures { IfOk result (λ s. string_bytes s ≡ name.now) }
+{
+    match std::str::from_utf8(name) {
+        Ok(text) => String::from_str(alloc, text),
+        Err(_) => Err(AllocError),
+    }
+}
+
+/// A field of a name and a type. Fails with `AllocError` for want of memory.
+pub(crate) fn field(alloc: Global, name: &[u8], ty: Ty) -> Result<Field, AllocError>
+    ensures { IfOk result (λ f. field_of f ≡ (name.now, ty_of ty)) }
+{
+    let name = name_of(alloc, name)?;
+    Ok(Field { name, ty })
+}
+
+/// An object that has no other fields.
+#[tactic(auto, using(al_types::proofs::TypeFields::object_made))]
+pub(crate) fn strict_of(fields: Vec<Field>) -> Ty
+    ensures { ty_of result ≡ strictly (map field_of fields.items) }
+{
+    Ty::Object(Object { fields, rest: None })
+}
+
+/// An object whose other fields have a type. Fails with `AllocError` for want of memory.
+#[tactic(auto, using(al_types::proofs::TypeFields::object_made))]
+pub(crate) fn loose_of(alloc: Global, fields: Vec<Field>, rest: Ty) -> Result<Ty, AllocError>
+    ensures { IfOk result (λ t. ty_of t ≡ loosely (map field_of fields.items) (ty_of rest)) }
+{
+    let rest = Box::new(alloc, rest)?;
+    Ok(Ty::Object(Object {
+        fields,
+        rest: Some(rest),
+    }))
+}
+
+/// Whether a field has this name, in any ASCII case.
+pub(crate) fn has_field(fields: &[Field], name: &[u8]) -> bool
+    ensures { result ≡ list_any (named_as name.now) (map field_of fields.now) }
+{
+    for field in fields {
+        if is_same_name(field.name.as_bytes(), name) {
+            return true;
+        }
+    }
+    false
+}
+
+/// Adds a field, unless one has its name. Fails with `AllocError` for want of memory.
+#[tactic(auto, using(crate::proofs::Puts::put_new_old))]
+pub(crate) fn add_field(fields: &mut Vec<Field>, field: Field) -> Result<(), AllocError>
+    ensures { OnOk result (map field_of fields.new.items ≡ put_new (map field_of fields.old.items) (field_of field)) }
+{
+    if has_field(fields.as_slice(), field.name.as_bytes()) {
+        return Ok(());
+    }
+    fields.push(field)?;
+    Ok(())
+}
+
+/// The position of the first field of a name, in any ASCII case.
+fn position_of(fields: &[Field], name: &[u8]) -> Option<usize>
+    ensures { result ≡ first_at (named_as name.now) (map field_of fields.now) }
+{
+    let mut i = 0;
+    for field in fields {
+        if is_same_name(field.name.as_bytes(), name) {
+            return Some(i);
+        }
+        i += 1;
+    }
+    None
+}
+
+/// Adds a field, or fuses its type with that of the field that has its name. Fails with `AllocError` for want of memory.
+pub(crate) fn fuse_field(
+    alloc: Global,
+    fields: &mut Vec<Field>,
+    field: Field,
+) -> Result<(), AllocError>
+    ensures { OnOk result (map field_of fields.new.items ≡ put (map field_of fields.old.items) (field_of field)) }
+{
+    match position_of(fields.as_slice(), field.name.as_bytes()) {
+        None => {
+            fields.push(field)?;
+        }
+        Some(i) => {
+            let ty = fuse(alloc, &fields[i].ty, &field.ty)?;
+            fields[i].ty = ty;
+        }
+    }
+    Ok(())
+}
+
+/// Adds fields, each fused with the one that has its name. Fails with `AllocError` for want of memory.
+pub(crate) fn fuse_fields(
+    alloc: Global,
+    fields: &mut Vec<Field>,
+    more: Vec<Field>,
+) -> Result<(), AllocError>
+    ensures { OnOk result (map field_of fields.new.items ≡ put_all put (map field_of fields.old.items) (map field_of more.items)) }
+{
+    for field in more {
+        fuse_field(alloc, fields, field)?;
+    }
+    Ok(())
+}
+
+/// Adds fields that are strings, by their names. Fails with `AllocError` for want of memory.
+pub(crate) fn add_strings(
+    alloc: Global,
+    fields: &mut Vec<Field>,
+    names: &[&[u8]],
+) -> Result<(), AllocError>
+    ensures { OnOk result (map field_of fields.new.items ≡ map field_of fields.old.items ++ strings (map (λ n. n.now) names.now)) }
+{
+    for name in names {
+        fields.push(field(alloc, name, Ty::String)?)?;
+    }
+    Ok(())
+}
+
+/// An object whose fields are strings of these names, and no others. Fails with `AllocError` for want of memory.
+pub(crate) fn named_strings(alloc: Global, names: &[&[u8]]) -> Result<Ty, AllocError>
+    ensures { IfOk result (λ t. ty_of t ≡ objects.named_strings (map (λ n. n.now) names.now)) }
+{
+    let mut fields = Vec::new(alloc);
+    add_strings(alloc, &mut fields, names)?;
+    Ok(strict_of(fields))
+}
+
+/// An object whose fields all are strings. Fails with `AllocError` for want of memory.
+pub(crate) fn loose_strings(alloc: Global) -> Result<Ty, AllocError>
+    ensures { IfOk result (λ t. ty_of t ≡ objects.loose_strings) }
+{
+    loose_of(alloc, Vec::new(alloc), Ty::String)
+}
+
+/// An object whose fields are of any type. Fails with `AllocError` for want of memory.
+pub(crate) fn loose_any(alloc: Global) -> Result<Ty, AllocError>
+    ensures { IfOk result (λ t. ty_of t ≡ objects.loose_any) }
+{
+    loose_of(alloc, Vec::new(alloc), Ty::Any)
+}

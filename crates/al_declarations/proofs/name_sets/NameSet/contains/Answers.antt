@@ -1,0 +1,10 @@
+use Rattle.std.proofs.Common.{ap, ◌∙◌}
+use Rattle.std.specs.BTreeSet.{contains_by}
+use Rattle.std.specs.Cmp.Lexicographic.{slice_cmp}
+use Rattle.std.specs.Ordering.{nat_cmp}
+use Rattle.al_declarations.specs.NameSets.{holds}
+use Rattle.al_declarations.proofs.name_sets.NameSet.contains.Goals as goal
+
+pub returns : goal.returns
+unfolding holds
+returns c = c.contains.ensures ∙ ap (λ t. contains_by (λ k. slice_cmp nat_cmp t k.items) c.args.self.now.names) (c.as_slice.ensures.value ∙ c.in_ok-lower.ensures)

@@ -1,0 +1,49 @@
+ghost use Rattle.std.specs.Prelude.{◌≡◌, [], map, not, IfOk, OnOk};
+ghost use Rattle.al_declarations.specs.Declarations.{named_among};
+ghost use Rattle.al_declarations.specs.NameSets.{and_name, folded, holds};
+
+use std::alloc::{AllocError, Global};
+use std::collections::BTreeSet;
+
+/// A set of names without regard to ASCII case. Adding one and looking one up take time that grows with the logarithm of their
+/// number, and with the name's length.
+#[derive(Drop)]
+pub struct NameSet {
+    /// Each in lower case.
+    names: BTreeSet<Vec<u8>>,
+}
+
+/// A name in lower case.
+fn in_lower_case(alloc: Global, name: &[u8]) -> Result<Vec<u8>, AllocError>
+    ensures { IfOk result (λ v. v.items ≡ folded name.now) }
+{
+    name.to_ascii_lowercase(alloc)
+}
+
+impl NameSet {
+    /// A set without names. Takes no memory.
+    pub fn new(alloc: Global) -> NameSet
+        ensures { holds result ≡ named_among [] }
+    {
+        NameSet {
+            names: BTreeSet::new(alloc),
+        }
+    }
+
+    /// Adds a name, and answers whether it is new. Fails with `AllocError` for want of memory.
+    pub fn insert(&mut self, alloc: Global, name: &[u8]) -> Result<bool, AllocError>
+        ensures set { OnOk result (holds self.new ≡ and_name (holds self.old) name.now) }
+        ensures is_new { IfOk result (λ b. b ≡ not (holds self.old name.now)) }
+    {
+        let added = self.names.insert(in_lower_case(alloc, name)?)?;
+        Ok(added)
+    }
+
+    /// Whether a name is in the set. Fails with `AllocError` for want of memory.
+    pub fn contains(&self, alloc: Global, name: &[u8]) -> Result<bool, AllocError>
+        ensures { IfOk result (λ b. b ≡ holds self.now name.now) }
+    {
+        let lower = in_lower_case(alloc, name)?;
+        Ok(self.names.contains(lower.as_slice()))
+    }
+}

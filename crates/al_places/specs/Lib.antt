@@ -1,0 +1,7 @@
+pub mod Availability
+pub mod Ways
+pub mod Positions
+pub mod Places
+pub mod Laws
+pub mod RowWords
+pub mod RowFiles

@@ -1,0 +1,17 @@
+//! The scalars of workflows and actions that are checked for expressions, each with its place: which contexts and functions stand
+//! there, and where it lies.
+#![tactic(auto)]
+
+mod laws;
+mod positions;
+mod table;
+mod walk;
+mod ways;
+mod worked;
+
+pub use laws::placed_scalars;
+pub use positions::{Position, Section, Seen};
+pub use table::{Key, Row, available};
+pub use walk::{Place, places};
+pub use ways::Step;
+pub use worked::rows;

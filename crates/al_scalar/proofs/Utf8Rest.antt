@@ -1,0 +1,220 @@
+-- What is left behind a scalar is cut where characters begin: its lines are UTF-8 where those were that it was read from.
+use Rattle.std.proofs.Common.{ℕ, zero, suc, ◌+◌, ◌<◌, List, [], ◌∷◌, ◌++◌, drop, length, take, sym, subst, arith, append_assoc, Bool, true, false, not, if◌then◌else◌, ◌&&◌, ◌||◌, ◌==◌, nat_lt, Option, Some, None, Result, Ok, Err}
+use Rattle.std.proofs.lemmas.Str.{IsUtf8-nil}
+use Rattle.std.specs.Prelude.{IsUtf8}
+use Rattle.al_scalar.specs.Ascii as ascii
+use Rattle.al_scalar.specs.Line.{Cell, Line, place, is_blank, after_blanks, begins, is_empty, is_all_blank}
+use Rattle.al_scalar.specs.Block.{Header, header, content_indent, Rows, row_of, at_end, with_row, rows_at, text_after, rows_end, block_scalar}
+use Rattle.al_scalar.specs.Plain.{Context, is_flow, is_value_colon, ends_plain, plain_part, continues, ended_before, plain_lines, plain}
+use Rattle.al_scalar.specs.Quoted.{Part, Stop, closed, broken, escaped, cut_short, is_broken, with_own, single_part, escape_table, digits_table, lookup, hex_value, is_scalar_value, written, part_before, own_before, hex_escape, escape, double_part, line_given, is_empty_line, quoted_lines, quoted, single_quoted, double_quoted}
+use Rattle.al_scalar.specs.Taken.{Fault, Taken, ◌>>=◌, before, folded, folded_break}
+use Rattle.al_scalar.proofs.OffsetLemmas.{choose}
+use Rattle.al_scalar.proofs.Utf8Lemmas.{AreUtf8, bytes_of, split-before, split-behind, keeps-blanks, equal-ascii, both-left, not-false, blank-ascii}
+use Rattle.al_scalar.proofs.Utf8Texts.{IsText, ends-ascii}
+use Rattle.al_scalar.proofs.Utf8Escapes.{choose-option}
+
+-- ---- how a line is left
+
+abbrev StopsText : Stop → Type 0
+StopsText (closed e rest) = IsText rest
+StopsText broken = Unit {0}
+StopsText escaped = Unit {0}
+StopsText (cut_short at) = Unit {0}
+
+-- whatever stands before the cells, if it makes UTF-8 with them then what is left behind a stop is UTF-8
+abbrev Leaves : List Cell → Stop → Type 0
+Leaves cs s = (p : List ℕ) → IsUtf8 (p ++ bytes_of cs) → StopsText s
+
+leaves-more : (c : Cell) (cs : List Cell) (s : Stop) → Leaves cs s → Leaves (c ∷ cs) s
+leaves-more c cs s k p u = k (p ++ c.0 ∷ []) (subst IsUtf8 (sym (append_assoc p (c.0 ∷ []) (bytes_of cs))) u)
+
+leaves-closed : (e : ℕ) (c : Cell) (cs : List Cell) → c.0 < 128 → Leaves (c ∷ cs) (closed e cs)
+leaves-closed e c cs l p u = split-behind c.0 (bytes_of cs) l (split-before p c.0 (bytes_of cs) l u).1
+
+abbrev PartLeaves : List Cell → Part → Type 0
+PartLeaves cs p = Leaves cs p.stop
+
+own-leaves : (c : Cell) (cs : List Cell) (p : Part) → PartLeaves cs p → PartLeaves (c ∷ cs) (with_own c p)
+own-leaves c cs p k =
+    choose (PartLeaves (c ∷ cs)) (is_blank c && is_empty p.text && is_broken p.stop) (λ _. leaves-more c cs p.stop k) (λ _. leaves-more c cs p.stop k)
+
+single-leaves : (n : ℕ) (cs : List Cell) → PartLeaves cs (single_part n cs)
+single-leaves zero [] = λ p u. tt
+single-leaves (suc n) [] = λ p u. tt
+single-leaves (suc n) (c ∷ cs) = leaves-more c cs (single_part n cs).stop (single-leaves n cs)
+single-leaves zero (c ∷ cs) =
+    choose (PartLeaves (c ∷ cs)) (not (c.0 == ascii.single_quote)) (λ _. own-leaves c cs (single_part 0 cs) (single-leaves 0 cs))
+    (λ e. choose (PartLeaves (c ∷ cs)) (begins ascii.single_quote cs) (λ _. leaves-more c cs (single_part 1 cs).stop (single-leaves 1 cs))
+    (λ _. leaves-closed (c.1 + 1) c cs (equal-ascii c.0 39 (omega arith) (not-false (c.0 == 39) e))))
+
+abbrev GivesLeaves : List Cell → Result Part Fault → Type 0
+GivesLeaves cs (Ok p) = Leaves cs p.stop
+GivesLeaves cs (Err e) = Unit {0}
+
+gives-more : (c : Cell) (cs : List Cell) (r : Result Part Fault) → GivesLeaves cs r → GivesLeaves (c ∷ cs) r
+gives-more c cs (Ok p) k = leaves-more c cs p.stop k
+gives-more c cs (Err e) k = tt
+
+part-leaves : (cs ws : List Cell) (r : Result Part Fault) → GivesLeaves cs r → GivesLeaves cs (part_before ws r)
+part-leaves cs ws (Ok p) k = k
+part-leaves cs ws (Err e) k = tt
+
+own-gives : (c : Cell) (cs : List Cell) (r : Result Part Fault) → GivesLeaves cs r → GivesLeaves (c ∷ cs) (own_before c r)
+own-gives c cs (Ok p) k = own-leaves c cs p k
+own-gives c cs (Err e) k = tt
+
+hex-leaves : (all : List Cell) (at width : ℕ) (digits : List Cell) (o : Option ℕ) (more : Result Part Fault) → GivesLeaves all more → GivesLeaves all (hex_escape at width digits o more)
+hex-leaves all at width digits None more k = tt
+hex-leaves all at width digits (Some code) more k =
+    choose (GivesLeaves all) (nat_lt (length digits) width) (λ _. λ p u. tt)
+    (λ _. choose (GivesLeaves all) (is_scalar_value code) (λ _. part-leaves all (written at code) more k) (λ _. tt))
+
+escape-leaves : (all : List Cell) (at : ℕ) (cs : List Cell) (more : ℕ → Result Part Fault) → ((n : ℕ) → GivesLeaves all (more n)) → GivesLeaves all (escape at cs more)
+escape-leaves all at [] more k = λ p u. tt
+escape-leaves all at (c ∷ cs) more k =
+    choose-option (GivesLeaves all) (lookup c.0 escape_table)
+    (choose-option (GivesLeaves all) (lookup c.0 digits_table) tt
+    (λ width _. hex-leaves all at width (take width cs) (hex_value 0 (take width cs)) (more (1 + width)) (k (1 + width))))
+    (λ code _. part-leaves all (written at code) (more 1) (k 1))
+
+double-leaves : (n : ℕ) (cs : List Cell) → GivesLeaves cs (double_part n cs)
+double-leaves zero [] = λ p u. tt
+double-leaves (suc n) [] = λ p u. tt
+double-leaves (suc n) (c ∷ cs) = gives-more c cs (double_part n cs) (double-leaves n cs)
+double-leaves zero (c ∷ cs) =
+    choose (GivesLeaves (c ∷ cs)) (c.0 == ascii.double_quote) (λ e. leaves-closed (c.1 + 1) c cs (equal-ascii c.0 34 (omega arith) e))
+    (λ _. choose (GivesLeaves (c ∷ cs)) (c.0 == ascii.backslash)
+    (λ _. escape-leaves (c ∷ cs) c.1 cs (λ n. double_part n cs) (λ n. gives-more c cs (double_part n cs) (double-leaves n cs)))
+    (λ _. own-gives c cs (double_part 0 cs) (double-leaves 0 cs)))
+
+-- ---- quoted lines
+
+abbrev pub LeavesText : Result Taken Fault → Type 0
+LeavesText (Ok t) = AreUtf8 t.left
+LeavesText (Err e) = Unit {0}
+
+left-before : (cs : List Cell) (r : Result Taken Fault) → LeavesText r → LeavesText (before cs r)
+left-before cs (Ok t) h = h
+left-before cs (Err e) h = tt
+
+abbrev GivesStop : Result Part Fault → Type 0
+GivesStop (Ok p) = StopsText p.stop
+GivesStop (Err e) = Unit {0}
+
+abbrev PartReader : (List Cell → Result Part Fault) → Type 0
+PartReader part = (cs : List Cell) → IsText cs → GivesStop (part cs)
+
+given-left : (quote : ℕ) (space : List Cell) (p : Part) (l : Line) (ls : List Line) (below : Option ℕ → Result Taken Fault) → AreUtf8 ls → StopsText p.stop → ((b : Option ℕ) → LeavesText (below b))
+    → LeavesText (line_given quote space p l ls below)
+given-left quote space p l ls below u h more = by-stop p.stop h
+  where
+    by-stop : (s : Stop) → StopsText s → LeavesText (line_given quote space (record { text = p.text; stop = s }) l ls below)
+    by-stop (closed e rest) h = (h, u)
+    by-stop (cut_short at) h = choose LeavesText l.last (λ _. tt) (λ _. tt)
+    by-stop broken h = choose LeavesText l.last (λ _. tt) (λ _. left-before (space ++ p.text) _ (more (Some l.end)))
+    by-stop escaped h = choose LeavesText l.last (λ _. tt) (λ _. left-before (space ++ p.text) _ (more None))
+
+line-left : (quote : ℕ) (break : Option ℕ) (l : Line) (ls : List Line) (below : Option ℕ → Result Taken Fault) → AreUtf8 ls → ((b : Option ℕ) → LeavesText (below b)) → (r : Result Part Fault) → GivesStop r
+    → LeavesText (r >>= (λ p. if is_empty_line p l then before ((ascii.line_feed, l.end) ∷ []) (below None) else line_given quote (folded break) p l ls below))
+line-left quote break l ls below u more (Err e) r = tt
+line-left quote break l ls below u more (Ok p) r =
+    choose LeavesText (is_empty_line p l) (λ _. left-before ((ascii.line_feed, l.end) ∷ []) (below None) (more None))
+    (λ _. given-left quote (folded break) p l ls below u r more)
+
+lines-left : (part : List Cell → Result Part Fault) → PartReader part → (quote : ℕ) (break : Option ℕ) (ls : List Line) → AreUtf8 ls → LeavesText (quoted_lines part quote break ls)
+lines-left part q quote break [] u = tt
+lines-left part q quote break (l ∷ ls) u =
+    line-left quote break l ls (λ b. quoted_lines part quote b ls) u.1 (λ b. lines-left part q quote b ls u.1) (part (after_blanks l.text)) (q (after_blanks l.text) (keeps-blanks l.text [] u.0))
+
+quoted-by : (part : List Cell → Result Part Fault) → PartReader part → (quote : ℕ) (l : Line) (ls : List Line) → AreUtf8 ls → (r : Result Part Fault) → GivesStop r
+    → LeavesText (r >>= (λ p. line_given quote [] p l ls (λ b. quoted_lines part quote b ls)))
+quoted-by part q quote l ls u (Err e) r = tt
+quoted-by part q quote l ls u (Ok p) r = given-left quote [] p l ls (λ b. quoted_lines part quote b ls) u r (λ b. lines-left part q quote b ls u)
+
+quoted-left : (part : List Cell → Result Part Fault) → PartReader part → (quote : ℕ) (ls : List Line) → AreUtf8 ls → LeavesText (quoted part quote ls)
+quoted-left part q quote [] u = tt
+quoted-left part q quote (l ∷ ls) u = quoted-by part q quote l ls u.1 (part l.text) (q l.text u.0)
+
+pub single-left : (quote : ℕ) (ls : List Line) → AreUtf8 ls → LeavesText (single_quoted quote ls)
+single-left quote ls u = quoted-left (λ text. Ok (single_part 0 text)) (λ cs k. single-leaves 0 cs [] k) quote ls u
+
+double-stop : (cs : List Cell) (r : Result Part Fault) → GivesLeaves cs r → IsText cs → GivesStop r
+double-stop cs (Ok p) k u = k [] u
+double-stop cs (Err e) k u = tt
+
+pub double-left : (quote : ℕ) (ls : List Line) → AreUtf8 ls → LeavesText (double_quoted quote ls)
+double-left quote ls u = quoted-left (double_part 0) (λ cs k. double-stop cs (double_part 0 cs) (double-leaves 0 cs) k) quote ls u
+
+-- ---- plain
+
+abbrev PlainLeaves : List Cell → List Cell × List Cell → Type 0
+PlainLeaves cs r = (p : List ℕ) → IsUtf8 (p ++ bytes_of cs) → IsText r.1
+
+plain-here : (c : Cell) (cs : List Cell) → c.0 < 128 → PlainLeaves (c ∷ cs) ([], c ∷ cs)
+plain-here c cs l p u = (split-before p c.0 (bytes_of cs) l u).1
+
+plain-more : (c : Cell) (cs : List Cell) (r : List Cell × List Cell) → PlainLeaves cs r → PlainLeaves (c ∷ cs) (c ∷ r.0, r.1)
+plain-more c cs r k p u = k (p ++ c.0 ∷ []) (subst IsUtf8 (sym (append_assoc p (c.0 ∷ []) (bytes_of cs))) u)
+
+plain-leaves : (p : Context) (blank : Bool) (cs : List Cell) → PlainLeaves cs (plain_part p blank cs)
+plain-leaves p blank [] = λ q u. IsUtf8-nil
+plain-leaves p blank (c ∷ cs) =
+    let more = plain_part p (is_blank c) cs in
+    choose (PlainLeaves (c ∷ cs)) (ends_plain p blank (c ∷ cs)) (λ e. plain-here c cs (ends-ascii p blank c cs e))
+    (λ _. choose (PlainLeaves (c ∷ cs)) (is_blank c && is_empty more.0) (λ e. plain-here c cs (blank-ascii c (both-left (is_blank c) (is_empty more.0) e)))
+    (λ _. plain-more c cs more (plain-leaves p (is_blank c) cs)))
+
+plain_lines-left : (p : Context) (here : Taken) (break : ℕ) (empties : List ℕ) (ls : List Line) → AreUtf8 here.left → AreUtf8 ls → LeavesText (plain_lines p here break empties ls)
+plain_lines-left p here break empties [] h u = h
+plain_lines-left p here break empties (l ∷ ls) h u =
+    let text = after_blanks l.text in
+    let part = plain_part p true text in
+    let rest = after_blanks part.1 in
+    let there = ended_before part.1 l ls in
+    let behind : AreUtf8 there.left = (plain-leaves p true text [] (keeps-blanks l.text [] u.0), u.1) in
+    choose LeavesText (is_empty text) (λ _. plain_lines-left p here break (empties ++ l.end ∷ []) ls h u.1)
+    (λ _. choose LeavesText (not (continues p l.text)) (λ _. h)
+    (λ _. choose LeavesText (not (is_flow p) && is_value_colon p rest) (λ _. tt)
+    (λ _. left-before (folded_break break empties ++ part.0) _ (choose LeavesText (is_empty rest) (λ _. plain_lines-left p there l.end [] ls behind u.1) (λ _. behind)))))
+
+pub plain-left : (p : Context) (ls : List Line) → AreUtf8 ls → LeavesText (plain p ls)
+plain-left p [] u = tt
+plain-left p (l ∷ ls) u =
+    let part = plain_part p false l.text in
+    let here = ended_before part.1 l ls in
+    let behind : AreUtf8 here.left = (plain-leaves p false l.text [] u.0, u.1) in
+    left-before part.0 _ (choose LeavesText (is_empty (after_blanks part.1)) (λ _. plain_lines-left p here l.end [] ls behind u.1) (λ _. behind))
+
+-- ---- block scalars
+
+abbrev RowsLeave : Rows → Type 0
+RowsLeave rs = AreUtf8 rs.left
+
+rows-by : (l : Line) (ls : List Line) (below : Rows) → AreUtf8 (l ∷ ls) → RowsLeave below → (o : Option (List Cell))
+    → RowsLeave (elim o [
+      | None ↦ record { rows = []; left = l ∷ ls }
+      | Some text ↦ (if l.last then record { rows = record { text = text; break = [] } ∷ []; left = at_end l }
+          else with_row (record { text = text; break = l.end ∷ [] }) below)
+    ])
+rows-by l ls below u more None = u
+rows-by l ls below u more (Some text) = choose RowsLeave l.last (λ _. (IsUtf8-nil, tt)) (λ _. more)
+
+rows-left : (m : Option ℕ) (found : Bool) (ls : List Line) → AreUtf8 ls → RowsLeave (rows_at m found ls)
+rows-left m found [] u = tt
+rows-left m found (l ∷ ls) u =
+    let next = found || not (is_all_blank l.text) in
+    rows-by l ls (rows_at m next ls) u (rows-left m next ls u.1) (row_of m found l.text)
+
+block-by : (is_literal : Bool) (within : ℕ) (l : Line) (ls : List Line) → AreUtf8 ls → (r : Result Header Fault)
+    → LeavesText (r >>= (λ h.
+    let m = content_indent h.digit within ls in
+    let rs = (if l.last then record { rows = []; left = at_end l } else rows_at m (elim h.digit [ None ↦ false | Some d ↦ true ]) ls) in
+    Ok (record { text = text_after is_literal h.chomping None [] rs.rows; end = rows_end h.end rs.rows; left = rs.left })))
+block-by is_literal within l ls u (Err e) = tt
+block-by is_literal within l ls u (Ok h) =
+    let m = content_indent h.digit within ls in
+    choose RowsLeave l.last (λ _. (IsUtf8-nil, tt)) (λ _. rows-left m (elim h.digit [ None ↦ false | Some d ↦ true ]) ls u)
+
+pub block-left : (is_literal : Bool) (within : ℕ) (ls : List Line) → AreUtf8 ls → LeavesText (block_scalar is_literal within ls)
+block-left is_literal within [] u = tt
+block-left is_literal within (l ∷ ls) u = block-by is_literal within l ls u.1 (header (place l.text l.end + 1) (drop 1 l.text))

@@ -1,0 +1,156 @@
+-- What holds of a node and of all that is in it holds of what stands under its keys, and of the calls of a file.
+use Rattle.std.specs.Prelude.{ℕ, ◌+◌, Bool, true, false, List, [], ◌∷◌, ◌++◌, codes, length, Option, Some, None, IfSome, find, option_and_then, option_map}
+use Rattle.std.proofs.Common.{cond}
+use Rattle.std.specs.List.{AllByRecursion, flat_map, enumerate_from}
+use Rattle.std.specs.Option.{option_map_or, option_to_list}
+use Rattle.al_text.specs.declared.faults.Span.{Span}
+use Rattle.al_scalar.specs.Scalar.{Scalar}
+use Rattle.al_yaml.specs.Access.{entries, mapping_in, nodes, scalar_in, sequence_in}
+use Rattle.al_yaml.specs.Node.{Node, Nodes, Entries, scalar, sequence, mapping, span_of}
+use Rattle.al_shape.specs.Faults.{is_key, is_null, value_in}
+use Rattle.al_shape.specs.Keys.{key_of}
+use Rattle.al_shape.specs.Names.{among}
+use Rattle.al_shape.specs.Values.{entries_at, entries_in, firsts, items_at, items_in, text_at, text_in, unless_null, value_at}
+use Rattle.al_tree.specs.declared.files.FileKind.{FileKind}
+use Rattle.al_tree.specs.declared.files.FileKind.TheVariants as kind
+use Rattle.al_declarations.specs.Declarations.{is_composite}
+use Rattle.al_uses.specs.Forms.{job_form, step_form}
+use Rattle.al_uses.specs.Uses.{Call, Site, action_steps, call_at, call_with, calls_in, job_call, job_calls, jobs_of, step_call, step_calls}
+use Rattle.al_uses.specs.declared.forms.Form.{Form}
+
+-- ---- lists, element by element
+
+pub each_both : {X : Type 0} (P : X → Type 0) (xs ys : List X) → AllByRecursion P xs → AllByRecursion P ys → AllByRecursion P (xs ++ ys)
+each_both P [] ys p q = q
+each_both P (x ∷ xs) ys p q = (p.0, each_both P xs ys p.1 q)
+
+pub each_either : {X : Type 0} (P : X → Type 0) (b : Bool) (xs ys : List X) → AllByRecursion P xs → AllByRecursion P ys → AllByRecursion P (cond b xs ys)
+each_either P true xs ys p q = p
+each_either P false xs ys p q = q
+
+pub each_of : {X Y : Type 0} (P : X → Type 0) (Q : Y → Type 0) (f : X → List Y) → ((x : X) → P x → AllByRecursion Q (f x)) → (xs : List X) → AllByRecursion P xs → AllByRecursion Q (flat_map f xs)
+each_of P Q f h [] p = tt
+each_of P Q f h (x ∷ xs) p = each_both Q (f x) (flat_map f xs) (h x p.0) (each_of P Q f h xs p.1)
+
+numbered : {X : Type 0} (P : X → Type 0) (i : ℕ) (xs : List X) → AllByRecursion P xs → AllByRecursion (λ s. P s.1) (enumerate_from i xs)
+numbered P i [] p = tt
+numbered P i (x ∷ xs) p = (p.0, numbered P (i + 1) xs p.1)
+
+found_at : {X : Type 0} (P : X → Type 0) (b : Bool) (x : X) (o : Option X) → P x → IfSome o P → IfSome (cond b (Some x) o) P
+found_at P true x o p q = p
+found_at P false x o p q = q
+
+found_one : {X : Type 0} (P : X → Type 0) (test : X → Bool) (xs : List X) → AllByRecursion P xs → IfSome (find test xs) P
+found_one P test [] p = tt
+found_one P test (x ∷ xs) p = found_at P (test x) x (find test xs) p.0 (found_one P test xs p.1)
+
+pub map_or : {X Y : Type 0} (P : X → Type 0) (Q : Y → Type 0) (f : X → List Y) → ((x : X) → P x → AllByRecursion Q (f x)) → (o : Option X) → IfSome o P → AllByRecursion Q (option_map_or f o [])
+map_or P Q f h None p = tt
+map_or P Q f h (Some x) p = h x p
+
+and_some : {X Y : Type 0} (P : X → Type 0) (Q : Y → Type 0) (f : X → Option Y) → ((x : X) → P x → IfSome (f x) Q) → (o : Option X) → IfSome o P → IfSome (option_and_then f o) Q
+and_some P Q f h None p = tt
+and_some P Q f h (Some x) p = h x p
+
+map_some : {X Y : Type 0} (P : X → Type 0) (Q : Y → Type 0) (f : X → Y) → ((x : X) → P x → Q (f x)) → (o : Option X) → IfSome o P → IfSome (option_map f o) Q
+map_some P Q f h None p = tt
+map_some P Q f h (Some x) p = h x p
+
+to_list : {X : Type 0} (P : X → Type 0) (o : Option X) → IfSome o P → AllByRecursion P (option_to_list o)
+to_list P None p = tt
+to_list P (Some x) p = (p, tt)
+
+-- ---- nodes
+
+-- a property of nodes that the nodes in a node have
+pub record IsKept (P : Node → Type 0) : Type 0 where
+  pub items : (ns : Nodes) (at : Span) → P (sequence ns at) → AllByRecursion P (nodes ns)
+  pub pairs : (es : Entries) (at : Span) → P (mapping es at) → AllByRecursion (λ e. P e.0 × P e.1) (entries es)
+
+module _ (P : Node → Type 0) (Q : Scalar × Span → Type 0) (kept : IsKept P) (scalars : (s : Scalar) (at : Span) → P (scalar s at) → Q (s, at)) where
+  abbrev Pair : Node × Node → Type 0
+  Pair e = P e.0 × P e.1
+
+  abbrev IsCallKept : Call → Type 0
+  IsCallKept c = Q (c.uses, c.at) × P c.node
+
+  scalar_kept : (n : Node) → P n → IfSome (scalar_in n) (λ s. Q (s, span_of n))
+  scalar_kept (scalar s at) p = scalars s at p
+  scalar_kept (sequence ns at) p = tt
+  scalar_kept (mapping es at) p = tt
+
+  sequence_kept : (n : Node) → P n → IfSome (sequence_in n) (AllByRecursion P)
+  sequence_kept (scalar s at) p = tt
+  sequence_kept (sequence ns at) p = kept.items ns at p
+  sequence_kept (mapping es at) p = tt
+
+  mapping_kept : (n : Node) → P n → IfSome (mapping_in n) (AllByRecursion Pair)
+  mapping_kept (scalar s at) p = tt
+  mapping_kept (sequence ns at) p = tt
+  mapping_kept (mapping es at) p = kept.pairs es at p
+
+  value_in_kept : (k : List ℕ) (es : List (Node × Node)) → AllByRecursion Pair es → IfSome (value_in k es) P
+  value_in_kept k es p = map_some Pair P (λ e. e.1) (λ e q. q.1) (find (is_key k) es) (found_one Pair (is_key k) es p)
+
+  pub value_kept : (k : List ℕ) (n : Node) → P n → IfSome (value_at k n) P
+  value_kept k n p = and_some (AllByRecursion Pair) P (value_in k) (value_in_kept k) (mapping_in n) (mapping_kept n p)
+
+  either_some : (b : Bool) (s : Scalar) (at : Span) → Q (s, at) → IfSome (cond b None (Some s)) (λ r. Q (r, at))
+  either_some true s at q = tt
+  either_some false s at q = q
+
+  not_null : (s : Scalar) (at : Span) → Q (s, at) → IfSome (unless_null s) (λ r. Q (r, at))
+  not_null s at q = either_some (is_null s) s at q
+
+  text_in_kept : (n : Node) → P n → IfSome (text_in n) Q
+  text_in_kept n p =
+      map_some (λ s. Q (s, span_of n)) Q (λ s. (s, span_of n)) (λ s q. q) (option_and_then unless_null (scalar_in n))
+      (and_some (λ s. Q (s, span_of n)) (λ s. Q (s, span_of n)) unless_null (λ s q. not_null s (span_of n) q) (scalar_in n) (scalar_kept n p))
+
+  text_kept : (k : List ℕ) (n : Node) → P n → IfSome (text_at k n) Q
+  text_kept k n p = and_some P Q text_in text_in_kept (value_at k n) (value_kept k n p)
+
+  firsts_kept : (seen : List (List ℕ)) (es : List (Node × Node)) → AllByRecursion Pair es → AllByRecursion Pair (firsts seen es)
+  firsts_kept seen [] p = tt
+  firsts_kept seen (e ∷ es) p =
+      each_both Pair (cond (among seen (key_of e)) [] (e ∷ [])) (firsts (seen ++ key_of e ∷ []) es)
+      (each_either Pair (among seen (key_of e)) [] (e ∷ []) tt (p.0, tt)) (firsts_kept (seen ++ key_of e ∷ []) es p.1)
+
+  entries_in_kept : (n : Node) → P n → AllByRecursion Pair (entries_in n)
+  entries_in_kept n p = map_or (AllByRecursion Pair) Pair (firsts []) (firsts_kept []) (mapping_in n) (mapping_kept n p)
+
+  items_in_kept : (n : Node) → P n → AllByRecursion P (items_in n)
+  items_in_kept n p = map_or (AllByRecursion P) P (λ ns. ns) (λ ns q. q) (sequence_in n) (sequence_kept n p)
+
+  pub entries_kept : (k : List ℕ) (n : Node) → P n → AllByRecursion Pair (entries_at k n)
+  entries_kept k n p = map_or P Pair entries_in entries_in_kept (value_at k n) (value_kept k n p)
+
+  pub items_kept : (k : List ℕ) (n : Node) → P n → AllByRecursion P (items_at k n)
+  items_kept k n p = map_or P P items_in items_in_kept (value_at k n) (value_kept k n p)
+
+  -- ---- calls
+
+  call_kept : (site : Site) (form : List ℕ → Form) (n : Node) → P n → AllByRecursion IsCallKept (call_at site form n)
+  call_kept site form n p =
+      to_list IsCallKept (option_map (call_with site form n) (text_at (codes "uses") n))
+      (map_some Q IsCallKept (call_with site form n) (λ t q. (q, p)) (text_at (codes "uses") n) (text_kept (codes "uses") n p))
+
+  step_kept : (job : Option (List ℕ)) (s : ℕ × Node) → P s.1 → AllByRecursion IsCallKept (step_call job s)
+  step_kept job s p = call_kept (record { job = job; step = Some s.0 }) step_form s.1 p
+
+  steps_kept : (job : Option (List ℕ)) (steps : List Node) → AllByRecursion P steps → AllByRecursion IsCallKept (step_calls job steps)
+  steps_kept job steps p = each_of (λ s. P s.1) IsCallKept (step_call job) (step_kept job) (enumerate_from 0 steps) (numbered P 0 steps p)
+
+  job_kept : (j : Node × Node) → Pair j → AllByRecursion IsCallKept (job_calls j)
+  job_kept j p =
+      each_both IsCallKept (job_call j) (step_calls (Some (key_of j)) (items_at (codes "steps") j.1))
+      (call_kept (record { job = Some (key_of j); step = None }) job_form j.1 p.1)
+      (steps_kept (Some (key_of j)) (items_at (codes "steps") j.1) (items_kept (codes "steps") j.1 p.1))
+
+  runs_kept : (root : Node) → P root → AllByRecursion P (action_steps root)
+  runs_kept root p = map_or P P (items_at (codes "steps")) (items_kept (codes "steps")) (value_at (codes "runs") root) (value_kept (codes "runs") root p)
+
+  pub calls_kept : (k : FileKind) (root : Node) → P root → AllByRecursion IsCallKept (calls_in k root)
+  calls_kept kind.Workflow root p = each_of Pair IsCallKept job_calls job_kept (jobs_of root) (entries_kept (codes "jobs") root p)
+  calls_kept kind.Action root p =
+      each_either IsCallKept (is_composite root) (step_calls None (action_steps root)) [] (steps_kept None (action_steps root) (runs_kept root p)) tt

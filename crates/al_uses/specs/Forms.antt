@@ -1,0 +1,101 @@
+-- What the text of a `uses` names (GitHub, "Workflow syntax", `jobs.<job_id>.steps[*].uses` and `jobs.<job_id>.uses`).
+use Rattle.std.specs.Prelude.{ℕ, List, [], ◌∷◌, ◌++◌, ◌-◌, ◌==◌, nat_lt, nat_eq, Bool, true, false, ◌&&◌, ◌||◌, codes, drop, take, length, Option, Some, None, is_none, if◌then◌else◌}
+use Rattle.std.specs.List.{list_all, starts_with, ends_with}
+use Rattle.std.specs.Str.{bytes_eq}
+use Rattle.al_text.specs.Paths.{parts, path_fault_of}
+use Rattle.al_text.specs.declared.codes.Caller.{Caller}
+use Rattle.al_text.specs.declared.codes.Caller.TheVariants as caller
+use Rattle.al_session.specs.declared.lint.Target.TheVariants.{Only, FirstOf}
+use Rattle.al_shape.specs.Faults.{has_chunk}
+use Rattle.al_tree.specs.Kinds.{is_workflow_name}
+use Rattle.al_uses.specs.declared.forms.Form.{Form}
+use Rattle.al_uses.specs.declared.forms.Form.TheVariants.{Local, Other, Wrong}
+
+abbrev pub begins_text : List ℕ → List ℕ → Bool
+begins_text part bs = starts_with nat_eq bs part
+
+abbrev pub ends_text : List ℕ → List ℕ → Bool
+ends_text part bs = ends_with nat_eq bs part
+
+abbrev pub is_some_text : List ℕ → Bool
+is_some_text bs = nat_lt 0 (length bs)
+
+abbrev pub is_path : List ℕ → Bool
+is_path bs = is_none (path_fault_of bs)
+
+-- this byte is an `@` with something behind it, which cuts a REF off, and the parts before it pass a test
+abbrev pub is_cut : (List (List ℕ) → Bool) → List ℕ → ℕ → List ℕ → Bool
+is_cut test before b rest = b == 64 && is_some_text rest && test (parts before)
+
+-- so does some byte behind those before
+abbrev pub is_some_cut : (List (List ℕ) → Bool) → List ℕ → List ℕ → Bool
+is_some_cut test before [] = false
+is_some_cut test before (b ∷ bs) = is_cut test before b bs || is_some_cut test (before ++ b ∷ []) bs
+
+abbrev pub is_remote_action : List (List ℕ) → Bool
+is_remote_action ps = nat_lt 1 (length ps) && list_all is_some_text ps
+
+abbrev pub is_workflow_path : List ℕ → List ℕ → List ℕ → Bool
+is_workflow_path a b f = bytes_eq a (codes ".github") && bytes_eq b (codes "workflows") && is_workflow_name f
+
+abbrev pub is_workflow_parts : List (List ℕ) → Bool
+is_workflow_parts (a ∷ b ∷ f ∷ []) = is_workflow_path a b f
+is_workflow_parts _ = false
+
+abbrev pub is_remote_workflow : List (List ℕ) → Bool
+is_remote_workflow ps = list_all is_some_text ps && is_workflow_parts (drop 2 ps)
+
+-- which parts before a REF a step may name, and which a job
+abbrev pub is_remote : Caller → List (List ℕ) → Bool
+is_remote caller.Step = is_remote_action
+is_remote caller.Job = is_remote_workflow
+
+abbrev pub path_in : List ℕ → Option (List ℕ)
+path_in bs = if is_path bs then Some bs else None
+
+-- `./DIR`, a trailing slash dropped
+abbrev pub folder_of : List ℕ → List ℕ
+folder_of rest = if ends_text (codes "/") rest then take (length rest - 1) rest else rest
+
+abbrev pub in_folder : List ℕ → List ℕ → List ℕ
+in_folder dir file = if is_some_text dir then dir ++ codes "/" ++ file else file
+
+-- both candidates, if they are paths
+abbrev pub first_of : Option (List ℕ) → Option (List ℕ) → Form
+first_of (Some a) (Some b) = Local (FirstOf a b)
+first_of _ _ = Other
+
+abbrev pub yml_in : List ℕ → Option (List ℕ)
+yml_in dir = path_in (in_folder dir (codes "action.yml"))
+
+abbrev pub yaml_in : List ℕ → Option (List ℕ)
+yaml_in dir = path_in (in_folder dir (codes "action.yaml"))
+
+abbrev pub local_step : List ℕ → Form
+local_step dir = first_of (yml_in dir) (yaml_in dir)
+
+abbrev pub remote : Caller → List ℕ → Form
+remote c bs = if is_some_cut (is_remote c) [] bs then Other else Wrong
+
+abbrev pub is_image : List ℕ → Bool
+is_image bs = begins_text (codes "docker://") bs && nat_lt 9 (length bs)
+
+abbrev pub step_form : List ℕ → Form
+step_form bs =
+    if has_chunk bs then Wrong
+    else if begins_text (codes "./") bs then local_step (folder_of (drop 2 bs))
+    else if is_image bs then Other
+    else remote caller.Step bs
+
+abbrev pub only : Option (List ℕ) → Form
+only (Some p) = Local (Only p)
+only None = Wrong
+
+abbrev pub local_job : List ℕ → Form
+local_job rest = if is_workflow_parts (parts rest) then only (path_in rest) else Wrong
+
+abbrev pub job_form : List ℕ → Form
+job_form bs =
+    if has_chunk bs then Wrong
+    else if begins_text (codes "./") bs then local_job (drop 2 bs)
+    else remote caller.Job bs

@@ -1,0 +1,254 @@
+//! What a `uses` names.
+ghost use Rattle.std.specs.Prelude.{◌≡◌, [], drop, map, IfOk};
+ghost use Rattle.std.specs.List.{list_all};
+ghost use Rattle.al_text.specs.Paths.{parts};
+ghost use Rattle.al_uses.specs.Forms as forms;
+
+use al_session::Target;
+use al_shape::contains_chunk;
+use al_text::{Caller, Path, PathFault};
+use al_tree::is_workflow_name;
+use std::alloc::{AllocError, Global};
+
+/// What the text of a `uses` names.
+#[derive(Drop)]
+pub enum Form {
+    /// A file of the folder, by the paths of which the first that is there answers.
+    Local(Target),
+    /// Something else: an image, an action or a workflow of another repository, a folder that can't hold a file.
+    Other,
+    /// Nothing: it is no right `uses`.
+    Wrong,
+}
+
+/// The parts between slashes. Fails with `AllocError` for want of memory.
+fn parts_of(alloc: Global, text: &[u8]) -> Result<Vec<&[u8]>, AllocError>
+    ensures { IfOk result (λ v. map (λ p. p.now) v.items ≡ parts text.now) }
+{
+    text.split(|b| *b == b'/').collect(alloc)
+}
+
+fn are_some_texts(texts: &[&[u8]]) -> bool
+    ensures { result ≡ list_all forms.is_some_text (map (λ t. t.now) texts.now) }
+{
+    for text in texts {
+        if text.is_empty() {
+            return false;
+        }
+    }
+    true
+}
+
+fn is_workflow_path(first: &[u8], second: &[u8], file: &[u8]) -> bool
+    ensures { result ≡ forms.is_workflow_path first.now second.now file.now }
+{
+    first == b".github".as_slice() && second == b"workflows".as_slice() && is_workflow_name(file)
+}
+
+/// Whether these are the parts of a workflow's path.
+fn is_workflow_parts(parts: &[&[u8]]) -> bool
+    ensures { result ≡ forms.is_workflow_parts (map (λ p. p.now) parts.now) }
+{
+    match parts {
+        [first, second, file] => is_workflow_path(first, second, file),
+        _ => false,
+    }
+}
+
+fn is_remote_workflow(parts: &[&[u8]]) -> bool
+    ensures { result ≡ forms.is_remote_workflow (map (λ p. p.now) parts.now) }
+{
+    if !are_some_texts(parts) {
+        return false;
+    }
+    match parts {
+        [_, _, rest @ ..] => is_workflow_parts(rest),
+        _ => false,
+    }
+}
+
+fn is_remote_action(parts: &[&[u8]]) -> bool
+    ensures { result ≡ forms.is_remote_action (map (λ p. p.now) parts.now) }
+{
+    parts.len() > 1 && are_some_texts(parts)
+}
+
+fn is_remote(caller: Caller, parts: &[&[u8]]) -> bool
+    ensures { result ≡ forms.is_remote caller (map (λ p. p.now) parts.now) }
+{
+    match caller {
+        Caller::Step => is_remote_action(parts),
+        Caller::Job => is_remote_workflow(parts),
+    }
+}
+
+/// Whether this byte cuts a REF off, and what is before it may be named.
+fn is_cut(
+    alloc: Global,
+    caller: Caller,
+    before: &[u8],
+    byte: u8,
+    rest: &[u8],
+) -> Result<bool, AllocError>
+    ensures { IfOk result (λ b. b ≡ forms.is_cut (forms.is_remote caller) before.now byte rest.now) }
+{
+    if byte != b'@' {
+        return Ok(false);
+    }
+    if rest.is_empty() {
+        return Ok(false);
+    }
+    let parts = parts_of(alloc, before)?;
+    Ok(is_remote(caller, parts.as_slice()))
+}
+
+/// Whether some byte of a text does.
+fn is_some_cut(alloc: Global, caller: Caller, text: &[u8]) -> Result<bool, AllocError>
+    ensures { IfOk result (λ b. b ≡ forms.is_some_cut (forms.is_remote caller) [] text.now) }
+{
+    for (i, byte) in text.iter().enumerate() {
+        if is_cut(alloc, caller, &text[..i], *byte, &text[i + 1..])? {
+            return Ok(true);
+        }
+    }
+    Ok(false)
+}
+
+fn remote(alloc: Global, caller: Caller, text: &[u8]) -> Result<Form, AllocError>
+    ensures { IfOk result (λ f. f ≡ forms.remote caller text.now) }
+{
+    if is_some_cut(alloc, caller, text)? {
+        Ok(Form::Other)
+    } else {
+        Ok(Form::Wrong)
+    }
+}
+
+/// The path with these bytes, if they are one.
+///
+/// Fails with `AllocError` for want of memory, and where they are no UTF-8, which no text of a file is.
+fn path_in(alloc: Global, bytes: &[u8]) -> Result<Option<Path>, AllocError>
+    ensures { IfOk result (λ p. p ≡ forms.path_in bytes.now) }
+{
+    match std::str::from_utf8(bytes) {
+        Err(_) => Err(AllocError),
+        Ok(text) => match Path::new(alloc, text) {
+            Ok(path) => Ok(Some(path)),
+            Err(PathFault::Memory) => Err(AllocError),
+            Err(_) => Ok(None),
+        },
+    }
+}
+
+/// A folder without the slash that ends it.
+fn folder_of(rest: &[u8]) -> &[u8]
+    ensures { result.now ≡ forms.folder_of rest.now }
+{
+    if rest.ends_with(b"/") {
+        &rest[..rest.len() - 1]
+    } else {
+        rest
+    }
+}
+
+/// The path of a file in a folder.
+fn in_folder(alloc: Global, folder: &[u8], file: &[u8]) -> Result<Vec<u8>, AllocError>
+    ensures { IfOk result (λ v. v.items ≡ forms.in_folder folder.now file.now) }
+{
+    let mut path = Vec::from_slice(alloc, folder)?;
+    if !folder.is_empty() {
+        path.push(b'/')?;
+    }
+    path.extend_from_slice(file)?;
+    Ok(path)
+}
+
+fn yml_in(alloc: Global, folder: &[u8]) -> Result<Option<Path>, AllocError>
+    ensures { IfOk result (λ p. p ≡ forms.yml_in folder.now) }
+{
+    let path = in_folder(alloc, folder, b"action.yml")?;
+    path_in(alloc, path.as_slice())
+}
+
+fn yaml_in(alloc: Global, folder: &[u8]) -> Result<Option<Path>, AllocError>
+    ensures { IfOk result (λ p. p ≡ forms.yaml_in folder.now) }
+{
+    let path = in_folder(alloc, folder, b"action.yaml")?;
+    path_in(alloc, path.as_slice())
+}
+
+/// Both candidates, if they are paths.
+fn first_of(first: Option<Path>, second: Option<Path>) -> Form
+    ensures { result ≡ forms.first_of first second }
+{
+    match first {
+        None => Form::Other,
+        Some(first) => match second {
+            None => Form::Other,
+            Some(second) => Form::Local(Target::FirstOf(first, second)),
+        },
+    }
+}
+
+fn local_step(alloc: Global, folder: &[u8]) -> Result<Form, AllocError>
+    ensures { IfOk result (λ f. f ≡ forms.local_step folder.now) }
+{
+    let first = yml_in(alloc, folder)?;
+    let second = yaml_in(alloc, folder)?;
+    Ok(first_of(first, second))
+}
+
+fn is_image(text: &[u8]) -> bool
+    ensures { result ≡ forms.is_image text.now }
+{
+    text.starts_with(b"docker://") && text.len() > 9
+}
+
+/// What a step's `uses` is.
+pub(crate) fn step_form(alloc: Global, text: &[u8]) -> Result<Form, AllocError>
+    ensures { IfOk result (λ f. f ≡ forms.step_form text.now) }
+{
+    if contains_chunk(text) {
+        return Ok(Form::Wrong);
+    }
+    if text.starts_with(b"./") {
+        return local_step(alloc, folder_of(&text[2..]));
+    }
+    if is_image(text) {
+        return Ok(Form::Other);
+    }
+    remote(alloc, Caller::Step, text)
+}
+
+fn only(path: Option<Path>) -> Form
+    ensures { result ≡ forms.only path }
+{
+    match path {
+        Some(path) => Form::Local(Target::Only(path)),
+        None => Form::Wrong,
+    }
+}
+
+fn local_job(alloc: Global, rest: &[u8]) -> Result<Form, AllocError>
+    ensures { IfOk result (λ f. f ≡ forms.local_job rest.now) }
+{
+    let parts = parts_of(alloc, rest)?;
+    if is_workflow_parts(parts.as_slice()) {
+        Ok(only(path_in(alloc, rest)?))
+    } else {
+        Ok(Form::Wrong)
+    }
+}
+
+/// What a job's `uses` is.
+pub(crate) fn job_form(alloc: Global, text: &[u8]) -> Result<Form, AllocError>
+    ensures { IfOk result (λ f. f ≡ forms.job_form text.now) }
+{
+    if contains_chunk(text) {
+        return Ok(Form::Wrong);
+    }
+    if text.starts_with(b"./") {
+        return local_job(alloc, &text[2..]);
+    }
+    remote(alloc, Caller::Job, text)
+}
