@@ -1,6 +1,6 @@
 -- Each fault of the rules lies in the file that the tree was read from: rule by rule.
-use Rattle.std.specs.Prelude.{◌≡◌, ℕ, ◌+◌, ◌≤◌, ◌||◌, Bool, not, List, [], ◌∷◌, ◌++◌, codes, map, length, Option, Some, None, IfSome, is_some, option_and_then, option_map}
-use Rattle.std.proofs.Common.{cond, arith, subst, sym}
+use Rattle.std.specs.Prelude.{ℕ, ◌+◌, ◌||◌, Bool, not, List, [], ◌∷◌, ◌++◌, codes, map, Option, Some, None, IfSome, is_some, option_and_then}
+use Rattle.std.proofs.Common.{arith, subst, sym}
 use Rattle.std.proofs.lemmas.List.Elements.{All-from_recursion}
 use Rattle.std.specs.List.{AllByRecursion, enumerate_from, filter_map, flat_map}
 use Rattle.std.specs.Option.{option_map_or}
@@ -27,12 +27,12 @@ use Rattle.al_tree.specs.declared.files.Tree.TheVariants as tree
 use Rattle.al_rules.specs.Events.{activity_faults, cron_faults, event_faults, filter_faults, filters_faults, input_faults, inputs_faults, name_faults, named_faults, on_faults, pattern_faults, schedule_faults, type_faults}
 use Rattle.al_rules.specs.Inside.{RuleFaultsLie, root_of}
 use Rattle.al_rules.specs.Ids.{id_faults, ids_faults, repeated_faults, with_folded}
-use Rattle.al_rules.specs.Matrix.{are_combinations, exclude_faults, exclude_keys, excludes_faults, is_dynamic, is_mapping, is_null_node, is_row_value, matrix_faults, row_faults, row_names, shape_faults}
+use Rattle.al_rules.specs.Matrix.{exclude_faults, exclude_keys, excludes_faults, is_dynamic, is_mapping, is_null_node, is_row_value, matrix_faults, row_faults, row_names, shape_faults}
 use Rattle.al_rules.specs.Names.{activities_of, call_types, dispatch_types, node_usings, permissions, scope_values, whole_values}
-use Rattle.al_rules.specs.Needs.{AreNeedsFaults, IsNeedFaults, Need, all_needs, and_need, cycle_fault, keys_of, leads_back, leads_on, named_by, needs_in, needs_of, no_needs, undefined_job}
+use Rattle.al_rules.specs.Needs.{AreNeedsFaults, IsNeedFaults, Need, all_needs, and_need, keys_of, leads_back, leads_on, named_by, needs_in, needs_of, no_needs, undefined_job}
 use Rattle.al_rules.specs.Rules.{IsRuleFaults, action_faults, composite_faults, container_faults, containers_faults, hooks_faults, job_faults, jobs_of, matrix_faults_of, no_shell_faults, output_faults, run_faults, runs_faults, scalar_of_value, section_faults, settings_faults, step_faults, step_ids, steps_faults, using_faults, workflow_faults}
 use Rattle.al_rules.specs.Settings.{all_permissions_faults, condition_faults, credentials_faults, env_faults, is_always_true, is_password, is_shell, password_faults, permission_faults, permissions_faults, script_faults, shell_faults, value_faults, variable_faults}
-use Rattle.al_rules.specs.Words.{Named, about, fault, of_key, of_scalar, unless, unless_among}
+use Rattle.al_rules.specs.Words.{Named, fault, of_key, of_scalar, unless, unless_among}
 use Rattle.al_rules.proofs.Inside.{Fine, Lies, Pair, Place, Text, about_lies, and_some, below_fine, commands_lie, each_as, each_both, each_of, each_some, entries_at_fine, entries_in_fine, items_at_fine, items_in_fine, key_fine, map_or, map_some, one_lies, or_lies, scalar_fine, span_lies, text_at_fine, text_below_fine, text_fine, texts_at_fine, texts_in_fine, unless_lies, value_fine}
 
 module _ (size : ℕ) where

@@ -4,7 +4,7 @@ use Rattle.std.proofs.Common.{◌≡◌, ℕ, ◌+◌, ◌<◌, get_or, map, tak
 use Rattle.std.specs.BTreeMap.{Updates}
 use Rattle.std.specs.Cmp.{nat_eq_equiv, partial_equiv_from_equiv, IsPartialEquivalence}
 use Rattle.std.specs.Cmp.Lexicographic.{slice_cmp, lists_per}
-use Rattle.std.specs.Ordering.{nat_cmp, is_eq}
+use Rattle.std.specs.Ordering.{nat_cmp}
 use Rattle.std.specs.Prelude.{IsSome}
 use Rattle.std.specs.Str.{bytes_eq}
 use Rattle.std.proofs.lemmas.Map.Text.{is_eq-slice_cmp}

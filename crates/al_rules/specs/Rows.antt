@@ -2,7 +2,7 @@
 use Rattle.std.specs.Prelude.{ℕ, ◌+◌, List, [], ◌∷◌, codes, length}
 use Rattle.al_scalar.specs.Line.{Cell}
 use Rattle.al_scalar.specs.declared.styles.Class.{Class}
-use Rattle.al_scalar.specs.declared.styles.Class.TheVariants.{Null, Int, Str}
+use Rattle.al_scalar.specs.declared.styles.Class.TheVariants.{Str}
 use Rattle.al_scalar.specs.declared.styles.Style.TheVariants.{Plain, SingleQuoted}
 use Rattle.al_text.specs.declared.faults.Fault.{Fault}
 use Rattle.al_text.specs.declared.faults.Span.{Span}

@@ -1,4 +1,4 @@
-use Rattle.std.proofs.Common.{ℕ, take, map}
+use Rattle.std.proofs.Common.{take, map}
 use Rattle.al_graph.specs.Graphs.{Walk, edges_of}
 use Rattle.al_shape.specs.Growth.{BeginsWith}
 use Rattle.al_shape.specs.Values.{member_of}

@@ -1,4 +1,3 @@
-use Rattle.std.proofs.Common.{ap, List}
 use Rattle.std.specs.BTreeMap.{is_at}
 use Rattle.std.specs.Cmp.Lexicographic.{slice_cmp}
 use Rattle.std.specs.Map.{lookup}

@@ -1,4 +1,3 @@
-use Rattle.std.proofs.Common.{List, ℕ}
 use Rattle.al_rules.specs.declared.ids.FoldedId.{FoldedId}
 use Rattle.al_rules.proofs.PositionLemmas.{position_at}
 use Rattle.al_rules.proofs.needs.Positions.of.Goals as goal
