@@ -18,8 +18,7 @@ REPORTS = 3
 FAULTS = 99_000
 SPACES = 740_000
 
-# the program's words: none, until it takes some
-WORDS = sys.argv[1:]
+WORDS = ["--session", "--oneline"]
 
 JOB = "on: push\njobs:\n  a:\n    runs-on: u\n    needs:"
 ONE_LINE = JOB + " [" + " " * SPACES + "[]," * FAULTS + "]\n"

@@ -2,7 +2,7 @@
 
 A section of the page is a fault: its heading has the fault's identifier and its message, and it has at least two examples, a
 file and the report of that file as the only one of a folder. The first example's report must have a line with the message,
-the last one's must have none. Each example becomes a script and its output.
+the last one's must have none. Each example becomes a script and its output. A file marked `yaml action` is an action.
 
 Before the file may stand other files of the folder, marked `yaml PATH`, which have no faults. They are put first.
 
@@ -14,9 +14,10 @@ import pathlib
 import re
 import sys
 
+PATHS = {" action": "action.yml"}
 PATH = ".github/workflows/a.yml"
 OTHER = re.compile(r"```yaml (\S+\.ya?ml)\n(.*?)```\n\s*", re.DOTALL)
-EXAMPLE = re.compile(r"((?:```yaml \S+\.ya?ml\n(?:(?!```).)*```\n\s*)*)```yaml( escaped)?\n(.*?)```\n\s*```text\n(.*?)```", re.DOTALL)
+EXAMPLE = re.compile(r"((?:```yaml \S+\.ya?ml\n(?:(?!```).)*```\n\s*)*)```yaml( escaped| action)?\n(.*?)```\n\s*```text\n(.*?)```", re.DOTALL)
 ESCAPE = re.compile(rb"\\x([0-9a-f]{2})|\\\*([0-9]+)\{([^}]*)\}")
 SECTION = re.compile(r"^### ([A-Z][0-9]+) `(.*)`$", re.MULTILINE)
 
@@ -37,10 +38,10 @@ def put(path, data):
     return f"put {path} {len(data)}\n".encode() + data + b"\n"
 
 
-def script_and_output(others, escaped, file, report):
+def script_and_output(others, mark, file, report):
     """The script that puts the files and reports, and what it must print. No file that is put is called by one before it."""
-    data = ESCAPE.sub(unescaped, file.encode()) if escaped else file.encode()
-    puts = [put(path, text.encode()) for path, text in OTHER.findall(others)] + [put(PATH, data)]
+    data = ESCAPE.sub(unescaped, file.encode()) if mark == " escaped" else file.encode()
+    puts = [put(path, text.encode()) for path, text in OTHER.findall(others)] + [put(PATHS.get(mark, PATH), data)]
     return b"".join(puts) + b"report\n", "ok 1\n" * len(puts) + f"{report}status {1 if report else 0}\n"
 
 

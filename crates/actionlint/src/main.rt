@@ -1,10 +1,13 @@
-//! The linter as a program: it runs a script from standard input.
+//! The linter as a program: it lints the files of a folder, or runs a script from standard input.
 #![tactic(auto)]
 
-use al_cli::run_session;
-use al_text::{Input, Output};
-use std::env;
+use al_cli::{Fatal, Unread, Usage, Words, gather, lint_all, number_of, parse_words, run_session};
+use al_session::Refused;
+use al_text::{Input, Output, Path, Stop};
+use std::alloc::AllocError;
+use std::io::{BufWriter, ErrorKind};
 use std::process::ExitCode;
+use std::{env, io};
 
 /// The status of a wrong command line.
 const BAD_WORDS: u8 = 2;
@@ -13,25 +16,137 @@ const BAD_WORDS: u8 = 2;
 const FATAL: u8 = 3;
 
 fn main(rt: HostRuntime) -> ExitCode {
-    if has_words(&rt) {
-        return ExitCode::from(BAD_WORDS);
+    ExitCode::from(run(&rt))
+}
+
+// Runs the program, and answers its status.
+fn run(rt: &HostRuntime) -> u8 {
+    let words = match words_of(rt) {
+        Ok(words) => words,
+        Err(error) => return say_unreadable(rt, error.kind()),
+    };
+    match parse_words(rt.alloc(), words.as_slice()) {
+        Ok(words) if words.session => run_script(rt, words.oneline),
+        Ok(words) => lint_folder(rt, &words),
+        Err(usage) => say_usage(rt, usage),
     }
+}
+
+fn words_of(rt: &HostRuntime) -> io::Result<Vec<String>> {
+    Ok(env::args(rt)?.collect(rt.alloc())?)
+}
+
+// Says why the words could not be read.
+fn say_unreadable(rt: &HostRuntime, kind: ErrorKind) -> u8 {
+    if kind == ErrorKind::OutOfMemory {
+        return stopped(rt, Stop::Memory);
+    }
+    say(rt, "the words of the command line are not text");
+    BAD_WORDS
+}
+
+// Prints why the command line asks for no run.
+fn say_usage(rt: &HostRuntime, usage: Usage) -> u8 {
+    match usage {
+        Usage::Help(text) => match print!(rt; "{text}") {
+            Ok(()) => 0,
+            Err(_) => stopped(rt, Stop::WriteFault),
+        },
+        Usage::Clap(text) => {
+            let _ = eprint!(rt; "{text}");
+            BAD_WORDS
+        }
+        Usage::Session => {
+            say(rt, "--session takes no files");
+            BAD_WORDS
+        }
+        Usage::Memory => stopped(rt, Stop::Memory),
+    }
+}
+
+// Runs the script of standard input.
+fn run_script(rt: &HostRuntime, oneline: bool) -> u8 {
+    let Ok(buffer) = BufWriter::new(rt.alloc(), rt.stdout()) else {
+        return stopped(rt, Stop::Memory);
+    };
     let mut reader = Input::new(rt.stdin());
-    let mut writer = Output::new(rt.stdout());
-    match run_session(rt.alloc(), &mut reader, &mut writer) {
-        Ok(status) => ExitCode::from(status),
-        Err(stop) => {
-            // Nothing is left to do where standard error fails too.
-            let _ = eprintln!(rt; "actionlint: {stop}");
-            ExitCode::from(FATAL)
+    let mut writer = Output::new(buffer);
+    let answer = run_session(rt.alloc(), &mut reader, &mut writer, oneline);
+    // What the writer holds back goes out whatever the answer is.
+    let flushed = writer.flush();
+    match (answer, flushed) {
+        (Ok(status), Ok(())) => status,
+        (Ok(_), Err(stop)) => stopped(rt, stop),
+        (Err(stop), _) => stopped(rt, stop),
+    }
+}
+
+// Lints the files that the words ask for.
+fn lint_folder(rt: &HostRuntime, words: &Words) -> u8 {
+    let files = match gather(rt, rt.alloc(), words) {
+        Ok(files) => files,
+        Err(unread) => return say_unread(rt, unread),
+    };
+    match lint_files(rt, &files, words.oneline) {
+        Ok(status) => status,
+        Err(Fatal::Stopped(stop)) => stopped(rt, stop),
+        Err(Fatal::Refused(index, refused)) => {
+            if let Some((path, _)) = files.get(index) {
+                say_refused(rt, path.as_str(), refused);
+            }
+            FATAL
         }
     }
 }
 
-// Whether a word follows the program's name. Words that cannot be read count as wrong ones.
-fn has_words(rt: &HostRuntime) -> bool {
-    match env::args(rt) {
-        Ok(words) => words.count() > 1,
-        Err(_) => true,
+fn lint_files(rt: &HostRuntime, files: &[(Path, Vec<u8>)], oneline: bool) -> Result<u8, Fatal> {
+    let Ok(buffer) = BufWriter::new(rt.alloc(), rt.stdout()) else {
+        return Err(Fatal::Stopped(Stop::Memory));
+    };
+    let pairs = pairs_of(rt, files)?;
+    let mut writer = Output::new(buffer);
+    let answer = lint_all(rt.alloc(), &pairs, &mut writer, oneline);
+    // A whole report is flushed already; of one that stopped goes out what can.
+    let _ = writer.flush();
+    answer
+}
+
+fn pairs_of<'a>(
+    rt: &HostRuntime,
+    files: &'a [(Path, Vec<u8>)],
+) -> Result<Vec<(&'a str, &'a [u8])>, AllocError> {
+    let mut pairs = Vec::new(rt.alloc());
+    for (path, bytes) in files {
+        pairs.push((path.as_str(), bytes.as_slice()))?;
     }
+    Ok(pairs)
+}
+
+fn say_unread(rt: &HostRuntime, unread: Unread) -> u8 {
+    match unread {
+        Unread::Unreadable(path) => {
+            let _ = eprintln!(rt; "actionlint: cannot read {path}");
+            FATAL
+        }
+        Unread::Refused(path, refused) => {
+            say_refused(rt, path.as_str(), refused);
+            FATAL
+        }
+        Unread::Memory => stopped(rt, Stop::Memory),
+    }
+}
+
+fn say_refused(rt: &HostRuntime, path: &str, refused: Refused) {
+    let number = number_of(refused);
+    let _ = eprintln!(rt; "actionlint: {path}: refused E{number}");
+}
+
+fn stopped(rt: &HostRuntime, stop: Stop) -> u8 {
+    let _ = eprintln!(rt; "actionlint: {stop}");
+    FATAL
+}
+
+// Nothing is left to do where standard error fails too.
+fn say(rt: &HostRuntime, text: &str) {
+    let _ = eprintln!(rt; "actionlint: {text}");
 }

@@ -2,10 +2,8 @@ pub mod Script
 pub mod Runs
 pub mod Next
 pub mod Answered
-pub mod Files
 pub mod Callees
 pub mod Replies
 pub mod ScriptLaws
 pub mod Linted
 pub mod Words
-pub mod FileLaws

@@ -7,7 +7,7 @@ use Rattle.al_text.specs.declared.stops.Stop.TheVariants.{WriteFault, Memory}
 use Rattle.al_session.specs.Folder.{Folder, put_refusal, with_file}
 use Rattle.al_session.specs.Report.{report_of}
 use Rattle.al_session.specs.declared.lint.Refused.{Refused}
-use Rattle.al_cli.specs.Files.{linting}
+use Rattle.al_check.specs.Linting.{linting}
 use Rattle.al_cli.specs.declared.linted.Fatal.{Fatal}
 use Rattle.al_cli.specs.declared.linted.Fatal.TheVariants as fatal
 

@@ -10,8 +10,8 @@ use Rattle.al_session.specs.Folder.{Folder, put_refusal, delete_refusal, with_fi
 use Rattle.al_session.specs.Report.{report_of, status_of}
 use Rattle.al_session.specs.declared.lint.Refused.{Refused}
 use Rattle.al_session.specs.declared.lint.Refused.TheVariants.{BadPath, NotAccepted, TooLarge, Full, NoSuchFile, Memory}
-use Rattle.al_cli.specs.Files.{linting}
-use Rattle.al_cli.specs.contracts.lint.NoInterfacePartialEq.TheImpl as interface
+use Rattle.al_check.specs.Linting.{linting}
+use Rattle.al_check.specs.contracts.lint.NoInterfacePartialEq.TheImpl as interface
 use Rattle.al_cli.specs.Script.{Command, Put, Delete, Report}
 use Rattle.al_cli.specs.Runs.{Steps}
 

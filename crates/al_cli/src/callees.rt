@@ -5,14 +5,17 @@ ghost use Rattle.std.specs.List.{AllByRecursion};
 ghost use Rattle.al_text.specs.Spans.{LiesIn};
 ghost use Rattle.al_session.specs.Meaning.{counted};
 ghost use Rattle.al_cli.specs.Callees.{callees};
-ghost use Rattle.al_cli.specs.FileLaws.{same_interface, none_ordered};
+ghost use Rattle.al_cli.specs.Callees.{same_interface, none_ordered};
 ghost use Rattle.std.specs.List.Sorted.{IsStrictlySortedBy};
 ghost use Rattle.al_text.specs.FaultLists.{fault_cmp};
 
-use crate::lint::NoInterface;
 use al_session::{Lint, Target};
 use al_text::Fault;
 use std::alloc::{AllocError, Global};
+
+/// What a file offers to those that call it, which is nothing.
+#[derive(Clone, Copy, PartialEq, Eq, Debug)]
+pub(crate) struct NoInterface {}
 
 /// Takes the files that another linter takes, and finds the calls that it finds. No file has a fault or offers anything,
 /// so a session over it tells what is missing of a folder, and checks no file.

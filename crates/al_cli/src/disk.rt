@@ -1,8 +1,8 @@
 //! The files of a folder of the disk that a run lints.
 
 use crate::callees::Callees;
-use crate::lint::FileLint;
 use crate::words::Words;
+use al_check::Actions;
 use al_session::{Lint, Refused, Session};
 use al_text::{Path, path_fault};
 use al_tree::is_workflow;
@@ -53,7 +53,7 @@ pub fn gather<R: Files + AllocGlobal + Clone + Drop>(
     alloc: Global,
     words: &Words,
 ) -> Result<Vec<(Path, Vec<u8>)>, Unread> {
-    gather_for(rt, alloc, words, FileLint::new(), FileLint::new())
+    gather_for(rt, alloc, words, Actions::new(), Actions::new())
 }
 
 /// The same for any linter, which is given twice: one that says which paths it takes, and one that finds calls.

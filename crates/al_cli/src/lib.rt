@@ -4,7 +4,6 @@
 mod callees;
 mod commands;
 mod disk;
-mod lint;
 mod linted;
 mod run;
 mod scripts;
@@ -12,7 +11,6 @@ mod words;
 
 pub use commands::{Command, Next, next_command};
 pub use disk::{Unread, gather, gather_for};
-pub use lint::{FileLint, NoInterface, ReadFile};
 pub use linted::{Fatal, lint_all};
 pub use run::{number_of, run_session};
 pub use scripts::script_laws;

@@ -12,7 +12,7 @@ ghost use Rattle.al_cli.specs.Answered.{Progresses, IsStuck};
 ghost use Rattle.al_text.specs.declared.stops.Stop.TheVariants.{ReadFault, WriteFault, Memory, TooManyTurns};
 
 use super::commands::{Command, Next, next_command};
-use super::lint::FileLint;
+use al_check::Actions;
 use al_session::{Edit, Refused, Session};
 use al_text::{Input, Output, Stop};
 use itoa::Buffer;
@@ -54,7 +54,7 @@ pub fn run_session<R: Read, W: Write>(
 {
     // A proof knows that a count fits its type where the body reads it.
     let _turns_before = reader.turns();
-    let mut session = Session::open(alloc, FileLint::new());
+    let mut session = Session::open(alloc, Actions::new());
     let mut waiting: Vec<u8> = Vec::new(alloc);
     let mut piece = empty_piece(alloc)?;
     for _turn in 0..TURNS {
@@ -82,7 +82,7 @@ fn empty_piece(alloc: Global) -> Result<Vec<u8>, AllocError>
 
 // One read, and the answers to what came. `Some` is the answer of a run that is over.
 fn take_turn<R: Read, W: Write>(
-    session: &mut Session<FileLint>,
+    session: &mut Session<Actions>,
     waiting: &mut Vec<u8>,
     piece: &mut [u8],
     reader: &mut Input<R>,
@@ -133,7 +133,7 @@ fn drop_front(waiting: &mut Vec<u8>, done: usize)
 
 // The end of the input, whatever reports print.
 fn finish<W: Write>(
-    session: &Session<FileLint>,
+    session: &Session<Actions>,
     waiting: &[u8],
     writer: &mut Output<W>,
 ) -> Result<u8, Stop>
@@ -155,7 +155,7 @@ fn finish<W: Write>(
 
 // Answers each whole command that stands first, and a bad one.
 fn answer_all<W: Write>(
-    session: &mut Session<FileLint>,
+    session: &mut Session<Actions>,
     waiting: &[u8],
     writer: &mut Output<W>,
     oneline: bool,
@@ -187,7 +187,7 @@ fn answer_all<W: Write>(
 
 // Answers one command.
 fn answer<W: Write>(
-    session: &mut Session<FileLint>,
+    session: &mut Session<Actions>,
     command: Command<'_>,
     writer: &mut Output<W>,
     oneline: bool,
@@ -240,7 +240,7 @@ pub fn number_of(refused: Refused) -> u64
 // Writes each file's faults, and the status.
 fn write_report<W: Write>(
     writer: &mut Output<W>,
-    session: &Session<FileLint>,
+    session: &Session<Actions>,
     oneline: bool,
 ) -> Result<(), Stop>
     ensures ok { OnOk result (Appends (bytes_written W.contents writer.old) (bytes_written W.contents writer.new)

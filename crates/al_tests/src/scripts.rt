@@ -1,6 +1,6 @@
 //! Runs of scripts.
 
-use crate::fakes::{Endless, Narrow, Pieces};
+use crate::fakes::{Endless, Flushed, Narrow, Pieces};
 use al_cli::run_session;
 use al_text::{Input, Output, Stop};
 use std::alloc::{AllocError, Global};
@@ -23,7 +23,7 @@ fn answer(alloc: Global, script: &[u8], step: usize, fails: bool) -> (Result<u8,
         fails,
     });
     let mut output = Vec::new(alloc);
-    let answer = run_session(alloc, &mut reader, &mut Output::new(&mut output));
+    let answer = run_session(alloc, &mut reader, &mut Output::new(&mut output), true);
     (answer, output)
 }
 
@@ -53,9 +53,10 @@ fn a_script_without_end_takes_so_many_reads(rt: HostRuntime) {
         at: 0,
     });
     let mut output = Vec::new(rt.alloc());
-    let status = run_session(rt.alloc(), &mut reader, &mut Output::new(&mut output));
+    let status = run_session(rt.alloc(), &mut reader, &mut Output::new(&mut output), true);
     assert_eq!(rt; status, Err(Stop::TooManyTurns));
     assert_eq!(rt; reader.turns(), 1_048_576);
+    assert_eq!(rt; reader.largest_ask(), 65_536);
     assert_eq!(rt; output.len(), 149_796 * 9);
     assert!(rt; output.ends_with(b"status 0\nstatus 0\n"));
 }
@@ -65,7 +66,7 @@ fn a_failed_write_leaves_a_front_of_the_output(rt: HostRuntime) {
     for room in 0..REPLIES.len() {
         let mut reader = Input::new(SCRIPT);
         let mut narrow = Narrow::new(rt.alloc(), room, true);
-        let status = run_session(rt.alloc(), &mut reader, &mut Output::new(&mut narrow));
+        let status = run_session(rt.alloc(), &mut reader, &mut Output::new(&mut narrow), true);
         assert_eq!(rt; status, Err(Stop::WriteFault));
         assert_eq!(rt; narrow.taken.as_slice(), &REPLIES[..room]);
     }
@@ -75,9 +76,61 @@ fn a_failed_write_leaves_a_front_of_the_output(rt: HostRuntime) {
 fn a_writer_that_takes_nothing_fails(rt: HostRuntime) {
     let mut reader = Input::new(SCRIPT);
     let mut narrow = Narrow::new(rt.alloc(), 0, false);
-    let status = run_session(rt.alloc(), &mut reader, &mut Output::new(&mut narrow));
+    let status = run_session(rt.alloc(), &mut reader, &mut Output::new(&mut narrow), true);
     assert_eq!(rt; status, Err(Stop::WriteFault));
     assert_eq!(rt; narrow.taken.len(), 0);
+}
+
+#[test]
+fn a_failure_is_counted_once(rt: HostRuntime) {
+    let mut reader = Input::new(Pieces {
+        bytes: b"report\n",
+        step: 3,
+        fails: true,
+    });
+    let mut narrow = Narrow::new(rt.alloc(), 100, true);
+    let mut writer = Output::new(&mut narrow);
+    let status = run_session(rt.alloc(), &mut reader, &mut writer, true);
+    assert_eq!(rt; status, Err(Stop::ReadFault));
+    assert_eq!(rt; reader.failures(), 1);
+    assert_eq!(rt; writer.failures(), 0);
+    let mut reader = Input::new(b"report\n".as_slice());
+    let mut narrow = Narrow::new(rt.alloc(), 3, true);
+    let mut writer = Output::new(&mut narrow);
+    let status = run_session(rt.alloc(), &mut reader, &mut writer, true);
+    assert_eq!(rt; status, Err(Stop::WriteFault));
+    assert_eq!(rt; reader.failures(), 0);
+    assert_eq!(rt; writer.failures(), 1);
+}
+
+#[test]
+fn replies_are_flushed_before_the_next_read(rt: HostRuntime) {
+    let mut reader = Input::new(Pieces {
+        bytes: SCRIPT,
+        step: 1,
+        fails: false,
+    });
+    let mut flushed = Flushed::new(rt.alloc(), false);
+    let status = run_session(
+        rt.alloc(),
+        &mut reader,
+        &mut Output::new(&mut flushed),
+        true,
+    );
+    assert_eq!(rt; status, Ok(1));
+    assert_eq!(rt; flushed.taken.as_slice(), REPLIES);
+    assert_eq!(rt; flushed.flushes as usize, SCRIPT.len());
+}
+
+#[test]
+fn a_failed_flush_is_a_failed_write(rt: HostRuntime) {
+    let mut reader = Input::new(SCRIPT);
+    let mut flushed = Flushed::new(rt.alloc(), true);
+    let mut writer = Output::new(&mut flushed);
+    let status = run_session(rt.alloc(), &mut reader, &mut writer, true);
+    assert_eq!(rt; status, Err(Stop::WriteFault));
+    assert_eq!(rt; writer.failures(), 1);
+    assert_eq!(rt; flushed.taken.as_slice(), REPLIES);
 }
 
 // The commands that put so many empty workflows.
@@ -97,7 +150,7 @@ fn a_folder_has_4096_files(rt: HostRuntime) -> Result<(), Fail> {
     let mut script = many_puts(rt.alloc(), 4_097)?;
     script.extend_from_slice(b"put .github/workflows/7.yml 1\n\n\n")?;
     let (_, output) = answer(rt.alloc(), &script, 65_536, false);
-    assert!(rt; output.ends_with(b"ok 4095\nok 4096\nrefused E4\nok 4096\n"));
+    assert!(rt; output.ends_with(b"ok 1\nok 1\nrefused E4\nok 1\n"));
     Ok(())
 }
 

@@ -1,4 +1,4 @@
-use Rattle.al_cli.specs.Files.{linting}
+use Rattle.al_check.specs.Linting.{linting}
 use Rattle.al_cli.proofs.Replying.{put_allowed, delete_allowed}
 use Rattle.al_cli.proofs.run.answer.Goals as goal
 

@@ -1,0 +1,107 @@
+//! The faults of one call.
+ghost use Rattle.std.specs.Prelude.{◌≡◌, ◌++◌, map, OnOk};
+ghost use Rattle.std.specs.Option.{option_copied};
+ghost use Rattle.al_calls.specs.AnswerViews.{given_of};
+ghost use Rattle.al_calls.specs.CallFaults as faults;
+ghost use Rattle.al_uses.specs.CallViews.{call_of};
+
+use crate::given::{check_inputs, members_under};
+use crate::reports::{caller_of, is_callable, report_absent, report_uses};
+use crate::secrets::check_secrets;
+use crate::values::{Value, check_values};
+use al_interfaces::{Interface, Signature};
+use al_text::{CallCode, Caller, Fault};
+use al_uses::{Call, Form};
+use std::alloc::{AllocError, Global};
+
+/// C2 and C3 of a step's call.
+fn check_step(
+    alloc: Global,
+    call: &Call<'_>,
+    signature: &Signature,
+    out: &mut Vec<Fault>,
+) -> Result<(), AllocError>
+    ensures { OnOk result (out.new.items ≡ out.old.items ++ faults.step_against (call_of call.now) signature.now) }
+{
+    let given = members_under(alloc, call.node, "with")?;
+    check_inputs(alloc, call, given.as_slice(), signature, out)
+}
+
+/// C2 to C6 of a job's call.
+fn check_job(
+    alloc: Global,
+    call: &Call<'_>,
+    values: &[Value<'_>],
+    signature: &Signature,
+    out: &mut Vec<Fault>,
+) -> Result<(), AllocError>
+    ensures { OnOk result (out.new.items ≡ out.old.items ++ faults.job_against (call_of call.now) (map given_of values.now) signature.now) }
+{
+    let given = members_under(alloc, call.node, "with")?;
+    check_inputs(alloc, call, given.as_slice(), signature, out)?;
+    check_values(alloc, call, values, signature, out)?;
+    check_secrets(alloc, call, signature, out)
+}
+
+/// What a call gives against what the called file shows.
+fn check_against(
+    alloc: Global,
+    call: &Call<'_>,
+    values: &[Value<'_>],
+    signature: &Signature,
+    out: &mut Vec<Fault>,
+) -> Result<(), AllocError>
+    ensures { OnOk result (out.new.items ≡ out.old.items
+        ++ faults.against (faults.caller_of (call_of call.now)) (call_of call.now) (map given_of values.now) signature.now) }
+{
+    match caller_of(call) {
+        Caller::Step => check_step(alloc, call, signature, out),
+        Caller::Job => check_job(alloc, call, values, signature, out),
+    }
+}
+
+/// The faults of a call of a file of the folder.
+fn check_answer(
+    alloc: Global,
+    call: &Call<'_>,
+    values: &[Value<'_>],
+    answer: Option<&Interface>,
+    out: &mut Vec<Fault>,
+) -> Result<(), AllocError>
+    ensures { OnOk result (out.new.items ≡ out.old.items
+        ++ faults.answer_faults (call_of call.now) (option_copied answer.entry)
+        (faults.against (faults.caller_of (call_of call.now)) (call_of call.now) (map given_of values.now))) }
+{
+    match answer {
+        None => report_absent(alloc, call, out),
+        Some(Interface::Unreadable) => Ok(()),
+        Some(Interface::Readable(signature)) => {
+            if is_callable(caller_of(call), signature.role) {
+                check_against(alloc, call, values, signature, out)
+            } else {
+                report_uses(alloc, CallCode::NotCallable, call, out)
+            }
+        }
+    }
+}
+
+/// Adds the faults of a call, given what answers it (none where it names no file of the folder, or none that is there), and
+/// what a job gives under `with`, each value with its type. Of a step no values are looked at.
+///
+/// Fails with `AllocError` for want of memory; what was added by then stays.
+pub fn check_call(
+    alloc: Global,
+    call: &Call<'_>,
+    values: &[Value<'_>],
+    answer: Option<&Interface>,
+    out: &mut Vec<Fault>,
+) -> Result<(), AllocError>
+    ensures { OnOk result (out.new.items ≡ out.old.items
+        ++ faults.call_faults (call_of call.now) (map given_of values.now) (option_copied answer.entry)) }
+{
+    match &call.form {
+        Form::Wrong => report_uses(alloc, CallCode::WrongUses, call, out),
+        Form::Other => Ok(()),
+        Form::Local(_) => check_answer(alloc, call, values, answer, out),
+    }
+}

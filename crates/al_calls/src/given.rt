@@ -1,0 +1,172 @@
+//! Inputs that a call gives, against those that the called file shows: C2 and C3.
+ghost use Rattle.std.specs.Prelude.{◌≡◌, ◌++◌, map, IfOk, OnOk};
+ghost use Rattle.al_calls.specs.CallFaults as faults;
+ghost use Rattle.al_declarations.specs.NameSets.{holds};
+ghost use Rattle.al_shape.specs.Values.{entries_at, member_of};
+ghost use Rattle.al_uses.specs.CallViews.{call_of};
+ghost use Rattle.al_yaml.specs.View.{view};
+
+use crate::names::{given_names, input_names};
+use crate::reports::{called, caller_of, report_two};
+use al_declarations::{NameSet, is_named_among};
+use al_interfaces::{Input, Signature};
+use al_shape::{Member, key_text, members, value};
+use al_text::{CallCode, Caller, Fault};
+use al_uses::Call;
+use al_yaml::Node;
+use std::alloc::{AllocError, Global};
+
+/// What stands under a key of a node as members.
+pub(crate) fn members_under<'a>(
+    alloc: Global,
+    node: &'a Node,
+    key: &str,
+) -> Result<Vec<Member<'a>>, AllocError>
+    ensures { IfOk result (λ v. map member_of v.items ≡ entries_at key.now (view node.now)) }
+{
+    match value(node, key) {
+        Some(mapping) => members(alloc, mapping),
+        None => Ok(Vec::new(alloc)),
+    }
+}
+
+/// Whether a name needs no input of the called file: what goes to a container.
+fn is_free_for(caller: Caller, name: &[u8]) -> bool
+    ensures { result ≡ faults.is_free_for caller name.now }
+{
+    match caller {
+        Caller::Step => is_named_among(&[b"args".as_slice(), b"entrypoint".as_slice()], name),
+        Caller::Job => false,
+    }
+}
+
+fn is_taken(
+    alloc: Global,
+    call: &Call<'_>,
+    shown: &NameSet,
+    name: &[u8],
+) -> Result<bool, AllocError>
+    ensures { IfOk result (λ b. b ≡ faults.is_taken (call_of call.now) (holds shown.now) name.now) }
+{
+    if shown.contains(alloc, name)? {
+        return Ok(true);
+    }
+    Ok(is_free_for(caller_of(call), name))
+}
+
+/// C2.
+fn check_extra_input(
+    alloc: Global,
+    call: &Call<'_>,
+    signature: &Signature,
+    shown: &NameSet,
+    member: Member<'_>,
+    out: &mut Vec<Fault>,
+) -> Result<(), AllocError>
+    ensures { OnOk result (out.new.items ≡ out.old.items
+        ++ faults.extra_input (call_of call.now) signature.now (holds shown.now) (member_of member.entry)) }
+{
+    let name = key_text(member.key);
+    if is_taken(alloc, call, shown, name)? {
+        return Ok(());
+    }
+    report_two(
+        alloc,
+        CallCode::UndefinedInput,
+        call,
+        member.key.span(),
+        name,
+        called(call, signature),
+        out,
+    )
+}
+
+/// C2 of all that is given.
+fn check_extra_inputs(
+    alloc: Global,
+    call: &Call<'_>,
+    shown: &NameSet,
+    given: &[Member<'_>],
+    signature: &Signature,
+    out: &mut Vec<Fault>,
+) -> Result<(), AllocError>
+    ensures { OnOk result (out.new.items ≡ out.old.items
+        ++ faults.extra_inputs (call_of call.now) (holds shown.now) (map member_of given.now) signature.now) }
+{
+    for member in given {
+        check_extra_input(alloc, call, signature, shown, *member, out)?;
+    }
+    Ok(())
+}
+
+fn is_missing(alloc: Global, given: &NameSet, input: &Input) -> Result<bool, AllocError>
+    ensures { IfOk result (λ b. b ≡ faults.is_missing (holds given.now) input.now) }
+{
+    if !input.required {
+        return Ok(false);
+    }
+    if input.has_default {
+        return Ok(false);
+    }
+    Ok(!given.contains(alloc, input.name.as_bytes())?)
+}
+
+/// C3.
+fn check_missing_input(
+    alloc: Global,
+    call: &Call<'_>,
+    signature: &Signature,
+    given: &NameSet,
+    input: &Input,
+    out: &mut Vec<Fault>,
+) -> Result<(), AllocError>
+    ensures { OnOk result (out.new.items ≡ out.old.items
+        ++ faults.missing_input (call_of call.now) signature.now (holds given.now) input.now) }
+{
+    if !is_missing(alloc, given, input)? {
+        return Ok(());
+    }
+    report_two(
+        alloc,
+        CallCode::MissingInput,
+        call,
+        call.uses.span,
+        input.name.as_bytes(),
+        called(call, signature),
+        out,
+    )
+}
+
+/// C3 of all inputs that the called file shows.
+fn check_missing_inputs(
+    alloc: Global,
+    call: &Call<'_>,
+    given: &NameSet,
+    signature: &Signature,
+    out: &mut Vec<Fault>,
+) -> Result<(), AllocError>
+    ensures { OnOk result (out.new.items ≡ out.old.items
+        ++ faults.missing_inputs (call_of call.now) (holds given.now) signature.now) }
+{
+    for input in signature.inputs.as_slice() {
+        check_missing_input(alloc, call, signature, given, input, out)?;
+    }
+    Ok(())
+}
+
+/// C2 and C3.
+pub(crate) fn check_inputs(
+    alloc: Global,
+    call: &Call<'_>,
+    given: &[Member<'_>],
+    signature: &Signature,
+    out: &mut Vec<Fault>,
+) -> Result<(), AllocError>
+    ensures { OnOk result (out.new.items ≡ out.old.items
+        ++ faults.input_faults (call_of call.now) (map member_of given.now) signature.now) }
+{
+    let shown = input_names(alloc, signature)?;
+    check_extra_inputs(alloc, call, &shown, given, signature, out)?;
+    let names = given_names(alloc, given)?;
+    check_missing_inputs(alloc, call, &names, signature, out)
+}

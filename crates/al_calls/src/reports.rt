@@ -1,0 +1,146 @@
+//! Faults of calls that name the text of `uses`: C1, C7 and C8; and the reporting of all.
+ghost use Rattle.std.specs.Prelude.{◌≡◌, ◌++◌, ◌∷◌, [], map, string_bytes, IfOk, OnOk};
+ghost use Rattle.al_text.specs.Messages.{shown as shown_bytes, shown_byte};
+ghost use Rattle.al_calls.specs.CallFaults as faults;
+ghost use Rattle.al_uses.specs.CallViews.{call_of};
+
+use al_interfaces::{Role, Signature};
+use al_text::{Args, CallCode, Caller, Code, Fault, Span};
+use al_uses::Call;
+use std::alloc::{AllocError, Global};
+
+/// How the called file is named.
+pub(crate) fn called<'a>(call: &Call<'a>, signature: &'a Signature) -> &'a [u8]
+    ensures { result.now ≡ faults.called (call_of call.now) signature.now }
+{
+    match &signature.name {
+        Some(name) => name.as_bytes(),
+        None => call.uses.scalar.text(),
+    }
+}
+
+/// Who calls.
+pub(crate) fn caller_of(call: &Call<'_>) -> Caller
+    ensures { result ≡ faults.caller_of (call_of call.now) }
+{
+    match call.site.step {
+        Some(_) => Caller::Step,
+        None => Caller::Job,
+    }
+}
+
+fn shown_as(byte: u8) -> u8
+    ensures { result ≡ shown_byte byte }
+{
+    if byte < 32 || byte == 127 { b'?' } else { byte }
+}
+
+fn shown_of(alloc: Global, bytes: &[u8]) -> Result<Vec<u8>, AllocError>
+    ensures { IfOk result (λ v. v.items ≡ shown_bytes bytes.now) }
+{
+    let mut shown = Vec::new(alloc);
+    for byte in bytes {
+        shown.push(shown_as(*byte))?;
+    }
+    Ok(shown)
+}
+
+/// A text as it is printed.
+///
+/// Fails with `AllocError` for want of memory, and where it is no UTF-8, which no text of a file is.
+fn shown(alloc: Global, bytes: &[u8]) -> Result<String, AllocError>
+    ensures { IfOk result (λ s. string_bytes s ≡ shown_bytes bytes.now) }
+{
+    let shown = shown_of(alloc, bytes)?;
+    match std::str::from_utf8(shown.as_slice()) {
+        Ok(text) => String::from_str(alloc, text),
+        Err(_) => Err(AllocError),
+    }
+}
+
+/// Adds a fault of a call with one argument.
+pub(crate) fn report_one(
+    alloc: Global,
+    code: CallCode,
+    call: &Call<'_>,
+    at: Span,
+    text: &[u8],
+    out: &mut Vec<Fault>,
+) -> Result<(), AllocError>
+    ensures { OnOk result (out.new.items ≡ out.old.items ++ faults.fault code (call_of call.now) at (text.now ∷ []) ∷ []) }
+{
+    let mut texts = Vec::new(alloc);
+    texts.push(shown(alloc, text)?)?;
+    out.push(Fault {
+        span: at,
+        code: Code::Call(code, caller_of(call)),
+        args: Args::new(texts),
+    })?;
+    Ok(())
+}
+
+/// Adds a fault of a call with two arguments.
+pub(crate) fn report_two(
+    alloc: Global,
+    code: CallCode,
+    call: &Call<'_>,
+    at: Span,
+    first: &[u8],
+    second: &[u8],
+    out: &mut Vec<Fault>,
+) -> Result<(), AllocError>
+    ensures { OnOk result (out.new.items ≡ out.old.items ++ faults.fault code (call_of call.now) at (first.now ∷ second.now ∷ []) ∷ []) }
+{
+    let mut texts = Vec::new(alloc);
+    texts.push(shown(alloc, first)?)?;
+    texts.push(shown(alloc, second)?)?;
+    out.push(Fault {
+        span: at,
+        code: Code::Call(code, caller_of(call)),
+        args: Args::new(texts),
+    })?;
+    Ok(())
+}
+
+/// Adds a fault of a call that names the text of its `uses`.
+pub(crate) fn report_uses(
+    alloc: Global,
+    code: CallCode,
+    call: &Call<'_>,
+    out: &mut Vec<Fault>,
+) -> Result<(), AllocError>
+    ensures { OnOk result (out.new.items ≡ out.old.items ++ faults.that_uses code (call_of call.now)) }
+{
+    report_one(
+        alloc,
+        code,
+        call,
+        call.uses.span,
+        call.uses.scalar.text(),
+        out,
+    )
+}
+
+/// Whether a step, or a job, may call a file that is this.
+pub(crate) fn is_callable(caller: Caller, role: Role) -> bool
+    ensures { result ≡ faults.is_callable caller role }
+{
+    match caller {
+        Caller::Step => matches!(role, Role::Composite | Role::Action),
+        Caller::Job => matches!(role, Role::Callable),
+    }
+}
+
+/// Adds the fault of a call that no file of the folder answers.
+pub(crate) fn report_absent(
+    alloc: Global,
+    call: &Call<'_>,
+    out: &mut Vec<Fault>,
+) -> Result<(), AllocError>
+    ensures { OnOk result (out.new.items ≡ out.old.items ++ faults.absent_faults (call_of call.now) (faults.caller_of (call_of call.now))) }
+{
+    match caller_of(call) {
+        Caller::Step => Ok(()),
+        Caller::Job => report_uses(alloc, CallCode::NoWorkflow, call, out),
+    }
+}

@@ -1,0 +1,158 @@
+//! Secrets that a job gives, against those that the called workflow shows: C5 and C6.
+ghost use Rattle.std.specs.Prelude.{◌≡◌, ◌++◌, map, IfOk, OnOk};
+ghost use Rattle.al_calls.specs.CallFaults as faults;
+ghost use Rattle.al_declarations.specs.NameSets.{holds};
+ghost use Rattle.al_shape.specs.Values.{member_of};
+ghost use Rattle.al_uses.specs.CallViews.{call_of};
+ghost use Rattle.al_yaml.specs.View.{view};
+
+use crate::given::members_under;
+use crate::names::{given_names, secret_names};
+use crate::reports::{called, report_two};
+use al_declarations::NameSet;
+use al_interfaces::{Secret, Signature};
+use al_shape::{Member, key_text, text_under};
+use al_text::{CallCode, Fault};
+use al_uses::Call;
+use al_yaml::Node;
+use std::alloc::{AllocError, Global};
+
+/// C5.
+fn check_extra_secret(
+    alloc: Global,
+    call: &Call<'_>,
+    signature: &Signature,
+    shown: &NameSet,
+    member: Member<'_>,
+    out: &mut Vec<Fault>,
+) -> Result<(), AllocError>
+    ensures { OnOk result (out.new.items ≡ out.old.items
+        ++ faults.extra_secret (call_of call.now) signature.now (holds shown.now) (member_of member.entry)) }
+{
+    let name = key_text(member.key);
+    if shown.contains(alloc, name)? {
+        return Ok(());
+    }
+    report_two(
+        alloc,
+        CallCode::UndefinedSecret,
+        call,
+        member.key.span(),
+        name,
+        called(call, signature),
+        out,
+    )
+}
+
+/// C5 of all that is given.
+fn check_extra_secrets(
+    alloc: Global,
+    call: &Call<'_>,
+    shown: &NameSet,
+    given: &[Member<'_>],
+    signature: &Signature,
+    out: &mut Vec<Fault>,
+) -> Result<(), AllocError>
+    ensures { OnOk result (out.new.items ≡ out.old.items
+        ++ faults.extra_secrets (call_of call.now) (holds shown.now) (map member_of given.now) signature.now) }
+{
+    for member in given {
+        check_extra_secret(alloc, call, signature, shown, *member, out)?;
+    }
+    Ok(())
+}
+
+fn is_missing_secret(alloc: Global, given: &NameSet, secret: &Secret) -> Result<bool, AllocError>
+    ensures { IfOk result (λ b. b ≡ faults.is_missing_secret (holds given.now) secret.now) }
+{
+    if !secret.required {
+        return Ok(false);
+    }
+    Ok(!given.contains(alloc, secret.name.as_bytes())?)
+}
+
+/// C6.
+fn check_missing_secret(
+    alloc: Global,
+    call: &Call<'_>,
+    signature: &Signature,
+    given: &NameSet,
+    secret: &Secret,
+    out: &mut Vec<Fault>,
+) -> Result<(), AllocError>
+    ensures { OnOk result (out.new.items ≡ out.old.items
+        ++ faults.missing_secret (call_of call.now) signature.now (holds given.now) secret.now) }
+{
+    if !is_missing_secret(alloc, given, secret)? {
+        return Ok(());
+    }
+    report_two(
+        alloc,
+        CallCode::MissingSecret,
+        call,
+        call.uses.span,
+        secret.name.as_bytes(),
+        called(call, signature),
+        out,
+    )
+}
+
+/// C6 of all secrets that the called workflow shows.
+fn check_missing_secrets(
+    alloc: Global,
+    call: &Call<'_>,
+    given: &NameSet,
+    signature: &Signature,
+    out: &mut Vec<Fault>,
+) -> Result<(), AllocError>
+    ensures { OnOk result (out.new.items ≡ out.old.items
+        ++ faults.missing_secrets (call_of call.now) (holds given.now) signature.now) }
+{
+    for secret in signature.secrets.as_slice() {
+        check_missing_secret(alloc, call, signature, given, secret, out)?;
+    }
+    Ok(())
+}
+
+fn is_inherit(job: &Node) -> bool
+    ensures { result ≡ faults.is_inherit (view job.now) }
+{
+    match text_under(job, "secrets") {
+        Some(text) => text.scalar.text() == b"inherit".as_slice(),
+        None => false,
+    }
+}
+
+/// C5 and C6 of the secrets that are given.
+fn check_given_secrets(
+    alloc: Global,
+    call: &Call<'_>,
+    given: &[Member<'_>],
+    signature: &Signature,
+    out: &mut Vec<Fault>,
+) -> Result<(), AllocError>
+    ensures { OnOk result (out.new.items ≡ out.old.items
+        ++ faults.given_secrets (call_of call.now) (map member_of given.now) signature.now) }
+{
+    let shown = secret_names(alloc, signature)?;
+    check_extra_secrets(alloc, call, &shown, given, signature, out)?;
+    let names = given_names(alloc, given)?;
+    check_missing_secrets(alloc, call, &names, signature, out)
+}
+
+/// C5 and C6 of a job's call.
+pub(crate) fn check_secrets(
+    alloc: Global,
+    call: &Call<'_>,
+    signature: &Signature,
+    out: &mut Vec<Fault>,
+) -> Result<(), AllocError>
+    ensures { OnOk result (out.new.items ≡ out.old.items
+        ++ faults.secret_faults (call_of call.now) (call_of call.now).node signature.now) }
+{
+    if is_inherit(call.node) {
+        return Ok(());
+    }
+    let given = members_under(alloc, call.node, "secrets")?;
+    check_given_secrets(alloc, call, given.as_slice(), signature, out)
+}

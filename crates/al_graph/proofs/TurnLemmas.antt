@@ -1,0 +1,123 @@
+-- Edges that are added one after another, and graphs whose edges are the other way round.
+use Rattle.std.proofs.Common.{◌≡◌, ℕ, ◌+◌, ◌<◌, ◌≤◌, List, [], ◌∷◌, ◌++◌, Vec, drop, get_or, length, refl, subst, sym, ap, ◌∙◌, arith, set, take, replicate, ◌⊎◌, ⊎_elim, inl, inr}
+use Rattle.std.specs.declared.alloc.Global.{Global}
+use Rattle.std.specs.Prelude.{Contains, ◌↔◌}
+use Rattle.std.proofs.lemmas.List.{get_or-set_other, get_or-replicate, get_or_past, length-map, length-replicate, map-set, take_more}
+use Rattle.std.proofs.lemmas.List.Elements.{Contains-append_left, Contains-append_right, Contains-append_cases}
+use Rattle.std.proofs.lemmas.Grind.{get_or-set_at}
+use Rattle.std.proofs.lemmas.Bool.{cases_eq, cases_lt}
+use Rattle.al_graph.specs.Graphs.{AddsEdges, Edge, IsTurned, Walk, edges_of, here, onward}
+use Rattle.al_graph.proofs.MarkLemmas.{is_one, none_in, one_is, written}
+use Rattle.al_graph.proofs.Searches.{edges_at}
+
+abbrev no_edges : List ℕ
+no_edges = []
+
+abbrev In : ℕ → List ℕ → Type 0
+In k ns = Contains ns k
+
+-- one edge more
+pub edge_added : (old new : List (List ℕ)) (from to : ℕ) → from < length old → new ≡ set old from (get_or old from [] ++ to ∷ []) → AddsEdges (from ∷ []) to old new
+edge_added old new from to lt e =
+    let at : get_or new from [] ≡ get_or old from [] ++ to ∷ [] = ap (λ g. get_or g from []) e ∙ get_or-set_at old from from (get_or old from [] ++ to ∷ []) [] refl lt in
+    let off : (j : ℕ) → (j ≡ from → ⊥) → get_or new j [] ≡ get_or old j [] = λ j ne. ap (λ g. get_or g j []) e ∙ get_or-set_other old from j (get_or old from [] ++ to ∷ []) [] ne in
+    let InOne : ℕ → Type 0 = λ k. Contains (from ∷ []) k in
+    record {
+      kept = λ j k c. ⊎_elim
+          (λ same. let Old : ℕ → Type 0 = λ i. Edge old i k in let New : ℕ → Type 0 = λ i. Edge new i k in
+          subst New (sym same) (subst (In k) (sym at) (Contains-append_left (get_or old from []) (to ∷ []) k (subst Old same c))))
+          (λ ne. subst (In k) (sym (off j ne)) c) (cases_eq j from);
+      all = λ j c. let New : ℕ → Type 0 = λ i. Edge new i to in
+          subst New (one_is from j c) (subst (In to) (sym at) (Contains-append_right (get_or old from []) (to ∷ []) to (is_one to)));
+      only = λ j k c. ⊎_elim
+          (λ same. let New : ℕ → Type 0 = λ i. Edge new i k in let Old : ℕ → Type 0 = λ i. Edge old i k in
+          ⊎_elim (λ was. inl (subst Old (sym same) was)) (λ one. inr (subst InOne (sym same) (is_one from), sym (one_is to k one)))
+          (Contains-append_cases (get_or old from []) (to ∷ []) k (subst (In k) at (subst New same c))))
+          (λ ne. inl (subst (In k) (off j ne) c)) (cases_eq j from);
+    }
+
+-- the same where a node's list was pushed to
+pub edge_pushed : (graph : List (Vec ℕ Global)) (from to : ℕ) (old new : Vec ℕ Global) → from < length graph → old ≡ get_or graph from old → new.items ≡ old.items ++ to ∷ []
+    → AddsEdges (from ∷ []) to (edges_of graph) (edges_of (set graph from new))
+edge_pushed graph from to old new lt is e =
+    let len : length (edges_of graph) ≡ length graph = length-map graph _ in
+    let inside : from < length (edges_of graph) = omega (arith, len, lt) in
+    edge_added (edges_of graph) (edges_of (set graph from new)) from to inside
+    (map-set (λ (v : Vec ℕ Global). v.items) graph from new ∙ ap (λ l. set (edges_of graph) from l) (e ∙ ap (λ l. l ++ to ∷ []) (sym (edges_at graph from old lt is))))
+
+pub edges_none : (to : ℕ) (graph : List (List ℕ)) → AddsEdges [] to graph graph
+edges_none to graph = record {
+  kept = λ j k e. e;
+  all = λ j c. absurd (none_in j c);
+  only = λ j k e. inl e;
+}
+
+edges_more : (xs ys : List ℕ) (to : ℕ) (a b c : List (List ℕ)) → AddsEdges xs to a b → AddsEdges ys to b c → AddsEdges (xs ++ ys) to a c
+edges_more xs ys to a b c one two = record {
+  kept = λ j k e. two.kept j k (one.kept j k e);
+  all = λ j h. ⊎_elim (λ l. two.kept j to (one.all j l)) (λ r. two.all j r) (Contains-append_cases xs ys j h);
+  only = λ j k e. ⊎_elim (λ f. ⊎_elim (λ o. inl o) (λ l. inr (Contains-append_left xs ys j l.0, l.1)) (one.only j k f)) (λ r. inr (Contains-append_right xs ys j r.0, r.1)) (two.only j k e);
+}
+
+pub edges_next : (nodes : List ℕ) (i to : ℕ) (a b c : List (List ℕ)) → i < length nodes → AddsEdges (take i nodes) to a b → AddsEdges (get_or nodes i 0 ∷ []) to b c → AddsEdges (take (i + 1) nodes) to a c
+edges_next nodes i to a b c lt one two =
+    subst (λ (ns : List ℕ). AddsEdges ns to a c) (sym (take_more nodes i 0 lt)) (edges_more (take i nodes) (get_or nodes i 0 ∷ []) to a b c one two)
+
+-- the edges of the nodes before one, the other way round
+pub record TurnedTo (i : ℕ) (graph other : List (List ℕ)) : Type 0 where
+  pub all : (j k : ℕ) → j < i → Edge graph j k → Edge other k j
+  pub only : (j k : ℕ) → Edge other k j → (j < i) × Edge graph j k
+
+none_at : (n k : ℕ) → get_or (replicate n no_edges) k [] ≡ []
+none_at n k =
+    let len : length (replicate n no_edges) ≡ n = length-replicate n no_edges in
+    ⊎_elim (λ h. get_or-replicate n k no_edges [] h) (λ h. let past : length (replicate n no_edges) ≤ k = omega (arith, len, h) in get_or_past (replicate n no_edges) k [] past) (cases_lt k n)
+
+pub turned_none : (graph : List (List ℕ)) (n : ℕ) → TurnedTo 0 graph (replicate n no_edges)
+turned_none graph n =
+    record {
+      all = λ j k lt e. absurd (omega (arith, lt));
+      only = λ j k e. absurd (none_in j (subst (In j) (none_at n k) e));
+    }
+
+pub turned_next : (graph a b : List (List ℕ)) (i : ℕ) (nodes : List ℕ) → nodes ≡ get_or graph i [] → TurnedTo i graph a → AddsEdges nodes i a b → TurnedTo (i + 1) graph b
+turned_next graph a b i nodes is t m = record {
+  all = λ j k lt e. ⊎_elim
+      (λ below. m.kept k j (t.all j k below e))
+      (λ above. let same : j ≡ i = omega (arith, lt, above) in let From : ℕ → Type 0 = λ n. Edge graph n k in let To : ℕ → Type 0 = λ n. Edge b k n in
+      subst To (sym same) (m.all k (subst (In k) (sym is) (subst From same e))))
+      (cases_lt j i);
+  only = λ j k e. ⊎_elim
+      (λ old. let was = t.only j k old in (let below : j < i = was.0 in omega (arith, below), was.1))
+      (λ new. let same : j ≡ i = new.1 in let From : ℕ → Type 0 = λ n. Edge graph n k in
+      (omega (arith, same), subst From (sym same) (subst (In k) is new.0)))
+      (m.only k j e);
+}
+
+pub turned_all : (graph other : List (List ℕ)) → TurnedTo (length graph) graph other → IsTurned graph other
+turned_all graph other t j k =
+    (λ e. ⊎_elim (λ lt. t.all j k lt e) (λ past. absurd (none_in k (subst (In k) (get_or_past graph j [] past) e))) (cases_lt j (length graph)), λ e. (t.only j k e).1)
+
+-- the same for graphs of the program, of which one was written through a slice
+pub turned_write : (graph : List (List ℕ)) (items begun after : List (Vec ℕ Global)) (len i : ℕ) (nodes : List ℕ) → begun ≡ items → len ≡ length items → length after ≡ length begun
+    → nodes ≡ get_or graph i [] → TurnedTo i graph (edges_of items) → AddsEdges nodes i (edges_of begun) (edges_of after)
+    → TurnedTo (i + 1) graph (edges_of (take len (after ++ drop (length after) items)))
+turned_write graph items begun after len i nodes b l a is t m =
+    let P : List (Vec ℕ Global) → Type 0 = λ g. TurnedTo (i + 1) graph (edges_of g) in
+    let Q : List (Vec ℕ Global) → Type 0 = λ g. TurnedTo i graph (edges_of g) in
+    subst P (sym (written after items len (a ∙ ap length b) l)) (turned_next graph (edges_of begun) (edges_of after) i nodes is (subst Q (sym b) t) m)
+
+pub turned_end : (graph : List (Vec ℕ Global)) (other : List (List ℕ)) (i : ℕ) → i ≡ length graph → TurnedTo i (edges_of graph) other → IsTurned (edges_of graph) other
+turned_end graph other i e t =
+    let len : length (edges_of graph) ≡ length graph = length-map graph _ in
+    let P : ℕ → Type 0 = λ n. TurnedTo n (edges_of graph) other in
+    turned_all (edges_of graph) other (subst P (e ∙ sym len) t)
+
+-- a walk the other way round, and an edge before it
+before : (graph : List (List ℕ)) (i j k : ℕ) → Edge graph i j → Walk graph j k → Walk graph i k
+before graph i j _ e here = onward i j here e
+before graph i j _ e (onward l m w f) = onward l m (before graph i j l e w) f
+
+pub turned_walk : (graph other : List (List ℕ)) → ((j k : ℕ) → Edge graph j k → Edge other k j) → (j k : ℕ) → Walk graph j k → Walk other k j
+turned_walk graph other t j _ here = here
+turned_walk graph other t j _ (onward l m w e) = before other m l j (t l m e) (turned_walk graph other t j l w)

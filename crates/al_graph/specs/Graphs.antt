@@ -1,0 +1,26 @@
+-- Directed graphs, and walks along their edges.
+use Rattle.std.specs.Prelude.{◌≡◌, ◌↔◌, ◌⊎◌, ℕ, List, [], map, Vec, Contains, slice_index_or}
+use Rattle.std.specs.declared.alloc.Global.{Global}
+
+-- for each node the nodes that its edges lead to
+abbrev pub edges_of : List (Vec ℕ Global) → List (List ℕ)
+edges_of = map (λ v. v.items)
+
+-- an edge leads from one node to the other
+abbrev pub Edge : List (List ℕ) → ℕ → ℕ → Type 0
+Edge graph j k = Contains (slice_index_or graph j []) k
+
+-- a walk leads from one node to another, perhaps of no step
+pub data Walk (graph : List (List ℕ)) (from : ℕ) : ℕ → Type 0 where
+  here : Walk graph from from
+  onward : (j k : ℕ) → Walk graph from j → Edge graph j k → Walk graph from k
+
+-- each edge of one graph is one of the other, the other way round
+abbrev pub IsTurned : List (List ℕ) → List (List ℕ) → Type 0
+IsTurned graph other = (j k : ℕ) → Edge graph j k ↔ Edge other k j
+
+-- edges from some nodes to one were added
+pub record AddsEdges (nodes : List ℕ) (to : ℕ) (old new : List (List ℕ)) : Type 0 where
+  pub kept : (j k : ℕ) → Edge old j k → Edge new j k
+  pub all : (j : ℕ) → Contains nodes j → Edge new j to
+  pub only : (j k : ℕ) → Edge new j k → Edge old j k ⊎ (Contains nodes j × (k ≡ to))

@@ -1,0 +1,88 @@
+-- Faults of what jobs need.
+use Rattle.std.specs.Prelude.{◌≡◌, ℕ, zero, suc, List, [], ◌∷◌, ◌++◌, Bool, ◌+◌, ◌||◌, codes, map, Option, Some, None, if◌then◌else◌, slice_index_or, nat_eq}
+use Rattle.std.specs.List.{list_any, flat_map, filter_map, enumerate_from}
+use Rattle.std.specs.Str.{bytes_eq}
+use Rattle.al_text.specs.declared.codes.RuleCode.TheVariants.{NeedsCycle, UndefinedJob}
+use Rattle.al_text.specs.declared.faults.Fault.{Fault}
+use Rattle.al_yaml.specs.Node.{Node}
+use Rattle.al_shape.specs.Values.{texts_at}
+use Rattle.al_formats.specs.Texts.{folded}
+use Rattle.al_graph.specs.Graphs.{Walk}
+use Rattle.al_rules.specs.Words.{Named, about, fault, of_key, of_scalar}
+
+-- the keys of the jobs
+abbrev pub keys_of : List (Node × Node) → List Named
+keys_of jobs = map (λ j. of_key j.0) jobs
+
+-- the texts of a job's `needs`
+abbrev pub needs_of : Node × Node → List Named
+needs_of j = map of_scalar (texts_at (codes "needs") j.1)
+
+-- the position of the first of some texts that is this one
+abbrev pub position_from : ℕ → List (List ℕ) → List ℕ → Option ℕ
+position_from i [] text = None
+position_from i (t ∷ ts) text = if bytes_eq text t then Some i else position_from (i + 1) ts text
+
+-- the position of the first job with a key, all without case
+abbrev pub position_in : List Named → List ℕ → Option ℕ
+position_in keys = position_from 0 (map (λ k. folded k.text) keys)
+
+-- where the job that a text names stands, by its position without case
+abbrev pub named_by : (List ℕ → Option ℕ) → Named → Option ℕ
+named_by position n = position (folded n.text)
+
+-- for each job the positions of the jobs that it needs
+abbrev pub needs_lists : (List ℕ → Option ℕ) → List (Node × Node) → List (List ℕ)
+needs_lists position jobs = map (λ j. filter_map (named_by position) (needs_of j)) jobs
+
+-- an entry of `needs`: its text, and the position and the key of its job
+pub record Need : Type 0 where
+  pub job : ℕ
+  pub key : Named
+  pub text : Named
+
+abbrev pub needs_in : ℕ × (Node × Node) → List Need
+needs_in p = map (λ n. record { job = p.0; key = of_key p.1.0; text = n }) (needs_of p.1)
+
+abbrev pub all_needs : List (Node × Node) → List Need
+all_needs jobs = flat_map needs_in (enumerate_from 0 jobs)
+
+abbrev pub cycle_fault : Need → Fault
+cycle_fault n = fault NeedsCycle n.text.span (n.key.text ∷ n.text.text ∷ [])
+
+-- What an entry gives: a job that isn't there; one from which a walk of needs leads back to this job; nothing.
+pub data IsNeedFaults (Leads : ℕ → ℕ → Type 0) (n : Need) : Option ℕ → List Fault → Type 0 where
+  undefined_job : IsNeedFaults Leads n None (about UndefinedJob n.text)
+  leads_back : (j : ℕ) → Leads j n.job → IsNeedFaults Leads n (Some j) (cycle_fault n ∷ [])
+  leads_on : (j : ℕ) → ¬ Leads j n.job → IsNeedFaults Leads n (Some j) []
+
+-- what entries give, one after another
+pub data AreNeedsFaults (position : List ℕ → Option ℕ) (Leads : ℕ → ℕ → Type 0) : List Need → List Fault → Type 0 where
+  no_needs : AreNeedsFaults position Leads [] []
+  and_need : (n : Need) (ns : List Need) (first rest : List Fault) → IsNeedFaults Leads n (named_by position n.text) first → AreNeedsFaults position Leads ns rest
+      → AreNeedsFaults position Leads (n ∷ ns) (first ++ rest)
+
+abbrev pub IsNeedsFaults : List (Node × Node) → List Fault → Type 0
+IsNeedsFaults jobs found = let position = position_in (keys_of jobs) in AreNeedsFaults position (Walk (needs_lists position jobs)) (all_needs jobs) found
+
+-- what is added for some entries, and for all
+pub record AddsNeeds (position : List ℕ → Option ℕ) (Leads : ℕ → ℕ → Type 0) (ns : List Need) (old new : List Fault) : Type 0 where
+  pub found : List Fault
+  pub are : AreNeedsFaults position Leads ns found
+  pub grows : new ≡ old ++ found
+
+abbrev pub AddsAllNeeds : List (Node × Node) → List Fault → List Fault → Type 0
+AddsAllNeeds jobs old new = let position = position_in (keys_of jobs) in AddsNeeds position (Walk (needs_lists position jobs)) (all_needs jobs) old new
+
+-- To compute rows with: walks of at most n steps, and the faults by them.
+abbrev pub leads_within : ℕ → List (List ℕ) → ℕ → ℕ → Bool
+leads_within zero lists j k = nat_eq j k
+leads_within (suc n) lists j k = nat_eq j k || list_any (λ i. leads_within n lists i k) (slice_index_or lists j [])
+
+-- what an entry gives, where a test says from which jobs a walk leads back
+abbrev pub tested_faults : (ℕ → Bool) → Need → Option ℕ → List Fault
+tested_faults leads n None = about UndefinedJob n.text
+tested_faults leads n (Some j) = if leads j then cycle_fault n ∷ [] else []
+
+abbrev pub needs_faults : (ℕ → ℕ → Bool) → List (Node × Node) → List Fault
+needs_faults leads jobs = flat_map (λ n. tested_faults (λ j. leads j n.job) n (named_by (position_in (keys_of jobs)) n.text)) (all_needs jobs)

@@ -1,0 +1,126 @@
+-- The faults of the rules, of a workflow and of an action.
+use Rattle.std.specs.Prelude.{◌≡◌, ◌↔◌, ◌⊎◌, List, [], ◌∷◌, ◌++◌, codes, map, Option, if◌then◌else◌, is_some, Contains, option_map, option_and_then}
+use Rattle.std.specs.List.{flat_map, filter_map}
+use Rattle.std.specs.Option.{option_map_or}
+use Rattle.std.specs.Str.{bytes_eq}
+use Rattle.al_text.specs.declared.codes.RuleCode.TheVariants.{MissingOutputValue, MissingShell, UnknownUsing}
+use Rattle.al_text.specs.declared.faults.Fault.{Fault}
+use Rattle.al_yaml.specs.Access.{scalar_in}
+use Rattle.al_yaml.specs.Node.{Node, span_of}
+use Rattle.al_yaml.specs.View.{view}
+use Rattle.al_shape.specs.Names.{among}
+use Rattle.al_shape.specs.Values.{entries_at, items_at, key_at, text_at, text_below, value_at, value_below}
+use Rattle.al_tree.specs.declared.files.Tree.{Tree}
+use Rattle.al_tree.specs.declared.files.Tree.TheVariants as tree
+use Rattle.al_rules.specs.Events.{on_faults}
+use Rattle.al_rules.specs.Ids.{ids_faults}
+use Rattle.al_rules.specs.Matrix.{matrix_faults}
+use Rattle.al_rules.specs.Names.{node_usings}
+use Rattle.al_rules.specs.Needs.{IsNeedsFaults, keys_of}
+use Rattle.al_rules.specs.Settings.{condition_faults, credentials_faults, env_faults, permissions_faults, script_faults, shell_faults}
+use Rattle.al_rules.specs.Words.{Named, about, fault, of_key, of_scalar}
+
+-- of a step
+abbrev pub run_faults : Node → List Fault
+run_faults step = shell_faults (text_at (codes "shell") step) ++ script_faults (text_at (codes "run") step)
+
+abbrev pub step_faults : Node → List Fault
+step_faults step = env_faults step ++ condition_faults (text_at (codes "if") step) ++ run_faults step
+
+abbrev pub step_ids : List Node → List Named
+step_ids steps = map of_scalar (filter_map (text_at (codes "id")) steps)
+
+abbrev pub steps_faults : List Node → List Fault
+steps_faults steps = ids_faults (step_ids steps) ++ flat_map step_faults steps
+
+-- of a container or a service
+abbrev pub container_faults : Node → List Fault
+container_faults c = env_faults c ++ credentials_faults c
+
+-- of a workflow or a job
+abbrev pub section_faults : Node → List Fault
+section_faults n = permissions_faults n ++ env_faults n ++ shell_faults (text_below (codes "defaults" ∷ codes "run" ∷ codes "shell" ∷ []) n)
+
+abbrev pub matrix_faults_of : Node → List Fault
+matrix_faults_of job = option_map_or matrix_faults (value_below (codes "strategy" ∷ codes "matrix" ∷ []) job) []
+
+abbrev pub containers_faults : Node → List Fault
+containers_faults job =
+    option_map_or container_faults (value_at (codes "container") job) [] ++ flat_map (λ m. container_faults m.1) (entries_at (codes "services") job)
+
+abbrev pub settings_faults : Node → List Fault
+settings_faults job = section_faults job ++ condition_faults (text_at (codes "if") job) ++ matrix_faults_of job
+
+abbrev pub job_faults : Node × Node → List Fault
+job_faults j = settings_faults j.1 ++ containers_faults j.1 ++ steps_faults (items_at (codes "steps") j.1)
+
+abbrev pub jobs_of : Node → List (Node × Node)
+jobs_of root = entries_at (codes "jobs") root
+
+-- of a workflow, given the faults of what its jobs need
+abbrev pub workflow_faults : List Fault → Node → List Fault
+workflow_faults needs root =
+    option_map_or on_faults (value_at (codes "on") root) [] ++ section_faults root ++ ids_faults (keys_of (jobs_of root)) ++ needs
+    ++ flat_map job_faults (jobs_of root)
+
+-- a step of a composite action that runs a script and names no shell
+abbrev pub no_shell_faults : Node → List Fault
+no_shell_faults step =
+    if is_some (value_at (codes "shell") step) then [] else option_map_or (λ key. fault MissingShell (span_of key) [] ∷ []) (key_at (codes "run") step) []
+
+-- an output of a composite action without a value
+abbrev pub output_faults : Node × Node → List Fault
+output_faults m = if is_some (value_at (codes "value") m.1) then [] else about MissingOutputValue (of_key m.0)
+
+abbrev pub composite_faults : Node → Node → List Fault
+composite_faults root runs =
+    steps_faults (items_at (codes "steps") runs) ++ flat_map no_shell_faults (items_at (codes "steps") runs)
+    ++ flat_map output_faults (entries_at (codes "outputs") root)
+
+abbrev pub hooks_faults : Node → List Fault
+hooks_faults runs = condition_faults (text_at (codes "pre-if") runs) ++ condition_faults (text_at (codes "post-if") runs)
+
+-- by `using`; one that isn't known, and then only it is checked
+abbrev pub using_faults : Node → Node → Named → List Fault
+using_faults root runs using_name =
+    if among node_usings using_name.text then hooks_faults runs
+    else if bytes_eq using_name.text (codes "docker") then env_faults runs ++ hooks_faults runs
+    else if bytes_eq using_name.text (codes "composite") then composite_faults root runs
+    else about UnknownUsing using_name
+
+-- `using` as a scalar, null too
+abbrev pub scalar_of_value : Node → Option Named
+scalar_of_value n = option_map (λ s. of_scalar (s, span_of n)) (scalar_in n)
+
+abbrev pub runs_faults : Node → Node → List Fault
+runs_faults root runs = option_map_or (using_faults root runs) (option_and_then scalar_of_value (value_at (codes "using") runs)) []
+
+abbrev pub action_faults : Node → List Fault
+action_faults root = option_map_or (runs_faults root) (value_at (codes "runs") root) []
+
+-- what the rules find in a workflow
+pub record IsWorkflowFaults (root : Node) (found : List Fault) : Type 0 where
+  pub needs : List Fault
+  pub of_needs : IsNeedsFaults (jobs_of root) needs
+  pub is : found ≡ workflow_faults needs root
+
+-- what is added for jobs, and for a workflow
+pub record AddsJobs (jobs : List (Node × Node)) (old new : List Fault) : Type 0 where
+  pub needs : List Fault
+  pub of_needs : IsNeedsFaults jobs needs
+  pub grows : new ≡ old ++ (ids_faults (keys_of jobs) ++ needs ++ flat_map job_faults jobs)
+
+pub record AddsWorkflow (root : Node) (old new : List Fault) : Type 0 where
+  pub found : List Fault
+  pub are : IsWorkflowFaults root found
+  pub grows : new ≡ old ++ found
+
+abbrev pub IsRuleFaults : Tree → List Fault → Type 0
+IsRuleFaults (tree.Workflow w) found = IsWorkflowFaults (view w.root) found
+IsRuleFaults (tree.Action a) found = found ≡ action_faults (view a.root)
+
+-- The list has what it had, and some faults that are the rules', each of which it has now.
+pub record AddsRules (file : Tree) (old new : List Fault) : Type 0 where
+  pub found : List Fault
+  pub rules : IsRuleFaults file found
+  pub all : (fault : Fault) → Contains new fault ↔ (Contains old fault ⊎ Contains found fault)

@@ -1,0 +1,70 @@
+//! Workflows.
+
+ghost use Rattle.al_rules.specs.Events.{on_faults};
+ghost use Rattle.al_rules.specs.Rules.{AddsJobs, AddsWorkflow, jobs_of};
+ghost use Rattle.al_shape.specs.Growth.{BeginsWith};
+ghost use Rattle.al_shape.specs.Values.{member_of, value_at};
+ghost use Rattle.al_yaml.specs.View.{view};
+ghost use Rattle.std.specs.Option.{option_map_or};
+ghost use Rattle.std.specs.Prelude.{◌≡◌, ◌++◌, [], codes, map, IfOk, OnOk};
+
+use crate::events::check_on;
+use crate::ids::check_ids;
+use crate::needs::{check_needs, keys_of};
+use crate::sections::{check_each_job, check_section};
+use al_text::Fault;
+use al_tree::{Member, members, value};
+use al_yaml::Node;
+use std::alloc::{AllocError, Global};
+
+/// Adds the faults of the events of a workflow.
+#[tactic(auto, using(al_shape::proofs::Lists::growth))]
+fn check_events(alloc: Global, root: &Node, out: &mut Vec<Fault>) -> Result<(), AllocError>
+    ensures ok { OnOk result (out.new.items ≡ out.old.items ++ option_map_or on_faults (value_at (codes "on") (view root.now)) []) }
+    ensures begins { BeginsWith out.new.items out.old.items }
+{
+    match value(root, "on") {
+        None => Ok(()),
+        Some(on) => check_on(alloc, on, out),
+    }
+}
+
+/// The jobs of a workflow.
+fn jobs_in(alloc: Global, root: &Node) -> Result<Vec<Member<'_>>, AllocError>
+    ensures { IfOk result (λ v. map member_of v.items ≡ jobs_of (view root.now)) }
+{
+    match value(root, "jobs") {
+        None => Ok(Vec::new(alloc)),
+        Some(jobs) => members(alloc, jobs),
+    }
+}
+
+/// Adds the faults of some jobs.
+#[tactic(auto, using(al_shape::proofs::Lists::growth))]
+fn check_jobs(alloc: Global, jobs: &[Member<'_>], out: &mut Vec<Fault>) -> Result<(), AllocError>
+    ensures ok { OnOk result (AddsJobs (map member_of jobs.now) out.old.items out.new.items) }
+    ensures begins { BeginsWith out.new.items out.old.items }
+{
+    let keys = keys_of(alloc, jobs)?;
+    check_ids(alloc, keys.as_slice(), out)?;
+    check_needs(alloc, keys.as_slice(), jobs, out)?;
+    check_each_job(alloc, jobs, out)?;
+    Ok(())
+}
+
+/// Adds the faults of a workflow.
+#[tactic(auto, using(al_shape::proofs::Lists::growth))]
+pub(crate) fn check_workflow(
+    alloc: Global,
+    root: &Node,
+    out: &mut Vec<Fault>,
+) -> Result<(), AllocError>
+    ensures ok { OnOk result (AddsWorkflow (view root.now) out.old.items out.new.items) }
+    ensures begins { BeginsWith out.new.items out.old.items }
+{
+    check_events(alloc, root, out)?;
+    check_section(alloc, root, out)?;
+    let jobs = jobs_in(alloc, root)?;
+    check_jobs(alloc, jobs.as_slice(), out)?;
+    Ok(())
+}

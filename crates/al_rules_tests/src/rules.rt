@@ -1,0 +1,151 @@
+//! Faults of the rules of whole files.
+
+use al_rules::{rules, spans};
+use al_text::{Code, Fault, RuleCode, position};
+use al_tree::{FileKind, Tree, read_action, read_workflow};
+use al_yaml::{Doc, read_yaml};
+use std::alloc::Global;
+use std::process::Abort;
+use std::test::Fail;
+
+/// A fault: its line and column, its code and its arguments.
+type Told = (u32, u32, RuleCode, &'static [&'static str]);
+
+/// Files, what each is read as, and the faults of its rules, in any order.
+const FILES: [(FileKind, &[u8], &[Told]); 4] = [
+    (
+        FileKind::Workflow,
+        b"on:
+  schedule: [{cron: '*/4 * * * *'}, {cron: 0 0 * * 7}]
+  pull_request: {types: [opened, merged], branches: ['a[b']}
+  pull_requests:
+  workflow_dispatch: {inputs: {level: {type: text}}}
+permissions: {content: read, issues: all}
+env: {A B: x}
+jobs: {}
+",
+        &[
+            (2, 21, RuleCode::ScheduleTooOften, &["*/4 * * * *"]),
+            (2, 44, RuleCode::WrongSchedule, &["0 0 * * 7"]),
+            (3, 34, RuleCode::UnknownActivity, &["merged"]),
+            (3, 54, RuleCode::WrongPattern, &["a[b"]),
+            (4, 3, RuleCode::UnknownEvent, &["pull_requests"]),
+            (5, 46, RuleCode::UnknownInputType, &["text"]),
+            (6, 15, RuleCode::UnknownPermission, &["content"]),
+            (6, 38, RuleCode::WrongPermission, &["all"]),
+            (7, 7, RuleCode::WrongVariable, &["A B"]),
+        ],
+    ),
+    (
+        FileKind::Workflow,
+        b"on: push
+jobs:
+  a:
+    needs: [B, c]
+    runs-on: u
+    strategy: {matrix: {os: linux, exclude: [{node: 20}]}}
+    container: {image: i, credentials: {password: p}}
+    steps:
+      - {id: 1st, run: make, shell: zsh}
+      - {id: same, if: 'x ${{ true }}', run: 'echo ::add-path::/opt'}
+      - {id: Same, run: make}
+  b:
+    needs: A
+    runs-on: u
+",
+        &[
+            (4, 13, RuleCode::NeedsCycle, &["a", "B"]),
+            (4, 16, RuleCode::UndefinedJob, &["c"]),
+            (6, 29, RuleCode::WrongMatrix, &["os"]),
+            (6, 47, RuleCode::UnknownMatrixRow, &["node"]),
+            (7, 51, RuleCode::PasswordNotExpression, &[]),
+            (9, 14, RuleCode::WrongId, &["1st"]),
+            (9, 37, RuleCode::UnknownShell, &["zsh"]),
+            (10, 24, RuleCode::AlwaysTrue, &[]),
+            (10, 52, RuleCode::DeprecatedCommand, &["add-path"]),
+            (11, 14, RuleCode::RepeatedId, &["Same"]),
+            (13, 12, RuleCode::NeedsCycle, &["b", "A"]),
+        ],
+    ),
+    (
+        FileKind::Action,
+        b"name: A
+description: B
+outputs: {version: {description: C}}
+runs: {using: composite, steps: [{run: make}]}
+",
+        &[
+            (3, 11, RuleCode::MissingOutputValue, &["version"]),
+            (4, 35, RuleCode::MissingShell, &[]),
+        ],
+    ),
+    (
+        FileKind::Action,
+        b"name: A
+description: B
+runs: {using: node18, steps: [{run: make}]}
+",
+        &[(3, 15, RuleCode::UnknownUsing, &["node18"])],
+    ),
+];
+
+// The tree of a file.
+fn tree(rt: &impl Abort, alloc: Global, kind: FileKind, text: &[u8]) -> Result<Tree, Fail> {
+    assert!(rt; text.len() <= 1048576);
+    let Ok(Ok(doc)) = read_yaml(alloc, text) else {
+        panic!(rt; "no document");
+    };
+    tree_of(alloc, kind, doc)
+}
+
+// The tree that a document is.
+fn tree_of(alloc: Global, kind: FileKind, doc: Doc) -> Result<Tree, Fail> {
+    match kind {
+        FileKind::Workflow => Ok(Tree::Workflow(read_workflow(alloc, doc)?.0)),
+        FileKind::Action => Ok(Tree::Action(read_action(alloc, doc)?.0)),
+    }
+}
+
+// Whether a fault has these arguments.
+fn has_args(fault: &Fault, args: &[&str]) -> bool {
+    let found = fault.args.texts();
+    found.len() == args.len()
+        && found
+            .iter()
+            .zip(args)
+            .all(|(found, told)| found.as_str() == *told)
+}
+
+// Whether a fault is the one that is told.
+fn is_told(rt: &impl Abort, text: &[u8], fault: &Fault, told: Told) -> bool {
+    let start = fault.span.start;
+    assert!(rt; text.len() <= 1048576 && start as usize <= text.len());
+    position(text, start) == (told.0, told.1)
+        && fault.code == Code::Rule(told.2)
+        && has_args(fault, told.3)
+}
+
+// Asserts that one of some faults is the one that is told.
+fn assert_told(rt: &impl Abort, text: &[u8], faults: &[Fault], told: Told) {
+    for fault in faults {
+        if is_told(rt, text, fault, told) {
+            return;
+        }
+    }
+    panic!(rt; "a fault at {}:{} is missing", told.0, told.1);
+}
+
+#[test]
+fn faults_of_files(rt: HostRuntime) -> Result<(), Fail> {
+    for (kind, text, told) in FILES {
+        let tree = tree(&rt, rt.alloc(), kind, text)?;
+        let mut faults = Vec::new(rt.alloc());
+        rules(rt.alloc(), &tree, &mut faults)?;
+        assert_eq!(rt; faults.len(), told.len());
+        for row in told {
+            assert_told(&rt, text, faults.as_slice(), *row);
+        }
+    }
+    spans();
+    Ok(())
+}

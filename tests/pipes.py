@@ -1,0 +1,92 @@
+"""Talks with the built program through pipes: sends a command, waits for its whole reply, and only then sends the next one.
+
+    python3 tests/pipes.py PROGRAM
+
+Each exchange has so many seconds; a program that holds a reply back until more input comes doesn't answer in time. Prints one line
+for each case, as `rt try --cases` does: `case=NAME output=expected status=N`, or what differs.
+"""
+
+import os
+import select
+import subprocess
+import sys
+
+SECONDS = 20
+FAULT = b".github/workflows/a.yml:1:1: file is empty [syntax-check]\n"
+
+# a command, cut where each piece is sent by itself, and its reply
+TALK = [
+    ([b"report\n"], b"status 0\n"),
+    ([b"put .github/workflows/a.yml 0\n", b"\n"], b"ok 1\n"),
+    ([b"report\n"], FAULT + b"status 1\n"),
+    ([b"rep", b"ort\n"], FAULT + b"status 1\n"),
+    ([b"put ../x 1\nx\n"], b"refused E1\n"),
+    ([b"delete .github/workflows/a.yml\n"], b"ok 0\n"),
+    ([b"report\nreport\n"], b"status 0\nstatus 0\n"),
+    ([b"put .github/workflows/b.yml 1048577\n" + b"#" * 1_048_577, b"\n"], b"refused E3\n"),
+]
+
+
+def read_reply(program, size):
+    """Reads so many bytes, or as many as come in time."""
+    got = b""
+    while len(got) < size:
+        ready, _, _ = select.select([program.stdout], [], [], SECONDS)
+        if not ready:
+            break
+        more = os.read(program.stdout.fileno(), size - len(got))
+        if not more:
+            break
+        got += more
+    return got
+
+
+def is_silent(program):
+    """Whether no further byte waits."""
+    return not select.select([program.stdout], [], [], 0.05)[0]
+
+
+def talk(name, words, ending, last, status):
+    """Sends all commands, each after the reply to the one before, then a last piece of input, and compares."""
+    program = subprocess.Popen([sys.argv[1], *words], stdin=subprocess.PIPE, stdout=subprocess.PIPE, stderr=subprocess.PIPE, bufsize=0)
+    wrong = []
+    try:
+        for pieces, reply in TALK:
+            for piece in pieces:
+                if not is_silent(program):
+                    wrong.append(f"a reply came before the end of {pieces[0][:40]!r}")
+                program.stdin.write(piece)
+            got = read_reply(program, len(reply))
+            if got != reply:
+                wrong.append(f"the reply to {pieces[0][:40]!r} was {got!r}, and should be {reply!r}")
+                break
+        if ending:
+            program.stdin.write(ending)
+        program.stdin.close()
+        rest = program.stdout.read()
+        complaint = program.stderr.read()
+        ended = program.wait(SECONDS)
+        if (rest, complaint, ended) != (last, b"", status):
+            wrong.append(f"at the end came {rest!r}, {complaint!r} and status {ended}")
+    finally:
+        program.kill()
+        program.wait()
+    print(f"case={name} output={'wrong' if wrong else 'expected'} status={program.returncode}")
+    for line in wrong:
+        print(f"  {line}")
+    return not wrong
+
+
+def main():
+    if len(sys.argv) != 2:
+        print("pipes.py PROGRAM", file=sys.stderr)
+        return 2
+    words = ["--session", "--oneline"]
+    well = [
+        talk("replies-before-the-end", words, b"", b"", 0),
+        talk("replies-before-a-bad-command", words, b"repo\n", b"bad command\n", 2),
+    ]
+    return 0 if all(well) else 1
+
+
+sys.exit(main())
