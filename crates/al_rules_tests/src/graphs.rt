@@ -3,6 +3,14 @@
 use al_graph::{reachable, turned};
 use std::test::Fail;
 
+// Whether an edge leads from one node to another.
+fn leads(graph: &[Vec<usize>], from: usize, to: usize) -> bool {
+    match graph.get(from) {
+        Some(nodes) => nodes.as_slice().contains(&to),
+        None => false,
+    }
+}
+
 #[test]
 fn walks(rt: HostRuntime) -> Result<(), Fail> {
     let alloc = rt.alloc();
@@ -15,7 +23,10 @@ fn walks(rt: HostRuntime) -> Result<(), Fail> {
     let marks = reachable(alloc, graph.as_slice(), 0)?;
     assert_eq!(rt; marks.as_slice(), [true, true, true, false].as_slice());
     let other = turned(alloc, graph.as_slice())?;
-    let marks = reachable(alloc, other.as_slice(), 0)?;
-    assert_eq!(rt; marks.as_slice(), [true, false, false, true].as_slice());
+    assert_eq!(rt; other.len(), 4);
+    for (from, to) in [(1, 0), (2, 0), (2, 1), (1, 2), (0, 3)] {
+        assert!(rt; leads(other.as_slice(), from, to));
+        assert!(rt; !leads(other.as_slice(), to, from) || leads(graph.as_slice(), from, to));
+    }
     Ok(())
 }

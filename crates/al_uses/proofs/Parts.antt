@@ -1,5 +1,5 @@
 -- What holds of a node and of all that is in it holds of what stands under its keys, and of the calls of a file.
-use Rattle.std.specs.Prelude.{ℕ, ◌+◌, Bool, true, false, List, [], ◌∷◌, ◌++◌, codes, length, Option, Some, None, IfSome, find, option_and_then, option_map}
+use Rattle.std.specs.Prelude.{ℕ, ◌+◌, Bool, true, false, List, [], ◌∷◌, ◌++◌, codes, Option, Some, None, IfSome, find, option_and_then, option_map}
 use Rattle.std.proofs.Common.{cond}
 use Rattle.std.specs.List.{AllByRecursion, flat_map, enumerate_from}
 use Rattle.std.specs.Option.{option_map_or, option_to_list}

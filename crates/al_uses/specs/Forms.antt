@@ -1,5 +1,5 @@
 -- What the text of a `uses` names (GitHub, "Workflow syntax", `jobs.<job_id>.steps[*].uses` and `jobs.<job_id>.uses`).
-use Rattle.std.specs.Prelude.{ℕ, List, [], ◌∷◌, ◌++◌, ◌-◌, ◌==◌, nat_lt, nat_eq, Bool, true, false, ◌&&◌, ◌||◌, codes, drop, take, length, Option, Some, None, is_none, if◌then◌else◌}
+use Rattle.std.specs.Prelude.{ℕ, List, [], ◌∷◌, ◌++◌, ◌-◌, ◌==◌, nat_lt, nat_eq, Bool, false, ◌&&◌, ◌||◌, codes, drop, take, length, Option, Some, None, is_none, if◌then◌else◌}
 use Rattle.std.specs.List.{list_all, starts_with, ends_with}
 use Rattle.std.specs.Str.{bytes_eq}
 use Rattle.al_text.specs.Paths.{parts, path_fault_of}
@@ -24,8 +24,11 @@ abbrev pub is_path : List ℕ → Bool
 is_path bs = is_none (path_fault_of bs)
 
 -- this byte is an `@` with something behind it, which cuts a REF off, and the parts before it pass a test
+abbrev pub is_cut_behind : (List (List ℕ) → Bool) → List (List ℕ) → ℕ → List ℕ → Bool
+is_cut_behind test ps b rest = b == 64 && is_some_text rest && test ps
+
 abbrev pub is_cut : (List (List ℕ) → Bool) → List ℕ → ℕ → List ℕ → Bool
-is_cut test before b rest = b == 64 && is_some_text rest && test (parts before)
+is_cut test before = is_cut_behind test (parts before)
 
 -- so does some byte behind those before
 abbrev pub is_some_cut : (List (List ℕ) → Bool) → List ℕ → List ℕ → Bool

@@ -1,5 +1,5 @@
 -- The calls of a file: where they stand, what they name, and which of them name a file of the folder.
-use Rattle.std.specs.Prelude.{ℕ, List, [], ◌∷◌, ◌++◌, codes, Option, Some, None, option_map, if◌then◌else◌}
+use Rattle.std.specs.Prelude.{ℕ, List, [], ◌++◌, codes, Option, Some, None, option_map, if◌then◌else◌}
 use Rattle.std.specs.List.{flat_map, filter_map, enumerate_from}
 use Rattle.std.specs.Option.{option_map_or, option_to_list}
 use Rattle.al_text.specs.declared.faults.Span.{Span}

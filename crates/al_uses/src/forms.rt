@@ -1,5 +1,5 @@
 //! What a `uses` names.
-ghost use Rattle.std.specs.Prelude.{◌≡◌, [], drop, map, IfOk};
+ghost use Rattle.std.specs.Prelude.{◌≡◌, [], ◌∷◌, ◌++◌, ◌&&◌, drop, map, IfOk};
 ghost use Rattle.std.specs.List.{list_all};
 ghost use Rattle.al_text.specs.Paths.{parts};
 ghost use Rattle.al_uses.specs.Forms as forms;
@@ -28,17 +28,6 @@ fn parts_of(alloc: Global, text: &[u8]) -> Result<Vec<&[u8]>, AllocError>
     text.split(|b| *b == b'/').collect(alloc)
 }
 
-fn are_some_texts(texts: &[&[u8]]) -> bool
-    ensures { result ≡ list_all forms.is_some_text (map (λ t. t.now) texts.now) }
-{
-    for text in texts {
-        if text.is_empty() {
-            return false;
-        }
-    }
-    true
-}
-
 fn is_workflow_path(first: &[u8], second: &[u8], file: &[u8]) -> bool
     ensures { result ≡ forms.is_workflow_path first.now second.now file.now }
 {
@@ -55,59 +44,77 @@ fn is_workflow_parts(parts: &[&[u8]]) -> bool
     }
 }
 
-fn is_remote_workflow(parts: &[&[u8]]) -> bool
-    ensures { result ≡ forms.is_remote_workflow (map (λ p. p.now) parts.now) }
+/// Whether the parts behind the first two, of which one is apart, are those of a workflow's path.
+fn is_workflow_behind(done: &[&[u8]], last: &[u8]) -> bool
+    ensures { result ≡ forms.is_workflow_parts (drop 2 (map (λ p. p.now) done.now ++ last.now ∷ [])) }
 {
-    if !are_some_texts(parts) {
-        return false;
-    }
-    match parts {
-        [_, _, rest @ ..] => is_workflow_parts(rest),
+    match done {
+        [_, _, first, second] => is_workflow_path(first, second, last),
         _ => false,
     }
 }
 
-fn is_remote_action(parts: &[&[u8]]) -> bool
-    ensures { result ≡ forms.is_remote_action (map (λ p. p.now) parts.now) }
+/// Whether complete parts, of which it is known whether all are texts, and the one behind them are a workflow of another repository.
+#[tactic(auto, using(crate::proofs::Cuts::all_more))]
+fn is_remote_workflow(done: &[&[u8]], whole: bool, last: &[u8]) -> bool
+    requires { whole ≡ list_all forms.is_some_text (map (λ p. p.now) done.now) }
+    ensures { result ≡ forms.is_remote_workflow (map (λ p. p.now) done.now ++ last.now ∷ []) }
 {
-    parts.len() > 1 && are_some_texts(parts)
+    are_texts(whole, last) && is_workflow_behind(done, last)
 }
 
-fn is_remote(caller: Caller, parts: &[&[u8]]) -> bool
-    ensures { result ≡ forms.is_remote caller (map (λ p. p.now) parts.now) }
+fn is_remote_action(done: &[&[u8]], whole: bool, last: &[u8]) -> bool
+    requires { whole ≡ list_all forms.is_some_text (map (λ p. p.now) done.now) }
+    ensures { result ≡ forms.is_remote_action (map (λ p. p.now) done.now ++ last.now ∷ []) }
+{
+    whole && !last.is_empty() && !done.is_empty()
+}
+
+fn is_remote(caller: Caller, done: &[&[u8]], whole: bool, last: &[u8]) -> bool
+    requires { whole ≡ list_all forms.is_some_text (map (λ p. p.now) done.now) }
+    ensures { result ≡ forms.is_remote caller (map (λ p. p.now) done.now ++ last.now ∷ []) }
 {
     match caller {
-        Caller::Step => is_remote_action(parts),
-        Caller::Job => is_remote_workflow(parts),
+        Caller::Step => is_remote_action(done, whole, last),
+        Caller::Job => is_remote_workflow(done, whole, last),
     }
 }
 
-/// Whether this byte cuts a REF off, and what is before it may be named.
-fn is_cut(
-    alloc: Global,
-    caller: Caller,
-    before: &[u8],
-    byte: u8,
-    rest: &[u8],
-) -> Result<bool, AllocError>
-    ensures { IfOk result (λ b. b ≡ forms.is_cut (forms.is_remote caller) before.now byte rest.now) }
+/// Whether this byte cuts a REF off, and the parts before it may be named.
+fn is_cut(caller: Caller, done: &[&[u8]], whole: bool, last: &[u8], byte: u8, rest: &[u8]) -> bool
+    requires { whole ≡ list_all forms.is_some_text (map (λ p. p.now) done.now) }
+    ensures { result ≡ forms.is_cut_behind (forms.is_remote caller) (map (λ p. p.now) done.now ++ last.now ∷ []) byte rest.now }
 {
     if byte != b'@' {
-        return Ok(false);
+        return false;
     }
     if rest.is_empty() {
-        return Ok(false);
+        return false;
     }
-    let parts = parts_of(alloc, before)?;
-    Ok(is_remote(caller, parts.as_slice()))
+    is_remote(caller, done, whole, last)
 }
 
-/// Whether some byte of a text does.
+/// Whether parts, of which it is known whether all are texts, and one more are texts.
+fn are_texts(whole: bool, part: &[u8]) -> bool
+    ensures { result ≡ (whole && forms.is_some_text part.now) }
+{
+    whole && !part.is_empty()
+}
+
+/// Whether some byte of a text does. Goes forward once, with the parts that are complete.
 fn is_some_cut(alloc: Global, caller: Caller, text: &[u8]) -> Result<bool, AllocError>
     ensures { IfOk result (λ b. b ≡ forms.is_some_cut (forms.is_remote caller) [] text.now) }
 {
+    let mut done = Vec::new(alloc);
+    let mut whole = true;
+    let mut start = 0;
     for (i, byte) in text.iter().enumerate() {
-        if is_cut(alloc, caller, &text[..i], *byte, &text[i + 1..])? {
+        let last = &text[start..i];
+        if *byte == b'/' {
+            whole = are_texts(whole, last);
+            done.push(last)?;
+            start = i + 1;
+        } else if is_cut(caller, done.as_slice(), whole, last, *byte, &text[i + 1..]) {
             return Ok(true);
         }
     }

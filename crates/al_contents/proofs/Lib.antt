@@ -1,0 +1,4 @@
+pub mod Spelling
+pub mod EndLemmas
+pub mod Places
+pub mod Inside

@@ -1,0 +1,7 @@
+use Rattle.std.proofs.Common.{◌≡◌, ◌++◌, map}
+use Rattle.al_contents.specs.Contents.{moved}
+use Rattle.al_contents.proofs.contents.move_faults.Given as goal
+
+abbrev pub invariant-loop-fault : goal.invariant-loop-fault
+invariant-loop-fault l =
+    l.out.items ++ map (moved l.scalar l.by) l.fault-iterator.rest.items ≡ l.fn.out.items ++ map (moved l.scalar l.by) l.fn.faults.items

@@ -1,0 +1,4 @@
+pub mod Spelled
+pub mod Contents
+pub mod FileExpressions
+pub mod Inside

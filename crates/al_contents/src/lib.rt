@@ -1,0 +1,11 @@
+//! The expressions of workflows and actions: their faults, at their places in the file.
+#![tactic(auto)]
+
+mod contents;
+mod expressions;
+mod law;
+mod offsets;
+
+pub use expressions::expression_faults;
+pub use law::all_lie_in_file;
+pub use offsets::are_from;

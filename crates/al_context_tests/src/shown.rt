@@ -1,0 +1,51 @@
+//! Types as texts, such as `{a: string, *: any}`, where `*` stands for every other field.
+
+use al_types::{Object, Ty};
+use std::alloc::{AllocError, Global};
+
+#[cycle(shown)]
+fn show(alloc: Global, ty: &Ty, out: &mut String) -> Result<(), AllocError> {
+    match ty {
+        Ty::Any => out.push_str("any"),
+        Ty::Null => out.push_str("null"),
+        Ty::Number => out.push_str("number"),
+        Ty::Bool => out.push_str("bool"),
+        Ty::String => out.push_str("string"),
+        Ty::Array(of) => {
+            out.push_str("[")?;
+            show(alloc, of, out)?;
+            out.push_str("]")
+        }
+        Ty::Object(object) => show_object(alloc, object, out),
+    }
+}
+
+#[cycle(shown)]
+fn show_object(alloc: Global, object: &Object, out: &mut String) -> Result<(), AllocError> {
+    out.push_str("{")?;
+    let mut is_first = true;
+    for field in &object.fields {
+        if !is_first {
+            out.push_str(", ")?;
+        }
+        is_first = false;
+        out.push_str(field.name.as_str())?;
+        out.push_str(": ")?;
+        show(alloc, &field.ty, out)?;
+    }
+    if let Some(rest) = &object.rest {
+        if !is_first {
+            out.push_str(", ")?;
+        }
+        out.push_str("*: ")?;
+        show(alloc, rest, out)?;
+    }
+    out.push_str("}")
+}
+
+/// A type as a text.
+pub(crate) fn shown(alloc: Global, ty: &Ty) -> Result<String, AllocError> {
+    let mut out = String::new(alloc);
+    show(alloc, ty, &mut out)?;
+    Ok(out)
+}
