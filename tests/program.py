@@ -216,12 +216,14 @@ def examples(place):
     no = b""
     top = os.path.join(os.path.dirname(os.path.abspath(__file__)), os.pardir, "examples")
     place.fresh()
-    for name in ("release", "slips"):
+    for name in ("release", "slips", "nightly"):
         shutil.copytree(os.path.join(top, name), os.path.join(place.folder, name))
     place.case("example-without-a-fault", 0, no, no, ["--root", "release"])
     for ending, given in (("report", []), ("oneline", ["--oneline"])):
         with open(os.path.join(top, f"slips.{ending}"), "rb") as file:
             place.case(f"example-with-slips-{ending}", 1, file.read(), no, [*given, "--root", "slips"])
+    with open(os.path.join(top, "nightly.oneline"), "rb") as file:
+        place.case("example-with-rules-broken", 1, file.read(), no, ["--oneline", "--root", "nightly"])
 
 
 # ---- scripts
