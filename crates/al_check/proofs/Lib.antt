@@ -1,1 +1,2 @@
 pub mod ShownLemmas
+pub mod Sets

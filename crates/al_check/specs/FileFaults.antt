@@ -11,6 +11,9 @@ use Rattle.al_yaml.specs.Node.{Node}
 use Rattle.al_shape.specs.Faults.{root_faults}
 use Rattle.al_tree.specs.Files.{shape_of}
 use Rattle.al_tree.specs.declared.files.FileKind.{FileKind}
+use Rattle.al_contents.specs.FileExpressions.{expression_faults}
+use Rattle.al_contexts.specs.Answered.{known_of}
+use Rattle.al_check.specs.RuleFaults.{rule_faults}
 
 abbrev pub is_control : ℕ → Bool
 is_control b = nat_lt b 32 || b == 127
@@ -19,9 +22,9 @@ is_control b = nat_lt b 32 || b == 127
 abbrev pub printed : Fault → Fault
 printed f = record f { args = map shown f.args }
 
--- of keys and values
+-- of keys and values, of rules, and of expressions
 abbrev pub found_in : FileKind → Node → List Fault
-found_in kind root = root_faults (shape_of kind) root
+found_in kind root = root_faults (shape_of kind) root ++ rule_faults kind root ++ expression_faults kind (known_of []) root
 
 -- the faults of a document in the order of reports, each once
 abbrev pub document_faults : FileKind → Node → List Fault

@@ -1,5 +1,5 @@
 -- What holds of every file that was read: each of its faults lies in it, and they are in the order of reports, each once.
-use Rattle.std.specs.Prelude.{◌≡◌, ℕ, List, [], ◌∷◌, length, map, Ok, Err, Result, refl}
+use Rattle.std.specs.Prelude.{◌≡◌, ℕ, List, [], ◌∷◌, ◌++◌, length, map, Ok, Err, Result, refl}
 use Rattle.std.proofs.Common.{sym, subst}
 use Rattle.std.specs.List.{AllByRecursion}
 use Rattle.std.proofs.lemmas.List.Elements.{recursion_from_All}
@@ -15,9 +15,18 @@ use Rattle.al_tree.specs.declared.files.FileKind.{FileKind}
 use Rattle.al_tree.specs.declared.files.Tree.{Tree}
 use Rattle.al_yaml.specs.ByteFaults.{fault_span}
 use Rattle.al_yaml.specs.Node.{Node}
-use Rattle.al_yaml.specs.Spans.{IsInside}
+use Rattle.al_yaml.specs.Spans.{IsInside, IsWithin}
+use Rattle.al_contents.proofs.Inside.{expression_faults_lie}
+use Rattle.al_contents.specs.FileExpressions.{expression_faults}
+use Rattle.al_contents.specs.Inside.{AreFrom}
+use Rattle.al_contexts.specs.Answered.{known_of}
+use Rattle.al_meaning.proofs.Inside.{both_lie}
+use Rattle.al_rules.proofs.Lying.{rules_lie}
+use Rattle.al_shape.specs.Faults.{root_faults}
 use Rattle.al_check.specs.FileFaults.{document_faults, faults_given, file_faults, found_in, printed}
-use Rattle.al_check.specs.Reading.{IsFault, IsGiven, IsRead, IsTree, root_of}
+use Rattle.al_check.specs.Reading.{IsFault, IsGiven, IsRead, IsTree, kind_in, root_of}
+use Rattle.al_check.specs.RuleFaults.{rule_faults}
+use Rattle.al_check.specs.RuleSets.{rules_hold}
 use Rattle.al_check.specs.declared.files.ReadFile.{ReadFile}
 use Rattle.al_check.specs.declared.lint.NoInterface.{NoInterface}
 
@@ -32,16 +41,23 @@ printed_lie : (size : ℕ) (faults : List Fault) → AllLie size faults → AllL
 printed_lie size [] l = tt
 printed_lie size (f ∷ fs) l = (l.0, printed_lie size fs l.1)
 
-found_lie : (size : ℕ) (kind : FileKind) (root : Node) → IsInside size root → AllLie size (found_in kind root)
-found_lie size kind root i = recursion_from_All (λ (f : Fault). LiesIn size f.span) (found_in kind root) (root_lies size (shape_of kind) root i)
+module _ (size : ℕ) (t : Tree) (i : IsInside size (root_of t)) (w : IsWithin 0 size (root_of t)) (f : AreFrom size (root_of t)) where
+  found_lie : AllLie size (found_in (kind_in t) (root_of t))
+  found_lie =
+      both_lie size (root_faults (shape_of (kind_in t)) (root_of t) ++ rule_faults (kind_in t) (root_of t)) (expression_faults (kind_in t) (known_of []) (root_of t))
+      (both_lie size (root_faults (shape_of (kind_in t)) (root_of t)) (rule_faults (kind_in t) (root_of t))
+      (recursion_from_All (λ (x : Fault). LiesIn size x.span) (root_faults (shape_of (kind_in t)) (root_of t)) (root_lies size (shape_of (kind_in t)) (root_of t) i))
+      (rules_lie size t (rule_faults (kind_in t) (root_of t)) w (rules_hold t)))
+      (expression_faults_lie size (kind_in t) (known_of []) (root_of t) w f)
 
-document_lies : (size : ℕ) (kind : FileKind) (root : Node) → IsInside size root → AllLie size (document_faults kind root)
-document_lies size kind root i =
-    AllByRecursion-fault_list (λ (f : Fault). LiesIn size f.span) (map printed (found_in kind root)) (printed_lie size (found_in kind root) (found_lie size kind root i))
+  document_lies : AllLie size (document_faults (kind_in t) (root_of t))
+  document_lies =
+      AllByRecursion-fault_list (λ (x : Fault). LiesIn size x.span) (map printed (found_in (kind_in t) (root_of t))) (printed_lie size (found_in (kind_in t) (root_of t)) found_lie)
 
 given_lies : (kind : FileKind) (bytes : List ℕ) (read : Result Tree YamlFault) → IsGiven kind bytes read → AllLie (length bytes) (file_faults kind bytes)
 given_lies kind bytes (Ok t) is =
-    subst (λ r. AllLie (length bytes) (faults_given kind bytes r)) (sym is.root_is) (document_lies (length bytes) kind (root_of t) is.inside)
+    subst (λ k. AllLie (length bytes) (file_faults k bytes)) is.kind_is
+    (subst (λ r. AllLie (length bytes) (faults_given (kind_in t) bytes r)) (sym is.root_is) (document_lies (length bytes) t is.inside is.nested is.from))
 given_lies kind bytes (Err fault) is =
     let there : LiesIn (length bytes) (fault_span bytes fault.span.start) = subst (LiesIn (length bytes)) is.span_is is.inside in
     subst (λ r. AllLie (length bytes) (faults_given kind bytes r)) (sym is.fault_is) (there, tt)

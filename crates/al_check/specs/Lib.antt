@@ -1,4 +1,7 @@
+pub mod RuleFaults
 pub mod FileFaults
 pub mod Reading
+pub mod Walks
+pub mod RuleSets
 pub mod Linting
 pub mod Laws

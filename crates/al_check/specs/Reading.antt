@@ -9,8 +9,10 @@ use Rattle.al_tree.specs.declared.files.Tree.TheVariants as tree
 use Rattle.al_yaml.specs.ByteFaults.{fault_span}
 use Rattle.al_yaml.specs.Document.{tree_of}
 use Rattle.al_yaml.specs.Node.{Node}
-use Rattle.al_yaml.specs.Spans.{IsInside}
+use Rattle.al_yaml.specs.Spans.{IsInside, IsWithin}
+use Rattle.al_yaml.specs.Texts.{HasTexts}
 use Rattle.al_yaml.specs.View.{view}
+use Rattle.al_contents.specs.Inside.{AreFrom}
 use Rattle.al_check.specs.declared.files.ReadFile.{ReadFile}
 
 abbrev pub root_of : Tree → Node
@@ -26,6 +28,10 @@ pub record IsTree (file : FileKind) (bytes : List ℕ) (t : Tree) : Type 0 where
   pub kind_is : kind_in t ≡ file
   pub root_is : tree_of false bytes ≡ Ok (root_of t)
   pub inside : IsInside (length bytes) (root_of t)
+  pub nested : IsWithin 0 (length bytes) (root_of t)
+  pub within : IsWithin 0 1048576 (root_of t)
+  pub texts : HasTexts (root_of t)
+  pub from : AreFrom (length bytes) (root_of t)
 
 -- their fault as YAML, which lies in them
 pub record IsFault (bytes : List ℕ) (f : YamlFault) : Type 0 where
