@@ -140,7 +140,12 @@ const ROWS: [Row; 20] = [
     Row {
         content: "GitHub.event['Issue'].title",
         form: Form::Any,
-        fault: Some((ExpressionCode::Untrusted, 0, 27, &["github.event.issue.title"])),
+        fault: Some((
+            ExpressionCode::Untrusted,
+            0,
+            27,
+            &["github.event.issue.title"],
+        )),
     },
     Row {
         content: "github.event.commits[0].message",

@@ -129,12 +129,7 @@ fn standing_without_row<'a>(
 }
 
 /// How an entry with a key stands behind the keys that were seen, in a mapping with all these.
-pub fn standing_of<'a>(
-    keys: Keys,
-    seen: &KeySet<'a>,
-    all: &KeySet<'_>,
-    key: &'a [u8],
-) -> Standing
+pub fn standing_of<'a>(keys: Keys, seen: &KeySet<'a>, all: &KeySet<'_>, key: &'a [u8]) -> Standing
     ensures { standing_view result ≡ stands (keys_view keys) (holds seen.now) (holds all.now) key.now }
 {
     match keys {
