@@ -59,7 +59,7 @@ def seconds(text):
     best = None
     for _ in range(RUNS):
         start = time.perf_counter()
-        run = subprocess.run([PROGRAM], input=script, stdout=subprocess.PIPE, check=False)
+        run = subprocess.run([PROGRAM, "--session", "--oneline"], input=script, stdout=subprocess.PIPE, check=False)
         took = time.perf_counter() - start
         if run.stdout != b"ok 1\n":
             sys.exit(f"the workflow was not taken: {run.stdout[:80]}")
