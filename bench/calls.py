@@ -8,14 +8,10 @@ The second column of times puts the same bytes with `uses` and `with` under keys
 checked as calls: what the check of calls takes is the difference.
 """
 
-import pathlib
-import subprocess
 import sys
-import time
 
-TOP = pathlib.Path(__file__).resolve().parent.parent
-PROGRAM = TOP / "crates" / "actionlint" / "out" / "actionlint"
-WORDS = ["--session", "--oneline"]
+from common import folder_times, print_growths, print_head
+
 RUNS = 5
 INPUTS = 10_000
 CALLS = 20_000
@@ -78,20 +74,6 @@ FOLDERS = {
 }
 
 
-def seconds(files):
-    """The least time of some runs that put files."""
-    script = b"".join(f"put {path} {len(text.encode())}\n".encode() + text.encode() + b"\n" for path, text in files)
-    best = None
-    for _ in range(RUNS):
-        start = time.perf_counter()
-        run = subprocess.run([PROGRAM, *WORDS], input=script, stdout=subprocess.PIPE, check=False)
-        took = time.perf_counter() - start
-        if run.stdout.count(b"ok ") != len(files):
-            sys.exit(f"the folder was not taken: {run.stdout[:80]}")
-        best = took if best is None else min(best, took)
-    return best
-
-
 def unchecked(files):
     """The same files, with the calls under a key that isn't looked at."""
     return [(path, text.replace("uses:", "used:")) for path, text in files]
@@ -99,12 +81,10 @@ def unchecked(files):
 
 def main():
     """Prints a table."""
-    nothing = seconds(many_calls(1))
-    print(f"{'folder':36} {'half':>9} {'whole':>9} whole/half {'only read':>10} whole/half")
+    print_head(36, "folder", "checked", "only read")
     for name, (folder, size) in FOLDERS.items():
-        half, whole = (seconds(folder(count)) - nothing for count in (size // 2, size))
-        half_read, whole_read = (seconds(unchecked(folder(count))) - nothing for count in (size // 2, size))
-        print(f"{name:36} {half:8.3f}s {whole:8.3f}s {whole / half:10.2f} {whole_read:9.3f}s {whole_read / half_read:10.2f}")
+        folders = [folder(count) for count in (size // 2, size)]
+        print_growths(36, name, folder_times(RUNS, many_calls(1), folders + [unchecked(files) for files in folders]))
 
 
 if __name__ == "__main__":
