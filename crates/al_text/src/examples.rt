@@ -15,17 +15,17 @@ ghost use Rattle.al_text.specs.declared.codes.ExpressionCode.TheVariants.{BadCha
 /// The lists of some small sets of faults, as the definitions give them. Does nothing.
 pub fn rows()
     // one of three is given twice
-    ensures repeated { fault_list (at 9 12 (code.Key Repeated) (codes "on" ∷ []) ∷ at 0 3 (code.Key Unexpected) (codes "oh" ∷ []) ∷
-        at 9 12 (code.Key Repeated) (codes "on" ∷ []) ∷ [])
+    ensures repeated { fault_list (at 9 12 (code.Key Repeated) (codes "on" ∷ []) ∷ at 0 3 (code.Key Unexpected) (codes "oh" ∷ [])
+        ∷ at 9 12 (code.Key Repeated) (codes "on" ∷ []) ∷ [])
         ≡ at 0 3 (code.Key Unexpected) (codes "oh" ∷ []) ∷ at 9 12 (code.Key Repeated) (codes "on" ∷ []) ∷ [] }
     // the start before the end
     ensures starts { fault_list (at 5 6 (code.Key Unexpected) [] ∷ at 4 9 (code.Key Unexpected) [] ∷ at 4 8 (code.Key Unexpected) [] ∷ [])
         ≡ at 4 8 (code.Key Unexpected) [] ∷ at 4 9 (code.Key Unexpected) [] ∷ at 5 6 (code.Key Unexpected) [] ∷ [] }
     // by code: kind by kind, and in a kind by number
-    ensures kinds { fault_list (at 0 1 (code.Expression BadCharacter) [] ∷ at 0 1 (code.Rule UnknownEvent) [] ∷
-        at 0 1 (code.Key Unexpected) [] ∷ at 0 1 (code.Yaml WrongKey) [] ∷ [])
-        ≡ at 0 1 (code.Yaml WrongKey) [] ∷ at 0 1 (code.Key Unexpected) [] ∷ at 0 1 (code.Rule UnknownEvent) [] ∷
-        at 0 1 (code.Expression BadCharacter) [] ∷ [] }
+    ensures kinds { fault_list (at 0 1 (code.Expression BadCharacter) [] ∷ at 0 1 (code.Rule UnknownEvent) []
+        ∷ at 0 1 (code.Key Unexpected) [] ∷ at 0 1 (code.Yaml WrongKey) [] ∷ [])
+        ≡ at 0 1 (code.Yaml WrongKey) [] ∷ at 0 1 (code.Key Unexpected) [] ∷ at 0 1 (code.Rule UnknownEvent) []
+        ∷ at 0 1 (code.Expression BadCharacter) [] ∷ [] }
     ensures codes_of_yaml { fault_list (at 0 1 (code.Yaml WrongKey) [] ∷ at 0 1 (code.Yaml UnclosedQuote) [] ∷ [])
         ≡ at 0 1 (code.Yaml UnclosedQuote) [] ∷ at 0 1 (code.Yaml WrongKey) [] ∷ [] }
     ensures codes_of_rules { fault_list (at 0 1 (code.Rule MissingOutputValue) [] ∷ at 0 1 (code.Rule UnknownEvent) [] ∷ [])
@@ -34,10 +34,10 @@ pub fn rows()
         ≡ at 0 1 (code.Expression BadCharacter) [] ∷ at 0 1 (code.Expression UnclosedChunk) [] ∷ [] }
     ensures calls_last { fault_list (at 0 1 (code.Call UndefinedInput Job) [] ∷ at 0 1 (code.Expression UnclosedChunk) [] ∷ [])
         ≡ at 0 1 (code.Expression UnclosedChunk) [] ∷ at 0 1 (code.Call UndefinedInput Job) [] ∷ [] }
-    ensures codes_of_calls { fault_list (at 0 1 (code.Call NotCallable Job) [] ∷ at 0 1 (code.Call UndefinedInput Step) [] ∷
-        at 0 1 (code.Call UndefinedInput Job) [] ∷ [])
-        ≡ at 0 1 (code.Call UndefinedInput Job) [] ∷ at 0 1 (code.Call UndefinedInput Step) [] ∷
-        at 0 1 (code.Call NotCallable Job) [] ∷ [] }
+    ensures codes_of_calls { fault_list (at 0 1 (code.Call NotCallable Job) [] ∷ at 0 1 (code.Call UndefinedInput Step) []
+        ∷ at 0 1 (code.Call UndefinedInput Job) [] ∷ [])
+        ≡ at 0 1 (code.Call UndefinedInput Job) [] ∷ at 0 1 (code.Call UndefinedInput Step) []
+        ∷ at 0 1 (code.Call NotCallable Job) [] ∷ [] }
     // the same code at the same place: by the arguments
     ensures arguments { fault_list (at 0 0 (code.Key Missing) (codes "on" ∷ []) ∷ at 0 0 (code.Key Missing) (codes "jobs" ∷ []) ∷ [])
         ≡ at 0 0 (code.Key Missing) (codes "jobs" ∷ []) ∷ at 0 0 (code.Key Missing) (codes "on" ∷ []) ∷ [] }
@@ -58,8 +58,8 @@ pub fn snippet_rows()
         ≡ codes "a.yml:6:30: property \"reff\" is not defined [expression]\n  |\n"
         ++ codes "6 |       - run: echo ${{ github.reff }}\n  |                              ^~~~\n" }
     // a property behind an escaped break of a quoted scalar
-    ensures escaped { snippet (codes "on: push\njobs:\n  a:\n    runs-on: ubuntu-latest\n    steps:\n" ++
-        codes "      - run: \"\\u00e9 \\\n          echo ${{ github.reff }}\"\n") (span_of 107 111)
+    ensures escaped { snippet (codes "on: push\njobs:\n  a:\n    runs-on: ubuntu-latest\n    steps:\n"
+        ++ codes "      - run: \"\\u00e9 \\\n          echo ${{ github.reff }}\"\n") (span_of 107 111)
         ≡ codes "  |\n7 |           echo ${{ github.reff }}\"\n  |                           ^~~~\n" }
     // a span that goes on behind its line's break marks that line alone
     ensures lines { snippet (97 ∷ 13 ∷ 98 ∷ 99 ∷ 13 ∷ 10 ∷ 100 ∷ []) (span_of 2 7) ≡ codes "  |\n2 | bc\n  | ^~\n" }

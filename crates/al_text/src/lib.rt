@@ -20,7 +20,7 @@ mod stops;
 mod streams;
 mod wordings;
 
-// Printed faults, and positions and printed faults by a table of line starts:
+// Printed faults, with the table of line starts:
 mod lines;
 mod printing;
 mod snippets;
