@@ -5,7 +5,7 @@ ghost use Rattle.std.specs.List.Sorted.{IsStrictlySortedBy};
 ghost use Rattle.al_text.specs.FaultLists.{fault_cmp};
 ghost use Rattle.al_text.specs.Spans.{LiesIn};
 ghost use Rattle.al_session.specs.Meaning.{counted};
-ghost use Rattle.al_tree.specs.Kinds.{kind_of};
+ghost use Rattle.al_tree.specs.Kinds.{file_kind};
 ghost use Rattle.al_check.specs.Linting.{linting};
 ghost use Rattle.al_check.specs.Reading.{IsRead};
 ghost use Rattle.al_check.specs.Laws.{faults_inside, faults_ordered, same_interface};
@@ -13,7 +13,7 @@ ghost use Rattle.al_check.specs.Laws.{faults_inside, faults_ordered, same_interf
 use crate::files::{ReadFile, file_faults, read_file};
 use al_session::{Lint, Target};
 use al_text::Fault;
-use al_tree::{is_action, is_workflow, kind_of};
+use al_tree::{is_action, is_workflow, file_kind};
 use std::alloc::{AllocError, Global};
 
 /// The linter of workflows and actions, with its counts.
@@ -47,7 +47,7 @@ impl Lint for Actions {
 
     ghost meaning = { linting };
 
-    ghost is_unit = { λ unit path bytes. IsRead unit (kind_of path) bytes };
+    ghost is_unit = { λ unit path bytes. IsRead unit (file_kind path) bytes };
 
     ghost checks_of = { λ lint. lint.checks };
 
@@ -59,7 +59,7 @@ impl Lint for Actions {
 
     fn read(&mut self, alloc: Global, path: &str, bytes: &[u8]) -> Result<ReadFile, AllocError> {
         self.reads = self.reads.saturating_add(1);
-        read_file(alloc, kind_of(path.as_bytes()), bytes)
+        read_file(alloc, file_kind(path.as_bytes()), bytes)
     }
 
     fn iface(&self, alloc: Global, path: &str, unit: &ReadFile) -> Result<NoInterface, AllocError> {
@@ -79,7 +79,7 @@ impl Lint for Actions {
         answers: &[Option<&NoInterface>],
     ) -> Result<Vec<Fault>, AllocError> {
         self.checks = self.checks.saturating_add(1);
-        file_faults(alloc, kind_of(path.as_bytes()), bytes, unit)
+        file_faults(alloc, file_kind(path.as_bytes()), bytes, unit)
     }
 
     fn checks(&self) -> u64 {
@@ -92,7 +92,7 @@ impl Lint for Actions {
 
     ghost exact = { λ a b same. same_interface a b };
 
-    ghost inside = { λ unit path bytes answers read. faults_inside unit (kind_of path) bytes read };
+    ghost inside = { λ unit path bytes answers read. faults_inside unit (file_kind path) bytes read };
 
-    ghost ordered = { λ unit path bytes answers read. faults_ordered unit (kind_of path) bytes read };
+    ghost ordered = { λ unit path bytes answers read. faults_ordered unit (file_kind path) bytes read };
 }
