@@ -22,13 +22,14 @@ use crate::faults::{FaultAt, Stop};
 use crate::flow::read_flow_collection;
 use crate::keys::{Key, behind_colon, is_short_key, key_at};
 use crate::limits::Count;
-use crate::lines::{blanks_end, characters, next_line, same_line};
+use crate::lines::{characters, next_line, same_line};
 use crate::node::{Entry, Node, Part, entry_of, mapping_part, scalar_node, sequence_part};
 use crate::scalars::{empty_part, read_line_scalar};
 use crate::slots::{Slot, Spot, is_behind_key, is_deeper, spot_behind, tab_before};
 use crate::stack::Stack;
 use crate::starts::{block_fault, is_block_start, is_flow_start, is_property};
 use al_scalar::ScalarRead;
+use al_scalar::lines::blanks_end;
 use al_text::YamlCode;
 use std::alloc::Global;
 
