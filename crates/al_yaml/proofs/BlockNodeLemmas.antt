@@ -3,13 +3,13 @@
 use Rattle.std.proofs.Common.{◌≡◌, ℕ, suc, ◌+◌, ◌<◌, ◌≤◌, List, [], ◌∷◌, length, refl, sym, ap, ◌∙◌, arith, Bool, true, false, not, ◌&&◌, ◌||◌, cond, Some, None, Ok, Err}
 use Rattle.al_text.specs.declared.codes.YamlCode.{YamlCode}
 use Rattle.al_text.specs.declared.codes.YamlCode.TheVariants as yaml
-use Rattle.al_scalar.specs.Line.{Line, start}
+use Rattle.al_scalar.specs.Line.{Line, start, blanks_dropped}
 use Rattle.al_scalar.specs.Places.{lines_at, text_at}
 use Rattle.al_scalar.specs.Taken.{Fault}
 use Rattle.al_yaml.specs.Node as tree
 use Rattle.al_yaml.specs.Reading.{Reading, Part, part, gives, given, fails, listed, start_of, spanned, ◌>>=◌}
 use Rattle.al_yaml.specs.Limits.{broken_limit}
-use Rattle.al_yaml.specs.Content.{ended, at_line, content, is_property, is_flow_start, is_dash, is_skipped, block_fault, unless, blanks_dropped, characters, line_ended, same_line, is_short_key}
+use Rattle.al_yaml.specs.Content.{ended, at_line, content, is_property, is_flow_start, is_dash, is_skipped, block_fault, unless, characters, line_ended, same_line, is_short_key}
 use Rattle.al_yaml.specs.Flow.{CollectionReader, empty_node, flow_collection}
 use Rattle.al_yaml.specs.Keys.{Key, key_at, is_block_start, has_colon}
 use Rattle.al_yaml.specs.Blocks.{BlockReader, Slot, Spot, at_spot, spot_behind, is_behind_key, is_deeper, node_found, node_below, rest_node, sequence_entry, sequence_rest, sequence_entries, entry_slot, value_slot, mapping_value, mapping_rest, mapping_entries, scalar_node_at, flow_at, flow_rest, block_sequence, block_mapping, keyed_node, block_content, block_property, block_node_over, block_node, tab_before, unless_at}

@@ -13,7 +13,7 @@ use Rattle.al_yaml.specs.declared.node.Part as code
 use Rattle.al_yaml.specs.Frames as frames
 use Rattle.al_yaml.specs.Frames.{answered, open_rest, waiting_rest}
 use Rattle.al_yaml.specs.Reads.{run, counted, Stops, IsBehind, IsKeyInside, part_of, flow_key_of}
-use Rattle.al_yaml.specs.Spans.{IsWithin, AreInOrder, EntriesInOrder}
+use Rattle.al_yaml.specs.Spans.{IsPlacedIn, ArePlacedIn, EntriesPlacedIn}
 use Rattle.al_yaml.specs.View.{view, entry_view, nodes_of, entries_of}
 use Rattle.al_yaml.specs.declared.faults.Stop.{Stop}
 use Rattle.al_yaml.specs.declared.flow.Found.{Found}
@@ -63,7 +63,7 @@ pub record IsBracket (bytes : List ℕ) (low at : ℕ) : Type 0 where
   pub bracket : content.is_flow_start (text_at bytes at) ≡ true
 
 abbrev pub IsFound : List ℕ → ℕ → ℕ → Found → Type 0
-IsFound bytes from low (found.Node p) = IsBehind bytes from p × IsWithin low p.end (view p.node)
+IsFound bytes from low (found.Node p) = IsBehind bytes from p × IsPlacedIn (length bytes) low p.end (view p.node)
 IsFound bytes from low (found.Opens i) = IsBracket bytes from i × (low ≤ i)
 
 abbrev pub IsFoundKey : List ℕ → ℕ → FoundKey → Type 0
@@ -91,41 +91,41 @@ Resumes bytes depth opening w x n (Err e) = (c : CollectionReader) (turns : ℕ)
 -- ---- where the nodes of open collections lie
 
 -- what was read of a collection ends before an offset
-abbrev pub IsOpenTo : ℕ → ℕ → Open → Type 0
-IsOpenTo opening at (open_code.Items v) = (opening ≤ at) × AreInOrder opening at (nodes_of (map view v.items))
-IsOpenTo opening at (open_code.Entries v) = (opening ≤ at) × EntriesInOrder opening at (entries_of (map entry_view v.items))
+abbrev pub IsOpenTo : ℕ → ℕ → ℕ → Open → Type 0
+IsOpenTo size opening at (open_code.Items v) = (opening ≤ at) × ArePlacedIn size opening at (nodes_of (map view v.items))
+IsOpenTo size opening at (open_code.Entries v) = (opening ≤ at) × EntriesPlacedIn size opening at (entries_of (map entry_view v.items))
 
-abbrev pub IsWaitingFrom : ℕ → ℕ → Waiting → Type 0
-IsWaitingFrom opening start (waiting.Item v) = (opening ≤ start) × AreInOrder opening start (nodes_of (map view v.items))
-IsWaitingFrom opening start (waiting.Value v read) =
-    (opening ≤ read.span.start) × (read.span.start ≤ read.span.end) × (read.span.end ≤ start) × EntriesInOrder opening read.span.start (entries_of (map entry_view v.items))
-    × IsPlaced 1048576 read.scalar read.span
-IsWaitingFrom opening start (waiting.Key at) = (opening ≤ start) × (at ≤ start)
+abbrev pub IsWaitingFrom : ℕ → ℕ → ℕ → Waiting → Type 0
+IsWaitingFrom size opening start (waiting.Item v) = (opening ≤ start) × ArePlacedIn size opening start (nodes_of (map view v.items))
+IsWaitingFrom size opening start (waiting.Value v read) =
+    (opening ≤ read.span.start) × (read.span.start ≤ read.span.end) × (read.span.end ≤ start) × EntriesPlacedIn size opening read.span.start (entries_of (map entry_view v.items))
+    × IsPlaced size read.scalar read.span
+IsWaitingFrom size opening start (waiting.Key at) = (opening ≤ start) × (at ≤ start)
 
 -- a node that was read behind what waits for it
-abbrev pub IsNested : ℕ → Waiting → code.Part → Type 0
-IsNested opening w p = (start : ℕ) × IsWaitingFrom opening start w × IsWithin start p.end (view p.node)
+abbrev pub IsNested : ℕ → ℕ → Waiting → code.Part → Type 0
+IsNested size opening w p = (start : ℕ) × IsWaitingFrom size opening start w × IsPlacedIn size start p.end (view p.node)
 
 abbrev pub IsStep : List ℕ → ℕ → ℕ → Step → Type 0
-IsStep bytes opening at (step.Closed p) = IsWithin opening p.end (view p.node) × IsBehind bytes (suc at) p
-IsStep bytes opening at (step.Read w p) = IsNested opening w p × IsBehind bytes at p
-IsStep bytes opening at (step.Opens w i) = IsWaitingFrom opening i w × IsBracket bytes at i
+IsStep bytes opening at (step.Closed p) = IsPlacedIn (length bytes) opening p.end (view p.node) × IsBehind bytes (suc at) p
+IsStep bytes opening at (step.Read w p) = IsNested (length bytes) opening w p × IsBehind bytes at p
+IsStep bytes opening at (step.Opens w i) = IsWaitingFrom (length bytes) opening i w × IsBracket bytes at i
 
 -- what is to be read next, behind an offset
 abbrev pub IsTask : List ℕ → ℕ → ℕ → Task → Type 0
-IsTask bytes opening from (task.Inside o has at) = IsOpenTo opening at has × (from < at) × (at ≤ length bytes)
-IsTask bytes opening from (task.Read p) = IsWithin opening p.end (view p.node) × IsBehind bytes (suc from) p
+IsTask bytes opening from (task.Inside o has at) = IsOpenTo (length bytes) opening at has × (from < at) × (at ≤ length bytes)
+IsTask bytes opening from (task.Read p) = IsPlacedIn (length bytes) opening p.end (view p.node) × IsBehind bytes (suc from) p
 IsTask bytes opening from (task.Complete f p) = ⊥
 
 -- the collections that are open, each behind what was read of the one around it
-abbrev pub AreOpen : ℕ → List FlowFrame → ℕ → Type 0
-AreOpen low [] start = low ≤ start
-AreOpen low (f ∷ fs) start = IsWaitingFrom f.opening start f.waiting × AreOpen low fs f.opening
+abbrev pub AreOpen : ℕ → ℕ → List FlowFrame → ℕ → Type 0
+AreOpen size low [] start = low ≤ start
+AreOpen size low (f ∷ fs) start = IsWaitingFrom size f.opening start f.waiting × AreOpen size low fs f.opening
 
 abbrev pub IsTaskIn : List ℕ → ℕ → List FlowFrame → Task → Type 0
-IsTaskIn bytes low stack (task.Inside opening has at) = AreOpen low stack opening × IsOpenTo opening at has × (at ≤ length bytes)
-IsTaskIn bytes low stack (task.Read p) = (start : ℕ) × AreOpen low stack start × IsWithin start p.end (view p.node) × IsBehind bytes start p
-IsTaskIn bytes low stack (task.Complete f p) = AreOpen low stack f.opening × IsNested f.opening f.waiting p × IsBehind bytes f.opening p
+IsTaskIn bytes low stack (task.Inside opening has at) = AreOpen (length bytes) low stack opening × IsOpenTo (length bytes) opening at has × (at ≤ length bytes)
+IsTaskIn bytes low stack (task.Read p) = (start : ℕ) × AreOpen (length bytes) low stack start × IsPlacedIn (length bytes) start p.end (view p.node) × IsBehind bytes start p
+IsTaskIn bytes low stack (task.Complete f p) = AreOpen (length bytes) low stack f.opening × IsNested (length bytes) f.opening f.waiting p × IsBehind bytes f.opening p
 
 -- the offset from which on is read
 abbrev pub task_at : Task → ℕ

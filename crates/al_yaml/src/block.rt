@@ -12,7 +12,7 @@ ghost use Rattle.al_yaml.specs.Flow as flow;
 ghost use Rattle.al_yaml.specs.Keys as keys;
 ghost use Rattle.al_yaml.specs.Places.{Shows, next_of, option_lines};
 ghost use Rattle.al_yaml.specs.Reads.{IsBehind, IsRead, IsStopInside, part_of};
-ghost use Rattle.al_yaml.specs.Spans.{AreInOrder, EntriesInOrder, IsWithin};
+ghost use Rattle.al_yaml.specs.Spans.{ArePlacedIn, EntriesPlacedIn, IsPlacedIn};
 ghost use Rattle.al_yaml.specs.View.{entries_of, entry_view, nodes_of, view};
 ghost use Rattle.std.specs.Prelude.{IfErr, IfOk, IfSome, [], length, map, not, suc, true, ℕ, ◌&&◌, ◌+◌, ◌<◌, ◌||◌, ◌≡◌, ◌≤◌};
 
@@ -22,13 +22,14 @@ use crate::faults::{FaultAt, Stop};
 use crate::flow::read_flow_collection;
 use crate::keys::{Key, behind_colon, is_short_key, key_at};
 use crate::limits::Count;
-use crate::lines::{blanks_end, characters, next_line, same_line};
+use crate::lines::{characters, next_line, same_line};
 use crate::node::{Entry, Node, Part, entry_of, mapping_part, scalar_node, sequence_part};
 use crate::scalars::{empty_part, read_line_scalar};
 use crate::slots::{Slot, Spot, is_behind_key, is_deeper, spot_behind, tab_before};
 use crate::stack::Stack;
 use crate::starts::{block_fault, is_block_start, is_flow_start, is_property};
 use al_scalar::ScalarRead;
+use al_scalar::lines::blanks_end;
 use al_text::YamlCode;
 use std::alloc::Global;
 
@@ -116,7 +117,7 @@ fn read_line_flow(
     ensures fault { IfErr result (IsStopInside (length bytes.now)) }
     ensures is { (bound : ℕ) → length bytes.now < bound + at → IsRead (part_of bytes.now) (block.flow_at (flow.flow_collection bound) (spot_of spot) depth (lines_at bytes.now at)) count.old.nodes result count.new.nodes }
     ensures within { IfOk result (λ part. IsBehind bytes.now at part) }
-    ensures nested { IfOk result (λ part. IsWithin at part.end (view part.node)) }
+    ensures nested { IfOk result (λ part. IsPlacedIn (length bytes.now) at part.end (view part.node)) }
     ensures same { IfOk result (λ _. stack.new ≡ stack.old) }
 {
     let part = read_flow_collection(alloc, bytes, count, stack, depth, at)?;
@@ -349,7 +350,7 @@ fn enter(
     at: usize,
 ) -> Result<(BlockWaiting, BlockTask), Stop>
     requires has { IsOpenAt bytes.now column at has }
-    requires from { IsOpenFrom start at has }
+    requires from { IsOpenFrom (length bytes.now) start at has }
     requires size { length bytes.now ≤ 1048576 }
     ensures fault { IfErr result (IsStopInside (length bytes.now)) }
     ensures within { IfOk result (λ r. IsEntered bytes.now start at r) }
@@ -429,7 +430,7 @@ fn put_block_item(
     requires room { length stack.old.blocks ≤ depth }
     ensures fault { IfErr result (IsStopInside (length bytes.now)) }
     ensures is { (bound turns : ℕ) → length bytes.now < suc bound + part.next → ResumesBlock bytes.now bound turns depth start column (frames.item in_mapping (nodes_of (map view items.items))) (part_of bytes.now part) count.old.nodes result count.new.nodes }
-    ensures within { (low : ℕ) → start ≤ low → AreInOrder start low (nodes_of (map view items.items)) → IsWithin low part.end (view part.node) → IfOk result (λ task. IsResumed bytes.now start part.next task) }
+    ensures within { (low : ℕ) → start ≤ low → ArePlacedIn (length bytes.now) start low (nodes_of (map view items.items)) → IsPlacedIn (length bytes.now) low part.end (view part.node) → IfOk result (λ task. IsResumed bytes.now start part.next task) }
     ensures same { IfOk result (λ _. stack.new ≡ stack.old) }
 {
     let mut items = items;
@@ -481,7 +482,7 @@ fn put_block_entry(
     requires room { length stack.old.blocks ≤ depth }
     ensures fault { IfErr result (IsStopInside (length bytes.now)) }
     ensures is { (bound turns : ℕ) → length bytes.now < suc bound + part.next → ResumesBlock bytes.now bound turns depth start column (frames.value (entries_of (map entry_view entries.items)) (read_of bytes.now key)) (part_of bytes.now part) count.old.nodes result count.new.nodes }
-    ensures within { (low : ℕ) → start ≤ key.span.start → key.span.start ≤ key.span.end → key.span.end ≤ low → EntriesInOrder start key.span.start (entries_of (map entry_view entries.items)) → IsPlaced 1048576 key.scalar key.span → IsWithin low part.end (view part.node) → IfOk result (λ task. IsResumed bytes.now start part.next task) }
+    ensures within { (low : ℕ) → start ≤ key.span.start → key.span.start ≤ key.span.end → key.span.end ≤ low → EntriesPlacedIn (length bytes.now) start key.span.start (entries_of (map entry_view entries.items)) → IsPlaced (length bytes.now) key.scalar key.span → IsPlacedIn (length bytes.now) low part.end (view part.node) → IfOk result (λ task. IsResumed bytes.now start part.next task) }
     ensures same { IfOk result (λ _. stack.new ≡ stack.old) }
 {
     let mut entries = entries;
@@ -514,7 +515,7 @@ fn resume_block(
     requires end { part.end ≤ part.next }
     requires start { frame.start ≤ part.end }
     requires next { IsNextBehind bytes.now part next }
-    requires waits { (low : ℕ) × IsBlockWaitingFrom frame.start low frame.waiting × IsWithin low part.end (view part.node) }
+    requires waits { (low : ℕ) × IsBlockWaitingFrom (length bytes.now) frame.start low frame.waiting × IsPlacedIn (length bytes.now) low part.end (view part.node) }
     requires size { length bytes.now ≤ 1048576 }
     requires depth { depth ≤ 65 }
     requires outside { stack.old.flows ≡ [] }
@@ -563,7 +564,7 @@ pub fn read_block_node(
     ensures fault { IfErr result (IsStopInside (length bytes.now)) }
     ensures is { (bound : ℕ) → length bytes.now < bound + at → IsRead (part_of bytes.now) (block.block_node bound (slot_of slot) 1 column (lines_at bytes.now at)) count.old.nodes result count.new.nodes }
     ensures within { IfOk result (λ part. IsBehind bytes.now at part) }
-    ensures nested { IfOk result (λ part. IsWithin at part.end (view part.node)) }
+    ensures nested { IfOk result (λ part. IsPlacedIn (length bytes.now) at part.end (view part.node)) }
 {
     let mut task = BlockTask::Node { slot, column, at };
     'nodes: loop {

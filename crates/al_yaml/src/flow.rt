@@ -13,7 +13,7 @@ ghost use Rattle.al_yaml.specs.Limits.{broken_limit};
 ghost use Rattle.al_yaml.specs.Places.{IsReadInside, Shows, option_lines};
 ghost use Rattle.al_yaml.specs.Reading.{start_of};
 ghost use Rattle.al_yaml.specs.Reads.{IsAfter, IsBehind, IsColonInside, IsKeyInside, IsRead, IsStopInside, after_of, counted, flow_key_of, part_of, run};
-ghost use Rattle.al_yaml.specs.Spans.{AreInOrder, EntriesInOrder, IsWithin};
+ghost use Rattle.al_yaml.specs.Spans.{ArePlacedIn, EntriesPlacedIn, IsPlacedIn};
 ghost use Rattle.al_yaml.specs.View.{entries_of, entry_view, nodes_of, view};
 ghost use Rattle.std.specs.Prelude.{IfErr, IfOk, None, [], length, map, suc, true, ℕ, ◌+◌, ◌<◌, ◌||◌, ◌∷◌, ◌≡◌, ◌≤◌};
 
@@ -268,7 +268,7 @@ fn read_item(
     at: usize,
 ) -> Result<Step, Stop>
     requires inside { at ≤ length bytes.now }
-    requires nested { (opening ≤ at) × AreInOrder opening at (nodes_of (map view items.items)) }
+    requires nested { (opening ≤ at) × ArePlacedIn (length bytes.now) opening at (nodes_of (map view items.items)) }
     requires size { length bytes.now ≤ 1048576 }
     ensures fault { IfErr result (IsStopInside (length bytes.now)) }
     ensures is { (depth : ℕ) → Steps bytes.now depth opening (λ c t. open_rest c t depth opening (frames.items (nodes_of (map view items.items))) (lines_at bytes.now at)) count.old.nodes result count.new.nodes }
@@ -299,7 +299,7 @@ fn read_entry(
     at: usize,
 ) -> Result<Step, Stop>
     requires inside { at ≤ length bytes.now }
-    requires nested { (opening ≤ at) × EntriesInOrder opening at (entries_of (map entry_view entries.items)) }
+    requires nested { (opening ≤ at) × EntriesPlacedIn (length bytes.now) opening at (entries_of (map entry_view entries.items)) }
     requires size { length bytes.now ≤ 1048576 }
     ensures fault { IfErr result (IsStopInside (length bytes.now)) }
     ensures is { (depth : ℕ) → Steps bytes.now depth opening (λ c t. open_rest c t depth opening (frames.entries (entries_of (map entry_view entries.items))) (lines_at bytes.now at)) count.old.nodes result count.new.nodes }
@@ -332,7 +332,7 @@ fn put_item(bytes: &[u8], opening: usize, items: Vec<Node>, part: Part) -> Resul
     requires end { part.end ≤ part.next }
     ensures fault { IfErr result (IsStopInside (length bytes.now)) }
     ensures is { (depth n : ℕ) → Resumes bytes.now depth opening (frames.item (nodes_of (map view items.items))) (part_of bytes.now part) n result }
-    ensures within { (start : ℕ) → opening ≤ start → AreInOrder opening start (nodes_of (map view items.items)) → IsWithin start part.end (view part.node) → IfOk result (λ task. IsTask bytes.now opening part.next task) }
+    ensures within { (start : ℕ) → opening ≤ start → ArePlacedIn (length bytes.now) opening start (nodes_of (map view items.items)) → IsPlacedIn (length bytes.now) start part.end (view part.node) → IfOk result (λ task. IsTask bytes.now opening part.next task) }
 {
     let mut items = items;
     items.push(part.node)?;
@@ -360,7 +360,7 @@ fn put_entry(
     requires end { part.end ≤ part.next }
     ensures fault { IfErr result (IsStopInside (length bytes.now)) }
     ensures is { (depth n : ℕ) → Resumes bytes.now depth opening (frames.value (entries_of (map entry_view entries.items)) (read_of bytes.now key)) (part_of bytes.now part) n result }
-    ensures within { (start : ℕ) → opening ≤ key.span.start → key.span.start ≤ key.span.end → key.span.end ≤ start → EntriesInOrder opening key.span.start (entries_of (map entry_view entries.items)) → IsPlaced 1048576 key.scalar key.span → IsWithin start part.end (view part.node) → IfOk result (λ task. IsTask bytes.now opening part.next task) }
+    ensures within { (start : ℕ) → opening ≤ key.span.start → key.span.start ≤ key.span.end → key.span.end ≤ start → EntriesPlacedIn (length bytes.now) opening key.span.start (entries_of (map entry_view entries.items)) → IsPlaced (length bytes.now) key.scalar key.span → IsPlacedIn (length bytes.now) start part.end (view part.node) → IfOk result (λ task. IsTask bytes.now opening part.next task) }
 {
     let mut entries = entries;
     let key = scalar_node(key.scalar, key.span);
@@ -385,7 +385,7 @@ fn read_inside(
     at: usize,
 ) -> Result<Step, Stop>
     requires inside { at ≤ length bytes.now }
-    requires nested { IsOpenTo opening at has }
+    requires nested { IsOpenTo (length bytes.now) opening at has }
     requires size { length bytes.now ≤ 1048576 }
     ensures fault { IfErr result (IsStopInside (length bytes.now)) }
     ensures is { (depth : ℕ) → Steps bytes.now depth opening (λ c t. open_rest c t depth opening (open_of has) (lines_at bytes.now at)) count.old.nodes result count.new.nodes }
@@ -400,7 +400,7 @@ fn read_inside(
 /// Goes on behind a node that was read in a collection which waited for it.
 fn resume(bytes: &[u8], opening: usize, waiting: Waiting, part: Part) -> Result<Task, Stop>
     requires inside { part.next ≤ length bytes.now }
-    requires nested { IsNested opening waiting part }
+    requires nested { IsNested (length bytes.now) opening waiting part }
     requires end { part.end ≤ part.next }
     requires size { length bytes.now ≤ 1048576 }
     ensures fault { IfErr result (IsStopInside (length bytes.now)) }
@@ -422,7 +422,7 @@ fn open_at(alloc: Global, bytes: &[u8], at: usize) -> (Open, usize)
     requires inside { at < length bytes.now }
     requires bracket { content.is_flow_start (text_at bytes.now at) ≡ true }
     ensures is { (bound depth n m : ℕ) → broken_limit n 0 (start_of at 1 depth ∷ []) ≡ None → m ≡ n + 1 → run (counted n) (flow.flow_collection (suc bound) depth (lines_at bytes.now at)) ≡ run (counted m) (open_rest (flow.flow_collection bound) (suc bound) (depth + 1) at (open_of result.0) (lines_at bytes.now result.1)) }
-    ensures nested { IsOpenTo at result.1 result.0 }
+    ensures nested { IsOpenTo (length bytes.now) at result.1 result.0 }
     ensures from { at < result.1 }
     ensures end { result.1 ≤ length bytes.now }
 {
@@ -453,7 +453,7 @@ pub fn read_flow_collection(
     ensures fault { IfErr result (IsStopInside (length bytes.now)) }
     ensures is { (bound : ℕ) → length bytes.now < bound + at → IsRead (part_of bytes.now) (flow.flow_collection bound depth (lines_at bytes.now at)) count.old.nodes result count.new.nodes }
     ensures within { IfOk result (λ part. IsBehind bytes.now at part) }
-    ensures nested { IfOk result (λ part. IsWithin at part.end (view part.node)) }
+    ensures nested { IfOk result (λ part. IsPlacedIn (length bytes.now) at part.end (view part.node)) }
     ensures same { IfOk result (λ _. stack.new ≡ stack.old) }
 {
     count.start(at, 1, depth)?;

@@ -7,7 +7,7 @@ ghost use Rattle.al_yaml.specs.Flow as flow;
 ghost use Rattle.al_yaml.specs.Node as tree;
 ghost use Rattle.al_yaml.specs.Places.{IsReadInside, Shows};
 ghost use Rattle.al_yaml.specs.Reads.{Answers, IsBehind, IsRead, IsStopInside, part_of};
-ghost use Rattle.al_yaml.specs.Spans.{IsWithin};
+ghost use Rattle.al_yaml.specs.Spans.{IsPlacedIn};
 ghost use Rattle.al_yaml.specs.View.{view};
 ghost use Rattle.std.specs.Prelude.{IfErr, IfOk, length, ◌≡◌, ◌≤◌};
 
@@ -64,7 +64,7 @@ pub fn empty_part(
     ensures is { IsRead (part_of bytes.now) (flow.empty_node at (lines_at bytes.now next)) count.old.nodes result count.new.nodes }
     ensures end { IfOk result (λ part. part.end ≡ at) }
     ensures next { IfOk result (λ part. part.next ≡ next) }
-    ensures nested { IfOk result (λ part. IsWithin at part.end (view part.node)) }
+    ensures nested { IfOk result (λ part. IsPlacedIn (length bytes.now) at part.end (view part.node)) }
 {
     count.start(at, 1, 0)?;
     let read = scalar_at(alloc, bytes, at, Place::Empty)?;
@@ -100,7 +100,7 @@ pub fn read_line_scalar(
     ensures fault { IfErr result (IsStopInside (length bytes.now)) }
     ensures is { IsRead (part_of bytes.now) (block.scalar_node_at within (lines_at bytes.now at)) count.old.nodes result count.new.nodes }
     ensures within { IfOk result (λ part. IsBehind bytes.now at part) }
-    ensures nested { IfOk result (λ part. IsWithin at part.end (view part.node)) }
+    ensures nested { IfOk result (λ part. IsPlacedIn (length bytes.now) at part.end (view part.node)) }
 {
     count.start(at, 1, 0)?;
     let read = scalar_at(alloc, bytes, at, Place::Block(within as u32))?;
