@@ -6,7 +6,7 @@ use Rattle.std.specs.Cmp.Lexicographic.{bytes_decides, slice_cmp, nat_list_cmp_t
 use Rattle.std.specs.Global.{Vec}
 use Rattle.std.specs.Map.{AreApart, IsKeyTest, KeepsOthers, lookup}
 use Rattle.std.specs.Ordering.{is_eq, nat_cmp, eq_by_cmp}
-use Rattle.std.specs.Prelude.{find, is_none, if◌then◌else◌}
+use Rattle.std.specs.Prelude.{find, is_none, if◌then◌else◌, Result, Ok, Err, OnErr}
 use Rattle.std.specs.Str.{bytes_eq}
 use Rattle.std.proofs.lemmas.Map.Text.{is_eq-slice_cmp}
 use Rattle.al_types.specs.Names.{same_name}
@@ -49,6 +49,19 @@ added old new key i none u =
     other_entries _ _ _ _ u.3 (at_text text)
     (λ x y. (eq_by_cmp_equiv nat_list_cmp_total).congr text x.items y.items)
     (λ k. apart key.items text k.items n)) d
+
+-- where nothing was added
+pub same_texts : (old new : TextPositions) → new.positions.entries ≡ old.positions.entries → text_position new ≡ text_position old
+unfolding text_position
+same_texts old new e = λ d text. lookup (at_text text) (e d)
+
+pub same_names : (old new : NamePositions) → text_position new.texts ≡ text_position old.texts → name_position new ≡ name_position old
+unfolding name_position
+same_names old new e = λ d name. e d (folded name)
+
+pub on_err : {T E P : Type 0} (r : Result T E) → P → OnErr r P
+on_err (Ok x) p = tt
+on_err (Err e) p = p
 
 was_there : (here : Bool) (o : Option ℕ) (i : ℕ) → (here ≡ true → is_none o ≡ false) → or_position o (if here then Some i else None) ≡ o
 was_there here (Some j) i h = refl

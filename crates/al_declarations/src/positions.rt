@@ -1,5 +1,5 @@
 //! Where texts and names first stand in a list.
-ghost use Rattle.std.specs.Prelude.{◌≡◌, None, is_none, IfOk, OnOk};
+ghost use Rattle.std.specs.Prelude.{◌≡◌, None, is_none, IfOk, OnErr, OnOk};
 ghost use Rattle.al_declarations.specs.Positions.{and_name_at, and_text_at, name_position, text_position};
 
 use crate::name_sets::in_lower_case;
@@ -23,11 +23,13 @@ impl TextPositions {
         }
     }
 
-    /// Adds a text that stands at a position, unless it stood before, and answers whether it is new. Fails with `AllocError` for want
-    /// of memory.
+    /// Adds a text that stands at a position, unless it stood before, and answers whether it is new.
+    ///
+    /// Fails with `AllocError` for want of memory; the positions are then as before.
     pub fn insert(&mut self, text: Vec<u8>, position: usize) -> Result<bool, AllocError>
         ensures positions { OnOk result (text_position self.new ≡ and_text_at (text_position self.old) text.items position) }
         ensures is_new { IfOk result (λ b. b ≡ is_none (text_position self.old text.items)) }
+        ensures as_before { OnErr result (text_position self.new ≡ text_position self.old) }
     {
         if self.get(text.as_slice()).is_some() {
             return Ok(false);
@@ -62,8 +64,9 @@ impl NamePositions {
         }
     }
 
-    /// Adds a name that stands at a position, unless an equal one stood before, and answers whether it is new. Fails with
-    /// `AllocError` for want of memory.
+    /// Adds a name that stands at a position, unless an equal one stood before, and answers whether it is new.
+    ///
+    /// Fails with `AllocError` for want of memory; the positions are then as before.
     pub fn insert(
         &mut self,
         alloc: Global,
@@ -72,6 +75,7 @@ impl NamePositions {
     ) -> Result<bool, AllocError>
         ensures positions { OnOk result (name_position self.new ≡ and_name_at (name_position self.old) name.now position) }
         ensures is_new { IfOk result (λ b. b ≡ is_none (name_position self.old name.now)) }
+        ensures as_before { OnErr result (name_position self.new ≡ name_position self.old) }
     {
         let added = self.texts.insert(in_lower_case(alloc, name)?, position)?;
         Ok(added)
