@@ -1,4 +1,4 @@
-//! Names that interfaces keep: texts that compare equal exactly where their bytes are the same, ASCII case and all.
+//! Names that are kept: texts that compare equal exactly where their bytes are the same, ASCII case and all.
 ghost use Rattle.std.specs.Prelude.{◌≡◌, IfOk};
 
 use std::alloc::{AllocError, Global};
@@ -20,7 +20,7 @@ impl Model for Name {
 
 impl Name {
     /// The name with these bytes. Fails with `AllocError` for want of memory.
-    pub(crate) fn new(alloc: Global, bytes: &[u8]) -> Result<Name, AllocError>
+    pub fn new(alloc: Global, bytes: &[u8]) -> Result<Name, AllocError>
         ensures { IfOk result (λ n. n ≡ bytes.now) }
     {
         Ok(Name {
@@ -71,7 +71,8 @@ impl Model for NameList {
 }
 
 impl NameList {
-    pub(crate) fn new(names: Vec<Name>) -> NameList
+    /// The list of these names.
+    pub fn new(names: Vec<Name>) -> NameList
         ensures { result ≡ names.items }
     {
         NameList { names }
