@@ -1,4 +1,5 @@
-use Rattle.std.proofs.Common.{◌≡◌, ap, sym, ◌∙◌, subst, IfOk}
+use Rattle.std.proofs.Common.{◌≡◌, ap, sym, ◌∙◌, subst, IfOk, map}
+use Rattle.std.specs.Option.{option_copied}
 use Rattle.al_tree.specs.Kinds.{kind_of}
 use Rattle.al_check.specs.FileFaults.{file_faults}
 use Rattle.al_check.specs.Reading.{IsRead}
@@ -12,4 +13,4 @@ file_faults-requires c =
 pub returns-clause-faults : goal.returns-clause-faults
 returns-clause-faults c =
     let kind : c.kind_of.result ≡ kind_of c.args.path.now = c.kind_of.ensures ∙ ap kind_of c.as_bytes.ensures.value in
-    subst (λ k. IfOk c.file_faults.result (λ found. found.items ≡ file_faults k c.args.bytes.now)) kind c.file_faults.ensures
+    subst (λ k. IfOk c.file_faults.result (λ found. found.items ≡ file_faults k c.args.bytes.now (map (λ a. option_copied a) c.args.answers.now))) kind c.file_faults.ensures
