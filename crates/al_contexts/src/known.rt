@@ -1,8 +1,9 @@
 //! What is known of the outputs behind calls.
-ghost use Rattle.std.specs.Prelude.{◌≡◌, Some};
-ghost use Rattle.std.specs.Option.{option_copied};
+ghost use Rattle.std.specs.Prelude.{◌≡◌, map};
+ghost use Rattle.std.specs.Option.{option_copied, option_eq};
+ghost use Rattle.std.specs.Str.{bytes_eq};
 ghost use Rattle.al_contexts.specs.Answered as answered;
-ghost use Rattle.al_contexts.specs.Answered.{behind_of, known_of, same_key};
+ghost use Rattle.al_contexts.specs.Answered.{behind_of, known_of};
 
 use al_declarations::NameList;
 
@@ -19,7 +20,7 @@ pub struct Answer<'a> {
 }
 
 fn is_same_key(a: Option<&[u8]>, b: Option<&[u8]>) -> bool
-    ensures { result ≡ same_key (option_copied a.entry) (option_copied b.entry) }
+    ensures { result ≡ option_eq bytes_eq (option_copied a.entry) (option_copied b.entry) }
 {
     match a {
         None => b.is_none(),
@@ -30,16 +31,26 @@ fn is_same_key(a: Option<&[u8]>, b: Option<&[u8]>) -> bool
     }
 }
 
-fn is_of_step(answer: Answer<'_>, job: Option<&[u8]>, i: usize) -> bool
-    ensures { result ≡ answered.of_step (option_copied job.entry) i (behind_of answer.entry) }
+fn is_at(answer: Answer<'_>, job: Option<&[u8]>, step: Option<usize>) -> bool
+    ensures { result ≡ answered.is_at (option_copied job.entry) step (behind_of answer.entry) }
 {
-    answer.step == Some(i) && is_same_key(answer.job, job)
+    answer.step == step && is_same_key(answer.job, job)
 }
 
-fn is_of_job(answer: Answer<'_>, job: &[u8]) -> bool
-    ensures { result ≡ answered.of_job job.now (behind_of answer.entry) }
+/// What is known of the outputs at a place.
+fn names_at<'a>(
+    known: &[Answer<'a>],
+    job: Option<&[u8]>,
+    step: Option<usize>,
+) -> Option<&'a NameList>
+    ensures { option_copied result ≡ answered.names_at (map behind_of known.now) (option_copied job.entry) step }
 {
-    answer.step.is_none() && is_same_key(answer.job, Some(job))
+    for answer in known {
+        if is_at(*answer, job, step) {
+            return answer.names;
+        }
+    }
+    None
 }
 
 /// What is known of the outputs of a step.
@@ -50,22 +61,12 @@ pub(crate) fn step_outputs<'a>(
 ) -> Option<&'a NameList>
     ensures { option_copied result ≡ (known_of known.now).of_step (option_copied job.entry) i }
 {
-    for answer in known {
-        if is_of_step(*answer, job, i) {
-            return answer.names;
-        }
-    }
-    None
+    names_at(known, job, Some(i))
 }
 
 /// What is known of the outputs of a job.
 pub(crate) fn job_outputs<'a>(known: &[Answer<'a>], job: &[u8]) -> Option<&'a NameList>
     ensures { option_copied result ≡ (known_of known.now).of_job job.now }
 {
-    for answer in known {
-        if is_of_job(*answer, job) {
-            return answer.names;
-        }
-    }
-    None
+    names_at(known, Some(job), None)
 }
