@@ -59,11 +59,7 @@ fn chunk_type(
 }
 
 /// The type of a scalar that is given to an input.
-pub(crate) fn scalar_type(
-    alloc: Global,
-    scope: &Scope,
-    scalar: &Scalar,
-) -> Result<Ty, AllocError>
+pub(crate) fn scalar_type(alloc: Global, scope: &Scope, scalar: &Scalar) -> Result<Ty, AllocError>
     requires utf8 { IsUtf8 (text_of scalar.now) }
     requires small { length (text_of scalar.now) ≤ 4194304 }
     ensures { IfOk result (λ t. ty_of t ≡ types.scalar_type (scope_of scope.now) scalar.now) }
