@@ -17,7 +17,7 @@ use al_yaml::Node;
 use std::alloc::{AllocError, Global};
 
 /// What stands under a key of a node as members.
-pub(crate) fn members_under<'a>(
+pub fn members_under<'a>(
     alloc: Global,
     node: &'a Node,
     key: &str,

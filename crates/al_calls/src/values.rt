@@ -19,10 +19,10 @@ use al_uses::Call;
 use std::alloc::{AllocError, Global};
 
 /// What is given under a name, and its type.
-#[derive(Clone, Copy)]
+#[derive(Drop)]
 pub struct Value<'a> {
     pub member: Member<'a>,
-    pub ty: &'a Ty,
+    pub ty: Ty,
 }
 
 fn type_name(takes: InputType) -> &'static [u8]
@@ -55,13 +55,13 @@ fn input_named<'a>(inputs: &'a [Input], name: &[u8]) -> Option<&'a Input>
 fn check_type(
     alloc: Global,
     call: &Call<'_>,
-    value: Value<'_>,
+    value: &Value<'_>,
     input: &Input,
     out: &mut Vec<Fault>,
 ) -> Result<(), AllocError>
-    ensures { OnOk result (out.new.items ≡ out.old.items ++ faults.type_faults (call_of call.now) (member_of value.entry.member) (ty_of value.entry.ty.now) input.now) }
+    ensures { OnOk result (out.new.items ≡ out.old.items ++ faults.type_faults (call_of call.now) (member_of value.now.member) (ty_of value.now.ty) input.now) }
 {
-    if is_right(value.ty, input.takes) {
+    if is_right(&value.ty, input.takes) {
         return Ok(());
     }
     report_two(
@@ -80,10 +80,10 @@ fn check_value(
     alloc: Global,
     call: &Call<'_>,
     signature: &Signature,
-    value: Value<'_>,
+    value: &Value<'_>,
     out: &mut Vec<Fault>,
 ) -> Result<(), AllocError>
-    ensures { OnOk result (out.new.items ≡ out.old.items ++ faults.wrong_input (call_of call.now) signature.now (given_of value.entry)) }
+    ensures { OnOk result (out.new.items ≡ out.old.items ++ faults.wrong_input (call_of call.now) signature.now (given_of value.now)) }
 {
     match input_named(signature.inputs.as_slice(), key_text(value.member.key)) {
         Some(input) => check_type(alloc, call, value, input, out),
@@ -102,7 +102,7 @@ pub(crate) fn check_values(
     ensures { OnOk result (out.new.items ≡ out.old.items ++ faults.wrong_inputs (call_of call.now) (map given_of values.now) signature.now) }
 {
     for value in values {
-        check_value(alloc, call, signature, *value, out)?;
+        check_value(alloc, call, signature, value, out)?;
     }
     Ok(())
 }

@@ -11,7 +11,7 @@ use Rattle.al_session.specs.Report.{report_of, status_of}
 use Rattle.al_session.specs.declared.lint.Refused.{Refused}
 use Rattle.al_session.specs.declared.lint.Refused.TheVariants.{BadPath, NotAccepted, TooLarge, Full, NoSuchFile, Memory}
 use Rattle.al_check.specs.Linting.{linting}
-use Rattle.al_check.specs.contracts.lint.NoInterfacePartialEq.TheImpl as interface
+use Rattle.al_interfaces.specs.contracts.interfaces.InterfacePartialEq.TheImpl as interface
 use Rattle.al_cli.specs.Script.{Command, Put, Delete, Report}
 use Rattle.al_cli.specs.Runs.{Steps}
 

@@ -101,7 +101,7 @@ either_small false high end most h e = e
 reach_small : (high most : ℕ) (s : Style) (end : ℕ) → high ≤ most → end ≤ most → reach high s end ≤ most
 reach_small high most s end h e = either_small (is_block s) high end most h e
 
-readable : (s : Scalar) (at : Span) → IsPlaced 1048576 s at → at.end ≤ 1048576 → (length (text_of s) ≤ 4194304) × HasRoom s
+pub readable : (s : Scalar) (at : Span) → IsPlaced 1048576 s at → at.end ≤ 1048576 → (length (text_of s) ≤ 4194304) × HasRoom s
 readable s at p h =
     let end : s.end ≤ 1048576 = omega (arith, h, p.end) in
     let far : reach 1048576 s.style s.end ≤ 1048576 = reach_small 1048576 1048576 s.style s.end (omega arith) end in
