@@ -15,7 +15,7 @@ use Rattle.al_yaml.specs.Frames.{answered, open_rest, waiting_rest}
 use Rattle.al_yaml.specs.Reads.{run, counted, Stops, IsBehind, IsKeyInside, part_of, flow_key_of}
 use Rattle.al_yaml.specs.Spans.{IsPlacedIn, ArePlacedIn, EntriesPlacedIn}
 use Rattle.al_yaml.specs.View.{view, entry_view, nodes_of, entries_of}
-use Rattle.al_yaml.specs.declared.faults.Stop.{Stop}
+use Rattle.al_yaml.specs.declared.faults.ReadError.{ReadError}
 use Rattle.al_yaml.specs.declared.flow.Found.{Found}
 use Rattle.al_yaml.specs.declared.flow.Found.TheVariants as found
 use Rattle.al_yaml.specs.declared.flow.FoundKey.{FoundKey}
@@ -25,8 +25,8 @@ use Rattle.al_yaml.specs.declared.flow.Open.TheVariants as open_code
 use Rattle.al_yaml.specs.declared.flow.Waiting.{Waiting}
 use Rattle.al_yaml.specs.declared.flow.Waiting.TheVariants as waiting
 use Rattle.al_yaml.specs.declared.flow.FlowFrame.{FlowFrame}
-use Rattle.al_yaml.specs.declared.flow.Step.{Step}
-use Rattle.al_yaml.specs.declared.flow.Step.TheVariants as step
+use Rattle.al_yaml.specs.declared.flow.FlowRead.{FlowRead}
+use Rattle.al_yaml.specs.declared.flow.FlowRead.TheVariants as step
 use Rattle.al_yaml.specs.declared.flow.Task.{Task}
 use Rattle.al_yaml.specs.declared.flow.Task.TheVariants as task
 
@@ -45,12 +45,12 @@ frame_of bytes f = record { opening = f.opening; waiting = waiting_of bytes f.wa
 -- ---- what stands at an offset, whatever reads collections
 
 -- a node that was read whole, or the bracket of a collection
-abbrev pub Finds : List ℕ → (CollectionReader → Reading (Part tree.Node)) → ℕ → ℕ → Result Found Stop → ℕ → Type 0
+abbrev pub Finds : List ℕ → (CollectionReader → Reading (Part tree.Node)) → ℕ → ℕ → Result Found ReadError → ℕ → Type 0
 Finds bytes reading depth before (Ok (found.Node p)) after = (c : CollectionReader) → run (counted before) (reading c) ≡ Ok (part_of bytes p, counted after)
 Finds bytes reading depth before (Ok (found.Opens i)) after = (c : CollectionReader) → run (counted before) (reading c) ≡ run (counted after) (c depth (lines_at bytes i))
 Finds bytes reading depth before (Err e) after = (c : CollectionReader) → Stops (reading c) before e
 
-abbrev pub FindsKey : List ℕ → ℕ → (CollectionReader → Reading flow.FlowKey) → ℕ → ℕ → Result FoundKey Stop → ℕ → Type 0
+abbrev pub FindsKey : List ℕ → ℕ → (CollectionReader → Reading flow.FlowKey) → ℕ → ℕ → Result FoundKey ReadError → ℕ → Type 0
 FindsKey bytes at reading depth before (Ok (found_key.Key k)) after = (c : CollectionReader) → run (counted before) (reading c) ≡ Ok (flow_key_of bytes k, counted after)
 FindsKey bytes at reading depth before (Ok found_key.Opens) after =
     (c : CollectionReader) → run (counted before) (reading c) ≡ run (counted after) (c depth (lines_at bytes at) >>= (λ _. fails yaml.WrongKey at))
@@ -72,7 +72,7 @@ IsFoundKey bytes at found_key.Opens = IsBracket bytes at at
 
 -- ---- a step of an open collection, and what comes behind a node in it
 
-abbrev pub Steps : List ℕ → ℕ → ℕ → (CollectionReader → ℕ → Reading (Part tree.Node)) → ℕ → Result Step Stop → ℕ → Type 0
+abbrev pub Steps : List ℕ → ℕ → ℕ → (CollectionReader → ℕ → Reading (Part tree.Node)) → ℕ → Result FlowRead ReadError → ℕ → Type 0
 Steps bytes depth opening reading before (Ok (step.Closed p)) after = (c : CollectionReader) (turns : ℕ) → run (counted before) (reading c (suc turns)) ≡ Ok (part_of bytes p, counted after)
 Steps bytes depth opening reading before (Ok (step.Read w p)) after =
     (c : CollectionReader) (turns : ℕ) → run (counted before) (reading c (suc turns)) ≡ run (counted after) (waiting_rest c turns depth opening (waiting_of bytes w) (part_of bytes p))
@@ -80,7 +80,7 @@ Steps bytes depth opening reading before (Ok (step.Opens w i)) after =
     (c : CollectionReader) (turns : ℕ) → run (counted before) (reading c (suc turns)) ≡ answered (run (counted after) (c depth (lines_at bytes i))) (waiting_rest c turns depth opening (waiting_of bytes w))
 Steps bytes depth opening reading before (Err e) after = (c : CollectionReader) (turns : ℕ) → Stops (reading c (suc turns)) before e
 
-abbrev pub Resumes : List ℕ → ℕ → ℕ → frames.Waiting → Part tree.Node → ℕ → Result Task Stop → Type 0
+abbrev pub Resumes : List ℕ → ℕ → ℕ → frames.Waiting → Part tree.Node → ℕ → Result Task ReadError → Type 0
 Resumes bytes depth opening w x n (Ok (task.Inside o has at)) =
     (o ≡ opening) × ((c : CollectionReader) (turns : ℕ) → run (counted n) (waiting_rest c turns depth opening w x) ≡ run (counted n) (open_rest c turns depth opening (open_of has) (lines_at bytes at)))
 Resumes bytes depth opening w x n (Ok (task.Read p)) =
@@ -106,7 +106,7 @@ IsWaitingFrom size opening start (waiting.Key at) = (opening ≤ start) × (at �
 abbrev pub IsNested : ℕ → ℕ → Waiting → code.Part → Type 0
 IsNested size opening w p = (start : ℕ) × IsWaitingFrom size opening start w × IsPlacedIn size start p.end (view p.node)
 
-abbrev pub IsStep : List ℕ → ℕ → ℕ → Step → Type 0
+abbrev pub IsStep : List ℕ → ℕ → ℕ → FlowRead → Type 0
 IsStep bytes opening at (step.Closed p) = IsPlacedIn (length bytes) opening p.end (view p.node) × IsBehind bytes (suc at) p
 IsStep bytes opening at (step.Read w p) = IsNested (length bytes) opening w p × IsBehind bytes at p
 IsStep bytes opening at (step.Opens w i) = IsWaitingFrom (length bytes) opening i w × IsBracket bytes at i

@@ -18,7 +18,7 @@ ghost use Rattle.std.specs.Prelude.{IfErr, IfOk, IfSome, [], length, map, not, s
 
 use crate::content::{Next, is_dash, is_skipped, line_ended, next_content};
 use crate::entries::{entry_key, no_entry};
-use crate::faults::{FaultAt, Stop};
+use crate::faults::{FaultAt, ReadError};
 use crate::flow::read_flow_collection;
 use crate::keys::{Key, behind_colon, is_short_key, key_at};
 use crate::limits::Count;
@@ -107,7 +107,7 @@ fn read_line_flow(
     spot: Spot,
     depth: u32,
     at: usize,
-) -> Result<Part, Stop>
+) -> Result<Part, ReadError>
     requires inside { at < length bytes.now }
     requires bracket { content.is_flow_start (text_at bytes.now at) ≡ true }
     requires size { length bytes.now ≤ 1048576 }
@@ -122,7 +122,7 @@ fn read_line_flow(
 {
     let part = read_flow_collection(alloc, bytes, count, stack, depth, at)?;
     if is_refused_key(bytes, spot, part.next) {
-        return Err(Stop::Fault(FaultAt {
+        return Err(ReadError::Fault(FaultAt {
             code: YamlCode::WrongKey,
             at,
         }));
@@ -146,7 +146,7 @@ fn read_node(
     depth: u32,
     column: usize,
     at: usize,
-) -> Result<BlockTask, Stop>
+) -> Result<BlockTask, ReadError>
     requires inside { at ≤ length bytes.now }
     requires size { length bytes.now ≤ 1048576 }
     requires depth { depth ≤ 65 }
@@ -159,7 +159,7 @@ fn read_node(
     ensures same { IfOk result (λ _. stack.new ≡ stack.old) }
 {
     if is_property(bytes, at) {
-        return Err(Stop::Fault(FaultAt {
+        return Err(ReadError::Fault(FaultAt {
             code: YamlCode::AnchorOrAlias,
             at,
         }));
@@ -168,7 +168,7 @@ fn read_node(
         return begin_sequence(alloc, bytes, count, slot, depth, column, at);
     }
     if let Some(code) = block_fault(bytes, at) {
-        return Err(Stop::Fault(FaultAt { code, at }));
+        return Err(ReadError::Fault(FaultAt { code, at }));
     }
     if is_flow_start(bytes, at) {
         let part = read_line_flow(alloc, bytes, count, stack, slot.spot, depth, at)?;
@@ -194,7 +194,7 @@ fn begin_sequence(
     depth: u32,
     column: usize,
     at: usize,
-) -> Result<BlockTask, Stop>
+) -> Result<BlockTask, ReadError>
     requires dash { content.is_dash (text_at bytes.now at) ≡ true }
     requires inside { at < length bytes.now }
     requires size { length bytes.now ≤ 1048576 }
@@ -204,13 +204,13 @@ fn begin_sequence(
     ensures within { IfOk result (λ task. IsBegun bytes.now at depth task) }
 {
     if is_behind_key(slot.spot) {
-        return Err(Stop::Fault(FaultAt {
+        return Err(ReadError::Fault(FaultAt {
             code: YamlCode::UnexpectedCharacter,
             at,
         }));
     }
     if let Some(tab) = tab_before(slot.spot) {
-        return Err(Stop::Fault(FaultAt {
+        return Err(ReadError::Fault(FaultAt {
             code: YamlCode::TabInIndentation,
             at: tab,
         }));
@@ -234,7 +234,7 @@ fn begin_mapping(
     column: usize,
     at: usize,
     key: Key,
-) -> Result<BlockTask, Stop>
+) -> Result<BlockTask, ReadError>
     requires key { IsKeyBehind bytes.now at key }
     requires size { length bytes.now ≤ 1048576 }
     requires column { column ≤ at }
@@ -243,7 +243,7 @@ fn begin_mapping(
     ensures is { (bound : ℕ) → Begins bytes.now bound depth (block.block_mapping (block.block_node bound) (flow.flow_collection (suc bound)) (suc bound) (spot_of spot) depth column (lines_at bytes.now at) (key_seen bytes.now key)) count.old.nodes result count.new.nodes }
     ensures within { IfOk result (λ task. IsBegun bytes.now at depth task) }
 {
-    let wrong = Stop::Fault(FaultAt {
+    let wrong = ReadError::Fault(FaultAt {
         code: YamlCode::WrongKey,
         at,
     });
@@ -251,7 +251,7 @@ fn begin_mapping(
         return Err(wrong);
     }
     if let Some(tab) = tab_before(spot) {
-        return Err(Stop::Fault(FaultAt {
+        return Err(ReadError::Fault(FaultAt {
             code: YamlCode::TabInIndentation,
             at: tab,
         }));
@@ -278,7 +278,7 @@ fn find_rest(
     column: usize,
     from: usize,
     rest: usize,
-) -> Result<BlockTask, Stop>
+) -> Result<BlockTask, ReadError>
     requires order { from ≤ rest }
     requires inside { rest ≤ length bytes.now }
     requires line { content.same_line (lines_at bytes.now from) (lines_at bytes.now rest) ≡ true }
@@ -311,7 +311,7 @@ fn find_below(
     count: &mut Count,
     slot: Slot,
     at: usize,
-) -> Result<BlockTask, Stop>
+) -> Result<BlockTask, ReadError>
     requires inside { at ≤ length bytes.now }
     requires size { length bytes.now ≤ 1048576 }
     requires within { slot.within ≤ at + 1 }
@@ -348,7 +348,7 @@ fn enter(
     column: usize,
     has: BlockOpen,
     at: usize,
-) -> Result<(BlockWaiting, BlockTask), Stop>
+) -> Result<(BlockWaiting, BlockTask), ReadError>
     requires has { IsOpenAt bytes.now column at has }
     requires from { IsOpenFrom (length bytes.now) start at has }
     requires size { length bytes.now ≤ 1048576 }
@@ -419,7 +419,7 @@ fn put_block_item(
     items: Vec<Node>,
     part: Part,
     next: Next,
-) -> Result<BlockTask, Stop>
+) -> Result<BlockTask, ReadError>
     requires inside { part.next ≤ length bytes.now }
     requires end { part.end ≤ part.next }
     requires start { start ≤ part.end }
@@ -471,7 +471,7 @@ fn put_block_entry(
     key: ScalarRead,
     part: Part,
     next: Next,
-) -> Result<BlockTask, Stop>
+) -> Result<BlockTask, ReadError>
     requires inside { part.next ≤ length bytes.now }
     requires end { part.end ≤ part.next }
     requires start { start ≤ part.end }
@@ -510,7 +510,7 @@ fn resume_block(
     frame: BlockFrame,
     part: Part,
     next: Next,
-) -> Result<BlockTask, Stop>
+) -> Result<BlockTask, ReadError>
     requires inside { part.next ≤ length bytes.now }
     requires end { part.end ≤ part.next }
     requires start { frame.start ≤ part.end }
@@ -553,7 +553,7 @@ pub fn read_block_node(
     slot: Slot,
     column: usize,
     at: usize,
-) -> Result<Part, Stop>
+) -> Result<Part, ReadError>
     requires inside { at ≤ length bytes.now }
     requires size { length bytes.now ≤ 1048576 }
     requires column { column ≤ at }

@@ -6,7 +6,7 @@ use Rattle.al_yaml.specs.Node as tree
 use Rattle.al_yaml.specs.Flow.{after_item}
 use Rattle.al_yaml.specs.Reads.{part_of, after_of}
 use Rattle.al_yaml.specs.View.{view, entry_view, entries_of}
-use Rattle.al_yaml.specs.declared.faults.Stop.TheVariants as stop
+use Rattle.al_yaml.specs.declared.faults.ReadError.TheVariants as stop
 use Rattle.al_yaml.proofs.ReadLemmas.{entries_of-more}
 use Rattle.al_yaml.proofs.FlowStepLemmas.{entry-refused, entry-more, entry-end}
 use Rattle.al_yaml.proofs.SpanLemmas.{entries-more, mapping-nested, wider_in}

@@ -4,7 +4,7 @@ use Rattle.al_scalar.specs.Places.{lines_at}
 use Rattle.al_yaml.specs.Flow.{after_item}
 use Rattle.al_yaml.specs.Reads.{part_of, after_of}
 use Rattle.al_yaml.specs.View.{view, nodes_of}
-use Rattle.al_yaml.specs.declared.faults.Stop.TheVariants as stop
+use Rattle.al_yaml.specs.declared.faults.ReadError.TheVariants as stop
 use Rattle.al_yaml.proofs.ReadLemmas.{nodes_of-more}
 use Rattle.al_yaml.proofs.FlowStepLemmas.{item-refused, item-more, item-end}
 use Rattle.al_yaml.proofs.SpanLemmas.{items-more, sequence-nested}
