@@ -15,9 +15,8 @@ use Rattle.al_tree.specs.declared.files.FileKind.{FileKind}
 use Rattle.al_tree.specs.declared.files.Tree.{Tree}
 use Rattle.al_yaml.specs.ByteFaults.{fault_span}
 use Rattle.al_yaml.specs.Node.{Node}
-use Rattle.al_yaml.specs.Spans.{IsInside, IsWithin}
+use Rattle.al_yaml.specs.Spans.{AreFrom, IsInside, IsWithin}
 use Rattle.al_contents.proofs.Inside.{expression_faults_lie}
-use Rattle.al_contents.specs.Inside.{AreFrom}
 use Rattle.al_contents.specs.FileExpressions.{expression_faults}
 use Rattle.al_interfaces.specs.declared.interfaces.Interface.{Interface}
 use Rattle.al_uses.specs.Uses.{calls_in}

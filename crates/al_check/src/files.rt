@@ -6,10 +6,9 @@ ghost use Rattle.al_shape.specs.Growth.{SameSet};
 ghost use Rattle.al_text.specs.FaultLists.{fault_list};
 ghost use Rattle.al_tree.specs.Files.{shape_of};
 ghost use Rattle.al_yaml.specs.Document.{tree_of};
-ghost use Rattle.al_yaml.specs.Spans.{IsInside, IsWithin};
+ghost use Rattle.al_yaml.specs.Spans.{AreFrom, IsInside, IsWithin};
 ghost use Rattle.al_yaml.specs.Texts.{HasTexts};
 ghost use Rattle.al_yaml.specs.View.{view};
-ghost use Rattle.al_contents.specs.Inside.{AreFrom};
 ghost use Rattle.al_interfaces.specs.Interfaces as interfaces;
 ghost use Rattle.al_uses.specs.Uses as uses;
 ghost use Rattle.al_file_calls.specs.FileCalls as calls;
@@ -19,7 +18,6 @@ ghost use Rattle.al_check.specs.Reading.{IsRead, kind_in, root_of};
 ghost use Rattle.al_check.specs.RuleFaults.{rule_faults};
 
 use crate::printing::printed;
-use al_contents::are_from;
 use al_file_calls::behind_faults;
 use al_interfaces::{Interface, interface_of};
 use al_rules::rules;
@@ -70,13 +68,7 @@ pub(crate) fn read_file(alloc: Global, kind: FileKind, bytes: &[u8]) -> Result<R
     ensures { IfOk result (λ file. IsRead file kind bytes.now) }
 {
     match read_yaml(alloc, bytes)? {
-        Ok(doc) => {
-            // Each byte of a text comes from the file, so this is never so.
-            if !are_from(&doc.root, bytes.len()) {
-                return Err(AllocError);
-            }
-            Ok(read_tree(kind, bytes, doc))
-        }
+        Ok(doc) => Ok(read_tree(kind, bytes, doc)),
         Err(fault) => Ok(ReadFile { tree: Err(fault) }),
     }
 }

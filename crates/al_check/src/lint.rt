@@ -15,7 +15,7 @@ use crate::files::{ReadFile, file_faults, file_interface, file_targets, read_fil
 use al_interfaces::Interface;
 use al_session::{Lint, Target};
 use al_text::Fault;
-use al_tree::{is_action, is_workflow, file_kind};
+use al_tree::{file_kind, is_action, is_workflow};
 use std::alloc::{AllocError, Global};
 
 /// The linter of workflows and actions, with its counts.
