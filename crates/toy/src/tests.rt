@@ -1,3 +1,5 @@
+//! Tests of a session over the small linter.
+
 use crate::linter::Toy;
 use al_session::{Change, Refused, Session, apply_change, apply_changes};
 use al_text::{Output, Stop};
