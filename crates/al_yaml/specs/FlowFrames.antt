@@ -85,7 +85,6 @@ Resumes bytes depth opening w x n (Ok (task.Inside o has at)) =
     (o ≡ opening) × ((c : CollectionReader) (turns : ℕ) → run (counted n) (waiting_rest c turns depth opening w x) ≡ run (counted n) (open_rest c turns depth opening (open_of has) (lines_at bytes at)))
 Resumes bytes depth opening w x n (Ok (task.Read p)) =
     (c : CollectionReader) (turns : ℕ) → run (counted n) (waiting_rest c turns depth opening w x) ≡ Ok (part_of bytes p, counted n)
-Resumes bytes depth opening w x n (Ok (task.Complete f p)) = ⊥
 Resumes bytes depth opening w x n (Err e) = (c : CollectionReader) (turns : ℕ) → Stops (waiting_rest c turns depth opening w x) n e
 
 -- ---- where the nodes of open collections lie
@@ -115,7 +114,6 @@ IsStep bytes opening at (step.Opens w i) = IsWaitingFrom (length bytes) opening 
 abbrev pub IsTask : List ℕ → ℕ → ℕ → Task → Type 0
 IsTask bytes opening from (task.Inside o has at) = IsOpenTo (length bytes) opening at has × (from < at) × (at ≤ length bytes)
 IsTask bytes opening from (task.Read p) = IsPlacedIn (length bytes) opening p.end (view p.node) × IsBehind bytes (suc from) p
-IsTask bytes opening from (task.Complete f p) = ⊥
 
 -- the collections that are open, each behind what was read of the one around it
 abbrev pub AreOpen : ℕ → ℕ → List FlowFrame → ℕ → Type 0
@@ -125,16 +123,13 @@ AreOpen size low (f ∷ fs) start = IsWaitingFrom size f.opening start f.waiting
 abbrev pub IsTaskIn : List ℕ → ℕ → List FlowFrame → Task → Type 0
 IsTaskIn bytes low stack (task.Inside opening has at) = AreOpen (length bytes) low stack opening × IsOpenTo (length bytes) opening at has × (at ≤ length bytes)
 IsTaskIn bytes low stack (task.Read p) = (start : ℕ) × AreOpen (length bytes) low stack start × IsPlacedIn (length bytes) start p.end (view p.node) × IsBehind bytes start p
-IsTaskIn bytes low stack (task.Complete f p) = AreOpen (length bytes) low stack f.opening × IsNested (length bytes) f.opening f.waiting p × IsBehind bytes f.opening p
 
 -- the offset from which on is read
 abbrev pub task_at : Task → ℕ
 task_at (task.Inside opening has at) = at
 task_at (task.Read p) = p.next
-task_at (task.Complete f p) = p.next
 
 -- how far a task is from the next offset
 abbrev pub task_weight : Task → ℕ
 task_weight (task.Inside opening has at) = 1
 task_weight (task.Read p) = 0
-task_weight (task.Complete f p) = 0

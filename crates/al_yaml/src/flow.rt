@@ -91,8 +91,8 @@ pub enum FlowRead {
     Opens(Waiting, usize),
 }
 
-/// What is to be done next: to read the innermost open collection, from an offset on; to find what waits for a collection
-/// that was read; or to hand a complete node to the collection that waits for it.
+/// What is to be done next: to read the innermost open collection, from an offset on; or to hand a collection that was read
+/// to the one that waits for it.
 #[derive(Drop)]
 pub enum Task {
     Inside {
@@ -101,7 +101,6 @@ pub enum Task {
         at: usize,
     },
     Read(Part),
-    Complete(FlowFrame, Part),
 }
 
 /// What stands behind an item or entry and the gap behind it.
@@ -478,9 +477,7 @@ pub fn read_flow_collection(
             } => {
                 match read_inside(alloc, bytes, count, opening, has, from)? {
                     FlowRead::Closed(part) => task = Task::Read(part),
-                    FlowRead::Read(waiting, part) => {
-                        task = Task::Complete(FlowFrame { opening, waiting }, part);
-                    }
+                    FlowRead::Read(waiting, part) => task = resume(bytes, opening, waiting, part)?,
                     FlowRead::Opens(waiting, bracket) => {
                         count.start(bracket, 1, depth + 1 + (stack.len() - outside) as u32)?;
                         stack.push_flow(FlowFrame { opening, waiting });
@@ -497,9 +494,6 @@ pub fn read_flow_collection(
                 let Some(frame) = stack.pop_flow() else {
                     return Ok(part);
                 };
-                task = Task::Complete(frame, part);
-            }
-            Task::Complete(frame, part) => {
                 task = resume(bytes, frame.opening, frame.waiting, part)?;
             }
         }
