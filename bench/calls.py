@@ -14,8 +14,8 @@ from common import folder_times, print_growths, print_head
 
 RUNS = 5
 INPUTS = 10_000
-CALLS = 20_000
-ATS = 400_000
+CALLS = 32_000
+ATS = 1_000_000
 
 ACTION = "name: A\ndescription: d\nruns:\n  using: composite\n  steps: []\n"
 CALLER = "on: push\njobs:\n  a:\n    runs-on: u\n    steps:\n"
@@ -55,13 +55,18 @@ def job_giving_all(number):
 
 
 def many_calls(number):
-    """Steps that call one action."""
-    return [("a/action.yml", ACTION), (".github/workflows/c.yml", CALLER + "      - uses: ./a\n" * number)]
+    """Steps that call one action, of 32 bytes each."""
+    return [("greetings/hello/action.yml", ACTION), (".github/workflows/c.yml", CALLER + "      - uses: ./greetings/hello\n" * number)]
 
 
-def many_ats(number):
-    """One `uses` that may be cut at many places, none of them right."""
+def step_of_ats(number):
+    """One `uses` of a step that may be cut at many places, none of them right."""
     return [(".github/workflows/c.yml", f"{CALLER}      - uses: {'a@' * (number // 2)}\n")]
+
+
+def job_of_ats(number):
+    """The same of a job, with all parts but a file's name before them."""
+    return [(".github/workflows/c.yml", f"on: push\njobs:\n  a:\n    uses: o/r/.github/workflows/{'a@' * (number // 2)}\n")]
 
 
 # each folder by its size, and that size
@@ -69,8 +74,9 @@ FOLDERS = {
     f"a step that gives {INPUTS} inputs": (step_giving_all, INPUTS),
     f"a step that gives {INPUTS} others": (step_giving_none, INPUTS),
     f"a job that gives {INPUTS} inputs": (job_giving_all, INPUTS),
-    f"{CALLS} steps that call one action": (many_calls, CALLS),
-    f"a uses of {ATS} bytes": (many_ats, ATS),
+    f"a megabyte of steps, {CALLS} calls": (many_calls, CALLS),
+    f"a step's uses of {ATS} bytes": (step_of_ats, ATS),
+    f"a job's uses of {ATS} bytes": (job_of_ats, ATS),
 }
 
 
