@@ -6,7 +6,7 @@ use Rattle.al_contexts.specs.Answered.{known_of}
 use Rattle.al_contexts.specs.Standing.{Stands}
 use Rattle.al_file_calls.specs.FileCalls.{typing}
 use Rattle.al_yaml.specs.View.{view}
-use Rattle.al_file_calls.proofs.faults.check_calls.Given as goal
+use Rattle.al_file_calls.proofs.faults.check_each.Given as goal
 
 abbrev pub invariant-loop-one : goal.invariant-loop-one
 invariant-loop-one l =
