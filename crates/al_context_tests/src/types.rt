@@ -3,10 +3,11 @@
 use crate::files::{document, env_at};
 use crate::shown::shown;
 use al_contexts::{Answer, Env, File};
+use al_declarations::{Name, NameList};
 use al_places::places;
 use al_tree::FileKind;
 use al_types::Context;
-use std::alloc::Global;
+use std::alloc::{AllocError, Global};
 use std::process::Abort;
 use std::test::Fail;
 
@@ -143,6 +144,15 @@ fn of_a_workflow(rt: HostRuntime) -> Result<(), Fail> {
     assert_types(&rt, rt.alloc(), FileKind::Workflow, BUILD, &[], &told)
 }
 
+/// A list of these names.
+fn name_list(alloc: Global, names: &[&[u8]]) -> Result<NameList, AllocError> {
+    let mut kept = Vec::new(alloc);
+    for name in names {
+        kept.push(Name::new(alloc, name)?)?;
+    }
+    Ok(NameList::new(kept))
+}
+
 #[test]
 fn of_steps(rt: HostRuntime) -> Result<(), Fail> {
     let a = "{a: {conclusion: string, outcome: string, outputs: {*: string}}}";
@@ -163,16 +173,18 @@ fn of_steps(rt: HostRuntime) -> Result<(), Fail> {
             "{called: {result: string, outputs: {made: string}}}",
         ),
     ];
+    let path = name_list(rt.alloc(), &[b"path"])?;
+    let made = name_list(rt.alloc(), &[b"made"])?;
     let known = [
         Answer {
             job: Some(b"first"),
             step: Some(2),
-            names: &[b"path"],
+            names: Some(&path),
         },
         Answer {
             job: Some(b"called"),
             step: None,
-            names: &[b"made"],
+            names: Some(&made),
         },
     ];
     assert_types(&rt, rt.alloc(), FileKind::Workflow, BUILD, &known, &told)

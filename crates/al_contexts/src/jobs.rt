@@ -1,6 +1,6 @@
 //! What a job shows to others, and the types of `jobs` and `needs`.
 ghost use Rattle.std.specs.Prelude.{◌≡◌, ◌++◌, IfOk, OnOk, find, map, option_map};
-ghost use Rattle.std.specs.Option.{option_to_list};
+ghost use Rattle.std.specs.Option.{option_copied, option_to_list};
 ghost use Rattle.std.specs.Str.{bytes_eq};
 ghost use Rattle.al_types.specs.Names.{same_name};
 ghost use Rattle.al_types.specs.TypeViews.{field_of, ty_of};
@@ -16,8 +16,8 @@ ghost use Rattle.al_declarations.specs.Declarations as declarations;
 ghost use Rattle.al_contexts.specs.Objects.{put_all, put_new};
 
 use crate::known::{Answer, job_outputs};
-use crate::objects::{add_field, field, loose_any, named_strings, strict_of};
-use al_declarations::is_same_name;
+use crate::objects::{add_field, field, listed_strings, loose_any, named_strings, strict_of};
+use al_declarations::{NameList, is_same_name};
 use al_places::Section;
 use al_shape::{Member, ScalarNode, key_text, members, texts_under, value};
 use al_types::{Field, Ty};
@@ -66,12 +66,13 @@ fn declared_names<'a>(alloc: Global, node: &'a Node, key: &str) -> Result<Vec<&'
     Ok(names)
 }
 
-fn call_outputs_type(alloc: Global, outputs: Option<&[&[u8]]>) -> Result<Ty, AllocError>
-    ensures { IfOk result (λ t. ty_of t ≡ call_outputs (option_map (λ v. map (λ n. n.now) v.now) outputs.entry)) }
+/// The type of the outputs of a job that calls a workflow, by what is known of them.
+fn call_outputs_type(alloc: Global, outputs: Option<&NameList>) -> Result<Ty, AllocError>
+    ensures { IfOk result (λ t. ty_of t ≡ call_outputs (option_copied outputs.entry)) }
 {
     match outputs {
         None => loose_any(alloc),
-        Some(names) => named_strings(alloc, names),
+        Some(names) => listed_strings(alloc, names),
     }
 }
 

@@ -1,20 +1,26 @@
 //! What is known of the outputs behind calls.
-ghost use Rattle.std.specs.Prelude.{◌≡◌, Some, map, option_map};
-ghost use Rattle.std.specs.Option.{option_copied};
+ghost use Rattle.std.specs.Prelude.{◌≡◌, map};
+ghost use Rattle.std.specs.Option.{option_copied, option_eq};
+ghost use Rattle.std.specs.Str.{bytes_eq};
 ghost use Rattle.al_contexts.specs.Answered as answered;
-ghost use Rattle.al_contexts.specs.Answered.{known_of, same_key};
-ghost use Rattle.al_contexts.specs.Contexts.{Known};
+ghost use Rattle.al_contexts.specs.Answered.{behind_of, known_of};
 
-/// The names of the outputs of a job or, with its index, of a step of a job or of an action.
+use al_declarations::NameList;
+
+/// What is known of the outputs behind a call: of a job by its key, of a step of a job by the job's key and the step's index, and of
+/// a step of an action by its index alone. Of the answers at one place the first counts.
 #[derive(Clone, Copy)]
 pub struct Answer<'a> {
+    /// The key of the job; none of an action's step.
     pub job: Option<&'a [u8]>,
+    /// The index of the step, counted from 0; none where the job itself calls.
     pub step: Option<usize>,
-    pub names: &'a [&'a [u8]],
+    /// The names of the outputs; none where nothing is known of them.
+    pub names: Option<&'a NameList>,
 }
 
 fn is_same_key(a: Option<&[u8]>, b: Option<&[u8]>) -> bool
-    ensures { result ≡ same_key (option_copied a.entry) (option_copied b.entry) }
+    ensures { result ≡ option_eq bytes_eq (option_copied a.entry) (option_copied b.entry) }
 {
     match a {
         None => b.is_none(),
@@ -25,16 +31,26 @@ fn is_same_key(a: Option<&[u8]>, b: Option<&[u8]>) -> bool
     }
 }
 
-fn is_of_step(answer: Answer<'_>, job: Option<&[u8]>, i: usize) -> bool
-    ensures { result ≡ answered.of_step (option_copied job.entry) i answer.entry }
+fn is_at(answer: Answer<'_>, job: Option<&[u8]>, step: Option<usize>) -> bool
+    ensures { result ≡ answered.is_at (option_copied job.entry) step (behind_of answer.entry) }
 {
-    answer.step == Some(i) && is_same_key(answer.job, job)
+    answer.step == step && is_same_key(answer.job, job)
 }
 
-fn is_of_job(answer: Answer<'_>, job: &[u8]) -> bool
-    ensures { result ≡ answered.of_job job.now answer.entry }
+/// What is known of the outputs at a place.
+fn names_at<'a>(
+    known: &[Answer<'a>],
+    job: Option<&[u8]>,
+    step: Option<usize>,
+) -> Option<&'a NameList>
+    ensures { option_copied result ≡ answered.names_at (map behind_of known.now) (option_copied job.entry) step }
 {
-    answer.step.is_none() && is_same_key(answer.job, Some(job))
+    for answer in known {
+        if is_at(*answer, job, step) {
+            return answer.names;
+        }
+    }
+    None
 }
 
 /// What is known of the outputs of a step.
@@ -42,25 +58,15 @@ pub(crate) fn step_outputs<'a>(
     known: &[Answer<'a>],
     job: Option<&[u8]>,
     i: usize,
-) -> Option<&'a [&'a [u8]]>
-    ensures { option_map (λ v. map (λ n. n.now) v.now) result ≡ (known_of known.now).of_step (option_copied job.entry) i }
+) -> Option<&'a NameList>
+    ensures { option_copied result ≡ (known_of known.now).of_step (option_copied job.entry) i }
 {
-    for answer in known {
-        if is_of_step(*answer, job, i) {
-            return Some(answer.names);
-        }
-    }
-    None
+    names_at(known, job, Some(i))
 }
 
 /// What is known of the outputs of a job.
-pub(crate) fn job_outputs<'a>(known: &[Answer<'a>], job: &[u8]) -> Option<&'a [&'a [u8]]>
-    ensures { option_map (λ v. map (λ n. n.now) v.now) result ≡ (known_of known.now).of_job job.now }
+pub(crate) fn job_outputs<'a>(known: &[Answer<'a>], job: &[u8]) -> Option<&'a NameList>
+    ensures { option_copied result ≡ (known_of known.now).of_job job.now }
 {
-    for answer in known {
-        if is_of_job(*answer, job) {
-            return Some(answer.names);
-        }
-    }
-    None
+    names_at(known, Some(job), None)
 }

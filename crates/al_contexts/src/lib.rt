@@ -16,4 +16,5 @@ mod worked;
 
 pub use env::{Env, File, Owner};
 pub use known::Answer;
+pub use matrix::class_type_of;
 pub use worked::rows;

@@ -18,7 +18,7 @@ use al_types::{Field, Ty, fuse};
 use al_yaml::{Entry, Kind, Node};
 use std::alloc::{AllocError, Global};
 
-fn class_type_of(class: Class) -> Ty
+pub fn class_type_of(class: Class) -> Ty
     ensures { ty_of result ≡ class_type class }
 {
     match class {

@@ -5,7 +5,7 @@ ghost use Rattle.al_types.specs.TypeViews.{field_of, fields_of, ty_of};
 ghost use Rattle.al_contexts.specs.Objects as objects;
 ghost use Rattle.al_contexts.specs.Objects.{first_at, loosely, named_as, put, put_all, put_new, strictly, strings};
 
-use al_declarations::is_same_name;
+use al_declarations::{Name, NameList, is_same_name};
 use al_types::{Field, Object, Ty, fuse};
 use std::alloc::{AllocError, Global};
 
@@ -131,6 +131,25 @@ pub(crate) fn add_strings(
         fields.push(field(alloc, name, Ty::String)?)?;
     }
     Ok(())
+}
+
+/// Adds fields that are strings, by the names of a list. Fails with `AllocError` for want of memory.
+fn add_listed(alloc: Global, fields: &mut Vec<Field>, names: &[Name]) -> Result<(), AllocError>
+    ensures { OnOk result (map field_of fields.new.items ≡ map field_of fields.old.items ++ strings names.now) }
+{
+    for name in names {
+        fields.push(field(alloc, name.as_bytes(), Ty::String)?)?;
+    }
+    Ok(())
+}
+
+/// An object whose fields are strings of the names of a list, and no others. Fails with `AllocError` for want of memory.
+pub(crate) fn listed_strings(alloc: Global, names: &NameList) -> Result<Ty, AllocError>
+    ensures { IfOk result (λ t. ty_of t ≡ objects.named_strings names.now) }
+{
+    let mut fields = Vec::new(alloc);
+    add_listed(alloc, &mut fields, names.as_slice())?;
+    Ok(strict_of(fields))
 }
 
 /// An object whose fields are strings of these names, and no others. Fails with `AllocError` for want of memory.

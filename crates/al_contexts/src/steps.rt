@@ -1,5 +1,5 @@
 //! The type of `steps`.
-ghost use Rattle.std.specs.Prelude.{◌≡◌, ◌+◌, ◌<◌, ◌≤◌, ◌^◌, IfOk, OnOk, length, map, option_map, take};
+ghost use Rattle.std.specs.Prelude.{◌≡◌, ◌+◌, ◌<◌, ◌≤◌, ◌^◌, IfOk, OnOk, length, map, take};
 ghost use Rattle.std.specs.Option.{option_copied, option_to_list};
 ghost use Rattle.al_types.specs.TypeViews.{field_of, fields_of, fields_of_type, ty_of};
 ghost use Rattle.al_yaml.specs.View.{view};
@@ -10,7 +10,8 @@ ghost use Rattle.al_contexts.specs.Contexts.{seen_of, step_field, steps_fields, 
 ghost use Rattle.al_contexts.specs.Objects.{put_all, put_new};
 
 use crate::known::{Answer, step_outputs};
-use crate::objects::{add_field, field, loose_strings, named_strings, strict_of};
+use crate::objects::{add_field, field, listed_strings, loose_strings, strict_of};
+use al_declarations::NameList;
 use al_places::Seen;
 use al_shape::text_under;
 use al_types::{Field, Ty};
@@ -18,18 +19,18 @@ use al_yaml::Node;
 use std::alloc::{AllocError, Global};
 
 /// The type of the outputs of a step, by what is known of them.
-fn outputs_type(alloc: Global, outputs: Option<&[&[u8]]>) -> Result<Ty, AllocError>
-    ensures { IfOk result (λ t. ty_of t ≡ contexts.step_outputs (option_map (λ v. map (λ n. n.now) v.now) outputs.entry)) }
+fn outputs_type(alloc: Global, outputs: Option<&NameList>) -> Result<Ty, AllocError>
+    ensures { IfOk result (λ t. ty_of t ≡ contexts.step_outputs (option_copied outputs.entry)) }
 {
     match outputs {
         None => loose_strings(alloc),
-        Some(names) => named_strings(alloc, names),
+        Some(names) => listed_strings(alloc, names),
     }
 }
 
 /// The type of a step, by what is known of its outputs.
-fn step_type(alloc: Global, outputs: Option<&[&[u8]]>) -> Result<Ty, AllocError>
-    ensures { IfOk result (λ t. ty_of t ≡ contexts.step_type (option_map (λ v. map (λ n. n.now) v.now) outputs.entry)) }
+fn step_type(alloc: Global, outputs: Option<&NameList>) -> Result<Ty, AllocError>
+    ensures { IfOk result (λ t. ty_of t ≡ contexts.step_type (option_copied outputs.entry)) }
 {
     let mut fields = Vec::new(alloc);
     fields.push(field(alloc, b"conclusion", Ty::String)?)?;

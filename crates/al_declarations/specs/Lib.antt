@@ -1,3 +1,4 @@
 pub mod Declarations
 pub mod Inputs
 pub mod NameSets
+pub mod Positions

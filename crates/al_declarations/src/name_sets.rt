@@ -14,7 +14,7 @@ pub struct NameSet {
 }
 
 /// A name in lower case.
-fn in_lower_case(alloc: Global, name: &[u8]) -> Result<Vec<u8>, AllocError>
+pub(crate) fn in_lower_case(alloc: Global, name: &[u8]) -> Result<Vec<u8>, AllocError>
     ensures { IfOk result (λ v. v.items ≡ folded name.now) }
 {
     name.to_ascii_lowercase(alloc)

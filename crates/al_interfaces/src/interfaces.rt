@@ -2,8 +2,7 @@
 //! interface the same.
 ghost use Rattle.std.specs.Prelude.{◌≡◌};
 
-use crate::names::{Name, NameList};
-use al_declarations::InputType;
+use al_declarations::{InputType, Name, NameList};
 use std::marker::Model;
 
 /// What a file is to its callers.

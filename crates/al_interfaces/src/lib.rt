@@ -3,10 +3,9 @@
 
 mod equality;
 mod interfaces;
-mod names;
 mod signatures;
 
+pub use al_declarations::{Name, NameList};
 pub use equality::equal_interfaces;
 pub use interfaces::{Input, InputList, Interface, Role, Secret, SecretList, Signature};
-pub use names::{Name, NameList};
 pub use signatures::interface_of;

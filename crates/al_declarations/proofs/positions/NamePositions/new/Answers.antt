@@ -1,0 +1,8 @@
+use Rattle.std.proofs.Common.{ap}
+use Rattle.al_declarations.specs.NameSets.{folded}
+use Rattle.al_declarations.specs.Positions.{name_position}
+use Rattle.al_declarations.proofs.positions.NamePositions.new.Goals as goal
+
+pub returns : goal.returns
+unfolding name_position
+returns c = λ i name. c.new.ensures i (folded name)

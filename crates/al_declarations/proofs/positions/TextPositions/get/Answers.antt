@@ -1,0 +1,7 @@
+use Rattle.std.proofs.Common.{◌∙◌}
+use Rattle.al_declarations.specs.Positions.{text_position}
+use Rattle.al_declarations.proofs.positions.TextPositions.get.Goals as goal
+
+pub returns : goal.returns
+unfolding text_position
+returns c = c.copied.ensures ∙ c.get.ensures.value
