@@ -1,5 +1,5 @@
 -- Nodes and texts that lie in a file, under any key, and faults that name them.
-use Rattle.std.specs.Prelude.{ℕ, ◌+◌, ◌≤◌, Bool, true, false, List, [], ◌∷◌, ◌++◌, map, Option, Some, None, IfSome, find, option_and_then, option_map}
+use Rattle.std.specs.Prelude.{ℕ, ◌≤◌, Bool, true, false, List, [], ◌∷◌, ◌++◌, map, Option, Some, None, IfSome, find, option_and_then, option_map}
 use Rattle.std.proofs.Common.{cond, arith}
 use Rattle.std.specs.List.{AllByRecursion, cons_option, filter_map, flat_map}
 use Rattle.std.specs.Option.{option_map_or, option_to_list}
