@@ -1,2 +1,3 @@
+pub mod Lone
 pub mod Short
 pub mod Steps

@@ -6,7 +6,7 @@ ghost use Rattle.al_calls.specs.AnswerViews.{answered_of};
 ghost use Rattle.al_calls.specs.Answers.{answered_faults};
 ghost use Rattle.al_contexts.specs.Answered.{known_of};
 ghost use Rattle.al_contexts.specs.Standing.{Stands};
-ghost use Rattle.al_file_calls.specs.FileCalls.{AreShort, text_or_empty, typing};
+ghost use Rattle.al_file_calls.specs.FileCalls.{AreShort, call_faults, text_or_empty, typing};
 ghost use Rattle.al_yaml.specs.View.{view};
 
 use crate::values::values_given;
@@ -81,8 +81,8 @@ fn check_answered<'a>(
     }
 }
 
-/// Adds the faults of some calls.
-pub(crate) fn check_calls<'a>(
+/// Adds the faults of some calls, to which the environment goes on.
+fn check_each<'a>(
     alloc: Global,
     file: File<'a>,
     env: &mut Env<'a>,
@@ -98,4 +98,19 @@ pub(crate) fn check_calls<'a>(
         check_answered(alloc, file, env, *one, out)?;
     }
     Ok(())
+}
+
+/// Adds the faults of some calls of a file.
+pub(crate) fn check_calls<'a>(
+    alloc: Global,
+    file: File<'a>,
+    answered: &[Answered<'a>],
+    out: &mut Vec<Fault>,
+) -> Result<(), AllocError>
+    requires short { All (λ a. AreShort (view a.call.now.node.now)) answered.now }
+    ensures { OnOk result (out.new.items ≡ out.old.items
+        ++ call_faults (file.entry).kind (known_of (file.entry).known.now) (view (file.entry).root.now) (map answered_of answered.now)) }
+{
+    let mut env = Env::new(alloc, file)?;
+    check_each(alloc, file, &mut env, answered, out)
 }

@@ -12,7 +12,7 @@ use crate::faults::check_calls;
 use crate::known::known_behind;
 use al_calls::{Answered, with_answers};
 use al_contents::expression_faults;
-use al_contexts::{Env, File};
+use al_contexts::File;
 use al_interfaces::Interface;
 use al_text::Fault;
 use al_tree::FileKind;
@@ -21,11 +21,11 @@ use al_yaml::Node;
 use std::alloc::{AllocError, Global};
 
 /// Adds the faults of a file's expressions and of these calls of it, with their answers.
-fn faults_by(
+fn faults_by<'a>(
     alloc: Global,
     kind: FileKind,
-    root: &Node,
-    answered: &[Answered<'_>],
+    root: &'a Node,
+    answered: &[Answered<'a>],
     out: &mut Vec<Fault>,
 ) -> Result<(), AllocError>
     requires within { IsWithin 0 1048576 (view root.now) }
@@ -35,13 +35,8 @@ fn faults_by(
 {
     let known = known_behind(alloc, answered)?;
     expression_faults(alloc, kind, root, known.as_slice(), out)?;
-    let file = File {
-        kind,
-        root,
-        known: known.as_slice(),
-    };
-    let mut env = Env::new(alloc, file)?;
-    check_calls(alloc, file, &mut env, answered, out)
+    let known = known.as_slice();
+    check_calls(alloc, File { kind, root, known }, answered, out)
 }
 
 /// Adds the faults of a file that depend on what answers its calls, X1 to X20 and C1 to C8: those of its expressions, which see the

@@ -1,5 +1,5 @@
 //! The type of a scalar that is given to an input: that of its expression where it is one, else by its class.
-ghost use Rattle.std.specs.Prelude.{◌≡◌, ◌≤◌, ◌∷◌, [], length, IfOk, IsUtf8};
+ghost use Rattle.std.specs.Prelude.{◌≡◌, ◌≤◌, ◌∷◌, [], length, map, All, IfOk, IsUtf8};
 ghost use Rattle.al_file_calls.specs.Types as types;
 ghost use Rattle.al_grammar.specs.Chunks.{IsCutFrom, chunks_of, span_of_chunk};
 ghost use Rattle.al_scalar.specs.Scalar.{text_of};
@@ -58,6 +58,25 @@ fn chunk_type(
     }
 }
 
+/// The type of a scalar whose text has these chunks.
+#[tactic(auto, using(crate::proofs::Lone::by_class))]
+fn type_by_chunks(
+    alloc: Global,
+    scope: &Scope,
+    scalar: &Scalar,
+    chunks: &[Chunk<'_>],
+) -> Result<Ty, AllocError>
+    requires cut { All (IsCutFrom (text_of scalar.now)) chunks.now }
+    requires found { map span_of_chunk chunks.now ≡ (chunks_of (text_of scalar.now)).chunks }
+    ensures { IfOk result (λ t. ty_of t ≡ types.scalar_type (scope_of scope.now) scalar.now) }
+{
+    if chunks.len() == 1 {
+        chunk_type(alloc, scope, scalar, &chunks[0])
+    } else {
+        Ok(text_type(scalar))
+    }
+}
+
 /// The type of a scalar that is given to an input.
 pub(crate) fn scalar_type(alloc: Global, scope: &Scope, scalar: &Scalar) -> Result<Ty, AllocError>
     requires utf8 { IsUtf8 (text_of scalar.now) }
@@ -65,8 +84,5 @@ pub(crate) fn scalar_type(alloc: Global, scope: &Scope, scalar: &Scalar) -> Resu
     ensures { IfOk result (λ t. ty_of t ≡ types.scalar_type (scope_of scope.now) scalar.now) }
 {
     let (found, _) = chunks(alloc, scalar.as_str())?;
-    match found.as_slice() {
-        [chunk] => chunk_type(alloc, scope, scalar, chunk),
-        _ => Ok(text_type(scalar)),
-    }
+    type_by_chunks(alloc, scope, scalar, found.as_slice())
 }
