@@ -3,8 +3,10 @@
 #![tactic(auto)]
 
 mod env;
+mod field_lists;
 mod fixed;
 mod inputs;
+mod job_lists;
 mod jobs;
 mod known;
 mod matrix;
@@ -16,4 +18,5 @@ mod worked;
 
 pub use env::{Env, File, Owner};
 pub use known::Answer;
+pub use matrix::class_type_of;
 pub use worked::rows;
