@@ -8,18 +8,14 @@ The second column of times puts the same bytes with `uses` and `with` under keys
 checked as calls: what the check of calls takes is the difference.
 """
 
-import pathlib
-import subprocess
 import sys
-import time
 
-TOP = pathlib.Path(__file__).resolve().parent.parent
-PROGRAM = TOP / "crates" / "actionlint" / "out" / "actionlint"
-WORDS = ["--session", "--oneline"]
+from common import folder_times, print_growths, print_head
+
 RUNS = 5
 INPUTS = 10_000
-CALLS = 20_000
-ATS = 400_000
+CALLS = 32_000
+ATS = 1_000_000
 
 ACTION = "name: A\ndescription: d\nruns:\n  using: composite\n  steps: []\n"
 CALLER = "on: push\njobs:\n  a:\n    runs-on: u\n    steps:\n"
@@ -59,13 +55,18 @@ def job_giving_all(number):
 
 
 def many_calls(number):
-    """Steps that call one action."""
-    return [("a/action.yml", ACTION), (".github/workflows/c.yml", CALLER + "      - uses: ./a\n" * number)]
+    """Steps that call one action, of 32 bytes each."""
+    return [("greetings/hello/action.yml", ACTION), (".github/workflows/c.yml", CALLER + "      - uses: ./greetings/hello\n" * number)]
 
 
-def many_ats(number):
-    """One `uses` that may be cut at many places, none of them right."""
+def step_of_ats(number):
+    """One `uses` of a step that may be cut at many places, none of them right."""
     return [(".github/workflows/c.yml", f"{CALLER}      - uses: {'a@' * (number // 2)}\n")]
+
+
+def job_of_ats(number):
+    """The same of a job, with all parts but a file's name before them."""
+    return [(".github/workflows/c.yml", f"on: push\njobs:\n  a:\n    uses: o/r/.github/workflows/{'a@' * (number // 2)}\n")]
 
 
 # each folder by its size, and that size
@@ -73,23 +74,10 @@ FOLDERS = {
     f"a step that gives {INPUTS} inputs": (step_giving_all, INPUTS),
     f"a step that gives {INPUTS} others": (step_giving_none, INPUTS),
     f"a job that gives {INPUTS} inputs": (job_giving_all, INPUTS),
-    f"{CALLS} steps that call one action": (many_calls, CALLS),
-    f"a uses of {ATS} bytes": (many_ats, ATS),
+    f"a megabyte of steps, {CALLS} calls": (many_calls, CALLS),
+    f"a step's uses of {ATS} bytes": (step_of_ats, ATS),
+    f"a job's uses of {ATS} bytes": (job_of_ats, ATS),
 }
-
-
-def seconds(files):
-    """The least time of some runs that put files."""
-    script = b"".join(f"put {path} {len(text.encode())}\n".encode() + text.encode() + b"\n" for path, text in files)
-    best = None
-    for _ in range(RUNS):
-        start = time.perf_counter()
-        run = subprocess.run([PROGRAM, *WORDS], input=script, stdout=subprocess.PIPE, check=False)
-        took = time.perf_counter() - start
-        if run.stdout.count(b"ok ") != len(files):
-            sys.exit(f"the folder was not taken: {run.stdout[:80]}")
-        best = took if best is None else min(best, took)
-    return best
 
 
 def unchecked(files):
@@ -99,12 +87,10 @@ def unchecked(files):
 
 def main():
     """Prints a table."""
-    nothing = seconds(many_calls(1))
-    print(f"{'folder':36} {'half':>9} {'whole':>9} whole/half {'only read':>10} whole/half")
+    print_head(36, "folder", "checked", "only read")
     for name, (folder, size) in FOLDERS.items():
-        half, whole = (seconds(folder(count)) - nothing for count in (size // 2, size))
-        half_read, whole_read = (seconds(unchecked(folder(count))) - nothing for count in (size // 2, size))
-        print(f"{name:36} {half:8.3f}s {whole:8.3f}s {whole / half:10.2f} {whole_read:9.3f}s {whole_read / half_read:10.2f}")
+        folders = [folder(count) for count in (size // 2, size)]
+        print_growths(36, name, folder_times(RUNS, many_calls(1), folders + [unchecked(files) for files in folders]))
 
 
 if __name__ == "__main__":

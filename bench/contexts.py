@@ -7,13 +7,10 @@ of n steps with ids each step sees the ones before it: where all types were made
 where the steps double; where a name is looked for among those that are seen, it grows by less, from twofold upwards.
 """
 
-import pathlib
-import subprocess
 import sys
-import time
 
-TOP = pathlib.Path(__file__).resolve().parent.parent
-PROGRAM = TOP / "crates" / "actionlint" / "out" / "actionlint"
+from common import workflow_times
+
 RUNS = 5
 STEPS = 3_000
 JOBS = 2_000
@@ -52,19 +49,9 @@ def jobs(number):
 SHAPES = {f"one job of {STEPS} steps": (steps, STEPS), f"{JOBS} jobs": (jobs, JOBS)}
 
 
-def seconds(text):
-    """The least time of some runs that put a workflow."""
-    data = text.encode()
-    script = f"put .github/workflows/a.yml {len(data)}\n".encode() + data + b"\n"
-    best = None
-    for _ in range(RUNS):
-        start = time.perf_counter()
-        run = subprocess.run([PROGRAM, "--session", "--oneline"], input=script, stdout=subprocess.PIPE, check=False)
-        took = time.perf_counter() - start
-        if run.stdout != b"ok 1\n":
-            sys.exit(f"the workflow was not taken: {run.stdout[:80]}")
-        best = took if best is None else min(best, took)
-    return best
+def without_expressions(text):
+    """The same bytes, without an expression."""
+    return text.replace("${{", "$((")
 
 
 def main():
@@ -72,7 +59,8 @@ def main():
     print(f"{'workflow':24} {'bytes':>9} {'expressions':>11} {'half':>9} {'whole':>9} whole/half")
     for name, (shape, size) in SHAPES.items():
         texts = [shape(count) for count in (size // 2, size)]
-        half, whole = (seconds(text) - seconds(text.replace("${{", "$((")) for text in texts)
+        half, whole, half_read, whole_read = workflow_times(RUNS, texts + [without_expressions(text) for text in texts])
+        half, whole = half - half_read, whole - whole_read
         print(f"{name:24} {len(texts[1]):9} {texts[1].count('${{'):11} {half:8.3f}s {whole:8.3f}s {whole / half:10.2f}")
 
 

@@ -5,41 +5,41 @@ several runs in one run of this program. Where each file is checked once, ten ti
 file that is taken has all others checked again, they take a hundred times as long. More than twelve times as long is an error.
 """
 
+import functools
 import pathlib
-import subprocess
 import sys
 import tempfile
-import time
 
-TOP = pathlib.Path(__file__).resolve().parent.parent
-PROGRAM = TOP / "crates" / "actionlint" / "out" / "actionlint"
-WORKFLOW = TOP / "examples" / "release" / ".github" / "workflows" / "release.yml"
+from common import TOP, least_in_turns, program, run_seconds
+
+EXAMPLE = TOP / "examples" / "release" / ".github" / "workflows" / "release.yml"
 RUNS = 5
 FEW, MANY = 100, 1_000
 MOST = 12
 
 
-def seconds(count):
-    """The least time of some runs over a folder of so many workflows."""
-    with tempfile.TemporaryDirectory() as folder:
-        workflows = pathlib.Path(folder, ".github", "workflows")
-        workflows.mkdir(parents=True)
-        for number in range(count):
-            (workflows / f"{number:04}.yml").write_bytes(WORKFLOW.read_bytes())
-        best = None
-        for _ in range(RUNS):
-            start = time.perf_counter()
-            run = subprocess.run([PROGRAM], cwd=folder, stdout=subprocess.PIPE, check=False)
-            took = time.perf_counter() - start
-            if (run.returncode, run.stdout) != (0, b""):
-                sys.exit(f"the folder has faults: {run.stdout[:200]}")
-            best = took if best is None else min(best, took)
-    return best
+def fill(folder, count):
+    """Puts so many workflows into a folder."""
+    workflows = pathlib.Path(folder, ".github", "workflows")
+    workflows.mkdir(parents=True)
+    for number in range(count):
+        (workflows / f"{number:04}.yml").write_bytes(EXAMPLE.read_bytes())
+
+
+def seconds(folder):
+    """How long one run over a folder takes."""
+    took, status, out = run_seconds([program("actionlint")], folder=folder)
+    if (status, out) != (0, b""):
+        sys.exit(f"the folder has faults: {out[:200]}")
+    return took
 
 
 def main():
     """Prints both times and how they compare."""
-    few, many = seconds(FEW), seconds(MANY)
+    with tempfile.TemporaryDirectory() as few_files, tempfile.TemporaryDirectory() as many_files:
+        fill(few_files, FEW)
+        fill(many_files, MANY)
+        few, many = least_in_turns(RUNS, [functools.partial(seconds, folder) for folder in (few_files, many_files)])
     print(f"{FEW} workflows {few:.3f}s, {MANY} workflows {many:.3f}s, {many / few:.2f} times as long")
     return 1 if many > MOST * few else 0
 

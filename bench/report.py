@@ -6,53 +6,39 @@ without any, each the least of several runs, which take turns. Columns are count
 counted from the start of its line, the first workflow would take hundreds of times as long.
 """
 
-import pathlib
-import subprocess
+import functools
 import sys
-import time
 
-TOP = pathlib.Path(__file__).resolve().parent.parent
-PROGRAM = TOP / "crates" / "actionlint" / "out" / "actionlint"
+from common import SESSION, WORKFLOW, least_in_turns, program, put_commands, run_seconds
+
 RUNS = 5
 REPORTS = 3
 FAULTS = 99_000
 SPACES = 740_000
-
-WORDS = ["--session", "--oneline"]
 
 JOB = "on: push\njobs:\n  a:\n    runs-on: u\n    needs:"
 ONE_LINE = JOB + " [" + " " * SPACES + "[]," * FAULTS + "]\n"
 OWN_LINES = JOB + "\n" + "    - []\n" * FAULTS
 
 
-def script(text, reports):
-    """A put of a workflow, and so many reports."""
-    data = text.encode()
-    return b"put .github/workflows/a.yml %d\n" % len(data) + data + b"\n" + b"report\n" * reports
-
-
 def seconds(text, reports):
-    """The time of one run."""
-    start = time.perf_counter()
-    run = subprocess.run([PROGRAM, *WORDS], input=script(text, reports), stdout=subprocess.PIPE, check=False)
-    took = time.perf_counter() - start
-    faults = run.stdout.count(b"\n") - 1 - reports
+    """How long a script takes that puts a workflow and reports so many times."""
+    script = put_commands([(WORKFLOW, text)]) + b"report\n" * reports
+    took, _, out = run_seconds([program("actionlint"), *SESSION], script)
+    faults = out.count(b"\n") - 1 - reports
     if faults != FAULTS * reports:
-        sys.exit(f"{faults} faults: {run.stdout[:200]}")
+        sys.exit(f"{faults} faults: {out[:200]}")
     return took
 
 
 def main():
     """Prints both times and their ratio."""
-    texts = {"on one line": ONE_LINE, "on lines of their own": OWN_LINES}
-    least = {(name, reports): float("inf") for name in texts for reports in (0, REPORTS)}
-    for _ in range(RUNS):
-        for name, reports in least:
-            least[name, reports] = min(least[name, reports], seconds(texts[name], reports))
-    report = {name: (least[name, REPORTS] - least[name, 0]) / REPORTS for name in texts}
-    for name, took in report.items():
-        print(f"{FAULTS} faults {name}: {took:.3f} s a report")
-    print(f"ratio {report['on one line'] / report['on lines of their own']:.2f}")
+    scripts = [(text, reports) for text in (ONE_LINE, OWN_LINES) for reports in (0, REPORTS)]
+    times = least_in_turns(RUNS, [functools.partial(seconds, *script) for script in scripts])
+    one_line, own_lines = ((reported - put) / REPORTS for put, reported in (times[:2], times[2:]))
+    print(f"{FAULTS} faults on one line: {one_line:.3f} s a report")
+    print(f"{FAULTS} faults on lines of their own: {own_lines:.3f} s a report")
+    print(f"ratio {one_line / own_lines:.2f}")
 
 
 if __name__ == "__main__":

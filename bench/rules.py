@@ -8,16 +8,12 @@ to jobs times entries of needs: fourfold where both double, and in a full graph,
 eightfold where the jobs do.
 """
 
-import pathlib
-import subprocess
 import sys
-import time
 
-TOP = pathlib.Path(__file__).resolve().parent.parent
-PROGRAM = TOP / "crates" / "actionlint" / "out" / "actionlint"
+from common import print_growths, print_head, workflow_times
+
 RUNS = 3
 
-NOTHING = "on: push\njobs: {}\n"
 JOBS = "on: push\njobs:\n"
 JOB = "on: push\njobs:\n  a:\n    runs-on: u\n"
 ANYTHING = "on: push\njobs:\n  a:\n    runs-on: u\n    environment:\n"
@@ -84,29 +80,18 @@ SHAPES = {
 }
 
 
-def seconds(text):
-    """The least time of some runs that put a workflow."""
-    data = text.encode()
-    script = f"put .github/workflows/a.yml {len(data)}\n".encode() + data + b"\n"
-    best = None
-    for _ in range(RUNS):
-        start = time.perf_counter()
-        run = subprocess.run([PROGRAM, "--session", "--oneline"], input=script, stdout=subprocess.PIPE, check=False)
-        took = time.perf_counter() - start
-        if run.stdout != b"ok 1\n":
-            sys.exit(f"the workflow was not taken: {run.stdout[:80]}")
-        best = took if best is None else min(best, took)
-    return best
+def unruled(text):
+    """The same nodes where no rule looks at them."""
+    return ANYTHING + text.replace("    steps:", "      steps:").replace("    strategy:", "      strategy:")
 
 
 def main():
     """Prints a table."""
-    nothing = seconds(NOTHING)
-    print(f"{'workflow':34} {'half':>9} {'whole':>9} whole/half {'only read':>10} whole/half")
+    print_head(34, "workflow", "checked", "only read")
     for name, (above, shape, size) in SHAPES.items():
-        half, whole = (seconds(above + shape(count)) - nothing for count in (size // 2, size))
-        half_read, whole_read = (seconds(ANYTHING + shape(count).replace("    steps:", "      steps:").replace("    strategy:", "      strategy:")) - nothing for count in (size // 2, size))
-        print(f"{name:34} {half:8.3f}s {whole:8.3f}s {whole / half:10.2f} {whole_read:9.3f}s {whole_read / half_read:10.2f}")
+        sizes = (size // 2, size)
+        texts = [above + shape(count) for count in sizes] + [unruled(shape(count)) for count in sizes]
+        print_growths(34, name, workflow_times(RUNS, texts))
 
 
 if __name__ == "__main__":

@@ -5,13 +5,11 @@ text with the offset of each byte. Where reading is linear, the time doubles wit
 several runs in one run of this program, less the time of the empty scalar.
 """
 
-import pathlib
-import subprocess
+import functools
 import sys
-import time
 
-TOP = pathlib.Path(__file__).resolve().parent.parent
-PROGRAM = TOP / "crates" / "readers" / "out" / "readers"
+from common import least_in_turns, program, run_seconds
+
 RUNS = 5
 SIZE = 1_000_000
 
@@ -29,22 +27,20 @@ SHAPES = {
 
 
 def seconds(file):
-    """The least time of some runs."""
-    best = None
-    for _ in range(RUNS):
-        start = time.perf_counter()
-        subprocess.run([PROGRAM, "scalar"], input=file, stdout=subprocess.DEVNULL, check=True)
-        took = time.perf_counter() - start
-        best = took if best is None else min(best, took)
-    return best
+    """How long one run takes to read a scalar."""
+    took, status, _ = run_seconds([program("readers"), "scalar"], file)
+    if status != 0:
+        sys.exit(f"the scalar was not read: {file[:80]}")
+    return took
 
 
 def main():
     """Prints a table."""
-    nothing = seconds(b"")
     print(f"{'scalar':38} {'quarter':>9} {'half':>9} {'whole':>9}  half/quarter whole/half")
     for name, shape in SHAPES.items():
-        quarter, half, whole = (seconds(shape(size)) - nothing for size in (SIZE // 4, SIZE // 2, SIZE))
+        files = [b""] + [shape(size) for size in (SIZE // 4, SIZE // 2, SIZE)]
+        nothing, *times = least_in_turns(RUNS, [functools.partial(seconds, file) for file in files])
+        quarter, half, whole = (took - nothing for took in times)
         print(f"{name:38} {quarter:8.3f}s {half:8.3f}s {whole:8.3f}s  {half / quarter:12.2f} {whole / half:10.2f}")
 
 

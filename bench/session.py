@@ -6,12 +6,12 @@ looks at its callers alone: its time does not grow with the other files. A new p
 them in the order of paths: that is named here with its cost.
 """
 
-import pathlib
+import functools
 import subprocess
 import sys
 
-TOP = pathlib.Path(__file__).resolve().parent.parent
-PROGRAM = TOP / "crates" / "toy_times" / "out" / "toy_times"
+from common import least_in_turns, program
+
 RUNS = 7
 BESIDE = [0, 1, 16, 256, 1_024, 4_095]
 CALLERS = [1, 10, 100, 1_000]
@@ -30,27 +30,24 @@ TABLE = {
 
 
 def nanoseconds(kind, count):
-    """What one edit takes, in one run."""
-    run = subprocess.run([PROGRAM, kind, str(count)], stdout=subprocess.PIPE, check=True)
+    """What one edit takes, as one run tells it."""
+    run = subprocess.run([program("toy_times"), kind, str(count)], stdout=subprocess.PIPE, check=True)
     return int(run.stdout)
 
 
-def least(kind, counts):
+def edit_times(kind, counts):
     """For each count the least time of some runs."""
-    times = [float("inf")] * len(counts)
-    for _ in range(RUNS):
-        times = [min(time, nanoseconds(kind, count)) for time, count in zip(times, counts)]
-    return times
+    return least_in_turns(RUNS, [functools.partial(nanoseconds, kind, count) for count in counts])
 
 
 def main():
     """Prints a line for each kind: an edit's time at each count, and its ratio to the first."""
     for name, (kind, counts) in TABLE.items():
-        times = least(kind, counts)
+        times = edit_times(kind, counts)
         print(name)
         for count, time in zip(counts, times):
             print(f"  {count:6} files {time / 1000:10.2f} µs {time / times[0]:8.2f} times the first")
-    beside = least("changed", [0, 4_095])
+    beside = edit_times("changed", [0, 4_095])
     print(f"beside 4095 files a put of other bytes takes {beside[1] / beside[0]:.2f} times what it takes alone")
 
 

@@ -7,18 +7,14 @@ least of several runs in one run of this program, less the time for a workflow w
 time doubles with the size; where each key were compared with all before it, it would grow fourfold.
 """
 
-import pathlib
-import subprocess
 import sys
-import time
 
-TOP = pathlib.Path(__file__).resolve().parent.parent
-PROGRAM = TOP / "crates" / "actionlint" / "out" / "actionlint"
+from common import print_growths, print_head, workflow_times
+
 RUNS = 5
 KEYS = 49_000
 JOBS = 10_000
 
-NOTHING = "on: push\njobs: {}\n"
 ANYTHING = "on: push\njobs:\n  a:\n    runs-on: u\n    environment:\n"
 
 
@@ -46,29 +42,13 @@ SHAPES = {
 }
 
 
-def seconds(text):
-    """The least time of some runs that put a workflow."""
-    data = text.encode()
-    script = f"put .github/workflows/a.yml {len(data)}\n".encode() + data + b"\n"
-    best = None
-    for _ in range(RUNS):
-        start = time.perf_counter()
-        run = subprocess.run([PROGRAM, "--session", "--oneline"], input=script, stdout=subprocess.PIPE, check=False)
-        took = time.perf_counter() - start
-        if run.stdout != b"ok 1\n":
-            sys.exit(f"the workflow was not taken: {run.stdout[:80]}")
-        best = took if best is None else min(best, took)
-    return best
-
-
 def main():
     """Prints a table."""
-    nothing = seconds(NOTHING)
-    print(f"{'workflow':34} {'half':>9} {'whole':>9} whole/half {'only read':>10} whole/half")
+    print_head(34, "workflow", "checked", "only read")
     for name, (above, shape, size) in SHAPES.items():
-        half, whole = (seconds(above + shape(count)) - nothing for count in (size // 2, size))
-        half_read, whole_read = (seconds(ANYTHING + shape(count)) - nothing for count in (size // 2, size))
-        print(f"{name:34} {half:8.3f}s {whole:8.3f}s {whole / half:10.2f} {whole_read:9.3f}s {whole_read / half_read:10.2f}")
+        sizes = (size // 2, size)
+        texts = [above + shape(count) for count in sizes] + [ANYTHING + shape(count) for count in sizes]
+        print_growths(34, name, workflow_times(RUNS, texts))
 
 
 if __name__ == "__main__":

@@ -7,6 +7,7 @@ several runs in one run of this program, less that for this line alone. Each sha
 where reading is linear, the time grows as the bytes do.
 """
 
+import functools
 import json
 import pathlib
 import resource
@@ -14,8 +15,8 @@ import subprocess
 import sys
 import tempfile
 
-TOP = pathlib.Path(__file__).resolve().parent.parent
-PROGRAM = TOP / "crates" / "readers" / "out" / "readers"
+from common import TOP, least_in_turns, program
+
 RUNS = 25
 SIZE = 1_000_000
 
@@ -80,32 +81,21 @@ def processor_time():
     return used.ru_utime + used.ru_stime
 
 
-def read_once(command, file):
-    """The processor time of one run, and its output."""
+def seconds(command, is_ours, file):
+    """The processor time of one run. Ours reads a file up to its last line."""
     start = processor_time()
     done = subprocess.run(command, input=file, capture_output=True, check=False)
-    return processor_time() - start, done.stdout
-
-
-def check_fault(file, out):
-    """That the file was read up to its last line."""
-    start = json.loads(out)["fault"]["start"]
-    if start != len(file) - len(LAST):
-        sys.exit(f"a fault at {start} of {len(file)} bytes")
+    took = processor_time() - start
+    if is_ours and (at := json.loads(done.stdout)["fault"]["start"]) != len(file) - len(LAST):
+        sys.exit(f"a fault at {at} of {len(file)} bytes")
+    return took
 
 
 def least(commands, files):
-    """For each file the least time that each command takes to read it. The runs take turns, so that all of them see the same
-    load of the machine."""
-    times = [[1e9 for _ in commands] for _ in files]
-    for _ in range(RUNS):
-        for file, best in zip(files, times):
-            for number, command in enumerate(commands):
-                took, out = read_once(command, file)
-                if number > 0:
-                    check_fault(file, out)
-                best[number] = min(best[number], took)
-    return times
+    """For each file the least time that each command takes to read it. The first command is not ours."""
+    measures = [functools.partial(seconds, command, number > 0, file) for file in files for number, command in enumerate(commands)]
+    times = least_in_turns(RUNS, measures)
+    return [times[first : first + len(commands)] for first in range(0, len(times), len(commands))]
 
 
 def main():
@@ -113,7 +103,7 @@ def main():
     with tempfile.TemporaryDirectory() as folder:
         events = pathlib.Path(folder) / "yaml_events"
         subprocess.run(["cc", "-O2", "-o", events, TOP / "bench" / "yaml_events.c", "-lyaml"], check=True)
-        commands = [[events]] + [[program, "yaml"] for program in [PROGRAM, *sys.argv[1:]]]
+        commands = [[events]] + [[path, "yaml"] for path in [program("readers"), *sys.argv[1:]]]
         before = "  this/before" if sys.argv[1:] else ""
         print(f"{'file':36} {'bytes':>9} {'this':>9} {'libyaml':>9} {'this/libyaml':>12}{before}  whole/half of bytes")
         for (name, whole), (_, half) in zip(shapes(SIZE), shapes(SIZE // 2)):

@@ -2,7 +2,8 @@
 
 A section of the page is a fault: its heading has the fault's identifier and its message, and it has at least two examples, a
 file and the report of that file as the only one of a folder. The first example's report must have a line with the message,
-the last one's must have none. Each example becomes a script and its output. A file marked `yaml action` is an action.
+the last one's must have none. Each example becomes a script and its output. A file marked `yaml action` is an action. A section that
+says "Nothing gives this fault yet" has no example.
 
 Before the file may stand other files of the folder, marked `yaml PATH`, which have no faults. They are put first.
 
@@ -14,6 +15,7 @@ import pathlib
 import re
 import sys
 
+NOT_GIVEN = "Nothing gives this fault yet"
 PATHS = {" action": "action.yml"}
 PATH = ".github/workflows/a.yml"
 OTHER = re.compile(r"```yaml (\S+\.ya?ml)\n(.*?)```\n\s*", re.DOTALL)
@@ -55,6 +57,8 @@ def main(page, folder):
         sys.exit(f"{page}: no fault")
     for name, message, body in sections:
         examples = EXAMPLE.findall(body)
+        if NOT_GIVEN in body and not examples:
+            continue
         pattern = message_pattern(message)
         if len(examples) < 2 or not pattern.search(examples[0][-1]) or pattern.search(examples[-1][-1]):
             sys.exit(f"{page}: {name} needs an example that gives it first, and one that doesn't last")

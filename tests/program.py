@@ -209,6 +209,38 @@ def folders(place):
     place.case("name-that-is-no-text", 0, no, no)
 
 
+# ---- calls between the files of a folder
+
+
+CALLER = CLEAN.replace(b"run: echo", b"uses: ./a")
+CALLED = b"name: A\ndescription: d\ninputs:\n  who:\n    required: true\nruns:\n  using: node20\n  main: m.js\n"
+MISSING_INPUT = b'.github/workflows/c.yml:6:15: required input "who" of "A" is missing [action]\n'
+
+
+def calls(place):
+    no = b""
+    workflow = f"{WORKFLOWS}/c.yml"
+    place.fresh({workflow: CALLER, "a/action.yml": CALLED})
+    place.case("called-action-is-found", 1, MISSING_INPUT, no, ["--oneline"])
+    place.case("called-action-of-a-file", 1, MISSING_INPUT, no, ["--oneline", workflow])
+    place.case("action-by-itself", 0, no, no, ["--oneline", "a/action.yml"])
+    place.fresh({workflow: CALLER})
+    place.case("called-action-not-there", 0, no, no, ["--oneline"])
+    place.fresh({workflow: CALLER, "a/action.yaml": CALLED})
+    place.case("called-action-by-its-second-name", 1, MISSING_INPUT, no, ["--oneline"])
+    place.fresh({workflow: CALLER, "a/action.yml": CALLED, "a/action.yaml": b""})
+    empty = b"a/action.yaml:1:1: file is empty [syntax-check]\n"
+    place.case("second-candidate-is-linted-and-answers-nothing", 1, MISSING_INPUT + empty, no, ["--oneline"])
+    # the action that is called calls the next one, in which the fault is
+    composite = b"name: B\ndescription: d\nruns:\n  using: composite\n  steps:\n    - uses: ./a\n"
+    place.fresh({workflow: CLEAN.replace(b"run: echo", b"uses: ./b"), "b/action.yml": composite, "a/action.yml": CALLED})
+    place.case("action-called-by-an-action", 1, b'b/action.yml:6:13: required input "who" of "A" is missing [action]\n', no, ["--oneline"])
+    place.fresh({workflow: CALLER, "a/action.yml": b"#" * 1_048_577})
+    place.case("called-action-too-large", 3, no, refused("a/action.yml", 3), ["--oneline"])
+    place.fresh({workflow: CALLER}, folders=["a/action.yml"])
+    place.case("called-action-is-a-folder", 3, no, cannot_read("a/action.yml"), ["--oneline"])
+
+
 # ---- the folders of examples
 
 
@@ -216,14 +248,15 @@ def examples(place):
     no = b""
     top = os.path.join(os.path.dirname(os.path.abspath(__file__)), os.pardir, "examples")
     place.fresh()
-    for name in ("release", "slips", "nightly"):
+    for name in ("release", "slips", "nightly", "calls"):
         shutil.copytree(os.path.join(top, name), os.path.join(place.folder, name))
     place.case("example-without-a-fault", 0, no, no, ["--root", "release"])
     for ending, given in (("report", []), ("oneline", ["--oneline"])):
         with open(os.path.join(top, f"slips.{ending}"), "rb") as file:
             place.case(f"example-with-slips-{ending}", 1, file.read(), no, [*given, "--root", "slips"])
-    with open(os.path.join(top, "nightly.oneline"), "rb") as file:
-        place.case("example-with-rules-broken", 1, file.read(), no, ["--oneline", "--root", "nightly"])
+    for name, shows in (("nightly", "rules-broken"), ("calls", "calls-that-disagree")):
+        with open(os.path.join(top, f"{name}.oneline"), "rb") as file:
+            place.case(f"example-with-{shows}", 1, file.read(), no, ["--oneline", "--root", name])
 
 
 # ---- scripts
@@ -333,7 +366,7 @@ def main():
         return 2
     place = Place(sys.argv[1])
     try:
-        for part in (words, folders, examples, scripts, streams, memory, sizes):
+        for part in (words, folders, calls, examples, scripts, streams, memory, sizes):
             part(place)
     finally:
         place.remove()

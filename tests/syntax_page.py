@@ -12,12 +12,12 @@ EQUATION = re.compile(r"^rule (\w+) = (.*?)(?=^rule |^-- |\Z)", re.DOTALL | re.M
 FIELD = re.compile(r"(may|must|not_after|not_beside|must_unless_after|must_unless_beside)((?: \(codes \"[^\"]+\"\))+) (\w+)")
 OTHERS = re.compile(r"keys (?:\((wrong_beside) \(codes \"([^\"]+)\"\)\)|(wrong|events|unchecked)) \(")
 SECTION = re.compile(r"^### (.+)\n\n((?:.*\n)*?)(?=^#|\Z)", re.MULTILINE)
-SCALARS = {"AnyWord": "text", "NotNull": "text that is not null", "Bools": "flag", "Numbers": "number", "Chunks": "expression", "NoWord": None}
+SCALARS = {"AnyScalar": "text", "NotNull": "text that is not null", "Bools": "flag", "Numbers": "number", "Chunks": "expression", "NoScalar": None}
 FORMS = {
-    "word": ("words",),
-    "word_or": ("words", "keys"),
-    "word_or_list": ("words", "items"),
-    "word_list_or": ("words", "items", "keys"),
+    "scalar": ("scalars",),
+    "scalar_or": ("scalars", "keys"),
+    "scalar_or_list": ("scalars", "items"),
+    "scalar_list_or": ("scalars", "items", "keys"),
     "list_of": ("items",),
     "mapping": ("keys",),
 }
@@ -32,7 +32,7 @@ def name_of(shape):
 def parts_of(text):
     """The parts of an equation's right side: which scalars, items and mappings are taken."""
     form, rest = text.split(None, 1)
-    parts = {"words": "NoWord", "items": None, "keys": None}
+    parts = {"scalars": "NoScalar", "items": None, "keys": None}
     for part in FORMS[form]:
         if part == "keys":
             parts["keys"] = rest.strip()
@@ -47,8 +47,8 @@ def value_of(shape, rules):
     if rules[shape] is None:
         return "anything"
     parts, kinds = rules[shape], []
-    if SCALARS[parts["words"]]:
-        kinds.append(SCALARS[parts["words"]])
+    if SCALARS[parts["scalars"]]:
+        kinds.append(SCALARS[parts["scalars"]])
     if parts["items"]:
         kinds.append("a list of " + value_of(parts["items"], rules))
     free = re.fullmatch(r"\(free (\w+)\)", parts["keys"] or "")

@@ -86,8 +86,8 @@ module _ (size : ℕ) where
   typed_lies c v None p = tt
   typed_lies c v (Some i) p = type_lies c v.0 v.1 i p
 
-  wrong_lies : (c : Call) (s : Signature) (v : Given) → GivenLies v → AllLie (wrong_input c s v)
-  wrong_lies c s v p = typed_lies c v (find (is_input (key_of v.0)) s.inputs) p
+  wrong_lies : (c : Call) (inputs : List Input) (v : Given) → GivenLies v → AllLie (wrong_input c inputs v)
+  wrong_lies c inputs v p = typed_lies c v (find (is_input (key_of v.0)) inputs) p
 
   secret_lies : (c : Call) (s : Signature) (shown : Names) (e : Node × Node) → Pair e → AllLie (extra_secret c s shown e)
   secret_lies c s shown e p =
@@ -118,7 +118,7 @@ module _ (size : ℕ) where
       each_both Lies (input_faults c (entries_at (codes "with") c.node) s ++ wrong_inputs c values s) (secret_faults c c.node s)
       (each_both Lies (input_faults c (entries_at (codes "with") c.node) s) (wrong_inputs c values s)
       (inputs_lie c (entries_at (codes "with") c.node) s p.0 (entries_lie (codes "with") c.node p.1))
-      (each_of GivenLies Lies (wrong_input c s) (wrong_lies c s) values v))
+      (each_of GivenLies Lies (wrong_input c s.inputs) (wrong_lies c s.inputs) values v))
       (secrets_lie c s p)
 
   absent_lies : (c : Call) (by : Caller) → LiesIn size c.at → AllLie (absent_faults c by)

@@ -9,7 +9,7 @@ use Rattle.al_calls.specs.declared.answers.Answered as code_answers
 use Rattle.al_calls.specs.declared.values.Value as code_values
 
 abbrev pub given_of : code_values.Value → Given
-given_of v = (member_of v.member, ty_of v.ty.now)
+given_of v = (member_of v.member, ty_of v.ty)
 
 abbrev pub answered_of : code_answers.Answered → Answered
 answered_of a = record { call = call_of a.call.now; answer = option_copied a.answer }

@@ -3,7 +3,7 @@ use Rattle.std.specs.Prelude.{ℕ, List, [], ◌∷◌, ◌++◌, Bool, true, fa
 use Rattle.std.specs.List.{flat_map}
 use Rattle.std.specs.Option.{option_map_or}
 use Rattle.std.specs.Str.{bytes_eq}
-use Rattle.al_text.specs.Messages.{shown}
+use Rattle.std.specs.Str.Lossy.{utf8_lossy}
 use Rattle.al_text.specs.declared.codes.CallCode.{CallCode}
 use Rattle.al_text.specs.declared.codes.CallCode.TheVariants as code
 use Rattle.al_text.specs.declared.codes.Caller.{Caller}
@@ -20,6 +20,7 @@ use Rattle.al_shape.specs.Keys.{key_of}
 use Rattle.al_shape.specs.Values.{entries_at, text_at}
 use Rattle.al_declarations.specs.Declarations.{named_among, names_of}
 use Rattle.al_declarations.specs.Inputs.{input_type}
+use Rattle.al_declarations.specs.Positions.{first_at}
 use Rattle.al_declarations.specs.declared.inputs.InputType.{InputType}
 use Rattle.al_declarations.specs.declared.inputs.InputType.TheVariants as input
 use Rattle.al_interfaces.specs.declared.interfaces.Interface.{Interface}
@@ -36,9 +37,8 @@ use Rattle.al_uses.specs.declared.forms.Form.TheVariants.{Local, Other, Wrong}
 abbrev pub caller_of : Call → Caller
 caller_of c = if is_some c.site.step then caller.Step else caller.Job
 
--- arguments hold `?` for each control byte, so that faults which print the same are one
 abbrev pub fault : CallCode → Call → Span → List (List ℕ) → Fault
-fault f c at texts = record { span = at; code = kind_of_code.Call f (caller_of c); args = map shown texts }
+fault f c at texts = record { span = at; code = kind_of_code.Call f (caller_of c); args = map utf8_lossy texts }
 
 -- at the value of `uses`
 abbrev pub at_uses : CallCode → Call → List (List ℕ) → List Fault
@@ -145,11 +145,15 @@ values_of type_of = map (λ e. (e, given_type type_of e))
 abbrev pub is_input : List ℕ → Input → Bool
 is_input name i = same_name i.name name
 
-abbrev pub wrong_input : Call → Signature → Given → List Fault
-wrong_input c s v = option_map_or (type_faults c v.0 v.1) (find (is_input (key_of v.0)) s.inputs) []
+-- where the first input with each name stands
+abbrev pub input_positions : List Input → List ℕ → Option ℕ
+input_positions inputs name = first_at (is_input name) inputs
+
+abbrev pub wrong_input : Call → List Input → Given → List Fault
+wrong_input c inputs v = option_map_or (type_faults c v.0 v.1) (find (is_input (key_of v.0)) inputs) []
 
 abbrev pub wrong_inputs : Call → List Given → Signature → List Fault
-wrong_inputs c values s = flat_map (wrong_input c s) values
+wrong_inputs c values s = flat_map (wrong_input c s.inputs) values
 
 -- C5 and C6: the same for secrets, neither under `inherit`
 abbrev pub extra_secret : Call → Signature → Names → Node × Node → List Fault

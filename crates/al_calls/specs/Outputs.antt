@@ -1,13 +1,11 @@
 -- The outputs that answers make known: those of a composite action to a step, those of a callable workflow to a job.
-use Rattle.std.specs.Prelude.{ℕ, List, Bool, true, false, ◌==◌, ◌&&◌, Option, Some, None, find, option_and_then, if◌then◌else◌}
-use Rattle.std.specs.Str.{bytes_eq}
+use Rattle.std.specs.Prelude.{ℕ, List, Bool, true, false, Option, Some, None, if◌then◌else◌}
 use Rattle.al_text.specs.declared.codes.Caller.{Caller}
 use Rattle.al_text.specs.declared.codes.Caller.TheVariants as caller
 use Rattle.al_interfaces.specs.declared.interfaces.Interface.{Interface}
 use Rattle.al_interfaces.specs.declared.interfaces.Interface.TheVariants.{Readable, Unreadable}
 use Rattle.al_interfaces.specs.declared.interfaces.Role.{Role}
 use Rattle.al_interfaces.specs.declared.interfaces.Role.TheVariants as role
-use Rattle.al_uses.specs.Uses.{Site}
 use Rattle.al_calls.specs.Answers.{Answered}
 use Rattle.al_calls.specs.CallFaults.{caller_of}
 
@@ -25,20 +23,3 @@ outputs_in by (Some (Readable s)) = if shows_outputs by s.role then Some s.outpu
 -- behind a call
 abbrev pub outputs_behind : Answered → Option (List (List ℕ))
 outputs_behind a = outputs_in (caller_of a.call) a.answer
-
-abbrev pub same_job : Option (List ℕ) → Option (List ℕ) → Bool
-same_job None None = true
-same_job (Some a) (Some b) = bytes_eq a b
-same_job _ _ = false
-
-abbrev pub same_step : Option ℕ → Option ℕ → Bool
-same_step None None = true
-same_step (Some a) (Some b) = a == b
-same_step _ _ = false
-
-abbrev pub is_site : Site → Answered → Bool
-is_site s a = same_job a.call.site.job s.job && same_step a.call.site.step s.step
-
--- behind the call at a place
-abbrev pub outputs_at : List Answered → Site → Option (List (List ℕ))
-outputs_at found s = option_and_then outputs_behind (find (is_site s) found)

@@ -16,8 +16,10 @@ use al_uses::Call;
 use al_yaml::Node;
 use std::alloc::{AllocError, Global};
 
-/// What stands under a key of a node as members.
-pub(crate) fn members_under<'a>(
+/// The entries of the mapping under a key of a node in order, of equal keys the first; none where there is no mapping.
+///
+/// Fails with `AllocError` for want of memory.
+pub fn members_under<'a>(
     alloc: Global,
     node: &'a Node,
     key: &str,

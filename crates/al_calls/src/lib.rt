@@ -15,6 +15,7 @@ mod values;
 pub use answers::{Answered, with_answers};
 pub use calls::check_call;
 pub use examples::rows;
+pub use given::members_under;
 pub use laws::faults_lie;
 pub use outputs::outputs_of;
 pub use values::Value;

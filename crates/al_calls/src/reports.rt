@@ -1,6 +1,5 @@
 //! Faults of calls that name the text of `uses`: C1, C7 and C8; and the reporting of all.
-ghost use Rattle.std.specs.Prelude.{◌≡◌, ◌++◌, ◌∷◌, [], map, string_bytes, IfOk, OnOk};
-ghost use Rattle.al_text.specs.Messages.{shown as shown_bytes, shown_byte};
+ghost use Rattle.std.specs.Prelude.{◌≡◌, ◌++◌, ◌∷◌, [], OnOk};
 ghost use Rattle.al_calls.specs.CallFaults as faults;
 ghost use Rattle.al_uses.specs.CallViews.{call_of};
 
@@ -29,35 +28,6 @@ pub(crate) fn caller_of(call: &Call<'_>) -> Caller
     }
 }
 
-fn shown_as(byte: u8) -> u8
-    ensures { result ≡ shown_byte byte }
-{
-    if byte < 32 || byte == 127 { b'?' } else { byte }
-}
-
-fn shown_of(alloc: Global, bytes: &[u8]) -> Result<Vec<u8>, AllocError>
-    ensures { IfOk result (λ v. v.items ≡ shown_bytes bytes.now) }
-{
-    let mut shown = Vec::new(alloc);
-    for byte in bytes {
-        shown.push(shown_as(*byte))?;
-    }
-    Ok(shown)
-}
-
-/// A text as it is printed.
-///
-/// Fails with `AllocError` for want of memory, and where it is no UTF-8, which no text of a file is.
-fn shown(alloc: Global, bytes: &[u8]) -> Result<String, AllocError>
-    ensures { IfOk result (λ s. string_bytes s ≡ shown_bytes bytes.now) }
-{
-    let shown = shown_of(alloc, bytes)?;
-    match std::str::from_utf8(shown.as_slice()) {
-        Ok(text) => String::from_str(alloc, text),
-        Err(_) => Err(AllocError),
-    }
-}
-
 /// Adds a fault of a call with one argument.
 pub(crate) fn report_one(
     alloc: Global,
@@ -70,7 +40,7 @@ pub(crate) fn report_one(
     ensures { OnOk result (out.new.items ≡ out.old.items ++ faults.fault code (call_of call.now) at (text.now ∷ []) ∷ []) }
 {
     let mut texts = Vec::new(alloc);
-    texts.push(shown(alloc, text)?)?;
+    texts.push(String::from_utf8_lossy(alloc, text)?)?;
     out.push(Fault {
         span: at,
         code: Code::Call(code, caller_of(call)),
@@ -92,8 +62,8 @@ pub(crate) fn report_two(
     ensures { OnOk result (out.new.items ≡ out.old.items ++ faults.fault code (call_of call.now) at (first.now ∷ second.now ∷ []) ∷ []) }
 {
     let mut texts = Vec::new(alloc);
-    texts.push(shown(alloc, first)?)?;
-    texts.push(shown(alloc, second)?)?;
+    texts.push(String::from_utf8_lossy(alloc, first)?)?;
+    texts.push(String::from_utf8_lossy(alloc, second)?)?;
     out.push(Fault {
         span: at,
         code: Code::Call(code, caller_of(call)),

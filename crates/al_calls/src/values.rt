@@ -2,6 +2,7 @@
 ghost use Rattle.std.specs.Prelude.{◌≡◌, ◌++◌, find, map, IfOk, OnOk};
 ghost use Rattle.std.specs.Option.{option_copied};
 ghost use Rattle.al_declarations.specs.Inputs.{input_type};
+ghost use Rattle.al_declarations.specs.Positions.{name_position};
 ghost use Rattle.al_shape.specs.Values.{member_of};
 ghost use Rattle.al_types.specs.TypeViews.{ty_of};
 ghost use Rattle.al_yaml.specs.View.{view};
@@ -10,7 +11,7 @@ ghost use Rattle.al_uses.specs.CallViews.{call_of};
 ghost use Rattle.al_calls.specs.AnswerViews.{given_of};
 
 use crate::reports::report_two;
-use al_declarations::{InputType, is_same_name, type_of};
+use al_declarations::{InputType, NamePositions, type_of};
 use al_interfaces::{Input, Signature};
 use al_shape::{Member, key_text};
 use al_text::{CallCode, Fault};
@@ -19,10 +20,10 @@ use al_uses::Call;
 use std::alloc::{AllocError, Global};
 
 /// What is given under a name, and its type.
-#[derive(Clone, Copy)]
+#[derive(Drop)]
 pub struct Value<'a> {
     pub member: Member<'a>,
-    pub ty: &'a Ty,
+    pub ty: Ty,
 }
 
 fn type_name(takes: InputType) -> &'static [u8]
@@ -41,27 +42,43 @@ fn is_right(ty: &Ty, takes: InputType) -> bool
     assignable(ty, &type_of(takes))
 }
 
-fn input_named<'a>(inputs: &'a [Input], name: &[u8]) -> Option<&'a Input>
-    ensures { option_copied result ≡ find (faults.is_input name.now) inputs.now }
+/// Where the first input with each name stands.
+fn input_positions(alloc: Global, inputs: &[Input]) -> Result<NamePositions, AllocError>
+    ensures { IfOk result (λ p. name_position p ≡ faults.input_positions inputs.now) }
 {
-    for input in inputs {
-        if is_same_name(input.name.as_bytes(), name) {
-            return Some(input);
-        }
+    let mut positions = NamePositions::new(alloc);
+    for (i, input) in inputs.iter().enumerate() {
+        let _ = positions.insert(alloc, input.name.as_bytes(), i)?;
     }
-    None
+    Ok(positions)
+}
+
+/// The first input with a name.
+fn input_named<'a>(
+    alloc: Global,
+    inputs: &'a [Input],
+    positions: &NamePositions,
+    name: &[u8],
+) -> Result<Option<&'a Input>, AllocError>
+    requires { name_position positions.now ≡ faults.input_positions inputs.now }
+    ensures { IfOk result (λ i. option_copied i ≡ find (faults.is_input name.now) inputs.now) }
+{
+    match positions.get(alloc, name)? {
+        Some(i) => Ok(Some(&inputs[i])),
+        None => Ok(None),
+    }
 }
 
 fn check_type(
     alloc: Global,
     call: &Call<'_>,
-    value: Value<'_>,
+    value: &Value<'_>,
     input: &Input,
     out: &mut Vec<Fault>,
 ) -> Result<(), AllocError>
-    ensures { OnOk result (out.new.items ≡ out.old.items ++ faults.type_faults (call_of call.now) (member_of value.entry.member) (ty_of value.entry.ty.now) input.now) }
+    ensures { OnOk result (out.new.items ≡ out.old.items ++ faults.type_faults (call_of call.now) (member_of value.now.member) (ty_of value.now.ty) input.now) }
 {
-    if is_right(value.ty, input.takes) {
+    if is_right(&value.ty, input.takes) {
         return Ok(());
     }
     report_two(
@@ -79,13 +96,16 @@ fn check_type(
 fn check_value(
     alloc: Global,
     call: &Call<'_>,
-    signature: &Signature,
-    value: Value<'_>,
+    inputs: &[Input],
+    positions: &NamePositions,
+    value: &Value<'_>,
     out: &mut Vec<Fault>,
 ) -> Result<(), AllocError>
-    ensures { OnOk result (out.new.items ≡ out.old.items ++ faults.wrong_input (call_of call.now) signature.now (given_of value.entry)) }
+    requires { name_position positions.now ≡ faults.input_positions inputs.now }
+    ensures { OnOk result (out.new.items ≡ out.old.items ++ faults.wrong_input (call_of call.now) inputs.now (given_of value.now)) }
 {
-    match input_named(signature.inputs.as_slice(), key_text(value.member.key)) {
+    let name = key_text(value.member.key);
+    match input_named(alloc, inputs, positions, name)? {
         Some(input) => check_type(alloc, call, value, input, out),
         None => Ok(()),
     }
@@ -101,8 +121,10 @@ pub(crate) fn check_values(
 ) -> Result<(), AllocError>
     ensures { OnOk result (out.new.items ≡ out.old.items ++ faults.wrong_inputs (call_of call.now) (map given_of values.now) signature.now) }
 {
+    let inputs = signature.inputs.as_slice();
+    let positions = input_positions(alloc, inputs)?;
     for value in values {
-        check_value(alloc, call, signature, *value, out)?;
+        check_value(alloc, call, inputs, &positions, value, out)?;
     }
     Ok(())
 }

@@ -1,15 +1,15 @@
 -- What the linter means.
-use Rattle.std.specs.Prelude.{[]}
 use Rattle.al_session.specs.Meaning.{Meaning}
-use Rattle.al_tree.specs.Kinds.{is_accepted, kind_of}
+use Rattle.al_tree.specs.Kinds.{is_accepted, file_kind}
+use Rattle.al_interfaces.specs.declared.interfaces.Interface.{Interface}
+use Rattle.al_check.specs.Calling.{file_interface, file_targets}
 use Rattle.al_check.specs.FileFaults.{file_faults}
-use Rattle.al_check.specs.declared.lint.NoInterface.{NoInterface}
 
--- No file calls another one, and so none offers anything.
-abbrev pub linting : Meaning NoInterface
+-- Of a file's path only its kind counts: a workflow's or an action's.
+abbrev pub linting : Meaning Interface
 linting = record {
   accepts = is_accepted;
-  calls = λ path bytes. [];
-  interface = λ path bytes. record {};
-  faults = λ path bytes answers. file_faults (kind_of path) bytes;
+  calls = λ path bytes. file_targets (file_kind path) bytes;
+  interface = λ path bytes. file_interface (file_kind path) bytes;
+  faults = λ path bytes answers. file_faults (file_kind path) bytes answers;
 }

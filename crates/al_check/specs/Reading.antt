@@ -9,10 +9,9 @@ use Rattle.al_tree.specs.declared.files.Tree.TheVariants as tree
 use Rattle.al_yaml.specs.ByteFaults.{fault_span}
 use Rattle.al_yaml.specs.Document.{tree_of}
 use Rattle.al_yaml.specs.Node.{Node}
-use Rattle.al_yaml.specs.Spans.{IsInside, IsWithin}
+use Rattle.al_yaml.specs.Spans.{AreFrom, IsInside, IsWithin}
 use Rattle.al_yaml.specs.Texts.{HasTexts}
 use Rattle.al_yaml.specs.View.{view}
-use Rattle.al_contents.specs.Inside.{AreFrom}
 use Rattle.al_check.specs.declared.files.ReadFile.{ReadFile}
 
 abbrev pub root_of : Tree → Node

@@ -1,27 +1,32 @@
 //! Files as they are read, and the faults of each.
 ghost use Rattle.std.specs.Prelude.{◌≡◌, ◌≤◌, ◌++◌, [], ◌∷◌, false, length, map, IfOk, OnOk};
+ghost use Rattle.std.specs.Option.{option_copied};
 ghost use Rattle.al_shape.specs.Faults.{root_faults};
 ghost use Rattle.al_shape.specs.Growth.{SameSet};
 ghost use Rattle.al_text.specs.FaultLists.{fault_list};
 ghost use Rattle.al_tree.specs.Files.{shape_of};
 ghost use Rattle.al_yaml.specs.Document.{tree_of};
-ghost use Rattle.al_yaml.specs.Spans.{IsInside, IsWithin};
+ghost use Rattle.al_yaml.specs.Spans.{AreFrom, IsInside, IsWithin};
 ghost use Rattle.al_yaml.specs.Texts.{HasTexts};
 ghost use Rattle.al_yaml.specs.View.{view};
-ghost use Rattle.al_contents.specs.FileExpressions as expressions;
-ghost use Rattle.al_contents.specs.Inside.{AreFrom};
-ghost use Rattle.al_contexts.specs.Answered.{known_of};
+ghost use Rattle.al_interfaces.specs.Interfaces as interfaces;
+ghost use Rattle.al_uses.specs.Uses as uses;
+ghost use Rattle.al_file_calls.specs.FileCalls as calls;
 ghost use Rattle.al_check.specs.FileFaults as faults;
+ghost use Rattle.al_check.specs.Calling.{shown_by, targets_of};
 ghost use Rattle.al_check.specs.Reading.{IsRead, kind_in, root_of};
 ghost use Rattle.al_check.specs.RuleFaults.{rule_faults};
 
 use crate::printing::printed;
-use al_contents::{are_from, expression_faults};
+use al_file_calls::behind_faults;
+use al_interfaces::{Interface, interface_of};
 use al_rules::rules;
 use al_scalar::YamlFault;
+use al_session::Target;
 use al_shape::{Shape, shape_faults};
 use al_text::{Args, Code, Fault, ordered};
 use al_tree::{Action, FileKind, Tree, Workflow};
+use al_uses::{calls_in, targets};
 use al_yaml::{Doc, read_yaml};
 use std::alloc::{AllocError, Global};
 
@@ -63,13 +68,7 @@ pub(crate) fn read_file(alloc: Global, kind: FileKind, bytes: &[u8]) -> Result<R
     ensures { IfOk result (λ file. IsRead file kind bytes.now) }
 {
     match read_yaml(alloc, bytes)? {
-        Ok(doc) => {
-            // Each byte of a text comes from the file, so this is never so.
-            if !are_from(&doc.root, bytes.len()) {
-                return Err(AllocError);
-            }
-            Ok(read_tree(kind, bytes, doc))
-        }
+        Ok(doc) => Ok(read_tree(kind, bytes, doc)),
         Err(fault) => Ok(ReadFile { tree: Err(fault) }),
     }
 }
@@ -94,17 +93,23 @@ fn own_faults(alloc: Global, tree: &Tree) -> Result<Vec<Fault>, AllocError>
     Ok(found)
 }
 
-/// Adds the faults of expressions, of which nothing is known behind calls.
-fn add_expressions(alloc: Global, tree: &Tree, out: &mut Vec<Fault>) -> Result<(), AllocError>
+/// Adds the faults that depend on what answers the file's calls: of its expressions and of its calls.
+fn add_behind(
+    alloc: Global,
+    tree: &Tree,
+    answers: &[Option<&Interface>],
+    out: &mut Vec<Fault>,
+) -> Result<(), AllocError>
     requires within { IsWithin 0 1048576 (root_of tree.now) }
     requires texts { HasTexts (root_of tree.now) }
-    ensures { OnOk result (out.new.items ≡ out.old.items ++ expressions.expression_faults (kind_in tree.now) (known_of []) (root_of tree.now)) }
+    ensures { OnOk result (out.new.items ≡ out.old.items
+        ++ calls.behind_faults (kind_in tree.now) (root_of tree.now) (map (λ a. option_copied a) answers.now)) }
 {
     match tree {
-        Tree::Workflow(workflow) => {
-            expression_faults(alloc, FileKind::Workflow, &workflow.root, &[], out)
+        Tree::Workflow(file) => {
+            behind_faults(alloc, FileKind::Workflow, &file.root, answers, out)
         }
-        Tree::Action(action) => expression_faults(alloc, FileKind::Action, &action.root, &[], out),
+        Tree::Action(file) => behind_faults(alloc, FileKind::Action, &file.root, answers, out),
     }
 }
 
@@ -116,13 +121,18 @@ fn listed(alloc: Global, found: Vec<Fault>) -> Result<Vec<Fault>, AllocError>
 }
 
 /// The faults of a workflow or an action, in the order of reports, each once.
-fn document_faults(alloc: Global, tree: &Tree) -> Result<Vec<Fault>, AllocError>
+fn document_faults(
+    alloc: Global,
+    tree: &Tree,
+    answers: &[Option<&Interface>],
+) -> Result<Vec<Fault>, AllocError>
     requires within { IsWithin 0 1048576 (root_of tree.now) }
     requires texts { HasTexts (root_of tree.now) }
-    ensures { IfOk result (λ list. list.items ≡ faults.document_faults (kind_in tree.now) (root_of tree.now)) }
+    ensures { IfOk result (λ list. list.items
+        ≡ faults.document_faults (kind_in tree.now) (root_of tree.now) (map (λ a. option_copied a) answers.now)) }
 {
     let mut found = own_faults(alloc, tree)?;
-    add_expressions(alloc, tree, &mut found)?;
+    add_behind(alloc, tree, answers, &mut found)?;
     listed(alloc, found)
 }
 
@@ -139,19 +149,66 @@ fn yaml_fault(alloc: Global, fault: YamlFault) -> Result<Vec<Fault>, AllocError>
     Ok(faults)
 }
 
-/// The faults of a file that was read as that kind from these bytes: its one fault as YAML, or else all faults of the document, in the
-/// order of reports, each once.
+/// The faults of a file that was read as that kind from these bytes, given the answers of its calls of files of the folder: its one
+/// fault as YAML, or else all faults of the document, in the order of reports, each once.
 pub(crate) fn file_faults(
     alloc: Global,
     kind: FileKind,
     bytes: &[u8],
     file: &ReadFile,
+    answers: &[Option<&Interface>],
 ) -> Result<Vec<Fault>, AllocError>
     requires { IsRead file.now kind bytes.now }
-    ensures { IfOk result (λ found. found.items ≡ faults.file_faults kind bytes.now) }
+    ensures { IfOk result (λ found. found.items ≡ faults.file_faults kind bytes.now (map (λ a. option_copied a) answers.now)) }
 {
     match &file.tree {
         Err(fault) => yaml_fault(alloc, *fault),
-        Ok(tree) => document_faults(alloc, tree),
+        Ok(tree) => document_faults(alloc, tree, answers),
+    }
+}
+
+/// The files of the folder that a document calls.
+fn tree_targets(alloc: Global, tree: &Tree) -> Result<Vec<Target>, AllocError>
+    ensures { IfOk result (λ found. found.items ≡ uses.targets_of (uses.calls_in (kind_in tree.now) (root_of tree.now))) }
+{
+    match tree {
+        Tree::Workflow(file) => {
+            let calls = calls_in(alloc, FileKind::Workflow, &file.root)?;
+            targets(alloc, calls.as_slice())
+        }
+        Tree::Action(file) => {
+            let calls = calls_in(alloc, FileKind::Action, &file.root)?;
+            targets(alloc, calls.as_slice())
+        }
+    }
+}
+
+/// The files of the folder that a file calls, in order.
+pub(crate) fn file_targets(alloc: Global, file: &ReadFile) -> Result<Vec<Target>, AllocError>
+    ensures { IfOk result (λ found. found.items ≡ targets_of file.now) }
+{
+    match &file.tree {
+        Err(_) => Ok(Vec::new(alloc)),
+        Ok(tree) => tree_targets(alloc, tree),
+    }
+}
+
+/// What a document shows to its callers.
+fn tree_interface(alloc: Global, tree: &Tree) -> Result<Interface, AllocError>
+    ensures { IfOk result (λ i. i ≡ interfaces.interface_of (kind_in tree.now) (root_of tree.now)) }
+{
+    match tree {
+        Tree::Workflow(file) => interface_of(alloc, FileKind::Workflow, &file.root),
+        Tree::Action(file) => interface_of(alloc, FileKind::Action, &file.root),
+    }
+}
+
+/// What a file shows to its callers.
+pub(crate) fn file_interface(alloc: Global, file: &ReadFile) -> Result<Interface, AllocError>
+    ensures { IfOk result (λ i. i ≡ shown_by file.now) }
+{
+    match &file.tree {
+        Err(_) => Ok(Interface::Unreadable),
+        Ok(tree) => tree_interface(alloc, tree),
     }
 }

@@ -5,15 +5,17 @@ ghost use Rattle.std.specs.List.Sorted.{IsStrictlySortedBy};
 ghost use Rattle.al_text.specs.FaultLists.{fault_cmp};
 ghost use Rattle.al_text.specs.Spans.{LiesIn};
 ghost use Rattle.al_session.specs.Meaning.{counted};
-ghost use Rattle.al_tree.specs.Kinds.{kind_of};
+ghost use Rattle.al_tree.specs.Kinds.{file_kind};
 ghost use Rattle.al_check.specs.Linting.{linting};
 ghost use Rattle.al_check.specs.Reading.{IsRead};
-ghost use Rattle.al_check.specs.Laws.{faults_inside, faults_ordered, same_interface};
+ghost use Rattle.al_interfaces.proofs.Exact.{exact};
+ghost use Rattle.al_check.specs.Laws.{faults_inside, faults_ordered};
 
-use crate::files::{ReadFile, file_faults, read_file};
+use crate::files::{ReadFile, file_faults, file_interface, file_targets, read_file};
+use al_interfaces::Interface;
 use al_session::{Lint, Target};
 use al_text::Fault;
-use al_tree::{is_action, is_workflow, kind_of};
+use al_tree::{file_kind, is_action, is_workflow};
 use std::alloc::{AllocError, Global};
 
 /// The linter of workflows and actions, with its counts.
@@ -22,10 +24,6 @@ pub struct Actions {
     checks: u64,
     reads: u64,
 }
-
-/// What a file offers to those that call it, which is nothing.
-#[derive(Clone, Copy, PartialEq, Eq, Debug)]
-pub struct NoInterface {}
 
 impl Actions {
     /// A linter that has read and checked nothing. Takes no memory.
@@ -43,11 +41,11 @@ impl Actions {
 impl Lint for Actions {
     type Unit = ReadFile;
 
-    type Iface = NoInterface;
+    type Iface = Interface;
 
     ghost meaning = { linting };
 
-    ghost is_unit = { λ unit path bytes. IsRead unit (kind_of path) bytes };
+    ghost is_unit = { λ unit path bytes. IsRead unit (file_kind path) bytes };
 
     ghost checks_of = { λ lint. lint.checks };
 
@@ -59,15 +57,15 @@ impl Lint for Actions {
 
     fn read(&mut self, alloc: Global, path: &str, bytes: &[u8]) -> Result<ReadFile, AllocError> {
         self.reads = self.reads.saturating_add(1);
-        read_file(alloc, kind_of(path.as_bytes()), bytes)
+        read_file(alloc, file_kind(path.as_bytes()), bytes)
     }
 
-    fn iface(&self, alloc: Global, path: &str, unit: &ReadFile) -> Result<NoInterface, AllocError> {
-        Ok(NoInterface {})
+    fn iface(&self, alloc: Global, path: &str, unit: &ReadFile) -> Result<Interface, AllocError> {
+        file_interface(alloc, unit)
     }
 
     fn calls(&self, alloc: Global, path: &str, unit: &ReadFile) -> Result<Vec<Target>, AllocError> {
-        Ok(Vec::new(alloc))
+        file_targets(alloc, unit)
     }
 
     fn check(
@@ -76,10 +74,10 @@ impl Lint for Actions {
         path: &str,
         bytes: &[u8],
         unit: &ReadFile,
-        answers: &[Option<&NoInterface>],
+        answers: &[Option<&Interface>],
     ) -> Result<Vec<Fault>, AllocError> {
         self.checks = self.checks.saturating_add(1);
-        file_faults(alloc, kind_of(path.as_bytes()), bytes, unit)
+        file_faults(alloc, file_kind(path.as_bytes()), bytes, unit, answers)
     }
 
     fn checks(&self) -> u64 {
@@ -90,9 +88,9 @@ impl Lint for Actions {
         self.reads
     }
 
-    ghost exact = { λ a b same. same_interface a b };
+    ghost exact = { exact };
 
-    ghost inside = { λ unit path bytes answers read. faults_inside unit (kind_of path) bytes read };
+    ghost inside = { λ unit path bytes answers read. faults_inside unit (file_kind path) bytes answers read };
 
-    ghost ordered = { λ unit path bytes answers read. faults_ordered unit (kind_of path) bytes read };
+    ghost ordered = { λ unit path bytes answers read. faults_ordered unit (file_kind path) bytes answers read };
 }

@@ -11,7 +11,7 @@ use Rattle.al_session.specs.Report.{report_of, status_of}
 use Rattle.al_session.specs.declared.lint.Refused.{Refused}
 use Rattle.al_session.specs.declared.lint.Refused.TheVariants.{BadPath, NotAccepted, TooLarge, Full, NoSuchFile, Memory}
 use Rattle.al_check.specs.Linting.{linting}
-use Rattle.al_check.specs.contracts.lint.NoInterfacePartialEq.TheImpl as interface
+use Rattle.al_interfaces.specs.contracts.interfaces.InterfacePartialEq.TheImpl as interface
 use Rattle.al_cli.specs.Script.{Command, Put, Delete, Report}
 use Rattle.al_cli.specs.Runs.{Steps}
 
@@ -40,10 +40,10 @@ abbrev pub edit_reply : Option Refused → Folder → Folder → List ℕ
 edit_reply None old new = accepted_reply (length (affected interface.ghosts.eq linting old new))
 edit_reply (Some refused) old new = refused_reply refused
 
-abbrev pub folder_after : Folder → Command → Folder
-folder_after folder (Put path bytes) = edited (put_refusal linting folder path bytes) folder (with_file folder path bytes)
-folder_after folder (Delete path) = edited (delete_refusal linting folder path) folder (without_file folder path)
-folder_after folder Report = folder
+abbrev pub after_command : Folder → Command → Folder
+after_command folder (Put path bytes) = edited (put_refusal linting folder path bytes) folder (with_file folder path bytes)
+after_command folder (Delete path) = edited (delete_refusal linting folder path) folder (without_file folder path)
+after_command folder Report = folder
 
 -- to a report with snippets, or of lines alone
 abbrev pub reply_to : Bool → Folder → Command → List ℕ
@@ -59,7 +59,7 @@ refusal_of folder Report = None
 
 -- the session of a script, over its folders
 abbrev pub session : Bool → Steps Folder
-session oneline = record { reply = reply_to oneline; after = folder_after; status = status_of linting }
+session oneline = record { reply = reply_to oneline; after = after_command; status = status_of linting }
 
 -- ---- what a reply to an edit writes
 

@@ -9,7 +9,7 @@ mod run;
 mod scripts;
 mod words;
 
-pub use commands::{Command, Next, next_command};
+pub use commands::{Command, NextCommand, next_command};
 pub use disk::{Unread, gather, gather_for};
 pub use linted::{Fatal, lint_all};
 pub use run::{number_of, run_session};

@@ -11,7 +11,7 @@ ghost use Rattle.al_session.specs.declared.lint.Refused.TheVariants as refused;
 ghost use Rattle.al_cli.specs.Answered.{Progresses, IsStuck};
 ghost use Rattle.al_text.specs.declared.stops.Stop.TheVariants.{ReadFault, WriteFault, Memory, TooManyTurns};
 
-use super::commands::{Command, Next, next_command};
+use super::commands::{Command, NextCommand, next_command};
 use al_check::Actions;
 use al_session::{Edit, Refused, Session};
 use al_text::{Input, Output, Stop};
@@ -171,12 +171,12 @@ fn answer_all<W: Write>(
     let mut done = 0;
     while done < waiting.len() {
         match next_command(&waiting[done..]) {
-            Next::Whole(command, count) => {
+            NextCommand::Whole(command, count) => {
                 answer(session, command, writer, oneline)?;
                 done += count;
             }
-            Next::Pending => return Ok(Progress::Waits(done)),
-            Next::Wrong => {
+            NextCommand::Pending => return Ok(Progress::Waits(done)),
+            NextCommand::Wrong => {
                 writer.write_all(b"bad command\n")?;
                 return Ok(Progress::Bad);
             }
@@ -192,7 +192,7 @@ fn answer<W: Write>(
     writer: &mut Output<W>,
     oneline: bool,
 ) -> Result<(), Stop>
-    ensures after { OnOk result (session.new.folder ≡ replies.folder_after session.old.folder (meaning command.entry)) }
+    ensures after { OnOk result (session.new.folder ≡ replies.after_command session.old.folder (meaning command.entry)) }
     ensures ok { OnOk result (Appends (bytes_written W.contents writer.old) (bytes_written W.contents writer.new)
         (replies.reply_to oneline session.old.folder (meaning command.entry))) }
     ensures err { OnErr result (AppendsFront (bytes_written W.contents writer.old) (bytes_written W.contents writer.new)

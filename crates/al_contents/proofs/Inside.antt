@@ -9,7 +9,7 @@ use Rattle.al_text.specs.declared.codes.ExpressionCode.TheVariants as code
 use Rattle.al_text.specs.declared.faults.Fault.{Fault}
 use Rattle.al_text.specs.declared.faults.Span.{Span}
 use Rattle.al_scalar.specs.Line.{Cell}
-use Rattle.al_scalar.specs.Offsets.{AreRising, IsPlaced, reach}
+use Rattle.al_scalar.specs.Offsets.{AreRising, IsFrom, IsPlaced, reach}
 use Rattle.al_scalar.specs.Scalar.{Scalar, offset_of, offset_or, text_of}
 use Rattle.al_grammar.specs.Chunks.{chunks_of}
 use Rattle.al_grammar.specs.Extents.{extent}
@@ -25,14 +25,14 @@ use Rattle.al_types.specs.Types.{Type', is_collection}
 use Rattle.al_meaning.specs.Meaning.{faults_in, meaning_of, type_in}
 use Rattle.al_meaning.proofs.Inside.{both_lie, meaning_lies}
 use Rattle.al_yaml.specs.Node.{Node}
-use Rattle.al_yaml.specs.Spans.{IsWithin}
+use Rattle.al_yaml.specs.Spans.{AreFrom, IsWithin}
 use Rattle.al_tree.specs.declared.files.FileKind.{FileKind}
 use Rattle.al_places.specs.Places.{Place, places_of}
 use Rattle.al_contexts.specs.Contexts.{Known}
 use Rattle.al_contexts.specs.Scopes.{scope_at}
 use Rattle.al_contents.specs.FileExpressions.{expression_faults}
 use Rattle.al_contents.specs.Contents.{chunk_faults, chunked_faults, collection_faults, content_faults, is_one_chunk, is_whole, located, moved, place_faults, tree_faults}
-use Rattle.al_contents.specs.Inside.{AllLie, AreFrom, IsFrom, IsThere}
+use Rattle.al_contents.specs.Inside.{AllLie, IsThere}
 use Rattle.al_contents.specs.Spelled.{tree_in, tree_of_content, tree_of_tokens}
 use Rattle.al_contents.proofs.EndLemmas.{at_end, length_text}
 use Rattle.al_contents.proofs.Places.{places_there}

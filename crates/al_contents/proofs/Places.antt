@@ -7,12 +7,12 @@ use Rattle.std.proofs.lemmas.List.Elements.{All-from_recursion}
 use Rattle.al_text.specs.Spans.{LiesIn}
 use Rattle.al_text.specs.declared.faults.Span.{Span}
 use Rattle.al_scalar.specs.Line.{Cell}
-use Rattle.al_scalar.specs.Offsets.{AreRising, IsPlaced, is_block, reach}
+use Rattle.al_scalar.specs.Offsets.{AreRising, IsFrom, IsPlaced, is_block, reach}
 use Rattle.al_scalar.specs.Scalar.{Scalar, offset_of, offset_or, text_of}
 use Rattle.al_scalar.specs.declared.styles.Style.{Style}
 use Rattle.al_yaml.specs.Access.{entries}
 use Rattle.al_yaml.specs.Node.{Node, Nodes, Entries, scalar, sequence, mapping, no_nodes, item, no_entries, entry, span_of}
-use Rattle.al_yaml.specs.Spans.{AreInOrder, EntriesInOrder, IsBetween, IsWithin}
+use Rattle.al_yaml.specs.Spans.{AreFrom, AreInOrder, EntriesFrom, EntriesInOrder, IsBetween, IsWithin, ItemsFrom}
 use Rattle.al_yaml.specs.Texts.{EntriesHaveTexts, HasTexts, HaveTexts}
 use Rattle.al_shape.specs.Faults.{Standing, repeated, unexpected, ignored, expected, standing, refined}
 use Rattle.al_shape.specs.Keys.{key_text, keys_in}
@@ -25,7 +25,7 @@ use Rattle.al_places.specs.Places.{Place, entry_places, fits, place_at, place_of
 use Rattle.al_places.specs.declared.walk.Place as rust
 use Rattle.al_places.specs.Ways.{Step, is_checked, nth, under}
 use Rattle.al_contents.specs.Contents.{HasRoom}
-use Rattle.al_contents.specs.Inside.{AreFrom, EntriesFrom, IsFrom, IsReadable, IsThere, ItemsFrom}
+use Rattle.al_contents.specs.Inside.{IsReadable, IsThere}
 use Rattle.al_contents.proofs.EndLemmas.{length_text}
 
 -- ---- the walk, for any property of scalars
@@ -101,7 +101,7 @@ either_small false high end most h e = e
 reach_small : (high most : ℕ) (s : Style) (end : ℕ) → high ≤ most → end ≤ most → reach high s end ≤ most
 reach_small high most s end h e = either_small (is_block s) high end most h e
 
-readable : (s : Scalar) (at : Span) → IsPlaced 1048576 s at → at.end ≤ 1048576 → (length (text_of s) ≤ 4194304) × HasRoom s
+pub readable : (s : Scalar) (at : Span) → IsPlaced 1048576 s at → at.end ≤ 1048576 → (length (text_of s) ≤ 4194304) × HasRoom s
 readable s at p h =
     let end : s.end ≤ 1048576 = omega (arith, h, p.end) in
     let far : reach 1048576 s.style s.end ≤ 1048576 = reach_small 1048576 1048576 s.style s.end (omega arith) end in

@@ -10,7 +10,7 @@ use Rattle.al_grammar.specs.Grammar.{Derives, Binary, IsTreeOf}
 use Rattle.al_grammar.specs.Law.{FaultsSpellNothing, OneTree}
 use Rattle.al_grammar.specs.Parsed.{EndsLevel}
 use Rattle.al_grammar.specs.Refusal.{Spells, fault_at, fault_of_content, fault_of_tokens, fault_of_verdict}
-use Rattle.al_grammar.specs.Table.{Verdict, Fine, Early, Unexpected, TooDeep, Mode, E, N, O, Frame, Next, Stuck, Go, Deeper, finish, onward, outside, scan, step, verdict_of}
+use Rattle.al_grammar.specs.Table.{Verdict, Fine, Early, Unexpected, TooDeep, Mode, E, N, O, Frame, Transition, Stuck, Go, Deeper, finish, onward, outside, scan, step, verdict_of}
 use Rattle.al_grammar.specs.declared.token.TokenKind.{TokenKind}
 use Rattle.al_grammar.specs.declared.token.TokenKind.TheVariants.{Dot, OpenIndex, Infix}
 use Rattle.al_grammar.specs.declared.parser.ParseError.TheVariants as error
@@ -31,7 +31,7 @@ finish_deep O [] n e = absurd cc
 finish_deep N [] n e = absurd cc
 finish_deep m st n e = absurd cc
 
-onward_deep : (x : Next) (room : Bool) (left n : ℕ) (go : Mode → ℕ → List Frame → Verdict) → 0 < left →
+onward_deep : (x : Transition) (room : Bool) (left n : ℕ) (go : Mode → ℕ → List Frame → Verdict) → 0 < left →
     ((m : Mode) (k : ℕ) (st : List Frame) → go m k st ≡ TooDeep n → 0 < n) → onward x room left go ≡ TooDeep n → 0 < n
 onward_deep Stuck room left n go some ih e = absurd cc
 onward_deep (Go m k st) room left n go some ih e = ih m k st e

@@ -3,13 +3,13 @@ use Rattle.std.specs.Prelude.{ℕ, List}
 use Rattle.std.specs.List.{flat_map}
 use Rattle.al_text.specs.declared.faults.Fault.{Fault}
 use Rattle.al_yaml.specs.Node.{Node}
-use Rattle.al_yaml.specs.Spans.{IsWithin}
+use Rattle.al_yaml.specs.Spans.{AreFrom, IsWithin}
 use Rattle.al_tree.specs.declared.files.FileKind.{FileKind}
 use Rattle.al_places.specs.Places.{Place, places_of}
 use Rattle.al_contexts.specs.Contexts.{Known}
 use Rattle.al_contexts.specs.Scopes.{scope_at}
 use Rattle.al_contents.specs.Contents.{place_faults}
-use Rattle.al_contents.specs.Inside.{AllLie, AreFrom}
+use Rattle.al_contents.specs.Inside.{AllLie}
 
 -- at a place of the file, under what can be referred to there
 abbrev pub faults_at : FileKind → Known → Node → Place → List Fault

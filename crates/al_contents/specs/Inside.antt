@@ -1,12 +1,11 @@
 -- What holds of each scalar that is checked, and so of the places of its faults.
-use Rattle.std.specs.Prelude.{ℕ, ◌+◌, ◌<◌, ◌≤◌, List, length, IsUtf8}
+use Rattle.std.specs.Prelude.{ℕ, ◌≤◌, List, length, IsUtf8}
 use Rattle.std.specs.List.{AllByRecursion}
 use Rattle.al_text.specs.Spans.{LiesIn}
 use Rattle.al_text.specs.declared.faults.Fault.{Fault}
 use Rattle.al_text.specs.declared.faults.Span.{Span}
-use Rattle.al_scalar.specs.Offsets.{IsPlaced}
-use Rattle.al_scalar.specs.Scalar.{Scalar, offset_of, text_of}
-use Rattle.al_yaml.specs.Node.{Node, Nodes, Entries, scalar, sequence, mapping, no_nodes, item, no_entries, entry}
+use Rattle.al_scalar.specs.Offsets.{IsFrom, IsPlaced}
+use Rattle.al_scalar.specs.Scalar.{text_of}
 use Rattle.al_places.specs.Places.{Place}
 use Rattle.al_contents.specs.Contents.{HasRoom}
 
@@ -15,25 +14,6 @@ pub record IsReadable (p : Place) : Type 0 where
   pub utf8 : IsUtf8 (text_of p.word)
   pub small : length (text_of p.word) ≤ 4194304
   pub room : HasRoom p.word
-
--- Each byte of a scalar's text comes from a file of so many bytes.
-abbrev pub IsFrom : ℕ → Scalar → Type 0
-IsFrom size s = (i : ℕ) → i < length (text_of s) → offset_of s i < size
-
--- likewise of each scalar of a tree, keys too
-abbrev mutual
-  pub AreFrom : ℕ → Node → Type 0
-  AreFrom size (scalar s at) = IsFrom size s
-  AreFrom size (sequence ns at) = ItemsFrom size ns
-  AreFrom size (mapping es at) = EntriesFrom size es
-
-  pub ItemsFrom : ℕ → Nodes → Type 0
-  ItemsFrom size no_nodes = Unit {0}
-  ItemsFrom size (item n ns) = AreFrom size n × ItemsFrom size ns
-
-  pub EntriesFrom : ℕ → Entries → Type 0
-  EntriesFrom size no_entries = Unit {0}
-  EntriesFrom size (entry k v es) = AreFrom size k × AreFrom size v × EntriesFrom size es
 
 -- a place whose scalar lies in a file of so many bytes, and each byte of its text comes from there
 pub record IsThere (size : ℕ) (p : Place) : Type 0 where

@@ -4,8 +4,6 @@
 mod contents;
 mod expressions;
 mod law;
-mod offsets;
 
 pub use expressions::expression_faults;
 pub use law::all_lie_in_file;
-pub use offsets::are_from;

@@ -4,8 +4,8 @@
 #![tactic(auto)]
 
 pub use al_grammar::{
-    Chunk, Expr, Keyword, Operand, Operator, Step, Token, TokenKind, Word, chunks, extent, grammar,
-    lex, parse_expr,
+    Chunk, Expr, Keyword, Operand, Operator, PathStep, Token, TokenKind, Word, chunks, extent,
+    grammar, lex, parse_expr,
 };
 pub use al_meaning::{comparable, type_of};
 pub use al_types::{

@@ -1,4 +1,4 @@
-use crate::{Expr, Operator, Step, TokenKind, chunks, lex, parse_expr};
+use crate::{Expr, Operator, PathStep, TokenKind, chunks, lex, parse_expr};
 use al_text::{Code, ExpressionCode, Fault};
 use std::alloc::{AllocError, Global};
 use std::test::Fail;
@@ -68,7 +68,7 @@ fn is_row(expr: &Expr) -> bool {
     let Expr::Path(base, steps) = &**left else {
         return false;
     };
-    let (Expr::Name(base), [Step::Property(_, property)]) = (&**base, steps.as_slice()) else {
+    let (Expr::Name(base), [PathStep::Property(_, property)]) = (&**base, steps.as_slice()) else {
         return false;
     };
     let ([equal], [and]) = (equals.as_slice(), more.as_slice()) else {

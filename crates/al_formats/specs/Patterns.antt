@@ -1,12 +1,14 @@
 -- The grammar of filter patterns, over characters (GitHub, "Workflow syntax", "Filter pattern cheat sheet").
-use Rattle.std.specs.Prelude.{ℕ, List, [], ◌∷◌, Bool, true, false, ◌==◌, nat_lt, ◌||◌, ◌&&◌, not, drop, if◌then◌else◌, Option, Some, None, option_and_then}
+use Rattle.std.specs.Prelude.{ℕ, List, [], ◌∷◌, Bool, true, false, ◌==◌, nat_lt, ◌||◌, ◌&&◌, not, drop, if◌then◌else◌, Option, Some, None}
+use Rattle.std.specs.Prelude.{option_and_then}
 use Rattle.std.specs.List.{list_any}
 use Rattle.std.specs.Str.{chars}
 use Rattle.std.specs.Str.Lossy.{utf8_lossy}
 use Rattle.al_formats.specs.declared.patterns.Filter.{Filter}
 use Rattle.al_formats.specs.declared.patterns.Filter.TheVariants.{Names, Paths}
 use Rattle.al_formats.specs.declared.patterns.State.{State}
-use Rattle.al_formats.specs.declared.patterns.State.TheVariants.{FirstItem, AfterItem, AfterEscape, ClassFirst, ClassNext, ClassLow, ClassDash}
+use Rattle.al_formats.specs.declared.patterns.State.TheVariants.{FirstItem, AfterItem, AfterEscape, ClassFirst, ClassNext, ClassLow}
+use Rattle.al_formats.specs.declared.patterns.State.TheVariants.{ClassDash}
 
 -- outside a class `\`, `[` and the marks `?` and `+` mean something; a mark stands behind an item
 abbrev pub outside : Bool → ℕ → Option State

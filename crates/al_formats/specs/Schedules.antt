@@ -1,5 +1,6 @@
 -- The grammar of schedules, and their minutes (GitHub, "Events that trigger workflows", `schedule`).
-use Rattle.std.specs.Prelude.{ℕ, zero, suc, List, [], ◌∷◌, Bool, true, false, Option, Some, None, option_map, option_and_then, map, ◌+◌, ◌-◌, ◌*◌, ◌%◌, ◌==◌, nat_lt, nat_le, ◌&&◌, not, codes, if◌then◌else◌, find, is_some}
+use Rattle.std.specs.Prelude.{ℕ, zero, suc, List, [], ◌∷◌, Bool, true, false, Option, Some, None, option_map, option_and_then, map, ◌+◌}
+use Rattle.std.specs.Prelude.{◌-◌, ◌*◌, ◌%◌, ◌==◌, nat_lt, nat_le, ◌&&◌, not, codes, if◌then◌else◌, find, is_some}
 use Rattle.std.specs.List.{list_all, list_any, filter}
 use Rattle.std.specs.Str.{bytes_eq}
 use Rattle.std.specs.Char.{is_ascii_digit}
@@ -23,7 +24,8 @@ month_names =
     ∷ (codes "jul", 7) ∷ (codes "aug", 8) ∷ (codes "sep", 9) ∷ (codes "oct", 10) ∷ (codes "nov", 11) ∷ (codes "dec", 12) ∷ []
 
 abbrev pub day_names : List (List ℕ × ℕ)
-day_names = (codes "sun", 0) ∷ (codes "mon", 1) ∷ (codes "tue", 2) ∷ (codes "wed", 3) ∷ (codes "thu", 4) ∷ (codes "fri", 5) ∷ (codes "sat", 6) ∷ []
+day_names =
+    (codes "sun", 0) ∷ (codes "mon", 1) ∷ (codes "tue", 2) ∷ (codes "wed", 3) ∷ (codes "thu", 4) ∷ (codes "fri", 5) ∷ (codes "sat", 6) ∷ []
 
 abbrev pub minutes : Range
 minutes = between 0 59

@@ -1,7 +1,10 @@
 //! Schedules: five fields, each a set of numbers (GitHub, "Events that trigger workflows", `schedule`).
 
 ghost use Rattle.al_formats.specs.Schedules as spec;
-ghost use Rattle.al_formats.specs.Schedules.{all_of, are_close as close, field_of, from_to as numbers_from_to, head_of, is_empty, is_field as field_is_right, is_just_below, is_too_often as too_often, item_of, minute_set, minutes_in, name_in, number_in as in_range_number, number_of, picks as item_picks, schedule_of, value_in, words};
+ghost use Rattle.al_formats.specs.Schedules.{all_of, are_close as close, field_of, from_to as numbers_from_to, head_of, is_empty};
+ghost use Rattle.al_formats.specs.Schedules.{is_field as field_is_right, is_just_below, is_too_often as too_often, item_of, minute_set};
+ghost use Rattle.al_formats.specs.Schedules.{minutes_in, name_in, number_in as in_range_number, number_of, picks as item_picks};
+ghost use Rattle.al_formats.specs.Schedules.{schedule_of, value_in, words};
 ghost use Rattle.al_formats.specs.Texts.{pieces};
 ghost use Rattle.al_formats.specs.Views.{least_thousand, range_of, range_name};
 ghost use Rattle.std.specs.List.{list_any, filter};
@@ -335,7 +338,8 @@ fn are_right(
     months: &[u8],
     weekdays: &[u8],
 ) -> Result<bool, AllocError>
-    ensures { IfOk result (λ r. r ≡ (field_is_right spec.hours hours.now && field_is_right spec.days days.now && field_is_right spec.months months.now && field_is_right spec.weekdays weekdays.now)) }
+    ensures { IfOk result (λ r. r ≡ (field_is_right spec.hours hours.now && field_is_right spec.days days.now
+        && field_is_right spec.months months.now && field_is_right spec.weekdays weekdays.now)) }
 {
     if !is_field(alloc, HOURS, hours)? {
         return Ok(false);

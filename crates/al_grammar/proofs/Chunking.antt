@@ -8,39 +8,39 @@ use Rattle.std.specs.Prelude.{All}
 use Rattle.std.specs.Str.{IsUtf8, IsCharBoundary}
 use Rattle.al_text.specs.declared.faults.Span.{Span}
 use Rattle.al_grammar.specs.declared.chunk.Chunk.{Chunk}
-use Rattle.al_grammar.specs.declared.chunk.Place.{Place}
-use Rattle.al_grammar.specs.declared.chunk.Place.TheVariants.{Outside, Inside, Quoted}
+use Rattle.al_grammar.specs.declared.chunk.ChunkState.{ChunkState}
+use Rattle.al_grammar.specs.declared.chunk.ChunkState.TheVariants.{Outside, Inside, Quoted}
 use Rattle.al_grammar.specs.declared.chunk.Move.{Move}
 use Rattle.al_grammar.specs.declared.chunk.Move.TheVariants.{On, End}
 use Rattle.al_grammar.specs.Tokens.{first_is, span}
 use Rattle.al_grammar.specs.Chunks.{Chunked, is, opens, closes, then_chunk, move, moved, chunks_from, behind_chunks, Opens, StandsIn, IsCutFrom}
 
-skipped : (n at : ℕ) (w : Place) (bs : List ℕ) → n ≤ length bs → chunks_from n w at bs ≡ chunks_from 0 w (at + n) (drop n bs)
+skipped : (n at : ℕ) (w : ChunkState) (bs : List ℕ) → n ≤ length bs → chunks_from n w at bs ≡ chunks_from 0 w (at + n) (drop n bs)
 skipped zero at w bs h = sym (ap (λ a. chunks_from 0 w a bs) (add-zero at))
 skipped (suc n) at w [] h = absurd (omega arith)
 skipped (suc n) at w (b ∷ bs) h = let e : (at + 1) + n ≡ at + suc n = omega arith in skipped n (at + 1) w bs (omega arith) ∙ ap (λ a. chunks_from 0 w a (drop n bs)) e
 
-step_on : (place w : Place) (at skip b : ℕ) (bs : List ℕ) → On skip w ≡ move place at (b ∷ bs) → skip ≤ length bs →
-    chunks_from 0 place at (b ∷ bs) ≡ chunks_from 0 w (at + suc skip) (drop skip bs)
-step_on place w at skip b bs m f =
+step_on : (state w : ChunkState) (at skip b : ℕ) (bs : List ℕ) → On skip w ≡ move state at (b ∷ bs) → skip ≤ length bs →
+    chunks_from 0 state at (b ∷ bs) ≡ chunks_from 0 w (at + suc skip) (drop skip bs)
+step_on state w at skip b bs m f =
     let e : (at + 1) + skip ≡ at + suc skip = omega arith in
     ap (λ x. moved x at (λ n v. chunks_from n v (at + 1) bs)) (sym m) ∙ skipped skip (at + 1) w bs f ∙ ap (λ a. chunks_from 0 w a (drop skip bs)) e
 
-pub goes_on : (place w : Place) (at skip n : ℕ) (bs : List ℕ) → On skip w ≡ move place at bs → n ≡ suc skip → n ≤ length bs →
-    chunks_from 0 place at bs ≡ chunks_from 0 w (at + n) (drop n bs)
-goes_on place w at skip n [] m e f = absurd (omega arith)
-goes_on place w at skip n (b ∷ bs) m e f = rw e (step_on place w at skip b bs m (omega arith))
+pub goes_on : (state w : ChunkState) (at skip n : ℕ) (bs : List ℕ) → On skip w ≡ move state at bs → n ≡ suc skip → n ≤ length bs →
+    chunks_from 0 state at bs ≡ chunks_from 0 w (at + n) (drop n bs)
+goes_on state w at skip n [] m e f = absurd (omega arith)
+goes_on state w at skip n (b ∷ bs) m e f = rw e (step_on state w at skip b bs m (omega arith))
 
-step_end : (place : Place) (at start b : ℕ) (bs : List ℕ) → End start ≡ move place at (b ∷ bs) → 1 ≤ length bs →
-    chunks_from 0 place at (b ∷ bs) ≡ then_chunk (span start at) (chunks_from 0 Outside (at + 2) (drop 1 bs))
-step_end place at start b bs m f =
+step_end : (state : ChunkState) (at start b : ℕ) (bs : List ℕ) → End start ≡ move state at (b ∷ bs) → 1 ≤ length bs →
+    chunks_from 0 state at (b ∷ bs) ≡ then_chunk (span start at) (chunks_from 0 Outside (at + 2) (drop 1 bs))
+step_end state at start b bs m f =
     let e : (at + 1) + 1 ≡ at + 2 = omega arith in
     ap (λ x. moved x at (λ n v. chunks_from n v (at + 1) bs)) (sym m) ∙ ap (then_chunk (span start at)) (skipped 1 (at + 1) Outside bs f ∙ ap (λ a. chunks_from 0 Outside a (drop 1 bs)) e)
 
-pub ends : (place : Place) (at start : ℕ) (bs : List ℕ) → End start ≡ move place at bs → 2 ≤ length bs →
-    chunks_from 0 place at bs ≡ then_chunk (span start at) (chunks_from 0 Outside (at + 2) (drop 2 bs))
-ends place at start [] m f = absurd (omega arith)
-ends place at start (b ∷ bs) m f = step_end place at start b bs m (omega arith)
+pub ends : (state : ChunkState) (at start : ℕ) (bs : List ℕ) → End start ≡ move state at bs → 2 ≤ length bs →
+    chunks_from 0 state at bs ≡ then_chunk (span start at) (chunks_from 0 Outside (at + 2) (drop 2 bs))
+ends state at start [] m f = absurd (omega arith)
+ends state at start (b ∷ bs) m f = step_end state at start b bs m (omega arith)
 
 pub behind_one : (front : List Span) (s : Span) (c : Chunked) → behind_chunks front (then_chunk s c) ≡ behind_chunks (front ++ s ∷ []) c
 behind_one front s c = ap (λ l. record { chunks = l; fault = c.fault }) (sym (append_assoc front (s ∷ []) c.chunks))
@@ -74,10 +74,10 @@ opened text at u h o =
     let e : (at + 2) + 1 ≡ at + 3 = omega arith in
     (omega arith, omega arith, subst (IsCharBoundary text) e (IsCharBoundary-after_ascii text (at + 2) u (omega (arith, length-drop at text)) low))
 
-same_move : (R : Type 0) (n k : ℕ) (v w : Place) → On n v ≡ On k w → (n ≡ k → v ≡ w → R) → R
+same_move : (R : Type 0) (n k : ℕ) (v w : ChunkState) → On n v ≡ On k w → (n ≡ k → v ≡ w → R) → R
 same_move R n k v w e f = f (cc) (cc)
 
-pub stands : (text : List ℕ) (place w : Place) (at skip : ℕ) → IsUtf8 text → at < length text → On skip w ≡ move place at (drop at text) → StandsIn text at place → StandsIn text (at + (1 + skip)) w
+pub stands : (text : List ℕ) (state w : ChunkState) (at skip : ℕ) → IsUtf8 text → at < length text → On skip w ≡ move state at (drop at text) → StandsIn text at state → StandsIn text (at + (1 + skip)) w
 stands text Outside w at skip u h m s =
     either _ (opens (drop at text)) _ _ _ m
     (λ o e. same_move _ _ _ _ _ e (λ n v. rw (v, n) (opened text at u h o)))

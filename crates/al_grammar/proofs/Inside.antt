@@ -9,8 +9,8 @@ use Rattle.al_text.specs.declared.faults.Fault.{Fault}
 use Rattle.al_text.specs.declared.faults.Span.{Span}
 use Rattle.al_grammar.specs.declared.chunk.Move.{Move}
 use Rattle.al_grammar.specs.declared.chunk.Move.TheVariants.{On, End}
-use Rattle.al_grammar.specs.declared.chunk.Place.{Place}
-use Rattle.al_grammar.specs.declared.chunk.Place.TheVariants.{Outside, Inside, Quoted}
+use Rattle.al_grammar.specs.declared.chunk.ChunkState.{ChunkState}
+use Rattle.al_grammar.specs.declared.chunk.ChunkState.TheVariants.{Outside, Inside, Quoted}
 use Rattle.al_grammar.specs.declared.lexer.Read.{Read}
 use Rattle.al_grammar.specs.declared.lexer.Read.TheVariants.{Blank, Token, BadCharacter, OpenText}
 use Rattle.al_grammar.specs.declared.token.TokenKind.{TokenKind}
@@ -18,7 +18,7 @@ use Rattle.al_grammar.specs.declared.token.TokenKind.TheVariants.{Open, Close, O
 use Rattle.al_grammar.specs.declared.token.Operator.TheVariants.{NotEqual, LessEqual, GreaterEqual}
 use Rattle.al_grammar.specs.Chunks.{Chunked, chunks_from, closes, is, move, moved, open_fault, opens, then_chunk}
 use Rattle.al_grammar.specs.Extents.{start_of, end_of, end_of_steps, end_of_operands}
-use Rattle.al_grammar.specs.Grammar.{Part, Derives, single, chain, positive, negated, bare, path, constant, number, text, name, call_empty, call, group, Operators, no_more, one_more, Walks, arrived, to_property, to_keyword, to_all, to_each, to_index, Lists, listed, and_next}
+use Rattle.al_grammar.specs.Grammar.{Nonterminal, Derives, single, chain, positive, negated, bare, path, constant, number, text, name, call_empty, call, group, Operators, no_more, one_more, Walks, arrived, to_property, to_keyword, to_all, to_each, to_index, Lists, listed, and_next}
 use Rattle.al_grammar.specs.Inside.{AllLie}
 use Rattle.al_grammar.specs.Lexeme.{Lexeme, lexeme, kinds, span_of}
 use Rattle.al_grammar.specs.Refusal.{fault_at, fault_of_content, fault_of_lexed, fault_of_tokens, fault_of_verdict, open_text}
@@ -218,7 +218,7 @@ module _ (size : ℕ) where
 
   -- The tokens of a tree are followed by tokens behind where the tree begins.
   mutual
-    pub derives_lie : {p : Part} {ts rest : List Lexeme} {t : Tree} → Derives p ts t rest → (low : ℕ) → TokensLie low ts → TreeLies low t × TokensLie (start_of t) rest
+    pub derives_lie : {p : Nonterminal} {ts rest : List Lexeme} {t : Tree} → Derives p ts t rest → (low : ℕ) → TokensLie low ts → TreeLies low t × TokensLie (start_of t) rest
     derives_lie (single d) low l = derives_lie d low l
     derives_lie (chain d w) low l = let x = derives_lie d low l in let y = operators_lie w _ x.1 in ((x.0, y.0), y.1)
     derives_lie (positive d) low l = derives_lie d low l
@@ -362,7 +362,7 @@ pub tokens_lie : (content : List ℕ) (ts : List Lexeme) → tokens_of content �
 tokens_lie content ts e = subst (LexedLies (length content) 0) e (content_lexed content)
 
 -- a tree that the first of a content's tokens spell
-pub tree_lies : {p : Part} {rest : List Lexeme} (content : List ℕ) (ts : List Lexeme) (t : Tree) → tokens_of content ≡ AllRead ts → Derives p ts t rest → TreeLies (length content) 0 t
+pub tree_lies : {p : Nonterminal} {rest : List Lexeme} (content : List ℕ) (ts : List Lexeme) (t : Tree) → tokens_of content ≡ AllRead ts → Derives p ts t rest → TreeLies (length content) 0 t
 tree_lies content ts t e d = (derives_lie (length content) d 0 (tokens_lie content ts e)).0
 
 pub extent_lies : (size : ℕ) (t : Tree) → TreeLies size 0 t → LiesIn size (span (start_of t) (end_of t))
@@ -371,7 +371,7 @@ extent_lies size t l = let x = tree_extent size t 0 l in record { ordered = x.or
 -- ---- chunks
 
 module _ (size : ℕ) where
-  abbrev Stands : ℕ → Place → Type 0
+  abbrev Stands : ℕ → ChunkState → Type 0
   Stands at Outside = Unit {0}
   Stands at (Inside start) = (start ≤ at) × (start ≤ size)
   Stands at (Quoted start quote) = (start ≤ at) × (start ≤ size) × (quote < size)
@@ -383,7 +383,7 @@ module _ (size : ℕ) where
   abbrev ChunkedLies : Chunked → Type 0
   ChunkedLies c = AllByRecursion (λ (s : Span). LiesIn size s) c.chunks × AllLie size (option_to_list c.fault)
 
-  end_lies : (w : Place) (at : ℕ) → Stands at w → AllLie size (option_to_list (open_fault w))
+  end_lies : (w : ChunkState) (at : ℕ) → Stands at w → AllLie size (option_to_list (open_fault w))
   end_lies Outside at s = tt
   end_lies (Inside start) at s = (record { ordered = omega arith; inside = s.1 }, tt)
   end_lies (Quoted start quote) at s = let q = s.2 in (record { ordered = omega arith; inside = omega (arith, q) }, tt)
@@ -398,7 +398,7 @@ module _ (size : ℕ) where
   if_leads at true x y a b = a refl
   if_leads at false x y a b = b
 
-  move_leads : (w : Place) (at b : ℕ) (bs : List ℕ) → at + length (b ∷ bs) ≤ size → Stands at w → Leads at (move w at (b ∷ bs))
+  move_leads : (w : ChunkState) (at b : ℕ) (bs : List ℕ) → at + length (b ∷ bs) ≤ size → Stands at w → Leads at (move w at (b ∷ bs))
   move_leads Outside at b bs room s =
       if_leads at (opens (b ∷ bs)) (On 2 (Inside (at + 3))) (On 0 Outside) (λ e. let t = three (b ∷ bs) e in (omega arith, omega (arith, t, room))) tt
   move_leads (Inside start) at b bs room s =
@@ -409,12 +409,12 @@ module _ (size : ℕ) where
       let h = s.0 in
       if_leads at (first_is (is 39) (b ∷ bs)) (On 0 (Inside start)) (On 0 (Quoted start quote)) (λ e. (omega (arith, h), s.1)) (omega (arith, h), s.1, s.2)
 
-  moved_lies : (m : Move) (at : ℕ) (go : ℕ → Place → Chunked) → at ≤ size → Leads at m →
-      ((skip : ℕ) (w : Place) → Stands (at + 1 + skip) w → ChunkedLies (go skip w)) → ChunkedLies (moved m at go)
+  moved_lies : (m : Move) (at : ℕ) (go : ℕ → ChunkState → Chunked) → at ≤ size → Leads at m →
+      ((skip : ℕ) (w : ChunkState) → Stands (at + 1 + skip) w → ChunkedLies (go skip w)) → ChunkedLies (moved m at go)
   moved_lies (On skip w) at go room l ih = ih skip w l
   moved_lies (End start) at go room l ih = let x = ih 1 Outside tt in ((record { ordered = l; inside = room }, x.0), x.1)
 
-  chunked_lies : (bs : List ℕ) (skip : ℕ) (w : Place) (at : ℕ) → at + length bs ≤ size → Stands (at + skip) w → ChunkedLies (chunks_from skip w at bs)
+  chunked_lies : (bs : List ℕ) (skip : ℕ) (w : ChunkState) (at : ℕ) → at + length bs ≤ size → Stands (at + skip) w → ChunkedLies (chunks_from skip w at bs)
   chunked_lies [] skip w at room s = (tt, end_lies w (at + skip) s)
   chunked_lies (b ∷ bs) (suc skip) w at room s =
       let e : at + suc skip ≡ (at + 1) + skip = omega arith in

@@ -8,7 +8,7 @@ use Rattle.al_grammar.specs.declared.token.TokenKind.{TokenKind}
 use Rattle.al_grammar.specs.declared.token.Token.{Token}
 use Rattle.al_grammar.specs.Lexeme.{Lexeme, lexeme, kinds, kind_of, text_of, span_of, seen}
 use Rattle.al_grammar.specs.Refusal.{fault_at}
-use Rattle.al_grammar.specs.Table.{Verdict, Fine, Early, Unexpected, TooDeep, Mode, E, A, I, S, D, O, N, Frame, Next, Stuck, Go, Deeper, step, onward, finish, scan, verdict_of}
+use Rattle.al_grammar.specs.Table.{Verdict, Fine, Early, Unexpected, TooDeep, Mode, E, A, I, S, D, O, N, Frame, Transition, Stuck, Go, Deeper, step, onward, finish, scan, verdict_of}
 
 -- a verdict on so many tokens
 abbrev pub LiesIn : ℕ → Verdict → Type 0
@@ -28,7 +28,7 @@ one_more len (Unexpected n) h = (h.0, omega (arith, h.1))
 one_more len (TooDeep n) h = (h.0, omega (arith, h.1))
 one_more len _ h = tt
 
-lies_on : (o : Next) (room : Bool) (len : ℕ) (go : Mode → ℕ → List Frame → Verdict) → ((m : Mode) (k : ℕ) (st : List Frame) → LiesIn len (go m k st)) → LiesIn (suc len) (onward o room (suc len) go)
+lies_on : (o : Transition) (room : Bool) (len : ℕ) (go : Mode → ℕ → List Frame → Verdict) → ((m : Mode) (k : ℕ) (st : List Frame) → LiesIn len (go m k st)) → LiesIn (suc len) (onward o room (suc len) go)
 lies_on Stuck room len go f = (omega arith, omega arith)
 lies_on (Go m k st) room len go f = one_more len (go m k st) (f m k st)
 lies_on (Deeper m k st) true len go f = one_more len (go m k st) (f m k st)

@@ -8,7 +8,7 @@ use Rattle.al_grammar.specs.declared.parser.ParseError.TheVariants as error
 use Rattle.al_grammar.specs.Lexeme.{Lexeme, lexeme, kinds}
 use Rattle.al_grammar.specs.Tree as tree
 use Rattle.al_grammar.specs.Tree.{Sign, sign, Tree, Named, Negated, Path, Chain, StepTree, Property, All, steps_of, operands_of, arguments_of, path_of, chain_of}
-use Rattle.al_grammar.specs.Grammar.{Part, Binary, Unary, Postfix, Primary, level_of, below, Derives, single, chain, positive, negated, bare, path, name, call_empty, call, group, Operators, no_more, one_more, Walks, arrived, to_property, to_keyword, to_all, to_each, to_index, Lists, listed, and_next}
+use Rattle.al_grammar.specs.Grammar.{Nonterminal, Binary, Unary, Postfix, Primary, level_of, below, Derives, single, chain, positive, negated, bare, path, name, call_empty, call, group, Operators, no_more, one_more, Walks, arrived, to_property, to_keyword, to_all, to_each, to_index, Lists, listed, and_next}
 use Rattle.al_grammar.specs.Table.{Verdict, Early, Unexpected, TooDeep, E, A, I, S, O, N, Frame, Group, Call, Index, outside, scan}
 use Rattle.al_grammar.specs.Parsed.{Goes, EndsPath, EndsLevel, Parsed, Refused, PartOfCall, StepRead, GoesAfter, StepRefused, fault_at, NoClose}
 use Rattle.al_grammar.proofs.Shape.{NoCall}
@@ -68,19 +68,19 @@ in_index k st [] h = refl
 in_index k st (Star ∷ ts) h = absurd h
 in_index k st (t ∷ ts) h = refl
 
-pub refused_map : (p q : Part) (room other : ℕ) (ts us : List Lexeme) (e : ParseError) → ((v : Verdict) → Goes p room ts (λ k st. v) → Goes q other us (λ k st. v)) → Refused p room ts e → Refused q other us e
+pub refused_map : (p q : Nonterminal) (room other : ℕ) (ts us : List Lexeme) (e : ParseError) → ((v : Verdict) → Goes p room ts (λ k st. v) → Goes q other us (λ k st. v)) → Refused p room ts e → Refused q other us e
 refused_map p q room other ts us error.Memory f r = tt
 refused_map p q room other ts us error.Early f r = f Early r
 refused_map p q room other ts us (error.Unexpected n) f r = f (Unexpected n) r
 refused_map p q room other ts us (error.TooDeep n) f r = f (TooDeep n) r
 
-pub step_refused_map : (p : Part) (room other : ℕ) (ts us : List Lexeme) (e : ParseError) → ((v : Verdict) → Goes p room ts (λ k st. v) → GoesAfter other us v) → Refused p room ts e → StepRefused other us e
+pub step_refused_map : (p : Nonterminal) (room other : ℕ) (ts us : List Lexeme) (e : ParseError) → ((v : Verdict) → Goes p room ts (λ k st. v) → GoesAfter other us v) → Refused p room ts e → StepRefused other us e
 step_refused_map p room other ts us error.Memory f r = tt
 step_refused_map p room other ts us error.Early f r = f Early r
 step_refused_map p room other ts us (error.Unexpected n) f r = f (Unexpected n) r
 step_refused_map p room other ts us (error.TooDeep n) f r = f (TooDeep n) r
 
-pub path_refused_map : (p : Part) (room other : ℕ) (ts us : List Lexeme) (e : ParseError) → ((v : Verdict) → GoesAfter room ts v → Goes p other us (λ k st. v)) → StepRefused room ts e → Refused p other us e
+pub path_refused_map : (p : Nonterminal) (room other : ℕ) (ts us : List Lexeme) (e : ParseError) → ((v : Verdict) → GoesAfter room ts v → Goes p other us (λ k st. v)) → StepRefused room ts e → Refused p other us e
 path_refused_map p room other ts us error.Memory f r = tt
 path_refused_map p room other ts us error.Early f r = f Early r
 path_refused_map p room other ts us (error.Unexpected n) f r = f (Unexpected n) r
@@ -91,7 +91,7 @@ abbrev pub stray : List Lexeme → Verdict
 stray [] = Early
 stray (t ∷ ts) = Unexpected (length (t ∷ ts))
 
-pub refused_stray : (p : Part) (room : ℕ) (ts us : List Lexeme) → Goes p room ts (λ k st. stray us) → Refused p room ts (fault_at us)
+pub refused_stray : (p : Nonterminal) (room : ℕ) (ts us : List Lexeme) → Goes p room ts (λ k st. stray us) → Refused p room ts (fault_at us)
 refused_stray p room ts [] g = g
 refused_stray p room ts (u ∷ us) g = g
 

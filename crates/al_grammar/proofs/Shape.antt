@@ -4,8 +4,8 @@ use Rattle.al_grammar.specs.declared.token.TokenKind.{TokenKind}
 use Rattle.al_grammar.specs.declared.token.TokenKind.TheVariants.{Name, Keyword, Number, Text, Open, Close, OpenIndex, CloseIndex, Dot, Comma, Star, Bang, Infix}
 use Rattle.al_grammar.specs.Lexeme.{Lexeme, kinds}
 use Rattle.al_grammar.specs.Tree.{Sign, Tree, StepTree}
-use Rattle.al_grammar.specs.Grammar.{Part, Derives, single, chain, positive, negated, bare, path, constant, number, text, name, call_empty, call, group, Operators, no_more, one_more, Walks, arrived, to_property, to_keyword, to_all, to_each, to_index, Lists, listed, and_next}
-use Rattle.al_grammar.specs.Table.{Verdict, Fine, Early, Unexpected, TooDeep, Mode, E, A, I, S, D, O, N, Frame, Group, Call, Index, Next, Stuck, Go, Deeper, operand, after_operand, close, close_index, comma, step, finish, outside, onward, scan}
+use Rattle.al_grammar.specs.Grammar.{Nonterminal, Derives, single, chain, positive, negated, bare, path, constant, number, text, name, call_empty, call, group, Operators, no_more, one_more, Walks, arrived, to_property, to_keyword, to_all, to_each, to_index, Lists, listed, and_next}
+use Rattle.al_grammar.specs.Table.{Verdict, Fine, Early, Unexpected, TooDeep, Mode, E, A, I, S, D, O, N, Frame, Group, Call, Index, Transition, Stuck, Go, Deeper, operand, after_operand, close, close_index, comma, step, finish, outside, onward, scan}
 
 abbrev pub forget : List Frame → List Frame
 forget [] = []
@@ -27,7 +27,7 @@ agrees_if true n v w h = h
 agrees_if false n v w h = tt
 
 module _ (room : Bool) (left : ℕ) (go : Mode → ℕ → List Frame → Verdict) (on : Mode → List Frame → Verdict) (ih : (m : Mode) (k : ℕ) (st : List Frame) → Agrees (go m k st) (on m (forget st))) where
-  abbrev Same : Next → Next → Type 0
+  abbrev Same : Transition → Transition → Type 0
   Same x y = Agrees (onward x room left go) (onward y true left (λ m k st. on m st))
 
   deeper_same : (m : Mode) (k j : ℕ) (st : List Frame) → Same (Deeper m k st) (Deeper m j (forget st))
@@ -128,7 +128,7 @@ Begins (Open ∷ ts) = Unit {0}
 Begins (Bang ∷ ts) = Unit {0}
 Begins _ = ⊥
 
-pub begins : {p : Part} {ts rest : List Lexeme} {t : Tree} → Derives p ts t rest → Begins (kinds ts)
+pub begins : {p : Nonterminal} {ts rest : List Lexeme} {t : Tree} → Derives p ts t rest → Begins (kinds ts)
 begins (single d) = begins d
 begins (chain d w) = begins d
 begins (positive d) = begins d
@@ -170,7 +170,7 @@ before_lists listed h = h
 before_lists (and_next d w) h = tt
 
 mutual
-  pub derives_shape : {p : Part} {ts rest : List Lexeme} {t : Tree} → Derives p ts t rest → NoCall (kinds rest) → (st : List Frame) → shape E st (kinds ts) ≡ shape O st (kinds rest)
+  pub derives_shape : {p : Nonterminal} {ts rest : List Lexeme} {t : Tree} → Derives p ts t rest → NoCall (kinds rest) → (st : List Frame) → shape E st (kinds ts) ≡ shape O st (kinds rest)
   derives_shape (single d) h st = derives_shape d h st
   derives_shape (chain d w) h st = derives_shape d (before_operators w h) st ∙ operators_shape w h st
   derives_shape (positive d) h st = derives_shape d h st
@@ -208,7 +208,7 @@ finish_bound N [] n h = cc
 finish_bound N (b ∷ st) n h = cc
 finish_bound _ st n h = cc
 
-bound_on : (o : Next) (len n : ℕ) (go : Mode → ℕ → List Frame → Verdict) → ((m : Mode) (k : ℕ) (st : List Frame) → go m k st ≡ Unexpected n → n ≤ len) → onward o true (suc len) go ≡ Unexpected n → n ≤ suc len
+bound_on : (o : Transition) (len n : ℕ) (go : Mode → ℕ → List Frame → Verdict) → ((m : Mode) (k : ℕ) (st : List Frame) → go m k st ≡ Unexpected n → n ≤ len) → onward o true (suc len) go ≡ Unexpected n → n ≤ suc len
 bound_on Stuck len n go ih h = let e : suc len ≡ n = cc in omega arith
 bound_on (Go m k st) len n go ih h = let j = ih m k st h in omega (arith, j)
 bound_on (Deeper m k st) len n go ih h = let j = ih m k st h in omega (arith, j)
@@ -217,12 +217,12 @@ bound : (ts : List TokenKind) (m : Mode) (st : List Frame) (n : ℕ) → shape m
 bound [] m st n h = absurd (finish_bound m st n h)
 bound (t ∷ ts) m st n h = bound_on (step m 0 st t) (length ts) n (λ m' k' st'. shape m' st' ts) (λ m' k' st' e. bound ts m' st' n e) h
 
-here : (o : Next) (back other : List TokenKind) → onward o true (suc (length back)) (λ m k st. shape m st back) ≡ Unexpected (suc (length back)) → onward o true (suc (length other)) (λ m k st. shape m st other) ≡ Unexpected (suc (length other))
+here : (o : Transition) (back other : List TokenKind) → onward o true (suc (length back)) (λ m k st. shape m st back) ≡ Unexpected (suc (length back)) → onward o true (suc (length other)) (λ m k st. shape m st other) ≡ Unexpected (suc (length other))
 here Stuck back other h = refl
 here (Go m k st) back other h = let j = bound back m st _ h in absurd (omega (arith, j))
 here (Deeper m k st) back other h = let j = bound back m st _ h in absurd (omega (arith, j))
 
-further : (o : Next) (left n m : ℕ) (go on : Mode → ℕ → List Frame → Verdict) → n < left → ((a : Mode) (k : ℕ) (st : List Frame) → go a k st ≡ Unexpected n → on a k st ≡ Unexpected m) → onward o true left go ≡ Unexpected n → (left' : ℕ) → onward o true left' on ≡ Unexpected m
+further : (o : Transition) (left n m : ℕ) (go on : Mode → ℕ → List Frame → Verdict) → n < left → ((a : Mode) (k : ℕ) (st : List Frame) → go a k st ≡ Unexpected n → on a k st ≡ Unexpected m) → onward o true left go ≡ Unexpected n → (left' : ℕ) → onward o true left' on ≡ Unexpected m
 further Stuck left n m go on low ih h left' = let e : left ≡ n = cc in absurd (omega arith)
 further (Go a k st) left n m go on low ih h left' = ih a k st h
 further (Deeper a k st) left n m go on low ih h left' = ih a k st h

@@ -7,14 +7,14 @@ use Rattle.al_grammar.specs.declared.token.Keyword.{Keyword}
 use Rattle.al_grammar.specs.declared.ast.Word.{Word}
 use Rattle.al_grammar.specs.declared.ast.Expr as code
 use Rattle.al_grammar.specs.declared.ast.Expr.{Expr}
-use Rattle.al_grammar.specs.declared.ast.Step.{Step}
-use Rattle.al_grammar.specs.declared.ast.Step as code_step
+use Rattle.al_grammar.specs.declared.ast.PathStep.{PathStep}
+use Rattle.al_grammar.specs.declared.ast.PathStep as code_step
 use Rattle.al_grammar.specs.declared.ast.Operand.{Operand}
 use Rattle.al_grammar.specs.declared.ast.Expr.TheOpen as layer
 use Rattle.al_grammar.specs.declared.ast.Expr.TheViews.{roll-Operand}
 use Rattle.al_grammar.specs.declared.ast.Expr.TheVariants.{rolls-Keyword, rolls-Number, rolls-Text, rolls-Name, rolls-Call, rolls-Group, rolls-Not, rolls-Path, rolls-Chain}
-use Rattle.al_grammar.specs.declared.ast.Step.TheVariants.{rolls-Property, rolls-All, rolls-Index}
-use Rattle.al_grammar.specs.declared.ast.Expr.TheFolds.{fold-roll-Expr, fold-roll-Step, fold-roll-Operand}
+use Rattle.al_grammar.specs.declared.ast.PathStep.TheVariants.{rolls-Property, rolls-All, rolls-Index}
+use Rattle.al_grammar.specs.declared.ast.Expr.TheFolds.{fold-roll-Expr, fold-roll-PathStep, fold-roll-Operand}
 use Rattle.al_grammar.specs.Tree.{Sign, sign, Tree, Constant, Number, Text, Named, Call, Group, Negated, Path, Chain, StepTree, Property, All, Index, steps_of, operands_of, arguments_of, path_of, chain_of}
 use Rattle.al_grammar.specs.View.{expr_layer, step_layer, operand_layer, tree_of, step_of, operand_of}
 
@@ -46,7 +46,7 @@ pub tree_of-Not : (s : Span) (b : Box Expr Global) → tree_of (code.Not s b) �
 unfolding tree_of
 tree_of-Not s b = ap tree_of (sym (rolls-Not s b)) ∙ fold-roll-Expr Tree StepTree (Sign × Tree) expr_layer step_layer operand_layer (layer.Not s b)
 
-pub tree_of-Path : (b : Box Expr Global) (v : Vec Step Global) → tree_of (code.Path b v) ≡ Path (tree_of b.value) (steps_of (map step_of v.items))
+pub tree_of-Path : (b : Box Expr Global) (v : Vec PathStep Global) → tree_of (code.Path b v) ≡ Path (tree_of b.value) (steps_of (map step_of v.items))
 unfolding tree_of step_of
 tree_of-Path b v = ap tree_of (sym (rolls-Path b v)) ∙ fold-roll-Expr Tree StepTree (Sign × Tree) expr_layer step_layer operand_layer (layer.Path b v)
 
@@ -56,17 +56,17 @@ tree_of-Chain b v = ap tree_of (sym (rolls-Chain b v)) ∙ fold-roll-Expr Tree S
 
 pub step_of-Property : (d : Span) (w : Word) → step_of (code_step.Property d w) ≡ Property d (string_bytes w.text) w.span
 unfolding step_of
-step_of-Property d w = ap step_of (sym (rolls-Property d w)) ∙ fold-roll-Step Tree StepTree (Sign × Tree) expr_layer step_layer operand_layer (layer.Property d w)
+step_of-Property d w = ap step_of (sym (rolls-Property d w)) ∙ fold-roll-PathStep Tree StepTree (Sign × Tree) expr_layer step_layer operand_layer (layer.Property d w)
 
 pub step_of-All : (a b : Span) → step_of (code_step.All a b) ≡ All a b
 unfolding step_of
-step_of-All a b = ap step_of (sym (rolls-All a b)) ∙ fold-roll-Step Tree StepTree (Sign × Tree) expr_layer step_layer operand_layer (layer.All a b)
+step_of-All a b = ap step_of (sym (rolls-All a b)) ∙ fold-roll-PathStep Tree StepTree (Sign × Tree) expr_layer step_layer operand_layer (layer.All a b)
 
 pub step_of-Index : (a : Span) (e : Expr) (b : Span) → step_of (code_step.Index a e b) ≡ Index a (tree_of e) b
 unfolding step_of tree_of
-step_of-Index a e b = ap step_of (sym (rolls-Index a e b)) ∙ fold-roll-Step Tree StepTree (Sign × Tree) expr_layer step_layer operand_layer (layer.Index a e b)
+step_of-Index a e b = ap step_of (sym (rolls-Index a e b)) ∙ fold-roll-PathStep Tree StepTree (Sign × Tree) expr_layer step_layer operand_layer (layer.Index a e b)
 
-pub operand_of-made : (o : layer.Operand-F Expr Step Operand) → operand_of (roll-Operand o) ≡ (sign o.operator o.at, tree_of o.expr)
+pub operand_of-made : (o : layer.Operand-F Expr PathStep Operand) → operand_of (roll-Operand o) ≡ (sign o.operator o.at, tree_of o.expr)
 unfolding operand_of tree_of
 operand_of-made o = fold-roll-Operand Tree StepTree (Sign × Tree) expr_layer step_layer operand_layer o
 

@@ -5,7 +5,7 @@ use Rattle.al_grammar.specs.declared.token.TokenKind.{TokenKind}
 use Rattle.al_grammar.specs.declared.token.TokenKind.TheVariants.{Open, Close, OpenIndex, Dot, Bang, Infix}
 use Rattle.al_grammar.specs.Lexeme.{Lexeme, lexeme, kinds}
 use Rattle.al_grammar.specs.Tree.{Sign, Tree, Negated, StepTree}
-use Rattle.al_grammar.specs.Grammar.{Part, Binary, Unary, Postfix, Primary, level_of, below, Derives, single, chain, positive, negated, bare, path, constant, number, text, name, call_empty, call, group, Operators, no_more, one_more, Walks, arrived, to_property, to_keyword, to_all, to_each, to_index, Lists, listed, and_next}
+use Rattle.al_grammar.specs.Grammar.{Nonterminal, Binary, Unary, Postfix, Primary, level_of, below, Derives, single, chain, positive, negated, bare, path, constant, number, text, name, call_empty, call, group, Operators, no_more, one_more, Walks, arrived, to_property, to_keyword, to_all, to_each, to_index, Lists, listed, and_next}
 use Rattle.al_grammar.proofs.Shape.{NoCall, begins, before_walks}
 
 -- No path and no call goes on.
@@ -23,7 +23,7 @@ NoMoreAt l (Open ∷ ts) = ⊥
 NoMoreAt l (Infix o ∷ ts) = level_of o < l
 NoMoreAt l _ = Unit {0}
 
-abbrev pub Ends : Part → List TokenKind → Type 0
+abbrev pub Ends : Nonterminal → List TokenKind → Type 0
 Ends (Binary l) ts = NoMoreAt l ts
 Ends Unary ts = NoMore ts
 Ends Postfix ts = NoMore ts
@@ -91,7 +91,7 @@ not_bang (bare d) = elim d [ ]
 not_bang (path d w) = elim d [ ]
 
 mutual
-  pub unique : {p : Part} {ts rest : List Lexeme} {t : Tree} → Derives p ts t rest → Ends p (kinds rest) → {u : Tree} {after : List Lexeme} → Derives p ts u after → Ends p (kinds after) → (t ≡ u) × (rest ≡ after)
+  pub unique : {p : Nonterminal} {ts rest : List Lexeme} {t : Tree} → Derives p ts t rest → Ends p (kinds rest) → {u : Tree} {after : List Lexeme} → Derives p ts u after → Ends p (kinds after) → (t ≡ u) × (rest ≡ after)
   unique (single {l = l} d) h (single d') h' = unique d (ends_below l _ h) d' (ends_below l _ h')
   unique (single {l = l} d) h (chain d' w') h' =
       let same = unique d (ends_below l _ h) d' (before_ops w' h') in

@@ -7,7 +7,8 @@ use Rattle.al_grammar.specs.Table.{Fine, Early, Unexpected, verdict_of}
 
 -- A list with the fault that a token may not stand where it does, or that it ends too early, spells no tree.
 abbrev pub FaultsSpellNothing : Type 0
-FaultsSpellNothing = (ts : List Lexeme) (t : Tree) → IsTreeOf t ts → (verdict_of (kinds ts) ≢ Early) × ((n : ℕ) → verdict_of (kinds ts) ≢ Unexpected n)
+FaultsSpellNothing = (ts : List Lexeme) (t : Tree) → IsTreeOf t ts
+    → (verdict_of (kinds ts) ≢ Early) × ((n : ℕ) → verdict_of (kinds ts) ≢ Unexpected n)
 
 -- Nor does any list that begins with the tokens up to that one, it included.
 abbrev pub NoWayOn : Type 0

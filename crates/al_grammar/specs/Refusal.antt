@@ -43,7 +43,8 @@ fault_of_tokens content other = fault_of_lexed content other
 
 -- X5, else X1 or X2, else X3 or X6, else X4
 abbrev pub fault_of_content : List ℕ → Option Fault
-fault_of_content content = if nat_lt 21000 (length content) then Some (fault code.TooLong (span 0 1) []) else fault_of_tokens content (tokens_of content)
+fault_of_content content =
+    if nat_lt 21000 (length content) then Some (fault code.TooLong (span 0 1) []) else fault_of_tokens content (tokens_of content)
 
 -- an expression of this tree
 pub record Spells (content : List ℕ) (t : Tree) : Type 0 where

@@ -1,9 +1,11 @@
 -- Which token may come next, and the first fault.
 use Rattle.std.specs.Prelude.{ℕ, suc, ◌+◌, List, [], ◌∷◌, length, Bool, nat_lt, if◌then◌else◌}
 use Rattle.al_grammar.specs.declared.token.TokenKind.{TokenKind}
-use Rattle.al_grammar.specs.declared.token.TokenKind.TheVariants.{Name, Keyword, Number, Text, Open, Close, OpenIndex, CloseIndex, Dot, Comma, Star, Bang, Infix}
+use Rattle.al_grammar.specs.declared.token.TokenKind.TheVariants.{Name, Keyword, Number, Text, Open, Close, OpenIndex, CloseIndex, Dot}
+use Rattle.al_grammar.specs.declared.token.TokenKind.TheVariants.{Comma, Star, Bang, Infix}
 
--- E: an operand is expected. A: after a call's bracket. I: after an index's bracket. S: after `[*`. D: after a dot. O: after an operand. N: after a name.
+-- E: an operand is expected. A: after a call's bracket. I: after an index's bracket. S: after `[*`. D: after a dot. O: after an operand.
+-- N: after a name.
 pub data Mode : Type 0 where
   E : Mode
   A : Mode
@@ -19,13 +21,14 @@ pub data Frame : Type 0 where
   Call : ℕ → Frame
   Index : ℕ → Frame
 
--- What a token leads to: nothing; a mode with so many negations open in the innermost bracket, and the open brackets; or the same one deeper.
-pub data Next : Type 0 where
-  Stuck : Next
-  Go : Mode → ℕ → List Frame → Next
-  Deeper : Mode → ℕ → List Frame → Next
+-- What a token leads to: nothing; a mode with so many negations open in the innermost bracket, and the open brackets; or the same one
+-- deeper.
+pub data Transition : Type 0 where
+  Stuck : Transition
+  Go : Mode → ℕ → List Frame → Transition
+  Deeper : Mode → ℕ → List Frame → Transition
 
-abbrev pub operand : ℕ → List Frame → TokenKind → Next
+abbrev pub operand : ℕ → List Frame → TokenKind → Transition
 operand k st Name = Go N k st
 operand k st (Keyword w) = Go O k st
 operand k st Number = Go O k st
@@ -35,20 +38,20 @@ operand k st Bang = Deeper E (suc k) st
 operand k st _ = Stuck
 
 -- what a closing bracket leads to
-abbrev pub close : List Frame → Next
+abbrev pub close : List Frame → Transition
 close (Group k ∷ st) = Go O k st
 close (Call k ∷ st) = Go O k st
 close _ = Stuck
 
-abbrev pub close_index : List Frame → Next
+abbrev pub close_index : List Frame → Transition
 close_index (Index k ∷ st) = Go O k st
 close_index _ = Stuck
 
-abbrev pub comma : List Frame → Next
+abbrev pub comma : List Frame → Transition
 comma (Call k ∷ st) = Go E 0 (Call k ∷ st)
 comma _ = Stuck
 
-abbrev pub after_operand : ℕ → List Frame → TokenKind → Next
+abbrev pub after_operand : ℕ → List Frame → TokenKind → Transition
 after_operand k st (Infix o) = Go E 0 st
 after_operand k st Dot = Go D k st
 after_operand k st OpenIndex = Deeper I 0 (Index k ∷ st)
@@ -57,7 +60,7 @@ after_operand k st CloseIndex = close_index st
 after_operand k st Comma = comma st
 after_operand k st _ = Stuck
 
-abbrev pub step : Mode → ℕ → List Frame → TokenKind → Next
+abbrev pub step : Mode → ℕ → List Frame → TokenKind → Transition
 step E k st t = operand k st t
 step A k st Close = close st
 step A k st t = operand k st t
@@ -94,7 +97,7 @@ outside (Call k ∷ st) = 1 + k + outside st
 outside (Index k ∷ st) = 1 + k + outside st
 
 -- on from a step, with whether there is room for one more, and how many tokens were left
-abbrev pub onward : Next → Bool → ℕ → (Mode → ℕ → List Frame → Verdict) → Verdict
+abbrev pub onward : Transition → Bool → ℕ → (Mode → ℕ → List Frame → Verdict) → Verdict
 onward Stuck room left go = Unexpected left
 onward (Go m k st) room left go = go m k st
 onward (Deeper m k st) room left go = if room then go m k st else TooDeep left

@@ -6,12 +6,14 @@ use Rattle.al_grammar.specs.declared.lexer.LexError.TheVariants as error
 use Rattle.al_grammar.specs.declared.lexer.Read.{Read}
 use Rattle.al_grammar.specs.declared.lexer.Read.TheVariants.{Blank, Token, BadCharacter, OpenText}
 use Rattle.al_grammar.specs.declared.token.TokenKind.{TokenKind}
-use Rattle.al_grammar.specs.declared.token.TokenKind.TheVariants.{Name, Keyword, Number, Text, Open, Close, OpenIndex, CloseIndex, Dot, Comma, Star, Bang, Infix}
+use Rattle.al_grammar.specs.declared.token.TokenKind.TheVariants.{Name, Keyword, Number, Text, Open, Close, OpenIndex, CloseIndex, Dot}
+use Rattle.al_grammar.specs.declared.token.TokenKind.TheVariants.{Comma, Star, Bang, Infix}
 use Rattle.al_text.specs.declared.faults.Span.{Span}
 use Rattle.al_grammar.specs.Lexeme.{Lexeme, lexeme}
 use Rattle.std.specs.List.{prefix_len}
 use Rattle.std.specs.Str.{bytes_eq}
-use Rattle.std.specs.Prelude.{codes, ◌<◌, ◌≤◌, ℕ, zero, suc, ◌+◌, ◌-◌, List, [], ◌∷◌, ◌++◌, Bool, true, false, ◌&&◌, ◌||◌, nat_eq, nat_le, if◌then◌else◌, max, take, drop, Option, Some, None, slice_index, length}
+use Rattle.std.specs.Prelude.{codes, ◌<◌, ◌≤◌, ℕ, zero, suc, ◌+◌, ◌-◌, List, [], ◌∷◌, ◌++◌, Bool, true, false, ◌&&◌, ◌||◌, nat_eq, nat_le}
+use Rattle.std.specs.Prelude.{if◌then◌else◌, max, take, drop, Option, Some, None, slice_index, length}
 
 abbrev pub is_digit : ℕ → Bool
 is_digit b = nat_le 48 b && nat_le b 57
@@ -47,7 +49,8 @@ with_digits lead (suc n) = lead + suc n
 
 -- `0x` and hexadecimal digits
 abbrev pub hex_len : List ℕ → ℕ
-hex_len bs = if first_is (λ b. nat_eq b 48) bs && first_is (λ b. nat_eq b 120) (drop 1 bs) then with_digits 2 (run is_hex_digit (drop 2 bs)) else 0
+hex_len bs =
+    if first_is (λ b. nat_eq b 48) bs && first_is (λ b. nat_eq b 120) (drop 1 bs) then with_digits 2 (run is_hex_digit (drop 2 bs)) else 0
 
 -- a dot and digits
 abbrev pub fraction_len : List ℕ → ℕ
@@ -84,7 +87,8 @@ after_byte false quote go = add_to 1 (go quote)
 after_byte true true go = add_to 1 (go false)
 after_byte true false go = Some 0
 
--- How many bytes follow the quote that opens a text, its closing quote included, where it is closed; a doubled quote doesn't close it. The flag: a quote came last that may close it.
+-- How many bytes follow the quote that opens a text, its closing quote included, where it is closed; a doubled quote doesn't close it.
+-- The flag: a quote came last that may close it.
 abbrev pub text_tail : Bool → List ℕ → Option ℕ
 text_tail false [] = None
 text_tail true [] = Some 0

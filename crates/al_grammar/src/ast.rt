@@ -30,7 +30,7 @@ pub enum Expr {
     /// The `!`, and its operand.
     Not(Span, Box<Expr>),
     /// The base, and at least one step.
-    Path(Box<Expr>, Vec<Step>),
+    Path(Box<Expr>, Vec<PathStep>),
     /// The first operand, and at least one more, each behind an operator of the same level.
     Chain(Box<Expr>, Vec<Operand>),
 }
@@ -38,7 +38,7 @@ pub enum Expr {
 /// A step of a path.
 #[derive(Drop)]
 #[cycle(ast)]
-pub enum Step {
+pub enum PathStep {
     /// `.name`: the dot, and the name.
     Property(Span, Word),
     /// `.*` or `[*]`: the first and the last token.

@@ -16,7 +16,7 @@ pub struct Chunk<'a> {
 
 /// Where the reader of a text is.
 #[derive(Clone, Copy)]
-enum Place {
+enum ChunkState {
     Outside,
     /// In a chunk whose content starts here.
     Inside(usize),
@@ -28,7 +28,7 @@ enum Place {
 #[derive(Clone, Copy)]
 enum Move {
     /// Behind it and so many bytes more the reader is here.
-    On(usize, Place),
+    On(usize, ChunkState),
     /// The chunk whose content starts here ends at it.
     End(usize),
 }
@@ -47,38 +47,38 @@ fn closing(bytes: &[u8]) -> bool
     matches!(bytes, [b'}', b'}', ..])
 }
 
-/// What the first of these bytes, which stands at this place, leads to.
-fn next(place: Place, at: usize, bytes: &[u8]) -> Move
+/// What the first of these bytes, with the reader in this state, leads to.
+fn next(state: ChunkState, at: usize, bytes: &[u8]) -> Move
     requires some { 0 < length bytes.now }
     requires room { at + length bytes.now < 2 ^ 32 }
-    ensures value { result ≡ move place at bytes.now }
+    ensures value { result ≡ move state at bytes.now }
     ensures fits { MoveFits (length bytes.now) result }
 {
     let quote = bytes[0] == b'\'';
-    match place {
-        Place::Outside if opening(bytes) => Move::On(2, Place::Inside(at + 3)),
-        Place::Inside(start) if quote => Move::On(0, Place::Quoted(start, at)),
-        Place::Inside(start) if closing(bytes) => Move::End(start),
-        Place::Quoted(start, _) if quote => Move::On(0, Place::Inside(start)),
-        Place::Outside | Place::Inside(_) | Place::Quoted(..) => Move::On(0, place),
+    match state {
+        ChunkState::Outside if opening(bytes) => Move::On(2, ChunkState::Inside(at + 3)),
+        ChunkState::Inside(start) if quote => Move::On(0, ChunkState::Quoted(start, at)),
+        ChunkState::Inside(start) if closing(bytes) => Move::End(start),
+        ChunkState::Quoted(start, _) if quote => Move::On(0, ChunkState::Inside(start)),
+        ChunkState::Outside | ChunkState::Inside(_) | ChunkState::Quoted(..) => Move::On(0, state),
     }
 }
 
-/// What is wrong where a text ends with the reader at this place.
-fn end_fault(alloc: Global, place: Place) -> Option<Fault>
-    requires { EndFits place }
-    ensures { result ≡ open_fault place }
+/// What is wrong where a text ends with the reader in this state.
+fn end_fault(alloc: Global, state: ChunkState) -> Option<Fault>
+    requires { EndFits state }
+    ensures { result ≡ open_fault state }
 {
-    match place {
-        Place::Outside => None,
-        Place::Inside(start) => {
+    match state {
+        ChunkState::Outside => None,
+        ChunkState::Inside(start) => {
             let span = Span {
                 start: start as u32 - 3,
                 end: start as u32,
             };
             Some(plain_fault(alloc, ExpressionCode::UnclosedChunk, span))
         }
-        Place::Quoted(_, quote) => {
+        ChunkState::Quoted(_, quote) => {
             let span = Span {
                 start: quote as u32,
                 end: quote as u32 + 1,
@@ -120,20 +120,20 @@ pub fn chunks(alloc: Global, text: &str) -> Result<(Vec<Chunk>, Option<Fault>), 
 {
     let bytes = text.as_bytes();
     let mut found = Vec::new(alloc);
-    let mut place = Place::Outside;
+    let mut state = ChunkState::Outside;
     let mut at = 0;
     'text: while at < bytes.len() {
-        match next(place, at, &bytes[at..]) {
+        match next(state, at, &bytes[at..]) {
             Move::On(skip, after) => {
-                place = after;
+                state = after;
                 at += 1 + skip;
             }
             Move::End(start) => {
                 found.push(cut(text, start, at))?;
-                place = Place::Outside;
+                state = ChunkState::Outside;
                 at += 2;
             }
         }
     }
-    Ok((found, end_fault(alloc, place)))
+    Ok((found, end_fault(alloc, state)))
 }

@@ -4,7 +4,7 @@ ghost use Rattle.al_grammar.specs.Extents.{extent, end_of_step};
 ghost use Rattle.al_grammar.specs.Tree.{Path, steps_of, operands_of};
 ghost use Rattle.al_grammar.specs.View.{tree_of, step_of, operand_of};
 
-use crate::ast::{Expr, Operand, Step};
+use crate::ast::{Expr, Operand, PathStep};
 use al_text::Span;
 
 /// Where an expression stands, its outer brackets included.
@@ -18,7 +18,7 @@ pub fn extent(expr: &Expr) -> Span
 }
 
 /// Where a path stands.
-pub fn path_extent(base: &Expr, steps: &[Step]) -> Span
+pub fn path_extent(base: &Expr, steps: &[PathStep]) -> Span
     ensures { result ≡ extent (Path (tree_of base.now) (steps_of (map step_of steps.now))) }
 {
     Span {
@@ -72,7 +72,7 @@ fn end_of(expr: &Expr) -> u32
     }
 }
 
-fn end_of_steps(before: u32, steps: &[Step]) -> u32
+fn end_of_steps(before: u32, steps: &[PathStep]) -> u32
     ensures { result ≡ extents.end_of_steps before (steps_of (map step_of steps.now)) }
 {
     let mut end = before;
@@ -83,13 +83,13 @@ fn end_of_steps(before: u32, steps: &[Step]) -> u32
 }
 
 #[tactic(auto, using(crate::proofs::TreeViews::step_views))]
-fn end_of_step(step: &Step) -> u32
+fn end_of_step(step: &PathStep) -> u32
     ensures { result ≡ end_of_step (step_of step.now) }
 {
     match step {
-        Step::Property(_, word) => word.span.end,
-        Step::All(_, last) => last.end,
-        Step::Index(_, _, close) => close.end,
+        PathStep::Property(_, word) => word.span.end,
+        PathStep::All(_, last) => last.end,
+        PathStep::Index(_, _, close) => close.end,
     }
 }
 

@@ -1,6 +1,8 @@
 ghost use Rattle.std.specs.Prelude.{map, ℕ, IfOk, IfSome, MatchOption, MatchResult, ◌≡◌, ◌≤◌, ◌<◌, ◌+◌, ◌^◌, Some, [], ◌∷◌, length, false};
 ghost use Rattle.al_grammar.specs.Lexeme.{seen};
-ghost use Rattle.al_grammar.specs.Tokens.{begins_name, goes_on_name, is_blank, is_sign, is_inside, run, begins, or_equal, doubled, mark, word_kind, text_tail, text_read, name_read, number_read, number_len, read, tokens_of, AllRead, unread, Fits, last_quote};
+ghost use Rattle.al_grammar.specs.Tokens.{begins_name, goes_on_name, is_blank, is_sign, is_inside, run, begins, or_equal, doubled, mark};
+ghost use Rattle.al_grammar.specs.Tokens.{word_kind, text_tail, text_read, name_read, number_read, number_len, read, tokens_of, AllRead};
+ghost use Rattle.al_grammar.specs.Tokens.{unread, Fits, last_quote};
 ghost use Rattle.al_grammar.specs.Refusal.{fault_of_lexed};
 
 use crate::faults::plain_fault;
@@ -233,7 +235,8 @@ fn read_at(bytes: &[u8]) -> Read
 /// The tokens of a content, or why they are not all read.
 fn tokens(alloc: Global, content: &str) -> Result<Result<Vec<Token>, LexError>, AllocError>
     requires { length content.now < 2 ^ 32 }
-    ensures { IfOk result (λ r. MatchResult r (λ v. tokens_of content.now ≡ AllRead (map seen v.items)) (λ e. tokens_of content.now ≡ unread e)) }
+    ensures { IfOk result (λ r. MatchResult r (λ v. tokens_of content.now ≡ AllRead (map seen v.items))
+        (λ e. tokens_of content.now ≡ unread e)) }
 {
     let mut tokens = Vec::new(alloc);
     let mut start = 0;
@@ -288,7 +291,8 @@ fn last_quote(bytes: &[u8]) -> Option<usize>
 /// closed. The outer error is want of memory.
 pub fn lex(alloc: Global, content: &str) -> Result<Result<Vec<Token>, Fault>, AllocError>
     requires { length content.now ≤ 4194304 }
-    ensures { IfOk result (λ r. MatchResult r (λ v. tokens_of content.now ≡ AllRead (map seen v.items)) (λ f. fault_of_lexed content.now (tokens_of content.now) ≡ Some f)) }
+    ensures { IfOk result (λ r. MatchResult r (λ v. tokens_of content.now ≡ AllRead (map seen v.items))
+        (λ f. fault_of_lexed content.now (tokens_of content.now) ≡ Some f)) }
 {
     match tokens(alloc, content)? {
         Ok(read) => Ok(Ok(read)),

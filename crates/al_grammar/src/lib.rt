@@ -12,7 +12,7 @@ mod number;
 mod parser;
 mod token;
 
-pub use ast::{Expr, Operand, Step, Word};
+pub use ast::{Expr, Operand, PathStep, Word};
 pub use chunk::{Chunk, chunks};
 pub use expression::parse_expr;
 pub use extents::{across, extent, path_extent};

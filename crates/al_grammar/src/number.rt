@@ -1,5 +1,6 @@
 ghost use Rattle.std.specs.Prelude.{◌≡◌, ◌≤◌, ◌<◌, ◌+◌, ◌^◌, length};
-ghost use Rattle.al_grammar.specs.Tokens.{is_digit, is_hex_digit, run, with_digits, fraction_len, exponent_len, hex_len, decimal_len, unsigned_len, number_len};
+ghost use Rattle.al_grammar.specs.Tokens.{is_digit, is_hex_digit, run, with_digits, fraction_len, exponent_len, hex_len, decimal_len};
+ghost use Rattle.al_grammar.specs.Tokens.{unsigned_len, number_len};
 
 /// Whether a byte is a decimal digit.
 pub fn digit(b: u8) -> bool

@@ -1,6 +1,7 @@
 ghost use Rattle.std.specs.Prelude.{map, ℕ, IfOk, ◌≡◌, ◌≢◌, ◌+◌, ◌<◌, MatchOption, MatchResult, List, [], ◌∷◌, string_bytes};
 ghost use Rattle.al_grammar.specs.Lexeme.{seen, kinds, kind_of, text_of, span_of};
-ghost use Rattle.al_grammar.specs.Parsed.{EndsPath, IsStray, NoOperator, Parsed, Refused, StepRead, StepRefused, ArgumentsRead, ArgumentsRefused, NoClose, NoBang, IsVerdict};
+ghost use Rattle.al_grammar.specs.Parsed.{EndsPath, IsStray, NoOperator, Parses, ParsesStep, StepRead, StepRefused, ArgumentsRead};
+ghost use Rattle.al_grammar.specs.Parsed.{ArgumentsRefused, NoClose, NoBang, IsVerdict};
 ghost use Rattle.al_grammar.specs.View.{tree_of, step_of, operand_of};
 ghost use Rattle.al_grammar.specs.Tree.{path_of, chain_of};
 ghost use Rattle.al_grammar.specs.Grammar.{Binary, Unary, Postfix, Primary, level_of, below, IsTreeOf};
@@ -9,7 +10,7 @@ ghost use Rattle.al_grammar.specs.declared.parser.ParseError.TheVariants.{Memory
 ghost use Rattle.al_grammar.specs.declared.token.TokenKind.{TokenKind};
 ghost use Rattle.al_grammar.specs.declared.token.TokenKind.TheVariants.{Infix, Name, Open, OpenIndex, Close, Dot};
 
-use crate::ast::{Expr, Operand, Step, Word};
+use crate::ast::{Expr, Operand, PathStep, Word};
 use crate::token::{Operator, Token, TokenKind};
 use std::alloc::{AllocError, AllocFailed, Global};
 
@@ -73,7 +74,7 @@ fn word(alloc: Global, token: Token) -> Result<Word, AllocError>
 }
 
 /// The path from a base, which is the base itself where there is no step.
-fn with_steps(alloc: Global, base: Expr, steps: Vec<Step>) -> Result<Expr, AllocError>
+fn with_steps(alloc: Global, base: Expr, steps: Vec<PathStep>) -> Result<Expr, AllocError>
     ensures { IfOk result (λ e. tree_of e ≡ path_of (tree_of base) (map step_of steps.items)) }
 {
     if steps.len() == 0 {
@@ -97,7 +98,8 @@ fn past<'t, 'a>(
     tokens: &'t [Token<'a>],
     kind: TokenKind,
 ) -> Result<(Token<'a>, &'t [Token<'a>]), ParseError>
-    ensures { MatchResult result (λ x. (map seen tokens.now ≡ seen x.0 ∷ map seen x.1.now) × (kind_of (seen x.0) ≡ kind)) (λ e. IsStray (map seen tokens.now) kind e) }
+    ensures { MatchResult result (λ x. (map seen tokens.now ≡ seen x.0 ∷ map seen x.1.now) × (kind_of (seen x.0) ≡ kind))
+        (λ e. IsStray (map seen tokens.now) kind e) }
 {
     let Some((first, rest)) = split(tokens) else {
         return Err(ParseError::Early);
@@ -114,7 +116,8 @@ fn operator<'t, 'a>(
     level: u8,
     tokens: &'t [Token<'a>],
 ) -> Option<(Operator, Token<'a>, &'t [Token<'a>])>
-    ensures { MatchOption result (NoOperator level (kinds (map seen tokens.now))) (λ x. (map seen tokens.now ≡ seen x.1 ∷ map seen x.2.now) × (kind_of (seen x.1) ≡ Infix x.0) × (level_of x.0 ≡ level)) }
+    ensures { MatchOption result (NoOperator level (kinds (map seen tokens.now)))
+        (λ x. (map seen tokens.now ≡ seen x.1 ∷ map seen x.2.now) × (kind_of (seen x.1) ≡ Infix x.0) × (level_of x.0 ≡ level)) }
 {
     let Some((first, rest)) = split(tokens) else {
         return None;
@@ -131,7 +134,8 @@ fn operator<'t, 'a>(
 
 /// The first token where it is of this kind, and what follows it.
 fn after<'t, 'a>(tokens: &'t [Token<'a>], kind: TokenKind) -> Option<(Token<'a>, &'t [Token<'a>])>
-    ensures { MatchOption result ((rest : List TokenKind) → kinds (map seen tokens.now) ≢ kind ∷ rest) (λ x. (map seen tokens.now ≡ seen x.0 ∷ map seen x.1.now) × (kind_of (seen x.0) ≡ kind)) }
+    ensures { MatchOption result ((rest : List TokenKind) → kinds (map seen tokens.now) ≢ kind ∷ rest)
+        (λ x. (map seen tokens.now ≡ seen x.0 ∷ map seen x.1.now) × (kind_of (seen x.0) ≡ kind)) }
 {
     let (first, rest) = split(tokens)?;
     if first.kind == kind {
@@ -157,18 +161,18 @@ fn property<'t, 'a>(
     dot: Token,
     tokens: &'t [Token<'a>],
     room: u32,
-) -> Result<(Step, &'t [Token<'a>]), ParseError>
+) -> Result<(PathStep, &'t [Token<'a>]), ParseError>
     requires { kind_of (seen dot) ≡ Dot }
-    ensures { MatchResult result (λ x. StepRead room (seen dot.entry ∷ map seen tokens.now) (step_of x.0) (map seen x.1.now)) (λ e. StepRefused room (seen dot.entry ∷ map seen tokens.now) e) }
+    ensures { ParsesStep room (seen dot.entry ∷ map seen tokens.now) result }
 {
     let Some((first, rest)) = split(tokens) else {
         return Err(ParseError::Early);
     };
     match first.kind {
         TokenKind::Name | TokenKind::Keyword(_) => {
-            Ok((Step::Property(dot.span, word(alloc, first)?), rest))
+            Ok((PathStep::Property(dot.span, word(alloc, first)?), rest))
         }
-        TokenKind::Star => Ok((Step::All(dot.span, first.span), rest)),
+        TokenKind::Star => Ok((PathStep::All(dot.span, first.span), rest)),
         _ => Err(ParseError::Unexpected(tokens.len())),
     }
 }
@@ -181,7 +185,7 @@ fn primary<'t, 'a>(
     room: u32,
 ) -> Result<(Expr, &'t [Token<'a>]), ParseError>
     requires { NoBang (kinds (map seen tokens.now)) }
-    ensures { MatchResult result (λ x. Parsed Primary room (map seen tokens.now) (tree_of x.0) (map seen x.1.now)) (λ e. Refused Primary room (map seen tokens.now) e) }
+    ensures { Parses Primary room (map seen tokens.now) result }
 {
     let Some((first, rest)) = split(tokens) else {
         return Err(ParseError::Early);
@@ -208,7 +212,7 @@ fn group<'t, 'a>(
     room: u32,
 ) -> Result<(Expr, &'t [Token<'a>]), ParseError>
     requires { kind_of (seen bracket) ≡ Open }
-    ensures { MatchResult result (λ x. Parsed Primary room (seen bracket.entry ∷ map seen tokens.now) (tree_of x.0) (map seen x.1.now)) (λ e. Refused Primary room (seen bracket.entry ∷ map seen tokens.now) e) }
+    ensures { Parses Primary room (seen bracket.entry ∷ map seen tokens.now) result }
 {
     let inner = deeper(room, tokens.len() + 1)?;
     let (expr, left) = binary(alloc, 0, tokens, inner)?;
@@ -230,7 +234,7 @@ fn call<'t, 'a>(
 ) -> Result<(Expr, &'t [Token<'a>]), ParseError>
     requires name { kind_of (seen name) ≡ Name }
     requires bracket { kind_of (seen bracket) ≡ Open }
-    ensures { MatchResult result (λ x. Parsed Primary room (seen name.entry ∷ seen bracket.entry ∷ map seen tokens.now) (tree_of x.0) (map seen x.1.now)) (λ e. Refused Primary room (seen name.entry ∷ seen bracket.entry ∷ map seen tokens.now) e) }
+    ensures { Parses Primary room (seen name.entry ∷ seen bracket.entry ∷ map seen tokens.now) result }
 {
     let inner = deeper(room, tokens.len() + 1)?;
     let function = word(alloc, name)?;
@@ -250,7 +254,8 @@ fn arguments<'t, 'a>(
     room: u32,
 ) -> Result<(Vec<Expr>, &'t [Token<'a>]), ParseError>
     requires { NoClose (kinds (map seen tokens.now)) }
-    ensures { MatchResult result (λ x. ArgumentsRead room (map seen tokens.now) (map tree_of x.0.items) (map seen x.1.now)) (λ e. ArgumentsRefused room (map seen tokens.now) e) }
+    ensures { MatchResult result (λ x. ArgumentsRead room (map seen tokens.now) (map tree_of x.0.items) (map seen x.1.now))
+        (λ e. ArgumentsRefused room (map seen tokens.now) e) }
 {
     let (first, mut left) = binary(alloc, 0, tokens, room)?;
     let mut given = Vec::new(alloc);
@@ -271,7 +276,7 @@ fn postfix<'t, 'a>(
     room: u32,
 ) -> Result<(Expr, &'t [Token<'a>]), ParseError>
     requires { NoBang (kinds (map seen tokens.now)) }
-    ensures { MatchResult result (λ x. Parsed Postfix room (map seen tokens.now) (tree_of x.0) (map seen x.1.now)) (λ e. Refused Postfix room (map seen tokens.now) e) }
+    ensures { Parses Postfix room (map seen tokens.now) result }
 {
     let (base, mut left) = primary(alloc, tokens, room)?;
     let mut steps = Vec::new(alloc);
@@ -288,8 +293,10 @@ fn step<'t, 'a>(
     alloc: Global,
     tokens: &'t [Token<'a>],
     room: u32,
-) -> Result<Option<(Step, &'t [Token<'a>])>, ParseError>
-    ensures { MatchResult result (λ o. MatchOption o (EndsPath (kinds (map seen tokens.now))) (λ x. StepRead room (map seen tokens.now) (step_of x.0) (map seen x.1.now))) (λ e. StepRefused room (map seen tokens.now) e) }
+) -> Result<Option<(PathStep, &'t [Token<'a>])>, ParseError>
+    ensures { MatchResult result (λ o. MatchOption o (EndsPath (kinds (map seen tokens.now)))
+        (λ x. StepRead room (map seen tokens.now) (step_of x.0) (map seen x.1.now)))
+        (λ e. StepRefused room (map seen tokens.now) e) }
 {
     let Some((first, rest)) = split(tokens) else {
         return Ok(None);
@@ -308,18 +315,18 @@ fn index<'t, 'a>(
     bracket: Token,
     tokens: &'t [Token<'a>],
     room: u32,
-) -> Result<(Step, &'t [Token<'a>]), ParseError>
+) -> Result<(PathStep, &'t [Token<'a>]), ParseError>
     requires { kind_of (seen bracket) ≡ OpenIndex }
-    ensures { MatchResult result (λ x. StepRead room (seen bracket.entry ∷ map seen tokens.now) (step_of x.0) (map seen x.1.now)) (λ e. StepRefused room (seen bracket.entry ∷ map seen tokens.now) e) }
+    ensures { ParsesStep room (seen bracket.entry ∷ map seen tokens.now) result }
 {
     let inner = deeper(room, tokens.len() + 1)?;
     if let Some((_, left)) = after(tokens, TokenKind::Star) {
         let (close, rest) = past(left, TokenKind::CloseIndex)?;
-        return Ok((Step::All(bracket.span, close.span), rest));
+        return Ok((PathStep::All(bracket.span, close.span), rest));
     }
     let (expr, left) = binary(alloc, 0, tokens, inner)?;
     let (close, rest) = past(left, TokenKind::CloseIndex)?;
-    Ok((Step::Index(bracket.span, expr, close.span), rest))
+    Ok((PathStep::Index(bracket.span, expr, close.span), rest))
 }
 
 /// An operand of the tightest operators: negations, or none, before a path.
@@ -329,7 +336,7 @@ fn unary<'t, 'a>(
     tokens: &'t [Token<'a>],
     room: u32,
 ) -> Result<(Expr, &'t [Token<'a>]), ParseError>
-    ensures { MatchResult result (λ x. Parsed Unary room (map seen tokens.now) (tree_of x.0) (map seen x.1.now)) (λ e. Refused Unary room (map seen tokens.now) e) }
+    ensures { Parses Unary room (map seen tokens.now) result }
 {
     let Some((bang, inner)) = after(tokens, TokenKind::Bang) else {
         return postfix(alloc, tokens, room);
@@ -348,7 +355,7 @@ fn binary<'t, 'a>(
     room: u32,
 ) -> Result<(Expr, &'t [Token<'a>]), ParseError>
     requires { level < 4 }
-    ensures { MatchResult result (λ x. Parsed (Binary level) room (map seen tokens.now) (tree_of x.0) (map seen x.1.now)) (λ e. Refused (Binary level) room (map seen tokens.now) e) }
+    ensures { Parses (Binary level) room (map seen tokens.now) result }
 {
     let (first, mut left) = operand(alloc, level, tokens, room)?;
     let mut more = Vec::new(alloc);
@@ -373,7 +380,7 @@ fn operand<'t, 'a>(
     room: u32,
 ) -> Result<(Expr, &'t [Token<'a>]), ParseError>
     requires { level < 4 }
-    ensures { MatchResult result (λ x. Parsed (below level) room (map seen tokens.now) (tree_of x.0) (map seen x.1.now)) (λ e. Refused (below level) room (map seen tokens.now) e) }
+    ensures { Parses (below level) room (map seen tokens.now) result }
 {
     if level < 3 {
         binary(alloc, level + 1, tokens, room)
@@ -387,7 +394,8 @@ const MAX_NESTING: u32 = 50;
 
 /// The tree of the tokens, or the first fault in them.
 pub fn parse(alloc: Global, tokens: &[Token]) -> Result<Expr, ParseError>
-    ensures { MatchResult result (λ e. (verdict_of (kinds (map seen tokens.now)) ≡ Fine) × IsTreeOf (tree_of e) (map seen tokens.now)) (λ e. IsVerdict e (verdict_of (kinds (map seen tokens.now)))) }
+    ensures { MatchResult result (λ e. (verdict_of (kinds (map seen tokens.now)) ≡ Fine) × IsTreeOf (tree_of e) (map seen tokens.now))
+        (λ e. IsVerdict e (verdict_of (kinds (map seen tokens.now)))) }
 {
     let (expr, rest) = binary(alloc, 0, tokens, MAX_NESTING)?;
     if rest.is_empty() {

@@ -2,14 +2,14 @@
 use Rattle.std.proofs.Common.{◌≡◌, ℕ, ◌≤◌, ◌+◌, ◌*◌, ◌-◌, List, [], ◌∷◌, Bool, true, false, length, nat_eq, nat_lt, Option, Some, None, refl, sym, ap, ◌∙◌, arith}
 use Rattle.std.specs.Prelude.{if◌then◌else◌, slice_set}
 use Rattle.std.proofs.lemmas.Bool.{le-ltb}
-use Rattle.al_meaning.specs.declared.placeholders.Place.{Place}
-use Rattle.al_meaning.specs.declared.placeholders.Place.TheVariants.{Outside, InIndex}
+use Rattle.al_meaning.specs.declared.placeholders.PlaceholderState.{PlaceholderState}
+use Rattle.al_meaning.specs.declared.placeholders.PlaceholderState.TheVariants.{Outside, InIndex}
 use Rattle.al_meaning.specs.declared.placeholders.Turn.{Turn}
 use Rattle.al_meaning.specs.declared.placeholders.Turn.TheVariants.{To, Names, Wrong}
 use Rattle.al_grammar.specs.Tokens.{is_digit}
 use Rattle.al_meaning.specs.Placeholders.{turn, turned, used_from}
 
-pub names_none : (n : ℕ) (used : List Bool) (go : Place → List Bool → Option (List Bool)) → length used ≤ n → turned (Names n) used go ≡ None
+pub names_none : (n : ℕ) (used : List Bool) (go : PlaceholderState → List Bool → Option (List Bool)) → length used ≤ n → turned (Names n) used go ≡ None
 names_none n used go h = ap (λ b. if b then go Outside (slice_set used n true) else None) (le-ltb n (length used) h)
 
 too_large_step : (d q : Bool) (n m : ℕ) (used : List Bool) (bs : List ℕ) → length used ≤ n → used_from (InIndex m) used bs ≡ None → turned (if d then To (InIndex m) else if q then Names n else Wrong) used (λ p now. used_from p now bs) ≡ None

@@ -1,5 +1,6 @@
 -- The type of an expression under a scope, and the faults in it, in the order in which it is read.
-use Rattle.std.specs.Prelude.{◌≡◌, ℕ, ◌+◌, List, [], ◌∷◌, ◌++◌, Bool, true, false, ◌&&◌, ◌||◌, not, nat_eq, if◌then◌else◌, Option, Some, None, length, map, slice_get}
+use Rattle.std.specs.Prelude.{◌≡◌, ℕ, ◌+◌, List, [], ◌∷◌, ◌++◌, Bool, true, false, ◌&&◌, ◌||◌, not, nat_eq, if◌then◌else◌, Option, Some}
+use Rattle.std.specs.Prelude.{None, length, map, slice_get}
 use Rattle.std.specs.Fmt.{decimal}
 use Rattle.al_text.specs.declared.codes.ExpressionCode.TheVariants as code
 use Rattle.al_text.specs.declared.faults.Fault.{Fault}
@@ -13,7 +14,8 @@ use Rattle.al_types.specs.declared.signatures.Parameters.{Parameters}
 use Rattle.al_grammar.specs.Refusal.{fault}
 use Rattle.al_types.specs.Names.{context_of, function_of}
 use Rattle.al_meaning.specs.Placeholders.{used_arguments}
-use Rattle.al_types.specs.Types.{Type', Any, Null, Number, Bool', String, ArrayOf, ObjectOf, Fields, NoField, FieldThen, Rest, Strict, Loose, field_at, field_or_rest, fuse_type}
+use Rattle.al_types.specs.Types.{Type', Any, Null, Number, Bool', String, ArrayOf, ObjectOf, Fields, NoField, FieldThen, Rest, Strict}
+use Rattle.al_types.specs.Types.{Loose, field_at, field_or_rest, fuse_type}
 use Rattle.al_meaning.specs.Comparison.{comparable_types}
 use Rattle.al_types.specs.Signatures.{signature, takes, wanted, accepts, returned_type}
 use Rattle.al_types.specs.Scopes.{Scope}
@@ -21,7 +23,8 @@ use Rattle.al_grammar.specs.Extents.{extent, across}
 use Rattle.al_meaning.specs.Literals.{literal_text, type_of_keyword}
 use Rattle.al_meaning.specs.Untrusted.{untrusted_chains, chain_among, part_of_index, with_dots}
 use Rattle.al_grammar.specs.Tree as tree
-use Rattle.al_grammar.specs.Tree.{Tree, Sign, sign, Constant, Named, Call, Group, Negated, Path, Chain, StepTree, Steps, NoStep, PropertyThen, AllThen, IndexThen, Operands, NoOperand, OperandThen, Arguments, NoArgument, ArgumentThen}
+use Rattle.al_grammar.specs.Tree.{Tree, Sign, sign, Constant, Named, Call, Group, Negated, Path, Chain, StepTree, Steps, NoStep}
+use Rattle.al_grammar.specs.Tree.{PropertyThen, AllThen, IndexThen, Operands, NoOperand, OperandThen, Arguments, NoArgument, ArgumentThen}
 
 -- a type with the faults found on the way
 pub data Typed : Type 0 where
@@ -141,7 +144,8 @@ begins_logic (OperandThen (sign o s) t os) = is_logic o
 
 -- One more operand: `&&` and `||` fuse, the others compare, X15 where the two can't be compared.
 abbrev pub operated : Operator → Span → Type' → Type' → Typed
-operated o s t u = if is_logic o then typed (fuse_type t u) [] else typed Bool' (give (not (comparable_types o t u)) (fault code.NotComparable s []))
+operated o s t u =
+    if is_logic o then typed (fuse_type t u) [] else typed Bool' (give (not (comparable_types o t u)) (fault code.NotComparable s []))
 
 -- functions that only test their arguments, so that no text of theirs gets into a script
 abbrev pub is_test : Option Function → Bool
@@ -160,11 +164,14 @@ typed_then (typed t fs) s (all_typed as' gs) = all_typed ((t, s) ∷ as') (fs ++
 -- X12 at each argument of a wrong type; the first has index 0 and number 1
 abbrev pub wrong_arguments : List ℕ → Parameters → ℕ → List (Type' × Span) → List Fault
 wrong_arguments name ps n [] = []
-wrong_arguments name ps n (a ∷ as') = give (not (accepts (wanted ps n) a.0)) (fault code.ArgumentType a.1 (decimal (n + 1) ∷ name ∷ [])) ++ wrong_arguments name ps (n + 1) as'
+wrong_arguments name ps n (a ∷ as') =
+    give (not (accepts (wanted ps n) a.0)) (fault code.ArgumentType a.1 (decimal (n + 1) ∷ name ∷ []))
+    ++ wrong_arguments name ps (n + 1) as'
 
 -- X11 where the number of arguments is wrong, else X12
 abbrev pub argument_faults : List ℕ → Span → Parameters → List (Type' × Span) → List Fault
-argument_faults name at ps as' = if takes ps (length as') then wrong_arguments name ps 0 as' else fault code.ArgumentCount at (name ∷ []) ∷ []
+argument_faults name at ps as' =
+    if takes ps (length as') then wrong_arguments name ps 0 as' else fault code.ArgumentCount at (name ∷ []) ∷ []
 
 -- X17 at each argument that no placeholder names. The first behind the text has index 0 and number 2.
 abbrev pub unused : ℕ → List Bool → List (Type' × Span) → List Fault
@@ -194,7 +201,8 @@ abbrev pub called_with : Scope → List ℕ → Span → Option Function → Arg
 called_with sc b s None ts as' = typed Any (fault code.UndefinedFunction s (b ∷ []) ∷ [])
 called_with sc b s (Some f) ts as' =
     typed (returned_type (signature f).returned)
-    (give (not (sc.allowed f)) (fault code.UnavailableFunction s (b ∷ [])) ++ argument_faults b s (signature f).parameters as' ++ format_faults f ts as')
+    (give (not (sc.allowed f)) (fault code.UnavailableFunction s (b ∷ []))
+    ++ argument_faults b s (signature f).parameters as' ++ format_faults f ts as')
 
 abbrev pub called : Scope → List ℕ → Span → Option Function → Arguments → AllTyped → Typed
 called sc b s f ts (all_typed as' fs) = behind fs (called_with sc b s f ts as')

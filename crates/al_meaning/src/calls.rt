@@ -1,6 +1,7 @@
 ghost use Rattle.std.specs.Prelude.{◌≡◌, ◌++◌, ◌+◌, ◌^◌, ◌<◌, IfOk, OnOk, not, map, length, string_bytes, ◌∷◌, []};
 ghost use Rattle.al_meaning.specs.Growth.{BeginsWith};
-ghost use Rattle.al_meaning.specs.Meaning.{typed, behind, give, is_test, called_with, argument_faults, wrong_arguments, format_faults, placeholder_faults, unused};
+ghost use Rattle.al_meaning.specs.Meaning.{typed, behind, give, is_test, called_with, argument_faults, wrong_arguments, format_faults};
+ghost use Rattle.al_meaning.specs.Meaning.{placeholder_faults, unused};
 ghost use Rattle.al_meaning.specs.Meaning as meaning;
 ghost use Rattle.al_meaning.specs.Placeholders.{used_arguments};
 ghost use Rattle.al_grammar.specs.Refusal.{fault};
@@ -60,7 +61,9 @@ pub(crate) fn called(
     arguments: &[Argument],
     out: &mut Vec<Fault>,
 ) -> Result<Ty, AllocError>
-    ensures ok { IfOk result (λ t. typed (ty_of t) out.new.items ≡ behind out.old.items (called_with (scope_of scope.now) (string_bytes name.now.text) name.now.span function (arguments_of (map tree_of exprs.now)) (map argument_of arguments.now))) }
+    ensures ok { IfOk result (λ t. typed (ty_of t) out.new.items ≡ behind out.old.items
+        (called_with (scope_of scope.now) (string_bytes name.now.text) name.now.span function
+        (arguments_of (map tree_of exprs.now)) (map argument_of arguments.now))) }
     ensures begins { BeginsWith out.new.items out.old.items }
 {
     let Some(function) = function else {
@@ -88,7 +91,8 @@ fn check_available(
     function: Function,
     out: &mut Vec<Fault>,
 ) -> Result<(), AllocError>
-    ensures ok { OnOk result (out.new.items ≡ out.old.items ++ give (not ((scope_of scope.now).allowed function)) (fault code.UnavailableFunction name.now.span (string_bytes name.now.text ∷ []))) }
+    ensures ok { OnOk result (out.new.items ≡ out.old.items ++ give (not ((scope_of scope.now).allowed function))
+        (fault code.UnavailableFunction name.now.span (string_bytes name.now.text ∷ []))) }
     ensures begins { BeginsWith out.new.items out.old.items }
 {
     if !scope.functions.allows(function) {
@@ -111,7 +115,8 @@ fn check_arguments(
     arguments: &[Argument],
     out: &mut Vec<Fault>,
 ) -> Result<(), AllocError>
-    ensures ok { OnOk result (out.new.items ≡ out.old.items ++ argument_faults (string_bytes name.now.text) name.now.span parameters (map argument_of arguments.now)) }
+    ensures ok { OnOk result (out.new.items ≡ out.old.items ++
+        argument_faults (string_bytes name.now.text) name.now.span parameters (map argument_of arguments.now)) }
     ensures begins { BeginsWith out.new.items out.old.items }
 {
     if parameters.takes(arguments.len()) {
@@ -135,7 +140,8 @@ fn check_types(
     arguments: &[Argument],
     out: &mut Vec<Fault>,
 ) -> Result<(), AllocError>
-    ensures ok { OnOk result (out.new.items ≡ out.old.items ++ wrong_arguments (string_bytes name.now.text) parameters 0 (map argument_of arguments.now)) }
+    ensures ok { OnOk result (out.new.items ≡ out.old.items ++
+        wrong_arguments (string_bytes name.now.text) parameters 0 (map argument_of arguments.now)) }
     ensures begins { BeginsWith out.new.items out.old.items }
 {
     for (index, argument) in arguments.iter().enumerate() {
@@ -154,7 +160,9 @@ fn check_type(
     out: &mut Vec<Fault>,
 ) -> Result<(), AllocError>
     requires { index + 2 < 2 ^ 64 }
-    ensures ok { OnOk result (out.new.items ≡ out.old.items ++ give (not (accepts (wanted parameters index) (ty_of argument.now.ty))) (fault code.ArgumentType argument.now.span (decimal (index + 1) ∷ string_bytes name.now.text ∷ []))) }
+    ensures ok { OnOk result (out.new.items ≡ out.old.items ++
+        give (not (accepts (wanted parameters index) (ty_of argument.now.ty)))
+        (fault code.ArgumentType argument.now.span (decimal (index + 1) ∷ string_bytes name.now.text ∷ []))) }
     ensures begins { BeginsWith out.new.items out.old.items }
 {
     if !parameters.wanted(index).accepts(&argument.ty) {
@@ -174,7 +182,8 @@ fn check_format(
     arguments: &[Argument],
     out: &mut Vec<Fault>,
 ) -> Result<(), AllocError>
-    ensures ok { OnOk result (out.new.items ≡ out.old.items ++ format_faults function (arguments_of (map tree_of exprs.now)) (map argument_of arguments.now)) }
+    ensures ok { OnOk result (out.new.items ≡ out.old.items ++
+        format_faults function (arguments_of (map tree_of exprs.now)) (map argument_of arguments.now)) }
     ensures begins { BeginsWith out.new.items out.old.items }
 {
     if function != Function::Format {
@@ -205,7 +214,9 @@ fn check_placeholders(
     arguments: &[Argument],
     out: &mut Vec<Fault>,
 ) -> Result<(), AllocError>
-    ensures ok { OnOk result (out.new.items ≡ out.old.items ++ placeholder_faults literal.now.span (used_arguments (length arguments.now) (string_bytes literal.now.value)) (map argument_of arguments.now)) }
+    ensures ok { OnOk result (out.new.items ≡ out.old.items ++
+        placeholder_faults literal.now.span (used_arguments (length arguments.now) (string_bytes literal.now.value))
+        (map argument_of arguments.now)) }
     ensures begins { BeginsWith out.new.items out.old.items }
 {
     match used_arguments(alloc, literal.value.as_str(), arguments.len())? {
@@ -241,7 +252,8 @@ fn check_argument(
     out: &mut Vec<Fault>,
 ) -> Result<(), AllocError>
     requires { index + 2 < 2 ^ 64 }
-    ensures ok { OnOk result (out.new.items ≡ out.old.items ++ give (not used) (fault code.UnusedArgument span (decimal (index + 2) ∷ []))) }
+    ensures ok { OnOk result (out.new.items ≡ out.old.items ++
+        give (not used) (fault code.UnusedArgument span (decimal (index + 2) ∷ []))) }
     ensures begins { BeginsWith out.new.items out.old.items }
 {
     if !used {

@@ -6,7 +6,7 @@ use std::alloc::{AllocError, Global};
 
 /// Where the reader of a format text stands.
 #[derive(Clone, Copy, PartialEq, Eq, Debug)]
-pub(crate) enum Place {
+pub(crate) enum PlaceholderState {
     Outside,
     BehindOpening,
     /// Behind a digit of an index that has this value so far.
@@ -14,10 +14,10 @@ pub(crate) enum Place {
     BehindClosing,
 }
 
-/// What a byte of a format text leads to: another place, the index that it ends, or a wrong brace.
+/// What a byte of a format text leads to: another state, the index that it ends, or a wrong brace.
 #[derive(Clone, Copy, PartialEq, Eq, Debug)]
 pub(crate) enum Turn {
-    To(Place),
+    To(PlaceholderState),
     Names(u128),
     Wrong,
 }
@@ -31,57 +31,66 @@ pub(crate) fn used_arguments(
     ensures { IfOk result (λ u. option_map (λ v. v.items) u ≡ used_arguments count text.now) }
 {
     let mut used = Vec::from_elem(alloc, false, count)?;
-    let mut place = Place::Outside;
+    let mut state = PlaceholderState::Outside;
     for byte in text.as_bytes() {
-        match pass(place, *byte, &mut used) {
-            Some(next) => place = next,
+        match pass(state, *byte, &mut used) {
+            Some(next) => state = next,
             None => return Ok(None),
         }
     }
-    match place {
-        Place::Outside => Ok(Some(used)),
-        Place::BehindOpening | Place::InIndex(_) | Place::BehindClosing => Ok(None),
+    match state {
+        PlaceholderState::Outside => Ok(Some(used)),
+        PlaceholderState::BehindOpening
+        | PlaceholderState::InIndex(_)
+        | PlaceholderState::BehindClosing => Ok(None),
     }
 }
 
-// The place behind a byte, with the argument marked whose index it ends: none where the text is wrong.
-fn pass(place: Place, byte: u8, used: &mut [bool]) -> Option<Place>
-    requires { IsSmall place }
+// The state behind a byte, with the argument marked whose index it ends: none where the text is wrong.
+fn pass(state: PlaceholderState, byte: u8, used: &mut [bool]) -> Option<PlaceholderState>
+    requires { IsSmall state }
     ensures { MatchOption result
-        ((rest : List ℕ) → used_from place used.old (byte ∷ rest) ≡ None)
-        (λ next. IsSmall next × ((rest : List ℕ) → used_from place used.old (byte ∷ rest) ≡ used_from next used.new rest)) }
+        ((rest : List ℕ) → used_from state used.old (byte ∷ rest) ≡ None)
+        (λ next. IsSmall next × ((rest : List ℕ) → used_from state used.old (byte ∷ rest) ≡ used_from next used.new rest)) }
 {
     let count = used.len() as u128;
-    match read_byte(place, byte) {
+    match read_byte(state, byte) {
         // A greater index has no argument, however it goes on.
-        Turn::To(Place::InIndex(index)) if index >= count => None,
+        Turn::To(PlaceholderState::InIndex(index)) if index >= count => None,
         Turn::To(next) => Some(next),
         Turn::Names(index) => {
             if index >= count {
                 return None;
             }
             used[index as usize] = true;
-            Some(Place::Outside)
+            Some(PlaceholderState::Outside)
         }
         Turn::Wrong => None,
     }
 }
 
-fn read_byte(place: Place, byte: u8) -> Turn
-    requires { IsSmall place }
-    ensures { result ≡ turn place byte }
+fn read_byte(state: PlaceholderState, byte: u8) -> Turn
+    requires { IsSmall state }
+    ensures { result ≡ turn state byte }
 {
-    match (place, byte) {
-        (Place::Outside, b'{') => Turn::To(Place::BehindOpening),
-        (Place::Outside, b'}') => Turn::To(Place::BehindClosing),
-        (Place::Outside, _) => Turn::To(Place::Outside),
-        (Place::BehindOpening, b'{') => Turn::To(Place::Outside),
-        (Place::BehindOpening, b'0'..=b'9') => Turn::To(Place::InIndex(u128::from(byte - b'0'))),
-        (Place::InIndex(index), b'0'..=b'9') => {
-            Turn::To(Place::InIndex(10 * index + u128::from(byte - b'0')))
+    match (state, byte) {
+        (PlaceholderState::Outside, b'{') => Turn::To(PlaceholderState::BehindOpening),
+        (PlaceholderState::Outside, b'}') => Turn::To(PlaceholderState::BehindClosing),
+        (PlaceholderState::Outside, _) => Turn::To(PlaceholderState::Outside),
+        (PlaceholderState::BehindOpening, b'{') => Turn::To(PlaceholderState::Outside),
+        (PlaceholderState::BehindOpening, b'0'..=b'9') => Turn::To(PlaceholderState::InIndex(
+            u128::from(byte - b'0'),
+        )),
+        (PlaceholderState::InIndex(index), b'0'..=b'9') => {
+            Turn::To(PlaceholderState::InIndex(10 * index + u128::from(byte - b'0')))
         }
-        (Place::InIndex(index), b'}') => Turn::Names(index),
-        (Place::BehindClosing, b'}') => Turn::To(Place::Outside),
-        (Place::BehindOpening | Place::InIndex(_) | Place::BehindClosing, _) => Turn::Wrong,
+        (PlaceholderState::InIndex(index), b'}') => Turn::Names(index),
+        (PlaceholderState::BehindClosing, b'}') => Turn::To(PlaceholderState::Outside),
+        (
+            PlaceholderState::BehindOpening
+            | PlaceholderState::InIndex(_)
+            | PlaceholderState::BehindClosing,
+            _,
+        ) => Turn::Wrong,
     }
 }

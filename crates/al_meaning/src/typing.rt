@@ -2,7 +2,8 @@ ghost use Rattle.std.specs.Prelude.{◌≡◌, ◌++◌, ◌||◌, ◌&&◌, not
 ghost use Rattle.al_meaning.specs.CallViews.{argument_of};
 ghost use Rattle.al_meaning.specs.FoundTypes.{found_type};
 ghost use Rattle.al_meaning.specs.Growth.{BeginsWith};
-ghost use Rattle.al_meaning.specs.Meaning.{typed, type_in, faults_in, behind, meaning_of, walked, chained, meanings, operated, is_logic, begins_logic, untrusted, all_typed, all_behind, stepped, base_name};
+ghost use Rattle.al_meaning.specs.Meaning.{typed, type_in, faults_in, behind, meaning_of, walked, chained, meanings, operated, is_logic};
+ghost use Rattle.al_meaning.specs.Meaning.{begins_logic, untrusted, all_typed, all_behind, stepped, base_name};
 ghost use Rattle.al_meaning.specs.Meaning as meaning;
 ghost use Rattle.al_types.specs.Names.{context_of, function_of};
 ghost use Rattle.al_types.specs.Scopes.{scope_of};
@@ -16,7 +17,7 @@ use crate::literals::{literal_text, type_of_keyword};
 use crate::reports::{report_plain, report_text};
 use crate::steps::{all, element, property};
 use crate::untrusted::untrusted_chain;
-use al_grammar::{Expr, Operand, Operator, Step, Word, across, extent, path_extent};
+use al_grammar::{Expr, Operand, Operator, PathStep, Word, across, extent, path_extent};
 use al_text::{ExpressionCode, Fault, Span};
 use al_types::{Context, Function, Scope, Ty, copy, fuse};
 use std::alloc::{AllocError, Global};
@@ -48,7 +49,8 @@ fn expression(
     expr: &Expr,
     out: &mut Vec<Fault>,
 ) -> Result<Ty, AllocError>
-    ensures ok { IfOk result (λ t. typed (ty_of t) out.new.items ≡ behind out.old.items (meaning.meaning (scope_of scope.now) safe (tree_of expr.now))) }
+    ensures ok { IfOk result (λ t. typed (ty_of t) out.new.items ≡ behind out.old.items
+        (meaning.meaning (scope_of scope.now) safe (tree_of expr.now))) }
     ensures begins { BeginsWith out.new.items out.old.items }
 {
     match expr {
@@ -106,7 +108,8 @@ fn is_exposed(scope: &Scope, safe: bool) -> bool
 
 #[tactic(auto, using(crate::proofs::Growing::growth, crate::proofs::TypedSteps::typing))]
 fn named(alloc: Global, scope: &Scope, word: &Word, out: &mut Vec<Fault>) -> Result<Ty, AllocError>
-    ensures ok { IfOk result (λ t. typed (ty_of t) out.new.items ≡ behind out.old.items (meaning.named (scope_of scope.now) (string_bytes word.now.text) word.now.span (context_of (string_bytes word.now.text)))) }
+    ensures ok { IfOk result (λ t. typed (ty_of t) out.new.items ≡ behind out.old.items
+        (meaning.named (scope_of scope.now) (string_bytes word.now.text) word.now.span (context_of (string_bytes word.now.text)))) }
     ensures begins { BeginsWith out.new.items out.old.items }
 {
     let name = word.text.as_str();
@@ -160,7 +163,8 @@ fn base_type<'s>(
     base: &Expr,
     out: &mut Vec<Fault>,
 ) -> Result<Found<'s>, AllocError>
-    ensures ok { IfOk result (λ f. typed (found_type f) out.new.items ≡ behind out.old.items (meaning.meaning (scope_of scope.now) safe (tree_of base.now))) }
+    ensures ok { IfOk result (λ f. typed (found_type f) out.new.items ≡ behind out.old.items
+        (meaning.meaning (scope_of scope.now) safe (tree_of base.now))) }
     ensures begins { BeginsWith out.new.items out.old.items }
 {
     match available_context(scope, base) {
@@ -174,7 +178,8 @@ fn base_type<'s>(
 
 // The type of the context that an expression names, where it is available.
 fn available_context<'s>(scope: &'s Scope, expr: &Expr) -> Option<&'s Ty>
-    ensures { MatchOption result (Unit {0}) (λ t. (safe : Bool) → meaning.meaning (scope_of scope.now) safe (tree_of expr.now) ≡ typed (ty_of t.now) []) }
+    ensures { MatchOption result (Unit {0})
+        (λ t. (safe : Bool) → meaning.meaning (scope_of scope.now) safe (tree_of expr.now) ≡ typed (ty_of t.now) []) }
 {
     let Expr::Name(word) = expr else {
         return None;
@@ -198,11 +203,12 @@ fn walk<'s>(
     alloc: Global,
     scope: &Scope,
     safe: bool,
-    steps: &[Step],
+    steps: &[PathStep],
     start: Found<'s>,
     out: &mut Vec<Fault>,
 ) -> Result<Ty, AllocError>
-    ensures ok { IfOk result (λ t. typed (ty_of t) out.new.items ≡ behind out.old.items (walked (scope_of scope.now) safe (steps_of (map step_of steps.now)) (found_type start.entry))) }
+    ensures ok { IfOk result (λ t. typed (ty_of t) out.new.items ≡ behind out.old.items
+        (walked (scope_of scope.now) safe (steps_of (map step_of steps.now)) (found_type start.entry))) }
     ensures begins { BeginsWith out.new.items out.old.items }
 {
     let mut here = start;
@@ -220,15 +226,16 @@ fn step_from(
     alloc: Global,
     scope: &Scope,
     safe: bool,
-    step: &Step,
+    step: &PathStep,
     ty: &Ty,
     out: &mut Vec<Fault>,
 ) -> Result<Ty, AllocError>
-    ensures ok { IfOk result (λ t. typed (ty_of t) out.new.items ≡ behind out.old.items (stepped (scope_of scope.now) safe (step_of step.now) (ty_of ty.now))) }
+    ensures ok { IfOk result (λ t. typed (ty_of t) out.new.items ≡ behind out.old.items
+        (stepped (scope_of scope.now) safe (step_of step.now) (ty_of ty.now))) }
     ensures begins { BeginsWith out.new.items out.old.items }
 {
     match step {
-        Step::Property(dot, name) => {
+        PathStep::Property(dot, name) => {
             property(
                 alloc,
                 ty,
@@ -238,8 +245,8 @@ fn step_from(
                 out,
             )
         }
-        Step::All(first, last) => all(alloc, ty, across(*first, *last), out),
-        Step::Index(open, index, close) => {
+        PathStep::All(first, last) => all(alloc, ty, across(*first, *last), out),
+        PathStep::Index(open, index, close) => {
             let whole = across(*open, *close);
             let literal = literal_text(alloc, index)?;
             match literal {
@@ -265,7 +272,8 @@ fn operations(
     start: Ty,
     out: &mut Vec<Fault>,
 ) -> Result<Ty, AllocError>
-    ensures ok { IfOk result (λ t. typed (ty_of t) out.new.items ≡ behind out.old.items (chained (scope_of scope.now) safe (operands_of (map operand_of operands.now)) (ty_of start))) }
+    ensures ok { IfOk result (λ t. typed (ty_of t) out.new.items ≡ behind out.old.items
+        (chained (scope_of scope.now) safe (operands_of (map operand_of operands.now)) (ty_of start))) }
     ensures begins { BeginsWith out.new.items out.old.items }
 {
     let mut ty = start;
@@ -285,7 +293,8 @@ fn operation(
     b: &Ty,
     out: &mut Vec<Fault>,
 ) -> Result<Ty, AllocError>
-    ensures ok { IfOk result (λ t. typed (ty_of t) out.new.items ≡ behind out.old.items (operated operator at (ty_of a.now) (ty_of b.now))) }
+    ensures ok { IfOk result (λ t. typed (ty_of t) out.new.items ≡ behind out.old.items
+        (operated operator at (ty_of a.now) (ty_of b.now))) }
     ensures begins { BeginsWith out.new.items out.old.items }
 {
     if is_logic(operator) {
@@ -334,7 +343,8 @@ fn typed_arguments(
     exprs: &[Expr],
     out: &mut Vec<Fault>,
 ) -> Result<Vec<Argument>, AllocError>
-    ensures ok { IfOk result (λ v. all_typed (map argument_of v.items) out.new.items ≡ all_behind [] out.old.items (meanings (scope_of scope.now) safe (arguments_of (map tree_of exprs.now)))) }
+    ensures ok { IfOk result (λ v. all_typed (map argument_of v.items) out.new.items ≡ all_behind [] out.old.items
+        (meanings (scope_of scope.now) safe (arguments_of (map tree_of exprs.now)))) }
     ensures begins { BeginsWith out.new.items out.old.items }
 {
     let mut arguments = Vec::new(alloc);
@@ -354,7 +364,7 @@ fn check_untrusted(
     alloc: Global,
     exposed: bool,
     base: &Expr,
-    steps: &[Step],
+    steps: &[PathStep],
     out: &mut Vec<Fault>,
 ) -> Result<(), AllocError>
     ensures ok { OnOk result (out.new.items ≡ out.old.items ++ untrusted exposed (tree_of base.now) (steps_of (map step_of steps.now))) }

@@ -4,7 +4,7 @@ ghost use Rattle.al_types.specs.Names.{same_name};
 ghost use Rattle.al_grammar.specs.View.{step_of};
 
 use crate::literals::literal_text;
-use al_grammar::Step;
+use al_grammar::PathStep;
 use al_types::is_same_name;
 use std::alloc::{AllocError, Global};
 
@@ -36,9 +36,10 @@ const UNTRUSTED: [Parts; 18] = [
 pub(crate) fn untrusted_chain(
     alloc: Global,
     name: &str,
-    steps: &[Step],
+    steps: &[PathStep],
 ) -> Result<Option<String>, AllocError>
-    ensures { IfOk result (λ c. option_map string_bytes c ≡ option_map with_dots (chain_among untrusted_chains (name.now ∷ map part_of (map step_of steps.now)))) }
+    ensures { IfOk result (λ c. option_map string_bytes c ≡ option_map with_dots
+        (chain_among untrusted_chains (name.now ∷ map part_of (map step_of steps.now)))) }
 {
     let found = find_chain(alloc, &UNTRUSTED, name, steps)?;
     let text = chain_text(alloc, found)?;
@@ -58,9 +59,10 @@ fn find_chain<'c>(
     alloc: Global,
     chains: &'c [Parts],
     name: &str,
-    steps: &[Step],
+    steps: &[PathStep],
 ) -> Result<Option<Parts>, AllocError>
-    ensures { IfOk result (λ c. option_map (λ p. map (λ q. q.now) p.now) c ≡ chain_among (map (λ p. map (λ q. q.now) p.now) chains.now) (name.now ∷ map part_of (map step_of steps.now))) }
+    ensures { IfOk result (λ c. option_map (λ p. map (λ q. q.now) p.now) c
+        ≡ chain_among (map (λ p. map (λ q. q.now) p.now) chains.now) (name.now ∷ map part_of (map step_of steps.now))) }
 {
     for chain in chains {
         if is_chain(alloc, chain, name, steps)? {
@@ -70,7 +72,12 @@ fn find_chain<'c>(
     Ok(None)
 }
 
-fn is_chain(alloc: Global, chain: &[&str], name: &str, steps: &[Step]) -> Result<bool, AllocError>
+fn is_chain(
+    alloc: Global,
+    chain: &[&str],
+    name: &str,
+    steps: &[PathStep],
+) -> Result<bool, AllocError>
     ensures { IfOk result (λ b. b ≡ same_parts (map (λ p. p.now) chain.now) (name.now ∷ map part_of (map step_of steps.now))) }
 {
     let [first, rest @ ..] = chain else {
@@ -85,7 +92,7 @@ fn is_chain(alloc: Global, chain: &[&str], name: &str, steps: &[Step]) -> Result
     are_parts(alloc, rest, steps)
 }
 
-fn are_parts(alloc: Global, parts: &[&str], steps: &[Step]) -> Result<bool, AllocError>
+fn are_parts(alloc: Global, parts: &[&str], steps: &[PathStep]) -> Result<bool, AllocError>
     requires { length parts.now ≡ length steps.now }
     ensures { IfOk result (λ b. b ≡ same_parts (map (λ p. p.now) parts.now) (map part_of (map step_of steps.now))) }
 {
@@ -98,13 +105,13 @@ fn are_parts(alloc: Global, parts: &[&str], steps: &[Step]) -> Result<bool, Allo
 }
 
 #[tactic(auto, using(al_grammar::proofs::TreeViews::step_views))]
-fn is_part(alloc: Global, part: &str, step: &Step) -> Result<bool, AllocError>
+fn is_part(alloc: Global, part: &str, step: &PathStep) -> Result<bool, AllocError>
     ensures { IfOk result (λ b. b ≡ same_name part.now (part_of (step_of step.now))) }
 {
     match step {
-        Step::Property(_, name) => Ok(is_same_name(part, name.text.as_str())),
-        Step::All(_, _) => Ok(is_same_name(part, "*")),
-        Step::Index(_, index, _) => match literal_text(alloc, index)? {
+        PathStep::Property(_, name) => Ok(is_same_name(part, name.text.as_str())),
+        PathStep::All(_, _) => Ok(is_same_name(part, "*")),
+        PathStep::Index(_, index, _) => match literal_text(alloc, index)? {
             Some(literal) => Ok(is_same_name(part, literal.value.as_str())),
             None => Ok(is_same_name(part, "*")),
         },

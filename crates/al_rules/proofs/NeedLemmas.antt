@@ -16,12 +16,12 @@ use Rattle.al_graph.proofs.TurnLemmas.{turned_walk}
 use Rattle.al_scalar.specs.Scalar.{Scalar}
 use Rattle.al_text.specs.declared.faults.Span.{Span}
 use Rattle.al_shape.specs.Values.{texts_at}
-use Rattle.al_rules.specs.Ids.{with_folded}
-use Rattle.al_rules.specs.Views.{folded_id}
-use Rattle.al_rules.specs.declared.ids.FoldedId.{FoldedId}
+use Rattle.al_settings.specs.Ids.{with_folded}
+use Rattle.al_settings.specs.Views.{folded_id}
+use Rattle.al_settings.specs.declared.ids.FoldedId.{FoldedId}
 use Rattle.al_graph.specs.Marks.{Marked}
 use Rattle.al_rules.specs.Needs.{AddsAllNeeds, AddsNeeds, AreNeedsFaults, undefined_job, leads_back, leads_on, no_needs, and_need, IsNeedFaults, Need, all_needs, cycle_fault, keys_of, named_by, needs_in, needs_lists, needs_of, position_from, position_in, tested_faults}
-use Rattle.al_rules.specs.Words.{Named, of_key, of_scalar}
+use Rattle.al_reports.specs.Words.{Named, of_key, of_scalar}
 
 enumerated : {X : Type 0} (i : ℕ) (xs : List X) (y : X) → enumerate_from i (xs ++ y ∷ []) ≡ enumerate_from i xs ++ (i + length xs, y) ∷ []
 enumerated i [] y = ap (λ k. (k, y) ∷ []) (omega arith)

@@ -16,4 +16,5 @@ root_of (tree.Action a) = view a.root
 -- Where each node of a tree lies in the one around it, and in a file of this many bytes, so does each fault of the rules.
 abbrev pub RuleFaultsLie : Type 0
 RuleFaultsLie =
-    (size : ℕ) (t : Tree) (found : List Fault) → IsWithin 0 size (root_of t) → IsRuleFaults t found → All (λ (f : Fault). LiesIn size f.span) found
+    (size : ℕ) (t : Tree) (found : List Fault) → IsWithin 0 size (root_of t) → IsRuleFaults t found
+    → All (λ (f : Fault). LiesIn size f.span) found

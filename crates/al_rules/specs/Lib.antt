@@ -1,13 +1,6 @@
-pub mod Names
-pub mod Words
 pub mod Views
-pub mod Commands
-pub mod Ids
-pub mod Events
 pub mod Positions
 pub mod Needs
-pub mod Matrix
-pub mod Settings
 pub mod Rules
 pub mod Inside
 pub mod Rows

@@ -1,5 +1,6 @@
 -- Faults of what jobs need.
-use Rattle.std.specs.Prelude.{◌≡◌, ℕ, zero, suc, List, [], ◌∷◌, ◌++◌, Bool, ◌+◌, ◌||◌, codes, map, Option, Some, None, if◌then◌else◌, slice_index_or, nat_eq}
+use Rattle.std.specs.Prelude.{◌≡◌, ℕ, zero, suc, List, [], ◌∷◌, ◌++◌, Bool, ◌+◌, ◌||◌, codes, map, Option, Some, None, if◌then◌else◌}
+use Rattle.std.specs.Prelude.{slice_index_or, nat_eq}
 use Rattle.std.specs.List.{list_any, flat_map, filter_map, enumerate_from}
 use Rattle.std.specs.Str.{bytes_eq}
 use Rattle.al_text.specs.declared.codes.RuleCode.TheVariants.{NeedsCycle, UndefinedJob}
@@ -8,7 +9,7 @@ use Rattle.al_yaml.specs.Node.{Node}
 use Rattle.al_shape.specs.Values.{texts_at}
 use Rattle.al_formats.specs.Texts.{folded}
 use Rattle.al_graph.specs.Graphs.{Walk}
-use Rattle.al_rules.specs.Words.{Named, about, fault, of_key, of_scalar}
+use Rattle.al_reports.specs.Words.{Named, about, fault, of_key, of_scalar}
 
 -- the keys of the jobs
 abbrev pub keys_of : List (Node × Node) → List Named
@@ -59,11 +60,13 @@ pub data IsNeedFaults (Leads : ℕ → ℕ → Type 0) (n : Need) : Option ℕ �
 -- what entries give, one after another
 pub data AreNeedsFaults (position : List ℕ → Option ℕ) (Leads : ℕ → ℕ → Type 0) : List Need → List Fault → Type 0 where
   no_needs : AreNeedsFaults position Leads [] []
-  and_need : (n : Need) (ns : List Need) (first rest : List Fault) → IsNeedFaults Leads n (named_by position n.text) first → AreNeedsFaults position Leads ns rest
+  and_need : (n : Need) (ns : List Need) (first rest : List Fault) → IsNeedFaults Leads n (named_by position n.text) first
+      → AreNeedsFaults position Leads ns rest
       → AreNeedsFaults position Leads (n ∷ ns) (first ++ rest)
 
 abbrev pub IsNeedsFaults : List (Node × Node) → List Fault → Type 0
-IsNeedsFaults jobs found = let position = position_in (keys_of jobs) in AreNeedsFaults position (Walk (needs_lists position jobs)) (all_needs jobs) found
+IsNeedsFaults jobs found =
+    let position = position_in (keys_of jobs) in AreNeedsFaults position (Walk (needs_lists position jobs)) (all_needs jobs) found
 
 -- what is added for some entries, and for all
 pub record AddsNeeds (position : List ℕ → Option ℕ) (Leads : ℕ → ℕ → Type 0) (ns : List Need) (old new : List Fault) : Type 0 where
@@ -72,7 +75,8 @@ pub record AddsNeeds (position : List ℕ → Option ℕ) (Leads : ℕ → ℕ �
   pub grows : new ≡ old ++ found
 
 abbrev pub AddsAllNeeds : List (Node × Node) → List Fault → List Fault → Type 0
-AddsAllNeeds jobs old new = let position = position_in (keys_of jobs) in AddsNeeds position (Walk (needs_lists position jobs)) (all_needs jobs) old new
+AddsAllNeeds jobs old new =
+    let position = position_in (keys_of jobs) in AddsNeeds position (Walk (needs_lists position jobs)) (all_needs jobs) old new
 
 -- To compute rows with: walks of at most n steps, and the faults by them.
 abbrev pub leads_within : ℕ → List (List ℕ) → ℕ → ℕ → Bool
@@ -85,4 +89,5 @@ tested_faults leads n None = about UndefinedJob n.text
 tested_faults leads n (Some j) = if leads j then cycle_fault n ∷ [] else []
 
 abbrev pub needs_faults : (ℕ → ℕ → Bool) → List (Node × Node) → List Fault
-needs_faults leads jobs = flat_map (λ n. tested_faults (λ j. leads j n.job) n (named_by (position_in (keys_of jobs)) n.text)) (all_needs jobs)
+needs_faults leads jobs =
+    flat_map (λ n. tested_faults (λ j. leads j n.job) n (named_by (position_in (keys_of jobs)) n.text)) (all_needs jobs)

@@ -1,5 +1,6 @@
 -- The faults of the rules, of a workflow and of an action.
-use Rattle.std.specs.Prelude.{◌≡◌, ◌↔◌, ◌⊎◌, List, [], ◌∷◌, ◌++◌, codes, map, Option, if◌then◌else◌, is_some, Contains, option_map, option_and_then}
+use Rattle.std.specs.Prelude.{◌≡◌, ◌↔◌, ◌⊎◌, ℕ, List, [], ◌∷◌, ◌++◌, codes, map, Option, if◌then◌else◌, is_some, Contains, option_map}
+use Rattle.std.specs.Prelude.{option_and_then}
 use Rattle.std.specs.List.{flat_map, filter_map}
 use Rattle.std.specs.Option.{option_map_or}
 use Rattle.std.specs.Str.{bytes_eq}
@@ -12,13 +13,12 @@ use Rattle.al_shape.specs.Names.{among}
 use Rattle.al_shape.specs.Values.{entries_at, items_at, key_at, text_at, text_below, value_at, value_below}
 use Rattle.al_tree.specs.declared.files.Tree.{Tree}
 use Rattle.al_tree.specs.declared.files.Tree.TheVariants as tree
-use Rattle.al_rules.specs.Events.{on_faults}
-use Rattle.al_rules.specs.Ids.{ids_faults}
-use Rattle.al_rules.specs.Matrix.{matrix_faults}
-use Rattle.al_rules.specs.Names.{node_usings}
+use Rattle.al_events.specs.Events.{on_faults}
+use Rattle.al_settings.specs.Ids.{ids_faults}
+use Rattle.al_settings.specs.Matrix.{matrix_faults}
 use Rattle.al_rules.specs.Needs.{IsNeedsFaults, keys_of}
-use Rattle.al_rules.specs.Settings.{condition_faults, credentials_faults, env_faults, permissions_faults, script_faults, shell_faults}
-use Rattle.al_rules.specs.Words.{Named, about, fault, of_key, of_scalar}
+use Rattle.al_settings.specs.Settings.{condition_faults, credentials_faults, env_faults, permissions_faults, script_faults, shell_faults}
+use Rattle.al_reports.specs.Words.{Named, about, fault, of_key, of_scalar}
 
 -- of a step
 abbrev pub run_faults : Node → List Fault
@@ -46,7 +46,8 @@ matrix_faults_of job = option_map_or matrix_faults (value_below (codes "strategy
 
 abbrev pub containers_faults : Node → List Fault
 containers_faults job =
-    option_map_or container_faults (value_at (codes "container") job) [] ++ flat_map (λ m. container_faults m.1) (entries_at (codes "services") job)
+    option_map_or container_faults (value_at (codes "container") job) []
+    ++ flat_map (λ m. container_faults m.1) (entries_at (codes "services") job)
 
 abbrev pub settings_faults : Node → List Fault
 settings_faults job = section_faults job ++ condition_faults (text_at (codes "if") job) ++ matrix_faults_of job
@@ -66,7 +67,8 @@ workflow_faults needs root =
 -- a step of a composite action that runs a script and names no shell
 abbrev pub no_shell_faults : Node → List Fault
 no_shell_faults step =
-    if is_some (value_at (codes "shell") step) then [] else option_map_or (λ key. fault MissingShell (span_of key) [] ∷ []) (key_at (codes "run") step) []
+    if is_some (value_at (codes "shell") step) then []
+    else option_map_or (λ key. fault MissingShell (span_of key) [] ∷ []) (key_at (codes "run") step) []
 
 -- an output of a composite action without a value
 abbrev pub output_faults : Node × Node → List Fault
@@ -79,6 +81,10 @@ composite_faults root runs =
 
 abbrev pub hooks_faults : Node → List Fault
 hooks_faults runs = condition_faults (text_at (codes "pre-if") runs) ++ condition_faults (text_at (codes "post-if") runs)
+
+-- the values of `using` that run JavaScript (GitHub, "Metadata syntax")
+abbrev pub node_usings : List (List ℕ)
+node_usings = codes "node12" ∷ codes "node16" ∷ codes "node20" ∷ codes "node24" ∷ []
 
 -- by `using`; one that isn't known, and then only it is checked
 abbrev pub using_faults : Node → Node → Named → List Fault

@@ -1,21 +1,24 @@
 //! Actions, by what `using` says.
 
-ghost use Rattle.al_rules.specs.Rules.{action_faults, composite_faults, hooks_faults, no_shell_faults, output_faults, runs_faults, scalar_of_value, using_faults};
-ghost use Rattle.al_rules.specs.Views.{named_of};
+ghost use Rattle.al_rules.specs.Rules.{action_faults, composite_faults, hooks_faults, no_shell_faults, output_faults, runs_faults};
+ghost use Rattle.al_rules.specs.Rules.{scalar_of_value, using_faults};
+ghost use Rattle.al_reports.specs.Views.{named_of};
 ghost use Rattle.al_shape.specs.Growth.{BeginsWith};
 ghost use Rattle.al_shape.specs.Values.{entries_at, member_of, value_at};
 ghost use Rattle.al_yaml.specs.View.{view};
 ghost use Rattle.std.specs.List.{flat_map};
 ghost use Rattle.std.specs.Prelude.{◌≡◌, ◌++◌, codes, map, option_and_then, option_map, OnOk};
 
-use crate::names::NODE_USINGS;
-use crate::reports::{Named, named_key, report, report_plain};
 use crate::sections::check_steps;
-use crate::settings::{check_condition, check_env};
+use al_reports::{Named, named_key, report, report_plain};
+use al_settings::{check_condition, check_env};
 use al_text::{Fault, RuleCode};
 use al_tree::{Member, is_among, items_under, key, members, text_under, value};
 use al_yaml::Node;
 use std::alloc::{AllocError, Global};
+
+/// The values of `using` that run JavaScript.
+const NODE_USINGS: &[&str] = &["node12", "node16", "node20", "node24"];
 
 /// Adds the fault of a step of a composite action that runs a script and names no shell.
 #[tactic(auto, using(al_shape::proofs::Lists::growth))]

@@ -2,18 +2,21 @@
 
 ghost use Rattle.al_formats.specs.Texts.{folded as folded_text};
 ghost use Rattle.al_graph.specs.Graphs.{Edge, Walk, edges_of};
-ghost use Rattle.al_rules.specs.Needs.{AddsAllNeeds, AddsNeeds, all_needs, keys_of as keys_of_all, named_by, needs_in, needs_lists, position_from, tested_faults};
+ghost use Rattle.al_rules.specs.Needs.{AddsAllNeeds, AddsNeeds, all_needs, keys_of as keys_of_all, named_by, needs_in, needs_lists};
+ghost use Rattle.al_rules.specs.Needs.{position_from, tested_faults};
 ghost use Rattle.al_rules.specs.Positions.{and_position, first_at};
-ghost use Rattle.al_rules.specs.Views.{folded_id, named_of, need_of};
-ghost use Rattle.al_rules.specs.Words.{of_scalar};
+ghost use Rattle.al_reports.specs.Views.{named_of};
+ghost use Rattle.al_rules.specs.Views.{need_of};
+ghost use Rattle.al_settings.specs.Views.{folded_id};
+ghost use Rattle.al_reports.specs.Words.{of_scalar};
 ghost use Rattle.al_shape.specs.Growth.{BeginsWith};
 ghost use Rattle.al_shape.specs.Values.{member_of, scalar_node_of};
 ghost use Rattle.std.specs.List.{enumerate_from, filter_map, flat_map};
 ghost use Rattle.std.specs.Prelude.{◌≡◌, ◌<◌, ℕ, ◌++◌, length, map, false, slice_index_or, IfOk, OnOk, Option, None};
 
-use crate::ids::{FoldedId, folded};
-use crate::reports::{Named, named_key, named_text, report, report_two};
 use al_graph::{reachable, turned};
+use al_reports::{Named, named_key, named_text, report, report_two};
+use al_settings::{FoldedId, folded};
 use al_text::{Fault, RuleCode};
 use al_tree::{Member, ScalarNode, texts_under};
 use std::alloc::{AllocError, Global};
@@ -144,7 +147,8 @@ fn check_named(
     named: Option<usize>,
     out: &mut Vec<Fault>,
 ) -> Result<(), AllocError>
-    ensures ok { OnOk result (out.new.items ≡ out.old.items ++ tested_faults (λ j. slice_index_or leading.now j false) (need_of need.entry) named) }
+    ensures ok { OnOk result (out.new.items ≡ out.old.items
+        ++ tested_faults (λ j. slice_index_or leading.now j false) (need_of need.entry) named) }
     ensures begins { BeginsWith out.new.items out.old.items }
 {
     match named {
@@ -168,7 +172,9 @@ fn check_need(
     need: Need<'_>,
     out: &mut Vec<Fault>,
 ) -> Result<(), AllocError>
-    ensures ok { OnOk result (out.new.items ≡ out.old.items ++ tested_faults (λ j. slice_index_or leading.now j false) (need_of need.entry) (named_by (first_at positions.now) (need_of need.entry).text)) }
+    ensures ok { OnOk result (out.new.items ≡ out.old.items
+        ++ tested_faults (λ j. slice_index_or leading.now j false) (need_of need.entry)
+        (named_by (first_at positions.now) (need_of need.entry).text)) }
     ensures begins { BeginsWith out.new.items out.old.items }
 {
     let named = positions.find(alloc, need.text.text)?;
@@ -182,7 +188,8 @@ fn entries_of<'a>(
     key: Named<'a>,
     texts: &[ScalarNode<'a>],
 ) -> Result<Vec<Need<'a>>, AllocError>
-    ensures { IfOk result (λ v. map need_of v.items ≡ map (λ n. record { job = job; key = named_of key.entry; text = n }) (map of_scalar (map scalar_node_of texts.now))) }
+    ensures { IfOk result (λ v. map need_of v.items
+        ≡ map (λ n. record { job = job; key = named_of key.entry; text = n }) (map of_scalar (map scalar_node_of texts.now))) }
 {
     let mut found = Vec::new(alloc);
     for text in texts {
@@ -201,7 +208,9 @@ fn check_entries(
     needs: &[Need<'_>],
     out: &mut Vec<Fault>,
 ) -> Result<(), AllocError>
-    ensures ok { OnOk result (out.new.items ≡ out.old.items ++ flat_map (λ n. tested_faults (λ j. slice_index_or leading.now j false) n (named_by (first_at positions.now) n.text)) (map need_of needs.now)) }
+    ensures ok { OnOk result (out.new.items ≡ out.old.items
+        ++ flat_map (λ n. tested_faults (λ j. slice_index_or leading.now j false) n (named_by (first_at positions.now) n.text))
+        (map need_of needs.now)) }
     ensures begins { BeginsWith out.new.items out.old.items }
 {
     for need in needs {
@@ -222,7 +231,8 @@ fn check_job(
 ) -> Result<(), AllocError>
     requires position_in { position < length needed_by.now }
     requires jobs_in { (j k : ℕ) → Edge (edges_of needed_by.now) j k → k < length needed_by.now }
-    ensures ok { OnOk result (AddsNeeds (first_at positions.now) (λ j k. Walk (edges_of needed_by.now) k j) (needs_in (position, member_of job.entry)) out.old.items out.new.items) }
+    ensures ok { OnOk result (AddsNeeds (first_at positions.now) (λ j k. Walk (edges_of needed_by.now) k j)
+        (needs_in (position, member_of job.entry)) out.old.items out.new.items) }
     ensures begins { BeginsWith out.new.items out.old.items }
 {
     let texts = texts_under(alloc, job.value, "needs")?;
@@ -252,7 +262,8 @@ fn check_each_job(
 ) -> Result<(), AllocError>
     requires same { length jobs.now ≡ length needed_by.now }
     requires jobs_in { (j k : ℕ) → Edge (edges_of needed_by.now) j k → k < length needed_by.now }
-    ensures ok { OnOk result (AddsNeeds (first_at positions.now) (λ j k. Walk (edges_of needed_by.now) k j) (all_needs (map member_of jobs.now)) out.old.items out.new.items) }
+    ensures ok { OnOk result (AddsNeeds (first_at positions.now) (λ j k. Walk (edges_of needed_by.now) k j)
+        (all_needs (map member_of jobs.now)) out.old.items out.new.items) }
     ensures begins { BeginsWith out.new.items out.old.items }
 {
     for (i, job) in jobs.iter().enumerate() {

@@ -1,7 +1,8 @@
 //! Steps, containers and jobs: which rules stand where.
 
-ghost use Rattle.al_rules.specs.Rules.{container_faults, containers_faults, job_faults, matrix_faults_of, run_faults, section_faults, settings_faults, step_faults, step_ids, steps_faults};
-ghost use Rattle.al_rules.specs.Views.{named_of};
+ghost use Rattle.al_rules.specs.Rules.{container_faults, containers_faults, job_faults, matrix_faults_of, run_faults, section_faults};
+ghost use Rattle.al_rules.specs.Rules.{settings_faults, step_faults, step_ids, steps_faults};
+ghost use Rattle.al_reports.specs.Views.{named_of};
 ghost use Rattle.al_shape.specs.Growth.{BeginsWith};
 ghost use Rattle.al_shape.specs.Values.{entries_at, member_of, value_at, value_below};
 ghost use Rattle.al_yaml.specs.View.{view};
@@ -9,11 +10,10 @@ ghost use Rattle.std.specs.List.{flat_map};
 ghost use Rattle.std.specs.Option.{option_map_or};
 ghost use Rattle.std.specs.Prelude.{◌≡◌, ◌++◌, [], ◌∷◌, codes, map, option_map, IfOk, OnOk};
 
-use crate::ids::check_ids;
-use crate::matrix::check_matrix;
-use crate::reports::{Named, named_text};
-use crate::settings::{
-    check_condition, check_credentials, check_env, check_permissions, check_script, check_shell,
+use al_reports::{Named, named_text};
+use al_settings::{
+    check_condition, check_credentials, check_env, check_ids, check_matrix, check_permissions,
+    check_script, check_shell,
 };
 use al_text::Fault;
 use al_tree::{Member, default_shell, items_under, members, text_under, value};
@@ -125,7 +125,8 @@ fn check_each_service(
 /// Adds the faults of the services of a job.
 #[tactic(auto, using(al_shape::proofs::Lists::growth))]
 fn check_services(alloc: Global, job: &Node, out: &mut Vec<Fault>) -> Result<(), AllocError>
-    ensures ok { OnOk result (out.new.items ≡ out.old.items ++ flat_map (λ m. container_faults m.1) (entries_at (codes "services") (view job.now))) }
+    ensures ok { OnOk result (out.new.items ≡ out.old.items
+        ++ flat_map (λ m. container_faults m.1) (entries_at (codes "services") (view job.now))) }
     ensures begins { BeginsWith out.new.items out.old.items }
 {
     match value(job, "services") {
@@ -140,7 +141,8 @@ fn check_services(alloc: Global, job: &Node, out: &mut Vec<Fault>) -> Result<(),
 /// Adds the faults of the container of a job.
 #[tactic(auto, using(al_shape::proofs::Lists::growth))]
 fn check_job_container(alloc: Global, job: &Node, out: &mut Vec<Fault>) -> Result<(), AllocError>
-    ensures ok { OnOk result (out.new.items ≡ out.old.items ++ option_map_or container_faults (value_at (codes "container") (view job.now)) []) }
+    ensures ok { OnOk result (out.new.items ≡ out.old.items
+        ++ option_map_or container_faults (value_at (codes "container") (view job.now)) []) }
     ensures begins { BeginsWith out.new.items out.old.items }
 {
     match value(job, "container") {

@@ -1,6 +1,6 @@
 //! Workflows.
 
-ghost use Rattle.al_rules.specs.Events.{on_faults};
+ghost use Rattle.al_events.specs.Events.{on_faults};
 ghost use Rattle.al_rules.specs.Rules.{AddsJobs, AddsWorkflow, jobs_of};
 ghost use Rattle.al_shape.specs.Growth.{BeginsWith};
 ghost use Rattle.al_shape.specs.Values.{member_of, value_at};
@@ -8,10 +8,10 @@ ghost use Rattle.al_yaml.specs.View.{view};
 ghost use Rattle.std.specs.Option.{option_map_or};
 ghost use Rattle.std.specs.Prelude.{◌≡◌, ◌++◌, [], codes, map, IfOk, OnOk};
 
-use crate::events::check_on;
-use crate::ids::check_ids;
 use crate::needs::{check_needs, keys_of};
 use crate::sections::{check_each_job, check_section};
+use al_events::check_on;
+use al_settings::check_ids;
 use al_text::Fault;
 use al_tree::{Member, members, value};
 use al_yaml::Node;

@@ -2,7 +2,7 @@
 use Rattle.std.proofs.Common.{◌≡◌, ℕ, ◌+◌, ◌-◌, ◌<◌, ◌≤◌, List, [], ◌∷◌, ◌++◌, drop, refl, sym, subst, arith, Bool, true, false, not, if◌then◌else◌, ◌&&◌, ◌||◌, nat_le, Option, Some, None, Result, Ok, Err}
 use Rattle.al_scalar.specs.Ascii as ascii
 use Rattle.al_scalar.specs.Line.{Cell, Line, place, start, is_empty, begins, after_blanks, begins_blank, is_comment, indent, is_all_blank}
-use Rattle.al_scalar.specs.Block.{Chomping, strip, clip, keep, Header, header_end, after_digit, after_sign, header, is_digit, is_sign, chomping_of, content_indent, Row, Rows, row_of, at_end, with_row, rows_at, chomped, is_spaced, own_break, between_rows, joint, text_after, last_end, rows_end, block_scalar}
+use Rattle.al_scalar.specs.Block.{Chomping, strip, clip, keep, Header, header_end, after_digit, after_sign, header, is_digit, is_sign, chomping_of, content_indent, BlockLine, Rows, row_of, at_end, with_row, rows_at, chomped, is_spaced, own_break, between_rows, joint, text_after, last_end, rows_end, block_scalar}
 use Rattle.al_scalar.specs.Offsets.{AreBefore, AreClimbing, IsTail, AreLines}
 use Rattle.al_scalar.specs.Taken.{Fault, Taken, ◌>>=◌, feeds}
 use Rattle.al_scalar.proofs.OffsetLemmas.{IsFrom, choose, from-none, from-one, from-join, from-wider, from-order, climbing-order, climbing-lower, climbing-place, climbing-drop, climbing-from, tail-lines, feeds-join}
@@ -18,7 +18,7 @@ abbrev break_behind : ℕ → List ℕ → ℕ
 break_behind high [] = high
 break_behind high (e ∷ es) = e + 1
 
-abbrev AreRows : ℕ → ℕ → List Row → Type 0
+abbrev AreRows : ℕ → ℕ → List BlockLine → Type 0
 AreRows low high [] = low ≤ high
 AreRows low high (r ∷ rs) = AreClimbing low (break_at high r.break) r.text × IsFrom (break_at high r.break) (break_behind high r.break) (feeds r.break) × AreRows (break_behind high r.break) high rs
 
@@ -56,11 +56,11 @@ rows-from m found low (l ∷ ls) h =
 -- ---- the text of rows
 
 -- the break of the last line with text, and those of the empty lines since
-record ArePending (low mid high : ℕ) (last : Option Row) (empties : List ℕ) : Type 0 where
+record ArePending (low mid high : ℕ) (last : Option BlockLine) (empties : List ℕ) : Type 0 where
   own : IsFrom low mid (feeds (own_break last))
   since : IsFrom mid high (feeds empties)
 
-chomped-from : (k : Chomping) (low mid high : ℕ) (last : Option Row) (empties : List ℕ) → ArePending low mid high last empties → IsFrom low high (chomped k (own_break last) empties)
+chomped-from : (k : Chomping) (low mid high : ℕ) (last : Option BlockLine) (empties : List ℕ) → ArePending low mid high last empties → IsFrom low high (chomped k (own_break last) empties)
 chomped-from strip low mid high last empties h =
     let a = from-order low mid (feeds (own_break last)) h.own in
     let b = from-order mid high (feeds empties) h.since in
@@ -77,20 +77,20 @@ between-from low mid high (e ∷ es) [] h k =
     from-one low high ascii.space e a (omega (arith, b, c))
 between-from low mid high (e ∷ es) (x ∷ xs) h k = from-wider mid high low high (feeds (x ∷ xs)) (from-order low mid (feeds (e ∷ es)) h) (omega arith) k
 
-joint-from : (is_literal : Bool) (low mid high : ℕ) (last : Option Row) (empties : List ℕ) (next : Row) → ArePending low mid high last empties → IsFrom low high (joint is_literal last empties next)
+joint-from : (is_literal : Bool) (low mid high : ℕ) (last : Option BlockLine) (empties : List ℕ) (next : BlockLine) → ArePending low mid high last empties → IsFrom low high (joint is_literal last empties next)
 joint-from is_literal low mid high None empties next h = from-wider mid high low high (feeds empties) (from-order low mid [] h.own) (omega arith) h.since
 joint-from is_literal low mid high (Some r) empties next h =
     choose (IsFrom low high) (is_literal || is_spaced r || is_spaced next)
     (λ _. subst (IsFrom low high) (sym (feeds-join r.break empties)) (from-join low mid high (feeds r.break) (feeds empties) h.own h.since))
     (λ _. between-from low mid high r.break empties h.own h.since)
 
-pending-more : (low mid high to to' : ℕ) (last : Option Row) (empties more : List ℕ) → high ≤ to → ArePending low mid high last empties → IsFrom to to' (feeds more) → ArePending low mid to' last (empties ++ more)
+pending-more : (low mid high to to' : ℕ) (last : Option BlockLine) (empties more : List ℕ) → high ≤ to → ArePending low mid high last empties → IsFrom to to' (feeds more) → ArePending low mid to' last (empties ++ more)
 pending-more low mid high to to' last empties more a h k = record {
   own = h.own;
   since = subst (IsFrom mid to') (sym (feeds-join empties more)) (from-join mid high to' (feeds empties) (feeds more) h.since (from-wider to to' high to' (feeds more) a (omega arith) k));
 }
 
-text-from : (is_literal : Bool) (k : Chomping) (low mid next high : ℕ) (last : Option Row) (empties : List ℕ) (rs : List Row) → ArePending low mid next last empties → AreRows next high rs
+text-from : (is_literal : Bool) (k : Chomping) (low mid next high : ℕ) (last : Option BlockLine) (empties : List ℕ) (rs : List BlockLine) → ArePending low mid next last empties → AreRows next high rs
     → IsFrom low high (text_after is_literal k last empties rs)
 text-from is_literal k low mid next high last empties [] h rows = from-wider low next low high (chomped k (own_break last) empties) (omega arith) rows (chomped-from k low mid next last empties h)
 text-from is_literal k low mid next high last empties (r ∷ rs) h rows =
@@ -133,7 +133,7 @@ last-behind : (low high at : ℕ) (cs : List Cell) → AreClimbing low high cs �
 last-behind low high at [] h e = absurd cc
 last-behind low high at (c ∷ cs) h e = let k = last-order (c.1 + 1) high (c.1 + 1) cs h.1 (omega arith) in let b = h.0 in omega (arith, k, b)
 
-rows-end : (at next high : ℕ) (rs : List Row) → AreRows next high rs → at ≤ next → at ≤ rows_end at rs
+rows-end : (at next high : ℕ) (rs : List BlockLine) → AreRows next high rs → at ≤ next → at ≤ rows_end at rs
 rows-end at next high [] h a = omega arith
 rows-end at next high (r ∷ rs) h a =
     let first = last-order next (break_at high r.break) at r.text h.0 a in
@@ -147,14 +147,14 @@ before-between low mid next end [] empties h a = before-feeds end empties
 before-between low mid next end (e ∷ es) [] h a = let b = h.rising.1 in ((λ _. omega (arith, b, a)), tt)
 before-between low mid next end (e ∷ es) (x ∷ xs) h a = before-feeds end (x ∷ xs)
 
-before-joint : (is_literal : Bool) (low mid high end : ℕ) (last : Option Row) (empties : List ℕ) (next : Row) → ArePending low mid high last empties → high ≤ end → AreBefore end (joint is_literal last empties next)
+before-joint : (is_literal : Bool) (low mid high end : ℕ) (last : Option BlockLine) (empties : List ℕ) (next : BlockLine) → ArePending low mid high last empties → high ≤ end → AreBefore end (joint is_literal last empties next)
 before-joint is_literal low mid high end None empties next h a = before-feeds end empties
 before-joint is_literal low mid high end (Some r) empties next h a =
     let b = from-order mid high (feeds empties) h.since in
     choose (AreBefore end) (is_literal || is_spaced r || is_spaced next) (λ _. before-feeds end (r.break ++ empties))
     (λ _. before-between low mid high end r.break empties h.own (omega (arith, a, b)))
 
-text-before : (is_literal : Bool) (k : Chomping) (low mid next high : ℕ) (last : Option Row) (empties : List ℕ) (at : ℕ) (rs : List Row) → ArePending low mid next last empties → AreRows next high rs → at ≤ next
+text-before : (is_literal : Bool) (k : Chomping) (low mid next high : ℕ) (last : Option BlockLine) (empties : List ℕ) (at : ℕ) (rs : List BlockLine) → ArePending low mid next last empties → AreRows next high rs → at ≤ next
     → AreBefore (rows_end at rs) (text_after is_literal k last empties rs)
 text-before is_literal k low mid next high last empties at [] h rows a = before-chomped at k (own_break last) empties
 text-before is_literal k low mid next high last empties at (r ∷ rs) h rows a =

@@ -5,30 +5,30 @@ use Rattle.std.proofs.lemmas.Str.{length-encode, len_utf8_bounds}
 use Rattle.al_text.specs.declared.codes.YamlCode.TheVariants as yaml
 use Rattle.al_scalar.specs.Line.{Cell, is_empty}
 use Rattle.al_scalar.specs.Taken.{Fault, fault}
-use Rattle.al_scalar.specs.Quoted.{Part, closed, broken, cut_short, part_before, own_before, written, lookup, escape_table, digits_table, hex_value, hex_escape, is_scalar_value, escape, double_part}
+use Rattle.al_scalar.specs.Quoted.{QuotedLine, closed, broken, cut_short, part_before, own_before, written, lookup, escape_table, digits_table, hex_value, hex_escape, is_scalar_value, escape, double_part}
 use Rattle.al_scalar.specs.Places.{AreBlank, IsBlankByte}
 use Rattle.al_scalar.specs.Double.{IsMarkByte}
 use Rattle.al_scalar.proofs.SingleLemmas.{with_own-solid, with_own-other, with_own-blank}
 use Rattle.al_scalar.proofs.QuotedLemmas.{gives_nothing}
 
-abbrev pub nothing : Part
+abbrev pub nothing : QuotedLine
 nothing = record { text = []; stop = broken }
 
 -- ---- cells that stand for themselves
 
-pub part-none : (r : Result Part Fault) → part_before [] r ≡ r
+pub part-none : (r : Result QuotedLine Fault) → part_before [] r ≡ r
 part-none (Ok p) = refl
 part-none (Err e) = refl
 
-pub part-two : (xs ys : List Cell) (r : Result Part Fault) → part_before xs (part_before ys r) ≡ part_before (xs ++ ys) r
+pub part-two : (xs ys : List Cell) (r : Result QuotedLine Fault) → part_before xs (part_before ys r) ≡ part_before (xs ++ ys) r
 part-two xs ys (Ok p) = ap (λ t. Ok (record { text = t; stop = p.stop })) (sym (append_assoc xs ys p.text))
 part-two xs ys (Err e) = refl
 
-own-some : (c : Cell) (r : Result Part Fault) → gives_nothing r ≡ false → own_before c r ≡ part_before (c ∷ []) r
+own-some : (c : Cell) (r : Result QuotedLine Fault) → gives_nothing r ≡ false → own_before c r ≡ part_before (c ∷ []) r
 own-some c (Ok p) h = ap Ok (with_own-solid c p h)
 own-some c (Err e) h = refl
 
-own-byte : (c : Cell) (r : Result Part Fault) → (IsBlankByte c.0 → ⊥) → own_before c r ≡ part_before (c ∷ []) r
+own-byte : (c : Cell) (r : Result QuotedLine Fault) → (IsBlankByte c.0 → ⊥) → own_before c r ≡ part_before (c ∷ []) r
 own-byte c (Ok p) h = ap Ok (with_own-other c p h)
 own-byte c (Err e) h = refl
 
@@ -47,7 +47,7 @@ pub double-blanks : (cs : List Cell) → AreBlank cs → double_part 0 cs ≡ Ok
 double-blanks [] h = refl
 double-blanks (c ∷ cs) h = double-blank c cs h.0 ∙ ap (own_before c) (double-blanks cs h.1) ∙ ap Ok (with_own-blank c nothing h.0 refl)
 
-some-before : (cs : List Cell) (r : Result Part Fault) → gives_nothing r ≡ false → gives_nothing (part_before cs r) ≡ false
+some-before : (cs : List Cell) (r : Result QuotedLine Fault) → gives_nothing r ≡ false → gives_nothing (part_before cs r) ≡ false
 some-before [] (Ok p) h = h
 some-before (c ∷ cs) (Ok p) h = refl
 some-before cs (Err e) h = refl
@@ -82,12 +82,12 @@ map-some at (b ∷ bs) h = refl
 written-some : (at code : ℕ) → is_empty (written at code) ≡ false
 written-some at code = map-some at (encode_utf8 code) (omega (arith, length-encode code, len_utf8_bounds code))
 
-some-after : (cs : List Cell) (r : Result Part Fault) → is_empty cs ≡ false → gives_nothing (part_before cs r) ≡ false
+some-after : (cs : List Cell) (r : Result QuotedLine Fault) → is_empty cs ≡ false → gives_nothing (part_before cs r) ≡ false
 some-after [] r h = cc
 some-after (c ∷ cs) (Ok p) h = refl
 some-after (c ∷ cs) (Err e) h = refl
 
-hex-some : (at width : ℕ) (digits : List Cell) (code : Option ℕ) (more : Result Part Fault) → gives_nothing (hex_escape at width digits code more) ≡ false
+hex-some : (at width : ℕ) (digits : List Cell) (code : Option ℕ) (more : Result QuotedLine Fault) → gives_nothing (hex_escape at width digits code more) ≡ false
 hex-some at width digits None more = refl
 hex-some at width digits (Some code) more = short (nat_lt (length digits) width) (is_scalar_value code)
   where
@@ -96,7 +96,7 @@ hex-some at width digits (Some code) more = short (nat_lt (length digits) width)
     short false true = some-after (written at code) more (written-some at code)
     short false false = refl
 
-escape-some : (at : ℕ) (cs : List Cell) (more : ℕ → Result Part Fault) → gives_nothing (escape at cs more) ≡ false
+escape-some : (at : ℕ) (cs : List Cell) (more : ℕ → Result QuotedLine Fault) → gives_nothing (escape at cs more) ≡ false
 escape-some at [] more = refl
 escape-some at (c ∷ cs) more = kind (lookup c.0 escape_table) (lookup c.0 digits_table)
   where

@@ -7,7 +7,7 @@ use Rattle.std.proofs.Math.Seq.{take-append_seam}
 use Rattle.al_text.specs.declared.codes.YamlCode.TheVariants as yaml
 use Rattle.al_scalar.specs.Line.{Cell}
 use Rattle.al_scalar.specs.Taken.{Fault, fault}
-use Rattle.al_scalar.specs.Quoted.{Part, closed, escaped, cut_short, part_before, written, lookup, escape_table, digits_table, hex_value, hex_escape, is_scalar_value, escape, double_part, quoted_lines, double_quoted}
+use Rattle.al_scalar.specs.Quoted.{QuotedLine, closed, escaped, cut_short, part_before, written, lookup, escape_table, digits_table, hex_value, hex_escape, is_scalar_value, escape, double_part, quoted_lines, double_quoted}
 use Rattle.al_scalar.specs.Places.{lines_at, text_at, first_last, later, cells_between, IsLineEnd}
 use Rattle.al_scalar.specs.Double.{ReadsOn, EndsRun, Between, read_behind}
 use Rattle.al_scalar.proofs.SingleLemmas.{lines_at-some, cell_at, run_then, RunBefore, text-line_end, lines-at_end, same_then}
@@ -18,7 +18,7 @@ use Rattle.al_scalar.proofs.LiteralLemmas.{reads_on}
 use Rattle.al_scalar.proofs.DigitLemmas.{length-cells_between}
 
 -- what a letter gives behind a backslash, by the two tables
-abbrev pub letter_given : ℕ → List Cell → (ℕ → Result Part Fault) → Option ℕ → Option ℕ → Result Part Fault
+abbrev pub letter_given : ℕ → List Cell → (ℕ → Result QuotedLine Fault) → Option ℕ → Option ℕ → Result QuotedLine Fault
 letter_given at cs more x y = elim x [
   | Some code ↦ part_before (written at code) (more 1)
   | None ↦ elim y [
@@ -32,7 +32,7 @@ pub letter_kind : (b count : ℕ) → lookup b digits_table ≡ Some count → (
 letter_kind b count e = (λ f. let no : lookup 10 digits_table ≡ Some count = subst (λ x. lookup x digits_table ≡ Some count) f e in cc, λ f. let no : lookup 13 digits_table ≡ Some count = subst (λ x. lookup x digits_table ≡ Some count) f e in cc)
 
 -- what the part of a line gives
-given_at : (bytes : List ℕ) (at q : ℕ) (r : Result Part Fault) → double_part 0 (text_at bytes at) ≡ r → double_quoted q (lines_at bytes at) ≡ elim r [ Ok p ↦ given (double_part 0) q p (lines_at bytes at) | Err e ↦ Err e ]
+given_at : (bytes : List ℕ) (at q : ℕ) (r : Result QuotedLine Fault) → double_part 0 (text_at bytes at) ≡ r → double_quoted q (lines_at bytes at) ≡ elim r [ Ok p ↦ given (double_part 0) q p (lines_at bytes at) | Err e ↦ Err e ]
 given_at bytes at q (Ok p) e = quoted-part (double_part 0) q (lines_at bytes at) (Ok p) (lines_at-some bytes at) e
 given_at bytes at q (Err f) e = quoted-part (double_part 0) q (lines_at bytes at) (Err f) (lines_at-some bytes at) e
 

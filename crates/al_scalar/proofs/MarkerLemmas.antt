@@ -1,37 +1,9 @@
--- Indents and document markers against offsets.
-use Rattle.std.proofs.Common.{◌≡◌, ◌≢◌, ℕ, ◌+◌, ◌-◌, ◌<◌, ◌≤◌, List, [], ◌∷◌, length, slice_index, refl, sym, ap, ◌∙◌, arith, Bool, true, false, ◌&&◌, ◌==◌, inl, inr, ◌⊎◌, eq-or-lt_of_le}
-use Rattle.std.proofs.lemmas.Grind.{common_steps}
-use Rattle.al_scalar.specs.Line.{Cell, is_blank_or_end, begins, indent, is_marker}
-use Rattle.al_scalar.specs.Places.{IsLineEnd, first_text, text_at}
-use Rattle.al_scalar.proofs.SingleLemmas.{text-line_end, lines-at_end, cell_at, byte_kind, never}
+-- Bytes at an offset and document markers.
+use Rattle.std.proofs.Common.{◌≡◌, ℕ, ◌+◌, ◌≤◌, List, [], ◌∷◌, length, slice_index, refl, sym, ap, ◌∙◌, arith, Bool, true, false, ◌&&◌, ◌==◌}
+use Rattle.al_scalar.specs.Line.{Cell, is_blank_or_end, begins, is_marker}
+use Rattle.al_scalar.specs.Places.{IsLineEnd, text_at}
+use Rattle.al_scalar.proofs.SingleLemmas.{text-line_end, never}
 use Rattle.al_scalar.proofs.PlainLemmas.{text_at-cell}
-
--- ---- indents
-
-indent-cell : (c : Cell) (cs : List Cell) → c.0 ≡ 32 → indent (c ∷ cs) ≡ indent cs + 1
-indent-cell c cs e = rw e refl
-
-indent-none : (c : Cell) (cs : List Cell) → c.0 ≢ 32 → indent (c ∷ cs) ≡ 0
-indent-none c cs n = grind (arith, common_steps, n)
-
-pub indent-more : (bytes : List ℕ) (at i : ℕ) → at ≤ i → i < length bytes → slice_index bytes i ≡ 32 → indent (text_at bytes at) ≡ (i - at) + indent (text_at bytes i)
-    → indent (text_at bytes at) ≡ (i + 1 - at) + indent (text_at bytes (i + 1))
-indent-more bytes at i o l s e =
-    let cell = (cell_at bytes i l (omega arith) (omega arith)).text in
-    let one : indent (text_at bytes i) ≡ indent (text_at bytes (i + 1)) + 1 = ap indent cell ∙ indent-cell (slice_index bytes i, i) (text_at bytes (i + 1)) s in
-    omega (arith, e, one)
-
-indent-kind : (bytes : List ℕ) (i : ℕ) → (i ≡ length bytes) ⊎ (i < length bytes) → ((slice_index bytes i ≡ 10) ⊎ (slice_index bytes i ≡ 13)) ⊎ ((slice_index bytes i ≢ 10) × (slice_index bytes i ≢ 13))
-    → (i < length bytes → slice_index bytes i ≢ 32) → indent (text_at bytes i) ≡ 0
-indent-kind bytes i (inl e) k n = ap (λ ls. indent (first_text ls)) (lines-at_end bytes i e)
-indent-kind bytes i (inr l) (inl k) n = ap indent (text-line_end bytes i (omega arith) (λ _. k))
-indent-kind bytes i (inr l) (inr k) n = ap indent (cell_at bytes i l k.0 k.1).text ∙ indent-none (slice_index bytes i, i) (text_at bytes (i + 1)) (n l)
-
-pub indent-done : (bytes : List ℕ) (at i : ℕ) → i ≤ length bytes → (i < length bytes → slice_index bytes i ≢ 32) → indent (text_at bytes at) ≡ (i - at) + indent (text_at bytes i)
-    → indent (text_at bytes at) ≡ i - at
-indent-done bytes at i h n e =
-    let none = indent-kind bytes i (eq-or-lt_of_le h) (byte_kind (slice_index bytes i)) n in
-    omega (arith, e, none)
 
 -- ---- a byte at an offset
 

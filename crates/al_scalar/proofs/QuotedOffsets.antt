@@ -4,32 +4,32 @@ use Rattle.std.proofs.lemmas.Str.{length-encode, len_utf8_bounds}
 use Rattle.al_scalar.specs.Ascii as ascii
 use Rattle.al_scalar.specs.Line.{Cell, Line, place, is_blank, after_blanks, is_empty, begins}
 use Rattle.al_scalar.specs.Offsets.{AreRising, AreClimbing, AreLines}
-use Rattle.al_scalar.specs.Quoted.{Part, Stop, closed, broken, escaped, cut_short, is_broken, with_own, single_part, escape_table, digits_table, lookup, hex_value, is_scalar_value, written, part_before, own_before, hex_escape, escape, double_part, line_given, is_empty_line, quoted_lines, quoted, single_quoted, double_quoted}
+use Rattle.al_scalar.specs.Quoted.{QuotedLine, QuotedEnd, closed, broken, escaped, cut_short, is_broken, with_own, single_part, escape_table, digits_table, lookup, hex_value, is_scalar_value, written, part_before, own_before, hex_escape, escape, double_part, line_given, is_empty_line, quoted_lines, quoted, single_quoted, double_quoted}
 use Rattle.al_scalar.specs.Taken.{Fault, Taken, ◌>>=◌, before, folded}
 use Rattle.al_scalar.proofs.OffsetLemmas.{IsFrom, AreTaken, choose, from-none, from-one, from-join, from-wider, from-order, climbing-order, climbing-place, climbing-blanks, tail-lines, taken-behind}
 
 -- what a line gives, by how the scalar leaves it
-abbrev IsStop : ℕ → ℕ → List Cell → Stop → Type 0
+abbrev IsStop : ℕ → ℕ → List Cell → QuotedEnd → Type 0
 IsStop low end text (closed e rest) = IsFrom low e text × (e ≤ place rest end)
 IsStop low end text _ = IsFrom low end text
 
-abbrev IsPart : ℕ → ℕ → Part → Type 0
+abbrev IsPart : ℕ → ℕ → QuotedLine → Type 0
 IsPart low end p = IsStop low end p.text p.stop
 
-abbrev GivesPart : ℕ → ℕ → Result Part Fault → Type 0
+abbrev GivesPart : ℕ → ℕ → Result QuotedLine Fault → Type 0
 GivesPart low end (Ok p) = IsPart low end p
 GivesPart low end (Err e) = Unit {0}
 
-stop-behind : (low mid end : ℕ) (cs text : List Cell) (s : Stop) → IsFrom low mid cs → IsStop mid end text s → IsStop low end (cs ++ text) s
+stop-behind : (low mid end : ℕ) (cs text : List Cell) (s : QuotedEnd) → IsFrom low mid cs → IsStop mid end text s → IsStop low end (cs ++ text) s
 stop-behind low mid end cs text (closed e rest) h k = (from-join low mid e cs text h k.0, k.1)
 stop-behind low mid end cs text broken h k = from-join low mid end cs text h k
 stop-behind low mid end cs text escaped h k = from-join low mid end cs text h k
 stop-behind low mid end cs text (cut_short at) h k = from-join low mid end cs text h k
 
-stop-lower : (low low' end : ℕ) (text : List Cell) (s : Stop) → low' ≤ low → IsStop low end text s → IsStop low' end text s
+stop-lower : (low low' end : ℕ) (text : List Cell) (s : QuotedEnd) → low' ≤ low → IsStop low end text s → IsStop low' end text s
 stop-lower low low' end text s a h = stop-behind low' low end [] text s (from-none low' low a) h
 
-own-from : (low end : ℕ) (c : Cell) (p : Part) → low ≤ c.1 → IsPart (c.1 + 1) end p → IsPart low end (with_own c p)
+own-from : (low end : ℕ) (c : Cell) (p : QuotedLine) → low ≤ c.1 → IsPart (c.1 + 1) end p → IsPart low end (with_own c p)
 own-from low end c p a h =
     choose (IsPart low end) (is_blank c && is_empty p.text && is_broken p.stop) (λ _. stop-lower (c.1 + 1) low end p.text p.stop (omega (arith, a)) h)
     (λ _. stop-behind low (c.1 + 1) end (c ∷ []) p.text p.stop (from-one low (c.1 + 1) c.0 c.1 a (omega arith)) h)
@@ -62,15 +62,15 @@ written-from low at code a =
     from-wider at (at + 1) low (at + 1) (written at code) a (omega arith)
     (record { rising = at-one at (encode_utf8 code); size = omega (arith, length-at at (encode_utf8 code), length-encode code, len_utf8_bounds code) })
 
-part-behind : (low mid end : ℕ) (cs : List Cell) (r : Result Part Fault) → IsFrom low mid cs → GivesPart mid end r → GivesPart low end (part_before cs r)
+part-behind : (low mid end : ℕ) (cs : List Cell) (r : Result QuotedLine Fault) → IsFrom low mid cs → GivesPart mid end r → GivesPart low end (part_before cs r)
 part-behind low mid end cs (Ok p) h k = stop-behind low mid end cs p.text p.stop h k
 part-behind low mid end cs (Err e) h k = tt
 
-own-behind : (low end : ℕ) (c : Cell) (r : Result Part Fault) → low ≤ c.1 → GivesPart (c.1 + 1) end r → GivesPart low end (own_before c r)
+own-behind : (low end : ℕ) (c : Cell) (r : Result QuotedLine Fault) → low ≤ c.1 → GivesPart (c.1 + 1) end r → GivesPart low end (own_before c r)
 own-behind low end c (Ok p) a k = own-from low end c p a k
 own-behind low end c (Err e) a k = tt
 
-hex-from : (low end at width : ℕ) (digits : List Cell) (o : Option ℕ) (more : Result Part Fault) → low ≤ at → at < end → GivesPart (at + 1) end more → GivesPart low end (hex_escape at width digits o more)
+hex-from : (low end at width : ℕ) (digits : List Cell) (o : Option ℕ) (more : Result QuotedLine Fault) → low ≤ at → at < end → GivesPart (at + 1) end more → GivesPart low end (hex_escape at width digits o more)
 hex-from low end at width digits None more a b h = tt
 hex-from low end at width digits (Some code) more a b h =
     choose (GivesPart low end) (nat_lt (length digits) width) (λ _. from-none low end (omega (arith, a, b)))
@@ -80,7 +80,7 @@ choose-option : {A : Type 0} (P : A → Type 0) (o : Option ℕ) {x : A} {f : �
 choose-option P None h k = h
 choose-option P (Some n) h k = k n
 
-escape-from : (low end at : ℕ) (cs : List Cell) (more : ℕ → Result Part Fault) → low ≤ at → AreClimbing (at + 1) end cs → ((n : ℕ) → GivesPart (at + 1) end (more n)) → GivesPart low end (escape at cs more)
+escape-from : (low end at : ℕ) (cs : List Cell) (more : ℕ → Result QuotedLine Fault) → low ≤ at → AreClimbing (at + 1) end cs → ((n : ℕ) → GivesPart (at + 1) end (more n)) → GivesPart low end (escape at cs more)
 escape-from low end at [] more a h k = from-none low end (omega (arith, a, h))
 escape-from low end at (c ∷ cs) more a h k =
     let below = climbing-order (at + 1) end (c ∷ cs) h in
@@ -89,7 +89,7 @@ escape-from low end at (c ∷ cs) more a h k =
     (λ width. hex-from low end at width (take width cs) (hex_value 0 (take width cs)) (more (1 + width)) a (omega (arith, below)) (k (1 + width))))
     (λ code. part-behind low (at + 1) end (written at code) (more 1) (written-from low at code a) (k 1))
 
-gives-lower : (low low' end : ℕ) (r : Result Part Fault) → low' ≤ low → GivesPart low end r → GivesPart low' end r
+gives-lower : (low low' end : ℕ) (r : Result QuotedLine Fault) → low' ≤ low → GivesPart low end r → GivesPart low' end r
 gives-lower low low' end (Ok p) a h = stop-lower low low' end p.text p.stop a h
 gives-lower low low' end (Err e) a h = tt
 
@@ -105,15 +105,15 @@ double-from zero low end (c ∷ cs) h =
 
 -- ---- lines
 
-abbrev PartReader : (List Cell → Result Part Fault) → Type 0
+abbrev PartReader : (List Cell → Result QuotedLine Fault) → Type 0
 PartReader part = (low end : ℕ) (cs : List Cell) → AreClimbing low end cs → GivesPart low end (part cs)
 
 -- what a line takes, and the lines behind it
-given-from : (quote low mid : ℕ) (space : List Cell) (p : Part) (l : Line) (ls : List Line) (below : Option ℕ → Result Taken Fault) → IsFrom low mid space → IsPart mid l.end p
+given-from : (quote low mid : ℕ) (space : List Cell) (p : QuotedLine) (l : Line) (ls : List Line) (below : Option ℕ → Result Taken Fault) → IsFrom low mid space → IsPart mid l.end p
     → (l.last ≡ false → (b : Option ℕ) → IsFrom l.end (l.end + 1) (folded b) → AreTaken l.end (below b)) → AreTaken low (line_given quote space p l ls below)
 given-from quote low mid space p l ls below h k more = by-stop p.stop k
   where
-    by-stop : (s : Stop) → IsStop mid l.end p.text s → AreTaken low (line_given quote space (record { text = p.text; stop = s }) l ls below)
+    by-stop : (s : QuotedEnd) → IsStop mid l.end p.text s → AreTaken low (line_given quote space (record { text = p.text; stop = s }) l ls below)
     by-stop (closed e rest) k = (from-join low mid e space p.text h k.0, k.1)
     by-stop (cut_short at) k = choose (AreTaken low) l.last (λ _. tt) (λ _. tt)
     by-stop broken k = choose (AreTaken low) l.last (λ _. tt)
@@ -133,7 +133,7 @@ abbrev LinesReader : (Option ℕ → Result Taken Fault) → List Line → Type 
 LinesReader below ls = (low mid : ℕ) (b : Option ℕ) → IsFrom low mid (folded b) → AreLines mid ls → AreTaken low (below b)
 
 line-from : (quote low mid : ℕ) (break : Option ℕ) (l : Line) (ls : List Line) (below : Option ℕ → Result Taken Fault) → IsFrom low mid (folded break) → AreLines mid (l ∷ ls) → LinesReader below ls
-    → (r : Result Part Fault) → GivesPart mid l.end r
+    → (r : Result QuotedLine Fault) → GivesPart mid l.end r
     → AreTaken low (r >>= (λ p. if is_empty_line p l then before ((ascii.line_feed, l.end) ∷ []) (below None) else line_given quote (folded break) p l ls below))
 line-from quote low mid break l ls below h k more (Err e) r = tt
 line-from quote low mid break l ls below h k more (Ok p) r =
@@ -144,17 +144,17 @@ line-from quote low mid break l ls below h k more (Ok p) r =
     (more (l.end + 1) (l.end + 1) None (from-none (l.end + 1) (l.end + 1) (omega arith)) (tail-lines l.end l.last ls (not-last (is_empty p.text) (is_broken p.stop) l.last e) k.1)))
     (λ _. given-from quote low mid (folded break) p l ls below h r (λ e b f. more l.end (l.end + 1) b f (tail-lines l.end l.last ls e k.1)))
 
-lines-from : (part : List Cell → Result Part Fault) → PartReader part → (quote low mid : ℕ) (break : Option ℕ) (ls : List Line) → IsFrom low mid (folded break) → AreLines mid ls → AreTaken low (quoted_lines part quote break ls)
+lines-from : (part : List Cell → Result QuotedLine Fault) → PartReader part → (quote low mid : ℕ) (break : Option ℕ) (ls : List Line) → IsFrom low mid (folded break) → AreLines mid ls → AreTaken low (quoted_lines part quote break ls)
 lines-from part q quote low mid break [] h k = tt
 lines-from part q quote low mid break (l ∷ ls) h k =
     line-from quote low mid break l ls (λ b. quoted_lines part quote b ls) h k (λ low mid b f g. lines-from part q quote low mid b ls f g)
     (part (after_blanks l.text)) (q mid l.end (after_blanks l.text) (climbing-blanks mid l.end l.text k.0))
 
-quoted-from : (part : List Cell → Result Part Fault) → PartReader part → (quote low : ℕ) (ls : List Line) → AreLines low ls → AreTaken low (quoted part quote ls)
+quoted-from : (part : List Cell → Result QuotedLine Fault) → PartReader part → (quote low : ℕ) (ls : List Line) → AreLines low ls → AreTaken low (quoted part quote ls)
 quoted-from part q quote low [] k = tt
 quoted-from part q quote low (l ∷ ls) k = by-part (part l.text) (q low l.end l.text k.0)
   where
-    by-part : (r : Result Part Fault) → GivesPart low l.end r → AreTaken low (r >>= (λ p. line_given quote [] p l ls (λ b. quoted_lines part quote b ls)))
+    by-part : (r : Result QuotedLine Fault) → GivesPart low l.end r → AreTaken low (r >>= (λ p. line_given quote [] p l ls (λ b. quoted_lines part quote b ls)))
     by-part (Err e) r = tt
     by-part (Ok p) r = given-from quote low low [] p l ls (λ b. quoted_lines part quote b ls) (from-none low low (omega arith)) r
         (λ e b f. lines-from part q quote l.end (l.end + 1) b ls f (tail-lines l.end l.last ls e k.1))

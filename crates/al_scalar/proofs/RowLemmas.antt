@@ -2,23 +2,23 @@
 use Rattle.std.proofs.Common.{◌≡◌, ℕ, zero, suc, ◌+◌, ◌-◌, ◌<◌, List, [], ◌∷◌, ◌++◌, length, slice_index, refl, sym, ap, ◌∙◌, arith, append_assoc, append-nil, Bool, true, false, not, ◌||◌, cond, IsTrue, ◌↔◌, Option, Some, None}
 use Rattle.al_scalar.specs.Line.{Cell, Line, is_empty, is_all_blank, begins_blank, is_blank}
 use Rattle.al_scalar.specs.Taken.{Taken, feeds, with_text}
-use Rattle.al_scalar.specs.Block.{last_end, Chomping, strip, clip, keep, Row, Rows, with_row, at_end, row_of, rows_at, rows_end, is_spaced, own_break, between_rows, joint, chomped, text_after}
+use Rattle.al_scalar.specs.Block.{last_end, Chomping, strip, clip, keep, BlockLine, Rows, with_row, at_end, row_of, rows_at, rows_end, is_spaced, own_break, between_rows, joint, chomped, text_after}
 use Rattle.al_scalar.specs.Places.{lines_at, cells_at, cells_between, IsBlankByte, broken_line, SameLine, first_text, first_end, first_last, later}
 use Rattle.al_scalar.specs.BlockRead.{row_like, rest, last_line}
 use Rattle.al_scalar.proofs.LineLemmas.{cells_between-front}
 use Rattle.al_scalar.proofs.SingleLemmas.{has_line, is_blank-yes, is_blank-no, lines-at_end, lines_at-some, never}
 
 -- of a row only that matters whether it begins with a blank, and its break
-pub joint-like : (lit : Bool) (last : Option Row) (es : List ℕ) (r s : Row) → is_spaced r ≡ is_spaced s → joint lit last es r ≡ joint lit last es s
+pub joint-like : (lit : Bool) (last : Option BlockLine) (es : List ℕ) (r s : BlockLine) → is_spaced r ≡ is_spaced s → joint lit last es r ≡ joint lit last es s
 joint-like lit None es r s e = refl
 joint-like lit (Some l) es r s e = ap (λ b. cond (lit || is_spaced l || b) (feeds (l.break ++ es)) (between_rows l.break es)) e
 
-joint-last : (lit : Bool) (r s : Row) (es : List ℕ) (x : Row) → is_spaced r ≡ is_spaced s → r.break ≡ s.break → joint lit (Some r) es x ≡ joint lit (Some s) es x
+joint-last : (lit : Bool) (r s : BlockLine) (es : List ℕ) (x : BlockLine) → is_spaced r ≡ is_spaced s → r.break ≡ s.break → joint lit (Some r) es x ≡ joint lit (Some s) es x
 joint-last lit r s es x e f =
     ap (λ b. cond (lit || b || is_spaced x) (feeds (r.break ++ es)) (between_rows r.break es)) e
     ∙ ap (λ br. cond (lit || is_spaced s || is_spaced x) (feeds (br ++ es)) (between_rows br es)) f
 
-pub text_after-like : (lit : Bool) (k : Chomping) (r s : Row) (es : List ℕ) (rs : List Row) → is_spaced r ≡ is_spaced s → r.break ≡ s.break
+pub text_after-like : (lit : Bool) (k : Chomping) (r s : BlockLine) (es : List ℕ) (rs : List BlockLine) → is_spaced r ≡ is_spaced s → r.break ≡ s.break
     → text_after lit k (Some r) es rs ≡ text_after lit k (Some s) es rs
 text_after-like lit k r s es [] e f = ap (λ b. chomped k b es) f
 text_after-like lit k r s es (x ∷ xs) e f =
@@ -31,16 +31,16 @@ spaced-like false break = refl
 
 -- ---- one row added
 
-pub row-empty : (lit : Bool) (k : Chomping) (last : Option Row) (es : List ℕ) (r : Row) (rs : List Row) → r.text ≡ []
+pub row-empty : (lit : Bool) (k : Chomping) (last : Option BlockLine) (es : List ℕ) (r : BlockLine) (rs : List BlockLine) → r.text ≡ []
     → text_after lit k last es (r ∷ rs) ≡ text_after lit k last (es ++ r.break) rs
 row-empty lit k last es r rs e = ap (λ t. cond (is_empty t) (text_after lit k last (es ++ r.break) rs) (joint lit last es r ++ r.text ++ text_after lit k (Some r) [] rs)) e
 
 -- a row with text, whose first byte is a blank or not
-pub row-text : (new mid : List Cell) (lit : Bool) (k : Chomping) (last : Option Row) (es : List ℕ) (text : List Cell) (break : List ℕ) (rs : List Row) (old : List Cell) (b : Bool)
+pub row-text : (new mid : List Cell) (lit : Bool) (k : Chomping) (last : Option BlockLine) (es : List ℕ) (text : List Cell) (break : List ℕ) (rs : List BlockLine) (old : List Cell) (b : Bool)
     → is_empty text ≡ false → begins_blank text ≡ b → mid ≡ old ++ joint lit last es (row_like b []) → new ≡ mid ++ text
     → old ++ text_after lit k last es (record { text = text; break = break } ∷ rs) ≡ new ++ text_after lit k (Some (row_like b break)) [] rs
 row-text new mid lit k last es text break rs old b e s f g =
-    let r : Row = record { text = text; break = break } in
+    let r : BlockLine = record { text = text; break = break } in
     let below = text_after lit k (Some r) [] rs in
     let j = joint lit last es r in
     let like : is_spaced r ≡ is_spaced (row_like b break) = s ∙ sym (spaced-like b break) in
@@ -61,7 +61,7 @@ chomped-none clip = refl
 chomped-none keep = refl
 
 -- the file's last line, with text
-pub row-final : (new mid : List Cell) (lit : Bool) (k : Chomping) (last : Option Row) (es : List ℕ) (text old : List Cell) (b : Bool)
+pub row-final : (new mid : List Cell) (lit : Bool) (k : Chomping) (last : Option BlockLine) (es : List ℕ) (text old : List Cell) (b : Bool)
     → is_empty text ≡ false → begins_blank text ≡ b → mid ≡ old ++ joint lit last es (row_like b []) → new ≡ mid ++ text
     → new ≡ old ++ text_after lit k last es (record { text = text; break = [] } ∷ [])
 row-final new mid lit k last es text old b e s f g =
@@ -111,22 +111,22 @@ rows_at-none : (m : Option ℕ) (found : Bool) (l : Line) (ls : List Line) → r
     → rows_at m found (l ∷ ls) ≡ record { rows = []; left = l ∷ ls }
 rows_at-none m found l ls e = ap (λ o. stepped o l ls (rows_at m (found || not (is_all_blank l.text)) ls)) e
 
-abbrev pub of_rows : Bool → Chomping → Option Row → List ℕ → ℕ → Rows → Taken
+abbrev pub of_rows : Bool → Chomping → Option BlockLine → List ℕ → ℕ → Rows → Taken
 of_rows lit k last es end rs = record { text = text_after lit k last es rs.rows; end = rows_end end rs.rows; left = rs.left }
 
-pub rest-more : (lit : Bool) (k : Chomping) (m : Option ℕ) (found : Bool) (last : Option Row) (es : List ℕ) (end : ℕ) (xs : List Line) (t : List Cell) → has_line xs ≡ true
+pub rest-more : (lit : Bool) (k : Chomping) (m : Option ℕ) (found : Bool) (last : Option BlockLine) (es : List ℕ) (end : ℕ) (xs : List Line) (t : List Cell) → has_line xs ≡ true
     → row_of m found (first_text xs) ≡ Some t → first_last xs ≡ false
     → rest lit k m found last es end xs ≡ of_rows lit k last es end (with_row (record { text = t; break = first_end xs ∷ [] }) (rows_at m (found || not (is_all_blank (first_text xs))) (later xs)))
 rest-more lit k m found last es end [] t h e f = cc
 rest-more lit k m found last es end (l ∷ ls) t h e f = ap (of_rows lit k last es end) (rows_at-more m found l ls t e f)
 
-pub rest-last : (lit : Bool) (k : Chomping) (m : Option ℕ) (found : Bool) (last : Option Row) (es : List ℕ) (end : ℕ) (xs : List Line) (t : List Cell) → has_line xs ≡ true
+pub rest-last : (lit : Bool) (k : Chomping) (m : Option ℕ) (found : Bool) (last : Option BlockLine) (es : List ℕ) (end : ℕ) (xs : List Line) (t : List Cell) → has_line xs ≡ true
     → row_of m found (first_text xs) ≡ Some t → first_last xs ≡ true
     → rest lit k m found last es end xs ≡ of_rows lit k last es end (record { rows = record { text = t; break = [] } ∷ []; left = record { text = []; end = first_end xs; last = true } ∷ [] })
 rest-last lit k m found last es end [] t h e f = cc
 rest-last lit k m found last es end (l ∷ ls) t h e f = ap (of_rows lit k last es end) (rows_at-last m found l ls t e f)
 
-pub rest-none : (lit : Bool) (k : Chomping) (m : Option ℕ) (found : Bool) (last : Option Row) (es : List ℕ) (end : ℕ) (xs : List Line) → has_line xs ≡ true
+pub rest-none : (lit : Bool) (k : Chomping) (m : Option ℕ) (found : Bool) (last : Option BlockLine) (es : List ℕ) (end : ℕ) (xs : List Line) → has_line xs ≡ true
     → row_of m found (first_text xs) ≡ None → rest lit k m found last es end xs ≡ record { text = chomped k (own_break last) es; end = end; left = xs }
 rest-none lit k m found last es end [] h e = cc
 rest-none lit k m found last es end (l ∷ ls) h e = ap (of_rows lit k last es end) (rows_at-none m found l ls e)
@@ -137,14 +137,14 @@ is_blank-of c false h = is_blank-no c (λ k. never (h.1 k))
 
 -- ---- the steps of the loop over the lines
 
-pub rows-none : {x : Taken} (new text : List Cell) (lit : Bool) (k : Chomping) (m : Option ℕ) (found : Bool) (last : Option Row) (es : List ℕ) (end : ℕ) (bytes : List ℕ) (i : ℕ)
+pub rows-none : {x : Taken} (new text : List Cell) (lit : Bool) (k : Chomping) (m : Option ℕ) (found : Bool) (last : Option BlockLine) (es : List ℕ) (end : ℕ) (bytes : List ℕ) (i : ℕ)
     → x ≡ with_text text (rest lit k m found last es end (lines_at bytes i)) → row_of m found (first_text (lines_at bytes i)) ≡ None
     → new ≡ text ++ chomped k (own_break last) es → x ≡ record { text = new; end = end; left = lines_at bytes i }
 rows-none new text lit k m found last es end bytes i e r g =
     e ∙ ap (with_text text) (rest-none lit k m found last es end (lines_at bytes i) (lines_at-some bytes i) r)
     ∙ ap (λ t. record { text = t; end = end; left = lines_at bytes i }) (sym g)
 
-pub rows-last : {x : Taken} (new text : List Cell) (lit : Bool) (k : Chomping) (m : Option ℕ) (found : Bool) (last : Option Row) (es : List ℕ) (end to : ℕ) (bytes : List ℕ) (i from stop : ℕ)
+pub rows-last : {x : Taken} (new text : List Cell) (lit : Bool) (k : Chomping) (m : Option ℕ) (found : Bool) (last : Option BlockLine) (es : List ℕ) (end to : ℕ) (bytes : List ℕ) (i from stop : ℕ)
     → x ≡ with_text text (rest lit k m found last es end (lines_at bytes i)) → row_of m found (first_text (lines_at bytes i)) ≡ Some (first_text (lines_at bytes from))
     → SameLine (lines_at bytes i) (lines_at bytes from) → SameLine (lines_at bytes from) (lines_at bytes stop) → first_text (lines_at bytes from) ≡ cells_between bytes from stop
     → stop ≡ length bytes → new ≡ text ++ text_after lit k last es (last_line bytes from) → to ≡ rows_end end (last_line bytes from)
@@ -160,11 +160,11 @@ rows-last new text lit k m found last es end to bytes i from stop e r s u w z g 
     ∙ ap (λ n. record { text = new; end = to; left = record { text = []; end = n; last = true } ∷ [] }) ended
     ∙ ap (λ ls. record { text = new; end = to; left = ls }) (sym at_stop)
 
-pub rows-more : {x : Taken} (new text : List Cell) (lit : Bool) (k : Chomping) (m : Option ℕ) (found found' b : Bool) (last last' : Option Row) (es es' : List ℕ) (end end' : ℕ) (bytes : List ℕ) (i from stop next : ℕ)
+pub rows-more : {x : Taken} (new text : List Cell) (lit : Bool) (k : Chomping) (m : Option ℕ) (found found' b : Bool) (last last' : Option BlockLine) (es es' : List ℕ) (end end' : ℕ) (bytes : List ℕ) (i from stop next : ℕ)
     → x ≡ with_text text (rest lit k m found last es end (lines_at bytes i)) → row_of m found (first_text (lines_at bytes i)) ≡ Some (first_text (lines_at bytes from))
     → SameLine (lines_at bytes i) (lines_at bytes from) → SameLine (lines_at bytes from) (lines_at bytes stop) → first_text (lines_at bytes from) ≡ cells_between bytes from stop
     → lines_at bytes stop ≡ broken_line stop ∷ lines_at bytes next → is_all_blank (first_text (lines_at bytes i)) ≡ b → found' ≡ (found || not b)
-    → ((rs : List Row) → text ++ text_after lit k last es (record { text = cells_between bytes from stop; break = stop ∷ [] } ∷ rs) ≡ new ++ text_after lit k last' es' rs)
+    → ((rs : List BlockLine) → text ++ text_after lit k last es (record { text = cells_between bytes from stop; break = stop ∷ [] } ∷ rs) ≡ new ++ text_after lit k last' es' rs)
     → last_end (cells_between bytes from stop) end ≡ end'
     → x ≡ with_text new (rest lit k m found' last' es' end' (lines_at bytes next))
 rows-more new text lit k m found found' b last last' es es' end end' bytes i from stop next e r s u w z q f g h =

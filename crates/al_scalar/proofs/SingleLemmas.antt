@@ -5,13 +5,13 @@ use Rattle.std.proofs.Math.Seq.{drop-length}
 use native.Mathlib.Decide.{ℕ_discrete}
 use Rattle.std.proofs.lemmas.Grind.{common_steps}
 use Rattle.al_scalar.specs.Line.{Cell, Line, lines, with_cell, with_return, is_break, is_blank, is_empty, begins}
-use Rattle.al_scalar.specs.Quoted.{Part, closed, broken, is_broken, with_cells, with_own, single_part}
+use Rattle.al_scalar.specs.Quoted.{QuotedLine, closed, broken, is_broken, with_cells, with_own, single_part}
 use Rattle.al_scalar.specs.Places.{lines_at, with_cells_before, AreBlank, IsBlankByte, IsLineEnd, SameLine, first_text}
 use Rattle.al_scalar.specs.Single.{part_at}
 use Rattle.al_scalar.proofs.LineLemmas.{lines_at-other}
 
 -- whether a line's rest gives something
-abbrev pub is_nothing : Part → Bool
+abbrev pub is_nothing : QuotedLine → Bool
 is_nothing p = is_empty p.text && is_broken p.stop
 
 pub is_blank-yes : (c : Cell) → IsBlankByte c.0 → is_blank c ≡ true
@@ -26,13 +26,13 @@ is_blank-no c h =
 single_part-other : (c : Cell) (cs : List Cell) → c.0 ≢ 39 → single_part 0 (c ∷ cs) ≡ with_own c (single_part 0 cs)
 single_part-other c cs h = grind (arith, common_steps, h)
 
-pub with_own-solid : (c : Cell) (p : Part) → is_nothing p ≡ false → with_own c p ≡ with_cells (c ∷ []) p
+pub with_own-solid : (c : Cell) (p : QuotedLine) → is_nothing p ≡ false → with_own c p ≡ with_cells (c ∷ []) p
 with_own-solid c p h = grind (arith, common_steps, h)
 
-pub with_own-other : (c : Cell) (p : Part) → (IsBlankByte c.0 → ⊥) → with_own c p ≡ with_cells (c ∷ []) p
+pub with_own-other : (c : Cell) (p : QuotedLine) → (IsBlankByte c.0 → ⊥) → with_own c p ≡ with_cells (c ∷ []) p
 with_own-other c p h = ap (λ b. cond (b && is_empty p.text && is_broken p.stop) p (with_cells (c ∷ []) p)) (is_blank-no c h)
 
-pub with_own-blank : (c : Cell) (p : Part) → IsBlankByte c.0 → is_nothing p ≡ true → with_own c p ≡ p
+pub with_own-blank : (c : Cell) (p : QuotedLine) → IsBlankByte c.0 → is_nothing p ≡ true → with_own c p ≡ p
 with_own-blank c p b h = grind (arith, common_steps, h, is_blank-yes c b)
 
 blank-other : (b : ℕ) → IsBlankByte b → b ≢ 39
@@ -46,7 +46,7 @@ single_part-blanks (c ∷ cs) h =
     let below = single_part-blanks cs h.1 in
     single_part-other c cs (blank-other c.0 h.0) ∙ ap (with_own c) below ∙ with_own-blank c (record { text = []; stop = broken }) h.0 refl
 
-is_nothing-with_cells : (cs : List Cell) (p : Part) → is_nothing p ≡ false → is_nothing (with_cells cs p) ≡ false
+is_nothing-with_cells : (cs : List Cell) (p : QuotedLine) → is_nothing p ≡ false → is_nothing (with_cells cs p) ≡ false
 is_nothing-with_cells [] p h = h
 is_nothing-with_cells (c ∷ cs) p h = refl
 
@@ -174,7 +174,7 @@ part-pair c d cs e f = grind (arith, common_steps, e, f)
 part-byte : (c : Cell) (cs : List Cell) → c.0 ≢ 39 → (IsBlankByte c.0 → ⊥) → single_part 0 (c ∷ cs) ≡ with_cells (c ∷ []) (single_part 0 cs)
 part-byte c cs n m = single_part-other c cs n ∙ with_own-other c (single_part 0 cs) m
 
-with_cells-two : (xs ys : List Cell) (p : Part) → with_cells xs (with_cells ys p) ≡ with_cells (xs ++ ys) p
+with_cells-two : (xs ys : List Cell) (p : QuotedLine) → with_cells xs (with_cells ys p) ≡ with_cells (xs ++ ys) p
 with_cells-two xs ys p = ap (λ t. record { text = t; stop = p.stop }) (sym (append_assoc xs ys p.text))
 
 -- what blanks and the bytes behind them decode to
@@ -182,7 +182,7 @@ pub record Goes (bytes : List ℕ) (i next : ℕ) (run : List Cell) : Type 0 whe
   pub part : part_at bytes i ≡ with_cells run (part_at bytes next)
   pub same : SameLine (lines_at bytes i) (lines_at bytes next)
 
-part-run : (bytes : List ℕ) (i j : ℕ) (run : List Cell) (p : Part) → RunBefore run (lines_at bytes i) (lines_at bytes j) → AreBlank run
+part-run : (bytes : List ℕ) (i j : ℕ) (run : List Cell) (p : QuotedLine) → RunBefore run (lines_at bytes i) (lines_at bytes j) → AreBlank run
     → part_at bytes j ≡ p → is_nothing p ≡ false → part_at bytes i ≡ with_cells run p
 part-run bytes i j run p r b q s =
     ap (single_part 0) r.text ∙ single_part-run run (first_text (lines_at bytes j)) b (ap is_nothing q ∙ s) ∙ ap (with_cells run) q
@@ -221,10 +221,10 @@ module _ (bytes : List ℕ) (i j : ℕ) (run : List Cell) (r : RunBefore run (li
   pub same-quote : SameLine (lines_at bytes i) (lines_at bytes (j + 1))
   same-quote = (run_then run ((slice_index bytes j, j) ∷ []) r (cell_at bytes j l n m)).same
 
-pub kept-text : {new : List Cell} {p : Part} (old seen text run : List Cell) (q : Part) → old ++ seen ≡ text ++ p.text → p ≡ with_cells run q → new ≡ text ++ run → old ++ seen ≡ new ++ q.text
+pub kept-text : {new : List Cell} {p : QuotedLine} (old seen text run : List Cell) (q : QuotedLine) → old ++ seen ≡ text ++ p.text → p ≡ with_cells run q → new ≡ text ++ run → old ++ seen ≡ new ++ q.text
 kept-text old seen text run q e f g = e ∙ ap (λ r. text ++ r.text) f ∙ sym (append_assoc text run q.text) ∙ ap (λ t. t ++ q.text) (sym g)
 
-pub done-text : {new : List Cell} {p : Part} (old seen text : List Cell) (q : Part) → old ++ seen ≡ text ++ p.text → p ≡ q → new ≡ text ++ q.text → new ≡ old ++ seen
+pub done-text : {new : List Cell} {p : QuotedLine} (old seen text : List Cell) (q : QuotedLine) → old ++ seen ≡ text ++ p.text → p ≡ q → new ≡ text ++ q.text → new ≡ old ++ seen
 done-text old seen text q e f g = g ∙ ap (λ r. text ++ r.text) (sym f) ∙ sym e
 
 pub same_then : {xs ys zs : List Line} → SameLine xs ys → SameLine ys zs → SameLine xs zs

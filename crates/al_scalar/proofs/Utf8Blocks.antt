@@ -4,7 +4,7 @@ use Rattle.std.proofs.lemmas.Bool.Decides.{nat_tests}
 use Rattle.std.proofs.lemmas.Str.{IsUtf8-nil}
 use Rattle.al_scalar.specs.Ascii as ascii
 use Rattle.al_scalar.specs.Line.{Cell, Line, place, is_empty, indent, is_all_blank}
-use Rattle.al_scalar.specs.Block.{Chomping, strip, clip, keep, Header, header, content_indent, Row, Rows, row_of, at_end, with_row, rows_at, chomped, is_spaced, own_break, between_rows, joint, text_after, rows_end, block_scalar}
+use Rattle.al_scalar.specs.Block.{Chomping, strip, clip, keep, Header, header, content_indent, BlockLine, Rows, row_of, at_end, with_row, rows_at, chomped, is_spaced, own_break, between_rows, joint, text_after, rows_end, block_scalar}
 use Rattle.al_scalar.specs.Taken.{Fault, ◌>>=◌}
 use Rattle.al_scalar.proofs.OffsetLemmas.{choose}
 use Rattle.al_scalar.proofs.Utf8Lemmas.{AreUtf8, bytes_of, split-behind, equal-ascii}
@@ -31,7 +31,7 @@ row-text (Some m) found cs u =
     choose IsRowText (is_all_blank cs && not found) (λ _. IsUtf8-nil)
     (λ _. choose IsRowText (nat_le m (indent cs)) (λ e. drop-text m cs e u) (λ _. choose IsRowText (is_all_blank cs) (λ _. IsUtf8-nil) (λ _. tt)))
 
-abbrev AreTexts : List Row → Type 0
+abbrev AreTexts : List BlockLine → Type 0
 AreTexts [] = Unit {0}
 AreTexts (r ∷ rs) = IsText r.text × AreTexts rs
 
@@ -57,7 +57,7 @@ text-between : (own empties : List ℕ) → IsText (between_rows own empties)
 text-between [] empties = text-feeds empties
 text-between (e ∷ es) empties = text-break e empties
 
-text-joint : (is_literal : Bool) (last : Option Row) (empties : List ℕ) (next : Row) → IsText (joint is_literal last empties next)
+text-joint : (is_literal : Bool) (last : Option BlockLine) (empties : List ℕ) (next : BlockLine) → IsText (joint is_literal last empties next)
 text-joint is_literal None empties next = text-feeds empties
 text-joint is_literal (Some r) empties next = choose IsText (is_literal || is_spaced r || is_spaced next) (λ _. text-feeds (r.break ++ empties)) (λ _. text-between r.break empties)
 
@@ -66,7 +66,7 @@ text-chomped strip own empties = IsUtf8-nil
 text-chomped clip own empties = text-feeds own
 text-chomped keep own empties = text-feeds (own ++ empties)
 
-rows-text : (is_literal : Bool) (k : Chomping) (last : Option Row) (empties : List ℕ) (rs : List Row) → AreTexts rs → IsText (text_after is_literal k last empties rs)
+rows-text : (is_literal : Bool) (k : Chomping) (last : Option BlockLine) (empties : List ℕ) (rs : List BlockLine) → AreTexts rs → IsText (text_after is_literal k last empties rs)
 rows-text is_literal k last empties [] u = text-chomped k (own_break last) empties
 rows-text is_literal k last empties (r ∷ rs) u =
     choose IsText (is_empty r.text) (λ _. rows-text is_literal k last (empties ++ r.break) rs u.1)

@@ -7,7 +7,7 @@ use Rattle.std.specs.Char.{IsScalar}
 use Rattle.std.proofs.lemmas.Str.{IsUtf8-append, IsUtf8-encode}
 use Rattle.al_scalar.specs.Ascii as ascii
 use Rattle.al_scalar.specs.Line.{Cell, Line}
-use Rattle.al_scalar.specs.Quoted.{Part, own_before, part_before, escape_table, digits_table, lookup, hex_digit, hex_push, hex_value, is_scalar_value, written, hex_escape, escape, double_part, double_quoted}
+use Rattle.al_scalar.specs.Quoted.{QuotedLine, own_before, part_before, escape_table, digits_table, lookup, hex_digit, hex_push, hex_value, is_scalar_value, written, hex_escape, escape, double_part, double_quoted}
 use Rattle.al_scalar.specs.Taken.{Fault}
 use Rattle.al_scalar.proofs.OffsetLemmas.{choose}
 use Rattle.al_scalar.proofs.Utf8Lemmas.{Keeps, AreUtf8, AreSkipped, bytes_of, split-before, split-behind, keeps-all, keeps-none, keeps-drop, equal-ascii, own-keeps}
@@ -79,7 +79,7 @@ hex-skipped (suc n) (c ∷ cs) v code e = hex-by n c cs v code (hex_digit c.0) (
 
 -- ---- escapes
 
-abbrev PartKeeps : List Cell → Result Part Fault → Type 0
+abbrev PartKeeps : List Cell → Result QuotedLine Fault → Type 0
 PartKeeps cs (Ok p) = Keeps cs p.text
 PartKeeps cs (Err e) = Unit {0}
 
@@ -90,13 +90,13 @@ written-bytes at (b ∷ bs) = ap (λ l. b ∷ l) (written-bytes at bs)
 written-text : (at code : ℕ) → IsScalar code → IsText (written at code)
 written-text at code s = subst IsUtf8 (sym (written-bytes at (encode_utf8 code))) (IsUtf8-encode code s)
 
-part-keeps : (c : Cell) (cs ws : List Cell) (r : Result Part Fault) → c.0 < 128 → IsText ws → PartKeeps cs r → PartKeeps (c ∷ cs) (part_before ws r)
+part-keeps : (c : Cell) (cs ws : List Cell) (r : Result QuotedLine Fault) → c.0 < 128 → IsText ws → PartKeeps cs r → PartKeeps (c ∷ cs) (part_before ws r)
 part-keeps c cs ws (Err e) l w k = tt
 part-keeps c cs ws (Ok t) l w k = λ p u.
     let s = split-before p c.0 (bytes_of cs) l u in
     IsUtf8-append p (bytes_of (ws ++ t.text)) s.0 (text-join ws t.text w (k [] (split-behind c.0 (bytes_of cs) l s.1)))
 
-own-both : (c : Cell) (cs : List Cell) (r : Result Part Fault) → PartKeeps cs r → PartKeeps (c ∷ cs) (own_before c r)
+own-both : (c : Cell) (cs : List Cell) (r : Result QuotedLine Fault) → PartKeeps cs r → PartKeeps (c ∷ cs) (own_before c r)
 own-both c cs (Ok t) k = own-keeps c cs t k
 own-both c cs (Err e) k = tt
 
@@ -108,13 +108,13 @@ scalar-of : (a b : Bool) → (a || b) ≡ true → cond a true b ≡ true
 scalar-of true b h = refl
 scalar-of false b h = h
 
-hex-keeps : (c : Cell) (cs : List Cell) (at width : ℕ) (digits : List Cell) (o : Option ℕ) (more : Result Part Fault) → c.0 < 128 → ((code : ℕ) → o ≡ Some code → PartKeeps cs more) → PartKeeps (c ∷ cs) (hex_escape at width digits o more)
+hex-keeps : (c : Cell) (cs : List Cell) (at width : ℕ) (digits : List Cell) (o : Option ℕ) (more : Result QuotedLine Fault) → c.0 < 128 → ((code : ℕ) → o ≡ Some code → PartKeeps cs more) → PartKeeps (c ∷ cs) (hex_escape at width digits o more)
 hex-keeps c cs at width digits None more l k = tt
 hex-keeps c cs at width digits (Some code) more l k =
     choose (PartKeeps (c ∷ cs)) (nat_lt (length digits) width) (λ _. keeps-none c cs l)
     (λ _. choose (PartKeeps (c ∷ cs)) (is_scalar_value code) (λ e. part-keeps c cs (written at code) more l (written-text at code (scalar-of (nat_lt code 0xd800) (nat_le 0xe000 code && nat_lt code 0x110000) e)) (k code refl)) (λ _. tt))
 
-escape-keeps : (c : Cell) (cs : List Cell) (at : ℕ) (more : ℕ → Result Part Fault) → c.0 < 128 → ((n : ℕ) → AreSkipped n cs → PartKeeps cs (more n)) → PartKeeps (c ∷ cs) (escape at cs more)
+escape-keeps : (c : Cell) (cs : List Cell) (at : ℕ) (more : ℕ → Result QuotedLine Fault) → c.0 < 128 → ((n : ℕ) → AreSkipped n cs → PartKeeps cs (more n)) → PartKeeps (c ∷ cs) (escape at cs more)
 escape-keeps c [] at more l k = keeps-none c [] l
 escape-keeps c (d ∷ ds) at more l k =
     choose-option (PartKeeps (c ∷ d ∷ ds)) (lookup d.0 escape_table)
@@ -128,7 +128,7 @@ double-keeps zero [] s = keeps-all []
 double-keeps (suc n) [] s = keeps-all []
 double-keeps (suc n) (c ∷ cs) s = skipped (double_part n cs) (double-keeps n cs s.1)
   where
-    skipped : (r : Result Part Fault) → PartKeeps cs r → PartKeeps (c ∷ cs) r
+    skipped : (r : Result QuotedLine Fault) → PartKeeps cs r → PartKeeps (c ∷ cs) r
     skipped (Ok t) k = keeps-drop c cs t.text s.0 k
     skipped (Err e) k = tt
 double-keeps zero (c ∷ cs) s =
@@ -136,7 +136,7 @@ double-keeps zero (c ∷ cs) s =
     (λ _. choose (PartKeeps (c ∷ cs)) (c.0 == ascii.backslash) (λ e. escape-keeps c cs c.1 (λ n. double_part n cs) (equal-ascii c.0 92 (omega arith) e) (λ n k. double-keeps n cs k))
     (λ _. own-both c cs (double_part 0 cs) (double-keeps 0 cs tt)))
 
-part-text : (cs : List Cell) (r : Result Part Fault) → PartKeeps cs r → IsText cs → GivesText r
+part-text : (cs : List Cell) (r : Result QuotedLine Fault) → PartKeeps cs r → IsText cs → GivesText r
 part-text cs (Ok t) k u = k [] u
 part-text cs (Err e) k u = tt
 

@@ -5,7 +5,7 @@ use Rattle.std.specs.Prelude.{IsUtf8}
 use Rattle.std.proofs.lemmas.Str.{IsUtf8-append, IsUtf8-take, IsUtf8-drop, IsCharBoundary-before_ascii, IsCharBoundary-after_ascii}
 use Rattle.al_scalar.specs.Ascii as ascii
 use Rattle.al_scalar.specs.Line.{Cell, Line, lines, is_break, begins_with, with_cell, with_return, is_blank, after_blanks, begins, is_empty}
-use Rattle.al_scalar.specs.Quoted.{Part, is_broken, with_own, single_part}
+use Rattle.al_scalar.specs.Quoted.{QuotedLine, is_broken, with_own, single_part}
 use Rattle.al_scalar.proofs.OffsetLemmas.{choose}
 
 -- ---- a text with an ASCII byte in it
@@ -136,10 +136,10 @@ AreSkipped zero cs = Unit {0}
 AreSkipped (suc n) [] = Unit {0}
 AreSkipped (suc n) (c ∷ cs) = (c.0 < 128) × AreSkipped n cs
 
-abbrev pub PartKeeps : List Cell → Part → Type 0
+abbrev pub PartKeeps : List Cell → QuotedLine → Type 0
 PartKeeps cs p = Keeps cs p.text
 
-pub own-keeps : (c : Cell) (cs : List Cell) (p : Part) → PartKeeps cs p → PartKeeps (c ∷ cs) (with_own c p)
+pub own-keeps : (c : Cell) (cs : List Cell) (p : QuotedLine) → PartKeeps cs p → PartKeeps (c ∷ cs) (with_own c p)
 own-keeps c cs p k =
     choose (PartKeeps (c ∷ cs)) (is_blank c && is_empty p.text && is_broken p.stop)
     (λ e. keeps-drop c cs p.text (blank-ascii c (both-left (is_blank c) (is_empty p.text) (both-left (is_blank c && is_empty p.text) (is_broken p.stop) e))) k)

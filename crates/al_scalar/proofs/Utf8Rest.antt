@@ -6,7 +6,7 @@ use Rattle.al_scalar.specs.Ascii as ascii
 use Rattle.al_scalar.specs.Line.{Cell, Line, place, is_blank, after_blanks, begins, is_empty, is_all_blank}
 use Rattle.al_scalar.specs.Block.{Header, header, content_indent, Rows, row_of, at_end, with_row, rows_at, text_after, rows_end, block_scalar}
 use Rattle.al_scalar.specs.Plain.{Context, is_flow, is_value_colon, ends_plain, plain_part, continues, ended_before, plain_lines, plain}
-use Rattle.al_scalar.specs.Quoted.{Part, Stop, closed, broken, escaped, cut_short, is_broken, with_own, single_part, escape_table, digits_table, lookup, hex_value, is_scalar_value, written, part_before, own_before, hex_escape, escape, double_part, line_given, is_empty_line, quoted_lines, quoted, single_quoted, double_quoted}
+use Rattle.al_scalar.specs.Quoted.{QuotedLine, QuotedEnd, closed, broken, escaped, cut_short, is_broken, with_own, single_part, escape_table, digits_table, lookup, hex_value, is_scalar_value, written, part_before, own_before, hex_escape, escape, double_part, line_given, is_empty_line, quoted_lines, quoted, single_quoted, double_quoted}
 use Rattle.al_scalar.specs.Taken.{Fault, Taken, ◌>>=◌, before, folded, folded_break}
 use Rattle.al_scalar.proofs.OffsetLemmas.{choose}
 use Rattle.al_scalar.proofs.Utf8Lemmas.{AreUtf8, bytes_of, split-before, split-behind, keeps-blanks, equal-ascii, both-left, not-false, blank-ascii}
@@ -15,26 +15,26 @@ use Rattle.al_scalar.proofs.Utf8Escapes.{choose-option}
 
 -- ---- how a line is left
 
-abbrev StopsText : Stop → Type 0
+abbrev StopsText : QuotedEnd → Type 0
 StopsText (closed e rest) = IsText rest
 StopsText broken = Unit {0}
 StopsText escaped = Unit {0}
 StopsText (cut_short at) = Unit {0}
 
 -- whatever stands before the cells, if it makes UTF-8 with them then what is left behind a stop is UTF-8
-abbrev Leaves : List Cell → Stop → Type 0
+abbrev Leaves : List Cell → QuotedEnd → Type 0
 Leaves cs s = (p : List ℕ) → IsUtf8 (p ++ bytes_of cs) → StopsText s
 
-leaves-more : (c : Cell) (cs : List Cell) (s : Stop) → Leaves cs s → Leaves (c ∷ cs) s
+leaves-more : (c : Cell) (cs : List Cell) (s : QuotedEnd) → Leaves cs s → Leaves (c ∷ cs) s
 leaves-more c cs s k p u = k (p ++ c.0 ∷ []) (subst IsUtf8 (sym (append_assoc p (c.0 ∷ []) (bytes_of cs))) u)
 
 leaves-closed : (e : ℕ) (c : Cell) (cs : List Cell) → c.0 < 128 → Leaves (c ∷ cs) (closed e cs)
 leaves-closed e c cs l p u = split-behind c.0 (bytes_of cs) l (split-before p c.0 (bytes_of cs) l u).1
 
-abbrev PartLeaves : List Cell → Part → Type 0
+abbrev PartLeaves : List Cell → QuotedLine → Type 0
 PartLeaves cs p = Leaves cs p.stop
 
-own-leaves : (c : Cell) (cs : List Cell) (p : Part) → PartLeaves cs p → PartLeaves (c ∷ cs) (with_own c p)
+own-leaves : (c : Cell) (cs : List Cell) (p : QuotedLine) → PartLeaves cs p → PartLeaves (c ∷ cs) (with_own c p)
 own-leaves c cs p k =
     choose (PartLeaves (c ∷ cs)) (is_blank c && is_empty p.text && is_broken p.stop) (λ _. leaves-more c cs p.stop k) (λ _. leaves-more c cs p.stop k)
 
@@ -47,29 +47,29 @@ single-leaves zero (c ∷ cs) =
     (λ e. choose (PartLeaves (c ∷ cs)) (begins ascii.single_quote cs) (λ _. leaves-more c cs (single_part 1 cs).stop (single-leaves 1 cs))
     (λ _. leaves-closed (c.1 + 1) c cs (equal-ascii c.0 39 (omega arith) (not-false (c.0 == 39) e))))
 
-abbrev GivesLeaves : List Cell → Result Part Fault → Type 0
+abbrev GivesLeaves : List Cell → Result QuotedLine Fault → Type 0
 GivesLeaves cs (Ok p) = Leaves cs p.stop
 GivesLeaves cs (Err e) = Unit {0}
 
-gives-more : (c : Cell) (cs : List Cell) (r : Result Part Fault) → GivesLeaves cs r → GivesLeaves (c ∷ cs) r
+gives-more : (c : Cell) (cs : List Cell) (r : Result QuotedLine Fault) → GivesLeaves cs r → GivesLeaves (c ∷ cs) r
 gives-more c cs (Ok p) k = leaves-more c cs p.stop k
 gives-more c cs (Err e) k = tt
 
-part-leaves : (cs ws : List Cell) (r : Result Part Fault) → GivesLeaves cs r → GivesLeaves cs (part_before ws r)
+part-leaves : (cs ws : List Cell) (r : Result QuotedLine Fault) → GivesLeaves cs r → GivesLeaves cs (part_before ws r)
 part-leaves cs ws (Ok p) k = k
 part-leaves cs ws (Err e) k = tt
 
-own-gives : (c : Cell) (cs : List Cell) (r : Result Part Fault) → GivesLeaves cs r → GivesLeaves (c ∷ cs) (own_before c r)
+own-gives : (c : Cell) (cs : List Cell) (r : Result QuotedLine Fault) → GivesLeaves cs r → GivesLeaves (c ∷ cs) (own_before c r)
 own-gives c cs (Ok p) k = own-leaves c cs p k
 own-gives c cs (Err e) k = tt
 
-hex-leaves : (all : List Cell) (at width : ℕ) (digits : List Cell) (o : Option ℕ) (more : Result Part Fault) → GivesLeaves all more → GivesLeaves all (hex_escape at width digits o more)
+hex-leaves : (all : List Cell) (at width : ℕ) (digits : List Cell) (o : Option ℕ) (more : Result QuotedLine Fault) → GivesLeaves all more → GivesLeaves all (hex_escape at width digits o more)
 hex-leaves all at width digits None more k = tt
 hex-leaves all at width digits (Some code) more k =
     choose (GivesLeaves all) (nat_lt (length digits) width) (λ _. λ p u. tt)
     (λ _. choose (GivesLeaves all) (is_scalar_value code) (λ _. part-leaves all (written at code) more k) (λ _. tt))
 
-escape-leaves : (all : List Cell) (at : ℕ) (cs : List Cell) (more : ℕ → Result Part Fault) → ((n : ℕ) → GivesLeaves all (more n)) → GivesLeaves all (escape at cs more)
+escape-leaves : (all : List Cell) (at : ℕ) (cs : List Cell) (more : ℕ → Result QuotedLine Fault) → ((n : ℕ) → GivesLeaves all (more n)) → GivesLeaves all (escape at cs more)
 escape-leaves all at [] more k = λ p u. tt
 escape-leaves all at (c ∷ cs) more k =
     choose-option (GivesLeaves all) (lookup c.0 escape_table)
@@ -97,48 +97,48 @@ left-before : (cs : List Cell) (r : Result Taken Fault) → LeavesText r → Lea
 left-before cs (Ok t) h = h
 left-before cs (Err e) h = tt
 
-abbrev GivesStop : Result Part Fault → Type 0
+abbrev GivesStop : Result QuotedLine Fault → Type 0
 GivesStop (Ok p) = StopsText p.stop
 GivesStop (Err e) = Unit {0}
 
-abbrev PartReader : (List Cell → Result Part Fault) → Type 0
+abbrev PartReader : (List Cell → Result QuotedLine Fault) → Type 0
 PartReader part = (cs : List Cell) → IsText cs → GivesStop (part cs)
 
-given-left : (quote : ℕ) (space : List Cell) (p : Part) (l : Line) (ls : List Line) (below : Option ℕ → Result Taken Fault) → AreUtf8 ls → StopsText p.stop → ((b : Option ℕ) → LeavesText (below b))
+given-left : (quote : ℕ) (space : List Cell) (p : QuotedLine) (l : Line) (ls : List Line) (below : Option ℕ → Result Taken Fault) → AreUtf8 ls → StopsText p.stop → ((b : Option ℕ) → LeavesText (below b))
     → LeavesText (line_given quote space p l ls below)
 given-left quote space p l ls below u h more = by-stop p.stop h
   where
-    by-stop : (s : Stop) → StopsText s → LeavesText (line_given quote space (record { text = p.text; stop = s }) l ls below)
+    by-stop : (s : QuotedEnd) → StopsText s → LeavesText (line_given quote space (record { text = p.text; stop = s }) l ls below)
     by-stop (closed e rest) h = (h, u)
     by-stop (cut_short at) h = choose LeavesText l.last (λ _. tt) (λ _. tt)
     by-stop broken h = choose LeavesText l.last (λ _. tt) (λ _. left-before (space ++ p.text) _ (more (Some l.end)))
     by-stop escaped h = choose LeavesText l.last (λ _. tt) (λ _. left-before (space ++ p.text) _ (more None))
 
-line-left : (quote : ℕ) (break : Option ℕ) (l : Line) (ls : List Line) (below : Option ℕ → Result Taken Fault) → AreUtf8 ls → ((b : Option ℕ) → LeavesText (below b)) → (r : Result Part Fault) → GivesStop r
+line-left : (quote : ℕ) (break : Option ℕ) (l : Line) (ls : List Line) (below : Option ℕ → Result Taken Fault) → AreUtf8 ls → ((b : Option ℕ) → LeavesText (below b)) → (r : Result QuotedLine Fault) → GivesStop r
     → LeavesText (r >>= (λ p. if is_empty_line p l then before ((ascii.line_feed, l.end) ∷ []) (below None) else line_given quote (folded break) p l ls below))
 line-left quote break l ls below u more (Err e) r = tt
 line-left quote break l ls below u more (Ok p) r =
     choose LeavesText (is_empty_line p l) (λ _. left-before ((ascii.line_feed, l.end) ∷ []) (below None) (more None))
     (λ _. given-left quote (folded break) p l ls below u r more)
 
-lines-left : (part : List Cell → Result Part Fault) → PartReader part → (quote : ℕ) (break : Option ℕ) (ls : List Line) → AreUtf8 ls → LeavesText (quoted_lines part quote break ls)
+lines-left : (part : List Cell → Result QuotedLine Fault) → PartReader part → (quote : ℕ) (break : Option ℕ) (ls : List Line) → AreUtf8 ls → LeavesText (quoted_lines part quote break ls)
 lines-left part q quote break [] u = tt
 lines-left part q quote break (l ∷ ls) u =
     line-left quote break l ls (λ b. quoted_lines part quote b ls) u.1 (λ b. lines-left part q quote b ls u.1) (part (after_blanks l.text)) (q (after_blanks l.text) (keeps-blanks l.text [] u.0))
 
-quoted-by : (part : List Cell → Result Part Fault) → PartReader part → (quote : ℕ) (l : Line) (ls : List Line) → AreUtf8 ls → (r : Result Part Fault) → GivesStop r
+quoted-by : (part : List Cell → Result QuotedLine Fault) → PartReader part → (quote : ℕ) (l : Line) (ls : List Line) → AreUtf8 ls → (r : Result QuotedLine Fault) → GivesStop r
     → LeavesText (r >>= (λ p. line_given quote [] p l ls (λ b. quoted_lines part quote b ls)))
 quoted-by part q quote l ls u (Err e) r = tt
 quoted-by part q quote l ls u (Ok p) r = given-left quote [] p l ls (λ b. quoted_lines part quote b ls) u r (λ b. lines-left part q quote b ls u)
 
-quoted-left : (part : List Cell → Result Part Fault) → PartReader part → (quote : ℕ) (ls : List Line) → AreUtf8 ls → LeavesText (quoted part quote ls)
+quoted-left : (part : List Cell → Result QuotedLine Fault) → PartReader part → (quote : ℕ) (ls : List Line) → AreUtf8 ls → LeavesText (quoted part quote ls)
 quoted-left part q quote [] u = tt
 quoted-left part q quote (l ∷ ls) u = quoted-by part q quote l ls u.1 (part l.text) (q l.text u.0)
 
 pub single-left : (quote : ℕ) (ls : List Line) → AreUtf8 ls → LeavesText (single_quoted quote ls)
 single-left quote ls u = quoted-left (λ text. Ok (single_part 0 text)) (λ cs k. single-leaves 0 cs [] k) quote ls u
 
-double-stop : (cs : List Cell) (r : Result Part Fault) → GivesLeaves cs r → IsText cs → GivesStop r
+double-stop : (cs : List Cell) (r : Result QuotedLine Fault) → GivesLeaves cs r → IsText cs → GivesStop r
 double-stop cs (Ok p) k u = k [] u
 double-stop cs (Err e) k u = tt
 

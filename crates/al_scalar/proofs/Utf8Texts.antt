@@ -5,7 +5,7 @@ use Rattle.std.proofs.lemmas.Str.{IsUtf8-append, IsUtf8-nil, IsUtf8-from_ascii}
 use Rattle.al_scalar.specs.Ascii as ascii
 use Rattle.al_scalar.specs.Line.{Cell, Line, is_blank, after_blanks, begins, is_empty}
 use Rattle.al_scalar.specs.Plain.{Context, is_flow, is_flow_indicator, begins_flow_indicator, ends_key, is_value_colon, ends_plain, plain_part, continues, ended_before, plain_lines, plain}
-use Rattle.al_scalar.specs.Quoted.{Part, Stop, closed, broken, escaped, cut_short, single_part, line_given, is_empty_line, quoted_lines, quoted, single_quoted}
+use Rattle.al_scalar.specs.Quoted.{QuotedLine, QuotedEnd, closed, broken, escaped, cut_short, single_part, line_given, is_empty_line, quoted_lines, quoted, single_quoted}
 use Rattle.al_scalar.specs.Scalar.{after_first}
 use Rattle.al_scalar.specs.Taken.{Fault, Taken, ◌>>=◌, before, folded, feeds, folded_break}
 use Rattle.al_scalar.proofs.OffsetLemmas.{choose}
@@ -55,41 +55,41 @@ text-before cs (Err e) h k = tt
 
 -- ---- quotes
 
-abbrev pub GivesText : Result Part Fault → Type 0
+abbrev pub GivesText : Result QuotedLine Fault → Type 0
 GivesText (Ok p) = IsText p.text
 GivesText (Err e) = Unit {0}
 
-abbrev pub PartReader : (List Cell → Result Part Fault) → Type 0
+abbrev pub PartReader : (List Cell → Result QuotedLine Fault) → Type 0
 PartReader part = (cs : List Cell) → IsText cs → GivesText (part cs)
 
-given-text : (quote : ℕ) (space : List Cell) (p : Part) (l : Line) (ls : List Line) (below : Option ℕ → Result Taken Fault) → IsText space → IsText p.text → ((b : Option ℕ) → TakesText (below b))
+given-text : (quote : ℕ) (space : List Cell) (p : QuotedLine) (l : Line) (ls : List Line) (below : Option ℕ → Result Taken Fault) → IsText space → IsText p.text → ((b : Option ℕ) → TakesText (below b))
     → TakesText (line_given quote space p l ls below)
 given-text quote space p l ls below h k more = by-stop p.stop
   where
-    by-stop : (s : Stop) → TakesText (line_given quote space (record { text = p.text; stop = s }) l ls below)
+    by-stop : (s : QuotedEnd) → TakesText (line_given quote space (record { text = p.text; stop = s }) l ls below)
     by-stop (closed e rest) = text-join space p.text h k
     by-stop (cut_short at) = choose TakesText l.last (λ _. tt) (λ _. tt)
     by-stop broken = choose TakesText l.last (λ _. tt) (λ _. text-before (space ++ p.text) _ (text-join space p.text h k) (more (Some l.end)))
     by-stop escaped = choose TakesText l.last (λ _. tt) (λ _. text-before (space ++ p.text) _ (text-join space p.text h k) (more None))
 
-line-text : (quote : ℕ) (break : Option ℕ) (l : Line) (ls : List Line) (below : Option ℕ → Result Taken Fault) → ((b : Option ℕ) → TakesText (below b)) → (r : Result Part Fault) → GivesText r
+line-text : (quote : ℕ) (break : Option ℕ) (l : Line) (ls : List Line) (below : Option ℕ → Result Taken Fault) → ((b : Option ℕ) → TakesText (below b)) → (r : Result QuotedLine Fault) → GivesText r
     → TakesText (r >>= (λ p. if is_empty_line p l then before ((ascii.line_feed, l.end) ∷ []) (below None) else line_given quote (folded break) p l ls below))
 line-text quote break l ls below more (Err e) r = tt
 line-text quote break l ls below more (Ok p) r =
     choose TakesText (is_empty_line p l) (λ _. text-before ((ascii.line_feed, l.end) ∷ []) (below None) (text-one 10 l.end (omega arith)) (more None))
     (λ _. given-text quote (folded break) p l ls below (text-folded break) r more)
 
-lines-text : (part : List Cell → Result Part Fault) → PartReader part → (quote : ℕ) (break : Option ℕ) (ls : List Line) → AreUtf8 ls → TakesText (quoted_lines part quote break ls)
+lines-text : (part : List Cell → Result QuotedLine Fault) → PartReader part → (quote : ℕ) (break : Option ℕ) (ls : List Line) → AreUtf8 ls → TakesText (quoted_lines part quote break ls)
 lines-text part q quote break [] u = tt
 lines-text part q quote break (l ∷ ls) u =
     line-text quote break l ls (λ b. quoted_lines part quote b ls) (λ b. lines-text part q quote b ls u.1) (part (after_blanks l.text)) (q (after_blanks l.text) (keeps-blanks l.text [] u.0))
 
-quoted-by : (part : List Cell → Result Part Fault) → PartReader part → (quote : ℕ) (l : Line) (ls : List Line) → AreUtf8 ls → (r : Result Part Fault) → GivesText r
+quoted-by : (part : List Cell → Result QuotedLine Fault) → PartReader part → (quote : ℕ) (l : Line) (ls : List Line) → AreUtf8 ls → (r : Result QuotedLine Fault) → GivesText r
     → TakesText (r >>= (λ p. line_given quote [] p l ls (λ b. quoted_lines part quote b ls)))
 quoted-by part q quote l ls u (Err e) r = tt
 quoted-by part q quote l ls u (Ok p) r = given-text quote [] p l ls (λ b. quoted_lines part quote b ls) IsUtf8-nil r (λ b. lines-text part q quote b ls u)
 
-pub quoted-text : (part : List Cell → Result Part Fault) → PartReader part → (quote : ℕ) (ls : List Line) → AreUtf8 ls → TakesText (quoted part quote ls)
+pub quoted-text : (part : List Cell → Result QuotedLine Fault) → PartReader part → (quote : ℕ) (ls : List Line) → AreUtf8 ls → TakesText (quoted part quote ls)
 quoted-text part q quote [] u = tt
 quoted-text part q quote (l ∷ ls) u = quoted-by part q quote l ls u.1 (part l.text) (q l.text u.0)
 

@@ -69,7 +69,7 @@ content_indent (Some d) within ls = Some (d + (within - 1))
 content_indent None within ls = found_indent within ls
 
 -- A line of the scalar: its text behind the indent, and its break.
-pub record Row : Type 0 where
+pub record BlockLine : Type 0 where
   pub text : List Cell
   pub break : List ℕ
 
@@ -86,10 +86,10 @@ row_of (Some m) found text =
 
 -- The rows, and the lines left. The last line is no row unless it has text, and nothing is left behind it but the file's end.
 pub record Rows : Type 0 where
-  pub rows : List Row
+  pub rows : List BlockLine
   pub left : List Line
 
-abbrev pub with_row : Row → Rows → Rows
+abbrev pub with_row : BlockLine → Rows → Rows
 with_row r more = record { rows = r ∷ more.rows; left = more.left }
 
 abbrev pub at_end : Line → List Line
@@ -111,10 +111,10 @@ chomped strip own empties = []
 chomped clip own empties = feeds own
 chomped keep own empties = feeds (own ++ empties)
 
-abbrev pub is_spaced : Row → Bool
+abbrev pub is_spaced : BlockLine → Bool
 is_spaced r = begins_blank r.text
 
-abbrev pub own_break : Option Row → List ℕ
+abbrev pub own_break : Option BlockLine → List ℕ
 own_break None = []
 own_break (Some r) = r.break
 
@@ -125,13 +125,13 @@ between_rows (at ∷ ats) empties = folded_break at empties
 
 -- What the breaks between the last line with text, if there is one, and the next one give: all of them in literal
 -- style (8.1.2), beside a line that begins with a blank, and before the first line with text.
-abbrev pub joint : Bool → Option Row → List ℕ → Row → List Cell
+abbrev pub joint : Bool → Option BlockLine → List ℕ → BlockLine → List Cell
 joint is_literal None empties next = feeds empties
 joint is_literal (Some r) empties next =
     if is_literal || is_spaced r || is_spaced next then feeds (r.break ++ empties) else between_rows r.break empties
 
 -- The text of rows behind the last line with text; empties are the breaks of the empty lines since.
-abbrev pub text_after : Bool → Chomping → Option Row → List ℕ → List Row → List Cell
+abbrev pub text_after : Bool → Chomping → Option BlockLine → List ℕ → List BlockLine → List Cell
 text_after is_literal k last empties [] = chomped k (own_break last) empties
 text_after is_literal k last empties (r ∷ rs) =
     let with_empty = text_after is_literal k last (empties ++ r.break) rs in
@@ -143,7 +143,7 @@ last_end [] at = at
 last_end (c ∷ cs) at = last_end cs (c.1 + 1)
 
 -- the end of the last line's text that isn't empty
-abbrev pub rows_end : ℕ → List Row → ℕ
+abbrev pub rows_end : ℕ → List BlockLine → ℕ
 rows_end at [] = at
 rows_end at (r ∷ rs) = rows_end (last_end r.text at) rs
 

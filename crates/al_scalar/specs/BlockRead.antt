@@ -6,7 +6,7 @@ use Rattle.al_scalar.specs.Taken.{Fault, Taken, with_text}
 use Rattle.al_text.specs.declared.codes.YamlCode.TheVariants.{WrongBlockHeader}
 use Rattle.al_scalar.specs.Places.{lines_at, text_at, cells_between, OnLine}
 use Rattle.al_scalar.specs.Block as block
-use Rattle.al_scalar.specs.Block.{Header, Row, last_end}
+use Rattle.al_scalar.specs.Block.{Header, BlockLine, last_end}
 use Rattle.al_scalar.specs.declared.header.Chomping.{Chomping}
 use Rattle.al_scalar.specs.declared.header.Chomping.TheVariants.{Strip, Clip, Keep}
 use Rattle.al_scalar.specs.declared.header.HeaderRead.{HeaderRead}
@@ -25,10 +25,10 @@ abbrev pub header_of : HeaderRead → Header
 header_of h = record { digit = h.digit; chomping = kind h.chomping; end = h.end }
 
 -- a row of which only that matters which the next row asks for
-abbrev pub row_like : Bool → List ℕ → Row
+abbrev pub row_like : Bool → List ℕ → BlockLine
 row_like spaced break = record { text = cond spaced ((ascii.space, 0) ∷ []) []; break = break }
 
-abbrev pub last_row : Option LastLine → Option Row
+abbrev pub last_row : Option LastLine → Option BlockLine
 last_row None = None
 last_row (Some l) = Some (row_like l.spaced (l.at ∷ []))
 
@@ -60,25 +60,25 @@ abbrev pub indent_from : ℕ → List Cell → Option ℕ
 indent_from within text = if nat_le within (indent text) then Some (indent text) else None
 
 -- the scalar from a row on: found as in `rows_at`, last and empties as in `text_after`, end as in `rows_end`
-abbrev pub rest : Bool → block.Chomping → Option ℕ → Bool → Option Row → List ℕ → ℕ → List Line → Taken
+abbrev pub rest : Bool → block.Chomping → Option ℕ → Bool → Option BlockLine → List ℕ → ℕ → List Line → Taken
 rest is_literal k m found last empties end ls =
     let rs = block.rows_at m found ls in
     record { text = block.text_after is_literal k last empties rs.rows; end = block.rows_end end rs.rows; left = rs.left }
 
-abbrev pub rest_of : BlockStyle → Bool → Option Row → List ℕ → ℕ → List Line → Taken
+abbrev pub rest_of : BlockStyle → Bool → Option BlockLine → List ℕ → ℕ → List Line → Taken
 rest_of style found last empties end ls = rest style.literal (kind style.chomping) style.indent found last empties end ls
 
 -- text read, with the rows from r on, as text read with the rows behind it
 abbrev pub AddsRow : Bool → List Cell → RowState → List Cell → List ℕ → List Cell → RowState → Type 0
 AddsRow is_literal old was text break new is =
-    (k : block.Chomping) (rs : List Row) → old ++ block.text_after is_literal k (last_row was.last) was.empties.items (record { text = text; break = break } ∷ rs)
+    (k : block.Chomping) (rs : List BlockLine) → old ++ block.text_after is_literal k (last_row was.last) was.empties.items (record { text = text; break = break } ∷ rs)
     ≡ new ++ block.text_after is_literal k (last_row is.last) is.empties.items rs
 
 abbrev pub EndsRow : RowState → List Cell → RowState → Type 0
 EndsRow was text is = last_end text was.end ≡ is.end
 
 -- the row of the file's last line, from an offset on
-abbrev pub last_line : List ℕ → ℕ → List Row
+abbrev pub last_line : List ℕ → ℕ → List BlockLine
 last_line bytes from = record { text = cells_between bytes from (length bytes); break = [] } ∷ []
 
 abbrev pub is_said : Option ℕ → Bool

@@ -6,13 +6,13 @@ use Rattle.al_scalar.specs.Taken.{Fault}
 use Rattle.al_scalar.specs.Plain as plain
 use Rattle.al_scalar.specs.Scalar as value
 use Rattle.al_scalar.specs.Places.{lines_at}
-use Rattle.al_scalar.specs.declared.scalars.Place.{Place}
-use Rattle.al_scalar.specs.declared.scalars.Place.TheVariants as places
+use Rattle.al_scalar.specs.declared.scalars.ScalarContext.{ScalarContext}
+use Rattle.al_scalar.specs.declared.scalars.ScalarContext.TheVariants as places
 use Rattle.al_scalar.specs.declared.scalars.ScalarRead.{ScalarRead}
 use Rattle.al_scalar.specs.declared.faults.YamlFault.{YamlFault}
 
 -- what is read of the lines at a place
-abbrev pub reading_at : Place → List Line → Result value.ScalarRead Fault
+abbrev pub reading_at : ScalarContext → List Line → Result value.ScalarRead Fault
 reading_at (places.Block within) ls = value.scalar_at (plain.block within) ls
 reading_at places.Flow ls = value.scalar_at plain.flow ls
 reading_at places.Empty ls = Ok (value.empty_at ls)
@@ -24,7 +24,7 @@ read_of bytes r = record { scalar = r.scalar; span = r.span; left = lines_at byt
 abbrev pub fault_of : YamlFault → Fault
 fault_of f = record { code = f.code; at = f.span.start }
 
-abbrev pub GivesScalar : List ℕ → ℕ → Place → Result ScalarRead YamlFault → Type 0
+abbrev pub GivesScalar : List ℕ → ℕ → ScalarContext → Result ScalarRead YamlFault → Type 0
 GivesScalar bytes at place (Ok r) = reading_at place (lines_at bytes at) ≡ Ok (read_of bytes r)
 GivesScalar bytes at place (Err f) = (reading_at place (lines_at bytes at) ≡ Err (fault_of f)) × (f.span ≡ character_at bytes f.span.start)
 

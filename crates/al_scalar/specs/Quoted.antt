@@ -7,30 +7,30 @@ use Rattle.al_scalar.specs.Taken.{Fault, Taken, ◌>>=◌, before, fault, folded
 
 -- How a quoted scalar leaves a line: it is closed, with the cells behind the quote; it goes on after the break;
 -- it goes on after an escaped break; or the line ends within the escape at a place.
-pub data Stop : Type 0 where
-  closed : ℕ → List Cell → Stop
-  broken : Stop
-  escaped : Stop
-  cut_short : ℕ → Stop
+pub data QuotedEnd : Type 0 where
+  closed : ℕ → List Cell → QuotedEnd
+  broken : QuotedEnd
+  escaped : QuotedEnd
+  cut_short : ℕ → QuotedEnd
 
 -- the decoded cells of one line
-pub record Part : Type 0 where
+pub record QuotedLine : Type 0 where
   pub text : List Cell
-  pub stop : Stop
+  pub stop : QuotedEnd
 
-abbrev pub is_broken : Stop → Bool
+abbrev pub is_broken : QuotedEnd → Bool
 is_broken broken = true
 is_broken _ = false
 
-abbrev pub with_cells : List Cell → Part → Part
+abbrev pub with_cells : List Cell → QuotedLine → QuotedLine
 with_cells cs p = record { text = cs ++ p.text; stop = p.stop }
 
 -- A cell that stands for itself. A blank before a break goes.
-abbrev pub with_own : Cell → Part → Part
+abbrev pub with_own : Cell → QuotedLine → QuotedLine
 with_own c p = if is_blank c && is_empty p.text && is_broken p.stop then p else with_cells (c ∷ []) p
 
 -- Single quotes: two quotes are a quote. The number counts the cells that belong to the one before.
-abbrev pub single_part : ℕ → List Cell → Part
+abbrev pub single_part : ℕ → List Cell → QuotedLine
 single_part n [] = record { text = []; stop = broken }
 single_part (suc n) (c ∷ cs) = single_part n cs
 single_part zero (c ∷ cs) =
@@ -77,23 +77,23 @@ is_scalar_value c = nat_lt c 0xd800 || (nat_le 0xe000 c && nat_lt c 0x110000)
 abbrev pub written : ℕ → ℕ → List Cell
 written at code = map (λ b. (b, at)) (encode_utf8 code)
 
-abbrev pub part_before : List Cell → Result Part Fault → Result Part Fault
+abbrev pub part_before : List Cell → Result QuotedLine Fault → Result QuotedLine Fault
 part_before cs (Ok p) = Ok (with_cells cs p)
 part_before cs (Err e) = Err e
 
-abbrev pub own_before : Cell → Result Part Fault → Result Part Fault
+abbrev pub own_before : Cell → Result QuotedLine Fault → Result QuotedLine Fault
 own_before c (Ok p) = Ok (with_own c p)
 own_before c (Err e) = Err e
 
 -- An escape with digits, of which these stand on the line.
-abbrev pub hex_escape : ℕ → ℕ → List Cell → Option ℕ → Result Part Fault → Result Part Fault
+abbrev pub hex_escape : ℕ → ℕ → List Cell → Option ℕ → Result QuotedLine Fault → Result QuotedLine Fault
 hex_escape at width digits None more = fault yaml.WrongEscape at
 hex_escape at width digits (Some code) more =
     if nat_lt (length digits) width then Ok (record { text = []; stop = cut_short at })
     else (if is_scalar_value code then part_before (written at code) more else fault yaml.WrongEscape at)
 
 -- An escape: the backslash's offset, the cells behind it, and the line's part behind the escape by its length.
-abbrev pub escape : ℕ → List Cell → (ℕ → Result Part Fault) → Result Part Fault
+abbrev pub escape : ℕ → List Cell → (ℕ → Result QuotedLine Fault) → Result QuotedLine Fault
 escape at [] more = Ok (record { text = []; stop = escaped })
 escape at (c ∷ cs) more =
     elim (lookup c.0 escape_table) [
@@ -105,7 +105,7 @@ escape at (c ∷ cs) more =
     ]
 
 -- Double quotes. The number counts the cells that belong to the escape before.
-abbrev pub double_part : ℕ → List Cell → Result Part Fault
+abbrev pub double_part : ℕ → List Cell → Result QuotedLine Fault
 double_part n [] = Ok (record { text = []; stop = broken })
 double_part (suc n) (c ∷ cs) = double_part n cs
 double_part zero (c ∷ cs) =
@@ -115,12 +115,12 @@ double_part zero (c ∷ cs) =
     else (if c.0 == ascii.backslash then escape c.1 cs more else own_before c next)
 
 -- The break after a line, which is folded unless it is escaped.
-abbrev pub break_after : Stop → Line → Option ℕ
+abbrev pub break_after : QuotedEnd → Line → Option ℕ
 break_after broken l = Some l.end
 break_after _ l = None
 
 -- What a line gives, by how the scalar leaves it. quote is the opening quote.
-abbrev pub line_given : ℕ → List Cell → Part → Line → List Line → (Option ℕ → Result Taken Fault) → Result Taken Fault
+abbrev pub line_given : ℕ → List Cell → QuotedLine → Line → List Line → (Option ℕ → Result Taken Fault) → Result Taken Fault
 line_given quote space p l ls below =
     elim p.stop [
       | closed end rest ↦ Ok (record { text = space ++ p.text; end = end; left = cut rest l ls })
@@ -129,11 +129,11 @@ line_given quote space p l ls below =
     ]
 
 -- a line between the first and the last that is all blanks
-abbrev pub is_empty_line : Part → Line → Bool
+abbrev pub is_empty_line : QuotedLine → Line → Bool
 is_empty_line p l = is_empty p.text && is_broken p.stop && not l.last
 
 -- The lines after the first: leading blanks go, an empty line gives an LF and no space stays before it.
-abbrev pub quoted_lines : (List Cell → Result Part Fault) → ℕ → Option ℕ → List Line → Result Taken Fault
+abbrev pub quoted_lines : (List Cell → Result QuotedLine Fault) → ℕ → Option ℕ → List Line → Result Taken Fault
 quoted_lines part quote break [] = fault yaml.UnclosedQuote quote
 quoted_lines part quote break (l ∷ ls) =
     let below = (λ (b : Option ℕ). quoted_lines part quote b ls) in
@@ -142,7 +142,7 @@ quoted_lines part quote break (l ∷ ls) =
     else line_given quote (folded break) p l ls below)
 
 -- a quoted scalar, from behind its opening quote
-abbrev pub quoted : (List Cell → Result Part Fault) → ℕ → List Line → Result Taken Fault
+abbrev pub quoted : (List Cell → Result QuotedLine Fault) → ℕ → List Line → Result Taken Fault
 quoted part quote [] = fault yaml.UnclosedQuote quote
 quoted part quote (l ∷ ls) = part l.text >>= (λ p. line_given quote [] p l ls (λ b. quoted_lines part quote b ls))
 

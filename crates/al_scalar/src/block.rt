@@ -109,7 +109,7 @@ fn indent_of(bytes: &[u8], at: usize, within: usize) -> Option<usize>
     requires { at ≤ length bytes.now }
     ensures { result ≡ indent_from within (text_at bytes.now at) }
 {
-    let found = spaces_end(bytes, at, bytes.len()) - at;
+    let found = indent(bytes, at);
     if within <= found { Some(found) } else { None }
 }
 

@@ -20,7 +20,7 @@ mod texts;
 pub use examples::rows;
 pub use faults::{YamlFault, fault_at};
 pub use reader::read_scalar;
-pub use scalars::{Place, Scalar, ScalarRead};
+pub use scalars::{Scalar, ScalarContext, ScalarRead};
 pub use styles::{Class, Style};
 
 #[cfg(test)]

@@ -2,7 +2,7 @@
 
 ghost use Rattle.std.specs.Prelude.{◌≡◌, ◌≢◌, ◌∷◌, ◌+◌, ◌<◌, ◌≤◌, length, IsTrue, ◌↔◌, slice_index};
 ghost use Rattle.al_scalar.specs.Line as line;
-ghost use Rattle.al_scalar.specs.Places.{lines_at, text_at, cells_between, with_cells_before, broken_line, AreBlank, AreSpaces, IsBlankByte, IsLineEnd, IsBreakAt, OnLine, BlankTo, FirstByte};
+ghost use Rattle.al_scalar.specs.Places.{first_end, lines_at, text_at, cells_between, with_cells_before, broken_line, AreBlank, AreSpaces, IsBlankByte, IsLineEnd, IsBreakAt, OnLine, BlankTo, FirstByte};
 
 /// Whether no text of the line is left at an offset.
 pub fn is_line_end(bytes: &[u8], at: usize) -> bool
@@ -42,6 +42,7 @@ pub fn is_blank(byte: u8) -> bool
 }
 
 /// The offset behind the blanks at an offset.
+#[tactic(auto, using(crate::proofs::LineParts::behind_blanks))]
 pub fn blanks_end(bytes: &[u8], at: usize) -> usize
     requires { at ≤ length bytes.now }
     ensures from { at ≤ result }
@@ -49,6 +50,7 @@ pub fn blanks_end(bytes: &[u8], at: usize) -> usize
     ensures blanks { AreBlank (cells_between bytes.now at result) }
     ensures not_blank { result < length bytes.now → IsBlankByte (slice_index bytes.now result) → ⊥ }
     ensures lines { lines_at bytes.now at ≡ with_cells_before (cells_between bytes.now at result) (lines_at bytes.now result) }
+    ensures dropped { line.blanks_dropped (lines_at bytes.now at) ≡ lines_at bytes.now result }
 {
     let mut i = at;
     while i < bytes.len() && is_blank(bytes[i]) {
@@ -75,11 +77,13 @@ pub fn spaces_end(bytes: &[u8], at: usize, most: usize) -> usize
 }
 
 /// The end of the line that an offset is on.
+#[tactic(auto, using(crate::proofs::LineParts::end_further))]
 pub fn line_end(bytes: &[u8], at: usize) -> usize
     requires { at ≤ length bytes.now }
     ensures is_end { IsLineEnd bytes.now result }
     ensures on_line { OnLine bytes.now at result }
     ensures text { text_at bytes.now at ≡ cells_between bytes.now at result }
+    ensures end { first_end (lines_at bytes.now at) ≡ result }
 {
     let mut i = at;
     while !is_line_end(bytes, i) {
@@ -116,7 +120,9 @@ pub fn first_byte(bytes: &[u8], at: usize) -> Option<u8>
 /// How many spaces stand at an offset.
 pub fn indent(bytes: &[u8], at: usize) -> usize
     requires { at ≤ length bytes.now }
-    ensures { result ≡ line.indent (text_at bytes.now at) }
+    ensures is { result ≡ line.indent (text_at bytes.now at) }
+    ensures inside { at + result ≤ length bytes.now }
+    ensures dropped { line.spaces_dropped (lines_at bytes.now at) ≡ lines_at bytes.now (at + result) }
 {
     spaces_end(bytes, at, bytes.len()) - at
 }

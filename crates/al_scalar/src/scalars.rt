@@ -9,7 +9,7 @@ use std::marker::Model;
 
 /// Where a node that is a scalar stands.
 #[derive(Clone, Copy, PartialEq, Eq, Debug)]
-pub enum Place {
+pub enum ScalarContext {
     /// In block context. The number, one more than the indent of the collection around it and 0 at the root, is the least
     /// indent of a plain scalar's further lines and of a block scalar's content.
     Block(u32),

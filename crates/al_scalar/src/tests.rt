@@ -1,4 +1,4 @@
-use crate::{Class, Place, Style, read_scalar};
+use crate::{Class, ScalarContext, Style, read_scalar};
 use al_text::YamlCode;
 use std::alloc::{AllocError, Global};
 use std::process::Abort;
@@ -7,7 +7,7 @@ use std::process::Abort;
 struct Case {
     file: &'static [u8],
     at: usize,
-    place: Place,
+    place: ScalarContext,
     style: Style,
     class: Class,
     text: &'static [u8],
@@ -19,7 +19,7 @@ const CASES: [Case; 8] = [
     Case {
         file: b"a: 'it''s'\n",
         at: 3,
-        place: Place::Block(1),
+        place: ScalarContext::Block(1),
         style: Style::SingleQuoted,
         class: Class::Str,
         text: b"it's",
@@ -29,7 +29,7 @@ const CASES: [Case; 8] = [
     Case {
         file: b"a: \"x\\u00e9\"\n",
         at: 3,
-        place: Place::Block(1),
+        place: ScalarContext::Block(1),
         style: Style::DoubleQuoted,
         class: Class::Str,
         text: b"x\xc3\xa9",
@@ -39,7 +39,7 @@ const CASES: [Case; 8] = [
     Case {
         file: b"a: >\n  b\n  c\n\n  d\n",
         at: 3,
-        place: Place::Block(1),
+        place: ScalarContext::Block(1),
         style: Style::Folded,
         class: Class::Str,
         text: b"b c\nd\n",
@@ -49,7 +49,7 @@ const CASES: [Case; 8] = [
     Case {
         file: b"a: |+\r\n b\r\n\r\nc: d\r\n",
         at: 3,
-        place: Place::Block(1),
+        place: ScalarContext::Block(1),
         style: Style::Literal,
         class: Class::Str,
         text: b"b\n\n",
@@ -59,7 +59,7 @@ const CASES: [Case; 8] = [
     Case {
         file: b"[-.INF\n , b]",
         at: 1,
-        place: Place::Flow,
+        place: ScalarContext::Flow,
         style: Style::Plain,
         class: Class::Float,
         text: b"-.INF",
@@ -69,7 +69,7 @@ const CASES: [Case; 8] = [
     Case {
         file: b"- \xc3\xa9\r  b\r",
         at: 2,
-        place: Place::Block(1),
+        place: ScalarContext::Block(1),
         style: Style::Plain,
         class: Class::Str,
         text: b"\xc3\xa9 b",
@@ -79,7 +79,7 @@ const CASES: [Case; 8] = [
     Case {
         file: b"0x1F",
         at: 0,
-        place: Place::Block(0),
+        place: ScalarContext::Block(0),
         style: Style::Plain,
         class: Class::Int,
         text: b"0x1F",
@@ -89,7 +89,7 @@ const CASES: [Case; 8] = [
     Case {
         file: b"a:\nb: c\n",
         at: 2,
-        place: Place::Empty,
+        place: ScalarContext::Empty,
         style: Style::Plain,
         class: Class::Null,
         text: b"",
@@ -135,7 +135,7 @@ const FAULTS: [(&[u8], usize, YamlCode, u32, u32); 5] = [
 fn finds_faults(rt: HostRuntime) -> Result<(), AllocError> {
     for (file, at, code, start, end) in &FAULTS {
         assert!(rt; *at <= file.len() && file.len() <= 1048576);
-        let Err(fault) = read_scalar(rt.alloc(), file, *at, Place::Block(1))? else {
+        let Err(fault) = read_scalar(rt.alloc(), file, *at, ScalarContext::Block(1))? else {
             panic!(rt; "no fault at {at}");
         };
         assert_eq!(rt; fault.code, *code);
@@ -148,7 +148,7 @@ fn finds_faults(rt: HostRuntime) -> Result<(), AllocError> {
 /// The text of a plain scalar over all the lines of a file.
 fn long_text(rt: &impl Abort, alloc: Global, file: &[u8]) -> Result<usize, AllocError> {
     assert!(rt; file.len() <= 1048576);
-    match read_scalar(alloc, file, 0, Place::Block(0))? {
+    match read_scalar(alloc, file, 0, ScalarContext::Block(0))? {
         Ok(read) => Ok(read.scalar.text().len()),
         Err(_) => Ok(0),
     }

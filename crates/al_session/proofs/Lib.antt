@@ -1,10 +1,3 @@
-pub mod Places
-pub mod Searches
-pub mod Views
-pub mod Answering
-pub mod Affecting
-pub mod Indexing
-pub mod Missings
 pub mod Giving
 pub mod Puts
 pub mod Linted

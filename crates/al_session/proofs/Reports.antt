@@ -4,7 +4,7 @@ use Rattle.std.specs.Prelude.{string_bytes, bytes_eq}
 use Rattle.std.specs.Global.{Global}
 use Rattle.std.specs.Option.{option_map, unwrap_or}
 use Rattle.std.proofs.Common.{String, Some, None, slice_get, zero, suc, take}
-use Rattle.al_session.proofs.Views.{bytes_kept, bytes_same, kept_at}
+use Rattle.al_folder.proofs.Views.{bytes_kept, bytes_same, kept_at}
 use Rattle.std.specs.Bool.{◌==◌}
 use Rattle.std.specs.List.{AllByRecursion, flat_map, list_any}
 use Rattle.std.specs.List.Sorted.{IsStrictlySortedBy}
@@ -12,11 +12,12 @@ use Rattle.al_text.specs.FaultLists.{fault_cmp}
 use Rattle.al_text.specs.declared.faults.Fault.{Fault}
 use Rattle.al_text.specs.Snippets.{fault_text}
 use Rattle.al_text.specs.Spans.{LiesIn}
-use Rattle.al_session.specs.Meaning.{Meaning}
-use Rattle.al_session.specs.Folder.{Folder, faults_in, answers, bytes_at}
+use Rattle.al_folder.specs.Meaning.{Meaning}
+use Rattle.al_folder.specs.Folder.{Folder, faults_in, answers, bytes_at}
 use Rattle.al_session.specs.Report.{status_of, report_of}
-use Rattle.al_session.specs.Kept.{Files, folder_of, file_at, AllKept, AllChecked, IsKept, IsPrintable, lines_of}
-use Rattle.al_session.specs.declared.kept.KeptFile.{KeptFile}
+use Rattle.al_folder.specs.Kept.{Files, folder_of, file_at, AllKept, IsKept}
+use Rattle.al_session.specs.Session.{AllChecked, IsPrintable, lines_of}
+use Rattle.al_folder.specs.declared.kept.KeptFile.{KeptFile}
 
 module _ {U I : Type 0} (m : Meaning I) (f : Folder) where
   any_fault : (files : Files U I) → AllChecked m f files

@@ -5,10 +5,9 @@ ghost use Rattle.std.specs.List.{AllByRecursion, flat_map, list_any};
 ghost use Rattle.std.specs.Io.KnownBytes.{Appends};
 ghost use Rattle.al_text.specs.Counted.{HasRisen, AppendsFront};
 ghost use Rattle.al_text.specs.Streams.{bytes_written, write_failures};
-ghost use Rattle.al_session.specs.Kept.{IsPrintable, lines_of};
+ghost use Rattle.al_session.specs.Session.{IsPrintable, lines_of};
 
-use crate::kept::{Files, KeptFile};
-use crate::place::file_number;
+use al_folder::{Files, KeptFile, file_number};
 use al_text::{Output, Stop};
 use std::io::Write;
 

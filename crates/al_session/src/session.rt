@@ -1,6 +1,6 @@
 //! A folder of files, kept linted.
 
-ghost use Rattle.std.specs.Prelude.{◌≡◌, ◌≢◌, ℕ, List, [], Err, None, Some, length, IfOk, OnOk, OnErr, IfErr, IfSome};
+ghost use Rattle.std.specs.Prelude.{◌≡◌, ◌≢◌, ℕ, List, [], Err, None, Some, length, IfOk, IsOkAnd, OnOk, OnErr, IfErr, IfSome};
 ghost use Rattle.std.specs.List.{AllByRecursion};
 ghost use Rattle.std.specs.List.Sorted.{IsStrictlySortedBy};
 ghost use Rattle.std.specs.Ordering.{nat_cmp};
@@ -11,19 +11,16 @@ ghost use Rattle.al_text.specs.Counted.{HasRisen, AppendsFront};
 ghost use Rattle.al_text.specs.FaultLists.{fault_cmp};
 ghost use Rattle.al_text.specs.Spans.{LiesIn};
 ghost use Rattle.al_text.specs.Streams.{bytes_written, write_failures};
-ghost use Rattle.al_session.specs.Folder.{bytes_at, faults_at, put_refusal, delete_refusal, with_file, without_file, paths_of, refusal_or_memory};
+ghost use Rattle.al_folder.specs.Folder.{bytes_at, faults_at, put_refusal, delete_refusal, with_file, without_file, paths_of, refusal_or_memory};
 ghost use Rattle.std.specs.Bool.{Decides};
-ghost use Rattle.al_session.specs.Affected.{affected};
-ghost use Rattle.al_session.specs.Meaning.{counted, IsUpTo};
-ghost use Rattle.al_session.specs.Missing.{missing_in};
+ghost use Rattle.al_folder.specs.Affected.{affected};
+ghost use Rattle.al_folder.specs.Meaning.{counted, IsUpTo};
+ghost use Rattle.al_folder.specs.Missing.{missing_in};
 ghost use Rattle.al_session.specs.Report.{status_of, report_of};
 
 use crate::edit::{put_file, remove_file};
-use crate::kept::{Callers, Files};
-use crate::lint::{Lint, Refused};
-use crate::missing::missing_paths;
-use crate::paths::Paths;
 use crate::report::{has_faults, write_files};
+use al_folder::{Callers, Files, Lint, Paths, Refused, missing_paths};
 use al_text::{Fault, Output, Path, Stop, path_fault};
 use indexmap::IndexMap;
 use std::alloc::{AllocError, Global};
@@ -59,7 +56,8 @@ pub struct Session<L: Lint> {
 
 impl<L: Lint> Model for Session<L> {
     ghost use Rattle.std.specs.Prelude.{◌≤◌, ◌^◌, ◌-◌};
-    ghost use Rattle.al_session.specs.Kept.{SessionState, folder_of, AreLinted};
+    ghost use Rattle.al_folder.specs.Kept.{folder_of};
+    ghost use Rattle.al_session.specs.Session.{SessionState, AreLinted};
 
     ghost Value = { SessionState };
 
@@ -247,13 +245,10 @@ impl<L: Lint> Session<L> {
         }
     }
 
-    /// 0 where no file has a fault, and else 1.
-    ///
-    /// # Errors
-    ///
-    /// [`AllocError`] where memory ran out.
+    /// 0 where no file has a fault, and else 1. Takes no memory, and always answers `Ok`: the error leaves room for a
+    /// status that needs memory.
     pub fn status(&self) -> Result<u8, AllocError>
-        ensures { IfOk result (λ status. status ≡ status_of L.meaning self.now.folder) }
+        ensures { IsOkAnd result (λ status. status ≡ status_of L.meaning self.now.folder) }
     {
         Ok(if has_faults(&self.files) { 1 } else { 0 })
     }

@@ -12,7 +12,7 @@ use Rattle.al_scalar.specs.Scalar.{Scalar}
 use Rattle.al_yaml.specs.Access.{entries}
 use Rattle.al_yaml.specs.Node.{Node, Nodes, Entries, scalar, sequence, mapping, no_nodes, item, no_entries, entry, span_of}
 use Rattle.al_yaml.specs.Spans.{IsInside, AreInside, EntriesInside}
-use Rattle.al_shape.specs.Faults.{Standing, repeated, unexpected, ignored, expected, beside_faults, entries_faults, entry_faults, fault, faults, is_empty, is_needed, is_null, items_faults, keyed_faults, mapping_faults, missing_fault, missing_faults, one_fault, refined, root_faults, scalar_faults, sequence_faults, standing, takes_null, word_fault, word_faults}
+use Rattle.al_shape.specs.Faults.{Standing, repeated, unexpected, ignored, expected, beside_faults, entries_faults, entry_faults, fault, faults, is_empty, is_needed, is_null, items_faults, keyed_faults, mapping_faults, missing_fault, missing_faults, one_fault, refined, root_faults, scalar_faults, sequence_faults, standing, takes_null, scalar_fault, fault_if_any}
 use Rattle.al_shape.specs.Keys.{key_text, keys_in}
 use Rattle.al_shape.specs.Names.{among}
 use Rattle.al_shape.specs.Table.{Field, Keys, no_keys, free, keys, Rule, rule}
@@ -43,13 +43,13 @@ module _ (size : ℕ) where
   span_lies (sequence ns at) i = i.0
   span_lies (mapping es at) i = i.0
 
-  word_lies : (key : Option codes_key.KeyCode) (above : List ℕ) (at : Span) → LiesIn size at → All (Lies size) (word_faults key above at)
+  word_lies : (key : Option codes_key.KeyCode) (above : List ℕ) (at : Span) → LiesIn size at → All (Lies size) (fault_if_any key above at)
   word_lies None above at i = none_lie
   word_lies (Some key) above at i = one_lies _ i
 
   scalar_lies : (r : Option Rule) (above : List ℕ) (s : Scalar) (at : Span) → LiesIn size at → All (Lies size) (scalar_faults r above s at)
   scalar_lies None above s at i = none_lie
-  scalar_lies (Some r) above s at i = word_lies (word_fault r.words s) above at i
+  scalar_lies (Some r) above s at i = word_lies (scalar_fault r.scalars s) above at i
 
   sequence_lies : (r : Option Rule) (misfit : List Fault) (items : Shape → List Fault) → All (Lies size) misfit → ((s : Shape) → All (Lies size) (items s)) → All (Lies size) (sequence_faults r misfit items)
   sequence_lies None misfit items m f = none_lie

@@ -1,5 +1,6 @@
 -- The faults of a node that doesn't fit its shape.
-use Rattle.std.specs.Prelude.{ℕ, List, [], ◌∷◌, ◌++◌, ◌==◌, Bool, true, false, codes, map, Option, Some, None, ◌||◌, ◌&&◌, not, if◌then◌else◌, find, nat_eq, length, option_map, option_and_then}
+use Rattle.std.specs.Prelude.{ℕ, List, [], ◌∷◌, ◌++◌, ◌==◌, Bool, true, false, codes, map, Option, Some, None, ◌||◌, ◌&&◌, not}
+use Rattle.std.specs.Prelude.{if◌then◌else◌, find, nat_eq, length, option_map, option_and_then}
 use Rattle.std.specs.List.{flat_map, starts_with}
 use Rattle.std.specs.Option.{option_map_or}
 use Rattle.std.specs.Str.{bytes_eq}
@@ -18,12 +19,13 @@ use Rattle.al_yaml.specs.Access.{entries, scalar_in}
 use Rattle.al_yaml.specs.Node.{Node, Nodes, Entries, scalar, sequence, mapping, no_nodes, item, no_entries, entry, span_of}
 use Rattle.al_shape.specs.Keys.{key_of, key_text, keys_in}
 use Rattle.al_shape.specs.Names.{among, is_event}
-use Rattle.al_shape.specs.Table.{Field, Rule, Keys, no_keys, free, keys, rule, Need, optional, required, unless, Clash, never, after, beside, Others, wrong, wrong_beside, unchecked, events}
+use Rattle.al_shape.specs.Table.{Field, Rule, Keys, no_keys, free, keys, rule, Need, optional, required, unless, Clash, never, after}
+use Rattle.al_shape.specs.Table.{beside, Others, wrong, wrong_beside, unchecked, events}
 use Rattle.al_shape.specs.declared.standings.Standing as rust
 use Rattle.al_shape.specs.declared.table.Shape.{Shape}
 use Rattle.al_shape.specs.declared.table.Shape.TheVariants.{On, Jobs, Job, Event, Any, Runs, NodeRuns, CompositeRuns, DockerRuns}
-use Rattle.al_shape.specs.declared.table.Words.{Words}
-use Rattle.al_shape.specs.declared.table.Words.TheVariants.{NoWord, AnyWord, NotNull, Bools, Numbers, Chunks}
+use Rattle.al_shape.specs.declared.table.ScalarSet.{ScalarSet}
+use Rattle.al_shape.specs.declared.table.ScalarSet.TheVariants.{NoScalar, AnyScalar, NotNull, Bools, Numbers, Chunks}
 
 -- A fault that names these texts. Its arguments are UTF-8: bytes that aren't, of which reading a file gives none, are U+FFFD.
 abbrev pub fault : codes_key.KeyCode → Span → List (List ℕ) → Fault
@@ -68,17 +70,17 @@ abbrev pub unless_taken : Bool → codes_key.KeyCode → Option codes_key.KeyCod
 unless_taken taken key = if taken then None else Some key
 
 -- A scalar that isn't taken: of a wrong class where some scalars are taken, else of a wrong kind.
-abbrev pub word_fault : Words → Scalar → Option codes_key.KeyCode
-word_fault AnyWord s = None
-word_fault NoWord s = Some WrongKind
-word_fault NotNull s = unless_taken (not (is_null s)) WrongType
-word_fault Bools s = unless_taken (is_bool_class s.class || has_chunk (text_of s)) WrongType
-word_fault Numbers s = unless_taken (is_number_class s.class || has_chunk (text_of s)) WrongType
-word_fault Chunks s = unless_taken (has_chunk (text_of s)) WrongKind
+abbrev pub scalar_fault : ScalarSet → Scalar → Option codes_key.KeyCode
+scalar_fault AnyScalar s = None
+scalar_fault NoScalar s = Some WrongKind
+scalar_fault NotNull s = unless_taken (not (is_null s)) WrongType
+scalar_fault Bools s = unless_taken (is_bool_class s.class || has_chunk (text_of s)) WrongType
+scalar_fault Numbers s = unless_taken (is_number_class s.class || has_chunk (text_of s)) WrongType
+scalar_fault Chunks s = unless_taken (has_chunk (text_of s)) WrongKind
 
-abbrev pub word_faults : Option codes_key.KeyCode → List ℕ → Span → List Fault
-word_faults None above at = []
-word_faults (Some key) above at = one_fault key at above
+abbrev pub fault_if_any : Option codes_key.KeyCode → List ℕ → Span → List Fault
+fault_if_any None above at = []
+fault_if_any (Some key) above at = one_fault key at above
 
 -- `runs` by what `using` says; where that is nothing known, only `using` is checked
 abbrev pub runs_of : List ℕ → Shape
@@ -107,7 +109,8 @@ is_needed (unless k) all = not (all k)
 
 -- a key that is needed, and doesn't stand in the mapping that has this span
 abbrev pub missing_fault : Span → (List ℕ → Bool) → Field → List Fault
-missing_fault at all f = if is_needed f.need all && not (all f.key) then one_fault Missing (record { start = at.start; end = at.start }) f.key else []
+missing_fault at all f =
+    if is_needed f.need all && not (all f.key) then one_fault Missing (record { start = at.start; end = at.start }) f.key else []
 
 abbrev pub missing_faults : Span → (List ℕ → Bool) → List Field → List Fault
 missing_faults at all = flat_map (missing_fault at all)
@@ -169,7 +172,7 @@ entry_faults (expected s other) key value = beside_faults other key ++ value s
 
 abbrev pub scalar_faults : Option Rule → List ℕ → Scalar → Span → List Fault
 scalar_faults None above s at = []
-scalar_faults (Some r) above s at = word_faults (word_fault r.words s) above at
+scalar_faults (Some r) above s at = fault_if_any (scalar_fault r.scalars s) above at
 
 -- of a sequence, given what its items have as nodes of a shape
 abbrev pub sequence_faults : Option Rule → List Fault → (Shape → List Fault) → List Fault

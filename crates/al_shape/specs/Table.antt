@@ -1,9 +1,13 @@
 -- What a workflow and an action may hold: the table, one equation for each section.
 use Rattle.std.specs.Prelude.{ℕ, List, [], ◌∷◌, codes, map, Option, Some, None}
 use Rattle.al_shape.specs.declared.table.Shape.{Shape}
-use Rattle.al_shape.specs.declared.table.Shape.TheVariants.{Any, Text, Flag, Number, Texts, TextList, TextMap, TextOrMap, AnyMap, Env, Workflow, On, Schedule, Cron, Dispatch, DispatchInputs, DispatchInput, Call, CallInputs, CallInput, CallSecrets, CallSecret, CallOutputs, CallOutput, Event, Defaults, RunDefaults, Concurrency, Jobs, Job, RunsOn, Strategy, Container, Steps, Step, Action, Runs, NodeRuns, CompositeRuns, DockerRuns}
-use Rattle.al_shape.specs.declared.table.Words.{Words}
-use Rattle.al_shape.specs.declared.table.Words.TheVariants.{NoWord, AnyWord, NotNull, Bools, Numbers, Chunks}
+use Rattle.al_shape.specs.declared.table.Shape.TheVariants.{Any, Text, Flag, Number, Texts, TextList, TextMap, TextOrMap, AnyMap, Env}
+use Rattle.al_shape.specs.declared.table.Shape.TheVariants.{Workflow, On, Schedule, Cron, Dispatch, DispatchInputs, DispatchInput, Call}
+use Rattle.al_shape.specs.declared.table.Shape.TheVariants.{CallInputs, CallInput, CallSecrets, CallSecret, CallOutputs, CallOutput, Event}
+use Rattle.al_shape.specs.declared.table.Shape.TheVariants.{Defaults, RunDefaults, Concurrency, Jobs, Job, RunsOn, Strategy, Container}
+use Rattle.al_shape.specs.declared.table.Shape.TheVariants.{Steps, Step, Action, Runs, NodeRuns, CompositeRuns, DockerRuns}
+use Rattle.al_shape.specs.declared.table.ScalarSet.{ScalarSet}
+use Rattle.al_shape.specs.declared.table.ScalarSet.TheVariants.{NoScalar, AnyScalar, NotNull, Bools, Numbers, Chunks}
 use Rattle.al_shape.specs.declared.table.Row.{Row}
 use Rattle.al_shape.specs.declared.table.Need as rust_need
 use Rattle.al_shape.specs.declared.table.Clash as rust_clash
@@ -45,7 +49,7 @@ pub data Keys : Type 0 where
 
 -- which scalars, lists and mappings a shape takes
 pub record Rule : Type 0 where
-  pub words : Words
+  pub scalars : ScalarSet
   pub items : Option Shape
   pub keys_of : Keys
 
@@ -71,41 +75,43 @@ must_unless_after other = field (unless other) (after other)
 abbrev pub must_unless_beside : List ℕ → List ℕ → Shape → Field
 must_unless_beside other = field (unless other) (beside other)
 
-abbrev pub word_list_or : Words → Shape → Keys → Option Rule
-word_list_or w s ks = Some (record { words = w; items = Some s; keys_of = ks })
+abbrev pub scalar_list_or : ScalarSet → Shape → Keys → Option Rule
+scalar_list_or w s ks = Some (record { scalars = w; items = Some s; keys_of = ks })
 
-abbrev pub word_or : Words → Keys → Option Rule
-word_or w ks = Some (record { words = w; items = None; keys_of = ks })
+abbrev pub scalar_or : ScalarSet → Keys → Option Rule
+scalar_or w ks = Some (record { scalars = w; items = None; keys_of = ks })
 
-abbrev pub word_or_list : Words → Shape → Option Rule
-word_or_list w s = word_list_or w s no_keys
+abbrev pub scalar_or_list : ScalarSet → Shape → Option Rule
+scalar_or_list w s = scalar_list_or w s no_keys
 
-abbrev pub word : Words → Option Rule
-word w = word_or w no_keys
+abbrev pub scalar : ScalarSet → Option Rule
+scalar w = scalar_or w no_keys
 
 abbrev pub list_of : Shape → Option Rule
-list_of = word_or_list NoWord
+list_of = scalar_or_list NoScalar
 
 abbrev pub mapping : Keys → Option Rule
-mapping = word_or NoWord
+mapping = scalar_or NoScalar
 
 -- The table. None takes anything.
 abbrev pub rule : Shape → Option Rule
 rule Any = None
-rule Text = word AnyWord
-rule Flag = word Bools
-rule Number = word Numbers
-rule Texts = word_or_list AnyWord Text
+rule Text = scalar AnyScalar
+rule Flag = scalar Bools
+rule Number = scalar Numbers
+rule Texts = scalar_or_list AnyScalar Text
 rule TextList = list_of Text
 rule TextMap = mapping (free Text)
-rule TextOrMap = word_or AnyWord (free Text)
+rule TextOrMap = scalar_or AnyScalar (free Text)
 rule AnyMap = mapping (free Any)
-rule Env = word_or Chunks (free Text)
+rule Env = scalar_or Chunks (free Text)
 rule Workflow = mapping (keys wrong (
-    may (codes "name") Text ∷ may (codes "run-name") Text ∷ must (codes "on") On ∷ may (codes "permissions") TextOrMap ∷ may (codes "env") Env
+    may (codes "name") Text ∷ may (codes "run-name") Text ∷ must (codes "on") On ∷ may (codes "permissions") TextOrMap
+    ∷ may (codes "env") Env
     ∷ may (codes "defaults") Defaults ∷ may (codes "concurrency") Concurrency ∷ must (codes "jobs") Jobs ∷ []))
-rule On = word_list_or NotNull Text (keys events (
-    may (codes "schedule") Schedule ∷ may (codes "workflow_dispatch") Dispatch ∷ may (codes "workflow_call") Call ∷ may (codes "image_version") Any
+rule On = scalar_list_or NotNull Text (keys events (
+    may (codes "schedule") Schedule ∷ may (codes "workflow_dispatch") Dispatch ∷ may (codes "workflow_call") Call
+    ∷ may (codes "image_version") Any
     ∷ []))
 rule Schedule = list_of Cron
 rule Cron = mapping (keys wrong (
@@ -137,30 +143,33 @@ rule Defaults = mapping (keys wrong (
     may (codes "run") RunDefaults ∷ []))
 rule RunDefaults = mapping (keys wrong (
     may (codes "shell") Text ∷ may (codes "working-directory") Text ∷ []))
-rule Concurrency = word_or AnyWord (keys wrong (
+rule Concurrency = scalar_or AnyScalar (keys wrong (
     must (codes "group") Text ∷ may (codes "cancel-in-progress") Flag ∷ []))
 rule Jobs = mapping (free Job)
 rule Job = mapping (keys (wrong_beside (codes "uses")) (
     may (codes "name") Text ∷ may (codes "permissions") TextOrMap ∷ may (codes "needs") Texts ∷ may (codes "if") Text
     ∷ must_unless_beside (codes "uses") (codes "runs-on") RunsOn ∷ not_beside (codes "uses") (codes "environment") Any
-    ∷ may (codes "concurrency") Concurrency ∷ not_beside (codes "uses") (codes "outputs") TextMap ∷ not_beside (codes "uses") (codes "env") Env
+    ∷ may (codes "concurrency") Concurrency ∷ not_beside (codes "uses") (codes "outputs") TextMap
+    ∷ not_beside (codes "uses") (codes "env") Env
     ∷ not_beside (codes "uses") (codes "defaults") Defaults ∷ not_beside (codes "uses") (codes "steps") Steps
     ∷ not_beside (codes "uses") (codes "timeout-minutes") Number ∷ may (codes "strategy") Strategy
     ∷ not_beside (codes "uses") (codes "continue-on-error") Flag ∷ not_beside (codes "uses") (codes "container") Container
-    ∷ not_beside (codes "uses") (codes "services") Any ∷ may (codes "uses") Text ∷ may (codes "with") TextMap ∷ may (codes "secrets") TextOrMap
+    ∷ not_beside (codes "uses") (codes "services") Any ∷ may (codes "uses") Text ∷ may (codes "with") TextMap
+    ∷ may (codes "secrets") TextOrMap
     ∷ not_beside (codes "uses") (codes "snapshot") Any ∷ []))
-rule RunsOn = word_list_or AnyWord Text (keys wrong (
+rule RunsOn = scalar_list_or AnyScalar Text (keys wrong (
     may (codes "group") Text ∷ may (codes "labels") Texts ∷ []))
-rule Strategy = word_or Chunks (keys wrong (
+rule Strategy = scalar_or Chunks (keys wrong (
     may (codes "matrix") Any ∷ may (codes "fail-fast") Flag ∷ may (codes "max-parallel") Number ∷ []))
-rule Container = word_or AnyWord (keys wrong (
+rule Container = scalar_or AnyScalar (keys wrong (
     may (codes "image") Text ∷ may (codes "credentials") Any ∷ may (codes "env") Env ∷ may (codes "ports") Any ∷ may (codes "volumes") Any
     ∷ may (codes "options") Text ∷ []))
 rule Steps = list_of Step
 rule Step = mapping (keys wrong (
     may (codes "id") Text ∷ may (codes "if") Text ∷ may (codes "name") Text ∷ not_after (codes "run") (codes "uses") Text
     ∷ must_unless_after (codes "uses") (codes "run") Text ∷ may (codes "working-directory") Text ∷ may (codes "shell") Text
-    ∷ may (codes "with") TextMap ∷ may (codes "env") Env ∷ may (codes "continue-on-error") Flag ∷ may (codes "timeout-minutes") Number ∷ []))
+    ∷ may (codes "with") TextMap ∷ may (codes "env") Env ∷ may (codes "continue-on-error") Flag ∷ may (codes "timeout-minutes") Number
+    ∷ []))
 rule Action = mapping (keys wrong (
     must (codes "name") Text ∷ may (codes "author") Text ∷ must (codes "description") Text ∷ may (codes "inputs") AnyMap
     ∷ may (codes "outputs") AnyMap ∷ must (codes "runs") Runs ∷ may (codes "branding") Any ∷ []))
@@ -202,4 +211,4 @@ keys_view (rust.TheVariants.Free s) = free s
 keys_view (rust.TheVariants.These rows others) = keys (others_of others) (map field_of rows.now)
 
 abbrev pub rule_view : rust_rule.Rule → Rule
-rule_view r = record { words = r.words; items = r.items; keys_of = keys_view r.keys }
+rule_view r = record { scalars = r.scalars; items = r.items; keys_of = keys_view r.keys }

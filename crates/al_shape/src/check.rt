@@ -1,4 +1,5 @@
-ghost use Rattle.al_shape.specs.Faults.{beside_faults, entries_faults, entry_faults, faults, is_empty as empty, items_faults, keyed_faults, missing_fault, missing_faults, root_faults, standing_view, takes_null as null_taken};
+ghost use Rattle.al_shape.specs.Faults.{beside_faults, entries_faults, entry_faults, faults, is_empty as empty, items_faults, keyed_faults};
+ghost use Rattle.al_shape.specs.Faults.{missing_fault, missing_faults, root_faults, standing_view, takes_null as null_taken};
 ghost use Rattle.al_shape.specs.Growth.{BeginsWith, SameSet};
 ghost use Rattle.al_shape.specs.Keys.{holds, key_of as key_in, keys_in};
 ghost use Rattle.al_shape.specs.Names.{among};
@@ -8,7 +9,7 @@ ghost use Rattle.std.specs.Prelude.{◌≡◌, [], ◌++◌, false, map, option_
 
 use crate::keys::{KeySet, key_of, key_text};
 use crate::reports::{report, report_plain, report_two};
-use crate::scalars::{fault_of, is_null_scalar};
+use crate::scalars::{is_null_scalar, scalar_fault};
 use crate::standings::{Standing, is_needed, refine, standing_of, takes_null};
 use crate::table::{Keys, Row, Shape, rule_of};
 use al_scalar::Style;
@@ -101,7 +102,7 @@ fn check(
             }
             match rule_of(shape) {
                 None => Ok(()),
-                Some(rule) => match fault_of(rule.words, scalar) {
+                Some(rule) => match scalar_fault(rule.scalars, scalar) {
                     None => Ok(()),
                     Some(key) => report(alloc, out, key, node.span, above),
                 },
@@ -141,7 +142,8 @@ fn check_keyed(
     at: Span,
     out: &mut Vec<Fault>,
 ) -> Result<(), AllocError>
-    ensures ok { OnOk result (out.new.items ≡ out.old.items ++ keyed_faults (keys_view keys) above.now (among (keys_in (map entry_view entries.now))) at
+    ensures ok { OnOk result (out.new.items
+        ≡ out.old.items ++ keyed_faults (keys_view keys) above.now (among (keys_in (map entry_view entries.now))) at
         (λ ks. entries_faults ks [] (among (keys_in (map entry_view entries.now))) (entries_of (map entry_view entries.now)))) }
     ensures begins { BeginsWith out.new.items out.old.items }
 {
@@ -188,7 +190,8 @@ fn check_entries(
     all: &KeySet<'_>,
     out: &mut Vec<Fault>,
 ) -> Result<(), AllocError>
-    ensures ok { OnOk result (out.new.items ≡ out.old.items ++ entries_faults (keys_view keys) [] (holds all.now) (entries_of (map entry_view entries.now))) }
+    ensures ok { OnOk result (out.new.items
+        ≡ out.old.items ++ entries_faults (keys_view keys) [] (holds all.now) (entries_of (map entry_view entries.now))) }
     ensures begins { BeginsWith out.new.items out.old.items }
 {
     let mut seen = KeySet::new(alloc);
@@ -210,7 +213,9 @@ fn check_entry(
     entry: &Entry,
     out: &mut Vec<Fault>,
 ) -> Result<(), AllocError>
-    ensures ok { OnOk result (out.new.items ≡ out.old.items ++ entry_faults (standing_view standing) (entry_view entry.now).0 (λ s. faults s (null_taken s) (key_in (entry_view entry.now)) (entry_view entry.now).1)) }
+    ensures ok { OnOk result (out.new.items
+        ≡ out.old.items ++ entry_faults (standing_view standing) (entry_view entry.now).0
+        (λ s. faults s (null_taken s) (key_in (entry_view entry.now)) (entry_view entry.now).1)) }
     ensures begins { BeginsWith out.new.items out.old.items }
 {
     let key = key_of(entry);

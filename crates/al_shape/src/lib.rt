@@ -17,9 +17,9 @@ pub use check::shape_faults;
 pub use examples::rows;
 pub use keys::{KeySet, key_of, key_text};
 pub use names::{is_among, is_event};
-pub use scalars::{contains_chunk, fault_of, is_null_scalar};
+pub use scalars::{contains_chunk, is_null_scalar, scalar_fault};
 pub use standings::{Standing, refine, standing_of};
-pub use table::{Clash, Keys, Need, Others, Row, Rule, Shape, Words, rule_of};
+pub use table::{Clash, Keys, Need, Others, Row, Rule, ScalarSet, Shape, rule_of};
 pub use values::{
     Member, ScalarNode, items, items_under, key, members, text, text_under, texts, texts_under,
     value,

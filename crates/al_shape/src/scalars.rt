@@ -1,7 +1,8 @@
-ghost use Rattle.al_shape.specs.Faults.{has_chunk, is_bool_class, is_null, is_number_class, unless_taken, word_fault};
+ghost use Rattle.al_shape.specs.Faults.{has_chunk, is_bool_class, is_null, is_number_class, unless_taken};
+ghost use Rattle.al_shape.specs.Faults as faults;
 ghost use Rattle.std.specs.Prelude.{◌≡◌};
 
-use crate::table::Words;
+use crate::table::ScalarSet;
 use al_scalar::{Class, Scalar};
 use al_text::KeyCode;
 
@@ -48,21 +49,21 @@ fn unless(taken: bool, key: KeyCode) -> Option<KeyCode>
 }
 
 /// What is wrong with a scalar where these are taken.
-pub fn fault_of(words: Words, scalar: &Scalar) -> Option<KeyCode>
-    ensures { result ≡ word_fault words scalar.now }
+pub fn scalar_fault(scalars: ScalarSet, scalar: &Scalar) -> Option<KeyCode>
+    ensures { result ≡ faults.scalar_fault scalars scalar.now }
 {
-    match words {
-        Words::AnyWord => None,
-        Words::NoWord => Some(KeyCode::WrongKind),
-        Words::NotNull => unless(!is_null_scalar(scalar), KeyCode::WrongType),
-        Words::Bools => unless(
+    match scalars {
+        ScalarSet::AnyScalar => None,
+        ScalarSet::NoScalar => Some(KeyCode::WrongKind),
+        ScalarSet::NotNull => unless(!is_null_scalar(scalar), KeyCode::WrongType),
+        ScalarSet::Bools => unless(
             is_bool(scalar) || contains_chunk(scalar.text()),
             KeyCode::WrongType,
         ),
-        Words::Numbers => unless(
+        ScalarSet::Numbers => unless(
             is_number(scalar) || contains_chunk(scalar.text()),
             KeyCode::WrongType,
         ),
-        Words::Chunks => unless(contains_chunk(scalar.text()), KeyCode::WrongKind),
+        ScalarSet::Chunks => unless(contains_chunk(scalar.text()), KeyCode::WrongKind),
     }
 }

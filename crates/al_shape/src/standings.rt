@@ -1,4 +1,5 @@
-ghost use Rattle.al_shape.specs.Faults.{clash_with, event_shape as event, field_at, if_it, is_needed as needed, other_standing, refined, runs_of as runs, standing as stands, standing_view, takes_null as null_taken};
+ghost use Rattle.al_shape.specs.Faults.{clash_with, event_shape as event, field_at, if_it, is_needed as needed, other_standing, refined};
+ghost use Rattle.al_shape.specs.Faults.{runs_of as runs, standing as stands, standing_view, takes_null as null_taken};
 ghost use Rattle.al_shape.specs.Keys.{holds};
 ghost use Rattle.al_shape.specs.Table.{clash_of, field_of, keys_view, need_of, others_of};
 ghost use Rattle.al_yaml.specs.View.{entry_view};

@@ -54,9 +54,9 @@ pub enum Shape {
 
 /// Which scalars a shape takes.
 #[derive(Clone, Copy)]
-pub enum Words {
-    NoWord,
-    AnyWord,
+pub enum ScalarSet {
+    NoScalar,
+    AnyScalar,
     NotNull,
     Bools,
     Numbers,
@@ -106,7 +106,7 @@ pub enum Keys {
 
 #[derive(Clone, Copy)]
 pub struct Rule {
-    pub words: Words,
+    pub scalars: ScalarSet,
     pub items: Option<Shape>,
     pub keys: Keys,
 }
@@ -114,24 +114,24 @@ pub struct Rule {
 // What a shape takes: which scalars; of which shape the items of a sequence are; and of a mapping either any key, with values of
 // a shape, or the keys of a section and what all others are.
 macro_rules! rule {
-    ($words:ident) => {
-        rule!(@ $words, None, Keys::No)
+    ($scalars:ident) => {
+        rule!(@ $scalars, None, Keys::No)
     };
-    ($words:ident, items $item:ident) => {
-        rule!(@ $words, Some(Shape::$item), Keys::No)
+    ($scalars:ident, items $item:ident) => {
+        rule!(@ $scalars, Some(Shape::$item), Keys::No)
     };
-    ($words:ident, any key $value:ident) => {
-        rule!(@ $words, None, Keys::Free(Shape::$value))
+    ($scalars:ident, any key $value:ident) => {
+        rule!(@ $scalars, None, Keys::Free(Shape::$value))
     };
-    ($words:ident, keys $rows:ident, others $others:ident $(($beside:literal))?) => {
-        rule!(@ $words, None, Keys::These($rows, Others::$others $(($beside))?))
+    ($scalars:ident, keys $rows:ident, others $others:ident $(($beside:literal))?) => {
+        rule!(@ $scalars, None, Keys::These($rows, Others::$others $(($beside))?))
     };
-    ($words:ident, items $item:ident, keys $rows:ident, others $others:ident) => {
-        rule!(@ $words, Some(Shape::$item), Keys::These($rows, Others::$others))
+    ($scalars:ident, items $item:ident, keys $rows:ident, others $others:ident) => {
+        rule!(@ $scalars, Some(Shape::$item), Keys::These($rows, Others::$others))
     };
-    (@ $words:ident, $items:expr, $keys:expr) => {
+    (@ $scalars:ident, $items:expr, $keys:expr) => {
         Rule {
-            words: Words::$words,
+            scalars: ScalarSet::$scalars,
             items: $items,
             keys: $keys,
         }
@@ -144,44 +144,44 @@ pub fn rule_of(shape: Shape) -> Option<Rule>
 {
     Some(match shape {
         Shape::Any => return None,
-        Shape::Text => rule!(AnyWord),
+        Shape::Text => rule!(AnyScalar),
         Shape::Flag => rule!(Bools),
         Shape::Number => rule!(Numbers),
-        Shape::Texts => rule!(AnyWord, items Text),
-        Shape::TextList => rule!(NoWord, items Text),
-        Shape::TextMap => rule!(NoWord, any key Text),
-        Shape::TextOrMap => rule!(AnyWord, any key Text),
-        Shape::AnyMap => rule!(NoWord, any key Any),
+        Shape::Texts => rule!(AnyScalar, items Text),
+        Shape::TextList => rule!(NoScalar, items Text),
+        Shape::TextMap => rule!(NoScalar, any key Text),
+        Shape::TextOrMap => rule!(AnyScalar, any key Text),
+        Shape::AnyMap => rule!(NoScalar, any key Any),
         Shape::Env => rule!(Chunks, any key Text),
-        Shape::Workflow => rule!(NoWord, keys WORKFLOW, others Wrong),
+        Shape::Workflow => rule!(NoScalar, keys WORKFLOW, others Wrong),
         Shape::On => rule!(NotNull, items Text, keys ON, others Events),
-        Shape::Schedule => rule!(NoWord, items Cron),
-        Shape::Cron => rule!(NoWord, keys CRON, others Wrong),
-        Shape::Dispatch => rule!(NoWord, keys DISPATCH, others Wrong),
-        Shape::DispatchInputs => rule!(NoWord, any key DispatchInput),
-        Shape::DispatchInput => rule!(NoWord, keys DISPATCH_INPUT, others Wrong),
-        Shape::Call => rule!(NoWord, keys CALL, others Wrong),
-        Shape::CallInputs => rule!(NoWord, any key CallInput),
-        Shape::CallInput => rule!(NoWord, keys CALL_INPUT, others Wrong),
-        Shape::CallSecrets => rule!(NoWord, any key CallSecret),
-        Shape::CallSecret => rule!(NoWord, keys CALL_SECRET, others Wrong),
-        Shape::CallOutputs => rule!(NoWord, any key CallOutput),
-        Shape::CallOutput => rule!(NoWord, keys CALL_OUTPUT, others Wrong),
-        Shape::Event => rule!(NoWord, keys EVENT, others Wrong),
-        Shape::Defaults => rule!(NoWord, keys DEFAULTS, others Wrong),
-        Shape::RunDefaults => rule!(NoWord, keys RUN_DEFAULTS, others Wrong),
-        Shape::Concurrency => rule!(AnyWord, keys CONCURRENCY, others Wrong),
-        Shape::Jobs => rule!(NoWord, any key Job),
-        Shape::Job => rule!(NoWord, keys JOB, others WrongBeside("uses")),
-        Shape::RunsOn => rule!(AnyWord, items Text, keys RUNS_ON, others Wrong),
+        Shape::Schedule => rule!(NoScalar, items Cron),
+        Shape::Cron => rule!(NoScalar, keys CRON, others Wrong),
+        Shape::Dispatch => rule!(NoScalar, keys DISPATCH, others Wrong),
+        Shape::DispatchInputs => rule!(NoScalar, any key DispatchInput),
+        Shape::DispatchInput => rule!(NoScalar, keys DISPATCH_INPUT, others Wrong),
+        Shape::Call => rule!(NoScalar, keys CALL, others Wrong),
+        Shape::CallInputs => rule!(NoScalar, any key CallInput),
+        Shape::CallInput => rule!(NoScalar, keys CALL_INPUT, others Wrong),
+        Shape::CallSecrets => rule!(NoScalar, any key CallSecret),
+        Shape::CallSecret => rule!(NoScalar, keys CALL_SECRET, others Wrong),
+        Shape::CallOutputs => rule!(NoScalar, any key CallOutput),
+        Shape::CallOutput => rule!(NoScalar, keys CALL_OUTPUT, others Wrong),
+        Shape::Event => rule!(NoScalar, keys EVENT, others Wrong),
+        Shape::Defaults => rule!(NoScalar, keys DEFAULTS, others Wrong),
+        Shape::RunDefaults => rule!(NoScalar, keys RUN_DEFAULTS, others Wrong),
+        Shape::Concurrency => rule!(AnyScalar, keys CONCURRENCY, others Wrong),
+        Shape::Jobs => rule!(NoScalar, any key Job),
+        Shape::Job => rule!(NoScalar, keys JOB, others WrongBeside("uses")),
+        Shape::RunsOn => rule!(AnyScalar, items Text, keys RUNS_ON, others Wrong),
         Shape::Strategy => rule!(Chunks, keys STRATEGY, others Wrong),
-        Shape::Container => rule!(AnyWord, keys CONTAINER, others Wrong),
-        Shape::Steps => rule!(NoWord, items Step),
-        Shape::Step => rule!(NoWord, keys STEP, others Wrong),
-        Shape::Action => rule!(NoWord, keys ACTION, others Wrong),
-        Shape::Runs => rule!(NoWord, keys RUNS, others Unchecked),
-        Shape::NodeRuns => rule!(NoWord, keys NODE_RUNS, others Wrong),
-        Shape::CompositeRuns => rule!(NoWord, keys COMPOSITE_RUNS, others Wrong),
-        Shape::DockerRuns => rule!(NoWord, keys DOCKER_RUNS, others Wrong),
+        Shape::Container => rule!(AnyScalar, keys CONTAINER, others Wrong),
+        Shape::Steps => rule!(NoScalar, items Step),
+        Shape::Step => rule!(NoScalar, keys STEP, others Wrong),
+        Shape::Action => rule!(NoScalar, keys ACTION, others Wrong),
+        Shape::Runs => rule!(NoScalar, keys RUNS, others Unchecked),
+        Shape::NodeRuns => rule!(NoScalar, keys NODE_RUNS, others Wrong),
+        Shape::CompositeRuns => rule!(NoScalar, keys COMPOSITE_RUNS, others Wrong),
+        Shape::DockerRuns => rule!(NoScalar, keys DOCKER_RUNS, others Wrong),
     })
 }

@@ -1,4 +1,5 @@
-ghost use Rattle.al_shape.specs.Values.{entries_in, firsts, items_at, items_in, key_at, member_of, text_at, text_in, texts_at, texts_in, unless_null, value_at, scalar_node_of};
+ghost use Rattle.al_shape.specs.Values.{entries_in, firsts, items_at, items_in, key_at, member_of, text_at, text_in, texts_at, texts_in};
+ghost use Rattle.al_shape.specs.Values.{unless_null, value_at, scalar_node_of};
 ghost use Rattle.al_yaml.specs.View.{entry_view, view};
 ghost use Rattle.std.specs.List.{filter_map};
 ghost use Rattle.std.specs.Option.{option_copied, option_to_list};

@@ -1,5 +1,5 @@
 -- Lemmas on what writes append, piece by piece.
-use Rattle.std.proofs.lemmas.List.{take_more, take-append-drop}
+use Rattle.std.proofs.lemmas.List.{take_more, take-append-drop, take_rest}
 use Rattle.std.proofs.lemmas.Grind.{flat_map-append}
 use Rattle.std.proofs.lemmas.List.Concat.{flat_map_single}
 use Rattle.std.specs.List.{flat_map}
@@ -12,13 +12,10 @@ use Rattle.std.proofs.KnownBytes.{Appends-trans}
 use Rattle.std.specs.Io.KnownBytes.{Keeps}
 use Rattle.al_text.specs.Counted.{AppendsFront}
 
-pub take_rest : (xs : List ℕ) (k n : ℕ) → take n (take (length xs - k) (drop k xs)) ≡ take n (drop k xs)
-take_rest xs k n = let e : take (length xs - k) (drop k xs) ≡ drop k xs = search (rules, common_steps) in ap (take n) e
-
 -- the front of length k, and then n of what is left
 pub Appends-more : (a b c : Option (List ℕ)) (xs : List ℕ) (k n : ℕ) → Appends a b (take k xs) → Appends b c (take n (take (length xs - k) (drop k xs))) → Appends a c (take (k + n) xs)
 Appends-more a b c xs k n p q =
-    let more : Appends b c (take n (drop k xs)) = subst (Appends b c) (take_rest xs k n) q in
+    let more : Appends b c (take n (drop k xs)) = subst (Appends b c) (ap (take n) (take_rest xs k)) q in
     subst (Appends a c) (sym (take-add k n xs)) (Appends-trans a b c (take k xs) (take n (drop k xs)) p more)
 
 pub AppendsFront-none : (a b : Option (List ℕ)) (xs : List ℕ) → Keeps a b → AppendsFront a b xs

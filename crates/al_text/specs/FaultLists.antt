@@ -7,17 +7,29 @@ use Rattle.al_text.specs.InOrder.{in_order}
 use Rattle.al_text.specs.declared.codes.Code.{Code}
 use Rattle.al_text.specs.declared.codes.Code.TheVariants as C
 use Rattle.al_text.specs.declared.codes.YamlCode.{YamlCode}
-use Rattle.al_text.specs.declared.codes.YamlCode.TheVariants.{NotUtf8, ControlCharacter, TabInIndentation, WrongIndentation, UnclosedQuote, UnclosedFlow, AnchorOrAlias, Tag, ExplicitKey, Directive, SecondDocument, WrongEscape, UnexpectedCharacter, NestingTooDeep, TooManyNodes, WrongBlockHeader, WrongKey, UnknownAlias}
+use Rattle.al_text.specs.declared.codes.YamlCode.TheVariants.{NotUtf8, ControlCharacter, TabInIndentation, WrongIndentation, UnclosedQuote}
+use Rattle.al_text.specs.declared.codes.YamlCode.TheVariants.{UnclosedFlow, AnchorOrAlias, Tag, ExplicitKey, Directive, SecondDocument}
+use Rattle.al_text.specs.declared.codes.YamlCode.TheVariants.{WrongEscape, UnexpectedCharacter, NestingTooDeep, TooManyNodes}
+use Rattle.al_text.specs.declared.codes.YamlCode.TheVariants.{WrongBlockHeader, WrongKey, UnknownAlias}
 use Rattle.al_text.specs.declared.codes.KeyCode.{KeyCode}
 use Rattle.al_text.specs.declared.codes.KeyCode.TheVariants.{Unexpected, Missing, Repeated, WrongKind, WrongType, NotBeside, EmptyFile}
 use Rattle.al_text.specs.declared.codes.RuleCode.{RuleCode}
-use Rattle.al_text.specs.declared.codes.RuleCode.TheVariants.{UnknownEvent, UnknownActivity, WrongPattern, WrongSchedule, ScheduleTooOften, WrongId, RepeatedId, UndefinedJob, NeedsCycle, WrongMatrix, UnknownMatrixRow, UnknownShell, UnknownPermission, WrongPermission, WrongVariable, PasswordNotExpression, DeprecatedCommand, AlwaysTrue, UnknownInputType, UnknownUsing, MissingShell, MissingOutputValue}
+use Rattle.al_text.specs.declared.codes.RuleCode.TheVariants.{UnknownEvent, UnknownActivity, WrongPattern, WrongSchedule, ScheduleTooOften}
+use Rattle.al_text.specs.declared.codes.RuleCode.TheVariants.{WrongId, RepeatedId, UndefinedJob, NeedsCycle, WrongMatrix, UnknownMatrixRow}
+use Rattle.al_text.specs.declared.codes.RuleCode.TheVariants.{UnknownShell, UnknownPermission, WrongPermission, WrongVariable}
+use Rattle.al_text.specs.declared.codes.RuleCode.TheVariants.{PasswordNotExpression, DeprecatedCommand, AlwaysTrue, UnknownInputType}
+use Rattle.al_text.specs.declared.codes.RuleCode.TheVariants.{UnknownUsing, MissingShell, MissingOutputValue}
 use Rattle.al_text.specs.declared.codes.CallCode.{CallCode}
-use Rattle.al_text.specs.declared.codes.CallCode.TheVariants.{NoWorkflow, UndefinedInput, MissingInput, WrongInput, UndefinedSecret, MissingSecret, WrongUses, NotCallable, LeadsBack}
+use Rattle.al_text.specs.declared.codes.CallCode.TheVariants.{NoWorkflow, UndefinedInput, MissingInput, WrongInput, UndefinedSecret}
+use Rattle.al_text.specs.declared.codes.CallCode.TheVariants.{MissingSecret, WrongUses, NotCallable, LeadsBack}
 use Rattle.al_text.specs.declared.codes.Caller.{Caller}
 use Rattle.al_text.specs.declared.codes.Caller.TheVariants as caller
 use Rattle.al_text.specs.declared.codes.ExpressionCode.{ExpressionCode}
-use Rattle.al_text.specs.declared.codes.ExpressionCode.TheVariants.{BadCharacter, UnclosedText, UnexpectedToken, EndsEarly, TooLong, TooDeep, UndefinedContext, UnavailableContext, UndefinedFunction, UnavailableFunction, ArgumentCount, ArgumentType, UndefinedProperty, NotIndexable, NotComparable, WrongPlaceholder, UnusedArgument, NotText, Untrusted, UnclosedChunk}
+use Rattle.al_text.specs.declared.codes.ExpressionCode.TheVariants.{BadCharacter, UnclosedText, UnexpectedToken, EndsEarly, TooLong}
+use Rattle.al_text.specs.declared.codes.ExpressionCode.TheVariants.{TooDeep, UndefinedContext, UnavailableContext, UndefinedFunction}
+use Rattle.al_text.specs.declared.codes.ExpressionCode.TheVariants.{UnavailableFunction, ArgumentCount, ArgumentType, UndefinedProperty}
+use Rattle.al_text.specs.declared.codes.ExpressionCode.TheVariants.{NotIndexable, NotComparable, WrongPlaceholder, UnusedArgument, NotText}
+use Rattle.al_text.specs.declared.codes.ExpressionCode.TheVariants.{Untrusted, UnclosedChunk}
 use Rattle.al_text.specs.declared.faults.Fault.{Fault}
 
 -- where a code stands among those of its kind

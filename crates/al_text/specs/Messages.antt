@@ -1,20 +1,33 @@
 -- What a report prints of one fault: PATH:LINE:COL: MESSAGE [KIND], and the table of messages.
-use Rattle.std.specs.Prelude.{ℕ, ◌+◌, Bool, ◌||◌, ◌==◌, nat_lt, List, [], ◌∷◌, ◌++◌, map, codes, decimal, slice_get, Option, None, Some, unwrap_or, if◌then◌else◌}
+use Rattle.std.specs.Prelude.{ℕ, ◌+◌, Bool, ◌||◌, ◌==◌, nat_lt, List, [], ◌∷◌, ◌++◌, map, codes, decimal, slice_get, Option, None, Some}
+use Rattle.std.specs.Prelude.{unwrap_or, if◌then◌else◌}
 use Rattle.al_text.specs.Positions.{line_at, column_at}
 use Rattle.al_text.specs.declared.codes.Code.{Code}
 use Rattle.al_text.specs.declared.codes.Code.TheVariants as C
 use Rattle.al_text.specs.declared.codes.YamlCode.{YamlCode}
-use Rattle.al_text.specs.declared.codes.YamlCode.TheVariants.{NotUtf8, ControlCharacter, TabInIndentation, WrongIndentation, UnclosedQuote, UnclosedFlow, AnchorOrAlias, Tag, ExplicitKey, Directive, SecondDocument, WrongEscape, UnexpectedCharacter, NestingTooDeep, TooManyNodes, WrongBlockHeader, WrongKey, UnknownAlias}
+use Rattle.al_text.specs.declared.codes.YamlCode.TheVariants.{NotUtf8, ControlCharacter, TabInIndentation, WrongIndentation, UnclosedQuote}
+use Rattle.al_text.specs.declared.codes.YamlCode.TheVariants.{UnclosedFlow, AnchorOrAlias, Tag, ExplicitKey, Directive, SecondDocument}
+use Rattle.al_text.specs.declared.codes.YamlCode.TheVariants.{WrongEscape, UnexpectedCharacter, NestingTooDeep, TooManyNodes}
+use Rattle.al_text.specs.declared.codes.YamlCode.TheVariants.{WrongBlockHeader, WrongKey, UnknownAlias}
 use Rattle.al_text.specs.declared.codes.KeyCode.{KeyCode}
 use Rattle.al_text.specs.declared.codes.KeyCode.TheVariants.{Unexpected, Missing, Repeated, WrongKind, WrongType, NotBeside, EmptyFile}
 use Rattle.al_text.specs.declared.codes.RuleCode.{RuleCode}
-use Rattle.al_text.specs.declared.codes.RuleCode.TheVariants.{UnknownEvent, UnknownActivity, WrongPattern, WrongSchedule, ScheduleTooOften, WrongId, RepeatedId, UndefinedJob, NeedsCycle, WrongMatrix, UnknownMatrixRow, UnknownShell, UnknownPermission, WrongPermission, WrongVariable, PasswordNotExpression, DeprecatedCommand, AlwaysTrue, UnknownInputType, UnknownUsing, MissingShell, MissingOutputValue}
+use Rattle.al_text.specs.declared.codes.RuleCode.TheVariants.{UnknownEvent, UnknownActivity, WrongPattern, WrongSchedule, ScheduleTooOften}
+use Rattle.al_text.specs.declared.codes.RuleCode.TheVariants.{WrongId, RepeatedId, UndefinedJob, NeedsCycle, WrongMatrix, UnknownMatrixRow}
+use Rattle.al_text.specs.declared.codes.RuleCode.TheVariants.{UnknownShell, UnknownPermission, WrongPermission, WrongVariable}
+use Rattle.al_text.specs.declared.codes.RuleCode.TheVariants.{PasswordNotExpression, DeprecatedCommand, AlwaysTrue, UnknownInputType}
+use Rattle.al_text.specs.declared.codes.RuleCode.TheVariants.{UnknownUsing, MissingShell, MissingOutputValue}
 use Rattle.al_text.specs.declared.codes.CallCode.{CallCode}
-use Rattle.al_text.specs.declared.codes.CallCode.TheVariants.{NoWorkflow, UndefinedInput, MissingInput, WrongInput, UndefinedSecret, MissingSecret, WrongUses, NotCallable, LeadsBack}
+use Rattle.al_text.specs.declared.codes.CallCode.TheVariants.{NoWorkflow, UndefinedInput, MissingInput, WrongInput, UndefinedSecret}
+use Rattle.al_text.specs.declared.codes.CallCode.TheVariants.{MissingSecret, WrongUses, NotCallable, LeadsBack}
 use Rattle.al_text.specs.declared.codes.Caller.{Caller}
 use Rattle.al_text.specs.declared.codes.Caller.TheVariants as caller
 use Rattle.al_text.specs.declared.codes.ExpressionCode.{ExpressionCode}
-use Rattle.al_text.specs.declared.codes.ExpressionCode.TheVariants.{BadCharacter, UnclosedText, UnexpectedToken, EndsEarly, TooLong, TooDeep, UndefinedContext, UnavailableContext, UndefinedFunction, UnavailableFunction, ArgumentCount, ArgumentType, UndefinedProperty, NotIndexable, NotComparable, WrongPlaceholder, UnusedArgument, NotText, Untrusted, UnclosedChunk}
+use Rattle.al_text.specs.declared.codes.ExpressionCode.TheVariants.{BadCharacter, UnclosedText, UnexpectedToken, EndsEarly, TooLong}
+use Rattle.al_text.specs.declared.codes.ExpressionCode.TheVariants.{TooDeep, UndefinedContext, UnavailableContext, UndefinedFunction}
+use Rattle.al_text.specs.declared.codes.ExpressionCode.TheVariants.{UnavailableFunction, ArgumentCount, ArgumentType, UndefinedProperty}
+use Rattle.al_text.specs.declared.codes.ExpressionCode.TheVariants.{NotIndexable, NotComparable, WrongPlaceholder, UnusedArgument, NotText}
+use Rattle.al_text.specs.declared.codes.ExpressionCode.TheVariants.{Untrusted, UnclosedChunk}
 use Rattle.al_text.specs.declared.faults.Fault.{Fault}
 
 -- a message's words, before, between and after its arguments
@@ -158,16 +171,20 @@ rule_kind MissingShell = codes "action"
 rule_kind MissingOutputValue = codes "action"
 
 -- the kind that a report names
-abbrev pub kind_of : Code → List ℕ
-kind_of (C.Yaml fault) = codes "syntax-check"
-kind_of (C.Key fault) = codes "syntax-check"
-kind_of (C.Rule fault) = rule_kind fault
-kind_of (C.Expression fault) = codes "expression"
-kind_of (C.Call fault by) = call_kind by
+abbrev pub fault_kind : Code → List ℕ
+fault_kind (C.Yaml fault) = codes "syntax-check"
+fault_kind (C.Key fault) = codes "syntax-check"
+fault_kind (C.Rule fault) = rule_kind fault
+fault_kind (C.Expression fault) = codes "expression"
+fault_kind (C.Call fault by) = call_kind by
+
+-- a control byte of ASCII
+abbrev pub is_control : ℕ → Bool
+is_control b = nat_lt b 32 || b == 127
 
 -- a byte of an argument as it is printed
 abbrev pub shown_byte : ℕ → ℕ
-shown_byte b = if nat_lt b 32 || b == 127 then 63 else b
+shown_byte b = if is_control b then 63 else b
 
 abbrev pub shown : List ℕ → List ℕ
 shown text = map shown_byte text
@@ -181,5 +198,6 @@ message code args = let w = wording code in w.head ++ argument args 0 ++ w.middl
 
 -- PATH:LINE:COL: MESSAGE [KIND]
 abbrev pub fault_line : List ℕ → List ℕ → Fault → List ℕ
-fault_line path bytes fault = path ++ codes ":" ++ decimal (line_at bytes fault.span.start) ++ codes ":" ++ decimal (column_at bytes fault.span.start) ++ codes ": "
-    ++ message fault.code fault.args ++ (codes " [" ++ kind_of fault.code ++ codes "]\n")
+fault_line path bytes fault =
+    path ++ codes ":" ++ decimal (line_at bytes fault.span.start) ++ codes ":" ++ decimal (column_at bytes fault.span.start) ++ codes ": "
+    ++ message fault.code fault.args ++ (codes " [" ++ fault_kind fault.code ++ codes "]\n")

@@ -1,3 +1,5 @@
+//! The codes of faults, in the order of reports.
+
 /// What reading a file as YAML can find wrong (YAML 1.2.2, in the profile that `docs/` describes).
 #[derive(Clone, Copy, PartialEq, Eq, PartialOrd, Ord, Debug)]
 pub enum YamlCode {

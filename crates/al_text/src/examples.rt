@@ -1,3 +1,4 @@
+//! Worked lists of faults and worked snippets, computed by the definitions.
 ghost use Rattle.std.specs.Prelude.{◌≡◌, ◌+◌, ◌++◌, ℕ, List, [], ◌∷◌, false, true, length, codes};
 ghost use Rattle.al_text.specs.FaultLists.{fault_list};
 ghost use Rattle.al_text.specs.Rows.{at, span_of};
@@ -14,20 +15,29 @@ ghost use Rattle.al_text.specs.declared.codes.ExpressionCode.TheVariants.{BadCha
 /// The lists of some small sets of faults, as the definitions give them. Does nothing.
 pub fn rows()
     // one of three is given twice
-    ensures repeated { fault_list (at 9 12 (code.Key Repeated) (codes "on" ∷ []) ∷ at 0 3 (code.Key Unexpected) (codes "oh" ∷ []) ∷ at 9 12 (code.Key Repeated) (codes "on" ∷ []) ∷ [])
+    ensures repeated { fault_list (at 9 12 (code.Key Repeated) (codes "on" ∷ []) ∷ at 0 3 (code.Key Unexpected) (codes "oh" ∷ [])
+        ∷ at 9 12 (code.Key Repeated) (codes "on" ∷ []) ∷ [])
         ≡ at 0 3 (code.Key Unexpected) (codes "oh" ∷ []) ∷ at 9 12 (code.Key Repeated) (codes "on" ∷ []) ∷ [] }
     // the start before the end
     ensures starts { fault_list (at 5 6 (code.Key Unexpected) [] ∷ at 4 9 (code.Key Unexpected) [] ∷ at 4 8 (code.Key Unexpected) [] ∷ [])
         ≡ at 4 8 (code.Key Unexpected) [] ∷ at 4 9 (code.Key Unexpected) [] ∷ at 5 6 (code.Key Unexpected) [] ∷ [] }
     // by code: kind by kind, and in a kind by number
-    ensures kinds { fault_list (at 0 1 (code.Expression BadCharacter) [] ∷ at 0 1 (code.Rule UnknownEvent) [] ∷ at 0 1 (code.Key Unexpected) [] ∷ at 0 1 (code.Yaml WrongKey) [] ∷ [])
-        ≡ at 0 1 (code.Yaml WrongKey) [] ∷ at 0 1 (code.Key Unexpected) [] ∷ at 0 1 (code.Rule UnknownEvent) [] ∷ at 0 1 (code.Expression BadCharacter) [] ∷ [] }
-    ensures codes_of_yaml { fault_list (at 0 1 (code.Yaml WrongKey) [] ∷ at 0 1 (code.Yaml UnclosedQuote) [] ∷ []) ≡ at 0 1 (code.Yaml UnclosedQuote) [] ∷ at 0 1 (code.Yaml WrongKey) [] ∷ [] }
-    ensures codes_of_rules { fault_list (at 0 1 (code.Rule MissingOutputValue) [] ∷ at 0 1 (code.Rule UnknownEvent) [] ∷ []) ≡ at 0 1 (code.Rule UnknownEvent) [] ∷ at 0 1 (code.Rule MissingOutputValue) [] ∷ [] }
-    ensures codes_of_expressions { fault_list (at 0 1 (code.Expression UnclosedChunk) [] ∷ at 0 1 (code.Expression BadCharacter) [] ∷ []) ≡ at 0 1 (code.Expression BadCharacter) [] ∷ at 0 1 (code.Expression UnclosedChunk) [] ∷ [] }
-    ensures calls_last { fault_list (at 0 1 (code.Call UndefinedInput Job) [] ∷ at 0 1 (code.Expression UnclosedChunk) [] ∷ []) ≡ at 0 1 (code.Expression UnclosedChunk) [] ∷ at 0 1 (code.Call UndefinedInput Job) [] ∷ [] }
-    ensures codes_of_calls { fault_list (at 0 1 (code.Call NotCallable Job) [] ∷ at 0 1 (code.Call UndefinedInput Step) [] ∷ at 0 1 (code.Call UndefinedInput Job) [] ∷ [])
-        ≡ at 0 1 (code.Call UndefinedInput Job) [] ∷ at 0 1 (code.Call UndefinedInput Step) [] ∷ at 0 1 (code.Call NotCallable Job) [] ∷ [] }
+    ensures kinds { fault_list (at 0 1 (code.Expression BadCharacter) [] ∷ at 0 1 (code.Rule UnknownEvent) []
+        ∷ at 0 1 (code.Key Unexpected) [] ∷ at 0 1 (code.Yaml WrongKey) [] ∷ [])
+        ≡ at 0 1 (code.Yaml WrongKey) [] ∷ at 0 1 (code.Key Unexpected) [] ∷ at 0 1 (code.Rule UnknownEvent) []
+        ∷ at 0 1 (code.Expression BadCharacter) [] ∷ [] }
+    ensures codes_of_yaml { fault_list (at 0 1 (code.Yaml WrongKey) [] ∷ at 0 1 (code.Yaml UnclosedQuote) [] ∷ [])
+        ≡ at 0 1 (code.Yaml UnclosedQuote) [] ∷ at 0 1 (code.Yaml WrongKey) [] ∷ [] }
+    ensures codes_of_rules { fault_list (at 0 1 (code.Rule MissingOutputValue) [] ∷ at 0 1 (code.Rule UnknownEvent) [] ∷ [])
+        ≡ at 0 1 (code.Rule UnknownEvent) [] ∷ at 0 1 (code.Rule MissingOutputValue) [] ∷ [] }
+    ensures codes_of_expressions { fault_list (at 0 1 (code.Expression UnclosedChunk) [] ∷ at 0 1 (code.Expression BadCharacter) [] ∷ [])
+        ≡ at 0 1 (code.Expression BadCharacter) [] ∷ at 0 1 (code.Expression UnclosedChunk) [] ∷ [] }
+    ensures calls_last { fault_list (at 0 1 (code.Call UndefinedInput Job) [] ∷ at 0 1 (code.Expression UnclosedChunk) [] ∷ [])
+        ≡ at 0 1 (code.Expression UnclosedChunk) [] ∷ at 0 1 (code.Call UndefinedInput Job) [] ∷ [] }
+    ensures codes_of_calls { fault_list (at 0 1 (code.Call NotCallable Job) [] ∷ at 0 1 (code.Call UndefinedInput Step) []
+        ∷ at 0 1 (code.Call UndefinedInput Job) [] ∷ [])
+        ≡ at 0 1 (code.Call UndefinedInput Job) [] ∷ at 0 1 (code.Call UndefinedInput Step) []
+        ∷ at 0 1 (code.Call NotCallable Job) [] ∷ [] }
     // the same code at the same place: by the arguments
     ensures arguments { fault_list (at 0 0 (code.Key Missing) (codes "on" ∷ []) ∷ at 0 0 (code.Key Missing) (codes "jobs" ∷ []) ∷ [])
         ≡ at 0 0 (code.Key Missing) (codes "jobs" ∷ []) ∷ at 0 0 (code.Key Missing) (codes "on" ∷ []) ∷ [] }
@@ -42,10 +52,14 @@ pub fn snippet_rows()
     ensures oneline { fault_text true (codes "a.yml") [] (at 0 0 (code.Key EmptyFile) [])
         ≡ codes "a.yml:1:1: file is empty [syntax-check]\n" }
     // a span of four characters on the last line
-    ensures property { fault_text false (codes "a.yml") (codes "on: push\njobs:\n  a:\n    runs-on: ubuntu-latest\n    steps:\n      - run: echo ${{ github.reff }}\n") (at 87 91 (code.Expression UndefinedProperty) (codes "reff" ∷ []))
-        ≡ codes "a.yml:6:30: property \"reff\" is not defined [expression]\n  |\n6 |       - run: echo ${{ github.reff }}\n  |                              ^~~~\n" }
+    ensures property { fault_text false (codes "a.yml")
+        (codes "on: push\njobs:\n  a:\n    runs-on: ubuntu-latest\n    steps:\n      - run: echo ${{ github.reff }}\n")
+        (at 87 91 (code.Expression UndefinedProperty) (codes "reff" ∷ []))
+        ≡ codes "a.yml:6:30: property \"reff\" is not defined [expression]\n  |\n"
+        ++ codes "6 |       - run: echo ${{ github.reff }}\n  |                              ^~~~\n" }
     // a property behind an escaped break of a quoted scalar
-    ensures escaped { snippet (codes "on: push\njobs:\n  a:\n    runs-on: ubuntu-latest\n    steps:\n      - run: \"\\u00e9 \\\n          echo ${{ github.reff }}\"\n") (span_of 107 111)
+    ensures escaped { snippet (codes "on: push\njobs:\n  a:\n    runs-on: ubuntu-latest\n    steps:\n"
+        ++ codes "      - run: \"\\u00e9 \\\n          echo ${{ github.reff }}\"\n") (span_of 107 111)
         ≡ codes "  |\n7 |           echo ${{ github.reff }}\"\n  |                           ^~~~\n" }
     // a span that goes on behind its line's break marks that line alone
     ensures lines { snippet (97 ∷ 13 ∷ 98 ∷ 99 ∷ 13 ∷ 10 ∷ 100 ∷ []) (span_of 2 7) ≡ codes "  |\n2 | bc\n  | ^~\n" }
@@ -57,10 +71,13 @@ pub fn snippet_rows()
     ensures nothing { snippet (codes "abc") (span_of 1 1) ≡ codes "  |\n1 | abc\n  |  ^\n" }
     // a tab for a tab, one mark for a character of two bytes, and one for a byte order mark
     ensures tab { snippet (9 ∷ 98 ∷ []) (span_of 1 2) ≡ codes "  |\n1 | " ++ 9 ∷ 98 ∷ 10 ∷ codes "  | " ++ 9 ∷ 94 ∷ 10 ∷ [] }
-    ensures characters { snippet (195 ∷ 169 ∷ 195 ∷ 169 ∷ 195 ∷ 169 ∷ []) (span_of 2 6) ≡ codes "  |\n1 | " ++ 195 ∷ 169 ∷ 195 ∷ 169 ∷ 195 ∷ 169 ∷ 10 ∷ codes "  |  ^~\n" }
-    ensures byte_order_mark { snippet (239 ∷ 187 ∷ 191 ∷ 97 ∷ []) (span_of 3 4) ≡ codes "  |\n1 | " ++ 239 ∷ 187 ∷ 191 ∷ 97 ∷ 10 ∷ codes "  |  ^\n" }
+    ensures characters { snippet (195 ∷ 169 ∷ 195 ∷ 169 ∷ 195 ∷ 169 ∷ []) (span_of 2 6)
+        ≡ codes "  |\n1 | " ++ 195 ∷ 169 ∷ 195 ∷ 169 ∷ 195 ∷ 169 ∷ 10 ∷ codes "  |  ^~\n" }
+    ensures byte_order_mark { snippet (239 ∷ 187 ∷ 191 ∷ 97 ∷ []) (span_of 3 4)
+        ≡ codes "  |\n1 | " ++ 239 ∷ 187 ∷ 191 ∷ 97 ∷ 10 ∷ codes "  |  ^\n" }
     // the bars stand one below another under a number of two digits
     ensures digits { snippet (codes "\n\n\n\n\n\n\n\n\nx") (span_of 9 10) ≡ codes "   |\n10 | x\n   | ^\n" }
     // the `^` stands in the column
-    ensures column { (bytes : List ℕ) (offset : ℕ) → column_at bytes offset ≡ 1 + length (chars_before bytes (line_at bytes offset) offset) }
+    ensures column { (bytes : List ℕ) (offset : ℕ) → column_at bytes offset
+        ≡ 1 + length (chars_before bytes (line_at bytes offset) offset) }
 {}

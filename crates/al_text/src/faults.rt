@@ -1,3 +1,4 @@
+//! A fault: its span, its code and the texts that its message names; the order of reports.
 ghost use Rattle.std.specs.Prelude.{◌≡◌, map, string_bytes};
 
 use crate::codes::Code;

@@ -1,3 +1,4 @@
+//! A file's faults as a report lists them, and the laws of such lists.
 ghost use Rattle.std.specs.Prelude.{◌≡◌};
 ghost use Rattle.al_text.specs.FaultLists.{fault_list};
 ghost use Rattle.al_text.specs.FaultLaws.{OrderTells, ListIsSorted, ListHasEachOnce, ListKeepsFaults, OneListForSameFaults};

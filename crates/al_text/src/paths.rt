@@ -1,3 +1,4 @@
+//! The paths of a folder's files.
 ghost use Rattle.std.specs.Prelude.{◌≡◌, OnOk, IfOk, IfErr, None, unwrap_or};
 ghost use Rattle.std.specs.List.{list_any};
 ghost use Rattle.al_text.specs.Paths.{path_fault_of, bad_part, is_bad_byte, parts};

@@ -1,11 +1,13 @@
+//! The table of messages: the wording and the kind of each code.
 ghost use Rattle.std.specs.Prelude.{◌≡◌, []};
-ghost use Rattle.al_text.specs.Messages.{wording, yaml_wording, key_wording, rule_wording, expression_wording, call_wording, kind_of, rule_kind, call_kind};
+ghost use Rattle.al_text.specs.Messages.{wording, yaml_wording, key_wording, rule_wording, expression_wording, call_wording, fault_kind};
+ghost use Rattle.al_text.specs.Messages.{rule_kind, call_kind};
 
 use crate::codes::{CallCode, Caller, Code, ExpressionCode, KeyCode, RuleCode, YamlCode};
 
 /// A message's words, before, between and after its arguments.
 #[derive(Clone, Copy)]
-pub(crate) struct Words {
+pub(crate) struct Wording {
     pub(crate) head: &'static str,
     pub(crate) middle: &'static str,
     pub(crate) tail: &'static str,
@@ -13,7 +15,7 @@ pub(crate) struct Words {
 
 /// The kind that a report names behind a fault's message, in brackets. Takes no memory.
 pub fn kind(code: Code) -> &'static str
-    ensures { result.now ≡ kind_of code }
+    ensures { result.now ≡ fault_kind code }
 {
     match code {
         Code::Yaml(_) | Code::Key(_) => "syntax-check",
@@ -55,7 +57,7 @@ fn rule_kind_of(fault: RuleCode) -> &'static str
     }
 }
 
-pub(crate) fn wording_of(code: Code) -> Words
+pub(crate) fn wording_of(code: Code) -> Wording
     ensures head { result.head.now ≡ (wording code).head }
     ensures middle { result.middle.now ≡ (wording code).middle }
     ensures tail { result.tail.now ≡ (wording code).tail }
@@ -69,15 +71,15 @@ pub(crate) fn wording_of(code: Code) -> Words
     }
 }
 
-fn parted(head: &'static str, middle: &'static str, tail: &'static str) -> Words
+fn parted(head: &'static str, middle: &'static str, tail: &'static str) -> Wording
     ensures head { result.head.now ≡ head.now }
     ensures middle { result.middle.now ≡ middle.now }
     ensures tail { result.tail.now ≡ tail.now }
 {
-    Words { head, middle, tail }
+    Wording { head, middle, tail }
 }
 
-fn plain(head: &'static str) -> Words
+fn plain(head: &'static str) -> Wording
     ensures head { result.head.now ≡ head.now }
     ensures middle { result.middle.now ≡ [] }
     ensures tail { result.tail.now ≡ [] }
@@ -85,7 +87,7 @@ fn plain(head: &'static str) -> Words
     parted(head, "", "")
 }
 
-fn yaml_words(fault: YamlCode) -> Words
+fn yaml_words(fault: YamlCode) -> Wording
     ensures head { result.head.now ≡ (yaml_wording fault).head }
     ensures middle { result.middle.now ≡ (yaml_wording fault).middle }
     ensures tail { result.tail.now ≡ (yaml_wording fault).tail }
@@ -112,7 +114,7 @@ fn yaml_words(fault: YamlCode) -> Words
     }
 }
 
-fn key_words(fault: KeyCode) -> Words
+fn key_words(fault: KeyCode) -> Wording
     ensures head { result.head.now ≡ (key_wording fault).head }
     ensures middle { result.middle.now ≡ (key_wording fault).middle }
     ensures tail { result.tail.now ≡ (key_wording fault).tail }
@@ -128,7 +130,7 @@ fn key_words(fault: KeyCode) -> Words
     }
 }
 
-fn rule_words(fault: RuleCode) -> Words
+fn rule_words(fault: RuleCode) -> Wording
     ensures head { result.head.now ≡ (rule_wording fault).head }
     ensures middle { result.middle.now ≡ (rule_wording fault).middle }
     ensures tail { result.tail.now ≡ (rule_wording fault).tail }
@@ -163,7 +165,7 @@ fn rule_words(fault: RuleCode) -> Words
     }
 }
 
-fn expression_words(fault: ExpressionCode) -> Words
+fn expression_words(fault: ExpressionCode) -> Wording
     ensures head { result.head.now ≡ (expression_wording fault).head }
     ensures middle { result.middle.now ≡ (expression_wording fault).middle }
     ensures tail { result.tail.now ≡ (expression_wording fault).tail }
@@ -196,7 +198,7 @@ fn expression_words(fault: ExpressionCode) -> Words
     }
 }
 
-fn call_words(fault: CallCode) -> Words
+fn call_words(fault: CallCode) -> Wording
     ensures head { result.head.now ≡ (call_wording fault).head }
     ensures middle { result.middle.now ≡ (call_wording fault).middle }
     ensures tail { result.tail.now ≡ (call_wording fault).tail }

@@ -15,15 +15,15 @@ mod workflow;
 
 pub use action::{Action, Runs};
 pub use al_shape::{
-    Clash, KeySet, Keys, Member, Need, Others, Row, Rule, ScalarNode, Shape, Words, contains_chunk,
-    is_among, is_event, is_null_scalar, items, items_under, key, key_of, key_text, members,
-    rule_of, shape_faults, text, text_under, texts, texts_under, value,
+    Clash, KeySet, Keys, Member, Need, Others, Row, Rule, ScalarNode, ScalarSet, Shape,
+    contains_chunk, is_among, is_event, is_null_scalar, items, items_under, key, key_of, key_text,
+    members, rule_of, shape_faults, text, text_under, texts, texts_under, value,
 };
 pub use containers::Container;
 pub use events::{Declared, Event, Schedule};
 pub use files::{FileKind, Tree, document_faults, read_action, read_workflow};
 pub use jobs::{Job, RunsOn, Strategy};
-pub use kinds::{is_action, is_workflow, is_workflow_name, kind_of};
+pub use kinds::{file_kind, is_action, is_workflow, is_workflow_name};
 pub use settings::{Concurrency, default_shell, default_working_directory};
 pub use steps::Step;
 pub use workflow::Workflow;

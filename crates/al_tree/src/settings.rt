@@ -36,7 +36,8 @@ pub fn default_shell(node: &Node) -> Option<ScalarNode<'_>>
 
 /// The `working-directory` of `defaults.run` of a workflow or a job.
 pub fn default_working_directory(node: &Node) -> Option<ScalarNode<'_>>
-    ensures { option_map scalar_node_of result ≡ text_below (codes "defaults" ∷ codes "run" ∷ codes "working-directory" ∷ []) (view node.now) }
+    ensures { option_map scalar_node_of result
+        ≡ text_below (codes "defaults" ∷ codes "run" ∷ codes "working-directory" ∷ []) (view node.now) }
 {
     text_under(value(value(node, "defaults")?, "run")?, "working-directory")
 }

@@ -41,10 +41,14 @@ function_name function.Cancelled = codes "cancelled"
 function_name function.Failure = codes "failure"
 
 abbrev pub contexts : List Context
-contexts = context.Github ∷ context.Env ∷ context.Vars ∷ context.Secrets ∷ context.Runner ∷ context.Job ∷ context.Strategy ∷ context.Needs ∷ context.Jobs ∷ context.Steps ∷ context.Matrix ∷ context.Inputs ∷ []
+contexts =
+    context.Github ∷ context.Env ∷ context.Vars ∷ context.Secrets ∷ context.Runner ∷ context.Job ∷ context.Strategy
+    ∷ context.Needs ∷ context.Jobs ∷ context.Steps ∷ context.Matrix ∷ context.Inputs ∷ []
 
 abbrev pub functions : List Function
-functions = function.Contains ∷ function.StartsWith ∷ function.EndsWith ∷ function.Format ∷ function.Join ∷ function.ToJson ∷ function.FromJson ∷ function.HashFiles ∷ function.Success ∷ function.Always ∷ function.Cancelled ∷ function.Failure ∷ []
+functions =
+    function.Contains ∷ function.StartsWith ∷ function.EndsWith ∷ function.Format ∷ function.Join ∷ function.ToJson
+    ∷ function.FromJson ∷ function.HashFiles ∷ function.Success ∷ function.Always ∷ function.Cancelled ∷ function.Failure ∷ []
 
 -- the first that has this name
 abbrev pub first_named : {A : Type 0} → (A → List ℕ) → List ℕ → List A → Option A

@@ -56,4 +56,5 @@ is_allowed s function.Failure = s.failure
 is_allowed s _ = true
 
 abbrev pub scope_of : code.Scope → Scope
-scope_of s = record { types = type_of_context s.types; available = is_available s.contexts; allowed = is_allowed s.functions; in_run = s.in_run }
+scope_of s =
+    record { types = type_of_context s.types; available = is_available s.contexts; allowed = is_allowed s.functions; in_run = s.in_run }

@@ -8,7 +8,8 @@ use Rattle.al_types.specs.declared.types.Form.{Form}
 use Rattle.al_types.specs.declared.types.Form.TheVariants as form
 use Rattle.al_types.specs.declared.types.Ty.TheBlock as code
 use Rattle.al_types.specs.declared.types.Ty.TheBlock.{Row_of-Field, end_of-Field, more_of-Field, Held-Object-rest, None', Some'}
-use Rattle.al_types.specs.Types.{Type', Any, Null, Number, Bool', String, ArrayOf, ObjectOf, Fields, NoField, FieldThen, Rest, Strict, Loose, has_field}
+use Rattle.al_types.specs.Types.{Type', Any, Null, Number, Bool', String, ArrayOf, ObjectOf, Fields, NoField, FieldThen, Rest, Strict}
+use Rattle.al_types.specs.Types.{Loose, has_field}
 
 abbrev mutual
   pub ty_of : Ty → Type'

@@ -69,7 +69,8 @@ fn fuse_object(alloc: Global, x: &Object, b: &Ty) -> Result<Ty, AllocError>
 // The fields of the first object, each fused with the second's of its name.
 #[cycle(fusing)]
 fn fuse_fields(alloc: Global, x: &Object, y: &Object) -> Result<Vec<Field>, AllocError>
-    ensures { IfOk result (λ v. fields_of (map field_of v.items) ≡ types.fuse_fields (fields_of_type (object_of x.now)) (fields_of_type (object_of y.now))) }
+    ensures { IfOk result (λ v. fields_of (map field_of v.items)
+        ≡ types.fuse_fields (fields_of_type (object_of x.now)) (fields_of_type (object_of y.now))) }
 {
     let mut fields = Vec::new(alloc);
     for field in &x.fields {
@@ -90,7 +91,8 @@ fn add_missing(
     y: &Object,
     fields: &mut Vec<Field>,
 ) -> Result<(), AllocError>
-    ensures { OnOk result (map field_of fields.new.items ≡ map field_of fields.old.items ++ missing_list (fields_of_type (object_of x.now)) (fields_of_type (object_of y.now))) }
+    ensures { OnOk result (map field_of fields.new.items ≡ map field_of fields.old.items
+        ++ missing_list (fields_of_type (object_of x.now)) (fields_of_type (object_of y.now))) }
 {
     for field in &y.fields {
         if !x.has_field(field.name.as_str()) {

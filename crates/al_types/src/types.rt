@@ -97,7 +97,8 @@ impl Object {
     /// The type of a property: of the first field of its name, else of other fields, where there may be others.
     #[tactic(auto, using(crate::proofs::TypeFields::rest_field))]
     pub fn property(&self, name: &str) -> Option<&Ty>
-        ensures { option_map (λ t. ty_of t.now) result ≡ field_or_rest (field_at name.now (fields_of_type (object_of self.now))) (rest_of_type (object_of self.now)) }
+        ensures { option_map (λ t. ty_of t.now) result
+            ≡ field_or_rest (field_at name.now (fields_of_type (object_of self.now))) (rest_of_type (object_of self.now)) }
     {
         match self.field(name) {
             Some(ty) => Some(ty),

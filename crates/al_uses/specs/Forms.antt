@@ -1,7 +1,7 @@
 -- What the text of a `uses` names (GitHub, "Workflow syntax", `jobs.<job_id>.steps[*].uses` and `jobs.<job_id>.uses`).
 use Rattle.std.specs.Prelude.{ℕ, List, [], ◌∷◌, ◌++◌, ◌-◌, ◌==◌, nat_lt, nat_eq, Bool, false, ◌&&◌, ◌||◌, codes, drop, take, length, Option, Some, None, is_none, if◌then◌else◌}
 use Rattle.std.specs.List.{list_all, starts_with, ends_with}
-use Rattle.std.specs.Str.{bytes_eq}
+use Rattle.std.specs.Str.{bytes_eq, is_utf8}
 use Rattle.al_text.specs.Paths.{parts, path_fault_of}
 use Rattle.al_text.specs.declared.codes.Caller.{Caller}
 use Rattle.al_text.specs.declared.codes.Caller.TheVariants as caller
@@ -20,8 +20,9 @@ ends_text part bs = ends_with nat_eq bs part
 abbrev pub is_some_text : List ℕ → Bool
 is_some_text bs = nat_lt 0 (length bs)
 
+-- bytes that aren't UTF-8 are no path; no text of a file is so
 abbrev pub is_path : List ℕ → Bool
-is_path bs = is_none (path_fault_of bs)
+is_path bs = is_utf8 bs && is_none (path_fault_of bs)
 
 -- this byte is an `@` with something behind it, which cuts a REF off, and the parts before it pass a test
 abbrev pub is_cut_behind : (List (List ℕ) → Bool) → List (List ℕ) → ℕ → List ℕ → Bool
@@ -68,14 +69,11 @@ abbrev pub first_of : Option (List ℕ) → Option (List ℕ) → Form
 first_of (Some a) (Some b) = Local (FirstOf a b)
 first_of _ _ = Other
 
-abbrev pub yml_in : List ℕ → Option (List ℕ)
-yml_in dir = path_in (in_folder dir (codes "action.yml"))
-
-abbrev pub yaml_in : List ℕ → Option (List ℕ)
-yaml_in dir = path_in (in_folder dir (codes "action.yaml"))
+abbrev pub file_in : List ℕ → List ℕ → Option (List ℕ)
+file_in dir file = path_in (in_folder dir file)
 
 abbrev pub local_step : List ℕ → Form
-local_step dir = first_of (yml_in dir) (yaml_in dir)
+local_step dir = first_of (file_in dir (codes "action.yml")) (file_in dir (codes "action.yaml"))
 
 abbrev pub remote : Caller → List ℕ → Form
 remote c bs = if is_some_cut (is_remote c) [] bs then Other else Wrong

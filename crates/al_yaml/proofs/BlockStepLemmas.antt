@@ -19,8 +19,8 @@ use Rattle.al_yaml.specs.Reads.{run, counted, Stops}
 use Rattle.al_yaml.specs.declared.block.BlockTask.{BlockTask}
 use Rattle.al_yaml.specs.declared.block.BlockTask.TheVariants as task
 use Rattle.al_yaml.specs.declared.block.BlockWaiting.{BlockWaiting}
-use Rattle.al_yaml.specs.declared.faults.Stop.{Stop}
-use Rattle.al_yaml.specs.declared.faults.Stop.TheVariants as stop
+use Rattle.al_yaml.specs.declared.faults.ReadError.{ReadError}
+use Rattle.al_yaml.specs.declared.faults.ReadError.TheVariants as stop
 use Rattle.al_yaml.proofs.RunLemmas.{run-given, run-gives, run-refused}
 use Rattle.al_yaml.proofs.ReadLemmas.{stops-from, stops-given, spanned-ok, spanned-stops}
 use Rattle.al_yaml.proofs.FlowLemmas.{if-true, if-false}
@@ -67,7 +67,7 @@ enters-with bytes bound turns depth start column reading rest n m w (task.Found 
 enters-with bytes bound turns depth start column reading rest n m w (task.Read p) e h = h
 enters-with bytes bound turns depth start column reading rest n m w (task.Inside s c has at) e h = h
 
-pub enters-stops : (reading rest : Reading (Part tree.Node)) (n : ℕ) (f : Part tree.Node → Reading (Part tree.Node)) (e : Stop) → run (counted n) reading ≡ answered (run (counted n) rest) f → Stops rest n e → Stops reading n e
+pub enters-stops : (reading rest : Reading (Part tree.Node)) (n : ℕ) (f : Part tree.Node → Reading (Part tree.Node)) (e : ReadError) → run (counted n) reading ≡ answered (run (counted n) rest) f → Stops rest n e → Stops reading n e
 enters-stops reading rest n f (stop.Fault x) g h = g ∙ ap (λ o. answered o f) h
 enters-stops reading rest n f stop.Memory g h = tt
 
@@ -115,7 +115,7 @@ module _ (bound turns depth start column n : ℕ) (bytes : List ℕ) (x : Part t
           items-found (Some (lines_at bytes at)) found
           ∙ ap (λ r. run (counted n) (spanned tree.sequence start r)) (if-false (is_dash (text_at bytes at)) _ _ h ∙ if-true in_mapping _ _ k) ∙ items-part
 
-      pub items-none : false ≡ is_dash (text_at bytes at) → false ≡ in_mapping → (e : Stop) → Stops (no_entry {A = Part tree.Nodes} (flow_collection (suc bound)) depth (lines_at bytes at)) n e → Stops items_wait n e
+      pub items-none : false ≡ is_dash (text_at bytes at) → false ≡ in_mapping → (e : ReadError) → Stops (no_entry {A = Part tree.Nodes} (flow_collection (suc bound)) depth (lines_at bytes at)) n e → Stops items_wait n e
       items-none h k e s =
           stops-from items_wait (spanned tree.sequence start (no_entry (flow_collection (suc bound)) depth (lines_at bytes at))) n n e
           (items-found (Some (lines_at bytes at)) found ∙ ap (λ r. run (counted n) (spanned tree.sequence start r)) (if-false (is_dash (text_at bytes at)) _ _ h ∙ if-false in_mapping _ _ k))
@@ -155,7 +155,7 @@ module _ (bound turns depth start column n : ℕ) (bytes : List ℕ) (x : Part t
           entries-found (Some (lines_at bytes at)) found
           ∙ spanned-answer tree.mapping start (counted n) (entry_key (flow_collection (suc bound)) depth (lines_at bytes at)) more_entries
 
-      pub entries-stop : (e : Stop) → Stops (entry_key (flow_collection (suc bound)) depth (lines_at bytes at)) n e → Stops entries_wait n e
+      pub entries-stop : (e : ReadError) → Stops (entry_key (flow_collection (suc bound)) depth (lines_at bytes at)) n e → Stops entries_wait n e
       entries-stop (stop.Fault f) h = entries-key ∙ ap (λ o. answered o (λ key. spanned tree.mapping start (more_entries key))) h
       entries-stop stop.Memory h = tt
 
@@ -163,7 +163,7 @@ module _ (bound turns depth start column n : ℕ) (bytes : List ℕ) (x : Part t
           → (ls : List Line) → run (counted n) entries_wait ≡ run (counted m) (block_rest turns bound depth start column (entries entries_now key) ls)
       entries-more m key h ls = entries-key ∙ ap (λ o. answered o (λ key. spanned tree.mapping start (more_entries key))) h
 
-pub begins-from : (bytes : List ℕ) (bound depth n m : ℕ) (r q : Reading (Part tree.Node)) (result : Result BlockTask Stop) → run (counted n) r ≡ run (counted n) q → Begins bytes bound depth q n result m → Begins bytes bound depth r n result m
+pub begins-from : (bytes : List ℕ) (bound depth n m : ℕ) (r q : Reading (Part tree.Node)) (result : Result BlockTask ReadError) → run (counted n) r ≡ run (counted n) q → Begins bytes bound depth q n result m → Begins bytes bound depth r n result m
 begins-from bytes bound depth n m r q (Ok (task.Read p)) e h = e ∙ h
 begins-from bytes bound depth n m r q (Ok (task.Inside s c has at)) e h = e ∙ h
 begins-from bytes bound depth n m r q (Ok (task.Node s c at)) e h = h

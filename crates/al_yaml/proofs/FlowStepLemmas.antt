@@ -14,15 +14,15 @@ use Rattle.al_yaml.specs.FlowFrames.{Finds}
 use Rattle.al_yaml.specs.View.{view}
 use Rattle.al_yaml.specs.declared.flow.Found.{Found}
 use Rattle.al_yaml.specs.declared.flow.Found.TheVariants as found
-use Rattle.al_yaml.specs.declared.faults.Stop.{Stop}
-use Rattle.al_yaml.specs.declared.faults.Stop.TheVariants as stop
+use Rattle.al_yaml.specs.declared.faults.ReadError.{ReadError}
+use Rattle.al_yaml.specs.declared.faults.ReadError.TheVariants as stop
 use Rattle.al_yaml.specs.declared.node.Part as code
 use Rattle.al_yaml.proofs.RunLemmas.{run-given, run-gives}
 use Rattle.al_yaml.proofs.ReadLemmas.{stops-bind, stops-same, stops-given, spanned-ok, spanned-stops, same_part}
 use Rattle.al_yaml.proofs.FlowLemmas.{items-open, items-closed, items-step, entries-open, entries-closed, entries-step}
 use Rattle.al_yaml.proofs.FrameLemmas.{bind-answer, answered-fails, spanned-answer}
 
-abbrev unclosed : ℕ → Stop
+abbrev unclosed : ℕ → ReadError
 unclosed opening = stop.Fault (record { code = yaml.UnclosedFlow; at = opening })
 
 -- a part that was made of what a definition gives
@@ -56,7 +56,7 @@ module _ (c : CollectionReader) (turns opening depth n : ℕ) (done : tree.Nodes
       abbrev item_behind : Part tree.Node → Reading (Part tree.Nodes)
       item_behind x = flow_items_rest (λ left. flow_items (flow_node_over c) turns opening depth (tree.with_item done x.value) left) opening (tree.with_item done x.value) x.left
 
-      pub item-stop : (e : Stop) → Stops item_reading n e → Stops sequence_now n e
+      pub item-stop : (e : ReadError) → Stops item_reading n e → Stops sequence_now n e
       item-stop e h =
           spanned-stops tree.sequence opening (flow_items (flow_node_over c) (suc turns) opening depth done (lines_at bytes at)) n e
           (stops-same _ _ n e (items-step (flow_node_over c) turns opening depth n done bytes at inside some other)
@@ -101,7 +101,7 @@ module _ (c : CollectionReader) (turns opening depth n : ℕ) (done : tree.Entri
       abbrev behind_key : FlowKey → Reading (Part tree.Entries)
       behind_key k = value_reading k >>= entry_behind k
 
-      pub entry-stop : (e : Stop) → Stops key_reading n e → Stops mapping_now n e
+      pub entry-stop : (e : ReadError) → Stops key_reading n e → Stops mapping_now n e
       entry-stop e h =
           spanned-stops tree.mapping opening (flow_entries (flow_node_over c) c (suc turns) opening depth done (lines_at bytes at)) n e
           (stops-same _ _ n e (entries-step (flow_node_over c) c turns opening depth n done bytes at inside some other)
@@ -124,7 +124,7 @@ module _ (c : CollectionReader) (turns opening depth n : ℕ) (done : tree.Entri
             entry-answer ∙ ap (λ o. answered o (λ k. spanned tree.mapping opening (behind_key k))) read
             ∙ spanned-answer tree.mapping opening (counted m) (value_reading k) (entry_behind k)
 
-        pub value-stop : (e : Stop) → Stops (value_reading k) m e → Stops mapping_now n e
+        pub value-stop : (e : ReadError) → Stops (value_reading k) m e → Stops mapping_now n e
         value-stop (stop.Fault f) h = value-answer ∙ ap (λ o. answered o (waiting_rest c turns depth opening (value done k.scalar))) h
         value-stop stop.Memory h = tt
 
@@ -141,7 +141,7 @@ module _ (c : CollectionReader) (turns opening depth n : ℕ) (bytes : List ℕ)
     abbrev items_next : After → Reading (Part tree.Nodes)
     items_next found = elim found [ goes_on next ↦ flow_items (flow_node_over c) turns opening depth all_items next | closes end next ↦ gives (part all_items end next) ]
 
-    pub item-refused : (e : Stop) → Refuses (after_it 93) e → Stops (waiting_rest c turns depth opening (item done) x) n e
+    pub item-refused : (e : ReadError) → Refuses (after_it 93) e → Stops (waiting_rest c turns depth opening (item done) x) n e
     item-refused e h = spanned-stops tree.sequence opening (given (after_it 93) >>= items_next) n e (stops-given (after_it 93) items_next n e h)
 
     item-behind : (found : After) → after_it 93 ≡ Ok found → run (counted n) (waiting_rest c turns depth opening (item done) x) ≡ run (counted n) (spanned tree.sequence opening (items_next found))
@@ -167,7 +167,7 @@ module _ (c : CollectionReader) (turns opening depth n : ℕ) (bytes : List ℕ)
     abbrev entries_next : After → Reading (Part tree.Entries)
     entries_next found = elim found [ goes_on next ↦ flow_entries (flow_node_over c) c turns opening depth all_entries next | closes end next ↦ gives (part all_entries end next) ]
 
-    pub entry-refused : (e : Stop) → Refuses (after_it 125) e → Stops (waiting_rest c turns depth opening (value done k) x) n e
+    pub entry-refused : (e : ReadError) → Refuses (after_it 125) e → Stops (waiting_rest c turns depth opening (value done k) x) n e
     entry-refused e h = spanned-stops tree.mapping opening (given (after_it 125) >>= entries_next) n e (stops-given (after_it 125) entries_next n e h)
 
     entry-behind : (found : After) → after_it 125 ≡ Ok found → run (counted n) (waiting_rest c turns depth opening (value done k) x) ≡ run (counted n) (spanned tree.mapping opening (entries_next found))
@@ -188,7 +188,7 @@ module _ (c : CollectionReader) (turns opening depth n : ℕ) (bytes : List ℕ)
 
 -- ---- what was found
 
-pub finds-same : (bytes : List ℕ) (f g : CollectionReader → Reading (Part tree.Node)) (depth n m : ℕ) (result : Result Found Stop) → ((c : CollectionReader) → f c ≡ g c) → Finds bytes g depth n result m → Finds bytes f depth n result m
+pub finds-same : (bytes : List ℕ) (f g : CollectionReader → Reading (Part tree.Node)) (depth n m : ℕ) (result : Result Found ReadError) → ((c : CollectionReader) → f c ≡ g c) → Finds bytes g depth n result m → Finds bytes f depth n result m
 finds-same bytes f g depth n m (Ok (found.Node p)) e h = λ c. ap (run (counted n)) (e c) ∙ h c
 finds-same bytes f g depth n m (Ok (found.Opens i)) e h = λ c. ap (run (counted n)) (e c) ∙ h c
 finds-same bytes f g depth n m (Err x) e h = λ c. stops-same (f c) (g c) n x (e c) (h c)

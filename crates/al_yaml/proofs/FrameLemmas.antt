@@ -11,8 +11,8 @@ use Rattle.al_yaml.specs.Flow.{CollectionReader, flow_collection}
 use Rattle.al_yaml.specs.Frames.{Answer, answered, Open, Waiting, Frame, open_rest, waiting_rest, frame_rest}
 use Rattle.al_yaml.specs.Places.{fault_of}
 use Rattle.al_yaml.specs.Reads.{State, run, counted, Stops, part_of}
-use Rattle.al_yaml.specs.declared.faults.Stop.{Stop}
-use Rattle.al_yaml.specs.declared.faults.Stop.TheVariants as stop
+use Rattle.al_yaml.specs.declared.faults.ReadError.{ReadError}
+use Rattle.al_yaml.specs.declared.faults.ReadError.TheVariants as stop
 use Rattle.al_yaml.specs.declared.node.Part as code
 use Rattle.al_yaml.proofs.RunLemmas.{run-bind, run-stop}
 
@@ -99,7 +99,7 @@ predecessor : (turns : ℕ) → 0 < turns → (t : ℕ) × (turns ≡ suc t)
 predecessor zero h = absurd (omega (arith, h))
 predecessor (suc t) h = (t, refl)
 
-abbrev pub WholeStops : Answer (Part Node) → Stop → Type 0
+abbrev pub WholeStops : Answer (Part Node) → ReadError → Type 0
 WholeStops whole (stop.Fault f) = whole ≡ Err (fault_of f)
 WholeStops whole stop.Memory = Unit {0}
 
@@ -119,7 +119,7 @@ module _ (bytes : List ℕ) (depth : ℕ) (whole : Answer (Part Node)) (fs : Lis
   fault-at : (f : Fault) → ((c : CollectionReader) (t : ℕ) → now c t ≡ Err f) → whole ≡ Err f
   fault-at f h = sym (one-turn some.0 some.1) ∙ ap (resumed depth (suc k.bound) fs k.rest) (h (flow_collection k.bound) some.0) ∙ resumed-err depth (suc k.bound) fs k.rest f
 
-  pub inside-stops : (e : Stop) → ((c : CollectionReader) (t : ℕ) → Stops (open_rest c (suc t) d opening has (lines_at bytes at)) n e) → WholeStops whole e
+  pub inside-stops : (e : ReadError) → ((c : CollectionReader) (t : ℕ) → Stops (open_rest c (suc t) d opening has (lines_at bytes at)) n e) → WholeStops whole e
   inside-stops (stop.Fault f) h = fault-at (fault_of f) h
   inside-stops stop.Memory h = tt
 
@@ -179,7 +179,7 @@ module _ (bytes : List ℕ) (depth : ℕ) (whole : Answer (Part Node)) (fs : Lis
   abbrev pub then_rest : CollectionReader → ℕ → Reading (Part Node)
   then_rest c t = waiting_rest c t (depth + length fs + 1) opening w (part_of bytes p)
 
-  pub waits-stops : (e : Stop) → ((c : CollectionReader) (t : ℕ) → Stops (then_rest c t) n e) → WholeStops whole e
+  pub waits-stops : (e : ReadError) → ((c : CollectionReader) (t : ℕ) → Stops (then_rest c t) n e) → WholeStops whole e
   waits-stops (stop.Fault f) h = sym k.same ∙ ap (resumed depth (suc k.bound) fs k.rest) (h (flow_collection k.bound) k.turns) ∙ resumed-err depth (suc k.bound) fs k.rest (fault_of f)
   waits-stops stop.Memory h = tt
 
@@ -242,6 +242,6 @@ broken-first bytes depth n at bound f h inside k =
     let p = predecessor bound (omega (arith, h, inside)) in
     ap (λ b. run (counted n) (flow_collection b depth (lines_at bytes at))) p.1 ∙ k p.0
 
-pub whole-stops : (r : Reading (Part Node)) (n : ℕ) (e : Stop) → WholeStops (run (counted n) r) e → Stops r n e
+pub whole-stops : (r : Reading (Part Node)) (n : ℕ) (e : ReadError) → WholeStops (run (counted n) r) e → Stops r n e
 whole-stops r n (stop.Fault f) h = h
 whole-stops r n stop.Memory h = tt

@@ -2,33 +2,31 @@
 
 ghost use Rattle.al_scalar.specs.Contract.{read_of};
 ghost use Rattle.al_scalar.specs.Offsets.{IsPlaced};
-ghost use Rattle.al_scalar.specs.Places.{lines_at, text_at};
+ghost use Rattle.al_scalar.specs.Places.{lines_at};
 ghost use Rattle.al_yaml.specs.BlockFrames as frames;
-ghost use Rattle.al_yaml.specs.BlockFrames.{Begins, Enters, FindsBlock, IsBegun, IsBlockWaitingFrom, IsEntered, IsFoundFrom, IsNextAt, IsNextBehind, IsNextInside, IsNodeAt, IsOpenAt, IsOpenFrom, IsResumed, ResumesBlock, block_open_of, block_rest, block_waiting_of};
-ghost use Rattle.al_yaml.specs.BlockReads.{IsKeyBehind, IsTabInside, key_seen, slot_of, spot_of};
+ghost use Rattle.al_yaml.specs.BlockFrames.{Enters, FindsBlock, IsBlockWaitingFrom, IsEntered, IsFoundFrom, IsNextAt, IsNextBehind, IsNextInside, IsOpenAt, IsOpenFrom, IsResumed, ResumesBlock, block_open_of, block_rest, block_waiting_of};
+ghost use Rattle.al_yaml.specs.BlockReads.{IsTabInside, slot_of};
 ghost use Rattle.al_yaml.specs.Blocks as block;
 ghost use Rattle.al_yaml.specs.Content as content;
-ghost use Rattle.al_yaml.specs.Flow as flow;
-ghost use Rattle.al_yaml.specs.Keys as keys;
 ghost use Rattle.al_yaml.specs.Places.{Shows, next_of, option_lines};
 ghost use Rattle.al_yaml.specs.Reads.{IsBehind, IsRead, IsStopInside, part_of};
-ghost use Rattle.al_yaml.specs.Spans.{AreInOrder, EntriesInOrder, IsWithin};
+ghost use Rattle.al_yaml.specs.Spans.{ArePlacedIn, EntriesPlacedIn, IsPlacedIn};
 ghost use Rattle.al_yaml.specs.View.{entries_of, entry_view, nodes_of, view};
-ghost use Rattle.std.specs.Prelude.{IfErr, IfOk, IfSome, [], length, map, not, suc, true, ℕ, ◌&&◌, ◌+◌, ◌<◌, ◌||◌, ◌≡◌, ◌≤◌};
+ghost use Rattle.std.specs.Prelude.{IfErr, IfOk, IfSome, [], length, map, suc, true, ℕ, ◌+◌, ◌<◌, ◌≡◌, ◌≤◌};
 
-use crate::content::{Next, is_dash, is_skipped, line_ended, next_content};
+use crate::block_nodes::read_node;
+use crate::content::{Next, is_dash, is_skipped, next_content};
 use crate::entries::{entry_key, no_entry};
-use crate::faults::{FaultAt, Stop};
-use crate::flow::read_flow_collection;
-use crate::keys::{Key, behind_colon, is_short_key, key_at};
+use crate::faults::{FaultAt, ReadError};
+use crate::keys::Key;
 use crate::limits::Count;
-use crate::lines::{blanks_end, characters, next_line, same_line};
+use crate::lines::{characters, next_line};
 use crate::node::{Entry, Node, Part, entry_of, mapping_part, scalar_node, sequence_part};
-use crate::scalars::{empty_part, read_line_scalar};
-use crate::slots::{Slot, Spot, is_behind_key, is_deeper, spot_behind, tab_before};
+use crate::scalars::empty_part;
+use crate::slots::{Slot, Spot, is_deeper, spot_behind};
 use crate::stack::Stack;
-use crate::starts::{block_fault, is_block_start, is_flow_start, is_property};
 use al_scalar::ScalarRead;
+use al_scalar::lines::blanks_end;
 use al_text::YamlCode;
 use std::alloc::Global;
 
@@ -75,198 +73,6 @@ pub enum BlockTask {
     Found(Part, Next),
 }
 
-/// Whether a scalar that stands here is no key: a block scalar, or a value on its key's line.
-fn is_no_key(bytes: &[u8], spot: Spot, at: usize) -> bool
-    requires { at ≤ length bytes.now }
-    ensures { result ≡ (keys.is_block_start (text_at bytes.now at) || block.is_behind_key (spot_of spot)) }
-{
-    is_block_start(bytes, at) || is_behind_key(spot)
-}
-
-/// Whether a colon behind a flow collection would make it a key.
-fn is_refused_key(bytes: &[u8], spot: Spot, next: usize) -> bool
-    requires { next ≤ length bytes.now }
-    ensures { result ≡ (not (block.is_behind_key (spot_of spot)) && keys.has_colon (lines_at bytes.now next)) }
-{
-    if is_behind_key(spot) {
-        return false;
-    }
-    match behind_colon(bytes, next) {
-        Some(_) => true,
-        None => false,
-    }
-}
-
-/// Reads a flow collection in block context with the rest of its line.
-fn read_line_flow(
-    alloc: Global,
-    bytes: &[u8],
-    count: &mut Count,
-    stack: &mut Stack,
-    spot: Spot,
-    depth: u32,
-    at: usize,
-) -> Result<Part, Stop>
-    requires inside { at < length bytes.now }
-    requires bracket { content.is_flow_start (text_at bytes.now at) ≡ true }
-    requires size { length bytes.now ≤ 1048576 }
-    requires depth { depth ≤ 65 }
-    requires outside { stack.old.flows ≡ [] }
-    requires room { length stack.old.blocks ≤ depth }
-    ensures fault { IfErr result (IsStopInside (length bytes.now)) }
-    ensures is { (bound : ℕ) → length bytes.now < bound + at → IsRead (part_of bytes.now) (block.flow_at (flow.flow_collection bound) (spot_of spot) depth (lines_at bytes.now at)) count.old.nodes result count.new.nodes }
-    ensures within { IfOk result (λ part. IsBehind bytes.now at part) }
-    ensures nested { IfOk result (λ part. IsWithin at part.end (view part.node)) }
-    ensures same { IfOk result (λ _. stack.new ≡ stack.old) }
-{
-    let part = read_flow_collection(alloc, bytes, count, stack, depth, at)?;
-    if is_refused_key(bytes, spot, part.next) {
-        return Err(Stop::Fault(FaultAt {
-            code: YamlCode::WrongKey,
-            at,
-        }));
-    }
-    let next = line_ended(bytes, part.next)?;
-    Ok(Part {
-        node: part.node,
-        end: part.end,
-        next,
-    })
-}
-
-/// Reads a node in block context, whose first character stands in this column, if it is no block collection; else it
-/// begins the collection.
-fn read_node(
-    alloc: Global,
-    bytes: &[u8],
-    count: &mut Count,
-    stack: &mut Stack,
-    slot: Slot,
-    depth: u32,
-    column: usize,
-    at: usize,
-) -> Result<BlockTask, Stop>
-    requires inside { at ≤ length bytes.now }
-    requires size { length bytes.now ≤ 1048576 }
-    requires depth { depth ≤ 65 }
-    requires outside { stack.old.flows ≡ [] }
-    requires room { length stack.old.blocks ≤ depth }
-    requires node { IsNodeAt bytes.now slot column at }
-    ensures fault { IfErr result (IsStopInside (length bytes.now)) }
-    ensures is { (bound : ℕ) → length bytes.now < suc bound + at → Begins bytes.now bound depth (block.block_node (suc bound) (slot_of slot) depth column (lines_at bytes.now at)) count.old.nodes result count.new.nodes }
-    ensures within { IfOk result (λ task. IsBegun bytes.now at depth task) }
-    ensures same { IfOk result (λ _. stack.new ≡ stack.old) }
-{
-    if is_property(bytes, at) {
-        return Err(Stop::Fault(FaultAt {
-            code: YamlCode::AnchorOrAlias,
-            at,
-        }));
-    }
-    if is_dash(bytes, at) {
-        return begin_sequence(alloc, bytes, count, slot, depth, column, at);
-    }
-    if let Some(code) = block_fault(bytes, at) {
-        return Err(Stop::Fault(FaultAt { code, at }));
-    }
-    if is_flow_start(bytes, at) {
-        let part = read_line_flow(alloc, bytes, count, stack, slot.spot, depth, at)?;
-        return Ok(BlockTask::Read(part));
-    }
-    if is_no_key(bytes, slot.spot, at) {
-        let part = read_line_scalar(alloc, bytes, count, slot.within, at)?;
-        return Ok(BlockTask::Read(part));
-    }
-    let Some(key) = key_at(alloc, bytes, at)? else {
-        let part = read_line_scalar(alloc, bytes, count, slot.within, at)?;
-        return Ok(BlockTask::Read(part));
-    };
-    begin_mapping(alloc, bytes, count, slot.spot, depth, column, at, key)
-}
-
-/// Begins the sequence whose first dash stands at an offset.
-fn begin_sequence(
-    alloc: Global,
-    bytes: &[u8],
-    count: &mut Count,
-    slot: Slot,
-    depth: u32,
-    column: usize,
-    at: usize,
-) -> Result<BlockTask, Stop>
-    requires dash { content.is_dash (text_at bytes.now at) ≡ true }
-    requires inside { at < length bytes.now }
-    requires size { length bytes.now ≤ 1048576 }
-    requires node { IsNodeAt bytes.now slot column at }
-    ensures fault { IfErr result (IsStopInside (length bytes.now)) }
-    ensures is { (bound : ℕ) → Begins bytes.now bound depth (block.block_sequence (block.block_node bound) (flow.flow_collection (suc bound)) (suc bound) (slot_of slot) depth column (lines_at bytes.now at)) count.old.nodes result count.new.nodes }
-    ensures within { IfOk result (λ task. IsBegun bytes.now at depth task) }
-{
-    if is_behind_key(slot.spot) {
-        return Err(Stop::Fault(FaultAt {
-            code: YamlCode::UnexpectedCharacter,
-            at,
-        }));
-    }
-    if let Some(tab) = tab_before(slot.spot) {
-        return Err(Stop::Fault(FaultAt {
-            code: YamlCode::TabInIndentation,
-            at: tab,
-        }));
-    }
-    count.start(at, 1, depth)?;
-    Ok(BlockTask::Inside {
-        start: at,
-        column,
-        has: BlockOpen::Items(slot.in_mapping, Vec::new(alloc)),
-        at,
-    })
-}
-
-/// Begins the mapping whose first key was read from an offset on.
-fn begin_mapping(
-    alloc: Global,
-    bytes: &[u8],
-    count: &mut Count,
-    spot: Spot,
-    depth: u32,
-    column: usize,
-    at: usize,
-    key: Key,
-) -> Result<BlockTask, Stop>
-    requires key { IsKeyBehind bytes.now at key }
-    requires size { length bytes.now ≤ 1048576 }
-    requires column { column ≤ at }
-    requires tab { IsTabInside (length bytes.now) spot }
-    ensures fault { IfErr result (IsStopInside (length bytes.now)) }
-    ensures is { (bound : ℕ) → Begins bytes.now bound depth (block.block_mapping (block.block_node bound) (flow.flow_collection (suc bound)) (suc bound) (spot_of spot) depth column (lines_at bytes.now at) (key_seen bytes.now key)) count.old.nodes result count.new.nodes }
-    ensures within { IfOk result (λ task. IsBegun bytes.now at depth task) }
-{
-    let wrong = Stop::Fault(FaultAt {
-        code: YamlCode::WrongKey,
-        at,
-    });
-    if !same_line(bytes, at, key.read.next) {
-        return Err(wrong);
-    }
-    if let Some(tab) = tab_before(spot) {
-        return Err(Stop::Fault(FaultAt {
-            code: YamlCode::TabInIndentation,
-            at: tab,
-        }));
-    }
-    if !is_short_key(bytes, at, &key.read) {
-        return Err(wrong);
-    }
-    count.start(at, 2, depth)?;
-    Ok(BlockTask::Inside {
-        start: at,
-        column,
-        has: BlockOpen::Entries(Vec::new(alloc), key),
-        at,
-    })
-}
-
 /// Finds the node behind a dash or a colon: on the line, or else below it; or reads the empty node. The column is that of
 /// `from`.
 fn find_rest(
@@ -277,7 +83,7 @@ fn find_rest(
     column: usize,
     from: usize,
     rest: usize,
-) -> Result<BlockTask, Stop>
+) -> Result<BlockTask, ReadError>
     requires order { from ≤ rest }
     requires inside { rest ≤ length bytes.now }
     requires line { content.same_line (lines_at bytes.now from) (lines_at bytes.now rest) ≡ true }
@@ -310,7 +116,7 @@ fn find_below(
     count: &mut Count,
     slot: Slot,
     at: usize,
-) -> Result<BlockTask, Stop>
+) -> Result<BlockTask, ReadError>
     requires inside { at ≤ length bytes.now }
     requires size { length bytes.now ≤ 1048576 }
     requires within { slot.within ≤ at + 1 }
@@ -347,9 +153,9 @@ fn enter(
     column: usize,
     has: BlockOpen,
     at: usize,
-) -> Result<(BlockWaiting, BlockTask), Stop>
+) -> Result<(BlockWaiting, BlockTask), ReadError>
     requires has { IsOpenAt bytes.now column at has }
-    requires from { IsOpenFrom start at has }
+    requires from { IsOpenFrom (length bytes.now) start at has }
     requires size { length bytes.now ≤ 1048576 }
     ensures fault { IfErr result (IsStopInside (length bytes.now)) }
     ensures within { IfOk result (λ r. IsEntered bytes.now start at r) }
@@ -418,7 +224,7 @@ fn put_block_item(
     items: Vec<Node>,
     part: Part,
     next: Next,
-) -> Result<BlockTask, Stop>
+) -> Result<BlockTask, ReadError>
     requires inside { part.next ≤ length bytes.now }
     requires end { part.end ≤ part.next }
     requires start { start ≤ part.end }
@@ -429,7 +235,7 @@ fn put_block_item(
     requires room { length stack.old.blocks ≤ depth }
     ensures fault { IfErr result (IsStopInside (length bytes.now)) }
     ensures is { (bound turns : ℕ) → length bytes.now < suc bound + part.next → ResumesBlock bytes.now bound turns depth start column (frames.item in_mapping (nodes_of (map view items.items))) (part_of bytes.now part) count.old.nodes result count.new.nodes }
-    ensures within { (low : ℕ) → start ≤ low → AreInOrder start low (nodes_of (map view items.items)) → IsWithin low part.end (view part.node) → IfOk result (λ task. IsResumed bytes.now start part.next task) }
+    ensures within { (low : ℕ) → start ≤ low → ArePlacedIn (length bytes.now) start low (nodes_of (map view items.items)) → IsPlacedIn (length bytes.now) low part.end (view part.node) → IfOk result (λ task. IsResumed bytes.now start part.next task) }
     ensures same { IfOk result (λ _. stack.new ≡ stack.old) }
 {
     let mut items = items;
@@ -470,7 +276,7 @@ fn put_block_entry(
     key: ScalarRead,
     part: Part,
     next: Next,
-) -> Result<BlockTask, Stop>
+) -> Result<BlockTask, ReadError>
     requires inside { part.next ≤ length bytes.now }
     requires end { part.end ≤ part.next }
     requires start { start ≤ part.end }
@@ -481,7 +287,7 @@ fn put_block_entry(
     requires room { length stack.old.blocks ≤ depth }
     ensures fault { IfErr result (IsStopInside (length bytes.now)) }
     ensures is { (bound turns : ℕ) → length bytes.now < suc bound + part.next → ResumesBlock bytes.now bound turns depth start column (frames.value (entries_of (map entry_view entries.items)) (read_of bytes.now key)) (part_of bytes.now part) count.old.nodes result count.new.nodes }
-    ensures within { (low : ℕ) → start ≤ key.span.start → key.span.start ≤ key.span.end → key.span.end ≤ low → EntriesInOrder start key.span.start (entries_of (map entry_view entries.items)) → IsPlaced 1048576 key.scalar key.span → IsWithin low part.end (view part.node) → IfOk result (λ task. IsResumed bytes.now start part.next task) }
+    ensures within { (low : ℕ) → start ≤ key.span.start → key.span.start ≤ key.span.end → key.span.end ≤ low → EntriesPlacedIn (length bytes.now) start key.span.start (entries_of (map entry_view entries.items)) → IsPlaced (length bytes.now) key.scalar key.span → IsPlacedIn (length bytes.now) low part.end (view part.node) → IfOk result (λ task. IsResumed bytes.now start part.next task) }
     ensures same { IfOk result (λ _. stack.new ≡ stack.old) }
 {
     let mut entries = entries;
@@ -509,12 +315,12 @@ fn resume_block(
     frame: BlockFrame,
     part: Part,
     next: Next,
-) -> Result<BlockTask, Stop>
+) -> Result<BlockTask, ReadError>
     requires inside { part.next ≤ length bytes.now }
     requires end { part.end ≤ part.next }
     requires start { frame.start ≤ part.end }
     requires next { IsNextBehind bytes.now part next }
-    requires waits { (low : ℕ) × IsBlockWaitingFrom frame.start low frame.waiting × IsWithin low part.end (view part.node) }
+    requires waits { (low : ℕ) × IsBlockWaitingFrom (length bytes.now) frame.start low frame.waiting × IsPlacedIn (length bytes.now) low part.end (view part.node) }
     requires size { length bytes.now ≤ 1048576 }
     requires depth { depth ≤ 65 }
     requires outside { stack.old.flows ≡ [] }
@@ -552,7 +358,7 @@ pub fn read_block_node(
     slot: Slot,
     column: usize,
     at: usize,
-) -> Result<Part, Stop>
+) -> Result<Part, ReadError>
     requires inside { at ≤ length bytes.now }
     requires size { length bytes.now ≤ 1048576 }
     requires column { column ≤ at }
@@ -563,7 +369,7 @@ pub fn read_block_node(
     ensures fault { IfErr result (IsStopInside (length bytes.now)) }
     ensures is { (bound : ℕ) → length bytes.now < bound + at → IsRead (part_of bytes.now) (block.block_node bound (slot_of slot) 1 column (lines_at bytes.now at)) count.old.nodes result count.new.nodes }
     ensures within { IfOk result (λ part. IsBehind bytes.now at part) }
-    ensures nested { IfOk result (λ part. IsWithin at part.end (view part.node)) }
+    ensures nested { IfOk result (λ part. IsPlacedIn (length bytes.now) at part.end (view part.node)) }
 {
     let mut task = BlockTask::Node { slot, column, at };
     'nodes: loop {

@@ -1,5 +1,6 @@
 //! Content lines, and the gaps between what stands in flow collections.
 
+ghost use Rattle.al_scalar.specs.Line as line;
 ghost use Rattle.al_scalar.specs.Places.{lines_at, text_at};
 ghost use Rattle.al_yaml.specs.Content as content;
 ghost use Rattle.al_yaml.specs.Flow as flow;
@@ -7,8 +8,8 @@ ghost use Rattle.al_yaml.specs.Places.{IsLineFrom, Shows, next_of};
 ghost use Rattle.std.specs.Prelude.{IfErr, IfOk, IfSome, IsTrue, false, length, ◌<◌, ◌≡◌, ◌≤◌};
 
 use crate::faults::FaultAt;
-use crate::lines::{blanks_end, is_text_end, next_line, spaces_end};
-use al_scalar::lines::{begins, is_blank_or_end, is_document_marker};
+use crate::lines::{is_text_end, next_line};
+use al_scalar::lines::{begins, blanks_end, indent, is_blank_or_end, is_document_marker};
 use al_text::YamlCode;
 
 /// The next content line of the document, or its end.
@@ -41,17 +42,15 @@ fn content_line(bytes: &[u8], at: usize) -> Result<Next, FaultAt>
     if is_document_marker(bytes, at) {
         return Ok(Next::Ended);
     }
-    let solid = spaces_end(bytes, at);
+    let indent = indent(bytes, at);
+    let solid = at + indent;
     if begins(bytes, solid, b'\t') {
         return Err(FaultAt {
             code: YamlCode::TabInIndentation,
             at: solid,
         });
     }
-    Ok(Next::Line {
-        indent: solid - at,
-        at: solid,
-    })
+    Ok(Next::Line { indent, at: solid })
 }
 
 /// The first content line from the start of a line on.
@@ -123,9 +122,9 @@ pub fn first_tab(bytes: &[u8], at: usize) -> Option<usize>
     ensures is { result ≡ content.tab_among (text_at bytes.now at) }
     ensures inside { IfSome result (λ tab. tab ≤ length bytes.now) }
 {
-    let spaces = spaces_end(bytes, at);
-    if begins(bytes, spaces, b'\t') {
-        return Some(spaces);
+    let solid = at + indent(bytes, at);
+    if begins(bytes, solid, b'\t') {
+        return Some(solid);
     }
     None
 }
@@ -133,7 +132,7 @@ pub fn first_tab(bytes: &[u8], at: usize) -> Option<usize>
 /// Whether a gap goes on with the next line.
 fn is_gap_line(bytes: &[u8], at: usize, at_start: bool, solid: usize) -> bool
     requires inside { at ≤ length bytes.now }
-    requires solid { content.blanks_dropped (lines_at bytes.now at) ≡ lines_at bytes.now solid }
+    requires solid { line.blanks_dropped (lines_at bytes.now at) ≡ lines_at bytes.now solid }
     requires solid_inside { solid ≤ length bytes.now }
     ensures { result ≡ flow.is_gap_line at_start (text_at bytes.now at) }
 {

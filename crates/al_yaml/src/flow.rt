@@ -13,12 +13,12 @@ ghost use Rattle.al_yaml.specs.Limits.{broken_limit};
 ghost use Rattle.al_yaml.specs.Places.{IsReadInside, Shows, option_lines};
 ghost use Rattle.al_yaml.specs.Reading.{start_of};
 ghost use Rattle.al_yaml.specs.Reads.{IsAfter, IsBehind, IsColonInside, IsKeyInside, IsRead, IsStopInside, after_of, counted, flow_key_of, part_of, run};
-ghost use Rattle.al_yaml.specs.Spans.{AreInOrder, EntriesInOrder, IsWithin};
+ghost use Rattle.al_yaml.specs.Spans.{ArePlacedIn, EntriesPlacedIn, IsPlacedIn};
 ghost use Rattle.al_yaml.specs.View.{entries_of, entry_view, nodes_of, view};
 ghost use Rattle.std.specs.Prelude.{IfErr, IfOk, None, [], length, map, suc, true, ℕ, ◌+◌, ◌<◌, ◌||◌, ◌∷◌, ◌≡◌, ◌≤◌};
 
 use crate::content::gap;
-use crate::faults::{FaultAt, Stop};
+use crate::faults::{FaultAt, ReadError};
 use crate::keys::{behind_flow_colon, is_late_colon, is_simple_key};
 use crate::limits::Count;
 use crate::lines::is_text_end;
@@ -27,7 +27,7 @@ use crate::scalars::{empty_part, scalar_at, scalar_part};
 use crate::stack::Stack;
 use crate::starts::{flow_fault, is_flow_start, is_property, is_quote};
 use al_scalar::lines::begins;
-use al_scalar::{Place, ScalarRead};
+use al_scalar::{ScalarContext, ScalarRead};
 use al_text::YamlCode;
 use std::alloc::Global;
 
@@ -85,14 +85,14 @@ pub struct FlowFrame {
 
 /// How far one step reads: to the closer, to the end of a node, or to the bracket of a collection inside.
 #[derive(Drop)]
-pub enum Step {
+pub enum FlowRead {
     Closed(Part),
     Read(Waiting, Part),
     Opens(Waiting, usize),
 }
 
-/// What is to be done next: to read the innermost open collection, from an offset on; to find what waits for a collection
-/// that was read; or to hand a complete node to the collection that waits for it.
+/// What is to be done next: to read the innermost open collection, from an offset on; or to hand a collection that was read
+/// to the one that waits for it.
 #[derive(Drop)]
 pub enum Task {
     Inside {
@@ -101,7 +101,6 @@ pub enum Task {
         at: usize,
     },
     Read(Part),
-    Complete(FlowFrame, Part),
 }
 
 /// What stands behind an item or entry and the gap behind it.
@@ -160,7 +159,7 @@ fn read_flow_key(
     bytes: &[u8],
     count: &mut Count,
     at: usize,
-) -> Result<FoundKey, Stop>
+) -> Result<FoundKey, ReadError>
     requires inside { at ≤ length bytes.now }
     requires size { length bytes.now ≤ 1048576 }
     ensures fault { IfErr result (IsStopInside (length bytes.now)) }
@@ -168,10 +167,10 @@ fn read_flow_key(
     ensures within { IfOk result (λ key. IsFoundKey bytes.now at key) }
 {
     if let Some(code) = flow_fault(bytes, at) {
-        return Err(Stop::Fault(FaultAt { code, at }));
+        return Err(ReadError::Fault(FaultAt { code, at }));
     }
     if is_property(bytes, at) {
-        return Err(Stop::Fault(FaultAt {
+        return Err(ReadError::Fault(FaultAt {
             code: YamlCode::AnchorOrAlias,
             at,
         }));
@@ -179,7 +178,7 @@ fn read_flow_key(
     if is_flow_start(bytes, at) {
         return Ok(FoundKey::Opens);
     }
-    let read = scalar_at(alloc, bytes, at, Place::Flow)?;
+    let read = scalar_at(alloc, bytes, at, ScalarContext::Flow)?;
     let colon = key_colon(bytes, at, &read)?;
     count.start(at, 1, 0)?;
     Ok(FoundKey::Key(FlowKey { read, colon }))
@@ -194,7 +193,12 @@ fn ends_value(bytes: &[u8], at: usize) -> bool
 }
 
 /// Reads a node in a flow collection, if it is no collection.
-fn read_flow_node(alloc: Global, bytes: &[u8], count: &mut Count, at: usize) -> Result<Found, Stop>
+fn read_flow_node(
+    alloc: Global,
+    bytes: &[u8],
+    count: &mut Count,
+    at: usize,
+) -> Result<Found, ReadError>
     requires inside { at ≤ length bytes.now }
     requires size { length bytes.now ≤ 1048576 }
     ensures fault { IfErr result (IsStopInside (length bytes.now)) }
@@ -202,19 +206,19 @@ fn read_flow_node(alloc: Global, bytes: &[u8], count: &mut Count, at: usize) -> 
     ensures within { IfOk result (λ found. IsFound bytes.now at at found) }
 {
     if is_property(bytes, at) {
-        return Err(Stop::Fault(FaultAt {
+        return Err(ReadError::Fault(FaultAt {
             code: YamlCode::AnchorOrAlias,
             at,
         }));
     }
     if let Some(code) = flow_fault(bytes, at) {
-        return Err(Stop::Fault(FaultAt { code, at }));
+        return Err(ReadError::Fault(FaultAt { code, at }));
     }
     if is_flow_start(bytes, at) {
         return Ok(Found::Opens(at));
     }
     count.start(at, 1, 0)?;
-    let read = scalar_at(alloc, bytes, at, Place::Flow)?;
+    let read = scalar_at(alloc, bytes, at, ScalarContext::Flow)?;
     let next = read.next;
     Ok(Found::Node(scalar_part(read, next)))
 }
@@ -226,7 +230,7 @@ fn read_flow_value(
     count: &mut Count,
     opening: usize,
     key: &FlowKey,
-) -> Result<Found, Stop>
+) -> Result<Found, ReadError>
     requires inside { IsKeyInside bytes.now key.now.read.span.start key.now }
     requires opening { opening ≤ length bytes.now }
     requires size { length bytes.now ≤ 1048576 }
@@ -246,7 +250,7 @@ fn read_flow_value(
     };
     let at = gap(bytes, colon);
     if is_text_end(bytes, at) {
-        return Err(Stop::Fault(FaultAt {
+        return Err(ReadError::Fault(FaultAt {
             code: YamlCode::UnclosedFlow,
             at: opening,
         }));
@@ -266,26 +270,26 @@ fn read_item(
     opening: usize,
     items: Vec<Node>,
     at: usize,
-) -> Result<Step, Stop>
+) -> Result<FlowRead, ReadError>
     requires inside { at ≤ length bytes.now }
-    requires nested { (opening ≤ at) × AreInOrder opening at (nodes_of (map view items.items)) }
+    requires nested { (opening ≤ at) × ArePlacedIn (length bytes.now) opening at (nodes_of (map view items.items)) }
     requires size { length bytes.now ≤ 1048576 }
     ensures fault { IfErr result (IsStopInside (length bytes.now)) }
     ensures is { (depth : ℕ) → Steps bytes.now depth opening (λ c t. open_rest c t depth opening (frames.items (nodes_of (map view items.items))) (lines_at bytes.now at)) count.old.nodes result count.new.nodes }
     ensures within { IfOk result (λ step. IsStep bytes.now opening at step) }
 {
     if is_text_end(bytes, at) {
-        return Err(Stop::Fault(FaultAt {
+        return Err(ReadError::Fault(FaultAt {
             code: YamlCode::UnclosedFlow,
             at: opening,
         }));
     }
     if begins(bytes, at, b']') {
-        return Ok(Step::Closed(sequence_part(items, opening, at + 1, at + 1)));
+        return Ok(FlowRead::Closed(sequence_part(items, opening, at + 1, at + 1)));
     }
     match read_flow_node(alloc, bytes, count, at)? {
-        Found::Node(part) => Ok(Step::Read(Waiting::Item(items), part)),
-        Found::Opens(at) => Ok(Step::Opens(Waiting::Item(items), at)),
+        Found::Node(part) => Ok(FlowRead::Read(Waiting::Item(items), part)),
+        Found::Opens(at) => Ok(FlowRead::Opens(Waiting::Item(items), at)),
     }
 }
 
@@ -297,42 +301,42 @@ fn read_entry(
     opening: usize,
     entries: Vec<Entry>,
     at: usize,
-) -> Result<Step, Stop>
+) -> Result<FlowRead, ReadError>
     requires inside { at ≤ length bytes.now }
-    requires nested { (opening ≤ at) × EntriesInOrder opening at (entries_of (map entry_view entries.items)) }
+    requires nested { (opening ≤ at) × EntriesPlacedIn (length bytes.now) opening at (entries_of (map entry_view entries.items)) }
     requires size { length bytes.now ≤ 1048576 }
     ensures fault { IfErr result (IsStopInside (length bytes.now)) }
     ensures is { (depth : ℕ) → Steps bytes.now depth opening (λ c t. open_rest c t depth opening (frames.entries (entries_of (map entry_view entries.items))) (lines_at bytes.now at)) count.old.nodes result count.new.nodes }
     ensures within { IfOk result (λ step. IsStep bytes.now opening at step) }
 {
     if is_text_end(bytes, at) {
-        return Err(Stop::Fault(FaultAt {
+        return Err(ReadError::Fault(FaultAt {
             code: YamlCode::UnclosedFlow,
             at: opening,
         }));
     }
     if begins(bytes, at, b'}') {
-        return Ok(Step::Closed(mapping_part(entries, opening, at + 1, at + 1)));
+        return Ok(FlowRead::Closed(mapping_part(entries, opening, at + 1, at + 1)));
     }
     let key = match read_flow_key(alloc, bytes, count, at)? {
         FoundKey::Key(key) => key,
-        FoundKey::Opens => return Ok(Step::Opens(Waiting::Key(at), at)),
+        FoundKey::Opens => return Ok(FlowRead::Opens(Waiting::Key(at), at)),
     };
     match read_flow_value(alloc, bytes, count, opening, &key)? {
-        Found::Node(part) => Ok(Step::Read(Waiting::Value(entries, key.read), part)),
-        Found::Opens(at) => Ok(Step::Opens(Waiting::Value(entries, key.read), at)),
+        Found::Node(part) => Ok(FlowRead::Read(Waiting::Value(entries, key.read), part)),
+        Found::Opens(at) => Ok(FlowRead::Opens(Waiting::Value(entries, key.read), at)),
     }
 }
 
 /// Puts an item that was read into its sequence, and reads what stands behind it.
-fn put_item(bytes: &[u8], opening: usize, items: Vec<Node>, part: Part) -> Result<Task, Stop>
+fn put_item(bytes: &[u8], opening: usize, items: Vec<Node>, part: Part) -> Result<Task, ReadError>
     requires inside { part.next ≤ length bytes.now }
     requires opening { opening ≤ part.next }
     requires size { length bytes.now ≤ 1048576 }
     requires end { part.end ≤ part.next }
     ensures fault { IfErr result (IsStopInside (length bytes.now)) }
     ensures is { (depth n : ℕ) → Resumes bytes.now depth opening (frames.item (nodes_of (map view items.items))) (part_of bytes.now part) n result }
-    ensures within { (start : ℕ) → opening ≤ start → AreInOrder opening start (nodes_of (map view items.items)) → IsWithin start part.end (view part.node) → IfOk result (λ task. IsTask bytes.now opening part.next task) }
+    ensures within { (start : ℕ) → opening ≤ start → ArePlacedIn (length bytes.now) opening start (nodes_of (map view items.items)) → IsPlacedIn (length bytes.now) start part.end (view part.node) → IfOk result (λ task. IsTask bytes.now opening part.next task) }
 {
     let mut items = items;
     items.push(part.node)?;
@@ -353,14 +357,14 @@ fn put_entry(
     entries: Vec<Entry>,
     key: ScalarRead,
     part: Part,
-) -> Result<Task, Stop>
+) -> Result<Task, ReadError>
     requires inside { part.next ≤ length bytes.now }
     requires opening { opening ≤ part.next }
     requires size { length bytes.now ≤ 1048576 }
     requires end { part.end ≤ part.next }
     ensures fault { IfErr result (IsStopInside (length bytes.now)) }
     ensures is { (depth n : ℕ) → Resumes bytes.now depth opening (frames.value (entries_of (map entry_view entries.items)) (read_of bytes.now key)) (part_of bytes.now part) n result }
-    ensures within { (start : ℕ) → opening ≤ key.span.start → key.span.start ≤ key.span.end → key.span.end ≤ start → EntriesInOrder opening key.span.start (entries_of (map entry_view entries.items)) → IsPlaced 1048576 key.scalar key.span → IsWithin start part.end (view part.node) → IfOk result (λ task. IsTask bytes.now opening part.next task) }
+    ensures within { (start : ℕ) → opening ≤ key.span.start → key.span.start ≤ key.span.end → key.span.end ≤ start → EntriesPlacedIn (length bytes.now) opening key.span.start (entries_of (map entry_view entries.items)) → IsPlaced (length bytes.now) key.scalar key.span → IsPlacedIn (length bytes.now) start part.end (view part.node) → IfOk result (λ task. IsTask bytes.now opening part.next task) }
 {
     let mut entries = entries;
     let key = scalar_node(key.scalar, key.span);
@@ -383,9 +387,9 @@ fn read_inside(
     opening: usize,
     has: Open,
     at: usize,
-) -> Result<Step, Stop>
+) -> Result<FlowRead, ReadError>
     requires inside { at ≤ length bytes.now }
-    requires nested { IsOpenTo opening at has }
+    requires nested { IsOpenTo (length bytes.now) opening at has }
     requires size { length bytes.now ≤ 1048576 }
     ensures fault { IfErr result (IsStopInside (length bytes.now)) }
     ensures is { (depth : ℕ) → Steps bytes.now depth opening (λ c t. open_rest c t depth opening (open_of has) (lines_at bytes.now at)) count.old.nodes result count.new.nodes }
@@ -398,9 +402,9 @@ fn read_inside(
 }
 
 /// Goes on behind a node that was read in a collection which waited for it.
-fn resume(bytes: &[u8], opening: usize, waiting: Waiting, part: Part) -> Result<Task, Stop>
+fn resume(bytes: &[u8], opening: usize, waiting: Waiting, part: Part) -> Result<Task, ReadError>
     requires inside { part.next ≤ length bytes.now }
-    requires nested { IsNested opening waiting part }
+    requires nested { IsNested (length bytes.now) opening waiting part }
     requires end { part.end ≤ part.next }
     requires size { length bytes.now ≤ 1048576 }
     ensures fault { IfErr result (IsStopInside (length bytes.now)) }
@@ -410,7 +414,7 @@ fn resume(bytes: &[u8], opening: usize, waiting: Waiting, part: Part) -> Result<
     match waiting {
         Waiting::Item(items) => put_item(bytes, opening, items, part),
         Waiting::Value(entries, key) => put_entry(bytes, opening, entries, key, part),
-        Waiting::Key(at) => Err(Stop::Fault(FaultAt {
+        Waiting::Key(at) => Err(ReadError::Fault(FaultAt {
             code: YamlCode::WrongKey,
             at,
         })),
@@ -422,7 +426,7 @@ fn open_at(alloc: Global, bytes: &[u8], at: usize) -> (Open, usize)
     requires inside { at < length bytes.now }
     requires bracket { content.is_flow_start (text_at bytes.now at) ≡ true }
     ensures is { (bound depth n m : ℕ) → broken_limit n 0 (start_of at 1 depth ∷ []) ≡ None → m ≡ n + 1 → run (counted n) (flow.flow_collection (suc bound) depth (lines_at bytes.now at)) ≡ run (counted m) (open_rest (flow.flow_collection bound) (suc bound) (depth + 1) at (open_of result.0) (lines_at bytes.now result.1)) }
-    ensures nested { IsOpenTo at result.1 result.0 }
+    ensures nested { IsOpenTo (length bytes.now) at result.1 result.0 }
     ensures from { at < result.1 }
     ensures end { result.1 ≤ length bytes.now }
 {
@@ -443,7 +447,7 @@ pub fn read_flow_collection(
     stack: &mut Stack,
     depth: u32,
     at: usize,
-) -> Result<Part, Stop>
+) -> Result<Part, ReadError>
     requires inside { at < length bytes.now }
     requires bracket { content.is_flow_start (text_at bytes.now at) ≡ true }
     requires size { length bytes.now ≤ 1048576 }
@@ -453,7 +457,7 @@ pub fn read_flow_collection(
     ensures fault { IfErr result (IsStopInside (length bytes.now)) }
     ensures is { (bound : ℕ) → length bytes.now < bound + at → IsRead (part_of bytes.now) (flow.flow_collection bound depth (lines_at bytes.now at)) count.old.nodes result count.new.nodes }
     ensures within { IfOk result (λ part. IsBehind bytes.now at part) }
-    ensures nested { IfOk result (λ part. IsWithin at part.end (view part.node)) }
+    ensures nested { IfOk result (λ part. IsPlacedIn (length bytes.now) at part.end (view part.node)) }
     ensures same { IfOk result (λ _. stack.new ≡ stack.old) }
 {
     count.start(at, 1, depth)?;
@@ -472,11 +476,9 @@ pub fn read_flow_collection(
                 at: from,
             } => {
                 match read_inside(alloc, bytes, count, opening, has, from)? {
-                    Step::Closed(part) => task = Task::Read(part),
-                    Step::Read(waiting, part) => {
-                        task = Task::Complete(FlowFrame { opening, waiting }, part);
-                    }
-                    Step::Opens(waiting, bracket) => {
+                    FlowRead::Closed(part) => task = Task::Read(part),
+                    FlowRead::Read(waiting, part) => task = resume(bytes, opening, waiting, part)?,
+                    FlowRead::Opens(waiting, bracket) => {
                         count.start(bracket, 1, depth + 1 + (stack.len() - outside) as u32)?;
                         stack.push_flow(FlowFrame { opening, waiting });
                         let (has, inside) = open_at(alloc, bytes, bracket);
@@ -492,9 +494,6 @@ pub fn read_flow_collection(
                 let Some(frame) = stack.pop_flow() else {
                     return Ok(part);
                 };
-                task = Task::Complete(frame, part);
-            }
-            Task::Complete(frame, part) => {
                 task = resume(bytes, frame.opening, frame.waiting, part)?;
             }
         }

@@ -7,20 +7,25 @@ ghost use Rattle.al_yaml.specs.Flow as flow;
 ghost use Rattle.al_yaml.specs.Node as tree;
 ghost use Rattle.al_yaml.specs.Places.{IsReadInside, Shows};
 ghost use Rattle.al_yaml.specs.Reads.{Answers, IsBehind, IsRead, IsStopInside, part_of};
-ghost use Rattle.al_yaml.specs.Spans.{IsWithin};
+ghost use Rattle.al_yaml.specs.Spans.{IsPlacedIn};
 ghost use Rattle.al_yaml.specs.View.{view};
 ghost use Rattle.std.specs.Prelude.{IfErr, IfOk, length, ◌≡◌, ◌≤◌};
 
 use crate::content::line_ended;
-use crate::faults::{FaultAt, Stop};
+use crate::faults::{FaultAt, ReadError};
 use crate::limits::Count;
 use crate::node::{Part, scalar_node};
 use crate::starts::is_block_start;
-use al_scalar::{Place, ScalarRead, read_scalar};
+use al_scalar::{ScalarContext, ScalarRead, read_scalar};
 use std::alloc::Global;
 
 /// Reads the scalar at an offset.
-pub fn scalar_at(alloc: Global, bytes: &[u8], at: usize, place: Place) -> Result<ScalarRead, Stop>
+pub fn scalar_at(
+    alloc: Global,
+    bytes: &[u8],
+    at: usize,
+    place: ScalarContext,
+) -> Result<ScalarRead, ReadError>
     requires inside { at ≤ length bytes.now }
     requires size { length bytes.now ≤ 1048576 }
     ensures fault { IfErr result (IsStopInside (length bytes.now)) }
@@ -29,7 +34,7 @@ pub fn scalar_at(alloc: Global, bytes: &[u8], at: usize, place: Place) -> Result
 {
     match read_scalar(alloc, bytes, at, place)? {
         Ok(read) => Ok(read),
-        Err(fault) => Err(Stop::Fault(FaultAt {
+        Err(fault) => Err(ReadError::Fault(FaultAt {
             code: fault.code,
             at: fault.span.start as usize,
         })),
@@ -57,17 +62,17 @@ pub fn empty_part(
     count: &mut Count,
     at: usize,
     next: usize,
-) -> Result<Part, Stop>
+) -> Result<Part, ReadError>
     requires inside { at ≤ length bytes.now }
     requires size { length bytes.now ≤ 1048576 }
     ensures fault { IfErr result (IsStopInside (length bytes.now)) }
     ensures is { IsRead (part_of bytes.now) (flow.empty_node at (lines_at bytes.now next)) count.old.nodes result count.new.nodes }
     ensures end { IfOk result (λ part. part.end ≡ at) }
     ensures next { IfOk result (λ part. part.next ≡ next) }
-    ensures nested { IfOk result (λ part. IsWithin at part.end (view part.node)) }
+    ensures nested { IfOk result (λ part. IsPlacedIn (length bytes.now) at part.end (view part.node)) }
 {
     count.start(at, 1, 0)?;
-    let read = scalar_at(alloc, bytes, at, Place::Empty)?;
+    let read = scalar_at(alloc, bytes, at, ScalarContext::Empty)?;
     Ok(scalar_part(read, next))
 }
 
@@ -93,17 +98,17 @@ pub fn read_line_scalar(
     count: &mut Count,
     within: usize,
     at: usize,
-) -> Result<Part, Stop>
+) -> Result<Part, ReadError>
     requires inside { at ≤ length bytes.now }
     requires size { length bytes.now ≤ 1048576 }
     requires within { within ≤ 1048577 }
     ensures fault { IfErr result (IsStopInside (length bytes.now)) }
     ensures is { IsRead (part_of bytes.now) (block.scalar_node_at within (lines_at bytes.now at)) count.old.nodes result count.new.nodes }
     ensures within { IfOk result (λ part. IsBehind bytes.now at part) }
-    ensures nested { IfOk result (λ part. IsWithin at part.end (view part.node)) }
+    ensures nested { IfOk result (λ part. IsPlacedIn (length bytes.now) at part.end (view part.node)) }
 {
     count.start(at, 1, 0)?;
-    let read = scalar_at(alloc, bytes, at, Place::Block(within as u32))?;
+    let read = scalar_at(alloc, bytes, at, ScalarContext::Block(within as u32))?;
     let next = scalar_left(bytes, at, read.next)?;
     Ok(scalar_part(read, next))
 }

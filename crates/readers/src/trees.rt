@@ -1,4 +1,4 @@
-use al_expr::{Expr, Keyword, Operand, Operator, Step};
+use al_expr::{Expr, Keyword, Operand, Operator, PathStep};
 use std::alloc::AllocError;
 
 fn keyword_text(keyword: Keyword) -> &'static str {
@@ -79,17 +79,17 @@ pub fn push_expr(out: &mut String, content: &[u8], expr: &Expr) -> Result<(), Al
 }
 
 #[cycle(trees)]
-fn push_step(out: &mut String, content: &[u8], step: &Step) -> Result<(), AllocError> {
+fn push_step(out: &mut String, content: &[u8], step: &PathStep) -> Result<(), AllocError> {
     match step {
-        Step::Property(_, word) => {
+        PathStep::Property(_, word) => {
             out.push('.')?;
             out.push_str(&word.text)?;
         }
-        Step::All(first, _) => match content.get(first.start as usize) {
+        PathStep::All(first, _) => match content.get(first.start as usize) {
             Some(b'[') => out.push_str("[*]")?,
             _ => out.push_str(".*")?,
         },
-        Step::Index(_, index, _) => {
+        PathStep::Index(_, index, _) => {
             out.push('[')?;
             push_expr(out, content, index)?;
             out.push(']')?;

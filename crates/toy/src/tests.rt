@@ -1,3 +1,5 @@
+//! Tests of a session over the small linter.
+
 use crate::linter::Toy;
 use al_session::{Change, Refused, Session, apply_change, apply_changes};
 use al_text::{Output, Stop};
@@ -295,9 +297,9 @@ fn rechecks(session: &mut Session<Toy>, edit: &Change, wanted: &[&str]) -> bool 
 }
 
 // An edit, the files that it checks again, and the report then.
-type Step = (Change<'static>, &'static [&'static str], &'static [u8]);
+type EditRow = (Change<'static>, &'static [&'static str], &'static [u8]);
 
-fn follows(rt: &HostRuntime, session: &mut Session<Toy>, steps: &[Step]) -> Result<bool, Stop> {
+fn follows(rt: &HostRuntime, session: &mut Session<Toy>, steps: &[EditRow]) -> Result<bool, Stop> {
     for (edit, wanted, text) in steps {
         if !rechecks(session, edit, wanted) || report(rt, session)?.as_slice() != *text {
             return Ok(false);
@@ -307,7 +309,7 @@ fn follows(rt: &HostRuntime, session: &mut Session<Toy>, steps: &[Step]) -> Resu
 }
 
 // A call of an absent file, which then comes, with nothing to offer. A file without calls stands beside them.
-const CALLED: [Step; 3] = [
+const CALLED: [EditRow; 3] = [
     (Change::Put("z.toy", b"have z"), &["z.toy"], b""),
     (Change::Put("c.toy", CALLER), &["c.toy"], ABSENT_CALL),
     (

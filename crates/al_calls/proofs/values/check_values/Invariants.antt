@@ -7,5 +7,5 @@ use Rattle.al_calls.proofs.values.check_values.Given as goal
 
 abbrev pub invariant-loop-value : goal.invariant-loop-value
 invariant-loop-value l =
-    l.out.items ++ flat_map (wrong_input (call_of l.call) l.signature) (map given_of (drop l.value-index l.values))
-    ≡ l.fn.out.items ++ flat_map (wrong_input (call_of l.call) l.signature) (map given_of l.values)
+    l.out.items ++ flat_map (wrong_input (call_of l.call) l.signature.inputs) (map given_of (drop l.value-index l.values))
+    ≡ l.fn.out.items ++ flat_map (wrong_input (call_of l.call) l.signature.inputs) (map given_of l.values)

@@ -1,9 +1,8 @@
 use Rattle.std.proofs.Common.{◌≡◌, ◌≤◌, length, sym, subst, arith, false}
 use Rattle.std.specs.Prelude.{Ok}
-use Rattle.al_contents.specs.Inside.{AreFrom}
 use Rattle.al_yaml.proofs.SpanLemmas.{wider}
 use Rattle.al_yaml.specs.Document.{tree_of}
-use Rattle.al_yaml.specs.Spans.{IsInside, IsWithin}
+use Rattle.al_yaml.specs.Spans.{AreFrom, IsInside, IsWithin}
 use Rattle.al_yaml.specs.Texts.{HasTexts}
 use Rattle.al_yaml.specs.View.{view}
 use Rattle.al_check.specs.Reading.{root_of}

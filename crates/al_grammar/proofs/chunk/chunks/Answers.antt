@@ -1,6 +1,6 @@
 use Rattle.std.proofs.Common.{◌≡◌, ◌≤◌, ◌<◌, ◌-◌, ◌+◌, ◌∷◌, [], ℕ, zero, suc, List, length, drop, map, ap, ◌∙◌, sym, refl, arith, length-drop}
 use Rattle.std.proofs.lemmas.List.{take_rest, drop-drop, map-append}
-use Rattle.al_grammar.specs.declared.chunk.Place.TheVariants.{Outside}
+use Rattle.al_grammar.specs.declared.chunk.ChunkState.TheVariants.{Outside}
 use Rattle.al_grammar.specs.Chunks.{behind_chunks, chunks_from, then_chunk, span_of_chunk, IsCutFrom}
 use Rattle.al_grammar.specs.Tokens.{span}
 use Rattle.al_grammar.proofs.Chunking.{goes_on, ends, behind_one, stands, cut_more}
@@ -13,10 +13,10 @@ text-preserved-in-On c =
     let some : c.text.at < length c.args.text.now = omega (arith, f, length-drop c.text.at c.args.text.now) in
     record {
       within = omega (arith, f, length-drop c.text.at c.args.text.now);
-      stands = stands c.args.text.now c.text.place c.in-On.after c.text.at c.in-On.skip c.utf8.text some m c.text.invariant.stands;
+      stands = stands c.args.text.now c.text.state c.in-On.after c.text.at c.in-On.skip c.utf8.text some m c.text.invariant.stands;
       contents = c.text.invariant.contents;
       so_far = c.text.invariant.so_far ∙ ap (behind_chunks (map span_of_chunk c.text.found.items))
-          (goes_on c.text.place c.in-On.after c.text.at c.in-On.skip (1 + c.in-On.skip) (drop c.text.at c.args.text.now) m (omega arith) f
+          (goes_on c.text.state c.in-On.after c.text.at c.in-On.skip (1 + c.in-On.skip) (drop c.text.at c.args.text.now) m (omega arith) f
           ∙ ap (chunks_from 0 c.in-On.after (c.text.at + (1 + c.in-On.skip))) (drop-drop (1 + c.in-On.skip) c.text.at c.args.text.now));
     }
 
@@ -30,7 +30,7 @@ text-preserved c =
       contents = rw c.in_ok-push-in-End.ensures.items (cut_more c.args.text.now c.text.found.items c.cut.result c.text.invariant.contents c.cut.ensures.content);
       so_far = rw (c.in_ok-push-in-End.ensures.items, map-append, c.cut.ensures.span)
           (c.text.invariant.so_far ∙ ap (behind_chunks (map span_of_chunk c.text.found.items))
-          (ends c.text.place c.text.at c.in-End.start (drop c.text.at c.args.text.now) m f
+          (ends c.text.state c.text.at c.in-End.start (drop c.text.at c.args.text.now) m f
           ∙ ap (λ bs. then_chunk (span c.in-End.start c.text.at) (chunks_from 0 Outside (c.text.at + 2) bs)) (drop-drop 2 c.text.at c.args.text.now))
           ∙ behind_one _ _ _);
     }

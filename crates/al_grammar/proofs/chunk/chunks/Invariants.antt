@@ -6,9 +6,9 @@ use Rattle.al_grammar.proofs.chunk.chunks.Given as goal
 abbrev pub invariant-text : goal.invariant-text
 invariant-text l = record {
   within : l.at ≤ length l.text;
-  stands : StandsIn l.text l.at l.place;
+  stands : StandsIn l.text l.at l.state;
   contents : All (IsCutFrom l.text) l.found.items;
-  so_far : chunks_of l.text ≡ behind_chunks (map span_of_chunk l.found.items) (chunks_from 0 l.place l.at (drop l.at l.text));
+  so_far : chunks_of l.text ≡ behind_chunks (map span_of_chunk l.found.items) (chunks_from 0 l.state l.at (drop l.at l.text));
 }
 
 abbrev pub decreases-text : goal.decreases-text

@@ -5,6 +5,6 @@ use Rattle.al_meaning.proofs.placeholders.used_arguments.Given as goal
 
 abbrev pub invariant-loop-byte : goal.invariant-loop-byte
 invariant-loop-byte l = record {
-  small : IsSmall l.place;
-  so_far : used_from l.place l.used.items (drop l.byte-index l.byte-items) ≡ used_arguments l.fn.count l.fn.text;
+  small : IsSmall l.state;
+  so_far : used_from l.state l.used.items (drop l.byte-index l.byte-items) ≡ used_arguments l.fn.count l.fn.text;
 }

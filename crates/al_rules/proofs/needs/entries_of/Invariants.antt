@@ -1,7 +1,8 @@
 use Rattle.std.proofs.Common.{◌≡◌, take, map}
-use Rattle.al_rules.specs.Views.{named_of, need_of}
+use Rattle.al_reports.specs.Views.{named_of}
+use Rattle.al_rules.specs.Views.{need_of}
 use Rattle.al_shape.specs.Values.{scalar_node_of}
-use Rattle.al_rules.specs.Words.{of_scalar}
+use Rattle.al_reports.specs.Words.{of_scalar}
 use Rattle.al_rules.proofs.needs.entries_of.Given as goal
 
 abbrev pub invariant-loop-text : goal.invariant-loop-text

@@ -1,6 +1,6 @@
 use Rattle.std.proofs.Common.{◌∙◌, ◌+◌, ◌++◌, ◌∷◌, [], refl, ap, sym, arith, append-nil, slice_index}
 use Rattle.al_scalar.specs.Places.{cells_between}
-use Rattle.al_scalar.specs.Quoted.{Part}
+use Rattle.al_scalar.specs.Quoted.{QuotedLine}
 use Rattle.al_scalar.specs.Single.{part_at}
 use Rattle.al_scalar.proofs.SingleLemmas.{run_at, text-line_end, part-broken, goes-byte, goes-pair, stops-quote, same-quote, kept-text, done-text, same_then, is_inside, never}
 use Rattle.al_scalar.proofs.LineLemmas.{pushed}
@@ -27,7 +27,7 @@ returns-then-is_line_end-clause-stop c =
     let at_end = c.if-is_line_end.ensures.0 refl in
     let reached = run_at bytes i solid run found.lines in
     let part = part-broken bytes i solid run reached found.blanks (text-line_end bytes solid found.inside at_end) in
-    (c.loop-at.invariant.stop ∙ ap (λ (p : Part). p.stop) part, found.inside, at_end, same_then c.loop-at.invariant.same reached.same)
+    (c.loop-at.invariant.stop ∙ ap (λ (p : QuotedLine). p.stop) part, found.inside, at_end, same_then c.loop-at.invariant.same reached.same)
 
 pub loop-at-preserved-then-bytes-solid-ne39 : goal.loop-at-preserved-then-bytes-solid-ne39
 loop-at-preserved-then-bytes-solid-ne39 c =
@@ -43,7 +43,7 @@ loop-at-preserved-then-bytes-solid-ne39 c =
       inside = omega arith;
       text = kept-text c.args.text.now (part_at bytes c.args.at).text c.loop-at.text (run ++ (slice_index bytes solid, solid) ∷ []) (part_at bytes (solid + 1))
           c.loop-at.invariant.text goes.part (pushed c.loop-at.text run (slice_index bytes solid, solid) c.in_ok-push.ensures.added c.in_ok-push_run.ensures.added refl);
-      stop = c.loop-at.invariant.stop ∙ ap (λ (p : Part). p.stop) goes.part;
+      stop = c.loop-at.invariant.stop ∙ ap (λ (p : QuotedLine). p.stop) goes.part;
       same = same_then c.loop-at.invariant.same goes.same;
     }
 
@@ -61,7 +61,7 @@ loop-at-preserved c =
       inside = let next = c.if-begins_quote.ensures.inside refl in omega arith;
       text = kept-text c.args.text.now (part_at bytes c.args.at).text c.loop-at.text (run ++ (slice_index bytes solid, solid) ∷ []) (part_at bytes (solid + 2))
           c.loop-at.invariant.text goes.part (pushed c.loop-at.text run (slice_index bytes solid, solid) c.in_ok-push-2.ensures.added c.in_ok-push_run.ensures.added refl);
-      stop = c.loop-at.invariant.stop ∙ ap (λ (p : Part). p.stop) goes.part;
+      stop = c.loop-at.invariant.stop ∙ ap (λ (p : QuotedLine). p.stop) goes.part;
       same = same_then c.loop-at.invariant.same goes.same;
     }
 
@@ -86,4 +86,4 @@ returns-else-begins_quote-clause-stop c =
     let here = is_inside bytes solid found.inside (λ h. never (c.if-is_line_end.ensures.1 h)) in
     let reached = run_at bytes i solid run found.lines in
     let part = stops-quote bytes i solid run reached found.blanks here.inside here.not_feed here.not_return c.if-bytes-solid-ne39.false (λ l e. never (c.if-begins_quote.ensures.none l e)) in
-    (c.loop-at.invariant.stop ∙ ap (λ (p : Part). p.stop) part, omega arith, same_then c.loop-at.invariant.same (same-quote bytes i solid run reached found.blanks here.inside here.not_feed here.not_return))
+    (c.loop-at.invariant.stop ∙ ap (λ (p : QuotedLine). p.stop) part, omega arith, same_then c.loop-at.invariant.same (same-quote bytes i solid run reached found.blanks here.inside here.not_feed here.not_return))

@@ -3,9 +3,9 @@ use Rattle.std.specs.Prelude.{string_bytes}
 use Rattle.std.specs.Global.{Global}
 use Rattle.std.proofs.lemmas.Result.{err_from_is_err_and}
 use Rattle.std.proofs.lemmas.List.Elements.{All-from_recursion}
-use Rattle.al_session.specs.Kept.{lines_of, IsPrintable}
-use Rattle.al_session.specs.declared.kept.KeptFile.{KeptFile}
-use Rattle.al_session.proofs.Missings.{read_is}
+use Rattle.al_session.specs.Session.{lines_of, IsPrintable}
+use Rattle.al_folder.specs.declared.kept.KeptFile.{KeptFile}
+use Rattle.al_folder.proofs.Missings.{read_is}
 use Rattle.al_text.proofs.Bytes.{Appends-next, AppendsFront-next}
 use Rattle.al_session.proofs.report.write_files.Goals as goal
 

@@ -3,7 +3,7 @@ use Rattle.std.specs.Prelude.{string_bytes}
 use Rattle.std.specs.Io.KnownBytes.{Appends}
 use Rattle.std.specs.List.{flat_map}
 use Rattle.al_text.specs.Streams.{bytes_written, write_failures}
-use Rattle.al_session.specs.Kept.{lines_of}
+use Rattle.al_session.specs.Session.{lines_of}
 use Rattle.al_session.proofs.report.write_files.Given as goal
 
 abbrev pub invariant-loop-index : goal.invariant-loop-index

@@ -1,10 +1,16 @@
-use Rattle.std.proofs.Common.{◌≡◌, take}
+use Rattle.std.proofs.Common.{◌≡◌, ◌≤◌, ℕ, List, Option, length}
 use Rattle.std.specs.Io.KnownBytes.{Appends}
+use Rattle.al_text.specs.Counted.{AppendsFront}
 use Rattle.al_text.specs.Messages.{shown}
 use Rattle.al_text.proofs.printing.write_shown.Given as goal
 
-abbrev pub invariant-loop-byte : goal.invariant-loop-byte
-invariant-loop-byte g l = record {
-  appended : Appends (g.W.Write.contents l.fn.writer.inner) (g.W.Write.contents l.writer.inner) (shown (take l.byte-index l.text));
+abbrev pub invariant-loop-at : goal.invariant-loop-at
+invariant-loop-at g l = record {
+  shorter : length l.rest ≤ length l.text;
+  all : (b : Option (List ℕ)) → Appends (g.W.Write.contents l.writer.inner) b (shown l.rest) → Appends (g.W.Write.contents l.fn.writer.inner) b (shown l.text);
+  front : (b : Option (List ℕ)) → AppendsFront (g.W.Write.contents l.writer.inner) b (shown l.rest) → AppendsFront (g.W.Write.contents l.fn.writer.inner) b (shown l.text);
   unfailed : l.writer.failures ≡ l.fn.writer.failures;
 }
+
+abbrev pub decreases-loop-at : goal.decreases-loop-at
+decreases-loop-at g l = length l.rest

@@ -11,7 +11,7 @@ use Rattle.al_yaml.specs.Reads.{run, counted, part_of}
 use Rattle.al_yaml.specs.View.{view, entry_view, entries_of}
 use Rattle.al_yaml.proofs.ReadLemmas.{entries_of-more, same_part}
 use Rattle.al_yaml.proofs.BlockStepLemmas.{entries-wrong, entries-ended, entries-stop, entries-more, next-from}
-use Rattle.al_yaml.proofs.SpanLemmas.{entries-more as order-more, mapping-nested, wider}
+use Rattle.al_yaml.proofs.SpanLemmas.{entries-more as order-more, mapping-nested, wider_in}
 use Rattle.al_yaml.proofs.block.put_block_entry.Goals as goal
 
 pub returns-in_err-at-clause-is : goal.returns-in_err-at-clause-is
@@ -27,9 +27,9 @@ returns-in_default-clause-is c = λ bound turns h.
 
 pub returns-in_default-clause-within : goal.returns-in_default-clause-within
 returns-in_default-clause-within c = λ low a b d h q w. (
-  mapping-nested c.mapping_part.result (entries_of (map entry_view c.push.new.self.items)) c.args.start c.args.part.end c.mapping_part.ensures.node c.mapping_part.ensures.end c.requires.start
-      (order-more c.args.start c.args.key.span.start c.args.part.end c.args.part.end c.args.entries.items c.push.new.self.items c.entry_of.result c.args.key.scalar c.args.key.span (view c.args.part.node) c.in_ok-push.ensures.items (c.entry_of.ensures ∙ ap (λ x. (x, view c.args.part.node)) c.scalar_node-key.ensures)
-      a (omega arith) b (omega arith) h q (wider low c.args.part.end c.args.key.span.end c.args.part.end (view c.args.part.node) d (omega arith) w)),
+  mapping-nested (length c.args.bytes.now) c.mapping_part.result (entries_of (map entry_view c.push.new.self.items)) c.args.start c.args.part.end c.mapping_part.ensures.node c.mapping_part.ensures.end c.requires.start
+      (order-more (length c.args.bytes.now) c.args.start c.args.key.span.start c.args.part.end c.args.part.end c.args.entries.items c.push.new.self.items c.entry_of.result c.args.key.scalar c.args.key.span (view c.args.part.node) c.in_ok-push.ensures.items (c.entry_of.ensures ∙ ap (λ x. (x, view c.args.part.node)) c.scalar_node-key.ensures)
+      a (omega arith) b (omega arith) h q (wider_in (length c.args.bytes.now) low c.args.part.end c.args.key.span.end c.args.part.end (view c.args.part.node) d (omega arith) w)),
   record { from = omega (arith, c.mapping_part.ensures.next); inside = omega (arith, c.requires.inside, c.mapping_part.ensures.next); end = omega (arith, c.requires.end, c.mapping_part.ensures.end, c.mapping_part.ensures.next) },
   rw c.mapping_part.ensures.next (c.requires.next),
 )
@@ -55,8 +55,8 @@ returns-clause-within c = λ low a b d h q w.
       (c.in_ok-key.ensures.inside, rw c.in-Some.is at c.in_ok-at.ensures.column),
       (
         omega (arith, here, c.requires.start, c.requires.end),
-        order-more c.args.start c.args.key.span.start c.args.part.end c.in-Some.at c.args.entries.items c.push.new.self.items c.entry_of.result c.args.key.scalar c.args.key.span (view c.args.part.node) c.in_ok-push.ensures.items (c.entry_of.ensures ∙ ap (λ x. (x, view c.args.part.node)) c.scalar_node-key.ensures)
-            a (omega arith) b (omega (arith, here, c.requires.end)) h q (wider low c.args.part.end c.args.key.span.end c.args.part.end (view c.args.part.node) d (omega arith) w),
+        order-more (length c.args.bytes.now) c.args.start c.args.key.span.start c.args.part.end c.in-Some.at c.args.entries.items c.push.new.self.items c.entry_of.result c.args.key.scalar c.args.key.span (view c.args.part.node) c.in_ok-push.ensures.items (c.entry_of.ensures ∙ ap (λ x. (x, view c.args.part.node)) c.scalar_node-key.ensures)
+            a (omega arith) b (omega (arith, here, c.requires.end)) h q (wider_in (length c.args.bytes.now) low c.args.part.end c.args.key.span.end c.args.part.end (view c.args.part.node) d (omega arith) w),
       ),
       here,
     )

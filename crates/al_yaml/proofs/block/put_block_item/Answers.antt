@@ -25,8 +25,8 @@ returns-in_default-clause-is c = λ bound turns h.
 
 pub returns-in_default-clause-within : goal.returns-in_default-clause-within
 returns-in_default-clause-within c = λ low o h w. (
-  sequence-nested c.sequence_part.result (nodes_of (map view c.push.new.self.items)) c.args.start c.args.part.end c.sequence_part.ensures.node c.sequence_part.ensures.end c.requires.start
-      (order-more c.args.start low c.args.part.end c.args.part.end c.args.items.items c.push.new.self.items c.args.part.node c.in_ok-push.ensures.items o (omega arith) h w),
+  sequence-nested (length c.args.bytes.now) c.sequence_part.result (nodes_of (map view c.push.new.self.items)) c.args.start c.args.part.end c.sequence_part.ensures.node c.sequence_part.ensures.end c.requires.start
+      (order-more (length c.args.bytes.now) c.args.start low c.args.part.end c.args.part.end c.args.items.items c.push.new.self.items c.args.part.node c.in_ok-push.ensures.items o (omega arith) h w),
   record { from = omega (arith, c.sequence_part.ensures.next); inside = omega (arith, c.requires.inside, c.sequence_part.ensures.next); end = omega (arith, c.requires.end, c.sequence_part.ensures.end, c.sequence_part.ensures.next) },
   rw c.sequence_part.ensures.next (c.requires.next),
 )
@@ -39,8 +39,8 @@ returns-then-in_mapping-clause-is c = λ bound turns h.
 
 pub returns-then-in_mapping-clause-within : goal.returns-then-in_mapping-clause-within
 returns-then-in_mapping-clause-within c = λ low o h w. (
-  sequence-nested c.sequence_part-then-in_mapping.result (nodes_of (map view c.push.new.self.items)) c.args.start c.args.part.end c.sequence_part-then-in_mapping.ensures.node c.sequence_part-then-in_mapping.ensures.end c.requires.start
-      (order-more c.args.start low c.args.part.end c.args.part.end c.args.items.items c.push.new.self.items c.args.part.node c.in_ok-push.ensures.items o (omega arith) h w),
+  sequence-nested (length c.args.bytes.now) c.sequence_part-then-in_mapping.result (nodes_of (map view c.push.new.self.items)) c.args.start c.args.part.end c.sequence_part-then-in_mapping.ensures.node c.sequence_part-then-in_mapping.ensures.end c.requires.start
+      (order-more (length c.args.bytes.now) c.args.start low c.args.part.end c.args.part.end c.args.items.items c.push.new.self.items c.args.part.node c.in_ok-push.ensures.items o (omega arith) h w),
   record { from = omega (arith, c.sequence_part-then-in_mapping.ensures.next); inside = omega (arith, c.requires.inside, c.sequence_part-then-in_mapping.ensures.next); end = omega (arith, c.requires.end, c.sequence_part-then-in_mapping.ensures.end, c.sequence_part-then-in_mapping.ensures.next) },
   rw c.sequence_part-then-in_mapping.ensures.next (c.requires.next),
 )
@@ -65,7 +65,7 @@ returns-then-is_dash-clause-within c = λ low o h w.
       (sym c.if-is_dash.ensures.value, c.if-is_dash.ensures.inside refl, rw c.in-Some.is at c.in_ok-at.ensures.column),
       (
         omega (arith, here, c.requires.start, c.requires.end),
-        order-more c.args.start low c.args.part.end c.in-Some.at c.args.items.items c.push.new.self.items c.args.part.node c.in_ok-push.ensures.items o (omega (arith, here, c.requires.end)) h w,
+        order-more (length c.args.bytes.now) c.args.start low c.args.part.end c.in-Some.at c.args.items.items c.push.new.self.items c.args.part.node c.in_ok-push.ensures.items o (omega (arith, here, c.requires.end)) h w,
       ),
       here,
     )

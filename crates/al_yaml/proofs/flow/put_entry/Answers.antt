@@ -1,4 +1,4 @@
-use Rattle.std.proofs.Common.{◌≤◌, map, refl, ap, ◌∙◌, arith, Ok}
+use Rattle.std.proofs.Common.{length, ◌≤◌, map, refl, ap, ◌∙◌, arith, Ok}
 use Rattle.std.proofs.lemmas.Result.{err_from_is_err_and}
 use Rattle.al_scalar.specs.Contract.{read_of}
 use Rattle.al_scalar.specs.Places.{lines_at}
@@ -6,10 +6,10 @@ use Rattle.al_yaml.specs.Node as tree
 use Rattle.al_yaml.specs.Flow.{after_item}
 use Rattle.al_yaml.specs.Reads.{part_of, after_of}
 use Rattle.al_yaml.specs.View.{view, entry_view, entries_of}
-use Rattle.al_yaml.specs.declared.faults.Stop.TheVariants as stop
+use Rattle.al_yaml.specs.declared.faults.ReadError.TheVariants as stop
 use Rattle.al_yaml.proofs.ReadLemmas.{entries_of-more}
 use Rattle.al_yaml.proofs.FlowStepLemmas.{entry-refused, entry-more, entry-end}
-use Rattle.al_yaml.proofs.SpanLemmas.{entries-more, mapping-nested, wider}
+use Rattle.al_yaml.proofs.SpanLemmas.{entries-more, mapping-nested, wider_in}
 use Rattle.al_yaml.proofs.flow.put_entry.Goals as goal
 
 pub returns-in_err-at-clause-is : goal.returns-in_err-at-clause-is
@@ -32,8 +32,8 @@ returns-in-GoesOn-clause-within c = λ start a b d h q w.
     let here : c.args.part.end ≤ c.in-GoesOn.at = omega (arith, c.requires.end, c.gap.ensures.from, inside.0) in (
       (
         omega (arith, c.requires.opening, c.gap.ensures.from, inside.0),
-        entries-more c.args.opening c.args.key.span.start c.args.part.end c.in-GoesOn.at c.args.entries.items c.push.new.self.items c.entry_of.result c.args.key.scalar c.args.key.span (view c.args.part.node) c.in_ok-push.ensures.items (c.entry_of.ensures ∙ ap (λ x. (x, view c.args.part.node)) c.scalar_node-key.ensures)
-            a (omega arith) b here h q (wider start c.args.part.end c.args.key.span.end c.args.part.end (view c.args.part.node) d (omega arith) w),
+        entries-more (length c.args.bytes.now) c.args.opening c.args.key.span.start c.args.part.end c.in-GoesOn.at c.args.entries.items c.push.new.self.items c.entry_of.result c.args.key.scalar c.args.key.span (view c.args.part.node) c.in_ok-push.ensures.items (c.entry_of.ensures ∙ ap (λ x. (x, view c.args.part.node)) c.scalar_node-key.ensures)
+            a (omega arith) b here h q (wider_in (length c.args.bytes.now) start c.args.part.end c.args.key.span.end c.args.part.end (view c.args.part.node) d (omega arith) w),
       ),
       omega (arith, c.gap.ensures.from, inside.0),
       inside.1,
@@ -51,8 +51,8 @@ returns-in-Closes-clause-within c = λ start a b d h q w.
     let inside = rw c.in-Closes.is at c.in_ok-at.ensures.after in
     let here : c.args.part.end ≤ c.in-Closes.next = omega (arith, c.requires.end, c.gap.ensures.from, inside.0) in
     let low : c.args.opening ≤ c.in-Closes.next = omega (arith, c.requires.opening, c.gap.ensures.from, inside.0) in (
-      mapping-nested c.mapping_part.result (entries_of (map entry_view c.push.new.self.items)) c.args.opening c.in-Closes.next c.mapping_part.ensures.node c.mapping_part.ensures.end low
-          (entries-more c.args.opening c.args.key.span.start c.args.part.end c.in-Closes.next c.args.entries.items c.push.new.self.items c.entry_of.result c.args.key.scalar c.args.key.span (view c.args.part.node) c.in_ok-push.ensures.items (c.entry_of.ensures ∙ ap (λ x. (x, view c.args.part.node)) c.scalar_node-key.ensures)
-          a (omega arith) b here h q (wider start c.args.part.end c.args.key.span.end c.args.part.end (view c.args.part.node) d (omega arith) w)),
+      mapping-nested (length c.args.bytes.now) c.mapping_part.result (entries_of (map entry_view c.push.new.self.items)) c.args.opening c.in-Closes.next c.mapping_part.ensures.node c.mapping_part.ensures.end low
+          (entries-more (length c.args.bytes.now) c.args.opening c.args.key.span.start c.args.part.end c.in-Closes.next c.args.entries.items c.push.new.self.items c.entry_of.result c.args.key.scalar c.args.key.span (view c.args.part.node) c.in_ok-push.ensures.items (c.entry_of.ensures ∙ ap (λ x. (x, view c.args.part.node)) c.scalar_node-key.ensures)
+          a (omega arith) b here h q (wider_in (length c.args.bytes.now) start c.args.part.end c.args.key.span.end c.args.part.end (view c.args.part.node) d (omega arith) w)),
       record { from = omega (arith, c.gap.ensures.from, inside.0, c.mapping_part.ensures.next); inside = omega (arith, inside.1, c.mapping_part.ensures.next); end = omega (arith, c.mapping_part.ensures.next, c.mapping_part.ensures.end) },
     )

@@ -1,10 +1,10 @@
-use Rattle.std.proofs.Common.{◌≤◌, map, refl, ap, ◌∙◌, arith, Ok}
+use Rattle.std.proofs.Common.{length, ◌≤◌, map, refl, ap, ◌∙◌, arith, Ok}
 use Rattle.std.proofs.lemmas.Result.{err_from_is_err_and}
 use Rattle.al_scalar.specs.Places.{lines_at}
 use Rattle.al_yaml.specs.Flow.{after_item}
 use Rattle.al_yaml.specs.Reads.{part_of, after_of}
 use Rattle.al_yaml.specs.View.{view, nodes_of}
-use Rattle.al_yaml.specs.declared.faults.Stop.TheVariants as stop
+use Rattle.al_yaml.specs.declared.faults.ReadError.TheVariants as stop
 use Rattle.al_yaml.proofs.ReadLemmas.{nodes_of-more}
 use Rattle.al_yaml.proofs.FlowStepLemmas.{item-refused, item-more, item-end}
 use Rattle.al_yaml.proofs.SpanLemmas.{items-more, sequence-nested}
@@ -30,7 +30,7 @@ returns-in-GoesOn-clause-within c = λ start o h w.
     let here : c.args.part.end ≤ c.in-GoesOn.at = omega (arith, c.requires.end, c.gap.ensures.from, inside.0) in (
       (
         omega (arith, c.requires.opening, c.gap.ensures.from, inside.0),
-        items-more c.args.opening start c.args.part.end c.in-GoesOn.at c.args.items.items c.push.new.self.items c.args.part.node c.in_ok-push.ensures.items o here h w,
+        items-more (length c.args.bytes.now) c.args.opening start c.args.part.end c.in-GoesOn.at c.args.items.items c.push.new.self.items c.args.part.node c.in_ok-push.ensures.items o here h w,
       ),
       omega (arith, c.gap.ensures.from, inside.0),
       inside.1,
@@ -48,7 +48,7 @@ returns-in-Closes-clause-within c = λ start o h w.
     let inside = rw c.in-Closes.is at c.in_ok-at.ensures.after in
     let here : c.args.part.end ≤ c.in-Closes.next = omega (arith, c.requires.end, c.gap.ensures.from, inside.0) in
     let low : c.args.opening ≤ c.in-Closes.next = omega (arith, c.requires.opening, c.gap.ensures.from, inside.0) in (
-      sequence-nested c.sequence_part.result (nodes_of (map view c.push.new.self.items)) c.args.opening c.in-Closes.next c.sequence_part.ensures.node c.sequence_part.ensures.end low
-          (items-more c.args.opening start c.args.part.end c.in-Closes.next c.args.items.items c.push.new.self.items c.args.part.node c.in_ok-push.ensures.items o here h w),
+      sequence-nested (length c.args.bytes.now) c.sequence_part.result (nodes_of (map view c.push.new.self.items)) c.args.opening c.in-Closes.next c.sequence_part.ensures.node c.sequence_part.ensures.end low
+          (items-more (length c.args.bytes.now) c.args.opening start c.args.part.end c.in-Closes.next c.args.items.items c.push.new.self.items c.args.part.node c.in_ok-push.ensures.items o here h w),
       record { from = omega (arith, c.gap.ensures.from, inside.0, c.sequence_part.ensures.next); inside = omega (arith, inside.1, c.sequence_part.ensures.next); end = omega (arith, c.sequence_part.ensures.next, c.sequence_part.ensures.end) },
     )

@@ -1,4 +1,4 @@
-use Rattle.std.proofs.Common.{◌+◌, map, ap, ◌∙◌, arith}
+use Rattle.std.proofs.Common.{length, ◌+◌, map, ap, ◌∙◌, arith}
 use Rattle.std.proofs.lemmas.Result.{err_from_is_err_and}
 use Rattle.al_scalar.specs.Contract.{read_of}
 use Rattle.al_yaml.specs.Frames.{answered, waiting_rest, value}
@@ -18,7 +18,7 @@ returns-then-begins-clause-is c = λ depth col turns.
 pub returns-then-begins-clause-within : goal.returns-then-begins-clause-within
 returns-then-begins-clause-within c =
     let es = (entries_of (map entry_view c.args.entries.items)) in (
-      mapping-nested c.mapping_part.result es c.args.opening (c.args.at + 1) c.mapping_part.ensures.node c.mapping_part.ensures.end (omega (arith, c.requires.nested.0)) (entries-wider c.args.opening c.args.at (c.args.at + 1) es (omega arith) c.requires.nested.1),
+      mapping-nested (length c.args.bytes.now) c.mapping_part.result es c.args.opening (c.args.at + 1) c.mapping_part.ensures.node c.mapping_part.ensures.end (omega (arith, c.requires.nested.0)) (entries-wider (length c.args.bytes.now) c.args.opening c.args.at (c.args.at + 1) es (omega arith) c.requires.nested.1),
       record { from = omega (arith, c.mapping_part.ensures.next); inside = omega (arith, c.if-begins.ensures.inside, c.mapping_part.ensures.next); end = omega (arith, c.mapping_part.ensures.next, c.mapping_part.ensures.end) },
     )
 

@@ -1,4 +1,4 @@
-use Rattle.std.proofs.Common.{◌+◌, map, ap, ◌∙◌, arith, None}
+use Rattle.std.proofs.Common.{length, ◌+◌, map, ap, ◌∙◌, arith, None}
 use Rattle.std.proofs.lemmas.Result.{err_from_is_err_and}
 use Rattle.al_yaml.specs.Flow.{FlowSlot}
 use Rattle.al_yaml.specs.Frames.{answered, waiting_rest, item}
@@ -17,7 +17,7 @@ returns-then-begins-clause-is c = λ depth col turns.
 pub returns-then-begins-clause-within : goal.returns-then-begins-clause-within
 returns-then-begins-clause-within c =
     let ns = nodes_of (map view c.args.items.items) in (
-      sequence-nested c.sequence_part.result ns c.args.opening (c.args.at + 1) c.sequence_part.ensures.node c.sequence_part.ensures.end (omega (arith, c.requires.nested.0)) (items-wider c.args.opening c.args.at (c.args.at + 1) ns (omega arith) c.requires.nested.1),
+      sequence-nested (length c.args.bytes.now) c.sequence_part.result ns c.args.opening (c.args.at + 1) c.sequence_part.ensures.node c.sequence_part.ensures.end (omega (arith, c.requires.nested.0)) (items-wider (length c.args.bytes.now) c.args.opening c.args.at (c.args.at + 1) ns (omega arith) c.requires.nested.1),
       record { from = omega (arith, c.sequence_part.ensures.next); inside = omega (arith, c.if-begins.ensures.inside, c.sequence_part.ensures.next); end = omega (arith, c.sequence_part.ensures.next, c.sequence_part.ensures.end) },
     )
 
@@ -44,4 +44,4 @@ returns-in-Opens-clause-is c = λ depth col turns.
 pub returns-in-Opens-clause-within : goal.returns-in-Opens-clause-within
 returns-in-Opens-clause-within c =
     let found = rw c.in-Opens.is at c.in_ok-part.ensures.within in
-    ((omega (arith, c.requires.nested.0, found.1), items-wider c.args.opening c.args.at c.in-Opens.at (nodes_of (map view c.args.items.items)) found.1 c.requires.nested.1), found.0)
+    ((omega (arith, c.requires.nested.0, found.1), items-wider (length c.args.bytes.now) c.args.opening c.args.at c.in-Opens.at (nodes_of (map view c.args.items.items)) found.1 c.requires.nested.1), found.0)

@@ -1,4 +1,4 @@
-use Rattle.al_rules.specs.declared.ids.FoldedId.{FoldedId}
+use Rattle.al_settings.specs.declared.ids.FoldedId.{FoldedId}
 use Rattle.al_rules.proofs.PositionLemmas.{position_at}
 use Rattle.al_rules.proofs.needs.Positions.of.Goals as goal
 

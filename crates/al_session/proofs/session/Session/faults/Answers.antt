@@ -1,6 +1,6 @@
 use Rattle.std.proofs.Common.{ap, ◌∙◌, Some}
 use Rattle.std.specs.Option.{option_map}
-use Rattle.al_session.specs.Kept.{folder_of}
+use Rattle.al_folder.specs.Kept.{folder_of}
 use Rattle.al_session.proofs.Reports.{faults_kept, spans_kept, order_kept}
 use Rattle.al_session.proofs.session.Session.faults.Goals as goal
 

@@ -5,9 +5,10 @@ use Rattle.std.specs.List.{flat_map}
 use Rattle.std.specs.List.Sorted.{IsStrictlySortedBy}
 use Rattle.std.specs.Ordering.{nat_cmp}
 use Rattle.std.specs.Cmp.Lexicographic.{slice_cmp}
-use Rattle.al_session.specs.Folder.{paths_of}
+use Rattle.al_folder.specs.Folder.{paths_of}
 use Rattle.al_text.specs.Counted.{AppendsFront}
-use Rattle.al_session.specs.Kept.{SessionState, folder_of, lines_of}
+use Rattle.al_folder.specs.Kept.{folder_of}
+use Rattle.al_session.specs.Session.{SessionState, lines_of}
 use Rattle.al_session.specs.Report.{report_of}
 use Rattle.al_session.proofs.Reports.{report_is, printable}
 use Rattle.al_session.proofs.session.Session.report.Goals as goal

@@ -13,7 +13,7 @@ pub loop-fault-preserved : goal.loop-fault-preserved
 loop-fault-preserved g c = record {
   appended = Appends-next (fault_text c.args.oneline c.args.path.now c.args.bytes.now) c.args.faults.now c.loop-fault.fault-index c.fault-item.result (omega (arith, c.loop-fault-test.true)) c.fault-item.is _ _ _ c.loop-fault.invariant.appended c.in_ok-write_fault_at.ensures.all;
   unfailed = c.in_ok-write_fault_at.ensures.failures ∙ c.loop-fault.invariant.unfailed;
-  line = c.place_after-place.ensures.line;
-  column = c.place_after-place.ensures.column;
-  start = c.place_after-place.ensures.start;
+  line = c.location_after-location.ensures.line;
+  column = c.location_after-location.ensures.column;
+  start = c.location_after-location.ensures.start;
 }

@@ -1,0 +1,3 @@
+pub mod Lone
+pub mod Short
+pub mod Steps

@@ -1,0 +1,29 @@
+-- What a linter means: data that each linter gives, and that the folder's definitions take.
+use Rattle.std.specs.Prelude.{ℕ, ◌+◌, ◌-◌, ◌^◌, ◌≤◌, min, Bool, List, [], ◌∷◌, Option}
+use Rattle.al_text.specs.declared.faults.Fault.{Fault}
+use Rattle.al_folder.specs.declared.lint.Target.{Target}
+use Rattle.al_folder.specs.declared.lint.Target.TheVariants.{Only, FirstOf}
+
+-- I is the type of interfaces
+pub record Meaning (I : Type 0) : Type 0 where
+  -- the paths of the files that it takes
+  pub accepts : List ℕ → Bool
+  -- the calls of a file, in order, by its path and bytes
+  pub calls : List ℕ → List ℕ → List Target
+  -- what a file offers to its callers, by its path and bytes
+  pub interface : List ℕ → List ℕ → I
+  -- the faults of a file in order, each once, by its path, its bytes and the answer of each of its calls
+  pub faults : List ℕ → List ℕ → List (Option I) → List Fault
+
+-- the paths that may answer a call, the first one first
+abbrev pub candidates : Target → List (List ℕ)
+candidates (Only p) = p ∷ []
+candidates (FirstOf p q) = p ∷ q ∷ []
+
+-- a count after k more, which stays at its greatest value
+abbrev pub counted : ℕ → ℕ → ℕ
+counted n k = min (n + k) (2 ^ 64 - 1)
+
+-- a count that has risen by at most that many
+abbrev pub IsUpTo : ℕ → ℕ → ℕ → Type 0
+IsUpTo old new most = (old ≤ new) × (new ≤ counted old most)

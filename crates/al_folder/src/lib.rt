@@ -1,0 +1,21 @@
+//! A folder of files that may call one another, as a session keeps it: what is asked of their linter, the files as they
+//! were read, the index of their callers, and which of them a change affects.
+#![tactic(auto)]
+
+mod affected;
+mod callers;
+mod check;
+mod kept;
+mod lint;
+mod missing;
+mod paths;
+mod place;
+
+pub use affected::affected_paths;
+pub use callers::{candidates_of, drop_callers, index_calls, reindex};
+pub use check::{check_path, check_paths};
+pub use kept::{Callers, Files, KeptFile};
+pub use lint::{Lint, Refused, Target};
+pub use missing::missing_paths;
+pub use paths::Paths;
+pub use place::{file_number, place_in};

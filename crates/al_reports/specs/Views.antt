@@ -1,0 +1,11 @@
+-- What the program's own types stand for.
+use Rattle.al_shape.specs.declared.values.ScalarNode.{ScalarNode}
+use Rattle.al_shape.specs.Values.{scalar_node_of}
+use Rattle.al_reports.specs.Words.{Named, of_scalar}
+use Rattle.al_reports.specs.declared.reports.Named as rust
+
+abbrev pub named_of : rust.Named → Named
+named_of n = record { text = n.text.now; span = n.span }
+
+abbrev pub named_scalar : ScalarNode → Named
+named_scalar s = of_scalar (scalar_node_of s)

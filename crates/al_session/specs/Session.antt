@@ -1,0 +1,63 @@
+-- What a session is, what is true of what it keeps, and what it prints.
+use Rattle.std.specs.Prelude.{◌≡◌, ℕ, ◌≤◌, ◌^◌, ◌-◌, Bool, true, false, List, [], ◌∷◌, Option, Some, None, length, map, Vec, String, string_bytes, bytes_eq, cond}
+use Rattle.std.specs.Global.{Global}
+use Rattle.std.specs.Option.{option_map, option_map_or}
+use Rattle.std.specs.List.{AllByRecursion, flat_map, list_any}
+use Rattle.std.specs.List.Sorted.{IsStrictlySortedBy}
+use Rattle.std.specs.Ordering.{nat_cmp}
+use Rattle.std.specs.Cmp.Lexicographic.{slice_cmp}
+use Rattle.std.specs.Map.{lookup}
+use Rattle.indexmap.specs.IndexMap.{IndexMap, get_by_text}
+use Rattle.indexmap.specs.IndexSet.{IndexSet, contains_text}
+use Rattle.al_text.specs.declared.faults.Fault.{Fault}
+use Rattle.al_text.specs.LineStarts.{line_starts}
+use Rattle.al_text.specs.Snippets.{fault_text}
+use Rattle.al_text.specs.Paths.{path_fault_of}
+use Rattle.al_text.specs.Spans.{LiesIn}
+use Rattle.al_folder.specs.Meaning.{Meaning, candidates}
+use Rattle.al_folder.specs.Folder.{Folder, bytes_at, faults_in, paths_of, with_file, without_file}
+use Rattle.al_folder.specs.declared.kept.KeptFile.{KeptFile}
+use Rattle.al_folder.specs.declared.lint.Target.{Target}
+use Rattle.al_folder.specs.Kept.{Files, folder_of, Callers, IsIndex, AreKept}
+
+-- What contracts see of a session: its folder, and its linter's two counts.
+pub record SessionState : Type 0 where
+  pub folder : Folder
+  pub checks : ℕ
+  pub reads : ℕ
+
+-- each file has the faults that it has in this folder
+abbrev pub AllChecked : {U I : Type 0} → Meaning I → Folder → Files U I → Type 0
+AllChecked m f files = AllByRecursion (λ e. e.1.faults.items ≡ faults_in m f (string_bytes e.0) e.1.bytes.items) files
+
+-- What is true of what a session keeps: the faults are those of its folder, and so is the index.
+pub record AreLinted {U I S R : Type 0} (m : Meaning I) (is_unit : U → List ℕ → List ℕ → Type 0) (files : Files U I) (callers : Callers S R) (checks : ℕ) : Type 0 where
+  pub kept : AreKept m is_unit files
+  pub faults : AllChecked m (folder_of files) files
+  pub index : IsIndex m (folder_of files) callers
+  pub counted : checks ≤ 2 ^ 64 - 1
+
+-- Faults that are given
+
+-- the file at a path with other faults
+abbrev pub with_faults : {U I : Type 0} → Files U I → List ℕ → Vec Fault Global → Files U I
+with_faults [] p list = []
+with_faults (e ∷ es) p list = cond (bytes_eq p (string_bytes e.0)) ((e.0, record e.1 { faults = list }) ∷ es) (e ∷ with_faults es p list)
+
+-- each of these files with its list
+abbrev pub with_lists : {U I : Type 0} → Files U I → List (List ℕ) → List (Vec Fault Global) → Files U I
+with_lists files [] lists = files
+with_lists files (p ∷ ps) [] = files
+with_lists files (p ∷ ps) (list ∷ lists) = with_faults (with_lists files ps lists) p list
+
+-- Printing
+
+-- what a report prints of a kept file's faults
+abbrev pub lines_of : {U I : Type 0} → Bool → List ℕ → KeptFile U I → List ℕ
+lines_of oneline path file = flat_map (fault_text oneline path file.bytes.items) file.faults.items
+
+-- A kept file whose faults can be printed: they lie in it.
+pub record IsPrintable {U I : Type 0} (file : KeptFile U I) : Type 0 where
+  pub small : length file.bytes.items ≤ 1048576
+  pub lines : file.lines ≡ line_starts file.bytes.items
+  pub inside : AllByRecursion (λ fault. LiesIn (length file.bytes.items) fault.span) file.faults.items
