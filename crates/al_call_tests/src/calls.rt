@@ -2,6 +2,7 @@
 
 use al_calls::{Value, check_call, with_answers};
 use al_interfaces::{Interface, interface_of};
+use al_session::Target;
 use al_text::{CallCode, Caller, Code, Fault, position};
 use al_tree::{FileKind, members, value};
 use al_types::Ty;
@@ -11,67 +12,201 @@ use std::alloc::{AllocError, Global};
 use std::process::Abort;
 use std::test::Fail;
 
-/// A fault: its line and column, its code and its first argument.
-type Told = (u32, u32, CallCode, Caller, &'static str);
+/// A fault: its line and column, its code, who calls, and its arguments.
+type Told = (u32, u32, CallCode, Caller, &'static [&'static str]);
 
-/// A workflow, the file that answers its calls, and the faults, what a job gives taken as numbers.
-type Row = (&'static [u8], FileKind, &'static [u8], &'static [Told]);
+/// A file of the folder.
+type File = (FileKind, &'static [u8]);
 
-const STEP: &[u8] =
-    b"on: push\njobs:\n  a:\n    runs-on: ubuntu-latest\n    steps:\n      - uses: ./a\n";
+/// A workflow, the file that answers its calls, if one is there, and its faults, what a job gives taken as numbers.
+type Row = (&'static [u8], Option<File>, &'static [Told]);
 
-const JOB: &[u8] = b"on: push\njobs:\n  a:\n    uses: ./.github/workflows/d.yml\n";
+const STEP: &[u8] = b"on: push
+jobs:
+  a:
+    runs-on: ubuntu-latest
+    steps:
+      - uses: ./a
+";
 
-const GIVING: &[u8] =
-    b"on: push\njobs:\n  a:\n    uses: ./.github/workflows/e.yml\n    with:\n      x: 3\n      y: 1\n";
+const JOB: &[u8] = b"on: push
+jobs:
+  a:
+    uses: ./.github/workflows/d.yml
+";
 
-const ACTION: &[u8] =
-    b"name: A\ndescription: d\ninputs:\n  who:\n    required: true\nruns:\n  using: node20\n  main: m.js\n";
+const GIVING: &[u8] = b"on: push
+jobs:
+  a:
+    uses: ./.github/workflows/e.yml
+    with:
+      x: 3
+      y: 1
+";
 
-const SECRETS: &[u8] =
-    b"on:\n  workflow_call:\n    secrets:\n      token:\n        required: 'TRUE'\njobs: {}\n";
+const ITSELF: &[u8] = b"on:
+  workflow_call:
+jobs:
+  a:
+    uses: ./.github/workflows/r.yml
+";
 
-const ROWS: [Row; 6] = [
+const ITSELF_WITHOUT_INPUT: &[u8] = b"on:
+  workflow_call:
+    inputs:
+      x:
+        type: string
+        required: true
+jobs:
+  a:
+    uses: ./.github/workflows/r.yml
+";
+
+const ACTION: File = (
+    FileKind::Action,
+    b"name: A
+description: d
+inputs:
+  who:
+    required: true
+runs:
+  using: node20
+  main: m.js
+",
+);
+
+const ACTION_OF_OTHER_DESCRIPTION: File = (
+    FileKind::Action,
+    b"name: A
+description: e
+inputs:
+  who:
+    required: true
+runs:
+  using: node20
+  main: m.js
+",
+);
+
+const ACTION_WITHOUT_INPUTS: File = (
+    FileKind::Action,
+    b"name: A
+description: d
+runs:
+  using: node20
+  main: m.js
+",
+);
+
+const SECRETS: File = (
+    FileKind::Workflow,
+    b"on:
+  workflow_call:
+    secrets:
+      token:
+        required: 'TRUE'
+jobs: {}
+",
+);
+
+const BOOLEAN: File = (
+    FileKind::Workflow,
+    b"on:
+  workflow_call:
+    inputs:
+      x:
+        type: boolean
+jobs: {}
+",
+);
+
+const ROWS: [Row; 11] = [
+    (STEP, None, &[]),
     (
         STEP,
-        FileKind::Action,
-        ACTION,
-        &[(6, 15, CallCode::MissingInput, Caller::Step, "who")],
+        Some(ACTION),
+        &[(6, 15, CallCode::MissingInput, Caller::Step, &["who", "A"])],
     ),
+    (STEP, Some(ACTION_WITHOUT_INPUTS), &[]),
     (
         STEP,
-        FileKind::Workflow,
-        SECRETS,
-        &[(6, 15, CallCode::NotCallable, Caller::Step, "./a")],
+        Some(SECRETS),
+        &[(6, 15, CallCode::NotCallable, Caller::Step, &["./a"])],
     ),
     (
         JOB,
-        FileKind::Workflow,
-        b"on: push\njobs: {}\n",
+        None,
+        &[(
+            4,
+            11,
+            CallCode::NoWorkflow,
+            Caller::Job,
+            &["./.github/workflows/d.yml"],
+        )],
+    ),
+    (
+        JOB,
+        Some((
+            FileKind::Workflow,
+            b"on: push
+jobs: {}
+",
+        )),
         &[(
             4,
             11,
             CallCode::NotCallable,
             Caller::Job,
-            "./.github/workflows/d.yml",
+            &["./.github/workflows/d.yml"],
         )],
     ),
     (
         JOB,
-        FileKind::Workflow,
-        SECRETS,
-        &[(4, 11, CallCode::MissingSecret, Caller::Job, "token")],
+        Some(SECRETS),
+        &[(
+            4,
+            11,
+            CallCode::MissingSecret,
+            Caller::Job,
+            &["token", "./.github/workflows/d.yml"],
+        )],
     ),
     (
         GIVING,
-        FileKind::Workflow,
-        b"on:\n  workflow_call:\n    inputs:\n      x:\n        type: boolean\njobs: {}\n",
+        Some(BOOLEAN),
         &[
-            (7, 7, CallCode::UndefinedInput, Caller::Job, "y"),
-            (6, 10, CallCode::WrongInput, Caller::Job, "x"),
+            (
+                7,
+                7,
+                CallCode::UndefinedInput,
+                Caller::Job,
+                &["y", "./.github/workflows/e.yml"],
+            ),
+            (6, 10, CallCode::WrongInput, Caller::Job, &["x", "boolean"]),
         ],
     ),
-    (JOB, FileKind::Workflow, b"- no\n- mapping\n", &[]),
+    (
+        JOB,
+        Some((
+            FileKind::Workflow,
+            b"- no
+- mapping
+",
+        )),
+        &[],
+    ),
+    (ITSELF, Some((FileKind::Workflow, ITSELF)), &[]),
+    (
+        ITSELF_WITHOUT_INPUT,
+        Some((FileKind::Workflow, ITSELF_WITHOUT_INPUT)),
+        &[(
+            9,
+            11,
+            CallCode::MissingInput,
+            Caller::Job,
+            &["x", "./.github/workflows/r.yml"],
+        )],
+    ),
 ];
 
 // The document that a text is.
@@ -83,20 +218,24 @@ fn document(rt: &impl Abort, alloc: Global, text: &[u8]) -> Doc {
     doc
 }
 
-// The faults of a call that gives numbers.
+// What a file shows.
+fn shown(rt: &impl Abort, alloc: Global, file: File) -> Result<Interface, AllocError> {
+    interface_of(alloc, file.0, &document(rt, alloc, file.1).root)
+}
+
+// Adds the faults of a call that gives numbers.
 fn check(
     alloc: Global,
     call: &Call<'_>,
     answer: Option<&Interface>,
     out: &mut Vec<Fault>,
 ) -> Result<(), AllocError> {
-    let number = Ty::Number;
     let mut values = Vec::new(alloc);
     if let Some(given) = value(call.node, "with") {
         for member in members(alloc, given)?.as_slice() {
             values.push(Value {
                 member: *member,
-                ty: &number,
+                ty: Ty::Number,
             })?;
         }
     }
@@ -129,46 +268,64 @@ fn assert_fault(rt: &impl Abort, text: &[u8], fault: &Fault, told: Told) {
     assert_eq!(rt; position(text, start), (told.0, told.1));
     assert_eq!(rt; fault.code, Code::Call(told.2, told.3));
     let args = fault.args.texts();
-    assert!(rt; !args.is_empty());
-    assert_eq!(rt; args[0].as_str(), told.4);
+    assert_eq!(rt; args.len(), told.4.len());
+    for (arg, told) in args.iter().zip(told.4) {
+        assert_eq!(rt; arg.as_str(), *told);
+    }
+}
+
+// Compares the faults of a workflow with what they should be.
+fn assert_faults(
+    rt: &impl Abort,
+    alloc: Global,
+    workflow: &[u8],
+    answer: Option<&Interface>,
+    told: &[Told],
+) -> Result<(), Fail> {
+    let doc = document(rt, alloc, workflow);
+    let found = faults(alloc, &doc.root, answer)?;
+    assert_eq!(rt; found.len(), told.len());
+    for (fault, told) in found.iter().zip(told) {
+        assert_fault(rt, workflow, fault, *told);
+    }
+    Ok(())
 }
 
 #[test]
 fn faults_of_calls(rt: HostRuntime) -> Result<(), Fail> {
     let alloc = rt.alloc();
-    for (caller, kind, called, told) in ROWS {
-        let shown = interface_of(alloc, kind, &document(&rt, alloc, called).root)?;
-        let doc = document(&rt, alloc, caller);
-        let found = faults(alloc, &doc.root, Some(&shown))?;
-        assert_eq!(rt; found.len(), told.len());
-        for (fault, told) in found.iter().zip(told) {
-            assert_fault(&rt, caller, fault, *told);
+    for (workflow, file, told) in ROWS {
+        match file {
+            Some(file) => {
+                let answer = shown(&rt, alloc, file)?;
+                assert_faults(&rt, alloc, workflow, Some(&answer), told)?;
+            }
+            None => assert_faults(&rt, alloc, workflow, None, told)?,
         }
     }
     Ok(())
 }
 
 #[test]
-fn calls_that_nothing_answers(rt: HostRuntime) -> Result<(), Fail> {
+fn description_is_not_shown(rt: HostRuntime) -> Result<(), Fail> {
+    let before = shown(&rt, rt.alloc(), ACTION)?;
+    let after = shown(&rt, rt.alloc(), ACTION_OF_OTHER_DESCRIPTION)?;
+    assert!(rt; before == after);
+    let other = shown(&rt, rt.alloc(), ACTION_WITHOUT_INPUTS)?;
+    assert!(rt; before != other);
+    Ok(())
+}
+
+#[test]
+fn candidates_in_order(rt: HostRuntime) -> Result<(), Fail> {
     let alloc = rt.alloc();
-    let step = document(&rt, alloc, STEP);
-    assert_eq!(rt; faults(alloc, &step.root, None)?.len(), 0);
-    let job = document(&rt, alloc, JOB);
-    let found = faults(alloc, &job.root, None)?;
-    assert_eq!(rt; found.len(), 1);
-    for fault in found.iter() {
-        assert_fault(
-            &rt,
-            JOB,
-            fault,
-            (
-                4,
-                11,
-                CallCode::NoWorkflow,
-                Caller::Job,
-                "./.github/workflows/d.yml",
-            ),
-        );
-    }
+    let doc = document(&rt, alloc, STEP);
+    let calls = calls_in(alloc, FileKind::Workflow, &doc.root)?;
+    let found = targets(alloc, calls.as_slice())?;
+    let [Target::FirstOf(first, second)] = found.as_slice() else {
+        panic!(rt; "no two candidates");
+    };
+    assert_eq!(rt; first.as_str(), "a/action.yml");
+    assert_eq!(rt; second.as_str(), "a/action.yaml");
     Ok(())
 }

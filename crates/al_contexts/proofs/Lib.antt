@@ -4,3 +4,4 @@ pub mod Sections
 pub mod Values
 pub mod Sets
 pub mod Outside
+pub mod Found

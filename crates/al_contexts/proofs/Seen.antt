@@ -1,5 +1,5 @@
 -- The type of `steps`, where more steps are seen.
-use Rattle.std.proofs.Common.{◌≡◌, ◌≤◌, ◌+◌, ◌-◌, ℕ, List, [], ◌∷◌, ◌++◌, refl, sym, ap, ◌∙◌, take, drop, length, Option, arith}
+use Rattle.std.proofs.Common.{◌≡◌, ◌≤◌, ◌+◌, ◌-◌, ℕ, List, [], ◌∷◌, ◌++◌, refl, sym, ap, ◌∙◌, take, drop, length, Option, None, Some, arith}
 use Rattle.std.proofs.lemmas.Grind.{common_steps}
 use Rattle.std.proofs.Math.Seq.{take-add}
 use Rattle.std.proofs.lemmas.List.Elements.{filter_map-append}
@@ -7,9 +7,10 @@ use Rattle.std.specs.List.{filter_map, enumerate_from}
 use Rattle.al_types.specs.Types.{Fields, FieldThen, NoField}
 use Rattle.al_types.specs.TypeViews.{fields_of, fields_of_type}
 use Rattle.al_yaml.specs.Node.{Node}
-use Rattle.al_places.specs.Positions.{before}
-use Rattle.al_contexts.specs.Contexts.{Known, step_field, steps_fields, steps_type}
-use Rattle.al_contexts.specs.Objects.{Typed, firsts, put_all, put_new, strictly}
+use Rattle.al_places.specs.Positions.{Seen, before}
+use Rattle.al_contexts.specs.Contexts.{Known, step_field, steps_fields, steps_shown, steps_type}
+use Rattle.al_contexts.specs.Environment.{Owner, owned_fields}
+use Rattle.al_contexts.specs.Objects.{Typed, firsts, put_all, put_new}
 
 pub put_all_more : (put : List Typed → Typed → List Typed) (ts ps qs : List Typed) → put_all put ts (ps ++ qs) ≡ put_all put (put_all put ts ps) qs
 put_all_more put ts [] qs = refl
@@ -44,24 +45,26 @@ take_more n m xs h = let e : m ≡ n + (m - n) = omega (arith, h) in ap (λ k. t
 length_take : {A : Type 0} (n : ℕ) (xs : List A) → n ≤ length xs → 0 + length (take n xs) ≡ n
 length_take n xs h = grind (arith, common_steps)
 
-pub steps_none : (k : Known) (job : Option (List ℕ)) (ss : List Node) → steps_type k job ss (before 0) ≡ strictly []
-steps_none k job ss = refl
+pub none_shown : (k : Known) (o : Option Owner) → owned_fields k o (before 0) ≡ []
+none_shown k None = refl
+none_shown k (Some o) = refl
 
-pub steps_onward : (k : Known) (job : Option (List ℕ)) (ss : List Node) (from count : ℕ) (ts : List Typed) → from ≤ count → count ≤ length ss →
-    fields_of ts ≡ fields_of_type (steps_type k job ss (before from)) →
-    steps_type k job ss (before count) ≡ strictly (put_all put_new ts (steps_fields k job from (take (count - from) (drop from ss))))
-steps_onward k job ss from count ts h i e =
+-- the fields of the type are the steps that are shown
+pub shown_fields : (k : Known) (job : Option (List ℕ)) (ss : List Node) (seen : Seen) (ts : List Typed) →
+    fields_of ts ≡ fields_of_type (steps_type k job ss seen) → ts ≡ steps_shown k job ss seen
+shown_fields k job ss seen ts e = same_list ts (steps_shown k job ss seen) e
+
+pub shown_onward : (k : Known) (job : Option (List ℕ)) (ss : List Node) (from count : ℕ) → from ≤ count → count ≤ length ss →
+    steps_shown k job ss (before count) ≡ put_all put_new (steps_shown k job ss (before from)) (steps_fields k job from (take (count - from) (drop from ss)))
+shown_onward k job ss from count h i =
     let rest = take (count - from) (drop from ss) in
     let first = steps_fields k job 0 (take from ss) in
     let cut : take count ss ≡ take from ss ++ rest = take_more from count ss h in
     let few : 0 + length (take from ss) ≡ from = length_take from ss (omega arith) in
-    let same : ts ≡ firsts first = same_list ts (firsts first) e in
-    ap strictly (
     ap (λ xs. firsts (steps_fields k job 0 xs)) cut
     ∙ ap firsts (fields_more k job 0 (take from ss) rest)
     ∙ put_all_more put_new [] first (steps_fields k job (0 + length (take from ss)) rest)
     ∙ ap (λ n. put_all put_new (firsts first) (steps_fields k job n rest)) few
-    ∙ ap (λ us. put_all put_new us (steps_fields k job from rest)) (sym same))
 
 pub seen_take : (ss : List Node) (n : ℕ) → length ss ≤ n → take n ss ≡ ss
 seen_take ss n h = grind (arith, common_steps)

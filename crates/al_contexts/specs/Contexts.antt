@@ -52,12 +52,17 @@ seen_of every_step steps = steps
 abbrev pub steps_fields : Known → Option (List ℕ) → ℕ → List Node → List Typed
 steps_fields known job from steps = filter_map (step_field known job) (enumerate_from from steps)
 
+abbrev pub steps_shown : Known → Option (List ℕ) → List Node → Seen → List Typed
+steps_shown known job steps seen = firsts (steps_fields known job 0 (seen_of seen steps))
+
 abbrev pub steps_type : Known → Option (List ℕ) → List Node → Seen → Type'
-steps_type known job steps seen = strictly (firsts (steps_fields known job 0 (seen_of seen steps)))
+steps_type known job steps seen = strictly (steps_shown known job steps seen)
 
 -- what a job shows to others: its result, and its outputs, those of the called workflow where it calls one
 abbrev pub job_outputs : Known → Node × Node → Type'
-job_outputs known j = if has_value (codes "uses") j.1 then call_outputs (known.of_job (key_of j)) else named_strings (names_of (entries_at (codes "outputs") j.1))
+job_outputs known j =
+    if has_value (codes "uses") j.1 then call_outputs (known.of_job (key_of j))
+    else named_strings (names_of (entries_at (codes "outputs") j.1))
 
 abbrev pub job_field : Known → Node × Node → Typed
 job_field known j = (key_of j, strictly ((codes "result", String) ∷ (codes "outputs", job_outputs known j) ∷ []))
@@ -113,7 +118,8 @@ workflow_type known root p context.Job = job_type
 workflow_type known root p context.Strategy = type_in_job (λ j. strategy_type) (job_in root p.section)
 workflow_type known root p context.Needs = type_in_job (λ j. needs_type known root j.1) (job_in root p.section)
 workflow_type known root p context.Jobs = jobs_seen known root p.section
-workflow_type known root p context.Steps = type_in_job (λ j. steps_type known (Some (key_of j)) (items_at (codes "steps") j.1) p.seen) (job_in root p.section)
+workflow_type known root p context.Steps =
+    type_in_job (λ j. steps_type known (Some (key_of j)) (items_at (codes "steps") j.1) p.seen) (job_in root p.section)
 workflow_type known root p context.Matrix = type_in_job (λ j. matrix_type j.1) (job_in root p.section)
 workflow_type known root p context.Inputs = workflow_inputs root
 

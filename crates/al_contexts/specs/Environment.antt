@@ -1,5 +1,5 @@
 -- The types of contexts by what they change with: those that a file fixes, those of a section, and `steps`.
-use Rattle.std.specs.Prelude.{◌≡◌, ℕ, Bool, true, false, List, codes, map, Option, Some, None, option_map, if◌then◌else◌}
+use Rattle.std.specs.Prelude.{◌≡◌, ℕ, Bool, true, false, List, [], codes, map, Option, Some, None, option_map, if◌then◌else◌}
 use Rattle.std.specs.Option.{option_copied}
 use Rattle.al_types.specs.Types.{Type', Any}
 use Rattle.al_types.specs.TypeViews.{ty_of}
@@ -12,12 +12,12 @@ use Rattle.al_tree.specs.declared.files.FileKind.{FileKind}
 use Rattle.al_tree.specs.declared.files.FileKind.TheVariants as kind
 use Rattle.al_places.specs.Positions.{Section, apart, in_on, in_job, Seen}
 use Rattle.al_contexts.specs.Answered.{known_of}
-use Rattle.al_contexts.specs.Contexts.{Known, action_steps, job_in, jobs_of, jobs_type_of, needs_type, steps_type, type_in_job}
+use Rattle.al_contexts.specs.Contexts.{Known, action_steps, job_in, jobs_of, jobs_type_of, needs_type, steps_shown, steps_type, type_in_job}
 use Rattle.al_declarations.specs.Declarations.{is_composite}
 use Rattle.al_contexts.specs.Fixed.{github_type, runner_type, job_type, strategy_type}
 use Rattle.al_contexts.specs.Inputs.{workflow_inputs, action_inputs}
 use Rattle.al_contexts.specs.Matrix.{matrix_type}
-use Rattle.al_contexts.specs.Objects.{loose_strings}
+use Rattle.al_contexts.specs.Objects.{Typed, loose_strings}
 use Rattle.al_contexts.specs.declared.env.File.{File}
 use Rattle.al_contexts.specs.declared.env.Owner as rust
 
@@ -45,6 +45,11 @@ owner_in kind.Action root s = if is_composite root then Some (None, action_steps
 abbrev pub owned : Known → Option Owner → Seen → Type'
 owned known None seen = Any
 owned known (Some o) seen = steps_type known o.0 o.1 seen
+
+-- the fields of that type
+abbrev pub owned_fields : Known → Option Owner → Seen → List Typed
+owned_fields known None seen = []
+owned_fields known (Some o) seen = steps_shown known o.0 o.1 seen
 
 abbrev pub strategy_in : FileKind → Node → Section → Type'
 strategy_in kind.Workflow root s = type_in_job (λ j. strategy_type) (job_in root s)

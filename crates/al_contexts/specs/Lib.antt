@@ -9,3 +9,5 @@ pub mod Scopes
 pub mod Standing
 pub mod RowWords
 pub mod RowFiles
+pub mod Lookups
+pub mod JobPositions

@@ -1,5 +1,5 @@
 //! The types of contexts, as the walk through a file goes on.
-ghost use Rattle.std.specs.Prelude.{◌≡◌, ◌≤◌, IfOk, OnOk, IsTrue, length, map, option_map};
+ghost use Rattle.std.specs.Prelude.{◌≡◌, ◌≤◌, IfOk, OnOk, IsTrue, map, option_map};
 ghost use Rattle.al_types.specs.Scopes.{type_of_context};
 ghost use Rattle.al_types.specs.TypeViews.{ty_of};
 ghost use Rattle.al_types.specs.declared.names.Context.{Context};
@@ -8,23 +8,28 @@ ghost use Rattle.al_places.specs.Positions.{before, position_view, section_view,
 ghost use Rattle.al_shape.specs.Values.{member_of};
 ghost use Rattle.al_contexts.specs.Answered.{known_of};
 ghost use Rattle.al_tree.specs.declared.files.FileKind.TheVariants as kind;
-ghost use Rattle.al_contexts.specs.Contexts.{jobs_of, needs_type_of, type_at, type_in_job};
+ghost use Rattle.al_contexts.specs.Contexts.{Known, jobs_of, needs_type_of, type_at, type_in_job};
 ghost use Rattle.al_contexts.specs.Environment as environment;
 ghost use Rattle.al_contexts.specs.Fixed.{strategy_type};
 ghost use Rattle.al_contexts.specs.Matrix as specs;
-ghost use Rattle.al_contexts.specs.Environment.{Fixed, OfSection, owned, owner_in, owner_view};
+ghost use Rattle.al_contexts.specs.Environment.{Fixed, OfSection, owned, owned_fields, owner_in, owner_view};
+ghost use Rattle.al_contexts.specs.Lookups.{known_by};
+ghost use Rattle.al_contexts.specs.Objects.{IsIndex};
 ghost use Rattle.al_contexts.specs.Scopes.{scope_at};
 ghost use Rattle.al_contexts.specs.Standing.{Stands};
 ghost use Rattle.al_places.specs.Places.{place_of};
 ghost use Rattle.al_types.specs.Scopes.{scope_of};
 
 use crate::fixed::strategy;
-use crate::jobs::{job_of, jobs_in, jobs_type, needs_type};
-use crate::known::Answer;
+use crate::job_lists::JobList;
+use crate::jobs::{jobs_type, needs_type};
+use crate::known::{Answer, Outputs};
 use crate::matrix::matrix_type;
+use crate::objects::strict_of;
 use crate::scopes::{context_set, function_set};
 use crate::start::{NO_CONTEXTS, NO_FUNCTIONS, first_owner, first_types};
-use crate::steps::{no_steps, seen_count, seen_steps};
+use crate::steps::{Shown, seen_count, seen_steps};
+use al_declarations::NamePositions;
 use al_places::{Place, Position, Section, Seen};
 use al_shape::{Member, items_under, key_text};
 use al_tree::FileKind;
@@ -54,7 +59,11 @@ pub struct Env<'a> {
     section: Section<'a>,
     owner: Option<Owner<'a>>,
     seen: usize,
-    jobs: Vec<Member<'a>>,
+    /// Where the ids of the steps that are seen stand among the fields of `steps`.
+    ids: NamePositions,
+    jobs: JobList<'a>,
+    /// What is known of the outputs behind calls.
+    outputs: Outputs<'a>,
     pub scope: Scope,
 }
 
@@ -79,19 +88,25 @@ fn is_same_section(a: Section<'_>, b: Section<'_>) -> bool
 }
 
 /// Goes on to what is seen in the same section.
-fn see(alloc: Global, file: File<'_>, env: &mut Env<'_>, seen: Seen) -> Result<(), AllocError>
+fn see<'a>(alloc: Global, file: File<'a>, env: &mut Env<'a>, seen: Seen) -> Result<(), AllocError>
     requires fixed { Fixed file (env.old).scope.types }
     requires section { OfSection file (env.old).scope.types (section_view (env.old).section) }
     requires owner { option_map owner_view (env.old).owner ≡ owner_in file.kind (view file.root.now) (section_view (env.old).section) }
     requires steps { ty_of (env.old).scope.types.steps ≡ owned (known_of file.known.now) (option_map owner_view (env.old).owner)
         (before (env.old).seen) }
+    requires ids { IsIndex (env.old).ids (owned_fields (known_of file.known.now) (option_map owner_view (env.old).owner)
+        (before (env.old).seen)) }
+    requires known { known_by (env.old).outputs ≡ known_of file.known.now }
     ensures fixed { OnOk result (Fixed file.entry (env.new).scope.types) }
     ensures section { OnOk result (OfSection file.entry (env.new).scope.types (section_view (env.new).section)) }
     ensures same { OnOk result ((section_view (env.new).section) ≡ (section_view (env.old).section)) }
-    ensures members { OnOk result (map member_of (env.new).jobs.items ≡ map member_of (env.old).jobs.items) }
+    ensures members { OnOk result (map member_of (env.new).jobs.members.items ≡ map member_of (env.old).jobs.members.items) }
     ensures owner { OnOk result (option_map owner_view (env.new).owner ≡ option_map owner_view (env.old).owner) }
     ensures steps { OnOk result (ty_of (env.new).scope.types.steps ≡ owned (known_of (file.entry).known.now) (option_map owner_view
         (env.new).owner) (before (env.new).seen)) }
+    ensures ids { OnOk result (IsIndex (env.new).ids (owned_fields (known_of (file.entry).known.now) (option_map owner_view
+        (env.new).owner) (before (env.new).seen))) }
+    ensures known { OnOk result (known_by (env.new).outputs ≡ known_of (file.entry).known.now) }
     ensures seen { OnOk result (ty_of (env.new).scope.types.steps ≡ owned (known_of (file.entry).known.now) (option_map owner_view
         (env.new).owner) (seen_view seen)) }
 {
@@ -99,17 +114,13 @@ fn see(alloc: Global, file: File<'_>, env: &mut Env<'_>, seen: Seen) -> Result<(
         None => Ok(()),
         Some(owner) => {
             let count = seen_count(seen, owner.steps);
-            let old = replace(&mut env.scope.types.steps, Ty::Any);
-            let new = seen_steps(
-                alloc,
-                file.known,
-                owner.job,
-                owner.steps,
-                old,
-                env.seen,
-                count,
-            )?;
-            env.scope.types.steps = new;
+            let shown = Shown {
+                ty: replace(&mut env.scope.types.steps, Ty::Any),
+                ids: replace(&mut env.ids, NamePositions::new(alloc)),
+            };
+            let Shown { ty, ids } = seen_steps(alloc, &env.outputs, owner, shown, env.seen, count)?;
+            env.scope.types.steps = ty;
+            env.ids = ids;
             env.seen = count;
             Ok(())
         }
@@ -145,13 +156,13 @@ fn matrix_at(alloc: Global, job: Option<Member<'_>>) -> Result<Ty, AllocError>
     }
 }
 
-fn needs_at(
+fn needs_at<'a>(
     alloc: Global,
-    known: &[Answer<'_>],
-    jobs: &[Member<'_>],
+    known: &Outputs<'a>,
+    jobs: &JobList<'a>,
     job: Option<Member<'_>>,
 ) -> Result<Ty, AllocError>
-    ensures { IfOk result (λ t. ty_of t ≡ type_in_job (λ j. needs_type_of (known_of known.now) (map member_of jobs.now) j.1)
+    ensures { IfOk result (λ t. ty_of t ≡ type_in_job (λ j. needs_type_of (known_by known.now) (map member_of jobs.now.members.items) j.1)
         (option_map member_of job.entry)) }
 {
     match job {
@@ -162,16 +173,16 @@ fn needs_at(
 
 /// The type of `jobs` in a section of a workflow, from that in another.
 #[tactic(auto, using(crate::proofs::Sections::jobs_shown))]
-fn jobs_at(
+fn jobs_at<'a>(
     alloc: Global,
-    known: &[Answer<'_>],
-    jobs: &[Member<'_>],
+    known: &Outputs<'a>,
+    jobs: &JobList<'a>,
     old: Ty,
     was: Section<'_>,
     now: Section<'_>,
 ) -> Result<Ty, AllocError>
-    requires { ty_of old ≡ environment.jobs_shown (known_of known.now) (map member_of jobs.now) (section_view was) }
-    ensures { IfOk result (λ t. ty_of t ≡ environment.jobs_shown (known_of known.now) (map member_of jobs.now)
+    requires { ty_of old ≡ environment.jobs_shown (known_by known.now) (map member_of jobs.now.members.items) (section_view was) }
+    ensures { IfOk result (λ t. ty_of t ≡ environment.jobs_shown (known_by known.now) (map member_of jobs.now.members.items)
         (section_view now.entry)) }
 {
     if !shows_jobs(now) {
@@ -195,12 +206,12 @@ fn owner_at<'a>(job: Option<Member<'a>>) -> Option<Owner<'a>>
 }
 
 /// The type of `steps` where no step is seen.
-pub(crate) fn start_steps(alloc: Global, known: &[Answer<'_>], owner: Option<Owner<'_>>) -> Ty
-    ensures { ty_of result ≡ owned (known_of known.now) (option_map owner_view owner.entry) (before 0) }
+pub(crate) fn start_steps(alloc: Global, owner: Option<Owner<'_>>) -> Ty
+    ensures { (known : Known) → ty_of result ≡ owned known (option_map owner_view owner.entry) (before 0) }
 {
     match owner {
         None => Ty::Any,
-        Some(owner) => no_steps(alloc, known, owner.job, owner.steps),
+        Some(_) => strict_of(Vec::new(alloc)),
     }
 }
 
@@ -212,10 +223,11 @@ fn enter_workflow<'a>(
     section: Section<'a>,
 ) -> Result<(), AllocError>
     requires kind { file.kind ≡ kind.Workflow }
-    requires members { map member_of (env.old).jobs.items ≡ jobs_of (view file.root.now) }
+    requires known { known_by (env.old).outputs ≡ known_of file.known.now }
+    requires members { map member_of (env.old).jobs.members.items ≡ jobs_of (view file.root.now) }
     requires fixed { Fixed file (env.old).scope.types }
     requires section { OfSection file (env.old).scope.types (section_view (env.old).section) }
-    ensures members { OnOk result (map member_of (env.new).jobs.items ≡ jobs_of (view (file.entry).root.now)) }
+    ensures members { OnOk result (map member_of (env.new).jobs.members.items ≡ jobs_of (view (file.entry).root.now)) }
     ensures fixed { OnOk result (Fixed file.entry (env.new).scope.types) }
     ensures section { OnOk result (OfSection file.entry (env.new).scope.types (section_view (env.new).section)) }
     ensures same { OnOk result (section_view (env.new).section ≡ section_view section.entry) }
@@ -223,26 +235,23 @@ fn enter_workflow<'a>(
         ≡ owner_in (file.entry).kind (view (file.entry).root.now) (section_view section.entry)) }
     ensures steps { OnOk result (ty_of (env.new).scope.types.steps ≡ owned (known_of (file.entry).known.now) (option_map owner_view
         (env.new).owner) (before (env.new).seen)) }
+    ensures ids { OnOk result (IsIndex (env.new).ids (owned_fields (known_of (file.entry).known.now) (option_map owner_view
+        (env.new).owner) (before (env.new).seen))) }
+    ensures known { OnOk result (known_by (env.new).outputs ≡ known_of (file.entry).known.now) }
 {
-    let job = job_of(env.jobs.as_slice(), section);
+    let job = env.jobs.job_of(section);
     let strategy = strategy_at(alloc, job)?;
-    let needs = needs_at(alloc, file.known, env.jobs.as_slice(), job)?;
+    let needs = needs_at(alloc, &env.outputs, &env.jobs, job)?;
     let matrix = matrix_at(alloc, job)?;
     let old = replace(&mut env.scope.types.jobs, Ty::Any);
-    let jobs = jobs_at(
-        alloc,
-        file.known,
-        env.jobs.as_slice(),
-        old,
-        env.section,
-        section,
-    )?;
+    let jobs = jobs_at(alloc, &env.outputs, &env.jobs, old, env.section, section)?;
     let owner = owner_at(job);
     env.scope.types.strategy = strategy;
     env.scope.types.needs = needs;
     env.scope.types.matrix = matrix;
     env.scope.types.jobs = jobs;
-    env.scope.types.steps = start_steps(alloc, file.known, owner);
+    env.scope.types.steps = start_steps(alloc, owner);
+    env.ids = NamePositions::new(alloc);
     env.owner = owner;
     env.seen = 0;
     env.section = section;
@@ -256,13 +265,16 @@ fn enter<'a>(
     env: &mut Env<'a>,
     section: Section<'a>,
 ) -> Result<(), AllocError>
-    requires members { map member_of (env.old).jobs.items ≡ jobs_of (view file.root.now) }
+    requires members { map member_of (env.old).jobs.members.items ≡ jobs_of (view file.root.now) }
     requires fixed { Fixed file (env.old).scope.types }
     requires section { OfSection file (env.old).scope.types (section_view (env.old).section) }
     requires owner { option_map owner_view (env.old).owner ≡ owner_in file.kind (view file.root.now) (section_view (env.old).section) }
     requires steps { ty_of (env.old).scope.types.steps ≡ owned (known_of file.known.now) (option_map owner_view (env.old).owner)
         (before (env.old).seen) }
-    ensures members { OnOk result (map member_of (env.new).jobs.items ≡ jobs_of (view (file.entry).root.now)) }
+    requires ids { IsIndex (env.old).ids (owned_fields (known_of file.known.now) (option_map owner_view (env.old).owner)
+        (before (env.old).seen)) }
+    requires known { known_by (env.old).outputs ≡ known_of file.known.now }
+    ensures members { OnOk result (map member_of (env.new).jobs.members.items ≡ jobs_of (view (file.entry).root.now)) }
     ensures fixed { OnOk result (Fixed file.entry (env.new).scope.types) }
     ensures section { OnOk result (OfSection file.entry (env.new).scope.types (section_view (env.new).section)) }
     ensures same { OnOk result (section_view (env.new).section ≡ section_view section.entry) }
@@ -270,6 +282,9 @@ fn enter<'a>(
         ≡ owner_in (file.entry).kind (view (file.entry).root.now) (section_view (env.new).section)) }
     ensures steps { OnOk result (ty_of (env.new).scope.types.steps ≡ owned (known_of (file.entry).known.now) (option_map owner_view
         (env.new).owner) (before (env.new).seen)) }
+    ensures ids { OnOk result (IsIndex (env.new).ids (owned_fields (known_of (file.entry).known.now) (option_map owner_view
+        (env.new).owner) (before (env.new).seen))) }
+    ensures known { OnOk result (known_by (env.new).outputs ≡ known_of (file.entry).known.now) }
 {
     if is_same_section(env.section, section) {
         return Ok(());
@@ -290,19 +305,25 @@ fn go<'a>(
     env: &mut Env<'a>,
     position: Position<'a>,
 ) -> Result<(), AllocError>
-    requires members { map member_of (env.old).jobs.items ≡ jobs_of (view file.root.now) }
+    requires members { map member_of (env.old).jobs.members.items ≡ jobs_of (view file.root.now) }
     requires fixed { Fixed file (env.old).scope.types }
     requires section { OfSection file (env.old).scope.types (section_view (env.old).section) }
     requires owner { option_map owner_view (env.old).owner ≡ owner_in file.kind (view file.root.now) (section_view (env.old).section) }
     requires steps { ty_of (env.old).scope.types.steps ≡ owned (known_of file.known.now) (option_map owner_view (env.old).owner)
         (before (env.old).seen) }
-    ensures members { OnOk result (map member_of (env.new).jobs.items ≡ jobs_of (view (file.entry).root.now)) }
+    requires ids { IsIndex (env.old).ids (owned_fields (known_of file.known.now) (option_map owner_view (env.old).owner)
+        (before (env.old).seen)) }
+    requires known { known_by (env.old).outputs ≡ known_of file.known.now }
+    ensures members { OnOk result (map member_of (env.new).jobs.members.items ≡ jobs_of (view (file.entry).root.now)) }
     ensures fixed { OnOk result (Fixed file.entry (env.new).scope.types) }
     ensures section { OnOk result (OfSection file.entry (env.new).scope.types (section_view (env.new).section)) }
     ensures owner { OnOk result (option_map owner_view (env.new).owner
         ≡ owner_in (file.entry).kind (view (file.entry).root.now) (section_view (env.new).section)) }
     ensures steps { OnOk result (ty_of (env.new).scope.types.steps ≡ owned (known_of (file.entry).known.now) (option_map owner_view
         (env.new).owner) (before (env.new).seen)) }
+    ensures ids { OnOk result (IsIndex (env.new).ids (owned_fields (known_of (file.entry).known.now) (option_map owner_view
+        (env.new).owner) (before (env.new).seen))) }
+    ensures known { OnOk result (known_by (env.new).outputs ≡ known_of (file.entry).known.now) }
     ensures types { OnOk result ((c : Context) → type_of_context (env.new).scope.types c
         ≡ type_at (file.entry).kind (known_of (file.entry).known.now) (view (file.entry).root.now) (position_view position.entry) c) }
 {
@@ -318,14 +339,17 @@ impl<'a> Env<'a> {
     pub fn new(alloc: Global, file: File<'a>) -> Result<Env<'a>, AllocError>
         ensures { IfOk result (λ e. Stands file.entry e) }
     {
-        let jobs = jobs_in(alloc, file.root)?;
+        let jobs = JobList::of(alloc, file.root)?;
+        let outputs = Outputs::of(alloc, file.known)?;
         let owner = first_owner(file.kind, file.root);
         let types = first_types(alloc, file, owner)?;
         Ok(Env {
             section: Section::Apart,
             owner,
             seen: 0,
+            ids: NamePositions::new(alloc),
             jobs,
+            outputs,
             scope: Scope {
                 types,
                 contexts: NO_CONTEXTS,

@@ -6,7 +6,8 @@ ghost use Rattle.al_shape.specs.Values.{member_of};
 ghost use Rattle.al_types.specs.TypeViews.{field_of, ty_of};
 ghost use Rattle.al_yaml.specs.View.{view};
 
-use crate::objects::{field, fuse_fields, named_strings, strict_of};
+use crate::field_lists::FieldList;
+use crate::objects::{field, named_strings};
 use al_declarations::{declared_at, input_of, type_of, value_below_three};
 use al_shape::{Member, key_text, value};
 use al_tree::FileKind;
@@ -37,10 +38,9 @@ fn event_inputs(alloc: Global, root: &Node, event: &str) -> Result<Vec<Field>, A
 fn workflow_inputs(alloc: Global, root: &Node) -> Result<Ty, AllocError>
     ensures { IfOk result (λ t. ty_of t ≡ inputs.workflow_inputs (view root.now)) }
 {
-    let mut fields = event_inputs(alloc, root, "workflow_call")?;
-    let more = event_inputs(alloc, root, "workflow_dispatch")?;
-    fuse_fields(alloc, &mut fields, more)?;
-    Ok(strict_of(fields))
+    let mut fields = FieldList::of(alloc, event_inputs(alloc, root, "workflow_call")?)?;
+    fields.fuse_all(alloc, event_inputs(alloc, root, "workflow_dispatch")?)?;
+    Ok(fields.into_strict())
 }
 
 /// The type of `inputs` in an action.

@@ -1,11 +1,13 @@
 //! What is known of the outputs behind calls.
-ghost use Rattle.std.specs.Prelude.{◌≡◌, map};
-ghost use Rattle.std.specs.Option.{option_copied, option_eq};
-ghost use Rattle.std.specs.Str.{bytes_eq};
-ghost use Rattle.al_contexts.specs.Answered as answered;
+ghost use Rattle.std.specs.Prelude.{◌≡◌, IfOk, OnOk};
+ghost use Rattle.std.specs.Option.{option_copied};
 ghost use Rattle.al_contexts.specs.Answered.{behind_of, known_of};
+ghost use Rattle.al_contexts.specs.Lookups as lookups;
+ghost use Rattle.al_contexts.specs.Lookups.{and_found, found_at, known_by};
 
 use al_declarations::NameList;
+use std::alloc::{AllocError, Global};
+use std::collections::BTreeMap;
 
 /// What is known of the outputs behind a call: of a job by its key, of a step of a job by the job's key and the step's index, and of
 /// a step of an action by its index alone. Of the answers at one place the first counts.
@@ -19,54 +21,57 @@ pub struct Answer<'a> {
     pub names: Option<&'a NameList>,
 }
 
-fn is_same_key(a: Option<&[u8]>, b: Option<&[u8]>) -> bool
-    ensures { result ≡ option_eq bytes_eq (option_copied a.entry) (option_copied b.entry) }
-{
-    match a {
-        None => b.is_none(),
-        Some(x) => match b {
-            None => false,
-            Some(y) => x == y,
-        },
+/// What answers make known, found by the place of the call.
+#[derive(Drop)]
+pub(crate) struct Outputs<'a> {
+    names: BTreeMap<(Option<&'a [u8]>, Option<usize>), Option<&'a NameList>>,
+}
+
+impl<'a> Outputs<'a> {
+    /// What these answers make known. Fails with `AllocError` for want of memory.
+    pub(crate) fn of(alloc: Global, known: &[Answer<'a>]) -> Result<Outputs<'a>, AllocError>
+        ensures { IfOk result (λ o. known_by o ≡ known_of known.now) }
+    {
+        let mut outputs = Outputs {
+            names: BTreeMap::new(alloc),
+        };
+        let mut rest = known.len();
+        while rest > 0 {
+            rest -= 1;
+            outputs.put(known[rest])?;
+        }
+        Ok(outputs)
     }
-}
 
-fn is_at(answer: Answer<'_>, job: Option<&[u8]>, step: Option<usize>) -> bool
-    ensures { result ≡ answered.is_at (option_copied job.entry) step (behind_of answer.entry) }
-{
-    answer.step == step && is_same_key(answer.job, job)
-}
+    /// Puts an answer in front of the others.
+    fn put(&mut self, answer: Answer<'a>) -> Result<(), AllocError>
+        ensures { OnOk result (found_at self.new ≡ and_found (behind_of answer.entry) (found_at self.old)) }
+    {
+        self.names.insert((answer.job, answer.step), answer.names)?;
+        Ok(())
+    }
 
-/// What is known of the outputs at a place.
-fn names_at<'a>(
-    known: &[Answer<'a>],
-    job: Option<&[u8]>,
-    step: Option<usize>,
-) -> Option<&'a NameList>
-    ensures { option_copied result ≡ answered.names_at (map behind_of known.now) (option_copied job.entry) step }
-{
-    for answer in known {
-        if is_at(*answer, job, step) {
-            return answer.names;
+    /// What is known of the outputs at a place.
+    fn at(&self, job: Option<&'a [u8]>, step: Option<usize>) -> Option<&'a NameList>
+        ensures { option_copied result ≡ lookups.names_by self.now (option_copied job.entry) step }
+    {
+        match self.names.get(&(job, step)) {
+            Some(names) => *names,
+            None => None,
         }
     }
-    None
-}
 
-/// What is known of the outputs of a step.
-pub(crate) fn step_outputs<'a>(
-    known: &[Answer<'a>],
-    job: Option<&[u8]>,
-    i: usize,
-) -> Option<&'a NameList>
-    ensures { option_copied result ≡ (known_of known.now).of_step (option_copied job.entry) i }
-{
-    names_at(known, job, Some(i))
-}
+    /// What is known of the outputs of a step.
+    pub(crate) fn of_step(&self, job: Option<&'a [u8]>, i: usize) -> Option<&'a NameList>
+        ensures { option_copied result ≡ (known_by self.now).of_step (option_copied job.entry) i }
+    {
+        self.at(job, Some(i))
+    }
 
-/// What is known of the outputs of a job.
-pub(crate) fn job_outputs<'a>(known: &[Answer<'a>], job: &[u8]) -> Option<&'a NameList>
-    ensures { option_copied result ≡ (known_of known.now).of_job job.now }
-{
-    names_at(known, Some(job), None)
+    /// What is known of the outputs of a job.
+    pub(crate) fn of_job(&self, job: &'a [u8]) -> Option<&'a NameList>
+        ensures { option_copied result ≡ (known_by self.now).of_job job.entry.now }
+    {
+        self.at(Some(job), None)
+    }
 }

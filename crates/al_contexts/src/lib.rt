@@ -3,8 +3,10 @@
 #![tactic(auto)]
 
 mod env;
+mod field_lists;
 mod fixed;
 mod inputs;
+mod job_lists;
 mod jobs;
 mod known;
 mod matrix;

@@ -9,7 +9,8 @@ ghost use Rattle.al_shape.specs.Values.{member_of, value_at};
 ghost use Rattle.al_types.specs.TypeViews.{field_of, ty_of};
 ghost use Rattle.al_yaml.specs.View.{entries_of, entry_view, nodes_of, view};
 
-use crate::objects::{add_field, field, fuse_fields, loose_any, strict_of};
+use crate::field_lists::FieldList;
+use crate::objects::{field, loose_any, strict_of};
 use al_declarations::value_below_two;
 use al_formats::{Around, is_lone_chunk};
 use al_scalar::{Class, Scalar};
@@ -18,6 +19,7 @@ use al_types::{Field, Ty, fuse};
 use al_yaml::{Entry, Kind, Node};
 use std::alloc::{AllocError, Global};
 
+/// The type of a scalar of a class.
 pub fn class_type_of(class: Class) -> Ty
     ensures { ty_of result ≡ class_type class }
 {
@@ -97,12 +99,12 @@ fn common_type(alloc: Global, nodes: &[Node]) -> Result<Option<Ty>, AllocError>
 fn entry_fields(alloc: Global, entries: &[Entry]) -> Result<Vec<Field>, AllocError>
     ensures { IfOk result (λ v. map field_of v.items ≡ entries_types [] (entries_of (map entry_view entries.now))) }
 {
-    let mut fields = Vec::new(alloc);
+    let mut fields = FieldList::new(alloc);
     for entry in entries {
         let ty = node_type(alloc, &entry.value)?;
-        add_field(&mut fields, field(alloc, key_of(entry), ty)?)?;
+        fields.add(alloc, field(alloc, key_of(entry), ty)?)?;
     }
-    Ok(fields)
+    Ok(fields.into_fields())
 }
 
 /// The type of a row.
@@ -123,22 +125,22 @@ fn is_combination_key(key: &[u8]) -> bool
 }
 
 /// Adds a row of a matrix, where the entry is one.
-fn add_row(alloc: Global, entry: Member<'_>, fields: &mut Vec<Field>) -> Result<(), AllocError>
-    ensures { OnOk result (map field_of fields.new.items ≡ put_all put_new (map field_of fields.old.items) (option_to_list
-        (row_field (member_of entry.entry)))) }
+fn add_row(alloc: Global, entry: Member<'_>, fields: &mut FieldList) -> Result<(), AllocError>
+    ensures { OnOk result (map field_of fields.new.fields.items ≡ put_all put_new (map field_of fields.old.fields.items)
+        (option_to_list (row_field (member_of entry.entry)))) }
 {
     if is_combination_key(key_text(entry.key)) {
         return Ok(());
     }
     let ty = row_type(alloc, entry.value)?;
-    add_field(fields, field(alloc, key_text(entry.key), ty)?)
+    fields.add(alloc, field(alloc, key_text(entry.key), ty)?)
 }
 
 /// The rows of a matrix.
-fn rows(alloc: Global, node: &Node) -> Result<Vec<Field>, AllocError>
-    ensures { IfOk result (λ v. map field_of v.items ≡ rows_of (view node.now)) }
+fn rows(alloc: Global, node: &Node) -> Result<FieldList, AllocError>
+    ensures { IfOk result (λ l. map field_of l.fields.items ≡ rows_of (view node.now)) }
 {
-    let mut fields = Vec::new(alloc);
+    let mut fields = FieldList::new(alloc);
     let entries = members(alloc, node)?;
     for entry in entries.as_slice() {
         add_row(alloc, *entry, &mut fields)?;
@@ -158,11 +160,11 @@ fn combination(alloc: Global, node: &Node) -> Result<Vec<Field>, AllocError>
 }
 
 /// Adds what combinations add to a matrix.
-fn include(alloc: Global, nodes: &[Node], fields: &mut Vec<Field>) -> Result<(), AllocError>
-    ensures { OnOk result (map field_of fields.new.items ≡ include_all (map field_of fields.old.items) (map view nodes.now)) }
+fn include(alloc: Global, nodes: &[Node], fields: &mut FieldList) -> Result<(), AllocError>
+    ensures { OnOk result (map field_of fields.new.fields.items ≡ include_all (map field_of fields.old.fields.items) (map view nodes.now)) }
 {
     for node in nodes {
-        fuse_fields(alloc, fields, combination(alloc, node)?)?;
+        fields.fuse_all(alloc, combination(alloc, node)?)?;
     }
     Ok(())
 }
@@ -194,19 +196,20 @@ fn is_open_include(node: &Node) -> bool
 /// The type of a matrix of these rows.
 fn included(
     alloc: Global,
-    mut rows: Vec<Field>,
+    mut rows: FieldList,
     combinations: Option<&Node>,
 ) -> Result<Ty, AllocError>
-    ensures { IfOk result (λ t. ty_of t ≡ matrix.included (map field_of rows.items) (option_map (λ n. view n.now) combinations.entry)) }
+    ensures { IfOk result (λ t. ty_of t ≡ matrix.included (map field_of rows.fields.items)
+        (option_map (λ n. view n.now) combinations.entry)) }
 {
     match combinations {
-        None => Ok(strict_of(rows)),
+        None => Ok(rows.into_strict()),
         Some(node) => {
             if is_open_include(node) {
                 return loose_any(alloc);
             }
             include(alloc, items(node), &mut rows)?;
-            Ok(strict_of(rows))
+            Ok(rows.into_strict())
         }
     }
 }

@@ -1,12 +1,11 @@
 //! Object types, made of names with their types.
 ghost use Rattle.std.specs.Prelude.{◌≡◌, ◌++◌, [], ◌∷◌, IfOk, OnOk, map, string_bytes};
-ghost use Rattle.std.specs.List.{list_any};
 ghost use Rattle.al_types.specs.TypeViews.{field_of, fields_of, ty_of};
 ghost use Rattle.al_contexts.specs.Objects as objects;
-ghost use Rattle.al_contexts.specs.Objects.{first_at, loosely, named_as, put, put_all, put_new, strictly, strings};
+ghost use Rattle.al_contexts.specs.Objects.{loosely, strictly, strings};
 
-use al_declarations::{Name, NameList, is_same_name};
-use al_types::{Field, Object, Ty, fuse};
+use al_declarations::{Name, NameList};
+use al_types::{Field, Object, Ty};
 use std::alloc::{AllocError, Global};
 
 /// A name as a text of its own. Names of a file that was read are UTF-8: so this fails for want of memory alone.
@@ -45,78 +44,6 @@ pub(crate) fn loose_of(alloc: Global, fields: Vec<Field>, rest: Ty) -> Result<Ty
         fields,
         rest: Some(rest),
     }))
-}
-
-/// Whether a field has this name, in any ASCII case.
-pub(crate) fn has_field(fields: &[Field], name: &[u8]) -> bool
-    ensures { result ≡ list_any (named_as name.now) (map field_of fields.now) }
-{
-    for field in fields {
-        if is_same_name(field.name.as_bytes(), name) {
-            return true;
-        }
-    }
-    false
-}
-
-/// Adds a field, unless one has its name. Fails with `AllocError` for want of memory.
-#[tactic(auto, using(crate::proofs::Puts::put_new_old))]
-pub(crate) fn add_field(fields: &mut Vec<Field>, field: Field) -> Result<(), AllocError>
-    ensures { OnOk result (map field_of fields.new.items ≡ put_new (map field_of fields.old.items) (field_of field)) }
-{
-    if has_field(fields.as_slice(), field.name.as_bytes()) {
-        return Ok(());
-    }
-    fields.push(field)?;
-    Ok(())
-}
-
-/// The position of the first field of a name, in any ASCII case.
-fn position_of(fields: &[Field], name: &[u8]) -> Option<usize>
-    ensures { result ≡ first_at (named_as name.now) (map field_of fields.now) }
-{
-    let mut i = 0;
-    for field in fields {
-        if is_same_name(field.name.as_bytes(), name) {
-            return Some(i);
-        }
-        i += 1;
-    }
-    None
-}
-
-/// Adds a field, or fuses its type with that of the field that has its name. Fails with `AllocError` for want of memory.
-pub(crate) fn fuse_field(
-    alloc: Global,
-    fields: &mut Vec<Field>,
-    field: Field,
-) -> Result<(), AllocError>
-    ensures { OnOk result (map field_of fields.new.items ≡ put (map field_of fields.old.items) (field_of field)) }
-{
-    match position_of(fields.as_slice(), field.name.as_bytes()) {
-        None => {
-            fields.push(field)?;
-        }
-        Some(i) => {
-            let ty = fuse(alloc, &fields[i].ty, &field.ty)?;
-            fields[i].ty = ty;
-        }
-    }
-    Ok(())
-}
-
-/// Adds fields, each fused with the one that has its name. Fails with `AllocError` for want of memory.
-pub(crate) fn fuse_fields(
-    alloc: Global,
-    fields: &mut Vec<Field>,
-    more: Vec<Field>,
-) -> Result<(), AllocError>
-    ensures { OnOk result (map field_of fields.new.items ≡ put_all put (map field_of fields.old.items) (map field_of more.items)) }
-{
-    for field in more {
-        fuse_field(alloc, fields, field)?;
-    }
-    Ok(())
 }
 
 /// Adds fields that are strings, by their names. Fails with `AllocError` for want of memory.

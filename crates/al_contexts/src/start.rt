@@ -98,7 +98,7 @@ pub(crate) fn first_types(
         strategy: Ty::Any,
         needs: Ty::Any,
         jobs: Ty::Any,
-        steps: start_steps(alloc, file.known, owner),
+        steps: start_steps(alloc, owner),
         matrix: Ty::Any,
         inputs,
     })

@@ -1,17 +1,20 @@
 //! The type of `steps`.
-ghost use Rattle.std.specs.Prelude.{◌≡◌, ◌+◌, ◌<◌, ◌≤◌, ◌^◌, IfOk, OnOk, length, map, take};
+ghost use Rattle.std.specs.Prelude.{◌≡◌, ◌+◌, ◌<◌, ◌≤◌, ◌^◌, [], IfOk, OnOk, length, map, take, Some};
 ghost use Rattle.std.specs.Option.{option_copied, option_to_list};
 ghost use Rattle.al_types.specs.TypeViews.{field_of, fields_of, fields_of_type, ty_of};
 ghost use Rattle.al_yaml.specs.View.{view};
 ghost use Rattle.al_places.specs.Positions.{before, seen_view};
-ghost use Rattle.al_contexts.specs.Answered.{known_of};
 ghost use Rattle.al_contexts.specs.Contexts as contexts;
-ghost use Rattle.al_contexts.specs.Contexts.{seen_of, step_field, steps_fields, steps_type};
-ghost use Rattle.al_contexts.specs.Objects.{put_all, put_new};
+ghost use Rattle.al_contexts.specs.Contexts.{seen_of, step_field, steps_fields};
+ghost use Rattle.al_contexts.specs.Environment.{owned, owned_fields, owner_view};
+ghost use Rattle.al_contexts.specs.Lookups.{known_by};
+ghost use Rattle.al_contexts.specs.Objects.{IsIndex, put_all, put_new, strictly};
 
-use crate::known::{Answer, step_outputs};
-use crate::objects::{add_field, field, listed_strings, loose_strings, strict_of};
-use al_declarations::NameList;
+use crate::env::Owner;
+use crate::field_lists::FieldList;
+use crate::known::Outputs;
+use crate::objects::{field, listed_strings, loose_strings, strict_of};
+use al_declarations::{NameList, NamePositions};
 use al_places::Seen;
 use al_shape::text_under;
 use al_types::{Field, Ty};
@@ -40,36 +43,36 @@ fn step_type(alloc: Global, outputs: Option<&NameList>) -> Result<Ty, AllocError
 }
 
 /// Adds a step, where it has an id that no field has.
-fn add_step(
+fn add_step<'a>(
     alloc: Global,
-    known: &[Answer<'_>],
-    job: Option<&[u8]>,
+    known: &Outputs<'a>,
+    job: Option<&'a [u8]>,
     i: usize,
     step: &Node,
-    fields: &mut Vec<Field>,
+    fields: &mut FieldList,
 ) -> Result<(), AllocError>
-    ensures { OnOk result (map field_of fields.new.items ≡ put_all put_new (map field_of fields.old.items) (option_to_list
-        (step_field (known_of known.now) (option_copied job.entry) (i, view step.now)))) }
+    ensures { OnOk result (map field_of fields.new.fields.items ≡ put_all put_new (map field_of fields.old.fields.items) (option_to_list
+        (step_field (known_by known.now) (option_copied job.entry) (i, view step.now)))) }
 {
     if let Some(id) = text_under(step, "id") {
-        let ty = step_type(alloc, step_outputs(known, job, i))?;
-        add_field(fields, field(alloc, id.scalar.text(), ty)?)?;
+        let ty = step_type(alloc, known.of_step(job, i))?;
+        fields.add(alloc, field(alloc, id.scalar.text(), ty)?)?;
     }
     Ok(())
 }
 
 /// Adds steps, the first of which has an index.
-pub(crate) fn add_steps(
+fn add_steps<'a>(
     alloc: Global,
-    known: &[Answer<'_>],
-    job: Option<&[u8]>,
+    known: &Outputs<'a>,
+    job: Option<&'a [u8]>,
     from: usize,
     steps: &[Node],
-    fields: &mut Vec<Field>,
+    fields: &mut FieldList,
 ) -> Result<(), AllocError>
     requires { from + length steps.now < 2 ^ 64 }
-    ensures { OnOk result (map field_of fields.new.items ≡ put_all put_new (map field_of fields.old.items) (steps_fields
-        (known_of known.now) (option_copied job.entry) from (map view steps.now))) }
+    ensures { OnOk result (map field_of fields.new.fields.items ≡ put_all put_new (map field_of fields.old.fields.items)
+        (steps_fields (known_by known.now) (option_copied job.entry) from (map view steps.now))) }
 {
     let mut i = from;
     for step in steps {
@@ -90,68 +93,76 @@ fn into_fields(alloc: Global, ty: Ty) -> Vec<Field>
     }
 }
 
-/// The type of `steps` where a count of steps is seen, from the type where fewer of them are.
-fn with_more(
+/// What is shown of steps: the type of `steps`, and where each id stands among its fields.
+#[derive(Drop)]
+pub(crate) struct Shown {
+    pub(crate) ty: Ty,
+    pub(crate) ids: NamePositions,
+}
+
+/// What is shown where a count of steps is seen, from what is shown where fewer of them are.
+fn with_more<'a>(
     alloc: Global,
-    known: &[Answer<'_>],
-    job: Option<&[u8]>,
-    steps: &[Node],
-    ty: Ty,
+    known: &Outputs<'a>,
+    owner: Owner<'a>,
+    shown: Shown,
     from: usize,
     count: usize,
-) -> Result<Ty, AllocError>
-    requires ty { ty_of ty ≡ steps_type (known_of known.now) (option_copied job) (map view steps.now) (before from) }
+) -> Result<Shown, AllocError>
+    requires ty { ty_of shown.ty ≡ owned (known_by known.now) (Some (owner_view owner)) (before from) }
+    requires ids { IsIndex shown.ids (owned_fields (known_by known.now) (Some (owner_view owner)) (before from)) }
     requires order { from ≤ count }
-    requires inside { count ≤ length steps.now }
-    ensures { IfOk result (λ t. ty_of t ≡ steps_type (known_of known.now) (option_copied job.entry) (map view steps.now)
-        (before count)) }
+    requires inside { count ≤ length owner.steps.now }
+    ensures ty { IfOk result (λ s. ty_of s.ty ≡ owned (known_by known.now) (Some (owner_view owner.entry)) (before count)) }
+    ensures ids { IfOk result (λ s. IsIndex s.ids (owned_fields (known_by known.now) (Some (owner_view owner.entry)) (before count))) }
 {
-    let mut fields = into_fields(alloc, ty);
-    add_steps(alloc, known, job, from, &steps[from..count], &mut fields)?;
-    Ok(strict_of(fields))
+    let mut fields = FieldList::from_parts(into_fields(alloc, shown.ty), shown.ids);
+    add_steps(
+        alloc,
+        known,
+        owner.job,
+        from,
+        &owner.steps[from..count],
+        &mut fields,
+    )?;
+    let (fields, ids) = fields.into_parts();
+    Ok(Shown {
+        ty: strict_of(fields),
+        ids,
+    })
 }
 
-/// The type of `steps` where no step is seen.
-#[tactic(auto, using(crate::proofs::Seen::steps_none))]
-pub(crate) fn no_steps(
-    alloc: Global,
-    known: &[Answer<'_>],
-    job: Option<&[u8]>,
-    steps: &[Node],
-) -> Ty
-    ensures { ty_of result ≡ steps_type (known_of known.now) (option_copied job.entry) (map view steps.now) (before 0) }
+/// What is shown where no step is seen. Takes no memory.
+fn no_steps(alloc: Global) -> Shown
+    ensures ty { ty_of result.ty ≡ strictly [] }
+    ensures ids { IsIndex result.ids [] }
 {
-    strict_of(Vec::new(alloc))
+    Shown {
+        ty: strict_of(Vec::new(alloc)),
+        ids: NamePositions::new(alloc),
+    }
 }
 
-/// The type of `steps` where a count of steps is seen, from the type where another count is. Steps that were seen are copied
-/// in no case: where there are more they are added, and where there are fewer all are made anew.
-pub(crate) fn seen_steps(
+/// What is shown where a count of steps is seen, from what is shown where another count is. Steps that were seen are copied in no
+/// case: where there are more they are added, and where there are fewer all are made anew.
+pub(crate) fn seen_steps<'a>(
     alloc: Global,
-    known: &[Answer<'_>],
-    job: Option<&[u8]>,
-    steps: &[Node],
-    ty: Ty,
+    known: &Outputs<'a>,
+    owner: Owner<'a>,
+    shown: Shown,
     from: usize,
     count: usize,
-) -> Result<Ty, AllocError>
-    requires ty { ty_of ty ≡ steps_type (known_of known.now) (option_copied job) (map view steps.now) (before from) }
-    requires inside { count ≤ length steps.now }
-    ensures { IfOk result (λ t. ty_of t ≡ steps_type (known_of known.now) (option_copied job.entry) (map view steps.now)
-        (before count)) }
+) -> Result<Shown, AllocError>
+    requires ty { ty_of shown.ty ≡ owned (known_by known.now) (Some (owner_view owner)) (before from) }
+    requires ids { IsIndex shown.ids (owned_fields (known_by known.now) (Some (owner_view owner)) (before from)) }
+    requires inside { count ≤ length owner.steps.now }
+    ensures ty { IfOk result (λ s. ty_of s.ty ≡ owned (known_by known.now) (Some (owner_view owner.entry)) (before count)) }
+    ensures ids { IfOk result (λ s. IsIndex s.ids (owned_fields (known_by known.now) (Some (owner_view owner.entry)) (before count))) }
 {
     if from <= count {
-        with_more(alloc, known, job, steps, ty, from, count)
+        with_more(alloc, known, owner, shown, from, count)
     } else {
-        with_more(
-            alloc,
-            known,
-            job,
-            steps,
-            no_steps(alloc, known, job, steps),
-            0,
-            count,
-        )
+        with_more(alloc, known, owner, no_steps(alloc), 0, count)
     }
 }
 

@@ -1,5 +1,5 @@
 -- Where texts and names first stand, as one more is added.
-use Rattle.std.proofs.Common.{◌≡◌, ◌≢◌, ℕ, ◌+◌, ◌<◌, get_or, map, Bool, true, false, cond, List, [], ◌∷◌, ◌++◌, length, refl, sym, ap, ◌∙◌, arith, subst, Option, Some, None, option_map, suc}
+use Rattle.std.proofs.Common.{◌≡◌, ◌≢◌, ℕ, ◌+◌, ◌<◌, get_or, map, Bool, true, false, cond, List, [], ◌∷◌, ◌++◌, length, refl, sym, ap, ◌∙◌, arith, subst, Option, Some, None, option_map, suc, take}
 use Rattle.std.specs.BTreeMap.{UpdatesBy, get_by, is_at}
 use Rattle.std.specs.Cmp.{eq_by_cmp_equiv}
 use Rattle.std.specs.Cmp.Lexicographic.{bytes_decides, slice_cmp, nat_list_cmp_total, nat_list_eq_equiv}
@@ -8,6 +8,8 @@ use Rattle.std.specs.Map.{AreApart, IsKeyTest, KeepsOthers, lookup}
 use Rattle.std.specs.Ordering.{is_eq, nat_cmp, eq_by_cmp}
 use Rattle.std.specs.Prelude.{find, is_none, if◌then◌else◌, Result, Ok, Err, OnErr}
 use Rattle.std.specs.Str.{bytes_eq}
+use Rattle.std.proofs.Math.ListN.{get_or-map}
+use Rattle.std.proofs.lemmas.List.{length-map, length-take, map-append, take_more}
 use Rattle.std.proofs.lemmas.Map.Text.{is_eq-slice_cmp}
 use Rattle.al_types.specs.Names.{same_name}
 use Rattle.al_declarations.specs.NameSets.{folded}
@@ -128,3 +130,34 @@ module _ {A : Type 0} (test : A → Bool) where
   pub find_first : (xs : List A) (d : A) → find test xs ≡ option_map (λ i. get_or xs i d) (first_at test xs)
   find_first [] d = refl
   find_first (x ∷ xs) d = find_step (test x) (first_at test xs) x d xs (find test xs) (find_first xs d)
+
+-- where elements of a list first stand by their texts, with the element at an index
+pub position_next : {X A : Type 0} (g : X → A) (key : A → List ℕ) (same : List ℕ → List ℕ → Bool) (xs : List X) (i : ℕ) (x : X) (old new : List ℕ → Option ℕ) →
+    i < length xs → x ≡ get_or xs i x → old ≡ (λ t. first_at (λ a. same (key a) t) (map g (take i xs))) →
+    new ≡ (λ t. or_position (old t) (if same (key (g x)) t then Some i else None)) → new ≡ (λ t. first_at (λ a. same (key a) t) (map g (take (i + 1) xs)))
+position_next {X} {A} g key same xs i x old new h e o n =
+    let front : List A = map g (take i xs) in
+    let len : i ≡ length front = omega (arith, length-map (take i xs) g, length-take i xs, h) in
+    n ∙ ap (λ (f : List ℕ → Option ℕ). λ t. or_position (f t) (if same (key (g x)) t then Some i else None)) o
+    ∙ ap (λ k. λ t. or_position (first_at (λ a. same (key a) t) front) (if same (key (g x)) t then Some k else None)) len
+    ∙ sym (λ d t. first_more (λ a. same (key a) t) front (g x) d)
+    ∙ ap (λ (y : X). λ t. first_at (λ a. same (key a) t) (front ++ g y ∷ [])) e
+    ∙ ap (λ (ys : List A). λ t. first_at (λ a. same (key a) t) ys) (sym (map-append g (take i xs) (get_or xs i x ∷ [])))
+    ∙ ap (λ (ys : List X). λ t. first_at (λ a. same (key a) t) (map g ys)) (sym (take_more xs i x h))
+
+-- the position at which an element was found is one of the list, and the element is the one there
+pub found_within : {X A : Type 0} (g : X → A) (test : A → Bool) (xs : List X) (i : ℕ) → first_at test (map g xs) ≡ Some i → i < length xs
+found_within g test xs i e = let h = first_within test (map g xs) i e in omega (arith, h, length-map xs g)
+
+pub found_there : {X A : Type 0} (g : X → A) (test : A → Bool) (xs : List X) (i : ℕ) (x : X) → first_at test (map g xs) ≡ Some i → x ≡ get_or xs i x → Some (g x) ≡ find test (map g xs)
+found_there g test xs i x e h =
+    ap (λ y. Some (g y)) h ∙ ap Some (sym (get_or-map g xs i x)) ∙ sym (find_first test (map g xs) (g x) ∙ ap (option_map (λ k. get_or (map g xs) k (g x))) e)
+
+nowhere_step : {A : Type 0} (b : Bool) (o : Option ℕ) (x : A) (f : Option A) → (o ≡ None → None ≡ f) → (if b then Some 0 else option_map (λ k. k + 1) o) ≡ None → None ≡ (if b then Some x else f)
+nowhere_step true o x f h e = absurd cc
+nowhere_step false None x f h e = h refl
+nowhere_step false (Some j) x f h e = absurd cc
+
+pub found_nowhere : {A : Type 0} (test : A → Bool) (xs : List A) → first_at test xs ≡ None → None ≡ find test xs
+found_nowhere test [] e = refl
+found_nowhere test (x ∷ xs) e = nowhere_step (test x) (first_at test xs) x (find test xs) (λ h. found_nowhere test xs h) e

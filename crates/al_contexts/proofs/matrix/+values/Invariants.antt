@@ -10,5 +10,5 @@ invariant-common_type-loop-node l =
 
 abbrev pub invariant-entry_fields-loop-entry : goal.invariant-entry_fields-loop-entry
 invariant-entry_fields-loop-entry l =
-    entries_types (map field_of l.fields.items) (entries_of (map entry_view (drop l.entry-index l.entries)))
+    entries_types (map field_of l.fields.fields.items) (entries_of (map entry_view (drop l.entry-index l.entries)))
     ≡ entries_types [] (entries_of (map entry_view l.entries))

@@ -1,10 +1,17 @@
+use Rattle.std.proofs.Common.{option_map, sym, ap, ◌∙◌}
+use Rattle.al_contexts.specs.Answered.{known_of}
+use Rattle.al_contexts.specs.Environment.{owner_view}
+use Rattle.al_contexts.specs.Objects.{name_at}
+use Rattle.al_contexts.proofs.Seen.{none_shown}
 use Rattle.al_contexts.proofs.env.Env.new.Goals as goal
 
 pub returns : goal.returns
 returns c = record {
   members = c.in_ok-jobs.ensures;
+  known = c.in_ok-outputs.ensures;
   fixed = c.in_ok-types.ensures.fixed;
   section = c.in_ok-types.ensures.section;
   owner = c.first_owner-owner.ensures;
   steps = c.in_ok-types.ensures.steps;
+  ids = c.new.ensures ∙ sym (ap name_at (none_shown (known_of c.args.file.known.now) (option_map owner_view c.first_owner-owner.result)));
 }

@@ -1,0 +1,12 @@
+use Rattle.std.proofs.Common.{◌∙◌, ap}
+use Rattle.al_declarations.specs.Positions.{and_name_at, name_position}
+use Rattle.al_declarations.proofs.PositionLemmas.{position_next}
+use Rattle.al_types.specs.Names.{same_name}
+use Rattle.al_types.specs.TypeViews.{field_of}
+use Rattle.al_contexts.specs.Objects.{Typed}
+use Rattle.al_contexts.proofs.field_lists.positions_of.Goals as goal
+
+pub loop-i-preserved : goal.loop-i-preserved
+loop-i-preserved c =
+    position_next field_of (λ (p : Typed). p.0) same_name c.args.fields.now c.loop-i.i c.index-fields-i.result _ _ c.loop-i-test.true c.index-fields-i.is c.loop-i.invariant
+    (c.in_ok-insert.ensures.positions ∙ ap (λ n. and_name_at (name_position c.loop-i.positions) n c.loop-i.i) c.as_bytes.ensures.value)

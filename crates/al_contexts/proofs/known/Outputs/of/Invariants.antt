@@ -1,0 +1,14 @@
+use Rattle.std.proofs.Common.{◌≡◌, ◌≤◌, drop, length, map}
+use Rattle.al_contexts.specs.Answered.{behind_of}
+use Rattle.al_contexts.specs.Lookups.{found_at}
+use Rattle.al_contexts.proofs.Found.{found_in}
+use Rattle.al_contexts.proofs.known.Outputs.of.Given as goal
+
+abbrev pub invariant-loop-rest : goal.invariant-loop-rest
+invariant-loop-rest l = record {
+  within : l.rest ≤ length l.known;
+  found : found_at l.outputs ≡ found_in (map behind_of (drop l.rest l.known));
+}
+
+abbrev pub decreases-loop-rest : goal.decreases-loop-rest
+decreases-loop-rest l = l.rest

@@ -1,0 +1,121 @@
+//! Fields in order, found by their names.
+ghost use Rattle.std.specs.Prelude.{◌≡◌, [], IfOk, OnOk, map};
+ghost use Rattle.al_types.specs.TypeViews.{field_of, ty_of};
+ghost use Rattle.al_contexts.specs.Objects.{IsIndex, put, put_all, put_new, strictly};
+
+use crate::objects::strict_of;
+use al_declarations::NamePositions;
+use al_types::{Field, Ty, fuse};
+use std::alloc::{AllocError, Global};
+
+/// Fields in order, and where each name first stands among them. Finding one by its name takes time that grows with the logarithm
+/// of their number.
+#[derive(Drop)]
+pub(crate) struct FieldList {
+    fields: Vec<Field>,
+    positions: NamePositions,
+    ghost indexed: { IsIndex positions (map field_of fields.items) },
+}
+
+impl FieldList {
+    /// No fields. Takes no memory.
+    pub(crate) fn new(alloc: Global) -> FieldList
+        ensures { map field_of result.fields.items ≡ [] }
+    {
+        FieldList {
+            fields: Vec::new(alloc),
+            positions: NamePositions::new(alloc),
+        }
+    }
+
+    /// Fields whose names stand at these positions.
+    pub(crate) fn from_parts(fields: Vec<Field>, positions: NamePositions) -> FieldList
+        requires { IsIndex positions (map field_of fields.items) }
+        ensures { map field_of result.fields.items ≡ map field_of fields.items }
+    {
+        FieldList { fields, positions }
+    }
+
+    /// These fields. Fails with `AllocError` for want of memory, as all below.
+    pub(crate) fn of(alloc: Global, fields: Vec<Field>) -> Result<FieldList, AllocError>
+        ensures { IfOk result (λ l. map field_of l.fields.items ≡ map field_of fields.items) }
+    {
+        let positions = positions_of(alloc, fields.as_slice())?;
+        Ok(FieldList { fields, positions })
+    }
+
+    /// The fields, and where each name first stands among them.
+    pub(crate) fn into_parts(self) -> (Vec<Field>, NamePositions)
+        ensures fields { map field_of result.0.items ≡ map field_of self.fields.items }
+        ensures positions { IsIndex result.1 (map field_of self.fields.items) }
+    {
+        (self.fields, self.positions)
+    }
+
+    /// The fields.
+    pub(crate) fn into_fields(self) -> Vec<Field>
+        ensures { map field_of result.items ≡ map field_of self.fields.items }
+    {
+        self.fields
+    }
+
+    /// An object that has these fields and no others.
+    pub(crate) fn into_strict(self) -> Ty
+        ensures { ty_of result ≡ strictly (map field_of self.fields.items) }
+    {
+        strict_of(self.fields)
+    }
+
+    /// Adds a field, unless one has its name.
+    pub(crate) fn add(&mut self, alloc: Global, field: Field) -> Result<(), AllocError>
+        ensures { OnOk result (map field_of self.new.fields.items ≡ put_new (map field_of self.old.fields.items) (field_of field)) }
+    {
+        self.fields.reserve(1)?;
+        let is_new = self
+            .positions
+            .insert(alloc, field.name.as_bytes(), self.fields.len())?;
+        if is_new {
+            match self.fields.push(field) {
+                Ok(()) => {}
+                Err(_) => unreachable!(),
+            }
+        }
+        Ok(())
+    }
+
+    /// Adds a field, or fuses its type with that of the field that has its name.
+    pub(crate) fn fuse(&mut self, alloc: Global, field: Field) -> Result<(), AllocError>
+        ensures { OnOk result (map field_of self.new.fields.items ≡ put (map field_of self.old.fields.items) (field_of field)) }
+    {
+        match self.positions.get(alloc, field.name.as_bytes())? {
+            None => self.add(alloc, field),
+            Some(i) => {
+                let ty = fuse(alloc, &self.fields[i].ty, &field.ty)?;
+                self.fields[i].ty = ty;
+                Ok(())
+            }
+        }
+    }
+
+    /// Adds fields, each fused with the one that has its name.
+    pub(crate) fn fuse_all(&mut self, alloc: Global, more: Vec<Field>) -> Result<(), AllocError>
+        ensures { OnOk result (map field_of self.new.fields.items ≡ put_all put (map field_of self.old.fields.items)
+            (map field_of more.items)) }
+    {
+        for field in more {
+            self.fuse(alloc, field)?;
+        }
+        Ok(())
+    }
+}
+
+/// Where each name first stands among some fields.
+fn positions_of(alloc: Global, fields: &[Field]) -> Result<NamePositions, AllocError>
+    ensures { IfOk result (λ p. IsIndex p (map field_of fields.now)) }
+{
+    let mut positions = NamePositions::new(alloc);
+    for (i, field) in fields.iter().enumerate() {
+        let _ = positions.insert(alloc, field.name.as_bytes(), i)?;
+    }
+    Ok(positions)
+}

@@ -1,0 +1,109 @@
+//! The jobs of a workflow, found by their keys.
+ghost use Rattle.std.specs.Prelude.{◌≡◌, IfOk, find, map, option_map};
+ghost use Rattle.al_declarations.specs.Positions.{name_position, text_position};
+ghost use Rattle.al_places.specs.Positions.{section_view};
+ghost use Rattle.al_shape.specs.Keys.{key_of};
+ghost use Rattle.al_shape.specs.Values.{member_of};
+ghost use Rattle.al_types.specs.Names.{same_name};
+ghost use Rattle.al_yaml.specs.View.{view};
+ghost use Rattle.al_contexts.specs.Contexts.{job_among, jobs_of};
+ghost use Rattle.al_contexts.specs.JobPositions.{key_at, named_at};
+
+use al_declarations::{NamePositions, TextPositions};
+use al_places::Section;
+use al_shape::{Member, key_text, members, value};
+use al_yaml::Node;
+use std::alloc::{AllocError, Global};
+
+/// The jobs of a workflow. Finding one takes time that grows with the logarithm of their number.
+#[derive(Drop)]
+pub(crate) struct JobList<'a> {
+    members: Vec<Member<'a>>,
+    /// Where each key stands.
+    keys: TextPositions,
+    /// Where each key first stands, without regard to ASCII case.
+    names: NamePositions,
+    ghost by_key: { text_position keys ≡ key_at (map member_of members.items) },
+    ghost by_name: { name_position names ≡ named_at (map member_of members.items) },
+}
+
+/// Where the keys of some members stand.
+fn key_positions(alloc: Global, members: &[Member<'_>]) -> Result<TextPositions, AllocError>
+    ensures { IfOk result (λ p. text_position p ≡ key_at (map member_of members.now)) }
+{
+    let mut keys = TextPositions::new(alloc);
+    for (i, member) in members.iter().enumerate() {
+        let key = Vec::from_slice(alloc, key_text(member.key))?;
+        let _ = keys.insert(key, i)?;
+    }
+    Ok(keys)
+}
+
+/// Where the keys of some members first stand, without regard to ASCII case.
+fn name_positions(alloc: Global, members: &[Member<'_>]) -> Result<NamePositions, AllocError>
+    ensures { IfOk result (λ p. name_position p ≡ named_at (map member_of members.now)) }
+{
+    let mut names = NamePositions::new(alloc);
+    for (i, member) in members.iter().enumerate() {
+        let _ = names.insert(alloc, key_text(member.key), i)?;
+    }
+    Ok(names)
+}
+
+/// What stands under `jobs`.
+fn job_members<'a>(alloc: Global, root: &'a Node) -> Result<Vec<Member<'a>>, AllocError>
+    ensures { IfOk result (λ v. map member_of v.items ≡ jobs_of (view root.now)) }
+{
+    match value(root, "jobs") {
+        Some(jobs) => members(alloc, jobs),
+        None => Ok(Vec::new(alloc)),
+    }
+}
+
+impl<'a> JobList<'a> {
+    /// The jobs of a workflow. Fails with `AllocError` for want of memory.
+    pub(crate) fn of(alloc: Global, root: &'a Node) -> Result<JobList<'a>, AllocError>
+        ensures { IfOk result (λ l. map member_of l.members.items ≡ jobs_of (view root.now)) }
+    {
+        let members = job_members(alloc, root)?;
+        let keys = key_positions(alloc, members.as_slice())?;
+        let names = name_positions(alloc, members.as_slice())?;
+        Ok(JobList {
+            members,
+            keys,
+            names,
+        })
+    }
+
+    /// The jobs in order.
+    pub(crate) fn as_slice(&self) -> &[Member<'a>]
+        ensures { map member_of result.now ≡ map member_of self.now.members.items }
+    {
+        self.members.as_slice()
+    }
+
+    /// The job of a section.
+    pub(crate) fn job_of(&self, section: Section<'_>) -> Option<Member<'a>>
+        ensures { option_map member_of result ≡ job_among (map member_of self.now.members.items) (section_view section.entry) }
+    {
+        match section {
+            Section::Apart => None,
+            Section::On => None,
+            Section::Job(key) => match self.keys.get(key) {
+                Some(i) => Some(self.members[i]),
+                None => None,
+            },
+        }
+    }
+
+    /// The first job of a name, in any ASCII case. Fails with `AllocError` for want of memory.
+    pub(crate) fn named(&self, alloc: Global, name: &[u8]) -> Result<Option<Member<'a>>, AllocError>
+        ensures { IfOk result (λ j. option_map member_of j ≡ find (λ j. same_name (key_of j) name.now)
+            (map member_of self.now.members.items)) }
+    {
+        match self.names.get(alloc, name)? {
+            Some(i) => Ok(Some(self.members[i])),
+            None => Ok(None),
+        }
+    }
+}
