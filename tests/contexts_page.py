@@ -69,7 +69,8 @@ def fixed(text):
     """The types that are the same in every file."""
     lists = dict(re.findall(r"^(\w+_names) =\n((?:    .*\n)+)", text, re.MULTILINE))
     rows = ""
-    for context, right in re.findall(r"^(\w+)_type = (.+)$", text, re.MULTILINE):
+    for context, right in re.findall(r"^(\w+)_type =((?:\n? .+)+)", text, re.MULTILINE):
+        right = " ".join(right.split())
         fields = re.findall(r'\(codes "([^"]+)", ([\w\']+)\)', right)
         fields = [(name, TYPES[of]) for name, of in fields]
         for body in re.findall(r"strings (\w+|\([^)]*\))", right):
