@@ -11,15 +11,16 @@ import select
 import subprocess
 import sys
 
+from running import EMPTY_REPORT, SCRIPT, report
+
 SECONDS = 20
-FAULT = b".github/workflows/a.yml:1:1: file is empty [syntax-check]\n"
 
 # a command, cut where each piece is sent by itself, and its reply
 TALK = [
     ([b"report\n"], b"status 0\n"),
     ([b"put .github/workflows/a.yml 0\n", b"\n"], b"ok 1\n"),
-    ([b"report\n"], FAULT + b"status 1\n"),
-    ([b"rep", b"ort\n"], FAULT + b"status 1\n"),
+    ([b"report\n"], EMPTY_REPORT + b"status 1\n"),
+    ([b"rep", b"ort\n"], EMPTY_REPORT + b"status 1\n"),
     ([b"put ../x 1\nx\n"], b"refused E1\n"),
     ([b"delete .github/workflows/a.yml\n"], b"ok 0\n"),
     ([b"report\nreport\n"], b"status 0\nstatus 0\n"),
@@ -46,9 +47,9 @@ def is_silent(program):
     return not select.select([program.stdout], [], [], 0.05)[0]
 
 
-def talk(name, words, ending, last, status):
+def talk(name, ending, last, status):
     """Sends all commands, each after the reply to the one before, then a last piece of input, and compares."""
-    program = subprocess.Popen([sys.argv[1], *words], stdin=subprocess.PIPE, stdout=subprocess.PIPE, stderr=subprocess.PIPE, bufsize=0)
+    program = subprocess.Popen([sys.argv[1], *SCRIPT], stdin=subprocess.PIPE, stdout=subprocess.PIPE, stderr=subprocess.PIPE, bufsize=0)
     wrong = []
     try:
         for pieces, reply in TALK:
@@ -71,9 +72,7 @@ def talk(name, words, ending, last, status):
     finally:
         program.kill()
         program.wait()
-    print(f"case={name} output={'wrong' if wrong else 'expected'} status={program.returncode}")
-    for line in wrong:
-        print(f"  {line}")
+    report(name, program.returncode, wrong)
     return not wrong
 
 
@@ -81,10 +80,9 @@ def main():
     if len(sys.argv) != 2:
         print("pipes.py PROGRAM", file=sys.stderr)
         return 2
-    words = ["--session", "--oneline"]
     well = [
-        talk("replies-before-the-end", words, b"", b"", 0),
-        talk("replies-before-a-bad-command", words, b"repo\n", b"bad command\n", 2),
+        talk("replies-before-the-end", b"", b"", 0),
+        talk("replies-before-a-bad-command", b"repo\n", b"bad command\n", 2),
     ]
     return 0 if all(well) else 1
 

@@ -3,8 +3,7 @@
     python3 tests/program.py PROGRAM
 
 Each case compares the status and both streams with what docs/COMMAND-LINE.md says, and prints one line, as `rt try --cases` does:
-`case=NAME output=expected status=N`, or what differs. The cases of limits of the system run the program under them. As root the
-program runs as the user nobody, since root reads every file.
+`case=NAME output=expected status=N`, or what differs. The cases of limits of the system run the program under them.
 """
 
 import os
@@ -14,105 +13,11 @@ import signal
 import stat
 import subprocess
 import sys
-import tempfile
 
-WORKFLOWS = ".github/workflows"
-CLEAN = b"on: push\njobs:\n  a:\n    runs-on: ubuntu-latest\n    steps:\n      - run: echo\n"
-EMPTY_REPORT = b".github/workflows/a.yml:1:1: file is empty [syntax-check]\n"
+from running import (CALLED, CALLER, CLEAN, EMPTY_REPORT, MISSING_INPUT, REPORT, SCRIPT, WORKFLOWS, delete, differences_of, limit, line,
+                     put, report, run_parts, show)
+
 EMPTY_SNIPPET = EMPTY_REPORT + b"  |\n1 | \n  | ^\n"
-NOBODY = 65534
-SECONDS = 60
-
-results = {"right": 0, "wrong": 0}
-
-
-def report(name, status, differences):
-    """Prints the line of a case, and what differs."""
-    if differences:
-        results["wrong"] += 1
-        print(f"case={name} output=wrong status={status}")
-        for line in differences:
-            print(f"  {line}")
-    else:
-        results["right"] += 1
-        print(f"case={name} output=expected status={status}")
-
-
-def show(data):
-    """A front of some output, for a person."""
-    return repr(data[:300]) + (f" and {len(data) - 300} bytes more" if len(data) > 300 else "")
-
-
-def differences_of(ran, status, out, err):
-    """What of a run isn't as it should be. `None` is not compared; a function is asked."""
-    found = []
-    for what, got, wanted in (("status", ran.returncode, status), ("stdout", ran.stdout, out), ("stderr", ran.stderr, err)):
-        if wanted is None:
-            continue
-        if callable(wanted):
-            if not wanted(got):
-                found.append(f"{what} was {show(got) if isinstance(got, bytes) else got}")
-        elif got != wanted:
-            shown = (show(got), show(wanted)) if isinstance(got, bytes) else (got, wanted)
-            found.append(f"{what} was {shown[0]}, and should be {shown[1]}")
-    return found
-
-
-class Place:
-    """A folder of the disk with a copy of the program, which runs with the folder as the current one."""
-
-    def __init__(self, program):
-        self.room = tempfile.mkdtemp(prefix="actionlint-test-")
-        os.chmod(self.room, 0o755)
-        self.program = os.path.join(self.room, "actionlint")
-        shutil.copyfile(program, self.program)
-        os.chmod(self.program, 0o755)
-        self.count = 0
-        self.folder = None
-
-    def fresh(self, files=None, folders=()):
-        """A new folder with these files, each a path with its bytes."""
-        self.count += 1
-        self.folder = os.path.join(self.room, str(self.count))
-        os.makedirs(self.folder)
-        for folder in folders:
-            os.makedirs(os.path.join(self.folder, folder), exist_ok=True)
-        for path, data in (files or {}).items():
-            whole = os.path.join(self.folder, path)
-            os.makedirs(os.path.dirname(whole), exist_ok=True)
-            with open(whole, "wb") as file:
-                file.write(data)
-        return self.folder
-
-    def run(self, words=(), stdin=b"", limits=None, **streams):
-        """Runs the program and collects its streams."""
-        how = {"cwd": self.folder, "stdout": subprocess.PIPE, "stderr": subprocess.PIPE, "timeout": SECONDS}
-        if isinstance(stdin, bytes):
-            how["input"] = stdin
-        else:
-            how["stdin"] = stdin
-        if os.geteuid() == 0:
-            how.update(user=NOBODY, group=NOBODY, extra_groups=[])
-        if limits:
-            how["preexec_fn"] = limits
-        how.update(streams)
-        ran = subprocess.run([self.program, *words], **how)
-        ran.stdout = ran.stdout or b""
-        return ran
-
-    def case(self, name, status, out, err, words=(), **how):
-        """Runs the program and reports a case."""
-        ran = self.run(words, **how)
-        report(name, ran.returncode, differences_of(ran, status, out, err))
-        return ran
-
-    def remove(self):
-        shutil.rmtree(self.room, ignore_errors=True)
-
-
-def line(text):
-    """A line of standard error by the program."""
-    return b"actionlint: " + text + b"\n"
 
 
 def cannot_read(path):
@@ -142,7 +47,8 @@ def words(place):
         "root-twice": ["--root", "a", "--root", "b"],
     }.items():
         place.case(name, 2, no, said, given)
-    facts = [b"--oneline", b"--root", b"[default: .]", b"--session", b"put PATH LENGTH", b"delete PATH", b"report", b"Exit status", b"Examples"]
+    facts = [b"--oneline", b"--root", b"[default: .]", b"--session", b"put PATH LENGTH", b"delete PATH", b"report", b"Exit status"]
+    facts.append(b"Examples")
     taught = lambda out: all(it in out for it in facts) and all(b"\n  %d  " % it in out for it in range(4))
     place.case("help", 0, taught, no, ["--help"])
     place.case("help-beside-others", 0, taught, no, ["--oneline", "--help", "x"])
@@ -186,6 +92,11 @@ def folders(place):
     os.chmod(os.path.join(place.folder, WORKFLOWS), 0)
     place.case("unreadable-folder", 3, no, cannot_read(WORKFLOWS))
     os.chmod(os.path.join(place.folder, WORKFLOWS), stat.S_IRWXU)
+
+
+def refusals(place):
+    """Files of the folder, and FILEs, that are refused."""
+    no = b""
     place.fresh({f"{WORKFLOWS}/a.yml": b"", f"{WORKFLOWS}/b.yml": CLEAN + b"#" * (1_048_577 - len(CLEAN))})
     place.case("file-of-1048577-bytes", 3, no, refused(f"{WORKFLOWS}/b.yml", 3))
     place.fresh({f"{WORKFLOWS}/b.yml": CLEAN + b"#" * (1_048_576 - len(CLEAN))})
@@ -210,11 +121,6 @@ def folders(place):
 
 
 # ---- calls between the files of a folder
-
-
-CALLER = CLEAN.replace(b"run: echo", b"uses: ./a")
-CALLED = b"name: A\ndescription: d\ninputs:\n  who:\n    required: true\nruns:\n  using: node20\n  main: m.js\n"
-MISSING_INPUT = b'.github/workflows/c.yml:6:15: required input "who" of "A" is missing [action]\n'
 
 
 def calls(place):
@@ -267,12 +173,13 @@ def scripts(place):
     place.fresh()
     place.case("script-that-is-empty", 0, no, no, ["--session"])
     place.case("script-of-a-report", 0, b"status 0\n", no, ["--session"], stdin=b"report\n")
-    put = b"put .github/workflows/a.yml 0\n\nreport\n"
-    place.case("script-on-one-line", 1, b"ok 1\n" + EMPTY_REPORT + b"status 1\n", no, ["--session", "--oneline"], stdin=put)
-    place.case("script-with-snippets", 1, b"ok 1\n" + EMPTY_SNIPPET + b"status 1\n", no, ["--session"], stdin=put)
+    empty = put(f"{WORKFLOWS}/a.yml", b"") + REPORT
+    place.case("script-on-one-line", 1, b"ok 1\n" + EMPTY_REPORT + b"status 1\n", no, SCRIPT, stdin=empty)
+    place.case("script-with-snippets", 1, b"ok 1\n" + EMPTY_SNIPPET + b"status 1\n", no, ["--session"], stdin=empty)
     place.case("bad-command", 2, b"status 0\nbad command\n", no, ["--session"], stdin=b"report\nreports\nreport\n")
     place.case("cut-command", 2, b"bad command\n", no, ["--session"], stdin=b"report")
-    place.case("refused-edits", 0, b"refused E1\nrefused E2\nrefused E5\n", no, ["--session"], stdin=b"put ../x 0\n\nput x.yml 0\n\ndelete action.yml\n")
+    refused_edits = put("../x", b"") + put("x.yml", b"") + delete("action.yml")
+    place.case("refused-edits", 0, b"refused E1\nrefused E2\nrefused E5\n", no, ["--session"], stdin=refused_edits)
 
 
 # ---- what the system refuses
@@ -288,8 +195,9 @@ def streams(place):
         place.case("script-output-full", 3, no, failed, ["--session"], stdin=b"report\n", stdout=full)
     with open("/dev/null", "rb") as unwritable:
         place.case("output-that-takes-no-writes", 3, no, failed, ["--oneline"], stdout=unwritable)
-    place.case("output-closed", 3, no, failed, ["--oneline"], limits=lambda: os.close(1), stdout=subprocess.DEVNULL)
-    place.case("script-output-closed", 3, no, failed, ["--session"], stdin=b"report\n", limits=lambda: os.close(1), stdout=subprocess.DEVNULL)
+    closed = {"limits": lambda: os.close(1), "stdout": subprocess.DEVNULL}
+    place.case("output-closed", 3, no, failed, ["--oneline"], **closed)
+    place.case("script-output-closed", 3, no, failed, ["--session"], stdin=REPORT, **closed)
     reader, writer = os.pipe()
     os.close(reader)
     place.case("output-whose-reader-went", 3, no, failed, ["--oneline"], stdout=writer)
@@ -303,21 +211,17 @@ def streams(place):
     place.case("input-is-not-read", 1, EMPTY_REPORT, no, ["--oneline"], stdin=subprocess.DEVNULL, limits=lambda: os.close(0))
 
 
-def limit(which, value):
-    return lambda: resource.setrlimit(which, (value, value))
-
-
 def memory(place):
     """Under each limit of memory the answer is the whole one, or status 3 with a front of the output."""
     place.fresh()
-    script = b"".join(b"put .github/workflows/%d.yml %d\n%s\n" % (number, len(CLEAN), CLEAN) for number in range(40))
-    script += b"put .github/workflows/a.yml 60000\n" + b"{}" * 30_000 + b"\nreport\n"
-    whole = place.run(["--session", "--oneline"], script)
+    script = b"".join(put(f"{WORKFLOWS}/{number}.yml", CLEAN) for number in range(40))
+    script += put(f"{WORKFLOWS}/a.yml", b"{}" * 30_000) + REPORT
+    whole = place.run(SCRIPT, script)
     stops = 0
     wholes = 0
     wrong = []
     for size in range(1 << 20, 256 << 20, 192 << 10):
-        ran = place.run(["--session", "--oneline"], script, limits=limit(resource.RLIMIT_AS, size))
+        ran = place.run(SCRIPT, script, limits=limit(resource.RLIMIT_AS, size))
         if ran.returncode == 3:
             stops += 1
             if not (whole.stdout.startswith(ran.stdout) and ran.stderr == line(b"out of memory")):
@@ -336,20 +240,9 @@ def memory(place):
 
 def sizes(place):
     """A file size limit where its signal is ignored, and 64 levels of nesting under a small stack."""
-    no = b""
     place.fresh({f"{WORKFLOWS}/a.yml": b""})
-    target = os.path.join(place.room, "output")
-
-    def small_files():
-        # the system's signal would end the program with no answer
-        signal.signal(signal.SIGXFSZ, signal.SIG_IGN)
-        resource.setrlimit(resource.RLIMIT_FSIZE, (20, 20))
-
-    with open(target, "wb") as output:
-        ran = place.run(["--oneline"], stdout=output, limits=small_files, restore_signals=False)
-    with open(target, "rb") as output:
-        held = output.read()
-    wrong = differences_of(ran, 3, no, line(b"write failed"))
+    ran, held = place.run_to_file(20, ["--oneline"])
+    wrong = differences_of(ran, 3, b"", line(b"write failed"))
     if held != EMPTY_REPORT[:20]:
         wrong.append(f"the file held {show(held)}")
     report("file-size-limit", ran.returncode, wrong)
@@ -357,20 +250,11 @@ def sizes(place):
     place.fresh({f"{WORKFLOWS}/a.yml": deep})
     plain = place.run(["--oneline"])
     small = place.run(["--oneline"], limits=limit(resource.RLIMIT_STACK, 256 * 1024))
-    report("deep-nesting-on-a-small-stack", small.returncode, differences_of(small, plain.returncode, plain.stdout, plain.stderr) + ([] if plain.returncode == 1 else [f"status was {plain.returncode}"]))
+    wrong = differences_of(small, plain.returncode, plain.stdout, plain.stderr)
+    if plain.returncode != 1:
+        wrong.append(f"status was {plain.returncode} with an ample stack")
+    report("deep-nesting-on-a-small-stack", small.returncode, wrong)
 
 
-def main():
-    if len(sys.argv) != 2:
-        print("program.py PROGRAM", file=sys.stderr)
-        return 2
-    place = Place(sys.argv[1])
-    try:
-        for part in (words, folders, calls, examples, scripts, streams, memory, sizes):
-            part(place)
-    finally:
-        place.remove()
-    return 1 if results["wrong"] else 0
-
-
-sys.exit(main())
+if __name__ == "__main__":
+    sys.exit(run_parts(words, folders, refusals, calls, examples, scripts, streams, memory, sizes))

@@ -1,0 +1,268 @@
+"""Runs the built program on hostile files and streams: files that are cut, deep, long or large; input that is cut, comes a byte a
+read, fails or doesn't end; output that takes so many bytes and no more.
+
+    python3 tests/hostile.py PROGRAM
+
+What is expected are the worked rows of the linter's description, and never what the program printed before. Where a report has no
+row of its own, that of a session is compared with that of the folder on the disk. Input whose reads matter comes through a pipe in
+packet mode, of which each read gives what one write put in. Prints a line for each case, as tests/program.py does.
+"""
+
+import fcntl
+import os
+import sys
+import termios
+import threading
+
+from running import (CALLED, CALLER, CLEAN, MISSING_INPUT, REPORT, SCRIPT, WORKFLOWS, delete, differences_of, each, edits_and_reports, line,
+                     put, report, run_parts, show, wrong_line)
+
+NO = b""
+WORKFLOW = f"{WORKFLOWS}/a.yml"
+AT = WORKFLOW.encode() + b":"
+READS = 1_048_576
+LARGEST = 1_048_576
+FILES = 4_096
+PIPE_ROOM = 1 << 20
+
+WITH_REF = CLEAN.replace(b"run: echo", b"run: echo ${{ github.ref }}")
+WITH_MATRIX = b"""on: push
+jobs:
+  a:
+    strategy:
+      matrix:
+        v: [3.10, 3.9]
+        include:
+          - v: 3.10
+            os: linux
+    runs-on: ${{ matrix.os }}
+    steps:
+      - run: echo ${{ matrix.vv }}
+"""
+CALLS_ITSELF = b"""on:
+  workflow_call:
+    inputs:
+      x:
+        type: string
+        required: true
+jobs:
+  a:
+    uses: ./.github/workflows/r.yml
+"""
+
+# a script of calls: its commands, each with its reply and the folder's status after it
+TALK = [
+    (put(f"{WORKFLOWS}/c.yml", CALLER), b"ok 1\n", 0),
+    (REPORT, b"status 0\n", 0),
+    (put("a/action.yml", CALLED), b"ok 2\n", 1),
+    (REPORT, MISSING_INPUT + b"status 1\n", 1),
+]
+TALK_SCRIPT = b"".join(command for command, _, _ in TALK)
+TALK_OUTPUT = b"".join(reply for _, reply, _ in TALK)
+
+
+# ---- files that are cut
+
+
+def front_differences(place, front, told):
+    """What of the session's answer for a file differs from the folder's with this file, or from what holds of any."""
+    reply, reported, status = told
+    place.write(WORKFLOW, front)
+    wrong = differences_of(place.run(["--oneline", "--root", "."]), status, reported, NO)
+    if reply != b"ok 1":
+        wrong.append(f"the reply was {reply!r}")
+    broken = wrong_line(reported, {WORKFLOW: front})
+    return wrong + [broken] if broken else wrong
+
+
+def fronts(place):
+    """Each front of three files: accepted, reported as the folder's, and each place in the file."""
+    for name, data in (("clean", WITH_REF), ("with-a-matrix", WITH_MATRIX), ("that-calls-itself", CALLS_ITSELF)):
+        place.fresh()
+        files = [data[:size] for size in range(len(data) + 1)]
+        ran = place.run(SCRIPT, b"".join(put(WORKFLOW, front) + REPORT for front in files))
+        told = edits_and_reports(ran.stdout) or []
+        if len(told) != len(files):
+            report(f"fronts-of-a-file-{name}", ran.returncode, [f"stdout was {show(ran.stdout)}"])
+            continue
+        each(f"fronts-of-a-file-{name}", ((len(front), front_differences(place, front, it)) for front, it in zip(files, told)))
+
+
+# ---- files at their limits
+
+
+def reported(place, name, data, fault=NO):
+    """A file that is put, with the fault that is reported at its path."""
+    lines = AT + fault + b"\n" if fault else NO
+    status = 1 if fault else 0
+    place.case(name, status, b"ok 1\n%sstatus %d\n" % (lines, status), NO, SCRIPT, stdin=put(WORKFLOW, data) + REPORT)
+
+
+def limits(place):
+    """Brackets, nodes, expressions and lengths, each at its limit and one past it."""
+    place.fresh()
+    no_mapping = b'1:1: wrong kind of value for "file" [syntax-check]'
+    reported(place, "brackets-64", b"[" * 64 + b"]" * 64, no_mapping)
+    reported(place, "brackets-65", b"[" * 65 + b"]" * 65, b"1:65: nesting is too deep [syntax-check]")
+    reported(place, "items-99999", b"[" + b"1," * 99_999 + b"]", no_mapping)
+    reported(place, "items-100000", b"[" + b"1," * 100_000 + b"]", b"1:200000: too many nodes [syntax-check]")
+    runs = lambda content: CLEAN.replace(b"run: echo", b"run: ${{" + content + b"}}")
+    reported(place, "open-brackets-21000", runs(b"(" * 21_000), b"6:67: expression is too deep [expression]")
+    reported(place, "open-brackets-21001", runs(b"(" * 21_001), b"6:17: expression is too long [expression]")
+    reported(place, "properties-10400", runs(b"github.event" + b".a" * 10_400))
+    reported(place, "alternatives-6900", runs(b"1" + b"||1" * 6_900))
+    reported(place, "comment-of-1048576-bytes", b"#" * LARGEST, b"1:1: file is empty [syntax-check]")
+
+
+def folder_of_4096(place):
+    """As many files as a folder takes, one more, and all of them deleted."""
+    place.fresh()
+    paths = [f"{WORKFLOWS}/{number}.yml" for number in range(FILES)]
+    script = b"".join(put(path, WITH_REF) for path in paths) + put(f"{WORKFLOWS}/more.yml", WITH_REF)
+    script += b"".join(delete(path) for path in paths) + REPORT
+    wanted = b"ok 1\n" * FILES + b"refused E4\n" + b"ok 0\n" * FILES + b"status 0\n"
+    place.case("folder-of-4096-files", 0, wanted, NO, SCRIPT, stdin=script)
+
+
+# ---- input
+
+
+class Packets:
+    """The reading end of a pipe of which each read gives one of these pieces, for as long as it is open; then the end, a failure, or
+    neither before it is closed."""
+
+    def __init__(self, pieces, ending="end"):
+        self.reader, self.writer = os.pipe2(os.O_DIRECT)
+        fcntl.fcntl(self.writer, fcntl.F_SETPIPE_SZ, PIPE_ROOM)
+        for piece in pieces:
+            os.write(self.writer, piece)
+        if ending == "end":
+            os.close(self.writer)
+            self.writer = None
+        # where nothing is left, a read of this end fails, since it would have to wait
+        os.set_blocking(self.reader, ending != "failure")
+
+    def left(self):
+        """How many bytes weren't read."""
+        count = bytearray(4)
+        fcntl.ioctl(self.reader, termios.FIONREAD, count)
+        return int.from_bytes(count, sys.byteorder)
+
+    def __enter__(self):
+        return self
+
+    def __exit__(self, *_):
+        os.close(self.reader)
+        if self.writer is not None:
+            os.close(self.writer)
+
+
+def read_differences(place, pieces, ending, status, out, err):
+    """What differs from this answer where the script comes in these pieces."""
+    with Packets([piece for piece in pieces if piece], ending) as packets:
+        return differences_of(place.run(SCRIPT, packets.reader), status, out, err)
+
+
+def replies_to(size):
+    """What answers the whole commands in the first bytes of the talk, the folder's status then, and whether a part is left."""
+    replies, status = NO, 0
+    for command, reply, status_then in TALK:
+        if size < len(command):
+            break
+        size -= len(command)
+        replies += reply
+        status = status_then
+    return replies, status, size > 0
+
+
+def cut_short(place, size):
+    """A script that ends here: a part of a command is a bad one."""
+    replies, status, cut = replies_to(size)
+    out, ended = (replies + b"bad command\n", 2) if cut else (replies, status)
+    return read_differences(place, [TALK_SCRIPT[:size]], "end", ended, out, NO)
+
+
+def pieces_of_a_script(place):
+    """A script in two reads, in single bytes, with its end and with a failed read, at each place."""
+    place.fresh()
+    sizes = range(len(TALK_SCRIPT) + 1)
+    parts = lambda size: [TALK_SCRIPT[:size], TALK_SCRIPT[size:]]
+    each("script-in-two-reads", ((size, read_differences(place, parts(size), "end", 1, TALK_OUTPUT, NO)) for size in sizes))
+    bytewise = [bytes([byte]) for byte in TALK_SCRIPT]
+    each("script-a-byte-a-read", [(0, read_differences(place, bytewise, "end", 1, TALK_OUTPUT, NO))])
+    each("script-that-ends", ((size, cut_short(place, size)) for size in sizes))
+    failed = lambda size: read_differences(place, parts(size)[:1], "failure", 3, replies_to(size)[0], line(b"read failed"))
+    each("script-whose-read-fails", ((size, failed(size)) for size in sizes))
+
+
+def lines_of_input(place):
+    """First lines that are too long, and bytes of a file that are cut."""
+    place.fresh()
+    wrong = b"bad command\n"
+    each("line-of-2048-bytes", [(0, read_differences(place, [b"x" * 2_048], "failure", 3, NO, line(b"read failed")))])
+    # the program answers while the other end is open: it reads no more
+    each("line-of-2049-bytes", [(0, read_differences(place, [b"x" * 2_049], "none", 2, wrong, NO))])
+    cut = REPORT + b"put .github/workflows/a.yml 95\non: push\n"
+    place.case("file-that-is-cut", 2, b"status 0\n" + wrong, NO, SCRIPT, stdin=cut)
+
+
+def input_without_end(place):
+    """Reports, a byte a read, without end: so many reads, and no more."""
+    place.fresh()
+    replies = READS // len(REPORT)
+    target = os.path.join(place.room, "replies")
+    with Packets([], "none") as packets, open(target, "wb") as output:
+        given = 0
+
+        def feed():
+            nonlocal given
+            # a few more than are read, so that the pipe holds them when the program has ended
+            for turn in range(READS + 100):
+                given += os.write(packets.writer, REPORT[turn % len(REPORT)].to_bytes(1, "big"))
+
+        feeder = threading.Thread(target=feed, daemon=True)
+        feeder.start()
+        ran = place.run(SCRIPT, packets.reader, stdout=output)
+        # it stays where the program read less
+        feeder.join(1)
+        taken = given - packets.left()
+    with open(target, "rb") as output:
+        ran.stdout = output.read()
+    wrong = differences_of(ran, 3, b"status 0\n" * replies, line(b"too many reads"))
+    if (replies, taken) != (149_796, READS):
+        wrong.append(f"{taken} bytes were read")
+    report("input-without-end", ran.returncode, wrong)
+
+
+# ---- output
+
+
+def held_differences(place, size, whole, words, stdin=NO):
+    """What differs where the output takes so many bytes."""
+    ran, held = place.run_to_file(size, words, stdin)
+    wrong = differences_of(ran, 3, NO, line(b"write failed"))
+    return wrong if held == whole[:size] else wrong + [f"the output held {show(held)}"]
+
+
+def narrow_output(place):
+    """Output that takes so many bytes and then fails, for each number below the whole, and one that takes none."""
+    place.fresh()
+    held = lambda whole, *given: ((size, held_differences(place, size, whole, *given)) for size in range(len(whole)))
+    each("output-of-a-script-that-fails", held(TALK_OUTPUT, SCRIPT, TALK_SCRIPT))
+    place.fresh({f"{WORKFLOWS}/c.yml": CALLER, "a/action.yml": CALLED})
+    snippet = MISSING_INPUT + b"  |\n6 |       - uses: ./a\n  |               ^~~\n"
+    place.case("output-of-a-folder", 1, snippet, NO)
+    each("output-of-a-folder-that-fails", held(snippet, []))
+    reader, writer = os.pipe()
+    os.set_blocking(writer, False)
+    try:
+        while os.write(writer, bytes(1 << 16)):
+            pass
+    except BlockingIOError:
+        place.case("output-that-takes-nothing", 3, NO, line(b"write failed"), SCRIPT, stdin=REPORT, stdout=writer)
+    os.close(reader)
+    os.close(writer)
+
+
+if __name__ == "__main__":
+    sys.exit(run_parts(fronts, limits, folder_of_4096, pieces_of_a_script, lines_of_input, input_without_end, narrow_output))
