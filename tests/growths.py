@@ -6,7 +6,8 @@ A library of tests/growths.c that is loaded before a program counts its growths,
 - A test of ten edits in a session (crates/al_tests) runs with each of its growths refused: each refused edit leaves all as it was, and
   is accepted when it is made again, and a report stops before its first byte or is whole.
 - The same edits as a script of the program, with a report behind each, and the folders of examples/: a run whose growth is refused
-  says that memory ran out, and its output is a front of the whole.
+  says that memory ran out, and its output is a front of the whole. The kit's `collect` asks for room ahead, and goes on without it: such
+  a run is the whole one.
 - The growths of one edit are counted, of other bytes for an action that a workflow calls, beside 1,000 workflows that call absent
   actions and alone: beside the others it makes at most 64 more.
 """
@@ -47,9 +48,11 @@ class Growths:
         return (done.returncode, done.stdout, errors), int(count)
 
     def each(self, words, stdin, holds):
-        """How many growths a run makes, and those whose refusal gives a run of which this doesn't hold beside the whole one."""
+        """How many growths a run makes, with how many of them refused it ends otherwise, and those of which this doesn't hold then."""
         whole, count = self.run(words, stdin)
-        return count, [it for it in range(1, count + 1) if not holds(self.run(words, stdin, it)[0], whole)]
+        runs = [(it, self.run(words, stdin, it)[0]) for it in range(1, count + 1)]
+        others = [(it, ran) for it, ran in runs if ran != whole]
+        return count, len(others), [it for it, ran in others if not holds(ran, whole)]
 
     def of_script(self, commands):
         """How many growths a script makes."""
@@ -80,13 +83,15 @@ def commands_in(script):
 def refused_in_turn(growths):
     """Prints how many growths the tests, the script and the folders make, and what went wrong; answers whether nothing did."""
     script = TEN_EDITS.read_bytes()
-    runs = [("ten edits in a session", [TESTS, EDITS], b"", passes), ("ten edits as a script", [PROGRAM, *SCRIPT], script, stops)]
-    runs += [(f"the folder examples/{it}", [PROGRAM, "--root", TOP / "examples" / it], b"", stops) for it in FOLDERS]
-    well = True
-    for name, words, stdin, holds in runs:
-        count, wrong = growths.each(words, stdin, holds)
-        print(f"{name}: {count} growths, each refused in turn; wrong: {wrong}", flush=True)
-        well = well and count > 0 and not wrong
+    count, _, wrong = growths.each([TESTS, EDITS], b"", passes)
+    print(f"ten edits in a session: {count} growths, each refused in turn; wrong: {wrong}", flush=True)
+    well = count > 0 and not wrong
+    runs = [("ten edits as a script", SCRIPT, script)]
+    runs += [(f"the folder examples/{it}", ["--root", TOP / "examples" / it], b"") for it in FOLDERS]
+    for name, words, stdin in runs:
+        count, stopped, wrong = growths.each([PROGRAM, *words], stdin, stops)
+        print(f"{name}: {count} growths, each refused in turn; {stopped} runs stop; wrong: {wrong}", flush=True)
+        well = well and 0 < stopped and not wrong
     return well
 
 

@@ -1,6 +1,5 @@
 //! Times of a session over the small linter, for `bench/session.py`: the first word names what is timed and the second one
-//! a number of files; what one edit takes is printed, in nanoseconds, the least of some rounds. For `tests/growths.py` two
-//! further words name runs whose growths are counted from outside.
+//! a number of files; what one edit takes is printed, in nanoseconds, the least of some rounds.
 #![tactic(auto)]
 
 use al_session::{Edit, Refused, Session};
@@ -32,10 +31,6 @@ enum Kind {
     Backward,
     /// A put of the bytes that are there.
     SameBytes,
-    /// A call and the file that it calls, beside files that call absent ones. Nothing is timed.
-    Called,
-    /// The same, and then other bytes of the file that is called.
-    CalledAgain,
 }
 
 fn kind_named(word: &str) -> Option<Kind> {
@@ -47,8 +42,6 @@ fn kind_named(word: &str) -> Option<Kind> {
         "forward" => Some(Kind::Forward),
         "backward" => Some(Kind::Backward),
         "same-bytes" => Some(Kind::SameBytes),
-        "called" => Some(Kind::Called),
-        "called-again" => Some(Kind::CalledAgain),
         _ => None,
     }
 }
@@ -144,26 +137,8 @@ fn new_time(rt: &HostRuntime, count: u32, is_backward: bool) -> io::Result<u128>
     Ok(best / count.max(1) as u128)
 }
 
-/// Puts files that call absent ones, a call and the file that it calls, and maybe other bytes of that file.
-fn call(rt: &HostRuntime, count: u32, again: bool) -> io::Result<()> {
-    let mut session = Session::open(rt.alloc(), Toy::new());
-    for number in 0..count {
-        let path = format!(in rt.alloc(); "f{number:05}.toy")?;
-        let text = format!(in rt.alloc(); "need x{number:05}.toy x{number:05}/a.toy")?;
-        taken(session.put(&path, text.as_bytes()))?;
-    }
-    taken(session.put("c.toy", b"need d/a.toy d/b.toy"))?;
-    taken(session.put("d/a.toy", b"have x"))?;
-    if again {
-        taken(session.put("d/a.toy", b"have x\nother"))?;
-    }
-    Ok(())
-}
-
 fn run(rt: &HostRuntime, kind: Kind, count: u32) -> io::Result<()> {
     let nanoseconds = match kind {
-        Kind::Called => return call(rt, count, false),
-        Kind::CalledAgain => return call(rt, count, true),
         Kind::Forward => new_time(rt, count, false)?,
         Kind::Backward => new_time(rt, count, true)?,
         _ => edit_time(rt, kind, count)?,
