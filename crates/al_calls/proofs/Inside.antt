@@ -1,5 +1,5 @@
 -- Each fault of a file's calls lies in the file that its tree lies in.
-use Rattle.std.specs.Prelude.{ℕ, Bool, true, false, ◌&&◌, not, List, [], ◌∷◌, ◌++◌, codes, drop, map, Option, Some, None, IfSome, find, option_and_then}
+use Rattle.std.specs.Prelude.{ℕ, Bool, List, [], ◌∷◌, ◌++◌, codes, drop, Option, Some, None, find}
 use Rattle.std.proofs.Common.{cond}
 use Rattle.std.specs.List.{AllByRecursion, flat_map}
 use Rattle.std.specs.Option.{option_map_or}
@@ -26,8 +26,8 @@ use Rattle.al_uses.specs.declared.forms.Form.{Form}
 use Rattle.al_uses.specs.declared.forms.Form.TheVariants.{Local, Other, Wrong}
 use Rattle.al_uses.proofs.Inside.{AtLies, calls_lie, inside_kept}
 use Rattle.al_uses.proofs.Parts.{each_both, each_either, each_of, entries_kept}
-use Rattle.al_calls.specs.Answers.{Answered, Typing, answered, answered_faults, faults_in, first_answer}
-use Rattle.al_calls.specs.CallFaults.{Given, Names, absent_faults, against, answer_faults, at_uses, call_faults, called, caller_of, extra_input, extra_inputs, extra_secret, extra_secrets, fault, form_faults, given_names, given_secrets, given_type, input_faults, input_names, is_callable, is_inherit, is_input, is_missing, is_missing_secret, is_right, is_taken, job_against, missing_input, missing_inputs, missing_secret, missing_secrets, secret_faults, secret_names, step_against, that_uses, type_faults, values_of, wrong_input, wrong_inputs}
+use Rattle.al_calls.specs.Answers.{Answered, Typing, answered, answered_faults}
+use Rattle.al_calls.specs.CallFaults.{Given, Names, absent_faults, against, answer_faults, at_uses, call_faults, called, caller_of, extra_input, extra_inputs, extra_secret, extra_secrets, fault, form_faults, given_names, given_secrets, input_faults, input_names, is_callable, is_inherit, is_input, is_missing, is_missing_secret, is_right, is_taken, missing_input, missing_inputs, missing_secret, missing_secrets, secret_faults, secret_names, that_uses, type_faults, values_of, wrong_input, wrong_inputs}
 use Rattle.al_calls.specs.Laws.{CallFaultsLie}
 
 module _ (size : ℕ) where

@@ -1,5 +1,5 @@
 -- Which answer belongs to which call, and the faults of all calls of a file.
-use Rattle.std.specs.Prelude.{ℕ, List, [], ◌∷◌, codes, drop, Option, Some, None, option_and_then}
+use Rattle.std.specs.Prelude.{List, [], ◌∷◌, codes, drop, Option, None, option_and_then}
 use Rattle.std.specs.List.{flat_map}
 use Rattle.std.specs.Option.{option_map_or}
 use Rattle.al_text.specs.declared.faults.Fault.{Fault}

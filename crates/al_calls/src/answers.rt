@@ -45,7 +45,8 @@ pub fn with_answers<'a>(
     calls: &'a [Call<'a>],
     answers: &'a [Option<&'a Interface>],
 ) -> Result<Vec<Answered<'a>>, AllocError>
-    ensures { IfOk result (λ v. map answered_of v.items ≡ answering.answered (map call_of calls.now) (map (λ a. option_copied a) answers.now)) }
+    ensures { IfOk result
+        (λ v. map answered_of v.items ≡ answering.answered (map call_of calls.now) (map (λ a. option_copied a) answers.now)) }
 {
     let mut found = Vec::new(alloc);
     let mut left = answers;

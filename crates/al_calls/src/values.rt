@@ -76,7 +76,9 @@ fn check_type(
     input: &Input,
     out: &mut Vec<Fault>,
 ) -> Result<(), AllocError>
-    ensures { OnOk result (out.new.items ≡ out.old.items ++ faults.type_faults (call_of call.now) (member_of value.now.member) (ty_of value.now.ty) input.now) }
+    ensures { OnOk result
+        (out.new.items ≡ out.old.items ++ faults.type_faults (call_of call.now) (member_of value.now.member)
+        (ty_of value.now.ty) input.now) }
 {
     if is_right(&value.ty, input.takes) {
         return Ok(());
@@ -119,7 +121,8 @@ pub(crate) fn check_values(
     signature: &Signature,
     out: &mut Vec<Fault>,
 ) -> Result<(), AllocError>
-    ensures { OnOk result (out.new.items ≡ out.old.items ++ faults.wrong_inputs (call_of call.now) (map given_of values.now) signature.now) }
+    ensures { OnOk result
+        (out.new.items ≡ out.old.items ++ faults.wrong_inputs (call_of call.now) (map given_of values.now) signature.now) }
 {
     let inputs = signature.inputs.as_slice();
     let positions = input_positions(alloc, inputs)?;

@@ -6,7 +6,8 @@ use Rattle.al_cli.specs.Replies.{session}
 
 -- at most one command begins given bytes, and what follows it is one text
 abbrev pub BeginsInOneWay : Type 0
-BeginsInOneWay = (c d : Command) (x y : List ℕ) → IsCommand c → IsCommand d → command_bytes c ++ x ≡ command_bytes d ++ y → (c ≡ d) × (x ≡ y)
+BeginsInOneWay = (c d : Command) (x y : List ℕ) → IsCommand c → IsCommand d → command_bytes c ++ x ≡ command_bytes d ++ y →
+    (c ≡ d) × (x ≡ y)
 
 -- bytes that are wrong stay wrong, and never become a command, whatever follows
 abbrev pub StaysWrong : Type 0

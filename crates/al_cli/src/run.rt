@@ -1,4 +1,5 @@
-ghost use Rattle.std.specs.Prelude.{Err, None, false, max, ◌≡◌, ◌≢◌, [], ◌<◌, MatchOption, ◌+◌, ◌≤◌, ◌++◌, ◌⊎◌, ℕ, List, length, take, drop, codes, IfOk, OnOk, OnErr, IfErr, IsErrOf, is_ok, decimal, IsOkUnless};
+ghost use Rattle.std.specs.Prelude.{Err, None, false, max, ◌≡◌, ◌≢◌, [], ◌<◌, MatchOption, ◌+◌, ◌≤◌, ◌++◌, ◌⊎◌, ℕ, List, length, take};
+ghost use Rattle.std.specs.Prelude.{drop, codes, IfOk, OnOk, OnErr, IfErr, IsErrOf, is_ok, decimal, IsOkUnless};
 ghost use Rattle.std.specs.Io.KnownBytes.{Appends, Keeps, Consumes};
 ghost use Rattle.al_text.specs.Counted.{raised, HasRisen, AppendsFront};
 ghost use Rattle.al_text.specs.Streams.{bytes_left, turns_of, read_failures, largest_ask, bytes_written, write_failures};
@@ -98,7 +99,8 @@ fn take_turn<R: Read, W: Write>(
         (bytes_written W.contents writer.old) (bytes_written W.contents writer.new))
         (RunsToEnd (replies.session oneline) session.old.folder waiting.old.items (bytes_left R.remaining reader.old)
         (bytes_written W.contents writer.old) (bytes_written W.contents writer.new))) }
-    ensures err { IfErr result (TurnStops (replies.session oneline) session.old.folder session.new.folder waiting.old.items waiting.new.items
+    ensures err { IfErr result
+        (TurnStops (replies.session oneline) session.old.folder session.new.folder waiting.old.items waiting.new.items
         (bytes_left R.remaining reader.old) (bytes_left R.remaining reader.new)
         (bytes_written W.contents writer.old) (bytes_written W.contents writer.new)) }
     ensures turns { turns_of reader.new ≡ raised (turns_of reader.old) 1 }
@@ -140,7 +142,9 @@ fn finish<W: Write>(
     requires { BeginsWithCommand waiting.now → ⊥ }
     ensures ok { IfOk result (λ answer. (last : List ℕ) × Ends (replies.session false) session.now.folder waiting.now last answer
         × Appends (bytes_written W.contents writer.old) (bytes_written W.contents writer.new) last) }
-    ensures err { OnErr result (((waiting.now ≢ []) × AppendsFront (bytes_written W.contents writer.old) (bytes_written W.contents writer.new) (codes "bad command\n"))
+    ensures err { OnErr result
+        (((waiting.now ≢ [])
+        × AppendsFront (bytes_written W.contents writer.old) (bytes_written W.contents writer.new) (codes "bad command\n"))
         ⊎ Keeps (bytes_written W.contents writer.old) (bytes_written W.contents writer.new)) }
     ensures failures { OnOk result (write_failures writer.new ≡ write_failures writer.old) }
     ensures failed { IsErrOf result Stop.WriteFault → HasRisen (write_failures writer.old) (write_failures writer.new) }
@@ -211,7 +215,8 @@ fn answer<W: Write>(
 
 // Writes the reply to an edit. Want of memory has none, and ends the run; no other reply does.
 fn write_reply<W: Write>(writer: &mut Output<W>, reply: Result<Edit, Refused>) -> Result<(), Stop>
-    ensures ok { OnOk result ((reply ≢ Err refused.Memory) × Appends (bytes_written W.contents writer.old) (bytes_written W.contents writer.new) (replies.reply_bytes reply)) }
+    ensures ok { OnOk result ((reply ≢ Err refused.Memory)
+        × Appends (bytes_written W.contents writer.old) (bytes_written W.contents writer.new) (replies.reply_bytes reply)) }
     ensures err { IfErr result (replies.ReplyStops reply (bytes_written W.contents writer.old) (bytes_written W.contents writer.new)) }
     ensures failures { OnOk result (write_failures writer.new ≡ write_failures writer.old) }
     ensures failed { IsErrOf result Stop.WriteFault → HasRisen (write_failures writer.old) (write_failures writer.new) }

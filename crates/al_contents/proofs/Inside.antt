@@ -1,6 +1,6 @@
 -- Each fault of an expression lies in the file.
-use Rattle.std.proofs.Common.{◌≡◌, ◌≢◌, ◌≤◌, ◌<◌, ◌+◌, ◌-◌, ℕ, zero, suc, List, [], ◌∷◌, ◌++◌, length, take, drop, map, arith, Bool, true, false, cond, nat_eq, ◌&&◌, ◌||◌, not, Option, Some, None, sym, subst, refl, ap, ◌∙◌, inl, inr, ◌⊎◌}
-use Rattle.std.specs.Prelude.{slice_range, ◌==◌}
+use Rattle.std.proofs.Common.{◌≡◌, ◌≤◌, ◌<◌, ◌+◌, ◌-◌, ℕ, zero, suc, List, [], ◌∷◌, length, take, drop, map, arith, Bool, true, false, cond, nat_eq, ◌&&◌, ◌||◌, not, Option, Some, None, subst, refl, inl, inr, ◌⊎◌}
+use Rattle.std.specs.Prelude.{slice_range}
 use Rattle.std.specs.List.{AllByRecursion, flat_map}
 use Rattle.std.specs.Option.{option_map_or, option_to_list}
 use Rattle.std.proofs.lemmas.Bool.Decides.{nat_tests}

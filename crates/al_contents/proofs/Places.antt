@@ -1,5 +1,5 @@
 -- What holds of each scalar of a tree holds of each place that is checked.
-use Rattle.std.proofs.Common.{◌≡◌, ◌≤◌, ◌<◌, ◌+◌, ◌*◌, ◌^◌, ℕ, zero, suc, List, [], ◌∷◌, ◌++◌, length, map, arith, Bool, true, false, cond, ◌&&◌, not, Option, Some, None, sym, subst, refl, ap}
+use Rattle.std.proofs.Common.{◌≡◌, ◌≤◌, ◌+◌, ℕ, zero, suc, List, [], ◌∷◌, ◌++◌, length, map, arith, Bool, true, false, cond, ◌&&◌, not, Option, Some, None, sym, subst}
 use Rattle.std.specs.Prelude.{IsUtf8, All}
 use Rattle.std.specs.List.{AllByRecursion}
 use Rattle.std.specs.Option.{option_map_or}
@@ -8,20 +8,20 @@ use Rattle.al_text.specs.Spans.{LiesIn}
 use Rattle.al_text.specs.declared.faults.Span.{Span}
 use Rattle.al_scalar.specs.Line.{Cell}
 use Rattle.al_scalar.specs.Offsets.{AreRising, IsFrom, IsPlaced, is_block, reach}
-use Rattle.al_scalar.specs.Scalar.{Scalar, offset_of, offset_or, text_of}
+use Rattle.al_scalar.specs.Scalar.{Scalar, offset_or, text_of}
 use Rattle.al_scalar.specs.declared.styles.Style.{Style}
 use Rattle.al_yaml.specs.Access.{entries}
 use Rattle.al_yaml.specs.Node.{Node, Nodes, Entries, scalar, sequence, mapping, no_nodes, item, no_entries, entry, span_of}
-use Rattle.al_yaml.specs.Spans.{AreFrom, AreInOrder, EntriesFrom, EntriesInOrder, IsBetween, IsWithin, ItemsFrom}
+use Rattle.al_yaml.specs.Spans.{AreFrom, AreInOrder, EntriesFrom, EntriesInOrder, IsWithin, ItemsFrom}
 use Rattle.al_yaml.specs.Texts.{EntriesHaveTexts, HasTexts, HaveTexts}
 use Rattle.al_shape.specs.Faults.{Standing, repeated, unexpected, ignored, expected, standing, refined}
 use Rattle.al_shape.specs.Keys.{key_text, keys_in}
 use Rattle.al_shape.specs.Names.{among}
-use Rattle.al_shape.specs.Table.{Keys, Rule, rule}
+use Rattle.al_shape.specs.Table.{Keys, rule}
 use Rattle.al_shape.specs.declared.table.Shape.{Shape}
 use Rattle.al_tree.specs.Files.{shape_of}
 use Rattle.al_tree.specs.declared.files.FileKind.{FileKind}
-use Rattle.al_places.specs.Places.{Place, entry_places, fits, place_at, place_of, placed, placed_entries, placed_items, places_of, rule_or_any, scalar_places, takes_scalars_only}
+use Rattle.al_places.specs.Places.{Place, entry_places, fits, place_at, place_of, placed, placed_entries, placed_items, places_of, rule_or_any, takes_scalars_only}
 use Rattle.al_places.specs.declared.walk.Place as rust
 use Rattle.al_places.specs.Ways.{Step, is_checked, nth, under}
 use Rattle.al_contents.specs.Contents.{HasRoom}

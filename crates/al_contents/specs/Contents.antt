@@ -1,5 +1,6 @@
 -- The faults of the expressions in a scalar, with their places in the file.
-use Rattle.std.specs.Prelude.{ℕ, List, [], ◌∷◌, ◌++◌, ◌+◌, ◌-◌, ◌==◌, ◌<◌, ◌^◌, Bool, true, false, ◌||◌, ◌&&◌, not, length, map, slice_range, if◌then◌else◌}
+use Rattle.std.specs.Prelude.{ℕ, List, [], ◌∷◌, ◌++◌, ◌+◌, ◌-◌, ◌==◌, ◌<◌, ◌^◌, Bool, true, false, ◌||◌, ◌&&◌, not, length, map}
+use Rattle.std.specs.Prelude.{slice_range, if◌then◌else◌}
 use Rattle.std.specs.List.{flat_map}
 use Rattle.std.specs.Option.{option_map_or, option_to_list}
 use Rattle.al_text.specs.declared.codes.ExpressionCode.TheVariants as code

@@ -20,4 +20,5 @@ expression_faults kind known root = flat_map (faults_at kind known root) (places
 
 -- where the tree's nodes lie in a file of so many bytes, and each byte of its texts comes from there
 abbrev pub ExpressionFaultsLie : Type 0
-ExpressionFaultsLie = (size : ℕ) (kind : FileKind) (known : Known) (root : Node) → IsWithin 0 size root → AreFrom size root → AllLie size (expression_faults kind known root)
+ExpressionFaultsLie = (size : ℕ) (kind : FileKind) (known : Known) (root : Node) → IsWithin 0 size root → AreFrom size root →
+    AllLie size (expression_faults kind known root)

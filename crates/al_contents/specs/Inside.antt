@@ -3,7 +3,6 @@ use Rattle.std.specs.Prelude.{ℕ, ◌≤◌, List, length, IsUtf8}
 use Rattle.std.specs.List.{AllByRecursion}
 use Rattle.al_text.specs.Spans.{LiesIn}
 use Rattle.al_text.specs.declared.faults.Fault.{Fault}
-use Rattle.al_text.specs.declared.faults.Span.{Span}
 use Rattle.al_scalar.specs.Offsets.{IsFrom, IsPlaced}
 use Rattle.al_scalar.specs.Scalar.{text_of}
 use Rattle.al_places.specs.Places.{Place}

@@ -5,7 +5,8 @@ ghost use Rattle.al_scalar.specs.Scalar.{offset_of, text_of};
 ghost use Rattle.al_grammar.specs.View.{tree_of};
 ghost use Rattle.al_types.specs.Scopes.{scope_of};
 ghost use Rattle.al_contents.specs.Contents as contents;
-ghost use Rattle.al_contents.specs.Contents.{chunk_faults, chunked_faults, content_faults, is_one_chunk, is_whole_span, moved, place_faults, tree_faults, HasRoom};
+ghost use Rattle.al_contents.specs.Contents.{chunk_faults, chunked_faults, content_faults, is_one_chunk};
+ghost use Rattle.al_contents.specs.Contents.{is_whole_span, moved, place_faults, tree_faults, HasRoom};
 ghost use Rattle.al_grammar.specs.Chunks.{chunks_of, span_of_chunk, IsCutFrom};
 ghost use Rattle.al_places.specs.Places.{place_of};
 
@@ -146,7 +147,8 @@ fn check_chunk(
     requires room { HasRoom scalar.now }
     requires cut { IsCutFrom (text_of scalar.now) chunk.now }
     requires alone { is_alone ≡ is_one_chunk (text_of scalar.now) }
-    ensures { OnOk result (out.new.items ≡ out.old.items ++ chunk_faults (scope_of scope.now) is_scalar_only scalar.now (span_of_chunk chunk.now)) }
+    ensures { OnOk result
+        (out.new.items ≡ out.old.items ++ chunk_faults (scope_of scope.now) is_scalar_only scalar.now (span_of_chunk chunk.now)) }
 {
     let mut faults = Vec::new(alloc);
     check_content(
@@ -173,7 +175,9 @@ fn check_each(
     requires room { HasRoom scalar.now }
     requires cut { All (IsCutFrom (text_of scalar.now)) chunks.now }
     requires alone { is_alone ≡ is_one_chunk (text_of scalar.now) }
-    ensures { OnOk result (out.new.items ≡ out.old.items ++ flat_map (chunk_faults (scope_of scope.now) is_scalar_only scalar.now) (map span_of_chunk chunks.now)) }
+    ensures { OnOk result
+        (out.new.items ≡ out.old.items ++ flat_map (chunk_faults (scope_of scope.now) is_scalar_only scalar.now)
+        (map span_of_chunk chunks.now)) }
 {
     for chunk in chunks {
         check_chunk(alloc, scope, is_alone, is_scalar_only, scalar, chunk, out)?;
@@ -193,7 +197,9 @@ fn check_chunks(
     requires text { text.now ≡ text_of scalar.now }
     requires small { length text.now ≤ 4194304 }
     requires room { HasRoom scalar.now }
-    ensures { OnOk result (out.new.items ≡ out.old.items ++ chunked_faults (scope_of scope.now) is_scalar_only scalar.now (chunks_of (text_of scalar.now))) }
+    ensures { OnOk result
+        (out.new.items ≡ out.old.items ++ chunked_faults (scope_of scope.now) is_scalar_only scalar.now
+        (chunks_of (text_of scalar.now))) }
 {
     let (found, open) = chunks(alloc, text)?;
     let is_alone = is_one(text.len(), found.as_slice());
@@ -225,7 +231,8 @@ fn check_whole(
     out: &mut Vec<Fault>,
 ) -> Result<(), AllocError>
     requires room { HasRoom scalar.now }
-    ensures { OnOk result (out.new.items ≡ out.old.items ++ map (moved scalar.now 0) (content_faults (scope_of scope.now) true is_scalar_only text.now)) }
+    ensures { OnOk result
+        (out.new.items ≡ out.old.items ++ map (moved scalar.now 0) (content_faults (scope_of scope.now) true is_scalar_only text.now)) }
 {
     let mut faults = Vec::new(alloc);
     check_content(alloc, scope, true, is_scalar_only, text, &mut faults)?;

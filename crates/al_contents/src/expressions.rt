@@ -50,7 +50,8 @@ fn check_each<'a>(
     requires stands { Stands file env.old }
     requires readable { All (λ p. IsReadable (place_of p)) places.now }
     ensures { OnOk result (out.new.items ≡ out.old.items
-        ++ flat_map (faults_at (file.entry).kind (known_of (file.entry).known.now) (view (file.entry).root.now)) (map place_of places.now)) }
+        ++ flat_map (faults_at (file.entry).kind (known_of (file.entry).known.now) (view (file.entry).root.now))
+        (map place_of places.now)) }
 {
     for place in places {
         check_at(alloc, file, env, *place, out)?;

@@ -99,7 +99,8 @@ fn assert_types(
 fn of_a_workflow(rt: HostRuntime) -> Result<(), Fail> {
     let inputs = "{size: string, name: string, extra: string}";
     let all =
-        "{first: {result: string, outputs: {one: string, two: string}}, called: {result: string, outputs: {*: any}}, last: {result: string, outputs: {}}}";
+        "{first: {result: string, outputs: {one: string, two: string}}, called: {result: string, outputs: {*: any}}, \
+         last: {result: string, outputs: {}}}";
     let told = [
         ("in-env", Context::Inputs, inputs),
         ("in-env", Context::Needs, "any"),
@@ -156,8 +157,8 @@ fn name_list(alloc: Global, names: &[&[u8]]) -> Result<NameList, AllocError> {
 #[test]
 fn of_steps(rt: HostRuntime) -> Result<(), Fail> {
     let a = "{a: {conclusion: string, outcome: string, outputs: {*: string}}}";
-    let both =
-        "{a: {conclusion: string, outcome: string, outputs: {*: string}}, b: {conclusion: string, outcome: string, outputs: {path: string}}}";
+    let both = "{a: {conclusion: string, outcome: string, outputs: {*: string}}, \
+         b: {conclusion: string, outcome: string, outputs: {path: string}}}";
     let told = [
         ("in-first", Context::Steps, "{}"),
         ("step-none", Context::Steps, "{}"),
@@ -205,8 +206,8 @@ fn of_open_matrices(rt: HostRuntime) -> Result<(), Fail> {
 #[test]
 fn of_an_action(rt: HostRuntime) -> Result<(), Fail> {
     let one = "{one: {conclusion: string, outcome: string, outputs: {*: string}}}";
-    let both =
-        "{one: {conclusion: string, outcome: string, outputs: {*: string}}, two: {conclusion: string, outcome: string, outputs: {*: string}}}";
+    let both = "{one: {conclusion: string, outcome: string, outputs: {*: string}}, \
+         two: {conclusion: string, outcome: string, outputs: {*: string}}}";
     let told = [
         ("in-input", Context::Inputs, "{a: string, b: string}"),
         ("in-input", Context::Steps, "{}"),

@@ -36,7 +36,8 @@ pub fn declared_in(alloc: Global, node: &Node) -> Result<Vec<Member<'_>>, AllocE
 
 /// What a mapping declares, where there is one. Fails with `AllocError` for want of memory.
 pub fn declared_at(alloc: Global, node: Option<&Node>) -> Result<Vec<Member<'_>>, AllocError>
-    ensures { IfOk result (λ v. map member_of v.items ≡ option_map_or declarations.declared_in (option_map (λ n. view n.now) node.entry) []) }
+    ensures { IfOk result
+        (λ v. map member_of v.items ≡ option_map_or declarations.declared_in (option_map (λ n. view n.now) node.entry) []) }
 {
     match node {
         Some(node) => declared_in(alloc, node),

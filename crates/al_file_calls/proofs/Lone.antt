@@ -1,5 +1,5 @@
 -- A text without chunks, or with several, isn't one expression.
-use Rattle.std.proofs.Common.{◌≡◌, ◌≢◌, ◌∙◌, ℕ, suc, List, [], ◌∷◌, length, map, arith, ap, sym, refl, Bool, false}
+use Rattle.std.proofs.Common.{◌≡◌, ◌≢◌, ◌∙◌, ℕ, List, [], ◌∷◌, length, map, ap, sym, refl, false}
 use Rattle.std.proofs.lemmas.List.{length-map}
 use Rattle.al_text.specs.declared.faults.Span.{Span}
 use Rattle.al_scalar.specs.Scalar.{Scalar, text_of}

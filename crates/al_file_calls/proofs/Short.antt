@@ -1,12 +1,11 @@
 -- The texts of a file that was read are short, and so are those of the nodes that call.
-use Rattle.std.proofs.Common.{◌≡◌, ◌≤◌, ℕ, List, [], ◌∷◌, codes, length, map, arith, Option, Some, None, sym, subst, refl}
+use Rattle.std.proofs.Common.{◌≡◌, ◌≤◌, ℕ, List, [], ◌∷◌, map, arith, Option, Some, sym, subst}
 use Rattle.std.specs.Prelude.{All}
 use Rattle.std.specs.List.{AllByRecursion}
 use Rattle.std.specs.Option.{option_map_or}
 use Rattle.std.proofs.Common.{drop}
 use Rattle.std.proofs.lemmas.List.Elements.{All-from_recursion}
 use Rattle.al_text.specs.declared.faults.Span.{Span}
-use Rattle.al_scalar.specs.Offsets.{IsPlaced}
 use Rattle.al_scalar.specs.Scalar.{Scalar}
 use Rattle.al_yaml.specs.Access.{entries, nodes, scalar_in}
 use Rattle.al_yaml.specs.Node.{Node, Nodes, Entries, scalar, sequence, mapping, no_nodes, item, no_entries, entry, span_of}

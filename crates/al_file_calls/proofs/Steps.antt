@@ -1,5 +1,5 @@
 -- What a step gives is looked at by its keys alone; and one call more of those whose faults are added.
-use Rattle.std.proofs.Common.{◌≡◌, ◌<◌, ◌+◌, ℕ, List, ◌∷◌, ◌++◌, append_assoc, length, drop, get_or, map, ap, ◌∙◌, sym, refl, Option, Some, None, Bool, true, false, cond}
+use Rattle.std.proofs.Common.{◌≡◌, ◌<◌, ◌+◌, ℕ, List, ◌∷◌, ◌++◌, append_assoc, length, drop, get_or, map, ap, ◌∙◌, sym, refl, Option, Some, None, cond}
 use Rattle.std.specs.List.{flat_map}
 use Rattle.std.proofs.lemmas.List.{drop_more}
 use Rattle.std.specs.Prelude.{is_some}

@@ -37,7 +37,8 @@ fn check_job<'a>(
     requires short { AreShort (view answered.call.now.node.now) }
     ensures stands { OnOk result (Stands file.entry env.new) }
     ensures faults { OnOk result (out.new.items ≡ out.old.items
-        ++ answered_faults (typing (file.entry).kind (known_of (file.entry).known.now) (view (file.entry).root.now)) (answered_of answered.entry)) }
+        ++ answered_faults (typing (file.entry).kind (known_of (file.entry).known.now) (view (file.entry).root.now))
+        (answered_of answered.entry)) }
 {
     let call = answered.call;
     let given = members_under(alloc, call.node, "with")?;
@@ -56,7 +57,8 @@ fn check_step<'a>(
 ) -> Result<(), AllocError>
     requires step { answered.call.now.site.step ≡ Some number }
     ensures { OnOk result (out.new.items ≡ out.old.items
-        ++ answered_faults (typing (file.entry).kind (known_of (file.entry).known.now) (view (file.entry).root.now)) (answered_of answered.entry)) }
+        ++ answered_faults (typing (file.entry).kind (known_of (file.entry).known.now) (view (file.entry).root.now))
+        (answered_of answered.entry)) }
 {
     check_call(alloc, answered.call, &[], answered.answer, out)
 }
@@ -73,7 +75,8 @@ fn check_answered<'a>(
     requires short { AreShort (view answered.call.now.node.now) }
     ensures stands { OnOk result (Stands file.entry env.new) }
     ensures faults { OnOk result (out.new.items ≡ out.old.items
-        ++ answered_faults (typing (file.entry).kind (known_of (file.entry).known.now) (view (file.entry).root.now)) (answered_of answered.entry)) }
+        ++ answered_faults (typing (file.entry).kind (known_of (file.entry).known.now) (view (file.entry).root.now))
+        (answered_of answered.entry)) }
 {
     match answered.call.site.step {
         Some(number) => check_step(alloc, file, number, answered, out),
@@ -92,7 +95,8 @@ fn check_each<'a>(
     requires stands { Stands file env.old }
     requires short { All (λ a. AreShort (view a.call.now.node.now)) answered.now }
     ensures { OnOk result (out.new.items ≡ out.old.items
-        ++ flat_map (answered_faults (typing (file.entry).kind (known_of (file.entry).known.now) (view (file.entry).root.now))) (map answered_of answered.now)) }
+        ++ flat_map (answered_faults (typing (file.entry).kind (known_of (file.entry).known.now) (view (file.entry).root.now)))
+        (map answered_of answered.now)) }
 {
     for one in answered {
         check_answered(alloc, file, env, *one, out)?;

@@ -51,7 +51,8 @@ fn value_type<'a>(
     requires short { AreShort (member_of member).1 }
     ensures stands { OnOk result (Stands file.entry env.new) }
     ensures ty { IfOk result (λ t. ty_of t
-        ≡ given_type (type_in_job (file.entry).kind (known_of (file.entry).known.now) (view (file.entry).root.now) job.entry.now) (member_of member.entry)) }
+        ≡ given_type (type_in_job (file.entry).kind (known_of (file.entry).known.now) (view (file.entry).root.now) job.entry.now)
+        (member_of member.entry)) }
 {
     match member.value.scalar() {
         None => Ok(Ty::Any),
@@ -74,7 +75,8 @@ pub(crate) fn values_given<'a>(
     requires short { All (λ m. AreShort (member_of m).1) given.now }
     ensures stands { OnOk result (Stands file.entry env.new) }
     ensures values { IfOk result (λ v. map given_of v.items
-        ≡ values_of (type_in_job (file.entry).kind (known_of (file.entry).known.now) (view (file.entry).root.now) job.entry.now) (map member_of given.now)) }
+        ≡ values_of (type_in_job (file.entry).kind (known_of (file.entry).known.now) (view (file.entry).root.now) job.entry.now)
+        (map member_of given.now)) }
 {
     let mut values = Vec::new(alloc);
     for member in given {

@@ -1,14 +1,10 @@
 -- A token that is read lies in the bytes, and its last byte is ASCII, so that a character ends with it.
-use Rattle.std.proofs.Common.{◌≡◌, ◌<◌, ◌≤◌, ◌+◌, ◌-◌, ℕ, zero, suc, List, [], ◌∷◌, length, length-drop, add-zero, inl, inr, ◌⊎◌, drop, take, get_or, refl, sym, ap, ◌∙◌, subst, arith, Bool, true, false, cond, ◌&&◌, ◌||◌, nat_eq, nat_lt, nat_le, max, Option, Some, None}
+use Rattle.std.proofs.Common.{◌≡◌, ◌<◌, ◌≤◌, ◌+◌, ◌-◌, ℕ, zero, suc, List, [], ◌∷◌, length, length-drop, add-zero, inl, inr, ◌⊎◌, drop, refl, arith, Bool, true, false, cond, ◌&&◌, nat_eq, max, Option, Some, None}
 use Rattle.std.proofs.lemmas.Bool.Decides.{nat_tests}
 use Rattle.std.proofs.lemmas.List.{get_or-drop}
 use Rattle.std.proofs.lemmas.List.Sums.{prefix_len_passes, prefix_len-le-length}
 use Rattle.std.specs.Prelude.{slice_index}
-use Rattle.al_grammar.specs.declared.lexer.Read.{Read}
-use Rattle.al_grammar.specs.declared.lexer.Read.TheVariants.{Blank, Token, BadCharacter, OpenText}
-use Rattle.al_grammar.specs.declared.token.TokenKind.{TokenKind}
-use Rattle.al_grammar.specs.declared.token.TokenKind.TheVariants.{Text, Number}
-use Rattle.al_grammar.specs.Tokens.{is_digit, is_hex_digit, is_sign, is_blank, begins_name, goes_on_name, run, first_is, with_digits, hex_len, fraction_len, exponent_len, decimal_tail, decimal_len, unsigned_len, number_len, add_to, after_byte, text_tail, text_read, number_read, name_read, word_kind, begins, or_equal, doubled, mark, read, Fits}
+use Rattle.al_grammar.specs.Tokens.{is_digit, is_hex_digit, is_sign, begins_name, goes_on_name, run, first_is, with_digits, hex_len, fraction_len, exponent_len, decimal_tail, decimal_len, unsigned_len, number_len, add_to, after_byte, text_tail, text_read, number_read, name_read, Fits}
 
 -- Where it isn't empty, a part of so many bytes at the front lies in them and ends with an ASCII byte.
 pub record Ends (bs : List ℕ) (n : ℕ) : Type 0 where

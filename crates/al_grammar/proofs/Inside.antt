@@ -14,16 +14,15 @@ use Rattle.al_grammar.specs.declared.chunk.ChunkState.TheVariants.{Outside, Insi
 use Rattle.al_grammar.specs.declared.lexer.Read.{Read}
 use Rattle.al_grammar.specs.declared.lexer.Read.TheVariants.{Blank, Token, BadCharacter, OpenText}
 use Rattle.al_grammar.specs.declared.token.TokenKind.{TokenKind}
-use Rattle.al_grammar.specs.declared.token.TokenKind.TheVariants.{Open, Close, OpenIndex, CloseIndex, Dot, Comma, Star, Bang, Infix}
-use Rattle.al_grammar.specs.declared.token.Operator.TheVariants.{NotEqual, LessEqual, GreaterEqual}
-use Rattle.al_grammar.specs.Chunks.{Chunked, chunks_from, closes, is, move, moved, open_fault, opens, then_chunk}
+use Rattle.al_grammar.specs.declared.token.TokenKind.TheVariants.{Open, Close, OpenIndex, CloseIndex, Dot, Comma, Star}
+use Rattle.al_grammar.specs.Chunks.{Chunked, chunks_from, closes, is, move, moved, open_fault, opens}
 use Rattle.al_grammar.specs.Extents.{start_of, end_of, end_of_steps, end_of_operands}
 use Rattle.al_grammar.specs.Grammar.{Nonterminal, Derives, single, chain, positive, negated, bare, path, constant, number, text, name, call_empty, call, group, Operators, no_more, one_more, Walks, arrived, to_property, to_keyword, to_all, to_each, to_index, Lists, listed, and_next}
 use Rattle.al_grammar.specs.Inside.{AllLie}
-use Rattle.al_grammar.specs.Lexeme.{Lexeme, lexeme, kinds, span_of}
+use Rattle.al_grammar.specs.Lexeme.{Lexeme, lexeme, kinds}
 use Rattle.al_grammar.specs.Refusal.{fault_at, fault_of_content, fault_of_lexed, fault_of_tokens, fault_of_verdict, open_text}
 use Rattle.al_grammar.specs.Table.{Verdict, Fine, Early, Unexpected, TooDeep, verdict_of}
-use Rattle.al_grammar.specs.Tokens.{Lexed, AllRead, Bad, Unclosed, begins, begins_name, continue_with, doubled, first_is, if_none, is_blank, is_digit, is_inside, is_sign, last_place, last_quote, mark, name_read, number_len, number_read, or_equal, read, run, span, text_read, text_tail, then_token, tokens_from, tokens_of, goes_on_name, Fits, word_kind}
+use Rattle.al_grammar.specs.Tokens.{Lexed, AllRead, Bad, Unclosed, begins, begins_name, continue_with, doubled, first_is, if_none, is_blank, is_digit, is_inside, is_sign, last_place, last_quote, mark, name_read, number_len, number_read, or_equal, read, span, text_read, text_tail, then_token, tokens_from, tokens_of, Fits}
 use Rattle.al_grammar.specs.Tree as tree
 use Rattle.al_grammar.specs.Tree.{Sign, sign, Tree, Constant, Named, Call, Group, Negated, Path, Chain, Steps, NoStep, PropertyThen, AllThen, IndexThen, StepTree, Operands, NoOperand, OperandThen, Arguments, NoArgument, ArgumentThen, steps_of, operands_of, arguments_of}
 use Rattle.al_grammar.proofs.Fitting.{name_fits, number_fits, text_fits}

@@ -1,14 +1,14 @@
 -- A fault of the table stands at one of the tokens.
-use Rattle.std.proofs.Common.{◌≡◌, ◌<◌, ◌≤◌, ◌-◌, ℕ, zero, suc, List, [], ◌∷◌, length, drop, refl, sym, ap, ◌∙◌, arith, Bool, true, false, subst, Some, get_or}
+use Rattle.std.proofs.Common.{◌≡◌, ◌<◌, ◌≤◌, ℕ, zero, suc, List, [], ◌∷◌, length, drop, arith, Bool, true, false, subst, Some}
 use Rattle.std.proofs.lemmas.List.{length-map}
 use Rattle.std.specs.Prelude.{map, slice_get}
 use Rattle.al_text.specs.declared.faults.Span.{Span}
 use Rattle.al_text.specs.declared.faults.Fault.{Fault}
 use Rattle.al_grammar.specs.declared.token.TokenKind.{TokenKind}
 use Rattle.al_grammar.specs.declared.token.Token.{Token}
-use Rattle.al_grammar.specs.Lexeme.{Lexeme, lexeme, kinds, kind_of, text_of, span_of, seen}
+use Rattle.al_grammar.specs.Lexeme.{Lexeme, lexeme, kinds, text_of, span_of, seen}
 use Rattle.al_grammar.specs.Refusal.{fault_at}
-use Rattle.al_grammar.specs.Table.{Verdict, Fine, Early, Unexpected, TooDeep, Mode, E, A, I, S, D, O, N, Frame, Transition, Stuck, Go, Deeper, step, onward, finish, scan, verdict_of}
+use Rattle.al_grammar.specs.Table.{Verdict, Unexpected, TooDeep, Mode, E, O, N, Frame, Transition, Stuck, Go, Deeper, step, onward, finish, scan, verdict_of}
 
 -- a verdict on so many tokens
 abbrev pub LiesIn : ℕ → Verdict → Type 0

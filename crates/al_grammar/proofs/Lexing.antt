@@ -4,9 +4,9 @@ use Rattle.std.specs.Prelude.{slice_index}
 use Rattle.std.specs.Str.{IsUtf8, IsCharBoundary}
 use Rattle.std.proofs.lemmas.Str.{IsCharBoundary-after_ascii}
 use Rattle.al_grammar.specs.declared.token.TokenKind.{TokenKind}
-use Rattle.al_grammar.specs.declared.lexer.Read.TheVariants.{Blank, Token, BadCharacter, OpenText}
+use Rattle.al_grammar.specs.declared.lexer.Read.TheVariants.{Blank, Token}
 use Rattle.al_grammar.specs.Lexeme.{Lexeme, lexeme}
-use Rattle.al_grammar.specs.Tokens.{Lexed, AllRead, Bad, Unclosed, read, run, is_inside, tokens_from, then_token, continue_with, behind, span}
+use Rattle.al_grammar.specs.Tokens.{Lexed, AllRead, Bad, Unclosed, read, tokens_from, then_token, continue_with, behind, span}
 
 pub skipped : (n at : ℕ) (bs : List ℕ) → n ≤ length bs → tokens_from n at bs ≡ tokens_from 0 (at + n) (drop n bs)
 skipped zero at bs h = sym (ap (λ a. tokens_from 0 a bs) (add-zero at))

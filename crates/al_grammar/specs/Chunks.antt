@@ -1,5 +1,5 @@
 -- The chunks of a text, `${{ .. }}`.
-use Rattle.std.specs.Prelude.{◌≡◌, ◌≤◌, ◌<◌, ℕ, zero, suc, ◌+◌, ◌-◌, ◌^◌, List, [], ◌∷◌, ◌++◌, length, Bool, ◌&&◌, nat_eq, if◌then◌else◌}
+use Rattle.std.specs.Prelude.{◌≡◌, ◌≤◌, ◌<◌, ℕ, zero, suc, ◌+◌, ◌-◌, ◌^◌, List, [], ◌∷◌, ◌++◌, Bool, ◌&&◌, nat_eq, if◌then◌else◌}
 use Rattle.std.specs.Prelude.{drop, slice_range, Option, Some, None}
 use Rattle.std.specs.Str.{IsCharBoundary}
 use Rattle.al_text.specs.declared.codes.ExpressionCode.TheVariants as code

@@ -1,5 +1,5 @@
 -- Chunks and faults lie in the text or content that they were found in.
-use Rattle.std.specs.Prelude.{ℕ, List, [], length, Option, Some, None}
+use Rattle.std.specs.Prelude.{ℕ, List, length}
 use Rattle.std.specs.List.{AllByRecursion}
 use Rattle.std.specs.Option.{option_to_list}
 use Rattle.al_text.specs.Spans.{LiesIn}

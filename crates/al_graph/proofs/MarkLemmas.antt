@@ -1,6 +1,6 @@
 -- Marks that are set one after another.
 use Rattle.std.proofs.Common.{◌≡◌, ℕ, zero, suc, ◌+◌, ◌<◌, List, [], ◌∷◌, ◌++◌, get_or, length, Bool, true, false, refl, subst, sym, ap, ◌∙◌, append-nil, arith, drop, set, take, take_all, ◌⊎◌, ⊎_elim, inl, inr, length-append}
-use Rattle.std.specs.Prelude.{Contains, sum_by}
+use Rattle.std.specs.Prelude.{Contains}
 use Rattle.std.proofs.lemmas.List.{drop_all, length-set, get_or-set_other, get_or-set_same, take_more}
 use Rattle.std.proofs.lemmas.List.Elements.{Contains-append_left, Contains-append_right, Contains-append_cases}
 use Rattle.std.proofs.lemmas.List.Sums.{sum_by-set}

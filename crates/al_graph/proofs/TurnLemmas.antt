@@ -1,7 +1,7 @@
 -- Edges that are added one after another, and graphs whose edges are the other way round.
-use Rattle.std.proofs.Common.{◌≡◌, ℕ, ◌+◌, ◌<◌, ◌≤◌, List, [], ◌∷◌, ◌++◌, Vec, drop, get_or, length, refl, subst, sym, ap, ◌∙◌, arith, set, take, replicate, ◌⊎◌, ⊎_elim, inl, inr}
+use Rattle.std.proofs.Common.{◌≡◌, ℕ, ◌+◌, ◌<◌, ◌≤◌, List, [], ◌∷◌, ◌++◌, Vec, drop, get_or, length, refl, subst, sym, ap, ◌∙◌, arith, set, take, replicate, ⊎_elim, inl, inr}
 use Rattle.std.specs.declared.alloc.Global.{Global}
-use Rattle.std.specs.Prelude.{Contains, ◌↔◌}
+use Rattle.std.specs.Prelude.{Contains}
 use Rattle.std.proofs.lemmas.List.{get_or-set_other, get_or-replicate, get_or_past, length-map, length-replicate, map-set, take_more}
 use Rattle.std.proofs.lemmas.List.Elements.{Contains-append_left, Contains-append_right, Contains-append_cases}
 use Rattle.std.proofs.lemmas.Grind.{get_or-set_at}

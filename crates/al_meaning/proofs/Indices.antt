@@ -1,13 +1,12 @@
 -- An index that is too large never names an argument, whatever follows.
-use Rattle.std.proofs.Common.{◌≡◌, ℕ, ◌≤◌, ◌+◌, ◌*◌, ◌-◌, List, [], ◌∷◌, Bool, true, false, length, nat_eq, nat_lt, Option, Some, None, refl, sym, ap, ◌∙◌, arith}
+use Rattle.std.proofs.Common.{◌≡◌, ℕ, ◌≤◌, ◌+◌, ◌*◌, ◌-◌, List, [], ◌∷◌, Bool, true, false, length, nat_eq, Option, None, refl, ap, arith}
 use Rattle.std.specs.Prelude.{if◌then◌else◌, slice_set}
 use Rattle.std.proofs.lemmas.Bool.{le-ltb}
 use Rattle.al_meaning.specs.declared.placeholders.PlaceholderState.{PlaceholderState}
 use Rattle.al_meaning.specs.declared.placeholders.PlaceholderState.TheVariants.{Outside, InIndex}
-use Rattle.al_meaning.specs.declared.placeholders.Turn.{Turn}
 use Rattle.al_meaning.specs.declared.placeholders.Turn.TheVariants.{To, Names, Wrong}
 use Rattle.al_grammar.specs.Tokens.{is_digit}
-use Rattle.al_meaning.specs.Placeholders.{turn, turned, used_from}
+use Rattle.al_meaning.specs.Placeholders.{turned, used_from}
 
 pub names_none : (n : ℕ) (used : List Bool) (go : PlaceholderState → List Bool → Option (List Bool)) → length used ≤ n → turned (Names n) used go ≡ None
 names_none n used go h = ap (λ b. if b then go Outside (slice_set used n true) else None) (le-ltb n (length used) h)

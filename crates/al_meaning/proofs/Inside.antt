@@ -1,29 +1,29 @@
 -- Each fault of a meaning lies in the content that its tree lies in.
-use Rattle.std.proofs.Common.{◌≡◌, ◌≤◌, ◌+◌, ℕ, List, [], ◌∷◌, ◌++◌, length, arith, Bool, true, false, cond, ◌||◌, ◌&&◌, not, Option, Some, None}
+use Rattle.std.proofs.Common.{◌≤◌, ◌+◌, ℕ, List, [], ◌∷◌, ◌++◌, length, arith, Bool, true, false, cond, ◌||◌, ◌&&◌, not, Option, Some, None}
 use Rattle.std.specs.List.{AllByRecursion}
 use Rattle.std.specs.Fmt.{decimal}
 use Rattle.al_text.specs.Spans.{LiesIn}
 use Rattle.al_text.specs.declared.codes.ExpressionCode.TheVariants as code
 use Rattle.al_text.specs.declared.faults.Fault.{Fault}
 use Rattle.al_text.specs.declared.faults.Span.{Span}
-use Rattle.al_grammar.specs.Extents.{across, extent, start_of, end_of}
+use Rattle.al_grammar.specs.Extents.{across, extent, start_of}
 use Rattle.al_grammar.specs.Inside.{AllLie}
 use Rattle.al_grammar.specs.Refusal.{fault}
 use Rattle.al_grammar.specs.Tree as tree
 use Rattle.al_grammar.specs.Tree.{Tree, sign, Constant, Named, Call, Group, Negated, Path, Chain, Steps, NoStep, PropertyThen, AllThen, IndexThen, Operands, NoOperand, OperandThen, Arguments, NoArgument, ArgumentThen}
 use Rattle.al_grammar.specs.declared.token.Operator.{Operator}
-use Rattle.al_grammar.proofs.Inside.{TreeLies, StepsLie, OperandsLie, ArgumentsLie, extent_lies, tree_extent}
+use Rattle.al_grammar.proofs.Inside.{TreeLies, StepsLie, OperandsLie, ArgumentsLie, tree_extent}
 use Rattle.al_types.specs.Names.{context_of, function_of}
 use Rattle.al_types.specs.Scopes.{Scope}
 use Rattle.al_types.specs.Signatures.{accepts, signature, takes, wanted}
-use Rattle.al_types.specs.Types.{Type', Any, Null, Number, Bool', String, ArrayOf, ObjectOf, Fields, Rest, field_at, field_or_rest}
+use Rattle.al_types.specs.Types.{Type', Any, Number, Bool', ArrayOf, ObjectOf, field_at, field_or_rest}
 use Rattle.al_types.specs.declared.names.Context.{Context}
 use Rattle.al_types.specs.declared.names.Function.{Function}
-use Rattle.al_types.specs.declared.names.Function.TheVariants.{Format, Contains, StartsWith, EndsWith, Join, ToJson, FromJson, HashFiles, Success, Always, Cancelled, Failure}
+use Rattle.al_types.specs.declared.names.Function.TheVariants.{Format}
 use Rattle.al_types.specs.declared.signatures.Parameters.{Parameters}
 use Rattle.al_meaning.specs.Comparison.{comparable_types}
 use Rattle.al_meaning.specs.Literals.{literal_text}
-use Rattle.al_meaning.specs.Meaning.{AllTyped, all_typed, Typed, typed, all_of, and_then, argument_faults, array_of, base_name, before, begins_logic, behind, called, called_with, chained, element_at, faults_in, format_faults, format_text, give, index_of, indexed, is_logic, is_test, meaning, meanings, named, not_indexable, operated, or_fault, parts_of, placeholder_faults, property_of, rest_of, typed_then, untrusted, untrusted_fault, untrusted_from, unused, walked, wrong_arguments}
+use Rattle.al_meaning.specs.Meaning.{AllTyped, all_typed, Typed, typed, all_of, and_then, argument_faults, array_of, base_name, before, begins_logic, behind, called, called_with, chained, element_at, faults_in, format_faults, format_text, give, index_of, indexed, is_logic, is_test, meaning, meanings, named, operated, or_fault, parts_of, placeholder_faults, property_of, rest_of, typed_then, untrusted, untrusted_fault, untrusted_from, unused, walked, wrong_arguments}
 use Rattle.al_meaning.specs.Placeholders.{used_arguments}
 use Rattle.al_meaning.specs.Untrusted.{chain_among, untrusted_chains}
 

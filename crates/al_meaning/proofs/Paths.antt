@@ -9,7 +9,7 @@ use Rattle.al_types.specs.declared.names.Function.{Function}
 use Rattle.al_grammar.specs.Refusal.{fault}
 use Rattle.al_types.specs.Names.{context_of}
 use Rattle.al_types.specs.Types.{Type', Any}
-use Rattle.al_grammar.specs.Tree.{Tree, Named, Path, Sign, sign, Arguments, Steps, StepTree, Property, All, Index, steps_of, operands_of, arguments_of}
+use Rattle.al_grammar.specs.Tree.{Tree, Named, Path, Sign, sign, Arguments, StepTree, Property, All, Index, steps_of, operands_of, arguments_of}
 use Rattle.al_types.specs.Scopes.{Scope}
 use Rattle.al_grammar.specs.Extents.{extent}
 use Rattle.al_meaning.specs.Untrusted.{part_of, chain_among, untrusted_chains, with_dots}

@@ -5,7 +5,7 @@ use Rattle.al_text.specs.declared.faults.Span.{Span}
 use Rattle.al_text.specs.declared.codes.ExpressionCode.TheVariants as code
 use Rattle.al_types.specs.declared.types.Object.{Object, Object'}
 use Rattle.al_grammar.specs.Refusal.{fault}
-use Rattle.al_types.specs.Types.{Type', Any, ArrayOf, Fields, NoField, FieldThen, Rest, Strict, Loose, field_at, field_or_rest}
+use Rattle.al_types.specs.Types.{Type', Any, ArrayOf, Fields, NoField, FieldThen, Rest, Loose, field_at, field_or_rest}
 use Rattle.al_types.specs.TypeViews.{object_of, fields_of_type, rest_of_type}
 use Rattle.al_meaning.specs.Meaning.{Typed, typed, behind, before, and_then, array_of, or_fault, property_of, all_of, fuse_all, fuse_next, index_of, element_at, not_indexable}
 

@@ -1,6 +1,6 @@
 -- The type of an expression under a scope, and the faults in it, in the order in which it is read.
-use Rattle.std.specs.Prelude.{◌≡◌, ℕ, ◌+◌, List, [], ◌∷◌, ◌++◌, Bool, true, false, ◌&&◌, ◌||◌, not, nat_eq, if◌then◌else◌, Option, Some}
-use Rattle.std.specs.Prelude.{None, length, map, slice_get}
+use Rattle.std.specs.Prelude.{ℕ, ◌+◌, List, [], ◌∷◌, ◌++◌, Bool, true, false, ◌&&◌, ◌||◌, not, if◌then◌else◌, Option, Some}
+use Rattle.std.specs.Prelude.{None, length}
 use Rattle.std.specs.Fmt.{decimal}
 use Rattle.al_text.specs.declared.codes.ExpressionCode.TheVariants as code
 use Rattle.al_text.specs.declared.faults.Fault.{Fault}
@@ -14,7 +14,7 @@ use Rattle.al_types.specs.declared.signatures.Parameters.{Parameters}
 use Rattle.al_grammar.specs.Refusal.{fault}
 use Rattle.al_types.specs.Names.{context_of, function_of}
 use Rattle.al_meaning.specs.Placeholders.{used_arguments}
-use Rattle.al_types.specs.Types.{Type', Any, Null, Number, Bool', String, ArrayOf, ObjectOf, Fields, NoField, FieldThen, Rest, Strict}
+use Rattle.al_types.specs.Types.{Type', Any, Number, Bool', String, ArrayOf, ObjectOf, Fields, NoField, FieldThen, Rest, Strict}
 use Rattle.al_types.specs.Types.{Loose, field_at, field_or_rest, fuse_type}
 use Rattle.al_meaning.specs.Comparison.{comparable_types}
 use Rattle.al_types.specs.Signatures.{signature, takes, wanted, accepts, returned_type}

@@ -33,7 +33,14 @@ same true b = b
 same false b = not b
 
 abbrev pub row_at : Place → Row
-row_at p = (p.at.start, p.is_scalar_only, p.is_condition, p.is_script, option_map_or (λ r. length r.contexts) p.available 99, option_map_or (λ r. length r.special) p.available 0)
+row_at p = (
+  p.at.start,
+  p.is_scalar_only,
+  p.is_condition,
+  p.is_script,
+  option_map_or (λ r. length r.contexts) p.available 99,
+  option_map_or (λ r. length r.special) p.available 0,
+)
 
 abbrev pub is_row : Row → Row → Bool
 is_row a b = (a.0 == b.0) && same a.1 b.1 && same a.2 b.2 && same a.3 b.3 && (a.4 == b.4) && (a.5 == b.5)

@@ -27,7 +27,8 @@ word = plain Str
 -- a text in single quotes, from the first of them on
 abbrev pub quoted : List ℕ → ℕ → Node
 quoted text i =
-    let end = i + length text + 2 in scalar (record { style = SingleQuoted; class = Str; cells = cells_from (i + 1) text; end = end }) (at i end)
+    let end = i + length text + 2 in
+    scalar (record { style = SingleQuoted; class = Str; cells = cells_from (i + 1) text; end = end }) (at i end)
 
 -- the faults of needs, by walks of at most as many steps as there are jobs
 abbrev pub needs_by_steps : Node → List Fault

@@ -1,5 +1,6 @@
 -- What the reader of block scalars answers, in terms of offsets.
-use Rattle.std.specs.Prelude.{◌≡◌, ℕ, List, [], ◌∷◌, ◌++◌, length, Bool, true, false, Option, Some, None, Result, Ok, Err, cond, nat_le, if◌then◌else◌}
+use Rattle.std.specs.Prelude.{◌≡◌, ℕ, List, [], ◌∷◌, ◌++◌, length, Bool, true, false, Option, Some}
+use Rattle.std.specs.Prelude.{None, Result, Ok, Err, cond, nat_le, if◌then◌else◌}
 use Rattle.al_scalar.specs.Ascii as ascii
 use Rattle.al_scalar.specs.Line.{Cell, Line, is_all_blank, indent}
 use Rattle.al_scalar.specs.Taken.{Fault, Taken, with_text}
@@ -40,7 +41,8 @@ pub record Indicates (bytes : List ℕ) (at : ℕ) (asked : Result Header Fault)
 -- whether a header may end there: None, or the place of what stands there
 abbrev pub EndsHeader : List ℕ → ℕ → Option ℕ → Type 0
 EndsHeader bytes at None = (h : Header) → block.header_end h (text_at bytes at) ≡ Ok h
-EndsHeader bytes at (Some place) = (h : Header) → block.header_end h (text_at bytes at) ≡ Err (record { code = WrongBlockHeader; at = place })
+EndsHeader bytes at (Some place) = (h : Header) → block.header_end h (text_at bytes at)
+    ≡ Err (record { code = WrongBlockHeader; at = place })
 
 -- a row read, as a function of the line's text answers it
 pub record RowAt (bytes : List ℕ) (at : ℕ) (asked : Option (List Cell)) (s : RowStart) : Type 0 where
@@ -71,7 +73,8 @@ rest_of style found last empties end ls = rest style.literal (kind style.chompin
 -- text read, with the rows from r on, as text read with the rows behind it
 abbrev pub AddsRow : Bool → List Cell → RowState → List Cell → List ℕ → List Cell → RowState → Type 0
 AddsRow is_literal old was text break new is =
-    (k : block.Chomping) (rs : List BlockLine) → old ++ block.text_after is_literal k (last_row was.last) was.empties.items (record { text = text; break = break } ∷ rs)
+    (k : block.Chomping) (rs : List BlockLine) →
+    old ++ block.text_after is_literal k (last_row was.last) was.empties.items (record { text = text; break = break } ∷ rs)
     ≡ new ++ block.text_after is_literal k (last_row is.last) is.empties.items rs
 
 abbrev pub EndsRow : RowState → List Cell → RowState → Type 0
@@ -88,4 +91,5 @@ is_said (Some d) = true
 -- rows read from an offset on
 abbrev pub ReadsRows : List ℕ → BlockStyle → List Cell → ℕ → ℕ → List Cell → RowsRead → Type 0
 ReadsRows bytes style old at end new r =
-    with_text old (rest_of style style.explicit None [] end (lines_at bytes at)) ≡ record { text = new; end = r.end; left = lines_at bytes r.next }
+    with_text old (rest_of style style.explicit None [] end (lines_at bytes at))
+    ≡ record { text = new; end = r.end; left = lines_at bytes r.next }

@@ -2,7 +2,8 @@
 use Rattle.std.specs.Prelude.{ℕ, List, [], ◌∷◌, ◌++◌, Bool, true, false, not, ◌&&◌, ◌||◌, ◌==◌, nat_le, if◌then◌else◌, Result, Ok}
 use Rattle.al_scalar.specs.Ascii as ascii
 use Rattle.al_text.specs.declared.codes.YamlCode.TheVariants as yaml
-use Rattle.al_scalar.specs.Line.{Cell, Line, place, cut, is_blank, after_blanks, indent, is_empty, begins, is_blank_or_end, is_comment, is_document_marker}
+use Rattle.al_scalar.specs.Line.{Cell, Line, place, cut, is_blank, after_blanks, indent, is_empty}
+use Rattle.al_scalar.specs.Line.{begins, is_blank_or_end, is_comment, is_document_marker}
 use Rattle.al_scalar.specs.Taken.{Fault, Taken, before, fault, folded_break}
 
 -- The context of a scalar (6.1, 7.3.3): in a flow collection, or in block context, where its continuation lines have at least
@@ -17,7 +18,8 @@ is_flow (block within) = false
 
 -- , [ ] { } (5.3, c-flow-indicator)
 abbrev pub is_flow_indicator : ℕ → Bool
-is_flow_indicator b = (b == ascii.comma) || (b == ascii.open_bracket) || (b == ascii.close_bracket) || (b == ascii.open_brace) || (b == ascii.close_brace)
+is_flow_indicator b = (b == ascii.comma) || (b == ascii.open_bracket) || (b == ascii.close_bracket) || (b == ascii.open_brace)
+    || (b == ascii.close_brace)
 
 abbrev pub begins_flow_indicator : List Cell → Bool
 begins_flow_indicator [] = false
@@ -34,7 +36,8 @@ is_value_colon p (c ∷ cs) = (c.0 == ascii.colon) && ends_key p cs
 
 -- The scalar ends before these cells; after_blank says that a blank or a break stands before them.
 abbrev pub ends_plain : Context → Bool → List Cell → Bool
-ends_plain p after_blank cs = is_empty cs || is_value_colon p cs || (begins ascii.hash cs && after_blank) || (is_flow p && begins_flow_indicator cs)
+ends_plain p after_blank cs = is_empty cs || is_value_colon p cs || (begins ascii.hash cs && after_blank)
+    || (is_flow p && begins_flow_indicator cs)
 
 -- A part of a line: the cells of the scalar without trailing blanks, and the cells behind them.
 abbrev pub plain_part : Context → Bool → List Cell → List Cell × List Cell

@@ -1,6 +1,8 @@
 ghost use Rattle.std.specs.Prelude.{◌≡◌, ◌+◌, ◌<◌, ◌≤◌, ◌^◌, ◌++◌, ◌∷◌, [], ◌||◌, true, not, cond, Some, None, length, IfOk};
-ghost use Rattle.al_scalar.specs.Block.{block_scalar, found_indent, content_indent, row_of, own_break, chomped, joint, text_after, rows_end};
-ghost use Rattle.al_scalar.specs.BlockRead.{RowStarts, ReadsRows, last_row, row_like, RowTo, indent_from, kind, AddsRow, EndsRow, last_line, is_said};
+ghost use Rattle.al_scalar.specs.Block.{block_scalar, found_indent, content_indent, row_of};
+ghost use Rattle.al_scalar.specs.Block.{own_break, chomped, joint, text_after, rows_end};
+ghost use Rattle.al_scalar.specs.BlockRead.{RowStarts, ReadsRows, last_row, row_like, RowTo, indent_from};
+ghost use Rattle.al_scalar.specs.BlockRead.{kind, AddsRow, EndsRow, last_line, is_said};
 ghost use Rattle.al_scalar.specs.Places.{lines_at, text_at, cells_between, IsLineEnd, BlankTo};
 ghost use Rattle.al_scalar.specs.Reads.{Gives, StaysWithin};
 ghost use Rattle.al_scalar.specs.Taken.{feeds, folded_break};
@@ -225,7 +227,8 @@ fn add_row(
     requires inside { stop < length bytes.now }
     requires behind { state.old.end ≤ from }
     requires size { length bytes.now < 2 ^ 32 }
-    ensures text { IfOk result (λ _. AddsRow literal text.old state.old (cells_between bytes.now from stop) (stop ∷ []) text.new state.new) }
+    ensures text { IfOk result
+        (λ _. AddsRow literal text.old state.old (cells_between bytes.now from stop) (stop ∷ []) text.new state.new) }
     ensures end { IfOk result (λ _. EndsRow state.old (cells_between bytes.now from stop) state.new) }
     ensures within { IfOk result (λ _. (state.old.end ≤ state.new.end) × (state.new.end ≤ stop)) }
 {
@@ -256,7 +259,9 @@ fn end_row(
     requires inside { from ≤ length bytes.now }
     requires behind { state.now.end ≤ from }
     requires size { length bytes.now < 2 ^ 32 }
-    ensures text { IfOk result (λ _. text.new ≡ text.old ++ text_after style.literal (kind style.chomping) (last_row state.now.last) state.now.empties.items (last_line bytes.now from)) }
+    ensures text { IfOk result
+        (λ _. text.new ≡ text.old ++ text_after style.literal (kind style.chomping) (last_row state.now.last) state.now.empties.items
+        (last_line bytes.now from)) }
     ensures end { IfOk result (λ end. end ≡ rows_end state.now.end (last_line bytes.now from)) }
     ensures within { IfOk result (λ end. (state.now.end ≤ end) × (end ≤ length bytes.now)) }
 {

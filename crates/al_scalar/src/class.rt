@@ -1,7 +1,9 @@
 ghost use Rattle.std.specs.Prelude.{◌≡◌};
 ghost use Rattle.std.specs.List.{list_any};
 ghost use Rattle.std.specs.Str.{bytes_eq};
-ghost use Rattle.al_scalar.specs.Class.{is_null, is_boolean, is_integer, is_float, is_decimal, is_fraction, is_pure_fraction, is_exponent, after_digits, begins_digit, is_prefixed, unsigned, are_digits, is_digit_in, class_of};
+ghost use Rattle.al_scalar.specs.Class.{is_null, is_boolean, is_integer, is_float, is_decimal, is_fraction, is_pure_fraction};
+ghost use Rattle.al_scalar.specs.Class.{is_exponent, after_digits, begins_digit, is_prefixed, unsigned, are_digits, is_digit_in};
+ghost use Rattle.al_scalar.specs.Class.{class_of};
 
 use crate::styles::Class;
 

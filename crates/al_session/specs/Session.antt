@@ -1,23 +1,15 @@
 -- What a session is, what is true of what it keeps, and what it prints.
-use Rattle.std.specs.Prelude.{◌≡◌, ℕ, ◌≤◌, ◌^◌, ◌-◌, Bool, true, false, List, [], ◌∷◌, Option, Some, None, length, map, Vec, String, string_bytes, bytes_eq, cond}
+use Rattle.std.specs.Prelude.{◌≡◌, ℕ, ◌≤◌, ◌^◌, ◌-◌, Bool, List, [], ◌∷◌}
+use Rattle.std.specs.Prelude.{length, Vec, string_bytes, bytes_eq, cond}
 use Rattle.std.specs.Global.{Global}
-use Rattle.std.specs.Option.{option_map, option_map_or}
-use Rattle.std.specs.List.{AllByRecursion, flat_map, list_any}
-use Rattle.std.specs.List.Sorted.{IsStrictlySortedBy}
-use Rattle.std.specs.Ordering.{nat_cmp}
-use Rattle.std.specs.Cmp.Lexicographic.{slice_cmp}
-use Rattle.std.specs.Map.{lookup}
-use Rattle.indexmap.specs.IndexMap.{IndexMap, get_by_text}
-use Rattle.indexmap.specs.IndexSet.{IndexSet, contains_text}
+use Rattle.std.specs.List.{AllByRecursion, flat_map}
 use Rattle.al_text.specs.declared.faults.Fault.{Fault}
 use Rattle.al_text.specs.LineStarts.{line_starts}
 use Rattle.al_text.specs.Snippets.{fault_text}
-use Rattle.al_text.specs.Paths.{path_fault_of}
 use Rattle.al_text.specs.Spans.{LiesIn}
-use Rattle.al_folder.specs.Meaning.{Meaning, candidates}
-use Rattle.al_folder.specs.Folder.{Folder, bytes_at, faults_in, paths_of, with_file, without_file}
+use Rattle.al_folder.specs.Meaning.{Meaning}
+use Rattle.al_folder.specs.Folder.{Folder, faults_in}
 use Rattle.al_folder.specs.declared.kept.KeptFile.{KeptFile}
-use Rattle.al_folder.specs.declared.lint.Target.{Target}
 use Rattle.al_folder.specs.Kept.{Files, folder_of, Callers, IsIndex, AreKept}
 
 -- What contracts see of a session: its folder, and its linter's two counts.
@@ -31,7 +23,8 @@ abbrev pub AllChecked : {U I : Type 0} → Meaning I → Folder → Files U I �
 AllChecked m f files = AllByRecursion (λ e. e.1.faults.items ≡ faults_in m f (string_bytes e.0) e.1.bytes.items) files
 
 -- What is true of what a session keeps: the faults are those of its folder, and so is the index.
-pub record AreLinted {U I S R : Type 0} (m : Meaning I) (is_unit : U → List ℕ → List ℕ → Type 0) (files : Files U I) (callers : Callers S R) (checks : ℕ) : Type 0 where
+pub record AreLinted {U I S R : Type 0} (m : Meaning I) (is_unit : U → List ℕ → List ℕ → Type 0) (files : Files U I)
+    (callers : Callers S R) (checks : ℕ) : Type 0 where
   pub kept : AreKept m is_unit files
   pub faults : AllChecked m (folder_of files) files
   pub index : IsIndex m (folder_of files) callers

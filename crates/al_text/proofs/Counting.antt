@@ -1,5 +1,5 @@
 -- How the two counts of a position go on by one byte.
-use Rattle.std.proofs.Common.{◌≡◌, ◌≢◌, ℕ, zero, suc, ◌+◌, ◌≤◌, ◌<◌, Bool, true, false, cond, eqb, ◌&&◌, List, get_or, refl, sym, ap, subst, ◌∙◌, arith, add-one, rules, add-zero, add-suc, eq-eqb, ◌-◌}
+use Rattle.std.proofs.Common.{◌≡◌, ℕ, zero, suc, ◌+◌, ◌≤◌, ◌<◌, Bool, true, false, cond, eqb, ◌&&◌, List, get_or, refl, ap, subst, ◌∙◌, arith, add-one, add-zero, add-suc, eq-eqb, ◌-◌}
 use Rattle.std.proofs.lemmas.Bool.Decides.{nat_tests}
 use Rattle.al_text.specs.Positions.{count_below, ends_break, begins_char, line_at, column_at}
 

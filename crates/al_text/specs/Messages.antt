@@ -1,5 +1,5 @@
 -- What a report prints of one fault: PATH:LINE:COL: MESSAGE [KIND], and the table of messages.
-use Rattle.std.specs.Prelude.{ℕ, ◌+◌, Bool, ◌||◌, ◌==◌, nat_lt, List, [], ◌∷◌, ◌++◌, map, codes, decimal, slice_get, Option, None, Some}
+use Rattle.std.specs.Prelude.{ℕ, Bool, ◌||◌, ◌==◌, nat_lt, List, [], ◌++◌, map, codes, decimal, slice_get}
 use Rattle.std.specs.Prelude.{unwrap_or, if◌then◌else◌}
 use Rattle.al_text.specs.Positions.{line_at, column_at}
 use Rattle.al_text.specs.declared.codes.Code.{Code}

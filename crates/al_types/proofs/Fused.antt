@@ -1,12 +1,11 @@
 -- Fused types by their forms, and fused fields as lists.
-use Rattle.std.proofs.Common.{◌≡◌, ℕ, List, [], ◌∷◌, ◌++◌, map, refl, sym, ap, ◌∙◌, Bool, true, false, ◌||◌, Option, Some, None, cond}
-use Rattle.std.specs.Prelude.{option_map, is_some, not, if◌then◌else◌}
+use Rattle.std.proofs.Common.{◌≡◌, ℕ, List, [], ◌∷◌, ◌++◌, map, refl, ap, ◌∙◌, Bool, true, false, ◌||◌, Option, Some, None}
+use Rattle.std.specs.Prelude.{option_map, is_some, if◌then◌else◌}
 use Rattle.std.specs.Global.{Global}
 use Rattle.std.specs.Prelude.{Box}
 use Rattle.al_types.specs.declared.types.Ty.{Ty}
 use Rattle.al_types.specs.declared.types.Ty as code
 use Rattle.al_types.specs.declared.types.Object.{Object, Object', out-Object}
-use Rattle.al_types.specs.declared.types.Form.{Form}
 use Rattle.al_types.specs.declared.types.Form.TheVariants as form
 use Rattle.al_types.specs.Names.{same_name}
 use Rattle.al_types.specs.Types.{Type', Any, Null, Number, Bool', String, ArrayOf, ObjectOf, Fields, NoField, FieldThen, field_at, has_field, fuse_type, fuse_fields, missing_fields, join_fields, with_other, fuse_rest}

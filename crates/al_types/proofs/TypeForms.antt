@@ -1,13 +1,12 @@
 -- Types by their outermost form.
-use Rattle.std.proofs.Common.{◌≡◌, ◌≢◌, ℕ, refl, sym, ap, ◌∙◌, Bool, true, false}
+use Rattle.std.proofs.Common.{◌≡◌, ◌≢◌, refl}
 use Rattle.std.specs.Global.{Global}
 use Rattle.std.specs.Prelude.{Box}
 use Rattle.al_types.specs.declared.types.Ty.{Ty}
 use Rattle.al_types.specs.declared.types.Ty as code
 use Rattle.al_types.specs.declared.types.Object.{Object, Object'}
-use Rattle.al_types.specs.declared.types.Form.{Form}
 use Rattle.al_types.specs.declared.types.Form.TheVariants as form
-use Rattle.al_types.specs.Types.{Type', Any, Null, Number, Bool', String, ArrayOf, ObjectOf, assignable_type, is_array, is_object, is_collection, is_plain}
+use Rattle.al_types.specs.Types.{Type', Any, Null, Number, Bool', String, ArrayOf, ObjectOf, assignable_type, is_collection, is_plain}
 use Rattle.al_types.specs.TypeViews.{ty_of, object_of, form_of, assignable_form, is_collection_form, is_plain_form}
 
 pub form_object : (o : Object) → form_of (object_of o) ≡ form.Object

@@ -1,5 +1,5 @@
 -- What functions take and return.
-use Rattle.std.specs.Prelude.{ℕ, Bool, true, false, ◌||◌, not, nat_eq, if◌then◌else◌}
+use Rattle.std.specs.Prelude.{ℕ, Bool, true, ◌||◌, not, nat_eq, if◌then◌else◌}
 use Rattle.al_types.specs.declared.names.Function.{Function}
 use Rattle.al_types.specs.declared.names.Function.TheVariants as function
 use Rattle.al_types.specs.declared.signatures.Wanted.{Wanted}

@@ -1,5 +1,5 @@
 -- What clauses see of the code's types: the type alone, without where it lies in memory.
-use Rattle.std.specs.Prelude.{ℕ, List, Bool, true, false, Option, Some, None, string_bytes, Box, [], ◌∷◌, not, if◌then◌else◌}
+use Rattle.std.specs.Prelude.{ℕ, List, Bool, true, false, Option, Some, None, string_bytes, Box, [], ◌∷◌, if◌then◌else◌}
 use Rattle.std.specs.Global.{Global}
 use Rattle.al_types.specs.declared.types.Ty.{Ty}
 use Rattle.al_types.specs.declared.types.Field.{Field}

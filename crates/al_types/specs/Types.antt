@@ -1,5 +1,5 @@
 -- The types of expressions: which may stand where another is wanted, and what two have in common.
-use Rattle.std.specs.Prelude.{ℕ, List, [], ◌∷◌, Bool, true, false, ◌||◌, ◌&&◌, not, if◌then◌else◌, Option, Some, None}
+use Rattle.std.specs.Prelude.{ℕ, List, Bool, true, false, ◌||◌, if◌then◌else◌, Option, Some, None}
 use Rattle.al_types.specs.Names.{same_name}
 
 mutual

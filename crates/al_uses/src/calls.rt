@@ -44,7 +44,8 @@ fn add_step_call<'a>(
     step: &'a Node,
     out: &mut Vec<Call<'a>>,
 ) -> Result<(), AllocError>
-    ensures { OnOk result (map call_of out.new.items ≡ map call_of out.old.items ++ step_call (bytes_of job.entry) (number, view step.now)) }
+    ensures { OnOk result (map call_of out.new.items ≡ map call_of out.old.items
+        ++ step_call (bytes_of job.entry) (number, view step.now)) }
 {
     match text_under(step, "uses") {
         None => Ok(()),

@@ -46,14 +46,18 @@ frame_of bytes f = record { opening = f.opening; waiting = waiting_of bytes f.wa
 
 -- a node that was read whole, or the bracket of a collection
 abbrev pub Finds : List ℕ → (CollectionReader → Reading (Part tree.Node)) → ℕ → ℕ → Result Found ReadError → ℕ → Type 0
-Finds bytes reading depth before (Ok (found.Node p)) after = (c : CollectionReader) → run (counted before) (reading c) ≡ Ok (part_of bytes p, counted after)
-Finds bytes reading depth before (Ok (found.Opens i)) after = (c : CollectionReader) → run (counted before) (reading c) ≡ run (counted after) (c depth (lines_at bytes i))
+Finds bytes reading depth before (Ok (found.Node p)) after =
+    (c : CollectionReader) → run (counted before) (reading c) ≡ Ok (part_of bytes p, counted after)
+Finds bytes reading depth before (Ok (found.Opens i)) after =
+    (c : CollectionReader) → run (counted before) (reading c) ≡ run (counted after) (c depth (lines_at bytes i))
 Finds bytes reading depth before (Err e) after = (c : CollectionReader) → Stops (reading c) before e
 
 abbrev pub FindsKey : List ℕ → ℕ → (CollectionReader → Reading flow.FlowKey) → ℕ → ℕ → Result FoundKey ReadError → ℕ → Type 0
-FindsKey bytes at reading depth before (Ok (found_key.Key k)) after = (c : CollectionReader) → run (counted before) (reading c) ≡ Ok (flow_key_of bytes k, counted after)
+FindsKey bytes at reading depth before (Ok (found_key.Key k)) after =
+    (c : CollectionReader) → run (counted before) (reading c) ≡ Ok (flow_key_of bytes k, counted after)
 FindsKey bytes at reading depth before (Ok found_key.Opens) after =
-    (c : CollectionReader) → run (counted before) (reading c) ≡ run (counted after) (c depth (lines_at bytes at) >>= (λ _. fails yaml.WrongKey at))
+    (c : CollectionReader) → run (counted before) (reading c)
+    ≡ run (counted after) (c depth (lines_at bytes at) >>= (λ _. fails yaml.WrongKey at))
 FindsKey bytes at reading depth before (Err e) after = (c : CollectionReader) → Stops (reading c) before e
 
 -- where it stands: a bracket in the file
@@ -73,16 +77,20 @@ IsFoundKey bytes at found_key.Opens = IsBracket bytes at at
 -- ---- a step of an open collection, and what comes behind a node in it
 
 abbrev pub Steps : List ℕ → ℕ → ℕ → (CollectionReader → ℕ → Reading (Part tree.Node)) → ℕ → Result FlowRead ReadError → ℕ → Type 0
-Steps bytes depth opening reading before (Ok (step.Closed p)) after = (c : CollectionReader) (turns : ℕ) → run (counted before) (reading c (suc turns)) ≡ Ok (part_of bytes p, counted after)
+Steps bytes depth opening reading before (Ok (step.Closed p)) after =
+    (c : CollectionReader) (turns : ℕ) → run (counted before) (reading c (suc turns)) ≡ Ok (part_of bytes p, counted after)
 Steps bytes depth opening reading before (Ok (step.Read w p)) after =
-    (c : CollectionReader) (turns : ℕ) → run (counted before) (reading c (suc turns)) ≡ run (counted after) (waiting_rest c turns depth opening (waiting_of bytes w) (part_of bytes p))
+    (c : CollectionReader) (turns : ℕ) → run (counted before) (reading c (suc turns))
+    ≡ run (counted after) (waiting_rest c turns depth opening (waiting_of bytes w) (part_of bytes p))
 Steps bytes depth opening reading before (Ok (step.Opens w i)) after =
-    (c : CollectionReader) (turns : ℕ) → run (counted before) (reading c (suc turns)) ≡ answered (run (counted after) (c depth (lines_at bytes i))) (waiting_rest c turns depth opening (waiting_of bytes w))
+    (c : CollectionReader) (turns : ℕ) → run (counted before) (reading c (suc turns))
+    ≡ answered (run (counted after) (c depth (lines_at bytes i))) (waiting_rest c turns depth opening (waiting_of bytes w))
 Steps bytes depth opening reading before (Err e) after = (c : CollectionReader) (turns : ℕ) → Stops (reading c (suc turns)) before e
 
 abbrev pub Resumes : List ℕ → ℕ → ℕ → frames.Waiting → Part tree.Node → ℕ → Result Task ReadError → Type 0
 Resumes bytes depth opening w x n (Ok (task.Inside o has at)) =
-    (o ≡ opening) × ((c : CollectionReader) (turns : ℕ) → run (counted n) (waiting_rest c turns depth opening w x) ≡ run (counted n) (open_rest c turns depth opening (open_of has) (lines_at bytes at)))
+    (o ≡ opening) × ((c : CollectionReader) (turns : ℕ) → run (counted n) (waiting_rest c turns depth opening w x) ≡ run (counted n)
+    (open_rest c turns depth opening (open_of has) (lines_at bytes at)))
 Resumes bytes depth opening w x n (Ok (task.Read p)) =
     (c : CollectionReader) (turns : ℕ) → run (counted n) (waiting_rest c turns depth opening w x) ≡ Ok (part_of bytes p, counted n)
 Resumes bytes depth opening w x n (Err e) = (c : CollectionReader) (turns : ℕ) → Stops (waiting_rest c turns depth opening w x) n e
@@ -97,7 +105,8 @@ IsOpenTo size opening at (open_code.Entries v) = (opening ≤ at) × EntriesPlac
 abbrev pub IsWaitingFrom : ℕ → ℕ → ℕ → Waiting → Type 0
 IsWaitingFrom size opening start (waiting.Item v) = (opening ≤ start) × ArePlacedIn size opening start (nodes_of (map view v.items))
 IsWaitingFrom size opening start (waiting.Value v read) =
-    (opening ≤ read.span.start) × (read.span.start ≤ read.span.end) × (read.span.end ≤ start) × EntriesPlacedIn size opening read.span.start (entries_of (map entry_view v.items))
+    (opening ≤ read.span.start) × (read.span.start ≤ read.span.end) × (read.span.end ≤ start)
+    × EntriesPlacedIn size opening read.span.start (entries_of (map entry_view v.items))
     × IsPlaced size read.scalar read.span
 IsWaitingFrom size opening start (waiting.Key at) = (opening ≤ start) × (at ≤ start)
 
@@ -121,8 +130,10 @@ AreOpen size low [] start = low ≤ start
 AreOpen size low (f ∷ fs) start = IsWaitingFrom size f.opening start f.waiting × AreOpen size low fs f.opening
 
 abbrev pub IsTaskIn : List ℕ → ℕ → List FlowFrame → Task → Type 0
-IsTaskIn bytes low stack (task.Inside opening has at) = AreOpen (length bytes) low stack opening × IsOpenTo (length bytes) opening at has × (at ≤ length bytes)
-IsTaskIn bytes low stack (task.Read p) = (start : ℕ) × AreOpen (length bytes) low stack start × IsPlacedIn (length bytes) start p.end (view p.node) × IsBehind bytes start p
+IsTaskIn bytes low stack (task.Inside opening has at) = AreOpen (length bytes) low stack opening
+    × IsOpenTo (length bytes) opening at has × (at ≤ length bytes)
+IsTaskIn bytes low stack (task.Read p) = (start : ℕ) × AreOpen (length bytes) low stack start
+    × IsPlacedIn (length bytes) start p.end (view p.node) × IsBehind bytes start p
 
 -- the offset from which on is read
 abbrev pub task_at : Task → ℕ

@@ -37,15 +37,21 @@ pub record Frame : Type 0 where
 
 -- An open collection from here on; collection reads what begins with a bracket in it, turns bounds what is still read.
 abbrev pub open_rest : CollectionReader → ℕ → ℕ → ℕ → Open → List Line → Reading (Part Node)
-open_rest collection turns depth opening (items done) ls = spanned sequence opening (flow_items (flow_node_over collection) turns opening depth done ls)
-open_rest collection turns depth opening (entries done) ls = spanned mapping opening (flow_entries (flow_node_over collection) collection turns opening depth done ls)
+open_rest collection turns depth opening (items done) ls =
+    spanned sequence opening (flow_items (flow_node_over collection) turns opening depth done ls)
+open_rest collection turns depth opening (entries done) ls =
+    spanned mapping opening (flow_entries (flow_node_over collection) collection turns opening depth done ls)
 
 -- the same from behind the node that it waited for
 abbrev pub waiting_rest : CollectionReader → ℕ → ℕ → ℕ → Waiting → Part Node → Reading (Part Node)
 waiting_rest collection turns depth opening (item done) x =
-    spanned sequence opening (flow_items_rest (λ left. flow_items (flow_node_over collection) turns opening depth (with_item done x.value) left) opening (with_item done x.value) x.left)
+    spanned sequence opening
+    (flow_items_rest (λ left. flow_items (flow_node_over collection) turns opening depth (with_item done x.value) left) opening
+    (with_item done x.value) x.left)
 waiting_rest collection turns depth opening (value done k) x =
-    spanned mapping opening (flow_entries_rest (λ left. flow_entries (flow_node_over collection) collection turns opening depth (with_entry done (scalar_node k) x.value) left) opening
+    spanned mapping opening
+    (flow_entries_rest (λ left. flow_entries (flow_node_over collection) collection turns opening depth
+    (with_entry done (scalar_node k) x.value) left) opening
     (with_entry done (scalar_node k) x.value) x.left)
 waiting_rest collection turns depth opening (key at) x = fails yaml.WrongKey at
 

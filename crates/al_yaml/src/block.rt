@@ -4,7 +4,9 @@ ghost use Rattle.al_scalar.specs.Contract.{read_of};
 ghost use Rattle.al_scalar.specs.Offsets.{IsPlaced};
 ghost use Rattle.al_scalar.specs.Places.{lines_at};
 ghost use Rattle.al_yaml.specs.BlockFrames as frames;
-ghost use Rattle.al_yaml.specs.BlockFrames.{Enters, FindsBlock, IsBlockWaitingFrom, IsEntered, IsFoundFrom, IsNextAt, IsNextBehind, IsNextInside, IsOpenAt, IsOpenFrom, IsResumed, ResumesBlock, block_open_of, block_rest, block_waiting_of};
+ghost use Rattle.al_yaml.specs.BlockFrames.{Enters, FindsBlock, IsBlockWaitingFrom, IsEntered, IsFoundFrom, IsNextAt, IsNextBehind};
+ghost use Rattle.al_yaml.specs.BlockFrames.{IsNextInside, IsOpenAt, IsOpenFrom, IsResumed, ResumesBlock, block_open_of, block_rest};
+ghost use Rattle.al_yaml.specs.BlockFrames.{block_waiting_of};
 ghost use Rattle.al_yaml.specs.BlockReads.{IsTabInside, slot_of};
 ghost use Rattle.al_yaml.specs.Blocks as block;
 ghost use Rattle.al_yaml.specs.Content as content;
@@ -93,7 +95,9 @@ fn find_rest(
     requires empty { slot.empty ≤ rest }
     requires tab { IsTabInside (length bytes.now) slot.spot }
     ensures fault { IfErr result (IsStopInside (length bytes.now)) }
-    ensures is { (node : block.BlockReader) (depth : ℕ) → FindsBlock bytes.now node depth (block.rest_node node (slot_of slot) depth column (lines_at bytes.now from) (lines_at bytes.now rest)) count.old.nodes result count.new.nodes }
+    ensures is { (node : block.BlockReader) (depth : ℕ) → FindsBlock bytes.now node depth
+        (block.rest_node node (slot_of slot) depth column (lines_at bytes.now from)
+        (lines_at bytes.now rest)) count.old.nodes result count.new.nodes }
     ensures within { IfOk result (λ task. IsFoundFrom bytes.now rest slot.empty task) }
 {
     if is_skipped(bytes, rest) {
@@ -122,7 +126,8 @@ fn find_below(
     requires within { slot.within ≤ at + 1 }
     requires empty { slot.empty ≤ at }
     ensures fault { IfErr result (IsStopInside (length bytes.now)) }
-    ensures is { (node : block.BlockReader) (depth : ℕ) → FindsBlock bytes.now node depth (block.node_below node (slot_of slot) depth (lines_at bytes.now at)) count.old.nodes result count.new.nodes }
+    ensures is { (node : block.BlockReader) (depth : ℕ) → FindsBlock bytes.now node depth (block.node_below node (slot_of slot) depth
+        (lines_at bytes.now at)) count.old.nodes result count.new.nodes }
     ensures within { IfOk result (λ task. IsFoundFrom bytes.now at slot.empty task) }
 {
     let found = next_content(bytes, at)?;
@@ -159,7 +164,9 @@ fn enter(
     requires size { length bytes.now ≤ 1048576 }
     ensures fault { IfErr result (IsStopInside (length bytes.now)) }
     ensures within { IfOk result (λ r. IsEntered bytes.now start at r) }
-    ensures is { (bound turns depth : ℕ) → Enters bytes.now bound turns depth start column (block_rest (suc turns) bound depth start column (block_open_of bytes.now has) (lines_at bytes.now at)) count.old.nodes result count.new.nodes }
+    ensures is { (bound turns depth : ℕ) → Enters bytes.now bound turns depth start column
+        (block_rest (suc turns) bound depth start column (block_open_of bytes.now has)
+        (lines_at bytes.now at)) count.old.nodes result count.new.nodes }
 {
     match has {
         BlockOpen::Items(in_mapping, items) => {
@@ -234,8 +241,10 @@ fn put_block_item(
     requires outside { stack.old.flows ≡ [] }
     requires room { length stack.old.blocks ≤ depth }
     ensures fault { IfErr result (IsStopInside (length bytes.now)) }
-    ensures is { (bound turns : ℕ) → length bytes.now < suc bound + part.next → ResumesBlock bytes.now bound turns depth start column (frames.item in_mapping (nodes_of (map view items.items))) (part_of bytes.now part) count.old.nodes result count.new.nodes }
-    ensures within { (low : ℕ) → start ≤ low → ArePlacedIn (length bytes.now) start low (nodes_of (map view items.items)) → IsPlacedIn (length bytes.now) low part.end (view part.node) → IfOk result (λ task. IsResumed bytes.now start part.next task) }
+    ensures is { (bound turns : ℕ) → length bytes.now < suc bound + part.next → ResumesBlock bytes.now bound turns depth start column
+        (frames.item in_mapping (nodes_of (map view items.items))) (part_of bytes.now part) count.old.nodes result count.new.nodes }
+    ensures within { (low : ℕ) → start ≤ low → ArePlacedIn (length bytes.now) start low (nodes_of (map view items.items))
+        → IsPlacedIn (length bytes.now) low part.end (view part.node) → IfOk result (λ task. IsResumed bytes.now start part.next task) }
     ensures same { IfOk result (λ _. stack.new ≡ stack.old) }
 {
     let mut items = items;
@@ -286,8 +295,13 @@ fn put_block_entry(
     requires outside { stack.old.flows ≡ [] }
     requires room { length stack.old.blocks ≤ depth }
     ensures fault { IfErr result (IsStopInside (length bytes.now)) }
-    ensures is { (bound turns : ℕ) → length bytes.now < suc bound + part.next → ResumesBlock bytes.now bound turns depth start column (frames.value (entries_of (map entry_view entries.items)) (read_of bytes.now key)) (part_of bytes.now part) count.old.nodes result count.new.nodes }
-    ensures within { (low : ℕ) → start ≤ key.span.start → key.span.start ≤ key.span.end → key.span.end ≤ low → EntriesPlacedIn (length bytes.now) start key.span.start (entries_of (map entry_view entries.items)) → IsPlaced (length bytes.now) key.scalar key.span → IsPlacedIn (length bytes.now) low part.end (view part.node) → IfOk result (λ task. IsResumed bytes.now start part.next task) }
+    ensures is { (bound turns : ℕ) → length bytes.now < suc bound + part.next → ResumesBlock bytes.now bound turns depth start column
+        (frames.value (entries_of (map entry_view entries.items)) (read_of bytes.now key))
+        (part_of bytes.now part) count.old.nodes result count.new.nodes }
+    ensures within { (low : ℕ) → start ≤ key.span.start → key.span.start ≤ key.span.end → key.span.end ≤ low
+        → EntriesPlacedIn (length bytes.now) start key.span.start (entries_of (map entry_view entries.items))
+        → IsPlaced (length bytes.now) key.scalar key.span → IsPlacedIn (length bytes.now) low part.end (view part.node)
+        → IfOk result (λ task. IsResumed bytes.now start part.next task) }
     ensures same { IfOk result (λ _. stack.new ≡ stack.old) }
 {
     let mut entries = entries;
@@ -320,13 +334,16 @@ fn resume_block(
     requires end { part.end ≤ part.next }
     requires start { frame.start ≤ part.end }
     requires next { IsNextBehind bytes.now part next }
-    requires waits { (low : ℕ) × IsBlockWaitingFrom (length bytes.now) frame.start low frame.waiting × IsPlacedIn (length bytes.now) low part.end (view part.node) }
+    requires waits { (low : ℕ) × IsBlockWaitingFrom (length bytes.now) frame.start low frame.waiting
+        × IsPlacedIn (length bytes.now) low part.end (view part.node) }
     requires size { length bytes.now ≤ 1048576 }
     requires depth { depth ≤ 65 }
     requires outside { stack.old.flows ≡ [] }
     requires room { length stack.old.blocks ≤ depth }
     ensures fault { IfErr result (IsStopInside (length bytes.now)) }
-    ensures is { (bound turns : ℕ) → length bytes.now < suc bound + part.next → ResumesBlock bytes.now bound turns depth frame.start frame.column (block_waiting_of bytes.now frame.waiting) (part_of bytes.now part) count.old.nodes result count.new.nodes }
+    ensures is { (bound turns : ℕ) → length bytes.now < suc bound + part.next
+        → ResumesBlock bytes.now bound turns depth frame.start frame.column (block_waiting_of bytes.now frame.waiting)
+        (part_of bytes.now part) count.old.nodes result count.new.nodes }
     ensures within { IfOk result (λ task. IsResumed bytes.now frame.start part.next task) }
     ensures same { IfOk result (λ _. stack.new ≡ stack.old) }
 {
@@ -367,7 +384,8 @@ pub fn read_block_node(
     requires outside { stack.old.flows ≡ [] }
     requires none { stack.old.blocks ≡ [] }
     ensures fault { IfErr result (IsStopInside (length bytes.now)) }
-    ensures is { (bound : ℕ) → length bytes.now < bound + at → IsRead (part_of bytes.now) (block.block_node bound (slot_of slot) 1 column (lines_at bytes.now at)) count.old.nodes result count.new.nodes }
+    ensures is { (bound : ℕ) → length bytes.now < bound + at → IsRead (part_of bytes.now)
+        (block.block_node bound (slot_of slot) 1 column (lines_at bytes.now at)) count.old.nodes result count.new.nodes }
     ensures within { IfOk result (λ part. IsBehind bytes.now at part) }
     ensures nested { IfOk result (λ part. IsPlacedIn (length bytes.now) at part.end (view part.node)) }
 {

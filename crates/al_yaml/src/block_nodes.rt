@@ -66,7 +66,8 @@ fn read_line_flow(
     requires outside { stack.old.flows ≡ [] }
     requires room { length stack.old.blocks ≤ depth }
     ensures fault { IfErr result (IsStopInside (length bytes.now)) }
-    ensures is { (bound : ℕ) → length bytes.now < bound + at → IsRead (part_of bytes.now) (block.flow_at (flow.flow_collection bound) (spot_of spot) depth (lines_at bytes.now at)) count.old.nodes result count.new.nodes }
+    ensures is { (bound : ℕ) → length bytes.now < bound + at → IsRead (part_of bytes.now) (block.flow_at (flow.flow_collection bound)
+        (spot_of spot) depth (lines_at bytes.now at)) count.old.nodes result count.new.nodes }
     ensures within { IfOk result (λ part. IsBehind bytes.now at part) }
     ensures nested { IfOk result (λ part. IsPlacedIn (length bytes.now) at part.end (view part.node)) }
     ensures same { IfOk result (λ _. stack.new ≡ stack.old) }
@@ -105,7 +106,8 @@ pub fn read_node(
     requires room { length stack.old.blocks ≤ depth }
     requires node { IsNodeAt bytes.now slot column at }
     ensures fault { IfErr result (IsStopInside (length bytes.now)) }
-    ensures is { (bound : ℕ) → length bytes.now < suc bound + at → Begins bytes.now bound depth (block.block_node (suc bound) (slot_of slot) depth column (lines_at bytes.now at)) count.old.nodes result count.new.nodes }
+    ensures is { (bound : ℕ) → length bytes.now < suc bound + at → Begins bytes.now bound depth (block.block_node (suc bound)
+        (slot_of slot) depth column (lines_at bytes.now at)) count.old.nodes result count.new.nodes }
     ensures within { IfOk result (λ task. IsBegun bytes.now at depth task) }
     ensures same { IfOk result (λ _. stack.new ≡ stack.old) }
 {
@@ -151,7 +153,9 @@ fn begin_sequence(
     requires size { length bytes.now ≤ 1048576 }
     requires node { IsNodeAt bytes.now slot column at }
     ensures fault { IfErr result (IsStopInside (length bytes.now)) }
-    ensures is { (bound : ℕ) → Begins bytes.now bound depth (block.block_sequence (block.block_node bound) (flow.flow_collection (suc bound)) (suc bound) (slot_of slot) depth column (lines_at bytes.now at)) count.old.nodes result count.new.nodes }
+    ensures is { (bound : ℕ) → Begins bytes.now bound depth (block.block_sequence (block.block_node bound)
+        (flow.flow_collection (suc bound)) (suc bound) (slot_of slot) depth column
+        (lines_at bytes.now at)) count.old.nodes result count.new.nodes }
     ensures within { IfOk result (λ task. IsBegun bytes.now at depth task) }
 {
     if is_behind_key(slot.spot) {
@@ -191,7 +195,9 @@ fn begin_mapping(
     requires column { column ≤ at }
     requires tab { IsTabInside (length bytes.now) spot }
     ensures fault { IfErr result (IsStopInside (length bytes.now)) }
-    ensures is { (bound : ℕ) → Begins bytes.now bound depth (block.block_mapping (block.block_node bound) (flow.flow_collection (suc bound)) (suc bound) (spot_of spot) depth column (lines_at bytes.now at) (key_seen bytes.now key)) count.old.nodes result count.new.nodes }
+    ensures is { (bound : ℕ) → Begins bytes.now bound depth (block.block_mapping (block.block_node bound)
+        (flow.flow_collection (suc bound)) (suc bound) (spot_of spot) depth column (lines_at bytes.now at)
+        (key_seen bytes.now key)) count.old.nodes result count.new.nodes }
     ensures within { IfOk result (λ task. IsBegun bytes.now at depth task) }
 {
     let wrong = ReadError::Fault(FaultAt {

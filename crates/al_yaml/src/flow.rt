@@ -6,13 +6,15 @@ ghost use Rattle.al_scalar.specs.Offsets.{IsPlaced};
 ghost use Rattle.al_scalar.specs.Places.{lines_at, text_at};
 ghost use Rattle.al_yaml.specs.Content as content;
 ghost use Rattle.al_yaml.specs.Flow as flow;
-ghost use Rattle.al_yaml.specs.FlowFrames.{Finds, FindsKey, IsFound, IsFoundKey, IsNested, IsOpenTo, IsStep, IsTask, Resumes, Steps, open_of, waiting_of};
+ghost use Rattle.al_yaml.specs.FlowFrames.{Finds, FindsKey, IsFound, IsFoundKey, IsNested, IsOpenTo};
+ghost use Rattle.al_yaml.specs.FlowFrames.{IsStep, IsTask, Resumes, Steps, open_of, waiting_of};
 ghost use Rattle.al_yaml.specs.Frames as frames;
 ghost use Rattle.al_yaml.specs.Frames.{open_rest};
 ghost use Rattle.al_yaml.specs.Limits.{broken_limit};
 ghost use Rattle.al_yaml.specs.Places.{IsReadInside, Shows, option_lines};
 ghost use Rattle.al_yaml.specs.Reading.{start_of};
-ghost use Rattle.al_yaml.specs.Reads.{IsAfter, IsBehind, IsColonInside, IsKeyInside, IsRead, IsStopInside, after_of, counted, flow_key_of, part_of, run};
+ghost use Rattle.al_yaml.specs.Reads.{IsAfter, IsBehind, IsColonInside, IsKeyInside, IsRead};
+ghost use Rattle.al_yaml.specs.Reads.{IsStopInside, after_of, counted, flow_key_of, part_of, run};
 ghost use Rattle.al_yaml.specs.Spans.{ArePlacedIn, EntriesPlacedIn, IsPlacedIn};
 ghost use Rattle.al_yaml.specs.View.{entries_of, entry_view, nodes_of, view};
 ghost use Rattle.std.specs.Prelude.{IfErr, IfOk, None, [], length, map, suc, true, ℕ, ◌+◌, ◌<◌, ◌||◌, ◌∷◌, ◌≡◌, ◌≤◌};
@@ -163,7 +165,9 @@ fn read_flow_key(
     requires inside { at ≤ length bytes.now }
     requires size { length bytes.now ≤ 1048576 }
     ensures fault { IfErr result (IsStopInside (length bytes.now)) }
-    ensures is { (depth : ℕ) → FindsKey bytes.now at (λ collection. flow.flow_key collection depth (lines_at bytes.now at)) depth count.old.nodes result count.new.nodes }
+    ensures is { (depth : ℕ) →
+        FindsKey bytes.now at
+        (λ collection. flow.flow_key collection depth (lines_at bytes.now at)) depth count.old.nodes result count.new.nodes }
     ensures within { IfOk result (λ key. IsFoundKey bytes.now at key) }
 {
     if let Some(code) = flow_fault(bytes, at) {
@@ -202,7 +206,8 @@ fn read_flow_node(
     requires inside { at ≤ length bytes.now }
     requires size { length bytes.now ≤ 1048576 }
     ensures fault { IfErr result (IsStopInside (length bytes.now)) }
-    ensures is { (depth : ℕ) (slot : flow.FlowSlot) → Finds bytes.now (λ collection. flow.flow_node_over collection slot depth (lines_at bytes.now at)) depth count.old.nodes result count.new.nodes }
+    ensures is { (depth : ℕ) (slot : flow.FlowSlot) → Finds bytes.now (λ collection. flow.flow_node_over collection slot depth
+        (lines_at bytes.now at)) depth count.old.nodes result count.new.nodes }
     ensures within { IfOk result (λ found. IsFound bytes.now at at found) }
 {
     if is_property(bytes, at) {
@@ -235,7 +240,8 @@ fn read_flow_value(
     requires opening { opening ≤ length bytes.now }
     requires size { length bytes.now ≤ 1048576 }
     ensures fault { IfErr result (IsStopInside (length bytes.now)) }
-    ensures is { (depth : ℕ) → Finds bytes.now (λ collection. flow.flow_entry_value (flow.flow_node_over collection) opening depth (flow_key_of bytes.now key.now)) depth count.old.nodes result count.new.nodes }
+    ensures is { (depth : ℕ) → Finds bytes.now (λ collection. flow.flow_entry_value (flow.flow_node_over collection) opening depth
+        (flow_key_of bytes.now key.now)) depth count.old.nodes result count.new.nodes }
     ensures within { IfOk result (λ found. IsFound bytes.now key.now.read.span.start key.now.read.span.end found) }
 {
     let Some(colon) = key.colon else {
@@ -275,7 +281,8 @@ fn read_item(
     requires nested { (opening ≤ at) × ArePlacedIn (length bytes.now) opening at (nodes_of (map view items.items)) }
     requires size { length bytes.now ≤ 1048576 }
     ensures fault { IfErr result (IsStopInside (length bytes.now)) }
-    ensures is { (depth : ℕ) → Steps bytes.now depth opening (λ c t. open_rest c t depth opening (frames.items (nodes_of (map view items.items))) (lines_at bytes.now at)) count.old.nodes result count.new.nodes }
+    ensures is { (depth : ℕ) → Steps bytes.now depth opening (λ c t. open_rest c t depth opening
+        (frames.items (nodes_of (map view items.items))) (lines_at bytes.now at)) count.old.nodes result count.new.nodes }
     ensures within { IfOk result (λ step. IsStep bytes.now opening at step) }
 {
     if is_text_end(bytes, at) {
@@ -306,7 +313,8 @@ fn read_entry(
     requires nested { (opening ≤ at) × EntriesPlacedIn (length bytes.now) opening at (entries_of (map entry_view entries.items)) }
     requires size { length bytes.now ≤ 1048576 }
     ensures fault { IfErr result (IsStopInside (length bytes.now)) }
-    ensures is { (depth : ℕ) → Steps bytes.now depth opening (λ c t. open_rest c t depth opening (frames.entries (entries_of (map entry_view entries.items))) (lines_at bytes.now at)) count.old.nodes result count.new.nodes }
+    ensures is { (depth : ℕ) → Steps bytes.now depth opening (λ c t. open_rest c t depth opening
+        (frames.entries (entries_of (map entry_view entries.items))) (lines_at bytes.now at)) count.old.nodes result count.new.nodes }
     ensures within { IfOk result (λ step. IsStep bytes.now opening at step) }
 {
     if is_text_end(bytes, at) {
@@ -335,8 +343,11 @@ fn put_item(bytes: &[u8], opening: usize, items: Vec<Node>, part: Part) -> Resul
     requires size { length bytes.now ≤ 1048576 }
     requires end { part.end ≤ part.next }
     ensures fault { IfErr result (IsStopInside (length bytes.now)) }
-    ensures is { (depth n : ℕ) → Resumes bytes.now depth opening (frames.item (nodes_of (map view items.items))) (part_of bytes.now part) n result }
-    ensures within { (start : ℕ) → opening ≤ start → ArePlacedIn (length bytes.now) opening start (nodes_of (map view items.items)) → IsPlacedIn (length bytes.now) start part.end (view part.node) → IfOk result (λ task. IsTask bytes.now opening part.next task) }
+    ensures is { (depth n : ℕ) →
+        Resumes bytes.now depth opening (frames.item (nodes_of (map view items.items))) (part_of bytes.now part) n result }
+    ensures within { (start : ℕ) → opening ≤ start → ArePlacedIn (length bytes.now) opening start (nodes_of (map view items.items))
+        → IsPlacedIn (length bytes.now) start part.end (view part.node)
+        → IfOk result (λ task. IsTask bytes.now opening part.next task) }
 {
     let mut items = items;
     items.push(part.node)?;
@@ -363,8 +374,13 @@ fn put_entry(
     requires size { length bytes.now ≤ 1048576 }
     requires end { part.end ≤ part.next }
     ensures fault { IfErr result (IsStopInside (length bytes.now)) }
-    ensures is { (depth n : ℕ) → Resumes bytes.now depth opening (frames.value (entries_of (map entry_view entries.items)) (read_of bytes.now key)) (part_of bytes.now part) n result }
-    ensures within { (start : ℕ) → opening ≤ key.span.start → key.span.start ≤ key.span.end → key.span.end ≤ start → EntriesPlacedIn (length bytes.now) opening key.span.start (entries_of (map entry_view entries.items)) → IsPlaced (length bytes.now) key.scalar key.span → IsPlacedIn (length bytes.now) start part.end (view part.node) → IfOk result (λ task. IsTask bytes.now opening part.next task) }
+    ensures is { (depth n : ℕ) →
+        Resumes bytes.now depth opening (frames.value (entries_of (map entry_view entries.items)) (read_of bytes.now key))
+        (part_of bytes.now part) n result }
+    ensures within { (start : ℕ) → opening ≤ key.span.start → key.span.start ≤ key.span.end → key.span.end ≤ start
+        → EntriesPlacedIn (length bytes.now) opening key.span.start (entries_of (map entry_view entries.items))
+        → IsPlaced (length bytes.now) key.scalar key.span → IsPlacedIn (length bytes.now) start part.end (view part.node)
+        → IfOk result (λ task. IsTask bytes.now opening part.next task) }
 {
     let mut entries = entries;
     let key = scalar_node(key.scalar, key.span);
@@ -392,7 +408,9 @@ fn read_inside(
     requires nested { IsOpenTo (length bytes.now) opening at has }
     requires size { length bytes.now ≤ 1048576 }
     ensures fault { IfErr result (IsStopInside (length bytes.now)) }
-    ensures is { (depth : ℕ) → Steps bytes.now depth opening (λ c t. open_rest c t depth opening (open_of has) (lines_at bytes.now at)) count.old.nodes result count.new.nodes }
+    ensures is { (depth : ℕ) →
+        Steps bytes.now depth opening
+        (λ c t. open_rest c t depth opening (open_of has) (lines_at bytes.now at)) count.old.nodes result count.new.nodes }
     ensures within { IfOk result (λ step. IsStep bytes.now opening at step) }
 {
     match has {
@@ -425,7 +443,9 @@ fn resume(bytes: &[u8], opening: usize, waiting: Waiting, part: Part) -> Result<
 fn open_at(alloc: Global, bytes: &[u8], at: usize) -> (Open, usize)
     requires inside { at < length bytes.now }
     requires bracket { content.is_flow_start (text_at bytes.now at) ≡ true }
-    ensures is { (bound depth n m : ℕ) → broken_limit n 0 (start_of at 1 depth ∷ []) ≡ None → m ≡ n + 1 → run (counted n) (flow.flow_collection (suc bound) depth (lines_at bytes.now at)) ≡ run (counted m) (open_rest (flow.flow_collection bound) (suc bound) (depth + 1) at (open_of result.0) (lines_at bytes.now result.1)) }
+    ensures is { (bound depth n m : ℕ) → broken_limit n 0 (start_of at 1 depth ∷ []) ≡ None → m ≡ n + 1 → run (counted n)
+        (flow.flow_collection (suc bound) depth (lines_at bytes.now at)) ≡ run (counted m) (open_rest (flow.flow_collection bound)
+        (suc bound) (depth + 1) at (open_of result.0) (lines_at bytes.now result.1)) }
     ensures nested { IsOpenTo (length bytes.now) at result.1 result.0 }
     ensures from { at < result.1 }
     ensures end { result.1 ≤ length bytes.now }
@@ -455,7 +475,8 @@ pub fn read_flow_collection(
     requires outside { stack.old.flows ≡ [] }
     requires room { length stack.old.blocks ≤ depth }
     ensures fault { IfErr result (IsStopInside (length bytes.now)) }
-    ensures is { (bound : ℕ) → length bytes.now < bound + at → IsRead (part_of bytes.now) (flow.flow_collection bound depth (lines_at bytes.now at)) count.old.nodes result count.new.nodes }
+    ensures is { (bound : ℕ) → length bytes.now < bound + at →
+        IsRead (part_of bytes.now) (flow.flow_collection bound depth (lines_at bytes.now at)) count.old.nodes result count.new.nodes }
     ensures within { IfOk result (λ part. IsBehind bytes.now at part) }
     ensures nested { IfOk result (λ part. IsPlacedIn (length bytes.now) at part.end (view part.node)) }
     ensures same { IfOk result (λ _. stack.new ≡ stack.old) }

@@ -118,7 +118,8 @@ impl Model for Stack {
 
     ghost Value = { Opened };
 
-    ghost coded = { code_by (List FlowFrame × List BlockFrame) (Prim.hlevel (codes, block.the_row.coded, flow.the_row.coded)) (λ o. (o.flows, o.blocks)) (λ p. record { flows = p.0; blocks = p.1 }) (λ _. refl) };
+    ghost coded = { code_by (List FlowFrame × List BlockFrame) (Prim.hlevel (codes, block.the_row.coded, flow.the_row.coded))
+        (λ o. (o.flows, o.blocks)) (λ p. record { flows = p.0; blocks = p.1 }) (λ _. refl) };
 
     ghost view = { λ s. opened_of s.frames };
 
@@ -176,7 +177,8 @@ impl Stack {
 
     /// Takes the innermost collection off if it is a flow collection.
     pub fn pop_flow(&mut self) -> Option<FlowFrame>
-        ensures flows { MatchOption result ((self.old.flows ≡ []) × (self.new.flows ≡ [])) (λ frame. self.old.flows ≡ frame ∷ self.new.flows) }
+        ensures flows { MatchOption result ((self.old.flows ≡ []) × (self.new.flows ≡ []))
+            (λ frame. self.old.flows ≡ frame ∷ self.new.flows) }
         ensures blocks { self.new.blocks ≡ self.old.blocks }
     {
         match self.frames.pop() {

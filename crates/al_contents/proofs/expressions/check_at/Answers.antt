@@ -1,4 +1,4 @@
-use Rattle.std.proofs.Common.{◌≡◌, ◌++◌, ap, ◌∙◌}
+use Rattle.std.proofs.Common.{◌++◌, ap, ◌∙◌}
 use Rattle.al_contents.specs.Contents.{place_faults}
 use Rattle.al_places.specs.Places.{place_of}
 use Rattle.al_contents.proofs.expressions.check_at.Goals as goal

@@ -3,12 +3,11 @@ use Rattle.std.specs.Option.{option_copied, option_map_or}
 use Rattle.al_contexts.specs.Answered.{known_of}
 use Rattle.al_contexts.specs.Scopes.{scope_at}
 use Rattle.al_shape.specs.Values.{member_of}
-use Rattle.al_types.specs.Scopes.{scope_of}
 use Rattle.al_types.specs.Types.{Any}
 use Rattle.al_types.specs.TypeViews.{ty_of}
 use Rattle.al_yaml.specs.Access.{scalar_in}
 use Rattle.al_yaml.specs.View.{view}
-use Rattle.al_file_calls.specs.FileCalls.{place_of_value, type_in_job}
+use Rattle.al_file_calls.specs.FileCalls.{type_in_job}
 use Rattle.al_file_calls.specs.Types.{scalar_type}
 use Rattle.al_file_calls.proofs.values.value_type.Goals as goal
 

@@ -1,7 +1,7 @@
-use Rattle.std.proofs.Common.{◌≡◌, ◌≤◌, ◌<◌, ◌-◌, ◌+◌, ◌∷◌, [], ℕ, zero, suc, List, length, drop, map, ap, ◌∙◌, sym, refl, arith, length-drop}
+use Rattle.std.proofs.Common.{◌<◌, ◌+◌, length, drop, map, ap, ◌∙◌, arith, length-drop}
 use Rattle.std.proofs.lemmas.List.{take_rest, drop-drop, map-append}
 use Rattle.al_grammar.specs.declared.chunk.ChunkState.TheVariants.{Outside}
-use Rattle.al_grammar.specs.Chunks.{behind_chunks, chunks_from, then_chunk, span_of_chunk, IsCutFrom}
+use Rattle.al_grammar.specs.Chunks.{behind_chunks, chunks_from, then_chunk, span_of_chunk}
 use Rattle.al_grammar.specs.Tokens.{span}
 use Rattle.al_grammar.proofs.Chunking.{goes_on, ends, behind_one, stands, cut_more}
 use Rattle.al_grammar.proofs.chunk.chunks.Goals as goal

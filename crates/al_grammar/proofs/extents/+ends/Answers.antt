@@ -1,4 +1,4 @@
-use Rattle.std.proofs.Common.{◌≡◌, ◌+◌, refl, sym, ap, ◌∙◌}
+use Rattle.std.proofs.Common.{◌≡◌, sym, ap, ◌∙◌}
 use Rattle.al_grammar.specs.Extents.{end_of}
 use Rattle.al_grammar.specs.View.{operand_of}
 use Rattle.al_grammar.proofs.RestItems.{rest_item}

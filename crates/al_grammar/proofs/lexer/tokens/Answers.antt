@@ -1,9 +1,9 @@
-use Rattle.std.proofs.Common.{◌≡◌, ◌-◌, ◌+◌, ◌<◌, ◌∷◌, ◌++◌, List, map, length, length-drop, drop, take, refl, sym, ap, ◌∙◌, arith, rules}
+use Rattle.std.proofs.Common.{◌<◌, map, length, length-drop, ap, ◌∙◌, arith, rules}
 use Rattle.std.proofs.lemmas.Str.{IsUtf8-drop}
 use Rattle.std.proofs.lemmas.List.{map-append}
 use Rattle.al_grammar.specs.Lexeme.{seen}
-use Rattle.al_grammar.specs.Tokens.{tokens_of, tokens_from, behind}
-use Rattle.al_grammar.proofs.Lexing.{blank_read, token_read, behind_one, ends_char}
+use Rattle.al_grammar.specs.Tokens.{behind}
+use Rattle.al_grammar.proofs.Lexing.{token_read, behind_one, ends_char}
 use Rattle.al_grammar.proofs.lexer.tokens.Goals as goal
 
 pub range_from-rest-requires : goal.range_from-rest-requires

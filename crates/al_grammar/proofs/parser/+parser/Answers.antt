@@ -1,8 +1,7 @@
-use Rattle.std.proofs.Common.{◌≡◌, ◌-◌, ◌∷◌, [], List, ◌++◌, map, refl, sym, ap, ◌∙◌, arith, rules, subst}
+use Rattle.std.proofs.Common.{map, refl}
 use Rattle.std.proofs.lemmas.List.{map-append}
 use Rattle.std.proofs.lemmas.Result.{err_from_is_err_and}
-use Rattle.al_grammar.specs.Lexeme.{seen, kinds}
-use Rattle.al_grammar.specs.View.{tree_of, step_of, operand_of}
+use Rattle.al_grammar.specs.Lexeme.{seen}
 use Rattle.al_grammar.proofs.Trees.{tree_of-Keyword, tree_of-Number, tree_of-Text, tree_of-Name, tree_of-Call, tree_of-Group, tree_of-Not, step_of-All, step_of-Index, operand_of-made}
 use Rattle.al_grammar.proofs.Rules.{constant_read, number_read, text_read, name_read, group_read, call_empty_read, each_read, index_read, index_refused}
 use Rattle.al_grammar.proofs.Chains.{not_read, positive_read, positive_refused, steps_read, path_begins, path_goes_on, chain_begins, chain_goes_on, operands_read, either_way}

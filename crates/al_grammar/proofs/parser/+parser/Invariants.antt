@@ -1,4 +1,4 @@
-use Rattle.std.proofs.Common.{◌≡◌, ◌+◌, ◌<◌, ◌≤◌, List, ℕ, ◌-◌, ◌*◌, length, map}
+use Rattle.std.proofs.Common.{◌≡◌, ◌+◌, ◌-◌, ◌*◌, length, map}
 use Rattle.al_grammar.specs.Lexeme.{seen, kinds}
 use Rattle.al_grammar.specs.Parsed.{PartOfChain, PartOfPath, Stops, ArgumentsPart}
 use Rattle.al_grammar.specs.View.{tree_of, step_of, operand_of}

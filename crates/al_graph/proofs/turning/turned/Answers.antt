@@ -1,4 +1,4 @@
-use Rattle.std.proofs.Common.{◌≡◌, ◌∙◌, ◌<◌, [], List, ℕ, arith, get_or, length, replicate, rules, subst, sym}
+use Rattle.std.proofs.Common.{◌≡◌, ◌∙◌, ◌<◌, [], List, ℕ, arith, get_or, length, subst, sym}
 use Rattle.std.specs.Prelude.{Contains}
 use Rattle.al_graph.specs.Graphs.{edges_of}
 use Rattle.al_graph.proofs.Searches.{edges_at}

@@ -1,4 +1,4 @@
-use Rattle.std.proofs.Common.{◌≡◌, ◌<◌, ◌++◌, ◌∷◌, [], arith, false, length, replicate, rules}
+use Rattle.std.proofs.Common.{◌≡◌, ◌<◌, [], arith, false, length, replicate, rules}
 use Rattle.al_graph.specs.Graphs.{edges_of}
 use Rattle.al_graph.proofs.Searches.{done_search, first_search, next_search, open_below}
 use Rattle.al_graph.proofs.walks.reachable.Goals as goal

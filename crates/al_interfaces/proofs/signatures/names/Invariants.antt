@@ -1,9 +1,6 @@
 use Rattle.std.proofs.Common.{◌≡◌, ◌++◌, drop, map}
-use Rattle.al_declarations.specs.Inputs.{input_of}
-use Rattle.al_declarations.specs.declared.inputs.InputType.TheVariants as T
 use Rattle.al_shape.specs.Keys.{key_of}
 use Rattle.al_shape.specs.Values.{member_of}
-use Rattle.al_interfaces.specs.Interfaces.{input_shown, secret_shown}
 use Rattle.al_interfaces.proofs.signatures.names.Given as goal
 
 abbrev pub invariant-loop-member : goal.invariant-loop-member

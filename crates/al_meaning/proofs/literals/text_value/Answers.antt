@@ -1,4 +1,4 @@
-use Rattle.std.proofs.Common.{◌≡◌, ℕ, ◌+◌, List, [], ◌∷◌, ◌++◌, length, drop, refl, sym, ap, ◌∙◌, append_assoc, append-nil, string_bytes, arith}
+use Rattle.std.proofs.Common.{◌≡◌, ℕ, List, ◌∷◌, ◌++◌, length, sym, ap, ◌∙◌, append_assoc, append-nil, string_bytes, arith}
 use Rattle.std.specs.List.{flat_map}
 use Rattle.std.specs.Str.{chars}
 use Rattle.std.specs.Char.{encode_utf8}
@@ -7,7 +7,7 @@ use Rattle.std.proofs.lemmas.List.{at_drop_all, length_push}
 use Rattle.std.proofs.lemmas.List.Concat.{flat_map-append}
 use Rattle.std.proofs.lemmas.Iterator.Consumers.{YieldsList-turn, YieldsList-end}
 use Rattle.al_meaning.specs.declared.literals.Quoting.{Quoting}
-use Rattle.al_meaning.specs.Literals.{unquoted, adds, moves, text_value}
+use Rattle.al_meaning.specs.Literals.{unquoted, adds, moves}
 use Rattle.al_grammar.proofs.RestItems.{rest_item}
 use Rattle.al_meaning.proofs.literals.text_value.Goals as goal
 

@@ -1,4 +1,4 @@
-use Rattle.std.proofs.Common.{◌≡◌, refl, sym, arith}
+use Rattle.std.proofs.Common.{arith}
 use Rattle.al_meaning.proofs.Indices.{too_large}
 use Rattle.al_meaning.proofs.placeholders.pass.Goals as goal
 

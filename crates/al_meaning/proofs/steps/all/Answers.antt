@@ -1,4 +1,3 @@
-use Rattle.std.proofs.Common.{◌≡◌}
 use Rattle.al_meaning.proofs.TypedSteps.{all_of_object, unchanged}
 use Rattle.al_meaning.proofs.steps.all.Goals as goal
 

@@ -1,4 +1,3 @@
-use Rattle.std.proofs.Common.{◌≡◌}
 use Rattle.al_types.specs.TypeViews.{ty_of}
 use Rattle.al_meaning.proofs.TypedSteps.{index_of_object, unchanged}
 use Rattle.al_meaning.proofs.steps.element.Goals as goal

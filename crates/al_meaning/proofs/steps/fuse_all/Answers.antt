@@ -1,4 +1,4 @@
-use Rattle.std.proofs.Common.{◌≡◌, refl, sym, ap, ◌∙◌, map, arith}
+use Rattle.std.proofs.Common.{refl, sym, ap, ◌∙◌, map, arith}
 use Rattle.std.specs.Prelude.{option_map}
 use Rattle.std.proofs.lemmas.List.{at_drop_all}
 use Rattle.al_types.specs.Types.{NoField}

@@ -1,4 +1,4 @@
-use Rattle.std.proofs.Common.{◌≡◌, ◌+◌, [], ◌∷◌, ◌++◌, map, drop, refl, sym, ap, ◌∙◌, string_bytes, Some, None}
+use Rattle.std.proofs.Common.{◌≡◌, ◌+◌, [], map, drop, ap, ◌∙◌, string_bytes, None}
 use Rattle.std.specs.Prelude.{not, ◌||◌}
 use Rattle.std.proofs.lemmas.List.{map-append}
 use Rattle.al_meaning.specs.CallViews.{argument_of}
@@ -11,7 +11,7 @@ use Rattle.al_types.specs.TypeViews.{ty_of}
 use Rattle.al_types.specs.Scopes.{scope_of}
 use Rattle.al_grammar.specs.Tree.{sign, steps_of, operands_of, arguments_of}
 use Rattle.al_grammar.specs.View.{tree_of, step_of, operand_of}
-use Rattle.al_meaning.specs.Meaning.{typed, meaning, walked, chained, begins_logic}
+use Rattle.al_meaning.specs.Meaning.{typed, walked, chained, begins_logic}
 use Rattle.al_grammar.proofs.Trees.{tree_of-Keyword, tree_of-Number, tree_of-Text, tree_of-Call, tree_of-Group, tree_of-Not, tree_of-Path, tree_of-Chain, step_of-Index}
 use Rattle.al_meaning.proofs.TypedSteps.{unchanged, follows}
 use Rattle.al_grammar.proofs.TreeViews.{operand_view}

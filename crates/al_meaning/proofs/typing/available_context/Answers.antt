@@ -1,4 +1,4 @@
-use Rattle.std.proofs.Common.{◌≡◌, [], refl, sym, ap, ◌∙◌, string_bytes, Some}
+use Rattle.std.proofs.Common.{◌≡◌, [], sym, ap, ◌∙◌, string_bytes, Some}
 use Rattle.al_types.specs.Names.{context_of}
 use Rattle.al_types.specs.Scopes.{scope_of}
 use Rattle.al_grammar.specs.View.{tree_of}

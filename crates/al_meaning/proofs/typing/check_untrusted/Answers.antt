@@ -1,5 +1,4 @@
-use Rattle.std.proofs.Common.{◌≡◌, ◌++◌, Bool, true, false, [], map, refl, sym, ap, ◌∙◌, append-nil, Some, None}
-use Rattle.std.specs.Prelude.{option_map, not, string_bytes}
+use Rattle.std.proofs.Common.{◌≡◌, ◌++◌, map, sym, ap, ◌∙◌, append-nil, Some}
 use Rattle.al_grammar.specs.Tree.{steps_of}
 use Rattle.al_grammar.specs.View.{tree_of, step_of}
 use Rattle.al_meaning.specs.Meaning.{base_name, untrusted}

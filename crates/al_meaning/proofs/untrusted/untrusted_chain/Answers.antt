@@ -1,4 +1,4 @@
-use Rattle.std.proofs.Common.{◌≡◌, refl, sym, ap, ◌∙◌}
+use Rattle.std.proofs.Common.{ap, ◌∙◌}
 use Rattle.std.specs.Prelude.{option_map}
 use Rattle.al_meaning.specs.Untrusted.{with_dots}
 use Rattle.al_meaning.proofs.untrusted.untrusted_chain.Goals as goal

@@ -1,4 +1,4 @@
-use Rattle.std.proofs.Common.{rules, arith, get_or, length, ◌<◌}
+use Rattle.std.proofs.Common.{rules}
 use Rattle.std.proofs.lemmas.Result.{err_from_is_err_and}
 use Rattle.al_text.specs.Fragments.{fragment_bytes}
 use Rattle.al_text.proofs.Bytes.{AppendsFront-part}

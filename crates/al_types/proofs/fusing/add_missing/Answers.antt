@@ -1,4 +1,4 @@
-use Rattle.std.proofs.Common.{◌≡◌, refl, sym, ap}
+use Rattle.std.proofs.Common.{refl}
 use Rattle.al_types.proofs.TypeFields.{object_fields}
 use Rattle.al_types.proofs.fusing.add_missing.Goals as goal
 

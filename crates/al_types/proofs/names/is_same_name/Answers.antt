@@ -1,4 +1,3 @@
-use Rattle.std.proofs.Common.{◌≡◌, refl, sym}
 use Rattle.al_types.proofs.SameName.{same_sound, same_complete, not_true}
 use Rattle.al_types.proofs.names.is_same_name.Goals as goal
 

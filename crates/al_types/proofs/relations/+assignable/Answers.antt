@@ -1,5 +1,5 @@
-use Rattle.std.proofs.Common.{◌≡◌, refl, sym}
-use Rattle.al_types.proofs.TypeForms.{form_object, by_form, by_form_to, not_array}
+use Rattle.std.proofs.Common.{sym}
+use Rattle.al_types.proofs.TypeForms.{by_form, by_form_to, not_array}
 use Rattle.al_types.proofs.relations.+assignable.Goals as goal
 
 pub returns-in_default-to : goal.returns-in_default-to

@@ -1,4 +1,3 @@
-use Rattle.std.proofs.Common.{ap}
 use Rattle.al_declarations.specs.NameSets.{folded}
 use Rattle.al_declarations.specs.Positions.{name_position}
 use Rattle.al_declarations.proofs.positions.NamePositions.new.Goals as goal

@@ -1,5 +1,4 @@
-use Rattle.std.proofs.Common.{◌≡◌, None, rules, ap, sym, ◌∙◌, true, false}
-use Rattle.std.specs.Prelude.{is_none, is_some}
+use Rattle.std.proofs.Common.{◌≡◌, None, rules}
 use Rattle.al_declarations.specs.Positions.{text_position}
 use Rattle.al_declarations.proofs.PositionLemmas.{added, on_err, same_texts}
 use Rattle.al_declarations.proofs.positions.TextPositions.insert.Goals as goal

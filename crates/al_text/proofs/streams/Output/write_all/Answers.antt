@@ -1,4 +1,4 @@
-use Rattle.std.proofs.Common.{rules, arith}
+use Rattle.std.proofs.Common.{rules}
 use Rattle.std.proofs.lemmas.Grind.{common_steps}
 use Rattle.al_text.proofs.Bytes.{Appends-more}
 use Rattle.al_text.proofs.streams.Output.write_all.Goals as goal

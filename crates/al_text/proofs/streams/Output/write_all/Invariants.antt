@@ -1,6 +1,5 @@
 use Rattle.std.proofs.Common.{length, ◌-◌, ◌≡◌, ◌≤◌, take}
 use Rattle.std.specs.Io.KnownBytes.{Appends}
-use Rattle.al_text.specs.Streams.{bytes_written, write_failures}
 use Rattle.al_text.proofs.streams.Output.write_all.Given as goal
 
 abbrev pub invariant-loop-done : goal.invariant-loop-done

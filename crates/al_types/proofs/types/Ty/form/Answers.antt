@@ -1,4 +1,4 @@
-use Rattle.std.proofs.Common.{◌≡◌, refl, sym}
+use Rattle.std.proofs.Common.{sym}
 use Rattle.al_types.proofs.TypeForms.{form_object}
 use Rattle.al_types.proofs.types.Ty.form.Goals as goal
 
