@@ -1,9 +1,11 @@
 //! The linter as a program: it lints the files of a folder, or runs a script from standard input.
 #![tactic(auto)]
 
-use al_cli::{Fatal, Unread, Usage, Words, gather, lint_all, number_of, parse_words, run_session};
+use al_cli::{Fatal, Unread, gather, lint_all};
+use al_scripts::{number_of, run_session};
 use al_session::Refused;
 use al_text::{Input, Output, Path, Stop};
+use al_words::{Usage, Words, parse_words};
 use std::alloc::AllocError;
 use std::io::{BufWriter, ErrorKind};
 use std::process::ExitCode;

@@ -1,9 +1,8 @@
--- What holds of every file that was read: each of its faults lies in it, and they are in the order of reports, each once.
-use Rattle.std.specs.Prelude.{ℕ, List, [], ◌∷◌, ◌++◌, length, map, Ok, Err, Result}
-use Rattle.std.proofs.Common.{sym, subst}
+-- What holds of every file: each of its faults lies in it, and they are in the order of reports, each once.
+use Rattle.std.specs.Prelude.{◌≤◌, ℕ, List, [], ◌∷◌, ◌++◌, length, map, false, Ok, Err, Result, IfOk}
 use Rattle.std.specs.List.{AllByRecursion}
 use Rattle.std.proofs.lemmas.List.Elements.{recursion_from_All}
-use Rattle.al_scalar.specs.declared.faults.YamlFault.{YamlFault}
+use Rattle.al_scalar.specs.Taken as yaml
 use Rattle.al_shape.proofs.Inside.{root_lies}
 use Rattle.std.specs.List.Sorted.{IsStrictlySortedBy}
 use Rattle.al_text.proofs.FaultLists.{AllByRecursion-fault_list, IsStrictlySortedBy-fault_list}
@@ -12,9 +11,11 @@ use Rattle.al_text.specs.Spans.{LiesIn}
 use Rattle.al_text.specs.declared.faults.Fault.{Fault}
 use Rattle.al_tree.specs.Files.{shape_of}
 use Rattle.al_tree.specs.declared.files.FileKind.{FileKind}
-use Rattle.al_tree.specs.declared.files.Tree.{Tree}
-use Rattle.al_yaml.specs.ByteFaults.{fault_span}
+use Rattle.al_yaml.specs.Document.{tree_of}
+use Rattle.al_yaml.specs.Node.{Node}
 use Rattle.al_yaml.specs.Spans.{AreFrom, IsInside, IsWithin}
+use Rattle.al_yaml_laws.proofs.SpanRoot.{tree-from, tree-in, tree-inside, tree-within}
+use Rattle.al_yaml_laws.specs.Inside.{IsTreeIn}
 use Rattle.al_contents.proofs.Inside.{expression_faults_lie}
 use Rattle.al_contents.specs.FileExpressions.{expression_faults}
 use Rattle.al_uses.specs.Uses.{calls_in}
@@ -25,10 +26,8 @@ use Rattle.al_meaning.proofs.Inside.{both_lie}
 use Rattle.al_rules.proofs.Lying.{rules_lie}
 use Rattle.al_shape.specs.Faults.{root_faults}
 use Rattle.al_check.specs.FileFaults.{Answers, document_faults, faults_given, file_faults, found_in, printed}
-use Rattle.al_check.specs.Reading.{IsGiven, IsRead, kind_in, root_of}
 use Rattle.al_check.specs.RuleFaults.{rule_faults}
 use Rattle.al_check.specs.RuleSets.{rules_hold}
-use Rattle.al_check.specs.declared.files.ReadFile.{ReadFile}
 
 abbrev AllLie : ℕ → List Fault → Type 0
 AllLie size faults = AllByRecursion (λ (f : Fault). LiesIn size f.span) faults
@@ -37,59 +36,51 @@ printed_lie : (size : ℕ) (faults : List Fault) → AllLie size faults → AllL
 printed_lie size [] l = tt
 printed_lie size (f ∷ fs) l = (l.0, printed_lie size fs l.1)
 
-module _ (size : ℕ) (t : Tree) (i : IsInside size (root_of t)) (w : IsWithin 0 size (root_of t)) (f : AreFrom size (root_of t))
+module _ (size : ℕ) (kind : FileKind) (root : Node) (i : IsInside size root) (w : IsWithin 0 size root) (f : AreFrom size root)
     (answers : Answers) where
   abbrev asked : List Answered
-  asked = answered (calls_in (kind_in t) (root_of t)) answers
+  asked = answered (calls_in kind root) answers
 
-  behind_lie : AllLie size (behind_faults (kind_in t) (root_of t) answers)
+  behind_lie : AllLie size (behind_faults kind root answers)
   behind_lie =
-      both_lie size (expression_faults (kind_in t) (known_by asked) (root_of t))
-      (call_faults (kind_in t) (known_by asked) (root_of t) asked)
-      (expression_faults_lie size (kind_in t) (known_by asked) (root_of t) w f)
-      (call_faults_lie size (kind_in t) (typing (kind_in t) (known_by asked) (root_of t)) (root_of t) answers i)
+      both_lie size (expression_faults kind (known_by asked) root) (call_faults kind (known_by asked) root asked)
+      (expression_faults_lie size kind (known_by asked) root w f)
+      (call_faults_lie size kind (typing kind (known_by asked) root) root answers i)
 
-  found_lie : AllLie size (found_in (kind_in t) (root_of t) answers)
+  found_lie : AllLie size (found_in kind root answers)
   found_lie =
-      both_lie size (root_faults (shape_of (kind_in t)) (root_of t) ++ rule_faults (kind_in t) (root_of t))
-      (behind_faults (kind_in t) (root_of t) answers)
-      (both_lie size (root_faults (shape_of (kind_in t)) (root_of t)) (rule_faults (kind_in t) (root_of t))
-      (recursion_from_All (λ (x : Fault). LiesIn size x.span) (root_faults (shape_of (kind_in t)) (root_of t))
-      (root_lies size (shape_of (kind_in t)) (root_of t) i))
-      (rules_lie size t (rule_faults (kind_in t) (root_of t)) w (rules_hold t)))
+      both_lie size (root_faults (shape_of kind) root ++ rule_faults kind root) (behind_faults kind root answers)
+      (both_lie size (root_faults (shape_of kind) root) (rule_faults kind root)
+      (recursion_from_All (λ (x : Fault). LiesIn size x.span) (root_faults (shape_of kind) root)
+      (root_lies size (shape_of kind) root i))
+      (rules_lie size kind root (rule_faults kind root) w (rules_hold kind root)))
       behind_lie
 
-  document_lies : AllLie size (document_faults (kind_in t) (root_of t) answers)
+  document_lies : AllLie size (document_faults kind root answers)
   document_lies =
-      AllByRecursion-fault_list (λ (x : Fault). LiesIn size x.span) (map printed (found_in (kind_in t) (root_of t) answers))
-      (printed_lie size (found_in (kind_in t) (root_of t) answers) found_lie)
+      AllByRecursion-fault_list (λ (x : Fault). LiesIn size x.span) (map printed (found_in kind root answers))
+      (printed_lie size (found_in kind root answers) found_lie)
 
-given_lies : (kind : FileKind) (bytes : List ℕ) (answers : Answers) (read : Result Tree YamlFault) → IsGiven kind bytes read →
-    AllLie (length bytes) (file_faults kind bytes answers)
-given_lies kind bytes answers (Ok t) is =
-    subst (λ k. AllLie (length bytes) (file_faults k bytes answers)) is.kind_is
-    (subst (λ r. AllLie (length bytes) (faults_given (kind_in t) bytes answers r)) (sym is.root_is)
-    (document_lies (length bytes) t is.inside is.nested is.from answers))
-given_lies kind bytes answers (Err fault) is =
-    let there : LiesIn (length bytes) (fault_span bytes fault.span.start) = subst (LiesIn (length bytes)) is.span_is is.inside in
-    subst (λ r. AllLie (length bytes) (faults_given kind bytes answers r)) (sym is.fault_is) (there, tt)
+given_lies : (kind : FileKind) (bytes : List ℕ) (answers : Answers) (read : Result Node yaml.Fault) → IsTreeIn bytes read →
+    IfOk read (IsInside (length bytes)) → IfOk read (IsWithin 0 (length bytes)) → IfOk read (AreFrom (length bytes)) →
+    AllLie (length bytes) (faults_given kind bytes answers read)
+given_lies kind bytes answers (Ok root) there i w f = document_lies (length bytes) kind root i w f answers
+given_lies kind bytes answers (Err fault) there i w f = (there, tt)
 
-pub faults_inside : (file : ReadFile) (kind : FileKind) (bytes : List ℕ) (answers : Answers) → IsRead file kind bytes →
+pub faults_inside : (kind : FileKind) (bytes : List ℕ) (answers : Answers) → length bytes ≤ 1048576 →
     AllLie (length bytes) (file_faults kind bytes answers)
-faults_inside file kind bytes answers is = given_lies kind bytes answers file.tree is.given
+faults_inside kind bytes answers small =
+    given_lies kind bytes answers (tree_of false bytes) (tree-in bytes) (tree-inside bytes) (tree-within bytes small) (tree-from bytes)
 
 one_sorted : (f : Fault) → IsStrictlySortedBy fault_cmp (f ∷ [])
 unfolding IsStrictlySortedBy
 one_sorted f = (tt, tt)
 
-given_ordered : (kind : FileKind) (bytes : List ℕ) (answers : Answers) (read : Result Tree YamlFault) → IsGiven kind bytes read →
-    IsStrictlySortedBy fault_cmp (file_faults kind bytes answers)
-given_ordered kind bytes answers (Ok t) is =
-    subst (λ r. IsStrictlySortedBy fault_cmp (faults_given kind bytes answers r)) (sym is.root_is)
-    (IsStrictlySortedBy-fault_list (map printed (found_in kind (root_of t) answers)))
-given_ordered kind bytes answers (Err fault) is =
-    subst (λ r. IsStrictlySortedBy fault_cmp (faults_given kind bytes answers r)) (sym is.fault_is) (one_sorted _)
+given_ordered : (kind : FileKind) (bytes : List ℕ) (answers : Answers) (read : Result Node yaml.Fault) →
+    IsStrictlySortedBy fault_cmp (faults_given kind bytes answers read)
+given_ordered kind bytes answers (Ok root) = IsStrictlySortedBy-fault_list (map printed (found_in kind root answers))
+given_ordered kind bytes answers (Err fault) = one_sorted _
 
-pub faults_ordered : (file : ReadFile) (kind : FileKind) (bytes : List ℕ) (answers : Answers) → IsRead file kind bytes →
+pub faults_ordered : (kind : FileKind) (bytes : List ℕ) (answers : Answers) →
     IsStrictlySortedBy fault_cmp (file_faults kind bytes answers)
-faults_ordered file kind bytes answers is = given_ordered kind bytes answers file.tree is.given
+faults_ordered kind bytes answers = given_ordered kind bytes answers (tree_of false bytes)

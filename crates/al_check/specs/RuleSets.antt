@@ -9,8 +9,10 @@ use Rattle.al_graph.specs.Graphs.{Walk}
 use Rattle.al_text.specs.declared.faults.Fault.{Fault}
 use Rattle.al_rules.specs.Needs.{AreNeedsFaults, IsNeedFaults, IsNeedsFaults, Need, all_needs, and_need, cycle_fault, keys_of}
 use Rattle.al_rules.specs.Needs.{leads_back, leads_on, named_by, needs_faults, no_needs, position_in, tested_faults, undefined_job}
-use Rattle.al_rules.specs.Rules.{AddsRules, IsRuleFaults, jobs_of, workflow_faults}
+use Rattle.al_rules.specs.Rules.{AddsRules, AreRuleFaults, IsRuleFaults, jobs_of, workflow_faults}
 use Rattle.al_shape.specs.Growth.{SameSet}
+use Rattle.al_tree.specs.declared.files.FileKind.{FileKind}
+use Rattle.al_tree.specs.declared.files.FileKind.TheVariants as kind
 use Rattle.al_tree.specs.declared.files.Tree.{Tree}
 use Rattle.al_tree.specs.declared.files.Tree.TheVariants as tree
 use Rattle.al_yaml.specs.Node.{Node}
@@ -61,14 +63,13 @@ rules_are (tree.Workflow w) found is =
     is.is ∙ ap (λ needs. workflow_faults needs (view w.root)) (needs_are (jobs_of (view w.root)) is.needs is.of_needs)
 rules_are (tree.Action a) found is = is
 
-pub rules_hold : (t : Tree) → IsRuleFaults t (rule_faults (kind_in t) (root_of t))
-rules_hold (tree.Workflow w) = record {
-  needs = needs_faults (leads (needs_graph (jobs_of (view w.root)))) (jobs_of (view w.root));
-  of_needs = needs_hold (needs_graph (jobs_of (view w.root))) (position_in (keys_of (jobs_of (view w.root))))
-      (all_needs (jobs_of (view w.root)));
+pub rules_hold : (file : FileKind) (root : Node) → AreRuleFaults file root (rule_faults file root)
+rules_hold kind.Workflow root = record {
+  needs = needs_faults (leads (needs_graph (jobs_of root))) (jobs_of root);
+  of_needs = needs_hold (needs_graph (jobs_of root)) (position_in (keys_of (jobs_of root))) (all_needs (jobs_of root));
   is = refl;
 }
-rules_hold (tree.Action a) = refl
+rules_hold kind.Action root = refl
 
 -- what the rules add, as a set
 pub rules_added : (t : Tree) (old new : List Fault) → AddsRules t old new → SameSet new (old ++ rule_faults (kind_in t) (root_of t))

@@ -90,7 +90,7 @@ impl Lint for Actions {
 
     ghost exact = { exact };
 
-    ghost inside = { λ unit path bytes answers read. faults_inside unit (file_kind path) bytes answers read };
+    ghost inside = { λ path bytes answers small. faults_inside (file_kind path) bytes answers small };
 
-    ghost ordered = { λ unit path bytes answers read. faults_ordered unit (file_kind path) bytes answers read };
+    ghost ordered = { λ path bytes answers. faults_ordered (file_kind path) bytes answers };
 }

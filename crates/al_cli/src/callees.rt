@@ -83,7 +83,7 @@ impl<L: Lint> Lint for Callees<L> {
 
     ghost exact = { λ a b same. same_interface a b };
 
-    ghost inside = { λ unit path bytes answers read. tt };
+    ghost inside = { λ path bytes answers small. tt };
 
-    ghost ordered = { λ unit path bytes answers read. none_ordered };
+    ghost ordered = { λ path bytes answers. none_ordered };
 }

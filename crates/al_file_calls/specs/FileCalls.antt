@@ -9,7 +9,7 @@ use Rattle.al_shape.specs.Keys.{key_text}
 use Rattle.al_tree.specs.declared.files.FileKind.{FileKind}
 use Rattle.al_tree.specs.declared.files.FileKind.TheVariants as kind
 use Rattle.al_places.specs.Places.{Place, place_at}
-use Rattle.al_places.specs.Ways.{Step, under}
+use Rattle.al_places.specs.Ways.{WayStep, under}
 use Rattle.al_contexts.specs.Answered.{Behind, known_in}
 use Rattle.al_contexts.specs.Contexts.{Known}
 use Rattle.al_contexts.specs.Scopes.{scope_at}
@@ -28,7 +28,7 @@ abbrev pub known_by : List Answered → Known
 known_by found = known_in (map behind found)
 
 -- the way to what a job gives under a key of `with`
-abbrev pub way_to : List ℕ → List ℕ → List Step
+abbrev pub way_to : List ℕ → List ℕ → List WayStep
 way_to job key = under (codes "jobs") ∷ under job ∷ under (codes "with") ∷ under key ∷ []
 
 abbrev pub place_of_value : List ℕ → Node → Scalar → Place

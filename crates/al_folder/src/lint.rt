@@ -111,11 +111,11 @@ pub trait Lint: Drop {
     /// Interfaces that compare equal are the same.
     ghost exact: { (a b : Self.Iface) → Self.Iface.eq a b ≡ true → a ≡ b };
 
-    /// Each fault of a file that was read lies in it.
-    ghost inside: { (unit : Self.Unit) (p b : List ℕ) (given : List (Option Self.Iface)) → is_unit unit p b →
+    /// Each fault of a file lies in it, for every path, all bytes that a file of a folder may have, and all answers.
+    ghost inside: { (p b : List ℕ) (given : List (Option Self.Iface)) → length b ≤ 1048576 →
         AllByRecursion (λ fault. LiesIn (length b) fault.span) (meaning.faults p b given) };
 
-    /// The faults of a file that was read are in the order of reports, each once.
-    ghost ordered: { (unit : Self.Unit) (p b : List ℕ) (given : List (Option Self.Iface)) → is_unit unit p b →
+    /// The faults of a file are in the order of reports, each once, for every path, all bytes and all answers.
+    ghost ordered: { (p b : List ℕ) (given : List (Option Self.Iface)) →
         IsStrictlySortedBy fault_cmp (meaning.faults p b given) };
 }

@@ -13,5 +13,5 @@ pub use laws::placed_scalars;
 pub use positions::{Position, Section, Seen};
 pub use table::{Key, Row, available};
 pub use walk::{Place, places};
-pub use ways::Step;
+pub use ways::WayStep;
 pub use worked::rows;

@@ -11,17 +11,16 @@ use Rattle.al_text.specs.declared.faults.Fault.{Fault}
 use Rattle.al_yaml.specs.Access.{scalar_in}
 use Rattle.al_yaml.specs.Node.{Node, span_of}
 use Rattle.al_yaml.specs.Spans.{IsWithin}
-use Rattle.al_yaml.specs.View.{view}
 use Rattle.al_shape.specs.Names.{among}
 use Rattle.al_shape.specs.Values.{entries_at, items_at, key_at, text_at, text_below, texts_at, value_at, value_below}
-use Rattle.al_tree.specs.declared.files.Tree.{Tree}
-use Rattle.al_tree.specs.declared.files.Tree.TheVariants as tree
+use Rattle.al_tree.specs.declared.files.FileKind.{FileKind}
+use Rattle.al_tree.specs.declared.files.FileKind.TheVariants as kind
 use Rattle.al_events.specs.Events.{on_faults}
-use Rattle.al_rules.specs.Inside.{RuleFaultsLie, root_of}
+use Rattle.al_rules.specs.Inside.{RuleFaultsLie}
 use Rattle.al_settings.specs.Ids.{ids_faults}
 use Rattle.al_settings.specs.Matrix.{matrix_faults}
 use Rattle.al_rules.specs.Needs.{AreNeedsFaults, IsNeedFaults, Need, all_needs, and_need, keys_of, leads_back, leads_on, named_by, needs_in, needs_of, no_needs, undefined_job}
-use Rattle.al_rules.specs.Rules.{IsRuleFaults, action_faults, composite_faults, container_faults, containers_faults, hooks_faults, job_faults, jobs_of, matrix_faults_of, no_shell_faults, node_usings, output_faults, run_faults, runs_faults, scalar_of_value, section_faults, settings_faults, step_faults, step_ids, steps_faults, using_faults, workflow_faults}
+use Rattle.al_rules.specs.Rules.{AreRuleFaults, action_faults, composite_faults, container_faults, containers_faults, hooks_faults, job_faults, jobs_of, matrix_faults_of, no_shell_faults, node_usings, output_faults, run_faults, runs_faults, scalar_of_value, section_faults, settings_faults, step_faults, step_ids, steps_faults, using_faults, workflow_faults}
 use Rattle.al_settings.specs.Settings.{condition_faults, credentials_faults, env_faults, permissions_faults, script_faults, shell_faults}
 use Rattle.al_reports.specs.Words.{Named, fault, of_key, of_scalar}
 use Rattle.al_reports.proofs.Inside.{Are, Fine, Lies, NameLies, Pair, Text, about_lies, and_some, below_fine, both, each_as, each_of, each_some, entries_at_fine, items_at_fine, key_fine, map_or, map_some, one_lies, or_lies, scalar_fine, span_lies, text_at_fine, text_below_fine, texts_at_fine, value_fine}
@@ -165,15 +164,16 @@ module _ (size : ℕ) where
   whole : (n : Node) → IsWithin 0 size n → Fine size n
   whole n w = record { low = 0; high = size; top = omega arith; within = w }
 
-  tree_lies : (t : Tree) (found : List Fault) → IsWithin 0 size (root_of t) → IsRuleFaults t found → Are size found
-  tree_lies (tree.Workflow w) found i r =
-      subst (Are size) (sym r.is) (workflow_lies r.needs (view w.root) (whole (view w.root) i)
-      (needs_lie _ _ (all_needs (jobs_of (view w.root))) r.needs (all_needs_place (jobs_of (view w.root)) (entries_at_fine size (codes "jobs") (view w.root) (whole (view w.root) i))) r.of_needs))
-  tree_lies (tree.Action a) found i r = subst (Are size) (sym r) (action_lies (view a.root) (whole (view a.root) i))
+  root_lies : (file : FileKind) (root : Node) (found : List Fault) → IsWithin 0 size root → AreRuleFaults file root found → Are size found
+  root_lies kind.Workflow root found i r =
+      subst (Are size) (sym r.is) (workflow_lies r.needs root (whole root i)
+      (needs_lie _ _ (all_needs (jobs_of root)) r.needs (all_needs_place (jobs_of root) (entries_at_fine size (codes "jobs") root (whole root i))) r.of_needs))
+  root_lies kind.Action root found i r = subst (Are size) (sym r) (action_lies root (whole root i))
 
 -- each fault of the rules lies in the file
-pub rules_lie : (size : ℕ) (t : Tree) (found : List Fault) → IsWithin 0 size (root_of t) → IsRuleFaults t found → AllByRecursion (λ (f : Fault). LiesIn size f.span) found
-rules_lie size t found i r = tree_lies size t found i r
+pub rules_lie : (size : ℕ) (file : FileKind) (root : Node) (found : List Fault) → IsWithin 0 size root → AreRuleFaults file root found
+    → AllByRecursion (λ (f : Fault). LiesIn size f.span) found
+rules_lie size file root found i r = root_lies size file root found i r
 
 pub all_lie : RuleFaultsLie
-all_lie size t found i r = All-from_recursion (λ (f : Fault). LiesIn size f.span) found (rules_lie size t found i r)
+all_lie size file root found i r = All-from_recursion (λ (f : Fault). LiesIn size f.span) found (rules_lie size file root found i r)

@@ -11,6 +11,8 @@ use Rattle.al_yaml.specs.Node.{Node, span_of}
 use Rattle.al_yaml.specs.View.{view}
 use Rattle.al_shape.specs.Names.{among}
 use Rattle.al_shape.specs.Values.{entries_at, items_at, key_at, text_at, text_below, value_at, value_below}
+use Rattle.al_tree.specs.declared.files.FileKind.{FileKind}
+use Rattle.al_tree.specs.declared.files.FileKind.TheVariants as kind
 use Rattle.al_tree.specs.declared.files.Tree.{Tree}
 use Rattle.al_tree.specs.declared.files.Tree.TheVariants as tree
 use Rattle.al_events.specs.Events.{on_faults}
@@ -121,9 +123,14 @@ pub record AddsWorkflow (root : Node) (old new : List Fault) : Type 0 where
   pub are : IsWorkflowFaults root found
   pub grows : new ≡ old ++ found
 
+-- the faults of the rules in a file of this kind with this root
+abbrev pub AreRuleFaults : FileKind → Node → List Fault → Type 0
+AreRuleFaults kind.Workflow root found = IsWorkflowFaults root found
+AreRuleFaults kind.Action root found = found ≡ action_faults root
+
 abbrev pub IsRuleFaults : Tree → List Fault → Type 0
-IsRuleFaults (tree.Workflow w) found = IsWorkflowFaults (view w.root) found
-IsRuleFaults (tree.Action a) found = found ≡ action_faults (view a.root)
+IsRuleFaults (tree.Workflow w) found = AreRuleFaults kind.Workflow (view w.root) found
+IsRuleFaults (tree.Action a) found = AreRuleFaults kind.Action (view a.root) found
 
 -- The list has what it had, and some faults that are the rules', each of which it has now.
 pub record AddsRules (file : Tree) (old new : List Fault) : Type 0 where

@@ -1,5 +1,5 @@
 -- What the kept faults of a folder's files say of its report and status.
-use Rattle.std.proofs.Common.{◌≡◌, ℕ, Bool, true, false, cond, not, List, [], ◌∷◌, length, Option, refl, sym, ◌∙◌, ap, subst, ◌||◌}
+use Rattle.std.proofs.Common.{◌≤◌, ◌≡◌, ℕ, Bool, true, false, cond, not, List, [], ◌∷◌, length, Option, refl, sym, ◌∙◌, ap, subst, ◌||◌}
 use Rattle.std.specs.Prelude.{string_bytes, bytes_eq}
 use Rattle.std.specs.Global.{Global}
 use Rattle.std.specs.Option.{option_map, unwrap_or}
@@ -37,14 +37,14 @@ module _ {U I : Type 0} (m : Meaning I) (f : Folder) where
       rw (first, rest) refl
 
   pub printable : (is_unit : U → List ℕ → List ℕ → Type 0) (files : Files U I)
-      → ((unit : U) (p b : List ℕ) (given : List (Option I)) → is_unit unit p b → AllByRecursion (λ (fault : Fault). LiesIn (length b) fault.span) (m.faults p b given))
+      → ((p b : List ℕ) (given : List (Option I)) → length b ≤ 1048576 → AllByRecursion (λ (fault : Fault). LiesIn (length b) fault.span) (m.faults p b given))
       → AllKept m is_unit files → AllChecked m f files → AllByRecursion (λ (e : String Global × KeptFile U I). IsPrintable e.1) files
   unfolding faults_in
   printable is_unit [] law kept h = tt
   printable is_unit (e ∷ es) law kept h =
       let p = string_bytes e.0 in
       let P : List Fault → Type 0 = λ l. AllByRecursion (λ (fault : Fault). LiesIn (length e.1.bytes.items) fault.span) l in
-      let first : P e.1.faults.items = subst P (sym h.0) (law e.1.unit p e.1.bytes.items (answers m f p e.1.bytes.items) kept.0.unit) in
+      let first : P e.1.faults.items = subst P (sym h.0) (law p e.1.bytes.items (answers m f p e.1.bytes.items) kept.0.small) in
       (record { small = kept.0.small; lines = kept.0.lines; inside = first }, printable is_unit es law kept.1 h.1)
 
   -- the faults that are kept at a path
@@ -80,17 +80,16 @@ list_kept m files q file checked found =
     ap (λ o. unwrap_or o file.faults.items) is
 
 -- the faults that are kept at a path are in order
-pub order_kept : {U I : Type 0} (m : Meaning I) (is_unit : U → List ℕ → List ℕ → Type 0)
-    → ((unit : U) (p b : List ℕ) (given : List (Option I)) → is_unit unit p b → IsStrictlySortedBy fault_cmp (m.faults p b given))
-    → (files : Files U I) (q : List ℕ) (faults : List Fault) (file : KeptFile U I) → AllKept m is_unit files → AllChecked m (folder_of files) files → Some file ≡ file_at files q → faults ≡ file.faults.items
+pub order_kept : {U I : Type 0} (m : Meaning I)
+    → ((p b : List ℕ) (given : List (Option I)) → IsStrictlySortedBy fault_cmp (m.faults p b given))
+    → (files : Files U I) (q : List ℕ) (faults : List Fault) (file : KeptFile U I) → AllChecked m (folder_of files) files → Some file ≡ file_at files q → faults ≡ file.faults.items
     → IsStrictlySortedBy fault_cmp faults
-order_kept m is_unit law files q faults file kept checked found same =
-    let one : IsKept m is_unit q file = kept_at m is_unit files q file kept (sym found) in
-    subst (IsStrictlySortedBy fault_cmp) (sym (same ∙ list_kept m files q file checked found)) (law file.unit q file.bytes.items (answers m (folder_of files) q file.bytes.items) one.unit)
+order_kept m law files q faults file checked found same =
+    subst (IsStrictlySortedBy fault_cmp) (sym (same ∙ list_kept m files q file checked found)) (law q file.bytes.items (answers m (folder_of files) q file.bytes.items))
 
 -- the faults that are kept at a path lie in the file
 pub spans_kept : {U I : Type 0} (m : Meaning I) (is_unit : U → List ℕ → List ℕ → Type 0)
-    → ((unit : U) (p b : List ℕ) (given : List (Option I)) → is_unit unit p b → AllByRecursion (λ (fault : Fault). LiesIn (length b) fault.span) (m.faults p b given))
+    → ((p b : List ℕ) (given : List (Option I)) → length b ≤ 1048576 → AllByRecursion (λ (fault : Fault). LiesIn (length b) fault.span) (m.faults p b given))
     → (files : Files U I) (q b : List ℕ) (faults : List Fault) (file : KeptFile U I) → AllKept m is_unit files → AllChecked m (folder_of files) files → Some file ≡ file_at files q → bytes_at (folder_of files) q ≡ Some b → faults ≡ file.faults.items
     → AllByRecursion (λ (fault : Fault). LiesIn (length b) fault.span) faults
 spans_kept m is_unit law files q b faults file kept checked found there same =
@@ -100,7 +99,7 @@ spans_kept m is_unit law files q b faults file kept checked found there same =
     let list : file.faults.items ≡ m.faults q file.bytes.items (answers m (folder_of files) q file.bytes.items) = list_kept m files q file checked found in
     let P : List Fault → Type 0 = λ l. AllByRecursion (λ (fault : Fault). LiesIn (length b) fault.span) l in
     let Q : List ℕ → Type 0 = λ x. AllByRecursion (λ (fault : Fault). LiesIn (length x) fault.span) (m.faults q file.bytes.items (answers m (folder_of files) q file.bytes.items)) in
-    subst P (sym (same ∙ list)) (subst Q bytes (law file.unit q file.bytes.items (answers m (folder_of files) q file.bytes.items) one.unit))
+    subst P (sym (same ∙ list)) (subst Q bytes (law q file.bytes.items (answers m (folder_of files) q file.bytes.items) one.small))
 
 pub any_found : {X : Type 0} (T : X → Bool) (xs : List X) (i : ℕ) (x : X) → slice_get xs i ≡ Some x → T x ≡ true → list_any T xs ≡ true
 any_found T [] i x h t = absurd (wrong h)

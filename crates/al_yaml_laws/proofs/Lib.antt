@@ -1,0 +1,11 @@
+pub mod Standing
+pub mod PlainRest
+pub mod QuotedRest
+pub mod BlockRest
+pub mod ScalarSpans
+pub mod SpanReading
+pub mod SpanLines
+pub mod SpanFlow
+pub mod SpanKeys
+pub mod SpanBlocks
+pub mod SpanRoot

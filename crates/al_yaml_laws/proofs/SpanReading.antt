@@ -1,0 +1,159 @@
+-- What a reading gives lies in the file: its value keeps to what is said of it, and its fault and its starts lie in the file.
+-- Anchors and aliases are switched off, so no node lies at an anchor elsewhere.
+use Rattle.std.proofs.Common.{◌≡◌, ℕ, ◌≤◌, List, [], ◌∷◌, ◌++◌, refl, arith, Bool, true, false, if◌then◌else◌, Option, Some, None, Result, Ok, Err}
+use Rattle.al_text.specs.declared.codes.YamlCode.{YamlCode}
+use Rattle.al_text.specs.declared.codes.YamlCode.TheVariants as yaml
+use Rattle.al_scalar.specs.Line.{Line}
+use Rattle.al_scalar.specs.Scalar.{empty_scalar, span}
+use Rattle.al_scalar.specs.Taken.{Fault}
+use Rattle.al_yaml.specs.Content.{unless}
+use Rattle.al_yaml.specs.Flow.{empty_node}
+use Rattle.al_yaml.specs.Node.{Node, Nodes, Entries, scalar, sequence, mapping, no_nodes, item, with_item, no_entries, entry, with_entry, scalar_node, span_of}
+use Rattle.al_yaml.specs.Reading.{Start, Known, Outcome, Reading, gives, fails, given, next, ◌>>=◌, listed, start_of, with_aliases, Part, part, spanned}
+use Rattle.al_yaml.specs.Spans.{IsPlacedIn, ArePlacedIn, EntriesPlacedIn}
+use Rattle.al_yaml.proofs.SpanLemmas.{bounds_in, wider_in}
+use Rattle.al_scalar.specs.Scalar.{ScalarRead}
+use Rattle.al_yaml_laws.proofs.ScalarSpans.{Answers, ReadIn}
+use Rattle.al_yaml_laws.proofs.Standing.{Stand, low-in}
+
+module _ (size : ℕ) where
+  abbrev pub StartsIn : List Start → Type 0
+  StartsIn [] = Unit {0}
+  StartsIn (s ∷ ss) = (s.at ≤ size) × StartsIn ss
+
+  starts-join : (xs ys : List Start) → StartsIn xs → StartsIn ys → StartsIn (xs ++ ys)
+  starts-join [] ys h k = k
+  starts-join (x ∷ xs) ys h k = (h.0, starts-join xs ys h.1 k)
+
+-- the value of an outcome keeps to P, or its fault lies in the file; so do the starts, and aliases stay switched off
+pub record Keeps (size : ℕ) {A : Type 0} (P : A → Type 0) (o : Outcome A) : Type 0 where
+  pub answers : Answers size P o.answer
+  pub starts : StartsIn size o.starts
+  pub knows : o.known.aliases ≡ false
+
+module _ (size : ℕ) where
+  -- the same of what is read without aliases
+  abbrev pub Gives : {A : Type 0} → (A → Type 0) → Reading A → Type 0
+  Gives P r = (known : Known) → known.aliases ≡ false → Keeps size P (r known)
+
+  pub gives-value : {A : Type 0} (P : A → Type 0) (x : A) → P x → Gives P (gives x)
+  gives-value P x h known k = record { answers = h; starts = tt; knows = k }
+
+  pub gives-fault : {A : Type 0} (P : A → Type 0) (code : YamlCode) (at : ℕ) → at ≤ size → Gives P (fails code at)
+  gives-fault P code at a known k = record { answers = a; starts = tt; knows = k }
+
+  pub gives-answer : {A : Type 0} (P : A → Type 0) (r : Result A Fault) → Answers size P r → Gives P (given r)
+  gives-answer P r h known k = record { answers = h; starts = tt; knows = k }
+
+  next-keeps : {A B : Type 0} (P : A → Type 0) (Q : B → Type 0) (o : Outcome A) (f : A → Reading B) → Keeps size P o → ((x : A) → P x → Gives Q (f x)) → Keeps size Q (next o f)
+  next-keeps {A} {B} P Q o f h k = by-answer o.answer h.answers
+    where
+      by-answer : (a : Result A Fault) → Answers size P a → Keeps size Q (next (record { starts = o.starts; answer = a; known = o.known }) f)
+      by-answer (Err e) p = record { answers = p; starts = h.starts; knows = h.knows }
+      by-answer (Ok x) p = let m = k x p o.known h.knows in record { answers = m.answers; starts = starts-join size o.starts (f x o.known).starts h.starts m.starts; knows = m.knows }
+
+  pub gives-then : {A B : Type 0} (P : A → Type 0) (Q : B → Type 0) (r : Reading A) (f : A → Reading B) → Gives P r → ((x : A) → P x → Gives Q (f x)) → Gives Q (r >>= f)
+  gives-then P Q r f h k known u = next-keeps P Q (r known) f (h known u) k
+
+  pub gives-listed : {A : Type 0} (P : A → Type 0) (s : Start) (r : Reading A) → s.at ≤ size → Gives P r → Gives P (listed s r)
+  gives-listed P s r a h known u = let m = h known u in record { answers = m.answers; starts = (a, m.starts); knows = m.knows }
+
+  -- an anchor or alias is a fault
+  pub gives-no_alias : {A : Type 0} (P : A → Type 0) (at : ℕ) (r : Reading A) → at ≤ size → Gives P (with_aliases at r)
+  gives-no_alias P at r a known u = by-flag known.aliases u
+    where
+      by-flag : (b : Bool) → b ≡ false → Keeps size P (if b then r known else fails yaml.AnchorOrAlias at known)
+      by-flag true e = absurd cc
+      by-flag false e = gives-fault P yaml.AnchorOrAlias at a known u
+
+  pub gives-unless : {A : Type 0} (P : A → Type 0) (o : Option YamlCode) (at : ℕ) (r : Reading A) → at ≤ size → Gives P r → Gives P (unless o at r)
+  gives-unless P None at r a h = h
+  gives-unless P (Some code) at r a h = gives-fault P code at a
+
+  keeps-also : {A : Type 0} (P Q : A → Type 0) (o : Outcome A) → ((x : A) → P x → Q x) → Keeps size P o → Keeps size Q o
+  keeps-also {A} P Q o f h = record { answers = by-answer o.answer h.answers; starts = h.starts; knows = h.knows }
+    where
+      by-answer : (a : Result A Fault) → Answers size P a → Answers size Q a
+      by-answer (Err e) p = p
+      by-answer (Ok x) p = f x p
+
+  pub gives-also : {A : Type 0} (P Q : A → Type 0) (r : Reading A) → ((x : A) → P x → Q x) → Gives P r → Gives Q r
+  gives-also P Q r f h known u = keeps-also P Q (r known) f (h known u)
+
+  -- ---- what was read lies behind an offset, and the lines left stand behind its end
+
+  abbrev pub NodeIn : ℕ → Part Node → Type 0
+  NodeIn low p = IsPlacedIn size low p.end p.value × Stand size p.end p.left
+
+  abbrev pub NodesIn : ℕ → Part Nodes → Type 0
+  NodesIn low p = (low ≤ p.end) × ArePlacedIn size low p.end p.value × Stand size p.end p.left
+
+  abbrev pub EntriesIn : ℕ → Part Entries → Type 0
+  EntriesIn low p = (low ≤ p.end) × EntriesPlacedIn size low p.end p.value × Stand size p.end p.left
+
+  pub node-lower : (low low' : ℕ) (p : Part Node) → low' ≤ low → NodeIn low p → NodeIn low' p
+  node-lower low low' p a h = (wider_in size low p.end low' p.end p.value a (omega arith) h.0, h.1)
+
+  pub gives-lower : (low low' : ℕ) (r : Reading (Part Node)) → low' ≤ low → Gives (NodeIn low) r → Gives (NodeIn low') r
+  gives-lower low low' r a h = gives-also (NodeIn low) (NodeIn low') r (λ p k. node-lower low low' p a k) h
+
+  -- a node ends behind where it may begin
+  pub over : (low high : ℕ) (n : Node) → IsPlacedIn size low high n → low ≤ high
+  over low high n h = let b = bounds_in size low high n h in omega (arith, b.from, b.ordered, b.to)
+
+  -- ---- the empty node
+
+  empty-placed : (low at : ℕ) → low ≤ at → IsPlacedIn size low at (scalar (empty_scalar at) (span at at))
+  empty-placed low at a = (record { from = a; ordered = omega arith; to = omega arith }, record { end = refl; rising = omega arith; before = tt; small = omega arith })
+
+  pub empty-in : (low at : ℕ) (ls : List Line) → low ≤ at → Stand size at ls → Gives (NodeIn low) (empty_node at ls)
+  empty-in low at ls a h =
+      gives-listed (NodeIn low) (start_of at 1 0) (gives (part (scalar (empty_scalar at) (span at at)) at ls)) (low-in size at ls h)
+      (gives-value (NodeIn low) (part (scalar (empty_scalar at) (span at at)) at ls) (empty-placed low at a, h))
+
+  -- the empty node at the file's end
+  pub end-in : (ls : List Line) → Stand size 0 ls → Gives (λ (p : Part Node). IsPlacedIn size 0 size p.value × Stand size 0 p.left) (empty_node size ls)
+  end-in ls h =
+      let RootIn : Part Node → Type 0 = λ (p : Part Node). IsPlacedIn size 0 size p.value × Stand size 0 p.left in
+      gives-listed RootIn (start_of size 1 0) (gives (part (scalar (empty_scalar size) (span size size)) size ls)) (omega arith)
+      (gives-value RootIn (part (scalar (empty_scalar size) (span size size)) size ls) (empty-placed 0 size (omega arith), h))
+
+  -- ---- collections from their start to their end
+
+  pub sequence-in : (low at : ℕ) (r : Reading (Part Nodes)) → low ≤ at → Gives (NodesIn at) r → Gives (NodeIn low) (spanned sequence at r)
+  sequence-in low at r a h =
+      gives-then (NodesIn at) (NodeIn low) r (λ (p : Part Nodes). gives (part (sequence p.value (span at p.end)) p.end p.left)) h
+      (λ p k. gives-value (NodeIn low) (part (sequence p.value (span at p.end)) p.end p.left) ((record { from = a; ordered = k.0; to = omega arith }, k.1), k.2))
+
+  pub mapping-in : (low at : ℕ) (r : Reading (Part Entries)) → low ≤ at → Gives (EntriesIn at) r → Gives (NodeIn low) (spanned mapping at r)
+  mapping-in low at r a h =
+      gives-then (EntriesIn at) (NodeIn low) r (λ (p : Part Entries). gives (part (mapping p.value (span at p.end)) p.end p.left)) h
+      (λ p k. gives-value (NodeIn low) (part (mapping p.value (span at p.end)) p.end p.left) ((record { from = a; ordered = k.0; to = omega arith }, k.1), k.2))
+
+  -- ---- one more behind those that end before an offset
+
+  item-placed : (low at high : ℕ) (ns : Nodes) (n : Node) → low ≤ at → at ≤ high → ArePlacedIn size low at ns → IsPlacedIn size at high n → ArePlacedIn size low high (with_item ns n)
+  item-placed low at high no_nodes n a b h x = (wider_in size at high low high n a (omega arith) x, tt)
+  item-placed low at high (item m ms) n a b h x = (wider_in size low at low high m (omega arith) b h.0, item-placed (span_of m).end at high ms n (bounds_in size low at m h.0).to b h.1 x)
+
+  entry-placed : (low at high : ℕ) (es : Entries) (k v : Node) → low ≤ at → at ≤ high → EntriesPlacedIn size low at es → IsPlacedIn size at high k → IsPlacedIn size (span_of k).end high v
+      → EntriesPlacedIn size low high (with_entry es k v)
+  entry-placed low at high no_entries k v a b h x y = (wider_in size at high low high k a (omega arith) x, y, tt)
+  entry-placed low at high (entry l w es) k v a b h x y = (
+    wider_in size low at low high l (omega arith) b h.0,
+    wider_in size (span_of l).end at (span_of l).end high w (omega arith) b h.1,
+    entry-placed (span_of w).end at high es k v (bounds_in size (span_of l).end at w h.1).to b h.2 x y,
+  )
+
+  pub more-items : (low at : ℕ) (done : Nodes) (x : Part Node) → low ≤ at → ArePlacedIn size low at done → NodeIn at x → (low ≤ x.end) × ArePlacedIn size low x.end (with_item done x.value)
+  more-items low at done x a d h =
+      let b = over at x.end x.value h.0 in
+      (omega (arith, a, b), item-placed low at x.end done x.value a b d h.0)
+
+  pub more-entries : (low at : ℕ) (done : Entries) (r : ScalarRead) (x : Part Node) → low ≤ at → EntriesPlacedIn size low at done → ReadIn size at r → NodeIn r.span.end x
+      → (low ≤ x.end) × EntriesPlacedIn size low x.end (with_entry done (scalar_node r) x.value)
+  more-entries low at done r x a d k h =
+      let b = over r.span.end x.end x.value h.0 in
+      let c = over at r.span.end (scalar_node r) k.placed in
+      let all : at ≤ x.end = omega (arith, b, c) in
+      (omega (arith, a, all), entry-placed low at x.end done (scalar_node r) x.value a all d (wider_in size at r.span.end at x.end (scalar_node r) (omega arith) b k.placed) h.0)
