@@ -8,7 +8,7 @@ import pathlib
 import re
 import sys
 
-ROW = re.compile(r"^    (?:∷ )?(row|job_row|step_row) (.+)$", re.MULTILINE)
+ROW = re.compile(r"(?:^| ∷ )(row|job_row|step_row) ")
 LIST = re.compile(r"^(of_\w+|status) = (.+)$", re.MULTILINE)
 NAME = re.compile(r'codes "([^"]+)"')
 TYPES = {"Any": "any", "Bool'": "bool", "Number": "number", "String": "string"}
@@ -50,17 +50,20 @@ def availability(text):
     lists = {}
     for name, right in LIST.findall(text):
         lists[name] = names_in(right, lists)
-    start = text.index("\ntable =\n")
-    table = text[start : text.index("\n    ∷ []", start)]
-    lines = [line for line in table.splitlines() if "codes" in line]
+    start = text.index("\ntable =\n") + len("\ntable =\n")
+    # A row may stand on several lines.
+    before, *found = ROW.split(" ".join(text[start : text.index("\n    ∷ []", start)].split()))
     rows = ""
-    for form, rest in ROW.findall(table):
-        path, contexts, special = parts_of(rest)
+    for form, rest in zip(found[::2], found[1::2]):
+        parts = parts_of(rest)
+        if len(parts) != 3:
+            sys.exit(f"a row of the table isn't read: {form} {rest}")
+        path, contexts, special = parts
         shown = [name.lower() for name in names_in(contexts, lists)]
         functions = [FUNCTIONS.get(name, name.lower()) for name in names_in(special, lists)]
         cells = path_of(form, path), ", ".join(shown), ", ".join(functions)
         rows += "| `{}` | {} | {} |\n".format(*cells).replace("|  |", "| |")
-    if rows.count("\n") != len(lines) or not lines:
+    if before or not rows:
         sys.exit("a row of the table isn't read")
     return AVAILABILITY + rows
 
