@@ -1,45 +1,125 @@
-/* Counts the growths of a program, and refuses the one that GROWTH names: see tests/growths.py. */
+/* Counts the growths of a program, refuses those that GROWTH names, and notes the calls that growths stand under: see tests/growths.py.
+
+   GROWTH is a growth's number, or 5- for the fifth and all behind it. GROWTH_FRAMES names a file of the program's calls in order, each
+   where it returns to and how far the stack's top then is below the return address of the function that calls. At the end goes to standard
+   error how many growths there were, and under which calls those that were refused stood, or, where none is to be, all of them. */
 #define _GNU_SOURCE
 #include <dlfcn.h>
 #include <errno.h>
+#include <fcntl.h>
+#include <link.h>
 #include <stdio.h>
 #include <stdlib.h>
+#include <sys/mman.h>
+#include <sys/stat.h>
 
-static unsigned long growths;
+struct frame {
+  unsigned int back, depth;
+};
 
-/* whether this growth is the one to refuse */
-static int refused(void) {
-  const char *which = getenv("GROWTH");
-  growths++;
-  if (which == NULL || strtoul(which, NULL, 10) != growths) return 0;
-  errno = ENOMEM;
+static unsigned long growths, first;
+static int more, started;
+static const struct frame *frames;
+static size_t count, program, lost;
+static unsigned char *seen;
+
+/* takes the first object, which is the program */
+static int take_program(struct dl_phdr_info *object, size_t size, void *unused) {
+  (void)size, (void)unused;
+  program = object->dlpi_addr;
   return 1;
 }
+
+/* Nothing here asks the allocator. */
+static void read_frames(const char *name) {
+  struct stat file;
+  int from = open(name, O_RDONLY);
+  if (from < 0 || fstat(from, &file) != 0) abort();
+  count = (size_t)file.st_size / sizeof *frames;
+  frames = mmap(NULL, (size_t)file.st_size, PROT_READ, MAP_PRIVATE, from, 0);
+  seen = mmap(NULL, count, PROT_READ | PROT_WRITE, MAP_PRIVATE | MAP_ANONYMOUS, -1, 0);
+  if (frames == MAP_FAILED || seen == MAP_FAILED) abort();
+  dl_iterate_phdr(take_program, NULL);
+}
+
+static void start(void) {
+  const char *which = getenv("GROWTH"), *name = getenv("GROWTH_FRAMES");
+  char *rest;
+  started = 1;
+  if (which != NULL) {
+    first = strtoul(which, &rest, 10);
+    more = *rest == '-';
+  }
+  if (name != NULL) read_frames(name);
+}
+
+/* the number of the call that returns there, or count */
+static size_t call_of(size_t back) {
+  size_t low = 0, high = count;
+  while (low < high) {
+    size_t middle = low + (high - low) / 2;
+    if (frames[middle].back < back) low = middle + 1;
+    else high = middle;
+  }
+  return low < count && frames[low].back == back ? low : count;
+}
+
+/* Notes the calls on the stack, from the place of a return address on, as far as the program goes. */
+static void note(const size_t *at) {
+  for (;;) {
+    size_t back = *at - program, call = call_of(back);
+    if (call == count) {
+      if (back <= frames[count - 1].back) lost = back;
+      return;
+    }
+    seen[call] = 1;
+    at += 1 + frames[call].depth / sizeof *at;
+  }
+}
+
+/* whether this growth, asked for by a call whose return address stands there, is one to refuse */
+static int refused(const size_t *at) {
+  int is_refused;
+  if (!started) start();
+  growths++;
+  is_refused = first != 0 && (growths == first || (more && growths > first));
+  if (frames != NULL && (first == 0 || is_refused)) note(at);
+  if (is_refused) errno = ENOMEM;
+  return is_refused;
+}
+
+/* where the return address of a function stands */
+#define RETURN ((size_t *)__builtin_frame_address(0) + 1)
 
 void *malloc(size_t size) {
   static void *(*next)(size_t);
   if (next == NULL) next = dlsym(RTLD_NEXT, "malloc");
-  return refused() ? NULL : next(size);
+  return refused(RETURN) ? NULL : next(size);
 }
 
 void *realloc(void *old, size_t size) {
   static void *(*next)(void *, size_t);
   if (next == NULL) next = dlsym(RTLD_NEXT, "realloc");
-  return refused() ? NULL : next(old, size);
+  return refused(RETURN) ? NULL : next(old, size);
 }
 
 void *aligned_alloc(size_t align, size_t size) {
   static void *(*next)(size_t, size_t);
   if (next == NULL) next = dlsym(RTLD_NEXT, "aligned_alloc");
-  return refused() ? NULL : next(align, size);
+  return refused(RETURN) ? NULL : next(align, size);
 }
 
 int posix_memalign(void **where, size_t align, size_t size) {
   static int (*next)(void **, size_t, size_t);
   if (next == NULL) next = dlsym(RTLD_NEXT, "posix_memalign");
-  return refused() ? ENOMEM : next(where, align, size);
+  return refused(RETURN) ? ENOMEM : next(where, align, size);
 }
 
 __attribute__((destructor)) static void tell(void) {
-  fprintf(stderr, "growths %lu\n", growths);
+  fprintf(stderr, "growths %lu", growths);
+  for (size_t call = 0; call < count; call++) {
+    if (seen[call]) fprintf(stderr, " %x", frames[call].back);
+  }
+  if (lost != 0) fprintf(stderr, " lost %zx", lost);
+  fprintf(stderr, "\n");
 }

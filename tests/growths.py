@@ -1,72 +1,124 @@
-"""Growths of the linter, each refused in turn: growths.py, after ./test, or after `rt test` in crates/al_tests and a build of
-crates/actionlint. Needs a C compiler.
+"""Growths of the linter, each refused in turn: growths.py [--choose], after ./test, or after `rt test` in crates/al_tests and a build of
+crates/actionlint. Needs a C compiler and objdump.
 
-A library of tests/growths.c that is loaded before a program counts its growths, and refuses the one that it is told.
+A library of tests/growths.c that is loaded before a program counts its growths, refuses those that it is told, and notes the places of
+the program (tests/places.py) that they stand under.
 
 - A test of ten edits in a session (crates/al_tests) runs with each of its growths refused: each refused edit leaves all as it was, and
   is accepted when it is made again, and a report stops before its first byte or is whole.
-- The same edits as a script of the program, with a report behind each, and the folders of examples/: a run whose growth is refused
-  says that memory ran out, and its output is a front of the whole. The kit's `collect` asks for room ahead, and goes on without it: such
-  a run is the whole one.
+- The runs that tests/growth-runs names, the same edits as a script with a report behind each and the folders of examples/ among them,
+  with each growth refused, and with each and all behind it: a run says that memory ran out, and its output is a front of the whole. The
+  kit's `collect` asks for room ahead, and goes on without it: such a run is the whole one.
+- Each place that any run of tests/corpus.py reaches is one under which a growth of these runs was refused. With --choose the runs are
+  chosen anew, and nothing else is done. The places of the project's crates under which no growth was refused are printed.
 - The growths of one edit are counted, of other bytes for an action that a workflow calls, beside 1,000 workflows that call absent
   actions and alone: beside the others it makes at most 64 more.
 """
 
+import collections
+import concurrent.futures
 import os
 import pathlib
 import re
 import subprocess
 import sys
 import tempfile
+import typing
 
+from corpus import TOP, all_runs
+from places import Places
 from running import CALLED, CALLER, CLEAN, SCRIPT, WORKFLOWS, put
 
-TOP = pathlib.Path(__file__).resolve().parent.parent
 PROGRAM = TOP / "crates" / "actionlint" / "out" / "actionlint"
 TESTS = TOP / "crates" / "al_tests" / "out" / "al_tests_tests"
 EDITS = "edits::edits_refused_for_memory_change_nothing"
-TEN_EDITS = TOP / "tests" / "cases" / "incremental-ten-edits"
-FOLDERS = ["release", "slips", "nightly", "calls"]
+TEN_EDITS = "tests/cases/incremental-ten-edits"
+CHOSEN = TOP / "tests" / "growth-runs"
 NO_MEMORY = b"actionlint: out of memory\n"
 MOST = 64
 BESIDE = 1_000
 
 
-class Growths:
-    """Runs programs whose growths are counted."""
+class Ran(typing.NamedTuple):
+    """What a run did: its status, output and errors, how many growths it made, and the places that they stood under."""
 
-    def __init__(self, folder):
+    status: int
+    out: bytes
+    errors: bytes
+    growths: int
+    places: frozenset
+
+    def says(self):
+        """What a user sees of it."""
+        return self.status, self.out, self.errors
+
+
+class Refusals(typing.NamedTuple):
+    """What runs with growths refused did: how many growths there are, how many of the runs ended otherwise than the whole one, which of
+    them wrongly, and the places under which a growth was refused."""
+
+    growths: int
+    stopped: int
+    wrong: list
+    places: frozenset
+
+
+class Growths:
+    """Runs a program whose growths are counted, and noted if its frames are told."""
+
+    def __init__(self, folder, program, frames=None):
+        self.program, self.frames = program, pathlib.Path(folder) / "frames"
         self.library = pathlib.Path(folder) / "growths.so"
         source = pathlib.Path(__file__).resolve().parent / "growths.c"
         subprocess.run(["cc", "-O1", "-shared", "-fPIC", "-o", self.library, source], check=True)
+        self.env = {**os.environ, "LD_PRELOAD": str(self.library)}
+        if frames is not None:
+            self.frames.write_bytes(frames)
+            self.env["GROWTH_FRAMES"] = str(self.frames)
 
-    def run(self, words, stdin=b"", refused=0):
-        """The status, output and errors of a run with this growth refused, if it is above 0, and how many growths it makes."""
-        env = {**os.environ, "LD_PRELOAD": str(self.library), "GROWTH": str(refused)}
-        done = subprocess.run(words, input=stdin, env=env, capture_output=True, check=False)
-        errors, _, count = done.stderr.rpartition(b"growths ")
-        return (done.returncode, done.stdout, errors), int(count)
+    def run(self, words, stdin=b"", refused="0"):
+        """A run with these growths refused: those that tests/growths.c takes the text for."""
+        env = {**self.env, "GROWTH": refused}
+        done = subprocess.run([self.program, *words], input=stdin, env=env, capture_output=True, check=False)
+        errors, _, told = done.stderr.rpartition(b"growths ")
+        count, *places = told.split()
+        if b"lost" in places:
+            sys.exit(f"a stack of {words} isn't understood: {told[-40:]}")
+        return Ran(done.returncode, done.stdout, errors, int(count), frozenset(int(it, 16) for it in places))
 
-    def each(self, words, stdin, holds):
-        """How many growths a run makes, with how many of them refused it ends otherwise, and those of which this doesn't hold then."""
-        whole, count = self.run(words, stdin)
-        runs = [(it, self.run(words, stdin, it)[0]) for it in range(1, count + 1)]
-        others = [(it, ran) for it, ran in runs if ran != whole]
-        return count, len(others), [it for it, ran in others if not holds(ran, whole)]
+    def each(self, words, stdin, ways, holds):
+        """Refuses each growth of a run, in these ways; a run that ends otherwise than the whole one is wrong where this doesn't hold."""
+        whole = self.run(words, stdin)
+
+        def refuse(which):
+            ran = self.run(words, stdin, which)
+            ended = "whole" if ran.says() == whole.says() else "right" if holds(ran, whole) else "wrong"
+            return which, ended, ran.places
+
+        ends = in_turn(refuse, [way % number for number in range(1, whole.growths + 1) for way in ways])
+        wrong = [which for which, ended, _ in ends if ended == "wrong"]
+        stopped = sum(ended != "whole" for _, ended, _ in ends)
+        return Refusals(whole.growths, stopped, wrong, frozenset().union(*(places for _, _, places in ends)))
 
     def of_script(self, commands):
         """How many growths a script makes."""
-        return self.run([PROGRAM, *SCRIPT], b"".join(commands))[1]
+        return self.run(SCRIPT, b"".join(commands)).growths
+
+
+def in_turn(function, values):
+    """What a function answers of each value, on all processors."""
+    with concurrent.futures.ThreadPoolExecutor(os.cpu_count()) as pool:
+        return list(pool.map(function, values))
 
 
 def passes(ran, _):
     """Whether a test passed."""
-    return ran[0] == 0
+    return ran.status == 0
 
 
 def stops(ran, whole):
     """Whether a run stopped for memory, its output a front of the whole."""
-    return (ran[0], ran[2]) == (3, NO_MEMORY) and whole[1].startswith(ran[1])
+    return (ran.status, ran.errors) == (3, NO_MEMORY) and whole.out.startswith(ran.out)
 
 
 def commands_in(script):
@@ -80,18 +132,58 @@ def commands_in(script):
     return [it for it in found if it != b"report\n"]
 
 
-def refused_in_turn(growths):
-    """Prints how many growths the tests, the script and the folders make, and what went wrong; answers whether nothing did."""
-    script = TEN_EDITS.read_bytes()
-    count, _, wrong = growths.each([TESTS, EDITS], b"", passes)
-    print(f"ten edits in a session: {count} growths, each refused in turn; wrong: {wrong}", flush=True)
-    well = count > 0 and not wrong
-    runs = [("ten edits as a script", SCRIPT, script)]
-    runs += [(f"the folder examples/{it}", ["--root", TOP / "examples" / it], b"") for it in FOLDERS]
-    for name, words, stdin in runs:
-        count, stopped, wrong = growths.each([PROGRAM, *words], stdin, stops)
-        print(f"{name}: {count} growths, each refused in turn; {stopped} runs stop; wrong: {wrong}", flush=True)
-        well = well and 0 < stopped and not wrong
+def chosen(reached):
+    """The names of runs that together reach each place that any reaches: the ten edits and the folders, then each time the one that
+    reaches the most new places for its growths; without those that the others make needless."""
+    found = [it for it in reached if it.startswith("examples/") or it == TEN_EDITS]
+    count = len(found)
+    left = set().union(*(it.places for it in reached.values())).difference(*(reached[it].places for it in found))
+    while left:
+        found.append(max(reached, key=lambda it: len(reached[it].places & left) / reached[it].growths))
+        left -= reached[found[-1]].places
+    for name in found[count:]:
+        others = [it for it in found if it != name]
+        if reached[name].places <= set().union(*(reached[it].places for it in others)):
+            found = others
+    return found
+
+
+def tell_places(names, refused):
+    """Prints how many places each of the project's crates has, under how many of them a growth was refused, and what is left, by function.
+    """
+    project = {line.split(":")[0] for line in (TOP / "crates.txt").read_text().split("\n") if ":" in line}
+    crates = collections.Counter(name.split("::")[0] for name in names.values())
+    those = collections.Counter(names[it].split("::")[0] for it in refused)
+    for crate in sorted(crates):
+        print(f"  {crate}: {crates[crate]} places, a growth refused under {those[crate]}")
+    left = collections.Counter(name for place, name in names.items() if place not in refused and name.split("::")[0] in project)
+    print("places of the project's crates under which no growth was refused:", sum(left.values()))
+    for name, count in sorted(left.items()):
+        print(f"  {count} of {name}")
+
+
+def refused_in_turn(growths, runs, names):
+    """Refuses the growths of the runs named, and prints what went wrong; answers whether nothing did, and the places."""
+    well, total, places = True, 0, set()
+    for name in names:
+        done = growths.each(*runs[name], ["%d", "%d-"], stops)
+        print(f"{name}: {done.growths} growths, each refused; {done.stopped} runs stop; wrong: {done.wrong}", flush=True)
+        well = well and 0 < done.stopped and not done.wrong
+        total += done.growths
+        places |= done.places
+    print(f"{len(names)} runs: {total} growths, each refused by itself, and with all behind it")
+    return well, places
+
+
+def refused_everywhere(growths, runs, names, places):
+    """Refuses growths at all places that any run reaches; answers whether nothing went wrong, and no place lacks."""
+    reached = dict(zip(runs, in_turn(lambda it: growths.run(*runs[it]), runs)))
+    well, refused = refused_in_turn(growths, runs, names)
+    tell_places(places.names, refused)
+    for place in sorted(set().union(*(it.places for it in reached.values())) - refused):
+        name = next(it for it, ran in reached.items() if place in ran.places)
+        print(f"{name} reaches a place of {places.names.get(place)} that no chosen run does: choose anew")
+        well = False
     return well
 
 
@@ -104,9 +196,9 @@ def growths_of_an_edit(growths, count):
     return growths.of_script([*before, edit]) - growths.of_script(before)
 
 
-def counted(growths):
+def counted(growths, script):
     """Prints the growths of each edit; answers whether one edit makes few more beside many files."""
-    edits = commands_in(TEN_EDITS.read_bytes())
+    edits = commands_in(script)
     sums = [growths.of_script(edits[:count]) for count in range(len(edits) + 1)]
     print("growths of each of the ten edits:", *(after - before for before, after in zip(sums, sums[1:])))
     alone, beside = growths_of_an_edit(growths, 0), growths_of_an_edit(growths, BESIDE)
@@ -114,12 +206,26 @@ def counted(growths):
     return 0 < alone and beside <= alone + MOST
 
 
-def main():
-    """Counts and refuses; the status is 1 where a run went wrong or an edit makes too many growths."""
+def in_a_session(growths):
+    """Refuses each growth of ten edits; answers whether nothing went wrong."""
+    done = growths.each([EDITS], b"", ["%d"], passes)
+    print(f"ten edits in a session: {done.growths} growths, each refused in turn; wrong: {done.wrong}", flush=True)
+    return done.growths > 0 and not done.wrong
+
+
+def main(words):
+    """Counts and refuses; the status is 1 where a run went wrong, a place lacks or an edit makes too many growths."""
+    runs, places = all_runs(), Places(PROGRAM)
     with tempfile.TemporaryDirectory() as folder:
-        growths = Growths(folder)
-        return 0 if [refused_in_turn(growths), counted(growths)] == [True, True] else 1
+        growths = Growths(folder, PROGRAM, places.frames)
+        if words == ["--choose"]:
+            reached = dict(zip(runs, in_turn(lambda it: growths.run(*runs[it]), runs)))
+            CHOSEN.write_text("".join(f"{it}\n" for it in chosen(reached)))
+            return 0
+        names = CHOSEN.read_text().split("\n")[:-1]
+        parts = [in_a_session(Growths(folder, TESTS)), refused_everywhere(growths, runs, names, places)]
+        return 0 if all([*parts, counted(growths, runs[TEN_EDITS][1])]) else 1
 
 
 if __name__ == "__main__":
-    sys.exit(main())
+    sys.exit(main(sys.argv[1:]))

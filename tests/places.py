@@ -1,0 +1,138 @@
+"""The places of a program where it asks for memory, read from its machine code.
+
+A place is a call that can lead to the allocator: one of a function that is the allocator, or that calls or jumps to such a function. There
+a want of memory comes back, and what follows hands it on. The code is compiled with no frame pointers and says nothing of how its stack
+is unwound; so for each call is found how far the stack's top is from the function's own return address then. By that tests/growths.c finds
+all calls that a growth stands under.
+
+Needs `objdump`.
+"""
+
+import re
+import struct
+import subprocess
+
+FUNCTION = re.compile(r"([0-9a-f]+) <(.*)>:")
+INSTRUCTION = re.compile(r" +([0-9a-f]+):\t(?:(?:notrack|bnd|data16|cs|rep|repz|repnz|lock) )*(\S+) *([^#]*)")
+STEP = re.compile(r"\$0x([0-9a-f]+),%rsp")
+FROM_FRAME = re.compile(r"-0x([0-9a-f]+)\(%rbp\),%rsp")
+ALLOCATOR = {f"{name}@plt" for name in ("malloc", "realloc", "calloc", "aligned_alloc", "posix_memalign")}
+ENDS = {"ret", "ud2", "int3", "hlt"}
+FILLING = {"nop", "nopw", "nopl", "int3", "xchg", "ud2"}
+HASH = re.compile(r"::<#[0-9a-f]+>")
+
+
+def signed(digits):
+    """The number that a constant of 64 bits stands for."""
+    value = int(digits, 16)
+    return value - (1 << 64) if value >> 63 else value
+
+
+def functions_of(program):
+    """The functions of a program: of each its start, its name and its instructions, each with its address, word and operands."""
+    words = ["objdump", "-d", "--no-show-raw-insn", "-j", ".text", "-j", ".plt", program]
+    found = []
+    for line in subprocess.run(words, capture_output=True, text=True, check=True).stdout.split("\n"):
+        if match := FUNCTION.fullmatch(line):
+            found.append((int(match[1], 16), match[2], []))
+        elif match := INSTRUCTION.match(line):
+            found[-1][2].append((int(match[1], 16), match[2], match[3].strip()))
+    return found
+
+
+def moved(state, word, rest):
+    """The state behind an instruction: how far the stack's top is below the function's return address, and how far %rbp is, where it was
+    made a frame's."""
+    depth, frame = state
+    if word.startswith("push"):
+        return depth + 8, frame
+    if word.startswith("pop"):
+        return depth - 8, frame
+    if word in ("sub", "add") and (match := STEP.fullmatch(rest)):
+        return depth + (signed(match[1]) if word == "sub" else -signed(match[1])), frame
+    if word == "lea" and (match := FROM_FRAME.fullmatch(rest)):
+        return frame + int(match[1], 16), frame
+    if word == "leave":
+        return frame - 8, frame
+    return (depth, depth) if (word, rest) == ("mov", "%rsp,%rbp") else state
+
+
+class Function:
+    """A function: the calls that it makes, each with where it returns to, the depth of the stack and what is called, and its jumps."""
+
+    def __init__(self, start, name, instructions):
+        self.start, self.name, self.instructions = start, name, instructions
+        self.index = {address: at for at, (address, _, _) in enumerate(instructions)}
+        self.states, self.calls, self.jumps, self.tables = {}, [], set(), []
+        self.walk(0, (0, 0))
+        # what no jump names is reached by a table of jumps
+        for at, (_, word, _) in enumerate(instructions):
+            if at not in self.states and self.tables and word not in FILLING:
+                self.walk(at, self.tables[0])
+
+    def walk(self, at, state):
+        """Follows the code from an instruction on."""
+        todo = [(at, state)]
+        while todo:
+            at, state = todo.pop()
+            if at < len(self.instructions) and at not in self.states:
+                self.states[at] = state
+                todo += self.step(at, state)
+
+    def step(self, at, state):
+        """What follows an instruction, with its states."""
+        _, word, rest = self.instructions[at]
+        state = moved(state, word, rest)
+        behind = [(at + 1, state)]
+        if word in ENDS:
+            return []
+        if word == "call":
+            self.calls.append((self.return_of(at), state[0], self.target(rest)))
+        if not word.startswith("j"):
+            return behind
+        behind = [] if word == "jmp" else behind
+        target = self.target(rest)
+        if target is None:
+            self.tables.append(state)
+            return behind
+        if target not in self.index:
+            self.jumps.add(target)
+            return behind
+        return [*behind, (self.index[target], state)]
+
+    def return_of(self, at):
+        """Where a call returns to."""
+        return self.instructions[at + 1][0] if at + 1 < len(self.instructions) else self.instructions[at][0] + 5
+
+    @staticmethod
+    def target(rest):
+        """The address that a call or a jump names, if it names one."""
+        return None if rest.startswith("*") else int(rest.split()[0], 16)
+
+
+def leading(functions):
+    """The starts of the functions that are the allocator or lead to it."""
+    callers = {}
+    for it in functions:
+        for target in {target for _, _, target in it.calls} | it.jumps:
+            callers.setdefault(target, []).append(it.start)
+    found = {it.start for it in functions if it.name in ALLOCATOR}
+    todo = list(found)
+    while todo:
+        new = set(callers.get(todo.pop(), ())) - found
+        found |= new
+        todo += new
+    return found
+
+
+class Places:
+    """The places of a program, each by the address that its call returns to, with the name of its function; and how deep the stack is at
+    each call, for tests/growths.c."""
+
+    def __init__(self, program):
+        functions = [Function(*it) for it in functions_of(program)]
+        growing = leading(functions)
+        self.names = {back: HASH.sub("", it.name) for it in functions for back, _, target in it.calls if target in growing}
+        depths = sorted((back, depth) for it in functions for back, depth, _ in it.calls)
+        self.frames = b"".join(struct.pack("<II", *it) for it in depths)
+        self.unnamed = sum(target is None for it in functions for _, _, target in it.calls)
