@@ -11,6 +11,7 @@ pub mod View
 pub mod Contract
 pub mod Rows
 pub mod Places
+pub mod Files
 pub mod Reads
 pub mod BlockReads
 pub mod Access

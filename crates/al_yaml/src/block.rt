@@ -2,7 +2,6 @@
 
 ghost use Rattle.al_scalar.specs.Contract.{read_of};
 ghost use Rattle.al_scalar.specs.Offsets.{IsPlaced};
-ghost use Rattle.al_scalar.specs.Places.{lines_at};
 ghost use Rattle.al_yaml.specs.BlockFrames as frames;
 ghost use Rattle.al_yaml.specs.BlockFrames.{Enters, FindsBlock, IsBlockWaitingFrom, IsEntered, IsFoundFrom, IsNextAt, IsNextBehind};
 ghost use Rattle.al_yaml.specs.BlockFrames.{IsNextInside, IsOpenAt, IsOpenFrom, IsResumed, ResumesBlock, block_open_of, block_rest};
@@ -10,6 +9,7 @@ ghost use Rattle.al_yaml.specs.BlockFrames.{block_waiting_of};
 ghost use Rattle.al_yaml.specs.BlockReads.{IsTabInside, slot_of};
 ghost use Rattle.al_yaml.specs.Blocks as block;
 ghost use Rattle.al_yaml.specs.Content as content;
+ghost use Rattle.al_yaml.specs.Files.{left_at, size};
 ghost use Rattle.al_yaml.specs.Places.{Shows, next_of, option_lines};
 ghost use Rattle.al_yaml.specs.Reads.{IsBehind, IsRead, IsStopInside, part_of};
 ghost use Rattle.al_yaml.specs.Spans.{ArePlacedIn, EntriesPlacedIn, IsPlacedIn};
@@ -20,17 +20,16 @@ use crate::block_nodes::read_node;
 use crate::content::{Next, is_dash, is_skipped, next_content};
 use crate::entries::{entry_key, no_entry};
 use crate::faults::{FaultAt, ReadError};
+use crate::file::{File, Progress};
 use crate::keys::Key;
 use crate::limits::Count;
 use crate::lines::{characters, next_line};
 use crate::node::{Entry, Node, Part, entry_of, mapping_part, scalar_node, sequence_part};
 use crate::scalars::empty_part;
 use crate::slots::{Slot, Spot, is_deeper, spot_behind};
-use crate::stack::Stack;
 use al_scalar::ScalarRead;
 use al_scalar::lines::blanks_end;
 use al_text::YamlCode;
-use std::alloc::Global;
 
 /// What was read of an open block collection: of a sequence the items before a dash, and whether it is the value of a
 /// mapping's entry; of a mapping the entries before a key, and the key.
@@ -78,8 +77,7 @@ pub enum BlockTask {
 /// Finds the node behind a dash or a colon: on the line, or else below it; or reads the empty node. The column is that of
 /// `from`.
 fn find_rest(
-    alloc: Global,
-    bytes: &[u8],
+    file: &File,
     count: &mut Count,
     slot: Slot,
     column: usize,
@@ -87,25 +85,24 @@ fn find_rest(
     rest: usize,
 ) -> Result<BlockTask, ReadError>
     requires order { from ≤ rest }
-    requires inside { rest ≤ length bytes.now }
-    requires line { content.same_line (lines_at bytes.now from) (lines_at bytes.now rest) ≡ true }
-    requires size { length bytes.now ≤ 1048576 }
+    requires inside { rest ≤ size file.now }
+    requires line { content.same_line (left_at file.now from) (left_at file.now rest) ≡ true }
     requires column { column ≤ from }
     requires within { slot.within ≤ rest + 1 }
     requires empty { slot.empty ≤ rest }
-    requires tab { IsTabInside (length bytes.now) slot.spot }
-    ensures fault { IfErr result (IsStopInside (length bytes.now)) }
-    ensures is { (node : block.BlockReader) (depth : ℕ) → FindsBlock bytes.now node depth
-        (block.rest_node node (slot_of slot) depth column (lines_at bytes.now from)
-        (lines_at bytes.now rest)) count.old.nodes result count.new.nodes }
-    ensures within { IfOk result (λ task. IsFoundFrom bytes.now rest slot.empty task) }
+    requires tab { IsTabInside (size file.now) slot.spot }
+    ensures fault { IfErr result (IsStopInside (size file.now)) }
+    ensures is { (node : block.BlockReader) (depth : ℕ) → FindsBlock file.now.bytes.now node depth
+        (block.rest_node node (slot_of slot) depth column (left_at file.now from)
+        (left_at file.now rest)) count.old.nodes result count.new.nodes }
+    ensures within { IfOk result (λ task. IsFoundFrom file.now.bytes.now rest slot.empty task) }
 {
-    if is_skipped(bytes, rest) {
-        return find_below(alloc, bytes, count, slot, next_line(bytes, rest));
+    if is_skipped(file.bytes, rest) {
+        return find_below(file, count, slot, next_line(file.bytes, rest));
     }
-    let at = blanks_end(bytes, rest);
-    let spot = spot_behind(bytes, rest, slot.spot);
-    let column = column + characters(bytes, from, at);
+    let at = blanks_end(file.bytes, rest);
+    let spot = spot_behind(file.bytes, rest, slot.spot);
+    let column = column + characters(file.bytes, from, at);
     Ok(BlockTask::Node {
         slot: Slot { spot, ..slot },
         column,
@@ -114,29 +111,22 @@ fn find_rest(
 }
 
 /// Finds the node on the next content line if that holds it, or else reads the empty node.
-fn find_below(
-    alloc: Global,
-    bytes: &[u8],
-    count: &mut Count,
-    slot: Slot,
-    at: usize,
-) -> Result<BlockTask, ReadError>
-    requires inside { at ≤ length bytes.now }
-    requires size { length bytes.now ≤ 1048576 }
+fn find_below(file: &File, count: &mut Count, slot: Slot, at: usize) -> Result<BlockTask, ReadError>
+    requires inside { at ≤ size file.now }
     requires within { slot.within ≤ at + 1 }
     requires empty { slot.empty ≤ at }
-    ensures fault { IfErr result (IsStopInside (length bytes.now)) }
-    ensures is { (node : block.BlockReader) (depth : ℕ) → FindsBlock bytes.now node depth (block.node_below node (slot_of slot) depth
-        (lines_at bytes.now at)) count.old.nodes result count.new.nodes }
-    ensures within { IfOk result (λ task. IsFoundFrom bytes.now at slot.empty task) }
+    ensures fault { IfErr result (IsStopInside (size file.now)) }
+    ensures is { (node : block.BlockReader) (depth : ℕ) → FindsBlock file.now.bytes.now node depth
+        (block.node_below node (slot_of slot) depth (left_at file.now at)) count.old.nodes result count.new.nodes }
+    ensures within { IfOk result (λ task. IsFoundFrom file.now.bytes.now at slot.empty task) }
 {
-    let found = next_content(bytes, at)?;
+    let found = next_content(file.bytes, at)?;
     let Next::Line { indent, at: first } = found else {
-        let part = empty_part(alloc, bytes, count, slot.empty, at)?;
+        let part = empty_part(file, count, slot.empty, at)?;
         return Ok(BlockTask::Found(part, found));
     };
-    if !is_deeper(bytes, slot, indent, first) {
-        let part = empty_part(alloc, bytes, count, slot.empty, at)?;
+    if !is_deeper(file.bytes, slot, indent, first) {
+        let part = empty_part(file, count, slot.empty, at)?;
         return Ok(BlockTask::Found(part, found));
     }
     Ok(BlockTask::Node {
@@ -151,22 +141,20 @@ fn find_below(
 
 /// Goes on with the innermost collection from a dash or a key on: what it waits with, and the node that it waits for.
 fn enter(
-    alloc: Global,
-    bytes: &[u8],
+    file: &File,
     count: &mut Count,
     start: usize,
     column: usize,
     has: BlockOpen,
     at: usize,
 ) -> Result<(BlockWaiting, BlockTask), ReadError>
-    requires has { IsOpenAt bytes.now column at has }
-    requires from { IsOpenFrom (length bytes.now) start at has }
-    requires size { length bytes.now ≤ 1048576 }
-    ensures fault { IfErr result (IsStopInside (length bytes.now)) }
-    ensures within { IfOk result (λ r. IsEntered bytes.now start at r) }
-    ensures is { (bound turns depth : ℕ) → Enters bytes.now bound turns depth start column
-        (block_rest (suc turns) bound depth start column (block_open_of bytes.now has)
-        (lines_at bytes.now at)) count.old.nodes result count.new.nodes }
+    requires has { IsOpenAt file.now.bytes.now column at has }
+    requires from { IsOpenFrom (size file.now) start at has }
+    ensures fault { IfErr result (IsStopInside (size file.now)) }
+    ensures within { IfOk result (λ r. IsEntered file.now.bytes.now start at r) }
+    ensures is { (bound turns depth : ℕ) → Enters file.now.bytes.now bound turns depth start column
+        (block_rest (suc turns) bound depth start column (block_open_of file.now.bytes.now has)
+        (left_at file.now at)) count.old.nodes result count.new.nodes }
 {
     match has {
         BlockOpen::Items(in_mapping, items) => {
@@ -176,7 +164,7 @@ fn enter(
                 in_mapping: false,
                 empty: at + 1,
             };
-            let task = find_rest(alloc, bytes, count, slot, column, at, at + 1)?;
+            let task = find_rest(file, count, slot, column, at, at + 1)?;
             Ok((BlockWaiting::Item(in_mapping, items), task))
         }
         BlockOpen::Entries(entries, key) => {
@@ -187,7 +175,7 @@ fn enter(
                 in_mapping: true,
                 empty: behind,
             };
-            let task = find_rest(alloc, bytes, count, slot, 0, behind, behind)?;
+            let task = find_rest(file, count, slot, 0, behind, behind)?;
             Ok((BlockWaiting::Value(entries, key.read), task))
         }
     }
@@ -220,10 +208,8 @@ fn entry_on(bytes: &[u8], column: usize, next: Next) -> Result<Option<usize>, Fa
 
 /// Goes on behind an item that was read in a sequence.
 fn put_block_item(
-    alloc: Global,
-    bytes: &[u8],
-    count: &mut Count,
-    stack: &mut Stack,
+    file: &File,
+    progress: &mut Progress,
     depth: u32,
     start: usize,
     column: usize,
@@ -232,27 +218,28 @@ fn put_block_item(
     part: Part,
     next: Next,
 ) -> Result<BlockTask, ReadError>
-    requires inside { part.next ≤ length bytes.now }
+    requires inside { part.next ≤ size file.now }
     requires end { part.end ≤ part.next }
     requires start { start ≤ part.end }
-    requires next { IsNextBehind bytes.now part next }
-    requires size { length bytes.now ≤ 1048576 }
+    requires next { IsNextBehind file.now.bytes.now part next }
     requires depth { depth ≤ 65 }
-    requires outside { stack.old.flows ≡ [] }
-    requires room { length stack.old.blocks ≤ depth }
-    ensures fault { IfErr result (IsStopInside (length bytes.now)) }
-    ensures is { (bound turns : ℕ) → length bytes.now < suc bound + part.next → ResumesBlock bytes.now bound turns depth start column
-        (frames.item in_mapping (nodes_of (map view items.items))) (part_of bytes.now part) count.old.nodes result count.new.nodes }
-    ensures within { (low : ℕ) → start ≤ low → ArePlacedIn (length bytes.now) start low (nodes_of (map view items.items))
-        → IsPlacedIn (length bytes.now) low part.end (view part.node) → IfOk result (λ task. IsResumed bytes.now start part.next task) }
-    ensures same { IfOk result (λ _. stack.new ≡ stack.old) }
+    requires outside { progress.old.stack.flows ≡ [] }
+    requires room { length progress.old.stack.blocks ≤ depth }
+    ensures fault { IfErr result (IsStopInside (size file.now)) }
+    ensures is { (bound turns : ℕ) → size file.now < suc bound + part.next → ResumesBlock file.now.bytes.now bound turns depth start column
+        (frames.item in_mapping (nodes_of (map view items.items))) (part_of file.now.bytes.now part)
+        progress.old.count.nodes result progress.new.count.nodes }
+    ensures within { (low : ℕ) → start ≤ low → ArePlacedIn (size file.now) start low (nodes_of (map view items.items))
+        → IsPlacedIn (size file.now) low part.end (view part.node)
+        → IfOk result (λ task. IsResumed file.now.bytes.now start part.next task) }
+    ensures same { IfOk result (λ _. progress.new.stack ≡ progress.old.stack) }
 {
     let mut items = items;
     items.push(part.node)?;
-    let Some(at) = entry_on(bytes, column, next)? else {
+    let Some(at) = entry_on(file.bytes, column, next)? else {
         return Ok(BlockTask::Found(sequence_part(items, start, part.end, part.next), next));
     };
-    if is_dash(bytes, at) {
+    if is_dash(file.bytes, at) {
         return Ok(BlockTask::Inside {
             start,
             column,
@@ -263,7 +250,7 @@ fn put_block_item(
     if in_mapping {
         return Ok(BlockTask::Found(sequence_part(items, start, part.end, part.next), next));
     }
-    no_entry(alloc, bytes, count, stack, depth, at)?;
+    no_entry(file, progress, depth, at)?;
     Ok(BlockTask::Inside {
         start,
         column,
@@ -274,10 +261,8 @@ fn put_block_item(
 
 /// Goes on behind a value that was read in a mapping.
 fn put_block_entry(
-    alloc: Global,
-    bytes: &[u8],
-    count: &mut Count,
-    stack: &mut Stack,
+    file: &File,
+    progress: &mut Progress,
     depth: u32,
     start: usize,
     column: usize,
@@ -286,31 +271,30 @@ fn put_block_entry(
     part: Part,
     next: Next,
 ) -> Result<BlockTask, ReadError>
-    requires inside { part.next ≤ length bytes.now }
+    requires inside { part.next ≤ size file.now }
     requires end { part.end ≤ part.next }
     requires start { start ≤ part.end }
-    requires next { IsNextBehind bytes.now part next }
-    requires size { length bytes.now ≤ 1048576 }
+    requires next { IsNextBehind file.now.bytes.now part next }
     requires depth { depth ≤ 65 }
-    requires outside { stack.old.flows ≡ [] }
-    requires room { length stack.old.blocks ≤ depth }
-    ensures fault { IfErr result (IsStopInside (length bytes.now)) }
-    ensures is { (bound turns : ℕ) → length bytes.now < suc bound + part.next → ResumesBlock bytes.now bound turns depth start column
-        (frames.value (entries_of (map entry_view entries.items)) (read_of bytes.now key))
-        (part_of bytes.now part) count.old.nodes result count.new.nodes }
+    requires outside { progress.old.stack.flows ≡ [] }
+    requires room { length progress.old.stack.blocks ≤ depth }
+    ensures fault { IfErr result (IsStopInside (size file.now)) }
+    ensures is { (bound turns : ℕ) → size file.now < suc bound + part.next → ResumesBlock file.now.bytes.now bound turns depth start column
+        (frames.value (entries_of (map entry_view entries.items)) (read_of file.now.bytes.now key))
+        (part_of file.now.bytes.now part) progress.old.count.nodes result progress.new.count.nodes }
     ensures within { (low : ℕ) → start ≤ key.span.start → key.span.start ≤ key.span.end → key.span.end ≤ low
-        → EntriesPlacedIn (length bytes.now) start key.span.start (entries_of (map entry_view entries.items))
-        → IsPlaced (length bytes.now) key.scalar key.span → IsPlacedIn (length bytes.now) low part.end (view part.node)
-        → IfOk result (λ task. IsResumed bytes.now start part.next task) }
-    ensures same { IfOk result (λ _. stack.new ≡ stack.old) }
+        → EntriesPlacedIn (size file.now) start key.span.start (entries_of (map entry_view entries.items))
+        → IsPlaced (size file.now) key.scalar key.span → IsPlacedIn (size file.now) low part.end (view part.node)
+        → IfOk result (λ task. IsResumed file.now.bytes.now start part.next task) }
+    ensures same { IfOk result (λ _. progress.new.stack ≡ progress.old.stack) }
 {
     let mut entries = entries;
     let key = scalar_node(key.scalar, key.span);
     entries.push(entry_of(key, part.node))?;
-    let Some(at) = entry_on(bytes, column, next)? else {
+    let Some(at) = entry_on(file.bytes, column, next)? else {
         return Ok(BlockTask::Found(mapping_part(entries, start, part.end, part.next), next));
     };
-    let key = entry_key(alloc, bytes, count, stack, depth, at)?;
+    let key = entry_key(file, progress, depth, at)?;
     Ok(BlockTask::Inside {
         start,
         column,
@@ -321,31 +305,28 @@ fn put_block_entry(
 
 /// Goes on behind a node that was read in a collection which waited for it.
 fn resume_block(
-    alloc: Global,
-    bytes: &[u8],
-    count: &mut Count,
-    stack: &mut Stack,
+    file: &File,
+    progress: &mut Progress,
     depth: u32,
     frame: BlockFrame,
     part: Part,
     next: Next,
 ) -> Result<BlockTask, ReadError>
-    requires inside { part.next ≤ length bytes.now }
+    requires inside { part.next ≤ size file.now }
     requires end { part.end ≤ part.next }
     requires start { frame.start ≤ part.end }
-    requires next { IsNextBehind bytes.now part next }
-    requires waits { (low : ℕ) × IsBlockWaitingFrom (length bytes.now) frame.start low frame.waiting
-        × IsPlacedIn (length bytes.now) low part.end (view part.node) }
-    requires size { length bytes.now ≤ 1048576 }
+    requires next { IsNextBehind file.now.bytes.now part next }
+    requires waits { (low : ℕ) × IsBlockWaitingFrom (size file.now) frame.start low frame.waiting
+        × IsPlacedIn (size file.now) low part.end (view part.node) }
     requires depth { depth ≤ 65 }
-    requires outside { stack.old.flows ≡ [] }
-    requires room { length stack.old.blocks ≤ depth }
-    ensures fault { IfErr result (IsStopInside (length bytes.now)) }
-    ensures is { (bound turns : ℕ) → length bytes.now < suc bound + part.next
-        → ResumesBlock bytes.now bound turns depth frame.start frame.column (block_waiting_of bytes.now frame.waiting)
-        (part_of bytes.now part) count.old.nodes result count.new.nodes }
-    ensures within { IfOk result (λ task. IsResumed bytes.now frame.start part.next task) }
-    ensures same { IfOk result (λ _. stack.new ≡ stack.old) }
+    requires outside { progress.old.stack.flows ≡ [] }
+    requires room { length progress.old.stack.blocks ≤ depth }
+    ensures fault { IfErr result (IsStopInside (size file.now)) }
+    ensures is { (bound turns : ℕ) → size file.now < suc bound + part.next
+        → ResumesBlock file.now.bytes.now bound turns depth frame.start frame.column (block_waiting_of file.now.bytes.now frame.waiting)
+        (part_of file.now.bytes.now part) progress.old.count.nodes result progress.new.count.nodes }
+    ensures within { IfOk result (λ task. IsResumed file.now.bytes.now frame.start part.next task) }
+    ensures same { IfOk result (λ _. progress.new.stack ≡ progress.old.stack) }
 {
     let BlockFrame {
         start,
@@ -354,11 +335,11 @@ fn resume_block(
     } = frame;
     match waiting {
         BlockWaiting::Item(in_mapping, items) => put_block_item(
-            alloc, bytes, count, stack, depth, start, column, in_mapping, items, part, next,
+            file, progress, depth, start, column, in_mapping, items, part, next,
         ),
         BlockWaiting::Value(entries, key) => {
             put_block_entry(
-                alloc, bytes, count, stack, depth, start, column, entries, key, part, next,
+                file, progress, depth, start, column, entries, key, part, next,
             )
         }
     }
@@ -368,37 +349,34 @@ fn resume_block(
 ///
 /// The collections that are open in it stand on the stack, which is empty at first.
 pub fn read_block_node(
-    alloc: Global,
-    bytes: &[u8],
-    count: &mut Count,
-    stack: &mut Stack,
+    file: &File,
+    progress: &mut Progress,
     slot: Slot,
     column: usize,
     at: usize,
 ) -> Result<Part, ReadError>
-    requires inside { at ≤ length bytes.now }
-    requires size { length bytes.now ≤ 1048576 }
+    requires inside { at ≤ size file.now }
     requires column { column ≤ at }
     requires within { slot.within ≤ at + 1 }
-    requires tab { IsTabInside (length bytes.now) slot.spot }
-    requires outside { stack.old.flows ≡ [] }
-    requires none { stack.old.blocks ≡ [] }
-    ensures fault { IfErr result (IsStopInside (length bytes.now)) }
-    ensures is { (bound : ℕ) → length bytes.now < bound + at → IsRead (part_of bytes.now)
-        (block.block_node bound (slot_of slot) 1 column (lines_at bytes.now at)) count.old.nodes result count.new.nodes }
-    ensures within { IfOk result (λ part. IsBehind bytes.now at part) }
-    ensures nested { IfOk result (λ part. IsPlacedIn (length bytes.now) at part.end (view part.node)) }
+    requires tab { IsTabInside (size file.now) slot.spot }
+    requires outside { progress.old.stack.flows ≡ [] }
+    requires none { progress.old.stack.blocks ≡ [] }
+    ensures fault { IfErr result (IsStopInside (size file.now)) }
+    ensures is { (bound : ℕ) → size file.now < bound + at → IsRead (part_of file.now.bytes.now)
+        (block.block_node bound (slot_of slot) 1 column (left_at file.now at)) progress.old.count.nodes result progress.new.count.nodes }
+    ensures within { IfOk result (λ part. IsBehind file.now.bytes.now at part) }
+    ensures nested { IfOk result (λ part. IsPlacedIn (size file.now) at part.end (view part.node)) }
 {
     let mut task = BlockTask::Node { slot, column, at };
     'nodes: loop {
-        let depth = stack.len() as u32 + 1;
+        let depth = progress.stack.len() as u32 + 1;
         match task {
             BlockTask::Node {
                 slot,
                 column,
                 at: from,
             } => {
-                task = read_node(alloc, bytes, count, stack, slot, depth, column, from)?;
+                task = read_node(file, progress, slot, depth, column, from)?;
             }
             BlockTask::Inside {
                 start,
@@ -406,8 +384,8 @@ pub fn read_block_node(
                 has,
                 at: from,
             } => {
-                let (waiting, inner) = enter(alloc, bytes, count, start, column, has, from)?;
-                stack.push_block(BlockFrame {
+                let (waiting, inner) = enter(file, &mut progress.count, start, column, has, from)?;
+                progress.stack.push_block(BlockFrame {
                     start,
                     column,
                     waiting,
@@ -415,17 +393,17 @@ pub fn read_block_node(
                 task = inner;
             }
             BlockTask::Read(part) => {
-                if stack.len() == 0 {
+                if progress.stack.len() == 0 {
                     return Ok(part);
                 }
-                let next = next_content(bytes, part.next)?;
+                let next = next_content(file.bytes, part.next)?;
                 task = BlockTask::Found(part, next);
             }
             BlockTask::Found(part, next) => {
-                let Some(frame) = stack.pop_block() else {
+                let Some(frame) = progress.stack.pop_block() else {
                     return Ok(part);
                 };
-                task = resume_block(alloc, bytes, count, stack, depth, frame, part, next)?;
+                task = resume_block(file, progress, depth, frame, part, next)?;
             }
         }
     }

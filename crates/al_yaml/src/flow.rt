@@ -5,6 +5,7 @@ ghost use Rattle.al_scalar.specs.Line as line;
 ghost use Rattle.al_scalar.specs.Offsets.{IsPlaced};
 ghost use Rattle.al_scalar.specs.Places.{lines_at, text_at};
 ghost use Rattle.al_yaml.specs.Content as content;
+ghost use Rattle.al_yaml.specs.Files.{left_at, size};
 ghost use Rattle.al_yaml.specs.Flow as flow;
 ghost use Rattle.al_yaml.specs.FlowFrames.{Finds, FindsKey, IsFound, IsFoundKey, IsNested, IsOpenTo};
 ghost use Rattle.al_yaml.specs.FlowFrames.{IsStep, IsTask, Resumes, Steps, open_of, waiting_of};
@@ -21,17 +22,16 @@ ghost use Rattle.std.specs.Prelude.{IfErr, IfOk, None, [], length, map, suc, tru
 
 use crate::content::gap;
 use crate::faults::{FaultAt, ReadError};
+use crate::file::{File, Progress};
 use crate::keys::{behind_flow_colon, is_late_colon, is_simple_key};
 use crate::limits::Count;
 use crate::lines::is_text_end;
 use crate::node::{Entry, Node, Part, entry_of, mapping_part, scalar_node, sequence_part};
 use crate::scalars::{empty_part, scalar_at, scalar_part};
-use crate::stack::Stack;
 use crate::starts::{flow_fault, is_flow_start, is_property, is_quote};
 use al_scalar::lines::begins;
 use al_scalar::{ScalarContext, ScalarRead};
 use al_text::YamlCode;
-use std::alloc::Global;
 
 /// What stands behind an item: a comma, with the offset of what follows it, or the closer, with the offset behind it.
 #[derive(Clone, Copy)]
@@ -156,34 +156,28 @@ fn key_colon(bytes: &[u8], at: usize, read: &ScalarRead) -> Result<Option<usize>
 }
 
 /// Reads the key of a flow mapping's entry, if no collection stands there.
-fn read_flow_key(
-    alloc: Global,
-    bytes: &[u8],
-    count: &mut Count,
-    at: usize,
-) -> Result<FoundKey, ReadError>
-    requires inside { at ≤ length bytes.now }
-    requires size { length bytes.now ≤ 1048576 }
-    ensures fault { IfErr result (IsStopInside (length bytes.now)) }
+fn read_flow_key(file: &File, count: &mut Count, at: usize) -> Result<FoundKey, ReadError>
+    requires inside { at ≤ size file.now }
+    ensures fault { IfErr result (IsStopInside (size file.now)) }
     ensures is { (depth : ℕ) →
-        FindsKey bytes.now at
-        (λ collection. flow.flow_key collection depth (lines_at bytes.now at)) depth count.old.nodes result count.new.nodes }
-    ensures within { IfOk result (λ key. IsFoundKey bytes.now at key) }
+        FindsKey file.now.bytes.now at
+        (λ collection. flow.flow_key collection depth (left_at file.now at)) depth count.old.nodes result count.new.nodes }
+    ensures within { IfOk result (λ key. IsFoundKey file.now.bytes.now at key) }
 {
-    if let Some(code) = flow_fault(bytes, at) {
+    if let Some(code) = flow_fault(file.bytes, at) {
         return Err(ReadError::Fault(FaultAt { code, at }));
     }
-    if is_property(bytes, at) {
+    if is_property(file.bytes, at) {
         return Err(ReadError::Fault(FaultAt {
             code: YamlCode::AnchorOrAlias,
             at,
         }));
     }
-    if is_flow_start(bytes, at) {
+    if is_flow_start(file.bytes, at) {
         return Ok(FoundKey::Opens);
     }
-    let read = scalar_at(alloc, bytes, at, ScalarContext::Flow)?;
-    let colon = key_colon(bytes, at, &read)?;
+    let read = scalar_at(file.alloc, file.bytes, at, ScalarContext::Flow)?;
+    let colon = key_colon(file.bytes, at, &read)?;
     count.start(at, 1, 0)?;
     Ok(FoundKey::Key(FlowKey { read, colon }))
 }
@@ -197,104 +191,88 @@ fn ends_value(bytes: &[u8], at: usize) -> bool
 }
 
 /// Reads a node in a flow collection, if it is no collection.
-fn read_flow_node(
-    alloc: Global,
-    bytes: &[u8],
-    count: &mut Count,
-    at: usize,
-) -> Result<Found, ReadError>
-    requires inside { at ≤ length bytes.now }
-    requires size { length bytes.now ≤ 1048576 }
-    ensures fault { IfErr result (IsStopInside (length bytes.now)) }
-    ensures is { (depth : ℕ) (slot : flow.FlowSlot) → Finds bytes.now (λ collection. flow.flow_node_over collection slot depth
-        (lines_at bytes.now at)) depth count.old.nodes result count.new.nodes }
-    ensures within { IfOk result (λ found. IsFound bytes.now at at found) }
+fn read_flow_node(file: &File, count: &mut Count, at: usize) -> Result<Found, ReadError>
+    requires inside { at ≤ size file.now }
+    ensures fault { IfErr result (IsStopInside (size file.now)) }
+    ensures is { (depth : ℕ) (slot : flow.FlowSlot) → Finds file.now.bytes.now (λ collection. flow.flow_node_over collection slot depth
+        (left_at file.now at)) depth count.old.nodes result count.new.nodes }
+    ensures within { IfOk result (λ found. IsFound file.now.bytes.now at at found) }
 {
-    if is_property(bytes, at) {
+    if is_property(file.bytes, at) {
         return Err(ReadError::Fault(FaultAt {
             code: YamlCode::AnchorOrAlias,
             at,
         }));
     }
-    if let Some(code) = flow_fault(bytes, at) {
+    if let Some(code) = flow_fault(file.bytes, at) {
         return Err(ReadError::Fault(FaultAt { code, at }));
     }
-    if is_flow_start(bytes, at) {
+    if is_flow_start(file.bytes, at) {
         return Ok(Found::Opens(at));
     }
     count.start(at, 1, 0)?;
-    let read = scalar_at(alloc, bytes, at, ScalarContext::Flow)?;
+    let read = scalar_at(file.alloc, file.bytes, at, ScalarContext::Flow)?;
     let next = read.next;
     Ok(Found::Node(scalar_part(read, next)))
 }
 
 /// Reads the value of a flow mapping's entry, which may be empty, if it is no collection.
 fn read_flow_value(
-    alloc: Global,
-    bytes: &[u8],
+    file: &File,
     count: &mut Count,
     opening: usize,
     key: &FlowKey,
 ) -> Result<Found, ReadError>
-    requires inside { IsKeyInside bytes.now key.now.read.span.start key.now }
-    requires opening { opening ≤ length bytes.now }
-    requires size { length bytes.now ≤ 1048576 }
-    ensures fault { IfErr result (IsStopInside (length bytes.now)) }
-    ensures is { (depth : ℕ) → Finds bytes.now (λ collection. flow.flow_entry_value (flow.flow_node_over collection) opening depth
-        (flow_key_of bytes.now key.now)) depth count.old.nodes result count.new.nodes }
-    ensures within { IfOk result (λ found. IsFound bytes.now key.now.read.span.start key.now.read.span.end found) }
+    requires inside { IsKeyInside file.now.bytes.now key.now.read.span.start key.now }
+    requires opening { opening ≤ size file.now }
+    ensures fault { IfErr result (IsStopInside (size file.now)) }
+    ensures is { (depth : ℕ) → Finds file.now.bytes.now (λ collection. flow.flow_entry_value (flow.flow_node_over collection) opening depth
+        (flow_key_of file.now.bytes.now key.now)) depth count.old.nodes result count.new.nodes }
+    ensures within { IfOk result (λ found. IsFound file.now.bytes.now key.now.read.span.start key.now.read.span.end found) }
 {
     let Some(colon) = key.colon else {
-        let part = empty_part(
-            alloc,
-            bytes,
-            count,
-            key.read.span.end as usize,
-            key.read.next,
-        )?;
+        let part = empty_part(file, count, key.read.span.end as usize, key.read.next)?;
         return Ok(Found::Node(part));
     };
-    let at = gap(bytes, colon);
-    if is_text_end(bytes, at) {
+    let at = gap(file.bytes, colon);
+    if is_text_end(file.bytes, at) {
         return Err(ReadError::Fault(FaultAt {
             code: YamlCode::UnclosedFlow,
             at: opening,
         }));
     }
-    if ends_value(bytes, at) {
-        let part = empty_part(alloc, bytes, count, colon, at)?;
+    if ends_value(file.bytes, at) {
+        let part = empty_part(file, count, colon, at)?;
         return Ok(Found::Node(part));
     }
-    read_flow_node(alloc, bytes, count, at)
+    read_flow_node(file, count, at)
 }
 
 /// Reads an open sequence to the end of its next item, to its closer or to a bracket in it.
 fn read_item(
-    alloc: Global,
-    bytes: &[u8],
+    file: &File,
     count: &mut Count,
     opening: usize,
     items: Vec<Node>,
     at: usize,
 ) -> Result<FlowRead, ReadError>
-    requires inside { at ≤ length bytes.now }
-    requires nested { (opening ≤ at) × ArePlacedIn (length bytes.now) opening at (nodes_of (map view items.items)) }
-    requires size { length bytes.now ≤ 1048576 }
-    ensures fault { IfErr result (IsStopInside (length bytes.now)) }
-    ensures is { (depth : ℕ) → Steps bytes.now depth opening (λ c t. open_rest c t depth opening
-        (frames.items (nodes_of (map view items.items))) (lines_at bytes.now at)) count.old.nodes result count.new.nodes }
-    ensures within { IfOk result (λ step. IsStep bytes.now opening at step) }
+    requires inside { at ≤ size file.now }
+    requires nested { (opening ≤ at) × ArePlacedIn (size file.now) opening at (nodes_of (map view items.items)) }
+    ensures fault { IfErr result (IsStopInside (size file.now)) }
+    ensures is { (depth : ℕ) → Steps file.now.bytes.now depth opening (λ c t. open_rest c t depth opening
+        (frames.items (nodes_of (map view items.items))) (left_at file.now at)) count.old.nodes result count.new.nodes }
+    ensures within { IfOk result (λ step. IsStep file.now.bytes.now opening at step) }
 {
-    if is_text_end(bytes, at) {
+    if is_text_end(file.bytes, at) {
         return Err(ReadError::Fault(FaultAt {
             code: YamlCode::UnclosedFlow,
             at: opening,
         }));
     }
-    if begins(bytes, at, b']') {
+    if begins(file.bytes, at, b']') {
         return Ok(FlowRead::Closed(sequence_part(items, opening, at + 1, at + 1)));
     }
-    match read_flow_node(alloc, bytes, count, at)? {
+    match read_flow_node(file, count, at)? {
         Found::Node(part) => Ok(FlowRead::Read(Waiting::Item(items), part)),
         Found::Opens(at) => Ok(FlowRead::Opens(Waiting::Item(items), at)),
     }
@@ -302,56 +280,54 @@ fn read_item(
 
 /// Reads an open mapping to the end of its next entry, to its closer or to a bracket in it.
 fn read_entry(
-    alloc: Global,
-    bytes: &[u8],
+    file: &File,
     count: &mut Count,
     opening: usize,
     entries: Vec<Entry>,
     at: usize,
 ) -> Result<FlowRead, ReadError>
-    requires inside { at ≤ length bytes.now }
-    requires nested { (opening ≤ at) × EntriesPlacedIn (length bytes.now) opening at (entries_of (map entry_view entries.items)) }
-    requires size { length bytes.now ≤ 1048576 }
-    ensures fault { IfErr result (IsStopInside (length bytes.now)) }
-    ensures is { (depth : ℕ) → Steps bytes.now depth opening (λ c t. open_rest c t depth opening
-        (frames.entries (entries_of (map entry_view entries.items))) (lines_at bytes.now at)) count.old.nodes result count.new.nodes }
-    ensures within { IfOk result (λ step. IsStep bytes.now opening at step) }
+    requires inside { at ≤ size file.now }
+    requires nested { (opening ≤ at) × EntriesPlacedIn (size file.now) opening at (entries_of (map entry_view entries.items)) }
+    ensures fault { IfErr result (IsStopInside (size file.now)) }
+    ensures is { (depth : ℕ) → Steps file.now.bytes.now depth opening (λ c t. open_rest c t depth opening
+        (frames.entries (entries_of (map entry_view entries.items))) (left_at file.now at)) count.old.nodes result count.new.nodes }
+    ensures within { IfOk result (λ step. IsStep file.now.bytes.now opening at step) }
 {
-    if is_text_end(bytes, at) {
+    if is_text_end(file.bytes, at) {
         return Err(ReadError::Fault(FaultAt {
             code: YamlCode::UnclosedFlow,
             at: opening,
         }));
     }
-    if begins(bytes, at, b'}') {
+    if begins(file.bytes, at, b'}') {
         return Ok(FlowRead::Closed(mapping_part(entries, opening, at + 1, at + 1)));
     }
-    let key = match read_flow_key(alloc, bytes, count, at)? {
+    let key = match read_flow_key(file, count, at)? {
         FoundKey::Key(key) => key,
         FoundKey::Opens => return Ok(FlowRead::Opens(Waiting::Key(at), at)),
     };
-    match read_flow_value(alloc, bytes, count, opening, &key)? {
+    match read_flow_value(file, count, opening, &key)? {
         Found::Node(part) => Ok(FlowRead::Read(Waiting::Value(entries, key.read), part)),
         Found::Opens(at) => Ok(FlowRead::Opens(Waiting::Value(entries, key.read), at)),
     }
 }
 
 /// Puts an item that was read into its sequence, and reads what stands behind it.
-fn put_item(bytes: &[u8], opening: usize, items: Vec<Node>, part: Part) -> Result<Task, ReadError>
-    requires inside { part.next ≤ length bytes.now }
+fn put_item(file: &File, opening: usize, items: Vec<Node>, part: Part) -> Result<Task, ReadError>
+    requires inside { part.next ≤ size file.now }
     requires opening { opening ≤ part.next }
-    requires size { length bytes.now ≤ 1048576 }
     requires end { part.end ≤ part.next }
-    ensures fault { IfErr result (IsStopInside (length bytes.now)) }
+    ensures fault { IfErr result (IsStopInside (size file.now)) }
     ensures is { (depth n : ℕ) →
-        Resumes bytes.now depth opening (frames.item (nodes_of (map view items.items))) (part_of bytes.now part) n result }
-    ensures within { (start : ℕ) → opening ≤ start → ArePlacedIn (length bytes.now) opening start (nodes_of (map view items.items))
-        → IsPlacedIn (length bytes.now) start part.end (view part.node)
-        → IfOk result (λ task. IsTask bytes.now opening part.next task) }
+        Resumes file.now.bytes.now depth opening (frames.item (nodes_of (map view items.items)))
+        (part_of file.now.bytes.now part) n result }
+    ensures within { (start : ℕ) → opening ≤ start → ArePlacedIn (size file.now) opening start (nodes_of (map view items.items))
+        → IsPlacedIn (size file.now) start part.end (view part.node)
+        → IfOk result (λ task. IsTask file.now.bytes.now opening part.next task) }
 {
     let mut items = items;
     items.push(part.node)?;
-    match after_item(bytes, opening, b']', gap(bytes, part.next))? {
+    match after_item(file.bytes, opening, b']', gap(file.bytes, part.next))? {
         After::GoesOn(at) => Ok(Task::Inside {
             opening,
             has: Open::Items(items),
@@ -363,29 +339,28 @@ fn put_item(bytes: &[u8], opening: usize, items: Vec<Node>, part: Part) -> Resul
 
 /// Puts an entry whose value was read into its mapping, and reads what stands behind it.
 fn put_entry(
-    bytes: &[u8],
+    file: &File,
     opening: usize,
     entries: Vec<Entry>,
     key: ScalarRead,
     part: Part,
 ) -> Result<Task, ReadError>
-    requires inside { part.next ≤ length bytes.now }
+    requires inside { part.next ≤ size file.now }
     requires opening { opening ≤ part.next }
-    requires size { length bytes.now ≤ 1048576 }
     requires end { part.end ≤ part.next }
-    ensures fault { IfErr result (IsStopInside (length bytes.now)) }
+    ensures fault { IfErr result (IsStopInside (size file.now)) }
     ensures is { (depth n : ℕ) →
-        Resumes bytes.now depth opening (frames.value (entries_of (map entry_view entries.items)) (read_of bytes.now key))
-        (part_of bytes.now part) n result }
+        Resumes file.now.bytes.now depth opening (frames.value (entries_of (map entry_view entries.items)) (read_of file.now.bytes.now key))
+        (part_of file.now.bytes.now part) n result }
     ensures within { (start : ℕ) → opening ≤ key.span.start → key.span.start ≤ key.span.end → key.span.end ≤ start
-        → EntriesPlacedIn (length bytes.now) opening key.span.start (entries_of (map entry_view entries.items))
-        → IsPlaced (length bytes.now) key.scalar key.span → IsPlacedIn (length bytes.now) start part.end (view part.node)
-        → IfOk result (λ task. IsTask bytes.now opening part.next task) }
+        → EntriesPlacedIn (size file.now) opening key.span.start (entries_of (map entry_view entries.items))
+        → IsPlaced (size file.now) key.scalar key.span → IsPlacedIn (size file.now) start part.end (view part.node)
+        → IfOk result (λ task. IsTask file.now.bytes.now opening part.next task) }
 {
     let mut entries = entries;
     let key = scalar_node(key.scalar, key.span);
     entries.push(entry_of(key, part.node))?;
-    match after_item(bytes, opening, b'}', gap(bytes, part.next))? {
+    match after_item(file.bytes, opening, b'}', gap(file.bytes, part.next))? {
         After::GoesOn(at) => Ok(Task::Inside {
             opening,
             has: Open::Entries(entries),
@@ -397,41 +372,39 @@ fn put_entry(
 
 /// Reads an open collection to the end of the next node in it, to its closer or to a bracket in it.
 fn read_inside(
-    alloc: Global,
-    bytes: &[u8],
+    file: &File,
     count: &mut Count,
     opening: usize,
     has: Open,
     at: usize,
 ) -> Result<FlowRead, ReadError>
-    requires inside { at ≤ length bytes.now }
-    requires nested { IsOpenTo (length bytes.now) opening at has }
-    requires size { length bytes.now ≤ 1048576 }
-    ensures fault { IfErr result (IsStopInside (length bytes.now)) }
+    requires inside { at ≤ size file.now }
+    requires nested { IsOpenTo (size file.now) opening at has }
+    ensures fault { IfErr result (IsStopInside (size file.now)) }
     ensures is { (depth : ℕ) →
-        Steps bytes.now depth opening
-        (λ c t. open_rest c t depth opening (open_of has) (lines_at bytes.now at)) count.old.nodes result count.new.nodes }
-    ensures within { IfOk result (λ step. IsStep bytes.now opening at step) }
+        Steps file.now.bytes.now depth opening
+        (λ c t. open_rest c t depth opening (open_of has) (left_at file.now at)) count.old.nodes result count.new.nodes }
+    ensures within { IfOk result (λ step. IsStep file.now.bytes.now opening at step) }
 {
     match has {
-        Open::Items(items) => read_item(alloc, bytes, count, opening, items, at),
-        Open::Entries(entries) => read_entry(alloc, bytes, count, opening, entries, at),
+        Open::Items(items) => read_item(file, count, opening, items, at),
+        Open::Entries(entries) => read_entry(file, count, opening, entries, at),
     }
 }
 
 /// Goes on behind a node that was read in a collection which waited for it.
-fn resume(bytes: &[u8], opening: usize, waiting: Waiting, part: Part) -> Result<Task, ReadError>
-    requires inside { part.next ≤ length bytes.now }
-    requires nested { IsNested (length bytes.now) opening waiting part }
+fn resume(file: &File, opening: usize, waiting: Waiting, part: Part) -> Result<Task, ReadError>
+    requires inside { part.next ≤ size file.now }
+    requires nested { IsNested (size file.now) opening waiting part }
     requires end { part.end ≤ part.next }
-    requires size { length bytes.now ≤ 1048576 }
-    ensures fault { IfErr result (IsStopInside (length bytes.now)) }
-    ensures is { (depth n : ℕ) → Resumes bytes.now depth opening (waiting_of bytes.now waiting) (part_of bytes.now part) n result }
-    ensures within { IfOk result (λ task. IsTask bytes.now opening part.next task) }
+    ensures fault { IfErr result (IsStopInside (size file.now)) }
+    ensures is { (depth n : ℕ) →
+        Resumes file.now.bytes.now depth opening (waiting_of file.now.bytes.now waiting) (part_of file.now.bytes.now part) n result }
+    ensures within { IfOk result (λ task. IsTask file.now.bytes.now opening part.next task) }
 {
     match waiting {
-        Waiting::Item(items) => put_item(bytes, opening, items, part),
-        Waiting::Value(entries, key) => put_entry(bytes, opening, entries, key, part),
+        Waiting::Item(items) => put_item(file, opening, items, part),
+        Waiting::Value(entries, key) => put_entry(file, opening, entries, key, part),
         Waiting::Key(at) => Err(ReadError::Fault(FaultAt {
             code: YamlCode::WrongKey,
             at,
@@ -440,50 +413,48 @@ fn resume(bytes: &[u8], opening: usize, waiting: Waiting, part: Part) -> Result<
 }
 
 /// What stands in the collection whose bracket or brace stands at an offset: nothing yet, and where that begins.
-fn open_at(alloc: Global, bytes: &[u8], at: usize) -> (Open, usize)
-    requires inside { at < length bytes.now }
-    requires bracket { content.is_flow_start (text_at bytes.now at) ≡ true }
+fn open_at(file: &File, at: usize) -> (Open, usize)
+    requires inside { at < size file.now }
+    requires bracket { content.is_flow_start (text_at file.now.bytes.now at) ≡ true }
     ensures is { (bound depth n m : ℕ) → broken_limit n 0 (start_of at 1 depth ∷ []) ≡ None → m ≡ n + 1 → run (counted n)
-        (flow.flow_collection (suc bound) depth (lines_at bytes.now at)) ≡ run (counted m) (open_rest (flow.flow_collection bound)
-        (suc bound) (depth + 1) at (open_of result.0) (lines_at bytes.now result.1)) }
-    ensures nested { IsOpenTo (length bytes.now) at result.1 result.0 }
+        (flow.flow_collection (suc bound) depth (left_at file.now at)) ≡ run (counted m) (open_rest (flow.flow_collection bound)
+        (suc bound) (depth + 1) at (open_of result.0) (left_at file.now result.1)) }
+    ensures nested { IsOpenTo (size file.now) at result.1 result.0 }
     ensures from { at < result.1 }
-    ensures end { result.1 ≤ length bytes.now }
+    ensures end { result.1 ≤ size file.now }
 {
-    let inside = gap(bytes, at + 1);
-    if begins(bytes, at, b'[') {
-        return (Open::Items(Vec::new(alloc)), inside);
+    let inside = gap(file.bytes, at + 1);
+    if begins(file.bytes, at, b'[') {
+        return (Open::Items(Vec::new(file.alloc)), inside);
     }
-    (Open::Entries(Vec::new(alloc)), inside)
+    (Open::Entries(Vec::new(file.alloc)), inside)
 }
 
 /// Reads the flow collection whose bracket or brace stands at an offset.
 ///
 /// The collections that are open in it stand on the stack while they are read.
 pub fn read_flow_collection(
-    alloc: Global,
-    bytes: &[u8],
-    count: &mut Count,
-    stack: &mut Stack,
+    file: &File,
+    progress: &mut Progress,
     depth: u32,
     at: usize,
 ) -> Result<Part, ReadError>
-    requires inside { at < length bytes.now }
-    requires bracket { content.is_flow_start (text_at bytes.now at) ≡ true }
-    requires size { length bytes.now ≤ 1048576 }
+    requires inside { at < size file.now }
+    requires bracket { content.is_flow_start (text_at file.now.bytes.now at) ≡ true }
     requires depth { depth ≤ 65 }
-    requires outside { stack.old.flows ≡ [] }
-    requires room { length stack.old.blocks ≤ depth }
-    ensures fault { IfErr result (IsStopInside (length bytes.now)) }
-    ensures is { (bound : ℕ) → length bytes.now < bound + at →
-        IsRead (part_of bytes.now) (flow.flow_collection bound depth (lines_at bytes.now at)) count.old.nodes result count.new.nodes }
-    ensures within { IfOk result (λ part. IsBehind bytes.now at part) }
-    ensures nested { IfOk result (λ part. IsPlacedIn (length bytes.now) at part.end (view part.node)) }
-    ensures same { IfOk result (λ _. stack.new ≡ stack.old) }
+    requires outside { progress.old.stack.flows ≡ [] }
+    requires room { length progress.old.stack.blocks ≤ depth }
+    ensures fault { IfErr result (IsStopInside (size file.now)) }
+    ensures is { (bound : ℕ) → size file.now < bound + at →
+        IsRead (part_of file.now.bytes.now) (flow.flow_collection bound depth (left_at file.now at))
+        progress.old.count.nodes result progress.new.count.nodes }
+    ensures within { IfOk result (λ part. IsBehind file.now.bytes.now at part) }
+    ensures nested { IfOk result (λ part. IsPlacedIn (size file.now) at part.end (view part.node)) }
+    ensures same { IfOk result (λ _. progress.new.stack ≡ progress.old.stack) }
 {
-    count.start(at, 1, depth)?;
-    let outside = stack.len();
-    let (has, inside) = open_at(alloc, bytes, at);
+    progress.count.start(at, 1, depth)?;
+    let outside = progress.stack.len();
+    let (has, inside) = open_at(file, at);
     let mut task = Task::Inside {
         opening: at,
         has,
@@ -496,13 +467,17 @@ pub fn read_flow_collection(
                 has,
                 at: from,
             } => {
-                match read_inside(alloc, bytes, count, opening, has, from)? {
+                match read_inside(file, &mut progress.count, opening, has, from)? {
                     FlowRead::Closed(part) => task = Task::Read(part),
-                    FlowRead::Read(waiting, part) => task = resume(bytes, opening, waiting, part)?,
+                    FlowRead::Read(waiting, part) => task = resume(file, opening, waiting, part)?,
                     FlowRead::Opens(waiting, bracket) => {
-                        count.start(bracket, 1, depth + 1 + (stack.len() - outside) as u32)?;
-                        stack.push_flow(FlowFrame { opening, waiting });
-                        let (has, inside) = open_at(alloc, bytes, bracket);
+                        progress.count.start(
+                            bracket,
+                            1,
+                            depth + 1 + (progress.stack.len() - outside) as u32,
+                        )?;
+                        progress.stack.push_flow(FlowFrame { opening, waiting });
+                        let (has, inside) = open_at(file, bracket);
                         task = Task::Inside {
                             opening: bracket,
                             has,
@@ -512,10 +487,10 @@ pub fn read_flow_collection(
                 }
             }
             Task::Read(part) => {
-                let Some(frame) = stack.pop_flow() else {
+                let Some(frame) = progress.stack.pop_flow() else {
                     return Ok(part);
                 };
-                task = resume(bytes, frame.opening, frame.waiting, part)?;
+                task = resume(file, frame.opening, frame.waiting, part)?;
             }
         }
     }

@@ -3,6 +3,7 @@
 ghost use Rattle.al_scalar.specs.Contract.{read_of, reading_at};
 ghost use Rattle.al_scalar.specs.Places.{lines_at};
 ghost use Rattle.al_yaml.specs.Blocks as block;
+ghost use Rattle.al_yaml.specs.Files.{left_at, size};
 ghost use Rattle.al_yaml.specs.Flow as flow;
 ghost use Rattle.al_yaml.specs.Node as tree;
 ghost use Rattle.al_yaml.specs.Places.{IsReadInside, Shows};
@@ -13,6 +14,7 @@ ghost use Rattle.std.specs.Prelude.{IfErr, IfOk, length, ◌≡◌, ◌≤◌};
 
 use crate::content::line_ended;
 use crate::faults::{FaultAt, ReadError};
+use crate::file::File;
 use crate::limits::Count;
 use crate::node::{Part, scalar_node};
 use crate::starts::is_block_start;
@@ -56,23 +58,16 @@ pub fn scalar_part(read: ScalarRead, next: usize) -> Part
 }
 
 /// The empty node at an offset (7.2), which counts as a node; what is left begins at `next`.
-pub fn empty_part(
-    alloc: Global,
-    bytes: &[u8],
-    count: &mut Count,
-    at: usize,
-    next: usize,
-) -> Result<Part, ReadError>
-    requires inside { at ≤ length bytes.now }
-    requires size { length bytes.now ≤ 1048576 }
-    ensures fault { IfErr result (IsStopInside (length bytes.now)) }
-    ensures is { IsRead (part_of bytes.now) (flow.empty_node at (lines_at bytes.now next)) count.old.nodes result count.new.nodes }
+pub fn empty_part(file: &File, count: &mut Count, at: usize, next: usize) -> Result<Part, ReadError>
+    requires inside { at ≤ size file.now }
+    ensures fault { IfErr result (IsStopInside (size file.now)) }
+    ensures is { IsRead (part_of file.now.bytes.now) (flow.empty_node at (left_at file.now next)) count.old.nodes result count.new.nodes }
     ensures end { IfOk result (λ part. part.end ≡ at) }
     ensures next { IfOk result (λ part. part.next ≡ next) }
-    ensures nested { IfOk result (λ part. IsPlacedIn (length bytes.now) at part.end (view part.node)) }
+    ensures nested { IfOk result (λ part. IsPlacedIn (size file.now) at part.end (view part.node)) }
 {
     count.start(at, 1, 0)?;
-    let read = scalar_at(alloc, bytes, at, ScalarContext::Empty)?;
+    let read = scalar_at(file.alloc, file.bytes, at, ScalarContext::Empty)?;
     Ok(scalar_part(read, next))
 }
 
@@ -93,22 +88,26 @@ fn scalar_left(bytes: &[u8], at: usize, next: usize) -> Result<usize, FaultAt>
 
 /// Reads a scalar in block context with the rest of its line.
 pub fn read_line_scalar(
-    alloc: Global,
-    bytes: &[u8],
+    file: &File,
     count: &mut Count,
     within: usize,
     at: usize,
 ) -> Result<Part, ReadError>
-    requires inside { at ≤ length bytes.now }
-    requires size { length bytes.now ≤ 1048576 }
+    requires inside { at ≤ size file.now }
     requires within { within ≤ 1048577 }
-    ensures fault { IfErr result (IsStopInside (length bytes.now)) }
-    ensures is { IsRead (part_of bytes.now) (block.scalar_node_at within (lines_at bytes.now at)) count.old.nodes result count.new.nodes }
-    ensures within { IfOk result (λ part. IsBehind bytes.now at part) }
-    ensures nested { IfOk result (λ part. IsPlacedIn (length bytes.now) at part.end (view part.node)) }
+    ensures fault { IfErr result (IsStopInside (size file.now)) }
+    ensures is { IsRead (part_of file.now.bytes.now) (block.scalar_node_at within (left_at file.now at))
+        count.old.nodes result count.new.nodes }
+    ensures within { IfOk result (λ part. IsBehind file.now.bytes.now at part) }
+    ensures nested { IfOk result (λ part. IsPlacedIn (size file.now) at part.end (view part.node)) }
 {
     count.start(at, 1, 0)?;
-    let read = scalar_at(alloc, bytes, at, ScalarContext::Block(within as u32))?;
-    let next = scalar_left(bytes, at, read.next)?;
+    let read = scalar_at(
+        file.alloc,
+        file.bytes,
+        at,
+        ScalarContext::Block(within as u32),
+    )?;
+    let next = scalar_left(file.bytes, at, read.next)?;
     Ok(scalar_part(read, next))
 }

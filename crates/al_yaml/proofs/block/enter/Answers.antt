@@ -14,33 +14,33 @@ use Rattle.al_yaml.proofs.block.enter.Goals as goal
 pub find_rest-requires-clause-line : goal.find_rest-requires-clause-line
 find_rest-requires-clause-line c =
     let has = rw c.in-Items.is at c.requires.has in
-    same_line-next c.args.bytes.now c.args.at (omega (arith, has.1)) (dash-solid c.args.bytes.now c.args.at (omega (arith, has.1)) has.0)
+    same_line-next c.args.file.now.bytes.now c.args.at (omega (arith, has.1)) (dash-solid c.args.file.now.bytes.now c.args.at (omega (arith, has.1)) has.0)
 
 pub returns-in_err-task-in-Items-clause-is : goal.returns-in_err-task-in-Items-clause-is
 returns-in_err-task-in-Items-clause-is c = λ bound turns depth.
     let has = rw c.in-Items.is at c.requires.has in
     let p = err_from_is_err_and c.from_residual.result c.from_residual.ensures.1 in
-    rw (p.1, p.2, c.in-Items.is) (enters-stops (block_rest (suc turns) bound depth c.args.start c.args.column (items c.in-Items.in_mapping (nodes_of (map view c.in-Items.items.items))) (lines_at c.args.bytes.now c.args.at)) (item_rest bound turns depth c.args.start c.args.column c.args.count.now.nodes c.in-Items.in_mapping (nodes_of (map view c.in-Items.items.items)) c.args.bytes.now c.args.at has.1 (dash-solid c.args.bytes.now c.args.at (omega (arith, has.1)) has.0)) c.args.count.now.nodes (block_waits turns bound depth c.args.start c.args.column (item c.in-Items.in_mapping (nodes_of (map view c.in-Items.items.items)))) c.in_err-task-in-Items.field-0.0
-    (dash-answer bound turns depth c.args.start c.args.column c.args.count.now.nodes c.in-Items.in_mapping (nodes_of (map view c.in-Items.items.items)) c.args.bytes.now c.args.at has.1 (dash-solid c.args.bytes.now c.args.at (omega (arith, has.1)) has.0)) (c.in_err-task-in-Items.ensures.is (block_node bound) depth))
+    rw (p.1, p.2, c.in-Items.is) (enters-stops (block_rest (suc turns) bound depth c.args.start c.args.column (items c.in-Items.in_mapping (nodes_of (map view c.in-Items.items.items))) (lines_at c.args.file.now.bytes.now c.args.at)) (item_rest bound turns depth c.args.start c.args.column c.args.count.now.nodes c.in-Items.in_mapping (nodes_of (map view c.in-Items.items.items)) c.args.file.now.bytes.now c.args.at has.1 (dash-solid c.args.file.now.bytes.now c.args.at (omega (arith, has.1)) has.0)) c.args.count.now.nodes (block_waits turns bound depth c.args.start c.args.column (item c.in-Items.in_mapping (nodes_of (map view c.in-Items.items.items)))) c.in_err-task-in-Items.field-0.0
+    (dash-answer bound turns depth c.args.start c.args.column c.args.count.now.nodes c.in-Items.in_mapping (nodes_of (map view c.in-Items.items.items)) c.args.file.now.bytes.now c.args.at has.1 (dash-solid c.args.file.now.bytes.now c.args.at (omega (arith, has.1)) has.0)) (c.in_err-task-in-Items.ensures.is (block_node bound) depth))
 
 pub returns-in_ok-task-in-Items-clause-is : goal.returns-in_ok-task-in-Items-clause-is
 returns-in_ok-task-in-Items-clause-is c = λ bound turns depth.
     let has = rw c.in-Items.is at c.requires.has in
-    rw c.in-Items.is (enters-with c.args.bytes.now bound turns depth c.args.start c.args.column (block_rest (suc turns) bound depth c.args.start c.args.column (items c.in-Items.in_mapping (nodes_of (map view c.in-Items.items.items))) (lines_at c.args.bytes.now c.args.at)) (item_rest bound turns depth c.args.start c.args.column c.args.count.now.nodes c.in-Items.in_mapping (nodes_of (map view c.in-Items.items.items)) c.args.bytes.now c.args.at has.1 (dash-solid c.args.bytes.now c.args.at (omega (arith, has.1)) has.0)) c.args.count.now.nodes c.find_rest.new.count.nodes (waiting.Item c.in-Items.in_mapping c.in-Items.items) c.in_ok-task-in-Items.task
-    (dash-answer bound turns depth c.args.start c.args.column c.args.count.now.nodes c.in-Items.in_mapping (nodes_of (map view c.in-Items.items.items)) c.args.bytes.now c.args.at has.1 (dash-solid c.args.bytes.now c.args.at (omega (arith, has.1)) has.0)) (c.in_ok-task-in-Items.ensures.is (block_node bound) depth))
+    rw c.in-Items.is (enters-with c.args.file.now.bytes.now bound turns depth c.args.start c.args.column (block_rest (suc turns) bound depth c.args.start c.args.column (items c.in-Items.in_mapping (nodes_of (map view c.in-Items.items.items))) (lines_at c.args.file.now.bytes.now c.args.at)) (item_rest bound turns depth c.args.start c.args.column c.args.count.now.nodes c.in-Items.in_mapping (nodes_of (map view c.in-Items.items.items)) c.args.file.now.bytes.now c.args.at has.1 (dash-solid c.args.file.now.bytes.now c.args.at (omega (arith, has.1)) has.0)) c.args.count.now.nodes c.find_rest.new.count.nodes (waiting.Item c.in-Items.in_mapping c.in-Items.items) c.in_ok-task-in-Items.task
+    (dash-answer bound turns depth c.args.start c.args.column c.args.count.now.nodes c.in-Items.in_mapping (nodes_of (map view c.in-Items.items.items)) c.args.file.now.bytes.now c.args.at has.1 (dash-solid c.args.file.now.bytes.now c.args.at (omega (arith, has.1)) has.0)) (c.in_ok-task-in-Items.ensures.is (block_node bound) depth))
 
 pub returns-in_err-task-in-Entries-clause-is : goal.returns-in_err-task-in-Entries-clause-is
 returns-in_err-task-in-Entries-clause-is c = λ bound turns depth.
     let has = rw c.in-Entries.is at c.requires.has in
     let p = err_from_is_err_and c.from_residual-in_err-task-in-Entries.result c.from_residual-in_err-task-in-Entries.ensures.1 in
-    rw (p.1, p.2, c.in-Entries.is) (enters-stops (block_rest (suc turns) bound depth c.args.start c.args.column (entries (entries_of (map entry_view c.in-Entries.entries.items)) (key_seen c.args.bytes.now c.in-Entries.key)) (lines_at c.args.bytes.now c.args.at)) (value_rest bound turns depth c.args.start c.args.column c.args.count.now.nodes (entries_of (map entry_view c.in-Entries.entries.items)) c.args.bytes.now (read_of c.args.bytes.now c.in-Entries.key.read) c.in-Entries.key.behind has.0.inside (lines_at c.args.bytes.now c.args.at)) c.args.count.now.nodes (block_waits turns bound depth c.args.start c.args.column (value (entries_of (map entry_view c.in-Entries.entries.items)) (read_of c.args.bytes.now c.in-Entries.key.read))) c.in_err-task-in-Entries.field-0.0
-    (key-answer bound turns depth c.args.start c.args.column c.args.count.now.nodes (entries_of (map entry_view c.in-Entries.entries.items)) c.args.bytes.now (read_of c.args.bytes.now c.in-Entries.key.read) c.in-Entries.key.behind has.0.inside (lines_at c.args.bytes.now c.args.at)) (c.in_err-task-in-Entries.ensures.is (block_node bound) depth))
+    rw (p.1, p.2, c.in-Entries.is) (enters-stops (block_rest (suc turns) bound depth c.args.start c.args.column (entries (entries_of (map entry_view c.in-Entries.entries.items)) (key_seen c.args.file.now.bytes.now c.in-Entries.key)) (lines_at c.args.file.now.bytes.now c.args.at)) (value_rest bound turns depth c.args.start c.args.column c.args.count.now.nodes (entries_of (map entry_view c.in-Entries.entries.items)) c.args.file.now.bytes.now (read_of c.args.file.now.bytes.now c.in-Entries.key.read) c.in-Entries.key.behind has.0.inside (lines_at c.args.file.now.bytes.now c.args.at)) c.args.count.now.nodes (block_waits turns bound depth c.args.start c.args.column (value (entries_of (map entry_view c.in-Entries.entries.items)) (read_of c.args.file.now.bytes.now c.in-Entries.key.read))) c.in_err-task-in-Entries.field-0.0
+    (key-answer bound turns depth c.args.start c.args.column c.args.count.now.nodes (entries_of (map entry_view c.in-Entries.entries.items)) c.args.file.now.bytes.now (read_of c.args.file.now.bytes.now c.in-Entries.key.read) c.in-Entries.key.behind has.0.inside (lines_at c.args.file.now.bytes.now c.args.at)) (c.in_err-task-in-Entries.ensures.is (block_node bound) depth))
 
 pub returns-in_ok-task-in-Entries-clause-is : goal.returns-in_ok-task-in-Entries-clause-is
 returns-in_ok-task-in-Entries-clause-is c = λ bound turns depth.
     let has = rw c.in-Entries.is at c.requires.has in
-    rw c.in-Entries.is (enters-with c.args.bytes.now bound turns depth c.args.start c.args.column (block_rest (suc turns) bound depth c.args.start c.args.column (entries (entries_of (map entry_view c.in-Entries.entries.items)) (key_seen c.args.bytes.now c.in-Entries.key)) (lines_at c.args.bytes.now c.args.at)) (value_rest bound turns depth c.args.start c.args.column c.args.count.now.nodes (entries_of (map entry_view c.in-Entries.entries.items)) c.args.bytes.now (read_of c.args.bytes.now c.in-Entries.key.read) c.in-Entries.key.behind has.0.inside (lines_at c.args.bytes.now c.args.at)) c.args.count.now.nodes c.find_rest-in-Entries.new.count.nodes (waiting.Value c.in-Entries.entries c.in-Entries.key.read) c.in_ok-task-in-Entries.task
-    (key-answer bound turns depth c.args.start c.args.column c.args.count.now.nodes (entries_of (map entry_view c.in-Entries.entries.items)) c.args.bytes.now (read_of c.args.bytes.now c.in-Entries.key.read) c.in-Entries.key.behind has.0.inside (lines_at c.args.bytes.now c.args.at)) (c.in_ok-task-in-Entries.ensures.is (block_node bound) depth))
+    rw c.in-Entries.is (enters-with c.args.file.now.bytes.now bound turns depth c.args.start c.args.column (block_rest (suc turns) bound depth c.args.start c.args.column (entries (entries_of (map entry_view c.in-Entries.entries.items)) (key_seen c.args.file.now.bytes.now c.in-Entries.key)) (lines_at c.args.file.now.bytes.now c.args.at)) (value_rest bound turns depth c.args.start c.args.column c.args.count.now.nodes (entries_of (map entry_view c.in-Entries.entries.items)) c.args.file.now.bytes.now (read_of c.args.file.now.bytes.now c.in-Entries.key.read) c.in-Entries.key.behind has.0.inside (lines_at c.args.file.now.bytes.now c.args.at)) c.args.count.now.nodes c.find_rest-in-Entries.new.count.nodes (waiting.Value c.in-Entries.entries c.in-Entries.key.read) c.in_ok-task-in-Entries.task
+    (key-answer bound turns depth c.args.start c.args.column c.args.count.now.nodes (entries_of (map entry_view c.in-Entries.entries.items)) c.args.file.now.bytes.now (read_of c.args.file.now.bytes.now c.in-Entries.key.read) c.in-Entries.key.behind has.0.inside (lines_at c.args.file.now.bytes.now c.args.at)) (c.in_ok-task-in-Entries.ensures.is (block_node bound) depth))
 
 pub returns-in_ok-task-in-Entries-clause-within : goal.returns-in_ok-task-in-Entries-clause-within
 returns-in_ok-task-in-Entries-clause-within c =
@@ -50,5 +50,5 @@ returns-in_ok-task-in-Entries-clause-within c =
       c.in-Entries.key.behind,
       k.inside,
       (omega (arith, from.0, k.read.start), omega (arith, k.read.start, k.read.from), omega (arith, k.read.end, k.from), rw k.read.start from.1, k.read.placed),
-      found-wider c.args.bytes.now c.in-Entries.key.behind (suc c.args.at) c.in-Entries.key.behind c.in_ok-task-in-Entries.task (omega (arith, k.from, k.read.start, k.read.from, k.read.end)) c.in_ok-task-in-Entries.ensures.within,
+      found-wider c.args.file.now.bytes.now c.in-Entries.key.behind (suc c.args.at) c.in-Entries.key.behind c.in_ok-task-in-Entries.task (omega (arith, k.from, k.read.start, k.read.from, k.read.end)) c.in_ok-task-in-Entries.ensures.within,
     )
