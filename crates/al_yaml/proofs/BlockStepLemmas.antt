@@ -62,10 +62,10 @@ module _ (bound turns depth start column n : ℕ) (done : tree.Entries) (bytes :
 pub enters-with : (bytes : List ℕ) (bound turns depth start column : ℕ) (reading rest : Reading (Part tree.Node)) (n m : ℕ) (w : BlockWaiting) (t : BlockTask)
     → run (counted n) reading ≡ answered (run (counted n) rest) (block_waits turns bound depth start column (block_waiting_of bytes w))
     → FindsBlock bytes (block_node bound) depth rest n (Ok t) m → EntersWith bytes bound turns depth start column reading n w t m
-enters-with bytes bound turns depth start column reading rest n m w (task.Node s c at) e h = e ∙ ap (λ o. answered o (block_waits turns bound depth start column (block_waiting_of bytes w))) h
+enters-with bytes bound turns depth start column reading rest n m w (task.Node s p) e h = e ∙ ap (λ o. answered o (block_waits turns bound depth start column (block_waiting_of bytes w))) h
 enters-with bytes bound turns depth start column reading rest n m w (task.Found p x) e h = e ∙ ap (λ o. answered o (block_waits turns bound depth start column (block_waiting_of bytes w))) h
 enters-with bytes bound turns depth start column reading rest n m w (task.Read p) e h = h
-enters-with bytes bound turns depth start column reading rest n m w (task.Inside s c has at) e h = h
+enters-with bytes bound turns depth start column reading rest n m w (task.Inside s has at) e h = h
 
 pub enters-stops : (reading rest : Reading (Part tree.Node)) (n : ℕ) (f : Part tree.Node → Reading (Part tree.Node)) (e : ReadError) → run (counted n) reading ≡ answered (run (counted n) rest) f → Stops rest n e → Stops reading n e
 enters-stops reading rest n f (stop.Fault x) g h = g ∙ ap (λ o. answered o f) h
@@ -165,16 +165,16 @@ module _ (bound turns depth start column n : ℕ) (bytes : List ℕ) (x : Part t
 
 pub begins-from : (bytes : List ℕ) (bound depth n m : ℕ) (r q : Reading (Part tree.Node)) (result : Result BlockTask ReadError) → run (counted n) r ≡ run (counted n) q → Begins bytes bound depth q n result m → Begins bytes bound depth r n result m
 begins-from bytes bound depth n m r q (Ok (task.Read p)) e h = e ∙ h
-begins-from bytes bound depth n m r q (Ok (task.Inside s c has at)) e h = e ∙ h
-begins-from bytes bound depth n m r q (Ok (task.Node s c at)) e h = h
+begins-from bytes bound depth n m r q (Ok (task.Inside s has at)) e h = e ∙ h
+begins-from bytes bound depth n m r q (Ok (task.Node s p)) e h = h
 begins-from bytes bound depth n m r q (Ok (task.Found p x)) e h = h
 begins-from bytes bound depth n m r q (Err x) e h = stops-from r q n n x e h
 
 pub found-wider : (bytes : List ℕ) (from to low : ℕ) (t : BlockTask) → to ≤ from → IsFoundFrom bytes from low t → IsFoundFrom bytes to low t
-found-wider bytes from to low (task.Node s c at) h f = (f.0, omega (arith, h, f.1), f.2)
+found-wider bytes from to low (task.Node s p) h f = (f.0, omega (arith, h, f.1), f.2)
 found-wider bytes from to low (task.Found p x) h f = (record { from = omega (arith, h, f.0.from); inside = f.0.inside; end = f.0.end }, f.1, f.2)
 found-wider bytes from to low (task.Read p) h f = f
-found-wider bytes from to low (task.Inside s c has at) h f = f
+found-wider bytes from to low (task.Inside s has at) h f = f
 
 pub next-from : (from size at : ℕ) (x : next_code.Next) → IsNextAt x at → IsLineFrom from size x → from ≤ at
 next-from from size at next_line.Ended h l = absurd h

@@ -26,7 +26,7 @@ use crate::limits::Count;
 use crate::lines::{characters, next_line};
 use crate::node::{Entry, Node, Part, entry_of, mapping_part, scalar_node, sequence_part};
 use crate::scalars::empty_part;
-use crate::slots::{Slot, Spot, is_deeper, spot_behind};
+use crate::slots::{Place, Slot, Spot, is_deeper, spot_behind};
 use al_scalar::ScalarRead;
 use al_scalar::lines::blanks_end;
 use al_text::YamlCode;
@@ -47,26 +47,23 @@ pub enum BlockWaiting {
     Value(Vec<Entry>, ScalarRead),
 }
 
-/// A block collection that waits for a node, by its start, before which its own anchor would stand, and its column.
+/// A block collection that waits for a node, by its start, before which its own anchor would stand.
 #[derive(Drop)]
 pub struct BlockFrame {
-    pub start: usize,
-    pub column: usize,
+    pub start: Place,
     pub waiting: BlockWaiting,
 }
 
-/// What is to be read next: a node, whose first character stands in a column; the innermost collection, from a dash or
+/// What is to be read next: a node, from its first character on; the innermost collection, from a dash or
 /// a key on; what stands behind a node that was read, where the next content line was found or not yet.
 #[derive(Drop)]
 pub enum BlockTask {
     Node {
         slot: Slot,
-        column: usize,
-        at: usize,
+        start: Place,
     },
     Inside {
-        start: usize,
-        column: usize,
+        start: Place,
         has: BlockOpen,
         at: usize,
     },
@@ -74,26 +71,24 @@ pub enum BlockTask {
     Found(Part, Next),
 }
 
-/// Finds the node behind a dash or a colon: on the line, or else below it; or reads the empty node. The column is that of
-/// `from`.
+/// Finds the node behind a dash or a colon: on the line, or else below it; or reads the empty node.
 fn find_rest(
     file: &File,
     count: &mut Count,
     slot: Slot,
-    column: usize,
-    from: usize,
+    from: Place,
     rest: usize,
 ) -> Result<BlockTask, ReadError>
-    requires order { from ≤ rest }
+    requires order { from.at ≤ rest }
     requires inside { rest ≤ size file.now }
-    requires line { content.same_line (left_at file.now from) (left_at file.now rest) ≡ true }
-    requires column { column ≤ from }
+    requires line { content.same_line (left_at file.now from.at) (left_at file.now rest) ≡ true }
+    requires column { from.column ≤ from.at }
     requires within { slot.within ≤ rest + 1 }
     requires empty { slot.empty ≤ rest }
     requires tab { IsTabInside (size file.now) slot.spot }
     ensures fault { IfErr result (IsStopInside (size file.now)) }
     ensures is { (node : block.BlockReader) (depth : ℕ) → FindsBlock file.now.bytes.now node depth
-        (block.rest_node node (slot_of slot) depth column (left_at file.now from)
+        (block.rest_node node (slot_of slot) depth from.column (left_at file.now from.at)
         (left_at file.now rest)) count.old.nodes result count.new.nodes }
     ensures within { IfOk result (λ task. IsFoundFrom file.now.bytes.now rest slot.empty task) }
 {
@@ -102,11 +97,10 @@ fn find_rest(
     }
     let at = blanks_end(file.bytes, rest);
     let spot = spot_behind(file.bytes, rest, slot.spot);
-    let column = column + characters(file.bytes, from, at);
+    let column = from.column + characters(file.bytes, from.at, at);
     Ok(BlockTask::Node {
         slot: Slot { spot, ..slot },
-        column,
-        at,
+        start: Place { at, column },
     })
 }
 
@@ -134,8 +128,10 @@ fn find_below(file: &File, count: &mut Count, slot: Slot, at: usize) -> Result<B
             spot: Spot::OwnLine,
             ..slot
         },
-        column: indent,
-        at: first,
+        start: Place {
+            at: first,
+            column: indent,
+        },
     })
 }
 
@@ -143,39 +139,46 @@ fn find_below(file: &File, count: &mut Count, slot: Slot, at: usize) -> Result<B
 fn enter(
     file: &File,
     count: &mut Count,
-    start: usize,
-    column: usize,
+    start: Place,
     has: BlockOpen,
     at: usize,
 ) -> Result<(BlockWaiting, BlockTask), ReadError>
-    requires has { IsOpenAt file.now.bytes.now column at has }
-    requires from { IsOpenFrom (size file.now) start at has }
+    requires has { IsOpenAt file.now.bytes.now start.column at has }
+    requires from { IsOpenFrom (size file.now) start.at at has }
     ensures fault { IfErr result (IsStopInside (size file.now)) }
-    ensures within { IfOk result (λ r. IsEntered file.now.bytes.now start at r) }
-    ensures is { (bound turns depth : ℕ) → Enters file.now.bytes.now bound turns depth start column
-        (block_rest (suc turns) bound depth start column (block_open_of file.now.bytes.now has)
+    ensures within { IfOk result (λ r. IsEntered file.now.bytes.now start.at at r) }
+    ensures is { (bound turns depth : ℕ) → Enters file.now.bytes.now bound turns depth start.at start.column
+        (block_rest (suc turns) bound depth start.at start.column (block_open_of file.now.bytes.now has)
         (left_at file.now at)) count.old.nodes result count.new.nodes }
 {
     match has {
         BlockOpen::Items(in_mapping, items) => {
             let slot = Slot {
                 spot: Spot::Compact(None),
-                within: column + 1,
+                within: start.column + 1,
                 in_mapping: false,
                 empty: at + 1,
             };
-            let task = find_rest(file, count, slot, column, at, at + 1)?;
+            let from = Place {
+                at,
+                column: start.column,
+            };
+            let task = find_rest(file, count, slot, from, at + 1)?;
             Ok((BlockWaiting::Item(in_mapping, items), task))
         }
         BlockOpen::Entries(entries, key) => {
             let behind = key.behind;
             let slot = Slot {
                 spot: Spot::BehindKey,
-                within: column + 1,
+                within: start.column + 1,
                 in_mapping: true,
                 empty: behind,
             };
-            let task = find_rest(file, count, slot, 0, behind, behind)?;
+            let from = Place {
+                at: behind,
+                column: 0,
+            };
+            let task = find_rest(file, count, slot, from, behind)?;
             Ok((BlockWaiting::Value(entries, key.read), task))
         }
     }
@@ -211,8 +214,7 @@ fn put_block_item(
     file: &File,
     progress: &mut Progress,
     depth: u32,
-    start: usize,
-    column: usize,
+    start: Place,
     in_mapping: bool,
     items: Vec<Node>,
     part: Part,
@@ -220,40 +222,38 @@ fn put_block_item(
 ) -> Result<BlockTask, ReadError>
     requires inside { part.next ≤ size file.now }
     requires end { part.end ≤ part.next }
-    requires start { start ≤ part.end }
+    requires start { start.at ≤ part.end }
     requires next { IsNextBehind file.now.bytes.now part next }
     requires depth { depth ≤ 65 }
     requires outside { progress.old.stack.flows ≡ [] }
     requires room { length progress.old.stack.blocks ≤ depth }
     ensures fault { IfErr result (IsStopInside (size file.now)) }
-    ensures is { (bound turns : ℕ) → size file.now < suc bound + part.next → ResumesBlock file.now.bytes.now bound turns depth start column
+    ensures is { (bound turns : ℕ) → size file.now < suc bound + part.next → ResumesBlock file.now.bytes.now bound turns depth start.at start.column
         (frames.item in_mapping (nodes_of (map view items.items))) (part_of file.now.bytes.now part)
         progress.old.count.nodes result progress.new.count.nodes }
-    ensures within { (low : ℕ) → start ≤ low → ArePlacedIn (size file.now) start low (nodes_of (map view items.items))
+    ensures within { (low : ℕ) → start.at ≤ low → ArePlacedIn (size file.now) start.at low (nodes_of (map view items.items))
         → IsPlacedIn (size file.now) low part.end (view part.node)
-        → IfOk result (λ task. IsResumed file.now.bytes.now start part.next task) }
+        → IfOk result (λ task. IsResumed file.now.bytes.now start.at part.next task) }
     ensures same { IfOk result (λ _. progress.new.stack ≡ progress.old.stack) }
 {
     let mut items = items;
     items.push(part.node)?;
-    let Some(at) = entry_on(file.bytes, column, next)? else {
-        return Ok(BlockTask::Found(sequence_part(items, start, part.end, part.next), next));
+    let Some(at) = entry_on(file.bytes, start.column, next)? else {
+        return Ok(BlockTask::Found(sequence_part(items, start.at, part.end, part.next), next));
     };
     if is_dash(file.bytes, at) {
         return Ok(BlockTask::Inside {
             start,
-            column,
             has: BlockOpen::Items(in_mapping, items),
             at,
         });
     }
     if in_mapping {
-        return Ok(BlockTask::Found(sequence_part(items, start, part.end, part.next), next));
+        return Ok(BlockTask::Found(sequence_part(items, start.at, part.end, part.next), next));
     }
     no_entry(file, progress, depth, at)?;
     Ok(BlockTask::Inside {
         start,
-        column,
         has: BlockOpen::Items(in_mapping, items),
         at,
     })
@@ -264,8 +264,7 @@ fn put_block_entry(
     file: &File,
     progress: &mut Progress,
     depth: u32,
-    start: usize,
-    column: usize,
+    start: Place,
     entries: Vec<Entry>,
     key: ScalarRead,
     part: Part,
@@ -273,31 +272,30 @@ fn put_block_entry(
 ) -> Result<BlockTask, ReadError>
     requires inside { part.next ≤ size file.now }
     requires end { part.end ≤ part.next }
-    requires start { start ≤ part.end }
+    requires start { start.at ≤ part.end }
     requires next { IsNextBehind file.now.bytes.now part next }
     requires depth { depth ≤ 65 }
     requires outside { progress.old.stack.flows ≡ [] }
     requires room { length progress.old.stack.blocks ≤ depth }
     ensures fault { IfErr result (IsStopInside (size file.now)) }
-    ensures is { (bound turns : ℕ) → size file.now < suc bound + part.next → ResumesBlock file.now.bytes.now bound turns depth start column
+    ensures is { (bound turns : ℕ) → size file.now < suc bound + part.next → ResumesBlock file.now.bytes.now bound turns depth start.at start.column
         (frames.value (entries_of (map entry_view entries.items)) (read_of file.now.bytes.now key))
         (part_of file.now.bytes.now part) progress.old.count.nodes result progress.new.count.nodes }
-    ensures within { (low : ℕ) → start ≤ key.span.start → key.span.start ≤ key.span.end → key.span.end ≤ low
-        → EntriesPlacedIn (size file.now) start key.span.start (entries_of (map entry_view entries.items))
+    ensures within { (low : ℕ) → start.at ≤ key.span.start → key.span.start ≤ key.span.end → key.span.end ≤ low
+        → EntriesPlacedIn (size file.now) start.at key.span.start (entries_of (map entry_view entries.items))
         → IsPlaced (size file.now) key.scalar key.span → IsPlacedIn (size file.now) low part.end (view part.node)
-        → IfOk result (λ task. IsResumed file.now.bytes.now start part.next task) }
+        → IfOk result (λ task. IsResumed file.now.bytes.now start.at part.next task) }
     ensures same { IfOk result (λ _. progress.new.stack ≡ progress.old.stack) }
 {
     let mut entries = entries;
     let key = scalar_node(key.scalar, key.span);
     entries.push(entry_of(key, part.node))?;
-    let Some(at) = entry_on(file.bytes, column, next)? else {
-        return Ok(BlockTask::Found(mapping_part(entries, start, part.end, part.next), next));
+    let Some(at) = entry_on(file.bytes, start.column, next)? else {
+        return Ok(BlockTask::Found(mapping_part(entries, start.at, part.end, part.next), next));
     };
     let key = entry_key(file, progress, depth, at)?;
     Ok(BlockTask::Inside {
         start,
-        column,
         has: BlockOpen::Entries(entries, key),
         at,
     })
@@ -314,82 +312,66 @@ fn resume_block(
 ) -> Result<BlockTask, ReadError>
     requires inside { part.next ≤ size file.now }
     requires end { part.end ≤ part.next }
-    requires start { frame.start ≤ part.end }
+    requires start { frame.start.at ≤ part.end }
     requires next { IsNextBehind file.now.bytes.now part next }
-    requires waits { (low : ℕ) × IsBlockWaitingFrom (size file.now) frame.start low frame.waiting
+    requires waits { (low : ℕ) × IsBlockWaitingFrom (size file.now) frame.start.at low frame.waiting
         × IsPlacedIn (size file.now) low part.end (view part.node) }
     requires depth { depth ≤ 65 }
     requires outside { progress.old.stack.flows ≡ [] }
     requires room { length progress.old.stack.blocks ≤ depth }
     ensures fault { IfErr result (IsStopInside (size file.now)) }
     ensures is { (bound turns : ℕ) → size file.now < suc bound + part.next
-        → ResumesBlock file.now.bytes.now bound turns depth frame.start frame.column (block_waiting_of file.now.bytes.now frame.waiting)
+        → ResumesBlock file.now.bytes.now bound turns depth frame.start.at frame.start.column (block_waiting_of file.now.bytes.now frame.waiting)
         (part_of file.now.bytes.now part) progress.old.count.nodes result progress.new.count.nodes }
-    ensures within { IfOk result (λ task. IsResumed file.now.bytes.now frame.start part.next task) }
+    ensures within { IfOk result (λ task. IsResumed file.now.bytes.now frame.start.at part.next task) }
     ensures same { IfOk result (λ _. progress.new.stack ≡ progress.old.stack) }
 {
-    let BlockFrame {
-        start,
-        column,
-        waiting,
-    } = frame;
+    let BlockFrame { start, waiting } = frame;
     match waiting {
         BlockWaiting::Item(in_mapping, items) => put_block_item(
-            file, progress, depth, start, column, in_mapping, items, part, next,
+            file, progress, depth, start, in_mapping, items, part, next,
         ),
         BlockWaiting::Value(entries, key) => {
-            put_block_entry(
-                file, progress, depth, start, column, entries, key, part, next,
-            )
+            put_block_entry(file, progress, depth, start, entries, key, part, next)
         }
     }
 }
 
-/// Reads a node in block context, whose first character stands in this column.
+/// Reads a node in block context, from its first character on.
 ///
 /// The collections that are open in it stand on the stack, which is empty at first.
 pub fn read_block_node(
     file: &File,
     progress: &mut Progress,
     slot: Slot,
-    column: usize,
-    at: usize,
+    start: Place,
 ) -> Result<Part, ReadError>
-    requires inside { at ≤ size file.now }
-    requires column { column ≤ at }
-    requires within { slot.within ≤ at + 1 }
+    requires inside { start.at ≤ size file.now }
+    requires column { start.column ≤ start.at }
+    requires within { slot.within ≤ start.at + 1 }
     requires tab { IsTabInside (size file.now) slot.spot }
     requires outside { progress.old.stack.flows ≡ [] }
     requires none { progress.old.stack.blocks ≡ [] }
     ensures fault { IfErr result (IsStopInside (size file.now)) }
-    ensures is { (bound : ℕ) → size file.now < bound + at → IsRead (part_of file.now.bytes.now)
-        (block.block_node bound (slot_of slot) 1 column (left_at file.now at)) progress.old.count.nodes result progress.new.count.nodes }
-    ensures within { IfOk result (λ part. IsBehind file.now.bytes.now at part) }
-    ensures nested { IfOk result (λ part. IsPlacedIn (size file.now) at part.end (view part.node)) }
+    ensures is { (bound : ℕ) → size file.now < bound + start.at → IsRead (part_of file.now.bytes.now)
+        (block.block_node bound (slot_of slot) 1 start.column (left_at file.now start.at)) progress.old.count.nodes result progress.new.count.nodes }
+    ensures within { IfOk result (λ part. IsBehind file.now.bytes.now start.at part) }
+    ensures nested { IfOk result (λ part. IsPlacedIn (size file.now) start.at part.end (view part.node)) }
 {
-    let mut task = BlockTask::Node { slot, column, at };
+    let mut task = BlockTask::Node { slot, start };
     'nodes: loop {
         let depth = progress.stack.len() as u32 + 1;
         match task {
-            BlockTask::Node {
-                slot,
-                column,
-                at: from,
-            } => {
-                task = read_node(file, progress, slot, depth, column, from)?;
+            BlockTask::Node { slot, start: from } => {
+                task = read_node(file, progress, slot, depth, from)?;
             }
             BlockTask::Inside {
                 start,
-                column,
                 has,
                 at: from,
             } => {
-                let (waiting, inner) = enter(file, &mut progress.count, start, column, has, from)?;
-                progress.stack.push_block(BlockFrame {
-                    start,
-                    column,
-                    waiting,
-                });
+                let (waiting, inner) = enter(file, &mut progress.count, start, has, from)?;
+                progress.stack.push_block(BlockFrame { start, waiting });
                 task = inner;
             }
             BlockTask::Read(part) => {

@@ -23,7 +23,7 @@ use crate::limits::Count;
 use crate::lines::same_line;
 use crate::node::Part;
 use crate::scalars::read_line_scalar;
-use crate::slots::{Slot, Spot, is_behind_key, tab_before};
+use crate::slots::{Place, Slot, Spot, is_behind_key, tab_before};
 use crate::starts::{block_fault, is_block_start, is_flow_start, is_property};
 use al_text::YamlCode;
 
@@ -84,52 +84,51 @@ fn read_line_flow(
     })
 }
 
-/// Reads a node in block context, whose first character stands in this column, if it is no block collection; else it
-/// begins the collection.
+/// Reads a node in block context, from its first character on, if it is no block collection; else it begins the
+/// collection.
 pub fn read_node(
     file: &File,
     progress: &mut Progress,
     slot: Slot,
     depth: u32,
-    column: usize,
-    at: usize,
+    start: Place,
 ) -> Result<BlockTask, ReadError>
-    requires inside { at ≤ size file.now }
+    requires inside { start.at ≤ size file.now }
     requires depth { depth ≤ 65 }
     requires outside { progress.old.stack.flows ≡ [] }
     requires room { length progress.old.stack.blocks ≤ depth }
-    requires node { IsNodeAt file.now.bytes.now slot column at }
+    requires node { IsNodeAt file.now.bytes.now slot start.column start.at }
     ensures fault { IfErr result (IsStopInside (size file.now)) }
-    ensures is { (bound : ℕ) → size file.now < suc bound + at → Begins file.now.bytes.now bound depth (block.block_node (suc bound)
-        (slot_of slot) depth column (left_at file.now at)) progress.old.count.nodes result progress.new.count.nodes }
-    ensures within { IfOk result (λ task. IsBegun file.now.bytes.now at depth task) }
+    ensures is { (bound : ℕ) → size file.now < suc bound + start.at → Begins file.now.bytes.now bound depth (block.block_node (suc bound)
+        (slot_of slot) depth start.column (left_at file.now start.at)) progress.old.count.nodes result progress.new.count.nodes }
+    ensures within { IfOk result (λ task. IsBegun file.now.bytes.now start.at depth task) }
     ensures same { IfOk result (λ _. progress.new.stack ≡ progress.old.stack) }
 {
-    if is_property(file.bytes, at) {
+    if is_property(file.bytes, start.at) {
         return Err(ReadError::Fault(FaultAt {
             code: YamlCode::AnchorOrAlias,
-            at,
+            at: start.at,
         }));
     }
-    if is_dash(file.bytes, at) {
-        return begin_sequence(file, &mut progress.count, slot, depth, column, at);
+    if is_dash(file.bytes, start.at) {
+        return begin_sequence(file, &mut progress.count, slot, depth, start);
     }
-    if let Some(code) = block_fault(file.bytes, at) {
-        return Err(ReadError::Fault(FaultAt { code, at }));
+    if let Some(code) = block_fault(file.bytes, start.at) {
+        return Err(ReadError::Fault(FaultAt { code, at: start.at }));
     }
-    if is_flow_start(file.bytes, at) {
-        let part = read_line_flow(file, progress, slot.spot, depth, at)?;
+    if is_flow_start(file.bytes, start.at) {
+        let part = read_line_flow(file, progress, slot.spot, depth, start.at)?;
         return Ok(BlockTask::Read(part));
     }
-    if is_no_key(file.bytes, slot.spot, at) {
-        let part = read_line_scalar(file, &mut progress.count, slot.within, at)?;
+    if is_no_key(file.bytes, slot.spot, start.at) {
+        let part = read_line_scalar(file, &mut progress.count, slot.within, start.at)?;
         return Ok(BlockTask::Read(part));
     }
-    let Some(key) = key_at(file, at)? else {
-        let part = read_line_scalar(file, &mut progress.count, slot.within, at)?;
+    let Some(key) = key_at(file, start.at)? else {
+        let part = read_line_scalar(file, &mut progress.count, slot.within, start.at)?;
         return Ok(BlockTask::Read(part));
     };
-    begin_mapping(file, &mut progress.count, slot.spot, depth, column, at, key)
+    begin_mapping(file, &mut progress.count, slot.spot, depth, start, key)
 }
 
 /// Begins the sequence whose first dash stands at an offset.
@@ -138,22 +137,21 @@ fn begin_sequence(
     count: &mut Count,
     slot: Slot,
     depth: u32,
-    column: usize,
-    at: usize,
+    start: Place,
 ) -> Result<BlockTask, ReadError>
-    requires dash { content.is_dash (text_at file.now.bytes.now at) ≡ true }
-    requires inside { at < size file.now }
-    requires node { IsNodeAt file.now.bytes.now slot column at }
+    requires dash { content.is_dash (text_at file.now.bytes.now start.at) ≡ true }
+    requires inside { start.at < size file.now }
+    requires node { IsNodeAt file.now.bytes.now slot start.column start.at }
     ensures fault { IfErr result (IsStopInside (size file.now)) }
     ensures is { (bound : ℕ) → Begins file.now.bytes.now bound depth (block.block_sequence (block.block_node bound)
-        (flow.flow_collection (suc bound)) (suc bound) (slot_of slot) depth column
-        (left_at file.now at)) count.old.nodes result count.new.nodes }
-    ensures within { IfOk result (λ task. IsBegun file.now.bytes.now at depth task) }
+        (flow.flow_collection (suc bound)) (suc bound) (slot_of slot) depth start.column
+        (left_at file.now start.at)) count.old.nodes result count.new.nodes }
+    ensures within { IfOk result (λ task. IsBegun file.now.bytes.now start.at depth task) }
 {
     if is_behind_key(slot.spot) {
         return Err(ReadError::Fault(FaultAt {
             code: YamlCode::UnexpectedCharacter,
-            at,
+            at: start.at,
         }));
     }
     if let Some(tab) = tab_before(slot.spot) {
@@ -162,12 +160,11 @@ fn begin_sequence(
             at: tab,
         }));
     }
-    count.start(at, 1, depth)?;
+    count.start(start.at, 1, depth)?;
     Ok(BlockTask::Inside {
-        start: at,
-        column,
+        start,
         has: BlockOpen::Items(slot.in_mapping, Vec::new(file.alloc)),
-        at,
+        at: start.at,
     })
 }
 
@@ -177,24 +174,23 @@ fn begin_mapping(
     count: &mut Count,
     spot: Spot,
     depth: u32,
-    column: usize,
-    at: usize,
+    start: Place,
     key: Key,
 ) -> Result<BlockTask, ReadError>
-    requires key { IsKeyBehind file.now.bytes.now at key }
-    requires column { column ≤ at }
+    requires key { IsKeyBehind file.now.bytes.now start.at key }
+    requires column { start.column ≤ start.at }
     requires tab { IsTabInside (size file.now) spot }
     ensures fault { IfErr result (IsStopInside (size file.now)) }
     ensures is { (bound : ℕ) → Begins file.now.bytes.now bound depth (block.block_mapping (block.block_node bound)
-        (flow.flow_collection (suc bound)) (suc bound) (spot_of spot) depth column (left_at file.now at)
+        (flow.flow_collection (suc bound)) (suc bound) (spot_of spot) depth start.column (left_at file.now start.at)
         (key_seen file.now.bytes.now key)) count.old.nodes result count.new.nodes }
-    ensures within { IfOk result (λ task. IsBegun file.now.bytes.now at depth task) }
+    ensures within { IfOk result (λ task. IsBegun file.now.bytes.now start.at depth task) }
 {
     let wrong = ReadError::Fault(FaultAt {
         code: YamlCode::WrongKey,
-        at,
+        at: start.at,
     });
-    if !same_line(file.bytes, at, key.read.next) {
+    if !same_line(file.bytes, start.at, key.read.next) {
         return Err(wrong);
     }
     if let Some(tab) = tab_before(spot) {
@@ -203,14 +199,13 @@ fn begin_mapping(
             at: tab,
         }));
     }
-    if !is_short_key(file.bytes, at, &key.read) {
+    if !is_short_key(file.bytes, start.at, &key.read) {
         return Err(wrong);
     }
-    count.start(at, 2, depth)?;
+    count.start(start.at, 2, depth)?;
     Ok(BlockTask::Inside {
-        start: at,
-        column,
+        start,
         has: BlockOpen::Entries(Vec::new(file.alloc), key),
-        at,
+        at: start.at,
     })
 }

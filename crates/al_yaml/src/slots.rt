@@ -15,6 +15,13 @@ pub enum Spot {
     BehindKey,
 }
 
+/// Where a node or a collection begins: the offset of its first character, and the column of that.
+#[derive(Clone, Copy)]
+pub struct Place {
+    pub at: usize,
+    pub column: usize,
+}
+
 /// What surrounds a node: its spot; the least indent of its further lines; whether it is the value of a mapping's
 /// entry; and the offset at which an empty node would stand in its place.
 #[derive(Clone, Copy)]
