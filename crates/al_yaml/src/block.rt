@@ -3,9 +3,9 @@
 ghost use Rattle.al_scalar.specs.Contract.{read_of};
 ghost use Rattle.al_scalar.specs.Offsets.{IsPlaced};
 ghost use Rattle.al_yaml.specs.BlockFrames as frames;
-ghost use Rattle.al_yaml.specs.BlockFrames.{Enters, FindsBlock, IsBlockWaitingFrom, IsEntered, IsFoundFrom, IsNextAt, IsNextBehind};
-ghost use Rattle.al_yaml.specs.BlockFrames.{IsNextInside, IsOpenAt, IsOpenFrom, IsResumed, ResumesBlock, block_open_of, block_rest};
-ghost use Rattle.al_yaml.specs.BlockFrames.{block_waiting_of};
+ghost use Rattle.al_yaml.specs.BlockFrames.{Enters, FindsBlock, IsBlockWaitingFrom, IsEntered, IsFoundFrom, IsNextAt};
+ghost use Rattle.al_yaml.specs.BlockFrames.{IsNextInside, IsOpenAt, IsOpenFrom, IsReadBefore, IsResumed, ResumesBlock};
+ghost use Rattle.al_yaml.specs.BlockFrames.{block_open_of, block_rest, block_waiting_of};
 ghost use Rattle.al_yaml.specs.BlockReads.{IsTabInside, slot_of};
 ghost use Rattle.al_yaml.specs.Blocks as block;
 ghost use Rattle.al_yaml.specs.Content as content;
@@ -54,6 +54,13 @@ pub struct BlockFrame {
     pub waiting: BlockWaiting,
 }
 
+/// A node that was read, and the next content line behind it.
+#[derive(Drop)]
+pub struct PartBefore {
+    pub part: Part,
+    pub next: Next,
+}
+
 /// What is to be read next: a node, from its first character on; the innermost collection, from a dash or
 /// a key on; what stands behind a node that was read, where the next content line was found or not yet.
 #[derive(Drop)]
@@ -68,7 +75,7 @@ pub enum BlockTask {
         at: usize,
     },
     Read(Part),
-    Found(Part, Next),
+    Found(PartBefore),
 }
 
 /// Finds the node behind a dash or a colon: on the line, or else below it; or reads the empty node.
@@ -117,11 +124,11 @@ fn find_below(file: &File, count: &mut Count, slot: Slot, at: usize) -> Result<B
     let found = next_content(file.bytes, at)?;
     let Next::Line { indent, at: first } = found else {
         let part = empty_part(file, count, slot.empty, at)?;
-        return Ok(BlockTask::Found(part, found));
+        return Ok(BlockTask::Found(PartBefore { part, next: found }));
     };
     if !is_deeper(file.bytes, slot, indent, first) {
         let part = empty_part(file, count, slot.empty, at)?;
-        return Ok(BlockTask::Found(part, found));
+        return Ok(BlockTask::Found(PartBefore { part, next: found }));
     }
     Ok(BlockTask::Node {
         slot: Slot {
@@ -217,29 +224,30 @@ fn put_block_item(
     start: Place,
     in_mapping: bool,
     items: Vec<Node>,
-    part: Part,
-    next: Next,
+    read: PartBefore,
 ) -> Result<BlockTask, ReadError>
-    requires inside { part.next ≤ size file.now }
-    requires end { part.end ≤ part.next }
-    requires start { start.at ≤ part.end }
-    requires next { IsNextBehind file.now.bytes.now part next }
+    requires read { IsReadBefore file.now.bytes.now start.at read }
     requires depth { depth ≤ 65 }
     requires outside { progress.old.stack.flows ≡ [] }
     requires room { length progress.old.stack.blocks ≤ depth }
     ensures fault { IfErr result (IsStopInside (size file.now)) }
-    ensures is { (bound turns : ℕ) → size file.now < suc bound + part.next → ResumesBlock file.now.bytes.now bound turns depth start.at start.column
-        (frames.item in_mapping (nodes_of (map view items.items))) (part_of file.now.bytes.now part)
+    ensures is { (bound turns : ℕ) → size file.now < suc bound + read.part.next
+        → ResumesBlock file.now.bytes.now bound turns depth start.at start.column
+        (frames.item in_mapping (nodes_of (map view items.items))) (part_of file.now.bytes.now read.part)
         progress.old.count.nodes result progress.new.count.nodes }
     ensures within { (low : ℕ) → start.at ≤ low → ArePlacedIn (size file.now) start.at low (nodes_of (map view items.items))
-        → IsPlacedIn (size file.now) low part.end (view part.node)
-        → IfOk result (λ task. IsResumed file.now.bytes.now start.at part.next task) }
+        → IsPlacedIn (size file.now) low read.part.end (view read.part.node)
+        → IfOk result (λ task. IsResumed file.now.bytes.now start.at read.part.next task) }
     ensures same { IfOk result (λ _. progress.new.stack ≡ progress.old.stack) }
 {
+    let PartBefore { part, next } = read;
     let mut items = items;
     items.push(part.node)?;
     let Some(at) = entry_on(file.bytes, start.column, next)? else {
-        return Ok(BlockTask::Found(sequence_part(items, start.at, part.end, part.next), next));
+        return Ok(BlockTask::Found(PartBefore {
+            part: sequence_part(items, start.at, part.end, part.next),
+            next,
+        }));
     };
     if is_dash(file.bytes, at) {
         return Ok(BlockTask::Inside {
@@ -249,7 +257,10 @@ fn put_block_item(
         });
     }
     if in_mapping {
-        return Ok(BlockTask::Found(sequence_part(items, start.at, part.end, part.next), next));
+        return Ok(BlockTask::Found(PartBefore {
+            part: sequence_part(items, start.at, part.end, part.next),
+            next,
+        }));
     }
     no_entry(file, progress, depth, at)?;
     Ok(BlockTask::Inside {
@@ -267,31 +278,32 @@ fn put_block_entry(
     start: Place,
     entries: Vec<Entry>,
     key: ScalarRead,
-    part: Part,
-    next: Next,
+    read: PartBefore,
 ) -> Result<BlockTask, ReadError>
-    requires inside { part.next ≤ size file.now }
-    requires end { part.end ≤ part.next }
-    requires start { start.at ≤ part.end }
-    requires next { IsNextBehind file.now.bytes.now part next }
+    requires read { IsReadBefore file.now.bytes.now start.at read }
     requires depth { depth ≤ 65 }
     requires outside { progress.old.stack.flows ≡ [] }
     requires room { length progress.old.stack.blocks ≤ depth }
     ensures fault { IfErr result (IsStopInside (size file.now)) }
-    ensures is { (bound turns : ℕ) → size file.now < suc bound + part.next → ResumesBlock file.now.bytes.now bound turns depth start.at start.column
+    ensures is { (bound turns : ℕ) → size file.now < suc bound + read.part.next
+        → ResumesBlock file.now.bytes.now bound turns depth start.at start.column
         (frames.value (entries_of (map entry_view entries.items)) (read_of file.now.bytes.now key))
-        (part_of file.now.bytes.now part) progress.old.count.nodes result progress.new.count.nodes }
+        (part_of file.now.bytes.now read.part) progress.old.count.nodes result progress.new.count.nodes }
     ensures within { (low : ℕ) → start.at ≤ key.span.start → key.span.start ≤ key.span.end → key.span.end ≤ low
         → EntriesPlacedIn (size file.now) start.at key.span.start (entries_of (map entry_view entries.items))
-        → IsPlaced (size file.now) key.scalar key.span → IsPlacedIn (size file.now) low part.end (view part.node)
-        → IfOk result (λ task. IsResumed file.now.bytes.now start.at part.next task) }
+        → IsPlaced (size file.now) key.scalar key.span → IsPlacedIn (size file.now) low read.part.end (view read.part.node)
+        → IfOk result (λ task. IsResumed file.now.bytes.now start.at read.part.next task) }
     ensures same { IfOk result (λ _. progress.new.stack ≡ progress.old.stack) }
 {
+    let PartBefore { part, next } = read;
     let mut entries = entries;
     let key = scalar_node(key.scalar, key.span);
     entries.push(entry_of(key, part.node))?;
     let Some(at) = entry_on(file.bytes, start.column, next)? else {
-        return Ok(BlockTask::Found(mapping_part(entries, start.at, part.end, part.next), next));
+        return Ok(BlockTask::Found(PartBefore {
+            part: mapping_part(entries, start.at, part.end, part.next),
+            next,
+        }));
     };
     let key = entry_key(file, progress, depth, at)?;
     Ok(BlockTask::Inside {
@@ -307,32 +319,29 @@ fn resume_block(
     progress: &mut Progress,
     depth: u32,
     frame: BlockFrame,
-    part: Part,
-    next: Next,
+    read: PartBefore,
 ) -> Result<BlockTask, ReadError>
-    requires inside { part.next ≤ size file.now }
-    requires end { part.end ≤ part.next }
-    requires start { frame.start.at ≤ part.end }
-    requires next { IsNextBehind file.now.bytes.now part next }
+    requires read { IsReadBefore file.now.bytes.now frame.start.at read }
     requires waits { (low : ℕ) × IsBlockWaitingFrom (size file.now) frame.start.at low frame.waiting
-        × IsPlacedIn (size file.now) low part.end (view part.node) }
+        × IsPlacedIn (size file.now) low read.part.end (view read.part.node) }
     requires depth { depth ≤ 65 }
     requires outside { progress.old.stack.flows ≡ [] }
     requires room { length progress.old.stack.blocks ≤ depth }
     ensures fault { IfErr result (IsStopInside (size file.now)) }
-    ensures is { (bound turns : ℕ) → size file.now < suc bound + part.next
-        → ResumesBlock file.now.bytes.now bound turns depth frame.start.at frame.start.column (block_waiting_of file.now.bytes.now frame.waiting)
-        (part_of file.now.bytes.now part) progress.old.count.nodes result progress.new.count.nodes }
-    ensures within { IfOk result (λ task. IsResumed file.now.bytes.now frame.start.at part.next task) }
+    ensures is { (bound turns : ℕ) → size file.now < suc bound + read.part.next
+        → ResumesBlock file.now.bytes.now bound turns depth frame.start.at frame.start.column
+        (block_waiting_of file.now.bytes.now frame.waiting) (part_of file.now.bytes.now read.part)
+        progress.old.count.nodes result progress.new.count.nodes }
+    ensures within { IfOk result (λ task. IsResumed file.now.bytes.now frame.start.at read.part.next task) }
     ensures same { IfOk result (λ _. progress.new.stack ≡ progress.old.stack) }
 {
     let BlockFrame { start, waiting } = frame;
     match waiting {
         BlockWaiting::Item(in_mapping, items) => put_block_item(
-            file, progress, depth, start, in_mapping, items, part, next,
+            file, progress, depth, start, in_mapping, items, read,
         ),
         BlockWaiting::Value(entries, key) => {
-            put_block_entry(file, progress, depth, start, entries, key, part, next)
+            put_block_entry(file, progress, depth, start, entries, key, read)
         }
     }
 }
@@ -354,7 +363,8 @@ pub fn read_block_node(
     requires none { progress.old.stack.blocks ≡ [] }
     ensures fault { IfErr result (IsStopInside (size file.now)) }
     ensures is { (bound : ℕ) → size file.now < bound + start.at → IsRead (part_of file.now.bytes.now)
-        (block.block_node bound (slot_of slot) 1 start.column (left_at file.now start.at)) progress.old.count.nodes result progress.new.count.nodes }
+        (block.block_node bound (slot_of slot) 1 start.column (left_at file.now start.at))
+        progress.old.count.nodes result progress.new.count.nodes }
     ensures within { IfOk result (λ part. IsBehind file.now.bytes.now start.at part) }
     ensures nested { IfOk result (λ part. IsPlacedIn (size file.now) start.at part.end (view part.node)) }
 {
@@ -379,13 +389,13 @@ pub fn read_block_node(
                     return Ok(part);
                 }
                 let next = next_content(file.bytes, part.next)?;
-                task = BlockTask::Found(part, next);
+                task = BlockTask::Found(PartBefore { part, next });
             }
-            BlockTask::Found(part, next) => {
+            BlockTask::Found(read) => {
                 let Some(frame) = progress.stack.pop_block() else {
-                    return Ok(part);
+                    return Ok(read.part);
                 };
-                task = resume_block(file, progress, depth, frame, part, next)?;
+                task = resume_block(file, progress, depth, frame, read)?;
             }
         }
     }
