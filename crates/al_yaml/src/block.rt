@@ -13,6 +13,7 @@ ghost use Rattle.al_yaml.specs.Files.{left_at, size};
 ghost use Rattle.al_yaml.specs.Places.{Shows, next_of, option_lines};
 ghost use Rattle.al_yaml.specs.Reads.{IsBehind, IsRead, IsStopInside, part_of};
 ghost use Rattle.al_yaml.specs.Spans.{ArePlacedIn, EntriesPlacedIn, IsPlacedIn};
+ghost use Rattle.al_yaml.specs.Stacks.{HasRoom, depth_in};
 ghost use Rattle.al_yaml.specs.View.{entries_of, entry_view, nodes_of, view};
 ghost use Rattle.std.specs.Prelude.{IfErr, IfOk, IfSome, [], length, map, suc, true, ℕ, ◌+◌, ◌<◌, ◌≡◌, ◌≤◌};
 
@@ -220,19 +221,16 @@ fn entry_on(bytes: &[u8], column: usize, next: Next) -> Result<Option<usize>, Fa
 fn put_block_item(
     file: &File,
     progress: &mut Progress,
-    depth: u32,
     start: Place,
     in_mapping: bool,
     items: Vec<Node>,
     read: PartBefore,
 ) -> Result<BlockTask, ReadError>
     requires read { IsReadBefore file.now.bytes.now start.at read }
-    requires depth { depth ≤ 65 }
-    requires outside { progress.old.stack.flows ≡ [] }
-    requires room { length progress.old.stack.blocks ≤ depth }
+    requires room { HasRoom progress.old.stack }
     ensures fault { IfErr result (IsStopInside (size file.now)) }
     ensures is { (bound turns : ℕ) → size file.now < suc bound + read.part.next
-        → ResumesBlock file.now.bytes.now bound turns depth start.at start.column
+        → ResumesBlock file.now.bytes.now bound turns (depth_in progress.old.stack + 1) start.at start.column
         (frames.item in_mapping (nodes_of (map view items.items))) (part_of file.now.bytes.now read.part)
         progress.old.count.nodes result progress.new.count.nodes }
     ensures within { (low : ℕ) → start.at ≤ low → ArePlacedIn (size file.now) start.at low (nodes_of (map view items.items))
@@ -262,7 +260,7 @@ fn put_block_item(
             next,
         }));
     }
-    no_entry(file, progress, depth, at)?;
+    no_entry(file, progress, at)?;
     Ok(BlockTask::Inside {
         start,
         has: BlockOpen::Items(in_mapping, items),
@@ -274,19 +272,16 @@ fn put_block_item(
 fn put_block_entry(
     file: &File,
     progress: &mut Progress,
-    depth: u32,
     start: Place,
     entries: Vec<Entry>,
     key: ScalarRead,
     read: PartBefore,
 ) -> Result<BlockTask, ReadError>
     requires read { IsReadBefore file.now.bytes.now start.at read }
-    requires depth { depth ≤ 65 }
-    requires outside { progress.old.stack.flows ≡ [] }
-    requires room { length progress.old.stack.blocks ≤ depth }
+    requires room { HasRoom progress.old.stack }
     ensures fault { IfErr result (IsStopInside (size file.now)) }
     ensures is { (bound turns : ℕ) → size file.now < suc bound + read.part.next
-        → ResumesBlock file.now.bytes.now bound turns depth start.at start.column
+        → ResumesBlock file.now.bytes.now bound turns (depth_in progress.old.stack + 1) start.at start.column
         (frames.value (entries_of (map entry_view entries.items)) (read_of file.now.bytes.now key))
         (part_of file.now.bytes.now read.part) progress.old.count.nodes result progress.new.count.nodes }
     ensures within { (low : ℕ) → start.at ≤ key.span.start → key.span.start ≤ key.span.end → key.span.end ≤ low
@@ -305,7 +300,7 @@ fn put_block_entry(
             next,
         }));
     };
-    let key = entry_key(file, progress, depth, at)?;
+    let key = entry_key(file, progress, at)?;
     Ok(BlockTask::Inside {
         start,
         has: BlockOpen::Entries(entries, key),
@@ -317,19 +312,16 @@ fn put_block_entry(
 fn resume_block(
     file: &File,
     progress: &mut Progress,
-    depth: u32,
     frame: BlockFrame,
     read: PartBefore,
 ) -> Result<BlockTask, ReadError>
     requires read { IsReadBefore file.now.bytes.now frame.start.at read }
     requires waits { (low : ℕ) × IsBlockWaitingFrom (size file.now) frame.start.at low frame.waiting
         × IsPlacedIn (size file.now) low read.part.end (view read.part.node) }
-    requires depth { depth ≤ 65 }
-    requires outside { progress.old.stack.flows ≡ [] }
-    requires room { length progress.old.stack.blocks ≤ depth }
+    requires room { HasRoom progress.old.stack }
     ensures fault { IfErr result (IsStopInside (size file.now)) }
     ensures is { (bound turns : ℕ) → size file.now < suc bound + read.part.next
-        → ResumesBlock file.now.bytes.now bound turns depth frame.start.at frame.start.column
+        → ResumesBlock file.now.bytes.now bound turns (depth_in progress.old.stack + 1) frame.start.at frame.start.column
         (block_waiting_of file.now.bytes.now frame.waiting) (part_of file.now.bytes.now read.part)
         progress.old.count.nodes result progress.new.count.nodes }
     ensures within { IfOk result (λ task. IsResumed file.now.bytes.now frame.start.at read.part.next task) }
@@ -338,10 +330,10 @@ fn resume_block(
     let BlockFrame { start, waiting } = frame;
     match waiting {
         BlockWaiting::Item(in_mapping, items) => put_block_item(
-            file, progress, depth, start, in_mapping, items, read,
+            file, progress, start, in_mapping, items, read,
         ),
         BlockWaiting::Value(entries, key) => {
-            put_block_entry(file, progress, depth, start, entries, key, read)
+            put_block_entry(file, progress, start, entries, key, read)
         }
     }
 }
@@ -370,10 +362,9 @@ pub fn read_block_node(
 {
     let mut task = BlockTask::Node { slot, start };
     'nodes: loop {
-        let depth = progress.stack.len() as u32 + 1;
         match task {
             BlockTask::Node { slot, start: from } => {
-                task = read_node(file, progress, slot, depth, from)?;
+                task = read_node(file, progress, slot, from)?;
             }
             BlockTask::Inside {
                 start,
@@ -395,7 +386,7 @@ pub fn read_block_node(
                 let Some(frame) = progress.stack.pop_block() else {
                     return Ok(read.part);
                 };
-                task = resume_block(file, progress, depth, frame, read)?;
+                task = resume_block(file, progress, frame, read)?;
             }
         }
     }

@@ -10,6 +10,7 @@ ghost use Rattle.al_yaml.specs.Flow as flow;
 ghost use Rattle.al_yaml.specs.Keys as keys;
 ghost use Rattle.al_yaml.specs.Reads.{IsBehind, IsRead, IsStopInside, part_of};
 ghost use Rattle.al_yaml.specs.Spans.{IsPlacedIn};
+ghost use Rattle.al_yaml.specs.Stacks.{depth_in};
 ghost use Rattle.al_yaml.specs.View.{view};
 ghost use Rattle.std.specs.Prelude.{IfErr, IfOk, [], length, not, suc, true, ℕ, ◌&&◌, ◌+◌, ◌<◌, ◌||◌, ◌≡◌, ◌≤◌};
 
@@ -19,7 +20,6 @@ use crate::faults::{FaultAt, ReadError};
 use crate::file::{File, Progress};
 use crate::flow::read_flow_collection;
 use crate::keys::{Key, behind_colon, is_short_key, key_at};
-use crate::limits::Count;
 use crate::lines::same_line;
 use crate::node::Part;
 use crate::scalars::read_line_scalar;
@@ -54,21 +54,19 @@ fn read_line_flow(
     file: &File,
     progress: &mut Progress,
     spot: Spot,
-    depth: u32,
     at: usize,
 ) -> Result<Part, ReadError>
     requires inside { at < size file.now }
     requires bracket { content.is_flow_start (text_at file.now.bytes.now at) ≡ true }
-    requires depth { depth ≤ 65 }
     requires outside { progress.old.stack.flows ≡ [] }
-    requires room { length progress.old.stack.blocks ≤ depth }
     ensures fault { IfErr result (IsStopInside (size file.now)) }
     ensures is { (bound : ℕ) → size file.now < bound + at → IsRead (part_of file.now.bytes.now) (block.flow_at (flow.flow_collection bound)
-        (spot_of spot) depth (left_at file.now at)) progress.old.count.nodes result progress.new.count.nodes }
+        (spot_of spot) (depth_in progress.old.stack) (left_at file.now at)) progress.old.count.nodes result progress.new.count.nodes }
     ensures within { IfOk result (λ part. IsBehind file.now.bytes.now at part) }
     ensures nested { IfOk result (λ part. IsPlacedIn (size file.now) at part.end (view part.node)) }
     ensures same { IfOk result (λ _. progress.new.stack ≡ progress.old.stack) }
 {
+    let depth = progress.stack.depth();
     let part = read_flow_collection(file, progress, depth, at)?;
     if is_refused_key(file.bytes, spot, part.next) {
         return Err(ReadError::Fault(FaultAt {
@@ -90,18 +88,17 @@ pub fn read_node(
     file: &File,
     progress: &mut Progress,
     slot: Slot,
-    depth: u32,
     start: Place,
 ) -> Result<BlockTask, ReadError>
     requires inside { start.at ≤ size file.now }
-    requires depth { depth ≤ 65 }
     requires outside { progress.old.stack.flows ≡ [] }
-    requires room { length progress.old.stack.blocks ≤ depth }
     requires node { IsNodeAt file.now.bytes.now slot start.column start.at }
     ensures fault { IfErr result (IsStopInside (size file.now)) }
-    ensures is { (bound : ℕ) → size file.now < suc bound + start.at → Begins file.now.bytes.now bound depth (block.block_node (suc bound)
-        (slot_of slot) depth start.column (left_at file.now start.at)) progress.old.count.nodes result progress.new.count.nodes }
-    ensures within { IfOk result (λ task. IsBegun file.now.bytes.now start.at depth task) }
+    ensures is { (bound : ℕ) → size file.now < suc bound + start.at → Begins file.now.bytes.now bound (depth_in progress.old.stack)
+        (block.block_node (suc bound)
+        (slot_of slot) (depth_in progress.old.stack) start.column (left_at file.now start.at))
+        progress.old.count.nodes result progress.new.count.nodes }
+    ensures within { IfOk result (λ task. IsBegun file.now.bytes.now start.at (depth_in progress.old.stack) task) }
     ensures same { IfOk result (λ _. progress.new.stack ≡ progress.old.stack) }
 {
     if is_property(file.bytes, start.at) {
@@ -111,13 +108,13 @@ pub fn read_node(
         }));
     }
     if is_dash(file.bytes, start.at) {
-        return begin_sequence(file, &mut progress.count, slot, depth, start);
+        return begin_sequence(file, progress, slot, start);
     }
     if let Some(code) = block_fault(file.bytes, start.at) {
         return Err(ReadError::Fault(FaultAt { code, at: start.at }));
     }
     if is_flow_start(file.bytes, start.at) {
-        let part = read_line_flow(file, progress, slot.spot, depth, start.at)?;
+        let part = read_line_flow(file, progress, slot.spot, start.at)?;
         return Ok(BlockTask::Read(part));
     }
     if is_no_key(file.bytes, slot.spot, start.at) {
@@ -128,25 +125,26 @@ pub fn read_node(
         let part = read_line_scalar(file, &mut progress.count, slot.within, start.at)?;
         return Ok(BlockTask::Read(part));
     };
-    begin_mapping(file, &mut progress.count, slot.spot, depth, start, key)
+    begin_mapping(file, progress, slot.spot, start, key)
 }
 
 /// Begins the sequence whose first dash stands at an offset.
 fn begin_sequence(
     file: &File,
-    count: &mut Count,
+    progress: &mut Progress,
     slot: Slot,
-    depth: u32,
     start: Place,
 ) -> Result<BlockTask, ReadError>
     requires dash { content.is_dash (text_at file.now.bytes.now start.at) ≡ true }
     requires inside { start.at < size file.now }
     requires node { IsNodeAt file.now.bytes.now slot start.column start.at }
+    requires outside { progress.old.stack.flows ≡ [] }
     ensures fault { IfErr result (IsStopInside (size file.now)) }
-    ensures is { (bound : ℕ) → Begins file.now.bytes.now bound depth (block.block_sequence (block.block_node bound)
-        (flow.flow_collection (suc bound)) (suc bound) (slot_of slot) depth start.column
-        (left_at file.now start.at)) count.old.nodes result count.new.nodes }
-    ensures within { IfOk result (λ task. IsBegun file.now.bytes.now start.at depth task) }
+    ensures is { (bound : ℕ) → Begins file.now.bytes.now bound (depth_in progress.old.stack) (block.block_sequence (block.block_node bound)
+        (flow.flow_collection (suc bound)) (suc bound) (slot_of slot) (depth_in progress.old.stack) start.column
+        (left_at file.now start.at)) progress.old.count.nodes result progress.new.count.nodes }
+    ensures within { IfOk result (λ task. IsBegun file.now.bytes.now start.at (depth_in progress.old.stack) task) }
+    ensures same { IfOk result (λ _. progress.new.stack ≡ progress.old.stack) }
 {
     if is_behind_key(slot.spot) {
         return Err(ReadError::Fault(FaultAt {
@@ -160,7 +158,8 @@ fn begin_sequence(
             at: tab,
         }));
     }
-    count.start(start.at, 1, depth)?;
+    let depth = progress.stack.depth();
+    progress.count.start(start.at, 1, depth)?;
     Ok(BlockTask::Inside {
         start,
         has: BlockOpen::Items(slot.in_mapping, Vec::new(file.alloc)),
@@ -171,20 +170,21 @@ fn begin_sequence(
 /// Begins the mapping whose first key was read from an offset on.
 fn begin_mapping(
     file: &File,
-    count: &mut Count,
+    progress: &mut Progress,
     spot: Spot,
-    depth: u32,
     start: Place,
     key: Key,
 ) -> Result<BlockTask, ReadError>
     requires key { IsKeyBehind file.now.bytes.now start.at key }
     requires column { start.column ≤ start.at }
     requires tab { IsTabInside (size file.now) spot }
+    requires outside { progress.old.stack.flows ≡ [] }
     ensures fault { IfErr result (IsStopInside (size file.now)) }
-    ensures is { (bound : ℕ) → Begins file.now.bytes.now bound depth (block.block_mapping (block.block_node bound)
-        (flow.flow_collection (suc bound)) (suc bound) (spot_of spot) depth start.column (left_at file.now start.at)
-        (key_seen file.now.bytes.now key)) count.old.nodes result count.new.nodes }
-    ensures within { IfOk result (λ task. IsBegun file.now.bytes.now start.at depth task) }
+    ensures is { (bound : ℕ) → Begins file.now.bytes.now bound (depth_in progress.old.stack) (block.block_mapping (block.block_node bound)
+        (flow.flow_collection (suc bound)) (suc bound) (spot_of spot) (depth_in progress.old.stack) start.column (left_at file.now start.at)
+        (key_seen file.now.bytes.now key)) progress.old.count.nodes result progress.new.count.nodes }
+    ensures within { IfOk result (λ task. IsBegun file.now.bytes.now start.at (depth_in progress.old.stack) task) }
+    ensures same { IfOk result (λ _. progress.new.stack ≡ progress.old.stack) }
 {
     let wrong = ReadError::Fault(FaultAt {
         code: YamlCode::WrongKey,
@@ -202,7 +202,8 @@ fn begin_mapping(
     if !is_short_key(file.bytes, start.at, &key.read) {
         return Err(wrong);
     }
-    count.start(start.at, 2, depth)?;
+    let depth = progress.stack.depth();
+    progress.count.start(start.at, 2, depth)?;
     Ok(BlockTask::Inside {
         start,
         has: BlockOpen::Entries(Vec::new(file.alloc), key),

@@ -1,7 +1,7 @@
 //! The stack of open collections.
 
-ghost use Rattle.al_yaml.specs.Stacks.{Opened};
-ghost use Rattle.std.specs.Prelude.{◌≡◌, ◌+◌, ◌<◌, ◌≤◌, ◌∷◌, [], MatchOption, length, slice_index_or, slice_set};
+ghost use Rattle.al_yaml.specs.Stacks.{Opened, depth_in};
+ghost use Rattle.std.specs.Prelude.{◌≡◌, ◌+◌, ◌<◌, ◌≤◌, ◌∷◌, [], IfSome, MatchOption, length, slice_index_or, slice_set};
 
 use crate::block::BlockFrame;
 use crate::flow::FlowFrame;
@@ -144,6 +144,15 @@ impl Stack {
         self.frames.len()
     }
 
+    /// The depth of a node inside all that is open, if that is block collections; the root's is 1.
+    pub fn depth(&self) -> u32
+        requires { self.now.flows ≡ [] }
+        ensures value { result ≡ depth_in self.now }
+        ensures most { result ≤ 65 }
+    {
+        self.len() as u32 + 1
+    }
+
     /// Opens one more block collection.
     pub fn push_block(&mut self, frame: BlockFrame)
         requires room { length self.old.blocks < 64 }
@@ -159,6 +168,7 @@ impl Stack {
         requires { self.old.flows ≡ [] }
         ensures flows { self.new.flows ≡ [] }
         ensures blocks { MatchOption result (self.old.blocks ≡ []) (λ frame. self.old.blocks ≡ frame ∷ self.new.blocks) }
+        ensures room { IfSome result (λ _. length self.new.blocks < 64) }
     {
         match self.frames.pop() {
             Some(Frame::Block(frame)) => Some(frame),
