@@ -1,15 +1,32 @@
-"""All runs of the program that the repository has an exact output for: the scripts of tests/cases, the examples of docs/FAULTS*.md, and
-the folders of examples/."""
+"""Runs of the program that reach its code: the folders of examples/, the scripts of tests/cases, the examples of docs/FAULTS*.md, command
+lines that are right and wrong, and files that are refused. All run in the repository's folder."""
 
 import pathlib
 import tempfile
 
 import fault_cases
 from run_cases import words_of
-from running import SCRIPT
+from running import SCRIPT, WORKFLOWS
 
 TOP = pathlib.Path(__file__).resolve().parent.parent
 PAGES = ["FAULTS", "FAULTS-RULES", "FAULTS-EXPRESSIONS", "FAULTS-CALLS"]
+CALLS = ["--root", "examples/calls"]
+COMMAND_LINES = {
+    "help": ["--help"],
+    "two-files": [*CALLS, f"{WORKFLOWS}/build.yml", "./greet/action.yml"],
+    "file-that-is-not-there": [*CALLS, f"{WORKFLOWS}/none.yml"],
+    "folder-that-is-not-there": ["--root", "none"],
+    "file-that-is-refused": [*CALLS, "none.yml"],
+    "session-beside-a-file": ["--session", "action.yml"],
+    "unknown-option": ["--unknown"],
+    "unknown-option-like-one": ["--version"],
+    "short-option": ["-h"],
+    "option-twice": ["--root", "a", "--root", "b"],
+    "option-without-its-value": ["--root"],
+    "option-with-an-empty-value": ["--root="],
+    "flag-with-a-value": ["--oneline=x"],
+}
+LARGEST = 1_048_576
 
 
 def scripts_in(folder, prefix):
@@ -18,12 +35,26 @@ def scripts_in(folder, prefix):
     return {f"{prefix}/{it.name}": (words_of(it, SCRIPT), it.read_bytes()) for it in cases}
 
 
-def all_runs():
-    """All runs: of each, under its name, the words and the standard input."""
-    runs = {f"examples/{it.name}": (["--root", str(it)], b"") for it in sorted((TOP / "examples").iterdir()) if it.is_dir()}
+def refused_files(folder):
+    """The same of folders whose files are refused or no files, which are made below this one."""
+    place = pathlib.Path(folder)
+    (place / "large").mkdir()
+    (place / "large" / "action.yml").write_bytes(b"#" * (LARGEST + 1))
+    (place / "folder" / "action.yml").mkdir(parents=True)
+    (place / "named" / WORKFLOWS).mkdir(parents=True)
+    (place / "named" / WORKFLOWS / "a\\b.yml").write_bytes(b"")
+    words = {"large": ["action.yml"], "folder": ["action.yml"], "named": []}
+    return {f"files/{name}": (["--root", str(place / name), *more], b"") for name, more in words.items()}
+
+
+def all_runs(folder):
+    """All runs: of each, under its name, the words and the standard input. Some read files that are made below a folder."""
+    runs = {f"examples/{it.name}": (["--root", f"examples/{it.name}"], b"") for it in sorted((TOP / "examples").iterdir()) if it.is_dir()}
+    runs |= {f"words/{name}": (words, b"") for name, words in COMMAND_LINES.items()}
+    runs |= refused_files(folder)
     runs |= scripts_in(TOP / "tests" / "cases", "tests/cases")
     for page in PAGES:
-        with tempfile.TemporaryDirectory() as folder:
-            fault_cases.main(TOP / "docs" / f"{page}.md", pathlib.Path(folder) / "cases")
-            runs |= scripts_in(pathlib.Path(folder) / "cases", f"docs/{page}")
+        with tempfile.TemporaryDirectory() as made:
+            fault_cases.main(TOP / "docs" / f"{page}.md", pathlib.Path(made) / "cases")
+            runs |= scripts_in(pathlib.Path(made) / "cases", f"docs/{page}")
     return runs

@@ -1,8 +1,9 @@
 """Compares the pages of faults with the code and the definitions: fault_pages.py TOP LETTERS.
 
 Each fault code of al_text names its identifier (`/// K2: ..`) and has its message in al_text's table; each whose identifier begins
-with one of LETTERS (the kinds of faults that the program prints) has one entry on a page docs/FAULTS*.md, with that message. Each entry says which definitions decide it: after `crate/specs/File.antt`, a colon and the
-names, each in backquotes. The file must exist below crates/ and define each of the names.
+with one of LETTERS (the kinds of faults that the program prints) has one entry on a page docs/FAULTS*.md, with that message. Each entry
+says which definitions decide it: after `crate/specs/File.antt`, a colon and the names, each in backquotes. The file must exist below
+crates/ and define each of the names.
 """
 
 import pathlib

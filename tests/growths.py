@@ -10,7 +10,8 @@ the program (tests/places.py) that they stand under.
   with each growth refused, and with each and all behind it: a run says that memory ran out, and its output is a front of the whole. The
   kit's `collect` asks for room ahead, and goes on without it: such a run is the whole one.
 - Each place that any run of tests/corpus.py reaches is one under which a growth of these runs was refused. With --choose the runs are
-  chosen anew, and nothing else is done. The places of the project's crates under which no growth was refused are printed.
+  chosen anew, and nothing else is done. How many places each crate has is printed, and those of the project's crates under which no growth
+  was refused.
 - The growths of one edit are counted, of other bytes for an action that a workflow calls, beside 1,000 workflows that call absent
   actions and alone: beside the others it makes at most 64 more.
 """
@@ -77,9 +78,13 @@ class Growths:
             self.env["GROWTH_FRAMES"] = str(self.frames)
 
     def run(self, words, stdin=b"", refused="0"):
-        """A run with these growths refused: those that tests/growths.c takes the text for."""
+        """A run with these growths refused: those that tests/growths.c takes the text for. Its input is a file, so that each run reads the
+        same pieces."""
         env = {**self.env, "GROWTH": refused}
-        done = subprocess.run([self.program, *words], input=stdin, env=env, capture_output=True, check=False)
+        with tempfile.TemporaryFile() as file:
+            file.write(stdin)
+            file.seek(0)
+            done = subprocess.run([self.program, *words], cwd=TOP, stdin=file, env=env, capture_output=True, check=False)
         errors, _, told = done.stderr.rpartition(b"growths ")
         count, *places = told.split()
         if b"lost" in places:
@@ -149,8 +154,7 @@ def chosen(reached):
 
 
 def tell_places(names, refused):
-    """Prints how many places each of the project's crates has, under how many of them a growth was refused, and what is left, by function.
-    """
+    """Prints how many places each crate has, under how many of them a growth was refused, and what the project's crates have left."""
     project = {line.split(":")[0] for line in (TOP / "crates.txt").read_text().split("\n") if ":" in line}
     crates = collections.Counter(name.split("::")[0] for name in names.values())
     those = collections.Counter(names[it].split("::")[0] for it in refused)
@@ -215,8 +219,9 @@ def in_a_session(growths):
 
 def main(words):
     """Counts and refuses; the status is 1 where a run went wrong, a place lacks or an edit makes too many growths."""
-    runs, places = all_runs(), Places(PROGRAM)
+    places = Places(PROGRAM)
     with tempfile.TemporaryDirectory() as folder:
+        runs = all_runs(folder)
         growths = Growths(folder, PROGRAM, places.frames)
         if words == ["--choose"]:
             reached = dict(zip(runs, in_turn(lambda it: growths.run(*runs[it]), runs)))

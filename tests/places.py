@@ -11,6 +11,7 @@ Needs `objdump`.
 import re
 import struct
 import subprocess
+import sys
 
 FUNCTION = re.compile(r"([0-9a-f]+) <(.*)>:")
 INSTRUCTION = re.compile(r" +([0-9a-f]+):\t(?:(?:notrack|bnd|data16|cs|rep|repz|repnz|lock) )*(\S+) *([^#]*)")
@@ -135,4 +136,6 @@ class Places:
         self.names = {back: HASH.sub("", it.name) for it in functions for back, _, target in it.calls if target in growing}
         depths = sorted((back, depth) for it in functions for back, depth, _ in it.calls)
         self.frames = b"".join(struct.pack("<II", *it) for it in depths)
-        self.unnamed = sum(target is None for it in functions for _, _, target in it.calls)
+        unnamed = [it.name for it in functions if any(target is None for _, _, target in it.calls)]
+        if unnamed != ["_start"]:
+            sys.exit(f"these functions call what they don't name, and so more calls may be places: {unnamed}")
