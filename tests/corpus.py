@@ -43,7 +43,9 @@ def refused_files(folder):
     (place / "folder" / "action.yml").mkdir(parents=True)
     (place / "named" / WORKFLOWS).mkdir(parents=True)
     (place / "named" / WORKFLOWS / "a\\b.yml").write_bytes(b"")
-    words = {"large": ["action.yml"], "folder": ["action.yml"], "named": []}
+    (place / "gone" / WORKFLOWS).mkdir(parents=True)
+    (place / "gone" / WORKFLOWS / "a.yml").symlink_to("none")
+    words = {"large": ["action.yml"], "folder": ["action.yml"], "named": [], "gone": []}
     return {f"files/{name}": (["--root", str(place / name), *more], b"") for name, more in words.items()}
 
 
