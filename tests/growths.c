@@ -1,8 +1,9 @@
 /* Counts the growths of a program, refuses those that GROWTH names, and notes the calls that growths stand under: see tests/growths.py.
 
    GROWTH is a growth's number, or 5- for the fifth and all behind it. GROWTH_FRAMES names a file of the program's calls in order, each
-   where it returns to and how far the stack's top then is below the return address of the function that calls. At the end goes to standard
-   error how many growths there were, and under which calls those that were refused stood, or, where none is to be, all of them. */
+   where it returns to, how far the stack's top then is below the return address of the function that calls, and whether that is the
+   program's first. At the end goes to standard error how many growths there were, and under which calls those that were refused stood, or,
+   where none is to be, all of them. */
 #define _GNU_SOURCE
 #include <dlfcn.h>
 #include <errno.h>
@@ -14,7 +15,7 @@
 #include <sys/stat.h>
 
 struct frame {
-  unsigned int back, depth;
+  unsigned int back, depth, is_first;
 };
 
 static unsigned long growths, first;
@@ -64,17 +65,18 @@ static size_t call_of(size_t back) {
   return low < count && frames[low].back == back ? low : count;
 }
 
-/* Notes the calls on the stack, from the place of a return address on, as far as the program goes. */
+/* Notes the calls on the stack, from the place of a return address on, up to the program's first function. A growth that the C library asks
+   for itself has none. */
 static void note(const size_t *at) {
-  for (;;) {
-    size_t back = *at - program, call = call_of(back);
-    if (call == count) {
-      if (back <= frames[count - 1].back) lost = back;
-      return;
-    }
+  size_t call = call_of(*at - program);
+  if (call == count && *at - program > frames[count - 1].back) return;
+  while (call != count) {
     seen[call] = 1;
+    if (frames[call].is_first) return;
     at += 1 + frames[call].depth / sizeof *at;
+    call = call_of(*at - program);
   }
+  lost = *at - program;
 }
 
 /* whether this growth, asked for by a call whose return address stands there, is one to refuse */

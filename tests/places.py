@@ -128,14 +128,15 @@ def leading(functions):
 
 class Places:
     """The places of a program, each by the address that its call returns to, with the name of its function; and how deep the stack is at
-    each call, for tests/growths.c."""
+    each call, for tests/growths.c. `main` jumps to the program's first function."""
 
     def __init__(self, program):
         functions = [Function(*it) for it in functions_of(program)]
         growing = leading(functions)
         self.names = {back: HASH.sub("", it.name) for it in functions for back, _, target in it.calls if target in growing}
-        depths = sorted((back, depth) for it in functions for back, depth, _ in it.calls)
-        self.frames = b"".join(struct.pack("<II", *it) for it in depths)
+        first = next(it.jumps for it in functions if it.name == "main")
+        depths = sorted((back, depth, it.start in first) for it in functions for back, depth, _ in it.calls)
+        self.frames = b"".join(struct.pack("<III", *it) for it in depths)
         unnamed = [it.name for it in functions if any(target is None for _, _, target in it.calls)]
         if unnamed != ["_start"]:
             sys.exit(f"these functions call what they don't name, and so more calls may be places: {unnamed}")
