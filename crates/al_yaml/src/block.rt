@@ -3,7 +3,7 @@
 ghost use Rattle.al_scalar.specs.Contract.{read_of};
 ghost use Rattle.al_scalar.specs.Offsets.{IsPlaced};
 ghost use Rattle.al_yaml.specs.BlockFrames as frames;
-ghost use Rattle.al_yaml.specs.BlockFrames.{Enters, FindsBlock, IsBlockWaitingFrom, IsEntered, IsFoundFrom, IsNextAt};
+ghost use Rattle.al_yaml.specs.BlockFrames.{Enters, FindsBlock, IsBlockWaitingFrom, IsEntered, IsFoundFrom, IsNextAt, IsNodeAt};
 ghost use Rattle.al_yaml.specs.BlockFrames.{IsNextInside, IsOpenAt, IsOpenFrom, IsReadBefore, IsResumed, ResumesBlock};
 ghost use Rattle.al_yaml.specs.BlockFrames.{block_open_of, block_rest, block_waiting_of};
 ghost use Rattle.al_yaml.specs.BlockReads.{IsTabInside, slot_of};
@@ -347,10 +347,7 @@ pub fn read_block_node(
     slot: Slot,
     start: Place,
 ) -> Result<Part, ReadError>
-    requires inside { start.at ≤ size file.now }
-    requires column { start.column ≤ start.at }
-    requires within { slot.within ≤ start.at + 1 }
-    requires tab { IsTabInside (size file.now) slot.spot }
+    requires node { IsNodeAt file.now.bytes.now slot start.column start.at }
     requires outside { progress.old.stack.flows ≡ [] }
     requires none { progress.old.stack.blocks ≡ [] }
     ensures fault { IfErr result (IsStopInside (size file.now)) }

@@ -90,13 +90,11 @@ pub fn read_node(
     slot: Slot,
     start: Place,
 ) -> Result<BlockTask, ReadError>
-    requires inside { start.at ≤ size file.now }
     requires outside { progress.old.stack.flows ≡ [] }
     requires node { IsNodeAt file.now.bytes.now slot start.column start.at }
     ensures fault { IfErr result (IsStopInside (size file.now)) }
     ensures is { (bound : ℕ) → size file.now < suc bound + start.at → Begins file.now.bytes.now bound (depth_in progress.old.stack)
-        (block.block_node (suc bound)
-        (slot_of slot) (depth_in progress.old.stack) start.column (left_at file.now start.at))
+        (block.block_node (suc bound) (slot_of slot) (depth_in progress.old.stack) start.column (left_at file.now start.at))
         progress.old.count.nodes result progress.new.count.nodes }
     ensures within { IfOk result (λ task. IsBegun file.now.bytes.now start.at (depth_in progress.old.stack) task) }
     ensures same { IfOk result (λ _. progress.new.stack ≡ progress.old.stack) }
