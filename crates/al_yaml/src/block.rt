@@ -27,7 +27,7 @@ use crate::limits::Count;
 use crate::lines::{characters, next_line};
 use crate::node::{Entry, Node, Part, entry_of, mapping_part, scalar_node, sequence_part};
 use crate::scalars::empty_part;
-use crate::slots::{Place, Slot, Spot, is_deeper, spot_behind};
+use crate::slots::{Cursor, Slot, Spot, is_deeper, spot_behind};
 use al_scalar::ScalarRead;
 use al_scalar::lines::blanks_end;
 use al_text::YamlCode;
@@ -51,7 +51,7 @@ pub enum BlockWaiting {
 /// A block collection that waits for a node, by its start, before which its own anchor would stand.
 #[derive(Drop)]
 pub struct BlockFrame {
-    pub start: Place,
+    pub start: Cursor,
     pub waiting: BlockWaiting,
 }
 
@@ -68,10 +68,10 @@ pub struct PartBefore {
 pub enum BlockTask {
     Node {
         slot: Slot,
-        start: Place,
+        start: Cursor,
     },
     Inside {
-        start: Place,
+        start: Cursor,
         has: BlockOpen,
         at: usize,
     },
@@ -84,7 +84,7 @@ fn find_rest(
     file: &File,
     count: &mut Count,
     slot: Slot,
-    from: Place,
+    from: Cursor,
     rest: usize,
 ) -> Result<BlockTask, ReadError>
     requires order { from.at ≤ rest }
@@ -108,7 +108,7 @@ fn find_rest(
     let column = from.column + characters(file.bytes, from.at, at);
     Ok(BlockTask::Node {
         slot: Slot { spot, ..slot },
-        start: Place { at, column },
+        start: Cursor { at, column },
     })
 }
 
@@ -136,7 +136,7 @@ fn find_below(file: &File, count: &mut Count, slot: Slot, at: usize) -> Result<B
             spot: Spot::OwnLine,
             ..slot
         },
-        start: Place {
+        start: Cursor {
             at: first,
             column: indent,
         },
@@ -147,7 +147,7 @@ fn find_below(file: &File, count: &mut Count, slot: Slot, at: usize) -> Result<B
 fn enter(
     file: &File,
     count: &mut Count,
-    start: Place,
+    start: Cursor,
     has: BlockOpen,
     at: usize,
 ) -> Result<(BlockWaiting, BlockTask), ReadError>
@@ -167,7 +167,7 @@ fn enter(
                 in_mapping: false,
                 empty: at + 1,
             };
-            let from = Place {
+            let from = Cursor {
                 at,
                 column: start.column,
             };
@@ -182,7 +182,7 @@ fn enter(
                 in_mapping: true,
                 empty: behind,
             };
-            let from = Place {
+            let from = Cursor {
                 at: behind,
                 column: 0,
             };
@@ -221,7 +221,7 @@ fn entry_on(bytes: &[u8], column: usize, next: Next) -> Result<Option<usize>, Fa
 fn put_block_item(
     file: &File,
     progress: &mut Progress,
-    start: Place,
+    start: Cursor,
     in_mapping: bool,
     items: Vec<Node>,
     read: PartBefore,
@@ -272,7 +272,7 @@ fn put_block_item(
 fn put_block_entry(
     file: &File,
     progress: &mut Progress,
-    start: Place,
+    start: Cursor,
     entries: Vec<Entry>,
     key: ScalarRead,
     read: PartBefore,
@@ -345,7 +345,7 @@ pub fn read_block_node(
     file: &File,
     progress: &mut Progress,
     slot: Slot,
-    start: Place,
+    start: Cursor,
 ) -> Result<Part, ReadError>
     requires node { IsNodeAt file.now.bytes.now slot start.column start.at }
     requires outside { progress.old.stack.flows ≡ [] }

@@ -23,7 +23,7 @@ use crate::keys::{Key, behind_colon, is_short_key, key_at};
 use crate::lines::same_line;
 use crate::node::Part;
 use crate::scalars::read_line_scalar;
-use crate::slots::{Place, Slot, Spot, is_behind_key, tab_before};
+use crate::slots::{Cursor, Slot, Spot, is_behind_key, tab_before};
 use crate::starts::{block_fault, is_block_start, is_flow_start, is_property};
 use al_text::YamlCode;
 
@@ -88,7 +88,7 @@ pub fn read_node(
     file: &File,
     progress: &mut Progress,
     slot: Slot,
-    start: Place,
+    start: Cursor,
 ) -> Result<BlockTask, ReadError>
     requires outside { progress.old.stack.flows ≡ [] }
     requires node { IsNodeAt file.now.bytes.now slot start.column start.at }
@@ -131,7 +131,7 @@ fn begin_sequence(
     file: &File,
     progress: &mut Progress,
     slot: Slot,
-    start: Place,
+    start: Cursor,
 ) -> Result<BlockTask, ReadError>
     requires dash { content.is_dash (text_at file.now.bytes.now start.at) ≡ true }
     requires inside { start.at < size file.now }
@@ -170,7 +170,7 @@ fn begin_mapping(
     file: &File,
     progress: &mut Progress,
     spot: Spot,
-    start: Place,
+    start: Cursor,
     key: Key,
 ) -> Result<BlockTask, ReadError>
     requires key { IsKeyBehind file.now.bytes.now start.at key }
