@@ -9,7 +9,7 @@ the program (tests/places.py) that they stand under.
 - The runs that tests/growth-runs names, the same edits as a script with a report behind each and the folders of examples/ among them,
   with each growth refused, and with each and all behind it: a run says that memory ran out, and its output is a front of the whole. The
   kit's `collect` asks for room ahead, and goes on without it: such a run is the whole one.
-- Each place that any run of tests/corpus.py reaches is one under which a growth of these runs was refused. With --choose the runs are
+- Each place of the project's crates that any run of tests/corpus.py reaches is one under which a growth of these runs was refused. With --choose the runs are
   chosen anew, and nothing else is done. How many places each crate has is printed, and those of the project's crates under which no growth
   was refused.
 - The growths of one edit are counted, of other bytes for an action that a workflow calls, beside 1,000 workflows that call absent
@@ -153,9 +153,14 @@ def chosen(reached):
     return found
 
 
+def project_crates():
+    """The names of the project's crates."""
+    return {line.split(":")[0] for line in (TOP / "crates.txt").read_text().split("\n") if ":" in line}
+
+
 def tell_places(names, refused):
     """Prints how many places each crate has, under how many of them a growth was refused, and what the project's crates have left."""
-    project = {line.split(":")[0] for line in (TOP / "crates.txt").read_text().split("\n") if ":" in line}
+    project = project_crates()
     crates = collections.Counter(name.split("::")[0] for name in names.values())
     those = collections.Counter(names[it].split("::")[0] for it in refused)
     for crate in sorted(crates):
@@ -184,7 +189,9 @@ def refused_everywhere(growths, runs, names, places):
     reached = dict(zip(runs, in_turn(lambda it: growths.run(*runs[it]), runs)))
     well, refused = refused_in_turn(growths, runs, names)
     tell_places(places.names, refused)
-    for place in sorted(set().union(*(it.places for it in reached.values())) - refused):
+    project = project_crates()
+    ours = {it for ran in reached.values() for it in ran.places if places.names.get(it, "").split("::")[0] in project}
+    for place in sorted(ours - refused):
         name = next(it for it, ran in reached.items() if place in ran.places)
         print(f"{name} reaches a place of {places.names.get(place)} that no chosen run does: choose anew")
         well = False
