@@ -60,7 +60,7 @@ climbing-place low end [] h = (h, omega arith)
 climbing-place low end (c ∷ cs) h = (h.0, (omega arith, h.1))
 
 -- without the first cell
-climbing-behind : (low end : ℕ) (c : Cell) (cs : List Cell) → AreClimbing low end (c ∷ cs) → AreClimbing low end cs
+pub climbing-behind : (low end : ℕ) (c : Cell) (cs : List Cell) → AreClimbing low end (c ∷ cs) → AreClimbing low end cs
 climbing-behind low end c cs h = climbing-lower (c.1 + 1) low end cs (omega (arith, h.0)) h.1
 
 pub climbing-from : (low end : ℕ) (cs : List Cell) → AreClimbing low end cs → IsFrom low end cs

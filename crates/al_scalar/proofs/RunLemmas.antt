@@ -1,13 +1,13 @@
 -- Runs of offsets, and the cells that they stand for.
-use Rattle.std.proofs.Common.{◌≡◌, ℕ, zero, suc, ◌+◌, ◌-◌, ◌^◌, ◌<◌, ◌≤◌, List, [], ◌∷◌, ◌++◌, length, get_or, refl, sym, ap, subst, ◌∙◌, arith, Bool, true, false, not, cond, map, take, drop, drop-cons, slice_range, slice_index}
+use Rattle.std.proofs.Common.{◌≡◌, ◌==◌, ℕ, zero, suc, ◌+◌, ◌-◌, ◌^◌, ◌<◌, ◌≤◌, List, [], ◌∷◌, ◌++◌, length, get_or, refl, sym, ap, subst, ◌∙◌, arith, Bool, true, false, not, cond, map, take, drop, drop-cons, slice_range, slice_index}
 use Rattle.std.proofs.Math.Seq.{take-suc}
 use Rattle.std.proofs.lemmas.Grind.{common_steps}
 use Rattle.al_scalar.specs.Line.{Cell}
 use Rattle.al_scalar.specs.Places.{cells_at, cells_between}
-use Rattle.al_scalar.specs.Segments.{offset_in, offset_after, offset_from, offset_at, cells_from, AreBehind, AreFrom, IsRising, IsOrdered, GoesOn, AreInRange}
+use Rattle.al_scalar.specs.Segments.{first_run, offset_in, offset_after, offset_from, offset_at, cells_from, AreBehind, AreFrom, IsRising, IsOrdered, GoesOn, AreInRange}
 use Rattle.al_scalar.specs.declared.texts.Segment.{Segment}
 
-after-behind : (found : ℕ) (s : Segment) (i : ℕ) → s.index ≤ i → offset_after found s i ≡ offset_in s i
+pub after-behind : (found : ℕ) (s : Segment) (i : ℕ) → s.index ≤ i → offset_after found s i ≡ offset_in s i
 after-behind found s i h = grind (arith, common_steps, h)
 
 after-before : (found : ℕ) (s : Segment) (i : ℕ) → i < s.index → offset_after found s i ≡ found
@@ -56,7 +56,23 @@ pub last-behind : (d : Segment) (n : ℕ) (ss : List Segment) → AreBehind n ss
 last-behind d n [] h z = absurd (z refl)
 last-behind d n (s ∷ ss) h z = subst (λ t. t.index ≤ n) (sym (last-is d s ss)) (last-of n d s ss h)
 
+-- ---- the first run and the last one
+
+first-offset : (at i : ℕ) → offset_after 0 (first_run at) i ≡ offset_in (first_run at) i
+first-offset at i = after-behind 0 (first_run at) i (omega arith)
+
+only-offset : (at i : ℕ) (ss : List Segment) → length ss ≡ 0 → offset_in (first_run at) i ≡ offset_at (first_run at ∷ ss) i
+only-offset at i [] z = sym (first-offset at i)
+only-offset at i (s ∷ ss) z = absurd (omega (arith, z))
+
+pub last-offset : (d : Segment) (at i : ℕ) (ss : List Segment) → AreBehind i (first_run at ∷ ss) → (length ss ≡ 0 → ⊥) → offset_in (get_or ss (length ss - 1) d) i ≡ offset_at (first_run at ∷ ss) i
+last-offset d at i [] h z = absurd (z refl)
+last-offset d at i (s ∷ ss) h z = ap (λ t. offset_in t i) (last-is d s ss) ∙ sym (offset_from-last (offset_after 0 (first_run at) i) s ss d i h.1)
+
 -- ---- whether the offsets go on
+
+pub equal : (a b : ℕ) → (a == b) ≡ true → a ≡ b
+equal a b h = grind (arith, common_steps, h)
 
 not-false : (b : Bool) → not b ≡ false → b ≡ true
 not-false true h = refl
@@ -67,13 +83,13 @@ moving last n at k b m o e =
     let sum : last.offset + ((n + k) - last.index) ≡ at + k = omega (arith, b, o, e) in
     ap (λ x. cond x (last.offset + ((n + k) - last.index)) last.offset) (not-false last.moves m) ∙ sum
 
-pub goes-on : (d : Segment) (n at : ℕ) (ss : List Segment) → AreBehind n ss → (length ss ≡ 0 → ⊥) → not (get_or ss (length ss - 1) d).moves ≡ false → (get_or ss (length ss - 1) d).offset ≤ at
-    → at - (get_or ss (length ss - 1) d).offset ≡ n - (get_or ss (length ss - 1) d).index → GoesOn ss n at
-goes-on d n at [] h z m o e = absurd (z refl)
-goes-on d n at (s ∷ ss) h z m o e = λ k.
-    let last = get_or (s ∷ ss) (length (s ∷ ss) - 1) d in
-    offset_from-last 0 s ss d (n + k) (AreBehind-up n (n + k) (s ∷ ss) h (omega arith)) ∙ ap (λ t. offset_in t (n + k)) (sym (last-is d s ss))
-    ∙ moving last n at k (last-behind d n (s ∷ ss) h z) m o e
+pub goes-on : (last : Segment) (n at : ℕ) (ss : List Segment) → ((i : ℕ) → AreBehind i ss → offset_in last i ≡ offset_at ss i) → AreBehind n ss → last.index ≤ n → not last.moves ≡ false → last.offset ≤ at
+    → at - last.offset ≡ n - last.index → GoesOn ss n at
+goes-on last n at ss f h b m o e = λ k. sym (f (n + k) (AreBehind-up n (n + k) ss h (omega arith))) ∙ moving last n at k b m o e
+
+-- where there is no byte yet, the first run alone
+pub first-goes-on : (ss : List Segment) (at : ℕ) → length ss ≡ 0 → GoesOn (first_run at ∷ ss) 0 at
+first-goes-on ss at z = λ k. let sum : at + ((0 + k) - 0) ≡ at + k = omega arith in sym (only-offset at (0 + k) ss z) ∙ sum
 
 -- a run more, from the next byte on
 pub next-run : (ss new : List Segment) (s : Segment) (n at : ℕ) → s.index ≡ n → s.offset ≡ at → s.moves ≡ true → new ≡ ss ++ s ∷ [] → GoesOn new n at
@@ -185,24 +201,24 @@ cut-from found (suc n) zero i d (s ∷ ss) r h o l =
     ap (λ x. offset_from x (take n ss) i) (after-before found s i h) ∙ none-above found n i s.index ss r.0 h
 cut-from found (suc n) (suc m) i d (s ∷ ss) r h o l = cut-from (offset_after found s i) n m i d ss r.1 h (omega (arith, o)) (omega (arith, l))
 
-pub search-below : (d : Segment) (ss : List Segment) (high middle i : ℕ) → IsRising ss → i < (get_or ss middle d).index → middle < high → high ≤ length ss → offset_at ss i ≡ offset_at (take high ss) i
-    → offset_at ss i ≡ offset_at (take middle ss) i
-search-below d ss high middle i r h o l e = e ∙ cut-from 0 high middle i d ss r h (omega (arith, o)) (omega (arith, o, l))
+pub search-below : (found : ℕ) (d : Segment) (ss : List Segment) (high middle i : ℕ) → IsRising ss → i < (get_or ss middle d).index → middle < high → high ≤ length ss → offset_from found ss i ≡ offset_from found (take high ss) i
+    → offset_from found ss i ≡ offset_from found (take middle ss) i
+search-below found d ss high middle i r h o l e = e ∙ cut-from found high middle i d ss r h (omega (arith, o)) (omega (arith, o, l))
 
 take-all : (ss : List Segment) → take (length ss) ss ≡ ss
 take-all [] = refl
 take-all (s ∷ ss) = ap (λ xs. s ∷ xs) (take-all ss)
 
-pub search-all : (ss : List Segment) (i count : ℕ) → count ≡ length ss → offset_at ss i ≡ offset_at (take count ss) i
-search-all ss i count e = ap (λ xs. offset_at xs i) (sym (ap (λ n. take n ss) e ∙ take-all ss))
+pub search-all : (found : ℕ) (ss : List Segment) (i count : ℕ) → count ≡ length ss → offset_from found ss i ≡ offset_from found (take count ss) i
+search-all found ss i count e = ap (λ xs. offset_from found xs i) (sym (ap (λ n. take n ss) e ∙ take-all ss))
 
-pub search-none : (ss : List Segment) (i low : ℕ) → low ≡ 0 → offset_at ss i ≡ offset_at (take low ss) i → 0 ≡ offset_at ss i
-search-none ss i low z e = sym (e ∙ ap (λ n. offset_at (take n ss) i) z)
+pub search-none : (found : ℕ) (ss : List Segment) (i low : ℕ) → low ≡ 0 → offset_from found ss i ≡ offset_from found (take low ss) i → found ≡ offset_from found ss i
+search-none found ss i low z e = sym (e ∙ ap (λ n. offset_from found (take n ss) i) z)
 
-pub search-found : (d : Segment) (ss : List Segment) (i low : ℕ) → (low ≡ 0 → ⊥) → low ≤ length ss → (get_or ss (low - 1) d).index ≤ i → offset_at ss i ≡ offset_at (take low ss) i
-    → offset_in (get_or ss (low - 1) d) i ≡ offset_at ss i
-search-found d ss i low z l h e =
+pub search-found : (found : ℕ) (d : Segment) (ss : List Segment) (i low : ℕ) → (low ≡ 0 → ⊥) → low ≤ length ss → (get_or ss (low - 1) d).index ≤ i → offset_from found ss i ≡ offset_from found (take low ss) i
+    → offset_in (get_or ss (low - 1) d) i ≡ offset_from found ss i
+search-found found d ss i low z l h e =
     let s = get_or ss (low - 1) d in
     let last : low ≡ suc (low - 1) = omega (arith, z) in
     let inside : low - 1 < length ss = omega (arith, z, l) in
-    sym (e ∙ ap (λ n. offset_at (take n ss) i) last ∙ ap (λ xs. offset_at xs i) (take-suc ss (low - 1) d inside) ∙ offset_from-more 0 (take (low - 1) ss) s i ∙ after-behind (offset_at (take (low - 1) ss) i) s i h)
+    sym (e ∙ ap (λ n. offset_from found (take n ss) i) last ∙ ap (λ xs. offset_from found xs i) (take-suc ss (low - 1) d inside) ∙ offset_from-more found (take (low - 1) ss) s i ∙ after-behind (offset_from found (take (low - 1) ss) i) s i h)

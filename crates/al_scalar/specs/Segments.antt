@@ -1,7 +1,11 @@
 -- Decoded bytes with their offsets, from the runs that keep them.
-use Rattle.std.specs.Prelude.{◌≡◌, ℕ, suc, ◌^◌, ◌+◌, ◌-◌, ◌<◌, ◌≤◌, List, [], ◌∷◌, nat_le, if◌then◌else◌}
+use Rattle.std.specs.Prelude.{◌≡◌, ℕ, suc, ◌^◌, ◌+◌, ◌-◌, ◌<◌, ◌≤◌, List, [], ◌∷◌, nat_le, true, if◌then◌else◌}
 use Rattle.al_scalar.specs.Line.{Cell}
 use Rattle.al_scalar.specs.declared.texts.Segment.{Segment}
+
+-- the run that a text begins with
+abbrev pub first_run : ℕ → Segment
+first_run at = record { index = 0; offset = at; moves = true }
 
 -- the offset of the byte at an index in one run: an escape gives one offset to all its bytes
 abbrev pub offset_in : Segment → ℕ → ℕ

@@ -27,8 +27,8 @@ pub enum ScalarContext {
 pub struct Scalar {
     style: Style,
     class: Class,
-    text: Text,
     end: u32,
+    text: Text,
 }
 
 impl Model for Scalar {

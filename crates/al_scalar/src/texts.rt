@@ -2,7 +2,7 @@ ghost use Rattle.std.specs.Prelude.{◌≡◌, ℕ, ◌+◌, ◌<◌, ◌≤◌,
 ghost use Rattle.al_scalar.specs.Line.{Cell};
 ghost use Rattle.al_scalar.specs.Places.{cells_between};
 ghost use Rattle.al_scalar.specs.Scalar.{offset_or};
-ghost use Rattle.al_scalar.specs.Segments.{offset_in, offset_at, cells_from, AreBehind, IsRising, IsOrdered, GoesOn};
+ghost use Rattle.al_scalar.specs.Segments.{first_run, offset_in, offset_at, cells_from, AreBehind, IsRising, IsOrdered, GoesOn};
 
 use std::alloc::{AllocError, Global};
 use std::marker::Model;
@@ -17,6 +17,17 @@ pub struct Segment {
 }
 
 impl Segment {
+    /// A run that moves, from index 0 on.
+    fn first(offset: u32) -> Self
+        ensures { result ≡ first_run offset }
+    {
+        Segment {
+            index: 0,
+            offset,
+            moves: true,
+        }
+    }
+
     /// The offset of the byte at an index, which is in the run.
     fn locate(self, i: usize) -> u32
         requires behind { self.index ≤ i }
@@ -31,74 +42,122 @@ impl Segment {
     }
 }
 
-/// Whether the offsets of the last run, which reaches up to an index, go on with an offset.
-fn goes_on(segments: &[Segment], index: usize, at: u32) -> bool
-    requires { AreBehind index segments.now }
-    ensures { IsTrue result → GoesOn segments.now index at }
-{
-    let count = segments.len();
-    if count == 0 {
-        return false;
-    }
-    let last = segments[count - 1];
-    if !last.moves {
-        return false;
-    }
-    if at < last.offset {
-        return false;
-    }
-    (at - last.offset) as usize == index - last.index
+/// The runs of a text. The first moves, begins at index 0 and takes no memory of its own; mostly there is no other.
+#[derive(Drop)]
+struct Runs {
+    first: u32,
+    rest: Vec<Segment>,
 }
 
-/// Makes an offset that of the byte at an index, which is to come, and lets the offsets go up from there.
-fn begin_run(segments: &mut Vec<Segment>, index: usize, at: u32) -> Result<(), AllocError>
-    requires { IsOrdered index segments.old.items }
-    ensures order { IsOrdered index segments.new.items }
-    ensures cells { (bs : List ℕ) → length bs ≡ index → cells_from 0 bs segments.new.items ≡ cells_from 0 bs segments.old.items }
-    ensures next { IfOk result (λ _. GoesOn segments.new.items index at) }
-{
-    if goes_on(segments, index, at) {
-        return Ok(());
-    }
-    segments.push(Segment {
-        index,
-        offset: at,
-        moves: true,
-    })?;
-    Ok(())
+impl Model for Runs {
+    ghost use Rattle.std.specs.Prelude.{List, ◌∷◌};
+    ghost use Rattle.al_scalar.specs.Segments.{first_run};
+    ghost use Rattle.al_scalar.specs.declared.texts.Segment.{Segment};
+
+    ghost Value = { List Segment };
+
+    ghost view = { λ r. first_run r.first ∷ r.rest.items };
 }
 
-/// The last run that begins at or before an index; a run from 0 on where there is none.
-fn last_run(segments: &[Segment], i: usize) -> Segment
-    requires { IsRising segments.now }
-    ensures behind { result.index ≤ i }
-    ensures offset { offset_in result i ≡ offset_at segments.now i }
-{
-    let mut low = 0;
-    let mut high = segments.len();
-    'halves: while low < high {
-        let middle = low + (high - low) / 2;
-        if segments[middle].index <= i {
-            low = middle + 1;
-        } else {
-            high = middle;
+impl Runs {
+    /// A first run alone. Takes no memory.
+    fn new(alloc: Global) -> Self
+        ensures { result ≡ first_run 0 ∷ [] }
+    {
+        Runs {
+            first: 0,
+            rest: Vec::new(alloc),
         }
     }
-    if low == 0 {
-        return Segment {
-            index: 0,
-            offset: 0,
-            moves: false,
-        };
+
+    /// The last run.
+    fn last(&self) -> Segment
+        ensures behind { (n : ℕ) → AreBehind n self.now → result.index ≤ n }
+        ensures offset { (i : ℕ) → AreBehind i self.now → offset_in result i ≡ offset_at self.now i }
+    {
+        let count = self.rest.len();
+        if count == 0 {
+            return Segment::first(self.first);
+        }
+        self.rest[count - 1]
     }
-    segments[low - 1]
+
+    /// Whether the offsets of the last run, which reaches up to an index, go on with an offset.
+    fn goes_on(&self, index: usize, at: u32) -> bool
+        requires { AreBehind index self.now }
+        ensures { IsTrue result → GoesOn self.now index at }
+    {
+        let last = self.last();
+        if !last.moves {
+            return false;
+        }
+        if at < last.offset {
+            return false;
+        }
+        (at - last.offset) as usize == index - last.index
+    }
+
+    /// Makes an offset that of the byte at an index, which is to come, and lets the offsets go up from there.
+    fn begin(&mut self, index: usize, at: u32) -> Result<(), AllocError>
+        requires { IsOrdered index self.old }
+        ensures order { IsOrdered index self.new }
+        ensures cells { (bs : List ℕ) → length bs ≡ index → cells_from 0 bs self.new ≡ cells_from 0 bs self.old }
+        ensures next { IfOk result (λ _. GoesOn self.new index at) }
+    {
+        if index == 0 && self.rest.is_empty() {
+            self.first = at;
+            return Ok(());
+        }
+        if self.goes_on(index, at) {
+            return Ok(());
+        }
+        self.push(Segment {
+            index,
+            offset: at,
+            moves: true,
+        })?;
+        Ok(())
+    }
+
+    /// Adds a run.
+    fn push(&mut self, run: Segment) -> Result<(), AllocError>
+        ensures added { IfOk result (λ _. self.new ≡ self.old ++ run ∷ []) }
+        ensures stays { OnErr result (self.new ≡ self.old) }
+    {
+        self.rest.push(run)?;
+        Ok(())
+    }
+
+    /// The run that an index is in: the last one that begins at or before it.
+    fn run_of(&self, i: usize) -> Segment
+        requires { IsRising self.now }
+        ensures behind { result.index ≤ i }
+        ensures offset { offset_in result i ≡ offset_at self.now i }
+    {
+        let first = Segment::first(self.first);
+        let rest = self.rest.as_slice();
+        let mut low = 0;
+        let mut high = rest.len();
+        'halves: while low < high {
+            let middle = low + (high - low) / 2;
+            if rest[middle].index <= i {
+                low = middle + 1;
+            } else {
+                high = middle;
+            }
+        }
+        if low == 0 {
+            return first;
+        }
+        rest[low - 1]
+    }
 }
 
 /// Decoded bytes, each with the offset that gave it.
 #[derive(Drop)]
 pub struct Text {
     bytes: Vec<u8>,
-    segments: Vec<Segment>,
+    runs: Runs,
 }
 
 impl Model for Text {
@@ -108,9 +167,9 @@ impl Model for Text {
 
     ghost Value = { List Cell };
 
-    ghost view = { λ t. cells_from 0 t.bytes.items t.segments.items };
+    ghost view = { λ t. cells_from 0 t.bytes.items t.runs };
 
-    ghost invariant = { λ t. IsOrdered (length t.bytes.items) t.segments.items × AreInRange (cells_from 0 t.bytes.items t.segments.items) };
+    ghost invariant = { λ t. IsOrdered (length t.bytes.items) t.runs × AreInRange (cells_from 0 t.bytes.items t.runs) };
 }
 
 impl Text {
@@ -120,7 +179,7 @@ impl Text {
     {
         Text {
             bytes: Vec::new(alloc),
-            segments: Vec::new(alloc),
+            runs: Runs::new(alloc),
         }
     }
 
@@ -130,7 +189,7 @@ impl Text {
         ensures added { IfOk result (λ _. self.new ≡ self.old ++ (byte, at) ∷ []) }
         ensures stays { OnErr result (self.new ≡ self.old) }
     {
-        begin_run(&mut self.segments, self.bytes.len(), at as u32)?;
+        self.runs.begin(self.bytes.len(), at as u32)?;
         self.bytes.push(byte)?;
         Ok(())
     }
@@ -143,7 +202,7 @@ impl Text {
         ensures added { IfOk result (λ _. self.new ≡ self.old ++ cells_between file.now from to) }
         ensures stays { OnErr result (self.new ≡ self.old) }
     {
-        begin_run(&mut self.segments, self.bytes.len(), from as u32)?;
+        self.runs.begin(self.bytes.len(), from as u32)?;
         self.bytes.extend_from_slice(&file[from..to])?;
         Ok(())
     }
@@ -154,7 +213,7 @@ impl Text {
         ensures added { IfOk result (λ _. self.new ≡ self.old ++ map (λ b. (b, at)) decoded.now) }
         ensures stays { OnErr result (self.new ≡ self.old) }
     {
-        self.segments.push(Segment {
+        self.runs.push(Segment {
             index: self.bytes.len(),
             offset: at as u32,
             moves: false,
@@ -175,6 +234,6 @@ impl Text {
         requires { i < length self.now }
         ensures { (end : ℕ) → result ≡ offset_or self.now end i }
     {
-        last_run(&self.segments, i).locate(i)
+        self.runs.run_of(i).locate(i)
     }
 }

@@ -6,4 +6,4 @@ use Rattle.al_scalar.proofs.texts.Text.as_bytes.Goals as goal
 pub returns : goal.returns
 returns c =
     let t = c.self.inside in
-    c.as_slice.ensures.value ∙ sym (bytes-cells_from 0 t.bytes.items t.segments.items) ∙ ap (map (λ (c : Cell). c.0)) c.self.view_is
+    c.as_slice.ensures.value ∙ sym (bytes-cells_from 0 t.bytes.items t.runs) ∙ ap (map (λ (c : Cell). c.0)) c.self.view_is
