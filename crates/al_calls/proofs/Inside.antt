@@ -25,7 +25,8 @@ use Rattle.al_uses.specs.Uses.{Call, calls_in, target_in}
 use Rattle.al_uses.specs.declared.forms.Form.{Form}
 use Rattle.al_uses.specs.declared.forms.Form.TheVariants.{Local, Other, Wrong}
 use Rattle.al_uses.proofs.Inside.{AtLies, calls_lie, inside_kept}
-use Rattle.al_uses.proofs.Parts.{each_both, each_either, each_of, entries_kept}
+use Rattle.al_text.proofs.Elements.{each_both, each_either, each_of}
+use Rattle.al_uses.proofs.Parts.{entries_kept}
 use Rattle.al_calls.specs.Answers.{Answered, Typing, answered, answered_faults}
 use Rattle.al_calls.specs.CallFaults.{Given, Names, absent_faults, against, answer_faults, at_uses, call_faults, called, caller_of, extra_input, extra_inputs, extra_secret, extra_secrets, fault, form_faults, given_names, given_secrets, input_faults, input_names, is_callable, is_inherit, is_input, is_missing, is_missing_secret, is_right, is_taken, missing_input, missing_inputs, missing_secret, missing_secrets, secret_faults, secret_names, that_uses, type_faults, values_of, wrong_input, wrong_inputs}
 use Rattle.al_calls.specs.Laws.{CallFaultsLie}

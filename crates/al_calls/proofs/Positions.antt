@@ -2,8 +2,9 @@
 use Rattle.std.proofs.Common.{◌≡◌, ℕ, ◌+◌, ◌<◌, List, [], ◌∷◌, ◌++◌, Option, Some, None, take, length, get_or, option_map, refl, ap, arith, sym, ◌∙◌}
 use Rattle.std.proofs.lemmas.List.{length-take, take_more}
 use Rattle.std.specs.Prelude.{find, if◌then◌else◌}
+use Rattle.std.specs.Option.{option_or}
 use Rattle.al_types.specs.Names.{same_name}
-use Rattle.al_declarations.specs.Positions.{and_name_at, first_at, or_position}
+use Rattle.al_declarations.specs.Positions.{and_name_at, first_at}
 use Rattle.al_declarations.proofs.PositionLemmas.{find_first, first_more, first_within}
 use Rattle.al_interfaces.specs.declared.interfaces.Input.{Input}
 use Rattle.al_calls.specs.CallFaults.{input_positions, is_input}
@@ -15,7 +16,7 @@ positions_more inputs i x old new room is o n =
     let len : i ≡ length (take i inputs) = omega (arith, length-take i inputs, room) in
     let more : and_name_at (input_positions (take i inputs)) x.name i ≡ input_positions (take i inputs ++ x ∷ []) =
     λ d name.
-    (ap (λ m. or_position (first_at (is_input name) (take i inputs)) (if same_name x.name name then Some m else None)) len
+    (ap (λ m. option_or (first_at (is_input name) (take i inputs)) (if same_name x.name name then Some m else None)) len
     ∙ sym (first_more (is_input name) (take i inputs) x)) d
     in
     n ∙ ap (λ (f : List ℕ → Option ℕ). and_name_at f x.name i) o ∙ more

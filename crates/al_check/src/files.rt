@@ -2,7 +2,7 @@
 ghost use Rattle.std.specs.Prelude.{◌≡◌, ◌≤◌, ◌++◌, [], ◌∷◌, false, length, map, IfOk, OnOk};
 ghost use Rattle.std.specs.Option.{option_copied};
 ghost use Rattle.al_shape.specs.Faults.{root_faults};
-ghost use Rattle.al_shape.specs.Growth.{SameSet};
+ghost use Rattle.al_text.specs.Growth.{SameSet};
 ghost use Rattle.al_text.specs.FaultLists.{fault_list};
 ghost use Rattle.al_tree.specs.Files.{shape_of};
 ghost use Rattle.al_yaml.specs.Document.{tree_of};

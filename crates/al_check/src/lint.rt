@@ -4,7 +4,7 @@ ghost use Rattle.std.specs.List.{AllByRecursion};
 ghost use Rattle.std.specs.List.Sorted.{IsStrictlySortedBy};
 ghost use Rattle.al_text.specs.FaultLists.{fault_cmp};
 ghost use Rattle.al_text.specs.Spans.{LiesIn};
-ghost use Rattle.al_session.specs.Meaning.{counted};
+ghost use Rattle.al_text.specs.Counted.{raised};
 ghost use Rattle.al_tree.specs.Kinds.{file_kind};
 ghost use Rattle.al_check.specs.Linting.{linting};
 ghost use Rattle.al_check.specs.Reading.{IsRead};

@@ -3,7 +3,7 @@
 ghost use Rattle.std.specs.Prelude.{◌≡◌, ◌≤◌, [], List, ℕ, length, map, true, IfOk, Option};
 ghost use Rattle.std.specs.List.{AllByRecursion};
 ghost use Rattle.al_text.specs.Spans.{LiesIn};
-ghost use Rattle.al_session.specs.Meaning.{counted};
+ghost use Rattle.al_text.specs.Counted.{raised};
 ghost use Rattle.al_cli.specs.Callees.{callees};
 ghost use Rattle.al_cli.specs.Callees.{same_interface, none_ordered};
 ghost use Rattle.std.specs.List.Sorted.{IsStrictlySortedBy};

@@ -1,5 +1,6 @@
 -- Behind the text every place is the scalar's end.
 use Rattle.std.proofs.Common.{◌≡◌, ℕ, zero, suc, ◌≤◌, List, [], ◌∷◌, length, refl, sym, ap, ◌∙◌, arith, map}
+use Rattle.al_scalar.proofs.Locating.{offset_or-end}
 use Rattle.al_scalar.specs.Line.{Cell}
 use Rattle.al_scalar.specs.Scalar.{Scalar, offset_of, offset_or, text_of}
 
@@ -7,12 +8,7 @@ pub length_text : (cs : List Cell) → length (map (λ (c : Cell). c.0) cs) ≡ 
 length_text [] = refl
 length_text (c ∷ cs) = ap suc (length_text cs)
 
-pub at_end : (cs : List Cell) (end i : ℕ) → length cs ≤ i → offset_or cs end i ≡ end
-at_end [] end i h = refl
-at_end (c ∷ cs) end zero h = absurd (omega (arith, h))
-at_end (c ∷ cs) end (suc i) h = at_end cs end i (omega (arith, h))
-
 pub same_end : (s : Scalar) (i : ℕ) → length (text_of s) ≤ i → offset_of s (length (text_of s)) ≡ offset_of s i
 same_end s i h =
     let e = length_text s.cells in
-    at_end s.cells s.end (length (text_of s)) (omega (arith, e)) ∙ sym (at_end s.cells s.end i (omega (arith, e, h)))
+    offset_or-end s.cells s.end (length (text_of s)) (omega (arith, e)) ∙ sym (offset_or-end s.cells s.end i (omega (arith, e, h)))

@@ -19,8 +19,8 @@ use Rattle.std.specs.Prelude.{if◌then◌else◌, option_map}
 use Rattle.al_types.specs.Types.{Type', Any}
 use Rattle.al_yaml.specs.Node.{Node}
 use Rattle.al_places.specs.Positions.{Position, Section, Seen, apart, in_on, in_job}
-use Rattle.al_contexts.specs.Contexts.{Known, action_steps, job_among, job_in, jobs_of, jobs_seen, jobs_type_of, needs_type_of, steps_type, type_at, type_in_job}
-use Rattle.al_declarations.specs.Declarations.{is_composite}
+use Rattle.al_contexts.specs.Contexts.{Known, job_among, job_in, jobs_of, jobs_seen, jobs_type_of, needs_type_of, steps_type, type_at, type_in_job}
+use Rattle.al_declarations.specs.Declarations.{action_steps, is_composite}
 use Rattle.al_contexts.specs.Environment.{Fixed, OfSection, Owner, inputs_in, jobs_in, matrix_in, needs_in, owned, owner_in, owner_of, strategy_in}
 use Rattle.al_contexts.specs.Environment as environment
 

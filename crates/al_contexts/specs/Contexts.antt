@@ -15,7 +15,7 @@ use Rattle.al_shape.specs.Values.{entries_at, items_at, text_at, texts_at, value
 use Rattle.al_tree.specs.declared.files.FileKind.{FileKind}
 use Rattle.al_tree.specs.declared.files.FileKind.TheVariants as kind
 use Rattle.al_places.specs.Positions.{Position, Section, apart, in_on, in_job, Seen, no_step, before, every_step}
-use Rattle.al_declarations.specs.Declarations.{has_value, is_composite, names_of}
+use Rattle.al_declarations.specs.Declarations.{action_steps, has_value, is_composite, names_of}
 use Rattle.al_contexts.specs.Fixed.{github_type, runner_type, job_type, strategy_type}
 use Rattle.al_contexts.specs.Inputs.{workflow_inputs, action_inputs}
 use Rattle.al_contexts.specs.Matrix.{matrix_type}
@@ -122,9 +122,6 @@ workflow_type known root p context.Steps =
     type_in_job (λ j. steps_type known (Some (key_of j)) (items_at (codes "steps") j.1) p.seen) (job_in root p.section)
 workflow_type known root p context.Matrix = type_in_job (λ j. matrix_type j.1) (job_in root p.section)
 workflow_type known root p context.Inputs = workflow_inputs root
-
-abbrev pub action_steps : Node → List Node
-action_steps root = option_map_or (items_at (codes "steps")) (value_at (codes "runs") root) []
 
 abbrev pub action_type : Known → Node → Position → Context → Type'
 action_type known root p context.Github = github_type

@@ -12,8 +12,8 @@ use Rattle.al_tree.specs.declared.files.FileKind.{FileKind}
 use Rattle.al_tree.specs.declared.files.FileKind.TheVariants as kind
 use Rattle.al_places.specs.Positions.{Section, apart, in_on, in_job, Seen}
 use Rattle.al_contexts.specs.Answered.{known_of}
-use Rattle.al_contexts.specs.Contexts.{Known, action_steps, job_in, jobs_of, jobs_type_of, needs_type, steps_shown, steps_type, type_in_job}
-use Rattle.al_declarations.specs.Declarations.{is_composite}
+use Rattle.al_contexts.specs.Contexts.{Known, job_in, jobs_of, jobs_type_of, needs_type, steps_shown, steps_type, type_in_job}
+use Rattle.al_declarations.specs.Declarations.{action_steps, is_composite}
 use Rattle.al_contexts.specs.Fixed.{github_type, runner_type, job_type, strategy_type}
 use Rattle.al_contexts.specs.Inputs.{workflow_inputs, action_inputs}
 use Rattle.al_contexts.specs.Matrix.{matrix_type}

@@ -11,7 +11,7 @@ use crate::env::{File, Owner, start_steps};
 use crate::fixed::{github, job, runner};
 use crate::inputs::inputs_type;
 use crate::objects::loose_strings;
-use al_declarations::is_composite;
+use al_declarations::{action_steps, is_composite};
 use al_shape::{items_under, value};
 use al_tree::FileKind;
 use al_types::{ContextSet, ContextTypes, FunctionSet, Ty};
@@ -40,16 +40,6 @@ pub(crate) const NO_FUNCTIONS: FunctionSet = FunctionSet {
     cancelled: false,
     failure: false,
 };
-
-/// The steps of an action.
-fn action_steps(root: &Node) -> &[Node]
-    ensures { map view result.now ≡ contexts.action_steps (view root.now) }
-{
-    match value(root, "runs") {
-        Some(runs) => items_under(runs, "steps"),
-        None => &[],
-    }
-}
 
 /// Whose steps are seen at the start of a file: those of a composite action, and of a workflow nobody's.
 pub(crate) fn first_owner(kind: FileKind, root: &Node) -> Option<Owner<'_>>

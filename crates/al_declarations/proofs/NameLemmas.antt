@@ -10,6 +10,7 @@ use Rattle.std.specs.Str.{bytes_eq}
 use Rattle.std.specs.Global.{Vec}
 use Rattle.std.proofs.lemmas.Map.Text.{is_eq-slice_cmp}
 use Rattle.std.proofs.lemmas.Slice.Eq.{bytes_eq-Decides}
+use Rattle.al_shape.proofs.KeyLemmas.{or_comm}
 use Rattle.al_types.specs.Names.{same_name}
 use Rattle.al_types.proofs.SameName.{same_sound, same_complete, not_true}
 use Rattle.al_declarations.specs.Declarations.{named_among}
@@ -76,12 +77,6 @@ module _ {V : Type 0} (items : V → List ℕ) (text : List ℕ) where
   any_inserted : (k : V) (ks : List V) → any_of (insert_key compared ks k) ≡ (is_text text (items k) || any_of ks)
   any_inserted k [] = refl
   any_inserted k (x ∷ xs) = inserted_before k x xs (insert_key compared xs k) (compared k x) refl (any_inserted k xs)
-
-or_comm : (a b : Bool) → (a || b) ≡ (b || a)
-or_comm true true = refl
-or_comm true false = refl
-or_comm false true = refl
-or_comm false false = refl
 
 same_swap : (a b : List ℕ) → same_name a b ≡ true → same_name b a ≡ true
 same_swap a b h = same_complete b a (sym (same_sound a b h))

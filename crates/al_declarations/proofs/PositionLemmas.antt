@@ -11,9 +11,10 @@ use Rattle.std.specs.Str.{bytes_eq}
 use Rattle.std.proofs.Math.ListN.{get_or-map}
 use Rattle.std.proofs.lemmas.List.{length-map, length-take, map-append, take_more}
 use Rattle.std.proofs.lemmas.Map.Text.{is_eq-slice_cmp}
+use Rattle.std.specs.Option.{option_or}
 use Rattle.al_types.specs.Names.{same_name}
 use Rattle.al_declarations.specs.NameSets.{folded}
-use Rattle.al_declarations.specs.Positions.{and_name_at, and_text_at, first_at, name_position, or_position, text_position}
+use Rattle.al_declarations.specs.Positions.{and_name_at, and_text_at, first_at, name_position, text_position}
 use Rattle.al_declarations.specs.declared.positions.NamePositions.{NamePositions}
 use Rattle.al_declarations.specs.declared.positions.TextPositions.{TextPositions}
 use Rattle.al_declarations.proofs.NameLemmas.{same_folded}
@@ -32,8 +33,8 @@ apart bs cs ks n y =
 
 -- what was there before, and a new value at a text that was not
 here_or_before : (here : Bool) (old new : Option ℕ) (i : ℕ) → (here ≡ true → old ≡ None) → (here ≡ true → new ≡ Some i) → (here ≡ false → new ≡ old) →
-    new ≡ or_position old (if here then Some i else None)
-here_or_before true old new i none there apart = there refl ∙ sym (ap (λ o. or_position o (Some i)) (none refl))
+    new ≡ option_or old (if here then Some i else None)
+here_or_before true old new i none there apart = there refl ∙ sym (ap (λ o. option_or o (Some i)) (none refl))
 here_or_before false None new i none there apart = apart refl
 here_or_before false (Some j) new i none there apart = apart refl
 
@@ -65,7 +66,7 @@ pub on_err : {T E P : Type 0} (r : Result T E) → P → OnErr r P
 on_err (Ok x) p = tt
 on_err (Err e) p = p
 
-was_there : (here : Bool) (o : Option ℕ) (i : ℕ) → (here ≡ true → is_none o ≡ false) → or_position o (if here then Some i else None) ≡ o
+was_there : (here : Bool) (o : Option ℕ) (i : ℕ) → (here ≡ true → is_none o ≡ false) → option_or o (if here then Some i else None) ≡ o
 was_there here (Some j) i h = refl
 was_there true None i h = absurd (cc (h refl))
 was_there false None i h = refl
@@ -80,7 +81,7 @@ pub name_added : (old new : NamePositions) (name : List ℕ) (i : ℕ) → text_
     name_position new ≡ and_name_at (name_position old) name i
 unfolding name_position
 name_added old new name i e =
-    λ d other. (ap (λ f. f (folded other)) e ∙ ap (λ b. or_position (name_position old other) (if b then Some i else None)) (same_folded name other)) d
+    λ d other. (ap (λ f. f (folded other)) e ∙ ap (λ b. option_or (name_position old other) (if b then Some i else None)) (same_folded name other)) d
 
 -- a name that is there
 pub name_kept : (p : NamePositions) (name : List ℕ) (i : ℕ) → is_none (name_position p name) ≡ false → and_name_at (name_position p) name i ≡ name_position p
@@ -91,8 +92,8 @@ name_kept p name i h =
     (λ e. ap (λ t. is_none (text_position p.texts t)) (sym ((bytes_decides (folded name) (folded other)).0 (same_folded name other ∙ e))) ∙ h) d
 
 module _ {A : Type 0} (test : A → Bool) where
-  more_at : (here : Bool) (o more : Option ℕ) → (if here then Some 0 else option_map (λ i. i + 1) (or_position o more))
-      ≡ or_position (if here then Some 0 else option_map (λ i. i + 1) o) (option_map (λ i. i + 1) more)
+  more_at : (here : Bool) (o more : Option ℕ) → (if here then Some 0 else option_map (λ i. i + 1) (option_or o more))
+      ≡ option_or (if here then Some 0 else option_map (λ i. i + 1) o) (option_map (λ i. i + 1) more)
   more_at true o more = refl
   more_at false None more = refl
   more_at false (Some i) more = refl
@@ -102,12 +103,12 @@ module _ {A : Type 0} (test : A → Bool) where
   last_at false n m e = refl
 
   -- the first of a list and one more
-  pub first_more : (xs : List A) (x : A) → first_at test (xs ++ x ∷ []) ≡ or_position (first_at test xs) (if test x then Some (length xs) else None)
+  pub first_more : (xs : List A) (x : A) → first_at test (xs ++ x ∷ []) ≡ option_or (first_at test xs) (if test x then Some (length xs) else None)
   first_more [] x = refl
   first_more (y ∷ ys) x =
       ap (λ o. if test y then Some 0 else option_map (λ i. i + 1) o) (first_more ys x)
       ∙ more_at (test y) (first_at test ys) (if test x then Some (length ys) else None)
-      ∙ ap (or_position (first_at test (y ∷ ys))) (last_at (test x) (length ys) (length (y ∷ ys)) (omega arith))
+      ∙ ap (option_or (first_at test (y ∷ ys))) (last_at (test x) (length ys) (length (y ∷ ys)) (omega arith))
 
   within_step : (here : Bool) (o : Option ℕ) (n i : ℕ) → ((j : ℕ) → o ≡ Some j → j < n) → (if here then Some 0 else option_map (λ k. k + 1) o) ≡ Some i → i < n + 1
   within_step true o n i h e = let z : 0 ≡ i = cc in omega (arith, z)
@@ -134,12 +135,12 @@ module _ {A : Type 0} (test : A → Bool) where
 -- where elements of a list first stand by their texts, with the element at an index
 pub position_next : {X A : Type 0} (g : X → A) (key : A → List ℕ) (same : List ℕ → List ℕ → Bool) (xs : List X) (i : ℕ) (x : X) (old new : List ℕ → Option ℕ) →
     i < length xs → x ≡ get_or xs i x → old ≡ (λ t. first_at (λ a. same (key a) t) (map g (take i xs))) →
-    new ≡ (λ t. or_position (old t) (if same (key (g x)) t then Some i else None)) → new ≡ (λ t. first_at (λ a. same (key a) t) (map g (take (i + 1) xs)))
+    new ≡ (λ t. option_or (old t) (if same (key (g x)) t then Some i else None)) → new ≡ (λ t. first_at (λ a. same (key a) t) (map g (take (i + 1) xs)))
 position_next {X} {A} g key same xs i x old new h e o n =
     let front : List A = map g (take i xs) in
     let len : i ≡ length front = omega (arith, length-map (take i xs) g, length-take i xs, h) in
-    n ∙ ap (λ (f : List ℕ → Option ℕ). λ t. or_position (f t) (if same (key (g x)) t then Some i else None)) o
-    ∙ ap (λ k. λ t. or_position (first_at (λ a. same (key a) t) front) (if same (key (g x)) t then Some k else None)) len
+    n ∙ ap (λ (f : List ℕ → Option ℕ). λ t. option_or (f t) (if same (key (g x)) t then Some i else None)) o
+    ∙ ap (λ k. λ t. option_or (first_at (λ a. same (key a) t) front) (if same (key (g x)) t then Some k else None)) len
     ∙ sym (λ d t. first_more (λ a. same (key a) t) front (g x) d)
     ∙ ap (λ (y : X). λ t. first_at (λ a. same (key a) t) (front ++ g y ∷ [])) e
     ∙ ap (λ (ys : List A). λ t. first_at (λ a. same (key a) t) ys) (sym (map-append g (take i xs) (get_or xs i x ∷ [])))

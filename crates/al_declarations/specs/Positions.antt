@@ -3,6 +3,7 @@ use Rattle.std.specs.Prelude.{ℕ, ◌+◌, List, [], ◌∷◌, Bool, Option, S
 use Rattle.std.specs.BTreeMap.{get_by}
 use Rattle.std.specs.Cmp.Lexicographic.{slice_cmp}
 use Rattle.std.specs.Ordering.{nat_cmp}
+use Rattle.std.specs.Option.{option_or}
 use Rattle.std.specs.Str.{bytes_eq}
 use Rattle.al_types.specs.Names.{same_name}
 use Rattle.al_declarations.specs.NameSets.{folded}
@@ -22,15 +23,10 @@ text_position p text = get_by (λ k. slice_cmp nat_cmp text k.items) p.positions
 unfoldable pub name_position : NamePositions → List ℕ → Option ℕ
 name_position p name = text_position p.texts (folded name)
 
--- a position, or else another one
-abbrev pub or_position : Option ℕ → Option ℕ → Option ℕ
-or_position (Some i) other = Some i
-or_position None other = other
-
 -- positions, and that of one more text, which counts where it had none
 abbrev pub and_text_at : (List ℕ → Option ℕ) → List ℕ → ℕ → List ℕ → Option ℕ
-and_text_at position more i text = or_position (position text) (if bytes_eq more text then Some i else None)
+and_text_at position more i text = option_or (position text) (if bytes_eq more text then Some i else None)
 
 -- likewise of one more name
 abbrev pub and_name_at : (List ℕ → Option ℕ) → List ℕ → ℕ → List ℕ → Option ℕ
-and_name_at position more i name = or_position (position name) (if same_name more name then Some i else None)
+and_name_at position more i name = option_or (position name) (if same_name more name then Some i else None)

@@ -1,11 +1,11 @@
 //! Values below paths of keys.
-ghost use Rattle.std.specs.Prelude.{◌≡◌, ◌∷◌, [], option_map};
+ghost use Rattle.std.specs.Prelude.{◌≡◌, ◌∷◌, [], map, option_map};
 ghost use Rattle.al_declarations.specs.Declarations as declarations;
 ghost use Rattle.al_declarations.specs.Declarations.{says};
 ghost use Rattle.al_shape.specs.Values.{value_below};
 ghost use Rattle.al_yaml.specs.View.{view};
 
-use al_shape::value;
+use al_shape::{items_under, value};
 use al_yaml::Node;
 
 /// The value below two keys, each of which stands in a mapping; of equal keys the first counts.
@@ -51,5 +51,15 @@ pub fn is_composite(root: &Node) -> bool
     match value_below_two(root, "runs", "using") {
         Some(node) => has_text(node, "composite"),
         None => false,
+    }
+}
+
+/// The steps of an action, in order; none where it runs none.
+pub fn action_steps(root: &Node) -> &[Node]
+    ensures { map view result.now ≡ declarations.action_steps (view root.now) }
+{
+    match value(root, "runs") {
+        Some(runs) => items_under(runs, "steps"),
+        None => &[],
     }
 }

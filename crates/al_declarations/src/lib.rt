@@ -10,7 +10,7 @@ mod name_sets;
 mod names;
 mod positions;
 
-pub use below::{has_value, is_composite, value_below_three, value_below_two};
+pub use below::{action_steps, has_value, is_composite, value_below_three, value_below_two};
 pub use inputs::{InputType, input_of, type_of};
 pub use mappings::{declared_at, declared_in};
 pub use name_lists::{Name, NameList};

@@ -1,3 +1,5 @@
+//! Sets of names in which letter case does not count.
+
 ghost use Rattle.std.specs.Prelude.{◌≡◌, [], map, not, IfOk, OnOk};
 ghost use Rattle.al_declarations.specs.Declarations.{named_among};
 ghost use Rattle.al_declarations.specs.NameSets.{and_name, folded, holds};

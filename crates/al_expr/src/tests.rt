@@ -1,3 +1,5 @@
+//! Tests of chunks, tokens and trees, by worked rows.
+
 use crate::{Expr, Operator, PathStep, TokenKind, chunks, lex, parse_expr};
 use al_text::{Code, ExpressionCode, Fault};
 use std::alloc::{AllocError, Global};

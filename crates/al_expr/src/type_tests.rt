@@ -1,3 +1,5 @@
+//! Tests of types and of the faults of meaning, by worked rows.
+
 use crate::{
     ContextSet, ContextTypes, Field, Form, FunctionSet, Object, Scope, Ty, assignable, fuse,
     parse_expr, signature_of, type_of,

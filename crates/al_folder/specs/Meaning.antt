@@ -1,5 +1,6 @@
 -- What a linter means: data that each linter gives, and that the folder's definitions take.
-use Rattle.std.specs.Prelude.{ℕ, ◌+◌, ◌-◌, ◌^◌, ◌≤◌, min, Bool, List, [], ◌∷◌, Option}
+use Rattle.std.specs.Prelude.{ℕ, ◌≤◌, Bool, List, [], ◌∷◌, Option}
+use Rattle.al_text.specs.Counted.{raised}
 use Rattle.al_text.specs.declared.faults.Fault.{Fault}
 use Rattle.al_folder.specs.declared.lint.Target.{Target}
 use Rattle.al_folder.specs.declared.lint.Target.TheVariants.{Only, FirstOf}
@@ -20,10 +21,6 @@ abbrev pub candidates : Target → List (List ℕ)
 candidates (Only p) = p ∷ []
 candidates (FirstOf p q) = p ∷ q ∷ []
 
--- a count after k more, which stays at its greatest value
-abbrev pub counted : ℕ → ℕ → ℕ
-counted n k = min (n + k) (2 ^ 64 - 1)
-
 -- a count that has risen by at most that many
 abbrev pub IsUpTo : ℕ → ℕ → ℕ → Type 0
-IsUpTo old new most = (old ≤ new) × (new ≤ counted old most)
+IsUpTo old new most = (old ≤ new) × (new ≤ raised old most)

@@ -6,7 +6,8 @@ ghost use Rattle.std.specs.List.{AllByRecursion};
 ghost use Rattle.std.specs.List.Sorted.{IsStrictlySortedBy};
 ghost use Rattle.al_text.specs.FaultLists.{fault_cmp};
 ghost use Rattle.al_text.specs.Spans.{LiesIn};
-ghost use Rattle.al_folder.specs.Meaning.{Meaning, counted};
+ghost use Rattle.al_folder.specs.Meaning.{Meaning};
+ghost use Rattle.al_text.specs.Counted.{raised};
 
 use al_text::{Fault, Path};
 use std::alloc::{AllocError, Global};
@@ -69,7 +70,7 @@ pub trait Lint: Drop {
         requires accepted { meaning.accepts path.now ≡ true }
         requires small { length bytes.now ≤ 1048576 }
         ensures unit { IfOk result (λ u. is_unit u path.now bytes.now) }
-        ensures reads { reads_of self.new ≡ counted (reads_of self.old) 1 }
+        ensures reads { reads_of self.new ≡ raised (reads_of self.old) 1 }
         ensures checks { checks_of self.new ≡ checks_of self.old };
 
     /// What a file offers to its callers.
@@ -97,7 +98,7 @@ pub trait Lint: Drop {
         requires answers { length answers.now ≡ length (meaning.calls path.now bytes.now) }
         ensures faults { IfOk result (λ fs. fs.items
             ≡ meaning.faults path.now bytes.now (map (λ a. option_copied a) answers.now)) }
-        ensures checks { checks_of self.new ≡ counted (checks_of self.old) 1 }
+        ensures checks { checks_of self.new ≡ raised (checks_of self.old) 1 }
         ensures reads { reads_of self.new ≡ reads_of self.old };
 
     /// How many checks were made so far, up to the greatest count. Takes no memory.

@@ -4,6 +4,7 @@ use Rattle.std.specs.Prelude.{option_and_then}
 use Rattle.std.specs.List.{list_any}
 use Rattle.std.specs.Str.{chars}
 use Rattle.std.specs.Str.Lossy.{utf8_lossy}
+use Rattle.al_text.specs.FirstBytes.{begins_with}
 use Rattle.al_formats.specs.declared.patterns.Filter.{Filter}
 use Rattle.al_formats.specs.declared.patterns.Filter.TheVariants.{Names, Paths}
 use Rattle.al_formats.specs.declared.patterns.State.{State}
@@ -39,10 +40,6 @@ is_done _ = false
 -- one or more items
 abbrev pub is_items : List ℕ → Bool
 is_items cs = is_done (read_all FirstItem cs)
-
-abbrev pub begins_with : ℕ → List ℕ → Bool
-begins_with c [] = false
-begins_with c (d ∷ ds) = d == c
 
 -- the characters behind a `!` at the start
 abbrev pub behind_not : List ℕ → List ℕ

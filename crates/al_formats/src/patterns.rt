@@ -1,6 +1,7 @@
 //! Filter patterns, of branches, tags and paths (GitHub, "Workflow syntax", "Filter pattern cheat sheet").
 
-ghost use Rattle.al_formats.specs.Patterns.{begins_with, behind_not as without_not, has_barred as barred, is_barred, is_items};
+ghost use Rattle.al_formats.specs.Patterns.{behind_not as without_not, has_barred as barred, is_barred, is_items};
+ghost use Rattle.al_text.specs.FirstBytes.{begins_with};
 ghost use Rattle.al_formats.specs.Patterns.{is_pattern as pattern, is_relative as relative, is_right, outside as outside_class};
 ghost use Rattle.al_formats.specs.Patterns.{read as read_one};
 ghost use Rattle.std.specs.List.{list_any};

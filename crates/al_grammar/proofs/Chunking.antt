@@ -12,7 +12,8 @@ use Rattle.al_grammar.specs.declared.chunk.ChunkState.{ChunkState}
 use Rattle.al_grammar.specs.declared.chunk.ChunkState.TheVariants.{Outside, Inside, Quoted}
 use Rattle.al_grammar.specs.declared.chunk.Move.{Move}
 use Rattle.al_grammar.specs.declared.chunk.Move.TheVariants.{On, End}
-use Rattle.al_grammar.specs.Tokens.{first_is, span}
+use Rattle.al_text.specs.FirstBytes.{first_is}
+use Rattle.al_grammar.specs.Tokens.{span}
 use Rattle.al_grammar.specs.Chunks.{Chunked, is, opens, closes, then_chunk, move, moved, chunks_from, behind_chunks, Opens, StandsIn, IsCutFrom}
 
 skipped : (n at : ℕ) (w : ChunkState) (bs : List ℕ) → n ≤ length bs → chunks_from n w at bs ≡ chunks_from 0 w (at + n) (drop n bs)

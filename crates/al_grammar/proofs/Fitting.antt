@@ -4,7 +4,8 @@ use Rattle.std.proofs.lemmas.Bool.Decides.{nat_tests}
 use Rattle.std.proofs.lemmas.List.{get_or-drop}
 use Rattle.std.proofs.lemmas.List.Sums.{prefix_len_passes, prefix_len-le-length}
 use Rattle.std.specs.Prelude.{slice_index}
-use Rattle.al_grammar.specs.Tokens.{is_digit, is_hex_digit, is_sign, begins_name, goes_on_name, run, first_is, with_digits, hex_len, fraction_len, exponent_len, decimal_tail, decimal_len, unsigned_len, number_len, add_to, after_byte, text_tail, text_read, number_read, name_read, Fits}
+use Rattle.al_text.specs.FirstBytes.{first_is}
+use Rattle.al_grammar.specs.Tokens.{is_digit, is_hex_digit, is_sign, begins_name, goes_on_name, run, with_digits, hex_len, fraction_len, exponent_len, decimal_tail, decimal_len, unsigned_len, number_len, add_to, after_byte, text_tail, text_read, number_read, name_read, Fits}
 
 -- Where it isn't empty, a part of so many bytes at the front lies in them and ends with an ASCII byte.
 pub record Ends (bs : List ℕ) (n : ℕ) : Type 0 where

@@ -22,7 +22,8 @@ use Rattle.al_grammar.specs.Inside.{AllLie}
 use Rattle.al_grammar.specs.Lexeme.{Lexeme, lexeme, kinds}
 use Rattle.al_grammar.specs.Refusal.{fault_at, fault_of_content, fault_of_lexed, fault_of_tokens, fault_of_verdict, open_text}
 use Rattle.al_grammar.specs.Table.{Verdict, Fine, Early, Unexpected, TooDeep, verdict_of}
-use Rattle.al_grammar.specs.Tokens.{Lexed, AllRead, Bad, Unclosed, begins, begins_name, continue_with, doubled, first_is, if_none, is_blank, is_digit, is_inside, is_sign, last_place, last_quote, mark, name_read, number_len, number_read, or_equal, read, span, text_read, text_tail, then_token, tokens_from, tokens_of, Fits}
+use Rattle.al_text.specs.FirstBytes.{first_is, begins_with}
+use Rattle.al_grammar.specs.Tokens.{Lexed, AllRead, Bad, Unclosed, begins_name, continue_with, doubled, if_none, is_blank, is_digit, is_inside, is_sign, last_place, last_quote, mark, name_read, number_len, number_read, or_equal, read, span, text_read, text_tail, then_token, tokens_from, tokens_of, Fits}
 use Rattle.al_grammar.specs.Tree as tree
 use Rattle.al_grammar.specs.Tree.{Sign, sign, Tree, Constant, Named, Call, Group, Negated, Path, Chain, Steps, NoStep, PropertyThen, AllThen, IndexThen, StepTree, Operands, NoOperand, OperandThen, Arguments, NoArgument, ArgumentThen, steps_of, operands_of, arguments_of}
 use Rattle.al_grammar.proofs.Fitting.{name_fits, number_fits, text_fits}
@@ -47,7 +48,7 @@ if_given : (bs : List ℕ) (t : Bool) (x y : Read) → (t ≡ true → Short bs 
 if_given bs true x y a b = a refl
 if_given bs false x y a b = b
 
-some_first : (c : ℕ) (bs : List ℕ) → begins c bs ≡ true → 1 ≤ length bs
+some_first : (c : ℕ) (bs : List ℕ) → begins_with c bs ≡ true → 1 ≤ length bs
 some_first c [] e = absurd cc
 some_first c (b ∷ bs) e = omega arith
 
@@ -58,15 +59,15 @@ equal_short_at : (b : ℕ) (bs : List ℕ) (t : Bool) (j k : TokenKind) → (t �
 equal_short_at b bs true j k f = let h = f refl in omega (arith, h)
 equal_short_at b bs false j k f = omega arith
 
-equal_short : (b : ℕ) (bs : List ℕ) (j k : TokenKind) → Short (b ∷ bs) (or_equal (begins 61 bs) j k)
-equal_short b bs j k = equal_short_at b bs (begins 61 bs) j k (some_first 61 bs)
+equal_short : (b : ℕ) (bs : List ℕ) (j k : TokenKind) → Short (b ∷ bs) (or_equal (begins_with 61 bs) j k)
+equal_short b bs j k = equal_short_at b bs (begins_with 61 bs) j k (some_first 61 bs)
 
 doubled_short_at : (b : ℕ) (bs : List ℕ) (t : Bool) (k : TokenKind) → (t ≡ true → 1 ≤ length bs) → Short (b ∷ bs) (doubled t k)
 doubled_short_at b bs true k f = let h = f refl in omega (arith, h)
 doubled_short_at b bs false k f = tt
 
-doubled_short : (b c : ℕ) (bs : List ℕ) (k : TokenKind) → Short (b ∷ bs) (doubled (begins c bs) k)
-doubled_short b c bs k = doubled_short_at b bs (begins c bs) k (some_first c bs)
+doubled_short : (b c : ℕ) (bs : List ℕ) (k : TokenKind) → Short (b ∷ bs) (doubled (begins_with c bs) k)
+doubled_short b c bs k = doubled_short_at b bs (begins_with c bs) k (some_first c bs)
 
 mark_short : (b : ℕ) (bs : List ℕ) → Short (b ∷ bs) (mark b bs)
 mark_short b bs =

@@ -10,7 +10,8 @@ use Rattle.al_grammar.specs.declared.chunk.ChunkState.{ChunkState}
 use Rattle.al_grammar.specs.declared.chunk.ChunkState.TheVariants.{Outside, Inside, Quoted}
 use Rattle.al_grammar.specs.declared.chunk.Move.{Move}
 use Rattle.al_grammar.specs.declared.chunk.Move.TheVariants.{On, End}
-use Rattle.al_grammar.specs.Tokens.{first_is, span}
+use Rattle.al_text.specs.FirstBytes.{first_is}
+use Rattle.al_grammar.specs.Tokens.{span}
 use Rattle.al_grammar.specs.Refusal.{fault}
 
 -- where the contents of the chunks lie, and what is wrong at the text's end

@@ -1,4 +1,5 @@
 -- The tokens of a content.
+use Rattle.al_text.specs.FirstBytes.{first_is, begins_with}
 use Rattle.al_grammar.specs.declared.token.Operator.TheVariants.{Or, And, Equal, NotEqual, Less, LessEqual, Greater, GreaterEqual}
 use Rattle.al_grammar.specs.declared.token.Keyword.TheVariants as keyword
 use Rattle.al_grammar.specs.declared.lexer.LexError.{LexError}
@@ -36,11 +37,6 @@ is_sign b = nat_eq b 43 || nat_eq b 45
 -- how many bytes at the front pass a test
 abbrev pub run : (ℕ → Bool) → List ℕ → ℕ
 run p bs = prefix_len p bs
-
--- whether the first byte passes a test
-abbrev pub first_is : (ℕ → Bool) → List ℕ → Bool
-first_is p [] = false
-first_is p (b ∷ bs) = p b
 
 -- a part that is there only with at least one digit: so many bytes and the digits behind them
 abbrev pub with_digits : ℕ → ℕ → ℕ
@@ -112,9 +108,6 @@ abbrev pub doubled : Bool → TokenKind → Read
 doubled true k = Token k 2
 doubled false k = BadCharacter
 
-abbrev pub begins : ℕ → List ℕ → Bool
-begins c bs = first_is (λ b. nat_eq b c) bs
-
 abbrev pub mark : ℕ → List ℕ → Read
 mark b bs =
     if nat_eq b 40 then Token Open 1
@@ -124,12 +117,12 @@ mark b bs =
     else if nat_eq b 46 then Token Dot 1
     else if nat_eq b 44 then Token Comma 1
     else if nat_eq b 42 then Token Star 1
-    else if nat_eq b 33 then or_equal (begins 61 bs) Bang (Infix NotEqual)
-    else if nat_eq b 60 then or_equal (begins 61 bs) (Infix Less) (Infix LessEqual)
-    else if nat_eq b 62 then or_equal (begins 61 bs) (Infix Greater) (Infix GreaterEqual)
-    else if nat_eq b 61 then doubled (begins 61 bs) (Infix Equal)
-    else if nat_eq b 38 then doubled (begins 38 bs) (Infix And)
-    else if nat_eq b 124 then doubled (begins 124 bs) (Infix Or)
+    else if nat_eq b 33 then or_equal (begins_with 61 bs) Bang (Infix NotEqual)
+    else if nat_eq b 60 then or_equal (begins_with 61 bs) (Infix Less) (Infix LessEqual)
+    else if nat_eq b 62 then or_equal (begins_with 61 bs) (Infix Greater) (Infix GreaterEqual)
+    else if nat_eq b 61 then doubled (begins_with 61 bs) (Infix Equal)
+    else if nat_eq b 38 then doubled (begins_with 38 bs) (Infix And)
+    else if nat_eq b 124 then doubled (begins_with 124 bs) (Infix Or)
     else BadCharacter
 
 abbrev pub text_read : Option ℕ → Read

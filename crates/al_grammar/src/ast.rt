@@ -1,3 +1,5 @@
+//! The tree of an expression.
+
 use crate::token::{Keyword, Operator};
 use al_text::Span;
 

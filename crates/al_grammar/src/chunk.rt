@@ -1,3 +1,5 @@
+//! The expressions that a text holds, each between `${{` and `}}`.
+
 ghost use Rattle.std.specs.Prelude.{◌≡◌, ◌≤◌, ◌<◌, ◌+◌, ◌^◌, IfOk, MatchOption, All, [], ◌∷◌, map, length};
 ghost use Rattle.std.specs.Str.{IsCharBoundary};
 ghost use Rattle.al_grammar.specs.Tokens.{span};

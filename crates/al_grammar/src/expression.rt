@@ -1,3 +1,5 @@
+//! A content read as one expression: its tree, or its one fault.
+
 ghost use Rattle.std.specs.Prelude.{◌≡◌, ◌<◌, ◌≤◌, ◌-◌, slice_get, IfOk, IfErr, Some, None, map, length};
 ghost use Rattle.al_grammar.specs.Lexeme.{seen, kinds};
 ghost use Rattle.al_grammar.specs.Parsed.{IsVerdict};

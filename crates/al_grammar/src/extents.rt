@@ -1,3 +1,5 @@
+//! The bytes of a content that a part of its tree covers.
+
 ghost use Rattle.std.specs.Prelude.{◌≡◌, map};
 ghost use Rattle.al_grammar.specs.Extents as extents;
 ghost use Rattle.al_grammar.specs.Extents.{extent, end_of_step};

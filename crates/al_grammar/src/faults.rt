@@ -1,3 +1,5 @@
+//! Faults of expressions, with and without a name in their message.
+
 ghost use Rattle.std.specs.Prelude.{◌≡◌, IfOk, [], ◌∷◌};
 ghost use Rattle.al_grammar.specs.Refusal.{fault};
 

@@ -1,3 +1,5 @@
+//! Laws over the definitions: what the grammar spells, and where all that is told lies.
+
 ghost use Rattle.al_grammar.specs.Inside.{ChunksLie, ContentFaultLies, EndFaultLies, ExtentLies, TokenFaultLies};
 ghost use Rattle.al_grammar.specs.Law.{FaultsSpellNothing, NoWayOn, OneTree, SomeTree};
 

@@ -1,6 +1,9 @@
+//! The tokens of a content, or the character at which they break off.
+
 ghost use Rattle.std.specs.Prelude.{map, ℕ, IfOk, IfSome, MatchOption, MatchResult, ◌≡◌, ◌≤◌, ◌<◌, ◌+◌, ◌^◌, Some, [], ◌∷◌, length, false};
 ghost use Rattle.al_grammar.specs.Lexeme.{seen};
-ghost use Rattle.al_grammar.specs.Tokens.{begins_name, goes_on_name, is_blank, is_sign, is_inside, run, begins, or_equal, doubled, mark};
+ghost use Rattle.al_grammar.specs.Tokens.{begins_name, goes_on_name, is_blank, is_sign, is_inside, run, or_equal, doubled, mark};
+ghost use Rattle.al_text.specs.FirstBytes.{begins_with};
 ghost use Rattle.al_grammar.specs.Tokens.{word_kind, text_tail, text_read, name_read, number_read, number_len, read, tokens_of, AllRead};
 ghost use Rattle.al_grammar.specs.Tokens.{unread, Fits, last_quote};
 ghost use Rattle.al_grammar.specs.Refusal.{fault_of_lexed};
@@ -109,7 +112,7 @@ fn text_len(bytes: &[u8]) -> Option<usize>
 }
 
 fn starts_with(bytes: &[u8], b: u8) -> bool
-    ensures { result ≡ begins b bytes.now }
+    ensures { result ≡ begins_with b bytes.now }
 {
     match bytes {
         [first, ..] => *first == b,
@@ -119,7 +122,7 @@ fn starts_with(bytes: &[u8], b: u8) -> bool
 
 /// A mark that means another thing before `=`.
 fn alone_or_equal(rest: &[u8], alone: TokenKind, equal: TokenKind) -> Read
-    ensures value { result ≡ or_equal (begins 61 rest.now) alone equal }
+    ensures value { result ≡ or_equal (begins_with 61 rest.now) alone equal }
     ensures fits { (b : ℕ) → b < 128 → Fits (b ∷ rest.now) result }
 {
     if starts_with(rest, b'=') {
@@ -132,7 +135,7 @@ fn alone_or_equal(rest: &[u8], alone: TokenKind, equal: TokenKind) -> Read
 /// A mark that stands doubled only.
 fn twice(b: u8, rest: &[u8], kind: TokenKind) -> Read
     requires { b < 128 }
-    ensures value { result ≡ doubled (begins b rest.now) kind }
+    ensures value { result ≡ doubled (begins_with b rest.now) kind }
     ensures fits { Fits (b ∷ rest.now) result }
 {
     if starts_with(rest, b) {

@@ -1,3 +1,5 @@
+//! How far a number reaches.
+
 ghost use Rattle.std.specs.Prelude.{◌≡◌, ◌≤◌, ◌<◌, ◌+◌, ◌^◌, length};
 ghost use Rattle.al_grammar.specs.Tokens.{is_digit, is_hex_digit, run, with_digits, fraction_len, exponent_len, hex_len, decimal_len};
 ghost use Rattle.al_grammar.specs.Tokens.{unsigned_len, number_len};

@@ -1,3 +1,5 @@
+//! What a token is, and where it stands.
+
 use al_text::Span;
 
 /// An operator between two operands.

@@ -1,5 +1,4 @@
 pub mod Indices
-pub mod Growing
 pub mod TypedSteps
 pub mod Paths
 pub mod Inside

@@ -4,7 +4,6 @@ pub mod PlaceholderViews
 pub mod Literals
 pub mod LiteralViews
 pub mod Meaning
-pub mod Growth
 pub mod CallViews
 pub mod FoundTypes
 pub mod Comparison

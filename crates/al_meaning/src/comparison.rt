@@ -1,3 +1,5 @@
+//! Which types an operator can compare.
+
 ghost use Rattle.std.specs.Prelude.{◌≡◌};
 ghost use Rattle.al_meaning.specs.Comparison.{comparable_types};
 ghost use Rattle.al_types.specs.TypeViews.{ty_of};

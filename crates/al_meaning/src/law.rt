@@ -1,3 +1,5 @@
+//! A law over the definitions: where the faults of a meaning stand.
+
 ghost use Rattle.al_meaning.specs.Inside.{MeaningFaultsLie};
 
 /// Where the faults of a meaning stand.

@@ -1,3 +1,5 @@
+//! The placeholders of a text for `format`.
+
 ghost use Rattle.std.specs.Prelude.{◌≡◌, ◌∷◌, ℕ, List, IfOk, MatchOption, option_map, None};
 ghost use Rattle.al_meaning.specs.Placeholders.{turn, used_from, used_arguments};
 ghost use Rattle.al_meaning.specs.PlaceholderViews.{IsSmall};

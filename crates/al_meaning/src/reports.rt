@@ -1,12 +1,14 @@
+//! Faults of a meaning, added to those found before.
+
 ghost use Rattle.std.specs.Prelude.{◌≡◌, ◌++◌, ◌∷◌, [], OnOk, map, string_bytes};
 ghost use Rattle.al_grammar.specs.Refusal.{fault};
-ghost use Rattle.al_meaning.specs.Growth.{BeginsWith};
+ghost use Rattle.al_text.specs.Growth.{BeginsWith};
 
 use al_text::{Args, Code, ExpressionCode, Fault, Span};
 use std::alloc::{AllocError, Global};
 
 /// Adds a fault whose message names these texts.
-#[tactic(auto, using(crate::proofs::Growing::growth))]
+#[tactic(auto, using(al_text::proofs::Growing::growth))]
 pub(crate) fn report(
     out: &mut Vec<Fault>,
     code: ExpressionCode,
@@ -25,7 +27,7 @@ pub(crate) fn report(
 }
 
 /// Adds a fault whose message names nothing.
-#[tactic(auto, using(crate::proofs::Growing::growth))]
+#[tactic(auto, using(al_text::proofs::Growing::growth))]
 pub(crate) fn report_plain(
     alloc: Global,
     out: &mut Vec<Fault>,
@@ -39,7 +41,7 @@ pub(crate) fn report_plain(
 }
 
 /// Adds a fault whose message names one text.
-#[tactic(auto, using(crate::proofs::Growing::growth))]
+#[tactic(auto, using(al_text::proofs::Growing::growth))]
 pub(crate) fn report_text(
     alloc: Global,
     out: &mut Vec<Fault>,

@@ -1,7 +1,9 @@
+//! The type of an expression, and the faults found on the way.
+
 ghost use Rattle.std.specs.Prelude.{◌≡◌, ◌++◌, ◌||◌, ◌&&◌, not, [], Bool, IfOk, OnOk, MatchOption, map, string_bytes, option_map};
 ghost use Rattle.al_meaning.specs.CallViews.{argument_of};
 ghost use Rattle.al_meaning.specs.FoundTypes.{found_type};
-ghost use Rattle.al_meaning.specs.Growth.{BeginsWith};
+ghost use Rattle.al_text.specs.Growth.{BeginsWith};
 ghost use Rattle.al_meaning.specs.Meaning.{typed, type_in, faults_in, behind, meaning_of, walked, chained, meanings, operated, is_logic};
 ghost use Rattle.al_meaning.specs.Meaning.{begins_logic, untrusted, all_typed, all_behind, stepped, base_name};
 ghost use Rattle.al_meaning.specs.Meaning as meaning;
@@ -40,7 +42,7 @@ pub fn type_of(
 }
 
 // `safe`: whether the expression stands where untrusted text does no harm.
-#[tactic(auto, using(crate::proofs::Growing::growth, crate::proofs::TypedSteps::typing, al_grammar::proofs::TreeViews::tree_views))]
+#[tactic(auto, using(al_text::proofs::Growing::growth, crate::proofs::TypedSteps::typing, al_grammar::proofs::TreeViews::tree_views))]
 #[cycle(typing)]
 fn expression(
     alloc: Global,
@@ -106,7 +108,7 @@ fn is_exposed(scope: &Scope, safe: bool) -> bool
     scope.in_run && !safe
 }
 
-#[tactic(auto, using(crate::proofs::Growing::growth, crate::proofs::TypedSteps::typing))]
+#[tactic(auto, using(al_text::proofs::Growing::growth, crate::proofs::TypedSteps::typing))]
 fn named(alloc: Global, scope: &Scope, word: &Word, out: &mut Vec<Fault>) -> Result<Ty, AllocError>
     ensures ok { IfOk result (λ t. typed (ty_of t) out.new.items ≡ behind out.old.items
         (meaning.named (scope_of scope.now) (string_bytes word.now.text) word.now.span (context_of (string_bytes word.now.text)))) }
@@ -154,7 +156,7 @@ impl<'s> Found<'s> {
 }
 
 // The type of a path's base.
-#[tactic(auto, using(crate::proofs::Growing::growth, crate::proofs::TypedSteps::typing))]
+#[tactic(auto, using(al_text::proofs::Growing::growth, crate::proofs::TypedSteps::typing))]
 #[cycle(typing)]
 fn base_type<'s>(
     alloc: Global,
@@ -197,7 +199,7 @@ fn available_context<'s>(scope: &'s Scope, expr: &Expr) -> Option<&'s Ty>
 }
 
 // The type behind the steps of a path, from the type before them.
-#[tactic(auto, using(crate::proofs::Growing::growth, crate::proofs::TypedSteps::typing))]
+#[tactic(auto, using(al_text::proofs::Growing::growth, crate::proofs::TypedSteps::typing))]
 #[cycle(typing)]
 fn walk<'s>(
     alloc: Global,
@@ -220,7 +222,7 @@ fn walk<'s>(
     Ok(ty)
 }
 
-#[tactic(auto, using(crate::proofs::Growing::growth, crate::proofs::TypedSteps::typing, al_grammar::proofs::TreeViews::step_views))]
+#[tactic(auto, using(al_text::proofs::Growing::growth, crate::proofs::TypedSteps::typing, al_grammar::proofs::TreeViews::step_views))]
 #[cycle(typing)]
 fn step_from(
     alloc: Global,
@@ -262,7 +264,7 @@ fn step_from(
 }
 
 // The type of the operators of one level and their operands, from the type of the first operand.
-#[tactic(auto, using(crate::proofs::Growing::growth, crate::proofs::TypedSteps::typing))]
+#[tactic(auto, using(al_text::proofs::Growing::growth, crate::proofs::TypedSteps::typing))]
 #[cycle(typing)]
 fn operations(
     alloc: Global,
@@ -284,7 +286,7 @@ fn operations(
     Ok(ty)
 }
 
-#[tactic(auto, using(crate::proofs::Growing::growth, crate::proofs::TypedSteps::typing))]
+#[tactic(auto, using(al_text::proofs::Growing::growth, crate::proofs::TypedSteps::typing))]
 fn operation(
     alloc: Global,
     operator: Operator,
@@ -334,7 +336,7 @@ fn begins_logic(operands: &[Operand]) -> bool
 }
 
 // The types and places of arguments.
-#[tactic(auto, using(crate::proofs::Growing::growth))]
+#[tactic(auto, using(al_text::proofs::Growing::growth))]
 #[cycle(typing)]
 fn typed_arguments(
     alloc: Global,
@@ -359,7 +361,7 @@ fn typed_arguments(
 }
 
 // Adds the fault of a path that is an untrusted chain, where its text could do harm.
-#[tactic(auto, using(crate::proofs::Growing::growth, crate::proofs::Paths::parts))]
+#[tactic(auto, using(al_text::proofs::Growing::growth, crate::proofs::Paths::parts))]
 fn check_untrusted(
     alloc: Global,
     exposed: bool,

@@ -3,6 +3,7 @@ use Rattle.std.specs.Prelude.{ℕ, ◌≤◌, Bool, true, false, List, [], ◌�
 use Rattle.std.proofs.Common.{cond, arith}
 use Rattle.std.specs.List.{AllByRecursion, cons_option, filter_map, flat_map}
 use Rattle.std.specs.Option.{option_map_or, option_to_list}
+use Rattle.al_text.proofs.Elements.{and_some, each_as, each_both, each_either, each_of, each_some, found_one, map_or, map_some, to_list}
 use Rattle.al_text.specs.Spans.{LiesIn}
 use Rattle.al_text.specs.declared.codes.RuleCode.{RuleCode}
 use Rattle.al_text.specs.declared.faults.Fault.{Fault}
@@ -13,6 +14,7 @@ use Rattle.al_yaml.proofs.SpanLemmas.{bounds}
 use Rattle.al_yaml.specs.Access.{entries, mapping_in, nodes, scalar_in, sequence_in}
 use Rattle.al_yaml.specs.Node.{Node, Nodes, Entries, scalar, sequence, mapping, no_nodes, item, no_entries, entry, span_of}
 use Rattle.al_yaml.specs.Spans.{AreInOrder, EntriesInOrder, IsBetween, IsWithin}
+use Rattle.al_shape.proofs.Lists.{firsts_kept}
 use Rattle.al_shape.specs.Faults.{is_key, is_null, value_in}
 use Rattle.al_shape.specs.Keys.{key_of}
 use Rattle.al_shape.specs.Names.{among}
@@ -21,56 +23,6 @@ use Rattle.al_reports.specs.Words.{Named, about, fault, of_key, of_scalar, unles
 
 abbrev pub Lies : ℕ → Fault → Type 0
 Lies size f = LiesIn size f.span
-
--- ---- lists, element by element
-
-pub each_both : {X : Type 0} (P : X → Type 0) (xs ys : List X) → AllByRecursion P xs → AllByRecursion P ys → AllByRecursion P (xs ++ ys)
-each_both P [] ys p q = q
-each_both P (x ∷ xs) ys p q = (p.0, each_both P xs ys p.1 q)
-
-each_either : {X : Type 0} (P : X → Type 0) (b : Bool) (xs ys : List X) → AllByRecursion P xs → AllByRecursion P ys → AllByRecursion P (cond b xs ys)
-each_either P true xs ys p q = p
-each_either P false xs ys p q = q
-
-pub each_of : {X Y : Type 0} (P : X → Type 0) (Q : Y → Type 0) (f : X → List Y) → ((x : X) → P x → AllByRecursion Q (f x)) → (xs : List X) → AllByRecursion P xs → AllByRecursion Q (flat_map f xs)
-each_of P Q f h [] p = tt
-each_of P Q f h (x ∷ xs) p = each_both Q (f x) (flat_map f xs) (h x p.0) (each_of P Q f h xs p.1)
-
-pub each_as : {X Y : Type 0} (P : X → Type 0) (Q : Y → Type 0) (f : X → Y) → ((x : X) → P x → Q (f x)) → (xs : List X) → AllByRecursion P xs → AllByRecursion Q (map f xs)
-each_as P Q f h [] p = tt
-each_as P Q f h (x ∷ xs) p = (h x p.0, each_as P Q f h xs p.1)
-
-each_cons : {X : Type 0} (P : X → Type 0) (o : Option X) (xs : List X) → IfSome o P → AllByRecursion P xs → AllByRecursion P (cons_option o xs)
-each_cons P None xs p q = q
-each_cons P (Some x) xs p q = (p, q)
-
-pub each_some : {X Y : Type 0} (P : X → Type 0) (Q : Y → Type 0) (f : X → Option Y) → ((x : X) → P x → IfSome (f x) Q) → (xs : List X) → AllByRecursion P xs → AllByRecursion Q (filter_map f xs)
-each_some P Q f h [] p = tt
-each_some P Q f h (x ∷ xs) p = each_cons Q (f x) (filter_map f xs) (h x p.0) (each_some P Q f h xs p.1)
-
-found_at : {X : Type 0} (P : X → Type 0) (b : Bool) (x : X) (o : Option X) → P x → IfSome o P → IfSome (cond b (Some x) o) P
-found_at P true x o p q = p
-found_at P false x o p q = q
-
-found_one : {X : Type 0} (P : X → Type 0) (test : X → Bool) (xs : List X) → AllByRecursion P xs → IfSome (find test xs) P
-found_one P test [] p = tt
-found_one P test (x ∷ xs) p = found_at P (test x) x (find test xs) p.0 (found_one P test xs p.1)
-
-pub map_or : {X Y : Type 0} (P : X → Type 0) (Q : Y → Type 0) (f : X → List Y) → ((x : X) → P x → AllByRecursion Q (f x)) → (o : Option X) → IfSome o P → AllByRecursion Q (option_map_or f o [])
-map_or P Q f h None p = tt
-map_or P Q f h (Some x) p = h x p
-
-pub and_some : {X Y : Type 0} (P : X → Type 0) (Q : Y → Type 0) (f : X → Option Y) → ((x : X) → P x → IfSome (f x) Q) → (o : Option X) → IfSome o P → IfSome (option_and_then f o) Q
-and_some P Q f h None p = tt
-and_some P Q f h (Some x) p = h x p
-
-pub map_some : {X Y : Type 0} (P : X → Type 0) (Q : Y → Type 0) (f : X → Y) → ((x : X) → P x → Q (f x)) → (o : Option X) → IfSome o P → IfSome (option_map f o) Q
-map_some P Q f h None p = tt
-map_some P Q f h (Some x) p = h x p
-
-to_list : {X : Type 0} (P : X → Type 0) (o : Option X) → IfSome o P → AllByRecursion P (option_to_list o)
-to_list P None p = tt
-to_list P (Some x) p = (p, tt)
 
 -- ---- nodes, texts and entries that lie in the file
 
@@ -159,13 +111,8 @@ module _ (size : ℕ) where
   pub text_below_fine : (ks : List (List ℕ)) (n : Node) → Fine size n → IfSome (text_below ks n) (Text size)
   text_below_fine ks n f = and_some (Fine size) (Text size) text_in text_fine (value_below ks n) (below_fine ks n f)
 
-  firsts_fine : (seen : List (List ℕ)) (es : List (Node × Node)) → AllByRecursion Pair es → AllByRecursion Pair (firsts seen es)
-  firsts_fine seen [] p = tt
-  firsts_fine seen (e ∷ es) p =
-      each_both Pair (cond (among seen (key_of e)) [] (e ∷ [])) (firsts (seen ++ key_of e ∷ []) es) (each_either Pair (among seen (key_of e)) [] (e ∷ []) tt (p.0, tt)) (firsts_fine (seen ++ key_of e ∷ []) es p.1)
-
   pub entries_in_fine : (n : Node) → Fine size n → AllByRecursion Pair (entries_in n)
-  entries_in_fine n f = map_or (AllByRecursion Pair) Pair (firsts []) (firsts_fine []) (mapping_in n) (mapping_fine n f)
+  entries_in_fine n f = map_or (AllByRecursion Pair) Pair (firsts []) (firsts_kept Pair []) (mapping_in n) (mapping_fine n f)
 
   pub items_in_fine : (n : Node) → Fine size n → AllByRecursion (Fine size) (items_in n)
   items_in_fine n f = map_or (AllByRecursion (Fine size)) (Fine size) (λ ns. ns) (λ ns p. p) (sequence_in n) (sequence_fine n f)

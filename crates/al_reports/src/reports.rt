@@ -2,7 +2,7 @@
 
 ghost use Rattle.al_reports.specs.Views.{named_of, named_scalar};
 ghost use Rattle.al_reports.specs.Words.{about, fault, of_key, unless, unless_among};
-ghost use Rattle.al_shape.specs.Growth.{BeginsWith};
+ghost use Rattle.al_text.specs.Growth.{BeginsWith};
 ghost use Rattle.al_yaml.specs.View.{view};
 ghost use Rattle.std.specs.Prelude.{◌≡◌, [], ◌∷◌, ◌++◌, map, OnOk};
 
@@ -43,7 +43,7 @@ pub fn named_text(scalar: ScalarNode<'_>) -> Named<'_>
 /// Adds a fault that names one text; bytes of it that aren't UTF-8 become U+FFFD.
 ///
 /// Fails with `AllocError` for want of memory; the list then begins with what it held.
-#[tactic(auto, using(al_shape::proofs::Lists::growth))]
+#[tactic(auto, using(al_text::proofs::Growing::growth))]
 pub fn report_at(
     alloc: Global,
     rule: RuleCode,
@@ -67,7 +67,7 @@ pub fn report_at(
 /// Adds a fault that names two texts; bytes of them that aren't UTF-8 become U+FFFD.
 ///
 /// Fails with `AllocError` for want of memory; the list then begins with what it held.
-#[tactic(auto, using(al_shape::proofs::Lists::growth))]
+#[tactic(auto, using(al_text::proofs::Growing::growth))]
 pub fn report_two(
     alloc: Global,
     rule: RuleCode,
@@ -93,7 +93,7 @@ pub fn report_two(
 /// Adds a fault that names no text.
 ///
 /// Fails with `AllocError` for want of memory; the list then begins with what it held.
-#[tactic(auto, using(al_shape::proofs::Lists::growth))]
+#[tactic(auto, using(al_text::proofs::Growing::growth))]
 pub fn report_plain(
     alloc: Global,
     rule: RuleCode,
@@ -129,7 +129,7 @@ pub fn report(
 /// Adds the fault of a text, unless it is right.
 ///
 /// Fails with `AllocError` for want of memory; the list then begins with what it held.
-#[tactic(auto, using(al_shape::proofs::Lists::growth))]
+#[tactic(auto, using(al_text::proofs::Growing::growth))]
 pub fn report_unless(
     alloc: Global,
     right: bool,

@@ -23,7 +23,8 @@ use Rattle.al_rules.specs.Needs.{AreNeedsFaults, IsNeedFaults, Need, all_needs, 
 use Rattle.al_rules.specs.Rules.{AreRuleFaults, action_faults, composite_faults, container_faults, containers_faults, hooks_faults, job_faults, jobs_of, matrix_faults_of, no_shell_faults, node_usings, output_faults, run_faults, runs_faults, scalar_of_value, section_faults, settings_faults, step_faults, step_ids, steps_faults, using_faults, workflow_faults}
 use Rattle.al_settings.specs.Settings.{condition_faults, credentials_faults, env_faults, permissions_faults, script_faults, shell_faults}
 use Rattle.al_reports.specs.Words.{Named, fault, of_key, of_scalar}
-use Rattle.al_reports.proofs.Inside.{Are, Fine, Lies, NameLies, Pair, Text, about_lies, and_some, below_fine, both, each_as, each_of, each_some, entries_at_fine, items_at_fine, key_fine, map_or, map_some, one_lies, or_lies, scalar_fine, span_lies, text_at_fine, text_below_fine, texts_at_fine, value_fine}
+use Rattle.al_text.proofs.Elements.{and_some, each_as, each_of, each_some, map_or, map_some}
+use Rattle.al_reports.proofs.Inside.{Are, Fine, Lies, NameLies, Pair, Text, about_lies, below_fine, both, entries_at_fine, items_at_fine, key_fine, one_lies, or_lies, scalar_fine, span_lies, text_at_fine, text_below_fine, texts_at_fine, value_fine}
 use Rattle.al_events.proofs.Lying.{on_lies}
 use Rattle.al_settings.proofs.Lying.{condition_lies, credentials_lie, env_lies, ids_lie, matrix_lies, permissions_lie, script_lies, shell_lies}
 

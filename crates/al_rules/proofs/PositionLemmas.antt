@@ -9,26 +9,25 @@ use Rattle.std.specs.Prelude.{IsSome}
 use Rattle.std.specs.Str.{bytes_eq}
 use Rattle.std.proofs.lemmas.Map.Text.{is_eq-slice_cmp}
 use Rattle.std.proofs.lemmas.Slice.Eq.{bytes_eq-Decides}
+use Rattle.std.specs.Option.{option_or}
+use Rattle.al_shape.proofs.KeyLemmas.{bytes_swap}
 use Rattle.al_rules.specs.Needs.{position_from}
-use Rattle.al_rules.specs.Positions.{and_position, first_at, or_position}
+use Rattle.al_rules.specs.Positions.{and_position, first_at}
 use Rattle.al_rules.specs.declared.needs.Positions.{Positions}
-
-bytes_swap : (a b : List ℕ) → bytes_eq a b ≡ bytes_eq b a
-bytes_swap a b = let p : IsPartialEquivalence bytes_eq = lists_per (partial_equiv_from_equiv nat_eq_equiv) in p.symm a b
 
 bytes_same : (a b : List ℕ) → bytes_eq a b ≡ true → a ≡ b
 bytes_same a b e = (bytes_eq-Decides a b).0 e
 
-or_none : (o : Option ℕ) → or_position o None ≡ o
+or_none : (o : Option ℕ) → option_or o None ≡ o
 or_none None = refl
 or_none (Some i) = refl
 
-more_at : (here : Bool) (k : ℕ) (rest more other : Option ℕ) → or_position rest more ≡ other → or_position (cond here (Some k) rest) more ≡ cond here (Some k) other
+more_at : (here : Bool) (k : ℕ) (rest more other : Option ℕ) → option_or rest more ≡ other → option_or (cond here (Some k) rest) more ≡ cond here (Some k) other
 more_at true k rest more other e = refl
 more_at false k rest more other e = e
 
 more_from : (k : ℕ) (ts : List (List ℕ)) (t : List ℕ) (i : ℕ) (text : List ℕ) → i ≡ k + length ts
-    → or_position (position_from k ts text) (cond (bytes_eq text t) (Some i) None) ≡ position_from k (ts ++ t ∷ []) text
+    → option_or (position_from k ts text) (cond (bytes_eq text t) (Some i) None) ≡ position_from k (ts ++ t ∷ []) text
 more_from k [] t i text e = ap (λ n. cond (bytes_eq text t) (Some n) None) (e ∙ omega arith)
 more_from k (s ∷ ts) t i text e =
     more_at (bytes_eq text s) k (position_from (k + 1) ts text) (cond (bytes_eq text t) (Some i) None) (position_from (k + 1) (ts ++ t ∷ []) text) (more_from (k + 1) ts t i text (omega (arith, e)))
@@ -37,7 +36,7 @@ more_from k (s ∷ ts) t i text e =
 pub position_more : (ts : List (List ℕ)) (t : List ℕ) (i : ℕ) → i ≡ length ts → and_position (position_from 0 ts) t i ≡ position_from 0 (ts ++ t ∷ [])
 position_more ts t i e = λ d text. more_from 0 ts t i text (omega (arith, e)) d
 
-was_there : (b : Bool) (o : Option ℕ) (i : ℕ) → (b ≡ true → IsSome o) → o ≡ or_position o (cond b (Some i) None)
+was_there : (b : Bool) (o : Option ℕ) (i : ℕ) → (b ≡ true → IsSome o) → o ≡ option_or o (cond b (Some i) None)
 was_there b (Some j) i f = refl
 was_there true None i f = absurd (cc (f refl))
 was_there false None i f = refl
@@ -59,7 +58,7 @@ position_at {X} seen keys i x text old new h e t o n =
 pub kept : (p : Positions) (key : List ℕ) (i : ℕ) → IsSome (first_at p key) → first_at p ≡ and_position (first_at p) key i
 kept p key i h = λ d text. was_there (bytes_eq text key) (first_at p text) i (λ e. rw (bytes_same text key e) h) d
 
-put_at : (b : Bool) (o : Option ℕ) (i : ℕ) → (b ≡ true → o ≡ None) → cond b (Some i) o ≡ or_position o (cond b (Some i) None)
+put_at : (b : Bool) (o : Option ℕ) (i : ℕ) → (b ≡ true → o ≡ None) → cond b (Some i) o ≡ option_or o (cond b (Some i) None)
 put_at true None i f = refl
 put_at true (Some j) i f = absurd (cc (f refl))
 put_at false o i f = sym (or_none o)

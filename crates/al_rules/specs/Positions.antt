@@ -3,6 +3,7 @@ use Rattle.std.specs.Prelude.{ℕ, List, Option, Some, None, if◌then◌else◌
 use Rattle.std.specs.BTreeMap.{get_by}
 use Rattle.std.specs.Cmp.Lexicographic.{slice_cmp}
 use Rattle.std.specs.Ordering.{nat_cmp}
+use Rattle.std.specs.Option.{option_or}
 use Rattle.std.specs.Str.{bytes_eq}
 use Rattle.al_rules.specs.declared.needs.Positions.{Positions}
 
@@ -10,11 +11,6 @@ use Rattle.al_rules.specs.declared.needs.Positions.{Positions}
 unfoldable pub first_at : Positions → List ℕ → Option ℕ
 first_at p text = get_by (λ k. slice_cmp nat_cmp text k.now) p.map
 
--- the position of a text, or else this one
-abbrev pub or_position : Option ℕ → Option ℕ → Option ℕ
-or_position (Some i) other = Some i
-or_position None other = other
-
 -- positions of texts, and of one more text, which counts where it had none
 abbrev pub and_position : (List ℕ → Option ℕ) → List ℕ → ℕ → List ℕ → Option ℕ
-and_position position more i text = or_position (position text) (if bytes_eq text more then Some i else None)
+and_position position more i text = option_or (position text) (if bytes_eq text more then Some i else None)

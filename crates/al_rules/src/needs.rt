@@ -9,7 +9,7 @@ ghost use Rattle.al_reports.specs.Views.{named_of};
 ghost use Rattle.al_rules.specs.Views.{need_of};
 ghost use Rattle.al_settings.specs.Views.{folded_id};
 ghost use Rattle.al_reports.specs.Words.{of_scalar};
-ghost use Rattle.al_shape.specs.Growth.{BeginsWith};
+ghost use Rattle.al_text.specs.Growth.{BeginsWith};
 ghost use Rattle.al_shape.specs.Values.{member_of, scalar_node_of};
 ghost use Rattle.std.specs.List.{enumerate_from, filter_map, flat_map};
 ghost use Rattle.std.specs.Prelude.{◌≡◌, ◌<◌, ℕ, ◌++◌, length, map, false, slice_index_or, IfOk, OnOk, Option, None};
@@ -139,7 +139,7 @@ fn is_marked(marks: &[bool], job: usize) -> bool
 }
 
 /// Adds the fault of an entry that names this job, if any.
-#[tactic(auto, using(al_shape::proofs::Lists::growth))]
+#[tactic(auto, using(al_text::proofs::Growing::growth))]
 fn check_named(
     alloc: Global,
     leading: &[bool],
@@ -164,7 +164,7 @@ fn check_named(
 }
 
 /// Adds the fault of an entry, if any; the marks say from which jobs a walk of needs leads to its own.
-#[tactic(auto, using(al_shape::proofs::Lists::growth))]
+#[tactic(auto, using(al_text::proofs::Growing::growth))]
 fn check_need(
     alloc: Global,
     positions: &Positions<'_>,
@@ -200,7 +200,7 @@ fn entries_of<'a>(
 }
 
 /// Adds the faults of the entries of a job; the marks say from which jobs a walk of needs leads to it.
-#[tactic(auto, using(al_shape::proofs::Lists::growth))]
+#[tactic(auto, using(al_text::proofs::Growing::growth))]
 fn check_entries(
     alloc: Global,
     positions: &Positions<'_>,
@@ -220,7 +220,7 @@ fn check_entries(
 }
 
 /// Adds the faults of the `needs` of a job at a position.
-#[tactic(auto, using(al_shape::proofs::Lists::growth))]
+#[tactic(auto, using(al_text::proofs::Growing::growth))]
 fn check_job(
     alloc: Global,
     positions: &Positions<'_>,
@@ -252,7 +252,7 @@ fn check_job(
 }
 
 /// Adds the faults of the `needs` of some jobs.
-#[tactic(auto, using(al_shape::proofs::Lists::growth))]
+#[tactic(auto, using(al_text::proofs::Growing::growth))]
 fn check_each_job(
     alloc: Global,
     positions: &Positions<'_>,
@@ -275,7 +275,7 @@ fn check_each_job(
 /// Adds the faults of what jobs need.
 ///
 /// Looks once from each job with `needs` for the jobs that lead to it, so it takes time in proportion to jobs times entries at most.
-#[tactic(auto, using(al_shape::proofs::Lists::growth))]
+#[tactic(auto, using(al_text::proofs::Growing::growth))]
 pub(crate) fn check_needs(
     alloc: Global,
     keys: &[Named<'_>],

@@ -2,7 +2,7 @@
 
 ghost use Rattle.al_events.specs.Events.{on_faults};
 ghost use Rattle.al_rules.specs.Rules.{AddsJobs, AddsWorkflow, jobs_of};
-ghost use Rattle.al_shape.specs.Growth.{BeginsWith};
+ghost use Rattle.al_text.specs.Growth.{BeginsWith};
 ghost use Rattle.al_shape.specs.Values.{member_of, value_at};
 ghost use Rattle.al_yaml.specs.View.{view};
 ghost use Rattle.std.specs.Option.{option_map_or};
@@ -18,7 +18,7 @@ use al_yaml::Node;
 use std::alloc::{AllocError, Global};
 
 /// Adds the faults of the events of a workflow.
-#[tactic(auto, using(al_shape::proofs::Lists::growth))]
+#[tactic(auto, using(al_text::proofs::Growing::growth))]
 fn check_events(alloc: Global, root: &Node, out: &mut Vec<Fault>) -> Result<(), AllocError>
     ensures ok { OnOk result (out.new.items ≡ out.old.items ++ option_map_or on_faults (value_at (codes "on") (view root.now)) []) }
     ensures begins { BeginsWith out.new.items out.old.items }
@@ -40,7 +40,7 @@ fn jobs_in(alloc: Global, root: &Node) -> Result<Vec<Member<'_>>, AllocError>
 }
 
 /// Adds the faults of some jobs.
-#[tactic(auto, using(al_shape::proofs::Lists::growth))]
+#[tactic(auto, using(al_text::proofs::Growing::growth))]
 fn check_jobs(alloc: Global, jobs: &[Member<'_>], out: &mut Vec<Fault>) -> Result<(), AllocError>
     ensures ok { OnOk result (AddsJobs (map member_of jobs.now) out.old.items out.new.items) }
     ensures begins { BeginsWith out.new.items out.old.items }
@@ -53,7 +53,7 @@ fn check_jobs(alloc: Global, jobs: &[Member<'_>], out: &mut Vec<Fault>) -> Resul
 }
 
 /// Adds the faults of a workflow.
-#[tactic(auto, using(al_shape::proofs::Lists::growth))]
+#[tactic(auto, using(al_text::proofs::Growing::growth))]
 pub(crate) fn check_workflow(
     alloc: Global,
     root: &Node,

@@ -22,11 +22,11 @@ abbrev AreRows : ℕ → ℕ → List BlockLine → Type 0
 AreRows low high [] = low ≤ high
 AreRows low high (r ∷ rs) = AreClimbing low (break_at high r.break) r.text × IsFrom (break_at high r.break) (break_behind high r.break) (feeds r.break) × AreRows (break_behind high r.break) high rs
 
-abbrev IsRowText : ℕ → ℕ → Option (List Cell) → Type 0
+abbrev pub IsRowText : ℕ → ℕ → Option (List Cell) → Type 0
 IsRowText low end None = Unit {0}
 IsRowText low end (Some text) = AreClimbing low end text
 
-row-from : (m : Option ℕ) (found : Bool) (low end : ℕ) (cs : List Cell) → AreClimbing low end cs → IsRowText low end (row_of m found cs)
+pub row-from : (m : Option ℕ) (found : Bool) (low end : ℕ) (cs : List Cell) → AreClimbing low end cs → IsRowText low end (row_of m found cs)
 row-from None found low end cs h = choose (IsRowText low end) (is_all_blank cs) (λ _. climbing-order low end cs h) (λ _. tt)
 row-from (Some m) found low end cs h =
     choose (IsRowText low end) (is_all_blank cs && not found) (λ _. climbing-order low end cs h)
@@ -207,7 +207,7 @@ header-from at end (c ∷ cs) h =
     (λ _. choose (EndsBefore end) (is_sign c.0) (λ _. after_sign-from (chomping_of c.0) (at + 1) end cs more)
     (λ _. header_end-from end (record { digit = None; chomping = clip; end = at }) (c ∷ cs) (omega (arith, a, b))))
 
-behind-indicator : (q low end : ℕ) (cs : List Cell) → begins q cs ≡ true → AreClimbing low end cs → AreClimbing (place cs end + 1) end (drop 1 cs)
+pub behind-indicator : (q low end : ℕ) (cs : List Cell) → begins q cs ≡ true → AreClimbing low end cs → AreClimbing (place cs end + 1) end (drop 1 cs)
 behind-indicator q low end [] e h = absurd cc
 behind-indicator q low end (c ∷ cs) e h = h.1
 

@@ -6,15 +6,9 @@ use Rattle.al_scalar.specs.Line.{Cell}
 use Rattle.al_scalar.specs.Quoted.{hex_digit, hex_push, hex_value}
 use Rattle.al_scalar.specs.Places.{text_at, cells_at, cells_between}
 use Rattle.al_scalar.specs.Double.{Between}
+use Rattle.al_scalar.proofs.BlockLemmas.{length-cells_between}
 use Rattle.al_scalar.proofs.LineLemmas.{cells_between-more, cells_between-none}
 use Rattle.al_scalar.proofs.SingleLemmas.{cell_at, same_then, IsInside}
-
-length-cells_at : (bytes : List ℕ) (i n : ℕ) → length (cells_at bytes i n) ≡ n
-length-cells_at bytes i zero = refl
-length-cells_at bytes i (suc n) = ap suc (length-cells_at bytes (suc i) n)
-
-pub length-cells_between : (bytes : List ℕ) (i j : ℕ) → length (cells_between bytes i j) ≡ j - i
-length-cells_between bytes i j = length-cells_at bytes i (j - i)
 
 -- ---- the value of digits
 

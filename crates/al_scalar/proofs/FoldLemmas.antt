@@ -96,7 +96,7 @@ part-solid c cs h = part-cases c cs (c.0 == 39) (begins 39 cs) refl refl h
     part-cases c cs false y e f h = rw (e, is_blank-no c h) refl
 
 -- at a break the line ends there, and isn't the last one
-end-with_return : (at : ℕ) (ls : List Line) → has_line ls ≡ true → first_end (with_return at ls) ≡ at
+pub end-with_return : (at : ℕ) (ls : List Line) → has_line ls ≡ true → first_end (with_return at ls) ≡ at
 end-with_return at [] h = cc
 end-with_return at (l ∷ ls) h = refl
 

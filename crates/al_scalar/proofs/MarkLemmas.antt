@@ -15,7 +15,7 @@ use Rattle.al_scalar.proofs.FoldLemmas.{break-at}
 use Rattle.al_scalar.proofs.QuotedLemmas.{quoted-part, given, given-closed, given-break, given-end, given-cut}
 use Rattle.al_scalar.proofs.DoubleLemmas.{nothing, double-quote, double-escape}
 use Rattle.al_scalar.proofs.LiteralLemmas.{reads_on}
-use Rattle.al_scalar.proofs.DigitLemmas.{length-cells_between}
+use Rattle.al_scalar.proofs.BlockLemmas.{length-cells_between}
 
 -- what a letter gives behind a backslash, by the two tables
 abbrev pub letter_given : ℕ → List Cell → (ℕ → Result QuotedLine Fault) → Option ℕ → Option ℕ → Result QuotedLine Fault

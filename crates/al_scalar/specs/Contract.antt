@@ -20,18 +20,19 @@ reading_at places.Empty ls = Ok (value.empty_at ls)
 abbrev pub read_of : List ℕ → ScalarRead → value.ScalarRead
 read_of bytes r = record { scalar = r.scalar; span = r.span; left = lines_at bytes r.next }
 
--- the fault stands at the character that it is at
-abbrev pub fault_of : YamlFault → Fault
-fault_of f = record { code = f.code; at = f.span.start }
+-- a fault with a span, as the definitions tell it: by the character that it is at
+abbrev pub placed_fault : YamlFault → Fault
+placed_fault f = record { code = f.code; at = f.span.start }
 
 abbrev pub GivesScalar : List ℕ → ℕ → ScalarContext → Result ScalarRead YamlFault → Type 0
 GivesScalar bytes at place (Ok r) = reading_at place (lines_at bytes at) ≡ Ok (read_of bytes r)
-GivesScalar bytes at place (Err f) = (reading_at place (lines_at bytes at) ≡ Err (fault_of f)) × (f.span ≡ character_at bytes f.span.start)
+GivesScalar bytes at place (Err f) =
+    (reading_at place (lines_at bytes at) ≡ Err (placed_fault f)) × (f.span ≡ character_at bytes f.span.start)
 
 -- in block context or in a flow collection
 abbrev pub GivesIn : List ℕ → ℕ → plain.Context → Result ScalarRead YamlFault → Type 0
 GivesIn bytes at p (Ok r) = value.scalar_at p (lines_at bytes at) ≡ Ok (read_of bytes r)
-GivesIn bytes at p (Err f) = (value.scalar_at p (lines_at bytes at) ≡ Err (fault_of f)) × (f.span ≡ character_at bytes f.span.start)
+GivesIn bytes at p (Err f) = (value.scalar_at p (lines_at bytes at) ≡ Err (placed_fault f)) × (f.span ≡ character_at bytes f.span.start)
 
 -- the scalar begins at the offset, and ends before what is left, within the file; a fault is not before it
 abbrev pub LiesBehind : List ℕ → ℕ → Result ScalarRead YamlFault → Type 0

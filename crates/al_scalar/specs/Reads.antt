@@ -3,7 +3,7 @@ use Rattle.std.specs.Prelude.{◌≡◌, ◌≤◌, ℕ, List, length, Result, O
 use Rattle.al_scalar.specs.Places.{lines_at}
 use Rattle.al_scalar.specs.Taken as lines
 use Rattle.al_scalar.specs.declared.reads.Taken.{Taken}
-use Rattle.al_scalar.specs.declared.reads.FaultAt.{FaultAt}
+use Rattle.al_scalar.specs.declared.faults.FaultAt.{FaultAt}
 
 -- what is asked of the lines is what was read of the bytes
 abbrev pub Gives : List ℕ → Result lines.Taken lines.Fault → Result Taken FaultAt → Type 0

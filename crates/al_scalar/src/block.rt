@@ -1,3 +1,5 @@
+//! Literal and folded block scalars (YAML 1.2.2, 8.1).
+
 ghost use Rattle.std.specs.Prelude.{◌≡◌, ◌+◌, ◌<◌, ◌≤◌, ◌^◌, ◌++◌, ◌∷◌, [], ◌||◌, true, not, cond, Some, None, length, IfOk};
 ghost use Rattle.al_scalar.specs.Block.{block_scalar, found_indent, content_indent, row_of};
 ghost use Rattle.al_scalar.specs.Block.{own_break, chomped, joint, text_after, rows_end};
@@ -7,11 +9,12 @@ ghost use Rattle.al_scalar.specs.Places.{lines_at, text_at, cells_between, IsLin
 ghost use Rattle.al_scalar.specs.Reads.{Gives, StaysWithin};
 ghost use Rattle.al_scalar.specs.Taken.{feeds, folded_break};
 
+use crate::faults::FaultAt;
 use crate::header::{Chomping, HeaderRead, header_fault, indicators};
 use crate::lines::{
     after_break, blank_line_end, indent, is_blank, is_line_end, line_end, spaces_end,
 };
-use crate::reads::{FaultAt, Taken};
+use crate::reads::Taken;
 use crate::texts::Text;
 use al_text::YamlCode;
 use std::alloc::{AllocError, Global};

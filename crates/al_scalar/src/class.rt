@@ -1,3 +1,5 @@
+//! What a plain scalar is taken for: null, a boolean, an integer, a float or a string (YAML 1.2.2, 10.3.2).
+
 ghost use Rattle.std.specs.Prelude.{◌≡◌};
 ghost use Rattle.std.specs.List.{list_any};
 ghost use Rattle.std.specs.Str.{bytes_eq};

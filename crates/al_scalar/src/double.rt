@@ -1,12 +1,15 @@
+//! Double-quoted scalars and their escapes (YAML 1.2.2, 5.7 and 7.3.1).
+
 ghost use Rattle.std.specs.Prelude.{◌≡◌, ◌+◌, ◌<◌, ◌≤◌, ◌^◌, ◌++◌, suc, length, IfOk, IfSome, slice_index, IsTrue, ◌↔◌, Some, None};
 ghost use Rattle.al_scalar.specs.Places.{lines_at, cells_between};
 ghost use Rattle.al_scalar.specs.Quoted.{double_quoted, written, lookup, escape_table, digits_table, hex_digit};
 ghost use Rattle.al_scalar.specs.Reads.{Gives, StaysWithin};
 ghost use Rattle.al_scalar.specs.Double.{IsMarkByte, ReadsOn, EndsRun, GivesMark, GivesDigits};
 
+use crate::faults::FaultAt;
 use crate::folding::fold_break;
 use crate::lines::{blanks_end, is_break_at, is_line_end};
-use crate::reads::{FaultAt, Taken};
+use crate::reads::Taken;
 use crate::texts::Text;
 use al_text::YamlCode;
 use std::alloc::{AllocError, Global};

@@ -1,3 +1,5 @@
+//! Worked rows of scalars.
+
 ghost use Rattle.std.specs.Prelude.{◌≡◌, ◌∷◌, [], map, codes};
 ghost use Rattle.al_scalar.specs.Class.{class_of};
 ghost use Rattle.al_scalar.specs.Rows.{in_block, in_flow, reads};

@@ -1,3 +1,5 @@
+//! Faults of scalars, each at one character.
+
 ghost use Rattle.std.specs.Prelude.{◌≡◌, ◌+◌, ◌<◌, ◌≤◌, ◌^◌, drop, length};
 ghost use Rattle.al_scalar.specs.Characters.{character_at, character_length};
 ghost use Rattle.al_text.specs.Positions.{begins_char};
@@ -9,6 +11,13 @@ use al_text::{Span, YamlCode};
 pub struct YamlFault {
     pub code: YamlCode,
     pub span: Span,
+}
+
+/// A fault, and the offset of the character that it is at.
+#[derive(Clone, Copy)]
+pub struct FaultAt {
+    pub code: YamlCode,
+    pub at: usize,
 }
 
 /// A fault at the character that begins at an offset, or at the file's end.

@@ -1,3 +1,5 @@
+//! Breaks inside quoted scalars (YAML 1.2.2, 6.5 and 7.3.1).
+
 ghost use Rattle.std.specs.Prelude.{◌≡◌, ◌<◌, ◌≤◌, ◌^◌, ◌++◌, length, IfOk};
 ghost use Rattle.al_scalar.specs.Places.{lines_at, later, IsLineEnd};
 ghost use Rattle.al_scalar.specs.PlainLines.{empty_ends, break_left};

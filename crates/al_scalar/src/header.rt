@@ -1,3 +1,5 @@
+//! The header of a block scalar: indentation and chomping indicators (YAML 1.2.2, 8.1.1).
+
 ghost use Rattle.std.specs.Prelude.{◌≡◌, ◌≤◌, IfSome, length};
 ghost use Rattle.al_scalar.specs.Block.{after_digit, after_sign, header, is_digit as block_digit};
 ghost use Rattle.al_scalar.specs.Block.{is_sign as block_sign, chomping_of as chomping_by};

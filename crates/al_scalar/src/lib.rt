@@ -18,7 +18,7 @@ mod styles;
 mod texts;
 
 pub use examples::rows;
-pub use faults::{YamlFault, fault_at};
+pub use faults::{FaultAt, YamlFault, fault_at};
 pub use reader::read_scalar;
 pub use scalars::{Scalar, ScalarContext, ScalarRead};
 pub use styles::{Class, Style};

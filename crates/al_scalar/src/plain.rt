@@ -1,3 +1,5 @@
+//! Plain scalars (YAML 1.2.2, 7.3.3).
+
 ghost use Rattle.std.specs.Prelude.{◌≡◌, ◌<◌, ◌≤◌, ◌^◌, ◌++◌, false, not, ◌&&◌, ◌||◌, nat_lt, length, IfOk};
 ghost use Rattle.al_scalar.specs.Line as line;
 ghost use Rattle.al_scalar.specs.Places.{lines_at, text_at, SameLine};
@@ -6,11 +8,12 @@ ghost use Rattle.al_scalar.specs.PlainLines.{context_of, begins_blank_line, text
 ghost use Rattle.al_scalar.specs.Reads.{Gives, StaysWithin};
 ghost use Rattle.al_scalar.specs.Taken.{folded_break};
 
+use crate::faults::FaultAt;
 use crate::lines::{
     after_break, begins, blanks_end, indent, is_blank_or_end, is_break_at, is_document_marker,
     is_line_end,
 };
-use crate::reads::{FaultAt, Taken};
+use crate::reads::Taken;
 use crate::texts::Text;
 use al_text::YamlCode;
 use std::alloc::{AllocError, Global};

@@ -1,3 +1,5 @@
+//! A scalar, and a scalar that was read.
+
 ghost use Rattle.std.specs.Prelude.{◌≡◌, ◌<◌, ◌≤◌, ◌^◌, length, IsUtf8};
 ghost use Rattle.al_scalar.specs.Scalar.{offset_of, text_of};
 

@@ -1,12 +1,15 @@
+//! Single-quoted scalars (YAML 1.2.2, 7.3.2).
+
 ghost use Rattle.std.specs.Prelude.{◌≡◌, ◌+◌, ◌<◌, ◌≤◌, ◌^◌, ◌++◌, suc, length, IsTrue, IfOk, slice_index};
 ghost use Rattle.al_scalar.specs.Places.{lines_at};
 ghost use Rattle.al_scalar.specs.Quoted.{single_quoted};
 ghost use Rattle.al_scalar.specs.Reads.{Gives, StaysWithin};
 ghost use Rattle.al_scalar.specs.Single.{part_at, StopsSo, StopsFrom};
 
+use crate::faults::FaultAt;
 use crate::folding::fold_break;
 use crate::lines::{blanks_end, is_line_end};
-use crate::reads::{FaultAt, Taken};
+use crate::reads::Taken;
 use crate::texts::Text;
 use al_text::YamlCode;
 use std::alloc::{AllocError, Global};

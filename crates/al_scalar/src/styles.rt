@@ -1,3 +1,5 @@
+//! How a scalar is written, and what it is taken for.
+
 /// How a scalar is written (YAML 1.2.2, 7.3 and 8.1).
 #[derive(Clone, Copy, PartialEq, Eq, Debug)]
 pub enum Style {

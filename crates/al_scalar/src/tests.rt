@@ -1,3 +1,5 @@
+//! Tests of scalars and of their faults, by worked rows.
+
 use crate::{Class, ScalarContext, Style, read_scalar};
 use al_text::YamlCode;
 use std::alloc::{AllocError, Global};

@@ -1,3 +1,5 @@
+//! Decoded texts, each byte with the offset that gave it.
+
 ghost use Rattle.std.specs.Prelude.{◌≡◌, ℕ, ◌+◌, ◌<◌, ◌≤◌, ◌^◌, List, [], ◌∷◌, ◌++◌, length, map, IsTrue, IfOk, OnErr};
 ghost use Rattle.al_scalar.specs.Line.{Cell};
 ghost use Rattle.al_scalar.specs.Places.{cells_between};

@@ -15,7 +15,8 @@ ghost use Rattle.al_folder.specs.Folder.{bytes_at, faults_at, put_refusal, delet
 ghost use Rattle.al_folder.specs.Folder.{without_file, paths_of, refusal_or_memory};
 ghost use Rattle.std.specs.Bool.{Decides};
 ghost use Rattle.al_folder.specs.Affected.{affected};
-ghost use Rattle.al_folder.specs.Meaning.{counted, IsUpTo};
+ghost use Rattle.al_folder.specs.Meaning.{IsUpTo};
+ghost use Rattle.al_text.specs.Counted.{raised};
 ghost use Rattle.al_folder.specs.Missing.{missing_in};
 ghost use Rattle.al_session.specs.Report.{status_of, report_of};
 
@@ -161,7 +162,7 @@ impl<L: Lint> Session<L> {
         ensures rechecked { IfOk result (λ edit.
             edit.rechecked ≡ affected L.Iface.eq L.meaning self.old.folder self.new.folder) }
         ensures meter { IfOk result (λ edit.
-            self.new.checks ≡ counted self.old.checks (length edit.rechecked)) }
+            self.new.checks ≡ raised self.old.checks (length edit.rechecked)) }
         ensures refused { IfErr result (λ refused.
             refused ≡ refusal_or_memory (put_refusal L.meaning self.old.folder path.now bytes.now)) }
         ensures as_before { OnErr result (self.new.folder ≡ self.old.folder) }
@@ -222,7 +223,7 @@ impl<L: Lint> Session<L> {
         ensures rechecked { IfOk result (λ edit.
             edit.rechecked ≡ affected L.Iface.eq L.meaning self.old.folder self.new.folder) }
         ensures meter { IfOk result (λ edit.
-            self.new.checks ≡ counted self.old.checks (length edit.rechecked)) }
+            self.new.checks ≡ raised self.old.checks (length edit.rechecked)) }
         ensures refused { IfErr result (λ refused.
             refused ≡ refusal_or_memory (delete_refusal L.meaning self.old.folder path.now)) }
         ensures as_before { OnErr result (self.new.folder ≡ self.old.folder) }

@@ -15,7 +15,8 @@ use Rattle.al_settings.specs.Names.{permissions, scope_values, whole_values}
 use Rattle.al_settings.specs.Settings.{all_permissions_faults, condition_faults, credentials_faults, env_faults, is_always_true, is_password, is_shell, password_faults, permission_faults, permissions_faults, script_faults, shell_faults, value_faults, variable_faults}
 use Rattle.al_reports.specs.Words.{Named, of_key, of_scalar, unless, unless_among}
 use Rattle.al_settings.proofs.Places.{commands_lie}
-use Rattle.al_reports.proofs.Inside.{Are, Fine, Lies, NameLies, Pair, Text, below_fine, both, each_as, each_of, entries_at_fine, entries_in_fine, items_at_fine, map_or, one_lies, or_lies, span_lies, text_fine, unless_lies, value_fine}
+use Rattle.al_text.proofs.Elements.{each_as, each_of, map_or}
+use Rattle.al_reports.proofs.Inside.{Are, Fine, Lies, NameLies, Pair, Text, below_fine, both, entries_at_fine, entries_in_fine, items_at_fine, one_lies, or_lies, span_lies, text_fine, unless_lies, value_fine}
 
 module _ (size : ℕ) where
   -- ---- ids

@@ -12,7 +12,8 @@ use Rattle.al_scalar.specs.Line.{Cell}
 use Rattle.al_scalar.specs.Offsets.{AreBefore, AreRising, reach}
 use Rattle.al_scalar.specs.Scalar.{Scalar, offset_of, offset_or, text_of}
 use Rattle.al_settings.specs.Commands.{command_fault, command_faults, commands, one_command, part_span}
-use Rattle.al_reports.proofs.Inside.{Lies, Text, each_as, each_of}
+use Rattle.al_text.proofs.Elements.{each_as, each_of}
+use Rattle.al_reports.proofs.Inside.{Lies, Text}
 
 pub places_occur : (hay needle : List ℕ) → All (OccursAt hay needle) (matches hay needle 0)
 places_occur hay needle = All-matches hay needle 0

@@ -15,7 +15,7 @@ or_assoc : (a b c : Bool) → ((a || b) || c) ≡ (a || (b || c))
 or_assoc true b c = refl
 or_assoc false b c = refl
 
-or_comm : (a b : Bool) → (a || b) ≡ (b || a)
+pub or_comm : (a b : Bool) → (a || b) ≡ (b || a)
 or_comm true true = refl
 or_comm true false = refl
 or_comm false true = refl
@@ -27,7 +27,7 @@ cond_or true false = refl
 cond_or false true = refl
 cond_or false false = refl
 
-bytes_swap : (a b : List ℕ) → bytes_eq a b ≡ bytes_eq b a
+pub bytes_swap : (a b : List ℕ) → bytes_eq a b ≡ bytes_eq b a
 bytes_swap a b = let p : IsPartialEquivalence bytes_eq = lists_per (partial_equiv_from_equiv nat_eq_equiv) in p.symm a b
 
 among_more_at : (ks : List (List ℕ)) (k text : List ℕ) → and_text (among ks) k text ≡ among (ks ++ k ∷ []) text

@@ -1,32 +1,19 @@
-use Rattle.std.proofs.Common.{◌≡◌, List, [], ◌∷◌, refl, ap, map, Bool, ◌||◌}
-use Rattle.std.specs.List.{list_any}
-use Rattle.std.proofs.Common.{◌++◌, ◌∙◌, sym, append_assoc, append-nil}
-use Rattle.al_shape.specs.Growth.{BeginsWith, SameSet}
-use Rattle.std.specs.Prelude.{Contains, ◌↔◌}
-use Rattle.std.proofs.Common.{subst, ◌⊎◌, ⊎_elim}
-use Rattle.std.proofs.lemmas.List.Elements.{Contains-append_left, Contains-append_right, Contains-append_cases}
+-- Tests of mapped lists, and what holds of the first entries of each key.
+use Rattle.std.specs.Prelude.{ℕ, Bool, List, [], ◌∷◌, ◌++◌}
+use Rattle.std.proofs.Common.{◌≡◌, refl, ap, map, ◌||◌, cond}
+use Rattle.std.specs.List.{AllByRecursion, list_any}
+use Rattle.al_text.proofs.Elements.{each_both, each_either}
+use Rattle.al_yaml.specs.Node.{Node}
+use Rattle.al_shape.specs.Keys.{key_of}
+use Rattle.al_shape.specs.Names.{among}
+use Rattle.al_shape.specs.Values.{firsts}
 
 pub list_any_map : {X Y : Type 0} (p : Y → Bool) (f : X → Y) (xs : List X) → list_any p (map f xs) ≡ list_any (λ x. p (f x)) xs
 list_any_map p f [] = refl
 list_any_map p f (x ∷ xs) = ap (λ b. p (f x) || b) (list_any_map p f xs)
 
--- a list begins with itself, and with what more was added to
-pub begins_by : {X : Type 0} (old new more : List X) → new ≡ old ++ more → BeginsWith new old
-begins_by old new more e = record { more = more; is = e }
-
-pub begins_same : {X : Type 0} (old new : List X) → new ≡ old → BeginsWith new old
-begins_same old new e = record { more = []; is = e ∙ sym (append-nil old) }
-
-pub begins_trans : {X : Type 0} (old mid new : List X) → BeginsWith mid old → BeginsWith new mid → BeginsWith new old
-begins_trans old mid new a b = record { more = a.more ++ b.more; is = b.is ∙ ap (λ xs. xs ++ b.more) a.is ∙ append_assoc old a.more b.more }
-
-pub ruleset growth = (begins_by, begins_same, begins_trans)
-
-pub same_set : {X : Type 0} (xs ys : List X) → xs ≡ ys → SameSet xs ys
-same_set xs ys e x = let P : List _ → Type 0 = λ l. Contains l x in (λ h. subst P e h, λ h. subst P (sym e) h)
-
--- what was added as a list was added as a set
-pub adds_set : {X : Type 0} (old new more : List X) → new ≡ old ++ more → (x : X) → Contains new x ↔ (Contains old x ⊎ Contains more x)
-adds_set {X} old new more e x =
-    let P : List X → Type 0 = λ l. Contains l x in
-    (λ h. Contains-append_cases old more x (subst P e h), λ h. subst P (sym e) (⊎_elim (λ a. Contains-append_left old more x a) (λ b. Contains-append_right old more x b) h))
+pub firsts_kept : (P : Node × Node → Type 0) (seen : List (List ℕ)) (es : List (Node × Node)) → AllByRecursion P es → AllByRecursion P (firsts seen es)
+firsts_kept P seen [] p = tt
+firsts_kept P seen (e ∷ es) p =
+    each_both P (cond (among seen (key_of e)) [] (e ∷ [])) (firsts (seen ++ key_of e ∷ []) es)
+    (each_either P (among seen (key_of e)) [] (e ∷ []) tt (p.0, tt)) (firsts_kept P (seen ++ key_of e ∷ []) es p.1)

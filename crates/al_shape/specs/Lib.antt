@@ -1,6 +1,5 @@
 pub mod Names
 pub mod Table
-pub mod Growth
 pub mod Keys
 pub mod Faults
 pub mod Values

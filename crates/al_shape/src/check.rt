@@ -1,6 +1,8 @@
+//! A node against the shape that its place asks for.
+
 ghost use Rattle.al_shape.specs.Faults.{beside_faults, entries_faults, entry_faults, faults, is_empty as empty, items_faults, keyed_faults};
 ghost use Rattle.al_shape.specs.Faults.{missing_fault, missing_faults, root_faults, standing_view, takes_null as null_taken};
-ghost use Rattle.al_shape.specs.Growth.{BeginsWith, SameSet};
+ghost use Rattle.al_text.specs.Growth.{BeginsWith, SameSet};
 ghost use Rattle.al_shape.specs.Keys.{holds, key_of as key_in, keys_in};
 ghost use Rattle.al_shape.specs.Names.{among};
 ghost use Rattle.al_shape.specs.Table.{field_of, keys_view};
@@ -18,7 +20,7 @@ use al_yaml::{Entry, Kind, Node};
 use std::alloc::{AllocError, Global};
 
 /// Adds the fault of a key that is needed and isn't there.
-#[tactic(auto, using(crate::proofs::Lists::growth))]
+#[tactic(auto, using(al_text::proofs::Growing::growth))]
 fn check_row(
     alloc: Global,
     row: &Row,
@@ -40,7 +42,7 @@ fn check_row(
 }
 
 /// Adds the faults of the keys that are needed and aren't there.
-#[tactic(auto, using(crate::proofs::Lists::growth))]
+#[tactic(auto, using(al_text::proofs::Growing::growth))]
 fn check_missing(
     alloc: Global,
     rows: &[Row],
@@ -58,7 +60,7 @@ fn check_missing(
 }
 
 /// Adds the fault of a key that stands beside another.
-#[tactic(auto, using(crate::proofs::Lists::growth))]
+#[tactic(auto, using(al_text::proofs::Growing::growth))]
 fn check_beside(
     alloc: Global,
     other: Option<&'static str>,
@@ -82,7 +84,7 @@ fn check_beside(
 }
 
 /// Adds the faults of a node below a key, where it should have a shape and may be null or not.
-#[tactic(auto, using(crate::proofs::Lists::growth, crate::proofs::Shapes::faults_mapping, crate::proofs::Shapes::faults_sequence))]
+#[tactic(auto, using(al_text::proofs::Growing::growth, crate::proofs::Shapes::faults_mapping, crate::proofs::Shapes::faults_sequence))]
 #[cycle(checks)]
 fn check(
     alloc: Global,
@@ -132,7 +134,7 @@ fn check(
 }
 
 /// Adds the faults of a mapping that takes these keys.
-#[tactic(auto, using(crate::proofs::Lists::growth))]
+#[tactic(auto, using(al_text::proofs::Growing::growth))]
 #[cycle(checks)]
 fn check_keyed(
     alloc: Global,
@@ -162,7 +164,7 @@ fn check_keyed(
 }
 
 /// Adds the faults of the items of a sequence below a key.
-#[tactic(auto, using(crate::proofs::Lists::growth))]
+#[tactic(auto, using(al_text::proofs::Growing::growth))]
 #[cycle(checks)]
 fn check_items(
     alloc: Global,
@@ -181,7 +183,7 @@ fn check_items(
 }
 
 /// Adds the faults of the entries of a mapping that has all these keys.
-#[tactic(auto, using(crate::proofs::Lists::growth, crate::proofs::KeyLemmas::among_more))]
+#[tactic(auto, using(al_text::proofs::Growing::growth, crate::proofs::KeyLemmas::among_more))]
 #[cycle(checks)]
 fn check_entries(
     alloc: Global,
@@ -205,7 +207,7 @@ fn check_entries(
 }
 
 /// Adds the faults of an entry that stands so in its mapping.
-#[tactic(auto, using(crate::proofs::Lists::growth, al_yaml::proofs::ViewLemmas::entry_parts))]
+#[tactic(auto, using(al_text::proofs::Growing::growth, al_yaml::proofs::ViewLemmas::entry_parts))]
 #[cycle(checks)]
 fn check_entry(
     alloc: Global,
@@ -247,7 +249,7 @@ fn is_empty(node: &Node) -> bool
 ///
 /// The time grows with the size of the tree, times the logarithm of the entries of its mappings. Fails with `AllocError`
 /// for want of memory.
-#[tactic(auto, using(crate::proofs::Lists::same_set))]
+#[tactic(auto, using(al_text::proofs::Growing::same_set))]
 pub fn shape_faults(alloc: Global, shape: Shape, root: &Node) -> Result<Vec<Fault>, AllocError>
     ensures list { IfOk result (λ found. found.items ≡ root_faults shape (view root.now)) }
     ensures set { IfOk result (λ found. SameSet found.items (root_faults shape (view root.now))) }

@@ -1,3 +1,5 @@
+//! The first entry of a mapping with a key.
+
 ghost use Rattle.al_shape.specs.Faults.{is_key, value_in};
 ghost use Rattle.al_shape.specs.Values.{key_in};
 ghost use Rattle.al_yaml.specs.Access.{scalar_in};

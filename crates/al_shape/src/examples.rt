@@ -1,3 +1,5 @@
+//! Worked rows of shapes.
+
 ghost use Rattle.al_text.specs.declared.codes.KeyCode.TheVariants.{EmptyFile, Missing, NotBeside, Repeated, Unexpected, WrongKind};
 ghost use Rattle.al_text.specs.declared.codes.KeyCode.TheVariants.{WrongType};
 ghost use Rattle.al_shape.specs.Faults.{fault, root_faults};

@@ -1,3 +1,5 @@
+//! The text of a key, and sets of keys.
+
 ghost use Rattle.al_shape.specs.Keys.{and_text, holds, key_of as key_in, key_text as text_in, keys_in};
 ghost use Rattle.al_shape.specs.Names.{among};
 ghost use Rattle.al_yaml.specs.View.{entry_view, view};

@@ -1,3 +1,5 @@
+//! Names among which a key or a text may be, and the names of the events.
+
 ghost use Rattle.al_shape.specs.Names.{among, is_event as event};
 ghost use Rattle.std.specs.Prelude.{◌≡◌, map};
 

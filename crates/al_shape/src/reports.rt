@@ -1,3 +1,5 @@
+//! Faults of keys and shapes, added to those found before.
+
 ghost use Rattle.al_shape.specs.Faults.{fault};
 ghost use Rattle.std.specs.Prelude.{◌≡◌, [], ◌∷◌, ◌++◌, OnErr, OnOk};
 

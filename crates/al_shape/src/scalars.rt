@@ -1,3 +1,5 @@
+//! Which scalars may stand where one is due.
+
 ghost use Rattle.al_shape.specs.Faults.{has_chunk, is_bool_class, is_null, is_number_class, unless_taken};
 ghost use Rattle.al_shape.specs.Faults as faults;
 ghost use Rattle.std.specs.Prelude.{◌≡◌};

@@ -1,3 +1,5 @@
+//! How a key stands in its mapping: known, unknown, given twice or beside one that excludes it.
+
 ghost use Rattle.al_shape.specs.Faults.{clash_with, event_shape as event, field_at, if_it, is_needed as needed, other_standing, refined};
 ghost use Rattle.al_shape.specs.Faults.{runs_of as runs, standing as stands, standing_view, takes_null as null_taken};
 ghost use Rattle.al_shape.specs.Keys.{holds};

@@ -1,3 +1,5 @@
+//! The rules of all places of workflows and actions, as one table.
+
 ghost use Rattle.al_shape.specs.Table.{rule, rule_view};
 ghost use Rattle.std.specs.Prelude.{◌≡◌, option_map};
 

@@ -1,3 +1,5 @@
+//! Items, values and texts of nodes, where they have the kind that is asked for.
+
 ghost use Rattle.al_shape.specs.Values.{entries_in, firsts, items_at, items_in, key_at, member_of, text_at, text_in, texts_at, texts_in};
 ghost use Rattle.al_shape.specs.Values.{unless_null, value_at, scalar_node_of};
 ghost use Rattle.al_yaml.specs.View.{entry_view, view};

@@ -1,5 +1,4 @@
 pub use Rattle.al_shape.specs.Faults
-pub use Rattle.al_shape.specs.Growth
 pub use Rattle.al_shape.specs.Keys
 pub use Rattle.al_shape.specs.Names
 pub use Rattle.al_shape.specs.Table

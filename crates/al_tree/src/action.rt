@@ -1,3 +1,5 @@
+//! Actions and what they run.
+
 ghost use Rattle.al_shape.specs.Values.{items_at, text_at, value_at, scalar_node_of};
 ghost use Rattle.al_yaml.specs.View.{view};
 ghost use Rattle.std.specs.Prelude.{◌≡◌, codes, map, option_map};

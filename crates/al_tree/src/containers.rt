@@ -1,3 +1,5 @@
+//! The containers of jobs, and their services.
+
 ghost use Rattle.al_shape.specs.Values.{text_at, text_below, value_at, scalar_node_of};
 ghost use Rattle.al_yaml.specs.View.{view};
 ghost use Rattle.std.specs.Prelude.{◌≡◌, [], ◌∷◌, codes, option_map};

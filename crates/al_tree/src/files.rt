@@ -1,5 +1,7 @@
+//! A document taken as a workflow or an action, and its faults of keys and shapes.
+
 ghost use Rattle.al_shape.specs.Faults.{root_faults};
-ghost use Rattle.al_shape.specs.Growth.{SameSet};
+ghost use Rattle.al_text.specs.Growth.{SameSet};
 ghost use Rattle.al_shape.specs.declared.table.Shape.TheVariants.{Action as ActionShape, Workflow as WorkflowShape};
 ghost use Rattle.al_tree.specs.Files.{key_faults, shape_of};
 ghost use Rattle.al_yaml.specs.View.{view};
@@ -30,7 +32,7 @@ pub enum FileKind {
 /// which are exactly those that the syntax's table gives.
 ///
 /// Fails with `AllocError` for want of memory.
-#[tactic(auto, using(al_shape::proofs::Lists::same_set))]
+#[tactic(auto, using(al_text::proofs::Growing::same_set))]
 pub fn read_workflow(alloc: Global, doc: Doc) -> Result<(Workflow, Vec<Fault>), AllocError>
     ensures tree { IfOk result (λ r. view r.0.root ≡ view doc.root) }
     ensures list { IfOk result (λ r. r.1.items ≡ root_faults WorkflowShape (view doc.root)) }
@@ -44,7 +46,7 @@ pub fn read_workflow(alloc: Global, doc: Doc) -> Result<(Workflow, Vec<Fault>), 
 /// which are exactly those that the syntax's table gives.
 ///
 /// Fails with `AllocError` for want of memory.
-#[tactic(auto, using(al_shape::proofs::Lists::same_set))]
+#[tactic(auto, using(al_text::proofs::Growing::same_set))]
 pub fn read_action(alloc: Global, doc: Doc) -> Result<(Action, Vec<Fault>), AllocError>
     ensures tree { IfOk result (λ r. view r.0.root ≡ view doc.root) }
     ensures list { IfOk result (λ r. r.1.items ≡ root_faults ActionShape (view doc.root)) }

@@ -1,3 +1,5 @@
+//! Jobs, the machines that they run on, and their strategies.
+
 ghost use Rattle.al_shape.specs.Values.{items_at, text_at, value_at, value_below, scalar_node_of};
 ghost use Rattle.al_yaml.specs.View.{view};
 ghost use Rattle.std.specs.Prelude.{◌≡◌, [], ◌∷◌, codes, map, option_map};

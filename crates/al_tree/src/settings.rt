@@ -1,3 +1,5 @@
+//! Settings of workflows and jobs: concurrency and defaults.
+
 ghost use Rattle.al_shape.specs.Values.{text_at, text_below, scalar_node_of};
 ghost use Rattle.al_yaml.specs.View.{view};
 ghost use Rattle.std.specs.Prelude.{◌≡◌, [], ◌∷◌, codes, option_map};

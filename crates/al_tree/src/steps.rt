@@ -1,3 +1,5 @@
+//! Steps of jobs and of composite actions.
+
 ghost use Rattle.al_shape.specs.Values.{text_at, value_at, scalar_node_of};
 ghost use Rattle.al_yaml.specs.View.{view};
 ghost use Rattle.std.specs.Prelude.{◌≡◌, codes, option_map};

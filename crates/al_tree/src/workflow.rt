@@ -1,3 +1,5 @@
+//! Workflows.
+
 ghost use Rattle.al_shape.specs.Values.{entries_at, member_of, text_at, value_at, value_below, scalar_node_of};
 ghost use Rattle.al_tree.specs.Files.{job_of};
 ghost use Rattle.al_yaml.specs.View.{view};

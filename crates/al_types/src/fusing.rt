@@ -1,3 +1,5 @@
+//! The one type of two branches.
+
 ghost use Rattle.std.specs.Prelude.{◌≡◌, ◌++◌, map, IfOk, OnOk};
 ghost use Rattle.al_types.specs.Types.{ArrayOf, fuse_type};
 ghost use Rattle.al_types.specs.Types as types;

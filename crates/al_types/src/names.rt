@@ -1,3 +1,5 @@
+//! The names of contexts and functions, in which letter case does not count.
+
 ghost use Rattle.std.specs.Prelude.{◌≡◌};
 ghost use Rattle.al_types.specs.Names.{same_name, context_name, function_name, first_named};
 ghost use Rattle.al_types.specs.Names as names;

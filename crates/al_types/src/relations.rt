@@ -1,3 +1,5 @@
+//! Which types go where one is asked for.
+
 ghost use Rattle.std.specs.Prelude.{◌≡◌};
 ghost use Rattle.al_types.specs.Types.{assignable_type};
 ghost use Rattle.al_types.specs.TypeViews.{ty_of, assignable_form};

@@ -1,3 +1,5 @@
+//! What an expression can name at its place.
+
 ghost use Rattle.std.specs.Prelude.{◌≡◌};
 ghost use Rattle.al_types.specs.Scopes.{type_of_context, is_available, is_allowed};
 ghost use Rattle.al_types.specs.TypeViews.{ty_of};

@@ -1,3 +1,5 @@
+//! The functions of expressions: how many arguments they take, of which types, and what they give.
+
 ghost use Rattle.std.specs.Prelude.{◌≡◌, option_map};
 ghost use Rattle.al_types.specs.Names.{function_of};
 ghost use Rattle.al_types.specs.Signatures.{signature, takes, wanted, accepts, returned_type};

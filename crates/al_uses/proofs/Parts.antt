@@ -3,62 +3,26 @@ use Rattle.std.specs.Prelude.{ℕ, ◌+◌, Bool, true, false, List, [], ◌∷�
 use Rattle.std.proofs.Common.{cond}
 use Rattle.std.specs.List.{AllByRecursion, flat_map, enumerate_from}
 use Rattle.std.specs.Option.{option_map_or, option_to_list}
+use Rattle.al_text.proofs.Elements.{and_some, each_both, each_either, each_of, found_one, map_or, map_some, to_list}
 use Rattle.al_text.specs.declared.faults.Span.{Span}
 use Rattle.al_scalar.specs.Scalar.{Scalar}
 use Rattle.al_yaml.specs.Access.{entries, mapping_in, nodes, scalar_in, sequence_in}
 use Rattle.al_yaml.specs.Node.{Node, Nodes, Entries, scalar, sequence, mapping, span_of}
+use Rattle.al_shape.proofs.Lists.{firsts_kept}
 use Rattle.al_shape.specs.Faults.{is_key, is_null, value_in}
 use Rattle.al_shape.specs.Keys.{key_of}
 use Rattle.al_shape.specs.Names.{among}
 use Rattle.al_shape.specs.Values.{entries_at, entries_in, firsts, items_at, items_in, text_at, text_in, unless_null, value_at}
 use Rattle.al_tree.specs.declared.files.FileKind.{FileKind}
 use Rattle.al_tree.specs.declared.files.FileKind.TheVariants as kind
-use Rattle.al_declarations.specs.Declarations.{is_composite}
+use Rattle.al_declarations.specs.Declarations.{action_steps, is_composite}
 use Rattle.al_uses.specs.Forms.{job_form, step_form}
-use Rattle.al_uses.specs.Uses.{Call, Site, action_steps, call_at, call_with, calls_in, job_call, job_calls, jobs_of, step_call, step_calls}
+use Rattle.al_uses.specs.Uses.{Call, Site, call_at, call_with, calls_in, job_call, job_calls, jobs_of, step_call, step_calls}
 use Rattle.al_uses.specs.declared.forms.Form.{Form}
-
--- ---- lists, element by element
-
-pub each_both : {X : Type 0} (P : X → Type 0) (xs ys : List X) → AllByRecursion P xs → AllByRecursion P ys → AllByRecursion P (xs ++ ys)
-each_both P [] ys p q = q
-each_both P (x ∷ xs) ys p q = (p.0, each_both P xs ys p.1 q)
-
-pub each_either : {X : Type 0} (P : X → Type 0) (b : Bool) (xs ys : List X) → AllByRecursion P xs → AllByRecursion P ys → AllByRecursion P (cond b xs ys)
-each_either P true xs ys p q = p
-each_either P false xs ys p q = q
-
-pub each_of : {X Y : Type 0} (P : X → Type 0) (Q : Y → Type 0) (f : X → List Y) → ((x : X) → P x → AllByRecursion Q (f x)) → (xs : List X) → AllByRecursion P xs → AllByRecursion Q (flat_map f xs)
-each_of P Q f h [] p = tt
-each_of P Q f h (x ∷ xs) p = each_both Q (f x) (flat_map f xs) (h x p.0) (each_of P Q f h xs p.1)
 
 numbered : {X : Type 0} (P : X → Type 0) (i : ℕ) (xs : List X) → AllByRecursion P xs → AllByRecursion (λ s. P s.1) (enumerate_from i xs)
 numbered P i [] p = tt
 numbered P i (x ∷ xs) p = (p.0, numbered P (i + 1) xs p.1)
-
-found_at : {X : Type 0} (P : X → Type 0) (b : Bool) (x : X) (o : Option X) → P x → IfSome o P → IfSome (cond b (Some x) o) P
-found_at P true x o p q = p
-found_at P false x o p q = q
-
-found_one : {X : Type 0} (P : X → Type 0) (test : X → Bool) (xs : List X) → AllByRecursion P xs → IfSome (find test xs) P
-found_one P test [] p = tt
-found_one P test (x ∷ xs) p = found_at P (test x) x (find test xs) p.0 (found_one P test xs p.1)
-
-pub map_or : {X Y : Type 0} (P : X → Type 0) (Q : Y → Type 0) (f : X → List Y) → ((x : X) → P x → AllByRecursion Q (f x)) → (o : Option X) → IfSome o P → AllByRecursion Q (option_map_or f o [])
-map_or P Q f h None p = tt
-map_or P Q f h (Some x) p = h x p
-
-and_some : {X Y : Type 0} (P : X → Type 0) (Q : Y → Type 0) (f : X → Option Y) → ((x : X) → P x → IfSome (f x) Q) → (o : Option X) → IfSome o P → IfSome (option_and_then f o) Q
-and_some P Q f h None p = tt
-and_some P Q f h (Some x) p = h x p
-
-map_some : {X Y : Type 0} (P : X → Type 0) (Q : Y → Type 0) (f : X → Y) → ((x : X) → P x → Q (f x)) → (o : Option X) → IfSome o P → IfSome (option_map f o) Q
-map_some P Q f h None p = tt
-map_some P Q f h (Some x) p = h x p
-
-to_list : {X : Type 0} (P : X → Type 0) (o : Option X) → IfSome o P → AllByRecursion P (option_to_list o)
-to_list P None p = tt
-to_list P (Some x) p = (p, tt)
 
 -- ---- nodes
 
@@ -110,14 +74,8 @@ module _ (P : Node → Type 0) (Q : Scalar × Span → Type 0) (kept : IsKept P)
   text_kept : (k : List ℕ) (n : Node) → P n → IfSome (text_at k n) Q
   text_kept k n p = and_some P Q text_in text_in_kept (value_at k n) (value_kept k n p)
 
-  firsts_kept : (seen : List (List ℕ)) (es : List (Node × Node)) → AllByRecursion Pair es → AllByRecursion Pair (firsts seen es)
-  firsts_kept seen [] p = tt
-  firsts_kept seen (e ∷ es) p =
-      each_both Pair (cond (among seen (key_of e)) [] (e ∷ [])) (firsts (seen ++ key_of e ∷ []) es)
-      (each_either Pair (among seen (key_of e)) [] (e ∷ []) tt (p.0, tt)) (firsts_kept (seen ++ key_of e ∷ []) es p.1)
-
   entries_in_kept : (n : Node) → P n → AllByRecursion Pair (entries_in n)
-  entries_in_kept n p = map_or (AllByRecursion Pair) Pair (firsts []) (firsts_kept []) (mapping_in n) (mapping_kept n p)
+  entries_in_kept n p = map_or (AllByRecursion Pair) Pair (firsts []) (firsts_kept Pair []) (mapping_in n) (mapping_kept n p)
 
   items_in_kept : (n : Node) → P n → AllByRecursion P (items_in n)
   items_in_kept n p = map_or (AllByRecursion P) P (λ ns. ns) (λ ns q. q) (sequence_in n) (sequence_kept n p)

@@ -10,7 +10,7 @@ use Rattle.al_shape.specs.Keys.{key_of}
 use Rattle.al_shape.specs.Values.{entries_at, items_at, text_at, value_at}
 use Rattle.al_tree.specs.declared.files.FileKind.{FileKind}
 use Rattle.al_tree.specs.declared.files.FileKind.TheVariants as kind
-use Rattle.al_declarations.specs.Declarations.{is_composite}
+use Rattle.al_declarations.specs.Declarations.{action_steps, is_composite}
 use Rattle.al_uses.specs.Forms.{step_form, job_form}
 use Rattle.al_uses.specs.declared.forms.Form.{Form}
 use Rattle.al_uses.specs.declared.forms.Form.TheVariants.{Local, Other, Wrong}
@@ -49,9 +49,6 @@ job_calls j = job_call j ++ step_calls (Some (key_of j)) (items_at (codes "steps
 
 abbrev pub jobs_of : Node → List (Node × Node)
 jobs_of = entries_at (codes "jobs")
-
-abbrev pub action_steps : Node → List Node
-action_steps root = option_map_or (items_at (codes "steps")) (value_at (codes "runs") root) []
 
 -- those of a workflow, job by job, and those of a composite action
 abbrev pub calls_in : FileKind → Node → List Call

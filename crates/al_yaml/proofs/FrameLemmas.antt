@@ -95,7 +95,7 @@ pub record Behind (bytes : List ℕ) (depth : ℕ) (whole : Answer (Part Node)) 
   pub enough : AreEnough (length bytes) p.next fs rest
   pub same : resumed depth bound fs rest (Ok (part_of bytes p, counted n)) ≡ whole
 
-predecessor : (turns : ℕ) → 0 < turns → (t : ℕ) × (turns ≡ suc t)
+pub predecessor : (turns : ℕ) → 0 < turns → (t : ℕ) × (turns ≡ suc t)
 predecessor zero h = absurd (omega (arith, h))
 predecessor (suc t) h = (t, refl)
 

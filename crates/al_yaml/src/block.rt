@@ -20,7 +20,7 @@ ghost use Rattle.std.specs.Prelude.{IfErr, IfOk, IfSome, [], length, map, suc, t
 use crate::block_nodes::read_node;
 use crate::content::{Next, is_dash, is_skipped, next_content};
 use crate::entries::{entry_key, no_entry};
-use crate::faults::{FaultAt, ReadError};
+use crate::faults::ReadError;
 use crate::file::{File, Progress};
 use crate::keys::Key;
 use crate::limits::Count;
@@ -28,8 +28,8 @@ use crate::lines::{characters, next_line};
 use crate::node::{Entry, Node, Part, entry_of, mapping_part, scalar_node, sequence_part};
 use crate::scalars::empty_part;
 use crate::slots::{Cursor, Slot, Spot, is_deeper, spot_behind};
-use al_scalar::ScalarRead;
 use al_scalar::lines::blanks_end;
+use al_scalar::{FaultAt, ScalarRead};
 use al_text::YamlCode;
 
 /// What was read of an open block collection: of a sequence the items before a dash, and whether it is the value of a

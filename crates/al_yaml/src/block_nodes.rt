@@ -16,7 +16,7 @@ ghost use Rattle.std.specs.Prelude.{IfErr, IfOk, [], length, not, suc, true, ℕ
 
 use crate::block::{BlockOpen, BlockTask};
 use crate::content::{is_dash, line_ended};
-use crate::faults::{FaultAt, ReadError};
+use crate::faults::ReadError;
 use crate::file::{File, Progress};
 use crate::flow::read_flow_collection;
 use crate::keys::{Key, behind_colon, is_short_key, key_at};
@@ -25,6 +25,7 @@ use crate::node::Part;
 use crate::scalars::read_line_scalar;
 use crate::slots::{Cursor, Slot, Spot, is_behind_key, tab_before};
 use crate::starts::{block_fault, is_block_start, is_flow_start, is_property};
+use al_scalar::FaultAt;
 use al_text::YamlCode;
 
 /// Whether a scalar that stands here is no key: a block scalar, or a value on its key's line.

@@ -7,8 +7,8 @@ ghost use Rattle.al_yaml.specs.Flow as flow;
 ghost use Rattle.al_yaml.specs.Places.{IsLineFrom, Shows, next_of};
 ghost use Rattle.std.specs.Prelude.{IfErr, IfOk, IfSome, IsTrue, false, length, ◌<◌, ◌≡◌, ◌≤◌};
 
-use crate::faults::FaultAt;
 use crate::lines::{is_text_end, next_line};
+use al_scalar::FaultAt;
 use al_scalar::lines::{begins, blanks_end, indent, is_blank_or_end, is_document_marker};
 use al_text::YamlCode;
 

@@ -21,7 +21,7 @@ ghost use Rattle.al_yaml.specs.View.{entries_of, entry_view, nodes_of, view};
 ghost use Rattle.std.specs.Prelude.{IfErr, IfOk, None, [], length, map, suc, true, ℕ, ◌+◌, ◌<◌, ◌||◌, ◌∷◌, ◌≡◌, ◌≤◌};
 
 use crate::content::gap;
-use crate::faults::{FaultAt, ReadError};
+use crate::faults::ReadError;
 use crate::file::{File, Progress};
 use crate::keys::{behind_flow_colon, is_late_colon, is_simple_key};
 use crate::limits::Count;
@@ -30,7 +30,7 @@ use crate::node::{Entry, Node, Part, entry_of, mapping_part, scalar_node, sequen
 use crate::scalars::{empty_part, scalar_at, scalar_part};
 use crate::starts::{flow_fault, is_flow_start, is_property, is_quote};
 use al_scalar::lines::begins;
-use al_scalar::{ScalarContext, ScalarRead};
+use al_scalar::{FaultAt, ScalarContext, ScalarRead};
 use al_text::YamlCode;
 
 /// What stands behind an item: a comma, with the offset of what follows it, or the closer, with the offset behind it.

@@ -13,12 +13,12 @@ ghost use Rattle.al_yaml.specs.View.{view};
 ghost use Rattle.std.specs.Prelude.{IfErr, IfOk, length, ◌≡◌, ◌≤◌};
 
 use crate::content::line_ended;
-use crate::faults::{FaultAt, ReadError};
+use crate::faults::ReadError;
 use crate::file::File;
 use crate::limits::Count;
 use crate::node::{Part, scalar_node};
 use crate::starts::is_block_start;
-use al_scalar::{ScalarContext, ScalarRead, read_scalar};
+use al_scalar::{FaultAt, ScalarContext, ScalarRead, read_scalar};
 use std::alloc::Global;
 
 /// Reads the scalar at an offset.

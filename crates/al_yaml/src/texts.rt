@@ -1,3 +1,5 @@
+//! A law over the definitions: the texts of a tree are UTF-8.
+
 ghost use Rattle.al_yaml.specs.Document.{tree_of};
 ghost use Rattle.al_yaml.specs.Texts.{HasTexts};
 ghost use Rattle.std.specs.Prelude.{Bool, IfOk, List, ℕ};

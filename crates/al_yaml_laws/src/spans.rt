@@ -1,3 +1,5 @@
+//! A law over the definitions: where the nodes of a tree and the first fault of a file lie.
+
 ghost use Rattle.al_yaml.specs.Document.{tree_of};
 ghost use Rattle.al_yaml.specs.Spans.{AreFrom, IsInside, IsWithin};
 ghost use Rattle.al_yaml_laws.specs.Inside.{IsTreeIn};

@@ -16,7 +16,7 @@ use Rattle.al_grammar.proofs.Trees.{tree_of-Keyword, tree_of-Number, tree_of-Tex
 use Rattle.al_meaning.proofs.TypedSteps.{unchanged, follows}
 use Rattle.al_grammar.proofs.TreeViews.{operand_view}
 use Rattle.al_grammar.proofs.RestItems.{rest_item}
-use Rattle.al_meaning.proofs.Growing.{begins_trans}
+use Rattle.al_text.proofs.Growing.{begins_trans}
 use Rattle.al_meaning.proofs.Paths.{called_on, path_on, chained_on, indexed_on, meanings_on, walked_on}
 use Rattle.al_meaning.proofs.typing.+typing.Goals as goal
 

@@ -1,6 +1,6 @@
 use Rattle.std.proofs.Common.{take, map}
 use Rattle.al_graph.specs.Graphs.{Walk, edges_of}
-use Rattle.al_shape.specs.Growth.{BeginsWith}
+use Rattle.al_text.specs.Growth.{BeginsWith}
 use Rattle.al_shape.specs.Values.{member_of}
 use Rattle.al_rules.specs.Needs.{AddsNeeds, all_needs}
 use Rattle.al_rules.specs.Positions.{first_at}

@@ -1,7 +1,7 @@
 use Rattle.std.proofs.Common.{◌≡◌, ◌++◌, drop, map, false}
 use Rattle.std.specs.List.{flat_map}
 use Rattle.std.specs.Prelude.{slice_index_or}
-use Rattle.al_shape.specs.Growth.{BeginsWith}
+use Rattle.al_text.specs.Growth.{BeginsWith}
 use Rattle.al_rules.specs.Needs.{named_by, tested_faults}
 use Rattle.al_rules.specs.Positions.{first_at}
 use Rattle.al_rules.specs.Views.{need_of}

@@ -1,5 +1,5 @@
 use Rattle.std.proofs.Common.{◌≡◌, ◌++◌, drop, map}
-use Rattle.al_shape.specs.Growth.{BeginsWith}
+use Rattle.al_text.specs.Growth.{BeginsWith}
 use Rattle.std.specs.List.{flat_map}
 use Rattle.al_shape.specs.Keys.{holds}
 use Rattle.al_text.specs.declared.codes.RuleCode.TheVariants.{UnknownMatrixRow}
