@@ -4,8 +4,8 @@ use Rattle.al_scalar.specs.Line.{Cell, Line, is_blank, after_blanks, is_empty}
 use Rattle.al_scalar.specs.Offsets.{AreClimbing}
 use Rattle.al_scalar.specs.Plain.{Context, is_flow, is_value_colon, ends_plain, plain_part, continues, ended_before, plain_lines, plain}
 use Rattle.al_scalar.specs.Taken.{Fault, Taken, before, folded_break}
-use Rattle.al_scalar.proofs.OffsetLemmas.{choose, climbing-blanks}
-use Rattle.al_yaml_laws.proofs.Standing.{climbing-behind, place-end, Stand, Follow, stand-cut, stand-follow, follow-stand}
+use Rattle.al_scalar.proofs.OffsetLemmas.{choose, climbing-behind, climbing-blanks}
+use Rattle.al_yaml_laws.proofs.Standing.{place-end, Stand, Follow, stand-cut, stand-follow, follow-stand}
 
 abbrev PartLeft : ℕ → ℕ → List Cell × List Cell → Type 0
 PartLeft low end r = AreClimbing low end r.1
@@ -15,7 +15,8 @@ part-left p blank low end [] h = h
 part-left p blank low end (c ∷ cs) h =
     let more = plain_part p (is_blank c) cs in
     choose (PartLeft low end) (ends_plain p blank (c ∷ cs)) (λ _. h)
-    (λ _. choose (PartLeft low end) (is_blank c && is_empty more.0) (λ _. h) (λ _. part-left p (is_blank c) low end cs (climbing-behind low end c cs h)))
+    (λ _. choose (PartLeft low end) (is_blank c && is_empty more.0) (λ _. h)
+    (λ _. part-left p (is_blank c) low end cs (climbing-behind low end c cs h)))
 
 module _ (size : ℕ) where
   -- what is left stands behind an offset; a fault lies in the file
@@ -27,7 +28,8 @@ module _ (size : ℕ) where
   left-before low cs (Ok t) h = h
   left-before low cs (Err e) h = h
 
-  lines-left : (p : Context) (here : Taken) (break : ℕ) (empties : List ℕ) (low end : ℕ) (last : Bool) (ls : List Line) → Stand size low here.left → Follow size low end last ls
+  lines-left : (p : Context) (here : Taken) (break : ℕ) (empties : List ℕ) (low end : ℕ) (last : Bool) (ls : List Line)
+      → Stand size low here.left → Follow size low end last ls
       → Leaves low (plain_lines p here break empties ls)
   lines-left p here break empties low end last [] h f = h
   lines-left p here break empties low end last (l ∷ ls) h f =
@@ -53,4 +55,5 @@ module _ (size : ℕ) where
       let here = ended_before part.1 l ls in
       let behind : Stand size low here.left = stand-cut size low low part.1 l ls (part-left p false low l.end l.text h.0.0) h in
       left-before low part.0 _
-      (choose (Leaves low) (is_empty (after_blanks part.1)) (λ _. lines-left p here l.end [] low l.end l.last ls behind (stand-follow size low l ls h)) (λ _. behind))
+      (choose (Leaves low) (is_empty (after_blanks part.1))
+      (λ _. lines-left p here l.end [] low l.end l.last ls behind (stand-follow size low l ls h)) (λ _. behind))

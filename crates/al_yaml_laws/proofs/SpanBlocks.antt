@@ -1,5 +1,6 @@
 -- Block nodes lie between the offset behind which the lines stand and the lines left.
-use Rattle.std.proofs.Common.{ℕ, zero, suc, ◌+◌, ◌≤◌, List, [], ◌∷◌, arith, Bool, not, ◌&&◌, ◌||◌, ◌==◌, nat_lt, Option, Some, None, Result, Ok, Err}
+use Rattle.std.proofs.Common.{ℕ, zero, suc, ◌+◌, ◌≤◌, List, [], ◌∷◌, arith, Bool, not, ◌&&◌}
+use Rattle.std.proofs.Common.{◌||◌, ◌==◌, nat_lt, Option, Some, None, Result, Ok, Err}
 use Rattle.al_text.specs.declared.codes.YamlCode.TheVariants as yaml
 use Rattle.al_scalar.specs.Ascii as ascii
 use Rattle.al_scalar.specs.Line.{Cell, Line, start, is_blank, blanks_dropped}
@@ -9,8 +10,13 @@ use Rattle.al_scalar.specs.Plain.{block}
 use Rattle.al_scalar.specs.Scalar.{ScalarRead, scalar_at}
 use Rattle.al_scalar.specs.Taken.{Fault}
 use Rattle.al_scalar.proofs.OffsetLemmas.{choose, climbing-order}
-use Rattle.al_yaml.specs.Blocks.{Spot, own_line, compact, behind_key, Slot, at_spot, BlockReader, is_behind_key, tab_before, unless_at, spot_behind, is_deeper, node_found, node_below, rest_node, next_found, next_from, next_at, entry_slot, sequence_entry, sequence_next, sequence_rest, sequence_entries, value_slot, mapping_value, mapping_next, mapping_rest, mapping_entries, scalar_left, scalar_node_at, flow_rest, flow_at, block_sequence, block_mapping, keyed_node, block_content, block_property, block_node}
-use Rattle.al_yaml.specs.Content.{Next, ended, at_line, is_skipped, content, line_ended, whole_lines, behind, is_dash, tab_among, block_fault, is_flow_start, is_property, same_line, characters, is_short_key}
+use Rattle.al_yaml.specs.Blocks.{Spot, own_line, compact, behind_key, Slot, at_spot, BlockReader, is_behind_key, tab_before}
+use Rattle.al_yaml.specs.Blocks.{unless_at, spot_behind, is_deeper, node_found, node_below, rest_node, next_found, next_from}
+use Rattle.al_yaml.specs.Blocks.{next_at, entry_slot, sequence_entry, sequence_next, sequence_rest, sequence_entries, value_slot}
+use Rattle.al_yaml.specs.Blocks.{mapping_value, mapping_next, mapping_rest, mapping_entries, scalar_left, scalar_node_at, flow_rest}
+use Rattle.al_yaml.specs.Blocks.{flow_at, block_sequence, block_mapping, keyed_node, block_content, block_property, block_node}
+use Rattle.al_yaml.specs.Content.{Next, ended, at_line, is_skipped, content, line_ended, whole_lines, behind, is_dash}
+use Rattle.al_yaml.specs.Content.{tab_among, block_fault, is_flow_start, is_property, same_line, characters, is_short_key}
 use Rattle.al_yaml.specs.Flow.{CollectionReader, flow_collection}
 use Rattle.al_yaml.specs.Keys.{Key, key_at, has_colon, is_block_start, entry_key}
 use Rattle.al_yaml.specs.Node.{Node, Nodes, Entries, no_nodes, with_item, no_entries, with_entry, scalar_node}
@@ -20,7 +26,9 @@ use Rattle.al_yaml_laws.proofs.ScalarSpans.{Answers, ReadIn, scalar-in}
 use Rattle.al_yaml_laws.proofs.SpanFlow.{CollectionIn, flow_collection-in}
 use Rattle.al_yaml_laws.proofs.SpanKeys.{KeyIn, OptionKeyIn, key_at-in, no_entry-in, entry_key-in}
 use Rattle.al_yaml_laws.proofs.SpanLines.{OptionIn, IsIn, NextIn, content-in, line_ended-in}
-use Rattle.al_yaml_laws.proofs.SpanReading.{Gives, NodeIn, NodesIn, EntriesIn, gives-value, gives-fault, gives-answer, gives-then, gives-listed, gives-no_alias, gives-unless, node-lower, empty-in, sequence-in, mapping-in, more-items, more-entries}
+use Rattle.al_yaml_laws.proofs.SpanReading.{Gives, NodeIn, NodesIn, EntriesIn, gives-value, gives-fault}
+use Rattle.al_yaml_laws.proofs.SpanReading.{gives-answer, gives-then, gives-listed, gives-no_alias, gives-unless}
+use Rattle.al_yaml_laws.proofs.SpanReading.{node-lower, empty-in, sequence-in, mapping-in, more-items, more-entries}
 use Rattle.al_yaml_laws.proofs.Standing.{Stand, stand-start, start-behind, start-in, stand-behind, stand-blanks, stand-whole}
 
 module _ (size : ℕ) where
@@ -29,7 +37,8 @@ module _ (size : ℕ) where
   TabIn spot = IsIn size (tab_before spot)
 
   abbrev BlockIn : BlockReader → Type 0
-  BlockIn node = (slot : Slot) (depth column low : ℕ) (ls : List Line) → TabIn slot.spot → Stand size low ls → Gives size (NodeIn size low) (node slot depth column ls)
+  BlockIn node = (slot : Slot) (depth column low : ℕ) (ls : List Line) → TabIn slot.spot → Stand size low ls
+      → Gives size (NodeIn size low) (node slot depth column ls)
 
   -- ---- what stands behind an indicator
 
@@ -37,7 +46,8 @@ module _ (size : ℕ) where
   tab_among-in low end [] a h = tt
   tab_among-in low end (c ∷ cs) a h =
       let b = climbing-order (c.1 + 1) end cs h.1 in
-      choose (IsIn size) (c.0 == ascii.tab) (λ _. omega (arith, a, b)) (λ _. choose (IsIn size) (is_blank c) (λ _. tab_among-in (c.1 + 1) end cs a h.1) (λ _. tt))
+      choose (IsIn size) (c.0 == ascii.tab) (λ _. omega (arith, a, b))
+      (λ _. choose (IsIn size) (is_blank c) (λ _. tab_among-in (c.1 + 1) end cs a h.1) (λ _. tt))
 
   first_tab-in : (low : ℕ) (ls : List Line) → Stand size low ls → IsIn size (tab_among (first_text ls))
   first_tab-in low [] h = tt
@@ -49,23 +59,30 @@ module _ (size : ℕ) where
   spot_behind-in text (compact (Some tab)) t h = h
   spot_behind-in text behind_key t h = h
 
-  found-in : (node : BlockReader) → BlockIn node → (slot : Slot) (depth : ℕ) (ls : List Line) → Stand size slot.empty ls → (found : Next) → NextIn size slot.empty found
+  found-in : (node : BlockReader) → BlockIn node → (slot : Slot) (depth : ℕ) (ls : List Line) → Stand size slot.empty ls → (found : Next)
+      → NextIn size slot.empty found
       → Gives size (NodeIn size slot.empty) (node_found node slot depth ls found)
   found-in node n slot depth ls h ended k = empty-in size slot.empty slot.empty ls (omega arith) h
   found-in node n slot depth ls h (at_line i left) k =
-      choose (Gives size (NodeIn size slot.empty)) (is_deeper slot i left) (λ _. n (at_spot own_line slot) depth i slot.empty left tt k) (λ _. empty-in size slot.empty slot.empty ls (omega arith) h)
+      choose (Gives size (NodeIn size slot.empty)) (is_deeper slot i left) (λ _. n (at_spot own_line slot) depth i slot.empty left tt k)
+      (λ _. empty-in size slot.empty slot.empty ls (omega arith) h)
 
-  below-in : (node : BlockReader) → BlockIn node → (slot : Slot) (depth : ℕ) (ls : List Line) → Stand size slot.empty ls → Gives size (NodeIn size slot.empty) (node_below node slot depth ls)
+  below-in : (node : BlockReader) → BlockIn node → (slot : Slot) (depth : ℕ) (ls : List Line) → Stand size slot.empty ls
+      → Gives size (NodeIn size slot.empty) (node_below node slot depth ls)
   below-in node n slot depth ls h =
-      gives-then size (NextIn size slot.empty) (NodeIn size slot.empty) (given (content ls)) (λ (found : Next). node_found node slot depth ls found)
+      gives-then size (NextIn size slot.empty) (NodeIn size slot.empty) (given (content ls))
+      (λ (found : Next). node_found node slot depth ls found)
       (gives-answer size (NextIn size slot.empty) (content ls) (content-in size slot.empty ls h))
       (λ found k. found-in node n slot depth ls h found k)
 
-  rest-in : (node : BlockReader) → BlockIn node → (slot : Slot) (depth column : ℕ) (ls rest : List Line) → TabIn slot.spot → Stand size slot.empty rest → Gives size (NodeIn size slot.empty) (rest_node node slot depth column ls rest)
+  rest-in : (node : BlockReader) → BlockIn node → (slot : Slot) (depth column : ℕ) (ls rest : List Line) → TabIn slot.spot
+      → Stand size slot.empty rest → Gives size (NodeIn size slot.empty) (rest_node node slot depth column ls rest)
   rest-in node n slot depth column ls rest t h =
       let left = blanks_dropped rest in
-      choose (Gives size (NodeIn size slot.empty)) (is_skipped (first_text rest)) (λ _. below-in node n slot depth (whole_lines rest) (stand-whole size slot.empty rest h))
-      (λ _. n (at_spot (spot_behind (first_text rest) slot.spot) slot) depth (column + characters (start left) (first_text ls)) slot.empty left
+      choose (Gives size (NodeIn size slot.empty)) (is_skipped (first_text rest))
+      (λ _. below-in node n slot depth (whole_lines rest) (stand-whole size slot.empty rest h))
+      (λ _. n (at_spot (spot_behind (first_text rest) slot.spot) slot) depth
+      (column + characters (start left) (first_text ls)) slot.empty left
       (spot_behind-in (first_text rest) slot.spot (first_tab-in slot.empty rest h) t) (stand-blanks size slot.empty rest h))
 
   abbrev OkOption : ℕ → Result (Option (List Line)) Fault → Type 0
@@ -73,7 +90,8 @@ module _ (size : ℕ) where
 
   next_found-in : (column low : ℕ) (found : Next) → NextIn size low found → OkOption low (next_found column found)
   next_found-in column low ended k = tt
-  next_found-in column low (at_line i left) k = choose (OkOption low) (i == column) (λ _. k) (λ _. choose (OkOption low) (nat_lt i column) (λ _. tt) (λ _. start-in size low left k))
+  next_found-in column low (at_line i left) k =
+      choose (OkOption low) (i == column) (λ _. k) (λ _. choose (OkOption low) (nat_lt i column) (λ _. tt) (λ _. start-in size low left k))
 
   next_from-in : (column low : ℕ) (r : Result Next Fault) → Answers size (NextIn size low) r → OkOption low (next_from column r)
   next_from-in column low (Err e) k = k
@@ -84,70 +102,98 @@ module _ (size : ℕ) where
 
   -- ---- sequences
 
-  sequence_next-in : (collection : CollectionReader) → CollectionIn size collection → (more : List Line → Reading (Part Nodes)) (from low : ℕ) → ((ls : List Line) → Stand size low ls → Gives size (NodesIn size from) (more ls))
-      → (in_mapping : Bool) (depth : ℕ) (closed : Part Nodes) → NodesIn size from closed → (o : Option (List Line)) → OptionIn size low o → Gives size (NodesIn size from) (sequence_next collection more in_mapping depth closed o)
+  sequence_next-in : (collection : CollectionReader) → CollectionIn size collection
+      → (more : List Line → Reading (Part Nodes)) (from low : ℕ)
+      → ((ls : List Line) → Stand size low ls → Gives size (NodesIn size from) (more ls))
+      → (in_mapping : Bool) (depth : ℕ) (closed : Part Nodes) → NodesIn size from closed → (o : Option (List Line)) → OptionIn size low o
+      → Gives size (NodesIn size from) (sequence_next collection more in_mapping depth closed o)
   sequence_next-in collection c more from low m in_mapping depth closed h None k = gives-value size (NodesIn size from) closed h
   sequence_next-in collection c more from low m in_mapping depth closed h (Some left) k =
       choose (Gives size (NodesIn size from)) (is_dash (first_text left)) (λ _. m left k)
-      (λ _. choose (Gives size (NodesIn size from)) in_mapping (λ _. gives-value size (NodesIn size from) closed h) (λ _. no_entry-in size (NodesIn size from) collection c depth low left k))
+      (λ _. choose (Gives size (NodesIn size from)) in_mapping (λ _. gives-value size (NodesIn size from) closed h)
+      (λ _. no_entry-in size (NodesIn size from) collection c depth low left k))
 
-  sequence_rest-in : (collection : CollectionReader) → CollectionIn size collection → (more : List Line → Reading (Part Nodes)) (from : ℕ) (in_mapping : Bool) (column depth : ℕ) (done : Part Nodes)
-      → ((ls : List Line) → Stand size done.end ls → Gives size (NodesIn size from) (more ls)) → NodesIn size from done → Gives size (NodesIn size from) (sequence_rest collection more in_mapping column depth done)
+  sequence_rest-in : (collection : CollectionReader) → CollectionIn size collection
+      → (more : List Line → Reading (Part Nodes)) (from : ℕ) (in_mapping : Bool) (column depth : ℕ) (done : Part Nodes)
+      → ((ls : List Line) → Stand size done.end ls → Gives size (NodesIn size from) (more ls)) → NodesIn size from done
+      → Gives size (NodesIn size from) (sequence_rest collection more in_mapping column depth done)
   sequence_rest-in collection c more from in_mapping column depth done m h =
-      gives-then size (OptionIn size done.end) (NodesIn size from) (given (next_at column done.left)) (λ (found : Option (List Line)). sequence_next collection more in_mapping depth done found)
+      gives-then size (OptionIn size done.end) (NodesIn size from) (given (next_at column done.left))
+      (λ (found : Option (List Line)). sequence_next collection more in_mapping depth done found)
       (gives-answer size (OptionIn size done.end) (next_at column done.left) (next-in column done.end done.left h.2))
       (λ found k. sequence_next-in collection c more from done.end m in_mapping depth done h found k)
 
-  entries-of_sequence : (node : BlockReader) → BlockIn node → (collection : CollectionReader) → CollectionIn size collection → (turns : ℕ) (in_mapping : Bool) (column depth from low : ℕ) (done : Nodes) (ls : List Line)
-      → from ≤ low → ArePlacedIn size from low done → Stand size low ls → Gives size (NodesIn size from) (sequence_entries node collection turns in_mapping column depth done ls)
+  entries-of_sequence : (node : BlockReader) → BlockIn node → (collection : CollectionReader) → CollectionIn size collection
+      → (turns : ℕ) (in_mapping : Bool) (column depth from low : ℕ) (done : Nodes) (ls : List Line)
+      → from ≤ low → ArePlacedIn size from low done → Stand size low ls
+      → Gives size (NodesIn size from) (sequence_entries node collection turns in_mapping column depth done ls)
   unfolding sequence_entries
-  entries-of_sequence node n collection c zero in_mapping column depth from low done ls a d h = gives-fault size (NodesIn size from) yaml.UnexpectedCharacter 0 (omega arith)
+  entries-of_sequence node n collection c zero in_mapping column depth from low done ls a d h =
+      gives-fault size (NodesIn size from) yaml.UnexpectedCharacter 0 (omega arith)
   entries-of_sequence node n collection c (suc turns) in_mapping column depth from low done ls a d h =
       let rest = behind 1 ls in
       let at = start rest in
       let v = stand-behind size 1 low ls h in
       gives-then size (NodeIn size at) (NodesIn size from) (sequence_entry node column depth ls)
-      (λ (x : Part Node). sequence_rest collection (λ left. sequence_entries node collection turns in_mapping column depth (with_item done x.value) left) in_mapping column depth (part (with_item done x.value) x.end x.left))
+      (λ (x : Part Node). sequence_rest collection
+      (λ left. sequence_entries node collection turns in_mapping column depth (with_item done x.value) left) in_mapping column depth
+      (part (with_item done x.value) x.end x.left))
       (rest-in node n (entry_slot column at) depth column ls rest tt (stand-start size low rest v))
       (λ x k. let i = more-items size from low done x a d (node-lower size at low x (start-behind size low rest v) k) in
-      sequence_rest-in collection c (λ left. sequence_entries node collection turns in_mapping column depth (with_item done x.value) left) from in_mapping column depth (part (with_item done x.value) x.end x.left)
-      (λ left w. entries-of_sequence node n collection c turns in_mapping column depth from x.end (with_item done x.value) left i.0 i.1 w) (i.0, i.1, k.1))
+      sequence_rest-in collection c (λ left. sequence_entries node collection turns in_mapping column depth
+      (with_item done x.value) left) from in_mapping column depth (part (with_item done x.value) x.end x.left)
+      (λ left w. entries-of_sequence node n collection c turns in_mapping column depth from x.end (with_item done x.value) left i.0 i.1 w)
+      (i.0, i.1, k.1))
 
   -- ---- mappings
 
-  mapping_next-in : (collection : CollectionReader) → CollectionIn size collection → (more : Key → Reading (Part Entries)) (from low : ℕ) → ((key : Key) → KeyIn size low key → Gives size (EntriesIn size from) (more key))
-      → (depth : ℕ) (closed : Part Entries) → EntriesIn size from closed → (o : Option (List Line)) → OptionIn size low o → Gives size (EntriesIn size from) (mapping_next collection more depth closed o)
+  mapping_next-in : (collection : CollectionReader) → CollectionIn size collection → (more : Key → Reading (Part Entries)) (from low : ℕ)
+      → ((key : Key) → KeyIn size low key → Gives size (EntriesIn size from) (more key))
+      → (depth : ℕ) (closed : Part Entries) → EntriesIn size from closed → (o : Option (List Line)) → OptionIn size low o
+      → Gives size (EntriesIn size from) (mapping_next collection more depth closed o)
   mapping_next-in collection c more from low m depth closed h None k = gives-value size (EntriesIn size from) closed h
   mapping_next-in collection c more from low m depth closed h (Some left) k =
-      gives-then size (KeyIn size low) (EntriesIn size from) (entry_key collection depth left) more (entry_key-in size collection c depth low left k) m
+      gives-then size (KeyIn size low) (EntriesIn size from) (entry_key collection depth left) more
+      (entry_key-in size collection c depth low left k) m
 
-  mapping_rest-in : (collection : CollectionReader) → CollectionIn size collection → (more : Key → Reading (Part Entries)) (from column depth : ℕ) (done : Part Entries)
-      → ((key : Key) → KeyIn size done.end key → Gives size (EntriesIn size from) (more key)) → EntriesIn size from done → Gives size (EntriesIn size from) (mapping_rest collection more column depth done)
+  mapping_rest-in : (collection : CollectionReader) → CollectionIn size collection
+      → (more : Key → Reading (Part Entries)) (from column depth : ℕ) (done : Part Entries)
+      → ((key : Key) → KeyIn size done.end key → Gives size (EntriesIn size from) (more key)) → EntriesIn size from done
+      → Gives size (EntriesIn size from) (mapping_rest collection more column depth done)
   mapping_rest-in collection c more from column depth done m h =
-      gives-then size (OptionIn size done.end) (EntriesIn size from) (given (next_at column done.left)) (λ (found : Option (List Line)). mapping_next collection more depth done found)
+      gives-then size (OptionIn size done.end) (EntriesIn size from) (given (next_at column done.left))
+      (λ (found : Option (List Line)). mapping_next collection more depth done found)
       (gives-answer size (OptionIn size done.end) (next_at column done.left) (next-in column done.end done.left h.2))
       (λ found k. mapping_next-in collection c more from done.end m depth done h found k)
 
-  entries-of_mapping : (node : BlockReader) → BlockIn node → (collection : CollectionReader) → CollectionIn size collection → (turns column depth from low : ℕ) (done : Entries) (key : Key)
-      → from ≤ low → EntriesPlacedIn size from low done → KeyIn size low key → Gives size (EntriesIn size from) (mapping_entries node collection turns column depth done key)
+  entries-of_mapping : (node : BlockReader) → BlockIn node → (collection : CollectionReader) → CollectionIn size collection
+      → (turns column depth from low : ℕ) (done : Entries) (key : Key)
+      → from ≤ low → EntriesPlacedIn size from low done → KeyIn size low key
+      → Gives size (EntriesIn size from) (mapping_entries node collection turns column depth done key)
   unfolding mapping_entries
-  entries-of_mapping node n collection c zero column depth from low done key a d h = gives-fault size (EntriesIn size from) yaml.UnexpectedCharacter 0 (omega arith)
+  entries-of_mapping node n collection c zero column depth from low done key a d h =
+      gives-fault size (EntriesIn size from) yaml.UnexpectedCharacter 0 (omega arith)
   entries-of_mapping node n collection c (suc turns) column depth from low done key a d h =
       let at = start key.behind in
       let end = key.scalar.span.end in
       gives-then size (NodeIn size at) (EntriesIn size from) (mapping_value node column depth key)
-      (λ (x : Part Node). mapping_rest collection (λ k. mapping_entries node collection turns column depth (with_entry done (scalar_node key.scalar) x.value) k) column depth
+      (λ (x : Part Node). mapping_rest collection
+      (λ k. mapping_entries node collection turns column depth (with_entry done (scalar_node key.scalar) x.value) k) column depth
       (part (with_entry done (scalar_node key.scalar) x.value) x.end x.left))
       (rest-in node n (value_slot column at) depth 0 key.behind key.behind tt (stand-start size end key.behind h.1))
-      (λ x k. let i = more-entries size from low done key.scalar x a d h.0 (node-lower size at end x (start-behind size end key.behind h.1) k) in
-      mapping_rest-in collection c (λ next. mapping_entries node collection turns column depth (with_entry done (scalar_node key.scalar) x.value) next) from column depth
+      (λ x k. let i = more-entries size from low done key.scalar x a d h.0
+      (node-lower size at end x (start-behind size end key.behind h.1) k) in
+      mapping_rest-in collection c (λ next. mapping_entries node collection turns column depth
+      (with_entry done (scalar_node key.scalar) x.value) next) from column depth
       (part (with_entry done (scalar_node key.scalar) x.value) x.end x.left)
-      (λ next w. entries-of_mapping node n collection c turns column depth from x.end (with_entry done (scalar_node key.scalar) x.value) next i.0 i.1 w) (i.0, i.1, k.1))
+      (λ next w. entries-of_mapping node n collection c turns column depth from x.end
+      (with_entry done (scalar_node key.scalar) x.value) next i.0 i.1 w) (i.0, i.1, k.1))
 
   -- ---- scalars and flow collections
 
   scalar_left-in : (low : ℕ) (ls left : List Line) → Stand size low left → Answers size (Stand size low) (scalar_left ls left)
-  scalar_left-in low ls left h = choose (Answers size (Stand size low)) (is_block_start (first_text ls)) (λ _. h) (λ _. line_ended-in size low left h)
+  scalar_left-in low ls left h = choose (Answers size (Stand size low)) (is_block_start (first_text ls)) (λ _. h)
+      (λ _. line_ended-in size low left h)
 
   scalar_node-in : (within low : ℕ) (ls : List Line) → Stand size low ls → Gives size (NodeIn size low) (scalar_node_at within ls)
   scalar_node-in within low ls h =
@@ -155,71 +201,94 @@ module _ (size : ℕ) where
       (gives-then size (ReadIn size low) (NodeIn size low) (given (scalar_at (block within) ls))
       (λ (r : ScalarRead). given (scalar_left ls r.left) >>= (λ (left : List Line). gives (part (scalar_node r) r.span.end left)))
       (gives-answer size (ReadIn size low) (scalar_at (block within) ls) (scalar-in size (block within) low ls h))
-      (λ r k. gives-then size (Stand size r.span.end) (NodeIn size low) (given (scalar_left ls r.left)) (λ (left : List Line). gives (part (scalar_node r) r.span.end left))
+      (λ r k. gives-then size (Stand size r.span.end) (NodeIn size low) (given (scalar_left ls r.left))
+      (λ (left : List Line). gives (part (scalar_node r) r.span.end left))
       (gives-answer size (Stand size r.span.end) (scalar_left ls r.left) (scalar_left-in r.span.end ls r.left k.left))
       (λ left v. gives-value size (NodeIn size low) (part (scalar_node r) r.span.end left) (k.placed, v))))
 
-  flow_rest-in : (spot : Spot) (at low : ℕ) (x : Part Node) → at ≤ size → NodeIn size low x → Gives size (NodeIn size low) (flow_rest spot at x)
+  flow_rest-in : (spot : Spot) (at low : ℕ) (x : Part Node) → at ≤ size → NodeIn size low x
+      → Gives size (NodeIn size low) (flow_rest spot at x)
   flow_rest-in spot at low x a h =
-      choose (Gives size (NodeIn size low)) (not (is_behind_key spot) && has_colon x.left) (λ _. gives-fault size (NodeIn size low) yaml.WrongKey at a)
-      (λ _. gives-then size (Stand size x.end) (NodeIn size low) (given (line_ended x.left)) (λ (left : List Line). gives (part x.value x.end left))
+      choose (Gives size (NodeIn size low)) (not (is_behind_key spot) && has_colon x.left)
+      (λ _. gives-fault size (NodeIn size low) yaml.WrongKey at a)
+      (λ _. gives-then size (Stand size x.end) (NodeIn size low) (given (line_ended x.left))
+      (λ (left : List Line). gives (part x.value x.end left))
       (gives-answer size (Stand size x.end) (line_ended x.left) (line_ended-in size x.end x.left h.1))
       (λ left v. gives-value size (NodeIn size low) (part x.value x.end left) (h.0, v)))
 
-  flow_at-in : (collection : CollectionReader) → CollectionIn size collection → (spot : Spot) (depth low : ℕ) (ls : List Line) → Stand size low ls → Gives size (NodeIn size low) (flow_at collection spot depth ls)
+  flow_at-in : (collection : CollectionReader) → CollectionIn size collection → (spot : Spot) (depth low : ℕ) (ls : List Line)
+      → Stand size low ls → Gives size (NodeIn size low) (flow_at collection spot depth ls)
   flow_at-in collection c spot depth low ls h =
-      gives-then size (NodeIn size low) (NodeIn size low) (collection depth ls) (λ (x : Part Node). flow_rest spot (start ls) x) (c depth low ls h) (λ x k. flow_rest-in spot (start ls) low x (start-in size low ls h) k)
+      gives-then size (NodeIn size low) (NodeIn size low) (collection depth ls) (λ (x : Part Node). flow_rest spot (start ls) x)
+      (c depth low ls h) (λ x k. flow_rest-in spot (start ls) low x (start-in size low ls h) k)
 
   -- ---- nodes
 
-  unless_at-in : (P : Part Node → Type 0) (o : Option ℕ) (r : Reading (Part Node)) → IsIn size o → Gives size P r → Gives size P (unless_at o r)
+  unless_at-in : (P : Part Node → Type 0) (o : Option ℕ) (r : Reading (Part Node)) → IsIn size o → Gives size P r
+      → Gives size P (unless_at o r)
   unless_at-in P (Some at) r a h = gives-fault size P yaml.TabInIndentation at a
   unless_at-in P None r a h = h
 
-  block_sequence-in : (node : BlockReader) → BlockIn node → (collection : CollectionReader) → CollectionIn size collection → (turns : ℕ) (slot : Slot) (depth column low : ℕ) (ls : List Line) → TabIn slot.spot
+  block_sequence-in : (node : BlockReader) → BlockIn node → (collection : CollectionReader) → CollectionIn size collection
+      → (turns : ℕ) (slot : Slot) (depth column low : ℕ) (ls : List Line) → TabIn slot.spot
       → Stand size low ls → Gives size (NodeIn size low) (block_sequence node collection turns slot depth column ls)
   block_sequence-in node n collection c turns slot depth column low ls t h =
       let at = start ls in
       let a = start-in size low ls h in
-      choose (Gives size (NodeIn size low)) (is_behind_key slot.spot) (λ _. gives-fault size (NodeIn size low) yaml.UnexpectedCharacter at a)
+      choose (Gives size (NodeIn size low)) (is_behind_key slot.spot)
+      (λ _. gives-fault size (NodeIn size low) yaml.UnexpectedCharacter at a)
       (λ _. unless_at-in (NodeIn size low) (tab_before slot.spot) _ t
       (gives-listed size (NodeIn size low) (start_of at 1 depth) _ a
-      (sequence-in size low at (sequence_entries node collection turns slot.in_mapping column (depth + 1) no_nodes ls) (start-behind size low ls h)
-      (entries-of_sequence node n collection c turns slot.in_mapping column (depth + 1) at at no_nodes ls (omega arith) tt (stand-start size low ls h)))))
+      (sequence-in size low at (sequence_entries node collection turns slot.in_mapping column (depth + 1) no_nodes ls)
+      (start-behind size low ls h)
+      (entries-of_sequence node n collection c turns slot.in_mapping column (depth + 1) at at no_nodes ls (omega arith) tt
+      (stand-start size low ls h)))))
 
-  block_mapping-in : (node : BlockReader) → BlockIn node → (collection : CollectionReader) → CollectionIn size collection → (turns : ℕ) (spot : Spot) (depth column low : ℕ) (ls : List Line) (key : Key) → TabIn spot
-      → Stand size low ls → KeyIn size (start ls) key → Gives size (NodeIn size low) (block_mapping node collection turns spot depth column ls key)
+  block_mapping-in : (node : BlockReader) → BlockIn node → (collection : CollectionReader) → CollectionIn size collection
+      → (turns : ℕ) (spot : Spot) (depth column low : ℕ) (ls : List Line) (key : Key) → TabIn spot
+      → Stand size low ls → KeyIn size (start ls) key
+      → Gives size (NodeIn size low) (block_mapping node collection turns spot depth column ls key)
   block_mapping-in node n collection c turns spot depth column low ls key t h k =
       let at = start ls in
       let a = start-in size low ls h in
-      choose (Gives size (NodeIn size low)) (not (same_line ls key.scalar.left)) (λ _. gives-fault size (NodeIn size low) yaml.WrongKey at a)
+      choose (Gives size (NodeIn size low)) (not (same_line ls key.scalar.left))
+      (λ _. gives-fault size (NodeIn size low) yaml.WrongKey at a)
       (λ _. unless_at-in (NodeIn size low) (tab_before spot) _ t
       (choose (Gives size (NodeIn size low)) (not (is_short_key ls key.scalar)) (λ _. gives-fault size (NodeIn size low) yaml.WrongKey at a)
       (λ _. gives-listed size (NodeIn size low) (start_of at 2 depth) _ a
       (mapping-in size low at (mapping_entries node collection turns column (depth + 1) no_entries key) (start-behind size low ls h)
       (entries-of_mapping node n collection c turns column (depth + 1) at at no_entries key (omega arith) tt k)))))
 
-  keyed-in : (node : BlockReader) → BlockIn node → (collection : CollectionReader) → CollectionIn size collection → (turns : ℕ) (slot : Slot) (depth column low : ℕ) (ls : List Line) → TabIn slot.spot → Stand size low ls
-      → (o : Option Key) → OptionKeyIn size (start ls) o → Gives size (NodeIn size low) (keyed_node node collection turns slot depth column ls o)
+  keyed-in : (node : BlockReader) → BlockIn node → (collection : CollectionReader) → CollectionIn size collection
+      → (turns : ℕ) (slot : Slot) (depth column low : ℕ) (ls : List Line) → TabIn slot.spot → Stand size low ls
+      → (o : Option Key) → OptionKeyIn size (start ls) o
+      → Gives size (NodeIn size low) (keyed_node node collection turns slot depth column ls o)
   keyed-in node n collection c turns slot depth column low ls t h None k = scalar_node-in slot.within low ls h
-  keyed-in node n collection c turns slot depth column low ls t h (Some key) k = block_mapping-in node n collection c turns slot.spot depth column low ls key t h k
+  keyed-in node n collection c turns slot depth column low ls t h (Some key) k =
+      block_mapping-in node n collection c turns slot.spot depth column low ls key t h k
 
-  block_content-in : (node : BlockReader) → BlockIn node → (collection : CollectionReader) → CollectionIn size collection → (turns : ℕ) (slot : Slot) (depth column low : ℕ) (ls : List Line) → TabIn slot.spot → Stand size low ls
+  block_content-in : (node : BlockReader) → BlockIn node → (collection : CollectionReader) → CollectionIn size collection
+      → (turns : ℕ) (slot : Slot) (depth column low : ℕ) (ls : List Line) → TabIn slot.spot → Stand size low ls
       → Gives size (NodeIn size low) (block_content node collection turns slot depth column ls)
   unfolding block_content
   block_content-in node n collection c turns slot depth column low ls t h =
       let at = start ls in
       let a = start-in size low ls h in
-      choose (Gives size (NodeIn size low)) (is_dash (first_text ls)) (λ _. block_sequence-in node n collection c turns slot depth column low ls t h)
+      choose (Gives size (NodeIn size low)) (is_dash (first_text ls))
+      (λ _. block_sequence-in node n collection c turns slot depth column low ls t h)
       (λ _. gives-unless size (NodeIn size low) (block_fault (first_text ls)) at _ a
-      (choose (Gives size (NodeIn size low)) (is_property (first_text ls)) (λ _. gives-fault size (NodeIn size low) yaml.UnexpectedCharacter at a)
+      (choose (Gives size (NodeIn size low)) (is_property (first_text ls))
+      (λ _. gives-fault size (NodeIn size low) yaml.UnexpectedCharacter at a)
       (λ _. choose (Gives size (NodeIn size low)) (is_flow_start (first_text ls)) (λ _. flow_at-in collection c slot.spot depth low ls h)
-      (λ _. choose (Gives size (NodeIn size low)) (is_block_start (first_text ls) || is_behind_key slot.spot) (λ _. scalar_node-in slot.within low ls h)
-      (λ _. gives-then size (OptionKeyIn size at) (NodeIn size low) (given (key_at ls)) (λ (found : Option Key). keyed_node node collection turns slot depth column ls found)
+      (λ _. choose (Gives size (NodeIn size low)) (is_block_start (first_text ls) || is_behind_key slot.spot)
+      (λ _. scalar_node-in slot.within low ls h)
+      (λ _. gives-then size (OptionKeyIn size at) (NodeIn size low) (given (key_at ls))
+      (λ (found : Option Key). keyed_node node collection turns slot depth column ls found)
       (gives-answer size (OptionKeyIn size at) (key_at ls) (key_at-in size at ls (stand-start size low ls h)))
       (λ found k. keyed-in node n collection c turns slot depth column low ls t h found k))))))
 
-  pub block_node-in : (bound : ℕ) (slot : Slot) (depth column low : ℕ) (ls : List Line) → TabIn slot.spot → Stand size low ls → Gives size (NodeIn size low) (block_node bound slot depth column ls)
+  pub block_node-in : (bound : ℕ) (slot : Slot) (depth column low : ℕ) (ls : List Line) → TabIn slot.spot → Stand size low ls
+      → Gives size (NodeIn size low) (block_node bound slot depth column ls)
   unfolding block_node
   block_node-in zero slot depth column low ls t h = gives-fault size (NodeIn size low) yaml.UnexpectedCharacter 0 (omega arith)
   block_node-in (suc bound) slot depth column low ls t h =
@@ -227,5 +296,6 @@ module _ (size : ℕ) where
       let collection = flow_collection (suc bound) in
       let c : CollectionIn size collection = λ d low ms v. flow_collection-in size (suc bound) d low ms v in
       choose (Gives size (NodeIn size low)) (is_property (first_text ls))
-      (λ _. gives-no_alias size (NodeIn size low) (start ls) (block_property (block_content (block_node bound) collection (suc bound)) slot depth column ls) (start-in size low ls h))
+      (λ _. gives-no_alias size (NodeIn size low) (start ls)
+      (block_property (block_content (block_node bound) collection (suc bound)) slot depth column ls) (start-in size low ls h))
       (λ _. block_content-in (block_node bound) n collection c (suc bound) slot depth column low ls t h)

@@ -10,14 +10,16 @@ use Rattle.al_scalar.specs.Taken.{Fault}
 use Rattle.al_scalar.proofs.OffsetLemmas.{choose}
 use Rattle.al_yaml.specs.Content.{is_dash, block_fault, is_flow_start, is_quote, is_property, is_simple_key}
 use Rattle.al_yaml.specs.Flow.{CollectionReader}
-use Rattle.al_yaml.specs.Keys.{Key, one_line, read_with_lines, key_scalar, has_colon, behind_colon, key_of, key_from, key_at, is_block_start, property_fault, refused_code, flow_refused, no_entry, found_key, entry_key}
+use Rattle.al_yaml.specs.Keys.{Key, one_line, read_with_lines, key_scalar, has_colon, behind_colon, key_of, key_from, key_at}
+use Rattle.al_yaml.specs.Keys.{is_block_start, property_fault, refused_code, flow_refused, no_entry, found_key, entry_key}
 use Rattle.al_yaml.specs.Node.{Node, scalar_node}
 use Rattle.al_yaml.specs.Reading.{gives, fails, given, start_of, Part, ◌>>=◌}
 use Rattle.al_yaml.proofs.SpanLemmas.{placed-more}
 use Rattle.al_yaml_laws.proofs.ScalarSpans.{Answers, ReadIn, scalar-in}
 use Rattle.al_yaml_laws.proofs.SpanFlow.{CollectionIn}
 use Rattle.al_yaml_laws.proofs.SpanLines.{OptionIn}
-use Rattle.al_yaml_laws.proofs.SpanReading.{Gives, NodeIn, gives-value, gives-fault, gives-answer, gives-then, gives-listed, gives-no_alias, gives-unless}
+use Rattle.al_yaml_laws.proofs.SpanReading.{Gives, NodeIn, gives-value, gives-fault, gives-answer}
+use Rattle.al_yaml_laws.proofs.SpanReading.{gives-then, gives-listed, gives-no_alias, gives-unless}
 use Rattle.al_yaml_laws.proofs.Standing.{climbing-higher, Stand, start-in, stand-cut, stand-behind, stand-blanks}
 
 module _ (size : ℕ) where
@@ -31,19 +33,23 @@ module _ (size : ℕ) where
   first_text-climbs end low [] h = absurd h.0
   first_text-climbs end low (l ∷ ls) h = climbing-higher low l.end end l.text h.1.0 h.0.0
 
-  with_lines-read : (low : ℕ) (l : Line) (ls : List Line) (r : Result ScalarRead Fault) → Stand size low (l ∷ ls) → Answers l.end (ReadIn l.end low) r → Answers size (ReadIn size low) (read_with_lines (l ∷ ls) r)
+  with_lines-read : (low : ℕ) (l : Line) (ls : List Line) (r : Result ScalarRead Fault) → Stand size low (l ∷ ls)
+      → Answers l.end (ReadIn l.end low) r → Answers size (ReadIn size low) (read_with_lines (l ∷ ls) r)
   with_lines-read low l ls (Err e) h k = let a = h.1.0 in omega (arith, k, a)
   with_lines-read low l ls (Ok r) h k = record {
     placed = placed-more l.end size h.1.0 low r.span.end (scalar_node r) k.placed;
     left = stand-cut size low r.span.end (first_text r.left) l ls (first_text-climbs l.end r.span.end r.left k.left) h;
   }
 
-  plain-read : (low : ℕ) (ls : List Line) → Stand size low ls → Answers size (ReadIn size low) (read_with_lines ls (scalar_at (block 0) (one_line ls)))
+  plain-read : (low : ℕ) (ls : List Line) → Stand size low ls
+      → Answers size (ReadIn size low) (read_with_lines ls (scalar_at (block 0) (one_line ls)))
   plain-read low [] h = absurd h.0
-  plain-read low (l ∷ ls) h = with_lines-read low l ls (scalar_at (block 0) (one_line (l ∷ ls))) h (scalar-in l.end (block 0) low (one_line (l ∷ ls)) (one_line-stands low l ls h))
+  plain-read low (l ∷ ls) h = with_lines-read low l ls (scalar_at (block 0) (one_line (l ∷ ls))) h
+      (scalar-in l.end (block 0) low (one_line (l ∷ ls)) (one_line-stands low l ls h))
 
   key_scalar-in : (low : ℕ) (ls : List Line) → Stand size low ls → Answers size (ReadIn size low) (key_scalar ls)
-  key_scalar-in low ls h = choose (Answers size (ReadIn size low)) (is_quote (first_text ls)) (λ _. scalar-in size (block 0) low ls h) (λ _. plain-read low ls h)
+  key_scalar-in low ls h = choose (Answers size (ReadIn size low)) (is_quote (first_text ls)) (λ _. scalar-in size (block 0) low ls h)
+      (λ _. plain-read low ls h)
 
   -- ---- keys
 
@@ -55,9 +61,11 @@ module _ (size : ℕ) where
   OptionKeyIn low (Some key) = KeyIn low key
 
   behind_colon-in : (low : ℕ) (ls : List Line) → Stand size low ls → OptionIn size low (behind_colon ls)
-  behind_colon-in low ls h = choose (OptionIn size low) (has_colon ls) (λ _. stand-behind size 1 low (blanks_dropped ls) (stand-blanks size low ls h)) (λ _. tt)
+  behind_colon-in low ls h = choose (OptionIn size low) (has_colon ls)
+      (λ _. stand-behind size 1 low (blanks_dropped ls) (stand-blanks size low ls h)) (λ _. tt)
 
-  key_by : (low : ℕ) (r : ScalarRead) → ReadIn size low r → (o : Option (List Line)) → OptionIn size r.span.end o → OptionKeyIn low (elim o [ None ↦ None | Some left ↦ Some (record { scalar = r; behind = left }) ])
+  key_by : (low : ℕ) (r : ScalarRead) → ReadIn size low r → (o : Option (List Line)) → OptionIn size r.span.end o
+      → OptionKeyIn low (elim o [ None ↦ None | Some left ↦ Some (record { scalar = r; behind = left }) ])
   key_by low r h None k = tt
   key_by low r h (Some left) k = (h, k)
 
@@ -73,13 +81,15 @@ module _ (size : ℕ) where
 
   -- ---- lines that begin no entry
 
-  refused-in : {A : Type 0} (P : A → Type 0) (in_mapping : Bool) (collection : CollectionReader) → CollectionIn size collection → (depth low : ℕ) (ls : List Line) → Stand size low ls
+  refused-in : {A : Type 0} (P : A → Type 0) (in_mapping : Bool) (collection : CollectionReader) → CollectionIn size collection
+      → (depth low : ℕ) (ls : List Line) → Stand size low ls
       → Gives size P (collection depth ls >>= (λ (x : Part Node). flow_refused in_mapping (start ls) x))
   refused-in P in_mapping collection c depth low ls h =
       gives-then size (NodeIn size low) P (collection depth ls) (λ (x : Part Node). flow_refused in_mapping (start ls) x) (c depth low ls h)
       (λ x k. gives-fault size P (refused_code in_mapping x.left) (start ls) (start-in size low ls h))
 
-  pub no_entry-in : {A : Type 0} (P : A → Type 0) (collection : CollectionReader) → CollectionIn size collection → (depth low : ℕ) (ls : List Line) → Stand size low ls → Gives size P (no_entry collection depth ls)
+  pub no_entry-in : {A : Type 0} (P : A → Type 0) (collection : CollectionReader) → CollectionIn size collection
+      → (depth low : ℕ) (ls : List Line) → Stand size low ls → Gives size P (no_entry collection depth ls)
   unfolding no_entry
   no_entry-in P collection c depth low ls h =
       let at = start ls in
@@ -98,17 +108,21 @@ module _ (size : ℕ) where
   found_key-in : (low : ℕ) (ls : List Line) (o : Option Key) → start ls ≤ size → OptionKeyIn low o → Gives size (KeyIn low) (found_key ls o)
   found_key-in low ls None a h = gives-fault size (KeyIn low) yaml.UnexpectedCharacter (start ls) a
   found_key-in low ls (Some key) a h =
-      choose (Gives size (KeyIn low)) (is_simple_key ls key.scalar) (λ _. gives-listed size (KeyIn low) (start_of (start ls) 1 0) (gives key) a (gives-value size (KeyIn low) key h))
+      choose (Gives size (KeyIn low)) (is_simple_key ls key.scalar)
+      (λ _. gives-listed size (KeyIn low) (start_of (start ls) 1 0) (gives key) a (gives-value size (KeyIn low) key h))
       (λ _. gives-fault size (KeyIn low) yaml.WrongKey (start ls) a)
 
-  pub entry_key-in : (collection : CollectionReader) → CollectionIn size collection → (depth low : ℕ) (ls : List Line) → Stand size low ls → Gives size (KeyIn low) (entry_key collection depth ls)
+  pub entry_key-in : (collection : CollectionReader) → CollectionIn size collection → (depth low : ℕ) (ls : List Line) → Stand size low ls
+      → Gives size (KeyIn low) (entry_key collection depth ls)
   unfolding entry_key
   entry_key-in collection c depth low ls h =
       let at = start ls in
       let a = start-in size low ls h in
       gives-unless size (KeyIn low) (block_fault (first_text ls)) at _ a
-      (choose (Gives size (KeyIn low)) (is_property (first_text ls)) (λ _. gives-no_alias size (KeyIn low) at (fails (property_fault ls) at) a)
-      (λ _. choose (Gives size (KeyIn low)) (is_dash (first_text ls) || is_block_start (first_text ls)) (λ _. gives-fault size (KeyIn low) yaml.UnexpectedCharacter at a)
+      (choose (Gives size (KeyIn low)) (is_property (first_text ls))
+      (λ _. gives-no_alias size (KeyIn low) at (fails (property_fault ls) at) a)
+      (λ _. choose (Gives size (KeyIn low)) (is_dash (first_text ls) || is_block_start (first_text ls))
+      (λ _. gives-fault size (KeyIn low) yaml.UnexpectedCharacter at a)
       (λ _. choose (Gives size (KeyIn low)) (is_flow_start (first_text ls)) (λ _. refused-in (KeyIn low) true collection c depth low ls h)
       (λ _. gives-then size (OptionKeyIn low) (KeyIn low) (given (key_at ls)) (λ (found : Option Key). found_key ls found)
       (gives-answer size (OptionKeyIn low) (key_at ls) (key_at-in low ls h))

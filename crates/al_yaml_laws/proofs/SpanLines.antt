@@ -37,12 +37,14 @@ module _ (size : ℕ) where
   content_line-in low ls h =
       let left = stand-spaces size low ls h in
       choose (OkNext low) (is_document_marker (first_text ls)) (λ _. tt)
-      (λ _. choose (OkNext low) (begins ascii.tab (first_text (spaces_dropped ls))) (λ _. start-in size low (spaces_dropped ls) left) (λ _. left))
+      (λ _. choose (OkNext low) (begins ascii.tab (first_text (spaces_dropped ls))) (λ _. start-in size low (spaces_dropped ls) left)
+      (λ _. left))
 
   pub content-in : (low : ℕ) (ls : List Line) → Stand size low ls → OkNext low (content ls)
   content-in low [] h = tt
   content-in low (l ∷ ls) h =
-      choose (OkNext low) (is_skipped l.text) (λ _. choose (OkNext low) l.last (λ _. tt) (λ e. content-in low ls (stand-below size low l ls e h)))
+      choose (OkNext low) (is_skipped l.text)
+      (λ _. choose (OkNext low) l.last (λ _. tt) (λ e. content-in low ls (stand-below size low l ls e h)))
       (λ _. content_line-in low (l ∷ ls) h)
 
   abbrev OkLines : ℕ → Result (List Line) Fault → Type 0
@@ -50,19 +52,22 @@ module _ (size : ℕ) where
 
   pub line_ended-in : (low : ℕ) (ls : List Line) → Stand size low ls → OkLines low (line_ended ls)
   line_ended-in low ls h =
-      choose (OkLines low) (ends_line (first_text ls)) (λ _. stand-whole size low ls h) (λ _. start-in size low (blanks_dropped ls) (stand-blanks size low ls h))
+      choose (OkLines low) (ends_line (first_text ls)) (λ _. stand-whole size low ls h)
+      (λ _. start-in size low (blanks_dropped ls) (stand-blanks size low ls h))
 
   -- ---- the start of a document
 
   first_line-in : (low : ℕ) (ls : List Line) → Stand size low ls → OkLines low (first_line ls)
   first_line-in low ls h =
       choose (OkLines low) (begins ascii.percent (first_text ls)) (λ _. start-in size low ls h)
-      (λ _. choose (OkLines low) (is_marker ascii.dash (first_text ls)) (λ _. line_ended-in low (behind 3 ls) (stand-behind size 3 low ls h)) (λ _. h))
+      (λ _. choose (OkLines low) (is_marker ascii.dash (first_text ls))
+      (λ _. line_ended-in low (behind 3 ls) (stand-behind size 3 low ls h)) (λ _. h))
 
   pub document_start-in : (low : ℕ) (ls : List Line) → Stand size low ls → OkLines low (document_start ls)
   document_start-in low [] h = h
   document_start-in low (l ∷ ls) h =
-      choose (OkLines low) (is_skipped l.text) (λ _. choose (OkLines low) l.last (λ _. stand-at_end size low l ls h) (λ e. document_start-in low ls (stand-below size low l ls e h)))
+      choose (OkLines low) (is_skipped l.text)
+      (λ _. choose (OkLines low) l.last (λ _. stand-at_end size low l ls h) (λ e. document_start-in low ls (stand-below size low l ls e h)))
       (λ _. first_line-in low (l ∷ ls) h)
 
   -- ---- the end of a document

@@ -1,6 +1,7 @@
 -- What a reading gives lies in the file: its value keeps to what is said of it, and its fault and its starts lie in the file.
 -- Anchors and aliases are switched off, so no node lies at an anchor elsewhere.
-use Rattle.std.proofs.Common.{◌≡◌, ℕ, ◌≤◌, List, [], ◌∷◌, ◌++◌, refl, arith, Bool, true, false, if◌then◌else◌, Option, Some, None, Result, Ok, Err}
+use Rattle.std.proofs.Common.{◌≡◌, ℕ, ◌≤◌, List, [], ◌∷◌, ◌++◌, refl, arith, Bool, true}
+use Rattle.std.proofs.Common.{false, if◌then◌else◌, Option, Some, None, Result, Ok, Err}
 use Rattle.al_text.specs.declared.codes.YamlCode.{YamlCode}
 use Rattle.al_text.specs.declared.codes.YamlCode.TheVariants as yaml
 use Rattle.al_scalar.specs.Line.{Line}
@@ -8,10 +9,11 @@ use Rattle.al_scalar.specs.Scalar.{empty_scalar, span}
 use Rattle.al_scalar.specs.Taken.{Fault}
 use Rattle.al_yaml.specs.Content.{unless}
 use Rattle.al_yaml.specs.Flow.{empty_node}
-use Rattle.al_yaml.specs.Node.{Node, Nodes, Entries, scalar, sequence, mapping, no_nodes, item, with_item, no_entries, entry, with_entry, scalar_node, span_of}
-use Rattle.al_yaml.specs.Reading.{Start, Known, Outcome, Reading, gives, fails, given, next, ◌>>=◌, listed, start_of, with_aliases, Part, part, spanned}
+use Rattle.al_yaml.specs.Node.{Node, Nodes, Entries, scalar, sequence, mapping, with_item, with_entry, scalar_node}
+use Rattle.al_yaml.specs.Reading.{Start, Known, Outcome, Reading, gives, fails, given, next}
+use Rattle.al_yaml.specs.Reading.{◌>>=◌, listed, start_of, with_aliases, Part, part, spanned}
 use Rattle.al_yaml.specs.Spans.{IsPlacedIn, ArePlacedIn, EntriesPlacedIn}
-use Rattle.al_yaml.proofs.SpanLemmas.{bounds_in, wider_in}
+use Rattle.al_yaml.proofs.SpanLemmas.{wider_in, behind-item, behind-entry, over}
 use Rattle.al_scalar.specs.Scalar.{ScalarRead}
 use Rattle.al_yaml_laws.proofs.ScalarSpans.{Answers, ReadIn}
 use Rattle.al_yaml_laws.proofs.Standing.{Stand, low-in}
@@ -45,14 +47,18 @@ module _ (size : ℕ) where
   pub gives-answer : {A : Type 0} (P : A → Type 0) (r : Result A Fault) → Answers size P r → Gives P (given r)
   gives-answer P r h known k = record { answers = h; starts = tt; knows = k }
 
-  next-keeps : {A B : Type 0} (P : A → Type 0) (Q : B → Type 0) (o : Outcome A) (f : A → Reading B) → Keeps size P o → ((x : A) → P x → Gives Q (f x)) → Keeps size Q (next o f)
+  next-keeps : {A B : Type 0} (P : A → Type 0) (Q : B → Type 0) (o : Outcome A) (f : A → Reading B) → Keeps size P o
+      → ((x : A) → P x → Gives Q (f x)) → Keeps size Q (next o f)
   next-keeps {A} {B} P Q o f h k = by-answer o.answer h.answers
     where
-      by-answer : (a : Result A Fault) → Answers size P a → Keeps size Q (next (record { starts = o.starts; answer = a; known = o.known }) f)
+      by-answer : (a : Result A Fault) → Answers size P a
+          → Keeps size Q (next (record { starts = o.starts; answer = a; known = o.known }) f)
       by-answer (Err e) p = record { answers = p; starts = h.starts; knows = h.knows }
-      by-answer (Ok x) p = let m = k x p o.known h.knows in record { answers = m.answers; starts = starts-join size o.starts (f x o.known).starts h.starts m.starts; knows = m.knows }
+      by-answer (Ok x) p = let m = k x p o.known h.knows in
+          record { answers = m.answers; starts = starts-join size o.starts (f x o.known).starts h.starts m.starts; knows = m.knows }
 
-  pub gives-then : {A B : Type 0} (P : A → Type 0) (Q : B → Type 0) (r : Reading A) (f : A → Reading B) → Gives P r → ((x : A) → P x → Gives Q (f x)) → Gives Q (r >>= f)
+  pub gives-then : {A B : Type 0} (P : A → Type 0) (Q : B → Type 0) (r : Reading A) (f : A → Reading B) → Gives P r
+      → ((x : A) → P x → Gives Q (f x)) → Gives Q (r >>= f)
   gives-then P Q r f h k known u = next-keeps P Q (r known) f (h known u) k
 
   pub gives-listed : {A : Type 0} (P : A → Type 0) (s : Start) (r : Reading A) → s.at ≤ size → Gives P r → Gives P (listed s r)
@@ -66,7 +72,8 @@ module _ (size : ℕ) where
       by-flag true e = absurd cc
       by-flag false e = gives-fault P yaml.AnchorOrAlias at a known u
 
-  pub gives-unless : {A : Type 0} (P : A → Type 0) (o : Option YamlCode) (at : ℕ) (r : Reading A) → at ≤ size → Gives P r → Gives P (unless o at r)
+  pub gives-unless : {A : Type 0} (P : A → Type 0) (o : Option YamlCode) (at : ℕ) (r : Reading A) → at ≤ size → Gives P r
+      → Gives P (unless o at r)
   gives-unless P None at r a h = h
   gives-unless P (Some code) at r a h = gives-fault P code at a
 
@@ -97,14 +104,18 @@ module _ (size : ℕ) where
   pub gives-lower : (low low' : ℕ) (r : Reading (Part Node)) → low' ≤ low → Gives (NodeIn low) r → Gives (NodeIn low') r
   gives-lower low low' r a h = gives-also (NodeIn low) (NodeIn low') r (λ p k. node-lower low low' p a k) h
 
-  -- a node ends behind where it may begin
-  pub over : (low high : ℕ) (n : Node) → IsPlacedIn size low high n → low ≤ high
-  over low high n h = let b = bounds_in size low high n h in omega (arith, b.from, b.ordered, b.to)
-
   -- ---- the empty node
 
   empty-placed : (low at : ℕ) → low ≤ at → IsPlacedIn size low at (scalar (empty_scalar at) (span at at))
-  empty-placed low at a = (record { from = a; ordered = omega arith; to = omega arith }, record { end = refl; rising = omega arith; before = tt; small = omega arith })
+  empty-placed low at a = (
+    record { from = a; ordered = omega arith; to = omega arith },
+    record {
+      end = refl;
+      rising = omega arith;
+      before = tt;
+      small = omega arith;
+    },
+  )
 
   pub empty-in : (low at : ℕ) (ls : List Line) → low ≤ at → Stand size at ls → Gives (NodeIn low) (empty_node at ls)
   empty-in low at ls a h =
@@ -112,7 +123,8 @@ module _ (size : ℕ) where
       (gives-value (NodeIn low) (part (scalar (empty_scalar at) (span at at)) at ls) (empty-placed low at a, h))
 
   -- the empty node at the file's end
-  pub end-in : (ls : List Line) → Stand size 0 ls → Gives (λ (p : Part Node). IsPlacedIn size 0 size p.value × Stand size 0 p.left) (empty_node size ls)
+  pub end-in : (ls : List Line) → Stand size 0 ls
+      → Gives (λ (p : Part Node). IsPlacedIn size 0 size p.value × Stand size 0 p.left) (empty_node size ls)
   end-in ls h =
       let RootIn : Part Node → Type 0 = λ (p : Part Node). IsPlacedIn size 0 size p.value × Stand size 0 p.left in
       gives-listed RootIn (start_of size 1 0) (gives (part (scalar (empty_scalar size) (span size size)) size ls)) (omega arith)
@@ -123,37 +135,31 @@ module _ (size : ℕ) where
   pub sequence-in : (low at : ℕ) (r : Reading (Part Nodes)) → low ≤ at → Gives (NodesIn at) r → Gives (NodeIn low) (spanned sequence at r)
   sequence-in low at r a h =
       gives-then (NodesIn at) (NodeIn low) r (λ (p : Part Nodes). gives (part (sequence p.value (span at p.end)) p.end p.left)) h
-      (λ p k. gives-value (NodeIn low) (part (sequence p.value (span at p.end)) p.end p.left) ((record { from = a; ordered = k.0; to = omega arith }, k.1), k.2))
+      (λ p k. gives-value (NodeIn low) (part (sequence p.value (span at p.end)) p.end p.left)
+      ((record { from = a; ordered = k.0; to = omega arith }, k.1), k.2))
 
   pub mapping-in : (low at : ℕ) (r : Reading (Part Entries)) → low ≤ at → Gives (EntriesIn at) r → Gives (NodeIn low) (spanned mapping at r)
   mapping-in low at r a h =
       gives-then (EntriesIn at) (NodeIn low) r (λ (p : Part Entries). gives (part (mapping p.value (span at p.end)) p.end p.left)) h
-      (λ p k. gives-value (NodeIn low) (part (mapping p.value (span at p.end)) p.end p.left) ((record { from = a; ordered = k.0; to = omega arith }, k.1), k.2))
+      (λ p k. gives-value (NodeIn low) (part (mapping p.value (span at p.end)) p.end p.left)
+      ((record { from = a; ordered = k.0; to = omega arith }, k.1), k.2))
 
   -- ---- one more behind those that end before an offset
 
-  item-placed : (low at high : ℕ) (ns : Nodes) (n : Node) → low ≤ at → at ≤ high → ArePlacedIn size low at ns → IsPlacedIn size at high n → ArePlacedIn size low high (with_item ns n)
-  item-placed low at high no_nodes n a b h x = (wider_in size at high low high n a (omega arith) x, tt)
-  item-placed low at high (item m ms) n a b h x = (wider_in size low at low high m (omega arith) b h.0, item-placed (span_of m).end at high ms n (bounds_in size low at m h.0).to b h.1 x)
-
-  entry-placed : (low at high : ℕ) (es : Entries) (k v : Node) → low ≤ at → at ≤ high → EntriesPlacedIn size low at es → IsPlacedIn size at high k → IsPlacedIn size (span_of k).end high v
-      → EntriesPlacedIn size low high (with_entry es k v)
-  entry-placed low at high no_entries k v a b h x y = (wider_in size at high low high k a (omega arith) x, y, tt)
-  entry-placed low at high (entry l w es) k v a b h x y = (
-    wider_in size low at low high l (omega arith) b h.0,
-    wider_in size (span_of l).end at (span_of l).end high w (omega arith) b h.1,
-    entry-placed (span_of w).end at high es k v (bounds_in size (span_of l).end at w h.1).to b h.2 x y,
-  )
-
-  pub more-items : (low at : ℕ) (done : Nodes) (x : Part Node) → low ≤ at → ArePlacedIn size low at done → NodeIn at x → (low ≤ x.end) × ArePlacedIn size low x.end (with_item done x.value)
+  pub more-items : (low at : ℕ) (done : Nodes) (x : Part Node) → low ≤ at → ArePlacedIn size low at done → NodeIn at x
+      → (low ≤ x.end) × ArePlacedIn size low x.end (with_item done x.value)
   more-items low at done x a d h =
-      let b = over at x.end x.value h.0 in
-      (omega (arith, a, b), item-placed low at x.end done x.value a b d h.0)
+      let b = over size at x.end x.value h.0 in
+      (omega (arith, a, b), behind-item size low at x.end done x.value a b d h.0)
 
-  pub more-entries : (low at : ℕ) (done : Entries) (r : ScalarRead) (x : Part Node) → low ≤ at → EntriesPlacedIn size low at done → ReadIn size at r → NodeIn r.span.end x
+  pub more-entries : (low at : ℕ) (done : Entries) (r : ScalarRead) (x : Part Node) → low ≤ at → EntriesPlacedIn size low at done
+      → ReadIn size at r → NodeIn r.span.end x
       → (low ≤ x.end) × EntriesPlacedIn size low x.end (with_entry done (scalar_node r) x.value)
   more-entries low at done r x a d k h =
-      let b = over r.span.end x.end x.value h.0 in
-      let c = over at r.span.end (scalar_node r) k.placed in
-      let all : at ≤ x.end = omega (arith, b, c) in
-      (omega (arith, a, all), entry-placed low at x.end done (scalar_node r) x.value a all d (wider_in size at r.span.end at x.end (scalar_node r) (omega arith) b k.placed) h.0)
+      let b = over size r.span.end x.end x.value h.0 in
+      let c = over size at r.span.end (scalar_node r) k.placed in
+      let all : at ≤ x.end = omega (arith, b, c) in (
+        omega (arith, a, all),
+        behind-entry size low at x.end done (scalar_node r) x.value a all d
+            (wider_in size at r.span.end at x.end (scalar_node r) (omega arith) b k.placed) h.0,
+      )

@@ -1,5 +1,6 @@
 -- The tree of a file lies in it, and so does its first fault.
-use Rattle.std.proofs.Common.{◌≡◌, ℕ, zero, suc, ◌+◌, ◌<◌, ◌≤◌, List, [], ◌∷◌, length, drop, refl, arith, true, false, ◌||◌, nat_lt, Option, Some, None, Result, Ok, Err, IfOk}
+use Rattle.std.proofs.Common.{◌≡◌, ℕ, zero, suc, ◌+◌, ◌<◌, ◌≤◌, List, [], ◌∷◌, length, drop, refl, arith}
+use Rattle.std.proofs.Common.{true, false, ◌||◌, nat_lt, Option, Some, None, Result, Ok, Err, IfOk}
 use Rattle.al_text.specs.Spans.{LiesIn}
 use Rattle.al_text.specs.declared.codes.YamlCode.TheVariants as yaml
 use Rattle.al_scalar.specs.Line.{Line, lines}
@@ -46,16 +47,21 @@ module _ (size : ℕ) where
   RootIn p = IsPlacedIn size 0 size p.value × Stand size 0 p.left
 
   root-wider : (p : Part Node) → NodeIn size 0 p → RootIn p
-  root-wider p h = (wider_in size 0 p.end 0 size p.value (omega arith) (low-in size p.end p.left h.1) h.0, stand-lower size p.end 0 p.left (omega arith) h.1)
+  root-wider p h = (
+    wider_in size 0 p.end 0 size p.value (omega arith) (low-in size p.end p.left h.1) h.0,
+    stand-lower size p.end 0 p.left (omega arith) h.1,
+  )
 
   root_found-in : (ls : List Line) → Stand size 0 ls → (found : Next) → NextIn size 0 found → Gives size RootIn (root_found size ls found)
   root_found-in ls h ended k = end-in size ls h
   root_found-in ls h (at_line i left) k =
-      gives-also size (NodeIn size 0) RootIn (root_found size ls (at_line i left)) root-wider (block_node-in size (suc size) (root_slot size) 1 i 0 left tt k)
+      gives-also size (NodeIn size 0) RootIn (root_found size ls (at_line i left)) root-wider
+      (block_node-in size (suc size) (root_slot size) 1 i 0 left tt k)
 
   root-in : (ls : List Line) → Stand size 0 ls → Gives size RootIn (root size ls)
   root-in ls h =
-      gives-then size (NextIn size 0) RootIn (given (content ls)) (λ (found : Next). root_found size ls found) (gives-answer size (NextIn size 0) (content ls) (content-in size 0 ls h))
+      gives-then size (NextIn size 0) RootIn (given (content ls)) (λ (found : Next). root_found size ls found)
+      (gives-answer size (NextIn size 0) (content ls) (content-in size 0 ls h))
       (λ found k. root_found-in ls h found k)
 
   abbrev ValueIn : Node → Type 0
@@ -63,14 +69,17 @@ module _ (size : ℕ) where
 
   end-kept : (x : Part Node) → RootIn x → Gives size ValueIn (given (document_end x.left) >>= (λ (rest : Unit {0}). gives x.value))
   end-kept x h =
-      gives-then size Anything ValueIn (given (document_end x.left)) (λ (rest : Unit {0}). gives x.value) (gives-answer size Anything (document_end x.left) (document_end-in size 0 x.left h.1))
+      gives-then size Anything ValueIn (given (document_end x.left)) (λ (rest : Unit {0}). gives x.value)
+      (gives-answer size Anything (document_end x.left) (document_end-in size 0 x.left h.1))
       (λ rest k. gives-value size ValueIn x.value h.0)
 
   document-in : (ls : List Line) → Stand size 0 ls → Gives size ValueIn (document size ls)
   document-in ls h =
-      gives-then size (Stand size 0) ValueIn (given (document_start ls)) (λ (left : List Line). root size left >>= (λ (x : Part Node). given (document_end x.left) >>= (λ (rest : Unit {0}). gives x.value)))
+      gives-then size (Stand size 0) ValueIn (given (document_start ls))
+      (λ (left : List Line). root size left >>= (λ (x : Part Node). given (document_end x.left) >>= (λ (rest : Unit {0}). gives x.value)))
       (gives-answer size (Stand size 0) (document_start ls) (document_start-in size 0 ls h))
-      (λ left v. gives-then size RootIn ValueIn (root size left) (λ (x : Part Node). given (document_end x.left) >>= (λ (rest : Unit {0}). gives x.value)) (root-in left v) (λ x k. end-kept x k))
+      (λ left v. gives-then size RootIn ValueIn (root size left)
+      (λ (x : Part Node). given (document_end x.left) >>= (λ (rest : Unit {0}). gives x.value)) (root-in left v) (λ x k. end-kept x k))
 
   -- ---- limits
 
@@ -109,10 +118,12 @@ below-more low high (Some at) a h = omega (arith, a, h)
 ill_formed-below : (n at : ℕ) (bs : List ℕ) → IsBelow (at + length bs) (ill_formed_at n at bs)
 ill_formed-below zero at [] = tt
 ill_formed-below (suc n) at [] = tt
-ill_formed-below (suc n) at (b ∷ bs) = below-more (at + 1 + length bs) (at + suc (length bs)) (ill_formed_at n (at + 1) bs) (omega arith) (ill_formed-below n (at + 1) bs)
+ill_formed-below (suc n) at (b ∷ bs) = below-more (at + 1 + length bs) (at + suc (length bs)) (ill_formed_at n (at + 1) bs) (omega arith)
+    (ill_formed-below n (at + 1) bs)
 ill_formed-below zero at (b ∷ bs) =
     choose (IsBelow (at + suc (length bs))) (is_well_formed (b ∷ bs))
-    (λ _. below-more (at + 1 + length bs) (at + suc (length bs)) (ill_formed_at (following b) (at + 1) bs) (omega arith) (ill_formed-below (following b) (at + 1) bs)) (λ _. omega arith)
+    (λ _. below-more (at + 1 + length bs) (at + suc (length bs)) (ill_formed_at (following b) (at + 1) bs) (omega arith)
+    (ill_formed-below (following b) (at + 1) bs)) (λ _. omega arith)
 
 unprintable-below : (at : ℕ) (bs : List ℕ) → IsBelow (at + length bs) (unprintable_at at bs)
 unprintable-below at [] = tt
@@ -154,11 +165,13 @@ module _ (bytes : List ℕ) where
   printed (Some at) h = character-inside bytes at (omega (arith, h))
 
   formed : (o : Option ℕ) → IsBelow (length bytes) o → LiesAmong o (unless_fault (ill_formed o))
-  formed None h = printed (unprintable_at 0 bytes) (below-more (0 + length bytes) (length bytes) (unprintable_at 0 bytes) (omega arith) (unprintable-below 0 bytes))
+  formed None h = printed (unprintable_at 0 bytes)
+      (below-more (0 + length bytes) (length bytes) (unprintable_at 0 bytes) (omega arith) (unprintable-below 0 bytes))
   formed (Some at) h = record { ordered = omega arith; inside = omega (arith, h) }
 
   pub tree-in : IsTreeIn bytes (tree_of false bytes)
-  tree-in = whole (tree_of false bytes) (formed (ill_formed_at 0 0 bytes) (below-more (0 + length bytes) (length bytes) (ill_formed_at 0 0 bytes) (omega arith) (ill_formed-below 0 0 bytes)))
+  tree-in = whole (tree_of false bytes) (formed (ill_formed_at 0 0 bytes)
+      (below-more (0 + length bytes) (length bytes) (ill_formed_at 0 0 bytes) (omega arith) (ill_formed-below 0 0 bytes)))
     where
       whole : (r : Result Node Fault) → LiesAmong (ill_formed_at 0 0 bytes) r → IsTreeIn bytes r
       whole (Ok root) h = h
@@ -166,16 +179,20 @@ module _ (bytes : List ℕ) where
 
 -- ---- what follows of its tree
 
-follows : (Q : Node → Type 0) (bytes : List ℕ) (r : Result Node Fault) → ((root : Node) → IsPlacedIn (length bytes) 0 (length bytes) root → Q root) → IsTreeIn bytes r → IfOk r Q
+follows : (Q : Node → Type 0) (bytes : List ℕ) (r : Result Node Fault)
+    → ((root : Node) → IsPlacedIn (length bytes) 0 (length bytes) root → Q root) → IsTreeIn bytes r → IfOk r Q
 follows Q bytes (Ok root) f h = f root h
 follows Q bytes (Err e) f h = tt
 
 module _ (bytes : List ℕ) where
   pub tree-inside : IfOk (tree_of false bytes) (IsInside (length bytes))
-  tree-inside = follows (IsInside (length bytes)) bytes (tree_of false bytes) (λ root h. inside (length bytes) 0 (length bytes) root (omega arith) h) (tree-in bytes)
+  tree-inside = follows (IsInside (length bytes)) bytes (tree_of false bytes)
+      (λ root h. inside (length bytes) 0 (length bytes) root (omega arith) h) (tree-in bytes)
 
   pub tree-from : IfOk (tree_of false bytes) (AreFrom (length bytes))
-  tree-from = follows (AreFrom (length bytes)) bytes (tree_of false bytes) (λ root h. from_file (length bytes) 0 (length bytes) root (omega arith) h) (tree-in bytes)
+  tree-from = follows (AreFrom (length bytes)) bytes (tree_of false bytes)
+      (λ root h. from_file (length bytes) 0 (length bytes) root (omega arith) h) (tree-in bytes)
 
   pub tree-within : length bytes ≤ 1048576 → IfOk (tree_of false bytes) (IsWithin 0 (length bytes))
-  tree-within a = follows (IsWithin 0 (length bytes)) bytes (tree_of false bytes) (λ root h. placed-more (length bytes) 1048576 a 0 (length bytes) root h) (tree-in bytes)
+  tree-within a = follows (IsWithin 0 (length bytes)) bytes (tree_of false bytes)
+      (λ root h. placed-more (length bytes) 1048576 a 0 (length bytes) root h) (tree-in bytes)
