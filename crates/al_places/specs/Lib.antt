@@ -4,4 +4,6 @@ pub mod Positions
 pub mod Places
 pub mod Laws
 pub mod RowWords
-pub mod RowFiles
+pub mod RowActions
+pub mod RowContainers
+pub mod RowWorkflows

@@ -5,15 +5,14 @@ use Rattle.std.specs.Option.{option_map_or}
 use Rattle.al_scalar.specs.Scalar.{text_of}
 use Rattle.al_shape.specs.Faults.{has_chunk}
 use Rattle.al_places.specs.Places.{Place, places_of}
-use Rattle.al_text.specs.declared.faults.Span.{Span}
+use Rattle.al_shape.specs.Rows.{at}
 use Rattle.al_scalar.specs.Line.{Cell}
 use Rattle.al_scalar.specs.declared.styles.Class.{Class}
+use Rattle.al_scalar.specs.declared.styles.Class.TheVariants.{Str}
 use Rattle.al_scalar.specs.declared.styles.Style.{Style}
+use Rattle.al_scalar.specs.declared.styles.Style.TheVariants.{Plain}
 use Rattle.al_yaml.specs.Node.{Node, scalar}
 use Rattle.al_tree.specs.declared.files.FileKind.{FileKind}
-
-abbrev pub at : ℕ → ℕ → Span
-at i j = record { start = i; end = j }
 
 -- bytes that stand one behind another from an offset on
 abbrev pub run : List ℕ → ℕ → List Cell
@@ -22,6 +21,13 @@ run (b ∷ bs) i = (b, i) ∷ run bs (i + 1)
 
 abbrev pub text : Style → Class → List Cell → ℕ → ℕ → Node
 text s c cs i j = scalar (record { style = s; class = c; cells = cs; end = j }) (at i j)
+
+-- a plain scalar on one line, from an offset on
+abbrev pub plain : Class → List ℕ → ℕ → Node
+plain c bs i = text Plain c (run bs i) i (i + length bs)
+
+abbrev pub word : List ℕ → ℕ → Node
+word = plain Str
 
 -- where a place starts, whether it takes only a scalar, is a condition, is a script, and how many contexts (99: all) and special
 -- functions stand there
