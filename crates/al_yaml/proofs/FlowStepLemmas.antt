@@ -8,27 +8,22 @@ use Rattle.al_scalar.specs.Taken.{Fault}
 use Rattle.al_yaml.specs.Node as tree
 use Rattle.al_yaml.specs.Reading.{Reading, Part, part, fails, gives, given, spanned, ◌>>=◌}
 use Rattle.al_yaml.specs.Flow.{After, goes_on, closes, after_item, gap, CollectionReader, FlowKey, flow_items, flow_items_rest, flow_entries, flow_key, flow_entries_rest, flow_entry_value, flow_node_over}
-use Rattle.al_yaml.specs.Frames.{Answer, answered, open_rest, waiting_rest, items, entries, item, value, key}
-use Rattle.al_yaml.specs.Reads.{run, counted, Stops, Refuses, part_of}
-use Rattle.al_yaml.specs.FlowFrames.{Finds}
-use Rattle.al_yaml.specs.View.{view}
+use Rattle.al_yaml.specs.Frames.{Answer, answered, Open, Waiting, open_rest, waiting_rest, items, entries, item, value, key}
+use Rattle.al_yaml.specs.Reads.{run, counted, Stops, Refuses, part_of, after_of}
+use Rattle.al_yaml.specs.FlowFrames.{Finds, GoesOn}
+use Rattle.al_yaml.specs.declared.flow.After as code_after
+use Rattle.al_yaml.specs.declared.flow.After.TheVariants as after
 use Rattle.al_yaml.specs.declared.flow.Found.{Found}
 use Rattle.al_yaml.specs.declared.flow.Found.TheVariants as found
 use Rattle.al_yaml.specs.declared.faults.ReadError.{ReadError}
 use Rattle.al_yaml.specs.declared.faults.ReadError.TheVariants as stop
-use Rattle.al_yaml.specs.declared.node.Part as code
 use Rattle.al_yaml.proofs.RunLemmas.{run-given, run-gives}
-use Rattle.al_yaml.proofs.ReadLemmas.{stops-bind, stops-same, stops-given, spanned-ok, spanned-stops, same_part}
+use Rattle.al_yaml.proofs.ReadLemmas.{stops-bind, stops-same, stops-given, spanned-ok, spanned-stops}
 use Rattle.al_yaml.proofs.FlowLemmas.{items-open, items-closed, items-step, entries-open, entries-closed, entries-step}
 use Rattle.al_yaml.proofs.FrameLemmas.{bind-answer, answered-fails, spanned-answer}
 
 abbrev unclosed : ℕ → ReadError
 unclosed opening = stop.Fault (record { code = yaml.UnclosedFlow; at = opening })
-
--- a part that was made of what a definition gives
-made : {A : Type 0} (f : A → tree.Node) (bytes : List ℕ) (n end : ℕ) (v : A) (p : code.Part) → view p.node ≡ f v → p.end ≡ end → p.next ≡ end
-    → ◌≡◌ {A = Answer (Part tree.Node)} (Ok (part (f v) end (lines_at bytes end), counted n)) (Ok (part_of bytes p, counted n))
-made f bytes n end v p a b c = same_part (f v) (view p.node) end p.end (lines_at bytes end) (lines_at bytes p.next) n n (sym a) (sym b) (ap (lines_at bytes) (sym c)) refl
 
 -- ---- sequences
 
@@ -42,12 +37,10 @@ module _ (c : CollectionReader) (turns opening depth n : ℕ) (done : tree.Nodes
       (items-open (flow_node_over c) turns opening depth n done bytes at inside h)
 
   module _ (some : false ≡ is_empty (text_at bytes at)) where
-    pub item-closed : true ≡ begins 93 (text_at bytes at) → (p : code.Part) → view p.node ≡ tree.sequence done (span opening (at + 1)) → p.end ≡ at + 1 → p.next ≡ at + 1
-        → run (counted n) sequence_now ≡ Ok (part_of bytes p, counted n)
-    item-closed h p a b e =
+    pub item-closed : true ≡ begins 93 (text_at bytes at) → run (counted n) sequence_now ≡ Ok (part (tree.sequence done (span opening (at + 1))) (at + 1) (lines_at bytes (at + 1)), counted n)
+    item-closed h =
         spanned-ok tree.sequence opening (flow_items (flow_node_over c) (suc turns) opening depth done (lines_at bytes at)) n n done (at + 1) (lines_at bytes (at + 1))
         (items-closed (flow_node_over c) turns opening depth n done bytes at inside some h)
-        ∙ made (λ d. tree.sequence d (span opening (at + 1))) bytes n (at + 1) done p a b e
 
     module _ (other : false ≡ begins 93 (text_at bytes at)) where
       abbrev item_reading : Reading (Part tree.Node)
@@ -79,12 +72,10 @@ module _ (c : CollectionReader) (turns opening depth n : ℕ) (done : tree.Entri
       (entries-open (flow_node_over c) c turns opening depth n done bytes at inside h)
 
   module _ (some : false ≡ is_empty (text_at bytes at)) where
-    pub entry-closed : true ≡ begins 125 (text_at bytes at) → (p : code.Part) → view p.node ≡ tree.mapping done (span opening (at + 1)) → p.end ≡ at + 1 → p.next ≡ at + 1
-        → run (counted n) mapping_now ≡ Ok (part_of bytes p, counted n)
-    entry-closed h p a b e =
+    pub entry-closed : true ≡ begins 125 (text_at bytes at) → run (counted n) mapping_now ≡ Ok (part (tree.mapping done (span opening (at + 1))) (at + 1) (lines_at bytes (at + 1)), counted n)
+    entry-closed h =
         spanned-ok tree.mapping opening (flow_entries (flow_node_over c) c (suc turns) opening depth done (lines_at bytes at)) n n done (at + 1) (lines_at bytes (at + 1))
         (entries-closed (flow_node_over c) c turns opening depth n done bytes at inside some h)
-        ∙ made (λ d. tree.mapping d (span opening (at + 1))) bytes n (at + 1) done p a b e
 
     module _ (other : false ≡ begins 125 (text_at bytes at)) where
       abbrev key_reading : Reading FlowKey
@@ -134,6 +125,9 @@ module _ (c : CollectionReader) (turns opening depth n : ℕ) (bytes : List ℕ)
   abbrev after_it : ℕ → Result After Fault
   after_it close = after_item opening close (gap false x.left)
 
+  abbrev closed_with : tree.Node → ℕ → Answer (Part tree.Node)
+  closed_with node end = Ok (part node end (lines_at bytes end), counted n)
+
   module _ (done : tree.Nodes) where
     abbrev all_items : tree.Nodes
     all_items = tree.with_item done x.value
@@ -153,12 +147,12 @@ module _ (c : CollectionReader) (turns opening depth n : ℕ) (bytes : List ℕ)
         → run (counted n) (waiting_rest c turns depth opening (item done) x) ≡ run (counted n) (open_rest c turns depth opening (items xs) next)
     item-more next xs h e = item-behind (goes_on next) h ∙ ap (λ d. run (counted n) (open_rest c turns depth opening (items d) next)) (sym e)
 
-    pub item-end : (end : ℕ) (xs : tree.Nodes) (p : code.Part) → after_it 93 ≡ Ok (closes end (lines_at bytes end)) → xs ≡ all_items → view p.node ≡ tree.sequence xs (span opening end) → p.end ≡ end → p.next ≡ end
-        → run (counted n) (waiting_rest c turns depth opening (item done) x) ≡ Ok (part_of bytes p, counted n)
-    item-end end xs p h e a b d =
+    pub item-end : (end : ℕ) (xs : tree.Nodes) → after_it 93 ≡ Ok (closes end (lines_at bytes end)) → xs ≡ all_items
+        → run (counted n) (waiting_rest c turns depth opening (item done) x) ≡ Ok (part (tree.sequence xs (span opening end)) end (lines_at bytes end), counted n)
+    item-end end xs h e =
         item-behind (closes end (lines_at bytes end)) h
         ∙ spanned-ok tree.sequence opening (gives (part all_items end (lines_at bytes end))) n n all_items end (lines_at bytes end) (run-gives n (part all_items end (lines_at bytes end)))
-        ∙ made (λ d. tree.sequence d (span opening end)) bytes n end all_items p (a ∙ ap (λ d. tree.sequence d (span opening end)) e) b d
+        ∙ ap (λ d. closed_with (tree.sequence d (span opening end)) end) (sym e)
 
   module _ (done : tree.Entries) (k : ScalarRead) where
     abbrev all_entries : tree.Entries
@@ -179,12 +173,31 @@ module _ (c : CollectionReader) (turns opening depth n : ℕ) (bytes : List ℕ)
         → run (counted n) (waiting_rest c turns depth opening (value done k) x) ≡ run (counted n) (open_rest c turns depth opening (entries xs) next)
     entry-more next xs h e = entry-behind (goes_on next) h ∙ ap (λ d. run (counted n) (open_rest c turns depth opening (entries d) next)) (sym e)
 
-    pub entry-end : (end : ℕ) (xs : tree.Entries) (p : code.Part) → after_it 125 ≡ Ok (closes end (lines_at bytes end)) → xs ≡ all_entries → view p.node ≡ tree.mapping xs (span opening end) → p.end ≡ end → p.next ≡ end
-        → run (counted n) (waiting_rest c turns depth opening (value done k) x) ≡ Ok (part_of bytes p, counted n)
-    entry-end end xs p h e a b d =
+    pub entry-end : (end : ℕ) (xs : tree.Entries) → after_it 125 ≡ Ok (closes end (lines_at bytes end)) → xs ≡ all_entries
+        → run (counted n) (waiting_rest c turns depth opening (value done k) x) ≡ Ok (part (tree.mapping xs (span opening end)) end (lines_at bytes end), counted n)
+    entry-end end xs h e =
         entry-behind (closes end (lines_at bytes end)) h
         ∙ spanned-ok tree.mapping opening (gives (part all_entries end (lines_at bytes end))) n n all_entries end (lines_at bytes end) (run-gives n (part all_entries end (lines_at bytes end)))
-        ∙ made (λ d. tree.mapping d (span opening end)) bytes n end all_entries p (a ∙ ap (λ d. tree.mapping d (span opening end)) e) b d
+        ∙ ap (λ d. closed_with (tree.mapping d (span opening end)) end) (sym e)
+
+-- ---- what goes on behind an item or entry that is in its collection
+
+pub item-put : (bytes : List ℕ) (depth opening n : ℕ) (x : Part tree.Node) (done xs : tree.Nodes) (next : code_after.After) → after_item opening 93 (gap false x.left) ≡ Ok (after_of bytes next) → xs ≡ tree.with_item done x.value
+    → GoesOn bytes depth opening (λ c t. run (counted n) (waiting_rest c t depth opening (item done) x)) (items xs) next n
+item-put bytes depth opening n x done xs (after.GoesOn at) h e = λ c t. item-more c t opening depth n bytes x done (lines_at bytes at) xs h e
+item-put bytes depth opening n x done xs (after.Closes end) h e = λ c t. item-end c t opening depth n bytes x done end xs h e
+
+pub entry-put : (bytes : List ℕ) (depth opening n : ℕ) (x : Part tree.Node) (done xs : tree.Entries) (k : ScalarRead) (next : code_after.After) → after_item opening 125 (gap false x.left) ≡ Ok (after_of bytes next) → xs ≡ tree.with_entry done (tree.scalar_node k) x.value
+    → GoesOn bytes depth opening (λ c t. run (counted n) (waiting_rest c t depth opening (value done k) x)) (entries xs) next n
+entry-put bytes depth opening n x done xs k (after.GoesOn at) h e = λ c t. entry-more c t opening depth n bytes x done k (lines_at bytes at) xs h e
+entry-put bytes depth opening n x done xs k (after.Closes end) h e = λ c t. entry-end c t opening depth n bytes x done k end xs h e
+
+-- what is read in front of it
+pub put-behind : (bytes : List ℕ) (depth opening n m : ℕ) (reading : CollectionReader → ℕ → Reading (Part tree.Node)) (w : Waiting) (x : Part tree.Node) (has : Open) (next : code_after.After)
+    → ((c : CollectionReader) (t : ℕ) → run (counted n) (reading c (suc t)) ≡ run (counted m) (waiting_rest c t depth opening w x))
+    → GoesOn bytes depth opening (λ c t. run (counted m) (waiting_rest c t depth opening w x)) has next m → GoesOn bytes depth opening (λ c t. run (counted n) (reading c (suc t))) has next m
+put-behind bytes depth opening n m reading w x has (after.GoesOn at) g h = λ c t. g c t ∙ h c t
+put-behind bytes depth opening n m reading w x has (after.Closes end) g h = λ c t. g c t ∙ h c t
 
 -- ---- what was found
 

@@ -132,15 +132,15 @@ module _ (bytes : List ℕ) (depth : ℕ) (whole : Answer (Part Node)) (fs : Lis
     same = ap (resumed depth (suc k.bound) fs k.rest) (sym (h (flow_collection k.bound) some.0)) ∙ one-turn some.0 some.1;
   }
 
-  pub inside-read : (m : ℕ) (w : Waiting) (p : code.Part) → ((c : CollectionReader) (t : ℕ) → now c t ≡ run (counted m) (waiting_rest c t d opening w (part_of bytes p))) → at ≤ p.next → Waits bytes depth whole fs m opening w p
-  inside-read m w p h l = record {
+  pub inside-on : (m : ℕ) (has' : Open) (next : ℕ) → ((c : CollectionReader) (t : ℕ) → now c t ≡ run (counted m) (open_rest c t d opening has' (lines_at bytes next))) → at < next → Inside bytes depth whole fs m opening has' next
+  inside-on m has' next h l = record {
     bound = k.bound;
     turns = some.0;
     rest = k.rest;
     room = omega (arith, k.room, l);
     many = omega (arith, k.many, some.1, l);
-    enough = later (length bytes) at p.next fs k.rest l k.enough;
-    same = ap (λ i. resumed depth (suc k.bound) fs k.rest (run (counted m) (waiting_rest (flow_collection k.bound) some.0 i opening w (part_of bytes p)))) (sym deep)
+    enough = later (length bytes) at next fs k.rest (omega (arith, l)) k.enough;
+    same = ap (λ i. resumed depth (suc k.bound) fs k.rest (run (counted m) (open_rest (flow_collection k.bound) some.0 i opening has' (lines_at bytes next)))) (sym deep)
         ∙ ap (resumed depth (suc k.bound) fs k.rest) (sym (h (flow_collection k.bound) some.0)) ∙ one-turn some.0 some.1;
   }
 
@@ -183,17 +183,16 @@ module _ (bytes : List ℕ) (depth : ℕ) (whole : Answer (Part Node)) (fs : Lis
   waits-stops (stop.Fault f) h = sym k.same ∙ ap (resumed depth (suc k.bound) fs k.rest) (h (flow_collection k.bound) k.turns) ∙ resumed-err depth (suc k.bound) fs k.rest (fault_of f)
   waits-stops stop.Memory h = tt
 
-  pub waits-inside : (o : ℕ) (has : Open) (at : ℕ) → o ≡ opening
-      → ((c : CollectionReader) (t : ℕ) → run (counted n) (then_rest c t) ≡ run (counted n) (open_rest c t (depth + length fs + 1) opening has (lines_at bytes at))) → p.next < at → Inside bytes depth whole fs n o has at
-  waits-inside o has at e h l = record {
+  pub waits-inside : (has : Open) (at : ℕ)
+      → ((c : CollectionReader) (t : ℕ) → run (counted n) (then_rest c t) ≡ run (counted n) (open_rest c t (depth + length fs + 1) opening has (lines_at bytes at))) → p.next < at → Inside bytes depth whole fs n opening has at
+  waits-inside has at h l = record {
     bound = k.bound;
     turns = k.turns;
     rest = k.rest;
     room = omega (arith, k.room, l);
     many = omega (arith, k.many, l);
     enough = later (length bytes) p.next at fs k.rest (omega (arith, l)) k.enough;
-    same = ap (λ i. resumed depth (suc k.bound) fs k.rest (run (counted n) (open_rest (flow_collection k.bound) k.turns (depth + length fs + 1) i has (lines_at bytes at)))) e
-        ∙ ap (resumed depth (suc k.bound) fs k.rest) (sym (h (flow_collection k.bound) k.turns)) ∙ k.same;
+    same = ap (resumed depth (suc k.bound) fs k.rest) (sym (h (flow_collection k.bound) k.turns)) ∙ k.same;
   }
 
   pub waits-behind : (q : code.Part) → ((c : CollectionReader) (t : ℕ) → run (counted n) (then_rest c t) ≡ Ok (part_of bytes q, counted n)) → p.next ≤ q.next → Behind bytes depth whole fs n q

@@ -8,7 +8,7 @@ ghost use Rattle.al_yaml.specs.Content as content;
 ghost use Rattle.al_yaml.specs.Files.{left_at, size};
 ghost use Rattle.al_yaml.specs.Flow as flow;
 ghost use Rattle.al_yaml.specs.FlowFrames.{Finds, FindsKey, IsFound, IsFoundKey, IsNested, IsOpenTo};
-ghost use Rattle.al_yaml.specs.FlowFrames.{IsStep, IsTask, Resumes, Steps, open_of, waiting_of};
+ghost use Rattle.al_yaml.specs.FlowFrames.{IsPut, IsStep, Resumes, Steps, closed_of, open_of, waiting_of};
 ghost use Rattle.al_yaml.specs.Frames as frames;
 ghost use Rattle.al_yaml.specs.Frames.{open_rest};
 ghost use Rattle.al_yaml.specs.Limits.{broken_limit};
@@ -18,7 +18,8 @@ ghost use Rattle.al_yaml.specs.Reads.{IsAfter, IsBehind, IsColonInside, IsKeyIns
 ghost use Rattle.al_yaml.specs.Reads.{IsStopInside, after_of, counted, flow_key_of, part_of, run};
 ghost use Rattle.al_yaml.specs.Spans.{ArePlacedIn, EntriesPlacedIn, IsPlacedIn};
 ghost use Rattle.al_yaml.specs.View.{entries_of, entry_view, nodes_of, view};
-ghost use Rattle.std.specs.Prelude.{IfErr, IfOk, None, [], length, map, suc, true, ℕ, ◌+◌, ◌<◌, ◌||◌, ◌∷◌, ◌≡◌, ◌≤◌};
+ghost use Rattle.al_yaml.specs.declared.flow.Open.TheVariants as open_code;
+ghost use Rattle.std.specs.Prelude.{IfErr, IfOk, None, [], length, map, suc, true, ℕ, ◌+◌, ◌<◌, ◌^◌, ◌||◌, ◌∷◌, ◌≡◌, ◌≤◌};
 
 use crate::content::gap;
 use crate::faults::ReadError;
@@ -62,47 +63,28 @@ pub enum FoundKey {
     Opens,
 }
 
-/// What was read of an open flow collection, up to an item, an entry or the closer.
+/// What was read of an open flow collection, up to an item, an entry or the closer; of a mapping also the key whose value
+/// is a collection that is read now.
 #[derive(Drop)]
 pub enum Open {
     Items(Vec<Node>),
-    Entries(Vec<Entry>),
+    Entries(Vec<Entry>, Option<ScalarRead>),
 }
 
-/// What a flow collection waits with while a node in it is read: the items before it; the entries before it and the
-/// key whose value it is; or the place of a collection that stands where a key is due.
-#[derive(Drop)]
-pub enum Waiting {
-    Item(Vec<Node>),
-    Value(Vec<Entry>, ScalarRead),
-    Key(usize),
-}
-
-/// A flow collection that waits for a node, by its bracket, before which its own anchor would stand.
+/// A flow collection that waits for the collection whose bracket stands at an offset: for an item, for the value of its
+/// key, or where it has no key for one. Its own anchor would stand before its own bracket.
 #[derive(Drop)]
 pub struct FlowFrame {
     pub opening: usize,
-    pub waiting: Waiting,
+    pub has: Open,
+    pub at: usize,
 }
 
-/// How far one step reads: to the closer, to the end of a node, or to the bracket of a collection inside.
-#[derive(Drop)]
-pub enum FlowRead {
-    Closed(Part),
-    Read(Waiting, Part),
-    Opens(Waiting, usize),
-}
-
-/// What is to be done next: to read the innermost open collection, from an offset on; or to hand a collection that was read
-/// to the one that waits for it.
-#[derive(Drop)]
-pub enum Task {
-    Inside {
-        opening: usize,
-        has: Open,
-        at: usize,
-    },
-    Read(Part),
+/// How far one step reads: to what stands behind a node, or to the bracket of a collection inside.
+#[derive(Clone, Copy)]
+pub enum FlowStep {
+    Behind(After),
+    Opens(usize),
 }
 
 /// What stands behind an item or entry and the gap behind it.
@@ -248,20 +230,68 @@ fn read_flow_value(
     read_flow_node(file, count, at)
 }
 
-/// Reads an open sequence to the end of its next item, to its closer or to a bracket in it.
+/// Puts an item that was read into its sequence, and reads what stands behind it.
+fn put_item(
+    file: &File,
+    opening: usize,
+    items: &mut Vec<Node>,
+    part: Part,
+) -> Result<After, ReadError>
+    requires inside { part.next ≤ size file.now }
+    requires opening { opening ≤ part.next }
+    requires end { part.end ≤ part.next }
+    ensures fault { IfErr result (IsStopInside (size file.now)) }
+    ensures is { (depth n : ℕ) →
+        Resumes file.now.bytes.now depth opening (frames.item (nodes_of (map view items.old.items)))
+        (part_of file.now.bytes.now part) n (frames.items (nodes_of (map view items.new.items))) result }
+    ensures within { (start : ℕ) → opening ≤ start → ArePlacedIn (size file.now) opening start (nodes_of (map view items.old.items))
+        → IsPlacedIn (size file.now) start part.end (view part.node)
+        → IfOk result (IsPut (size file.now) opening part.next (frames.items (nodes_of (map view items.new.items)))) }
+{
+    items.push(part.node)?;
+    Ok(after_item(file.bytes, opening, b']', gap(file.bytes, part.next))?)
+}
+
+/// Puts an entry whose value was read into its mapping, and reads what stands behind it.
+fn put_entry(
+    file: &File,
+    opening: usize,
+    entries: &mut Vec<Entry>,
+    key: ScalarRead,
+    part: Part,
+) -> Result<After, ReadError>
+    requires inside { part.next ≤ size file.now }
+    requires opening { opening ≤ part.next }
+    requires end { part.end ≤ part.next }
+    ensures fault { IfErr result (IsStopInside (size file.now)) }
+    ensures is { (depth n : ℕ) → Resumes file.now.bytes.now depth opening
+        (frames.value (entries_of (map entry_view entries.old.items)) (read_of file.now.bytes.now key))
+        (part_of file.now.bytes.now part) n (frames.entries (entries_of (map entry_view entries.new.items))) result }
+    ensures within { (start : ℕ) → opening ≤ key.span.start → key.span.start ≤ key.span.end → key.span.end ≤ start
+        → EntriesPlacedIn (size file.now) opening key.span.start (entries_of (map entry_view entries.old.items))
+        → IsPlaced (size file.now) key.scalar key.span → IsPlacedIn (size file.now) start part.end (view part.node)
+        → IfOk result (IsPut (size file.now) opening part.next (frames.entries (entries_of (map entry_view entries.new.items)))) }
+{
+    let key = scalar_node(key.scalar, key.span);
+    entries.push(entry_of(key, part.node))?;
+    Ok(after_item(file.bytes, opening, b'}', gap(file.bytes, part.next))?)
+}
+
+/// Reads an open sequence to what stands behind its next item, to its closer or to a bracket in it.
 fn read_item(
     file: &File,
     count: &mut Count,
     opening: usize,
-    items: Vec<Node>,
+    items: &mut Vec<Node>,
     at: usize,
-) -> Result<FlowRead, ReadError>
+) -> Result<FlowStep, ReadError>
     requires inside { at ≤ size file.now }
-    requires nested { (opening ≤ at) × ArePlacedIn (size file.now) opening at (nodes_of (map view items.items)) }
+    requires nested { IsOpenTo (size file.now) opening at (frames.items (nodes_of (map view items.old.items))) }
     ensures fault { IfErr result (IsStopInside (size file.now)) }
     ensures is { (depth : ℕ) → Steps file.now.bytes.now depth opening (λ c t. open_rest c t depth opening
-        (frames.items (nodes_of (map view items.items))) (left_at file.now at)) count.old.nodes result count.new.nodes }
-    ensures within { IfOk result (λ step. IsStep file.now.bytes.now opening at step) }
+        (frames.items (nodes_of (map view items.old.items))) (left_at file.now at)) count.old.nodes (open_code.Items items.new)
+        result count.new.nodes }
+    ensures within { IfOk result (IsStep file.now.bytes.now opening at (open_code.Items items.new)) }
 {
     if is_text_end(file.bytes, at) {
         return Err(ReadError::Fault(FaultAt {
@@ -270,28 +300,30 @@ fn read_item(
         }));
     }
     if begins(file.bytes, at, b']') {
-        return Ok(FlowRead::Closed(sequence_part(items, opening, at + 1, at + 1)));
+        return Ok(FlowStep::Behind(After::Closes(at + 1)));
     }
     match read_flow_node(file, count, at)? {
-        Found::Node(part) => Ok(FlowRead::Read(Waiting::Item(items), part)),
-        Found::Opens(at) => Ok(FlowRead::Opens(Waiting::Item(items), at)),
+        Found::Node(part) => Ok(FlowStep::Behind(put_item(file, opening, items, part)?)),
+        Found::Opens(bracket) => Ok(FlowStep::Opens(bracket)),
     }
 }
 
-/// Reads an open mapping to the end of its next entry, to its closer or to a bracket in it.
+/// Reads an open mapping to what stands behind its next entry, to its closer or to a bracket in it.
 fn read_entry(
     file: &File,
     count: &mut Count,
     opening: usize,
-    entries: Vec<Entry>,
+    entries: &mut Vec<Entry>,
+    waits: &mut Option<ScalarRead>,
     at: usize,
-) -> Result<FlowRead, ReadError>
+) -> Result<FlowStep, ReadError>
     requires inside { at ≤ size file.now }
-    requires nested { (opening ≤ at) × EntriesPlacedIn (size file.now) opening at (entries_of (map entry_view entries.items)) }
+    requires nested { IsOpenTo (size file.now) opening at (frames.entries (entries_of (map entry_view entries.old.items))) }
     ensures fault { IfErr result (IsStopInside (size file.now)) }
     ensures is { (depth : ℕ) → Steps file.now.bytes.now depth opening (λ c t. open_rest c t depth opening
-        (frames.entries (entries_of (map entry_view entries.items))) (left_at file.now at)) count.old.nodes result count.new.nodes }
-    ensures within { IfOk result (λ step. IsStep file.now.bytes.now opening at step) }
+        (frames.entries (entries_of (map entry_view entries.old.items))) (left_at file.now at)) count.old.nodes
+        (open_code.Entries entries.new waits.new) result count.new.nodes }
+    ensures within { IfOk result (IsStep file.now.bytes.now opening at (open_code.Entries entries.new waits.new)) }
 {
     if is_text_end(file.bytes, at) {
         return Err(ReadError::Fault(FaultAt {
@@ -300,115 +332,74 @@ fn read_entry(
         }));
     }
     if begins(file.bytes, at, b'}') {
-        return Ok(FlowRead::Closed(mapping_part(entries, opening, at + 1, at + 1)));
+        return Ok(FlowStep::Behind(After::Closes(at + 1)));
     }
     let key = match read_flow_key(file, count, at)? {
         FoundKey::Key(key) => key,
-        FoundKey::Opens => return Ok(FlowRead::Opens(Waiting::Key(at), at)),
+        FoundKey::Opens => {
+            *waits = None;
+            return Ok(FlowStep::Opens(at));
+        }
     };
     match read_flow_value(file, count, opening, &key)? {
-        Found::Node(part) => Ok(FlowRead::Read(Waiting::Value(entries, key.read), part)),
-        Found::Opens(at) => Ok(FlowRead::Opens(Waiting::Value(entries, key.read), at)),
+        Found::Node(part) => Ok(FlowStep::Behind(put_entry(
+            file, opening, entries, key.read, part,
+        )?)),
+        Found::Opens(bracket) => {
+            *waits = Some(key.read);
+            Ok(FlowStep::Opens(bracket))
+        }
     }
 }
 
-/// Puts an item that was read into its sequence, and reads what stands behind it.
-fn put_item(file: &File, opening: usize, items: Vec<Node>, part: Part) -> Result<Task, ReadError>
-    requires inside { part.next ≤ size file.now }
-    requires opening { opening ≤ part.next }
-    requires end { part.end ≤ part.next }
-    ensures fault { IfErr result (IsStopInside (size file.now)) }
-    ensures is { (depth n : ℕ) →
-        Resumes file.now.bytes.now depth opening (frames.item (nodes_of (map view items.items)))
-        (part_of file.now.bytes.now part) n result }
-    ensures within { (start : ℕ) → opening ≤ start → ArePlacedIn (size file.now) opening start (nodes_of (map view items.items))
-        → IsPlacedIn (size file.now) start part.end (view part.node)
-        → IfOk result (λ task. IsTask file.now.bytes.now opening part.next task) }
-{
-    let mut items = items;
-    items.push(part.node)?;
-    match after_item(file.bytes, opening, b']', gap(file.bytes, part.next))? {
-        After::GoesOn(at) => Ok(Task::Inside {
-            opening,
-            has: Open::Items(items),
-            at,
-        }),
-        After::Closes(next) => Ok(Task::Read(sequence_part(items, opening, next, next))),
-    }
-}
-
-/// Puts an entry whose value was read into its mapping, and reads what stands behind it.
-fn put_entry(
-    file: &File,
-    opening: usize,
-    entries: Vec<Entry>,
-    key: ScalarRead,
-    part: Part,
-) -> Result<Task, ReadError>
-    requires inside { part.next ≤ size file.now }
-    requires opening { opening ≤ part.next }
-    requires end { part.end ≤ part.next }
-    ensures fault { IfErr result (IsStopInside (size file.now)) }
-    ensures is { (depth n : ℕ) →
-        Resumes file.now.bytes.now depth opening (frames.value (entries_of (map entry_view entries.items)) (read_of file.now.bytes.now key))
-        (part_of file.now.bytes.now part) n result }
-    ensures within { (start : ℕ) → opening ≤ key.span.start → key.span.start ≤ key.span.end → key.span.end ≤ start
-        → EntriesPlacedIn (size file.now) opening key.span.start (entries_of (map entry_view entries.items))
-        → IsPlaced (size file.now) key.scalar key.span → IsPlacedIn (size file.now) start part.end (view part.node)
-        → IfOk result (λ task. IsTask file.now.bytes.now opening part.next task) }
-{
-    let mut entries = entries;
-    let key = scalar_node(key.scalar, key.span);
-    entries.push(entry_of(key, part.node))?;
-    match after_item(file.bytes, opening, b'}', gap(file.bytes, part.next))? {
-        After::GoesOn(at) => Ok(Task::Inside {
-            opening,
-            has: Open::Entries(entries),
-            at,
-        }),
-        After::Closes(next) => Ok(Task::Read(mapping_part(entries, opening, next, next))),
-    }
-}
-
-/// Reads an open collection to the end of the next node in it, to its closer or to a bracket in it.
+/// Reads an open collection to what stands behind the next node in it, to its closer or to a bracket in it.
 fn read_inside(
     file: &File,
     count: &mut Count,
     opening: usize,
-    has: Open,
+    has: &mut Open,
     at: usize,
-) -> Result<FlowRead, ReadError>
+) -> Result<FlowStep, ReadError>
     requires inside { at ≤ size file.now }
-    requires nested { IsOpenTo (size file.now) opening at has }
+    requires nested { IsOpenTo (size file.now) opening at (open_of has.old) }
     ensures fault { IfErr result (IsStopInside (size file.now)) }
     ensures is { (depth : ℕ) →
         Steps file.now.bytes.now depth opening
-        (λ c t. open_rest c t depth opening (open_of has) (left_at file.now at)) count.old.nodes result count.new.nodes }
-    ensures within { IfOk result (λ step. IsStep file.now.bytes.now opening at step) }
+        (λ c t. open_rest c t depth opening (open_of has.old) (left_at file.now at)) count.old.nodes has.new result count.new.nodes }
+    ensures within { IfOk result (IsStep file.now.bytes.now opening at has.new) }
 {
     match has {
         Open::Items(items) => read_item(file, count, opening, items, at),
-        Open::Entries(entries) => read_entry(file, count, opening, entries, at),
+        Open::Entries(entries, waits) => read_entry(file, count, opening, entries, waits, at),
     }
 }
 
-/// Goes on behind a node that was read in a collection which waited for it.
-fn resume(file: &File, opening: usize, waiting: Waiting, part: Part) -> Result<Task, ReadError>
+/// Hands a collection that was read to the one that waited for it, and reads what stands behind it.
+fn resume(
+    file: &File,
+    opening: usize,
+    has: &mut Open,
+    at: usize,
+    part: Part,
+) -> Result<After, ReadError>
     requires inside { part.next ≤ size file.now }
-    requires nested { IsNested (size file.now) opening waiting part }
+    requires nested { IsNested (size file.now) opening at has.old part }
     requires end { part.end ≤ part.next }
     ensures fault { IfErr result (IsStopInside (size file.now)) }
     ensures is { (depth n : ℕ) →
-        Resumes file.now.bytes.now depth opening (waiting_of file.now.bytes.now waiting) (part_of file.now.bytes.now part) n result }
-    ensures within { IfOk result (λ task. IsTask file.now.bytes.now opening part.next task) }
+        Resumes file.now.bytes.now depth opening (waiting_of file.now.bytes.now at has.old)
+        (part_of file.now.bytes.now part) n (open_of has.new) result }
+    ensures within { IfOk result (IsPut (size file.now) opening part.next (open_of has.new)) }
 {
-    match waiting {
-        Waiting::Item(items) => put_item(file, opening, items, part),
-        Waiting::Value(entries, key) => put_entry(file, opening, entries, key, part),
-        Waiting::Key(at) => Err(ReadError::Fault(FaultAt {
-            code: YamlCode::WrongKey,
-            at,
-        })),
+    match has {
+        Open::Items(items) => put_item(file, opening, items, part),
+        Open::Entries(entries, waits) => match waits.take() {
+            Some(key) => put_entry(file, opening, entries, key, part),
+            None => Err(ReadError::Fault(FaultAt {
+                code: YamlCode::WrongKey,
+                at,
+            })),
+        },
     }
 }
 
@@ -419,7 +410,7 @@ fn open_at(file: &File, at: usize) -> (Open, usize)
     ensures is { (bound depth n m : ℕ) → broken_limit n 0 (start_of at 1 depth ∷ []) ≡ None → m ≡ n + 1 → run (counted n)
         (flow.flow_collection (suc bound) depth (left_at file.now at)) ≡ run (counted m) (open_rest (flow.flow_collection bound)
         (suc bound) (depth + 1) at (open_of result.0) (left_at file.now result.1)) }
-    ensures nested { IsOpenTo (size file.now) at result.1 result.0 }
+    ensures nested { IsOpenTo (size file.now) at result.1 (open_of result.0) }
     ensures from { at < result.1 }
     ensures end { result.1 ≤ size file.now }
 {
@@ -427,12 +418,26 @@ fn open_at(file: &File, at: usize) -> (Open, usize)
     if begins(file.bytes, at, b'[') {
         return (Open::Items(Vec::new(file.alloc)), inside);
     }
-    (Open::Entries(Vec::new(file.alloc)), inside)
+    (Open::Entries(Vec::new(file.alloc), None), inside)
+}
+
+/// The collection that was read from its bracket up to behind its closer.
+fn closed_part(opening: usize, has: Open, end: usize) -> Part
+    requires start { opening < 2 ^ 32 }
+    requires end { end < 2 ^ 32 }
+    ensures node { view result.node ≡ closed_of opening (open_of has) end }
+    ensures end { result.end ≡ end }
+    ensures next { result.next ≡ end }
+{
+    match has {
+        Open::Items(items) => sequence_part(items, opening, end, end),
+        Open::Entries(entries, _) => mapping_part(entries, opening, end, end),
+    }
 }
 
 /// Reads the flow collection whose bracket or brace stands at an offset.
 ///
-/// The collections that are open in it stand on the stack while they are read.
+/// The collections that are open in it stand on the stack while one inside them is read.
 pub fn read_flow_collection(
     file: &File,
     progress: &mut Progress,
@@ -454,43 +459,40 @@ pub fn read_flow_collection(
 {
     progress.count.start(at, 1, depth)?;
     let outside = progress.stack.len();
-    let (has, inside) = open_at(file, at);
-    let mut task = Task::Inside {
-        opening: at,
-        has,
-        at: inside,
-    };
+    let (mut has, inside) = open_at(file, at);
+    let mut opening = at;
+    let mut next = After::GoesOn(inside);
     'nodes: loop {
-        match task {
-            Task::Inside {
-                opening,
-                has,
-                at: from,
-            } => {
-                match read_inside(file, &mut progress.count, opening, has, from)? {
-                    FlowRead::Closed(part) => task = Task::Read(part),
-                    FlowRead::Read(waiting, part) => task = resume(file, opening, waiting, part)?,
-                    FlowRead::Opens(waiting, bracket) => {
+        match next {
+            After::GoesOn(from) => {
+                match read_inside(file, &mut progress.count, opening, &mut has, from)? {
+                    FlowStep::Behind(after) => next = after,
+                    FlowStep::Opens(bracket) => {
                         progress.count.start(
                             bracket,
                             1,
                             depth + 1 + (progress.stack.len() - outside) as u32,
                         )?;
-                        progress.stack.push_flow(FlowFrame { opening, waiting });
-                        let (has, inside) = open_at(file, bracket);
-                        task = Task::Inside {
-                            opening: bracket,
+                        progress.stack.push_flow(FlowFrame {
+                            opening,
                             has,
-                            at: inside,
-                        };
+                            at: bracket,
+                        });
+                        let (nothing, inside) = open_at(file, bracket);
+                        opening = bracket;
+                        has = nothing;
+                        next = After::GoesOn(inside);
                     }
                 }
             }
-            Task::Read(part) => {
+            After::Closes(end) => {
+                let part = closed_part(opening, has, end);
                 let Some(frame) = progress.stack.pop_flow() else {
                     return Ok(part);
                 };
-                task = resume(file, frame.opening, frame.waiting, part)?;
+                opening = frame.opening;
+                has = frame.has;
+                next = resume(file, opening, &mut has, frame.at, part)?;
             }
         }
     }

@@ -1,47 +1,63 @@
-use Rattle.std.proofs.Common.{length, ◌+◌, map, ap, ◌∙◌, arith, None}
+use Rattle.std.proofs.Common.{◌+◌, ◌≡◌, ◌∙◌, None, suc, ap, arith, length, map}
 use Rattle.std.proofs.lemmas.Result.{err_from_is_err_and}
-use Rattle.al_yaml.specs.Flow.{FlowSlot}
-use Rattle.al_yaml.specs.Frames.{answered, waiting_rest, item}
+use Rattle.al_yaml.specs.Files.{left_at}
+use Rattle.al_yaml.specs.Flow.{CollectionReader, FlowSlot}
+use Rattle.al_yaml.specs.Frames.{answered, open_rest, waiting_rest, item, items}
+use Rattle.al_yaml.specs.Reads.{run, counted, part_of}
 use Rattle.al_yaml.specs.View.{view, nodes_of}
-use Rattle.al_yaml.proofs.FlowStepLemmas.{item-open, item-closed, item-stop, item-answer}
-use Rattle.al_yaml.proofs.SpanLemmas.{items-wider, sequence-nested}
+use Rattle.al_yaml.proofs.FlowStepLemmas.{item-open, item-closed, item-stop, item-answer, put-behind}
+use Rattle.al_yaml.proofs.ReadLemmas.{stops-from}
+use Rattle.al_yaml.proofs.SpanLemmas.{items-wider}
 use Rattle.al_yaml.proofs.flow.read_item.Goals as goal
 
 pub returns-then-is_text_end-clause-is : goal.returns-then-is_text_end-clause-is
-returns-then-is_text_end-clause-is c = λ depth col turns. item-open col turns c.args.opening depth c.args.count.now.nodes (nodes_of (map view c.args.items.items)) c.args.file.now.bytes.now c.args.at c.requires.inside c.if-is_text_end.ensures.text
+returns-then-is_text_end-clause-is c = λ depth col turns. item-open col turns c.args.opening depth c.args.count.now.nodes (nodes_of (map view c.args.items.now.items)) c.args.file.now.bytes.now c.args.at c.requires.inside c.if-is_text_end.ensures.text
 
 pub returns-then-begins-clause-is : goal.returns-then-begins-clause-is
 returns-then-begins-clause-is c = λ depth col turns.
-    item-closed col turns c.args.opening depth c.args.count.now.nodes (nodes_of (map view c.args.items.items)) c.args.file.now.bytes.now c.args.at c.requires.inside c.if-is_text_end.ensures.text c.if-begins.ensures.value c.sequence_part.result c.sequence_part.ensures.node c.sequence_part.ensures.end c.sequence_part.ensures.next
+    item-closed col turns c.args.opening depth c.args.count.now.nodes (nodes_of (map view c.args.items.now.items)) c.args.file.now.bytes.now c.args.at c.requires.inside c.if-is_text_end.ensures.text c.if-begins.ensures.value
 
 pub returns-then-begins-clause-within : goal.returns-then-begins-clause-within
-returns-then-begins-clause-within c =
-    let ns = nodes_of (map view c.args.items.items) in (
-      sequence-nested (length c.args.file.now.bytes.now) c.sequence_part.result ns c.args.opening (c.args.at + 1) c.sequence_part.ensures.node c.sequence_part.ensures.end (omega (arith, c.requires.nested.0)) (items-wider (length c.args.file.now.bytes.now) c.args.opening c.args.at (c.args.at + 1) ns (omega arith) c.requires.nested.1),
-      record { from = omega (arith, c.sequence_part.ensures.next); inside = omega (arith, c.if-begins.ensures.inside, c.sequence_part.ensures.next); end = omega (arith, c.sequence_part.ensures.next, c.sequence_part.ensures.end) },
-    )
+returns-then-begins-clause-within c = (
+  (omega (arith, c.requires.nested.0), items-wider (length c.args.file.now.bytes.now) c.args.opening c.args.at (c.args.at + 1) (nodes_of (map view c.args.items.now.items)) (omega arith) c.requires.nested.1),
+  omega arith,
+  omega (arith, c.if-begins.ensures.inside),
+)
 
 pub returns-in_err-part-clause-is : goal.returns-in_err-part-clause-is
 returns-in_err-part-clause-is c = λ depth.
     let slot : FlowSlot = record { opening = c.args.opening; empty = None } in
     let p = err_from_is_err_and c.from_residual.result c.from_residual.ensures.1 in
-    rw (p.1, p.2) (λ col turns. item-stop col turns c.args.opening depth c.args.count.now.nodes (nodes_of (map view c.args.items.items)) c.args.file.now.bytes.now c.args.at c.requires.inside c.if-is_text_end.ensures.text c.if-begins.ensures.value c.in_err-part.field-0.0 (c.in_err-part.ensures.is depth slot col))
+    rw (p.1, p.2) (λ col turns. item-stop col turns c.args.opening depth c.args.count.now.nodes (nodes_of (map view c.args.items.now.items)) c.args.file.now.bytes.now c.args.at c.requires.inside c.if-is_text_end.ensures.text c.if-begins.ensures.value c.in_err-part.field-0.0 (c.in_err-part.ensures.is depth slot col))
 
-pub returns-in-Node-clause-is : goal.returns-in-Node-clause-is
-returns-in-Node-clause-is c = λ depth col turns.
+pub returns-in_err-put_item-in-Node-clause-is : goal.returns-in_err-put_item-in-Node-clause-is
+returns-in_err-put_item-in-Node-clause-is c = λ depth.
     let slot : FlowSlot = record { opening = c.args.opening; empty = None } in
     let found = rw c.in-Node.is at c.in_ok-part.ensures.is in
-    item-answer col turns c.args.opening depth c.args.count.now.nodes (nodes_of (map view c.args.items.items)) c.args.file.now.bytes.now c.args.at c.requires.inside c.if-is_text_end.ensures.text c.if-begins.ensures.value
-    ∙ ap (λ o. answered o (waiting_rest col turns depth c.args.opening (item (nodes_of (map view c.args.items.items))))) (found depth slot col)
+    let p = err_from_is_err_and c.from_residual-in_err-put_item-in-Node.result c.from_residual-in_err-put_item-in-Node.ensures.1 in
+    rw (p.1, p.2) (λ col turns.
+    stops-from (open_rest col (suc turns) depth c.args.opening (items (nodes_of (map view c.args.items.now.items))) (left_at c.args.file.now c.args.at)) (waiting_rest col turns depth c.args.opening (item (nodes_of (map view c.args.items.now.items))) (part_of c.args.file.now.bytes.now c.in-Node.part)) c.args.count.now.nodes c.read_flow_node.new.count.nodes c.in_err-put_item-in-Node.field-0.0
+    (item-answer col turns c.args.opening depth c.args.count.now.nodes (nodes_of (map view c.args.items.now.items)) c.args.file.now.bytes.now c.args.at c.requires.inside c.if-is_text_end.ensures.text c.if-begins.ensures.value
+    ∙ ap (λ o. answered o (waiting_rest col turns depth c.args.opening (item (nodes_of (map view c.args.items.now.items))))) (found depth slot col))
+    (c.in_err-put_item-in-Node.ensures.is depth c.read_flow_node.new.count.nodes col turns))
+
+pub returns-in_ok-put_item-in-Node-clause-is : goal.returns-in_ok-put_item-in-Node-clause-is
+returns-in_ok-put_item-in-Node-clause-is c = λ depth.
+    let slot : FlowSlot = record { opening = c.args.opening; empty = None } in
+    let found = rw c.in-Node.is at c.in_ok-part.ensures.is in
+    put-behind c.args.file.now.bytes.now depth c.args.opening c.args.count.now.nodes c.read_flow_node.new.count.nodes (λ col t. open_rest col t depth c.args.opening (items (nodes_of (map view c.args.items.now.items))) (left_at c.args.file.now c.args.at)) (item (nodes_of (map view c.args.items.now.items))) (part_of c.args.file.now.bytes.now c.in-Node.part) (items (nodes_of (map view c.put_item.new.items.items))) c.in_ok-put_item-in-Node.field-0
+    (λ col turns. item-answer col turns c.args.opening depth c.args.count.now.nodes (nodes_of (map view c.args.items.now.items)) c.args.file.now.bytes.now c.args.at c.requires.inside c.if-is_text_end.ensures.text c.if-begins.ensures.value
+    ∙ ap (λ o. answered o (waiting_rest col turns depth c.args.opening (item (nodes_of (map view c.args.items.now.items))))) (found depth slot col))
+    (c.in_ok-put_item-in-Node.ensures.is depth c.read_flow_node.new.count.nodes)
 
 pub returns-in-Opens-clause-is : goal.returns-in-Opens-clause-is
 returns-in-Opens-clause-is c = λ depth col turns.
     let slot : FlowSlot = record { opening = c.args.opening; empty = None } in
     let found = rw c.in-Opens.is at c.in_ok-part.ensures.is in
-    item-answer col turns c.args.opening depth c.args.count.now.nodes (nodes_of (map view c.args.items.items)) c.args.file.now.bytes.now c.args.at c.requires.inside c.if-is_text_end.ensures.text c.if-begins.ensures.value
-    ∙ ap (λ o. answered o (waiting_rest col turns depth c.args.opening (item (nodes_of (map view c.args.items.items))))) (found depth slot col)
+    item-answer col turns c.args.opening depth c.args.count.now.nodes (nodes_of (map view c.args.items.now.items)) c.args.file.now.bytes.now c.args.at c.requires.inside c.if-is_text_end.ensures.text c.if-begins.ensures.value
+    ∙ ap (λ o. answered o (waiting_rest col turns depth c.args.opening (item (nodes_of (map view c.args.items.now.items))))) (found depth slot col)
 
 pub returns-in-Opens-clause-within : goal.returns-in-Opens-clause-within
 returns-in-Opens-clause-within c =
     let found = rw c.in-Opens.is at c.in_ok-part.ensures.within in
-    ((omega (arith, c.requires.nested.0, found.1), items-wider (length c.args.file.now.bytes.now) c.args.opening c.args.at c.in-Opens.at (nodes_of (map view c.args.items.items)) found.1 c.requires.nested.1), found.0)
+    ((omega (arith, c.requires.nested.0, found.1), items-wider (length c.args.file.now.bytes.now) c.args.opening c.args.at c.in-Opens.bracket (nodes_of (map view c.args.items.now.items)) found.1 c.requires.nested.1), found.0)
