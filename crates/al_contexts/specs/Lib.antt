@@ -8,6 +8,8 @@ pub mod Environment
 pub mod Scopes
 pub mod Standing
 pub mod RowWords
-pub mod RowFiles
+pub mod RowActions
+pub mod RowMatrices
+pub mod RowWorkflows
 pub mod Lookups
 pub mod JobPositions
