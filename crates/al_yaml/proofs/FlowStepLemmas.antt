@@ -1,16 +1,16 @@
 -- Steps of open flow collections, one lemma for each way.
-use Rattle.std.proofs.Common.{◌≡◌, ℕ, suc, ◌+◌, ◌≤◌, List, length, refl, sym, ap, ◌∙◌, true, false, None, Result, Ok, Err}
+use Rattle.std.proofs.Common.{◌≡◌, ℕ, suc, ◌+◌, ◌≤◌, List, [], ◌∷◌, length, refl, sym, ap, ◌∙◌, true, false, None, Result, Ok, Err}
 use Rattle.al_text.specs.declared.codes.YamlCode.TheVariants as yaml
-use Rattle.al_scalar.specs.Line.{Line, begins, is_empty}
+use Rattle.al_scalar.specs.Line.{Cell, Line, begins, is_empty}
 use Rattle.al_scalar.specs.Places.{lines_at, text_at}
 use Rattle.al_scalar.specs.Scalar.{ScalarRead, span}
 use Rattle.al_scalar.specs.Taken.{Fault}
 use Rattle.al_yaml.specs.Node as tree
 use Rattle.al_yaml.specs.Reading.{Reading, Part, part, fails, gives, given, spanned, ◌>>=◌}
-use Rattle.al_yaml.specs.Flow.{After, goes_on, closes, after_item, gap, CollectionReader, FlowKey, flow_items, flow_items_rest, flow_entries, flow_key, flow_entries_rest, flow_entry_value, flow_node_over}
+use Rattle.al_yaml.specs.Flow.{After, goes_on, closes, after_item, gap, CollectionReader, FlowKey, flow_items, flow_items_rest, flow_entries, flow_key, flow_entries_rest, flow_entry_value, flow_node_over, flow_collection}
 use Rattle.al_yaml.specs.Frames.{Answer, answered, Open, Waiting, open_rest, waiting_rest, items, entries, item, value, key}
-use Rattle.al_yaml.specs.Reads.{run, counted, Stops, Refuses, part_of, after_of}
-use Rattle.al_yaml.specs.FlowFrames.{Finds, GoesOn}
+use Rattle.al_yaml.specs.Reads.{run, counted, Stops, Refuses, after_of}
+use Rattle.al_yaml.specs.FlowFrames.{Finds, GoesOn, IsFirst, Opens}
 use Rattle.al_yaml.specs.declared.flow.After as code_after
 use Rattle.al_yaml.specs.declared.flow.After.TheVariants as after
 use Rattle.al_yaml.specs.declared.flow.Found.{Found}
@@ -24,6 +24,9 @@ use Rattle.al_yaml.proofs.FrameLemmas.{bind-answer, answered-fails, spanned-answ
 
 abbrev unclosed : ℕ → ReadError
 unclosed opening = stop.Fault (record { code = yaml.UnclosedFlow; at = opening })
+
+abbrev closed_behind : List ℕ → ℕ → tree.Node → ℕ → Answer (Part tree.Node)
+closed_behind bytes n node end = Ok (part node end (lines_at bytes end), counted n)
 
 -- ---- sequences
 
@@ -119,14 +122,34 @@ module _ (c : CollectionReader) (turns opening depth n : ℕ) (done : tree.Entri
         value-stop (stop.Fault f) h = value-answer ∙ ap (λ o. answered o (waiting_rest c turns depth opening (value done k.scalar))) h
         value-stop stop.Memory h = tt
 
+-- ---- a collection with nothing read in it
+
+begins-some : (b : ℕ) (cs : List Cell) → true ≡ begins b cs → false ≡ is_empty cs
+begins-some b [] h = sym h
+begins-some b (c ∷ cs) h = refl
+
+module _ (bytes : List ℕ) (depth n m at inside : ℕ) (here : inside ≤ length bytes) where
+  pub items-first : (next : code_after.After) → IsFirst bytes 93 inside next
+      → ((bound : ℕ) → run (counted n) (flow_collection (suc bound) depth (lines_at bytes at)) ≡ run (counted m) (open_rest (flow_collection bound) (suc bound) (depth + 1) at (items tree.no_nodes) (lines_at bytes inside)))
+      → Opens bytes depth at n (items tree.no_nodes) next m
+  items-first (after.GoesOn i) e h = λ bound. h bound ∙ ap (λ j. run (counted m) (open_rest (flow_collection bound) (suc bound) (depth + 1) at (items tree.no_nodes) (lines_at bytes j))) (sym e)
+  items-first (after.Closes end) e h = λ bound.
+      h bound ∙ item-closed (flow_collection bound) bound at (depth + 1) m tree.no_nodes bytes inside here (begins-some 93 (text_at bytes inside) e.1) e.1
+      ∙ ap (λ i. closed_behind bytes m (tree.sequence tree.no_nodes (span at i)) i) (sym e.0)
+
+  pub entries-first : (next : code_after.After) → IsFirst bytes 125 inside next
+      → ((bound : ℕ) → run (counted n) (flow_collection (suc bound) depth (lines_at bytes at)) ≡ run (counted m) (open_rest (flow_collection bound) (suc bound) (depth + 1) at (entries tree.no_entries) (lines_at bytes inside)))
+      → Opens bytes depth at n (entries tree.no_entries) next m
+  entries-first (after.GoesOn i) e h = λ bound. h bound ∙ ap (λ j. run (counted m) (open_rest (flow_collection bound) (suc bound) (depth + 1) at (entries tree.no_entries) (lines_at bytes j))) (sym e)
+  entries-first (after.Closes end) e h = λ bound.
+      h bound ∙ entry-closed (flow_collection bound) bound at (depth + 1) m tree.no_entries bytes inside here (begins-some 125 (text_at bytes inside) e.1) e.1
+      ∙ ap (λ i. closed_behind bytes m (tree.mapping tree.no_entries (span at i)) i) (sym e.0)
+
 -- ---- behind an item or entry
 
 module _ (c : CollectionReader) (turns opening depth n : ℕ) (bytes : List ℕ) (x : Part tree.Node) where
   abbrev after_it : ℕ → Result After Fault
   after_it close = after_item opening close (gap false x.left)
-
-  abbrev closed_with : tree.Node → ℕ → Answer (Part tree.Node)
-  closed_with node end = Ok (part node end (lines_at bytes end), counted n)
 
   module _ (done : tree.Nodes) where
     abbrev all_items : tree.Nodes
@@ -152,7 +175,7 @@ module _ (c : CollectionReader) (turns opening depth n : ℕ) (bytes : List ℕ)
     item-end end xs h e =
         item-behind (closes end (lines_at bytes end)) h
         ∙ spanned-ok tree.sequence opening (gives (part all_items end (lines_at bytes end))) n n all_items end (lines_at bytes end) (run-gives n (part all_items end (lines_at bytes end)))
-        ∙ ap (λ d. closed_with (tree.sequence d (span opening end)) end) (sym e)
+        ∙ ap (λ d. closed_behind bytes n (tree.sequence d (span opening end)) end) (sym e)
 
   module _ (done : tree.Entries) (k : ScalarRead) where
     abbrev all_entries : tree.Entries
@@ -178,7 +201,7 @@ module _ (c : CollectionReader) (turns opening depth n : ℕ) (bytes : List ℕ)
     entry-end end xs h e =
         entry-behind (closes end (lines_at bytes end)) h
         ∙ spanned-ok tree.mapping opening (gives (part all_entries end (lines_at bytes end))) n n all_entries end (lines_at bytes end) (run-gives n (part all_entries end (lines_at bytes end)))
-        ∙ ap (λ d. closed_with (tree.mapping d (span opening end)) end) (sym e)
+        ∙ ap (λ d. closed_behind bytes n (tree.mapping d (span opening end)) end) (sym e)
 
 -- ---- what goes on behind an item or entry that is in its collection
 

@@ -1,7 +1,8 @@
 -- How contracts speak of open flow collections.
-use Rattle.std.specs.Prelude.{◌≡◌, ℕ, suc, ◌<◌, ◌≤◌, List, [], ◌∷◌, length, map, true, Option, Some, None, Result, Ok, Err}
+use Rattle.std.specs.Prelude.{◌≡◌, ℕ, suc, ◌+◌, ◌<◌, ◌≤◌, List, [], ◌∷◌, length, map, true, Some, None, Result, Ok, Err}
 use Rattle.al_text.specs.declared.codes.YamlCode.TheVariants as yaml
 use Rattle.al_scalar.specs.Contract.{read_of}
+use Rattle.al_scalar.specs.Line.{begins}
 use Rattle.al_scalar.specs.Offsets.{IsPlaced}
 use Rattle.al_scalar.specs.Places.{lines_at, text_at}
 use Rattle.al_scalar.specs.Scalar.{span}
@@ -87,6 +88,20 @@ GoesOn bytes depth opening now has (after.GoesOn at) n =
     (c : CollectionReader) (turns : ℕ) → now c turns ≡ run (counted n) (open_rest c turns depth opening has (lines_at bytes at))
 GoesOn bytes depth opening now has (after.Closes end) n =
     (c : CollectionReader) (turns : ℕ) → now c turns ≡ Ok (part (closed_of opening has end) end (lines_at bytes end), counted n)
+
+-- what a collection is from its bracket on, with nothing read in it
+abbrev pub Opens : List ℕ → ℕ → ℕ → ℕ → frames.Open → After → ℕ → Type 0
+Opens bytes depth at n has (after.GoesOn inside) m =
+    (bound : ℕ) → run (counted n) (flow.flow_collection (suc bound) depth (lines_at bytes at))
+    ≡ run (counted m) (open_rest (flow.flow_collection bound) (suc bound) (depth + 1) at has (lines_at bytes inside))
+Opens bytes depth at n has (after.Closes end) m =
+    (bound : ℕ) → run (counted n) (flow.flow_collection (suc bound) depth (lines_at bytes at))
+    ≡ Ok (part (closed_of at has end) end (lines_at bytes end), counted m)
+
+-- what stands first in it
+abbrev pub IsFirst : List ℕ → ℕ → ℕ → After → Type 0
+IsFirst bytes close at (after.GoesOn inside) = inside ≡ at
+IsFirst bytes close at (after.Closes end) = (end ≡ at + 1) × (true ≡ begins close (text_at bytes at))
 
 abbrev pub Steps : List ℕ → ℕ → ℕ → (CollectionReader → ℕ → Reading (Part tree.Node)) → ℕ → Open → Result FlowStep ReadError → ℕ → Type 0
 Steps bytes depth opening reading before has (Ok (step.Behind next)) n =

@@ -8,7 +8,7 @@ ghost use Rattle.al_yaml.specs.Content as content;
 ghost use Rattle.al_yaml.specs.Files.{left_at, size};
 ghost use Rattle.al_yaml.specs.Flow as flow;
 ghost use Rattle.al_yaml.specs.FlowFrames.{Finds, FindsKey, IsFound, IsFoundKey, IsNested, IsOpenTo};
-ghost use Rattle.al_yaml.specs.FlowFrames.{IsPut, IsStep, Resumes, Steps, closed_of, open_of, waiting_of};
+ghost use Rattle.al_yaml.specs.FlowFrames.{IsFirst, IsPut, IsStep, Opens, Resumes, Steps, after_at, closed_of, open_of, waiting_of};
 ghost use Rattle.al_yaml.specs.Frames as frames;
 ghost use Rattle.al_yaml.specs.Frames.{open_rest};
 ghost use Rattle.al_yaml.specs.Limits.{broken_limit};
@@ -403,22 +403,40 @@ fn resume(
     }
 }
 
-/// What stands in the collection whose bracket or brace stands at an offset: nothing yet, and where that begins.
-fn open_at(file: &File, at: usize) -> (Open, usize)
+/// What stands first in a collection: its closer, or an item or entry.
+fn first_inside(bytes: &[u8], close: u8, at: usize) -> After
+    requires inside { at ≤ length bytes.now }
+    ensures is { IsFirst bytes.now close at result }
+    ensures from { at ≤ after_at result }
+    ensures inside { after_at result ≤ length bytes.now }
+{
+    if begins(bytes, at, close) {
+        return After::Closes(at + 1);
+    }
+    After::GoesOn(at)
+}
+
+/// The collection whose bracket or brace stands at an offset, with nothing in it yet, and what stands first in it.
+fn open_at(file: &File, at: usize) -> (Open, After)
     requires inside { at < size file.now }
     requires bracket { content.is_flow_start (text_at file.now.bytes.now at) ≡ true }
-    ensures is { (bound depth n m : ℕ) → broken_limit n 0 (start_of at 1 depth ∷ []) ≡ None → m ≡ n + 1 → run (counted n)
-        (flow.flow_collection (suc bound) depth (left_at file.now at)) ≡ run (counted m) (open_rest (flow.flow_collection bound)
-        (suc bound) (depth + 1) at (open_of result.0) (left_at file.now result.1)) }
-    ensures nested { IsOpenTo (size file.now) at result.1 (open_of result.0) }
-    ensures from { at < result.1 }
-    ensures end { result.1 ≤ size file.now }
+    ensures is { (depth n m : ℕ) → broken_limit n 0 (start_of at 1 depth ∷ []) ≡ None → m ≡ n + 1 →
+        Opens file.now.bytes.now depth at n (open_of result.0) result.1 m }
+    ensures nested { IsOpenTo (size file.now) at (after_at result.1) (open_of result.0) }
+    ensures from { at < after_at result.1 }
+    ensures end { after_at result.1 ≤ size file.now }
 {
     let inside = gap(file.bytes, at + 1);
     if begins(file.bytes, at, b'[') {
-        return (Open::Items(Vec::new(file.alloc)), inside);
+        return (
+            Open::Items(Vec::new(file.alloc)),
+            first_inside(file.bytes, b']', inside),
+        );
     }
-    (Open::Entries(Vec::new(file.alloc), None), inside)
+    (
+        Open::Entries(Vec::new(file.alloc), None),
+        first_inside(file.bytes, b'}', inside),
+    )
 }
 
 /// The collection that was read from its bracket up to behind its closer.
@@ -459,9 +477,8 @@ pub fn read_flow_collection(
 {
     progress.count.start(at, 1, depth)?;
     let outside = progress.stack.len();
-    let (mut has, inside) = open_at(file, at);
+    let (mut has, mut next) = open_at(file, at);
     let mut opening = at;
-    let mut next = After::GoesOn(inside);
     'nodes: loop {
         match next {
             After::GoesOn(from) => {
@@ -473,15 +490,23 @@ pub fn read_flow_collection(
                             1,
                             depth + 1 + (progress.stack.len() - outside) as u32,
                         )?;
-                        progress.stack.push_flow(FlowFrame {
-                            opening,
-                            has,
-                            at: bracket,
-                        });
-                        let (nothing, inside) = open_at(file, bracket);
-                        opening = bracket;
-                        has = nothing;
-                        next = After::GoesOn(inside);
+                        let (nothing, first) = open_at(file, bracket);
+                        match first {
+                            After::Closes(end) => {
+                                let part = closed_part(bracket, nothing, end);
+                                next = resume(file, opening, &mut has, bracket, part)?;
+                            }
+                            After::GoesOn(inside) => {
+                                progress.stack.push_flow(FlowFrame {
+                                    opening,
+                                    has,
+                                    at: bracket,
+                                });
+                                opening = bracket;
+                                has = nothing;
+                                next = After::GoesOn(inside);
+                            }
+                        }
                     }
                 }
             }
