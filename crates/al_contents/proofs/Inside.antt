@@ -34,7 +34,8 @@ use Rattle.al_contents.specs.FileExpressions.{expression_faults}
 use Rattle.al_contents.specs.Contents.{chunk_faults, chunked_faults, collection_faults, content_faults, is_one_chunk, is_whole, located, moved, place_faults, tree_faults}
 use Rattle.al_contents.specs.Inside.{AllLie, IsThere}
 use Rattle.al_contents.specs.Spelled.{tree_in, tree_of_content, tree_of_tokens}
-use Rattle.al_contents.proofs.EndLemmas.{at_end, length_text}
+use Rattle.al_contents.proofs.EndLemmas.{length_text}
+use Rattle.al_scalar.proofs.Locating.{offset_or-end}
 use Rattle.al_contents.proofs.Places.{places_there}
 
 -- ---- offsets
@@ -62,7 +63,7 @@ module _ (size : ℕ) (s : Scalar) (at : Span) (there : LiesIn size at) (p : IsP
     | inl h ↦ let below = from i h in omega (arith, below)
     | inr h ↦
         let same = length_text s.cells in
-        let e : offset_of s i ≡ s.end = at_end s.cells s.end i (omega (arith, h, same)) in
+        let e : offset_of s i ≡ s.end = offset_or-end s.cells s.end i (omega (arith, h, same)) in
         let last = p.end in
         let in_file = there.inside in
         omega (arith, e, last, in_file)
