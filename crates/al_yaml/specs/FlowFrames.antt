@@ -18,10 +18,10 @@ use Rattle.al_yaml.specs.Reads.{run, counted, Stops, IsBehind, IsKeyInside, part
 use Rattle.al_yaml.specs.Spans.{IsPlacedIn, ArePlacedIn, EntriesPlacedIn}
 use Rattle.al_yaml.specs.View.{view, entry_view, nodes_of, entries_of}
 use Rattle.al_yaml.specs.declared.faults.ReadError.{ReadError}
-use Rattle.al_yaml.specs.declared.flow.Found.{Found}
-use Rattle.al_yaml.specs.declared.flow.Found.TheVariants as found
-use Rattle.al_yaml.specs.declared.flow.FoundKey.{FoundKey}
-use Rattle.al_yaml.specs.declared.flow.FoundKey.TheVariants as found_key
+use Rattle.al_yaml.specs.declared.flow_nodes.Found.{Found}
+use Rattle.al_yaml.specs.declared.flow_nodes.Found.TheVariants as found
+use Rattle.al_yaml.specs.declared.flow_nodes.FoundKey.{FoundKey}
+use Rattle.al_yaml.specs.declared.flow_nodes.FoundKey.TheVariants as found_key
 use Rattle.al_yaml.specs.declared.flow.Open.{Open}
 use Rattle.al_yaml.specs.declared.flow.Open.TheVariants as open_code
 use Rattle.al_yaml.specs.declared.flow.FlowFrame.{FlowFrame}

@@ -1,21 +1,19 @@
 //! Flow collections, read forward: the loop over the open ones, and its steps.
 
 ghost use Rattle.al_scalar.specs.Contract.{read_of};
-ghost use Rattle.al_scalar.specs.Line as line;
 ghost use Rattle.al_scalar.specs.Offsets.{IsPlaced};
 ghost use Rattle.al_scalar.specs.Places.{lines_at, text_at};
 ghost use Rattle.al_yaml.specs.Content as content;
 ghost use Rattle.al_yaml.specs.Files.{left_at, size};
 ghost use Rattle.al_yaml.specs.Flow as flow;
-ghost use Rattle.al_yaml.specs.FlowFrames.{Finds, FindsKey, IsFound, IsFoundKey, IsNested, IsOpenTo};
-ghost use Rattle.al_yaml.specs.FlowFrames.{IsFirst, IsPut, IsStep, Opens, Resumes, Steps, after_at, closed_of, open_of, waiting_of};
+ghost use Rattle.al_yaml.specs.FlowFrames.{IsFirst, IsNested, IsOpenTo, IsPut, IsStep, Opens, Resumes, Steps, after_at, closed_of, open_of, waiting_of};
 ghost use Rattle.al_yaml.specs.Frames as frames;
 ghost use Rattle.al_yaml.specs.Frames.{open_rest};
 ghost use Rattle.al_yaml.specs.Limits.{broken_limit};
-ghost use Rattle.al_yaml.specs.Places.{IsReadInside, Shows, option_lines};
+ghost use Rattle.al_yaml.specs.Places.{Shows};
 ghost use Rattle.al_yaml.specs.Reading.{start_of};
-ghost use Rattle.al_yaml.specs.Reads.{IsAfter, IsBehind, IsColonInside, IsKeyInside, IsRead};
-ghost use Rattle.al_yaml.specs.Reads.{IsStopInside, after_of, counted, flow_key_of, part_of, run};
+ghost use Rattle.al_yaml.specs.Reads.{IsAfter, IsBehind, IsRead};
+ghost use Rattle.al_yaml.specs.Reads.{IsStopInside, after_of, counted, part_of, run};
 ghost use Rattle.al_yaml.specs.Spans.{ArePlacedIn, EntriesPlacedIn, IsPlacedIn};
 ghost use Rattle.al_yaml.specs.View.{entries_of, entry_view, nodes_of, view};
 ghost use Rattle.al_yaml.specs.declared.flow.Open.TheVariants as open_code;
@@ -24,14 +22,12 @@ ghost use Rattle.std.specs.Prelude.{IfErr, IfOk, None, [], length, map, suc, tru
 use crate::content::gap;
 use crate::faults::ReadError;
 use crate::file::{File, Progress};
-use crate::keys::{behind_flow_colon, is_late_colon, is_simple_key};
+use crate::flow_nodes::{Found, FoundKey, read_flow_key, read_flow_node, read_flow_value};
 use crate::limits::Count;
 use crate::lines::is_text_end;
 use crate::node::{Entry, Node, Part, entry_of, mapping_part, scalar_node, sequence_part};
-use crate::scalars::{empty_part, scalar_at, scalar_part};
-use crate::starts::{flow_fault, is_flow_start, is_property, is_quote};
 use al_scalar::lines::begins;
-use al_scalar::{FaultAt, ScalarContext, ScalarRead};
+use al_scalar::{FaultAt, ScalarRead};
 use al_text::YamlCode;
 
 /// What stands behind an item: a comma, with the offset of what follows it, or the closer, with the offset behind it.
@@ -39,28 +35,6 @@ use al_text::YamlCode;
 pub enum After {
     GoesOn(usize),
     Closes(usize),
-}
-
-/// The key of a flow mapping's entry, and the offset behind its colon if it has one.
-#[derive(Drop)]
-pub struct FlowKey {
-    pub read: ScalarRead,
-    pub colon: Option<usize>,
-}
-
-/// What stands where a node is due in a flow collection: a scalar or an empty node, which was read, or the bracket of a
-/// collection.
-#[derive(Drop)]
-pub enum Found {
-    Node(Part),
-    Opens(usize),
-}
-
-/// What stands where a key is due in a flow mapping: a scalar, which was read, or the bracket of a collection.
-#[derive(Drop)]
-pub enum FoundKey {
-    Key(FlowKey),
-    Opens,
 }
 
 /// What was read of an open flow collection, up to an item, an entry or the closer; of a mapping also the key whose value
@@ -111,123 +85,6 @@ fn after_item(bytes: &[u8], opening: usize, close: u8, at: usize) -> Result<Afte
         code: YamlCode::UnexpectedCharacter,
         at,
     })
-}
-
-/// The offset behind the colon of the key that a scalar in a flow mapping is, if it has one.
-fn key_colon(bytes: &[u8], at: usize, read: &ScalarRead) -> Result<Option<usize>, FaultAt>
-    requires at { at ≤ length bytes.now }
-    requires inside { IsReadInside bytes.now at read.now }
-    ensures fault { IfErr result (λ f. f.at ≤ length bytes.now) }
-    ensures is { Shows (option_lines bytes.now) (flow.key_colon (lines_at bytes.now at) (read_of bytes.now read.now)) result }
-    ensures inside { IfOk result (λ colon. IsColonInside read.now.next (length bytes.now) colon) }
-{
-    let wrong = FaultAt {
-        code: YamlCode::WrongKey,
-        at,
-    };
-    if !is_simple_key(bytes, at, read) {
-        return Err(wrong);
-    }
-    if let Some(next) = behind_flow_colon(bytes, read.next, is_quote(bytes, at)) {
-        return Ok(Some(next));
-    }
-    if is_late_colon(bytes, read.next) {
-        return Err(wrong);
-    }
-    Ok(None)
-}
-
-/// Reads the key of a flow mapping's entry, if no collection stands there.
-fn read_flow_key(file: &File, count: &mut Count, at: usize) -> Result<FoundKey, ReadError>
-    requires inside { at ≤ size file.now }
-    ensures fault { IfErr result (IsStopInside (size file.now)) }
-    ensures is { (depth : ℕ) →
-        FindsKey file.now.bytes.now at
-        (λ collection. flow.flow_key collection depth (left_at file.now at)) depth count.old.nodes result count.new.nodes }
-    ensures within { IfOk result (λ key. IsFoundKey file.now.bytes.now at key) }
-{
-    if let Some(code) = flow_fault(file.bytes, at) {
-        return Err(ReadError::Fault(FaultAt { code, at }));
-    }
-    if is_property(file.bytes, at) {
-        return Err(ReadError::Fault(FaultAt {
-            code: YamlCode::AnchorOrAlias,
-            at,
-        }));
-    }
-    if is_flow_start(file.bytes, at) {
-        return Ok(FoundKey::Opens);
-    }
-    let read = scalar_at(file.alloc, file.bytes, at, ScalarContext::Flow)?;
-    let colon = key_colon(file.bytes, at, &read)?;
-    count.start(at, 1, 0)?;
-    Ok(FoundKey::Key(FlowKey { read, colon }))
-}
-
-/// Whether a comma or a closing brace stands at an offset.
-fn ends_value(bytes: &[u8], at: usize) -> bool
-    requires { at ≤ length bytes.now }
-    ensures { result ≡ (line.begins 44 (text_at bytes.now at) || line.begins 125 (text_at bytes.now at)) }
-{
-    begins(bytes, at, b',') || begins(bytes, at, b'}')
-}
-
-/// Reads a node in a flow collection, if it is no collection.
-fn read_flow_node(file: &File, count: &mut Count, at: usize) -> Result<Found, ReadError>
-    requires inside { at ≤ size file.now }
-    ensures fault { IfErr result (IsStopInside (size file.now)) }
-    ensures is { (depth : ℕ) (slot : flow.FlowSlot) → Finds file.now.bytes.now (λ collection. flow.flow_node_over collection slot depth
-        (left_at file.now at)) depth count.old.nodes result count.new.nodes }
-    ensures within { IfOk result (λ found. IsFound file.now.bytes.now at at found) }
-{
-    if is_property(file.bytes, at) {
-        return Err(ReadError::Fault(FaultAt {
-            code: YamlCode::AnchorOrAlias,
-            at,
-        }));
-    }
-    if let Some(code) = flow_fault(file.bytes, at) {
-        return Err(ReadError::Fault(FaultAt { code, at }));
-    }
-    if is_flow_start(file.bytes, at) {
-        return Ok(Found::Opens(at));
-    }
-    count.start(at, 1, 0)?;
-    let read = scalar_at(file.alloc, file.bytes, at, ScalarContext::Flow)?;
-    let next = read.next;
-    Ok(Found::Node(scalar_part(read, next)))
-}
-
-/// Reads the value of a flow mapping's entry, which may be empty, if it is no collection.
-fn read_flow_value(
-    file: &File,
-    count: &mut Count,
-    opening: usize,
-    key: &FlowKey,
-) -> Result<Found, ReadError>
-    requires inside { IsKeyInside file.now.bytes.now key.now.read.span.start key.now }
-    requires opening { opening ≤ size file.now }
-    ensures fault { IfErr result (IsStopInside (size file.now)) }
-    ensures is { (depth : ℕ) → Finds file.now.bytes.now (λ collection. flow.flow_entry_value (flow.flow_node_over collection) opening depth
-        (flow_key_of file.now.bytes.now key.now)) depth count.old.nodes result count.new.nodes }
-    ensures within { IfOk result (λ found. IsFound file.now.bytes.now key.now.read.span.start key.now.read.span.end found) }
-{
-    let Some(colon) = key.colon else {
-        let part = empty_part(file, count, key.read.span.end as usize, key.read.next)?;
-        return Ok(Found::Node(part));
-    };
-    let at = gap(file.bytes, colon);
-    if is_text_end(file.bytes, at) {
-        return Err(ReadError::Fault(FaultAt {
-            code: YamlCode::UnclosedFlow,
-            at: opening,
-        }));
-    }
-    if ends_value(file.bytes, at) {
-        let part = empty_part(file, count, colon, at)?;
-        return Ok(Found::Node(part));
-    }
-    read_flow_node(file, count, at)
 }
 
 /// Puts an item that was read into its sequence, and reads what stands behind it.
