@@ -80,6 +80,7 @@ pub enum BlockTask {
 }
 
 /// Finds the node behind a dash or a colon: on the line, or else below it; or reads the empty node.
+#[inline(always)]
 fn find_rest(
     file: &File,
     count: &mut Count,

@@ -63,6 +63,7 @@ pub enum FlowStep {
 }
 
 /// What stands behind an item or entry and the gap behind it.
+#[inline(always)]
 fn after_item(bytes: &[u8], opening: usize, close: u8, at: usize) -> Result<After, FaultAt>
     requires inside { at ≤ length bytes.now }
     requires opening { opening ≤ length bytes.now }
@@ -89,6 +90,7 @@ fn after_item(bytes: &[u8], opening: usize, close: u8, at: usize) -> Result<Afte
 }
 
 /// Puts an item that was read into its sequence, and reads what stands behind it.
+#[inline(always)]
 fn put_item(
     file: &File,
     opening: usize,
@@ -111,6 +113,7 @@ fn put_item(
 }
 
 /// Puts an entry whose value was read into its mapping, and reads what stands behind it.
+#[inline(always)]
 fn put_entry(
     file: &File,
     opening: usize,
@@ -167,6 +170,7 @@ fn read_item(
 }
 
 /// Reads an open mapping to what stands behind its next entry, to its closer or to a bracket in it.
+#[inline(never)]
 fn read_entry(
     file: &File,
     count: &mut Count,
@@ -233,6 +237,7 @@ fn read_inside(
 }
 
 /// Hands a collection that was read to the one that waited for it, and reads what stands behind it.
+#[inline(always)]
 fn resume(
     file: &File,
     opening: usize,
@@ -275,6 +280,7 @@ fn first_inside(bytes: &[u8], close: u8, at: usize) -> After
 }
 
 /// The collection whose bracket or brace stands at an offset, with nothing in it yet, and what stands first in it.
+#[inline(always)]
 fn open_at(file: &File, at: usize) -> (Open, After)
     requires inside { at < size file.now }
     requires bracket { content.is_flow_start (text_at file.now.bytes.now at) ≡ true }
@@ -298,6 +304,7 @@ fn open_at(file: &File, at: usize) -> (Open, After)
 }
 
 /// The collection that was read from its bracket up to behind its closer.
+#[inline(always)]
 fn closed_part(opening: usize, has: Open, end: usize) -> Part
     requires start { opening < 2 ^ 32 }
     requires end { end < 2 ^ 32 }

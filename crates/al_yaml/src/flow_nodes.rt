@@ -105,6 +105,7 @@ fn ends_value(bytes: &[u8], at: usize) -> bool
 }
 
 /// Reads a node in a flow collection, if it is no collection.
+#[inline(always)]
 pub fn read_flow_node(file: &File, count: &mut Count, at: usize) -> Result<Found, ReadError>
     requires inside { at ≤ size file.now }
     ensures fault { IfErr result (IsStopInside (size file.now)) }

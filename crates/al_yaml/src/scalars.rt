@@ -22,6 +22,7 @@ use al_scalar::{FaultAt, ScalarContext, ScalarRead, read_scalar};
 use std::alloc::Global;
 
 /// Reads the scalar at an offset.
+#[inline(always)]
 pub fn scalar_at(
     alloc: Global,
     bytes: &[u8],
