@@ -1,8 +1,8 @@
 -- Behind the text every place is the scalar's end.
-use Rattle.std.proofs.Common.{◌≡◌, ℕ, zero, suc, ◌≤◌, List, [], ◌∷◌, length, refl, sym, ap, ◌∙◌, arith, map}
+use Rattle.std.proofs.Common.{◌≡◌, ℕ, suc, ◌≤◌, List, [], ◌∷◌, length, refl, sym, ap, ◌∙◌, arith, map}
 use Rattle.al_scalar.proofs.Locating.{offset_or-end}
 use Rattle.al_scalar.specs.Line.{Cell}
-use Rattle.al_scalar.specs.Scalar.{Scalar, offset_of, offset_or, text_of}
+use Rattle.al_scalar.specs.Scalar.{Scalar, offset_of, text_of}
 
 pub length_text : (cs : List Cell) → length (map (λ (c : Cell). c.0) cs) ≡ length cs
 length_text [] = refl

@@ -11,7 +11,7 @@ use Rattle.al_types.specs.declared.names.Context.{Context}
 use Rattle.al_types.specs.declared.names.Context.TheVariants as context
 use Rattle.al_yaml.specs.Node.{Node}
 use Rattle.al_shape.specs.Keys.{key_of}
-use Rattle.al_shape.specs.Values.{entries_at, items_at, text_at, texts_at, value_at}
+use Rattle.al_shape.specs.Values.{entries_at, items_at, text_at, texts_at}
 use Rattle.al_tree.specs.declared.files.FileKind.{FileKind}
 use Rattle.al_tree.specs.declared.files.FileKind.TheVariants as kind
 use Rattle.al_places.specs.Positions.{Position, Section, apart, in_on, in_job, Seen, no_step, before, every_step}

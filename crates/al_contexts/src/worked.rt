@@ -4,7 +4,7 @@ ghost use Rattle.al_contexts.specs.RowMatrices as matrices;
 ghost use Rattle.al_contexts.specs.RowWords.{holds};
 ghost use Rattle.al_contexts.specs.RowWorkflows as workflows;
 ghost use Rattle.al_tree.specs.declared.files.FileKind.TheVariants as kind;
-ghost use Rattle.al_types.specs.Types.{Any, ArrayOf, Bool', FieldThen, Loose, NoField, Null, Number, ObjectOf, Strict, String};
+ghost use Rattle.al_types.specs.Types.{Any, ArrayOf, Bool', FieldThen, Loose, NoField, Number, ObjectOf, Strict, String};
 ghost use Rattle.std.specs.Prelude.{◌≡◌, [], ◌∷◌, codes, true};
 
 /// The types of contexts at places of small files: where the place starts, the context, and its type. Does nothing.

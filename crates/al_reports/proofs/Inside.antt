@@ -1,9 +1,9 @@
 -- Nodes and texts that lie in a file, under any key, and faults that name them.
-use Rattle.std.specs.Prelude.{ℕ, ◌≤◌, Bool, true, false, List, [], ◌∷◌, ◌++◌, map, Option, Some, None, IfSome, find, option_and_then, option_map}
+use Rattle.std.specs.Prelude.{ℕ, ◌≤◌, Bool, true, false, List, [], ◌∷◌, ◌++◌, Option, Some, None, IfSome, find, option_and_then}
 use Rattle.std.proofs.Common.{cond, arith}
-use Rattle.std.specs.List.{AllByRecursion, cons_option, filter_map, flat_map}
+use Rattle.std.specs.List.{AllByRecursion, filter_map}
 use Rattle.std.specs.Option.{option_map_or, option_to_list}
-use Rattle.al_text.proofs.Elements.{and_some, each_as, each_both, each_either, each_of, each_some, found_one, map_or, map_some, to_list}
+use Rattle.al_text.proofs.Elements.{and_some, each_both, each_either, each_some, found_one, map_or, map_some, to_list}
 use Rattle.al_text.specs.Spans.{LiesIn}
 use Rattle.al_text.specs.declared.codes.RuleCode.{RuleCode}
 use Rattle.al_text.specs.declared.faults.Fault.{Fault}
@@ -16,8 +16,6 @@ use Rattle.al_yaml.specs.Node.{Node, Nodes, Entries, scalar, sequence, mapping, 
 use Rattle.al_yaml.specs.Spans.{AreInOrder, EntriesInOrder, IsBetween, IsWithin}
 use Rattle.al_shape.proofs.Lists.{firsts_kept}
 use Rattle.al_shape.specs.Faults.{is_key, is_null, value_in}
-use Rattle.al_shape.specs.Keys.{key_of}
-use Rattle.al_shape.specs.Names.{among}
 use Rattle.al_shape.specs.Values.{entries_at, entries_in, firsts, items_at, items_in, key_at, key_in, text_at, text_below, text_in, texts_at, texts_in, unless_null, value_at, value_below}
 use Rattle.al_reports.specs.Words.{Named, about, fault, of_key, of_scalar, unless}
 

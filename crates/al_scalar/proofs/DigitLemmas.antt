@@ -1,10 +1,10 @@
 -- Hexadecimal digits against offsets.
-use Rattle.std.proofs.Common.{◌≡◌, ℕ, zero, suc, ◌+◌, ◌-◌, ◌*◌, ◌^◌, ◌<◌, ◌≤◌, lit<, List, [], ◌∷◌, ◌++◌, length, take, slice_index, refl, sym, ap, ◌∙◌, arith, append_assoc, Option, Some, None}
+use Rattle.std.proofs.Common.{◌≡◌, ℕ, suc, ◌+◌, ◌-◌, ◌*◌, ◌^◌, ◌<◌, ◌≤◌, lit<, List, [], ◌∷◌, ◌++◌, length, take, slice_index, refl, sym, ap, ◌∙◌, arith, append_assoc, Option, Some, None}
 use Rattle.std.proofs.Math.Nat.{pow-le-pow_right}
 use Rattle.std.proofs.Math.Seq.{take-append-add}
 use Rattle.al_scalar.specs.Line.{Cell}
 use Rattle.al_scalar.specs.Quoted.{hex_digit, hex_push, hex_value}
-use Rattle.al_scalar.specs.Places.{text_at, cells_at, cells_between}
+use Rattle.al_scalar.specs.Places.{text_at, cells_between}
 use Rattle.al_scalar.specs.Double.{Between}
 use Rattle.al_scalar.proofs.BlockLemmas.{length-cells_between}
 use Rattle.al_scalar.proofs.LineLemmas.{cells_between-more, cells_between-none}

@@ -14,11 +14,11 @@ ghost use Rattle.al_yaml.specs.Limits.{broken_limit};
 ghost use Rattle.al_yaml.specs.Places.{Shows};
 ghost use Rattle.al_yaml.specs.Reading.{start_of};
 ghost use Rattle.al_yaml.specs.Reads.{IsAfter, IsBehind, IsRead};
-ghost use Rattle.al_yaml.specs.Reads.{IsStopInside, after_of, counted, part_of, run};
+ghost use Rattle.al_yaml.specs.Reads.{IsStopInside, after_of, part_of};
 ghost use Rattle.al_yaml.specs.Spans.{ArePlacedIn, EntriesPlacedIn, IsPlacedIn};
 ghost use Rattle.al_yaml.specs.View.{entries_of, entry_view, nodes_of, view};
 ghost use Rattle.al_yaml.specs.declared.flow.Open.TheVariants as open_code;
-ghost use Rattle.std.specs.Prelude.{IfErr, IfOk, None, [], length, map, suc, true, ℕ, ◌+◌, ◌<◌, ◌^◌, ◌||◌, ◌∷◌, ◌≡◌, ◌≤◌};
+ghost use Rattle.std.specs.Prelude.{IfErr, IfOk, None, [], length, map, true, ℕ, ◌+◌, ◌<◌, ◌^◌, ◌∷◌, ◌≡◌, ◌≤◌};
 
 use crate::content::gap;
 use crate::faults::ReadError;
