@@ -1,12 +1,12 @@
--- What the first byte of a list is.
+-- What a list of bytes, or of characters, begins with.
 use Rattle.std.specs.Prelude.{ℕ, List, [], ◌∷◌, Bool, false, ◌==◌}
 
--- whether the first byte passes a test
+-- whether the first one passes a test
 abbrev pub first_is : (ℕ → Bool) → List ℕ → Bool
 first_is p [] = false
 first_is p (b ∷ bs) = p b
 
--- whether the first byte is a given one
+-- whether the first one is a given one
 abbrev pub begins_with : ℕ → List ℕ → Bool
 begins_with c [] = false
 begins_with c (b ∷ bs) = b == c
