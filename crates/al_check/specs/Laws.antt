@@ -1,6 +1,7 @@
 -- What holds of every file: each of its faults lies in it, and they are in the order of reports, each once.
-use Rattle.std.specs.Prelude.{◌≤◌, ℕ, List, [], ◌∷◌, ◌++◌, length, map, false, Ok, Err, Result, IfOk}
-use Rattle.std.specs.List.{AllByRecursion}
+use Rattle.std.specs.Prelude.{◌≡◌, suc, Option, Some, None, option_map, ◌≤◌, ℕ, List, [], ◌∷◌, ◌++◌, length, map, Ok, Err, Result, IfOk}
+use Rattle.std.specs.List.{AllByRecursion, cons_option}
+use Rattle.std.proofs.Common.{ap, refl}
 use Rattle.std.proofs.lemmas.List.Elements.{recursion_from_All}
 use Rattle.al_scalar.specs.Taken as yaml
 use Rattle.al_shape.proofs.Inside.{root_lies}
@@ -13,12 +14,17 @@ use Rattle.al_tree.specs.Files.{shape_of}
 use Rattle.al_tree.specs.declared.files.FileKind.{FileKind}
 use Rattle.al_yaml.specs.Document.{tree_of}
 use Rattle.al_yaml.specs.Node.{Node}
-use Rattle.al_yaml.specs.Spans.{AreFrom, IsInside, IsWithin}
-use Rattle.al_yaml_laws.proofs.SpanRoot.{tree-from, tree-in, tree-inside, tree-within}
-use Rattle.al_yaml_laws.specs.Inside.{IsTreeIn}
+use Rattle.al_yaml.specs.Spans.{AreFrom, IsInside, IsLaid}
+use Rattle.al_yaml.proofs.LaidRoot.{tree-from, tree-inside, tree-laid, tree-laid_in}
+use Rattle.al_yaml.specs.Laws.{IsTreeLaid}
 use Rattle.al_contents.proofs.Inside.{expression_faults_lie}
 use Rattle.al_contents.specs.FileExpressions.{expression_faults}
-use Rattle.al_uses.specs.Uses.{calls_in}
+use Rattle.al_uses.specs.Uses.{Call, calls_in, target_in, targets_of}
+use Rattle.al_uses.proofs.Inside.{calls_lie}
+use Rattle.al_folder.specs.Meaning.{CallSite}
+use Rattle.al_folder.specs.declared.lint.Target.{Target}
+use Rattle.al_check.specs.Calling.{file_targets, targets_given}
+use Rattle.al_check.specs.Sites.{file_sites, site_of_call, sites_given, sites_of}
 use Rattle.al_calls.proofs.Inside.{call_faults_lie}
 use Rattle.al_calls.specs.Answers.{Answered, answered}
 use Rattle.al_file_calls.specs.FileCalls.{behind_faults, call_faults, known_by, typing}
@@ -36,7 +42,7 @@ printed_lie : (size : ℕ) (faults : List Fault) → AllLie size faults → AllL
 printed_lie size [] l = tt
 printed_lie size (f ∷ fs) l = (l.0, printed_lie size fs l.1)
 
-module _ (size : ℕ) (kind : FileKind) (root : Node) (i : IsInside size root) (w : IsWithin 0 size root) (f : AreFrom size root)
+module _ (size : ℕ) (kind : FileKind) (root : Node) (i : IsInside size root) (w : IsLaid size root) (f : AreFrom size root)
     (answers : Answers) where
   abbrev asked : List Answered
   asked = answered (calls_in kind root) answers
@@ -61,8 +67,8 @@ module _ (size : ℕ) (kind : FileKind) (root : Node) (i : IsInside size root) (
       AllByRecursion-fault_list (λ (x : Fault). LiesIn size x.span) (map printed (found_in kind root answers))
       (printed_lie size (found_in kind root answers) found_lie)
 
-given_lies : (kind : FileKind) (bytes : List ℕ) (answers : Answers) (read : Result Node yaml.Fault) → IsTreeIn bytes read →
-    IfOk read (IsInside (length bytes)) → IfOk read (IsWithin 0 (length bytes)) → IfOk read (AreFrom (length bytes)) →
+given_lies : (kind : FileKind) (bytes : List ℕ) (answers : Answers) (read : Result Node yaml.Fault) → IsTreeLaid bytes read →
+    IfOk read (IsInside (length bytes)) → IfOk read (IsLaid (length bytes)) → IfOk read (AreFrom (length bytes)) →
     AllLie (length bytes) (faults_given kind bytes answers read)
 given_lies kind bytes answers (Ok root) there i w f = document_lies (length bytes) kind root i w f answers
 given_lies kind bytes answers (Err fault) there i w f = (there, tt)
@@ -70,7 +76,7 @@ given_lies kind bytes answers (Err fault) there i w f = (there, tt)
 pub faults_inside : (kind : FileKind) (bytes : List ℕ) (answers : Answers) → length bytes ≤ 1048576 →
     AllLie (length bytes) (file_faults kind bytes answers)
 faults_inside kind bytes answers small =
-    given_lies kind bytes answers (tree_of false bytes) (tree-in bytes) (tree-inside bytes) (tree-within bytes small) (tree-from bytes)
+    given_lies kind bytes answers (tree_of bytes) (tree-laid_in bytes) (tree-inside bytes) (tree-laid bytes small) (tree-from bytes)
 
 one_sorted : (f : Fault) → IsStrictlySortedBy fault_cmp (f ∷ [])
 unfolding IsStrictlySortedBy
@@ -83,4 +89,42 @@ given_ordered kind bytes answers (Err fault) = one_sorted _
 
 pub faults_ordered : (kind : FileKind) (bytes : List ℕ) (answers : Answers) →
     IsStrictlySortedBy fault_cmp (file_faults kind bytes answers)
-faults_ordered kind bytes answers = given_ordered kind bytes answers (tree_of false bytes)
+faults_ordered kind bytes answers = given_ordered kind bytes answers (tree_of bytes)
+
+-- each call has a site
+
+sited_calls : (cs : List Call) → length (sites_of cs) ≡ length (targets_of cs)
+sited_calls [] = refl
+sited_calls (c ∷ cs) = put (target_in c.form) (sited_calls cs)
+  where
+    put : (o : Option Target) → length (sites_of cs) ≡ length (targets_of cs) →
+        length (cons_option (option_map (site_of_call c) o) (sites_of cs)) ≡ length (cons_option o (targets_of cs))
+    put None h = h
+    put (Some t) h = ap suc h
+
+given_sited : (kind : FileKind) (read : Result Node yaml.Fault) → length (sites_given kind read) ≡ length (targets_given kind read)
+given_sited kind (Ok root) = sited_calls (calls_in kind root)
+given_sited kind (Err fault) = refl
+
+pub each_sited : (kind : FileKind) (bytes : List ℕ) → length (file_sites kind bytes) ≡ length (file_targets kind bytes)
+each_sited kind bytes = given_sited kind (tree_of bytes)
+
+-- and it lies in the file
+
+abbrev SitesLie : ℕ → List CallSite → Type 0
+SitesLie size sites = AllByRecursion (λ (s : CallSite). LiesIn size s.span) sites
+
+calls_sites_lie : (size : ℕ) (cs : List Call) → AllByRecursion (λ (c : Call). LiesIn size c.at × IsInside size c.node) cs → SitesLie size (sites_of cs)
+calls_sites_lie size [] h = tt
+calls_sites_lie size (c ∷ cs) h = put (target_in c.form) (calls_sites_lie size cs h.1)
+  where
+    put : (o : Option Target) → SitesLie size (sites_of cs) → SitesLie size (cons_option (option_map (site_of_call c) o) (sites_of cs))
+    put None rest = rest
+    put (Some t) rest = (h.0.0, rest)
+
+given_sites_lie : (kind : FileKind) (bytes : List ℕ) (read : Result Node yaml.Fault) → IfOk read (IsInside (length bytes)) → SitesLie (length bytes) (sites_given kind read)
+given_sites_lie kind bytes (Ok root) i = calls_sites_lie (length bytes) (calls_in kind root) (calls_lie (length bytes) kind root i)
+given_sites_lie kind bytes (Err fault) i = tt
+
+pub sites_inside : (kind : FileKind) (bytes : List ℕ) → SitesLie (length bytes) (file_sites kind bytes)
+sites_inside kind bytes = given_sites_lie kind bytes (tree_of bytes) (tree-inside bytes)

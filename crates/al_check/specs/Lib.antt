@@ -1,7 +1,7 @@
 pub mod RuleFaults
 pub mod FileFaults
+pub mod Sites
 pub mod Reading
-pub mod Walks
 pub mod RuleSets
 pub mod Calling
 pub mod Linting

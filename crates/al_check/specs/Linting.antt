@@ -1,9 +1,10 @@
 -- What the linter means.
-use Rattle.al_session.specs.Meaning.{Meaning}
+use Rattle.al_folder.specs.Meaning.{Meaning}
 use Rattle.al_tree.specs.Kinds.{is_accepted, file_kind}
 use Rattle.al_interfaces.specs.declared.interfaces.Interface.{Interface}
 use Rattle.al_check.specs.Calling.{file_interface, file_targets}
 use Rattle.al_check.specs.FileFaults.{file_faults}
+use Rattle.al_check.specs.Sites.{file_sites}
 
 -- Of a file's path only its kind counts: a workflow's or an action's.
 abbrev pub linting : Meaning Interface
@@ -12,4 +13,5 @@ linting = record {
   calls = λ path bytes. file_targets (file_kind path) bytes;
   interface = λ path bytes. file_interface (file_kind path) bytes;
   faults = λ path bytes answers. file_faults (file_kind path) bytes answers;
+  sites = λ path bytes. file_sites (file_kind path) bytes;
 }

@@ -1,5 +1,5 @@
 -- What reading a file gave.
-use Rattle.std.specs.Prelude.{◌≡◌, ℕ, List, length, false, Result, Ok, Err}
+use Rattle.std.specs.Prelude.{◌≡◌, ℕ, List, length, map, Result, Ok, Err}
 use Rattle.al_scalar.specs.declared.faults.YamlFault.{YamlFault}
 use Rattle.al_text.specs.Spans.{LiesIn}
 use Rattle.al_tree.specs.declared.files.FileKind.{FileKind}
@@ -9,9 +9,10 @@ use Rattle.al_tree.specs.declared.files.Tree.TheVariants as tree
 use Rattle.al_yaml.specs.ByteFaults.{fault_span}
 use Rattle.al_yaml.specs.Document.{tree_of}
 use Rattle.al_yaml.specs.Node.{Node}
-use Rattle.al_yaml.specs.Spans.{AreFrom, IsInside, IsWithin}
+use Rattle.al_yaml.specs.Spans.{AreFrom, IsInside, IsLaid}
 use Rattle.al_yaml.specs.Texts.{HasTexts}
 use Rattle.al_yaml.specs.View.{view}
+use Rattle.al_check.specs.Sites.{file_sites, kept_site}
 use Rattle.al_check.specs.declared.files.ReadFile.{ReadFile}
 
 abbrev pub root_of : Tree → Node
@@ -25,16 +26,15 @@ kind_in (tree.Action a) = kind.Action
 -- the document of these bytes, which lies in them, as a file of this kind
 pub record IsTree (file : FileKind) (bytes : List ℕ) (t : Tree) : Type 0 where
   pub kind_is : kind_in t ≡ file
-  pub root_is : tree_of false bytes ≡ Ok (root_of t)
+  pub root_is : tree_of bytes ≡ Ok (root_of t)
   pub inside : IsInside (length bytes) (root_of t)
-  pub nested : IsWithin 0 (length bytes) (root_of t)
-  pub within : IsWithin 0 1048576 (root_of t)
+  pub laid : IsLaid 1048576 (root_of t)
   pub texts : HasTexts (root_of t)
   pub from : AreFrom (length bytes) (root_of t)
 
 -- their fault as YAML, which lies in them
 pub record IsFault (bytes : List ℕ) (f : YamlFault) : Type 0 where
-  pub fault_is : tree_of false bytes ≡ Err (record { code = f.code; at = f.span.start })
+  pub fault_is : tree_of bytes ≡ Err (record { code = f.code; at = f.span.start })
   pub span_is : f.span ≡ fault_span bytes f.span.start
   pub inside : LiesIn (length bytes) f.span
 
@@ -44,3 +44,4 @@ IsGiven file bytes (Err f) = IsFault bytes f
 
 pub record IsRead (read : ReadFile) (file : FileKind) (bytes : List ℕ) : Type 0 where
   pub given : IsGiven file bytes read.tree
+  pub sites : map kept_site read.calls.items ≡ file_sites file bytes

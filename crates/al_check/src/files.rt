@@ -1,16 +1,22 @@
 //! Files as they are read, and the faults of each.
-ghost use Rattle.std.specs.Prelude.{◌≡◌, ◌≤◌, ◌++◌, [], ◌∷◌, false, length, map, IfOk, OnOk};
+ghost use Rattle.std.specs.Prelude.{◌≡◌, ◌≤◌, ◌++◌, [], ◌∷◌, length, map, IfOk, OnOk, IsUtf8};
+ghost use Rattle.std.specs.List.{AllByRecursion, cons_option};
 ghost use Rattle.std.specs.Option.{option_copied};
 ghost use Rattle.al_shape.specs.Faults.{root_faults};
 ghost use Rattle.al_text.specs.Growth.{SameSet};
 ghost use Rattle.al_text.specs.FaultLists.{fault_list};
 ghost use Rattle.al_tree.specs.Files.{shape_of};
 ghost use Rattle.al_yaml.specs.Document.{tree_of};
-ghost use Rattle.al_yaml.specs.Spans.{AreFrom, IsInside, IsWithin};
+ghost use Rattle.al_yaml.specs.Spans.{AreFrom, IsInside, IsLaid};
 ghost use Rattle.al_yaml.specs.Texts.{HasTexts};
 ghost use Rattle.al_yaml.specs.View.{view};
 ghost use Rattle.al_interfaces.specs.Interfaces as interfaces;
 ghost use Rattle.al_uses.specs.Uses as uses;
+ghost use Rattle.al_uses.specs.CallViews.{call_of};
+ghost use Rattle.al_calls.specs.CallFaults as call_faults;
+ghost use Rattle.al_scalar.specs.Scalar.{text_of};
+ghost use Rattle.al_folder.specs.declared.lint.Target.{Target};
+ghost use Rattle.al_check.specs.Sites as sites;
 ghost use Rattle.al_file_calls.specs.FileCalls as calls;
 ghost use Rattle.al_check.specs.FileFaults as faults;
 ghost use Rattle.al_check.specs.Calling.{shown_by, targets_of};
@@ -19,21 +25,31 @@ ghost use Rattle.al_check.specs.RuleFaults.{rule_faults};
 
 use crate::printing::printed;
 use al_file_calls::behind_faults;
+use al_folder::Target;
 use al_interfaces::{Interface, interface_of};
 use al_rules::rules;
 use al_scalar::YamlFault;
-use al_session::Target;
 use al_shape::{Shape, shape_faults};
-use al_text::{Args, Code, Fault, ordered};
+use al_text::{Args, Caller, Code, Fault, Span, ordered};
 use al_tree::{Action, FileKind, Tree, Workflow};
-use al_uses::{calls_in, targets};
-use al_yaml::{Doc, read_yaml};
+use al_uses::{Call, Form, calls_in, targets};
+use al_yaml::{Doc, Node};
+use al_yaml_reader::read_yaml;
 use std::alloc::{AllocError, Global};
 
-/// A file as it was read: a workflow or an action, or its fault as YAML.
+/// A call of a file of the folder: whether a job or a step calls, the span of `uses`, and its text.
+#[derive(Drop)]
+pub(crate) struct LocalCall {
+    pub(crate) caller: Caller,
+    pub(crate) span: Span,
+    pub(crate) text: String,
+}
+
+/// A file as it was read: a workflow or an action, or its fault as YAML; and its calls of files of the folder.
 #[derive(Drop)]
 pub struct ReadFile {
     pub(crate) tree: Result<Tree, YamlFault>,
+    pub(crate) calls: Vec<LocalCall>,
 }
 
 /// A document as a workflow or an action.
@@ -48,18 +64,84 @@ fn tree_as(kind: FileKind, doc: Doc) -> Tree
 }
 
 /// A document that was read from these bytes, as a workflow or an action.
-fn read_tree(kind: FileKind, bytes: &[u8], doc: Doc) -> ReadFile
+fn read_tree(kind: FileKind, bytes: &[u8], doc: Doc, calls: Vec<LocalCall>) -> ReadFile
     requires small { length bytes.now ≤ 1048576 }
-    requires root { tree_of false bytes.now ≡ Ok (view doc.root) }
+    requires root { tree_of bytes.now ≡ Ok (view doc.root) }
     requires inside { IsInside (length bytes.now) (view doc.root) }
-    requires nested { IsWithin 0 (length bytes.now) (view doc.root) }
+    requires laid { IsLaid (length bytes.now) (view doc.root) }
     requires texts { HasTexts (view doc.root) }
     requires from { AreFrom (length bytes.now) (view doc.root) }
+    requires calls { map sites.kept_site calls.items ≡ sites.sites_of (uses.calls_in kind (view doc.root)) }
     ensures { IsRead result kind bytes.now }
 {
     ReadFile {
         tree: Ok(tree_as(kind, doc)),
+        calls,
     }
+}
+
+/// Who calls.
+fn caller_of(call: &Call<'_>) -> Caller
+    ensures { result ≡ call_faults.caller_of (call_of call.now) }
+{
+    match call.site.step {
+        Some(_) => Caller::Step,
+        None => Caller::Job,
+    }
+}
+
+/// What is kept of a local call.
+fn local_call(alloc: Global, call: &Call<'_>) -> Result<LocalCall, AllocError>
+    requires { IsUtf8 (text_of (call_of call.now).uses) }
+    ensures { (t : Target) → IfOk result (λ c. sites.kept_site c ≡ sites.site_of_call (call_of call.now) t) }
+{
+    Ok(LocalCall {
+        caller: caller_of(call),
+        span: call.uses.span,
+        text: String::from_str(alloc, call.uses.scalar.as_str())?,
+    })
+}
+
+/// Adds a call, if it is one of a file of the folder.
+fn add_local_call(
+    alloc: Global,
+    call: &Call<'_>,
+    found: &mut Vec<LocalCall>,
+) -> Result<(), AllocError>
+    requires { IsUtf8 (text_of (call_of call.now).uses) }
+    ensures { OnOk result (map sites.kept_site found.new.items
+        ≡ map sites.kept_site found.old.items ++ cons_option (sites.site_in (call_of call.now)) []) }
+{
+    match &call.form {
+        Form::Local(_) => {
+            found.push(local_call(alloc, call)?)?;
+            Ok(())
+        }
+        Form::Other => Ok(()),
+        Form::Wrong => Ok(()),
+    }
+}
+
+/// The calls of files of the folder, of these.
+fn local_calls(alloc: Global, calls: &[Call<'_>]) -> Result<Vec<LocalCall>, AllocError>
+    requires { AllByRecursion (λ c. IsUtf8 (text_of (call_of c).uses)) calls.now }
+    ensures { IfOk result (λ found. map sites.kept_site found.items ≡ sites.sites_of (map call_of calls.now)) }
+{
+    let mut found = Vec::new(alloc);
+    for call in calls {
+        add_local_call(alloc, call, &mut found)?;
+    }
+    Ok(found)
+}
+
+/// The calls of files of the folder, of a document.
+fn document_calls(alloc: Global, kind: FileKind, root: &Node) -> Result<Vec<LocalCall>, AllocError>
+    requires { HasTexts (view root.now) }
+    ensures { IfOk result (λ found. map sites.kept_site found.items ≡ sites.sites_of (uses.calls_in kind (view root.now))) }
+{
+    let calls = calls_in(alloc, kind, root)?;
+    let found = local_calls(alloc, calls.as_slice())?;
+    Ok(found)
 }
 
 /// Reads the bytes of a file as a workflow or an action.
@@ -68,8 +150,14 @@ pub(crate) fn read_file(alloc: Global, kind: FileKind, bytes: &[u8]) -> Result<R
     ensures { IfOk result (λ file. IsRead file kind bytes.now) }
 {
     match read_yaml(alloc, bytes)? {
-        Ok(doc) => Ok(read_tree(kind, bytes, doc)),
-        Err(fault) => Ok(ReadFile { tree: Err(fault) }),
+        Ok(doc) => {
+            let calls = document_calls(alloc, kind, &doc.root)?;
+            Ok(read_tree(kind, bytes, doc, calls))
+        }
+        Err(fault) => Ok(ReadFile {
+            tree: Err(fault),
+            calls: Vec::new(alloc),
+        }),
     }
 }
 
@@ -100,7 +188,7 @@ fn add_behind(
     answers: &[Option<&Interface>],
     out: &mut Vec<Fault>,
 ) -> Result<(), AllocError>
-    requires within { IsWithin 0 1048576 (root_of tree.now) }
+    requires laid { IsLaid 1048576 (root_of tree.now) }
     requires texts { HasTexts (root_of tree.now) }
     ensures { OnOk result (out.new.items ≡ out.old.items
         ++ calls.behind_faults (kind_in tree.now) (root_of tree.now) (map (λ a. option_copied a) answers.now)) }
@@ -126,7 +214,7 @@ fn document_faults(
     tree: &Tree,
     answers: &[Option<&Interface>],
 ) -> Result<Vec<Fault>, AllocError>
-    requires within { IsWithin 0 1048576 (root_of tree.now) }
+    requires laid { IsLaid 1048576 (root_of tree.now) }
     requires texts { HasTexts (root_of tree.now) }
     ensures { IfOk result (λ list. list.items
         ≡ faults.document_faults (kind_in tree.now) (root_of tree.now) (map (λ a. option_copied a) answers.now)) }

@@ -1,5 +1,5 @@
 //! The linter, as a session of a folder asks for it.
-ghost use Rattle.std.specs.Prelude.{◌≡◌, ◌≤◌, List, ℕ, length, map, true, IfOk, Option};
+ghost use Rattle.std.specs.Prelude.{◌≡◌, ◌≤◌, List, ℕ, length, map, IfOk, Option};
 ghost use Rattle.std.specs.List.{AllByRecursion};
 ghost use Rattle.std.specs.List.Sorted.{IsStrictlySortedBy};
 ghost use Rattle.al_text.specs.FaultLists.{fault_cmp};
@@ -9,14 +9,27 @@ ghost use Rattle.al_tree.specs.Kinds.{file_kind};
 ghost use Rattle.al_check.specs.Linting.{linting};
 ghost use Rattle.al_check.specs.Reading.{IsRead};
 ghost use Rattle.al_interfaces.proofs.Exact.{exact};
-ghost use Rattle.al_check.specs.Laws.{faults_inside, faults_ordered};
+ghost use Rattle.al_check.specs.Laws.{each_sited, faults_inside, faults_ordered, sites_inside};
+ghost use Rattle.al_check.specs.Sites.{kept_site};
+ghost use Rattle.al_folder.specs.Sites as sites;
 
-use crate::files::{ReadFile, file_faults, file_interface, file_targets, read_file};
+use crate::files::{LocalCall, ReadFile, file_faults, file_interface, file_targets, read_file};
+use al_folder::{Lint, Site, Target};
 use al_interfaces::Interface;
-use al_session::{Lint, Target};
-use al_text::Fault;
+use al_text::{CallCode, Code, Fault};
 use al_tree::{file_kind, is_action, is_workflow};
 use std::alloc::{AllocError, Global};
+
+/// What is said of a call that leads back to its file.
+fn site_of(call: &LocalCall) -> Site<'_>
+    ensures { sites.site_of result ≡ kept_site call.now }
+{
+    Site {
+        code: Code::Call(CallCode::LeadsBack, call.caller),
+        span: call.span,
+        text: call.text.as_str(),
+    }
+}
 
 /// The linter of workflows and actions, with its counts.
 #[derive(Drop)]
@@ -80,6 +93,10 @@ impl Lint for Actions {
         file_faults(alloc, file_kind(path.as_bytes()), bytes, unit, answers)
     }
 
+    fn site<'a>(&self, unit: &'a ReadFile, call: usize) -> Site<'a> {
+        site_of(&unit.calls[call])
+    }
+
     fn checks(&self) -> u64 {
         self.checks
     }
@@ -93,4 +110,8 @@ impl Lint for Actions {
     ghost inside = { λ path bytes answers small. faults_inside (file_kind path) bytes answers small };
 
     ghost ordered = { λ path bytes answers. faults_ordered (file_kind path) bytes answers };
+
+    ghost sited = { λ path bytes. each_sited (file_kind path) bytes };
+
+    ghost sites_inside = { λ path bytes small. sites_inside (file_kind path) bytes };
 }

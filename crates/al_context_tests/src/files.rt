@@ -2,7 +2,8 @@
 
 use al_contexts::{Env, File};
 use al_places::places;
-use al_yaml::{Doc, read_yaml};
+use al_yaml::Doc;
+use al_yaml_reader::read_yaml;
 use std::alloc::{AllocError, Global};
 use std::process::Abort;
 

@@ -1,5 +1,5 @@
 //! A folder of files that may call one another, as a session keeps it: what is asked of their linter, the files as they
-//! were read, the index of their callers, and which of them a change affects.
+//! were read, the index of their callers, which of them a change affects, and which calls lead back to their own file.
 #![tactic(auto)]
 
 mod affected;
@@ -7,6 +7,7 @@ mod callers;
 mod check;
 mod kept;
 mod lint;
+mod loops;
 mod missing;
 mod paths;
 mod place;
@@ -15,7 +16,8 @@ pub use affected::affected_paths;
 pub use callers::{candidates_of, drop_callers, index_calls, reindex};
 pub use check::{check_path, check_paths};
 pub use kept::{Callers, Files, KeptFile};
-pub use lint::{Lint, Refused, Target};
+pub use lint::{Lint, Refused, Site, Target};
+pub use loops::{file_components, loop_faults};
 pub use missing::missing_paths;
 pub use paths::Paths;
 pub use place::{file_number, place_in};

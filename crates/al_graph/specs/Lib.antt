@@ -1,2 +1,5 @@
 pub mod Graphs
 pub mod Marks
+pub mod Finishing
+pub mod Labelling
+pub mod Within

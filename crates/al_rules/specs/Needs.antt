@@ -1,7 +1,6 @@
 -- Faults of what jobs need.
-use Rattle.std.specs.Prelude.{◌≡◌, ℕ, zero, suc, List, [], ◌∷◌, ◌++◌, Bool, ◌+◌, ◌||◌, codes, map, Option, Some, None, if◌then◌else◌}
-use Rattle.std.specs.Prelude.{slice_index_or, nat_eq}
-use Rattle.std.specs.List.{list_any, flat_map, filter_map, enumerate_from}
+use Rattle.std.specs.Prelude.{◌≡◌, ℕ, List, [], ◌∷◌, ◌++◌, Bool, ◌+◌, codes, map, Option, Some, None, if◌then◌else◌}
+use Rattle.std.specs.List.{flat_map, filter_map, enumerate_from}
 use Rattle.std.specs.Str.{bytes_eq}
 use Rattle.al_text.specs.declared.codes.RuleCode.TheVariants.{NeedsCycle, UndefinedJob}
 use Rattle.al_text.specs.declared.faults.Fault.{Fault}
@@ -78,12 +77,7 @@ abbrev pub AddsAllNeeds : List (Node × Node) → List Fault → List Fault → 
 AddsAllNeeds jobs old new =
     let position = position_in (keys_of jobs) in AddsNeeds position (Walk (needs_lists position jobs)) (all_needs jobs) old new
 
--- To compute rows with: walks of at most n steps, and the faults by them.
-abbrev pub leads_within : ℕ → List (List ℕ) → ℕ → ℕ → Bool
-leads_within zero lists j k = nat_eq j k
-leads_within (suc n) lists j k = nat_eq j k || list_any (λ i. leads_within n lists i k) (slice_index_or lists j [])
-
--- what an entry gives, where a test says from which jobs a walk leads back
+-- To compute rows with: what an entry gives, where a test says from which jobs a walk leads back
 abbrev pub tested_faults : (ℕ → Bool) → Need → Option ℕ → List Fault
 tested_faults leads n None = about UndefinedJob n.text
 tested_faults leads n (Some j) = if leads j then cycle_fault n ∷ [] else []

@@ -7,7 +7,8 @@ use Rattle.al_scalar.specs.declared.styles.Style.TheVariants.{Plain, SingleQuote
 use Rattle.al_text.specs.declared.faults.Fault.{Fault}
 use Rattle.al_text.specs.declared.faults.Span.{Span}
 use Rattle.al_yaml.specs.Node.{Node, scalar, sequence, mapping, no_nodes, item, no_entries, entry}
-use Rattle.al_rules.specs.Needs.{keys_of, leads_within, needs_faults, needs_lists, position_in}
+use Rattle.al_graph.specs.Within.{leads_within}
+use Rattle.al_rules.specs.Needs.{keys_of, needs_faults, needs_lists, position_in}
 use Rattle.al_rules.specs.Rules.{jobs_of}
 
 abbrev pub at : ℕ → ℕ → Span

@@ -3,7 +3,8 @@
 use al_rules::{rules, spans};
 use al_text::{Code, Fault, RuleCode, position};
 use al_tree::{FileKind, Tree, read_action, read_workflow};
-use al_yaml::{Doc, read_yaml};
+use al_yaml::Doc;
+use al_yaml_reader::read_yaml;
 use std::alloc::Global;
 use std::process::Abort;
 use std::test::Fail;

@@ -1,14 +1,14 @@
 //! What a folder's files print.
 
-ghost use Rattle.std.specs.Prelude.{◌≡◌, ◌≤◌, not, length, string_bytes, ◌==◌, OnOk, OnErr, IsOkUnless};
-ghost use Rattle.std.specs.List.{AllByRecursion, flat_map, list_any};
+ghost use Rattle.std.specs.Prelude.{◌≡◌, ◌<◌, not, length, string_bytes, ◌==◌, OnOk, OnErr, IsOkUnless};
+ghost use Rattle.std.specs.List.{enumerate_from, flat_map, list_any};
 ghost use Rattle.std.specs.Io.KnownBytes.{Appends};
 ghost use Rattle.al_text.specs.Counted.{HasRisen, AppendsFront};
 ghost use Rattle.al_text.specs.Streams.{bytes_written, write_failures};
-ghost use Rattle.al_session.specs.Session.{IsPrintable, lines_of};
+ghost use Rattle.al_session.specs.Session.{ArePrintable, IsPrintable, lines_of, listed, numbered_lines};
 
 use al_folder::{Files, KeptFile, file_number};
-use al_text::{Output, Stop};
+use al_text::{Fault, Output, Stop};
 use std::io::Write;
 
 /// Whether a file has a fault.
@@ -31,44 +31,57 @@ fn is_clean<U, I>(file: &KeptFile<U, I>) -> bool
     file.faults.is_empty()
 }
 
-/// Writes the faults of all files, each as its line, and its snippet unless `oneline` is asked for.
+// The faults that are listed of a file: those that were joined for it, or else its own.
+fn listed_faults<'a, U, I>(file: &'a KeptFile<U, I>, joined: &'a Option<Vec<Fault>>) -> &'a [Fault]
+    ensures { result.now ≡ listed file.now joined.now }
+{
+    match joined {
+        Some(faults) => faults.as_slice(),
+        None => file.faults.as_slice(),
+    }
+}
+
+/// Writes the faults that are listed of all files, each as its line, and its snippet unless `oneline` is asked for.
 pub(crate) fn write_files<U, I, W: Write>(
     writer: &mut Output<W>,
     files: &Files<U, I>,
+    lists: &[Option<Vec<Fault>>],
     oneline: bool,
 ) -> Result<(), Stop>
-    requires { AllByRecursion (λ e. IsPrintable e.1) files.now.entries }
+    requires { ArePrintable files.now.entries lists.now }
     ensures all { OnOk result (Appends (bytes_written W.contents writer.old) (bytes_written W.contents writer.new)
-        (flat_map (λ e. lines_of oneline (string_bytes e.0) e.1) files.now.entries)) }
+        (flat_map (numbered_lines oneline lists.now) (enumerate_from 0 files.now.entries))) }
     ensures front { OnErr result (AppendsFront (bytes_written W.contents writer.old) (bytes_written W.contents writer.new)
-        (flat_map (λ e. lines_of oneline (string_bytes e.0) e.1) files.now.entries)) }
+        (flat_map (numbered_lines oneline lists.now) (enumerate_from 0 files.now.entries))) }
     ensures failures { OnOk result (write_failures writer.new ≡ write_failures writer.old) }
     ensures failed { OnErr result (HasRisen (write_failures writer.old) (write_failures writer.new)) }
     ensures err { IsOkUnless result Stop.WriteFault }
 {
     for index in 0..files.len() {
         let (path, file) = file_number(files, index);
-        write_file(writer, path.as_str(), file, oneline)?;
+        write_file(writer, path.as_str(), file, &lists[index], oneline)?;
     }
     Ok(())
 }
 
-// Writes the faults of one file.
+// Writes the listed faults of one file.
 fn write_file<U, I, W: Write>(
     writer: &mut Output<W>,
     path: &str,
     file: &KeptFile<U, I>,
+    joined: &Option<Vec<Fault>>,
     oneline: bool,
 ) -> Result<(), Stop>
-    requires { IsPrintable file.now }
+    requires { IsPrintable file.now (listed file.now joined.now) }
     ensures all { OnOk result (Appends (bytes_written W.contents writer.old) (bytes_written W.contents writer.new)
-        (lines_of oneline path.now file.now)) }
+        (lines_of oneline path.now file.now (listed file.now joined.now))) }
     ensures front { OnErr result (AppendsFront (bytes_written W.contents writer.old) (bytes_written W.contents writer.new)
-        (lines_of oneline path.now file.now)) }
+        (lines_of oneline path.now file.now (listed file.now joined.now))) }
     ensures failures { OnOk result (write_failures writer.new ≡ write_failures writer.old) }
     ensures failed { OnErr result (HasRisen (write_failures writer.old) (write_failures writer.new)) }
     ensures err { IsOkUnless result Stop.WriteFault }
 {
+    let faults = listed_faults(file, joined);
     file.lines
-        .write_faults(writer, path, &file.bytes, &file.faults, oneline)
+        .write_faults(writer, path, &file.bytes, faults, oneline)
 }

@@ -1,6 +1,6 @@
 //! A folder of files, kept linted.
 
-ghost use Rattle.std.specs.Prelude.{◌≡◌, ◌≢◌, ℕ, List, [], Err, None, Some, length, IfOk, IsOkAnd, OnOk, OnErr, IfErr, IfSome};
+ghost use Rattle.std.specs.Prelude.{◌≡◌, ◌≢◌, ℕ, List, [], Err, None, Some, length, IfOk, OnOk, OnErr, IfErr, IfSome};
 ghost use Rattle.std.specs.List.{AllByRecursion};
 ghost use Rattle.std.specs.List.Sorted.{IsStrictlySortedBy};
 ghost use Rattle.std.specs.Ordering.{nat_cmp};
@@ -21,6 +21,7 @@ ghost use Rattle.al_folder.specs.Missing.{missing_in};
 ghost use Rattle.al_session.specs.Report.{status_of, report_of};
 
 use crate::edit::{put_file, remove_file};
+use crate::joining::{has_loops, join_all};
 use crate::report::{has_faults, write_files};
 use al_folder::{Callers, Files, Lint, Paths, Refused, missing_paths};
 use al_text::{Fault, Output, Path, Stop, path_fault};
@@ -47,7 +48,8 @@ pub struct Edit {
 ///
 /// Contracts see its folder, a list of paths and bytes in order of path, and its linter's two counts. What
 /// [`faults`](Session::faults), [`status`](Session::status), [`report`](Session::report) and
-/// [`missing`](Session::missing) answer is defined by that folder alone.
+/// [`missing`](Session::missing) answer is defined by that folder alone. The report and the status tell the calls that lead back to
+/// their own file too, which one edit can change for files that it doesn't check again.
 #[derive(Drop)]
 pub struct Session<L: Lint> {
     alloc: Global,
@@ -247,16 +249,26 @@ impl<L: Lint> Session<L> {
         }
     }
 
-    /// 0 where no file has a fault, and else 1. Takes no memory, and always answers `Ok`: the error leaves room for a
-    /// status that needs memory.
+    /// 0 where no file has a fault and no call leads back to its own file, and else 1. Takes memory only where no file has a fault.
+    ///
+    /// # Errors
+    ///
+    /// [`AllocError`] where memory ran out.
     pub fn status(&self) -> Result<u8, AllocError>
-        ensures { IsOkAnd result (λ status. status ≡ status_of L.meaning self.now.folder) }
+        ensures { IfOk result (λ status. status ≡ status_of L.meaning self.now.folder) }
     {
-        Ok(if has_faults(&self.files) { 1 } else { 0 })
+        if has_faults(&self.files) {
+            return Ok(1);
+        }
+        let some = has_loops(&self.lint, self.alloc, &self.files)?;
+        if some {
+            return Ok(1);
+        }
+        Ok(0)
     }
 
-    /// Writes the faults of all files, file by file in order of path: each as its line, and the line of the file at which
-    /// it starts, with marks under its span, unless `oneline` is asked for.
+    /// Writes the faults of all files, and those of calls that lead back to their own file, file by file in order of path: each as its
+    /// line, and the line of the file at which it starts, with marks under its span, unless `oneline` is asked for.
     ///
     /// # Errors
     ///
@@ -274,7 +286,10 @@ impl<L: Lint> Session<L> {
         ensures failed { result ≡ Err Stop.WriteFault → HasRisen (write_failures writer.old) (write_failures writer.new) }
         ensures no_read { (result ≢ Err Stop.ReadFault) × (result ≢ Err Stop.TooManyTurns) }
     {
-        write_files(writer, &self.files, oneline)
+        let Ok(lists) = join_all(&self.lint, self.alloc, &self.files) else {
+            return Err(Stop::Memory);
+        };
+        write_files(writer, &self.files, lists.as_slice(), oneline)
     }
 
     /// The candidates of calls that are not in the folder, in order of path, each once.

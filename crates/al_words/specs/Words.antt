@@ -1,8 +1,10 @@
 -- The command line: its options as clap's definitions take them, and what its words ask for.
 use Rattle.std.specs.Prelude.{◌≡◌, ◌≢◌, ◌⊎◌, Bool, true, false, List, [], Option, Some, None, map, unwrap_or, codes}
-use Rattle.clap.specs.Words.{App, Row, Rule, Text, all_of, first_of, one_of, matches_of, new_app, new_rule, with_rule}
+use Rattle.clap.specs.Words.{App, IsAmong, Kinds, Row, Rule, Text, all_of, fault_of, first_of, one_of, matches_of, new_app, new_rule, with_rule}
 use Rattle.clap.specs.Simple.{on_top}
 use Rattle.clap.specs.declared.builder.action.ArgAction.TheVariants.{Append, Help, SetTrue}
+use Rattle.clap.specs.declared.error.kind.ErrorKind.{ErrorKind}
+use Rattle.clap.specs.declared.error.kind.ErrorKind.TheVariants.{DisplayHelp, OutOfMemory}
 use Rattle.al_words.specs.declared.words.Words.{Words}
 use Rattle.al_words.specs.declared.words.Usage.{Usage}
 use Rattle.al_words.specs.declared.words.Usage.TheVariants as usage
@@ -59,9 +61,27 @@ pub record AreBeside (rows : List Row) : Type 0 where
   pub session : IsFlag (one_of (codes "session") rows) true
   pub beside : (root_in rows ≢ None) ⊎ (files_in rows ≢ [])
 
--- why there are no words: where they stand side by side, that is so
-abbrev pub IsUsage : List Row → Usage → Type 0
-IsUsage rows usage.Session = AreBeside rows
-IsUsage rows (usage.Help text) = Unit {0}
-IsUsage rows (usage.Clap text) = Unit {0}
-IsUsage rows usage.Memory = Unit {0}
+-- the kinds of what clap may answer in place of matches; none where the words ask for a run
+unfoldable pub kinds_in : List Text → Kinds
+kinds_in words = fault_of linter_app words
+
+-- what an answer of this kind is said as
+abbrev pub IsSaidAs : ErrorKind → Usage → Type 0
+IsSaidAs kind usage.Session = ⊥
+IsSaidAs kind (usage.Help text) = kind ≡ DisplayHelp
+IsSaidAs kind (usage.Clap text) = (kind ≢ DisplayHelp) × (kind ≢ OutOfMemory)
+IsSaidAs kind usage.Memory = Unit {0}
+
+-- why matches ask for no run
+abbrev pub IsNoRun : List Row → Usage → Type 0
+IsNoRun rows usage.Session = AreBeside rows
+IsNoRun rows (usage.Help text) = ⊥
+IsNoRun rows (usage.Clap text) = ⊥
+IsNoRun rows usage.Memory = Unit {0}
+
+-- why words ask for no run: side by side stands what can't; they ask for help; they are wrong in another way; or memory ran out
+abbrev pub IsUsage : List Text → Usage → Type 0
+IsUsage words usage.Session = (kinds_in words ≡ []) × AreBeside (rows_in words)
+IsUsage words (usage.Help text) = IsAmong DisplayHelp (kinds_in words)
+IsUsage words (usage.Clap text) = (kind : ErrorKind) × (kind ≢ DisplayHelp) × IsAmong kind (kinds_in words)
+IsUsage words usage.Memory = Unit {0}

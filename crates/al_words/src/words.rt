@@ -1,9 +1,9 @@
 //! The words of a command line.
 
-ghost use Rattle.std.specs.Prelude.{◌≡◌, false, List, IfOk, IfErr, map, unwrap_or, [], option_map};
-ghost use Rattle.clap.specs.Words.{Row, app_of, found_of, one_of, rows_of, rule_of};
-ghost use Rattle.al_words.specs.Words.{AsksFor, IsFlag, IsUsage, bare_app, file_rule, files_in, help_rule};
-ghost use Rattle.al_words.specs.Words.{linter_app, oneline_rule, root_in, root_rule, rows_in, session_rule};
+ghost use Rattle.std.specs.Prelude.{◌≡◌, false, IfOk, IfErr, OnOk, map, unwrap_or, [], option_map};
+ghost use Rattle.clap.specs.Words.{FailsBy, app_of, found_of, kind_of, one_of, rows_of, rule_of};
+ghost use Rattle.al_words.specs.Words.{AsksFor, IsFlag, IsNoRun, IsSaidAs, IsUsage, bare_app, file_rule, files_in, help_rule};
+ghost use Rattle.al_words.specs.Words.{kinds_in, linter_app, oneline_rule, root_in, root_rule, rows_in, session_rule};
 
 use clap::error::ErrorKind;
 use clap::{Arg, ArgAction, ArgMatches, Command, Error};
@@ -49,19 +49,39 @@ Exit status:
   2  wrong command line or script
   3  a file could not be read, or memory or output failed
 
+What to do where a run ends with 3:
+  cannot read .github/workflows
+      DIR is not the top folder of a repository. From anywhere in one:
+      actionlint --root \"$(git rev-parse --show-toplevel)\"
+  cannot read PATH
+      Nothing is there below DIR, or no regular file, or none that may be read.
+  PATH: refused E1
+      A FILE is written from DIR on, as .github/workflows/ci.yml, in at most 1,024 bytes:
+      without a leading slash, an empty, . or .. part, a backslash or a control character.
+      For another repository name its folder by --root.
+  PATH: refused E2
+      Only .github/workflows/NAME.yml (or .yaml) and action.yml (or .yaml) are linted:
+      no README.md, and no standard input (-), from which --session takes commands.
+  PATH: refused E3
+      The file has more than 1,048,576 bytes. Move jobs or steps into files that it calls.
+  PATH: refused E4
+      A run takes 4,096 files. Name so many as FILEs, and the others in another run.
+
 Examples:
   actionlint                                  all workflows of this repository
   actionlint .github/workflows/release.yml    one of them
   actionlint --oneline --root ../project      one line a fault, for editors and logs";
 
-/// Reads the words of a command line, of which the first is the program's name.
+/// Reads the words of a command line, of which the first is the program's name. Words that ask for a run are answered by it,
+/// unless memory ran out.
 ///
 /// # Errors
 ///
 /// [`Usage`], with the text that is to be printed.
 pub fn parse_words<'a, S: AsStr>(alloc: Global, words: &'a [S]) -> Result<Words<'a>, Usage>
     ensures words { IfOk result (AsksFor (rows_in (map S.text words.entry.now))) }
-    ensures usage { IfErr result (IsUsage (rows_in (map S.text words.entry.now))) }
+    ensures right { OnOk result (kinds_in (map S.text words.entry.now) ≡ []) }
+    ensures usage { IfErr result (IsUsage (map S.text words.entry.now)) }
 {
     match matches_of(alloc, words) {
         Ok(matches) => read_matches(alloc, &matches),
@@ -70,7 +90,8 @@ pub fn parse_words<'a, S: AsStr>(alloc: Global, words: &'a [S]) -> Result<Words<
 }
 
 fn matches_of<'a, S: AsStr>(alloc: Global, words: &'a [S]) -> Result<ArgMatches<'a>, Error>
-    ensures { IfOk result (λ matches. rows_of (found_of matches) ≡ rows_in (map S.text words.entry.now)) }
+    ensures rows { IfOk result (λ matches. rows_of (found_of matches) ≡ rows_in (map S.text words.entry.now)) }
+    ensures kinds { FailsBy (kinds_in (map S.text words.entry.now)) result }
 {
     let command = linter_command(alloc)?;
     command.try_get_matches_from(words)
@@ -151,7 +172,7 @@ fn file_arg<'a>(alloc: Global) -> Arg<'a>
 // The words that matches have.
 fn read_matches<'a>(alloc: Global, matches: &ArgMatches<'a>) -> Result<Words<'a>, Usage>
     ensures words { IfOk result (AsksFor (rows_of (found_of matches.now))) }
-    ensures usage { IfErr result (IsUsage (rows_of (found_of matches.now))) }
+    ensures usage { IfErr result (IsNoRun (rows_of (found_of matches.now))) }
 {
     let session = flag(matches, "session");
     let root = root_of(matches);
@@ -204,7 +225,7 @@ fn copied<'a>(alloc: Global, found: Option<&[&'a str]>) -> Result<Vec<&'a str>, 
 
 // What a parse that gave no matches asks to be printed.
 fn usage_of(alloc: Global, error: &Error) -> Usage
-    ensures { (rows : List Row) → IsUsage rows result }
+    ensures { IsSaidAs (kind_of error.now) result }
 {
     match (error.kind(), error.to_string(alloc)) {
         (ErrorKind::OutOfMemory, _) => Usage::Memory,

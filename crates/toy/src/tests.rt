@@ -2,7 +2,7 @@
 
 use crate::linter::Toy;
 use al_session::{Change, Refused, Session, apply_change, apply_changes};
-use al_text::{Output, Stop};
+use al_text::{Fault, Output, Stop};
 use std::alloc::AllocError;
 use std::test::Fail;
 
@@ -15,6 +15,11 @@ const NEED: &[u8] = b"need b.toy c.toy";
 const ABSENT: &[u8] = b"a.toy:1:1: unexpected key \"b.toy\" [syntax-check]\n";
 
 const EMPTY: &[u8] = b"a.toy:1:1: wrong kind of value for \"b.toy\" [syntax-check]\n";
+
+const LOOP: &[u8] = b"a.toy:1:1: call of \"b.toy\" leads back to this file [workflow-call]
+b.toy:1:1: call of \"c.toy\" leads back to this file [workflow-call]
+c.toy:1:1: call of \"a.toy\" leads back to this file [workflow-call]
+";
 
 // These tell a test's proof nothing, which keeps it short.
 
@@ -57,6 +62,30 @@ fn calls_are_answered(rt: HostRuntime) -> Result<(), Fail> {
 }
 
 #[test]
+fn loops_are_told(rt: HostRuntime) -> Result<(), Fail> {
+    let mut session = Session::open(rt.alloc(), Toy::new());
+    assert_eq!(rt; put(&mut session, "a.toy", b"need b.toy\nhave x"), None);
+    assert_eq!(rt; put(&mut session, "b.toy", b"need c.toy\nhave x"), None);
+    assert_eq!(rt; put(&mut session, "c.toy", b"have x"), None);
+    assert_eq!(rt; session.status()?, 0);
+    assert_eq!(rt; put(&mut session, "c.toy", b"need a.toy\nhave x"), None);
+    assert_eq!(rt; session.status()?, 1);
+    assert_eq!(rt; session.meter(), 6);
+    assert_eq!(rt;
+        session
+            .faults("b.toy")
+            .map(|faults: &[Fault]| -> usize { faults.len() }),
+        Some(0)
+    );
+    assert_eq!(rt; report(&rt, &session)?.as_slice(), LOOP);
+    assert_eq!(rt; put(&mut session, "d/a.toy", b"need a.toy"), None);
+    assert_eq!(rt; report(&rt, &session)?.as_slice(), LOOP);
+    assert_eq!(rt; delete(&mut session, "b.toy"), None);
+    assert_eq!(rt; report(&rt, &session)?.as_slice(), ABSENT);
+    Ok(())
+}
+
+#[test]
 fn edits_are_refused(rt: HostRuntime) -> Result<(), Fail> {
     let mut session = Session::open(rt.alloc(), Toy::new());
     let large = vec![in rt.alloc(); b'x'; 1_048_577]?;
@@ -89,7 +118,11 @@ const ABSENT_CALL: &[u8] = b"c.toy:1:1: unexpected key \"d/a.toy\" [syntax-check
 
 const EMPTY_CALL: &[u8] = b"c.toy:1:1: wrong kind of value for \"d/a.toy\" [syntax-check]\n";
 
-const OWN_CALL: &[u8] = b"r.toy:1:1: wrong kind of value for \"r.toy\" [syntax-check]\n";
+const OWN_LOOP: &[u8] = b"r.toy:1:1: call of \"r.toy\" leads back to this file [workflow-call]\n";
+
+const OWN_CALL: &[u8] = b"r.toy:1:1: wrong kind of value for \"r.toy\" [syntax-check]
+r.toy:1:1: call of \"r.toy\" leads back to this file [workflow-call]
+";
 
 #[test]
 fn changes_are_applied_in_order(rt: HostRuntime) -> Result<(), Fail> {
@@ -230,7 +263,11 @@ fn a_file_that_calls_itself_has_its_new_interface(rt: HostRuntime) -> Result<(),
             &rt,
             &mut session,
             &[
-                (Change::Put("r.toy", b"need r.toy\nhave x"), &["r.toy"], b""),
+                (
+                    Change::Put("r.toy", b"need r.toy\nhave x"),
+                    &["r.toy"],
+                    OWN_LOOP
+                ),
                 (Change::Put("r.toy", b"need r.toy"), &["r.toy"], OWN_CALL),
                 (Change::Delete("r.toy"), &[], b""),
             ]

@@ -1,11 +1,12 @@
-use Rattle.std.proofs.Common.{◌≡◌, ◌≤◌, length, sym, subst, arith, false}
+use Rattle.std.proofs.Common.{◌∙◌, ap, ◌≡◌, ◌≤◌, length, sym, subst, arith}
 use Rattle.std.specs.Prelude.{Ok}
-use Rattle.al_yaml.proofs.SpanLemmas.{wider}
+use Rattle.al_yaml.proofs.LaidLemmas.{laid-higher}
 use Rattle.al_yaml.specs.Document.{tree_of}
-use Rattle.al_yaml.specs.Spans.{AreFrom, IsInside, IsWithin}
+use Rattle.al_yaml.specs.Spans.{AreFrom, IsInside, IsLaid}
 use Rattle.al_yaml.specs.Texts.{HasTexts}
 use Rattle.al_yaml.specs.View.{view}
 use Rattle.al_check.specs.Reading.{root_of}
+use Rattle.al_check.specs.Sites.{sites_given}
 use Rattle.al_check.proofs.files.read_tree.Goals as goal
 
 pub returns : goal.returns
@@ -15,11 +16,11 @@ returns c =
     record {
       given = record {
         kind_is = c.tree_as.ensures.kind;
-        root_is = subst (λ n. tree_of false c.args.bytes.now ≡ Ok n) same c.requires.root;
+        root_is = subst (λ n. tree_of c.args.bytes.now ≡ Ok n) same c.requires.root;
         inside = subst (IsInside (length c.args.bytes.now)) same c.requires.inside;
-        nested = subst (IsWithin 0 (length c.args.bytes.now)) same c.requires.nested;
-        within = subst (IsWithin 0 1048576) same (wider 0 (length c.args.bytes.now) 0 1048576 (view c.args.doc.root) (omega arith) small c.requires.nested);
+        laid = subst (IsLaid 1048576) same (laid-higher (length c.args.bytes.now) 1048576 (view c.args.doc.root) small c.requires.laid);
         texts = subst HasTexts same c.requires.texts;
         from = subst (AreFrom (length c.args.bytes.now)) same c.requires.from;
       };
+      sites = c.requires.calls ∙ sym (ap (sites_given c.args.kind) c.requires.root);
     }

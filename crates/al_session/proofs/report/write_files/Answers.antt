@@ -1,29 +1,61 @@
-use Rattle.std.proofs.Common.{arith, ◌∙◌, String, sym, subst}
+use Rattle.std.proofs.Common.{arith, ◌<◌, ◌∙◌, ◌≡◌, ℕ, String, sym, subst, ap, Option, Vec, List, length, None, get_or}
 use Rattle.std.specs.Prelude.{string_bytes}
 use Rattle.std.specs.Global.{Global}
+use Rattle.std.specs.List.{enumerate_from, flat_map}
+use Rattle.std.specs.Io.KnownBytes.{Appends}
+use Rattle.std.proofs.lemmas.List.{take_all}
 use Rattle.std.proofs.lemmas.Result.{err_from_is_err_and}
-use Rattle.std.proofs.lemmas.List.Elements.{All-from_recursion}
-use Rattle.al_session.specs.Session.{lines_of, IsPrintable}
+use Rattle.std.proofs.lemmas.List.FromFn.{length-enumerate_from}
+use Rattle.al_text.specs.Counted.{AppendsFront}
+use Rattle.al_text.specs.declared.faults.Fault.{Fault}
+use Rattle.al_session.specs.Session.{IsPrintable, lines_of, listed, numbered_lines}
 use Rattle.al_folder.specs.declared.kept.KeptFile.{KeptFile}
 use Rattle.al_folder.proofs.Missings.{read_is}
 use Rattle.al_text.proofs.Bytes.{Appends-next, AppendsFront-next}
+use Rattle.al_session.proofs.ListedFaults.{list_read, numbered}
 use Rattle.al_session.proofs.report.write_files.Goals as goal
 
 pub write_file-requires : goal.write_file-requires
 write_file-requires g c =
-    let read = read_is c.args.files.now.entries c.loop-index.index (c.file_number.result.0.now, c.file_number.result.1.now) c.file_number.ensures in
-    let P : String Global × KeptFile _ _ → Type 0 = λ e. IsPrintable e.1 in
-    subst P (sym read) (All-from_recursion P c.args.files.now.entries c.requires c.loop-index.index (c.file_number.result.0.now, c.file_number.result.1.now) (omega (arith, c.len-index-end.ensures.len)))
+    let e : String Global × KeptFile _ _ = (c.file_number.result.0.now, c.file_number.result.1.now) in
+    let inside : c.loop-index.index < length c.args.lists.now = omega (arith, c.requires.size, c.len-index-end.ensures.len, c.loop-index-test.true) in
+    let read : get_or c.args.lists.now c.loop-index.index None ≡ c.index-lists-index.result = list_read c.args.lists.now c.loop-index.index c.index-lists-index.result inside c.index-lists-index.is in
+    let P : Option (Vec Fault Global) → Type 0 = λ o. IsPrintable e.1 (listed e.1 o) in
+    subst P read (c.requires.each c.loop-index.index e c.file_number.ensures)
 
 pub returns-in_err-write_file-clause-front : goal.returns-in_err-write_file-clause-front
 returns-in_err-write_file-clause-front g c =
     let p = err_from_is_err_and c.from_residual.result c.from_residual.ensures.1 in
-    rw p.1 (AppendsFront-next (λ e. lines_of c.args.oneline (string_bytes e.0) e.1) c.args.files.now.entries c.loop-index.index (c.file_number.result.0.now, c.file_number.result.1.now) (omega (arith, c.len-index-end.ensures.len)) (read_is c.args.files.now.entries c.loop-index.index (c.file_number.result.0.now, c.file_number.result.1.now) c.file_number.ensures) _ _ _ c.loop-index.invariant.appended
-    (rw c.as_str.ensures.value at c.in_err-write_file.ensures.front))
+    let files = c.args.files.now.entries in
+    let e : String Global × KeptFile _ _ = (c.file_number.result.0.now, c.file_number.result.1.now) in
+    let inside : c.loop-index.index < length c.args.lists.now = omega (arith, c.requires.size, c.len-index-end.ensures.len, c.loop-index-test.true) in
+    let read : get_or c.args.lists.now c.loop-index.index None ≡ c.index-lists-index.result = list_read c.args.lists.now c.loop-index.index c.index-lists-index.result inside c.index-lists-index.is in
+    let P : Option (Vec Fault Global) → Type 0 = λ o. AppendsFront (g.W.Write.contents c.loop-index.writer.inner)
+    (g.W.Write.contents c.write_file.new.writer.inner) (lines_of c.args.oneline (string_bytes e.0) e.1 (listed e.1 o)) in
+    rw p.1 (AppendsFront-next (numbered_lines c.args.oneline c.args.lists.now) (enumerate_from 0 files) c.loop-index.index (c.loop-index.index, e)
+    (omega (arith, length-enumerate_from 0 files, c.len-index-end.ensures.len, c.loop-index-test.true))
+    (read_is (enumerate_from 0 files) c.loop-index.index (c.loop-index.index, e) (numbered files c.loop-index.index e c.file_number.ensures)) _ _ _ c.loop-index.invariant.appended
+    (subst P (sym read) (rw c.as_str.ensures.value at c.in_err-write_file.ensures.front)))
 
 pub loop-index-preserved : goal.loop-index-preserved
-loop-index-preserved g c = record {
-  appended = Appends-next (λ e. lines_of c.args.oneline (string_bytes e.0) e.1) c.args.files.now.entries c.loop-index.index (c.file_number.result.0.now, c.file_number.result.1.now) (omega (arith, c.len-index-end.ensures.len)) (read_is c.args.files.now.entries c.loop-index.index (c.file_number.result.0.now, c.file_number.result.1.now) c.file_number.ensures) _ _ _ c.loop-index.invariant.appended
-      (rw c.as_str.ensures.value at c.in_ok-write_file.ensures.all);
-  unfailed = c.in_ok-write_file.ensures.failures ∙ c.loop-index.invariant.unfailed;
-}
+loop-index-preserved g c =
+    let files = c.args.files.now.entries in
+    let e : String Global × KeptFile _ _ = (c.file_number.result.0.now, c.file_number.result.1.now) in
+    let inside : c.loop-index.index < length c.args.lists.now = omega (arith, c.requires.size, c.len-index-end.ensures.len, c.loop-index-test.true) in
+    let read : get_or c.args.lists.now c.loop-index.index None ≡ c.index-lists-index.result = list_read c.args.lists.now c.loop-index.index c.index-lists-index.result inside c.index-lists-index.is in
+    let P : Option (Vec Fault Global) → Type 0 = λ o. Appends (g.W.Write.contents c.loop-index.writer.inner) (g.W.Write.contents c.write_file.new.writer.inner)
+    (lines_of c.args.oneline (string_bytes e.0) e.1 (listed e.1 o)) in
+    record {
+      appended = Appends-next (numbered_lines c.args.oneline c.args.lists.now) (enumerate_from 0 files) c.loop-index.index (c.loop-index.index, e)
+          (omega (arith, length-enumerate_from 0 files, c.len-index-end.ensures.len, c.loop-index-test.true))
+          (read_is (enumerate_from 0 files) c.loop-index.index (c.loop-index.index, e) (numbered files c.loop-index.index e c.file_number.ensures)) _ _ _ c.loop-index.invariant.appended
+          (subst P (sym read) (rw c.as_str.ensures.value at c.in_ok-write_file.ensures.all));
+      unfailed = c.in_ok-write_file.ensures.failures ∙ c.loop-index.invariant.unfailed;
+    }
+
+pub returns-clause-all : goal.returns-clause-all
+returns-clause-all g c =
+    let files = c.args.files.now.entries in
+    let whole = take_all c.loop-index.index (enumerate_from 0 files) (omega (arith, length-enumerate_from 0 files, c.len-index-end.ensures.len, c.loop-index-test.false)) in
+    subst (λ l. Appends (g.W.Write.contents c.args.writer.now.inner) (g.W.Write.contents c.loop-index.writer.inner) (flat_map
+    (numbered_lines c.args.oneline c.args.lists.now) l)) whole c.loop-index.invariant.appended

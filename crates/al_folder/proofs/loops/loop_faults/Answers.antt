@@ -1,0 +1,25 @@
+use Rattle.std.proofs.Common.{◌≡◌, subst, String, List, ℕ}
+use Rattle.std.specs.Prelude.{string_bytes}
+use Rattle.std.specs.Global.{Global}
+use Rattle.al_folder.specs.declared.kept.KeptFile.{KeptFile}
+use Rattle.al_folder.specs.Kept.{folder_of}
+use Rattle.al_folder.specs.Loops.{loop_faults}
+use Rattle.al_folder.proofs.Looping.{entry_number, kept_number, same_entry}
+use Rattle.al_folder.proofs.loops.loop_faults.Goals as goal
+
+pub faults_of_calls-requires-clause-there : goal.faults_of_calls-requires-clause-there
+faults_of_calls-requires-clause-there g c =
+    let e : String Global × KeptFile _ _ = (c.file_number.result.0.now, c.file_number.result.1.now) in (
+      string_bytes e.0,
+      kept_number g.L.Lint.meaning g.L.Lint.is_unit c.args.files.now.entries c.args.index e c.requires.kept.kept c.file_number.ensures,
+      entry_number c.args.files.now.entries c.args.index e c.file_number.ensures,
+    )
+
+pub returns : goal.returns
+returns g c p b at =
+    let e : String Global × KeptFile _ _ = (c.file_number.result.0.now, c.file_number.result.1.now) in
+    let kept = kept_number g.L.Lint.meaning g.L.Lint.is_unit c.args.files.now.entries c.args.index e c.requires.kept.kept c.file_number.ensures in
+    let same = same_entry (folder_of c.args.files.now.entries) c.args.index (string_bytes e.0, e.1.bytes.items) (p, b)
+    (entry_number c.args.files.now.entries c.args.index e c.file_number.ensures) at in
+    subst (λ (x : List ℕ × List ℕ). c.in_ok-faults.faults.items ≡ loop_faults g.L.Lint.meaning (folder_of c.args.files.now.entries) c.args.index x.0 x.1) same
+    (c.in_ok-faults.ensures (string_bytes e.0) kept)

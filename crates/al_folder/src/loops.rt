@@ -1,0 +1,206 @@
+//! Calls that lead back to their own file.
+
+ghost use Rattle.std.specs.Prelude.{◌≡◌, ◌<◌, ◌++◌, [], ℕ, List, Some, length, slice_get, IfOk, IfSome, OnOk};
+ghost use Rattle.std.specs.List.{cons_option, filter_map};
+ghost use Rattle.al_graph.specs.Graphs.{edges_of};
+ghost use Rattle.al_folder.specs.Kept.{AreKept, IsKept, folder_of};
+ghost use Rattle.al_folder.specs.Loops as loops;
+ghost use Rattle.al_folder.specs.Sites.{site_of};
+
+use crate::kept::{Files, KeptFile};
+use crate::lint::{Lint, Site, Target};
+use crate::place::file_number;
+use al_graph::strongly_connected_components;
+use al_text::{Args, Fault, Path};
+use std::alloc::{AllocError, Global};
+
+/// The number of the file at a path, if it is there.
+fn number_of<U, I>(files: &Files<U, I>, path: &Path) -> Option<usize>
+    ensures number { result ≡ loops.number_of (folder_of files.now.entries) path.now }
+    ensures inside { IfSome result (λ number. number < length files.now.entries) }
+{
+    files.get_index_of(path.as_str())
+}
+
+/// The number of the file that a call leads to: of its first candidate that is there.
+fn called<U, I>(files: &Files<U, I>, target: &Target) -> Option<usize>
+    ensures number { result ≡ loops.called (folder_of files.now.entries) target.now }
+    ensures inside { IfSome result (λ number. number < length files.now.entries) }
+{
+    match target {
+        Target::Only(path) => number_of(files, path),
+        Target::FirstOf(first, second) => match number_of(files, first) {
+            Some(number) => Some(number),
+            None => number_of(files, second),
+        },
+    }
+}
+
+/// Adds the number of the file that a call leads to.
+fn add_called<U, I>(
+    files: &Files<U, I>,
+    target: &Target,
+    numbers: &mut Vec<usize>,
+) -> Result<(), AllocError>
+    ensures { OnOk result (numbers.new.items
+        ≡ numbers.old.items ++ cons_option (loops.called (folder_of files.now.entries) target.now) []) }
+{
+    match called(files, target) {
+        None => Ok(()),
+        Some(number) => {
+            numbers.push(number)?;
+            Ok(())
+        }
+    }
+}
+
+/// The numbers of the files that calls lead to, in order.
+fn all_called<U, I>(
+    alloc: Global,
+    files: &Files<U, I>,
+    targets: &[Target],
+) -> Result<Vec<usize>, AllocError>
+    ensures { IfOk result (λ numbers. numbers.items ≡ filter_map (loops.called (folder_of files.now.entries)) targets.now) }
+{
+    let mut numbers = Vec::new(alloc);
+    for target in targets {
+        add_called(files, target, &mut numbers)?;
+    }
+    Ok(numbers)
+}
+
+/// For each file the numbers of the files that its calls lead to.
+fn calls_graph<L: Lint>(
+    alloc: Global,
+    files: &Files<L::Unit, L::Iface>,
+) -> Result<Vec<Vec<usize>>, AllocError>
+    requires { AreKept L.meaning L.is_unit files.now.entries }
+    ensures { IfOk result (λ graph. edges_of graph.items ≡ loops.calls_graph L.meaning (folder_of files.now.entries)) }
+{
+    let mut graph = Vec::new(alloc);
+    for index in 0..files.len() {
+        let (_, file) = file_number(files, index);
+        graph.push(all_called(alloc, files, &file.calls)?)?;
+    }
+    Ok(graph)
+}
+
+/// Labels of the files by their numbers, the same for two files just where calls lead from each to the other: the strongly connected
+/// components of the graph of calls.
+///
+/// Takes time in proportion to the files and calls, and looks each candidate of a call up by hash.
+///
+/// # Errors
+///
+/// [`AllocError`] where memory ran out.
+pub fn file_components<L: Lint>(
+    alloc: Global,
+    files: &Files<L::Unit, L::Iface>,
+) -> Result<Vec<Option<usize>>, AllocError>
+    requires { AreKept L.meaning L.is_unit files.now.entries }
+    ensures { IfOk result (λ labels. loops.AreComponents (loops.calls_graph L.meaning (folder_of files.now.entries)) labels.items) }
+{
+    let graph = calls_graph::<L>(alloc, files)?;
+    let labels = strongly_connected_components(alloc, graph.as_slice())?;
+    Ok(labels)
+}
+
+/// The fault of a call that leads back to its own file.
+fn loop_fault(alloc: Global, site: Site<'_>) -> Result<Fault, AllocError>
+    ensures { IfOk result (λ fault. fault ≡ loops.loop_fault (site_of site.entry)) }
+{
+    let mut texts = Vec::new(alloc);
+    texts.push(String::from_str(alloc, site.text)?)?;
+    Ok(Fault {
+        span: site.span,
+        code: site.code,
+        args: Args::new(texts),
+    })
+}
+
+/// Whether a call of the file with this number leads back to it.
+fn leads_back<L: Lint>(
+    files: &Files<L::Unit, L::Iface>,
+    labels: &[Option<usize>],
+    index: usize,
+    target: &Target,
+) -> bool
+    requires kept { AreKept L.meaning L.is_unit files.now.entries }
+    requires labels { loops.AreComponents (loops.calls_graph L.meaning (folder_of files.now.entries)) labels.now }
+    requires index { index < length files.now.entries }
+    requires edge { loops.IsCalledBy (loops.calls_graph L.meaning (folder_of files.now.entries)) index
+        (loops.called (folder_of files.now.entries) target.now) }
+    ensures { result ≡ loops.leads_back (loops.calls_graph L.meaning (folder_of files.now.entries)) index
+        (loops.called (folder_of files.now.entries) target.now) }
+{
+    match called(files, target) {
+        None => false,
+        Some(to) => labels[to] == labels[index],
+    }
+}
+
+/// Adds the fault of a call, if it leads back.
+fn add_if(
+    leads_back: bool,
+    alloc: Global,
+    site: Site<'_>,
+    faults: &mut Vec<Fault>,
+) -> Result<(), AllocError>
+    ensures { OnOk result (faults.new.items ≡ faults.old.items ++ loops.loop_fault_if leads_back (site_of site.entry)) }
+{
+    if leads_back {
+        faults.push(loop_fault(alloc, site)?)?;
+    }
+    Ok(())
+}
+
+/// The faults of the calls of a file with this number that lead back to it, in the order of the calls.
+fn faults_of_calls<L: Lint>(
+    lint: &L,
+    alloc: Global,
+    files: &Files<L::Unit, L::Iface>,
+    labels: &[Option<usize>],
+    index: usize,
+    file: &KeptFile<L::Unit, L::Iface>,
+) -> Result<Vec<Fault>, AllocError>
+    requires kept { AreKept L.meaning L.is_unit files.now.entries }
+    requires labels { loops.AreComponents (loops.calls_graph L.meaning (folder_of files.now.entries)) labels.now }
+    requires there { (p : List ℕ) × IsKept L.meaning L.is_unit p file.now
+        × (slice_get (folder_of files.now.entries) index ≡ Some (p, file.now.bytes.items)) }
+    ensures { (p : List ℕ) → IsKept L.meaning L.is_unit p file.now → IfOk result (λ faults. faults.items
+        ≡ loops.loop_faults L.meaning (folder_of files.now.entries) index p file.now.bytes.items) }
+{
+    let mut faults = Vec::new(alloc);
+    for (call, target) in file.calls.iter().enumerate() {
+        add_if(
+            leads_back::<L>(files, labels, index, target),
+            alloc,
+            lint.site(&file.unit, call),
+            &mut faults,
+        )?;
+    }
+    Ok(faults)
+}
+
+/// The faults of the calls of the file with this number that lead back to it, in the order of the calls.
+///
+/// # Errors
+///
+/// [`AllocError`] where memory ran out.
+pub fn loop_faults<L: Lint>(
+    lint: &L,
+    alloc: Global,
+    files: &Files<L::Unit, L::Iface>,
+    labels: &[Option<usize>],
+    index: usize,
+) -> Result<Vec<Fault>, AllocError>
+    requires kept { AreKept L.meaning L.is_unit files.now.entries }
+    requires labels { loops.AreComponents (loops.calls_graph L.meaning (folder_of files.now.entries)) labels.now }
+    requires index { index < length files.now.entries }
+    ensures { (p b : List ℕ) → slice_get (folder_of files.now.entries) index ≡ Some (p, b) → IfOk result (λ faults.
+        faults.items ≡ loops.loop_faults L.meaning (folder_of files.now.entries) index p b) }
+{
+    let (_, file) = file_number(files, index);
+    let faults = faults_of_calls(lint, alloc, files, labels, index, file)?;
+    Ok(faults)
+}

@@ -1,0 +1,179 @@
+-- A walk along a graph leads somewhere exactly where one of bounded length does.
+use Rattle.std.proofs.Common.{◌≡◌, ℕ, zero, suc, ◌+◌, ◌<◌, ◌≤◌, List, [], ◌∷◌, length, refl, sym, subst, arith, Bool, true}
+use Rattle.std.proofs.Common.{false, ◌||◌, nat_eq, inl, inr, ◌⊎◌}
+use Rattle.std.specs.Prelude.{slice_index_or, ◌↔◌}
+use Rattle.std.specs.List.{list_any}
+use Rattle.std.proofs.lemmas.Bool.Decides.{nat_tests}
+use Rattle.std.proofs.lemmas.List.Folds.{Any-from_list_any, list_any-from_Any}
+use Rattle.al_graph.specs.Graphs.{Edge, Walk, here, onward}
+use Rattle.al_graph.specs.Within.{leads, leads_within}
+
+either : (a b : Bool) → (a || b) ≡ true → (a ≡ true) ⊎ (b ≡ true)
+either true b e = inl refl
+either false b e = inr e
+
+in_first : (a b : Bool) → a ≡ true → (a || b) ≡ true
+in_first true b e = refl
+in_first false b e = absurd cc
+
+in_second : (a b : Bool) → b ≡ true → (a || b) ≡ true
+in_second true b e = refl
+in_second false b e = e
+
+same_numbers : (j k : ℕ) → nat_eq j k ≡ true → j ≡ k
+same_numbers j k e = grind (arith, nat_tests)
+
+itself : (k : ℕ) → nat_eq k k ≡ true
+itself k = grind (arith, nat_tests)
+
+any_also : (p q : ℕ → Bool) (xs : List ℕ) → ((x : ℕ) → p x ≡ true → q x ≡ true) → list_any p xs ≡ true → list_any q xs ≡ true
+any_also p q [] f e = e
+any_also p q (x ∷ xs) f e = elim (either (p x) (list_any p xs) e) [
+  | inl h ↦ in_first (q x) (list_any q xs) (f x h)
+  | inr h ↦ in_second (q x) (list_any q xs) (any_also p q xs f h)
+]
+
+module _ (g : List (List ℕ)) where
+  first_step : (j i : ℕ) {k : ℕ} → Edge g j i → Walk g i k → Walk g j k
+  first_step j i e here = onward j i here e
+  first_step j i e (onward a b w f) = onward a b (first_step j i e w) f
+
+  no_step : (j k : ℕ) → nat_eq j k ≡ true → Walk g j k
+  no_step j k e = subst (λ x. Walk g j x) (same_numbers j k e) here
+
+  pub walk_of : (n j k : ℕ) → leads_within n g j k ≡ true → Walk g j k
+  walk_of zero j k e = no_step j k e
+  walk_of (suc n) j k e = elim (either (nat_eq j k) (list_any (λ i. leads_within n g i k) (slice_index_or g j [])) e) [
+    | inl h ↦ no_step j k h
+    | inr h ↦
+        let a = Any-from_list_any (λ i. leads_within n g i k) (slice_index_or g j []) h in
+        first_step j a.1 (a.0, a.2, a.3) (walk_of n a.1 k a.4)
+  ]
+
+  module _ (k : ℕ) where
+    there : (n j : ℕ) → nat_eq j k ≡ true → leads_within n g j k ≡ true
+    there zero j e = e
+    there (suc n) j e = in_first (nat_eq j k) _ e
+
+    longer : (n j : ℕ) → leads_within n g j k ≡ true → leads_within (suc n) g j k ≡ true
+    longer zero j e = in_first (nat_eq j k) _ e
+    longer (suc n) j e = elim (either (nat_eq j k) (list_any (λ i. leads_within n g i k) (slice_index_or g j [])) e) [
+      | inl h ↦ in_first (nat_eq j k) _ h
+      | inr h ↦ in_second (nat_eq j k) _
+          (any_also (λ i. leads_within n g i k) (λ i. leads_within (suc n) g i k) (slice_index_or g j []) (λ i. longer n i) h)
+    ]
+
+    -- one more step reaches nothing more
+    abbrev Stable : ℕ → Type 0
+    Stable n = (j : ℕ) → leads_within (suc n) g j k ≡ true → leads_within n g j k ≡ true
+
+    stays : (n : ℕ) → Stable n → Stable (suc n)
+    stays n s j e = elim (either (nat_eq j k) (list_any (λ i. leads_within (suc n) g i k) (slice_index_or g j [])) e) [
+      | inl h ↦ in_first (nat_eq j k) _ h
+      | inr h ↦ in_second (nat_eq j k) _
+          (any_also (λ i. leads_within (suc n) g i k) (λ i. leads_within n g i k) (slice_index_or g j []) s h)
+    ]
+
+-- ---- how many numbers below a bound pass a test
+
+abbrev pub one : Bool → ℕ
+one true = 1
+one false = 0
+
+abbrev pub count : (ℕ → Bool) → ℕ → ℕ
+count p zero = 0
+count p (suc n) = one (p n) + count p n
+
+one_small : (b : Bool) → one b ≤ 1
+one_small true = omega arith
+one_small false = omega arith
+
+count_small : (p : ℕ → Bool) (n : ℕ) → count p n ≤ n
+count_small p zero = omega arith
+count_small p (suc n) = omega (arith, one_small (p n), count_small p n)
+
+one_more : (a b : Bool) → (a ≡ true → b ≡ true) → (one a < one b) ⊎ ((one a ≡ one b) × (b ≡ true → a ≡ true))
+one_more true true f = inr (refl, (λ e. refl))
+one_more true false f = absurd (let h = f refl in cc)
+one_more false true f = inl (omega arith)
+one_more false false f = inr (refl, (λ e. e))
+
+count_more : (p q : ℕ → Bool) (n : ℕ) → ((j : ℕ) → p j ≡ true → q j ≡ true) → count p n ≤ count q n
+count_more p q zero f = omega arith
+count_more p q (suc n) f = elim (one_more (p n) (q n) (f n)) [
+  | inl h ↦ omega (arith, h, count_more p q n f)
+  | inr h ↦ omega (arith, h.0, count_more p q n f)
+]
+
+at_most : (j n : ℕ) → j < suc n → (j < n) ⊎ (j ≡ n)
+at_most j n h = grind arith
+
+last_or_before : (q p : ℕ → Bool) (n j : ℕ) → ((q n ≡ true) → p n ≡ true) → ((i : ℕ) → i < n → q i ≡ true → p i ≡ true) → j < suc n →
+    q j ≡ true → p j ≡ true
+last_or_before q p n j last before h e = elim (at_most j n h) [
+  | inl below ↦ before j below e
+  | inr same ↦ subst (λ i. p i ≡ true) (sym same) (last (subst (λ i. q i ≡ true) same e))
+]
+
+more_or_same : (p q : ℕ → Bool) (n : ℕ) → ((j : ℕ) → p j ≡ true → q j ≡ true) → (count p n < count q n)
+    ⊎ ((j : ℕ) → j < n → q j ≡ true → p j ≡ true)
+more_or_same p q zero f = inr (λ j h e. absurd (omega (arith, h)))
+more_or_same p q (suc n) f = elim (one_more (p n) (q n) (f n)) [
+  | inl h ↦ inl (omega (arith, h, count_more p q n f))
+  | inr h ↦ elim (more_or_same p q n f) [
+    | inl less ↦ inl (omega (arith, h.0, less))
+    | inr same ↦ inr (λ j. last_or_before q p n j h.1 same)
+  ]
+]
+
+-- ---- as many steps as there are nodes suffice
+
+no_edges : (g : List (List ℕ)) (j : ℕ) → length g ≤ j → slice_index_or g j [] ≡ []
+no_edges [] j h = refl
+no_edges (x ∷ g) zero h = absurd (omega (arith, h))
+no_edges (x ∷ g) (suc j) h = no_edges g j (omega (arith, h))
+
+below_or_not : (j n : ℕ) → (j < n) ⊎ (n ≤ j)
+below_or_not j n = grind arith
+
+module _ (g : List (List ℕ)) (k : ℕ) where
+  outside : (n j : ℕ) → length g ≤ j → leads_within (suc n) g j k ≡ true → nat_eq j k ≡ true
+  outside n j h e = elim (either (nat_eq j k) (list_any (λ i. leads_within n g i k) (slice_index_or g j [])) e) [
+    | inl same ↦ same
+    | inr any ↦ absurd (let none : list_any (λ i. leads_within n g i k) [] ≡ true =
+        subst (λ xs. list_any (λ i. leads_within n g i k) xs ≡ true) (no_edges g j h) any in cc)
+  ]
+
+  stable_from : (n : ℕ) → ((j : ℕ) → j < length g → leads_within (suc n) g j k ≡ true → leads_within n g j k ≡ true) → Stable g k n
+  stable_from n f j e = elim (below_or_not j (length g)) [
+    | inl below ↦ f j below e
+    | inr far ↦ there g k n j (outside n j far e)
+  ]
+
+  progress : (n : ℕ) → Stable g k n ⊎ (n ≤ count (λ j. leads_within n g j k) (length g))
+  progress zero = inr (omega arith)
+  progress (suc n) = elim (progress n) [
+    | inl s ↦ inl (stays g k n s)
+    | inr many ↦ elim (more_or_same (λ j. leads_within n g j k) (λ j. leads_within (suc n) g j k) (length g) (λ j. longer g k n j)) [
+      | inl more ↦ inr (omega (arith, many, more))
+      | inr same ↦ inl (stays g k n (stable_from n same))
+    ]
+  ]
+
+  stable : Stable g k (suc (length g))
+  stable = elim (progress (suc (length g))) [
+    | inl s ↦ s
+    | inr many ↦ absurd (omega (arith, many, count_small (λ j. leads_within (suc (length g)) g j k) (length g)))
+  ]
+
+  back_along : (j : ℕ) {m : ℕ} → Walk g j m → leads_within (suc (length g)) g m k ≡ true → leads_within (suc (length g)) g j k ≡ true
+  back_along j here e = e
+  back_along j (onward a b w f) e =
+      back_along j w (stable a (in_second (nat_eq a k) _
+      (list_any-from_Any (λ i. leads_within (suc (length g)) g i k) (slice_index_or g a []) (f.0, b, f.1, f.2, e))))
+
+  pub leads_of : (j : ℕ) → Walk g j k → leads_within (suc (length g)) g j k ≡ true
+  leads_of j w = back_along j w (there g k (suc (length g)) k (itself k))
+
+pub leads_tells : (graph : List (List ℕ)) (j k : ℕ) → (leads graph j k ≡ true) ↔ Walk graph j k
+leads_tells graph j k = (λ e. walk_of graph (suc (length graph)) j k e, λ w. leads_of graph k j w)

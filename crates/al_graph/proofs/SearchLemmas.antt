@@ -1,0 +1,358 @@
+-- Steps of a search that finishes nodes.
+use Rattle.std.proofs.Common.{◌≡◌, ℕ, zero, suc, ◌+◌, ◌*◌, ◌<◌, ◌≤◌, List, [], ◌∷◌, ◌++◌, Bool, true, false, length, get_or, set, refl, sym, subst, ap, ◌∙◌, arith, ◌⊎◌, ⊎_elim, inl, inr, sum_by, replicate}
+use Rattle.std.specs.List.{AllByRecursion}
+use Rattle.std.specs.Prelude.{Contains}
+use Rattle.std.proofs.lemmas.List.{length-set, get_or-set_other, get_or-set_same, length-replicate, get_or-replicate, get_or_past}
+use Rattle.std.proofs.lemmas.List.Sums.{sum_by-set, sum_by-append}
+use Rattle.std.proofs.Math.Nat.{suc-mul}
+use Rattle.std.proofs.lemmas.List.Elements.{Contains-append_left, Contains-append_right, Contains-append_cases, Contains-get_or}
+use Rattle.std.proofs.lemmas.Grind.{get_or-set_at}
+use Rattle.std.proofs.lemmas.Bool.{cases_eq, cases_lt}
+use Rattle.al_graph.specs.Graphs.{Edge, Walk, here, onward}
+use Rattle.al_graph.specs.Marks.{Marked, unmarked_one}
+use Rattle.al_graph.proofs.MarkLemmas.{is_one, none_in, one_is}
+use Rattle.al_graph.specs.Finishing.{Chain, IsBegun, IsFinished, IsSearch, Nested, cost, frame_cost, is_seen_edges, node_at, nodes_of}
+use Rattle.al_graph.proofs.Orders.{all_at, all_front, all_last, all_more, all_weaker, at_before, at_end, chain_front, chain_last, chain_more, last_or_before, nodes_append}
+
+module _ (graph : List (List ℕ)) where
+  abbrev EdgesOf : ℕ × List ℕ → Type 0
+  EdgesOf f = (k : ℕ) → Contains f.1 k → Edge graph f.0 k
+
+  -- where one node more is finished, of those that the search is at
+  nested_more : (order ns : List ℕ) (w : ℕ) → Nested graph order → Contains ns w →
+      ((a c k : ℕ) → a ≤ c → c < length order → Edge graph (node_at order a) k → Contains ns k → Walk graph k (node_at order c)) →
+      Nested graph (order ++ w ∷ [])
+  nested_more order ns w nested there pending a b c ac cb lt edge =
+      ⊎_elim before last (last_or_before order w b lt)
+    where
+      before : b < length order → Walk graph (node_at (order ++ w ∷ []) b) (node_at (order ++ w ∷ []) c)
+      before h =
+          let ea : node_at (order ++ w ∷ []) a ≡ node_at order a = at_before order w a (omega (arith, ac, cb, h)) in
+          let eb : node_at (order ++ w ∷ []) b ≡ node_at order b = at_before order w b h in
+          let ec : node_at (order ++ w ∷ []) c ≡ node_at order c = at_before order w c (omega (arith, cb, h)) in
+          let From : ℕ → Type 0 = λ n. Edge graph n (node_at (order ++ w ∷ []) b) in
+          let To : ℕ → Type 0 = λ n. Edge graph (node_at order a) n in
+          let WFrom : ℕ → Type 0 = λ n. Walk graph n (node_at (order ++ w ∷ []) c) in
+          let WTo : ℕ → Type 0 = λ n. Walk graph (node_at order b) n in
+          subst WFrom (sym eb) (subst WTo (sym ec) (nested a b c ac cb h (subst To eb (subst From ea edge))))
+
+      last : b ≡ length order → Walk graph (node_at (order ++ w ∷ []) b) (node_at (order ++ w ∷ []) c)
+      last h =
+          let eb : node_at (order ++ w ∷ []) b ≡ w = at_end order w b h in
+          let WFrom : ℕ → Type 0 = λ n. Walk graph n (node_at (order ++ w ∷ []) c) in
+          let WTo : ℕ → Type 0 = λ n. Walk graph w n in
+          let From : ℕ → Type 0 = λ n. Edge graph n (node_at (order ++ w ∷ []) b) in
+          let To : ℕ → Type 0 = λ n. Edge graph (node_at order a) n in
+          subst WFrom (sym eb) (⊎_elim
+          (λ below. let ec : node_at (order ++ w ∷ []) c ≡ node_at order c = at_before order w c below in
+          let ea : node_at (order ++ w ∷ []) a ≡ node_at order a = at_before order w a (omega (arith, ac, below)) in
+          subst WTo (sym ec) (pending a c w ac below (subst To eb (subst From ea edge)) there))
+          (λ past. let ec : node_at (order ++ w ∷ []) c ≡ w = at_end order w c (omega (arith, past, cb, h)) in subst WTo (sym ec) here)
+          (cases_lt c (length order)))
+
+  -- the same of what the nodes that it is still at lead to
+  pending_more : (order ns : List ℕ) (w : ℕ) → AllByRecursion (λ x. Walk graph x w) ns →
+      ((a c k : ℕ) → a ≤ c → c < length order → Edge graph (node_at order a) k → Contains (ns ++ w ∷ []) k → Walk graph k (node_at order c)) →
+      (a c k : ℕ) → a ≤ c → c < length (order ++ w ∷ []) → Edge graph (node_at (order ++ w ∷ []) a) k → Contains ns k →
+      Walk graph k (node_at (order ++ w ∷ []) c)
+  pending_more order ns w leads pending a c k ac lt edge in_ns =
+      ⊎_elim before last (last_or_before order w c lt)
+    where
+      WTo : ℕ → Type 0
+      WTo n = Walk graph k n
+
+      before : c < length order → Walk graph k (node_at (order ++ w ∷ []) c)
+      before h =
+          let ea : node_at (order ++ w ∷ []) a ≡ node_at order a = at_before order w a (omega (arith, ac, h)) in
+          let From : ℕ → Type 0 = λ n. Edge graph n k in
+          subst WTo (sym (at_before order w c h)) (pending a c k ac h (subst From ea edge) (Contains-append_left ns (w ∷ []) k in_ns))
+
+      last : c ≡ length order → Walk graph k (node_at (order ++ w ∷ []) c)
+      last h = subst WTo (sym (at_end order w c h)) (all_at (λ x. Walk graph x w) ns k leads in_ns)
+
+  -- the search is done with its innermost node
+  pub search_finish : (seen : List Bool) (frames : List (ℕ × List ℕ)) (order : List ℕ) (w : ℕ) →
+      IsSearch graph seen (frames ++ (w, []) ∷ []) order → IsSearch graph seen frames (order ++ w ∷ [])
+  search_finish seen frames order w s =
+      let b = s.begun in
+      let nodes : nodes_of (frames ++ (w, []) ∷ []) ≡ nodes_of frames ++ w ∷ [] = nodes_append frames ((w, []) ∷ []) in
+      let w_seen : Marked seen w = b.entered w (subst (λ (ns : List ℕ). Contains ns w) (sym nodes) (Contains-append_right (nodes_of frames) (w ∷ []) w (is_one w))) in
+      let w_edges : (k : ℕ) → Edge graph w k → Marked seen k = λ k e.
+      ⊎_elim (λ m. m) (λ c. absurd (none_in k c)) (all_last (is_seen_edges graph seen) frames (w, []) s.looked k e) in
+      let chain : Chain graph (nodes_of frames ++ w ∷ []) = subst (Chain graph) nodes b.chain in
+      let leads : AllByRecursion (λ x. Walk graph x w) (nodes_of frames) = chain_last graph (nodes_of frames) w chain in
+      let pending : (a c k : ℕ) → a ≤ c → c < length order → Edge graph (node_at order a) k → Contains (nodes_of frames ++ w ∷ []) k → Walk graph k (node_at order c) =
+      λ a c k ac lt e in_ns. b.pending a c k ac lt e (subst (λ (ns : List ℕ). Contains ns k) (sym nodes) in_ns) in
+      record {
+        begun = record {
+          size = b.size;
+          listed = λ k m. ⊎_elim (λ c. inl (Contains-append_left order (w ∷ []) k c))
+              (λ c. ⊎_elim (λ front. inr front) (λ last. inl (Contains-append_right order (w ∷ []) k last))
+              (Contains-append_cases (nodes_of frames) (w ∷ []) k (subst (λ (ns : List ℕ). Contains ns k) nodes c)))
+              (b.listed k m);
+          entered = λ k c. b.entered k (subst (λ (ns : List ℕ). Contains ns k) (sym nodes) (Contains-append_left (nodes_of frames) (w ∷ []) k c));
+          finished = λ k c. ⊎_elim (λ old. b.finished k old) (λ new. subst (Marked seen) (one_is w k new) w_seen) (Contains-append_cases order (w ∷ []) k c);
+          closed = λ j k c e. ⊎_elim (λ old. b.closed j k old e) (λ new. let From : ℕ → Type 0 = λ n. Edge graph n k in w_edges k (subst From (sym (one_is w j new)) e)) (Contains-append_cases order (w ∷ []) j c);
+          edges = all_front EdgesOf frames ((w, []) ∷ []) b.edges;
+          chain = chain_front graph (nodes_of frames) w chain;
+          pending = pending_more order (nodes_of frames) w leads pending;
+          nested = nested_more order (nodes_of frames ++ w ∷ []) w b.nested (Contains-append_right (nodes_of frames) (w ∷ []) w (is_one w)) pending;
+        };
+        looked = all_front (is_seen_edges graph seen) frames ((w, []) ∷ []) s.looked;
+      }
+
+  -- nodes that stand in a list of one more
+  in_rest : (next k : ℕ) (rest : List ℕ) → Contains (next ∷ rest) k → (next ≡ k) ⊎ Contains rest k
+  in_rest next k rest c = by c.0 c.1 c.2
+    where
+      by : (i : ℕ) → i < length (next ∷ rest) → get_or (next ∷ rest) i k ≡ k → (next ≡ k) ⊎ Contains rest k
+      by zero lt e = inl e
+      by (suc i) lt e = inr (i, omega (arith, lt), e)
+
+  later : (next k : ℕ) (rest : List ℕ) → Contains rest k → Contains (next ∷ rest) k
+  later next k rest c = let lt = c.1 in (suc c.0, omega (arith, lt), c.2)
+
+  first : (next : ℕ) (rest : List ℕ) → Contains (next ∷ rest) next
+  first next rest = (0, omega arith, refl)
+
+  -- the edge at which it looks
+  pub edge_next : (seen : List Bool) (frames : List (ℕ × List ℕ)) (order rest : List ℕ) (w next : ℕ) →
+      IsSearch graph seen (frames ++ (w, next ∷ rest) ∷ []) order → Edge graph w next
+  edge_next seen frames order rest w next s = all_last EdgesOf frames (w, next ∷ rest) s.begun.edges next (first next rest)
+
+  -- what has been begun stays so where it has looked at one edge more
+  begun_next : (seen : List Bool) (frames : List (ℕ × List ℕ)) (order rest : List ℕ) (w next : ℕ) →
+      IsBegun graph seen (frames ++ (w, next ∷ rest) ∷ []) order → IsBegun graph seen (frames ++ (w, rest) ∷ []) order
+  begun_next seen frames order rest w next b =
+      let nodes : nodes_of (frames ++ (w, next ∷ rest) ∷ []) ≡ nodes_of (frames ++ (w, rest) ∷ []) =
+      nodes_append frames ((w, next ∷ rest) ∷ []) ∙ sym (nodes_append frames ((w, rest) ∷ [])) in
+      record {
+        size = b.size;
+        listed = λ k m. ⊎_elim (λ c. inl c) (λ c. inr (subst (λ (ns : List ℕ). Contains ns k) nodes c)) (b.listed k m);
+        entered = λ k c. b.entered k (subst (λ (ns : List ℕ). Contains ns k) (sym nodes) c);
+        finished = b.finished;
+        closed = b.closed;
+        edges = all_more EdgesOf frames (w, rest) (all_front EdgesOf frames ((w, next ∷ rest) ∷ []) b.edges)
+            (λ k c. all_last EdgesOf frames (w, next ∷ rest) b.edges k (later next k rest c));
+        chain = subst (Chain graph) nodes b.chain;
+        pending = λ a c k ac lt e in_ns. b.pending a c k ac lt e (subst (λ (ns : List ℕ). Contains ns k) (sym nodes) in_ns);
+        nested = b.nested;
+      }
+
+  looked_next : (seen after : List Bool) (frames : List (ℕ × List ℕ)) (rest : List ℕ) (w next : ℕ) →
+      ((k : ℕ) → Marked seen k → Marked after k) → Marked after next →
+      AllByRecursion (is_seen_edges graph seen) (frames ++ (w, next ∷ rest) ∷ []) → AllByRecursion (is_seen_edges graph after) (frames ++ (w, rest) ∷ [])
+  looked_next seen after frames rest w next kept now h =
+      all_more (is_seen_edges graph after) frames (w, rest)
+      (all_weaker (is_seen_edges graph seen) (is_seen_edges graph after) (λ f l k e. ⊎_elim (λ m. inl (kept k m)) (λ c. inr c) (l k e)) frames
+      (all_front (is_seen_edges graph seen) frames ((w, next ∷ rest) ∷ []) h))
+      (λ k e. ⊎_elim (λ m. inl (kept k m)) (λ c. ⊎_elim (λ same. inl (subst (Marked after) same now)) (λ l. inr l) (in_rest next k rest c))
+      (all_last (is_seen_edges graph seen) frames (w, next ∷ rest) h k e))
+
+  -- the edge leads to a node that was seen
+  pub search_pass : (seen : List Bool) (frames : List (ℕ × List ℕ)) (order rest : List ℕ) (w next : ℕ) → Marked seen next →
+      IsSearch graph seen (frames ++ (w, next ∷ rest) ∷ []) order → IsSearch graph seen (frames ++ (w, rest) ∷ []) order
+  search_pass seen frames order rest w next m s = record {
+    begun = begun_next seen frames order rest w next s.begun;
+    looked = looked_next seen seen frames rest w next (λ k h. h) m s.looked;
+  }
+
+  marked_set : (seen : List Bool) (j k : ℕ) → Marked (set seen j true) k → Marked seen k ⊎ (j ≡ k)
+  marked_set seen j k m = ⊎_elim (λ e. inr (sym e)) (λ ne. inl (sym (get_or-set_other seen j k true false ne) ∙ m)) (cases_eq k j)
+
+  pub still_seen : (seen : List Bool) (j k : ℕ) → j < length seen → Marked seen k → Marked (set seen j true) k
+  still_seen seen j k h m = ⊎_elim (λ e. get_or-set_at seen j k true false e h) (λ ne. get_or-set_other seen j k true false ne ∙ m) (cases_eq k j)
+
+  unseen : (seen : List Bool) (k : ℕ) → get_or seen k false ≡ false → Marked seen k → ⊥
+  unseen seen k f m = wrong (sym f ∙ m)
+    where
+      wrong : false ≡ true → ⊥
+      wrong h = cc
+
+  -- it comes to a node that was not seen, to which those lead that it is at
+  pub search_enter : (seen : List Bool) (frames : List (ℕ × List ℕ)) (order : List ℕ) (w : ℕ) → w < length graph →
+      get_or seen w false ≡ false → AllByRecursion (λ x. Walk graph x w) (nodes_of frames) → IsBegun graph seen frames order →
+      AllByRecursion (is_seen_edges graph (set seen w true)) frames →
+      IsSearch graph (set seen w true) (frames ++ (w, get_or graph w []) ∷ []) order
+  search_enter seen frames order w lt fresh leads b looked =
+      let nodes : nodes_of (frames ++ (w, get_or graph w []) ∷ []) ≡ nodes_of frames ++ w ∷ [] = nodes_append frames ((w, get_or graph w []) ∷ []) in
+      let inside : w < length seen = (let n = b.size in omega (arith, n, lt)) in
+      let w_seen : Marked (set seen w true) w = get_or-set_same seen w true false inside in
+      record {
+        begun = record {
+          size = length-set seen w true ∙ b.size;
+          listed = λ k m. ⊎_elim
+              (λ old. ⊎_elim (λ c. inl c) (λ c. inr (subst (λ (ns : List ℕ). Contains ns k) (sym nodes) (Contains-append_left (nodes_of frames) (w ∷ []) k c))) (b.listed k old))
+              (λ same. inr (subst (λ (ns : List ℕ). Contains ns k) (sym nodes) (Contains-append_right (nodes_of frames) (w ∷ []) k (subst (Contains (w ∷ [])) same (is_one w)))))
+              (marked_set seen w k m);
+          entered = λ k c. ⊎_elim (λ old. still_seen seen w k inside (b.entered k old)) (λ new. subst (Marked (set seen w true)) (one_is w k new) w_seen)
+              (Contains-append_cases (nodes_of frames) (w ∷ []) k (subst (λ (ns : List ℕ). Contains ns k) nodes c));
+          finished = λ k c. still_seen seen w k inside (b.finished k c);
+          closed = λ j k c e. still_seen seen w k inside (b.closed j k c e);
+          edges = all_more EdgesOf frames (w, get_or graph w []) b.edges (λ k c. c);
+          chain = subst (Chain graph) (sym nodes) (chain_more graph (nodes_of frames) w b.chain leads);
+          pending = λ a c k ac l e in_ns. ⊎_elim (λ old. b.pending a c k ac l e old)
+              (λ new. absurd (unseen seen w fresh (let To : ℕ → Type 0 = λ n. Edge graph (node_at order a) n in
+              b.closed (node_at order a) w (Contains-get_or order a 0 (omega (arith, ac, l))) (subst To (sym (one_is w k new)) e))))
+              (Contains-append_cases (nodes_of frames) (w ∷ []) k (subst (λ (ns : List ℕ). Contains ns k) nodes in_ns));
+          nested = b.nested;
+        };
+        looked = all_more (is_seen_edges graph (set seen w true)) frames (w, get_or graph w []) looked (λ k e. inr e);
+      }
+
+  -- the edge leads to one that was not seen
+  pub search_go_in : (seen : List Bool) (frames : List (ℕ × List ℕ)) (order rest : List ℕ) (w next : ℕ) → next < length graph →
+      get_or seen next false ≡ false → IsSearch graph seen (frames ++ (w, next ∷ rest) ∷ []) order →
+      IsSearch graph (set seen next true) ((frames ++ (w, rest) ∷ []) ++ (next, get_or graph next []) ∷ []) order
+  search_go_in seen frames order rest w next lt fresh s =
+      let inside : next < length seen = (let n = s.begun.size in omega (arith, n, lt)) in
+      let b : IsBegun graph seen (frames ++ (w, rest) ∷ []) order = begun_next seen frames order rest w next s.begun in
+      let nodes : nodes_of (frames ++ (w, rest) ∷ []) ≡ nodes_of frames ++ w ∷ [] = nodes_append frames ((w, rest) ∷ []) in
+      let chain : Chain graph (nodes_of frames ++ w ∷ []) = subst (Chain graph) nodes b.chain in
+      let edge : Edge graph w next = edge_next seen frames order rest w next s in
+      let leads : AllByRecursion (λ x. Walk graph x next) (nodes_of frames ++ w ∷ []) =
+      all_more (λ x. Walk graph x next) (nodes_of frames) w
+      (all_weaker (λ x. Walk graph x w) (λ x. Walk graph x next) (λ x v. onward w next v edge) (nodes_of frames) (chain_last graph (nodes_of frames) w chain))
+      (onward w next here edge) in
+      search_enter seen (frames ++ (w, rest) ∷ []) order next lt fresh (subst (AllByRecursion (λ x. Walk graph x next)) (sym nodes) leads) b
+      (looked_next seen (set seen next true) frames rest w next (λ k m. still_seen seen next k inside m) (get_or-set_same seen next true false inside) s.looked)
+
+  -- nothing is begun where all that was seen is finished
+  pub search_start : (seen : List Bool) (order : List ℕ) (w : ℕ) → w < length graph → get_or seen w false ≡ false →
+      IsSearch graph seen [] order → IsSearch graph (set seen w true) ((w, get_or graph w []) ∷ []) order
+  search_start seen order w lt fresh s = search_enter seen [] order w lt fresh tt s.begun tt
+
+-- what a step costs
+
+one_of_sum : (graph : List (List ℕ)) (i : ℕ) → length (get_or graph i []) ≤ sum_by length graph
+one_of_sum [] i = omega arith
+one_of_sum (x ∷ xs) zero =
+    let e = sum_by-append length (x ∷ []) xs in
+    let f : length (get_or {A = List ℕ} (x ∷ xs) 0 []) ≡ length x = refl in
+    omega (arith, e, f)
+one_of_sum (x ∷ xs) (suc i) =
+    let e = sum_by-append length (x ∷ []) xs in
+    let f : length (get_or {A = List ℕ} (x ∷ xs) (suc i) []) ≡ length (get_or xs i []) = refl in
+    omega (arith, e, f, one_of_sum xs i)
+
+abbrev K : List (List ℕ) → ℕ
+K graph = sum_by length graph + 2
+
+pub cost_enter : (graph : List (List ℕ)) (seen : List Bool) (frames : List (ℕ × List ℕ)) (w next : ℕ) (rest : List ℕ) → next < length seen →
+    get_or seen next false ≡ false →
+    cost graph (set seen next true) ((frames ++ (w, rest) ∷ []) ++ (next, get_or graph next []) ∷ []) < cost graph seen (frames ++ (w, next ∷ rest) ∷ [])
+cost_enter graph seen frames w next rest lt fresh =
+    let u : ℕ = sum_by unmarked_one (set seen next true) in
+    let was : unmarked_one (get_or seen next false) ≡ 1 = ap unmarked_one fresh in
+    let one : sum_by unmarked_one seen ≡ suc u = (let s = sum_by-set unmarked_one seen next true false lt in omega (arith, s, was)) in
+    let times : sum_by unmarked_one seen * K graph ≡ u * K graph + K graph = ap (λ n. n * K graph) one ∙ suc-mul u (K graph) in
+    let a = sum_by-append frame_cost (frames ++ (w, rest) ∷ []) ((next, get_or graph next []) ∷ []) in
+    let b = sum_by-append frame_cost frames ((w, rest) ∷ []) in
+    let c = sum_by-append frame_cost frames ((w, next ∷ rest) ∷ []) in
+    let d = one_of_sum graph next in
+    omega (arith, times, a, b, c, d)
+
+pub cost_pass : (graph : List (List ℕ)) (seen : List Bool) (frames : List (ℕ × List ℕ)) (w next : ℕ) (rest : List ℕ) →
+    cost graph seen (frames ++ (w, rest) ∷ []) < cost graph seen (frames ++ (w, next ∷ rest) ∷ [])
+cost_pass graph seen frames w next rest =
+    let b = sum_by-append frame_cost frames ((w, rest) ∷ []) in
+    let c = sum_by-append frame_cost frames ((w, next ∷ rest) ∷ []) in
+    omega (arith, b, c)
+
+pub cost_finish : (graph : List (List ℕ)) (seen : List Bool) (frames : List (ℕ × List ℕ)) (f : ℕ × List ℕ) →
+    cost graph seen frames < cost graph seen (frames ++ f ∷ [])
+cost_finish graph seen frames f = let b = sum_by-append frame_cost frames (f ∷ []) in omega (arith, b)
+
+-- the steps of the program, by what it finds
+abbrev Step : List (List ℕ) → List Bool → List (ℕ × List ℕ) → List ℕ → ℕ → List ℕ → Type 0
+Step graph seen frames order w nodes = IsSearch graph seen (frames ++ (w, nodes) ∷ []) order
+
+pub step_finish : (graph : List (List ℕ)) (seen : List Bool) (frames : List (ℕ × List ℕ)) (order new : List ℕ) (w : ℕ) (nodes : List ℕ) →
+    nodes ≡ [] → new ≡ order ++ w ∷ [] → IsSearch graph seen (frames ++ (w, nodes) ∷ []) order → IsSearch graph seen frames new
+step_finish graph seen frames order new w nodes none is s =
+    subst (IsSearch graph seen frames) (sym is) (search_finish graph seen frames order w (subst (Step graph seen frames order w) none s))
+
+pub step_edge : (graph : List (List ℕ)) (seen : List Bool) (frames : List (ℕ × List ℕ)) (order : List ℕ) (w next : ℕ) (nodes rest : List ℕ) →
+    nodes ≡ next ∷ rest → IsSearch graph seen (frames ++ (w, nodes) ∷ []) order → Edge graph w next
+step_edge graph seen frames order w next nodes rest is s = edge_next graph seen frames order rest w next (subst (Step graph seen frames order w) is s)
+
+pub step_pass : (graph : List (List ℕ)) (seen : List Bool) (frames after : List (ℕ × List ℕ)) (order : List ℕ) (w next : ℕ) (nodes rest : List ℕ) →
+    nodes ≡ next ∷ rest → after ≡ frames ++ (w, rest) ∷ [] → Marked seen next → IsSearch graph seen (frames ++ (w, nodes) ∷ []) order →
+    IsSearch graph seen after order
+step_pass graph seen frames after order w next nodes rest is e m s =
+    let P : List (ℕ × List ℕ) → Type 0 = λ fs. IsSearch graph seen fs order in
+    subst P (sym e) (search_pass graph seen frames order rest w next m (subst (Step graph seen frames order w) is s))
+
+pub step_enter : (graph : List (List ℕ)) (seen now : List Bool) (frames mid after : List (ℕ × List ℕ)) (order : List ℕ) (w next : ℕ) (nodes rest : List ℕ) →
+    nodes ≡ next ∷ rest → mid ≡ frames ++ (w, rest) ∷ [] → next < length graph → get_or seen next false ≡ false → now ≡ set seen next true →
+    after ≡ mid ++ (next, get_or graph next []) ∷ [] → IsSearch graph seen (frames ++ (w, nodes) ∷ []) order →
+    IsSearch graph now after order × (cost graph now after < cost graph seen (frames ++ (w, nodes) ∷ [])) × ((k : ℕ) → Marked seen k → Marked now k)
+step_enter graph seen now frames mid after order w next nodes rest is m lt fresh n a s =
+    let t = subst (Step graph seen frames order w) is s in
+    let inside : next < length seen = (let size = t.begun.size in omega (arith, size, lt)) in
+    let to : after ≡ (frames ++ (w, rest) ∷ []) ++ (next, get_or graph next []) ∷ [] = a ∙ ap (λ l. l ++ (next, get_or graph next []) ∷ []) m in
+    let P : List Bool → Type 0 = λ bs. IsSearch graph bs after order in
+    let Q : List (ℕ × List ℕ) → Type 0 = λ fs. IsSearch graph (set seen next true) fs order in
+    let C : List (ℕ × List ℕ) → Type 0 = λ fs. cost graph (set seen next true) fs < cost graph seen (frames ++ (w, next ∷ rest) ∷ []) in
+    let D : List Bool → Type 0 = λ bs. cost graph bs after < cost graph seen (frames ++ (w, next ∷ rest) ∷ []) in
+    let E : List ℕ → Type 0 = λ l. cost graph now after < cost graph seen (frames ++ (w, l) ∷ []) in
+    let S : List Bool → Type 0 = λ bs. (k : ℕ) → Marked seen k → Marked bs k in (
+      subst P (sym n) (subst Q (sym to) (search_go_in graph seen frames order rest w next lt fresh t)),
+      subst E (sym is) (subst D (sym n) (subst C (sym to) (cost_enter graph seen frames w next rest inside fresh))),
+      subst S (sym n) (λ k h. still_seen graph seen next k inside h),
+    )
+
+pub step_start : (graph : List (List ℕ)) (seen now : List Bool) (none after : List (ℕ × List ℕ)) (order : List ℕ) (w : ℕ) → w < length graph →
+    get_or seen w false ≡ false → now ≡ set seen w true → none ≡ [] → after ≡ none ++ (w, get_or graph w []) ∷ [] → IsSearch graph seen [] order →
+    IsSearch graph now after order × ((k : ℕ) → Marked seen k → Marked now k) × Marked now w
+step_start graph seen now none after order w lt fresh n e a s =
+    let inside : w < length seen = (let size = s.begun.size in omega (arith, size, lt)) in
+    let to : after ≡ (w, get_or graph w []) ∷ [] = a ∙ ap (λ l. l ++ (w, get_or graph w []) ∷ []) e in
+    let P : List Bool → Type 0 = λ bs. IsSearch graph bs after order in
+    let Q : List (ℕ × List ℕ) → Type 0 = λ fs. IsSearch graph (set seen w true) fs order in
+    let S : List Bool → Type 0 = λ bs. (k : ℕ) → Marked seen k → Marked bs k in
+    let W : List Bool → Type 0 = λ bs. Marked bs w in (
+      subst P (sym n) (subst Q (sym to) (search_start graph seen order w lt fresh s)),
+      subst S (sym n) (λ k h. still_seen graph seen w k inside h),
+      subst W (sym n) (get_or-set_same seen w true false inside),
+    )
+
+-- nothing was seen
+none_seen : (n k : ℕ) → get_or (replicate n false) k false ≡ false
+none_seen n k = ⊎_elim (λ h. get_or-replicate n k false false h) (λ h. get_or_past (replicate n false) k false (omega (arith, length-replicate n false, h))) (cases_lt k n)
+
+pub search_fresh : (graph : List (List ℕ)) (seen : List Bool) (order : List ℕ) → seen ≡ replicate (length graph) false → order ≡ [] →
+    IsSearch graph seen [] order
+search_fresh graph seen order e o =
+    let no : (k : ℕ) → Marked seen k → ⊥ = λ k m. unseen graph seen k (ap (λ s. get_or s k false) e ∙ none_seen (length graph) k) m in
+    let none : (k : ℕ) → Contains order k → ⊥ = λ k c. none_in k (subst (λ (l : List ℕ). Contains l k) o c) in
+    record {
+      begun = record {
+        size = ap length e ∙ length-replicate (length graph) false;
+        listed = λ k m. absurd (no k m);
+        entered = λ k c. absurd (none_in k c);
+        finished = λ k c. absurd (none k c);
+        closed = λ j k c e. absurd (none j c);
+        edges = tt;
+        chain = tt;
+        pending = λ a c k ac lt e in_ns. absurd (none_in k in_ns);
+        nested = λ a b c ac cb lt e. absurd (let empty : length order ≡ 0 = ap length o in omega (arith, lt, empty));
+      };
+      looked = tt;
+    }
+
+-- all was seen
+pub search_done : (graph : List (List ℕ)) (seen : List Bool) (order : List ℕ) (n : ℕ) → n ≡ length graph → ((k : ℕ) → k < n → Marked seen k) →
+    IsSearch graph seen [] order → IsFinished graph order
+search_done graph seen order n e all s = record {
+  all = λ k lt. ⊎_elim (λ c. c) (λ c. absurd (none_in k c)) (s.begun.listed k (all k (omega (arith, lt, e))));
+  inside = λ k c. inside_of k (s.begun.finished k c);
+  nested = s.begun.nested;
+}
+  where
+    inside_of : (k : ℕ) → Marked seen k → k < length graph
+    inside_of k m = ⊎_elim (λ h. let size = s.begun.size in omega (arith, h, size)) (λ h. absurd (cc (get_or_past seen k false h, m))) (cases_lt k (length seen))
+
+pub no_frames : (graph : List (List ℕ)) (seen : List Bool) (frames : List (ℕ × List ℕ)) (order : List ℕ) → length frames ≡ 0 → IsSearch graph seen frames order → IsSearch graph seen [] order
+no_frames graph seen [] order e s = s
+no_frames graph seen (f ∷ fs) order e s = absurd (omega (arith, e))

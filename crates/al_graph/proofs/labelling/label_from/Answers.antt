@@ -1,0 +1,56 @@
+use Rattle.std.proofs.Common.{rules, ◌≡◌, ◌<◌, None, is_some, true, get_or, length, arith, refl}
+use Rattle.std.proofs.lemmas.List.{length-map}
+use Rattle.std.proofs.lemmas.List.Elements.{Contains-get_or}
+use Rattle.al_graph.specs.Graphs.{edges_of}
+use Rattle.al_graph.proofs.Orders.{read_at}
+use Rattle.al_graph.proofs.LabelLemmas.{labelling_next, labelling_start, no_waiting, skipped, node_inside}
+use Rattle.al_graph.proofs.labelling.label_from.Goals as goal
+
+pub index-requires : goal.index-requires
+index-requires c =
+    let below = c.requires.order.inside (get_or c.args.order.now c.args.at 0) (Contains-get_or c.args.order.now c.args.at 0 c.requires.at_in) in
+    let size = c.requires.labels.size in
+    omega (arith, below, size)
+
+pub returns-then-is_some : goal.returns-then-is_some
+returns-then-is_some c =
+    let below = c.requires.order.inside (get_or c.args.order.now c.args.at 0) (Contains-get_or c.args.order.now c.args.at 0 c.requires.at_in) in
+    let size = c.requires.labels.size in
+    let some : is_some c.index.result.now ≡ true = search rules in
+    skipped (edges_of c.args.graph.now) c.args.order.now c.args.labels.now.items c.args.at c.index.result.now
+    (read_at c.args.labels.now.items (get_or c.args.order.now c.args.at 0) c.index.result.now None (omega (arith, below, size)) c.index.ensures) some c.requires.labels
+
+pub label_node-requires : goal.label_node-requires
+label_node-requires c =
+    let below = c.requires.order.inside (get_or c.args.order.now c.args.at 0) (Contains-get_or c.args.order.now c.args.at 0 c.requires.at_in) in
+    let size = c.requires.labels.size in
+    omega (arith, below, size)
+
+pub loop-node-init : goal.loop-node-init
+loop-node-init c =
+    labelling_start (edges_of c.args.graph.now) c.args.order.now c.args.labels.now.items c.label_node.new.labels.items c.args.at (get_or c.args.order.now c.args.at 0) c.new-waiting.result.items c.label_node.new.waiting.items
+    c.requires.at_in refl c.new-waiting.ensures.items c.requires.labels c.in_ok-label_node.ensures
+
+pub label_next-requires-clause-node_in : goal.label_next-requires-clause-node_in
+label_next-requires-clause-node_in c =
+    let below = node_inside (edges_of c.args.graph.now) c.args.order.now c.loop-node.labels.items c.args.at c.loop-node.waiting.items _ c.in-Some.node c.in-Some.ensures.items c.loop-node.invariant in
+    let nodes : length (edges_of c.args.graph.now) ≡ length c.args.graph.now = length-map c.args.graph.now _ in
+    omega (arith, below, nodes)
+
+pub label_next-requires-clause-edges_in : goal.label_next-requires-clause-edges_in
+label_next-requires-clause-edges_in c k h =
+    let below : k < length c.args.graph.now = c.requires.edges_in c.in-Some.node k h in
+    let nodes : length (edges_of c.args.graph.now) ≡ length c.args.graph.now = length-map c.args.graph.now _ in
+    let size = c.loop-node.invariant.size in
+    omega (arith, below, nodes, size)
+
+pub loop-node-preserved : goal.loop-node-preserved
+loop-node-preserved c =
+    let nodes : length (edges_of c.args.graph.now) ≡ length c.args.graph.now = length-map c.args.graph.now _ in
+    labelling_next (edges_of c.args.graph.now) c.args.order.now c.loop-node.labels.items c.label_next.new.labels.items c.args.at c.in-Some.node c.loop-node.waiting.items _ c.label_next.new.waiting.items
+    (λ j k e. let below = c.requires.edges_in j k e in omega (arith, below, nodes)) c.requires.order c.requires.at_in c.in-Some.ensures.items c.loop-node.invariant c.in_ok-label_next.ensures
+
+pub returns : goal.returns
+returns c =
+    let none : length c.loop-node.waiting.items ≡ 0 = search rules in
+    no_waiting (edges_of c.args.graph.now) c.args.order.now c.loop-node.labels.items c.args.at c.loop-node.waiting.items none c.loop-node.invariant

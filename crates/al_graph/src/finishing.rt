@@ -1,0 +1,117 @@
+//! A postorder of a graph: the order in which a depth-first search along its edges is done with its nodes.
+
+ghost use Rattle.al_graph.specs.Finishing.{IsFinished, IsSearch, cost, frame_of, frames_of};
+ghost use Rattle.al_graph.specs.Graphs.{Edge, edges_of};
+ghost use Rattle.al_graph.specs.Marks.{Marked};
+ghost use Rattle.std.specs.Prelude.{◌≡◌, ℕ, ◌<◌, ◌++◌, ◌∷◌, [], false, true, length, slice_index_or, set, IfOk, OnOk, MatchOption};
+
+use std::alloc::{AllocError, Global};
+
+/// A node that the search has come to, and of the nodes that its edges lead to those at which it has not yet looked.
+#[derive(Clone, Copy)]
+struct Frame<'a> {
+    node: usize,
+    rest: &'a [usize],
+}
+
+/// The first of some nodes, and those behind it.
+fn split(nodes: &[usize]) -> Option<(usize, &[usize])>
+    ensures { MatchOption result (nodes.now ≡ []) (λ x. nodes.now ≡ x.0 ∷ x.1.now) }
+{
+    match nodes {
+        [] => None,
+        [first, rest @ ..] => Some((*first, rest)),
+    }
+}
+
+/// Comes to a node.
+fn enter<'a>(
+    graph: &'a [Vec<usize>],
+    node: usize,
+    seen: &mut Vec<bool>,
+    frames: &mut Vec<Frame<'a>>,
+) -> Result<(), AllocError>
+    requires node_in { node < length graph.now }
+    requires size { length seen.old.items ≡ length graph.now }
+    ensures seen { OnOk result (seen.new.items ≡ set seen.old.items node true) }
+    ensures frames { OnOk result (frames_of frames.new.items
+        ≡ frames_of frames.old.items ++ (node, slice_index_or (edges_of graph.now) node []) ∷ []) }
+{
+    seen[node] = true;
+    frames.push(Frame {
+        node,
+        rest: graph[node].as_slice(),
+    })?;
+    Ok(())
+}
+
+/// Looks at the next node that the innermost node leads to, or, where there is none, is done with it.
+fn advance<'a>(
+    graph: &'a [Vec<usize>],
+    frame: Frame<'a>,
+    seen: &mut Vec<bool>,
+    frames: &mut Vec<Frame<'a>>,
+    order: &mut Vec<usize>,
+) -> Result<(), AllocError>
+    requires edges_in { (j k : ℕ) → Edge (edges_of graph.now) j k → k < length graph.now }
+    requires search { IsSearch (edges_of graph.now) seen.old.items (frames_of frames.old.items ++ frame_of frame ∷ []) order.old.items }
+    ensures search { OnOk result (IsSearch (edges_of graph.now) seen.new.items (frames_of frames.new.items) order.new.items) }
+    ensures kept { OnOk result ((k : ℕ) → Marked seen.old.items k → Marked seen.new.items k) }
+    ensures smaller { OnOk result (cost (edges_of graph.now) seen.new.items (frames_of frames.new.items)
+        < cost (edges_of graph.now) seen.old.items (frames_of frames.old.items ++ frame_of frame.entry ∷ [])) }
+{
+    let Some((next, rest)) = split(frame.rest) else {
+        order.push(frame.node)?;
+        return Ok(());
+    };
+    frames.push(Frame {
+        node: frame.node,
+        rest,
+    })?;
+    if seen[next] {
+        return Ok(());
+    }
+    enter(graph, next, seen, frames)?;
+    Ok(())
+}
+
+/// Searches from a node, unless it was seen, until all that it leads to is finished.
+fn finish_from(
+    alloc: Global,
+    graph: &[Vec<usize>],
+    from: usize,
+    seen: &mut Vec<bool>,
+    order: &mut Vec<usize>,
+) -> Result<(), AllocError>
+    requires edges_in { (j k : ℕ) → Edge (edges_of graph.now) j k → k < length graph.now }
+    requires from_in { from < length graph.now }
+    requires search { IsSearch (edges_of graph.now) seen.old.items [] order.old.items }
+    ensures search { OnOk result (IsSearch (edges_of graph.now) seen.new.items [] order.new.items) }
+    ensures kept { OnOk result ((k : ℕ) → Marked seen.old.items k → Marked seen.new.items k) }
+    ensures from_seen { OnOk result (Marked seen.new.items from) }
+{
+    if seen[from] {
+        return Ok(());
+    }
+    let mut frames = Vec::new(alloc);
+    enter(graph, from, seen, &mut frames)?;
+    while let Some(frame) = frames.pop() {
+        advance(graph, frame, seen, &mut frames, order)?;
+    }
+    Ok(())
+}
+
+/// The nodes in an order in which a depth-first search finishes them: each behind those that it leads to, unless these lead back to it.
+///
+/// Takes time in proportion to the nodes and edges. Fails with `AllocError` for want of memory.
+pub(crate) fn finish_order(alloc: Global, graph: &[Vec<usize>]) -> Result<Vec<usize>, AllocError>
+    requires { (j k : ℕ) → Edge (edges_of graph.now) j k → k < length graph.now }
+    ensures { IfOk result (λ order. IsFinished (edges_of graph.now) order.items) }
+{
+    let mut seen = vec![in alloc; false; graph.len()]?;
+    let mut order = Vec::new(alloc);
+    for node in 0..graph.len() {
+        finish_from(alloc, graph, node, &mut seen, &mut order)?;
+    }
+    Ok(order)
+}

@@ -1,0 +1,281 @@
+-- The faults that a report lists: each file's own, and those of its calls that lead back to it.
+use Rattle.std.proofs.Common.{◌≤◌, ◌≡◌, ◌<◌, ℕ, zero, suc, ◌+◌, Bool, true, false, cond, not, List, [], ◌∷◌, ◌++◌, length, map}
+use Rattle.std.proofs.Common.{get_or, take, Option, Some, None, String, Vec, slice_get, refl, sym, ◌∙◌, ap, subst, ◌||◌, arith, ◌⊎◌, ⊎_elim, inl, inr}
+use Rattle.std.specs.Prelude.{string_bytes}
+use Rattle.std.specs.Bool.{◌==◌}
+use Rattle.std.specs.Global.{Global}
+use Rattle.std.specs.List.{AllByRecursion, enumerate_from, flat_map, list_any}
+use Rattle.std.specs.List.Sorted.{IsStrictlySortedBy}
+use Rattle.std.specs.Option.{unwrap_or}
+use Rattle.std.specs.Ordering.{match_ordering}
+use Rattle.std.specs.declared.cmp.Ordering.{Ordering}
+use Rattle.std.specs.declared.cmp.Ordering.TheVariants.{Less, Equal, Greater}
+use Rattle.std.proofs.lemmas.Bool.Decides.{nat_tests}
+use Rattle.std.proofs.lemmas.List.{length-map}
+use Rattle.std.proofs.lemmas.List.FromFn.{length-enumerate_from, get_or-enumerate_from}
+use Rattle.std.proofs.lemmas.Option.{get_or_from_slice_get}
+use Rattle.al_text.proofs.FaultLists.{AllByRecursion-fault_list, fault_list-sorted}
+use Rattle.al_text.specs.FaultLists.{fault_cmp, fault_list}
+use Rattle.al_text.specs.InOrder.{in_order, with_one}
+use Rattle.al_text.specs.LineStarts.{line_starts}
+use Rattle.al_text.specs.Snippets.{fault_text}
+use Rattle.al_text.specs.Spans.{LiesIn}
+use Rattle.al_text.specs.declared.faults.Fault.{Fault}
+use Rattle.al_folder.specs.Meaning.{CallSite, Meaning}
+use Rattle.al_folder.specs.Folder.{Folder, answers, faults_in}
+use Rattle.al_folder.specs.Kept.{Files, folder_of, AllKept, IsKept}
+use Rattle.al_folder.specs.Loops.{calls_graph, called, leads_back, loop_fault_if, loop_faults, looping, reported}
+use Rattle.al_folder.specs.declared.kept.KeptFile.{KeptFile}
+use Rattle.al_folder.specs.declared.lint.Target.{Target}
+use Rattle.al_folder.proofs.Looping.{kept_number}
+use Rattle.al_session.specs.Report.{status_of, report_of}
+use Rattle.al_session.specs.Session.{AllChecked, AreJoined, ArePrintable, IsPrintable, lines_of, listed, numbered_lines}
+use Rattle.al_session.proofs.Reports.{any_fault}
+
+-- ---- lists that are joined
+
+abbrev Lists : Type 0
+Lists = List (Option (Vec Fault Global))
+
+at_before : (ls : Lists) (o : Option (Vec Fault Global)) (i : ℕ) → i < length ls → get_or (ls ++ o ∷ []) i None ≡ get_or ls i None
+at_before [] o i h = absurd (omega (arith, h))
+at_before (l ∷ ls) o zero h = refl
+at_before (l ∷ ls) o (suc i) h = at_before ls o i (omega arith)
+
+at_end : (ls : Lists) (o : Option (Vec Fault Global)) → get_or (ls ++ o ∷ []) (length ls) None ≡ o
+at_end [] o = refl
+at_end (l ∷ ls) o = at_end ls o
+
+one_longer : (ls : Lists) (o : Option (Vec Fault Global)) → length (ls ++ o ∷ []) ≡ length ls + 1
+one_longer [] o = refl
+one_longer (l ∷ ls) o = let rest = one_longer ls o in omega (arith, rest)
+
+before_or_last : (i n : ℕ) → i < n + 1 → (i < n) ⊎ (i ≡ n)
+before_or_last i n h = grind arith
+
+module _ {U I : Type 0} (m : Meaning I) (files : Files U I) where
+  pub joined_none : AreJoined m files [] 0
+  joined_none = record { size = refl; each = λ i e lt at. absurd (omega (arith, lt)) }
+
+  pub joined_next : (old new : Lists) (o : Option (Vec Fault Global)) (n : ℕ) → new ≡ old ++ o ∷ [] → AreJoined m files old n →
+      ((e : String Global × KeptFile U I) → slice_get files n ≡ Some e → listed e.1 o ≡ reported m (folder_of files) n (string_bytes e.0) e.1.bytes.items) → AreJoined m files new (n + 1)
+  joined_next old new o n more j one =
+      let size : length old ≡ n = j.size in
+      let whole : AreJoined m files (old ++ o ∷ []) (n + 1) = record {
+        size = one_longer old o ∙ ap (λ k. k + 1) size;
+        each = λ i e lt at. ⊎_elim
+            (λ below. ap (listed e.1) (at_before old o i (omega (arith, below, size))) ∙ j.each i e below at)
+            (λ last. let here : get_or (old ++ o ∷ []) i None ≡ o = ap (λ k. get_or (old ++ o ∷ []) k None) (last ∙ sym size) ∙ at_end old o in
+            let there : slice_get files n ≡ Some e = ap (slice_get files) (sym last) ∙ at in
+            ap (listed e.1) here ∙ one e there ∙ ap (λ k. reported m (folder_of files) k (string_bytes e.0) e.1.bytes.items) (sym last))
+            (before_or_last i n lt);
+      } in
+      subst (λ (ls : Lists). AreJoined m files ls (n + 1)) (sym more) whole
+
+-- the faults of a kept file with this number
+pub checked_number : {U I : Type 0} (m : Meaning I) (f : Folder) (files : Files U I) (i : ℕ) (e : String Global × KeptFile U I) → AllChecked m f files → slice_get files i ≡ Some e →
+    e.1.faults.items ≡ faults_in m f (string_bytes e.0) e.1.bytes.items
+checked_number m f [] i e h at = absurd (wrong at)
+  where
+    wrong : None ≡ Some e → ⊥
+    wrong h = cc
+checked_number m f (x ∷ xs) zero e h at = subst (λ y. y.1.faults.items ≡ faults_in m f (string_bytes y.0) y.1.bytes.items) (ap (λ o. unwrap_or o x) at) h.0
+checked_number m f (x ∷ xs) (suc i) e h at = checked_number m f xs i e h.1 at
+
+module _ {I : Type 0} (m : Meaning I) (ordered : (p b : List ℕ) (given : List (Option I)) → IsStrictlySortedBy fault_cmp (m.faults p b given)) (f : Folder) where
+  -- where no call leads back, a file's own faults are listed
+  pub own_reported : (i : ℕ) (p b : List ℕ) (faults : List Fault) → faults ≡ faults_in m f p b → loop_faults m f i p b ≡ [] → faults ≡ reported m f i p b
+  unfolding reported faults_in
+  own_reported i p b faults is none =
+      is ∙ sym (ap (λ l. fault_list (l ++ m.faults p b (answers m f p b))) none ∙ fault_list-sorted (m.faults p b (answers m f p b)) (ordered p b (answers m f p b)))
+
+-- ---- they lie in the file
+
+all_one : {X : Type 0} (P : X → Type 0) (xs ys : List X) → AllByRecursion P xs → AllByRecursion P ys → AllByRecursion P (xs ++ ys)
+all_one P [] ys a b = b
+all_one P (x ∷ xs) ys a b = (a.0, all_one P xs ys a.1 b)
+
+module _ {I : Type 0} (m : Meaning I) (f : Folder) (i : ℕ) (size : ℕ) where
+  one_inside : (t : Bool) (s : CallSite) → LiesIn size s.span → AllByRecursion (λ (fault : Fault). LiesIn size fault.span) (loop_fault_if t s)
+  one_inside true s h = (h, tt)
+  one_inside false s h = tt
+
+  looping_inside : (ts : List Target) (ss : List CallSite) → AllByRecursion (λ (s : CallSite). LiesIn size s.span) ss →
+      AllByRecursion (λ (fault : Fault). LiesIn size fault.span) (looping (calls_graph m f) f i ts ss)
+  looping_inside [] ss h = tt
+  looping_inside (t ∷ ts) [] h = tt
+  looping_inside (t ∷ ts) (s ∷ ss) h =
+      all_one _ (loop_fault_if (leads_back (calls_graph m f) i (called f t)) s) (looping (calls_graph m f) f i ts ss)
+      (one_inside (leads_back (calls_graph m f) i (called f t)) s h.0) (looping_inside ts ss h.1)
+
+module _ {I : Type 0} (m : Meaning I)
+    (inside : (p b : List ℕ) (given : List (Option I)) → length b ≤ 1048576 → AllByRecursion (λ (fault : Fault). LiesIn (length b) fault.span) (m.faults p b given))
+    (sites : (p b : List ℕ) → length b ≤ 1048576 → AllByRecursion (λ (s : CallSite). LiesIn (length b) s.span) (m.sites p b)) where
+  reported_inside : (f : Folder) (i : ℕ) (p b : List ℕ) → length b ≤ 1048576 → AllByRecursion (λ (fault : Fault). LiesIn (length b) fault.span) (reported m f i p b)
+  unfolding reported faults_in
+  reported_inside f i p b small =
+      AllByRecursion-fault_list (λ (fault : Fault). LiesIn (length b) fault.span) (loop_faults m f i p b ++ m.faults p b (answers m f p b))
+      (all_one _ (loop_faults m f i p b) (m.faults p b (answers m f p b)) (looping_inside m f i (length b) (m.calls p b) (m.sites p b) (sites p b small)) (inside p b (answers m f p b) small))
+
+  pub printable : {U : Type 0} (is_unit : U → List ℕ → List ℕ → Type 0) (files : Files U I) (lists : Lists) → AllKept m is_unit files → AreJoined m files lists
+      (length files) → ArePrintable files lists
+  printable is_unit files lists kept j = record {
+    size = j.size;
+    each = λ i e at.
+        let one = kept_number m is_unit files i e kept at in
+        let P : List Fault → Type 0 = λ l. AllByRecursion (λ (fault : Fault). LiesIn (length e.1.bytes.items) fault.span) l in
+        record {
+          small = one.small;
+          lines = one.lines;
+          inside = subst P (sym (j.each i e (below files i e at) at)) (reported_inside (folder_of files) i (string_bytes e.0) e.1.bytes.items one.small);
+        };
+  }
+    where
+      below : {X : Type 0} (xs : List X) (n : ℕ) (x : X) → slice_get xs n ≡ Some x → n < length xs
+      below [] n x e = absurd (wrong e)
+        where
+          wrong : None ≡ Some x → ⊥
+          wrong h = cc
+      below (y ∷ ys) zero x e = omega arith
+      below (y ∷ ys) (suc n) x e = let h = below ys n x e in omega (arith, h)
+
+-- ---- the report
+
+module _ {U I : Type 0} (m : Meaning I) (f : Folder) (oneline : Bool) (lists : Lists) where
+  lines_from : (n : ℕ) (es : Files U I)
+      → ((i j : ℕ) (e : String Global × KeptFile U I) → j ≡ n + i → slice_get es i ≡ Some e → listed e.1 (get_or lists j None) ≡ reported m f j (string_bytes e.0) e.1.bytes.items)
+      → flat_map (numbered_lines oneline lists) (enumerate_from n es) ≡ flat_map (λ x. flat_map (fault_text oneline x.1.0 x.1.1) (reported m f x.0 x.1.0 x.1.1)) (enumerate_from n (folder_of es))
+  lines_from n [] h = refl
+  lines_from n (e ∷ es) h =
+      let first : listed e.1 (get_or lists n None) ≡ reported m f n (string_bytes e.0) e.1.bytes.items = h 0 n e (omega arith) refl in
+      let rest = lines_from (n + 1) es (λ i j x is at. h (suc i) j x (omega (arith, is)) at) in
+      ap (λ l. flat_map (fault_text oneline (string_bytes e.0) e.1.bytes.items) l ++ flat_map (numbered_lines oneline lists) (enumerate_from (n + 1) es)) first
+      ∙ ap (λ l. flat_map (fault_text oneline (string_bytes e.0) e.1.bytes.items) (reported m f n (string_bytes e.0) e.1.bytes.items) ++ l) rest
+
+pub report_is : {U I : Type 0} (m : Meaning I) (files : Files U I) (oneline : Bool) (lists : Lists) → AreJoined m files lists (length files) →
+    flat_map (numbered_lines oneline lists) (enumerate_from 0 files) ≡ report_of oneline m (folder_of files)
+unfolding report_of
+report_is m files oneline lists j =
+    lines_from m (folder_of files) oneline lists 0 files (λ i k e is at. let same : k ≡ i = omega (arith, is) in
+    ap (λ n. listed e.1 (get_or lists n None)) same ∙ j.each i e (below files i e at) at ∙ ap (λ n. reported m (folder_of files) n (string_bytes e.0) e.1.bytes.items) (sym same))
+  where
+    below : {X : Type 0} (xs : List X) (n : ℕ) (x : X) → slice_get xs n ≡ Some x → n < length xs
+    below [] n x e = absurd (wrong e)
+      where
+        wrong : None ≡ Some x → ⊥
+        wrong h = cc
+    below (y ∷ ys) zero x e = omega arith
+    below (y ∷ ys) (suc n) x e = let h = below ys n x e in omega (arith, h)
+
+-- ---- the status
+
+some_list : (x : Fault) (xs : List Fault) → not (length (x ∷ xs) == 0) ≡ true
+some_list x xs = ap not (apart (length xs))
+  where
+    apart : (n : ℕ) → (suc n == 0) ≡ false
+    apart n = grind (arith, nat_tests)
+
+pub none_of : (xs : List Fault) → (length xs == 0) ≡ true → xs ≡ []
+none_of [] e = refl
+none_of (x ∷ xs) e = absurd (let wrong : false ≡ true = sym (ap not e) ∙ some_list x xs in cc)
+
+put_some : (x : Fault) (ys : List Fault) → not (length (with_one fault_cmp x ys) == 0) ≡ true
+put_some x [] = some_list x []
+put_some x (y ∷ ys) = by (fault_cmp x y)
+  where
+    by : (o : Ordering) → not (length (match_ordering o (x ∷ y ∷ ys) (y ∷ ys) (y ∷ with_one fault_cmp x ys)) == 0) ≡ true
+    by Less = some_list x (y ∷ ys)
+    by Equal = some_list y ys
+    by Greater = some_list y (with_one fault_cmp x ys)
+
+some_in_order : (xs : List Fault) → not (length (in_order fault_cmp xs) == 0) ≡ not (length xs == 0)
+some_in_order [] = refl
+some_in_order (x ∷ xs) = put_some x (in_order fault_cmp xs) ∙ sym (some_list x xs)
+
+some_of_both : (a b : List Fault) → not (length (a ++ b) == 0) ≡ (not (length a == 0) || not (length b == 0))
+some_of_both [] b = refl
+some_of_both (x ∷ a) b = some_list x (a ++ b) ∙ sym (ap (λ t. t || not (length b == 0)) (some_list x a))
+
+either_any : {X : Type 0} (P Q R : X → Bool) (xs : List X) → ((x : X) → R x ≡ (P x || Q x)) → list_any R xs ≡ (list_any P xs || list_any Q xs)
+either_any P Q R [] h = refl
+either_any P Q R (x ∷ xs) h = ap (λ b. b || list_any R xs) (h x) ∙ ap (λ b. (P x || Q x) || b) (either_any P Q R xs h) ∙ four (P x) (Q x) (list_any P xs) (list_any Q xs)
+  where
+    four : (a b c d : Bool) → ((a || b) || (c || d)) ≡ ((a || c) || (b || d))
+    four true b c d = refl
+    four false true true d = refl
+    four false true false d = refl
+    four false false c d = refl
+
+any_numbered : {X : Type 0} (P : X → Bool) (n : ℕ) (xs : List X) → list_any (λ (x : ℕ × X). P x.1) (enumerate_from n xs) ≡ list_any P xs
+any_numbered P n [] = refl
+any_numbered P n (x ∷ xs) = ap (λ b. P x || b) (any_numbered P (n + 1) xs)
+
+module _ {U I : Type 0} (m : Meaning I) (files : Files U I) (checked : AllChecked m (folder_of files) files) where
+  abbrev LoopAt : ℕ × (List ℕ × List ℕ) → Bool
+  LoopAt x = not (length (loop_faults m (folder_of files) x.0 x.1.0 x.1.1) == 0)
+
+  any_reported : list_any (λ (x : ℕ × (List ℕ × List ℕ)). not (length (reported m (folder_of files) x.0 x.1.0 x.1.1) == 0)) (enumerate_from 0 (folder_of files))
+      ≡ (list_any LoopAt (enumerate_from 0 (folder_of files)) || list_any (λ (e : String Global × KeptFile U I). not (length e.1.faults.items == 0)) files)
+  unfolding reported
+  any_reported =
+      either_any LoopAt (λ x. not (length (faults_in m (folder_of files) x.1.0 x.1.1) == 0)) _ (enumerate_from 0 (folder_of files))
+      (λ x. some_in_order (loop_faults m (folder_of files) x.0 x.1.0 x.1.1 ++ faults_in m (folder_of files) x.1.0 x.1.1)
+      ∙ some_of_both (loop_faults m (folder_of files) x.0 x.1.0 x.1.1) (faults_in m (folder_of files) x.1.0 x.1.1))
+      ∙ ap (λ b. list_any LoopAt (enumerate_from 0 (folder_of files)) || b)
+      (any_numbered (λ (e : List ℕ × List ℕ). not (length (faults_in m (folder_of files) e.0 e.1) == 0)) 0 (folder_of files) ∙ sym (any_fault m (folder_of files) files checked))
+
+  pub status_faults : list_any (λ (e : String Global × KeptFile U I). not (length e.1.faults.items == 0)) files ≡ true → 1 ≡ status_of m (folder_of files)
+  unfolding status_of
+  status_faults h = sym (ap (λ b. cond b 1 0) (any_reported ∙ ap (λ b. list_any LoopAt (enumerate_from 0 (folder_of files)) || b) h ∙ or_true (list_any LoopAt (enumerate_from 0 (folder_of files)))))
+    where
+      or_true : (b : Bool) → (b || true) ≡ true
+      or_true true = refl
+      or_true false = refl
+
+  pub status_loops : (some : Bool) → list_any (λ (e : String Global × KeptFile U I). not (length e.1.faults.items == 0)) files ≡ false → some ≡ list_any LoopAt (enumerate_from 0 (folder_of files)) →
+      cond some 1 0 ≡ status_of m (folder_of files)
+  unfolding status_of
+  status_loops some h s = ap (λ b. cond b 1 0) (s ∙ sym (any_reported ∙ ap (λ b. list_any LoopAt (enumerate_from 0 (folder_of files)) || b) h
+      ∙ or_false (list_any LoopAt (enumerate_from 0 (folder_of files)))))
+    where
+      or_false : (b : Bool) → (b || false) ≡ b
+      or_false true = refl
+      or_false false = refl
+
+-- ---- what is read by numbers
+
+pub entry_there : {X : Type 0} (xs : List X) (i : ℕ) → i < length xs → (x : X) × (slice_get xs i ≡ Some x)
+entry_there [] i h = absurd (omega (arith, h))
+entry_there (x ∷ xs) zero h = (x, refl)
+entry_there (x ∷ xs) (suc i) h = entry_there xs i (omega arith)
+
+numbered_from : {X : Type 0} (n : ℕ) (xs : List X) (i j : ℕ) (x : X) → j ≡ n + i → slice_get xs i ≡ Some x → slice_get (enumerate_from n xs) i ≡ Some (j, x)
+numbered_from n [] i j x is e = absurd (wrong e)
+  where
+    wrong : None ≡ Some x → ⊥
+    wrong h = cc
+numbered_from n (y ∷ ys) zero j x is e =
+    let same : n ≡ j = omega (arith, is) in
+    ap (λ k. Some (k, y)) same ∙ ap (λ o. Some (j, unwrap_or o y)) e
+numbered_from n (y ∷ ys) (suc i) j x is e = numbered_from (n + 1) ys i j x (omega (arith, is)) e
+
+pub numbered : {X : Type 0} (xs : List X) (i : ℕ) (x : X) → slice_get xs i ≡ Some x → slice_get (enumerate_from 0 xs) i ≡ Some (i, x)
+numbered xs i x e = numbered_from 0 xs i i x (omega arith) e
+
+pub list_read : (lists : Lists) (i : ℕ) (o : Option (Vec Fault Global)) → i < length lists → o ≡ get_or lists i o → get_or lists i None ≡ o
+list_read [] i o h e = absurd (omega (arith, h))
+list_read (l ∷ ls) zero o h e = sym e
+list_read (l ∷ ls) (suc i) o h e = list_read ls i o (omega arith) e
+
+-- a list of the program joins the file's own faults to those of its loops
+pub listed_both : {U I : Type 0} (m : Meaning I) (files : Files U I) (i : ℕ) (e : String Global × KeptFile U I) (loops all : List Fault)
+    (list : Vec Fault Global) → AllChecked m (folder_of files) files →
+    slice_get files i ≡ Some e → loops ≡ loop_faults m (folder_of files) i (string_bytes e.0) e.1.bytes.items → all ≡ loops ++ e.1.faults.items → list.items ≡ fault_list all →
+    listed e.1 (Some list) ≡ reported m (folder_of files) i (string_bytes e.0) e.1.bytes.items
+unfolding reported
+listed_both m files i e loops all list checked at is a o =
+    o ∙ ap fault_list (a ∙ ap (λ x. x ++ e.1.faults.items) is ∙ ap (λ x. loop_faults m (folder_of files) i (string_bytes e.0) e.1.bytes.items ++ x)
+    (checked_number m (folder_of files) files i e checked at))
+
+pub one_entry : {X : Type 0} (xs : List X) (i : ℕ) (a b : X) → slice_get xs i ≡ Some a → slice_get xs i ≡ Some b → a ≡ b
+one_entry xs i a b x y = ap (λ o. unwrap_or o a) (sym x ∙ y)

@@ -1,0 +1,21 @@
+use Rattle.std.proofs.Common.{◌≡◌, ◌∙◌, ap, sym, subst, arith, ℕ, List, Option, Vec, []}
+use Rattle.std.specs.Global.{Global}
+use Rattle.al_text.specs.declared.faults.Fault.{Fault}
+use Rattle.al_session.specs.Session.{AreJoined}
+use Rattle.al_session.proofs.ListedFaults.{joined_next, joined_none}
+use Rattle.al_session.proofs.joining.join_all.Goals as goal
+
+pub loop-index-init : goal.loop-index-init
+loop-index-init g c =
+    let P : List (Option (Vec Fault Global)) → Type 0 = λ ls. AreJoined g.L.Lint.meaning c.args.files.now.entries ls 0 in
+    subst P (sym c.new-lists.ensures.items) (joined_none g.L.Lint.meaning c.args.files.now.entries)
+
+pub loop-index-preserved : goal.loop-index-preserved
+loop-index-preserved g c =
+    joined_next g.L.Lint.meaning c.args.files.now.entries c.loop-index.lists.items c.push.new.self.items c.in_ok-joined.field-0 c.loop-index.index
+    c.in_ok-push.ensures.items c.loop-index.invariant c.in_ok-joined.ensures
+
+pub returns : goal.returns
+returns g c =
+    let P : ℕ → Type 0 = λ n. AreJoined g.L.Lint.meaning c.args.files.now.entries c.loop-index.lists.items n in
+    subst P (omega (arith, c.len-index-end.ensures.len, c.loop-index-test.false)) c.loop-index.invariant

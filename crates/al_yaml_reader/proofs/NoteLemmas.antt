@@ -1,0 +1,50 @@
+-- A node that is complete with its anchor, as an answer.
+use Rattle.std.proofs.Common.{◌≡◌, ℕ, List, refl, sym, ap, ◌∙◌, Option, Some, None, Ok, Err}
+use Rattle.al_yaml.specs.Node as tree
+use Rattle.al_yaml.specs.Reading.{Reading, Part, anchored, ◌>>=◌}
+use Rattle.al_yaml_reader.specs.Frames.{Answer, answered, noting}
+use Rattle.al_yaml_reader.specs.FlowFrames.{completing, mark_of}
+use Rattle.al_scalar.specs.Taken.{Fault}
+use Rattle.al_yaml_reader.specs.Reads.{State, run, Stops, anchor_at, noted_at, part_of}
+use Rattle.al_yaml.specs.View.{view}
+use Rattle.al_yaml_reader.specs.declared.faults.ReadError.{ReadError}
+use Rattle.al_yaml_reader.specs.declared.part.Part as code
+use Rattle.al_yaml_reader.proofs.FrameLemmas.{bind-answer}
+use Rattle.al_yaml_reader.proofs.RunLemmas.{run-anchored, run-stop}
+use Rattle.al_yaml_reader.proofs.ReadLemmas.{stops-bind}
+
+noting-answer : (bytes : List ℕ) (at : ℕ) (o : Answer (Part tree.Node))
+    → answered o (λ x. anchored (anchor_at bytes at x.value) x) ≡ noting (mark_of bytes (Some at)) o
+noting-answer bytes at (Err e) = refl
+noting-answer bytes at (Ok p) = run-anchored p.1 (anchor_at bytes at p.0.value) p.0
+
+pub completing-noted : (bytes : List ℕ) (anchor : Option ℕ) (s : State) (r : Reading (Part tree.Node)) → run s (completing bytes anchor r) ≡ noting (mark_of bytes anchor) (run s r)
+completing-noted bytes None s r = refl
+completing-noted bytes (Some at) s r = bind-answer s r (λ x. anchored (anchor_at bytes at x.value) x) ∙ noting-answer bytes at (run s r)
+
+-- what completing a part makes of it
+pub noted-part : (bytes : List ℕ) (anchor : Option ℕ) (p q : code.Part) (s t : State) → part_of bytes q ≡ part_of bytes p → t ≡ noted_at bytes anchor (view p.node) s
+    → noting (mark_of bytes anchor) (Ok (part_of bytes p, s)) ≡ Ok (part_of bytes q, t)
+noted-part bytes None p q s t a b = ap (λ x. Ok (x, s)) (sym a) ∙ ap (λ u. Ok (part_of bytes q, u)) (sym b)
+noted-part bytes (Some at) p q s t a b = ap (λ x. Ok (x, noted_at bytes (Some at) (view p.node) s)) (sym a) ∙ ap (λ u. Ok (part_of bytes q, u)) (sym b)
+
+-- what a fault, and what is read from a state on, make of an answer with its anchor
+pub completing-err : (bytes : List ℕ) (anchor : Option ℕ) (s : State) (r : Reading (Part tree.Node)) (f : Fault) → run s r ≡ Err f → run s (completing bytes anchor r) ≡ Err f
+completing-err bytes None s r f h = h
+completing-err bytes (Some at) s r f h = run-stop s r (λ x. anchored (anchor_at bytes at x.value) x) f h
+
+pub completing-stops : (bytes : List ℕ) (anchor : Option ℕ) (s : State) (r : Reading (Part tree.Node)) (e : ReadError) → Stops r s e → Stops (completing bytes anchor r) s e
+completing-stops bytes None s r e h = h
+completing-stops bytes (Some at) s r e h = stops-bind r (λ x. anchored (anchor_at bytes at x.value) x) s e h
+
+pub completing-runs : (bytes : List ℕ) (anchor : Option ℕ) (s t : State) (r q : Reading (Part tree.Node)) → run s r ≡ run t q
+    → run s (completing bytes anchor r) ≡ noting (mark_of bytes anchor) (run t q)
+completing-runs bytes anchor s t r q h = completing-noted bytes anchor s r ∙ ap (noting (mark_of bytes anchor)) h
+
+-- a part that was read, and then completed
+pub completing-part : (bytes : List ℕ) (anchor : Option ℕ) (p q : code.Part) (n s t : State) (r : Reading (Part tree.Node)) → run n r ≡ Ok (part_of bytes p, s)
+    → part_of bytes q ≡ part_of bytes p → t ≡ noted_at bytes anchor (view p.node) s → run n (completing bytes anchor r) ≡ Ok (part_of bytes q, t)
+completing-part bytes anchor p q n s t r h a b = completing-noted bytes anchor n r ∙ ap (noting (mark_of bytes anchor)) h ∙ noted-part bytes anchor p q s t a b
+
+pub completing-same : (bytes : List ℕ) (anchor : Option ℕ) (s : State) (r q : Reading (Part tree.Node)) → run s r ≡ run s q → run s (completing bytes anchor r) ≡ run s (completing bytes anchor q)
+completing-same bytes anchor s r q h = completing-runs bytes anchor s s r q h ∙ sym (completing-noted bytes anchor s q)

@@ -1,0 +1,45 @@
+-- Worked reports, computed by the definitions.
+use Rattle.std.specs.Prelude.{◌≡◌, [], ◌∷◌, ◌++◌, codes, true}
+use Rattle.std.proofs.Common.{refl}
+use Rattle.std.specs.Str.{chars, is_utf8}
+use Rattle.std.specs.Fmt.{digits}
+use lib.Utf8.{encode}
+use Rattle.al_session.specs.Folder.{answer, faults_in}
+use Rattle.al_session.specs.Loops.{reported}
+use Rattle.al_session.specs.Report.{report_of, status_of}
+use Rattle.toy.specs.Toy.{call_in, path_in, toy}
+
+pub own : report_of true toy ((codes "a.toy", codes "need a.toy\nhave x") ∷ []) ≡ codes "a.toy:1:1: call of \"a.toy\" leads back to this file [workflow-call]\n"
+unfolding report_of status_of reported faults_in answer call_in path_in is_utf8 chars encode digits
+own = refl
+
+pub with_its_faults : report_of true toy ((codes "a.toy", codes "need a.toy") ∷ []) ≡ codes "a.toy:1:1: wrong kind of value for \"a.toy\" [syntax-check]\n"
+    ++ codes "a.toy:1:1: call of \"a.toy\" leads back to this file [workflow-call]\n"
+unfolding report_of status_of reported faults_in answer call_in path_in is_utf8 chars encode digits
+with_its_faults = refl
+
+pub two : report_of true toy ((codes "a.toy", codes "need b.toy\nhave x") ∷ (codes "b.toy", codes "have y\nneed a.toy") ∷ [])
+    ≡ codes "a.toy:1:1: call of \"b.toy\" leads back to this file [workflow-call]\n" ++ codes "b.toy:2:1: call of \"a.toy\" leads back to this file [workflow-call]\n"
+unfolding report_of status_of reported faults_in answer call_in path_in is_utf8 chars encode digits
+two = refl
+
+pub into : report_of true toy ((codes "a.toy", codes "need b.toy\nhave x") ∷ (codes "b.toy", codes "have y\nneed b.toy") ∷ [])
+    ≡ codes "b.toy:2:1: call of \"b.toy\" leads back to this file [workflow-call]\n"
+unfolding report_of status_of reported faults_in answer call_in path_in is_utf8 chars encode digits
+into = refl
+
+pub first_there : report_of true toy ((codes "a.toy", codes "need b.toy a.toy\nhave x") ∷ (codes "b.toy", codes "have y") ∷ []) ≡ []
+unfolding report_of status_of reported faults_in answer call_in path_in is_utf8 chars encode digits
+first_there = refl
+
+pub second_there : report_of true toy ((codes "a.toy", codes "need b.toy a.toy\nhave x") ∷ []) ≡ codes "a.toy:1:1: call of \"b.toy\" leads back to this file [workflow-call]\n"
+unfolding report_of status_of reported faults_in answer call_in path_in is_utf8 chars encode digits
+second_there = refl
+
+pub status : status_of toy ((codes "a.toy", codes "need a.toy\nhave x") ∷ []) ≡ 1
+unfolding report_of status_of reported faults_in answer call_in path_in is_utf8 chars encode digits
+status = refl
+
+pub status_of_none : status_of toy ((codes "a.toy", codes "need b.toy\nhave x") ∷ (codes "b.toy", codes "have y") ∷ []) ≡ 0
+unfolding report_of status_of reported faults_in answer call_in path_in is_utf8 chars encode digits
+status_of_none = refl

@@ -1,0 +1,25 @@
+//! Worked rows of reports with calls that lead back to their own file.
+
+ghost use Rattle.std.specs.Prelude.{◌≡◌, [], ◌∷◌, ◌++◌, codes, true};
+ghost use Rattle.al_session.specs.Report.{report_of, status_of};
+ghost use Rattle.toy.specs.Toy.{toy};
+
+/// What some folders report, as the definitions give it. Does nothing.
+pub fn rows()
+    ensures own { report_of true toy ((codes "a.toy", codes "need a.toy\nhave x") ∷ [])
+        ≡ codes "a.toy:1:1: call of \"a.toy\" leads back to this file [workflow-call]\n" }
+    ensures with_its_faults { report_of true toy ((codes "a.toy", codes "need a.toy") ∷ [])
+        ≡ codes "a.toy:1:1: wrong kind of value for \"a.toy\" [syntax-check]\n"
+        ++ codes "a.toy:1:1: call of \"a.toy\" leads back to this file [workflow-call]\n" }
+    ensures two { report_of true toy ((codes "a.toy", codes "need b.toy\nhave x") ∷ (codes "b.toy", codes "have y\nneed a.toy") ∷ [])
+        ≡ codes "a.toy:1:1: call of \"b.toy\" leads back to this file [workflow-call]\n"
+        ++ codes "b.toy:2:1: call of \"a.toy\" leads back to this file [workflow-call]\n" }
+    ensures into { report_of true toy ((codes "a.toy", codes "need b.toy\nhave x") ∷ (codes "b.toy", codes "have y\nneed b.toy") ∷ [])
+        ≡ codes "b.toy:2:1: call of \"b.toy\" leads back to this file [workflow-call]\n" }
+    ensures first_there { report_of true toy ((codes "a.toy", codes "need b.toy a.toy\nhave x") ∷ (codes "b.toy", codes "have y") ∷ [])
+        ≡ [] }
+    ensures second_there { report_of true toy ((codes "a.toy", codes "need b.toy a.toy\nhave x") ∷ [])
+        ≡ codes "a.toy:1:1: call of \"b.toy\" leads back to this file [workflow-call]\n" }
+    ensures status { status_of toy ((codes "a.toy", codes "need a.toy\nhave x") ∷ []) ≡ 1 }
+    ensures status_of_none { status_of toy ((codes "a.toy", codes "need b.toy\nhave x") ∷ (codes "b.toy", codes "have y") ∷ []) ≡ 0 }
+{}
