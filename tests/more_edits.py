@@ -1,0 +1,176 @@
+"""Tries the edits that the gate leaves to the hand: more_edits.py TOP [CRATE ..].
+
+    python3 tests/more_edits.py . al_types
+
+Each file crates/NAME/more-edits/*.edit has the form of one of must-fail/: the prover must refuse the crate with it. Edits of different
+functions go into one check of a copy of the crate, over the work that `rt check` keeps in the crates' out/, so the crate has to be
+proved there first. An edit is refused where the function that it stands in is not proved; one that stands in no function (a table)
+goes into a check of its own, which must fail. Prints a line for each edit; the status is 1 where one is let through or can't be tried.
+"""
+
+import collections
+import os
+import pathlib
+import re
+import shutil
+import subprocess
+import sys
+import tempfile
+
+sys.path.insert(0, str(pathlib.Path(__file__).resolve().parent.parent / "tools"))
+from crates import crates_of, with_below, write_list
+
+Edit = collections.namedtuple("Edit", "name pairs function")
+Function = collections.namedtuple("Function", "file module owner name")
+
+FUNCTION = re.compile(r"^( *)(?:pub(?:\([a-z]+\))? )?(?:(?:const|unsafe|async) )*fn (\w+)", re.MULTILINE)
+OWNER = re.compile(r"^(?:unsafe )?(?:impl|trait)\b(?:<[^>]*>)? *([\w:]+)(?:<[^{]*>)?(?: for ([\w:]+))?", re.MULTILINE)
+PARTS = ("src", "specs", "proofs")
+
+
+def pairs_of(text):
+    """The file, the old and the new text of each change of an edit."""
+    path = old = None
+    for line in text.splitlines():
+        word, _, rest = line.partition(" ")
+        if word == "file:":
+            path = rest.strip()
+        elif word == "old:":
+            old = rest
+        elif word == "new:":
+            yield path, old, rest
+
+
+def function_at(source, file, at):
+    """The function of a file whose text holds an offset; none where the offset stands behind its end, as in a table."""
+    found = None
+    for match in FUNCTION.finditer(source, 0, at):
+        found = match
+    if not found:
+        return None
+    end = source.find(f"\n{found[1]}}}", found.end())
+    if end != -1 and end < at:
+        return None
+    owner = None
+    if found[1]:
+        for match in OWNER.finditer(source, 0, found.start()):
+            owner = match
+    module = pathlib.PurePath(file).relative_to("src").with_suffix("").parts
+    module = tuple(it for it in module if it not in ("lib", "main", "mod"))
+    return Function(file, module, (owner[2] or owner[1]).split("::")[-1] if owner else None, found[2])
+
+
+def read_edit(path, crate):
+    """An edit and the function that all of its changes stand in, if that is one; its complaint where it can't be applied."""
+    pairs, functions = [*pairs_of(path.read_text())], set()
+    for file, old, _ in pairs:
+        if (crate / file).read_text().count(old) != 1 and old not in "".join(new for _, _, new in pairs):
+            return f"an old text is not in {file} once"
+        source = (crate / file).read_text()
+        is_code = file.startswith("src/") and old in source
+        functions.add(function_at(source, file, source.index(old)) if is_code else None)
+    whole = functions - {None} if len(functions) == 2 and None in functions and len(pairs) > 2 else functions
+    return Edit(path.stem, pairs, whole.pop() if len(whole) == 1 else None)
+
+
+def checks_of(edits):
+    """Groups of edits that one check can try: those of different functions; each that stands in no function by itself."""
+    groups = []
+    for edit in edits:
+        free = (it for it in groups if edit.function and all(other.function not in (None, edit.function) for other in it))
+        group = next(free, None)
+        if group is None:
+            groups.append([edit])
+        else:
+            group.append(edit)
+    return groups
+
+
+def copy_into(top, name, room):
+    """Copies a crate and the libraries below it, as they are built."""
+    named = crates_of(top)
+    crates = with_below(named, name)
+    write_list(room / "crates.txt", named, crates)
+    for crate in crates:
+        for part in [*PARTS, "out/rlib", *(["out/incremental"] if crate == name else [])]:
+            if (top / "crates" / crate / part).is_dir():
+                shutil.copytree(top / "crates" / crate / part, room / "crates" / crate / part)
+
+
+def said_of(crate, edits):
+    """What a check of a copy with these edits says; its files are then as before."""
+    texts = {}
+    for edit in edits:
+        for file, old, new in edit.pairs:
+            text = texts.get(file) or (crate / file).read_text()
+            texts[file] = text.replace(old, new)
+    kept = {file: (crate / file).read_text() for file in texts}
+    for file, text in texts.items():
+        (crate / file).write_text(text)
+    try:
+        pipes = {"stdin": subprocess.DEVNULL, "stdout": subprocess.PIPE, "stderr": subprocess.STDOUT}
+        ran = subprocess.run(["rt", "check", "--jobs", "1", "--progress"], cwd=crate, text=True, check=False, **pipes)
+    finally:
+        for file, text in kept.items():
+            (crate / file).write_text(text)
+    return ran.returncode, ran.stdout
+
+
+def is_refused(crate, function, said):
+    """Whether the lines of a check say that the function isn't proved, and not only since it calls another that isn't."""
+    found = re.findall(r"^fn (\S+): (?:not proved|no proof)(?!: it (?:calls|passes))", said, re.MULTILINE)
+    if function.owner:
+        # a method's name goes by the module of its type
+        ends = re.compile(rf"{crate}::(?:\w+::)*\S*{function.owner}\S*::{function.name}")
+    else:
+        ends = re.compile("::".join([crate, *function.module, function.name]))
+    return any(ends.fullmatch(it) for it in found)
+
+
+def tried(name, crate, edits):
+    """Tries a group and tells of each of its edits whether it is refused; one by one those of which the check doesn't say so."""
+    status, said = said_of(crate, edits)
+    reached = re.search(r"^logic=not-proved", said, re.MULTILINE)
+    for edit in edits:
+        if edit.function and is_refused(name, edit.function, said) or not edit.function and reached:
+            yield edit, "refused"
+        elif len(edits) > 1:
+            yield from tried(name, crate, [edit])
+        elif status == 0 or reached:
+            yield edit, "NOT REFUSED"
+        else:
+            yield edit, "NOT TRIED: " + (said.strip().splitlines() or ["the check said nothing"])[0]
+
+
+def try_crate(top, name):
+    """Tries all of a crate's edits and returns how many were not refused."""
+    wrong, edits = 0, []
+    with tempfile.TemporaryDirectory(prefix="more-edits-") as folder:
+        room = pathlib.Path(folder)
+        copy_into(top, name, room)
+        crate = room / "crates" / name
+        for path in sorted((top / "crates" / name / "more-edits").glob("*.edit")):
+            edit = read_edit(path, crate)
+            if isinstance(edit, str):
+                wrong += 1
+                print(f"{name}/{path.stem}: NOT TRIED: {edit}")
+            else:
+                edits.append(edit)
+        for group in checks_of(edits):
+            for edit, answer in tried(name, crate, group):
+                wrong += answer != "refused"
+                print(f"{name}/{edit.name}: {answer}", flush=True)
+    return wrong
+
+
+def main(folder, *names):
+    top = pathlib.Path(folder).resolve()
+    there = sorted(it.parent.name for it in (top / "crates").glob("*/more-edits"))
+    unknown = set(names) - set(there)
+    if unknown:
+        sys.exit(f"no edits of {', '.join(sorted(unknown))}")
+    sys.exit(1 if sum(try_crate(top, it) for it in names or there) else 0)
+
+
+if __name__ == "__main__":
+    main(*sys.argv[1:])
