@@ -1,0 +1,1 @@
+"""Clients of actionlint: they run the linter and show its faults in editors and in reports of other forms."""

@@ -1,0 +1,136 @@
+"""A run of `actionlint --session`: commands go to its standard input, and each is answered before the next one is sent."""
+from __future__ import annotations
+
+import os
+import select
+import signal
+import subprocess
+import time
+from pathlib import Path
+from typing import NoReturn
+
+READ_BYTES = 65_536
+EXIT_SECONDS = 0.5
+SHOWN_OF_A_REPLY = 200
+LAST_LINES = (b"status 0\n", b"status 1\n")
+LONGEST_END = len(b"\nstatus 0\n")
+
+
+def default_program() -> str:
+    """The linter where none is named: that of the variable ACTIONLINT, the one that is built beside the clients, or one on the PATH."""
+    named = os.environ.get("ACTIONLINT")
+    built = Path(__file__).resolve().parents[2] / "crates" / "actionlint" / "out" / "actionlint"
+    return named or (str(built) if built.exists() else "actionlint")
+
+
+class LinterEnded(Exception):
+    """The linter can't be started or has ended, or what it wrote is no reply."""
+
+
+class LinterSilent(LinterEnded):
+    """The linter neither read nor answered in time, and was stopped."""
+
+
+class ReportTooLong(Exception):
+    """A report has more bytes than are allowed. The linter was stopped, since the rest of the report stands before any reply."""
+
+
+class Session:
+    """For one thread. After one of the exceptions above the linter is gone; a new session begins with an empty folder."""
+
+    def __init__(self, program: list[str], oneline: bool, timeout: float):
+        self.oneline = oneline
+        self._timeout = timeout
+        words = program + ["--session"] + (["--oneline"] if oneline else [])
+        try:
+            self._child = subprocess.Popen(words, stdin=subprocess.PIPE, stdout=subprocess.PIPE, cwd="/", bufsize=0,
+                                           start_new_session=True)
+        except OSError as error:
+            raise LinterEnded(f"cannot start {program[0]}: {error.strerror}") from error
+        assert self._child.stdin and self._child.stdout
+        self._stdin, self._stdout = self._child.stdin, self._child.stdout
+        os.set_blocking(self._stdin.fileno(), False)
+        self._unread = b""
+
+    def put(self, path: str, data: bytes) -> str:
+        """The reply: `ok N` or `refused EN`. The path must fit in a command's line."""
+        self._send(b"put %s %d\n" % (path.encode("utf-8"), len(data)), data, b"\n")
+        return self._reply()
+
+    def delete(self, path: str) -> str:
+        """The reply: `ok N` or `refused EN`."""
+        self._send(b"delete %s\n" % path.encode("utf-8"))
+        return self._reply()
+
+    def report(self, max_bytes: int) -> list[bytes]:
+        """The lines of the report before its status."""
+        self._send(b"report\n")
+        blocks = [self._unread]
+        size = len(self._unread)
+        tail = self._unread[-LONGEST_END:]
+        while not _ends_report(tail):
+            block = self._read()
+            blocks.append(block)
+            size += len(block)
+            if size > max_bytes:
+                self.stop()
+                raise ReportTooLong(str(size))
+            tail = (tail + block)[-LONGEST_END:]
+        self._unread = b""
+        return b"".join(blocks).split(b"\n")[:-2]
+
+    def stop(self) -> int:
+        """Ends the linter, for which the end of its input suffices, and answers its status."""
+        if self._child.returncode is not None:
+            return self._child.returncode
+        self._stdin.close()
+        self._stdout.close()
+        try:
+            return self._child.wait(timeout=EXIT_SECONDS)
+        except subprocess.TimeoutExpired:
+            # The whole process group: the program may be a script around the linter.
+            os.killpg(self._child.pid, signal.SIGKILL)
+            return self._child.wait()
+
+    def _reply(self) -> str:
+        while b"\n" not in self._unread:
+            self._unread += self._read()
+        line, self._unread = self._unread.split(b"\n", 1)
+        reply = line.decode("utf-8", "replace")
+        if not reply.startswith(("ok ", "refused ")):
+            self._fail(f"it answered {reply[:SHOWN_OF_A_REPLY]!r}")
+        return reply
+
+    def _read(self) -> bytes:
+        ready, _, _ = select.select([self._stdout], [], [], self._timeout)
+        if not ready:
+            self._fail("it gave no answer in time", LinterSilent)
+        block = os.read(self._stdout.fileno(), READ_BYTES)
+        if not block:
+            self._fail("it ended")
+        return block
+
+    def _send(self, *parts: bytes) -> None:
+        unsent = memoryview(b"".join(parts))
+        deadline = time.monotonic() + self._timeout
+        while unsent:
+            try:
+                taken = os.write(self._stdin.fileno(), unsent)
+            except BlockingIOError:
+                left = deadline - time.monotonic()
+                if left <= 0:
+                    self._fail("it took no input in time", LinterSilent)
+                select.select([], [self._stdin.fileno()], [], left)
+                continue
+            except OSError:
+                self._fail("it ended")
+            unsent = unsent[taken:]
+
+    def _fail(self, why: str, kind: type[LinterEnded] = LinterEnded) -> NoReturn:
+        raise kind(f"{why} (status {self.stop()})")
+
+
+def _ends_report(tail: bytes) -> bool:
+    """Whether a report ends here, by its last bytes. No other line is `status N`: a fault's begins with a path and ends with a kind, and
+    those of its snippet begin with a number or a space."""
+    return tail in LAST_LINES or tail.startswith(b"\n") and tail[1:] in LAST_LINES

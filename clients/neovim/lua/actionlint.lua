@@ -1,0 +1,54 @@
+-- For Neovim 0.7 and later: faults as one types, by the language server. Stands on 'runtimepath' as lua/actionlint.lua.
+--   require('actionlint').setup()                                         the server is on the PATH
+--   require('actionlint').setup({ cmd = { '/path/actionlint-lsp' } })     the server and its options
+local M = {}
+
+-- The client of each repository.
+local clients = {}
+
+-- The repository's folder of a workflow or an action; nil for other files.
+local function root_of(path)
+  local root = path:match('^(.*)/%.github/workflows/[^/]+%.ya?ml$')
+  if root then
+    return root == '' and '/' or root
+  end
+  if not path:match('/action%.ya?ml$') then
+    return nil
+  end
+  local git = vim.fn.finddir('.git', vim.fn.fnamemodify(path, ':h') .. ';')
+  return git ~= '' and vim.fn.fnamemodify(git, ':p:h:h') or vim.fn.fnamemodify(path, ':h')
+end
+
+-- Starts the server for a buffer's repository, unless it runs, and gives it the buffer.
+function M.attach(buffer, options)
+  local root = root_of(vim.api.nvim_buf_get_name(buffer))
+  if not root then
+    return nil
+  end
+  local client = clients[root]
+  if not (client and vim.lsp.get_client_by_id(client)) then
+    client = vim.lsp.start_client({
+      name = 'actionlint',
+      cmd = options.cmd or { 'actionlint-lsp' },
+      root_dir = root,
+      workspace_folders = { { name = root, uri = vim.uri_from_fname(root) } },
+    })
+    clients[root] = client
+  end
+  if client then
+    vim.lsp.buf_attach_client(buffer, client)
+  end
+  return client
+end
+
+function M.setup(options)
+  options = options or {}
+  vim.api.nvim_create_autocmd('FileType', {
+    pattern = 'yaml',
+    callback = function(event)
+      M.attach(event.buf, options)
+    end,
+  })
+end
+
+return M

@@ -1,0 +1,116 @@
+#!/usr/bin/python3
+"""Draws docs/neovim.svg: a terminal with Neovim that shows the faults of a workflow, from what the editor really writes to the terminal.
+
+    picture.py PROGRAM [OUT]        needs Neovim and a terminal emulator in Python (Debian: neovim, python3-pyte)
+"""
+from __future__ import annotations
+
+import html
+import os
+import shutil
+import sys
+import tempfile
+from pathlib import Path
+
+import pyte
+
+sys.path.insert(0, str(Path(__file__).resolve().parent / "tests"))
+from editors import in_terminal
+from repositories import CLIENTS, TOP, WORKFLOWS, write
+
+ROWS, COLUMNS = 22, 110
+WIDTH, HEIGHT, MARGIN = 8.4, 18, 12
+BACKGROUND, FOREGROUND = "#1d2021", "#ebdbb2"
+COLOURS = {"default": FOREGROUND, "red": "#fb4934", "green": "#b8bb26", "brown": "#fabd2f", "blue": "#83a598", "magenta": "#d3869b",
+           "cyan": "#8ec07c", "white": FOREGROUND, "black": "#928374"}
+WORKFLOW = """name: Build
+on: [push, pul_request]
+
+jobs:
+  test:
+    runs-on: ubuntu-latest
+    timeout: 10
+    steps:
+      - uses: actions/checkout@v4
+      - name: Greet
+        run: echo "Hello ${{ github.acto }}"
+        shell: bsh
+      - uses: ./greet
+        with:
+          whom: everybody
+"""
+ACTION = """name: Greet
+description: Says hello.
+inputs:
+  who:
+    description: Whom to greet.
+    required: true
+runs:
+  using: composite
+  steps:
+    - run: echo Hello
+      shell: bash
+"""
+INIT = """
+vim.opt.runtimepath:append(os.getenv('CLIENTS') .. '/neovim')
+require('actionlint').setup({ cmd = { os.getenv('CLIENTS') .. '/actionlint-lsp', '--program', os.getenv('PROGRAM') } })
+vim.opt.number, vim.opt.signcolumn, vim.opt.ruler, vim.opt.swapfile = true, 'yes', false, false
+vim.opt.shortmess:append('F')
+vim.cmd('syntax on')
+vim.defer_fn(function() vim.cmd('redraw!') end, 3000)
+vim.defer_fn(function() vim.cmd('qall!') end, 4000)
+"""
+LEAVES_SCREEN = b"\x1b[?1049l"
+SECONDS = 30
+
+
+def screen_of(program: str) -> pyte.Screen:
+    """The terminal as the editor had it before it ended."""
+    top = tempfile.mkdtemp(prefix="actionlint-picture-")
+    write(top, {WORKFLOWS + "build.yml": WORKFLOW, "greet/action.yml": ACTION, "init.lua": INIT})
+    environment = {**os.environ, "CLIENTS": str(CLIENTS), "PROGRAM": os.path.abspath(program), "HOME": top, "LC_ALL": "C.UTF-8"}
+    os.chdir(top)
+    written = in_terminal(["nvim", "-i", "NONE", "-u", "init.lua", WORKFLOWS + "build.yml"], environment, SECONDS, ROWS, COLUMNS)
+    os.chdir("/")
+    shutil.rmtree(top)
+    screen = pyte.Screen(COLUMNS, ROWS)
+    pyte.ByteStream(screen).feed(written[:written.rindex(LEAVES_SCREEN)])
+    return screen
+
+
+def runs_of(row: dict) -> list[tuple[int, str, str, bool]]:
+    """Of a row the runs of equal look: the first column, the text, its colour, and whether it is bold."""
+    runs: list[tuple[int, str, str, bool]] = []
+    for column in range(COLUMNS):
+        cell = row[column]
+        look = COLOURS.get(cell.fg, FOREGROUND), cell.bold
+        if runs and runs[-1][2:] == look:
+            runs[-1] = (runs[-1][0], runs[-1][1] + cell.data, *look)
+        else:
+            runs.append((column, cell.data, *look))
+    return [run for run in runs if run[1].strip()]
+
+
+def svg_of(screen: pyte.Screen) -> str:
+    width, height = COLUMNS * WIDTH + 2 * MARGIN, ROWS * HEIGHT + 2 * MARGIN
+    lines = [f'<svg xmlns="http://www.w3.org/2000/svg" viewBox="0 0 {width:.0f} {height}" font-family="monospace" font-size="14">',
+             "<title>Neovim with the faults of a workflow</title>", f'<rect width="100%" height="100%" rx="6" fill="{BACKGROUND}"/>']
+    for number in range(ROWS):
+        for column, text, colour, bold in runs_of(screen.buffer[number]):
+            shown = text.rstrip()
+            weight = ' font-weight="bold"' if bold else ""
+            lines.append(f'<text x="{MARGIN + column * WIDTH:.1f}" y="{MARGIN + (number + 0.75) * HEIGHT:.1f}" fill="{colour}"{weight} '
+                         f'textLength="{len(shown) * WIDTH:.1f}" xml:space="preserve">{html.escape(shown, quote=False)}</text>')
+    return "\n".join([*lines, "</svg>"]) + "\n"
+
+
+def main(words: list[str]) -> int:
+    out = Path(words[1]).absolute() if len(words) > 1 else TOP / "docs/neovim.svg"
+    screen = screen_of(words[0])
+    print("\n".join(line.rstrip() for line in screen.display))
+    out.write_text(svg_of(screen), encoding="utf-8")
+    return 0
+
+
+if __name__ == "__main__":
+    sys.exit(main(sys.argv[1:]))

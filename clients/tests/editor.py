@@ -1,0 +1,140 @@
+"""A small editor for tests: it starts the language server, sends what editors send, and keeps the diagnostics that it is given."""
+from __future__ import annotations
+
+import json
+import os
+import queue
+import subprocess
+import sys
+import threading
+import time
+from pathlib import Path
+from urllib.parse import quote_from_bytes, unquote_to_bytes, urlsplit
+
+SERVER = Path(__file__).resolve().parent.parent / "actionlint-lsp"
+ANSWER_SECONDS = 60
+EXIT_SECONDS = 10
+
+
+class Editor:
+    def __init__(self, program: str, root: bytes | None, watches: bool = True, words: tuple[str, ...] = (), capabilities: dict = {}):
+        self.root = root
+        self.shown: dict[str, dict] = {}
+        self.messages: list[str] = []
+        self.requests: list[dict] = []
+        self.publications = 0
+        self.arrivals: queue.SimpleQueue = queue.SimpleQueue()
+        self._ids = 0
+        self._versions: dict[str, int] = {}
+        self._answers: queue.SimpleQueue = queue.SimpleQueue()
+        self.child = subprocess.Popen([sys.executable, str(SERVER), "--program", program, *words], stdin=subprocess.PIPE,
+                                      stdout=subprocess.PIPE)
+        threading.Thread(target=self._listen, daemon=True).start()
+        uri = "file://" + quote_from_bytes(root) if root else None
+        watching = {"workspace": {"didChangeWatchedFiles": {"dynamicRegistration": watches}}}
+        self.hello = self.request("initialize", {
+            "processId": os.getpid(), "rootUri": uri, "capabilities": {**watching, **capabilities},
+            "workspaceFolders": [{"uri": uri, "name": "w"}] if uri else None})
+        self.notify("initialized", {})
+
+    def uri(self, path: str) -> str:
+        return "file://" + quote_from_bytes(os.path.join(self.root or b"/", path.encode()))
+
+    def open(self, path: str, text: str) -> None:
+        uri = self.uri(path)
+        self._versions[uri] = 1
+        self.notify("textDocument/didOpen", {"textDocument": {"uri": uri, "languageId": "yaml", "version": 1, "text": text}})
+
+    def change(self, path: str, text: str) -> None:
+        uri = self.uri(path)
+        self._versions[uri] += 1
+        self.notify("textDocument/didChange", {"textDocument": {"uri": uri, "version": self._versions[uri]},
+                                               "contentChanges": [{"text": text}]})
+
+    def save(self, path: str) -> None:
+        self.notify("textDocument/didSave", {"textDocument": {"uri": self.uri(path)}})
+
+    def close(self, path: str) -> None:
+        self.notify("textDocument/didClose", {"textDocument": {"uri": self.uri(path)}})
+
+    def touched(self, *paths: str, kind: int = 2) -> None:
+        changes = [{"uri": self.uri(path), "type": kind} for path in paths]
+        self.notify("workspace/didChangeWatchedFiles", {"changes": changes})
+
+    def hover(self, path: str, line: int, character: int) -> dict | None:
+        return self.request("textDocument/hover", {"textDocument": {"uri": self.uri(path)},
+                                                   "position": {"line": line, "character": character}})["result"]
+
+    def actions(self, path: str, where: dict, **context) -> list[dict]:
+        return self.request("textDocument/codeAction", {"textDocument": {"uri": self.uri(path)}, "range": where,
+                                                        "context": {"diagnostics": [], **context}})["result"]
+
+    def settle(self) -> None:
+        """Waits until the server has taken all that was sent: it answers a request after what came before, here one that it lacks."""
+        self.request("test/settle", {})
+
+    def diagnostics(self) -> dict[str, list[dict]]:
+        """By path below the root; files without any are left out."""
+        return {os.path.relpath(unquote_to_bytes(urlsplit(uri).path), self.root).decode(): params["diagnostics"]
+                for uri, params in list(self.shown.items()) if params["diagnostics"]}
+
+    def texts(self, path: str) -> list[str]:
+        """The messages of a file's diagnostics."""
+        return [one["message"] for one in self.diagnostics().get(path, [])]
+
+    def request(self, method: str, params: dict | None) -> dict:
+        self._ids += 1
+        self._send({"jsonrpc": "2.0", "id": self._ids, "method": method, **({} if params is None else {"params": params})})
+        while True:
+            answer = self._answers.get(timeout=ANSWER_SECONDS)
+            assert answer is not None, "the server ended"
+            if answer["id"] == self._ids:
+                return answer
+
+    def notify(self, method: str, params: dict | None) -> None:
+        self._send({"jsonrpc": "2.0", "method": method, **({} if params is None else {"params": params})})
+
+    def quit(self) -> int:
+        self.request("shutdown", None)
+        self.notify("exit", None)
+        return self.child.wait(timeout=EXIT_SECONDS)
+
+    def send_bytes(self, data: bytes) -> None:
+        self.child.stdin.write(data)
+        self.child.stdin.flush()
+
+    def _send(self, message: dict) -> None:
+        body = json.dumps(message).encode()
+        self.send_bytes(b"Content-Length: %d\r\n\r\n" % len(body) + body)
+
+    def _listen(self) -> None:
+        while (message := _read(self.child.stdout)) is not None:
+            if "method" not in message:
+                self._answers.put(message)
+            elif message["method"] == "textDocument/publishDiagnostics":
+                self.publications += 1
+                self.shown[message["params"]["uri"]] = message["params"]
+                self.arrivals.put((message["params"]["uri"], message["params"].get("version"), time.monotonic()))
+            elif message["method"] == "window/showMessage":
+                self.messages.append(message["params"]["message"])
+            elif "id" in message:
+                self.requests.append(message)
+                self._send({"jsonrpc": "2.0", "id": message["id"], "result": None})
+        self._answers.put(None)
+
+
+def _read(out) -> dict | None:
+    """The next message, or None at the end."""
+    length = None
+    while (line := out.readline()) != b"\r\n":
+        if not line:
+            return None
+        if line.startswith(b"Content-Length:"):
+            length = int(line.split(b":")[1])
+    return json.loads(out.read(length))
+
+
+def children(pid: int) -> list[int]:
+    """What a process started that still runs."""
+    with open(f"/proc/{pid}/task/{pid}/children", encoding="ascii") as opened:
+        return [int(word) for word in opened.read().split()]

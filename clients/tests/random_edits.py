@@ -1,0 +1,259 @@
+#!/usr/bin/env python3
+"""Random edits of buffers and of the disk through the language server. After each burst, what the editor shows is what the linter says of
+the folder with the unsaved buffers in place of the saved files.
+
+    random_edits.py PROGRAM [EDITS [SEED [BURST]]]      with BURST up to so many edits go out before the next comparison (1)
+"""
+from __future__ import annotations
+
+import os
+import random
+import shutil
+import sys
+import tempfile
+import time
+from collections import Counter
+
+from editor import Editor
+from repositories import WORKFLOWS, in_characters, reported
+
+ACTION = """name: {name}
+description: d
+inputs:
+  who:
+    required: {required}
+  {extra}: {{}}
+outputs:
+  out:
+    value: ${{{{ inputs.{extra} }}}}
+runs:
+  using: composite
+  steps:
+    - run: echo ${{{{ inputs.who }}}}
+      shell: {shell}
+    {call}
+"""
+CALLER = """# {comment}
+on: {on}
+jobs:
+  a:
+    runs-on: ubuntu-latest
+    steps:
+      - uses: {step}
+        id: s
+        with:
+          {key}: {value}
+      - run: "echo {emoji} ${{{{ steps.s.outputs.{out} }}}}"
+  b:
+    needs: {needs}
+    uses: {job}
+    with:
+      x: 1
+"""
+CALLED = """on:
+  workflow_call:
+    inputs:
+      {name}:
+        type: {kind}
+        required: {required}
+jobs:
+  c:
+    runs-on: ${{{{ inputs.{name} }}}}
+    steps:
+      - run: echo ${{{{ github.{property} }}}}
+"""
+FOLDERS = ["a", "b", "deep/c", ".github/actions/d", "my action", "é"]
+WORKFLOW_PATHS = [WORKFLOWS + name for name in ("a.yml", "b.yaml", "c.yml", "call.yml", "ü 1.yml")]
+PATHS = WORKFLOW_PATHS + [f"{folder}/{name}" for folder in FOLDERS for name in ("action.yml", "action.yaml")] + ["action.yml"]
+OTHERS = ["notes.yml", WORKFLOWS + "deep/x.yml"]
+FIRST_FILES = 9
+TYPED = "a:-'\"{[\t\n é\U0001F600\x07&*#"
+
+
+class Texts:
+    """Texts of files by chance."""
+
+    def __init__(self, chance: random.Random):
+        self.chance = chance
+
+    def new(self, path: str) -> str:
+        if not path.startswith(WORKFLOWS):
+            text = self._action()
+        elif self.chance.random() < 0.4:
+            text = self._called()
+        else:
+            text = self._caller()
+        return text if self.chance.random() < 0.8 else text.replace("\n", self.chance.choice(["\r\n", "\r"]))
+
+    def _action(self) -> str:
+        pick = self.chance.choice
+        return ACTION.format(name=pick(["A", "B"]), required=pick(["true", "false"]), extra=pick(["more", "less"]),
+                             shell=pick(["bash", "fish"]), call=pick(["", "", f"- uses: ./{pick(FOLDERS)}"]))
+
+    def _called(self) -> str:
+        pick = self.chance.choice
+        return CALLED.format(name=pick(["x", "y"]), kind=pick(["string", "number", "text"]), required=pick(["true", "false"]),
+                             property=pick(["ref", "reff"]))
+
+    def _caller(self) -> str:
+        pick = self.chance.choice
+        return CALLER.format(
+            comment=pick(["x", "uses: ./b"]), on=pick(["push", "pussh"]),
+            step=pick(["./", f"./{pick(FOLDERS)}", f"'./{pick(FOLDERS)}/'", "actions/checkout@v4"]),
+            key=pick(["who", "more", "\U0001F600"]), value=pick(["1", "${{ github.x }}"]),
+            emoji=pick(["", "é", "\U0001F600\U0001F600"]), out=pick(["out", "outt"]), needs=pick(["a", "b", "c"]),
+            job="./" + WORKFLOWS + pick(["call.yml", "c.yml", "none.yml", "ü 1.yml"]))
+
+    def edited(self, text: str) -> str:
+        """What a person types: a few characters go or come, or a line does."""
+        at = self.chance.randrange(len(text) + 1)
+        kind = self.chance.randrange(5)
+        if kind == 0:
+            return text[:at] + self.chance.choice(TYPED) + text[at:]
+        if kind == 1:
+            return text[:at] + text[at + self.chance.randrange(1, 8):]
+        lines = text.split("\n")
+        where = self.chance.randrange(len(lines))
+        if kind == 2:
+            del lines[where]
+        elif kind == 3:
+            lines.insert(where, self.chance.choice(["", "# c", "name: x", "  a: 1"]))
+        else:
+            lines[where] = lines[where].replace("a", "b", 1)
+        return "\n".join(lines)
+
+
+class World:
+    """A folder on the disk, an editor of it, and beside it a mirror that has the unsaved texts too."""
+
+    def __init__(self, program: str, seed: int):
+        self.chance = random.Random(seed)
+        self.texts = Texts(self.chance)
+        self.program = program
+        self.root = tempfile.mkdtemp(prefix="actionlint-test-").encode() + b"/r\xe9po"
+        self.mirror = self.root + b"-mirror"
+        for top in (self.root, self.mirror):
+            os.makedirs(os.path.join(top, WORKFLOWS.encode()))
+        self.disk: dict[str, str] = {}
+        self.buffers: dict[str, str] = {}
+        self.besides = 0
+        for path in PATHS[:FIRST_FILES] + OTHERS:
+            self.write(path, self.texts.new(path))
+        self.editor = Editor(program, self.root)
+
+    def write(self, path: str, text: str | None) -> None:
+        """A file of the disk, or none of this name."""
+        _write(self.root, path, text)
+        self.disk.pop(path, None)
+        if text is not None:
+            self.disk[path] = text
+        self.reflect(path)
+
+    def reflect(self, path: str) -> None:
+        _write(self.mirror, path, self.buffers.get(path, self.disk.get(path)))
+
+    def step(self) -> str:
+        """One edit; what it was."""
+        path = self.chance.choice(PATHS + OTHERS)
+        if self.buffers and self.chance.random() < 0.6:
+            path = self.chance.choice(sorted(self.buffers))
+        if path in self.buffers:
+            return self._edit_buffer(path)
+        if path in self.disk and self.chance.random() < 0.6:
+            self.buffers[path] = self.disk[path]
+            self.editor.open(path, self.disk[path])
+            return f"open {path}"
+        return self._edit_disk(path)
+
+    def _edit_buffer(self, path: str) -> str:
+        kind = self.chance.randrange(10)
+        if kind < 7:
+            text = self.texts.new(path) if kind == 0 else self.texts.edited(self.buffers[path])
+            self.buffers[path] = text
+            self.editor.change(path, text)
+            self.reflect(path)
+            return f"change {path}"
+        if kind == 7:
+            self.write(path, self.buffers[path])
+            self.editor.touched(path)
+            self.editor.save(path)
+            return f"save {path}"
+        del self.buffers[path]
+        self.editor.close(path)
+        self.reflect(path)
+        return f"close {path}"
+
+    def _edit_disk(self, path: str) -> str:
+        kind = self.chance.randrange(4)
+        if kind == 0:
+            self.write(path, None)
+            self.editor.touched(path, kind=3)
+            return f"delete {path}"
+        if kind == 1 and path in self.disk:
+            other = self.chance.choice([it for it in PATHS if (it in WORKFLOW_PATHS) == (path in WORKFLOW_PATHS)])
+            text = self.disk[path]
+            self.write(path, None)
+            self.write(other, text)
+            self.editor.touched(path, kind=3)
+            self.editor.touched(other, kind=1)
+            return f"rename {path} to {other}"
+        self.write(path, self.texts.edited(self.disk[path]) if kind == 2 and path in self.disk else self.texts.new(path))
+        self.editor.touched(path)
+        return f"write {path}"
+
+    def seems_called(self, path: str) -> bool:
+        """Whether a file names the folder of an action behind `./`."""
+        texts = {**self.disk, **self.buffers}.values()
+        return not path.startswith(WORKFLOWS) and any(f"./{os.path.dirname(path)}" in text for text in texts)
+
+    def compare(self, told: str) -> int:
+        """How many faults are shown; an edit after which they differ from the linter's ends the test."""
+        expected = set(reported(self.program, self.mirror))
+        found = in_characters(self.editor.diagnostics(), {**self.disk, **self.buffers})
+        # Open files and what they call are shown too, and actions that a file only seems to call: one that is no YAML, or a comment.
+        open_files = {path for path in self.buffers if path not in OTHERS}
+        more = {fault[0] for fault in found if self.seems_called(fault[0])} - {fault[0] for fault in expected} - open_files
+        self.besides += bool(more)
+        if open_files | more:
+            expected |= set(reported(self.program, self.mirror, sorted(open_files | more)))
+        if sorted(found) != sorted(expected):
+            print(f"  after {told}: only shown: {sorted(set(found) - expected)}; only expected: {sorted(expected - set(found))}; "
+                  f"told: {self.editor.messages[-3:]}")
+            raise SystemExit(1)
+        return len(found)
+
+
+def _write(top: bytes, path: str, text: str | None) -> None:
+    whole = os.path.join(top, path.encode())
+    if text is not None:
+        os.makedirs(os.path.dirname(whole), exist_ok=True)
+        with open(whole, "wb") as opened:
+            opened.write(text.encode())
+    elif os.path.exists(whole):
+        os.remove(whole)
+
+
+def main(words: list[str]) -> int:
+    program, (edits, seed, burst) = words[0], [int(word) for word in words[1:] + ["2000", "1", "1"][len(words) - 1:]]
+    world, kinds, begun = World(program, seed), Counter(), time.monotonic()
+    faults = compared = 0
+    world.editor.settle()
+    for number in range(edits):
+        told = world.step()
+        kinds[told.split()[0]] += 1
+        if number < edits - 1 and world.chance.randrange(burst):
+            continue
+        world.editor.settle()
+        faults += world.compare(f"edit {number}, {told}")
+        compared += 1
+    right = world.editor.quit() == 0 and faults > 0 and not world.editor.messages
+    print(f"case=clients-random-edits-{edits}-{seed}-{burst} output={'expected' if right else 'wrong'} status=0 "
+          f"comparisons={compared} faults={faults} seconds={time.monotonic() - begun:.0f}")
+    print(f"  {dict(kinds)}; {world.editor.publications} publications; {world.besides} times actions besides; "
+          f"told: {world.editor.messages}")
+    shutil.rmtree(os.path.dirname(world.root))
+    return 0 if right else 1
+
+
+if __name__ == "__main__":
+    sys.exit(main(sys.argv[1:]))

@@ -1,0 +1,71 @@
+#!/usr/bin/env python3
+"""The tables of the clients are those of the pages and the definitions, and have each fault that the linter prints.
+
+    tables.py PROGRAM [NAME...]
+"""
+from __future__ import annotations
+
+import json
+import re
+import subprocess
+import sys
+from pathlib import Path
+
+sys.path.insert(0, str(Path(__file__).resolve().parent.parent))
+from actionlint_client import entries, fixes
+from actionlint_client.report import parse_fault
+from cases import Cases
+from repositories import CLIENTS, TOP
+
+CASES = Cases("tables")
+FAULT_LINE = re.compile(rb"^[^ :\n][^:\n]*:[0-9]+:[0-9]+: .*\[[a-z-]+\]$", re.M)
+CODE = re.compile(r"/// ([YKGXC][0-9]+): ")
+LEAST_LINES = 1_000
+
+
+def printed_lines() -> list[bytes]:
+    """The fault lines of the outputs that the cases and the examples should have."""
+    files = [*(TOP / "tests/cases").glob("*.stdout"), *(TOP / "examples").glob("*.oneline")]
+    return [line for file in files for line in FAULT_LINE.findall(file.read_bytes())]
+
+
+@CASES.case
+def made_anew(program: str) -> None:
+    done = subprocess.run([sys.executable, str(CLIENTS / "make_tables.py"), "--check"], stdout=subprocess.PIPE, check=False)
+    assert done.returncode == 0, done.stdout.decode() + "clients/make_tables.py writes them"
+
+
+@CASES.case
+def every_code(program: str) -> None:
+    """The codes are those that the linter's code names."""
+    codes = CODE.findall((TOP / "crates/al_text/src/codes.rt").read_text(encoding="utf-8"))
+    assert codes and sorted(codes) == sorted(entry.code for entry in entries.entries()), codes
+    assert all(entry.text and entry.why and entry.repair for entry in entries.entries())
+
+
+@CASES.case
+def one_entry_each(program: str) -> None:
+    """Each printed message is made from exactly one entry, and each entry is seen."""
+    lines = printed_lines()
+    assert len(lines) >= LEAST_LINES, len(lines)
+    seen = set()
+    for line in lines:
+        message = parse_fault(line, None).message
+        found = [entry.code for entry in entries.entries() if entry.pattern.fullmatch(message)]
+        assert len(found) == 1, (found, message)
+        seen.update(found)
+    missing = {entry.code for entry in entries.entries()} - seen
+    assert not missing, f"none of {len(lines)} lines has {sorted(missing)}"
+
+
+@CASES.case
+def fixes_have_lists(program: str) -> None:
+    """Each fault with a quick fix has an argument and a list, and each list is used."""
+    by_code = {entry.code: entry for entry in entries.entries()}
+    assert all("{0}" in by_code[code].message for code in fixes.LISTS)
+    assert set(fixes.LISTS.values()) == set(fixes.names()) == set(json.loads(fixes.TABLE.read_text(encoding="utf-8")))
+    assert all(fixes.names().values())
+
+
+if __name__ == "__main__":
+    sys.exit(CASES.run(sys.argv[1:]))

@@ -1,0 +1,21 @@
+" For Vim with ALE: faults as one types, by the language server. Source this file in vimrc, behind ALE:
+"   source /path/clients/vim/ale.vim
+"   let g:ale_linters = {'yaml': ['actionlint_lsp']}
+"   let g:actionlint_lsp = '/path/clients/actionlint-lsp'      where it isn't on the PATH
+" ALE's own linter `actionlint` starts another program by other options, so this one has a name of its own.
+function! s:root(buffer) abort
+  let path = expand('#' . a:buffer . ':p')
+  let at = match(path, '/\.github/workflows/[^/]*$')
+  if at >= 0
+    return at == 0 ? '/' : path[: at - 1]
+  endif
+  return ale#path#Dirname(ale#path#FindNearestDirectory(a:buffer, '.git'))
+endfunction
+
+call ale#linter#Define('yaml', {
+\   'name': 'actionlint_lsp',
+\   'lsp': 'stdio',
+\   'executable': get(g:, 'actionlint_lsp', 'actionlint-lsp'),
+\   'command': '%e',
+\   'project_root': function('s:root'),
+\})

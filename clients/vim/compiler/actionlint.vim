@@ -1,0 +1,30 @@
+" Vim compiler: actionlint. :compiler actionlint, then :make, or :make FILE.
+if exists('current_compiler')
+  finish
+endif
+let current_compiler = 'actionlint'
+
+CompilerSet makeprg=actionlint\ --oneline
+CompilerSet errorformat=%f:%l:%c:\ %m\ [%*[a-z-]],%-G%.%#
+
+" The linter counts characters and Vim counts bytes, so columns behind characters of several bytes are put right.
+augroup actionlint
+  autocmd!
+  autocmd QuickFixCmdPost make call s:columns()
+augroup END
+
+function! s:columns() abort
+  if get(b:, 'current_compiler', get(g:, 'current_compiler', '')) !=# 'actionlint'
+    return
+  endif
+  let items = getqflist()
+  for item in items
+    if item.valid && item.bufnr && item.col > 1
+      call bufload(item.bufnr)
+      let line = get(getbufline(item.bufnr, item.lnum), 0, '')
+      let bytes = byteidx(line, item.col - 1)
+      let item.col = (bytes < 0 ? strlen(line) : bytes) + 1
+    endif
+  endfor
+  call setqflist(items, 'r')
+endfunction
