@@ -1,27 +1,14 @@
-"""Makes cases of the examples in docs/FAULTS.md: fault_cases.py PAGE FOLDER.
+"""Makes cases of the examples in a page of faults: fault_cases.py PAGE FOLDER.
 
-A section of the page is a fault: its heading has the fault's identifier and its message, and it has at least two examples, a
-file and the report of that file as the only one of a folder. The first example's report must have a line with the message,
-the last one's must have none. Each example becomes a script and its output. A file marked `yaml action` is an action. A section that
-says "Nothing gives this fault yet" has no example.
-
-Before the file may stand other files of the folder, marked `yaml PATH`, which have no faults. They are put first.
-
-In a file marked `yaml escaped`, `\\xHH` stands for the byte with that hexadecimal value, and `\\*N{TEXT}` for TEXT written N
-times.
+Each example of an entry (tests/fault_entries.py) becomes a script that puts its files and reports, with the output and the status that it
+must have. The first example's report must have a line with the entry's message; the repaired file has no fault.
 """
 
 import pathlib
 import re
 import sys
 
-NOT_GIVEN = "Nothing gives this fault yet"
-PATHS = {" action": "action.yml"}
-PATH = ".github/workflows/a.yml"
-OTHER = re.compile(r"```yaml (\S+\.ya?ml)\n(.*?)```\n\s*", re.DOTALL)
-EXAMPLE = re.compile(r"((?:```yaml \S+\.ya?ml\n(?:(?!```).)*```\n\s*)*)```yaml( escaped| action)?\n(.*?)```\n\s*```text\n(.*?)```", re.DOTALL)
-ESCAPE = re.compile(rb"\\x([0-9a-f]{2})|\\\*([0-9]+)\{([^}]*)\}")
-SECTION = re.compile(r"^### ([A-Z][0-9]+) `(.*)`$", re.MULTILINE)
+from fault_entries import Wrong, entries_of
 
 
 def message_pattern(message):
@@ -29,43 +16,51 @@ def message_pattern(message):
     return re.compile(": " + ".*".join(re.escape(part) for part in re.split(r"\{[01]\}", message)) + r" \[")
 
 
-def unescaped(match):
-    """The bytes that an escape stands for."""
-    value, count, text = match.groups()
-    return bytes([int(value, 16)]) if value else text * int(count)
-
-
 def put(path, data):
     """The command that puts a file."""
     return f"put {path} {len(data)}\n".encode() + data + b"\n"
 
 
-def script_and_output(others, mark, file, report):
-    """The script that puts the files and reports, and what it must print. No file that is put is called by one before it."""
-    data = ESCAPE.sub(unescaped, file.encode()) if mark == " escaped" else file.encode()
-    puts = [put(path, text.encode()) for path, text in OTHER.findall(others)] + [put(PATHS.get(mark, PATH), data)]
-    return b"".join(puts) + b"report\n", "ok 1\n" * len(puts) + f"{report}status {1 if report else 0}\n"
+def checked(files, number):
+    """How many files the put of one checks: itself, and those before it that call it."""
+    path, _ = files[number]
+    called = b"uses: ./" + (path if path.startswith(".github/workflows/") else path.rpartition("/")[0]).encode() + b"\n"
+    return 1 + sum(called in data for _, data in files[:number])
+
+
+def wrong_examples(entry):
+    """What the examples of an entry lack."""
+    pattern = message_pattern(entry.message)
+    if not entry.examples or not pattern.search(entry.examples[0].report):
+        return "needs an example that gives it first"
+    return None if entry.repaired else "needs a repaired file that is clean"
+
+
+def write_case(folder, name, example):
+    """Writes the script of an example and what it must print."""
+    status = 1 if example.report else 0
+    script = b"".join(put(path, data) for path, data in example.files) + b"report\n"
+    replies = "".join(f"ok {checked(example.files, number)}\n" for number in range(len(example.files)))
+    (folder / name).write_bytes(script)
+    (folder / f"{name}.stdout").write_text(replies + f"{example.report}status {status}\n")
+    (folder / f"{name}.status").write_text(f"{status}\n")
 
 
 def main(page, folder):
-    text = pathlib.Path(page).read_text()
     out = pathlib.Path(folder)
     out.mkdir(parents=True)
-    parts = SECTION.split(text)
-    sections = list(zip(parts[1::3], parts[2::3], parts[3::3]))
-    if not sections:
+    try:
+        found = entries_of(pathlib.Path(page))
+    except Wrong as wrong:
+        sys.exit(str(wrong))
+    if not found:
         sys.exit(f"{page}: no fault")
-    for name, message, body in sections:
-        examples = EXAMPLE.findall(body)
-        if NOT_GIVEN in body and not examples:
-            continue
-        pattern = message_pattern(message)
-        if len(examples) < 2 or not pattern.search(examples[0][-1]) or pattern.search(examples[-1][-1]):
-            sys.exit(f"{page}: {name} needs an example that gives it first, and one that doesn't last")
-        for number, example in enumerate(examples, start=1):
-            script, output = script_and_output(*example)
-            (out / f"{name}-{number}").write_bytes(script)
-            (out / f"{name}-{number}.stdout").write_text(output)
+    for entry in found:
+        wrong = wrong_examples(entry)
+        if wrong:
+            sys.exit(f"{page}: {entry.code} {wrong}")
+        for number, example in enumerate(entry.examples, start=1):
+            write_case(out, f"{entry.code}-{number}", example)
 
 
 if __name__ == "__main__":

@@ -1,19 +1,23 @@
 """Compares the pages of faults with the code and the definitions: fault_pages.py TOP LETTERS.
 
 Each fault code of al_text names its identifier (`/// K2: ..`) and has its message in al_text's table; each whose identifier begins
-with one of LETTERS (the kinds of faults that the program prints) has one entry on a page docs/FAULTS*.md, with that message. Each entry
-says which definitions decide it: after `crate/specs/File.antt`, a colon and the names, each in backquotes. The file must exist below
-crates/ and define each of the names.
+with one of LETTERS (the kinds of faults that the program prints) has one entry on a page docs/FAULTS*.md (tests/fault_entries.py), with
+that message. Each entry says why the fault matters and how it is repaired, and which definitions decide it: after
+`crate/specs/File.antt`, a colon and the names, each in backquotes. The file must exist below crates/ and define each of the names.
+docs/FAULTS.md has an index of the messages; with a third word `--write` it is written anew.
 """
 
 import pathlib
 import re
 import sys
 
+from fault_entries import Wrong, entries
+
 CODE = re.compile(r"/// ([YKGXC][0-9]+): .*\n\s+([A-Za-z0-9]+),")
-ENTRY = re.compile(r"^### ([A-Z][0-9]+) `(.*)`$", re.MULTILINE)
 DECIDED = re.compile(r"`(\w+/specs/\w+\.antt)`:((?:\s+`\w+`,?)+)")
 LETTERS = {"Y": "yaml", "K": "key", "G": "rule", "X": "expression", "C": "call"}
+OF_JOBS = {"C1", "C4", "C5", "C6"}  # faults that only a job's call has
+INDEX = "| Message | KIND | Entry |\n|---|---|---|\n"
 
 
 def codes(top):
@@ -21,14 +25,17 @@ def codes(top):
     return CODE.findall((top / "crates/al_text/src/codes.rt").read_text())
 
 
-def messages(top):
-    """The message of each variant, by letter and name, with `{0}` and `{1}` for its arguments."""
+def tables(top):
+    """The words of each variant's message, by letter and name, and its kinds."""
     text = (top / "crates/al_text/specs/Messages.antt").read_text()
-    found = {}
+    wordings, kinds = {}, {}
     for letter, name in LETTERS.items():
+        own = dict(re.findall(rf'^{name}_kind (?:\w+\.)?(\w+) = codes "(.*)"$', text, re.MULTILINE))
+        whole = re.search(rf'^fault_kind \(C\.{name.title()} fault\) = codes "(.*)"$', text, re.MULTILINE)
         for variant, words in re.findall(rf"^{name}_wording (\w+) = (.*)$", text, re.MULTILINE):
-            found[letter, variant] = words
-    return found
+            wordings[letter, variant] = words
+            kinds[letter, variant] = [own[variant]] if variant in own else [whole[1]] if whole else sorted(own.values())
+    return wordings, kinds
 
 
 def shown_in(words, message):
@@ -41,18 +48,6 @@ def shown_in(words, message):
             return False
         at += len(escaped)
     return True
-
-
-def entries(top):
-    """The message and the text of each entry, by identifier, and what is wrong with their number."""
-    found, wrong = {}, []
-    for page in sorted((top / "docs").glob("FAULTS*.md")):
-        parts = ENTRY.split(page.read_text())
-        for name, message, body in zip(parts[1::3], parts[2::3], parts[3::3]):
-            if name in found:
-                wrong.append(f"{name} has two entries")
-            found[name] = (message, body)
-    return found, wrong
 
 
 def undefined(top, body):
@@ -68,26 +63,70 @@ def undefined(top, body):
                 yield f"names {name}, which {file} doesn't define"
 
 
-def main(folder, letters):
-    top = pathlib.Path(folder)
-    found, wrong = entries(top)
-    table = messages(top)
-    every = codes(top)
+def wrong_of(top, entry):
+    """What an entry lacks, whatever its fault is."""
+    if not entry.what or not entry.why or not entry.repair:
+        yield "doesn't say what it is, why it matters and its repair"
+    yield from undefined(top, entry.body)
+
+
+def in_order(message):
+    """By what the index is sorted: the letters of a message without its arguments."""
+    return re.sub(r"[^a-z ]", "", re.sub(r"\{[01]\}", "", message).lower()).split()
+
+
+def index(found, kinds):
+    """The table of messages, in their order."""
+    rows = ""
+    for entry in sorted(found.values(), key=lambda entry: in_order(entry.message)):
+        link = f"[{entry.code}]({'' if entry.page == 'FAULTS.md' else entry.page}#{entry.anchor})"
+        rows += f"| `{entry.message}` | {', '.join(kinds.get(entry.code, []))} | {link} |\n"
+    return INDEX + rows
+
+
+def compare_index(top, wanted, write):
+    """Compares the index of docs/FAULTS.md, or writes it."""
+    path = top / "docs" / "FAULTS.md"
+    text = path.read_text()
+    stands = re.search(re.escape(INDEX) + r"(?:\|.*\n)*", text)
+    if write and stands:
+        path.write_text(text.replace(stands[0], wanted))
+    elif not stands or stands[0] != wanted:
+        return ["the index of docs/FAULTS.md isn't that of the entries: fault_pages.py TOP LETTERS --write writes it"]
+    return []
+
+
+def wrong_codes(every, wordings, found, letters):
+    """What the codes and the entries differ in."""
     if len(every) < 76:
-        wrong.append(f"only {len(every)} codes name their identifier")
+        yield f"only {len(every)} codes name their identifier"
     for name, variant in every:
-        words = table.get((name[0], variant))
+        words = wordings.get((name[0], variant))
         if words is None:
-            wrong.append(f"{name}: the table of messages has no row for {variant}")
+            yield f"{name}: the table of messages has no row for {variant}"
         elif name not in found:
             if name[0] in letters:
-                wrong.append(f"{name} has no entry")
-        elif not shown_in(words, found[name][0]):
-            wrong.append(f"{name}: its entry has another message than the table")
+                yield f"{name} has no entry"
+        elif not shown_in(words, found[name].message):
+            yield f"{name}: its entry has another message than the table"
     for name in found.keys() - {name for name, _ in every}:
-        wrong.append(f"{name} is no fault code")
-    for name, (_, body) in found.items():
-        wrong.extend(f"{name} {why}" for why in undefined(top, body))
+        yield f"{name} is no fault code"
+
+
+def main(folder, letters, *write):
+    top = pathlib.Path(folder)
+    try:
+        listed = entries(top / "docs")
+    except Wrong as wrong:
+        sys.exit(str(wrong))
+    found = {entry.code: entry for entry in listed}
+    every = codes(top)
+    wordings, kinds = tables(top)
+    wrong = [f"{entry.code} has two entries" for entry in listed if found[entry.code] is not entry]
+    wrong += wrong_codes(every, wordings, found, letters)
+    wrong += [f"{entry.code} {why}" for entry in listed for why in wrong_of(top, entry)]
+    printed = {name: ["workflow-call"] if name in OF_JOBS else kinds.get((name[0], variant)) for name, variant in every}
+    wrong += compare_index(top, index(found, printed), write)
     if wrong:
         sys.exit("\n".join(wrong))
 

@@ -1,0 +1,25 @@
+"""Checks that no two cases of a folder are the same, in input, words and output: case_copies.py FOLDER.."""
+
+import pathlib
+import sys
+
+from run_cases import cases_in, words_of
+
+
+def content(case):
+    """All that makes a case, but its name."""
+    return case.read_bytes(), tuple(words_of(case, [])), case.with_name(case.name + ".stdout").read_bytes()
+
+
+def copies(folder):
+    """The cases of a folder that are another one's copies, each with that one."""
+    seen = {}
+    for case in cases_in(folder):
+        first = seen.setdefault(content(case), case.name)
+        if first != case.name:
+            yield f"{folder}: {case.name} is a copy of {first}"
+
+
+if __name__ == "__main__":
+    wrong = [line for folder in sys.argv[1:] for line in copies(folder)]
+    sys.exit("\n".join(wrong) if wrong else 0)

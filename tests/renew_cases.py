@@ -1,0 +1,58 @@
+"""Shows how a program's outputs differ from those that the cases of a folder hold, and writes them anew.
+
+    python3 tests/renew_cases.py [--write] PROGRAM FOLDER [WORD..]
+
+For use behind a wanted change, of a message for instance: it prints, for each case whose output or status is another one (cases are as
+tests/run_cases.py has them), the lines that go and come, and last how many cases differ and how often each pair of lines does. With
+`--write` it puts the new ones in the place of the old: read what it shows first, since from then on they are what is expected.
+"""
+
+import collections
+import difflib
+import sys
+
+from run_cases import cases_in, run, status_of
+
+
+def lines_of(data, status):
+    """The lines of an output, and its status as one more."""
+    return [*data.decode(errors="backslashreplace").splitlines(), f"(the run's status: {status})"]
+
+
+def changes(old, new):
+    """The lines that go and those that come."""
+    return [line for line in difflib.unified_diff(old, new, lineterm="", n=0) if line[:1] in "+-" and line[:3] not in ("+++", "---")]
+
+
+def renew(case, ran):
+    """Writes what a case is to give from now on."""
+    case.with_name(case.name + ".stdout").write_bytes(ran.stdout)
+    status = case.with_name(case.name + ".status")
+    if ran.returncode or status.exists():
+        status.write_text(f"{ran.returncode}\n")
+
+
+def main(program, folder, words, is_written):
+    differing, often, unended = 0, collections.Counter(), 0
+    for case in cases_in(folder):
+        ran = run(program, case, words)
+        if ran is None:
+            print(f"{case.name}: no end")
+            unended += 1
+            continue
+        old = case.with_name(case.name + ".stdout").read_bytes()
+        if (old, status_of(case)) == (ran.stdout, ran.returncode):
+            continue
+        changed = changes(lines_of(old, status_of(case)), lines_of(ran.stdout, ran.returncode))
+        print(f"== {case.name}", *changed, sep="\n")
+        differing += 1
+        often[tuple(changed)] += 1
+        if is_written:
+            renew(case, ran)
+    print(f"{differing} cases differ, in {len(often)} ways{', and were written' if is_written and differing else ''}")
+    return 1 if unended else 0
+
+
+if __name__ == "__main__":
+    given = [word for word in sys.argv[1:] if word != "--write"]
+    sys.exit(main(given[0], given[1], given[2:], "--write" in sys.argv[1:]))
