@@ -75,6 +75,17 @@ def shapes(size):
     yield "blank lines in 63 collections", b"- " * 63 + b"v\n" + b"\n" * size
 
 
+def shared_shapes(size):
+    """Files of about so many bytes in which anchors and aliases stand."""
+    names = range(49_000 * size // SIZE)
+    yield "anchors and aliases of other names", b"on: push\njobs: [" + b"".join(b"&a%05d v, *a%05d, " % (n, n) for n in names) + b"]\n"
+    yield "aliases of one scalar", b"on: push\njobs: [&a v" + b", *a" * (98_000 * size // SIZE) + b"]\n"
+    yield "one text, and an alias of it", b"on: push\njobs: [&a " + b"a b " * (size // 4) + b", *a]\n"
+    nested = b"".join(b"&a%d [" % level for level in range(61))
+    items = b"abcdefghijklmnopqr, " * (49_000 * size // SIZE)
+    yield "items in 61 lists with anchors, and an alias", b"on: push\njobs: [" + nested + items + b"]" * 61 + b", *a0]\n"
+
+
 def processor_time():
     """The processor time of all runs so far, in seconds."""
     used = resource.getrusage(resource.RUSAGE_CHILDREN)
@@ -99,19 +110,20 @@ def least(commands, files):
 
 
 def main():
-    """Prints a table."""
+    """Prints a table. A reader of another version may know no aliases, so it isn't given files with any."""
     with tempfile.TemporaryDirectory() as folder:
         events = pathlib.Path(folder) / "yaml_events"
         subprocess.run(["cc", "-O2", "-o", events, TOP / "bench" / "yaml_events.c", "-lyaml"], check=True)
         commands = [[events]] + [[path, "yaml"] for path in [program("readers"), *sys.argv[1:]]]
         before = "  this/before" if sys.argv[1:] else ""
-        print(f"{'file':36} {'bytes':>9} {'this':>9} {'libyaml':>9} {'this/libyaml':>12}{before}  whole/half of bytes")
-        for (name, whole), (_, half) in zip(shapes(SIZE), shapes(SIZE // 2)):
-            nothing, smaller, all_of_it = least(commands, [LAST, half + LAST, whole + LAST])
-            theirs, took, *others = (a - b for a, b in zip(all_of_it, nothing))
-            beside = "".join(f"{took / other:13.2f}" for other in others)
-            growth = f"{took / (smaller[1] - nothing[1]):.2f} of {len(whole) / len(half):.2f}"
-            print(f"{name:36} {len(whole):9} {took:8.3f}s {theirs:8.3f}s {took / theirs:12.2f}{beside}  {growth}", flush=True)
+        print(f"{'file':44} {'bytes':>9} {'this':>9} {'libyaml':>9} {'this/libyaml':>12}{before}  whole/half of bytes")
+        for asked, of_each in ((commands, shapes), (commands[:2], shared_shapes)):
+            for (name, whole), (_, half) in zip(of_each(SIZE), of_each(SIZE // 2)):
+                nothing, smaller, all_of_it = least(asked, [LAST, half + LAST, whole + LAST])
+                theirs, took, *others = (a - b for a, b in zip(all_of_it, nothing))
+                beside = "".join(f"{took / other:13.2f}" for other in others)
+                growth = f"{took / (smaller[1] - nothing[1]):.2f} of {len(whole) / len(half):.2f}"
+                print(f"{name:44} {len(whole):9} {took:8.3f}s {theirs:8.3f}s {took / theirs:12.2f}{beside}  {growth}", flush=True)
 
 
 if __name__ == "__main__":

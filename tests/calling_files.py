@@ -1,5 +1,7 @@
 """Files that call one another, made by chance: workflows, reusable workflows and actions, for tests of sessions."""
 
+import copy
+
 from running import WORKFLOWS
 
 NAMES = ["p", "q"]
@@ -9,6 +11,14 @@ REUSABLE = [f"{WORKFLOWS}/d.yml", f"{WORKFLOWS}/e.yml"]
 ACTIONS = ["x/action.yml", "x/action.yaml", "y/z/action.yml", "action.yml"]
 PATHS = CALLERS + REUSABLE + ACTIONS
 FOLDERS = ["./x", "./y/z", "./"]
+
+
+def candidates_of(uses):
+    """The paths that may answer a call of this text, the first one first."""
+    if uses not in FOLDERS:
+        return [uses[2:]]
+    folder = uses[2:] + "/" if uses != "./" else ""
+    return [f"{folder}action.yml", f"{folder}action.yaml"]
 
 
 class File:
@@ -22,11 +32,21 @@ class File:
         self.composite = path in ACTIONS and chance.random() < 0.5
         self.inputs = [(name, chance.random() < 0.5) for name in NAMES if chance.random() < 0.5]
         self.outputs = [name for name in NAMES if chance.random() < 0.5]
-        has_steps = self.composite or path not in ACTIONS
-        self.steps = [chance.choice(FOLDERS) for _ in range(chance.randint(0, 2))] if has_steps else []
-        self.jobs = [chance.choice(CALLERS + REUSABLE) for _ in range(chance.randint(0, 2))] if path not in ACTIONS else []
         self.given = [name for name in NAMES if chance.random() < 0.5]
         self.used = chance.choice(NAMES)
+        self.choose_calls(chance)
+
+    def choose_calls(self, chance):
+        """Chooses what it calls."""
+        has_steps = self.composite or self.path not in ACTIONS
+        self.steps = [chance.choice(FOLDERS) for _ in range(chance.randint(0, 2))] if has_steps else []
+        self.jobs = [chance.choice(CALLERS + REUSABLE) for _ in range(chance.randint(0, 2))] if self.path not in ACTIONS else []
+
+    def with_other_calls(self, chance):
+        """The same file but for what it calls: no caller sees that."""
+        other = copy.copy(self)
+        other.choose_calls(chance)
+        return other
 
     def interface(self):
         """What the answer of a call is."""
@@ -40,8 +60,7 @@ class File:
         """The calls, each by its candidates."""
         if self.broken:
             return []
-        folders = [step[2:] + "/" if step != "./" else "" for step in self.steps]
-        return [[f"{it}action.yml", f"{it}action.yaml"] for it in folders] + [[path] for path in self.jobs]
+        return [candidates_of(it) for it in self.steps] + [[path] for path in self.jobs]
 
     def text(self):
         """The bytes."""

@@ -1,15 +1,18 @@
-"""Tests that the patterns of docs/COMMAND-LINE.md match what the program prints and takes.
+"""Tests that what docs/COMMAND-LINE.md shows is what the program prints and takes.
 
     python3 tests/command_line_page.py PROGRAM
 
 The problem matcher and Vim's errorformat are applied to the lines of a report with known faults, the pattern of the pre-commit hook to
-paths of which some are linted. The example of a fault with its line is printed by the program. Prints one line for each case.
+paths of which some are linted; both hooks run in a repository of git, one of them by pre-commit where it is installed. The words of
+each row of "What to do at status 3" are run, and the example of a fault with its line. Prints one line for each case.
 """
 
 import json
 import os
 import pathlib
 import re
+import shlex
+import shutil
 import subprocess
 import sys
 import tempfile
@@ -48,6 +51,20 @@ def block(language):
 def run(words, folder):
     """Runs the program in a folder."""
     return subprocess.run([sys.argv[1], *words], cwd=folder, stdout=subprocess.PIPE, stderr=subprocess.PIPE, check=False, timeout=60)
+
+
+def differences(ran, status, out, err):
+    """What of a run isn't so."""
+    got = (ran.returncode, ran.stdout, ran.stderr)
+    return [] if got == (status, out, err) else [f"the program answers {got}, and should {(status, out, err)}"]
+
+
+def write(folder, files):
+    """Writes files below a folder, each a path with its text."""
+    for path, text in files.items():
+        whole = pathlib.Path(folder, path)
+        whole.parent.mkdir(parents=True, exist_ok=True)
+        whole.write_text(text, encoding="utf-8")
 
 
 def has_all(name, found):
@@ -96,19 +113,156 @@ def hook():
     bad += [f"the hook passes {path} over" for path in taken if not re.search(pattern, path)]
     bad += [f"the hook takes {path}" for path in passed if re.search(pattern, path)]
     with tempfile.TemporaryDirectory() as folder:
-        for path in taken + [it for it in passed if it != "action.yml/x"]:
-            whole = os.path.join(folder, path)
-            os.makedirs(os.path.dirname(whole), exist_ok=True)
-            pathlib.Path(whole).write_bytes(b"")
-        ran = run([*words[1:], *taken], folder)
+        write(folder, {path: "" for path in taken + passed if path != "action.yml/x"})
         empty = "".join(f"{path}:1:1: file is empty [syntax-check]\n" for path in sorted(taken)).encode()
-        if (ran.returncode, ran.stdout, ran.stderr) != (1, empty, b""):
-            bad.append(f"the program answers {ran.returncode}, {ran.stdout!r} and {ran.stderr!r}")
+        bad += differences(run([*words[1:], *taken], folder), 1, empty, b"")
         for path in passed:
             ran = run([*words[1:], path], folder)
             if (ran.returncode, ran.stdout) != (3, b"") or not ran.stderr.endswith(b": refused E2\n"):
                 bad.append(f"{path} is taken: {ran.returncode}, {ran.stdout!r} and {ran.stderr!r}")
     report("pre-commit-hook", bad)
+
+
+CALLER = """on: push
+jobs:
+  a:
+    runs-on: ubuntu-latest
+    steps:
+      - uses: ./greet
+        with:
+          who: you
+  b:
+    uses: ./.github/workflows/called.yml
+"""
+CALLED = "on: workflow_call\njobs:\n  a:\n    runs-on: ubuntu-latest\n    steps:\n      - run: echo\n"
+ACTION = """name: Greet
+description: Says hello.
+inputs:
+  who:
+    description: Whom to greet.
+    required: true
+runs:
+  using: node20
+  main: main.js
+"""
+RENAMED = """.github/workflows/caller.yml:6:15: required input "whom" of "Greet" is missing [action]
+.github/workflows/caller.yml:8:11: input "who" is not defined in "Greet" [action]
+"""
+DELETED = """.github/workflows/caller.yml:10:11: workflow "./.github/workflows/called.yml" is not in the folder [workflow-call]
+"""
+
+
+class Repository:
+    """A repository of git in a folder, with the program on the PATH."""
+
+    def __init__(self, room):
+        self.folder = os.path.join(room, "repository")
+        programs = os.path.join(room, "bin")
+        os.makedirs(self.folder)
+        os.makedirs(programs)
+        os.symlink(sys.argv[1], os.path.join(programs, "actionlint"))
+        kept = {name: value for name, value in os.environ.items() if not name.startswith(("GIT_", "PRE_COMMIT"))}
+        people = {f"GIT_{who}_{what}": "someone" for who in ("AUTHOR", "COMMITTER") for what in ("NAME", "EMAIL")}
+        own = {"HOME": room, "PATH": programs + os.pathsep + kept.get("PATH", os.defpath), "GIT_CONFIG_NOSYSTEM": "1"}
+        self.environment = {**kept, **people, **own}
+        self.run("git", "init", "-q")
+
+    def run(self, *words, below="."):
+        """Runs a command in the repository, and answers its status and what it printed."""
+        where = os.path.join(self.folder, below)
+        ran = subprocess.run(words, cwd=where, env=self.environment, stdout=subprocess.PIPE, stderr=subprocess.STDOUT, check=False, timeout=60)
+        return ran.returncode, ran.stdout.decode()
+
+    def commit(self, files=None, deleted=()):
+        """Writes and deletes files and commits all changes; answers the status and what was printed, and takes a refused commit back."""
+        write(self.folder, files or {})
+        for path in deleted:
+            os.remove(os.path.join(self.folder, path))
+        self.run("git", "add", "--all")
+        status, said = self.run("git", "commit", "-qm", "change")
+        if status:
+            self.run("git", "reset", "-q", "--hard")
+        return status, said
+
+
+def hook_differences(repository, deletions):
+    """What the hooks of a repository let through: a fault of a caller that doesn't change, at a rename and at a deletion."""
+    bad = []
+    start = {".github/workflows/caller.yml": CALLER, ".github/workflows/called.yml": CALLED, "greet/action.yml": ACTION}
+    status, said = repository.commit({**start, "README.md": "one\n"})
+    if status:
+        return [f"a folder without faults is not committed: {said!r}"]
+    status, said = repository.commit({"greet/action.yml": ACTION.replace("who:", "whom:")})
+    if not status or RENAMED not in said:
+        bad.append(f"an action with a renamed input is committed: {status} and {said!r}")
+    # the changed file alone has no fault, so that a hook which is given changed files lets this through
+    alone = repository.run("actionlint", "--oneline", "greet/action.yml")
+    if alone != (0, ""):
+        bad.append(f"the action alone has faults: {alone}")
+    status, said = repository.commit(deleted=[".github/workflows/called.yml"])
+    if (status != 0, DELETED in said) != (deletions, deletions):
+        bad.append(f"a called workflow is deleted: {status} and {said!r}")
+    return bad
+
+
+def git_hook():
+    """The page's hook of git, in a repository of git."""
+    with tempfile.TemporaryDirectory() as room:
+        repository = Repository(room)
+        path = os.path.join(repository.folder, ".git", "hooks", "pre-commit")
+        write(repository.folder, {".git/hooks/pre-commit": block("sh")})
+        os.chmod(path, 0o755)
+        report("git-hook-in-a-repository", hook_differences(repository, deletions=True))
+
+
+def pre_commit_hook(name, text, deletions):
+    """A hook of pre-commit, in a repository of git."""
+    if not shutil.which("pre-commit"):
+        print(f"skipped={name} (pre-commit isn't installed)")
+        return
+    with tempfile.TemporaryDirectory() as room:
+        repository = Repository(room)
+        write(repository.folder, {".pre-commit-config.yaml": "repos:\n" + text})
+        status, said = repository.run("pre-commit", "install")
+        bad = [f"pre-commit is not installed: {said!r}"] if status else hook_differences(repository, deletions)
+        report(name, bad)
+
+
+def pre_commit_hooks():
+    """The page's hook, which doesn't see what a commit only deletes, and the same with `always_run`, which does."""
+    text = block("yaml")
+    pre_commit_hook("pre-commit-in-a-repository", text, deletions=False)
+    always, count = re.subn(r"files: .*", "always_run: true", text)
+    report("pre-commit-hook-names-files-once", [] if count == 1 else [f"{count} lines with `files`"])
+    pre_commit_hook("pre-commit-at-each-commit", always, deletions=True)
+
+
+def ends_at_3():
+    """Each row of the page's table of words that end a run with status 3."""
+    rows = re.findall(r"^\| `(actionlint[^`]*)` \| `(actionlint: [^`]*)` \|", PAGE, re.M)
+    wanted = {"actionlint", "actionlint ../x", "actionlint README.md", "actionlint -", "actionlint --root many"}
+    report("rows-of-status-3", [] if wanted < {words for words, _ in rows} else [f"the page has {rows}"])
+    with tempfile.TemporaryDirectory() as folder:
+        large = CALLED + "#" * (1_048_577 - len(CALLED))
+        write(folder, {"README.md": "", "src/x": "", ".github/workflows/large.yml": large, ".github/workflows/a\\b.yml": CALLED})
+        write(folder, {f"many/.github/workflows/w{number:04}.yml": CALLED for number in range(4_097)})
+        for words, line in rows:
+            below = "src" if words == "actionlint" else "."
+            ran = run(shlex.split(words)[1:], os.path.join(folder, below))
+            report(f"status-3-of-{words!r}", differences(ran, 3, b"", line.encode() + b"\n"))
+
+
+def from_below():
+    """The page's words that lint a repository from a folder below its top."""
+    hint = re.search(r"`(actionlint --root \"[^`]*)`", PAGE)[1]
+    with tempfile.TemporaryDirectory() as room:
+        repository = Repository(room)
+        write(repository.folder, {".github/workflows/a.yml": "", "src/x": ""})
+        status, said = repository.run("bash", "-c", hint + " --oneline", below="src")
+        wanted = (1, ".github/workflows/a.yml:1:1: file is empty [syntax-check]\n")
+        report("from-a-folder-below", [] if (status, said) == wanted else [f"{hint} answers {status} and {said!r}"])
+        helped = run(["--help"], repository.folder).stdout.decode()
+        report("from-a-folder-below-in-help", [] if hint in helped else [f"help does not say {hint}"])
 
 
 def snippet():
@@ -129,6 +283,10 @@ def main():
     matcher(lines)
     errorformat(lines)
     hook()
+    git_hook()
+    pre_commit_hooks()
+    ends_at_3()
+    from_below()
     snippet()
     return 1 if wrong else 0
 

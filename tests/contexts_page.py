@@ -45,15 +45,15 @@ def path_of(form, text):
     return ".".join({"row": [], "job_row": ["jobs", "*"], "step_row": ["jobs", "*", "steps"]}[form] + keys)
 
 
-def availability(text):
-    """The table's rows, in its order."""
+def availability_rows(text):
+    """Each path in the order of the table, with the contexts and the special functions that it has."""
     lists = {}
     for name, right in LIST.findall(text):
         lists[name] = names_in(right, lists)
     start = text.index("\ntable =\n") + len("\ntable =\n")
     # A row may stand on several lines.
     before, *found = ROW.split(" ".join(text[start : text.index("\n    ∷ []", start)].split()))
-    rows = ""
+    rows = []
     for form, rest in zip(found[::2], found[1::2]):
         parts = parts_of(rest)
         if len(parts) != 3:
@@ -61,11 +61,16 @@ def availability(text):
         path, contexts, special = parts
         shown = [name.lower() for name in names_in(contexts, lists)]
         functions = [FUNCTIONS.get(name, name.lower()) for name in names_in(special, lists)]
-        cells = path_of(form, path), ", ".join(shown), ", ".join(functions)
-        rows += "| `{}` | {} | {} |\n".format(*cells).replace("|  |", "| |")
+        rows.append((path_of(form, path), shown, functions))
     if before or not rows:
         sys.exit("a row of the table isn't read")
-    return AVAILABILITY + rows
+    return rows
+
+
+def availability(text):
+    """The table of availability."""
+    rows = (f"| `{path}` | {', '.join(shown)} | {', '.join(functions)} |\n" for path, shown, functions in availability_rows(text))
+    return AVAILABILITY + "".join(rows).replace("|  |", "| |")
 
 
 def fixed(text):

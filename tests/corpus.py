@@ -9,7 +9,7 @@ from run_cases import words_of
 from running import SCRIPT, WORKFLOWS
 
 TOP = pathlib.Path(__file__).resolve().parent.parent
-PAGES = ["FAULTS", "FAULTS-RULES", "FAULTS-EXPRESSIONS", "FAULTS-CALLS"]
+PAGES = ["FAULTS", "FAULTS-YAML", "FAULTS-RULES", "FAULTS-EXPRESSIONS", "FAULTS-CALLS"]
 CALLS = ["--root", "examples/calls"]
 COMMAND_LINES = {
     "help": ["--help"],

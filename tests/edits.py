@@ -3,25 +3,69 @@
     python3 tests/edits.py PROGRAM
 
 The files are workflows, reusable workflows and actions, one of them behind another candidate of the same calls. An edit puts a file
-with other calls, inputs, outputs or none of these, the bytes that are there, or bytes that no reader takes, or it deletes a file.
-After each edit the report is compared with that of a fresh run over the folder on the disk, and the reply's number with that of the
-files that the edit affects, counted here by the definition: files that are new or differ, or one of whose calls has another answer.
-Prints a line for each case, as tests/program.py does.
+with other inputs and outputs, with other calls alone, with the bytes that are there, or with bytes that no reader takes, or it deletes
+a file. After each edit the report is compared with that of a fresh run over the folder on the disk, and the reply's number with that of
+the files that the edit affects, counted here by the definition: files that are new or differ, or one of whose calls has another answer.
+The report's lines on calls that lead back to their own file are compared with those that walks along the calls find here. Some edits
+have to move such lines of files that they don't affect. Prints a line for each case, as tests/program.py does.
 """
 
 import random
 import sys
 
-from calling_files import PATHS, File
+from calling_files import FOLDERS, PATHS, File, candidates_of
 from running import REPORT, SCRIPT, WORKFLOWS, delete, differences_of, each, edits_and_reports, put, report, run_parts, show
 
 EDITS = 200
-SEED = 1
+SEED = 3
+IN_A_LOOP = b" leads back to this file ["
+
+
+def called(folder, candidates):
+    """The file that a call leads to: the first of its candidates that is there."""
+    return next((path for path in candidates if path in folder), None)
+
+
+def leads_back(folder, path, candidates):
+    """Whether a call leads to this path, at once or by a walk along further calls."""
+    ahead, seen = [called(folder, candidates)], {None}
+    while ahead:
+        here = ahead.pop()
+        if here == path:
+            return True
+        if here not in seen:
+            seen.add(here)
+            ahead += [called(folder, it) for it in folder[here].targets()]
+    return False
+
+
+def loops(folder):
+    """The report's lines on calls in loops: those of the lines that call a file which leads back to theirs."""
+    for path in sorted(folder):
+        for row, text in enumerate(folder[path].text().decode().split("\n"), 1):
+            before, uses, name = text.partition("uses: ")
+            if uses and leads_back(folder, path, candidates_of(name)):
+                kind = "action" if name in FOLDERS else "workflow-call"
+                column = len(before + uses) + 1
+                yield f'{path}:{row}:{column}: call of "{name}" leads back to this file [{kind}]\n'.encode()
+
+
+def loop_lines(reported):
+    """The lines on calls in loops that a report has."""
+    return [it for it in reported.splitlines(True) if IN_A_LOOP in it]
+
+
+def moved_loops(old, new):
+    """Whether an edit moves lines on calls in loops of files that it doesn't affect."""
+    unaffected = [path.encode() + b":" for path in set(old) & set(new) - set(affected(old, new))]
+    of_those = lambda folder: [it for it in loops(folder) if it.startswith(tuple(unaffected))]
+    return of_those(old) != of_those(new)
 
 
 def answer(folder, candidates):
-    """What a call answers: the interface of the first candidate that is there."""
-    return next((folder[path].interface() for path in candidates if path in folder), None)
+    """What a call answers: the interface of the file that it leads to."""
+    path = called(folder, candidates)
+    return path and folder[path].interface()
 
 
 def affected(old, new):
@@ -37,8 +81,9 @@ def edit(chance, folder):
     kind = chance.random()
     if kind < 0.25:
         return delete(path), {other: file for other, file in folder.items() if other != path}
-    again = path in folder and kind < 0.35
-    file = folder[path] if again else File(chance, path)
+    file = folder[path] if path in folder and kind < 0.5 else File(chance, path)
+    if kind > 0.35:
+        file = file.with_other_calls(chance)
     return put(path, file.text()), {**folder, path: file}
 
 
@@ -51,6 +96,8 @@ def differences(place, command, old, new, told):
         wanted = b"ok %d" % len(affected(old, new))
     place.fresh({path: file.text() for path, file in new.items()}, [WORKFLOWS])
     wrong = differences_of(place.run(["--oneline", "--root", ".", *new]), status, reported, b"")
+    if loop_lines(reported) != list(loops(new)):
+        wrong.append(f"lines on loops were {loop_lines(reported)}, and should be {list(loops(new))}")
     return wrong if reply == wanted else wrong + [f"the reply was {reply!r}, and should be {wanted!r}"]
 
 
@@ -69,6 +116,8 @@ def edits(place):
         report("edits", ran.returncode, [f"stdout was {show(ran.stdout)}, stderr {show(ran.stderr)}"])
         return
     each("edits", enumerate((differences(place, *it) for it in zip(commands, folders, folders[1:], told)), 1))
+    moving = sum(moved_loops(*it) for it in zip(folders, folders[1:]))
+    report("edits-that-move-loops-of-other-files", moving, [] if moving else ["no edit does"])
 
 
 if __name__ == "__main__":

@@ -1,8 +1,8 @@
 """Feeds the program mutated files and checks what must hold of any input: fuzz.py SECONDS SEED, after ./test or ./actionlint.
 
 It needs no second linter. Files that call one another (tests/calling_files.py), those of examples/ and of the scripts of tests/cases
-are mutated (bytes and lines dropped, doubled, exchanged, and words of the syntax put in), put into sessions among other files, changed
-again and deleted. Of each run it checks:
+are mutated (bytes and lines dropped, doubled, exchanged, values shared by anchors and aliases, and words of the syntax put in), put into
+sessions among other files, changed again and deleted. Of each run it checks:
 
 - the status is 0 where no fault was printed, 1 where one was, 2 behind `bad command`;
 - each fault's place lies in its file, its line and column counted here by the two counts that define them;
@@ -29,10 +29,11 @@ TOP = pathlib.Path(__file__).resolve().parent.parent
 PROGRAM = TOP / "crates" / "actionlint" / "out" / "actionlint"
 SNIPPETS = [
     b"${{ github.ref }}", b"${{ steps.s.outputs.x }}", b"${{ matrix.v }}", b"${{", b"}}", b"'", b'"', b"\\x41", b"[", b"]", b"{", b"}",
-    b"\n", b"\r\n", b"\r", b"\t", b"  ", b": ", b"- ", b"# ", b"|", b">-", b"&a ", b"*a", b"!", b"uses: ./a\n",
+    b"\n", b"\r\n", b"\r", b"\t", b"  ", b": ", b"- ", b"# ", b"|", b">-", b"&a ", b"*a", b"&b", b"*b ", b"<<: *a\n", b"!", b"uses: ./a\n",
     b"uses: ./.github/workflows/b.yml\n", b"needs: [a]\n", b"if: true\n", b"on:\n  workflow_call:\n", b"\xc3\xa9", b"\xff",
     b"inputs:\n  x:\n    required: true\n", b"with:\n  x: 1\n", b"id: s\n", b"cron: '*/3 * * * *'\n", b"\x00", b"\xef\xbb\xbf",
 ]
+VALUE = re.compile(rb"( *(?:- )?)([\w.-]+:|-)(?: (.*))?")
 PUT = re.compile(rb"put ([^\n]*) ([0-9]+)\n")
 CALL_FAULT = re.compile(rb"\[(action|workflow-call)\]\n")
 
@@ -51,12 +52,38 @@ def seeds():
     return sorted(found)
 
 
+def values_in(lines):
+    """Where values stand: of each the number of its line, its indent, what stands before it on the line, and what of it does."""
+    for number, line in enumerate(lines):
+        found = VALUE.fullmatch(line)
+        if found:
+            yield number, len(found[1]), found[1] + found[2], found[3] or b""
+
+
+def shared(chance, data):
+    """The file with an anchor at one of its values, and an alias in the place of one or two others, mostly behind it."""
+    lines = data.split(b"\n")
+    places = list(values_in(lines))
+    if len(places) < 2:
+        return data
+    name = chance.choice([b"a", b"b", b"a.b"])
+    first, *others = sorted(chance.sample(places, min(len(places), chance.choice([2, 2, 3]))), reverse=chance.random() < 0.1)
+    number, _, before, value = first
+    lines[number] = before + b" &" + name + (b" " + value if value else b"")
+    for number, indent, before, _ in sorted(others, reverse=True):
+        end = number + 1
+        while end < len(lines) and len(lines[end]) - len(lines[end].lstrip(b" ")) > indent:
+            end += 1
+        lines[number:end] = [before + b" *" + name]
+    return b"\n".join(lines)
+
+
 def mutated(chance, data, others):
     """Some bytes made of these."""
     out = bytearray(data)
     for _ in range(chance.choice([0, 0, 1, 1, 2, 4])):
         at = chance.randint(0, len(out))
-        kind = chance.randrange(6)
+        kind = chance.randrange(7)
         if kind == 0:
             out[at:at] = chance.choice(SNIPPETS)
         elif kind == 1:
@@ -72,6 +99,8 @@ def mutated(chance, data, others):
             lines = bytes(out).split(b"\n")
             chance.shuffle(lines) if chance.random() < 0.1 else lines.pop(chance.randrange(len(lines)))
             out = bytearray(b"\n".join(lines))
+        elif kind == 5:
+            out = bytearray(shared(chance, bytes(out)))
         else:
             other = chance.choice(others)
             cut = chance.randint(0, len(other))

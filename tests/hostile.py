@@ -10,6 +10,7 @@ packet mode, of which each read gives what one write put in. Prints a line for e
 
 import fcntl
 import os
+import resource
 import sys
 import termios
 import threading
@@ -24,6 +25,9 @@ READS = 1_048_576
 LARGEST = 1_048_576
 FILES = 4_096
 PIPE_ROOM = 1 << 20
+# what a file of aliases may take: bytes of memory, and seconds of a processor
+MEMORY = 300_000_000
+SECONDS = 10
 
 WITH_REF = CLEAN.replace(b"run: echo", b"run: echo ${{ github.ref }}")
 WITH_MATRIX = b"""on: push
@@ -39,6 +43,7 @@ jobs:
     steps:
       - run: echo ${{ matrix.vv }}
 """
+WITH_A_SHARED_JOB = WITH_REF.replace(b"  a:", b"  a: &j").replace(b"github.ref", b"github.reff") + b"  b: *j\n"
 CALLS_ITSELF = b"""on:
   workflow_call:
     inputs:
@@ -76,8 +81,9 @@ def front_differences(place, front, told):
 
 
 def fronts(place):
-    """Each front of three files: accepted, reported as the folder's, and each place in the file."""
-    for name, data in (("clean", WITH_REF), ("with-a-matrix", WITH_MATRIX), ("that-calls-itself", CALLS_ITSELF)):
+    """Each front of four files: accepted, reported as the folder's, and each place in the file."""
+    whole_files = {"clean": WITH_REF, "with-a-matrix": WITH_MATRIX, "that-calls-itself": CALLS_ITSELF, "with-a-shared-job": WITH_A_SHARED_JOB}
+    for name, data in whole_files.items():
         place.fresh()
         files = [data[:size] for size in range(len(data) + 1)]
         ran = place.run(SCRIPT, b"".join(put(WORKFLOW, front) + REPORT for front in files))
@@ -91,11 +97,11 @@ def fronts(place):
 # ---- files at their limits
 
 
-def reported(place, name, data, fault=NO):
+def reported(place, name, data, fault=NO, **how):
     """A file that is put, with the fault that is reported at its path."""
     lines = AT + fault + b"\n" if fault else NO
     status = 1 if fault else 0
-    place.case(name, status, b"ok 1\n%sstatus %d\n" % (lines, status), NO, SCRIPT, stdin=put(WORKFLOW, data) + REPORT)
+    place.case(name, status, b"ok 1\n%sstatus %d\n" % (lines, status), NO, SCRIPT, stdin=put(WORKFLOW, data) + REPORT, **how)
 
 
 def limits(place):
@@ -114,6 +120,45 @@ def limits(place):
     reported(place, "comment-of-1048576-bytes", b"#" * LARGEST, b"1:1: file is empty [syntax-check]")
 
 
+def one_line(place):
+    """200 faults on one line, which is printed below each of them, and not with `--oneline`."""
+    keys = [b"k%03d" % number for number in range(200)]
+    text = b"{on: push, jobs: {a: {runs-on: u, steps: [{run: x}]}}, " + b", ".join(key + b": 1" for key in keys) + b"}"
+    columns = [text.index(key + b":") + 1 for key in keys]
+    heads = [AT + b'1:%d: unexpected key "%s" [syntax-check]\n' % pair for pair in zip(columns, keys)]
+    below = [b"  |\n1 | " + text + b"\n  | " + b" " * (column - 1) + b"^~~~\n" for column in columns]
+    place.fresh({WORKFLOW: text})
+    place.case("line-of-200-faults", 1, b"".join(map(b"".join, zip(heads, below))), NO)
+    place.case("line-of-200-faults-on-lines-of-their-own", 1, b"".join(heads), NO, ["--oneline"])
+
+
+# ---- anchors and aliases
+
+
+def held_back():
+    """So much memory and so much time, and no more."""
+    resource.setrlimit(resource.RLIMIT_AS, (MEMORY, MEMORY))
+    resource.setrlimit(resource.RLIMIT_CPU, (SECONDS, SECONDS))
+
+
+def shared_nodes(place):
+    """Files whose anchors and aliases would stand for more nodes than a file has, under a limit of memory and of time."""
+    place.fresh()
+    reported(place, "anchors-64-round-100000-nodes", b"&a [" * 64 + b"1," * 99_936 + b"]" * 64,
+             b'1:4: wrong kind of value for "file" [syntax-check]', limits=held_back)
+    nested = b"".join(b"&a%d [" % level for level in range(62))
+    reported(place, "anchors-62-with-an-alias-of-49000-nodes", nested + b"1," * 49_000 + b"]" * 61 + b", *a1]",
+             b'1:5: wrong kind of value for "file" [syntax-check]', limits=held_back)
+    deep = b"[&a " + b"[" * 63 + b"]" * 63
+    reported(place, "alias-of-63-levels", deep + b", *a]", b'1:1: wrong kind of value for "file" [syntax-check]', limits=held_back)
+    reported(place, "alias-of-63-levels-one-too-deep", deep + b", [*a]]", b"1:134: nesting is too deep [syntax-check]", limits=held_back)
+    names = b"[" + b"".join(b"&a%05d v, *a%05d, " % (number, number) for number in range(49_000)) + b"]"
+    reported(place, "names-49000", names, b'1:1: wrong kind of value for "file" [syntax-check]', limits=held_back)
+    text = b"a: &a " + b"x" * 1_000_000 + b"\nb: *a\nc: *a\n"
+    reported(place, "text-behind-two-aliases", text, b"3:4: too many nodes [syntax-check]", limits=held_back)
+
+
+
 def folder_of_4096(place):
     """As many files as a folder takes, one more, and all of them deleted."""
     place.fresh()
@@ -122,6 +167,44 @@ def folder_of_4096(place):
     script += b"".join(delete(path) for path in paths) + REPORT
     wanted = b"ok 1\n" * FILES + b"refused E4\n" + b"ok 0\n" * FILES + b"status 0\n"
     place.case("folder-of-4096-files", 0, wanted, NO, SCRIPT, stdin=script)
+
+
+# ---- calls that lead back to their own file
+
+
+def calling(number):
+    """A reusable workflow that calls the workflow with this number."""
+    return b"on:\n  workflow_call:\njobs:\n  a:\n    uses: ./%s/%04d.yml\n" % (WORKFLOWS.encode(), number)
+
+
+def leading_back(path, row, column, text, kind):
+    """The line on a call that leads back to its own file."""
+    return f'{path}:{row}:{column}: call of "{text}" leads back to this file [{kind}]\n'.encode()
+
+
+def ring_of_4096(place):
+    """As many workflows as a folder takes, each of which calls the next, and the last one the first; then one of them is deleted."""
+    place.fresh()
+    paths = [f"{WORKFLOWS}/{number:04}.yml" for number in range(FILES)]
+    following = [*paths[1:], paths[0]]
+    script = b"".join(put(path, calling((number + 1) % FILES)) for number, path in reversed(list(enumerate(paths))))
+    script += REPORT + delete(paths[1]) + REPORT
+    # a file that comes before the one that it calls lacks it until it is there
+    replies = b"ok 1\n" * (FILES - 1) + b"ok 2\n"
+    loops = b"".join(leading_back(path, 5, 11, f"./{other}", "workflow-call") for path, other in zip(paths, following))
+    absent = f'{paths[0]}:5:11: workflow "./{paths[1]}" is not in the folder [workflow-call]\n'.encode()
+    wanted = replies + loops + b"status 1\nok 1\n" + absent + b"status 1\n"
+    place.case("ring-of-4096-files", 1, wanted, NO, SCRIPT, stdin=script)
+
+
+def calls_of_one_file(place):
+    """An action with 30,000 steps, each of which calls the action."""
+    place.fresh()
+    count = 30_000
+    data = b"name: A\ndescription: d\nruns:\n  using: composite\n  steps:\n" + b"    - uses: ./x\n" * count
+    loops = b"".join(leading_back("x/action.yml", 6 + number, 13, "./x", "action") for number in range(count))
+    place.case("action-that-calls-itself-30000-times", 1, b"ok 1\n" + loops + b"status 1\n", NO, SCRIPT,
+               stdin=put("x/action.yml", data) + REPORT)
 
 
 # ---- input
@@ -265,4 +348,5 @@ def narrow_output(place):
 
 
 if __name__ == "__main__":
-    sys.exit(run_parts(fronts, limits, folder_of_4096, pieces_of_a_script, lines_of_input, input_without_end, narrow_output))
+    sys.exit(run_parts(fronts, limits, one_line, shared_nodes, folder_of_4096, ring_of_4096, calls_of_one_file,
+                       pieces_of_a_script, lines_of_input, input_without_end, narrow_output))

@@ -10,6 +10,7 @@ import os
 import resource
 import shutil
 import signal
+import socket
 import stat
 import subprocess
 import sys
@@ -48,7 +49,8 @@ def words(place):
     }.items():
         place.case(name, 2, no, said, given)
     facts = [b"--oneline", b"--root", b"[default: .]", b"--session", b"put PATH LENGTH", b"delete PATH", b"report", b"Exit status"]
-    facts.append(b"Examples")
+    facts += [b"Examples", b"\n  cannot read PATH\n", b'\n      actionlint --root "$(git rev-parse --show-toplevel)"\n']
+    facts += [b"\n  PATH: refused E%d\n" % number for number in range(1, 5)]
     taught = lambda out: all(it in out for it in facts) and all(b"\n  %d  " % it in out for it in range(4))
     place.case("help", 0, taught, no, ["--help"])
     place.case("help-beside-others", 0, taught, no, ["--oneline", "--help", "x"])
@@ -120,6 +122,57 @@ def refusals(place):
     place.case("name-that-is-no-text", 0, no, no)
 
 
+def control_characters(place):
+    """Each control character of a path is a `?` where the path is printed."""
+    no = b""
+    controls = "".join(map(chr, range(1, 32))) + "\x7f"
+    place.fresh({f"{WORKFLOWS}/a\x1b]0;b\x7f.yml": b""})
+    place.case("control-characters-of-a-listed-file", 3, no, refused(f"{WORKFLOWS}/a?]0;b?.yml", 1))
+    given = f"a{controls}\u00e9/action.yml"
+    place.case("control-characters-of-the-words", 3, no, refused(f"a{'?' * 32}\u00e9/action.yml", 1), [given])
+
+
+def bind_socket(path):
+    """A socket at a path, which may be longer than the system takes at once."""
+    folder, name = os.path.split(path)
+    before = os.open(".", os.O_RDONLY)
+    os.chdir(folder)
+    with socket.socket(socket.AF_UNIX) as made:
+        made.bind(name)
+    os.fchdir(before)
+    os.close(before)
+
+
+# how a name can lead to no regular file; and whether there is something behind its links
+KINDS = {
+    "link-to-nothing": (lambda path: os.symlink("someone@host.1234:5678", path), False),
+    "link-to-itself": (lambda path: os.symlink(os.path.basename(path), path), False),
+    "link-below-a-file": (lambda path: os.symlink("/dev/null/x", path), False),
+    "link-to-a-folder": (lambda path: os.symlink(".", path), True),
+    "link-to-a-device": (lambda path: os.symlink("/dev/zero", path), True),
+    "pipe": (os.mkfifo, True),
+    "socket": (bind_socket, True),
+}
+
+
+def kinds(place):
+    """Of what is listed only regular files are taken, behind their links; a FILE or a called file that is none can't be read."""
+    no = b""
+    path = f"{WORKFLOWS}/.#a.yml"
+    for name, (make, there) in KINDS.items():
+        place.fresh({f"{WORKFLOWS}/a.yml": b"", f"{WORKFLOWS}/b.yml": CALLER}, folders=["a"])
+        make(os.path.join(place.folder, path))
+        place.case(f"{name}-is-passed-over", 1, EMPTY_REPORT, no, ["--oneline"])
+        place.case(f"{name}-in-the-words", 3, no, cannot_read(path), [path])
+        make(os.path.join(place.folder, "a/action.yml"))
+        answer = (3, no, cannot_read("a/action.yml")) if there else (1, EMPTY_REPORT, no)
+        place.case(f"{name}-that-is-called", *answer, ["--oneline"])
+    place.fresh({"kept/a.txt": b""}, folders=[WORKFLOWS])
+    os.symlink("../../kept/a.txt", os.path.join(place.folder, WORKFLOWS, "a.yml"))
+    place.case("link-to-a-file", 1, EMPTY_REPORT, no, ["--oneline"])
+    place.case("link-to-a-file-in-the-words", 1, EMPTY_REPORT, no, ["--oneline", f"{WORKFLOWS}/a.yml"])
+
+
 # ---- calls between the files of a folder
 
 
@@ -154,13 +207,15 @@ def examples(place):
     no = b""
     top = os.path.join(os.path.dirname(os.path.abspath(__file__)), os.pardir, "examples")
     place.fresh()
-    for name in ("release", "slips", "nightly", "calls"):
+    for name in ("release", "shared", "slips", "nightly", "calls", "loop", "shared-slips"):
         shutil.copytree(os.path.join(top, name), os.path.join(place.folder, name))
     place.case("example-without-a-fault", 0, no, no, ["--root", "release"])
+    place.case("example-with-shared-parts", 0, no, no, ["--root", "shared"])
     for ending, given in (("report", []), ("oneline", ["--oneline"])):
         with open(os.path.join(top, f"slips.{ending}"), "rb") as file:
             place.case(f"example-with-slips-{ending}", 1, file.read(), no, [*given, "--root", "slips"])
-    for name, shows in (("nightly", "rules-broken"), ("calls", "calls-that-disagree")):
+    for name, shows in (("nightly", "rules-broken"), ("calls", "calls-that-disagree"), ("loop", "calls-that-lead-back"),
+                        ("shared-slips", "faults-in-shared-parts")):
         with open(os.path.join(top, f"{name}.oneline"), "rb") as file:
             place.case(f"example-with-{shows}", 1, file.read(), no, ["--oneline", "--root", name])
 
@@ -239,7 +294,7 @@ def memory(place):
 
 
 def sizes(place):
-    """A file size limit where its signal is ignored, and 64 levels of nesting under a small stack."""
+    """A file size limit where its signal is ignored, and the deepest files and expressions under a small stack."""
     place.fresh({f"{WORKFLOWS}/a.yml": b""})
     ran, held = place.run_to_file(20, ["--oneline"])
     wrong = differences_of(ran, 3, b"", line(b"write failed"))
@@ -247,14 +302,26 @@ def sizes(place):
         wrong.append(f"the file held {show(held)}")
     report("file-size-limit", ran.returncode, wrong)
     deep = b"on: push\njobs: " + b"{a: " * 62 + b"x" + b"}" * 62 + b"\n"
-    place.fresh({f"{WORKFLOWS}/a.yml": deep})
+    on_a_small_stack(place, "deep-nesting-on-a-small-stack", deep, 256, 1)
+    # each bracket opens an operand of all levels of operators
+    nested = lambda inside: b"run: echo ${{ " + b"1||1&&1==1<contains(" * 50 + inside + b",1)" * 50 + b" }}"
+    on_a_small_stack(place, "deep-expression-on-a-small-stack", CLEAN.replace(b"run: echo", nested(b"1")), 640, 0)
+    # and the innermost operand is of the deepest type
+    typed = CLEAN.replace(b"run: echo", nested(b"matrix.v" + b".a" * 56))
+    row = b"    strategy:\n      matrix:\n        v: [" + b"{a: " * 56 + b"x" + b"}" * 56 + b"]\n"
+    on_a_small_stack(place, "deep-type-on-a-small-stack", typed.replace(b"    steps:", row + b"    steps:"), 640, 0)
+
+
+def on_a_small_stack(place, name, data, kibibytes, status):
+    """A workflow's run with a stack of so many KiB is the one with an ample stack."""
+    place.fresh({f"{WORKFLOWS}/a.yml": data})
     plain = place.run(["--oneline"])
-    small = place.run(["--oneline"], limits=limit(resource.RLIMIT_STACK, 256 * 1024))
+    small = place.run(["--oneline"], limits=limit(resource.RLIMIT_STACK, kibibytes * 1024))
     wrong = differences_of(small, plain.returncode, plain.stdout, plain.stderr)
-    if plain.returncode != 1:
+    if plain.returncode != status:
         wrong.append(f"status was {plain.returncode} with an ample stack")
-    report("deep-nesting-on-a-small-stack", small.returncode, wrong)
+    report(name, small.returncode, wrong)
 
 
 if __name__ == "__main__":
-    sys.exit(run_parts(words, folders, refusals, calls, examples, scripts, streams, memory, sizes))
+    sys.exit(run_parts(words, folders, refusals, control_characters, kinds, calls, examples, scripts, streams, memory, sizes))

@@ -1,0 +1,133 @@
+"""Compares docs/ARCHITECTURE.md with crates.txt: architecture_page.py TOP [--write].
+
+Each crate of crates.txt has one row in the page's tables, whose last column lists the crates and libraries that it stands on.
+docs/layers.dot is the picture of the program's crates in graphviz's language, each above those that it stands on, coloured by the
+heading that its row stands under. docs/layers.svg, as graphviz's `dot` draws it, has exactly its nodes and arrows. With `--write` the
+column and both files are written anew, for which `dot` has to be there (Debian's graphviz).
+"""
+
+import html
+import pathlib
+import re
+import subprocess
+import sys
+
+ROW = re.compile(r"^\| `(\w+)` \| (.*) \| ?(.*?) ?\|$")
+PROGRAM = "actionlint"
+COLOURS = ["#dbe9f6", "#dff0d8", "#fde9c9", "#f6dbe2", "#e6e0f3", "#d9f0ef", "#eeeeee"]
+HEAD = """\
+// The crates of the program, each above those that it stands on. Made from crates.txt by tests/architecture_page.py.
+digraph layers {
+  graph [rankdir=TB, nodesep=0.25, ranksep=0.35, bgcolor="white", fontname="Helvetica"]
+  node [shape=box, style="rounded,filled", color="#555555", fontname="Helvetica", fontsize=12, height=0.32]
+  edge [color="#888888", arrowsize=0.6]
+"""
+
+
+def crates_in(text):
+    """What each crate of crates.txt stands on, in its order."""
+    lines = [it for it in text.splitlines() if it.strip() and not it.startswith("#")]
+    return {name.strip(): below.split() for name, _, below in (it.partition(":") for it in lines)}
+
+
+def rows_of(page):
+    """Each crate's heading, by the page's tables."""
+    found, heading = {}, None
+    for line in page.splitlines():
+        if line.startswith("### "):
+            heading = line[4:]
+        elif match := ROW.match(line):
+            found.setdefault(match[1], []).append(heading)
+    return found
+
+
+def with_columns(page, crates):
+    """The page with the last column of its tables as crates.txt has it."""
+
+    def row(line):
+        match = ROW.match(line)
+        if not match or match[1] not in crates:
+            return line
+        below = ", ".join(f"`{it}`" for it in crates[match[1]])
+        return f"| `{match[1]}` | {match[2]} | {below} |" if below else f"| `{match[1]}` | {match[2]} | |"
+
+    return "".join(row(line) + "\n" for line in page.splitlines())
+
+
+def all_below(crates, name):
+    """The crates that a crate stands on, directly or not."""
+    found, waiting = set(), [name]
+    while waiting:
+        new = [it for it in crates.get(waiting.pop(), []) if it in crates and it not in found]
+        found.update(new)
+        waiting += new
+    return found
+
+
+def arrows_of(crates, name):
+    """The crates that a crate stands on and that none of the others implies."""
+    below = [it for it in crates[name] if it in crates]
+    return [it for it in below if not any(it in all_below(crates, other) for other in below)]
+
+
+def dot_of(crates, headings):
+    """The picture in graphviz's language."""
+    shown = [it for it in crates if it == PROGRAM or it in all_below(crates, PROGRAM)]
+    order = list(dict.fromkeys(it for names in headings.values() for it in names))
+    lines = [f'  {it} [fillcolor="{COLOURS[order.index(headings[it][0]) % len(COLOURS)]}"]\n' for it in shown]
+    lines += [f"  {it} -> {below}\n" for it in shown for below in arrows_of(crates, it)]
+    return HEAD + "".join(lines) + "}\n"
+
+
+def drawn_in(svg):
+    """The nodes and arrows of a drawing by dot."""
+    titles = [html.unescape(it) for it in re.findall(r"<g id=\"(?:node|edge)\d+\"[^>]*>\s*<title>(.*?)</title>", svg)]
+    return sorted(titles)
+
+
+def titles_of(dot):
+    """The nodes and arrows that a drawing has to have."""
+    nodes = re.findall(r"^  (\w+) \[fillcolor", dot, re.MULTILINE)
+    return sorted(nodes + [f"{above}->{below}" for above, below in re.findall(r"^  (\w+) -> (\w+)$", dot, re.MULTILINE)])
+
+
+def read(path):
+    """A file's text, or none where it isn't there."""
+    return path.read_text(encoding="utf-8") if path.exists() else ""
+
+
+def differences(top):
+    """What of the page and its picture isn't as crates.txt has it."""
+    crates, page = crates_in(read(top / "crates.txt")), read(top / "docs/ARCHITECTURE.md")
+    headings = rows_of(page)
+    found = [f"{it} has no row" for it in crates if it not in headings]
+    found += [f"{it} has {len(names)} rows" for it, names in headings.items() if len(names) != 1]
+    found += [f"there is no crate {it}" for it in headings if it not in crates]
+    if found:
+        return found
+    dot, svg = read(top / "docs/layers.dot"), read(top / "docs/layers.svg")
+    found += [] if page == with_columns(page, crates) else ["a row stands on other crates than crates.txt says"]
+    found += [] if dot == dot_of(crates, headings) else ["docs/layers.dot isn't the one of crates.txt"]
+    found += [] if drawn_in(svg) == titles_of(dot) and titles_of(dot) else ["docs/layers.svg isn't the drawing of docs/layers.dot"]
+    return found
+
+
+def write(top):
+    """Writes the column and the picture anew."""
+    crates, path = crates_in(read(top / "crates.txt")), top / "docs/ARCHITECTURE.md"
+    path.write_text(with_columns(read(path), crates), encoding="utf-8")
+    dot = top / "docs/layers.dot"
+    dot.write_text(dot_of(crates, rows_of(read(path))), encoding="utf-8")
+    subprocess.run(["dot", "-Tsvg", "-o", top / "docs/layers.svg", dot], check=True)
+
+
+def main(folder, *words):
+    top = pathlib.Path(folder)
+    if "--write" in words:
+        write(top)
+    if wrong := differences(top):
+        sys.exit("docs/ARCHITECTURE.md: " + "\n".join(wrong))
+
+
+if __name__ == "__main__":
+    main(*sys.argv[1:])
