@@ -1,6 +1,5 @@
 """Runs the gate and tells what each crate took of it: gate.py TOP COMMAND ..
 
-    python3 bench/gate.py . ../shared/tools/gate
     python3 bench/gate.py . ./test
 
 The command's output goes through. A few times a second the processes that the command started are looked at in /proc: the prover, by its
