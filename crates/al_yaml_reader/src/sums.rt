@@ -95,8 +95,8 @@ pub fn sums_of(alloc: Global, node: &Node) -> Result<Sums, AllocError>
     Ok(sums)
 }
 
-/// Counts a node itself, which stands in so many collections, and leaves those in it to be counted. Behind an anchor
-/// stands no alias, so no call of this goes further than into one more.
+/// Counts a node itself, which stands in so many collections, and leaves those in it to be counted. A node is
+/// shared at most once, as an alias has no anchor of its own (7.1), so no call of this goes further than into one more.
 fn count<'a>(node: &'a Node, levels: u32, left: &mut Vec<Uncounted<'a>>) -> Result<Sums, AllocError>
     ensures own { IfOk result (IsOwn (view node.now, levels)) }
     ensures left { IfOk result (λ sums. map uncounted_view left.new.items
