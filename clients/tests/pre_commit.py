@@ -16,6 +16,9 @@ from repositories import ACTION, FILE, FILES, TOP, git, write
 
 CASES = Cases("pre-commit")
 CONFIGURATION = "repos:\n  - repo: {repository}\n    rev: {revision}\n    hooks:\n      - id: {hook}\n"
+CALLER, REUSABLE = ".github/workflows/caller.yml", ".github/workflows/reusable.yml"
+CALLS = f"on: push\njobs:\n  call:\n    uses: ./{REUSABLE}\n"
+MISSING = f'workflow "./{REUSABLE}" is not in the folder [workflow-call]'
 FAULT = '.github/workflows/a.yml:6:30: property "reff" is not defined [expression]'
 
 
@@ -52,19 +55,28 @@ class Commits:
         git(self.root, "add", ".")
         return git(self.root, "commit", "-m", "change", status=status, environment=self.environment)
 
+    def delete(self, path: str, status: int = 0) -> str:
+        """A commit that only deletes a file; what was said."""
+        git(self.root, "rm", "-q", path)
+        return git(self.root, "commit", "-m", "deletion", status=status, environment=self.environment)
+
     def _has_commit(self) -> bool:
         return os.path.exists(self.root + "/.git/refs/heads/main")
 
 
-def check(program: str, hook: str, stops_callers: bool) -> None:
-    """The hook passes right files, stops wrong ones, and is skipped where no workflow and no action changed."""
+def check(program: str, hook: str, all_files: bool) -> None:
+    """The hook passes right files and stops wrong ones; the one for all files stops what breaks a caller, the other is skipped where no
+    workflow and no action changed."""
     commits = Commits(program, hook)
     assert "Passed" in commits.commit({})
     assert FAULT in commits.commit({FILE: FILES[FILE]}, status=1)
     # A fault that a changed action makes in a workflow that isn't changed.
-    said = commits.commit({ACTION: FILES[ACTION]}, status=1 if stops_callers else 0)
-    assert ("required input" in said) == stops_callers, said
-    assert "Skipped" in commits.commit({"README": "y\n"})
+    said = commits.commit({ACTION: FILES[ACTION]}, status=1 if all_files else 0)
+    assert ("required input" in said) == all_files, said
+    assert ("Passed" if all_files else "Skipped") in commits.commit({"README": "y\n"})
+    commits.commit({CALLER: CALLS, REUSABLE: "on: workflow_call\njobs: {}\n"})
+    said = commits.delete(REUSABLE, status=1 if all_files else 0)
+    assert (MISSING in said) == all_files, said
     shutil.rmtree(commits.top)
 
 

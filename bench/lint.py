@@ -1,0 +1,126 @@
+"""What a whole lint takes, beside libyaml's bare event parser on the same bytes: bench/lint.py [BEFORE], after ./test or a build of
+crates/actionlint. BEFORE is a program of another version, which takes its turns in the same run.
+
+It needs a C compiler, libyaml with its headers (Debian's libyaml-dev) and valgrind. Each file is put into a session that reports; the peer
+reads it and keeps nothing. Times are the least processor time of several runs that take turns, start of the process included; instructions
+are counted by callgrind, since times on a shared machine move by half. Folders are linted without a word, beside the peer on all of their
+bytes at once.
+"""
+
+import functools
+import pathlib
+import re
+import resource
+import subprocess
+import sys
+import tempfile
+
+from common import SESSION, TOP, WORKFLOW, least_in_turns, program, put_commands
+from yaml import workflow as plain_workflow
+
+RUNS = 9
+SIZE = 1_040_000
+# An expression of some 21,000 bytes, without the braces around it.
+EXPRESSION = " && ".join(f"github.event_name == 'push{n:04}'" for n in range(600))
+
+
+def steps(lines, count):
+    """A workflow of one job with so many steps of these lines."""
+    return "on: push\njobs:\n  build:\n    runs-on: ubuntu-latest\n    steps:\n" + "".join(lines.format(n=n) for n in range(count))
+
+
+def jobs(count):
+    """A workflow with so many jobs of one step each."""
+    job = "  job{}:\n    runs-on: ubuntu-latest\n    steps:\n      - run: make\n"
+    return "on: push\njobs:\n" + "".join(job.format(n) for n in range(count))
+
+
+def inputs(count):
+    """A workflow that declares so many inputs and reads each."""
+    declared = "".join(f"      input{n}:\n        type: string\n" for n in range(count))
+    read = "".join(f"          I{n}: ${{{{ inputs.input{n} }}}}\n" for n in range(count))
+    job = "jobs:\n  build:\n    runs-on: ubuntu-latest\n    steps:\n      - run: make\n        env:\n"
+    return f"on:\n  workflow_call:\n    inputs:\n{declared}{job}{read}"
+
+
+def matrix(rows):
+    """A workflow whose matrix includes so many rows."""
+    head = "on: push\njobs:\n  build:\n    runs-on: ubuntu-latest\n    strategy:\n      matrix:\n        include:\n"
+    return head + "".join(f"          - {{version: {n}, os: linux}}\n" for n in range(rows)) + "    steps:\n      - run: make\n"
+
+
+def aliases(count):
+    """A workflow with so many nodes behind aliases of one step's environment."""
+    step = "      - run: make\n        env: &shared {" + ", ".join(f"V{n}: x" for n in range(50)) + "}\n"
+    again = "      - run: make\n        env: *shared\n"
+    return "on: push\njobs:\n  build:\n    runs-on: ubuntu-latest\n    steps:\n" + step + again * (count // 101)
+
+
+def shapes():
+    """Workflows of one shape each."""
+    yield "a workflow of a megabyte", plain_workflow(SIZE).decode()
+    yield "16,000 steps with an expression each", steps("      - name: Step ${{{{ github.run_id }}}}\n        run: make {n}\n", 16_000)
+    yield "10,000 jobs", jobs(10_000)
+    yield "10,000 steps with ids", steps("      - id: step{n}\n        run: make\n", 10_000)
+    yield "5,000 inputs, each read", inputs(5_000)
+    yield "a matrix of 10,000 rows", matrix(10_000)
+    yield "40 expressions of 21,000 bytes", steps(f"      - run: make\n        if: {EXPRESSION}\n", 40)
+    yield "90,000 nodes behind aliases", aliases(90_000)
+
+
+def fill(folder, count, size):
+    """Puts so many workflows of about so many bytes into a folder, and answers all of their bytes."""
+    workflows = pathlib.Path(folder, ".github", "workflows")
+    workflows.mkdir(parents=True)
+    text = plain_workflow(size)
+    for number in range(count):
+        (workflows / f"{number:04}.yml").write_bytes(text)
+    return b"".join(b"---\n" + text for _ in range(count))
+
+
+def seconds(command, data, folder):
+    """The processor time of one run, which ends without a fault."""
+    before = resource.getrusage(resource.RUSAGE_CHILDREN)
+    run = subprocess.run(command, input=data, cwd=folder, capture_output=True, check=False)
+    after = resource.getrusage(resource.RUSAGE_CHILDREN)
+    if run.returncode:
+        sys.exit(f"{command[0]} ended with {run.returncode}: {run.stdout[:200]}{run.stderr[:200]}")
+    return after.ru_utime + after.ru_stime - before.ru_utime - before.ru_stime
+
+
+def instructions(command, data, folder):
+    """The instructions of one run, in millions."""
+    with tempfile.TemporaryDirectory() as counts:
+        counting = ["valgrind", "--tool=callgrind", f"--callgrind-out-file={counts}/out", *command]
+        run = subprocess.run(counting, input=data, cwd=folder, capture_output=True, check=False)
+    return int(re.search(rb"Collected : (\d+)", run.stderr)[1]) / 1e6
+
+
+def compare(name, commands, files, folder=None):
+    """Prints the times and instructions of the commands, each on its own bytes."""
+    measures = [functools.partial(seconds, *it, folder) for it in zip(commands, files)]
+    theirs, *ours = least_in_turns(RUNS, measures)
+    counted = [instructions(*it, folder) for it in zip(commands, files)]
+    cells = "".join(f" {took:8.3f}s {took / theirs:6.2f} {count:9.1f}M" for took, count in zip(ours, counted[1:]))
+    print(f"{name:42} {len(files[0]):9} {theirs:8.3f}s {counted[0]:8.1f}M{cells}", flush=True)
+
+
+def main():
+    """Prints a table: for each shape the peer, this program and the one before."""
+    programs = [program("actionlint"), *(pathlib.Path(it).resolve() for it in sys.argv[1:])]
+    with tempfile.TemporaryDirectory() as made:
+        events = pathlib.Path(made) / "yaml_events"
+        subprocess.run(["cc", "-O2", "-o", events, TOP / "bench" / "yaml_events.c", "-lyaml"], check=True)
+        columns = "".join(f" {name:>9} {'ratio':>6} {'':10}" for name in ("this", "before")[: len(programs)])
+        print(f"{'file':42} {'bytes':>9} {'libyaml':>9} {'':9}{columns}")
+        for name, text in shapes():
+            script = put_commands([(WORKFLOW, text)]) + b"report\n"
+            compare(name, [[events], *([it, *SESSION] for it in programs)], [text.encode(), *(script for _ in programs)])
+        for count, size in ((200, 4_000), (4_096, 500)):
+            folder = pathlib.Path(made) / str(count)
+            text = fill(folder, count, size)
+            compare(f"a folder of {count:,} workflows", [[events], *([it] for it in programs)], [text, *(b"" for _ in programs)], folder)
+
+
+if __name__ == "__main__":
+    main()
