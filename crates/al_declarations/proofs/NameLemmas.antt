@@ -93,6 +93,11 @@ inserted_at old new key name q e u =
     ∙ or_comm (is_text (folded q) key.items) (holds old q)
     ∙ ap (λ b. holds old q || b) (ap (is_text (folded q)) e ∙ eq_folded q name ∙ same_comm q name)
 
+-- where nothing was inserted
+pub as_it_was : (old new : NameSet) → new.names.keys ≡ old.names.keys → holds new ≡ holds old
+unfolding holds
+as_it_was old new e = λ i q. list_any (λ x. is_text (folded q) x.items) (e i)
+
 pub inserted : (old new : NameSet) (key : Vec ℕ) (name : List ℕ) → key.items ≡ folded name → new.names.keys ≡ insert_key (λ a b. slice_cmp nat_cmp a.items b.items) old.names.keys key →
     holds new ≡ and_name (holds old) name
 inserted old new key name e u = λ i q. inserted_at old new key name q e u i

@@ -1,6 +1,6 @@
 //! Sets of names in which letter case does not count.
 
-ghost use Rattle.std.specs.Prelude.{◌≡◌, [], map, not, IfOk, OnOk};
+ghost use Rattle.std.specs.Prelude.{◌≡◌, [], map, not, IfOk, OnErr, OnOk};
 ghost use Rattle.al_declarations.specs.Declarations.{named_among};
 ghost use Rattle.al_declarations.specs.NameSets.{and_name, folded, holds};
 
@@ -32,10 +32,13 @@ impl NameSet {
         }
     }
 
-    /// Adds a name, and answers whether it is new. Fails with `AllocError` for want of memory.
+    /// Adds a name, and answers whether it is new.
+    ///
+    /// Fails with `AllocError` for want of memory; the set is then as before.
     pub fn insert(&mut self, alloc: Global, name: &[u8]) -> Result<bool, AllocError>
         ensures set { OnOk result (holds self.new ≡ and_name (holds self.old) name.now) }
         ensures is_new { IfOk result (λ b. b ≡ not (holds self.old name.now)) }
+        ensures as_before { OnErr result (holds self.new ≡ holds self.old) }
     {
         let added = self.names.insert(in_lower_case(alloc, name)?)?;
         Ok(added)

@@ -1,5 +1,6 @@
 -- Sets of keys as tests of texts.
 use Rattle.std.proofs.Common.{◌≡◌, ℕ, Bool, true, false, cond, List, [], ◌∷◌, ◌++◌, refl, ap, ◌∙◌, ◌||◌}
+use Rattle.std.specs.List.{list_any}
 use Rattle.std.specs.Str.{bytes_eq}
 use Rattle.std.specs.Ordering.{nat_cmp, is_eq}
 use Rattle.std.specs.Cmp.{nat_eq_equiv, partial_equiv_from_equiv, IsPartialEquivalence}
@@ -41,6 +42,11 @@ among_more ks k = λ i text. among_more_at ks k text i
 pub added_at : (k text : List ℕ) (old : Bool) → cond (is_eq (slice_cmp nat_cmp k text)) true old ≡ (old || bytes_eq text k)
 added_at k text old =
     ap (λ b. cond b true old) (is_eq-slice_cmp k text ∙ bytes_swap k text) ∙ cond_or (bytes_eq text k) old
+
+-- where nothing was inserted
+pub as_it_was : (old new : KeySet) → new.keys.keys ≡ old.keys.keys → holds new ≡ holds old
+unfolding holds
+as_it_was old new e = λ i text. list_any (λ k. is_eq (slice_cmp nat_cmp text k.now)) (e i)
 
 pub inserted : (old new : KeySet) (key : Bor (List ℕ)) → Updates (λ a b. slice_cmp nat_cmp a.now b.now) old.keys new.keys key true → holds new ≡ and_text (holds old) key.now
 unfolding holds

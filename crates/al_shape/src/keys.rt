@@ -3,7 +3,7 @@
 ghost use Rattle.al_shape.specs.Keys.{and_text, holds, key_of as key_in, key_text as text_in, keys_in};
 ghost use Rattle.al_shape.specs.Names.{among};
 ghost use Rattle.al_yaml.specs.View.{entry_view, view};
-ghost use Rattle.std.specs.Prelude.{◌≡◌, [], map, IfOk, OnOk};
+ghost use Rattle.std.specs.Prelude.{◌≡◌, [], map, IfOk, OnErr, OnOk};
 
 use al_yaml::{Entry, Node};
 use std::alloc::{AllocError, Global};
@@ -43,9 +43,10 @@ impl<'a> KeySet<'a> {
         }
     }
 
-    /// Adds a key. Fails with `AllocError` for want of memory.
+    /// Adds a key. Fails with `AllocError` for want of memory; the set is then as before.
     pub fn insert(&mut self, key: &'a [u8]) -> Result<(), AllocError>
-        ensures { OnOk result (holds self.new ≡ and_text (holds self.old) key.now) }
+        ensures set { OnOk result (holds self.new ≡ and_text (holds self.old) key.now) }
+        ensures as_before { OnErr result (holds self.new ≡ holds self.old) }
     {
         self.keys.insert(key)?;
         Ok(())
