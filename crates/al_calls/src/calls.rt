@@ -1,9 +1,12 @@
 //! The faults of one call.
+#![tactic(auto, using(al_text::proofs::Growing::growth))]
+
 ghost use Rattle.std.specs.Prelude.{◌≡◌, ◌++◌, map, OnOk};
 ghost use Rattle.std.specs.Option.{option_copied};
 ghost use Rattle.al_calls.specs.AnswerViews.{given_of};
 ghost use Rattle.al_calls.specs.CallFaults as faults;
 ghost use Rattle.al_uses.specs.CallViews.{call_of};
+ghost use Rattle.al_text.specs.Growth.{BeginsWith};
 
 use crate::given::{check_inputs, members_under};
 use crate::reports::{caller_of, is_callable, report_absent, report_uses};
@@ -21,7 +24,8 @@ fn check_step(
     signature: &Signature,
     out: &mut Vec<Fault>,
 ) -> Result<(), AllocError>
-    ensures { OnOk result (out.new.items ≡ out.old.items ++ faults.step_against (call_of call.now) signature.now) }
+    ensures ok { OnOk result (out.new.items ≡ out.old.items ++ faults.step_against (call_of call.now) signature.now) }
+    ensures begins { BeginsWith out.new.items out.old.items }
 {
     let given = members_under(alloc, call.node, "with")?;
     check_inputs(alloc, call, given.as_slice(), signature, out)
@@ -35,7 +39,9 @@ fn check_job(
     signature: &Signature,
     out: &mut Vec<Fault>,
 ) -> Result<(), AllocError>
-    ensures { OnOk result (out.new.items ≡ out.old.items ++ faults.job_against (call_of call.now) (map given_of values.now) signature.now) }
+    ensures ok { OnOk result (out.new.items ≡ out.old.items
+        ++ faults.job_against (call_of call.now) (map given_of values.now) signature.now) }
+    ensures begins { BeginsWith out.new.items out.old.items }
 {
     let given = members_under(alloc, call.node, "with")?;
     check_inputs(alloc, call, given.as_slice(), signature, out)?;
@@ -51,8 +57,9 @@ fn check_against(
     signature: &Signature,
     out: &mut Vec<Fault>,
 ) -> Result<(), AllocError>
-    ensures { OnOk result (out.new.items ≡ out.old.items
+    ensures ok { OnOk result (out.new.items ≡ out.old.items
         ++ faults.against (faults.caller_of (call_of call.now)) (call_of call.now) (map given_of values.now) signature.now) }
+    ensures begins { BeginsWith out.new.items out.old.items }
 {
     match caller_of(call) {
         Caller::Step => check_step(alloc, call, signature, out),
@@ -68,9 +75,10 @@ fn check_answer(
     answer: Option<&Interface>,
     out: &mut Vec<Fault>,
 ) -> Result<(), AllocError>
-    ensures { OnOk result (out.new.items ≡ out.old.items
+    ensures ok { OnOk result (out.new.items ≡ out.old.items
         ++ faults.answer_faults (call_of call.now) (option_copied answer.entry)
         (faults.against (faults.caller_of (call_of call.now)) (call_of call.now) (map given_of values.now))) }
+    ensures begins { BeginsWith out.new.items out.old.items }
 {
     match answer {
         None => report_absent(alloc, call, out),
@@ -88,7 +96,7 @@ fn check_answer(
 /// Adds the faults of a call, given what answers it (none where it names no file of the folder, or none that is there), and
 /// what a job gives under `with`, each value with its type. Of a step no values are looked at.
 ///
-/// Fails with `AllocError` for want of memory; what was added by then stays.
+/// Fails with `AllocError` for want of memory; the list then begins with what it held.
 pub fn check_call(
     alloc: Global,
     call: &Call<'_>,
@@ -96,8 +104,9 @@ pub fn check_call(
     answer: Option<&Interface>,
     out: &mut Vec<Fault>,
 ) -> Result<(), AllocError>
-    ensures { OnOk result (out.new.items ≡ out.old.items
+    ensures ok { OnOk result (out.new.items ≡ out.old.items
         ++ faults.call_faults (call_of call.now) (map given_of values.now) (option_copied answer.entry)) }
+    ensures begins { BeginsWith out.new.items out.old.items }
 {
     match &call.form {
         Form::Wrong => report_uses(alloc, CallCode::WrongUses, call, out),

@@ -1,10 +1,13 @@
 //! Inputs that a call gives, against those that the called file shows: C2 and C3.
+#![tactic(auto, using(al_text::proofs::Growing::growth))]
+
 ghost use Rattle.std.specs.Prelude.{◌≡◌, ◌++◌, map, IfOk, OnOk};
 ghost use Rattle.al_calls.specs.CallFaults as faults;
 ghost use Rattle.al_declarations.specs.NameSets.{holds};
 ghost use Rattle.al_shape.specs.Values.{entries_at, member_of};
 ghost use Rattle.al_uses.specs.CallViews.{call_of};
 ghost use Rattle.al_yaml.specs.View.{view};
+ghost use Rattle.al_text.specs.Growth.{BeginsWith};
 
 use crate::names::{given_names, input_names};
 use crate::reports::{called, caller_of, report_two};
@@ -65,8 +68,9 @@ fn check_extra_input(
     member: Member<'_>,
     out: &mut Vec<Fault>,
 ) -> Result<(), AllocError>
-    ensures { OnOk result (out.new.items ≡ out.old.items
+    ensures ok { OnOk result (out.new.items ≡ out.old.items
         ++ faults.extra_input (call_of call.now) signature.now (holds shown.now) (member_of member.entry)) }
+    ensures begins { BeginsWith out.new.items out.old.items }
 {
     let name = key_text(member.key);
     if is_taken(alloc, call, shown, name)? {
@@ -92,8 +96,9 @@ fn check_extra_inputs(
     signature: &Signature,
     out: &mut Vec<Fault>,
 ) -> Result<(), AllocError>
-    ensures { OnOk result (out.new.items ≡ out.old.items
+    ensures ok { OnOk result (out.new.items ≡ out.old.items
         ++ faults.extra_inputs (call_of call.now) (holds shown.now) (map member_of given.now) signature.now) }
+    ensures begins { BeginsWith out.new.items out.old.items }
 {
     for member in given {
         check_extra_input(alloc, call, signature, shown, *member, out)?;
@@ -122,8 +127,9 @@ fn check_missing_input(
     input: &Input,
     out: &mut Vec<Fault>,
 ) -> Result<(), AllocError>
-    ensures { OnOk result (out.new.items ≡ out.old.items
+    ensures ok { OnOk result (out.new.items ≡ out.old.items
         ++ faults.missing_input (call_of call.now) signature.now (holds given.now) input.now) }
+    ensures begins { BeginsWith out.new.items out.old.items }
 {
     if !is_missing(alloc, given, input)? {
         return Ok(());
@@ -147,8 +153,9 @@ fn check_missing_inputs(
     signature: &Signature,
     out: &mut Vec<Fault>,
 ) -> Result<(), AllocError>
-    ensures { OnOk result (out.new.items ≡ out.old.items
+    ensures ok { OnOk result (out.new.items ≡ out.old.items
         ++ faults.missing_inputs (call_of call.now) (holds given.now) signature.now) }
+    ensures begins { BeginsWith out.new.items out.old.items }
 {
     for input in signature.inputs.as_slice() {
         check_missing_input(alloc, call, signature, given, input, out)?;
@@ -164,8 +171,9 @@ pub(crate) fn check_inputs(
     signature: &Signature,
     out: &mut Vec<Fault>,
 ) -> Result<(), AllocError>
-    ensures { OnOk result (out.new.items ≡ out.old.items
+    ensures ok { OnOk result (out.new.items ≡ out.old.items
         ++ faults.input_faults (call_of call.now) (map member_of given.now) signature.now) }
+    ensures begins { BeginsWith out.new.items out.old.items }
 {
     let shown = input_names(alloc, signature)?;
     check_extra_inputs(alloc, call, &shown, given, signature, out)?;

@@ -1,7 +1,10 @@
 //! Faults of calls that name the text of `uses`: C1, C7 and C8; and the reporting of all.
+#![tactic(auto, using(al_text::proofs::Growing::growth))]
+
 ghost use Rattle.std.specs.Prelude.{◌≡◌, ◌++◌, ◌∷◌, [], OnOk};
 ghost use Rattle.al_calls.specs.CallFaults as faults;
 ghost use Rattle.al_uses.specs.CallViews.{call_of};
+ghost use Rattle.al_text.specs.Growth.{BeginsWith};
 
 use al_interfaces::{Role, Signature};
 use al_text::{Args, CallCode, Caller, Code, Fault, Span};
@@ -37,7 +40,8 @@ pub(crate) fn report_one(
     text: &[u8],
     out: &mut Vec<Fault>,
 ) -> Result<(), AllocError>
-    ensures { OnOk result (out.new.items ≡ out.old.items ++ faults.fault code (call_of call.now) at (text.now ∷ []) ∷ []) }
+    ensures ok { OnOk result (out.new.items ≡ out.old.items ++ faults.fault code (call_of call.now) at (text.now ∷ []) ∷ []) }
+    ensures begins { BeginsWith out.new.items out.old.items }
 {
     let mut texts = Vec::new(alloc);
     texts.push(String::from_utf8_lossy(alloc, text)?)?;
@@ -59,7 +63,9 @@ pub(crate) fn report_two(
     second: &[u8],
     out: &mut Vec<Fault>,
 ) -> Result<(), AllocError>
-    ensures { OnOk result (out.new.items ≡ out.old.items ++ faults.fault code (call_of call.now) at (first.now ∷ second.now ∷ []) ∷ []) }
+    ensures ok { OnOk result (out.new.items ≡ out.old.items
+        ++ faults.fault code (call_of call.now) at (first.now ∷ second.now ∷ []) ∷ []) }
+    ensures begins { BeginsWith out.new.items out.old.items }
 {
     let mut texts = Vec::new(alloc);
     texts.push(String::from_utf8_lossy(alloc, first)?)?;
@@ -79,7 +85,8 @@ pub(crate) fn report_uses(
     call: &Call<'_>,
     out: &mut Vec<Fault>,
 ) -> Result<(), AllocError>
-    ensures { OnOk result (out.new.items ≡ out.old.items ++ faults.that_uses code (call_of call.now)) }
+    ensures ok { OnOk result (out.new.items ≡ out.old.items ++ faults.that_uses code (call_of call.now)) }
+    ensures begins { BeginsWith out.new.items out.old.items }
 {
     report_one(
         alloc,
@@ -107,7 +114,9 @@ pub(crate) fn report_absent(
     call: &Call<'_>,
     out: &mut Vec<Fault>,
 ) -> Result<(), AllocError>
-    ensures { OnOk result (out.new.items ≡ out.old.items ++ faults.absent_faults (call_of call.now) (faults.caller_of (call_of call.now))) }
+    ensures ok { OnOk result (out.new.items ≡ out.old.items
+        ++ faults.absent_faults (call_of call.now) (faults.caller_of (call_of call.now))) }
+    ensures begins { BeginsWith out.new.items out.old.items }
 {
     match caller_of(call) {
         Caller::Step => Ok(()),

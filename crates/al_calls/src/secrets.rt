@@ -1,10 +1,13 @@
 //! Secrets that a job gives, against those that the called workflow shows: C5 and C6.
+#![tactic(auto, using(al_text::proofs::Growing::growth))]
+
 ghost use Rattle.std.specs.Prelude.{◌≡◌, ◌++◌, map, IfOk, OnOk};
 ghost use Rattle.al_calls.specs.CallFaults as faults;
 ghost use Rattle.al_declarations.specs.NameSets.{holds};
 ghost use Rattle.al_shape.specs.Values.{member_of};
 ghost use Rattle.al_uses.specs.CallViews.{call_of};
 ghost use Rattle.al_yaml.specs.View.{view};
+ghost use Rattle.al_text.specs.Growth.{BeginsWith};
 
 use crate::given::members_under;
 use crate::names::{given_names, secret_names};
@@ -26,8 +29,9 @@ fn check_extra_secret(
     member: Member<'_>,
     out: &mut Vec<Fault>,
 ) -> Result<(), AllocError>
-    ensures { OnOk result (out.new.items ≡ out.old.items
+    ensures ok { OnOk result (out.new.items ≡ out.old.items
         ++ faults.extra_secret (call_of call.now) signature.now (holds shown.now) (member_of member.entry)) }
+    ensures begins { BeginsWith out.new.items out.old.items }
 {
     let name = key_text(member.key);
     if shown.contains(alloc, name)? {
@@ -53,8 +57,9 @@ fn check_extra_secrets(
     signature: &Signature,
     out: &mut Vec<Fault>,
 ) -> Result<(), AllocError>
-    ensures { OnOk result (out.new.items ≡ out.old.items
+    ensures ok { OnOk result (out.new.items ≡ out.old.items
         ++ faults.extra_secrets (call_of call.now) (holds shown.now) (map member_of given.now) signature.now) }
+    ensures begins { BeginsWith out.new.items out.old.items }
 {
     for member in given {
         check_extra_secret(alloc, call, signature, shown, *member, out)?;
@@ -80,8 +85,9 @@ fn check_missing_secret(
     secret: &Secret,
     out: &mut Vec<Fault>,
 ) -> Result<(), AllocError>
-    ensures { OnOk result (out.new.items ≡ out.old.items
+    ensures ok { OnOk result (out.new.items ≡ out.old.items
         ++ faults.missing_secret (call_of call.now) signature.now (holds given.now) secret.now) }
+    ensures begins { BeginsWith out.new.items out.old.items }
 {
     if !is_missing_secret(alloc, given, secret)? {
         return Ok(());
@@ -105,8 +111,9 @@ fn check_missing_secrets(
     signature: &Signature,
     out: &mut Vec<Fault>,
 ) -> Result<(), AllocError>
-    ensures { OnOk result (out.new.items ≡ out.old.items
+    ensures ok { OnOk result (out.new.items ≡ out.old.items
         ++ faults.missing_secrets (call_of call.now) (holds given.now) signature.now) }
+    ensures begins { BeginsWith out.new.items out.old.items }
 {
     for secret in signature.secrets.as_slice() {
         check_missing_secret(alloc, call, signature, given, secret, out)?;
@@ -131,8 +138,9 @@ fn check_given_secrets(
     signature: &Signature,
     out: &mut Vec<Fault>,
 ) -> Result<(), AllocError>
-    ensures { OnOk result (out.new.items ≡ out.old.items
+    ensures ok { OnOk result (out.new.items ≡ out.old.items
         ++ faults.given_secrets (call_of call.now) (map member_of given.now) signature.now) }
+    ensures begins { BeginsWith out.new.items out.old.items }
 {
     let shown = secret_names(alloc, signature)?;
     check_extra_secrets(alloc, call, &shown, given, signature, out)?;
@@ -147,8 +155,9 @@ pub(crate) fn check_secrets(
     signature: &Signature,
     out: &mut Vec<Fault>,
 ) -> Result<(), AllocError>
-    ensures { OnOk result (out.new.items ≡ out.old.items
+    ensures ok { OnOk result (out.new.items ≡ out.old.items
         ++ faults.secret_faults (call_of call.now) (call_of call.now).node signature.now) }
+    ensures begins { BeginsWith out.new.items out.old.items }
 {
     if is_inherit(call.node) {
         return Ok(());

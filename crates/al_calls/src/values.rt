@@ -1,4 +1,6 @@
 //! The types of what a job gives to the workflow that it calls: C4.
+#![tactic(auto, using(al_text::proofs::Growing::growth))]
+
 ghost use Rattle.std.specs.Prelude.{◌≡◌, ◌++◌, find, map, IfOk, OnOk};
 ghost use Rattle.std.specs.Option.{option_copied};
 ghost use Rattle.al_declarations.specs.Inputs.{input_type};
@@ -9,6 +11,7 @@ ghost use Rattle.al_yaml.specs.View.{view};
 ghost use Rattle.al_calls.specs.CallFaults as faults;
 ghost use Rattle.al_uses.specs.CallViews.{call_of};
 ghost use Rattle.al_calls.specs.AnswerViews.{given_of};
+ghost use Rattle.al_text.specs.Growth.{BeginsWith};
 
 use crate::reports::report_two;
 use al_declarations::{InputType, NamePositions, type_of};
@@ -76,9 +79,10 @@ fn check_type(
     input: &Input,
     out: &mut Vec<Fault>,
 ) -> Result<(), AllocError>
-    ensures { OnOk result
+    ensures ok { OnOk result
         (out.new.items ≡ out.old.items ++ faults.type_faults (call_of call.now) (member_of value.now.member)
         (ty_of value.now.ty) input.now) }
+    ensures begins { BeginsWith out.new.items out.old.items }
 {
     if is_right(&value.ty, input.takes) {
         return Ok(());
@@ -104,7 +108,8 @@ fn check_value(
     out: &mut Vec<Fault>,
 ) -> Result<(), AllocError>
     requires { name_position positions.now ≡ faults.input_positions inputs.now }
-    ensures { OnOk result (out.new.items ≡ out.old.items ++ faults.wrong_input (call_of call.now) inputs.now (given_of value.now)) }
+    ensures ok { OnOk result (out.new.items ≡ out.old.items ++ faults.wrong_input (call_of call.now) inputs.now (given_of value.now)) }
+    ensures begins { BeginsWith out.new.items out.old.items }
 {
     let name = key_text(value.member.key);
     match input_named(alloc, inputs, positions, name)? {
@@ -121,8 +126,9 @@ pub(crate) fn check_values(
     signature: &Signature,
     out: &mut Vec<Fault>,
 ) -> Result<(), AllocError>
-    ensures { OnOk result
+    ensures ok { OnOk result
         (out.new.items ≡ out.old.items ++ faults.wrong_inputs (call_of call.now) (map given_of values.now) signature.now) }
+    ensures begins { BeginsWith out.new.items out.old.items }
 {
     let inputs = signature.inputs.as_slice();
     let positions = input_positions(alloc, inputs)?;

@@ -4,9 +4,12 @@ use Rattle.al_shape.specs.Values.{member_of}
 use Rattle.al_calls.specs.CallFaults as faults
 use Rattle.al_declarations.specs.NameSets.{holds}
 use Rattle.al_uses.specs.CallViews.{call_of}
+use Rattle.al_text.specs.Growth.{BeginsWith}
 use Rattle.al_calls.proofs.given.check_extra_inputs.Given as goal
 
 abbrev pub invariant-loop-member : goal.invariant-loop-member
-invariant-loop-member l =
-    l.out.items ++ flat_map (faults.extra_input (call_of l.call) l.signature (holds l.shown)) (map member_of (drop l.member-index l.given))
-    ≡ l.fn.out.items ++ flat_map (faults.extra_input (call_of l.call) l.signature (holds l.shown)) (map member_of l.given)
+invariant-loop-member l = record {
+  all : l.out.items ++ flat_map (faults.extra_input (call_of l.call) l.signature (holds l.shown)) (map member_of (drop l.member-index l.given))
+      ≡ l.fn.out.items ++ flat_map (faults.extra_input (call_of l.call) l.signature (holds l.shown)) (map member_of l.given);
+  begins : BeginsWith l.out.items l.fn.out.items;
+}

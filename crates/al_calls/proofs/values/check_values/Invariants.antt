@@ -3,9 +3,12 @@ use Rattle.std.specs.List.{flat_map}
 use Rattle.al_calls.specs.CallFaults.{wrong_input}
 use Rattle.al_uses.specs.CallViews.{call_of}
 use Rattle.al_calls.specs.AnswerViews.{given_of}
+use Rattle.al_text.specs.Growth.{BeginsWith}
 use Rattle.al_calls.proofs.values.check_values.Given as goal
 
 abbrev pub invariant-loop-value : goal.invariant-loop-value
-invariant-loop-value l =
-    l.out.items ++ flat_map (wrong_input (call_of l.call) l.signature.inputs) (map given_of (drop l.value-index l.values))
-    ≡ l.fn.out.items ++ flat_map (wrong_input (call_of l.call) l.signature.inputs) (map given_of l.values)
+invariant-loop-value l = record {
+  all : l.out.items ++ flat_map (wrong_input (call_of l.call) l.signature.inputs) (map given_of (drop l.value-index l.values))
+      ≡ l.fn.out.items ++ flat_map (wrong_input (call_of l.call) l.signature.inputs) (map given_of l.values);
+  begins : BeginsWith l.out.items l.fn.out.items;
+}
