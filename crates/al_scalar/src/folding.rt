@@ -4,6 +4,7 @@ ghost use Rattle.std.specs.Prelude.{◌≡◌, ◌<◌, ◌≤◌, ◌^◌, ◌+
 ghost use Rattle.al_scalar.specs.Places.{lines_at, later, IsLineEnd};
 ghost use Rattle.al_scalar.specs.PlainLines.{empty_ends, break_left};
 ghost use Rattle.al_scalar.specs.Folding.{solid_lines};
+ghost use Rattle.al_text.specs.Growth.{BeginsWith};
 
 use crate::lines::{after_break, blanks_end, is_break_at};
 use crate::texts::Text;
@@ -11,6 +12,9 @@ use std::alloc::AllocError;
 
 /// Folds the break at an offset and the empty lines behind it, and answers where the next text begins. An escaped break
 /// gives nothing of its own (YAML 1.2.2, 6.5 and 7.3.1).
+///
+/// Fails with `AllocError` for want of memory; the text then begins with what it held.
+#[tactic(auto, using(al_text::proofs::Growing::growth))]
 pub fn fold_break(
     text: &mut Text,
     bytes: &[u8],
@@ -24,6 +28,7 @@ pub fn fold_break(
     ensures after { IfOk result (λ next. end < next) }
     ensures lines { IfOk result (λ next. solid_lines (later (lines_at bytes.now end)) ≡ lines_at bytes.now next) }
     ensures text { IfOk result (λ _. text.new ≡ text.old ++ break_left escaped end (empty_ends (later (lines_at bytes.now end)))) }
+    ensures begins { BeginsWith text.new text.old }
 {
     let mut start = after_break(bytes, end);
     let mut folded = escaped;

@@ -1,4 +1,5 @@
 use Rattle.std.proofs.Common.{◌∙◌, arith}
+use Rattle.al_text.proofs.Growing.{begins_by, begins_trans}
 use Rattle.al_scalar.specs.Places.{lines_at}
 use Rattle.al_scalar.specs.PlainLines.{empty_ends}
 use Rattle.al_scalar.proofs.SingleLemmas.{never}
@@ -41,4 +42,5 @@ empty_lines-preserved c =
       lines = c.empty_lines.invariant.lines ∙ lines-more bytes start c.blanks_end-solid.result found.lines found.blanks next.result next.ensures.lines;
       text = given-more c.empty_lines.folded c.args.end c.blanks_end-solid.result c.empty_lines.text (empty_ends (lines_at bytes start)) (empty_ends (lines_at bytes next.result))
           (ends-more bytes start c.blanks_end-solid.result found.lines found.blanks next.result next.ensures.lines) c.empty_lines.invariant.text c.in_ok-push-2.ensures.added;
+      begins = begins_trans _ _ _ c.empty_lines.invariant.begins (begins_by _ _ _ c.in_ok-push-2.ensures.added);
     }
