@@ -8,11 +8,12 @@ ghost use Rattle.al_calls.specs.CallFaults as faults;
 ghost use Rattle.al_uses.specs.CallViews.{call_of};
 ghost use Rattle.al_text.specs.Growth.{BeginsWith};
 
-use crate::given::{check_inputs, members_under};
+use crate::given::check_inputs;
 use crate::reports::{caller_of, is_callable, report_absent, report_uses};
 use crate::secrets::check_secrets;
 use crate::values::{Value, check_values};
 use al_interfaces::{Interface, Signature};
+use al_shape::members_under;
 use al_text::{CallCode, Caller, Fault};
 use al_uses::{Call, Form};
 use std::alloc::{AllocError, Global};

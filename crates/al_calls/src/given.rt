@@ -4,36 +4,18 @@
 ghost use Rattle.std.specs.Prelude.{◌≡◌, ◌++◌, map, IfOk, OnOk};
 ghost use Rattle.al_calls.specs.CallFaults as faults;
 ghost use Rattle.al_declarations.specs.NameSets.{holds};
-ghost use Rattle.al_shape.specs.Values.{entries_at, member_of};
+ghost use Rattle.al_shape.specs.Values.{member_of};
 ghost use Rattle.al_uses.specs.CallViews.{call_of};
-ghost use Rattle.al_yaml.specs.View.{view};
 ghost use Rattle.al_text.specs.Growth.{BeginsWith};
 
 use crate::names::{given_names, input_names};
 use crate::reports::{called, caller_of, report_two};
 use al_declarations::{NameSet, is_named_among};
 use al_interfaces::{Input, Signature};
-use al_shape::{Member, key_text, members, value};
+use al_shape::{Member, key_text};
 use al_text::{CallCode, Caller, Fault};
 use al_uses::Call;
-use al_yaml::Node;
 use std::alloc::{AllocError, Global};
-
-/// The entries of the mapping under a key of a node in order, of equal keys the first; none where there is no mapping.
-///
-/// Fails with `AllocError` for want of memory.
-pub fn members_under<'a>(
-    alloc: Global,
-    node: &'a Node,
-    key: &str,
-) -> Result<Vec<Member<'a>>, AllocError>
-    ensures { IfOk result (λ v. map member_of v.items ≡ entries_at key.now (view node.now)) }
-{
-    match value(node, key) {
-        Some(mapping) => members(alloc, mapping),
-        None => Ok(Vec::new(alloc)),
-    }
-}
 
 /// Whether a name needs no input of the called file: what goes to a container.
 fn is_free_for(caller: Caller, name: &[u8]) -> bool

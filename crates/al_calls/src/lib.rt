@@ -12,10 +12,10 @@ mod reports;
 mod secrets;
 mod values;
 
+pub use al_shape::members_under;
 pub use answers::{Answered, with_answers};
 pub use calls::check_call;
 pub use examples::rows;
-pub use given::members_under;
 pub use laws::faults_lie;
 pub use outputs::outputs_of;
 pub use values::Value;

@@ -9,12 +9,11 @@ ghost use Rattle.al_uses.specs.CallViews.{call_of};
 ghost use Rattle.al_yaml.specs.View.{view};
 ghost use Rattle.al_text.specs.Growth.{BeginsWith};
 
-use crate::given::members_under;
 use crate::names::{given_names, secret_names};
 use crate::reports::{called, report_two};
 use al_declarations::NameSet;
 use al_interfaces::{Secret, Signature};
-use al_shape::{Member, key_text, text_under};
+use al_shape::{Member, key_text, members_under, text_under};
 use al_text::{CallCode, Fault};
 use al_uses::Call;
 use al_yaml::Node;

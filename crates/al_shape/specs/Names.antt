@@ -1,4 +1,4 @@
--- The events that trigger workflows, by their names (GitHub, "Events that trigger workflows").
+-- Names among which a key or a text may be, and those of the events that trigger workflows (GitHub, "Events that trigger workflows").
 use Rattle.std.specs.Prelude.{ℕ, List, [], ◌∷◌, Bool, codes}
 use Rattle.std.specs.List.{list_any}
 use Rattle.std.specs.Str.{bytes_eq}
@@ -6,6 +6,10 @@ use Rattle.std.specs.Str.{bytes_eq}
 -- whether a text is one of these
 abbrev pub among : List (List ℕ) → List ℕ → Bool
 among ks k = list_any (bytes_eq k) ks
+
+-- the keys of a matrix that aren't rows (GitHub, "Workflow syntax", `jobs.<job_id>.strategy.matrix`)
+abbrev pub is_combination_key : List ℕ → Bool
+is_combination_key = among (codes "include" ∷ codes "exclude" ∷ [])
 
 abbrev pub event_names : List (List ℕ)
 event_names =

@@ -1,6 +1,6 @@
 //! Names among which a key or a text may be, and the names of the events.
 
-ghost use Rattle.al_shape.specs.Names.{among, is_event as event};
+ghost use Rattle.al_shape.specs.Names.{among, is_combination_key as combination_key, is_event as event};
 ghost use Rattle.std.specs.Prelude.{◌≡◌, map};
 
 /// The events that trigger workflows (GitHub, "Events that trigger workflows").
@@ -54,6 +54,13 @@ pub fn is_among(text: &[u8], names: &[&str]) -> bool
         }
     }
     false
+}
+
+/// Whether a key of a matrix is no row: `include` or `exclude` (GitHub, "Workflow syntax", `jobs.<job_id>.strategy.matrix`).
+pub fn is_combination_key(key: &[u8]) -> bool
+    ensures { result ≡ combination_key key.now }
+{
+    is_among(key, &["include", "exclude"])
 }
 
 /// Whether a text is the name of an event.

@@ -1,7 +1,7 @@
 //! Items, values and texts of nodes, where they have the kind that is asked for.
 
-ghost use Rattle.al_shape.specs.Values.{entries_in, firsts, items_at, items_in, key_at, member_of, text_at, text_in, texts_at, texts_in};
-ghost use Rattle.al_shape.specs.Values.{unless_null, value_at, scalar_node_of};
+ghost use Rattle.al_shape.specs.Values.{entries_at, entries_in, firsts, items_at, items_in, key_at, member_of, text_at, text_in};
+ghost use Rattle.al_shape.specs.Values.{texts_at, texts_in, unless_null, value_at, scalar_node_of};
 ghost use Rattle.al_yaml.specs.View.{entry_view, view};
 ghost use Rattle.std.specs.List.{filter_map};
 ghost use Rattle.std.specs.Option.{option_copied, option_to_list};
@@ -153,6 +153,22 @@ pub fn members(alloc: Global, node: &Node) -> Result<Vec<Member<'_>>, AllocError
 {
     match node.mapping() {
         Some(entries) => first_members(alloc, entries),
+        None => Ok(Vec::new(alloc)),
+    }
+}
+
+/// The entries of the mapping under a key in order, of equal keys the first; none where there is no mapping.
+///
+/// Fails with `AllocError` for want of memory.
+pub fn members_under<'a>(
+    alloc: Global,
+    node: &'a Node,
+    key: &str,
+) -> Result<Vec<Member<'a>>, AllocError>
+    ensures { IfOk result (λ v. map member_of v.items ≡ entries_at key.now (view node.now)) }
+{
+    match value(node, key) {
+        Some(mapping) => members(alloc, mapping),
         None => Ok(Vec::new(alloc)),
     }
 }

@@ -16,8 +16,9 @@ mod workflow;
 pub use action::{Action, Runs};
 pub use al_shape::{
     Clash, KeySet, Keys, Member, Need, Others, Row, Rule, ScalarNode, ScalarSet, Shape,
-    contains_chunk, is_among, is_event, is_null_scalar, items, items_under, key, key_of, key_text,
-    members, rule_of, shape_faults, text, text_under, texts, texts_under, value,
+    contains_chunk, is_among, is_combination_key, is_event, is_null_scalar, items, items_under,
+    key, key_of, key_text, members, members_under, rule_of, shape_faults, text, text_under, texts,
+    texts_under, value,
 };
 pub use containers::Container;
 pub use events::{Declared, Event, Schedule};
