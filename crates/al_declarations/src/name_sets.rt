@@ -1,6 +1,6 @@
 //! Sets of names in which letter case does not count.
 
-ghost use Rattle.std.specs.Prelude.{◌≡◌, [], map, not, IfOk, OnErr, OnOk};
+ghost use Rattle.std.specs.Prelude.{◌≡◌, [], not, IfOk, OnErr, OnOk};
 ghost use Rattle.al_declarations.specs.Declarations.{named_among};
 ghost use Rattle.al_declarations.specs.NameSets.{and_name, folded, holds};
 
