@@ -1,5 +1,5 @@
 -- The type of `matrix` in a job (GitHub, "Workflow syntax", `jobs.<job_id>.strategy.matrix`).
-use Rattle.std.specs.Prelude.{ℕ, List, [], ◌∷◌, Bool, true, false, ◌||◌, codes, Option, Some, None, if◌then◌else◌}
+use Rattle.std.specs.Prelude.{List, [], ◌∷◌, Bool, true, false, ◌||◌, codes, Option, Some, None, if◌then◌else◌}
 use Rattle.std.specs.List.{list_any, filter_map}
 use Rattle.std.specs.Option.{option_map_or}
 use Rattle.al_scalar.specs.Scalar.{Scalar, text_of}
@@ -11,7 +11,7 @@ use Rattle.al_types.specs.Types.{Type', Any, Null, Number, Bool', String, ArrayO
 use Rattle.al_yaml.specs.Node.{Node, Nodes, Entries, scalar, sequence, mapping, no_nodes, item, no_entries, entry}
 use Rattle.al_shape.specs.Faults.{has_chunk}
 use Rattle.al_shape.specs.Keys.{key_of, key_text}
-use Rattle.al_shape.specs.Names.{among}
+use Rattle.al_shape.specs.Names.{is_combination_key}
 use Rattle.al_shape.specs.Values.{entries_in, items_in, value_at, value_below}
 use Rattle.al_contexts.specs.Objects.{Typed, firsts, loose_any, put, put_all, put_new, strictly}
 
@@ -56,9 +56,6 @@ abbrev pub row_type : Node → Type'
 row_type (sequence ns at) = or_any (items_type None ns)
 row_type (scalar s at) = Any
 row_type (mapping es at) = Any
-
-abbrev pub is_combination_key : List ℕ → Bool
-is_combination_key = among (codes "include" ∷ codes "exclude" ∷ [])
 
 -- the rows of a matrix, of which each has a name
 abbrev pub row_field : Node × Node → Option Typed

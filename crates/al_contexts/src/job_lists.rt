@@ -11,7 +11,7 @@ ghost use Rattle.al_contexts.specs.JobPositions.{key_at, named_at};
 
 use al_declarations::{NamePositions, TextPositions};
 use al_places::Section;
-use al_shape::{Member, key_text, members, value};
+use al_shape::{Member, key_text, members_under};
 use al_yaml::Node;
 use std::alloc::{AllocError, Global};
 
@@ -50,22 +50,12 @@ fn name_positions(alloc: Global, members: &[Member<'_>]) -> Result<NamePositions
     Ok(names)
 }
 
-/// What stands under `jobs`.
-fn job_members<'a>(alloc: Global, root: &'a Node) -> Result<Vec<Member<'a>>, AllocError>
-    ensures { IfOk result (λ v. map member_of v.items ≡ jobs_of (view root.now)) }
-{
-    match value(root, "jobs") {
-        Some(jobs) => members(alloc, jobs),
-        None => Ok(Vec::new(alloc)),
-    }
-}
-
 impl<'a> JobList<'a> {
     /// The jobs of a workflow. Fails with `AllocError` for want of memory.
     pub(crate) fn of(alloc: Global, root: &'a Node) -> Result<JobList<'a>, AllocError>
         ensures { IfOk result (λ l. map member_of l.members.items ≡ jobs_of (view root.now)) }
     {
-        let members = job_members(alloc, root)?;
+        let members = members_under(alloc, root, "jobs")?;
         let keys = key_positions(alloc, members.as_slice())?;
         let names = name_positions(alloc, members.as_slice())?;
         Ok(JobList {
