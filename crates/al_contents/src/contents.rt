@@ -1,4 +1,6 @@
 //! The expressions of one scalar: their faults, with their places in the file.
+#![tactic(auto, using(al_text::proofs::Growing::growth))]
+
 ghost use Rattle.std.specs.List.{flat_map};
 ghost use Rattle.std.specs.Prelude.{true, ◌≡◌, ◌++◌, ◌<◌, ◌≤◌, ◌-◌, ◌^◌, ℕ, length, map, All, OnOk};
 ghost use Rattle.al_scalar.specs.Scalar.{offset_of, text_of};
@@ -9,6 +11,7 @@ ghost use Rattle.al_contents.specs.Contents.{chunk_faults, chunked_faults, conte
 ghost use Rattle.al_contents.specs.Contents.{is_whole_span, moved, place_faults, tree_faults, HasRoom};
 ghost use Rattle.al_grammar.specs.Chunks.{chunks_of, span_of_chunk, IsCutFrom};
 ghost use Rattle.al_places.specs.Places.{place_of};
+ghost use Rattle.al_text.specs.Growth.{BeginsWith};
 
 use al_grammar::{Chunk, Expr, chunks, extent, grammar, parse_expr};
 use al_meaning::type_of;
@@ -56,7 +59,9 @@ fn check_tree(
     expr: &Expr,
     out: &mut Vec<Fault>,
 ) -> Result<(), AllocError>
-    ensures { OnOk result (out.new.items ≡ out.old.items ++ tree_faults (scope_of scope.now) is_alone is_scalar_only (tree_of expr.now)) }
+    ensures ok { OnOk result (out.new.items ≡ out.old.items
+        ++ tree_faults (scope_of scope.now) is_alone is_scalar_only (tree_of expr.now)) }
+    ensures begins { BeginsWith out.new.items out.old.items }
 {
     let ty = type_of(alloc, scope, expr, out)?;
     if ty.is_collection() && (!is_alone || is_scalar_only) {
@@ -78,7 +83,8 @@ fn check_content(
     content: &str,
     out: &mut Vec<Fault>,
 ) -> Result<(), AllocError>
-    ensures { OnOk result (out.new.items ≡ out.old.items ++ content_faults (scope_of scope.now) is_alone is_scalar_only content.now) }
+    ensures ok { OnOk result (out.new.items ≡ out.old.items ++ content_faults (scope_of scope.now) is_alone is_scalar_only content.now) }
+    ensures begins { BeginsWith out.new.items out.old.items }
 {
     grammar();
     match parse_expr(alloc, content)? {
@@ -116,7 +122,8 @@ fn move_faults(
 ) -> Result<(), AllocError>
     requires room { HasRoom scalar.now }
     requires fits { by < 2 ^ 32 }
-    ensures { OnOk result (out.new.items ≡ out.old.items ++ map (moved scalar.now by) faults.items) }
+    ensures ok { OnOk result (out.new.items ≡ out.old.items ++ map (moved scalar.now by) faults.items) }
+    ensures begins { BeginsWith out.new.items out.old.items }
 {
     for fault in faults {
         out.push(move_fault(scalar, by, fault))?;
@@ -147,8 +154,9 @@ fn check_chunk(
     requires room { HasRoom scalar.now }
     requires cut { IsCutFrom (text_of scalar.now) chunk.now }
     requires alone { is_alone ≡ is_one_chunk (text_of scalar.now) }
-    ensures { OnOk result
+    ensures ok { OnOk result
         (out.new.items ≡ out.old.items ++ chunk_faults (scope_of scope.now) is_scalar_only scalar.now (span_of_chunk chunk.now)) }
+    ensures begins { BeginsWith out.new.items out.old.items }
 {
     let mut faults = Vec::new(alloc);
     check_content(
@@ -175,9 +183,10 @@ fn check_each(
     requires room { HasRoom scalar.now }
     requires cut { All (IsCutFrom (text_of scalar.now)) chunks.now }
     requires alone { is_alone ≡ is_one_chunk (text_of scalar.now) }
-    ensures { OnOk result
+    ensures ok { OnOk result
         (out.new.items ≡ out.old.items ++ flat_map (chunk_faults (scope_of scope.now) is_scalar_only scalar.now)
         (map span_of_chunk chunks.now)) }
+    ensures begins { BeginsWith out.new.items out.old.items }
 {
     for chunk in chunks {
         check_chunk(alloc, scope, is_alone, is_scalar_only, scalar, chunk, out)?;
@@ -197,9 +206,10 @@ fn check_chunks(
     requires text { text.now ≡ text_of scalar.now }
     requires small { length text.now ≤ 4194304 }
     requires room { HasRoom scalar.now }
-    ensures { OnOk result
+    ensures ok { OnOk result
         (out.new.items ≡ out.old.items ++ chunked_faults (scope_of scope.now) is_scalar_only scalar.now
         (chunks_of (text_of scalar.now))) }
+    ensures begins { BeginsWith out.new.items out.old.items }
 {
     let (found, open) = chunks(alloc, text)?;
     let is_alone = is_one(text.len(), found.as_slice());
@@ -231,8 +241,9 @@ fn check_whole(
     out: &mut Vec<Fault>,
 ) -> Result<(), AllocError>
     requires room { HasRoom scalar.now }
-    ensures { OnOk result
+    ensures ok { OnOk result
         (out.new.items ≡ out.old.items ++ map (moved scalar.now 0) (content_faults (scope_of scope.now) true is_scalar_only text.now)) }
+    ensures begins { BeginsWith out.new.items out.old.items }
 {
     let mut faults = Vec::new(alloc);
     check_content(alloc, scope, true, is_scalar_only, text, &mut faults)?;
@@ -250,7 +261,8 @@ pub(crate) fn check_place(
     requires text { text.now ≡ text_of place.now.scalar.now }
     requires small { length text.now ≤ 4194304 }
     requires room { HasRoom place.now.scalar.now }
-    ensures { OnOk result (out.new.items ≡ out.old.items ++ place_faults (scope_of scope.now) (place_of place.now)) }
+    ensures ok { OnOk result (out.new.items ≡ out.old.items ++ place_faults (scope_of scope.now) (place_of place.now)) }
+    ensures begins { BeginsWith out.new.items out.old.items }
 {
     if place.is_condition && !contains_chunk(text.as_bytes()) {
         check_whole(alloc, scope, place.is_scalar_only, place.scalar, text, out)

@@ -8,8 +8,8 @@ use Rattle.al_contents.specs.Spelled.{tree_of_content}
 use Rattle.al_contents.proofs.Spelling.{spelled}
 use Rattle.al_contents.proofs.contents.check_content.Goals as goal
 
-pub returns-in-Ok : goal.returns-in-Ok
-returns-in-Ok c =
+pub returns-in-Ok-clause-ok : goal.returns-in-Ok-clause-ok
+returns-in-Ok-clause-ok c =
     let content = c.args.content.now in
     let sc = scope_of c.args.scope.now in
     let faults = tree_faults sc c.args.is_alone c.args.is_scalar_only in
@@ -18,4 +18,4 @@ returns-in-Ok c =
     let tree = spelled c.grammar.ensures.one c.grammar.ensures.refused content (tree_of c.in-Ok.expr) none gives in
     let sum : content_faults sc c.args.is_alone c.args.is_scalar_only content ≡ faults (tree_of c.in-Ok.expr) =
     ap (λ f. option_map_or (λ g. g ∷ []) f (option_map_or faults (tree_of_content content) [])) none ∙ ap (λ t. option_map_or faults t []) tree in
-    subst (λ fs. OnOk c.check_tree.result (c.check_tree.new.out.items ≡ c.args.out.now.items ++ fs)) (sym sum) c.check_tree.ensures
+    subst (λ fs. OnOk c.check_tree.result (c.check_tree.new.out.items ≡ c.args.out.now.items ++ fs)) (sym sum) c.check_tree.ensures.ok

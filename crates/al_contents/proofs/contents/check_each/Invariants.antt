@@ -1,11 +1,14 @@
 use Rattle.std.proofs.Common.{◌≡◌, ◌++◌, drop, map}
 use Rattle.std.specs.List.{flat_map}
+use Rattle.al_text.specs.Growth.{BeginsWith}
 use Rattle.al_grammar.specs.Chunks.{span_of_chunk}
 use Rattle.al_types.specs.Scopes.{scope_of}
 use Rattle.al_contents.specs.Contents.{chunk_faults}
 use Rattle.al_contents.proofs.contents.check_each.Given as goal
 
 abbrev pub invariant-loop-chunk : goal.invariant-loop-chunk
-invariant-loop-chunk l =
-    l.out.items ++ flat_map (chunk_faults (scope_of l.scope) l.is_scalar_only l.scalar) (map span_of_chunk (drop l.chunk-index l.chunks))
-    ≡ l.fn.out.items ++ flat_map (chunk_faults (scope_of l.scope) l.is_scalar_only l.scalar) (map span_of_chunk l.chunks)
+invariant-loop-chunk l = record {
+  all : l.out.items ++ flat_map (chunk_faults (scope_of l.scope) l.is_scalar_only l.scalar) (map span_of_chunk (drop l.chunk-index l.chunks))
+      ≡ l.fn.out.items ++ flat_map (chunk_faults (scope_of l.scope) l.is_scalar_only l.scalar) (map span_of_chunk l.chunks);
+  begins : BeginsWith l.out.items l.fn.out.items;
+}

@@ -5,5 +5,5 @@ use Rattle.al_contents.proofs.expressions.check_at.Goals as goal
 
 pub returns-clause-faults : goal.returns-clause-faults
 returns-clause-faults c =
-    c.in_ok-check_place.ensures
+    c.in_ok-check_place.ensures.ok
     ∙ ap (λ sc. c.args.out.now.items ++ place_faults sc (place_of c.args.place)) c.in_ok-go_to.ensures.scope

@@ -1,5 +1,6 @@
 use Rattle.std.proofs.Common.{◌≡◌, ◌++◌, drop, map}
 use Rattle.std.specs.List.{flat_map}
+use Rattle.al_text.specs.Growth.{BeginsWith}
 use Rattle.al_contexts.specs.Answered.{known_of}
 use Rattle.al_contexts.specs.Standing.{Stands}
 use Rattle.al_places.specs.Places.{place_of}
@@ -8,7 +9,9 @@ use Rattle.al_contents.specs.FileExpressions.{faults_at}
 use Rattle.al_contents.proofs.expressions.check_each.Given as goal
 
 abbrev pub invariant-loop-place : goal.invariant-loop-place
-invariant-loop-place l =
-    Stands l.file l.env
-    × (l.out.items ++ flat_map (faults_at l.file.kind (known_of l.file.known.now) (view l.file.root.now)) (map place_of (drop l.place-index l.places))
-    ≡ l.fn.out.items ++ flat_map (faults_at l.file.kind (known_of l.file.known.now) (view l.file.root.now)) (map place_of l.places))
+invariant-loop-place l = record {
+  stands : Stands l.file l.env;
+  all : l.out.items ++ flat_map (faults_at l.file.kind (known_of l.file.known.now) (view l.file.root.now)) (map place_of (drop l.place-index l.places))
+      ≡ l.fn.out.items ++ flat_map (faults_at l.file.kind (known_of l.file.known.now) (view l.file.root.now)) (map place_of l.places);
+  begins : BeginsWith l.out.items l.fn.out.items;
+}

@@ -19,7 +19,7 @@ returns c =
     let first : known_of c.as_slice.result.now ≡ known_by found = ap (λ l. known_in (map behind_of l)) c.as_slice.ensures.value ∙ ap known_in c.in_ok-known.ensures in
     let again : known_of c.as_slice-known.result.now ≡ known_by found = ap (λ l. known_in (map behind_of l)) c.as_slice-known.ensures.value ∙ ap known_in c.in_ok-known.ensures in
     let same : c.expression_faults.new.out.items ++ called (known_of c.as_slice-known.result.now) ≡ old ++ faults_by c.args.kind root found =
-    ap (λ l. l ++ called (known_of c.as_slice-known.result.now)) (c.in_ok-expression_faults.ensures ∙ ap (λ known. old ++ shown known) first)
+    ap (λ l. l ++ called (known_of c.as_slice-known.result.now)) (c.in_ok-expression_faults.ensures.ok ∙ ap (λ known. old ++ shown known) first)
     ∙ ap (λ known. (old ++ shown (known_by found)) ++ called known) again
     ∙ append_assoc old (shown (known_by found)) (called (known_by found)) in
     subst (λ l. OnOk c.check_calls.result (c.check_calls.new.out.items ≡ l)) same c.check_calls.ensures
