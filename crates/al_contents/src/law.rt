@@ -1,8 +1,18 @@
-//! A law over the definitions.
+//! Laws over the definitions.
 ghost use Rattle.al_contents.specs.FileExpressions.{ExpressionFaultsLie};
+ghost use Rattle.al_contents.specs.Spelled.{TreeIsSpelled};
+
+use al_grammar::grammar;
 
 /// Each fault of an expression lies in the file: where the nodes of a tree lie in one another and in the file, and each byte of
 /// its texts comes from there. Does nothing.
 pub fn all_lie_in_file()
     ensures { ExpressionFaultsLie }
 {}
+
+/// The tree by which a content without a fault is checked is the one that it spells in the grammar of expressions. Does nothing.
+pub fn trees_are_spelled()
+    ensures { TreeIsSpelled }
+{
+    grammar();
+}

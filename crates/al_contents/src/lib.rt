@@ -6,4 +6,4 @@ mod expressions;
 mod law;
 
 pub use expressions::expression_faults;
-pub use law::all_lie_in_file;
+pub use law::{all_lie_in_file, trees_are_spelled};

@@ -17,7 +17,7 @@ returns-in-Ok c =
     let sc = scope_of c.args.scope.now in
     let gives : Spells content (tree_of c.in-Ok.expr) = rw c.in-Ok.is at c.in_ok-expr.ensures.tree in
     let none : fault_of_content content ≡ None = rw c.in-Ok.is at c.in_ok-expr.ensures.none in
-    let tree = spelled c.grammar.ensures.one c.grammar.ensures.refused content (tree_of c.in-Ok.expr) none gives in
+    let tree = spelled c.grammar.ensures.one content (tree_of c.in-Ok.expr) none gives in
     let same : content_type sc content ≡ type_in (meaning_of sc (tree_of c.in-Ok.expr)) =
     ap (λ f. option_map_or (λ g. Any) f (option_map_or (λ t. type_in (meaning_of sc t)) (tree_of_content content) Any)) none
     ∙ ap (λ t. option_map_or (λ u. type_in (meaning_of sc u)) t Any) tree in
