@@ -1,8 +1,6 @@
 -- What holds of each scalar that is checked, and so of the places of its faults.
-use Rattle.std.specs.Prelude.{ℕ, ◌≤◌, List, length, IsUtf8}
-use Rattle.std.specs.List.{AllByRecursion}
+use Rattle.std.specs.Prelude.{ℕ, ◌≤◌, length, IsUtf8}
 use Rattle.al_text.specs.Spans.{LiesIn}
-use Rattle.al_text.specs.declared.faults.Fault.{Fault}
 use Rattle.al_scalar.specs.Offsets.{IsFrom, IsPlaced}
 use Rattle.al_scalar.specs.Scalar.{text_of}
 use Rattle.al_places.specs.Places.{Place}
@@ -19,6 +17,3 @@ pub record IsThere (size : ℕ) (p : Place) : Type 0 where
   pub span : LiesIn size p.at
   pub placed : IsPlaced 1048576 p.word p.at
   pub from : IsFrom size p.word
-
-abbrev pub AllLie : ℕ → List Fault → Type 0
-AllLie size faults = AllByRecursion (λ (f : Fault). LiesIn size f.span) faults
