@@ -1,5 +1,5 @@
 //! The types of contexts, as the walk through a file goes on.
-ghost use Rattle.std.specs.Prelude.{◌≡◌, ◌≤◌, IfOk, OnOk, IsTrue, map, option_map};
+ghost use Rattle.std.specs.Prelude.{◌≡◌, IfOk, OnOk, IsTrue, map, option_map};
 ghost use Rattle.al_types.specs.Scopes.{type_of_context};
 ghost use Rattle.al_types.specs.TypeViews.{ty_of};
 ghost use Rattle.al_types.specs.declared.names.Context.{Context};

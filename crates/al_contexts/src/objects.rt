@@ -1,6 +1,6 @@
 //! Object types, made of names with their types.
-ghost use Rattle.std.specs.Prelude.{◌≡◌, ◌++◌, [], ◌∷◌, IfOk, OnOk, map, string_bytes};
-ghost use Rattle.al_types.specs.TypeViews.{field_of, fields_of, ty_of};
+ghost use Rattle.std.specs.Prelude.{◌≡◌, ◌++◌, IfOk, OnOk, map, string_bytes};
+ghost use Rattle.al_types.specs.TypeViews.{field_of, ty_of};
 ghost use Rattle.al_contexts.specs.Objects as objects;
 ghost use Rattle.al_contexts.specs.Objects.{loosely, strictly, strings};
 

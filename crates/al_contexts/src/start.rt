@@ -1,7 +1,6 @@
 //! The types of contexts at the start of a file.
 ghost use Rattle.std.specs.Prelude.{◌≡◌, IfOk, option_map};
 ghost use Rattle.al_contexts.specs.Answered.{known_of};
-ghost use Rattle.al_contexts.specs.Contexts as contexts;
 ghost use Rattle.al_contexts.specs.Environment.{Fixed, OfSection, owned, owner_in, owner_view};
 ghost use Rattle.al_places.specs.Positions.{apart, before};
 ghost use Rattle.al_types.specs.TypeViews.{ty_of};
@@ -12,7 +11,6 @@ use crate::fixed::{github, job, runner};
 use crate::inputs::inputs_type;
 use crate::objects::loose_strings;
 use al_declarations::{action_steps, is_composite};
-use al_shape::{items_under, value};
 use al_tree::FileKind;
 use al_types::{ContextSet, ContextTypes, FunctionSet, Ty};
 use al_yaml::Node;
