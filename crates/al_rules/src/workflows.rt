@@ -1,19 +1,19 @@
 //! Workflows.
 
 ghost use Rattle.al_events.specs.Events.{on_faults};
-ghost use Rattle.al_rules.specs.Rules.{AddsJobs, AddsWorkflow, jobs_of};
+ghost use Rattle.al_rules.specs.Rules.{AddsJobs, AddsWorkflow};
 ghost use Rattle.al_text.specs.Growth.{BeginsWith};
 ghost use Rattle.al_shape.specs.Values.{member_of, value_at};
 ghost use Rattle.al_yaml.specs.View.{view};
 ghost use Rattle.std.specs.Option.{option_map_or};
-ghost use Rattle.std.specs.Prelude.{◌≡◌, ◌++◌, [], codes, map, IfOk, OnOk};
+ghost use Rattle.std.specs.Prelude.{◌≡◌, ◌++◌, [], codes, map, OnOk};
 
 use crate::needs::{check_needs, keys_of};
 use crate::sections::{check_each_job, check_section};
 use al_events::check_on;
 use al_settings::check_ids;
 use al_text::Fault;
-use al_tree::{Member, members, value};
+use al_tree::{Member, members_under, value};
 use al_yaml::Node;
 use std::alloc::{AllocError, Global};
 
@@ -26,16 +26,6 @@ fn check_events(alloc: Global, root: &Node, out: &mut Vec<Fault>) -> Result<(), 
     match value(root, "on") {
         None => Ok(()),
         Some(on) => check_on(alloc, on, out),
-    }
-}
-
-/// The jobs of a workflow.
-fn jobs_in(alloc: Global, root: &Node) -> Result<Vec<Member<'_>>, AllocError>
-    ensures { IfOk result (λ v. map member_of v.items ≡ jobs_of (view root.now)) }
-{
-    match value(root, "jobs") {
-        None => Ok(Vec::new(alloc)),
-        Some(jobs) => members(alloc, jobs),
     }
 }
 
@@ -64,7 +54,7 @@ pub(crate) fn check_workflow(
 {
     check_events(alloc, root, out)?;
     check_section(alloc, root, out)?;
-    let jobs = jobs_in(alloc, root)?;
+    let jobs = members_under(alloc, root, "jobs")?;
     check_jobs(alloc, jobs.as_slice(), out)?;
     Ok(())
 }

@@ -9,7 +9,7 @@ use Rattle.al_scalar.specs.Scalar.{text_of}
 use Rattle.al_yaml.specs.Access.{nodes, scalar_in}
 use Rattle.al_yaml.specs.Node.{Node, scalar, sequence, mapping, span_of}
 use Rattle.al_shape.specs.Faults.{has_chunk, is_null}
-use Rattle.al_shape.specs.Names.{among}
+use Rattle.al_shape.specs.Names.{among, is_combination_key}
 use Rattle.al_shape.specs.Values.{entries_in, items_at}
 use Rattle.al_formats.specs.Texts.{folded}
 use Rattle.al_settings.specs.Ids.{with_folded}
@@ -40,9 +40,6 @@ abbrev pub are_combinations : Node → Bool
 are_combinations (sequence ns at) = list_all is_combination (nodes ns)
 are_combinations (scalar s at) = false
 are_combinations (mapping es at) = false
-
-abbrev pub is_combination_key : List ℕ → Bool
-is_combination_key k = among (codes "include" ∷ codes "exclude" ∷ []) k
 
 abbrev pub is_row_value : List ℕ → Node → Bool
 is_row_value k n = is_null_node n || is_dynamic n || (if is_combination_key k then are_combinations n else is_sequence n)

@@ -1,7 +1,7 @@
 //! The matrix of a job.
 
 ghost use Rattle.al_settings.specs.Matrix.{are_combinations as all_combinations, exclude_faults, exclude_keys, excludes_faults};
-ghost use Rattle.al_settings.specs.Matrix.{is_combination as combination, is_combination_key as combination_key, is_dynamic as dynamic};
+ghost use Rattle.al_settings.specs.Matrix.{is_combination as combination, is_dynamic as dynamic};
 ghost use Rattle.al_settings.specs.Matrix.{is_mapping as mapping, is_null_node as null_node, is_row_value as row_value};
 ghost use Rattle.al_settings.specs.Matrix.{is_sequence as sequence, mapping_faults, matrix_faults, row_faults, row_names, shape_faults};
 ghost use Rattle.al_reports.specs.Views.{named_of};
@@ -19,7 +19,9 @@ ghost use Rattle.std.specs.Prelude.{◌≡◌, ◌++◌, map, IfOk, OnOk};
 use crate::ids::{FoldedId, folded};
 use al_reports::{Named, named_key, report_at, report_unless};
 use al_text::{Fault, RuleCode, Span};
-use al_tree::{KeySet, Member, contains_chunk, is_among, is_null_scalar, items_under, members};
+use al_tree::{
+    KeySet, Member, contains_chunk, is_combination_key, is_null_scalar, items_under, members,
+};
 use al_yaml::Node;
 use std::alloc::{AllocError, Global};
 
@@ -84,13 +86,6 @@ fn are_combinations(node: &Node) -> bool
         Some(nodes) => may_all(nodes),
         None => false,
     }
-}
-
-/// Whether a key is `include` or `exclude`.
-fn is_combination_key(key: &[u8]) -> bool
-    ensures { result ≡ combination_key key.now }
-{
-    is_among(key, &["include", "exclude"])
 }
 
 /// Whether a key of a matrix may have a value.
