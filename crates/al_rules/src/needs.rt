@@ -7,11 +7,10 @@ ghost use Rattle.al_rules.specs.Needs.{position_from, tested_faults};
 ghost use Rattle.al_rules.specs.Positions.{and_position, first_at};
 ghost use Rattle.al_reports.specs.Views.{named_of};
 ghost use Rattle.al_rules.specs.Views.{need_of};
-ghost use Rattle.al_settings.specs.Views.{folded_id};
 ghost use Rattle.al_reports.specs.Words.{of_scalar};
 ghost use Rattle.al_text.specs.Growth.{BeginsWith};
 ghost use Rattle.al_shape.specs.Values.{member_of, scalar_node_of};
-ghost use Rattle.std.specs.List.{enumerate_from, filter_map, flat_map};
+ghost use Rattle.std.specs.List.{filter_map, flat_map};
 ghost use Rattle.std.specs.Prelude.{◌≡◌, ◌<◌, ℕ, ◌++◌, length, map, false, slice_index_or, IfOk, OnOk, Option, None};
 
 use al_graph::{reachable, turned};
