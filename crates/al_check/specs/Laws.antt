@@ -114,7 +114,8 @@ each_sited kind bytes = given_sited kind (tree_of bytes)
 abbrev SitesLie : ℕ → List CallSite → Type 0
 SitesLie size sites = AllByRecursion (λ (s : CallSite). LiesIn size s.span) sites
 
-calls_sites_lie : (size : ℕ) (cs : List Call) → AllByRecursion (λ (c : Call). LiesIn size c.at × IsInside size c.node) cs → SitesLie size (sites_of cs)
+calls_sites_lie : (size : ℕ) (cs : List Call) → AllByRecursion (λ (c : Call). LiesIn size c.at × IsInside size c.node) cs →
+    SitesLie size (sites_of cs)
 calls_sites_lie size [] h = tt
 calls_sites_lie size (c ∷ cs) h = put (target_in c.form) (calls_sites_lie size cs h.1)
   where
@@ -122,7 +123,8 @@ calls_sites_lie size (c ∷ cs) h = put (target_in c.form) (calls_sites_lie size
     put None rest = rest
     put (Some t) rest = (h.0.0, rest)
 
-given_sites_lie : (kind : FileKind) (bytes : List ℕ) (read : Result Node yaml.Fault) → IfOk read (IsInside (length bytes)) → SitesLie (length bytes) (sites_given kind read)
+given_sites_lie : (kind : FileKind) (bytes : List ℕ) (read : Result Node yaml.Fault) → IfOk read (IsInside (length bytes)) →
+    SitesLie (length bytes) (sites_given kind read)
 given_sites_lie kind bytes (Ok root) i = calls_sites_lie (length bytes) (calls_in kind root) (calls_lie (length bytes) kind root i)
 given_sites_lie kind bytes (Err fault) i = tt
 

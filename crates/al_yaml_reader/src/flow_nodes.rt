@@ -9,7 +9,8 @@ ghost use Rattle.al_text.specs.declared.codes.YamlCode.TheVariants as yaml;
 ghost use Rattle.al_yaml.specs.Content as content;
 ghost use Rattle.al_yaml_reader.specs.FlowFrames.{Finds, FindsKey, IsBare, IsFound, IsFoundKey, alias_part, flow_slot};
 ghost use Rattle.al_yaml_reader.specs.Places.{IsReadInside, Shows, option_lines};
-ghost use Rattle.al_yaml_reader.specs.Reads.{IsBehind, IsColonInside, IsKeyInside, IsRead, IsStopInside, flow_key_of, noted_at, part_of, state_of};
+ghost use Rattle.al_yaml_reader.specs.Reads.{IsBehind, IsColonInside, IsKeyInside, IsRead, IsStopInside};
+ghost use Rattle.al_yaml_reader.specs.Reads.{flow_key_of, noted_at, part_of, state_of};
 ghost use Rattle.al_yaml.specs.View.{view};
 ghost use Rattle.std.specs.Prelude.{IfErr, IfOk, IfSome, false, if◌then◌else◌, length, true, ℕ, ◌<◌, ◌||◌, ◌≡◌, ◌≤◌};
 

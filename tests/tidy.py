@@ -1,0 +1,97 @@
+"""Checks the layout of the crates: tidy.py TOP WHAT.. [--write].
+
+WHAT is `src` or `specs` (no line is longer than 140 characters), `proofs` (none is longer than 200) or `names` (each name that a `use`
+line brings in stands somewhere else in its file). With `--write` the names that don't are taken out; then `rt fmt` and `rt check`
+are to be run in each crate that has changed.
+"""
+
+import pathlib
+import re
+import sys
+
+LONGEST = {"src": 140, "specs": 140, "proofs": 200}
+ENDINGS = {"src": ".rt", "specs": ".antt", "proofs": ".antt"}
+# `use PATH.{NAMES}`, `use PATH as NAME` or `use PATH`; a list may take several lines
+USE = re.compile(r"^ *(?P<passed>pub )?(?:ghost )?use (?P<path>[^{};\n]+?)(?:\{(?P<list>[^}]*)\})?;?\n", re.MULTILINE)
+COMMENT = re.compile(r"^ *(?:--|//).*$", re.MULTILINE)
+BREAKS = r"\s.,;:(){}\[\]\"⌜⌝"
+# words as the definitions have them, and as the code has them
+WORDS = {".antt": [re.compile(f"[^{BREAKS}]+")], ".rt": [re.compile(f"[^{BREAKS}]+"), re.compile(r"\w+")]}
+# what uses these doesn't name them: a trait's methods, and lines of `do`
+UNSEEN = {"BufRead", "Context", "Error", "FromStr", "Hash", "Iterator", "Model", "Read", "Write", "_", "◌>>=◌"}
+
+
+def files_of(top, folder):
+    """The files of such a folder of each crate."""
+    return sorted(top.glob(f"crates/*/{folder}/**/*{ENDINGS[folder]}"))
+
+
+def long_lines(top, folder):
+    """The lines of such a folder that are too long."""
+    for file in files_of(top, folder):
+        for number, line in enumerate(file.read_text(encoding="utf-8").splitlines(), 1):
+            if len(line) > LONGEST[folder]:
+                yield f"{file.relative_to(top)}:{number} has {len(line)} characters, of at most {LONGEST[folder]}"
+
+
+def listed(use):
+    """What a `use` line brings in, each as it is written there."""
+    if use["list"] is None:
+        return [use["path"].strip()]
+    return [it for it in (item.strip() for item in re.split(r"[,\n]", use["list"])) if it]
+
+
+def known_as(item):
+    """The name by which what is brought in stands in the file."""
+    name = item.rpartition(" as ")[2] if " as " in item else re.split(r"[.:]", item)[-1]
+    return name.strip().strip("«»")
+
+
+def is_named(item, words, text):
+    """Whether a text has the name of what is brought in: of an operator each part."""
+    name = known_as(item)
+    parts = [it for it in re.split(r"◌|\s", name) if it]
+    return name in UNSEEN or item == "self" or all(it in words if re.fullmatch(r"[\w'-]+", it) else it in text for it in parts)
+
+
+def unused(text, ending):
+    """The names that a file brings in and doesn't name, each with its `use` line."""
+    rest = COMMENT.sub("", USE.sub("", text))
+    words = {word for kind in WORDS[ending] for word in kind.findall(rest)}
+    for use in USE.finditer(text):
+        names = [it for it in listed(use) if not is_named(it, words, rest)]
+        if names and not use["passed"]:
+            yield use, names
+
+
+def without(use, names):
+    """A `use` line without some of what it brings in."""
+    kept = [it for it in listed(use) if it not in names]
+    return use[0].replace("{" + (use["list"] or "") + "}", "{" + ", ".join(kept) + "}") if kept else ""
+
+
+def unused_names(top, is_written):
+    """The names that files bring in and don't name; those are taken out where that is asked for."""
+    for file in [it for folder in ENDINGS for it in files_of(top, folder)]:
+        text = file.read_text(encoding="utf-8")
+        found = list(unused(text, file.suffix))
+        yield from (f"{file.relative_to(top)} brings in {known_as(it)} and doesn't name it" for _, names in found for it in names)
+        if is_written:
+            for use, names in reversed(found):
+                text = text[: use.start()] + without(use, names) + text[use.end() :]
+            file.write_text(text, encoding="utf-8")
+
+
+def main(folder, *words):
+    top, wrong = pathlib.Path(folder), []
+    for what in words:
+        if what == "names":
+            wrong += unused_names(top, "--write" in words)
+        elif what != "--write":
+            wrong += long_lines(top, what)
+    if wrong:
+        sys.exit("\n".join(wrong))
+
+
+if __name__ == "__main__":
+    main(*sys.argv[1:])
