@@ -2,13 +2,91 @@
 
 use crate::linter::Toy;
 use al_session::{Change, Refused, Session, apply_change, apply_changes};
-use al_text::{Fault, Output, Stop};
-use std::alloc::AllocError;
-use std::test::Fail;
+use al_text::{Output, Path, Stop};
+use std::alloc::{AllocError, Global};
 
-const NAMES: [&str; 7] = [
-    "a.toy", "b.toy", "c.toy", "d/a.toy", "d/b.toy", "e.toy", "r.toy",
-];
+// An edit, the files that it checks again, and the report then.
+type Step = (Change<'static>, &'static [&'static str], &'static [u8]);
+
+// The functions without a contract tell a test's proof nothing, and the rows stand in statics behind such functions: no proof computes
+// what a session does with them. A test holds no session: one that is let go at each way out makes its proof ten times as long.
+
+fn open(alloc: Global) -> Session<Toy> {
+    Session::open(alloc, Toy::new())
+}
+
+fn report(alloc: Global, session: &Session<Toy>) -> Result<Vec<u8>, Stop> {
+    let mut bytes = Vec::new(alloc);
+    session.report(&mut Output::new(&mut bytes), true)?;
+    Ok(bytes)
+}
+
+fn reports(alloc: Global, session: &Session<Toy>, wanted: &[u8]) -> Result<bool, Stop> {
+    Ok(report(alloc, session)?.as_slice() == wanted)
+}
+
+fn status(session: &Session<Toy>) -> Result<u8, AllocError> {
+    session.status()
+}
+
+fn are_paths(paths: &[Path], wanted: &[&str]) -> bool {
+    paths.len() == wanted.len()
+        && paths
+            .iter()
+            .zip(wanted)
+            .all(|(path, text)| path.as_str() == *text)
+}
+
+fn misses(session: &Session<Toy>, wanted: &[&str]) -> Result<bool, AllocError> {
+    Ok(are_paths(&session.missing()?, wanted))
+}
+
+fn refuses(session: &mut Session<Toy>, edit: &Change, wanted: Refused) -> bool {
+    match apply_change(session, edit) {
+        Ok(_) => false,
+        Err(refused) => refused == wanted,
+    }
+}
+
+fn refuses_put(session: &mut Session<Toy>, path: &str, bytes: &[u8], wanted: Refused) -> bool {
+    refuses(session, &Change::Put(path, bytes), wanted)
+}
+
+// Whether an edit was accepted and checked just these files again, each with one check.
+fn rechecks(session: &mut Session<Toy>, edit: &Change, wanted: &[&str]) -> bool {
+    let checks = session.meter();
+    match apply_change(session, edit) {
+        Err(_) => false,
+        Ok(edit) => {
+            session.meter() == checks.saturating_add(wanted.len() as u64)
+                && are_paths(edit.rechecked.as_slice(), wanted)
+        }
+    }
+}
+
+fn follows(alloc: Global, session: &mut Session<Toy>, steps: &[Step]) -> Result<bool, Stop> {
+    for (edit, wanted, text) in steps {
+        if !rechecks(session, edit, wanted) || !reports(alloc, session, text)? {
+            return Ok(false);
+        }
+    }
+    Ok(true)
+}
+
+fn follows_both(
+    alloc: Global,
+    session: &mut Session<Toy>,
+    first: &[Step],
+    then: &[Step],
+) -> Result<bool, Stop> {
+    Ok(follows(alloc, session, first)? && follows(alloc, session, then)?)
+}
+
+// Whether a new session takes these steps and those behind them, and has this status then.
+fn ends(alloc: Global, first: &[Step], then: &[Step], wanted: u8) -> Result<bool, Stop> {
+    let mut session = open(alloc);
+    Ok(follows_both(alloc, &mut session, first, then)? && status(&session)? == wanted)
+}
 
 const NEED: &[u8] = b"need b.toy c.toy";
 
@@ -16,99 +94,211 @@ const ABSENT: &[u8] = b"a.toy:1:1: unexpected key \"b.toy\" [syntax-check]\n";
 
 const EMPTY: &[u8] = b"a.toy:1:1: wrong kind of value for \"b.toy\" [syntax-check]\n";
 
+static NEEDED: [Step; 1] = [(Change::Put("a.toy", NEED), &["a.toy"], ABSENT)];
+
+static ANSWERED: [Step; 2] = [
+    (Change::Put("c.toy", b""), &["a.toy", "c.toy"], EMPTY),
+    (Change::Put("b.toy", b"have x"), &["a.toy", "b.toy"], b""),
+];
+
+fn needed() -> &'static [Step] {
+    &NEEDED
+}
+
+fn answered() -> &'static [Step] {
+    &ANSWERED
+}
+
+fn answers_calls(alloc: Global, session: &mut Session<Toy>) -> Result<bool, Stop> {
+    Ok(
+        follows(alloc, session, needed())?
+            && misses(session, &["b.toy", "c.toy"])?
+            && follows(alloc, session, answered())?,
+    )
+}
+
+fn answers_calls_anew(alloc: Global) -> Result<bool, Stop> {
+    let mut session = open(alloc);
+    answers_calls(alloc, &mut session)
+}
+
+#[test]
+fn calls_are_answered(rt: HostRuntime) -> Result<(), Stop> {
+    assert!(rt; answers_calls_anew(rt.alloc())?);
+    Ok(())
+}
+
+const LATER_ABSENT: &[u8] = b"b.toy:1:1: unexpected key \"c.toy\" [syntax-check]\n";
+
 const LOOP: &[u8] = b"a.toy:1:1: call of \"b.toy\" leads back to this file [workflow-call]
 b.toy:1:1: call of \"c.toy\" leads back to this file [workflow-call]
 c.toy:1:1: call of \"a.toy\" leads back to this file [workflow-call]
 ";
 
-// These tell a test's proof nothing, which keeps it short.
+static CHAIN: [Step; 3] = [
+    (
+        Change::Put("a.toy", b"need b.toy\nhave x"),
+        &["a.toy"],
+        ABSENT,
+    ),
+    (
+        Change::Put("b.toy", b"need c.toy\nhave x"),
+        &["a.toy", "b.toy"],
+        LATER_ABSENT,
+    ),
+    (Change::Put("c.toy", b"have x"), &["b.toy", "c.toy"], b""),
+];
 
-fn put(session: &mut Session<Toy>, path: &str, bytes: &[u8]) -> Option<Refused> {
-    session.put(path, bytes).err()
+static RING: [Step; 1] = [(
+    Change::Put("c.toy", b"need a.toy\nhave x"),
+    &["c.toy"],
+    LOOP,
+)];
+
+// A call into the loop, and a file of the loop that goes.
+static BESIDE_THE_RING: [Step; 2] = [
+    (Change::Put("d/a.toy", b"need a.toy"), &["d/a.toy"], LOOP),
+    (Change::Delete("b.toy"), &["a.toy"], ABSENT),
+];
+
+fn chain() -> &'static [Step] {
+    &CHAIN
 }
 
-fn delete(session: &mut Session<Toy>, path: &str) -> Option<Refused> {
-    session.delete(path).err()
+fn ring() -> &'static [Step] {
+    &RING
 }
 
-fn report(rt: &HostRuntime, session: &Session<Toy>) -> Result<Vec<u8>, Stop> {
-    let mut bytes = Vec::new(rt.alloc());
-    session.report(&mut Output::new(&mut bytes), true)?;
-    Ok(bytes)
+fn beside_the_ring() -> &'static [Step] {
+    &BESIDE_THE_RING
 }
 
-fn misses(session: &Session<Toy>, wanted: &[&str]) -> Result<bool, AllocError> {
-    let missing = session.missing()?;
+// Whether a file is there and has no faults of its own.
+fn is_faultless(session: &Session<Toy>, path: &str) -> bool {
+    match session.faults(path) {
+        Some(faults) => faults.is_empty(),
+        None => false,
+    }
+}
+
+// Whether a loop is told as it closes, which moves no file's own faults.
+fn tells_of_the_ring(alloc: Global, session: &mut Session<Toy>) -> Result<bool, Stop> {
     Ok(
-        missing.len() == wanted.len()
-            && missing
-                .iter()
-                .zip(wanted)
-                .all(|(path, text)| path.as_str() == *text),
+        follows(alloc, session, ring())?
+            && status(session)? == 1
+            && session.meter() == 6
+            && is_faultless(session, "b.toy"),
     )
 }
 
-#[test]
-fn calls_are_answered(rt: HostRuntime) -> Result<(), Fail> {
-    let mut session = Session::open(rt.alloc(), Toy::new());
-    assert_eq!(rt; put(&mut session, "a.toy", NEED), None);
-    assert_eq!(rt; report(&rt, &session)?.as_slice(), ABSENT);
-    assert!(rt; misses(&session, &["b.toy", "c.toy"])?);
-    assert_eq!(rt; put(&mut session, "c.toy", b""), None);
-    assert_eq!(rt; report(&rt, &session)?.as_slice(), EMPTY);
-    assert_eq!(rt; put(&mut session, "b.toy", b"have x"), None);
-    assert_eq!(rt; report(&rt, &session)?.len(), 0);
-    Ok(())
+fn tells_loops(alloc: Global, session: &mut Session<Toy>) -> Result<bool, Stop> {
+    Ok(
+        follows(alloc, session, chain())?
+            && status(session)? == 0
+            && tells_of_the_ring(alloc, session)?
+            && follows(alloc, session, beside_the_ring())?,
+    )
+}
+
+fn tells_loops_anew(alloc: Global) -> Result<bool, Stop> {
+    let mut session = open(alloc);
+    tells_loops(alloc, &mut session)
 }
 
 #[test]
-fn loops_are_told(rt: HostRuntime) -> Result<(), Fail> {
-    let mut session = Session::open(rt.alloc(), Toy::new());
-    assert_eq!(rt; put(&mut session, "a.toy", b"need b.toy\nhave x"), None);
-    assert_eq!(rt; put(&mut session, "b.toy", b"need c.toy\nhave x"), None);
-    assert_eq!(rt; put(&mut session, "c.toy", b"have x"), None);
-    assert_eq!(rt; session.status()?, 0);
-    assert_eq!(rt; put(&mut session, "c.toy", b"need a.toy\nhave x"), None);
-    assert_eq!(rt; session.status()?, 1);
-    assert_eq!(rt; session.meter(), 6);
-    assert_eq!(rt;
-        session
-            .faults("b.toy")
-            .map(|faults: &[Fault]| -> usize { faults.len() }),
-        Some(0)
-    );
-    assert_eq!(rt; report(&rt, &session)?.as_slice(), LOOP);
-    assert_eq!(rt; put(&mut session, "d/a.toy", b"need a.toy"), None);
-    assert_eq!(rt; report(&rt, &session)?.as_slice(), LOOP);
-    assert_eq!(rt; delete(&mut session, "b.toy"), None);
-    assert_eq!(rt; report(&rt, &session)?.as_slice(), ABSENT);
+fn loops_are_told(rt: HostRuntime) -> Result<(), Stop> {
+    assert!(rt; tells_loops_anew(rt.alloc())?);
     Ok(())
 }
 
-#[test]
-fn edits_are_refused(rt: HostRuntime) -> Result<(), Fail> {
-    let mut session = Session::open(rt.alloc(), Toy::new());
-    let large = vec![in rt.alloc(); b'x'; 1_048_577]?;
-    assert_eq!(rt; put(&mut session, "b.toy", &large), Some(Refused::TooLarge));
-    assert_eq!(rt; put(&mut session, "../x.yml", b""), Some(Refused::BadPath));
-    assert_eq!(rt;
-        put(&mut session, "x.yml", &large),
-        Some(Refused::NotAccepted)
-    );
-    assert_eq!(rt; delete(&mut session, "z.toy"), Some(Refused::NoSuchFile));
-    assert_eq!(rt; session.status()?, 0);
-    Ok(())
+fn bytes_of(alloc: Global, length: usize) -> Result<Vec<u8>, AllocError> {
+    vec![in alloc; b'x'; length]
+}
+
+fn refuses_all(session: &mut Session<Toy>, large: &[u8]) -> bool {
+    refuses_put(session, "b.toy", large, Refused::TooLarge)
+        && refuses_put(session, "../x.yml", b"", Refused::BadPath)
+        && refuses_put(session, "x.yml", large, Refused::NotAccepted)
+        && refuses(session, &Change::Delete("z.toy"), Refused::NoSuchFile)
+}
+
+fn refuses_all_anew(alloc: Global, large: &[u8]) -> Result<bool, AllocError> {
+    let mut session = open(alloc);
+    Ok(refuses_all(&mut session, large) && status(&session)? == 0)
 }
 
 #[test]
-fn a_folder_is_full(rt: HostRuntime) -> Result<(), Fail> {
-    let mut session = Session::open(rt.alloc(), Toy::new());
+fn edits_are_refused(rt: HostRuntime) -> Result<(), AllocError> {
+    let large = bytes_of(rt.alloc(), 1_048_577)?;
+    assert!(rt; refuses_all_anew(rt.alloc(), &large)?);
+    Ok(())
+}
+
+fn puts(session: &mut Session<Toy>, path: &str, bytes: &[u8]) -> bool {
+    apply_change(session, &Change::Put(path, bytes)).is_ok()
+}
+
+fn puts_numbered(alloc: Global, session: &mut Session<Toy>) -> Result<bool, AllocError> {
     for number in 0..4_096 {
-        let path = format!(in rt.alloc(); "{number}.toy")?;
-        assert_eq!(rt; put(&mut session, &path, b""), None);
+        let path = format!(in alloc; "{number}.toy")?;
+        if !puts(session, &path, b"") {
+            return Ok(false);
+        }
     }
-    assert_eq!(rt; put(&mut session, "new.toy", b""), Some(Refused::Full));
-    assert_eq!(rt; put(&mut session, "4095.toy", b"have x"), None);
+    Ok(true)
+}
+
+fn fills(alloc: Global, session: &mut Session<Toy>) -> Result<bool, AllocError> {
+    Ok(
+        puts_numbered(alloc, session)?
+            && refuses_put(session, "new.toy", b"", Refused::Full)
+            && puts(session, "4095.toy", b"have x"),
+    )
+}
+
+fn fills_anew(alloc: Global) -> Result<bool, AllocError> {
+    let mut session = open(alloc);
+    fills(alloc, &mut session)
+}
+
+#[test]
+fn a_folder_is_full(rt: HostRuntime) -> Result<(), AllocError> {
+    assert!(rt; fills_anew(rt.alloc())?);
+    Ok(())
+}
+
+// How many of the changes are accepted.
+fn accepted(
+    alloc: Global,
+    session: &mut Session<Toy>,
+    changes: &[Change],
+) -> Result<usize, AllocError> {
+    let replies = apply_changes(alloc, session, changes)?;
+    Ok(replies.iter().filter(|reply| reply.is_ok()).count())
+}
+
+static CHANGES: [Change; 3] = [
+    Change::Put("a.toy", b"have x"),
+    Change::Delete("b.toy"),
+    Change::Delete("a.toy"),
+];
+
+fn changes() -> &'static [Change<'static>] {
+    &CHANGES
+}
+
+fn has_file(session: &Session<Toy>, path: &str) -> bool {
+    session.bytes(path).is_some()
+}
+
+fn applies(alloc: Global, changes: &[Change]) -> Result<bool, AllocError> {
+    let mut session = open(alloc);
+    Ok(accepted(alloc, &mut session, changes)? == 2 && !has_file(&session, "a.toy"))
+}
+
+#[test]
+fn changes_are_applied_in_order(rt: HostRuntime) -> Result<(), AllocError> {
+    assert!(rt; applies(rt.alloc(), changes())?);
     Ok(())
 }
 
@@ -118,57 +308,8 @@ const ABSENT_CALL: &[u8] = b"c.toy:1:1: unexpected key \"d/a.toy\" [syntax-check
 
 const EMPTY_CALL: &[u8] = b"c.toy:1:1: wrong kind of value for \"d/a.toy\" [syntax-check]\n";
 
-const OWN_LOOP: &[u8] = b"r.toy:1:1: call of \"r.toy\" leads back to this file [workflow-call]\n";
-
-const OWN_CALL: &[u8] = b"r.toy:1:1: wrong kind of value for \"r.toy\" [syntax-check]
-r.toy:1:1: call of \"r.toy\" leads back to this file [workflow-call]
-";
-
-#[test]
-fn changes_are_applied_in_order(rt: HostRuntime) -> Result<(), Fail> {
-    let mut session = Session::open(rt.alloc(), Toy::new());
-    let changes = [
-        Change::Put("a.toy", b"have x"),
-        Change::Delete("b.toy"),
-        Change::Delete("a.toy"),
-    ];
-    let replies = apply_changes(rt.alloc(), &mut session, &changes)?;
-    assert_eq!(rt; replies.iter().filter(|reply| reply.is_ok()).count(), 2);
-    assert_eq!(rt; session.bytes("a.toy"), None);
-    Ok(())
-}
-
-// Whether an edit was accepted and checked just these files again, each with one check.
-fn rechecks(session: &mut Session<Toy>, edit: &Change, wanted: &[&str]) -> bool {
-    let checks = session.meter();
-    match apply_change(session, edit) {
-        Err(_) => false,
-        Ok(edit) => {
-            let paths = edit.rechecked.as_slice();
-            session.meter() == checks.saturating_add(wanted.len() as u64)
-                && paths.len() == wanted.len()
-                && paths
-                    .iter()
-                    .zip(wanted)
-                    .all(|(path, text)| path.as_str() == *text)
-        }
-    }
-}
-
-// An edit, the files that it checks again, and the report then.
-type EditRow = (Change<'static>, &'static [&'static str], &'static [u8]);
-
-fn follows(rt: &HostRuntime, session: &mut Session<Toy>, steps: &[EditRow]) -> Result<bool, Stop> {
-    for (edit, wanted, text) in steps {
-        if !rechecks(session, edit, wanted) || report(rt, session)?.as_slice() != *text {
-            return Ok(false);
-        }
-    }
-    Ok(true)
-}
-
 // A call of an absent file, which then comes, with nothing to offer. A file without calls stands beside them.
-const CALLED: [EditRow; 3] = [
+static CALLED: [Step; 3] = [
     (Change::Put("z.toy", b"have z"), &["z.toy"], b""),
     (Change::Put("c.toy", CALLER), &["c.toy"], ABSENT_CALL),
     (
@@ -178,106 +319,108 @@ const CALLED: [EditRow; 3] = [
     ),
 ];
 
-#[test]
-fn the_second_candidate_comes_to_answer(rt: HostRuntime) -> Result<(), Fail> {
-    let mut session = Session::open(rt.alloc(), Toy::new());
-    assert!(rt; follows(&rt, &mut session, &CALLED)?);
-    assert!(rt;
-        follows(
-            &rt,
-            &mut session,
-            &[
-                (Change::Put("d/b.toy", b"have x"), &["d/b.toy"], EMPTY_CALL),
-                (Change::Delete("d/a.toy"), &["c.toy"], b""),
-            ]
-        )?
-    );
-    assert_eq!(rt; session.status()?, 0);
-    Ok(())
+fn called() -> &'static [Step] {
+    &CALLED
+}
+
+static SECOND_COMES: [Step; 2] = [
+    (Change::Put("d/b.toy", b"have x"), &["d/b.toy"], EMPTY_CALL),
+    (Change::Delete("d/a.toy"), &["c.toy"], b""),
+];
+
+fn second_comes() -> &'static [Step] {
+    &SECOND_COMES
 }
 
 #[test]
-fn other_bytes_with_the_same_interface_check_no_caller(rt: HostRuntime) -> Result<(), Fail> {
-    let mut session = Session::open(rt.alloc(), Toy::new());
-    assert!(rt; follows(&rt, &mut session, &CALLED)?);
-    assert!(rt;
-        follows(
-            &rt,
-            &mut session,
-            &[
-                (Change::Put("d/a.toy", b"# e"), &["d/a.toy"], EMPTY_CALL),
-                (Change::Put("d/a.toy", b"# e"), &[], EMPTY_CALL),
-            ]
-        )?
-    );
-    assert_eq!(rt; session.status()?, 1);
+fn the_second_candidate_comes_to_answer(rt: HostRuntime) -> Result<(), Stop> {
+    assert!(rt; ends(rt.alloc(), called(), second_comes(), 0)?);
     Ok(())
+}
+
+static SAME_INTERFACE: [Step; 2] = [
+    (Change::Put("d/a.toy", b"# e"), &["d/a.toy"], EMPTY_CALL),
+    (Change::Put("d/a.toy", b"# e"), &[], EMPTY_CALL),
+];
+
+fn same_interface() -> &'static [Step] {
+    &SAME_INTERFACE
 }
 
 #[test]
-fn an_equal_answer_checks_no_caller(rt: HostRuntime) -> Result<(), Fail> {
-    let mut session = Session::open(rt.alloc(), Toy::new());
-    assert!(rt; follows(&rt, &mut session, &CALLED)?);
-    assert!(rt;
-        follows(
-            &rt,
-            &mut session,
-            &[
-                (Change::Put("d/b.toy", b""), &["d/b.toy"], EMPTY_CALL),
-                (Change::Delete("d/a.toy"), &[], EMPTY_CALL),
-                (Change::Put("d/a.toy", b""), &["d/a.toy"], EMPTY_CALL),
-                (
-                    Change::Put("d/a.toy", b"have x"),
-                    &["c.toy", "d/a.toy"],
-                    b""
-                ),
-            ]
-        )?
-    );
+fn other_bytes_with_the_same_interface_check_no_caller(rt: HostRuntime) -> Result<(), Stop> {
+    assert!(rt; ends(rt.alloc(), called(), same_interface(), 1)?);
     Ok(())
+}
+
+static EQUAL_ANSWER: [Step; 4] = [
+    (Change::Put("d/b.toy", b""), &["d/b.toy"], EMPTY_CALL),
+    (Change::Delete("d/a.toy"), &[], EMPTY_CALL),
+    (Change::Put("d/a.toy", b""), &["d/a.toy"], EMPTY_CALL),
+    (
+        Change::Put("d/a.toy", b"have x"),
+        &["c.toy", "d/a.toy"],
+        b"",
+    ),
+];
+
+fn equal_answer() -> &'static [Step] {
+    &EQUAL_ANSWER
 }
 
 #[test]
-fn files_that_stopped_calling_are_not_checked(rt: HostRuntime) -> Result<(), Fail> {
-    let mut session = Session::open(rt.alloc(), Toy::new());
-    assert!(rt; follows(&rt, &mut session, &CALLED)?);
-    assert!(rt;
-        follows(
-            &rt,
-            &mut session,
-            &[
-                (Change::Put("c.toy", b"have c"), &["c.toy"], b""),
-                (Change::Put("d/a.toy", b"have x"), &["d/a.toy"], b""),
-                (Change::Delete("d/a.toy"), &[], b""),
-            ]
-        )?
-    );
+fn an_equal_answer_checks_no_caller(rt: HostRuntime) -> Result<(), Stop> {
+    assert!(rt; ends(rt.alloc(), called(), equal_answer(), 0)?);
     Ok(())
+}
+
+static STOPPED_CALLING: [Step; 3] = [
+    (Change::Put("c.toy", b"have c"), &["c.toy"], b""),
+    (Change::Put("d/a.toy", b"have x"), &["d/a.toy"], b""),
+    (Change::Delete("d/a.toy"), &[], b""),
+];
+
+fn stopped_calling() -> &'static [Step] {
+    &STOPPED_CALLING
 }
 
 #[test]
-fn a_file_that_calls_itself_has_its_new_interface(rt: HostRuntime) -> Result<(), Fail> {
-    let mut session = Session::open(rt.alloc(), Toy::new());
-    assert!(rt;
-        follows(
-            &rt,
-            &mut session,
-            &[
-                (
-                    Change::Put("r.toy", b"need r.toy\nhave x"),
-                    &["r.toy"],
-                    OWN_LOOP
-                ),
-                (Change::Put("r.toy", b"need r.toy"), &["r.toy"], OWN_CALL),
-                (Change::Delete("r.toy"), &[], b""),
-            ]
-        )?
-    );
-    assert_eq!(rt; session.status()?, 0);
+fn files_that_stopped_calling_are_not_checked(rt: HostRuntime) -> Result<(), Stop> {
+    assert!(rt; ends(rt.alloc(), called(), stopped_calling(), 0)?);
     Ok(())
 }
 
-const TEXTS: [&[u8]; 7] = [
+const OWN_LOOP: &[u8] = b"r.toy:1:1: call of \"r.toy\" leads back to this file [workflow-call]\n";
+
+const OWN_CALL: &[u8] = b"r.toy:1:1: wrong kind of value for \"r.toy\" [syntax-check]
+r.toy:1:1: call of \"r.toy\" leads back to this file [workflow-call]
+";
+
+static CALLS_ITSELF: [Step; 3] = [
+    (
+        Change::Put("r.toy", b"need r.toy\nhave x"),
+        &["r.toy"],
+        OWN_LOOP,
+    ),
+    (Change::Put("r.toy", b"need r.toy"), &["r.toy"], OWN_CALL),
+    (Change::Delete("r.toy"), &[], b""),
+];
+
+fn calls_itself() -> &'static [Step] {
+    &CALLS_ITSELF
+}
+
+#[test]
+fn a_file_that_calls_itself_has_its_new_interface(rt: HostRuntime) -> Result<(), Stop> {
+    assert!(rt; ends(rt.alloc(), &[], calls_itself(), 0)?);
+    Ok(())
+}
+
+static NAMES: [&str; 7] = [
+    "a.toy", "b.toy", "c.toy", "d/a.toy", "d/b.toy", "e.toy", "r.toy",
+];
+
+static TEXTS: [&[u8]; 7] = [
     b"",
     b"have x",
     b"have x\nneed a.toy b.toy",
@@ -287,20 +430,44 @@ const TEXTS: [&[u8]; 7] = [
     b"need a.toy d/b.toy\nhave x",
 ];
 
-// Whether a new session with the same files gives the same report and names the same paths as missing.
-fn is_as_new(rt: &HostRuntime, session: &Session<Toy>) -> Result<bool, Stop> {
-    let mut anew = Session::open(rt.alloc(), Toy::new());
-    for name in NAMES {
+fn names() -> &'static [&'static str] {
+    &NAMES
+}
+
+fn name_at(number: u32) -> &'static str {
+    NAMES[(number % 7) as usize]
+}
+
+fn text_at(number: u32) -> &'static [u8] {
+    TEXTS[(number % 7) as usize]
+}
+
+// Makes an edit that a number stands for, and tells whether it was accepted.
+fn edit(session: &mut Session<Toy>, number: u32) -> bool {
+    let name = name_at(number >> 8);
+    if (number >> 24) % 4 == 0 {
+        apply_change(session, &Change::Delete(name)).is_ok()
+    } else {
+        puts(session, name, text_at(number >> 16))
+    }
+}
+
+// A new session with the same files.
+fn anew(alloc: Global, session: &Session<Toy>) -> Session<Toy> {
+    let mut anew = open(alloc);
+    for name in names() {
         if let Some(bytes) = session.bytes(name) {
-            let _ = anew.put(name, bytes);
+            let _is_put = puts(&mut anew, name, bytes);
         }
     }
-    let missing = session.missing()?;
-    let wanted = anew.missing()?;
+    anew
+}
+
+fn misses_the_same(one: &Session<Toy>, other: &Session<Toy>) -> Result<bool, AllocError> {
+    let missing = one.missing()?;
+    let wanted = other.missing()?;
     Ok(
-        report(rt, session)?.as_slice() == report(rt, &anew)?.as_slice()
-            && session.status()? == anew.status()?
-            && missing.len() == wanted.len()
+        missing.len() == wanted.len()
             && missing
                 .iter()
                 .zip(&wanted)
@@ -308,20 +475,41 @@ fn is_as_new(rt: &HostRuntime, session: &Session<Toy>) -> Result<bool, Stop> {
     )
 }
 
-#[test]
-fn edits_are_as_from_scratch(rt: HostRuntime) -> Result<(), Fail> {
-    let mut session = Session::open(rt.alloc(), Toy::new());
+// Whether both have the same report and status, and name the same paths as missing.
+fn are_alike(alloc: Global, one: &Session<Toy>, other: &Session<Toy>) -> Result<bool, Stop> {
+    let wanted = report(alloc, other)?;
+    Ok(
+        reports(alloc, one, &wanted)?
+            && status(one)? == status(other)?
+            && misses_the_same(one, other)?,
+    )
+}
+
+fn is_as_anew(alloc: Global, session: &Session<Toy>) -> Result<bool, Stop> {
+    let other = anew(alloc, session);
+    are_alike(alloc, session, &other)
+}
+
+// Whether a session is as a new one after each of so many edits.
+fn stays_as_anew(alloc: Global, session: &mut Session<Toy>, edits: u32) -> Result<bool, Stop> {
     let mut state: u32 = 7;
-    for _turn in 0..200 {
+    for _ in 0..edits {
         state = state.wrapping_mul(1_664_525).wrapping_add(1_013_904_223);
-        let name = NAMES[((state >> 8) % 7) as usize];
-        let text = TEXTS[((state >> 16) % 7) as usize];
-        if (state >> 24) % 4 == 0 {
-            let _ = session.delete(name);
-        } else {
-            let _ = session.put(name, text);
+        let _is_accepted = edit(session, state);
+        if !is_as_anew(alloc, session)? {
+            return Ok(false);
         }
-        assert!(rt; is_as_new(&rt, &session)?);
     }
+    Ok(true)
+}
+
+fn starts_and_stays_as_anew(alloc: Global, edits: u32) -> Result<bool, Stop> {
+    let mut session = open(alloc);
+    stays_as_anew(alloc, &mut session, edits)
+}
+
+#[test]
+fn edits_are_as_from_scratch(rt: HostRuntime) -> Result<(), Stop> {
+    assert!(rt; starts_and_stays_as_anew(rt.alloc(), 200)?);
     Ok(())
 }
