@@ -22,6 +22,3 @@ pub use faults::{FaultAt, YamlFault, fault_at};
 pub use reader::read_scalar;
 pub use scalars::{Scalar, ScalarContext, ScalarRead};
 pub use styles::{Class, Style};
-
-#[cfg(test)]
-mod tests;
