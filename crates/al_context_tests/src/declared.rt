@@ -5,9 +5,10 @@ use al_declarations::{
     InputType, declared_at, declared_in, has_value, input_of, is_composite, is_named_among,
     is_same_name, type_of, value_below_three, value_below_two,
 };
-use al_shape::key_text;
+use al_shape::{Member, key_text};
 use al_types::Form;
-use std::test::Fail;
+use al_yaml::Node;
+use std::alloc::{AllocError, Global};
 
 const CALLED: &[u8] = b"on:
   workflow_call:
@@ -19,46 +20,104 @@ const ACTION: &[u8] = b"runs: {using: composite, steps: []}
 inputs: {a: {default: 1}}
 ";
 
-#[test]
-fn inputs(rt: HostRuntime) -> Result<(), Fail> {
-    let alloc = rt.alloc();
-    let doc = document(&rt, alloc, CALLED);
-    let below = value_below_three(&doc.root, "on", "workflow_call", "inputs");
-    let found = declared_at(alloc, below)?;
-    let told = [
-        ("Size", InputType::Number),
-        ("dry", InputType::Boolean),
-        ("pick", InputType::String),
-        ("plain", InputType::String),
-    ];
-    assert_eq!(rt; found.len(), told.len());
-    for (input, (name, ty)) in found.iter().zip(&told) {
-        assert_eq!(rt; key_text(input.key), name.as_bytes());
-        assert_eq!(rt; input_of(input.value), *ty);
+static INPUTS: [(&str, InputType); 4] = [
+    ("Size", InputType::Number),
+    ("dry", InputType::Boolean),
+    ("pick", InputType::String),
+    ("plain", InputType::String),
+];
+
+fn told_inputs() -> &'static [(&'static str, InputType)] {
+    &INPUTS
+}
+
+fn is_told(input: &Member<'_>, name: &str, ty: InputType) -> bool {
+    key_text(input.key) == name.as_bytes() && input_of(input.value) == ty
+}
+
+fn are_told(found: &[Member<'_>], told: &[(&str, InputType)]) -> bool {
+    if found.len() != told.len() {
+        return false;
     }
-    assert!(rt; declared_at(alloc, value_below_two(&doc.root, "on", "push"))?.is_empty());
-    assert_eq!(rt; type_of(InputType::Boolean).form(), Form::Bool);
-    assert_eq!(rt; type_of(InputType::Number).form(), Form::Number);
-    assert_eq!(rt; type_of(InputType::String).form(), Form::String);
+    for (input, (name, ty)) in found.iter().zip(told) {
+        if !is_told(input, name, *ty) {
+            return false;
+        }
+    }
+    true
+}
+
+fn has_inputs(alloc: Global, root: &Node) -> Result<bool, AllocError> {
+    let below = value_below_three(root, "on", "workflow_call", "inputs");
+    Ok(are_told(&declared_at(alloc, below)?, told_inputs()))
+}
+
+fn has_no_push(alloc: Global, root: &Node) -> Result<bool, AllocError> {
+    Ok(declared_at(alloc, value_below_two(root, "on", "push"))?.is_empty())
+}
+
+fn declares_inputs(alloc: Global, root: &Node) -> Result<bool, AllocError> {
+    Ok(has_inputs(alloc, root)? && has_no_push(alloc, root)? && !is_composite(root))
+}
+
+fn reads_inputs(alloc: Global) -> Result<bool, AllocError> {
+    match document(alloc, CALLED)? {
+        Some(doc) => declares_inputs(alloc, &doc.root),
+        None => Ok(false),
+    }
+}
+
+#[test]
+fn inputs(rt: HostRuntime) -> Result<(), AllocError> {
+    assert!(rt; reads_inputs(rt.alloc())?);
     Ok(())
 }
 
 #[test]
-fn actions(rt: HostRuntime) -> Result<(), Fail> {
-    let alloc = rt.alloc();
-    let doc = document(&rt, alloc, ACTION);
-    assert!(rt; is_composite(&doc.root));
-    assert!(rt; has_value(&doc.root, "inputs"));
-    assert!(rt; !has_value(&doc.root, "outputs"));
-    assert_eq!(rt; declared_in(alloc, &doc.root)?.len(), 2);
-    assert!(rt; !is_composite(&document(&rt, alloc, CALLED).root));
+fn types(rt: HostRuntime) {
+    assert!(rt; type_of(InputType::Boolean).form() == Form::Bool);
+    assert!(rt; type_of(InputType::Number).form() == Form::Number);
+    assert!(rt; type_of(InputType::String).form() == Form::String);
+}
+
+fn count_of_declared(alloc: Global, root: &Node) -> Result<usize, AllocError> {
+    Ok(declared_in(alloc, root)?.len())
+}
+
+fn is_action(alloc: Global, root: &Node) -> Result<bool, AllocError> {
+    Ok(
+        is_composite(root)
+            && has_value(root, "inputs")
+            && !has_value(root, "outputs")
+            && count_of_declared(alloc, root)? == 2,
+    )
+}
+
+fn reads_action(alloc: Global) -> Result<bool, AllocError> {
+    match document(alloc, ACTION)? {
+        Some(doc) => is_action(alloc, &doc.root),
+        None => Ok(false),
+    }
+}
+
+#[test]
+fn actions(rt: HostRuntime) -> Result<(), AllocError> {
+    assert!(rt; reads_action(rt.alloc())?);
     Ok(())
+}
+
+fn are_same(one: &[u8], other: &[u8]) -> bool {
+    is_same_name(one, other)
+}
+
+fn are_named(names: &[&[u8]], name: &[u8]) -> bool {
+    is_named_among(names, name)
 }
 
 #[test]
 fn names(rt: HostRuntime) {
-    assert!(rt; is_same_name(b"Token", b"tOKEN"));
-    assert!(rt; !is_same_name(b"token", b"tokens"));
-    assert!(rt; is_named_among(&[b"a", b"B"], b"b"));
-    assert!(rt; !is_named_among(&[b"a", b"B"], b"c"));
+    assert!(rt; are_same(b"Token", b"tOKEN"));
+    assert!(rt; !are_same(b"token", b"tokens"));
+    assert!(rt; are_named(&[b"a", b"B"], b"b"));
+    assert!(rt; !are_named(&[b"a", b"B"], b"c"));
 }

@@ -4,10 +4,8 @@ use crate::files::{document, env_at};
 use al_contexts::File;
 use al_places::{available, placed_scalars, rows};
 use al_tree::FileKind;
-use al_types::{Context, Function, Scope};
-use std::alloc::Global;
-use std::process::Abort;
-use std::test::Fail;
+use al_types::{Context, ContextSet, Function, FunctionSet, Scope};
+use std::alloc::{AllocError, Global};
 
 const WORKFLOW: &[u8] = b"name: anything
 run-name: in-run-name
@@ -29,7 +27,7 @@ const ACTION: &[u8] = b"runs:
     - {run: in-run, shell: sh, if: in-if}
 ";
 
-const CONTEXTS: [Context; 12] = [
+static CONTEXTS: [Context; 12] = [
     Context::Github,
     Context::Env,
     Context::Vars,
@@ -44,7 +42,7 @@ const CONTEXTS: [Context; 12] = [
     Context::Inputs,
 ];
 
-const SPECIAL: [Function; 5] = [
+static SPECIAL: [Function; 5] = [
     Function::Always,
     Function::Cancelled,
     Function::Success,
@@ -52,74 +50,119 @@ const SPECIAL: [Function; 5] = [
     Function::HashFiles,
 ];
 
+fn all_contexts() -> &'static [Context] {
+    &CONTEXTS
+}
+
+fn special_functions() -> &'static [Function] {
+    &SPECIAL
+}
+
+fn count_of_contexts(set: &ContextSet) -> usize {
+    let mut count: usize = 0;
+    for context in all_contexts() {
+        if set.contains(*context) {
+            count = count.saturating_add(1);
+        }
+    }
+    count
+}
+
+fn count_of_functions(set: &FunctionSet) -> usize {
+    let mut count: usize = 0;
+    for function in special_functions() {
+        if set.allows(*function) {
+            count = count.saturating_add(1);
+        }
+    }
+    count
+}
+
 /// A place's text, how many contexts it has, how many special functions, and whether it is a script.
 type Told = (&'static str, usize, usize, bool);
 
-fn counts(scope: &Scope) -> (usize, usize) {
-    (
-        CONTEXTS
-            .iter()
-            .filter(|context| scope.contexts.contains(**context))
-            .count(),
-        SPECIAL
-            .iter()
-            .filter(|function| scope.functions.allows(**function))
-            .count(),
-    )
+fn is_told(scope: &Scope, told: &Told) -> bool {
+    count_of_contexts(&scope.contexts) == told.1
+        && count_of_functions(&scope.functions) == told.2
+        && scope.in_run == told.3
 }
 
-fn assert_sets(
-    rt: &impl Abort,
-    alloc: Global,
-    kind: FileKind,
-    text: &[u8],
-    told: &[Told],
-) -> Result<(), Fail> {
-    let doc = document(rt, alloc, text);
+fn has_set(alloc: Global, file: File<'_>, told: &Told) -> Result<bool, AllocError> {
+    match env_at(alloc, file, told.0)? {
+        Some(env) => Ok(is_told(&env.scope, told)),
+        None => Ok(false),
+    }
+}
+
+fn has_sets(alloc: Global, kind: FileKind, text: &[u8], told: &[Told]) -> Result<bool, AllocError> {
+    let Some(doc) = document(alloc, text)? else {
+        return Ok(false);
+    };
     let file = File {
         kind,
         root: &doc.root,
         known: &[],
     };
-    for (at, contexts, special, is_script) in told {
-        let env = env_at(rt, alloc, file, at)?;
-        assert_eq!(rt; counts(&env.scope), (*contexts, *special), "at {at}");
-        assert_eq!(rt; env.scope.in_run, *is_script);
+    for row in told {
+        if !has_set(alloc, file, row)? {
+            return Ok(false);
+        }
     }
+    Ok(true)
+}
+
+static OF_A_WORKFLOW: [Told; 8] = [
+    ("anything", 12, 0, false),
+    ("in-run-name", 3, 0, false),
+    ("in-job-if", 4, 4, false),
+    ("in-url", 10, 0, false),
+    ("in-image", 6, 0, false),
+    ("in-container-env", 10, 0, false),
+    ("in-run", 11, 1, true),
+    ("in-step-if", 10, 5, false),
+];
+
+static OF_AN_ACTION: [Told; 2] = [("in-run", 11, 1, true), ("in-if", 11, 5, false)];
+
+fn told_of_a_workflow() -> &'static [Told] {
+    &OF_A_WORKFLOW
+}
+
+fn told_of_an_action() -> &'static [Told] {
+    &OF_AN_ACTION
+}
+
+#[test]
+fn of_a_workflow(rt: HostRuntime) -> Result<(), AllocError> {
+    let told = told_of_a_workflow();
+    assert!(rt; has_sets(rt.alloc(), FileKind::Workflow, WORKFLOW, told)?);
     Ok(())
 }
 
 #[test]
-fn of_a_workflow(rt: HostRuntime) -> Result<(), Fail> {
-    let told = [
-        ("anything", 12, 0, false),
-        ("in-run-name", 3, 0, false),
-        ("in-job-if", 4, 4, false),
-        ("in-url", 10, 0, false),
-        ("in-image", 6, 0, false),
-        ("in-container-env", 10, 0, false),
-        ("in-run", 11, 1, true),
-        ("in-step-if", 10, 5, false),
-    ];
-    assert_sets(&rt, rt.alloc(), FileKind::Workflow, WORKFLOW, &told)
+fn of_an_action(rt: HostRuntime) -> Result<(), AllocError> {
+    let told = told_of_an_action();
+    assert!(rt; has_sets(rt.alloc(), FileKind::Action, ACTION, told)?);
+    Ok(())
+}
+
+fn count_at(keys: &[&[u8]]) -> Option<usize> {
+    match available(keys) {
+        Some(row) => Some(row.contexts.len()),
+        None => None,
+    }
 }
 
 #[test]
-fn of_an_action(rt: HostRuntime) -> Result<(), Fail> {
-    let told = [("in-run", 11, 1, true), ("in-if", 11, 5, false)];
-    assert_sets(&rt, rt.alloc(), FileKind::Action, ACTION, &told)
+fn worked_rows(_rt: HostRuntime) {
+    rows();
+    placed_scalars();
+    al_contexts::rows();
 }
 
 #[test]
 fn of_keys(rt: HostRuntime) {
-    rows();
-    placed_scalars();
-    al_contexts::rows();
-    let image: [&[u8]; 4] = [b"jobs", b"a", b"container", b"env"];
-    assert!(rt; available(&image).is_some());
-    assert!(rt; available(&[b"name"]).is_none());
-    let Some(row) = available(&[b"jobs", b"a", b"environment", b"url"]) else {
-        panic!(rt; "no row");
-    };
-    assert_eq!(rt; row.contexts.len(), 10);
+    assert!(rt; count_at(&[b"jobs", b"a", b"container", b"env"]).is_some());
+    assert!(rt; count_at(&[b"name"]).is_none());
+    assert!(rt; count_at(&[b"jobs", b"a", b"environment", b"url"]) == Some(10));
 }

@@ -6,10 +6,8 @@ use al_contexts::{Answer, Env, File};
 use al_declarations::{Name, NameList};
 use al_places::places;
 use al_tree::FileKind;
-use al_types::Context;
+use al_types::{Context, Ty};
 use std::alloc::{AllocError, Global};
-use std::process::Abort;
-use std::test::Fail;
 
 /// A place's text, a context, and its type there.
 type Told = (&'static str, Context, &'static str);
@@ -52,8 +50,6 @@ jobs:
     steps: []
 ";
 
-const FIRST: &str = "{result: string, outputs: {one: string, two: string}}";
-
 const OPEN: &[u8] = b"on: push
 jobs:
   a: {runs-on: open-include, strategy: {matrix: {os: [x], include: '${{ x }}'}}}
@@ -75,74 +71,121 @@ runs:
 const DOCKER: &[u8] = b"runs: {using: docker, image: in-docker}
 ";
 
-/// The types of contexts in a file that calls nothing known.
-fn assert_types(
-    rt: &impl Abort,
+fn is_shown(alloc: Global, ty: &Ty, text: &str) -> Result<bool, AllocError> {
+    Ok(shown(alloc, ty)?.as_str() == text)
+}
+
+fn has_type(alloc: Global, file: File<'_>, told: &Told) -> Result<bool, AllocError> {
+    let (at, context, ty) = told;
+    match env_at(alloc, file, at)? {
+        Some(env) => is_shown(alloc, env.scope.types.get(*context), ty),
+        None => Ok(false),
+    }
+}
+
+/// Whether contexts have these types in a file that calls what is known.
+fn has_types(
     alloc: Global,
     kind: FileKind,
     text: &[u8],
     known: &[Answer<'_>],
     told: &[Told],
-) -> Result<(), Fail> {
-    let doc = document(rt, alloc, text);
+) -> Result<bool, AllocError> {
+    let Some(doc) = document(alloc, text)? else {
+        return Ok(false);
+    };
     let root = &doc.root;
     let file = File { kind, root, known };
-    for (at, context, ty) in told {
-        let env = env_at(rt, alloc, file, at)?;
-        let found = shown(alloc, env.scope.types.get(*context))?;
-        assert_eq!(rt; found.as_str(), *ty, "at {at}");
+    for row in told {
+        if !has_type(alloc, file, row)? {
+            return Ok(false);
+        }
     }
-    Ok(())
+    Ok(true)
+}
+
+const INPUTS: &str = "{size: string, name: string, extra: string}";
+
+const ALL_JOBS: &str =
+    "{first: {result: string, outputs: {one: string, two: string}}, called: {result: string, outputs: {*: any}}, \
+     last: {result: string, outputs: {}}}";
+
+static OF_A_WORKFLOW: [Told; 19] = [
+    ("in-env", Context::Inputs, INPUTS),
+    ("in-env", Context::Needs, "any"),
+    ("in-env", Context::Jobs, "any"),
+    ("in-env", Context::Steps, "any"),
+    ("in-env", Context::Matrix, "any"),
+    ("in-env", Context::Strategy, "any"),
+    ("in-env", Context::Secrets, "{*: string}"),
+    ("in-env", Context::Vars, "{*: string}"),
+    ("in-env", Context::Env, "{*: string}"),
+    ("in-env", Context::Job, "{status: string, *: any}"),
+    (
+        "in-env",
+        Context::Runner,
+        "{name: string, os: string, arch: string, temp: string, tool_cache: string, debug: string, environment: string, *: any}",
+    ),
+    ("in-output", Context::Jobs, ALL_JOBS),
+    ("in-output", Context::Needs, "any"),
+    ("in-first", Context::Needs, "{}"),
+    (
+        "in-first",
+        Context::Strategy,
+        "{fail-fast: bool, job-index: number, job-total: number, max-parallel: number}",
+    ),
+    ("in-first", Context::Matrix, "{}"),
+    (
+        "in-called",
+        Context::Needs,
+        "{first: {result: string, outputs: {one: string, two: string}}}",
+    ),
+    (
+        "in-last",
+        Context::Needs,
+        "{called: {result: string, outputs: {*: any}}}",
+    ),
+    (
+        "in-last",
+        Context::Matrix,
+        "{os: any, Version: string, mixed: any, lone: any, pair: {a: string, b: string}, empty: any, extra: [string]}",
+    ),
+];
+
+fn told_of_a_workflow() -> &'static [Told] {
+    &OF_A_WORKFLOW
 }
 
 #[test]
-fn of_a_workflow(rt: HostRuntime) -> Result<(), Fail> {
-    let inputs = "{size: string, name: string, extra: string}";
-    let all =
-        "{first: {result: string, outputs: {one: string, two: string}}, called: {result: string, outputs: {*: any}}, \
-         last: {result: string, outputs: {}}}";
-    let told = [
-        ("in-env", Context::Inputs, inputs),
-        ("in-env", Context::Needs, "any"),
-        ("in-env", Context::Jobs, "any"),
-        ("in-env", Context::Steps, "any"),
-        ("in-env", Context::Matrix, "any"),
-        ("in-env", Context::Strategy, "any"),
-        ("in-env", Context::Secrets, "{*: string}"),
-        ("in-env", Context::Vars, "{*: string}"),
-        ("in-env", Context::Env, "{*: string}"),
-        ("in-env", Context::Job, "{status: string, *: any}"),
-        (
-            "in-env",
-            Context::Runner,
-            "{name: string, os: string, arch: string, temp: string, tool_cache: string, debug: string, environment: string, *: any}",
-        ),
-        ("in-output", Context::Jobs, all),
-        ("in-output", Context::Needs, "any"),
-        ("in-first", Context::Needs, "{}"),
-        (
-            "in-first",
-            Context::Strategy,
-            "{fail-fast: bool, job-index: number, job-total: number, max-parallel: number}",
-        ),
-        ("in-first", Context::Matrix, "{}"),
-        (
-            "in-called",
-            Context::Needs,
-            "{first: {result: string, outputs: {one: string, two: string}}}",
-        ),
-        (
-            "in-last",
-            Context::Needs,
-            "{called: {result: string, outputs: {*: any}}}",
-        ),
-        (
-            "in-last",
-            Context::Matrix,
-            "{os: any, Version: string, mixed: any, lone: any, pair: {a: string, b: string}, empty: any, extra: [string]}",
-        ),
-    ];
-    assert_types(&rt, rt.alloc(), FileKind::Workflow, BUILD, &[], &told)
+fn of_a_workflow(rt: HostRuntime) -> Result<(), AllocError> {
+    let told = told_of_a_workflow();
+    assert!(rt; has_types(rt.alloc(), FileKind::Workflow, BUILD, &[], told)?);
+    Ok(())
+}
+
+const STEP_A: &str = "{a: {conclusion: string, outcome: string, outputs: {*: string}}}";
+
+const STEPS_A_B: &str = "{a: {conclusion: string, outcome: string, outputs: {*: string}}, \
+     b: {conclusion: string, outcome: string, outputs: {path: string}}}";
+
+static OF_STEPS: [Told; 9] = [
+    ("in-first", Context::Steps, "{}"),
+    ("step-none", Context::Steps, "{}"),
+    ("step-a", Context::Steps, STEP_A),
+    ("in-with", Context::Steps, STEP_A),
+    ("step-last", Context::Steps, STEPS_A_B),
+    ("all-first", Context::Steps, STEPS_A_B),
+    ("step-a", Context::Steps, STEP_A),
+    ("in-called", Context::Steps, "{}"),
+    (
+        "in-last",
+        Context::Needs,
+        "{called: {result: string, outputs: {made: string}}}",
+    ),
+];
+
+fn told_of_steps() -> &'static [Told] {
+    &OF_STEPS
 }
 
 /// A list of these names.
@@ -154,28 +197,9 @@ fn name_list(alloc: Global, names: &[&[u8]]) -> Result<NameList, AllocError> {
     Ok(NameList::new(kept))
 }
 
-#[test]
-fn of_steps(rt: HostRuntime) -> Result<(), Fail> {
-    let a = "{a: {conclusion: string, outcome: string, outputs: {*: string}}}";
-    let both = "{a: {conclusion: string, outcome: string, outputs: {*: string}}, \
-         b: {conclusion: string, outcome: string, outputs: {path: string}}}";
-    let told = [
-        ("in-first", Context::Steps, "{}"),
-        ("step-none", Context::Steps, "{}"),
-        ("step-a", Context::Steps, a),
-        ("in-with", Context::Steps, a),
-        ("step-last", Context::Steps, both),
-        ("all-first", Context::Steps, both),
-        ("step-a", Context::Steps, a),
-        ("in-called", Context::Steps, "{}"),
-        (
-            "in-last",
-            Context::Needs,
-            "{called: {result: string, outputs: {made: string}}}",
-        ),
-    ];
-    let path = name_list(rt.alloc(), &[b"path"])?;
-    let made = name_list(rt.alloc(), &[b"made"])?;
+fn has_types_of_steps(alloc: Global, told: &[Told]) -> Result<bool, AllocError> {
+    let path = name_list(alloc, &[b"path"])?;
+    let made = name_list(alloc, &[b"made"])?;
     let known = [
         Answer {
             job: Some(b"first"),
@@ -188,57 +212,102 @@ fn of_steps(rt: HostRuntime) -> Result<(), Fail> {
             names: Some(&made),
         },
     ];
-    assert_types(&rt, rt.alloc(), FileKind::Workflow, BUILD, &known, &told)
+    has_types(alloc, FileKind::Workflow, BUILD, &known, told)
 }
 
 #[test]
-fn of_open_matrices(rt: HostRuntime) -> Result<(), Fail> {
-    let told = [
-        ("open-include", Context::Matrix, "{*: any}"),
-        ("open-entry", Context::Matrix, "{*: any}"),
-        ("open-matrix", Context::Matrix, "{*: any}"),
-        ("no-matrix", Context::Matrix, "{}"),
-        ("mapped-include", Context::Matrix, "{os: string}"),
-    ];
-    assert_types(&rt, rt.alloc(), FileKind::Workflow, OPEN, &[], &told)
+fn of_steps(rt: HostRuntime) -> Result<(), AllocError> {
+    assert!(rt; has_types_of_steps(rt.alloc(), told_of_steps())?);
+    Ok(())
+}
+
+static OF_OPEN_MATRICES: [Told; 5] = [
+    ("open-include", Context::Matrix, "{*: any}"),
+    ("open-entry", Context::Matrix, "{*: any}"),
+    ("open-matrix", Context::Matrix, "{*: any}"),
+    ("no-matrix", Context::Matrix, "{}"),
+    ("mapped-include", Context::Matrix, "{os: string}"),
+];
+
+fn told_of_open_matrices() -> &'static [Told] {
+    &OF_OPEN_MATRICES
 }
 
 #[test]
-fn of_an_action(rt: HostRuntime) -> Result<(), Fail> {
-    let one = "{one: {conclusion: string, outcome: string, outputs: {*: string}}}";
-    let both = "{one: {conclusion: string, outcome: string, outputs: {*: string}}, \
-         two: {conclusion: string, outcome: string, outputs: {*: string}}}";
-    let told = [
-        ("in-input", Context::Inputs, "{a: string, b: string}"),
-        ("in-input", Context::Steps, "{}"),
-        ("in-output", Context::Steps, both),
-        ("in-one", Context::Steps, "{}"),
-        ("in-two", Context::Steps, one),
-        ("in-two", Context::Needs, "any"),
-        ("in-two", Context::Matrix, "any"),
-    ];
-    assert_types(&rt, rt.alloc(), FileKind::Action, ACTION, &[], &told)?;
-    let told = [("in-docker", Context::Steps, "any")];
-    assert_types(&rt, rt.alloc(), FileKind::Action, DOCKER, &[], &told)
+fn of_open_matrices(rt: HostRuntime) -> Result<(), AllocError> {
+    let told = told_of_open_matrices();
+    assert!(rt; has_types(rt.alloc(), FileKind::Workflow, OPEN, &[], told)?);
+    Ok(())
+}
+
+const STEP_ONE: &str = "{one: {conclusion: string, outcome: string, outputs: {*: string}}}";
+
+const STEPS_ONE_TWO: &str = "{one: {conclusion: string, outcome: string, outputs: {*: string}}, \
+     two: {conclusion: string, outcome: string, outputs: {*: string}}}";
+
+static OF_AN_ACTION: [Told; 7] = [
+    ("in-input", Context::Inputs, "{a: string, b: string}"),
+    ("in-input", Context::Steps, "{}"),
+    ("in-output", Context::Steps, STEPS_ONE_TWO),
+    ("in-one", Context::Steps, "{}"),
+    ("in-two", Context::Steps, STEP_ONE),
+    ("in-two", Context::Needs, "any"),
+    ("in-two", Context::Matrix, "any"),
+];
+
+static OF_A_CONTAINER: [Told; 1] = [("in-docker", Context::Steps, "any")];
+
+fn told_of_an_action() -> &'static [Told] {
+    &OF_AN_ACTION
+}
+
+fn told_of_a_container() -> &'static [Told] {
+    &OF_A_CONTAINER
 }
 
 #[test]
-fn of_github(rt: HostRuntime) -> Result<(), Fail> {
-    let alloc = rt.alloc();
-    let doc = document(&rt, alloc, DOCKER);
+fn of_an_action(rt: HostRuntime) -> Result<(), AllocError> {
+    let told = told_of_an_action();
+    assert!(rt; has_types(rt.alloc(), FileKind::Action, ACTION, &[], told)?);
+    Ok(())
+}
+
+#[test]
+fn of_a_container(rt: HostRuntime) -> Result<(), AllocError> {
+    let told = told_of_a_container();
+    assert!(rt; has_types(rt.alloc(), FileKind::Action, DOCKER, &[], told)?);
+    Ok(())
+}
+
+fn is_github(text: &str) -> bool {
+    text.starts_with("{event: any, ref_protected: bool, action: string,")
+        && text.ends_with(" workspace: string}")
+}
+
+fn has_github(alloc: Global, file: File<'_>) -> Result<bool, AllocError> {
+    let env = Env::new(alloc, file)?;
+    let github = shown(alloc, env.scope.types.get(Context::Github))?;
+    Ok(is_github(github.as_str()))
+}
+
+fn count_of_places(alloc: Global, file: File<'_>) -> Result<usize, AllocError> {
+    Ok(places(alloc, file.kind, file.root)?.len())
+}
+
+fn knows_github(alloc: Global, text: &[u8]) -> Result<bool, AllocError> {
+    let Some(doc) = document(alloc, text)? else {
+        return Ok(false);
+    };
     let file = File {
         kind: FileKind::Action,
         root: &doc.root,
         known: &[],
     };
-    let env = Env::new(alloc, file)?;
-    let github = shown(alloc, env.scope.types.get(Context::Github))?;
-    assert!(rt;
-        github
-            .as_str()
-            .starts_with("{event: any, ref_protected: bool, action: string,")
-    );
-    assert!(rt; github.as_str().ends_with(" workspace: string}"));
-    assert_eq!(rt; places(alloc, FileKind::Action, &doc.root)?.len(), 1);
+    Ok(has_github(alloc, file)? && count_of_places(alloc, file)? == 1)
+}
+
+#[test]
+fn of_github(rt: HostRuntime) -> Result<(), AllocError> {
+    assert!(rt; knows_github(rt.alloc(), DOCKER)?);
     Ok(())
 }
