@@ -4,12 +4,13 @@ use al_formats::{
     Around, Filter, has_part, is_id, is_lone_chunk, is_pattern, is_same_text, is_too_often,
     is_variable, schedule,
 };
-use std::alloc::Global;
-use std::process::Abort;
-use std::test::Fail;
+use std::alloc::{AllocError, Global};
+
+/// A text, and two answers that it is to have.
+type Row = (&'static str, bool, bool);
 
 /// Patterns, and whether each is one for branches and tags, and for paths.
-const PATTERNS: [(&str, bool, bool); 24] = [
+static PATTERNS: [Row; 24] = [
     ("main", true, true),
     ("releases/**", true, true),
     ("v[0-9]+.[0-9]+", true, true),
@@ -37,14 +38,14 @@ const PATTERNS: [(&str, bool, bool); 24] = [
 ];
 
 /// What a text is as a schedule.
-#[derive(Clone, Copy, PartialEq, Eq, Debug)]
+#[derive(Clone, Copy, PartialEq, Eq)]
 enum Schedule {
     Wrong,
     TooOften,
     Right,
 }
 
-const SCHEDULES: [(&str, Schedule); 22] = [
+static SCHEDULES: [(&str, Schedule); 22] = [
     ("*/5 * * * *", Schedule::Right),
     ("*/59 * * * *", Schedule::Right),
     ("0 0 1 JAN sun", Schedule::Right),
@@ -69,83 +70,122 @@ const SCHEDULES: [(&str, Schedule); 22] = [
     ("", Schedule::Wrong),
 ];
 
+fn told_patterns() -> &'static [Row] {
+    &PATTERNS
+}
+
+fn told_schedules() -> &'static [(&'static str, Schedule)] {
+    &SCHEDULES
+}
+
 // What a text is as a schedule, by the library.
-fn read_schedule(rt: &impl Abort, alloc: Global, text: &str) -> Schedule {
-    let Ok(read) = schedule(alloc, text.as_bytes()) else {
-        panic!(rt; "no memory");
+fn read_schedule(alloc: Global, text: &str) -> Result<Schedule, AllocError> {
+    let Some(items) = schedule(alloc, text.as_bytes())? else {
+        return Ok(Schedule::Wrong);
     };
-    let Some(items) = read else {
-        return Schedule::Wrong;
-    };
-    let Ok(often) = is_too_often(alloc, items.as_slice()) else {
-        panic!(rt; "no memory");
-    };
-    if often {
-        Schedule::TooOften
+    if is_too_often(alloc, items.as_slice())? {
+        Ok(Schedule::TooOften)
     } else {
-        Schedule::Right
+        Ok(Schedule::Right)
     }
 }
 
+fn is_pattern_as_told(alloc: Global, row: &Row) -> Result<bool, AllocError> {
+    let (text, names, paths) = row;
+    let bytes = text.as_bytes();
+    Ok(
+        is_pattern(alloc, Filter::Names, bytes)? == *names
+            && is_pattern(alloc, Filter::Paths, bytes)? == *paths,
+    )
+}
+
 #[test]
-fn patterns(rt: HostRuntime) -> Result<(), Fail> {
-    for (text, names, paths) in PATTERNS {
-        let bytes = text.as_bytes();
-        assert_eq!(rt; is_pattern(rt.alloc(), Filter::Names, bytes)?, names);
-        assert_eq!(rt; is_pattern(rt.alloc(), Filter::Paths, bytes)?, paths);
+fn patterns(rt: HostRuntime) -> Result<(), AllocError> {
+    for row in told_patterns() {
+        assert!(rt; is_pattern_as_told(rt.alloc(), row)?);
     }
     Ok(())
 }
 
 #[test]
-fn schedules(rt: HostRuntime) {
-    for (text, told) in SCHEDULES {
-        assert_eq!(rt; read_schedule(&rt, rt.alloc(), text), told);
+fn schedules(rt: HostRuntime) -> Result<(), AllocError> {
+    for (text, told) in told_schedules() {
+        assert!(rt; read_schedule(rt.alloc(), text)? == *told);
     }
+    Ok(())
+}
+
+/// Texts, and whether each is one expression alone, and one between blanks.
+static LONE: [Row; 6] = [
+    ("${{ secrets.P }}", true, true),
+    (" ${{ secrets.P }}\n", false, true),
+    ("${{ a }}${{ b }}", false, false),
+    ("${{ a }} || b", false, false),
+    ("${{ a ", false, false),
+    ("a", false, false),
+];
+
+fn told_lone() -> &'static [Row] {
+    &LONE
+}
+
+fn is_lone_as_told(alloc: Global, row: &Row) -> Result<bool, AllocError> {
+    let (text, alone, between_blanks) = row;
+    let bytes = text.as_bytes();
+    Ok(
+        is_lone_chunk(alloc, Around::Nothing, bytes)? == *alone
+            && is_lone_chunk(alloc, Around::Blanks, bytes)? == *between_blanks,
+    )
 }
 
 #[test]
-fn lone_expressions(rt: HostRuntime) -> Result<(), Fail> {
-    let rows: [(&str, bool, bool); 6] = [
-        ("${{ secrets.P }}", true, true),
-        (" ${{ secrets.P }}\n", false, true),
-        ("${{ a }}${{ b }}", false, false),
-        ("${{ a }} || b", false, false),
-        ("${{ a ", false, false),
-        ("a", false, false),
-    ];
-    for (text, alone, between_blanks) in rows {
-        let bytes = text.as_bytes();
-        assert_eq!(rt; is_lone_chunk(rt.alloc(), Around::Nothing, bytes)?, alone);
-        assert_eq!(rt;
-            is_lone_chunk(rt.alloc(), Around::Blanks, bytes)?,
-            between_blanks
-        );
+fn lone_expressions(rt: HostRuntime) -> Result<(), AllocError> {
+    for row in told_lone() {
+        assert!(rt; is_lone_as_told(rt.alloc(), row)?);
     }
     Ok(())
+}
+
+/// Texts, and whether each is an id, and a variable's name.
+static NAMES: [Row; 8] = [
+    ("build", true, true),
+    ("_build-2", true, true),
+    ("2build", false, true),
+    ("a.b", false, true),
+    ("", false, false),
+    ("a b", false, false),
+    ("a=b", false, false),
+    ("a&b", false, false),
+];
+
+fn told_names() -> &'static [Row] {
+    &NAMES
+}
+
+fn is_name_as_told(row: &Row) -> bool {
+    let bytes = row.0.as_bytes();
+    is_id(bytes) == row.1 && is_variable(bytes) == row.2
 }
 
 #[test]
 fn names(rt: HostRuntime) {
-    for (text, id, variable) in [
-        ("build", true, true),
-        ("_build-2", true, true),
-        ("2build", false, true),
-        ("a.b", false, true),
-        ("", false, false),
-        ("a b", false, false),
-        ("a=b", false, false),
-        ("a&b", false, false),
-    ] {
-        assert_eq!(rt; is_id(text.as_bytes()), id);
-        assert_eq!(rt; is_variable(text.as_bytes()), variable);
+    for row in told_names() {
+        assert!(rt; is_name_as_told(row));
     }
+}
+
+fn is_part(part: &[u8], text: &[u8]) -> bool {
+    has_part(part, text)
+}
+
+fn are_same(one: &[u8], other: &[u8]) -> bool {
+    is_same_text(one, other)
 }
 
 #[test]
 fn parts(rt: HostRuntime) {
-    assert!(rt; has_part(b"{0}", b"zsh {0}"));
-    assert!(rt; !has_part(b"{0}", b"zsh {1}"));
-    assert!(rt; is_same_text(b"Build", b"bUILD"));
-    assert!(rt; !is_same_text(b"Build", b"Builds"));
+    assert!(rt; is_part(b"{0}", b"zsh {0}"));
+    assert!(rt; !is_part(b"{0}", b"zsh {1}"));
+    assert!(rt; are_same(b"Build", b"bUILD"));
+    assert!(rt; !are_same(b"Build", b"Builds"));
 }

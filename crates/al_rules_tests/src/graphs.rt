@@ -1,7 +1,7 @@
 //! Graphs.
 
 use al_graph::{reachable, turned};
-use std::test::Fail;
+use std::alloc::AllocError;
 
 // Whether an edge leads from one node to another.
 fn leads(graph: &[Vec<usize>], from: usize, to: usize) -> bool {
@@ -12,7 +12,7 @@ fn leads(graph: &[Vec<usize>], from: usize, to: usize) -> bool {
 }
 
 #[test]
-fn walks(rt: HostRuntime) -> Result<(), Fail> {
+fn walks(rt: HostRuntime) -> Result<(), AllocError> {
     let alloc = rt.alloc();
     // 0 leads to 1 and 2, 1 to 2, and 2 to 1; 3 leads to 0
     let mut graph = Vec::new(alloc);

@@ -5,15 +5,15 @@ use al_text::{Code, Fault, RuleCode, position};
 use al_tree::{FileKind, Tree, read_action, read_workflow};
 use al_yaml::Doc;
 use al_yaml_reader::read_yaml;
-use std::alloc::Global;
-use std::process::Abort;
-use std::test::Fail;
+use std::alloc::{AllocError, Global};
 
 /// A fault: its line and column, its code and its arguments.
 type Told = (u32, u32, RuleCode, &'static [&'static str]);
 
-/// Files, what each is read as, and the faults of its rules, in any order.
-const FILES: [(FileKind, &[u8], &[Told]); 4] = [
+/// A file, what it is read as, and the faults of its rules, in any order.
+type File = (FileKind, &'static [u8], &'static [Told]);
+
+static FILES: [File; 4] = [
     (
         FileKind::Workflow,
         b"on:
@@ -90,17 +90,23 @@ runs: {using: node18, steps: [{run: make}]}
     ),
 ];
 
-// The tree of a file.
-fn tree(rt: &impl Abort, alloc: Global, kind: FileKind, text: &[u8]) -> Result<Tree, Fail> {
-    assert!(rt; text.len() <= 1048576);
-    let Ok(Ok(doc)) = read_yaml(alloc, text) else {
-        panic!(rt; "no document");
-    };
-    tree_of(alloc, kind, doc)
+fn files() -> &'static [File] {
+    &FILES
+}
+
+// The tree of a file; none where it is no document.
+fn tree(alloc: Global, kind: FileKind, text: &[u8]) -> Result<Option<Tree>, AllocError> {
+    if text.len() > 1_048_576 {
+        return Ok(None);
+    }
+    match read_yaml(alloc, text)? {
+        Ok(doc) => Ok(Some(tree_of(alloc, kind, doc)?)),
+        Err(_) => Ok(None),
+    }
 }
 
 // The tree that a document is.
-fn tree_of(alloc: Global, kind: FileKind, doc: Doc) -> Result<Tree, Fail> {
+fn tree_of(alloc: Global, kind: FileKind, doc: Doc) -> Result<Tree, AllocError> {
     match kind {
         FileKind::Workflow => Ok(Tree::Workflow(read_workflow(alloc, doc)?.0)),
         FileKind::Action => Ok(Tree::Action(read_action(alloc, doc)?.0)),
@@ -117,36 +123,61 @@ fn has_args(fault: &Fault, args: &[&str]) -> bool {
             .all(|(found, told)| found.as_str() == *told)
 }
 
+fn is_at(text: &[u8], start: u32, line: u32, column: u32) -> bool {
+    text.len() <= 1_048_576
+        && start as usize <= text.len()
+        && position(text, start) == (line, column)
+}
+
 // Whether a fault is the one that is told.
-fn is_told(rt: &impl Abort, text: &[u8], fault: &Fault, told: Told) -> bool {
-    let start = fault.span.start;
-    assert!(rt; text.len() <= 1048576 && start as usize <= text.len());
-    position(text, start) == (told.0, told.1)
-        && fault.code == Code::Rule(told.2)
+fn is_told(text: &[u8], fault: &Fault, told: &Told) -> bool {
+    fault.code == Code::Rule(told.2)
+        && is_at(text, fault.span.start, told.0, told.1)
         && has_args(fault, told.3)
 }
 
-// Asserts that one of some faults is the one that is told.
-fn assert_told(rt: &impl Abort, text: &[u8], faults: &[Fault], told: Told) {
+// Whether one of some faults is the one that is told.
+fn has_told(text: &[u8], faults: &[Fault], told: &Told) -> bool {
     for fault in faults {
-        if is_told(rt, text, fault, told) {
-            return;
+        if is_told(text, fault, told) {
+            return true;
         }
     }
-    panic!(rt; "a fault at {}:{} is missing", told.0, told.1);
+    false
+}
+
+fn have_told(text: &[u8], faults: &[Fault], told: &[Told]) -> bool {
+    for row in told {
+        if !has_told(text, faults, row) {
+            return false;
+        }
+    }
+    faults.len() == told.len()
+}
+
+fn faults_of(alloc: Global, tree: &Tree) -> Result<Vec<Fault>, AllocError> {
+    let mut faults = Vec::new(alloc);
+    rules(alloc, tree, &mut faults)?;
+    Ok(faults)
+}
+
+fn has_faults(alloc: Global, file: &File) -> Result<bool, AllocError> {
+    let (kind, text, told) = file;
+    match tree(alloc, *kind, text)? {
+        Some(tree) => Ok(have_told(text, &faults_of(alloc, &tree)?, told)),
+        None => Ok(false),
+    }
 }
 
 #[test]
-fn faults_of_files(rt: HostRuntime) -> Result<(), Fail> {
-    for (kind, text, told) in FILES {
-        let tree = tree(&rt, rt.alloc(), kind, text)?;
-        let mut faults = Vec::new(rt.alloc());
-        rules(rt.alloc(), &tree, &mut faults)?;
-        assert_eq!(rt; faults.len(), told.len());
-        for row in told {
-            assert_told(&rt, text, faults.as_slice(), *row);
-        }
+fn faults_of_files(rt: HostRuntime) -> Result<(), AllocError> {
+    for file in files() {
+        assert!(rt; has_faults(rt.alloc(), file)?);
     }
-    spans();
     Ok(())
+}
+
+#[test]
+fn worked_spans(_rt: HostRuntime) {
+    spans();
 }
