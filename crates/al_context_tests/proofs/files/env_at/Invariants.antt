@@ -2,4 +2,4 @@ use Rattle.al_contexts.specs.Standing.{Stands}
 use Rattle.al_context_tests.proofs.files.env_at.Given as goal
 
 abbrev pub invariant-loop-place : goal.invariant-loop-place
-invariant-loop-place g l = Stands l.file l.env
+invariant-loop-place l = Stands l.file l.env
