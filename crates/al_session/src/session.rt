@@ -174,6 +174,9 @@ impl<L: Lint> Session<L> {
             (with_file self.old.folder path.now bytes.now)))) }
         ensures reads { IsUpTo self.old.reads self.new.reads 1 }
         ensures no_read { IfErr result (λ refused. refused ≢ Refused.Memory → self.new.reads ≡ self.old.reads) }
+        ensures there { bytes_at self.old.folder path.now ≡ Some bytes.now → self.new.reads ≡ self.old.reads }
+        ensures read_once { put_refusal L.meaning self.old.folder path.now bytes.now ≡ None
+            → bytes_at self.old.folder path.now ≢ Some bytes.now → self.new.reads ≡ raised self.old.reads 1 }
     {
         if let Some(refused) = self.put_refused(path, bytes) {
             return Err(refused);
