@@ -1,9 +1,9 @@
 -- Which calls lead back to their own file.
 use Rattle.std.proofs.Common.{◌≡◌, ℕ, zero, suc, ◌+◌, ◌<◌, ◌≤◌, Bool, true, false, cond, not, List, [], ◌∷◌, ◌++◌, length, map}
-use Rattle.std.proofs.Common.{get_or, drop, take, Option, Some, None, String, Vec, slice_get, refl, sym, ◌∙◌, ap, subst, arith, append_assoc, append-nil, nat_lt, nat_eq}
+use Rattle.std.proofs.Common.{get_or, drop, take, Option, Some, None, String, Vec, slice_get, refl, sym, ◌∙◌, ◌||◌, ap, subst, arith, append_assoc, append-nil, nat_lt, nat_eq}
 use Rattle.std.specs.Prelude.{string_bytes, bytes_eq, Contains, ◌↔◌}
 use Rattle.std.specs.Global.{Global}
-use Rattle.std.specs.List.{cons_option, filter_map, position, prefix_len}
+use Rattle.std.specs.List.{cons_option, filter_map, list_any, position, prefix_len}
 use Rattle.std.specs.Option.{unwrap_or, option_map, option_eq}
 use Rattle.std.proofs.lemmas.Bool.Decides.{nat_tests}
 use Rattle.std.proofs.lemmas.List.{drop_more, drop_all, length-map, take_more, map-append}
@@ -13,10 +13,11 @@ use Rattle.al_graph.specs.Graphs.{Edge, edges_of, here, onward}
 use Rattle.al_graph.specs.Labelling.{StronglyConnected}
 use Rattle.al_graph.specs.Within.{leads}
 use Rattle.al_graph.proofs.BoundedWalks.{leads_tells}
+use Rattle.al_graph.proofs.Searches.{edges_at}
 use Rattle.al_folder.specs.Meaning.{CallSite, Meaning, candidates}
 use Rattle.al_folder.specs.Folder.{Folder, or_else, paths_of}
 use Rattle.al_folder.specs.Kept.{Files, folder_of, entry_of, AllKept, IsKept}
-use Rattle.al_folder.specs.Loops.{AreComponents, IsCalledBy, called, calls_graph, leads_back, loop_fault_if, looping, number_among, number_of}
+use Rattle.al_folder.specs.Loops.{AreComponents, IsCallGraph, IsCalledBy, called, calls_graph, leads_back, loop_fault_if, loop_faults, looping, number_among, number_of}
 use Rattle.al_folder.specs.declared.kept.KeptFile.{KeptFile}
 use Rattle.al_folder.specs.declared.lint.Target.{Target}
 
@@ -248,3 +249,72 @@ program_labels m f items seen labels is same len exact =
       λ j k jn kn. let x = exact j k (omega (arith, jn, n, l)) (omega (arith, kn, n, l)) in
           (λ e. subst (λ g. StronglyConnected g j k) all (x.0 e), λ t. x.1 (subst (λ g. StronglyConnected g j k) (sym all) t)),
     )
+
+-- ---- files none of whose calls leads back
+
+none_has : {X : Type 0} (T : X → Bool) (xs : List X) (x : X) → list_any T xs ≡ false → Contains xs x → T x ≡ false
+none_has T [] x h c = absurd (let below : c.0 < 0 = c.1 in omega (arith, below))
+none_has T (y ∷ ys) x h c = by (T y) refl c.0 c.1 c.2 (λ rest at. none_has T ys x rest at)
+  where
+    wrong : true ≡ false → ⊥
+    wrong e = cc
+
+    by : (b : Bool) → T y ≡ b → (i : ℕ) → i < length (y ∷ ys) → get_or (y ∷ ys) i x ≡ x → (list_any T ys ≡ false → Contains ys x → T x ≡ false) → T x ≡ false
+    by true a i lt e more = absurd (wrong (sym (ap (λ b. b || list_any T ys) a) ∙ h))
+    by false a zero lt e more = sym (ap T e) ∙ a
+    by false a (suc i) lt e more = more (sym (ap (λ b. b || list_any T ys) a) ∙ h) (i, omega (arith, lt), e)
+
+module _ (graph : List (List ℕ)) (f : Folder) (i : ℕ) where
+  -- where nothing that these calls lead to leads back
+  no_loops : (ts : List Target) (ss : List CallSite) → ((k : ℕ) → Contains (filter_map (called f) ts) k → leads graph k i ≡ false) → looping graph f i ts ss ≡ []
+  no_loops [] ss h = refl
+  no_loops (t ∷ ts) [] h = refl
+  no_loops (t ∷ ts) (s ∷ ss) h = by (called f t) refl (λ rest. no_loops ts ss rest)
+    where
+      by : (o : Option ℕ) → called f t ≡ o → (((k : ℕ) → Contains (filter_map (called f) ts) k → leads graph k i ≡ false) → looping graph f i ts ss ≡ []) →
+          loop_fault_if (leads_back graph i (called f t)) s ++ looping graph f i ts ss ≡ []
+      by None a more =
+          ap (λ o. loop_fault_if (leads_back graph i o) s ++ looping graph f i ts ss) a
+          ∙ more (λ k c. h k (put_behind (called f) (called f t) k (filter_map (called f) ts) c))
+      by (Some k) a more =
+          ap (λ o. loop_fault_if (leads_back graph i o) s ++ looping graph f i ts ss) a
+          ∙ ap (λ b. loop_fault_if b s ++ looping graph f i ts ss) (h k (put_first (called f) (called f t) k (filter_map (called f) ts) a))
+          ∙ more (λ j c. h j (put_behind (called f) (called f t) j (filter_map (called f) ts) c))
+
+-- a file whose calls lead to none with its label
+module _ {I : Type 0} (m : Meaning I) (f : Folder) (labels : List (Option ℕ)) (c : AreComponents (calls_graph m f) labels) (i : ℕ) where
+  pub quiet : (p b : List ℕ) → slice_get f i ≡ Some (p, b) → i < length f →
+      list_any (λ k. option_eq nat_eq (get_or labels k None) (get_or labels i None)) (get_or (calls_graph m f) i []) ≡ false → (ss : List CallSite) →
+      looping (calls_graph m f) f i (m.calls p b) ss ≡ []
+  quiet p b at below none ss = no_loops (calls_graph m f) f i (m.calls p b) ss (λ k there. apart k (subst (λ (ns : List ℕ). Contains ns k) (sym (at_file m f i p b at)) there))
+    where
+      l : length (calls_graph m f) ≡ length f
+      l = length-map f _
+
+      apart : (k : ℕ) → Edge (calls_graph m f) i k → leads (calls_graph m f) k i ≡ false
+      apart k edge =
+          sym (labels_tell (calls_graph m f) labels i k false c (omega (arith, below, l)) (graph_inside m f i k edge) edge
+          (labels_same (get_or labels k None) (get_or labels i None) false (sym (none_has _ (get_or (calls_graph m f) i []) k none edge))))
+
+-- the same of a row of the program's graph
+module _ {I : Type 0} (m : Meaning I) (f : Folder) (edges : List (Vec ℕ Global)) (labels seen : List (Option ℕ)) (row : List ℕ) (v : Vec ℕ Global) (i : ℕ)
+    (calls : IsCallGraph m f edges labels) (below : i < length f) (read : v ≡ get_or edges i v) (is : row ≡ v.items) (same : seen ≡ labels) where
+  row_is : get_or (calls_graph m f) i [] ≡ row
+  row_is =
+      let n : length (edges_of edges) ≡ length edges = length-map edges _ in
+      let l : length (calls_graph m f) ≡ length f = length-map f _ in
+      let all : length (edges_of edges) ≡ length (calls_graph m f) = ap length calls.0 in
+      sym (ap (λ g. get_or g i []) calls.0) ∙ edges_at edges i v (omega (arith, below, n, l, all)) read ∙ sym is
+
+  pub row_inside : (k : ℕ) → Contains row k → k < length seen
+  row_inside k there =
+      let inside = graph_inside m f i k (subst (λ (ns : List ℕ). Contains ns k) (sym row_is) there) in
+      let size : length labels ≡ length (calls_graph m f) = calls.1.0 in
+      let all : length seen ≡ length labels = ap length same in
+      omega (arith, inside, size, all)
+
+  pub row_quiet : list_any (λ k. option_eq nat_eq (get_or seen k None) (get_or seen i None)) row ≡ false → (p b : List ℕ) → slice_get f i ≡ Some (p, b) → [] ≡ loop_faults m f i p b
+  row_quiet none p b at =
+      let P : List (Option ℕ) → List ℕ → Bool = λ ls ns. list_any (λ k. option_eq nat_eq (get_or ls k None) (get_or ls i None)) ns in
+      let all : P labels (get_or (calls_graph m f) i []) ≡ false = ap (P labels) row_is ∙ sym (ap (λ ls. P ls row) same) ∙ none in
+      sym (quiet m f labels calls.1 i p b at below all (m.sites p b))

@@ -1,10 +1,11 @@
 -- Calls that lead back to their own file, at once or over calls of further files.
-use Rattle.std.specs.Prelude.{ℕ, ◌<◌, ◌≡◌, Bool, false, List, [], ◌∷◌, ◌++◌, Option, Some, None, bytes_eq, map, length, slice_index_or}
+use Rattle.std.specs.Prelude.{ℕ, ◌<◌, ◌≡◌, Bool, false, List, [], ◌∷◌, ◌++◌, Option, Some, None, Vec, bytes_eq, map, length, slice_index_or}
 use Rattle.std.specs.Prelude.{if◌then◌else◌}
+use Rattle.std.specs.Global.{Global}
 use Rattle.std.specs.List.{filter_map, position}
 use Rattle.al_text.specs.FaultLists.{fault_list}
 use Rattle.al_text.specs.declared.faults.Fault.{Fault}
-use Rattle.al_graph.specs.Graphs.{Edge}
+use Rattle.al_graph.specs.Graphs.{Edge, edges_of}
 use Rattle.al_graph.specs.Labelling.{StronglyConnected}
 use Rattle.al_graph.specs.Within.{leads}
 use Rattle.al_folder.specs.Meaning.{CallSite, Meaning, candidates}
@@ -63,3 +64,7 @@ abbrev pub AreComponents : List (List ℕ) → List (Option ℕ) → Type 0
 AreComponents graph labels = (length labels ≡ length graph) × ((j k : ℕ) → j < length graph → k < length graph →
     ((slice_index_or labels j None ≡ slice_index_or labels k None) → StronglyConnected graph j k)
     × (StronglyConnected graph j k → slice_index_or labels j None ≡ slice_index_or labels k None))
+
+-- the program's graph of a folder's calls, and labels of the folder's files
+abbrev pub IsCallGraph : {I : Type 0} → Meaning I → Folder → List (Vec ℕ Global) → List (Option ℕ) → Type 0
+IsCallGraph m f graph labels = (edges_of graph ≡ calls_graph m f) × AreComponents (calls_graph m f) labels

@@ -17,7 +17,7 @@ pub use callers::{candidates_of, drop_callers, index_calls, reindex};
 pub use check::{check_path, check_paths};
 pub use kept::{Callers, Files, KeptFile};
 pub use lint::{Lint, Refused, Site, Target};
-pub use loops::{file_components, loop_faults};
+pub use loops::{CallGraph, call_graph, loop_faults};
 pub use missing::missing_paths;
 pub use paths::Paths;
 pub use place::{file_number, place_in};

@@ -1,7 +1,9 @@
 //! Calls that lead back to their own file.
 
-ghost use Rattle.std.specs.Prelude.{◌≡◌, ◌<◌, ◌++◌, [], ℕ, List, Some, length, slice_get, IfOk, IfSome, OnOk};
-ghost use Rattle.std.specs.List.{cons_option, filter_map};
+ghost use Rattle.std.specs.Prelude.{◌≡◌, ◌<◌, ◌++◌, [], ℕ, List, None, Some, Contains, length, nat_eq, slice_get, slice_index_or};
+ghost use Rattle.std.specs.Prelude.{IfOk, IfSome, OnOk};
+ghost use Rattle.std.specs.List.{cons_option, filter_map, list_any};
+ghost use Rattle.std.specs.Option.{option_eq};
 ghost use Rattle.al_graph.specs.Graphs.{edges_of};
 ghost use Rattle.al_folder.specs.Kept.{AreKept, IsKept, folder_of};
 ghost use Rattle.al_folder.specs.Loops as loops;
@@ -13,6 +15,15 @@ use crate::place::file_number;
 use al_graph::strongly_connected_components;
 use al_text::{Args, Fault, Path};
 use std::alloc::{AllocError, Global};
+
+/// The calls between the files of a folder, which are known by their numbers in order of path.
+#[derive(Drop)]
+pub struct CallGraph {
+    // For each file the numbers of the files that its calls lead to.
+    graph: Vec<Vec<usize>>,
+    // Of each file a label, the same for two files just where calls lead from each to the other.
+    labels: Vec<Option<usize>>,
+}
 
 /// The number of the file at a path, if it is there.
 fn number_of<U, I>(files: &Files<U, I>, path: &Path) -> Option<usize>
@@ -62,7 +73,7 @@ fn all_called<U, I>(
 ) -> Result<Vec<usize>, AllocError>
     ensures { IfOk result (λ numbers. numbers.items ≡ filter_map (loops.called (folder_of files.now.entries)) targets.now) }
 {
-    let mut numbers = Vec::new(alloc);
+    let mut numbers = Vec::with_capacity(alloc, targets.len())?;
     for target in targets {
         add_called(files, target, &mut numbers)?;
     }
@@ -77,7 +88,7 @@ fn calls_graph<L: Lint>(
     requires { AreKept L.meaning L.is_unit files.now.entries }
     ensures { IfOk result (λ graph. edges_of graph.items ≡ loops.calls_graph L.meaning (folder_of files.now.entries)) }
 {
-    let mut graph = Vec::new(alloc);
+    let mut graph = Vec::with_capacity(alloc, files.len())?;
     for index in 0..files.len() {
         let (_, file) = file_number(files, index);
         graph.push(all_called(alloc, files, &file.calls)?)?;
@@ -85,31 +96,54 @@ fn calls_graph<L: Lint>(
     Ok(graph)
 }
 
-/// Labels of the files by their numbers, the same for two files just where calls lead from each to the other: the strongly connected
-/// components of the graph of calls.
+/// The calls between the files, with the strongly connected components of their graph.
 ///
 /// Takes time in proportion to the files and calls, and looks each candidate of a call up by hash.
 ///
 /// # Errors
 ///
 /// [`AllocError`] where memory ran out.
-pub fn file_components<L: Lint>(
+pub fn call_graph<L: Lint>(
     alloc: Global,
     files: &Files<L::Unit, L::Iface>,
-) -> Result<Vec<Option<usize>>, AllocError>
+) -> Result<CallGraph, AllocError>
     requires { AreKept L.meaning L.is_unit files.now.entries }
-    ensures { IfOk result (λ labels. loops.AreComponents (loops.calls_graph L.meaning (folder_of files.now.entries)) labels.items) }
+    ensures { IfOk result (λ calls. loops.IsCallGraph L.meaning (folder_of files.now.entries) calls.graph.items calls.labels.items) }
 {
     let graph = calls_graph::<L>(alloc, files)?;
     let labels = strongly_connected_components(alloc, graph.as_slice())?;
-    Ok(labels)
+    Ok(CallGraph { graph, labels })
+}
+
+/// Whether a node has a label.
+fn has_label(labels: &[Option<usize>], node: usize, label: Option<usize>) -> bool
+    requires { node < length labels.now }
+    ensures { result ≡ option_eq nat_eq (slice_index_or labels.now node None) label }
+{
+    labels[node] == label
+}
+
+/// Whether one of these nodes has the label of a node.
+fn has_label_of(nodes: &[usize], labels: &[Option<usize>], node: usize) -> bool
+    requires nodes { (k : ℕ) → Contains nodes.now k → k < length labels.now }
+    requires node { node < length labels.now }
+    ensures { result ≡ list_any
+        (λ k. option_eq nat_eq (slice_index_or labels.now k None) (slice_index_or labels.now node None)) nodes.now }
+{
+    let label = labels[node];
+    for other in nodes {
+        if has_label(labels, *other, label) {
+            return true;
+        }
+    }
+    false
 }
 
 /// The fault of a call that leads back to its own file.
 fn loop_fault(alloc: Global, site: Site<'_>) -> Result<Fault, AllocError>
     ensures { IfOk result (λ fault. fault ≡ loops.loop_fault (site_of site.entry)) }
 {
-    let mut texts = Vec::new(alloc);
+    let mut texts = Vec::with_capacity(alloc, 1)?;
     texts.push(String::from_str(alloc, site.text)?)?;
     Ok(Fault {
         span: site.span,
@@ -182,7 +216,8 @@ fn faults_of_calls<L: Lint>(
     Ok(faults)
 }
 
-/// The faults of the calls of the file with this number that lead back to it, in the order of the calls.
+/// The faults of the calls of the file with this number that lead back to it, in the order of the calls. Of a file that no call of its own
+/// leads back to, no candidate is looked up.
 ///
 /// # Errors
 ///
@@ -191,16 +226,19 @@ pub fn loop_faults<L: Lint>(
     lint: &L,
     alloc: Global,
     files: &Files<L::Unit, L::Iface>,
-    labels: &[Option<usize>],
+    calls: &CallGraph,
     index: usize,
 ) -> Result<Vec<Fault>, AllocError>
     requires kept { AreKept L.meaning L.is_unit files.now.entries }
-    requires labels { loops.AreComponents (loops.calls_graph L.meaning (folder_of files.now.entries)) labels.now }
+    requires calls { loops.IsCallGraph L.meaning (folder_of files.now.entries) calls.now.graph.items calls.now.labels.items }
     requires index { index < length files.now.entries }
     ensures { (p b : List ℕ) → slice_get (folder_of files.now.entries) index ≡ Some (p, b) → IfOk result (λ faults.
         faults.items ≡ loops.loop_faults L.meaning (folder_of files.now.entries) index p b) }
 {
+    if !has_label_of(&calls.graph[index], &calls.labels, index) {
+        return Ok(Vec::new(alloc));
+    }
     let (_, file) = file_number(files, index);
-    let faults = faults_of_calls(lint, alloc, files, labels, index, file)?;
+    let faults = faults_of_calls(lint, alloc, files, &calls.labels, index, file)?;
     Ok(faults)
 }

@@ -6,7 +6,7 @@ ghost use Rattle.al_folder.specs.Kept.{AreKept, folder_of};
 ghost use Rattle.al_folder.specs.Loops as loops;
 ghost use Rattle.al_session.specs.Session.{AllChecked, AreJoined, IsListed};
 
-use al_folder::{Files, Lint, file_components, file_number, loop_faults};
+use al_folder::{CallGraph, Files, Lint, call_graph, file_number, loop_faults};
 use al_text::{Args, Fault, ordered};
 use std::alloc::{AllocError, Global};
 
@@ -14,7 +14,7 @@ use std::alloc::{AllocError, Global};
 fn copied_texts(alloc: Global, texts: &[String]) -> Result<Vec<String>, AllocError>
     ensures { IfOk result (λ copies. map string_bytes copies.items ≡ map string_bytes texts.now) }
 {
-    let mut copies = Vec::new(alloc);
+    let mut copies = Vec::with_capacity(alloc, texts.len())?;
     for text in texts {
         copies.push(String::from_str(alloc, text.as_str())?)?;
     }
@@ -48,16 +48,16 @@ fn joined<L: Lint>(
     lint: &L,
     alloc: Global,
     files: &Files<L::Unit, L::Iface>,
-    labels: &[Option<usize>],
+    calls: &CallGraph,
     index: usize,
 ) -> Result<Option<Vec<Fault>>, AllocError>
     requires kept { AreKept L.meaning L.is_unit files.now.entries }
     requires checked { AllChecked L.meaning (folder_of files.now.entries) files.now.entries }
-    requires labels { loops.AreComponents (loops.calls_graph L.meaning (folder_of files.now.entries)) labels.now }
+    requires calls { loops.IsCallGraph L.meaning (folder_of files.now.entries) calls.now.graph.items calls.now.labels.items }
     requires index { index < length files.now.entries }
     ensures { IfOk result (λ joined. IsListed L.meaning files.now.entries index joined) }
 {
-    let mut faults = loop_faults(lint, alloc, files, labels, index)?;
+    let mut faults = loop_faults(lint, alloc, files, calls, index)?;
     if faults.is_empty() {
         return Ok(None);
     }
@@ -80,10 +80,10 @@ pub(crate) fn join_all<L: Lint>(
     requires checked { AllChecked L.meaning (folder_of files.now.entries) files.now.entries }
     ensures { IfOk result (λ lists. AreJoined L.meaning files.now.entries lists.items (length files.now.entries)) }
 {
-    let labels = file_components::<L>(alloc, files)?;
-    let mut lists = Vec::new(alloc);
+    let calls = call_graph::<L>(alloc, files)?;
+    let mut lists = Vec::with_capacity(alloc, files.len())?;
     for index in 0..files.len() {
-        lists.push(joined(lint, alloc, files, labels.as_slice(), index)?)?;
+        lists.push(joined(lint, alloc, files, &calls, index)?)?;
     }
     Ok(lists)
 }
@@ -103,9 +103,9 @@ pub(crate) fn has_loops<L: Lint>(
         (loops.loop_faults L.meaning (folder_of files.now.entries) x.0 x.1.0 x.1.1) == 0))
         (enumerate_from 0 (folder_of files.now.entries))) }
 {
-    let labels = file_components::<L>(alloc, files)?;
+    let calls = call_graph::<L>(alloc, files)?;
     for index in 0..files.len() {
-        let faults = loop_faults(lint, alloc, files, labels.as_slice(), index)?;
+        let faults = loop_faults(lint, alloc, files, &calls, index)?;
         if !faults.is_empty() {
             return Ok(true);
         }

@@ -1,11 +1,29 @@
-use Rattle.std.proofs.Common.{◌≡◌, subst, String, List, ℕ}
+use Rattle.std.proofs.Common.{◌≡◌, ◌∙◌, arith, length, subst, sym, String, List, ℕ}
+use Rattle.std.proofs.lemmas.List.{length-map}
 use Rattle.std.specs.Prelude.{string_bytes}
 use Rattle.std.specs.Global.{Global}
 use Rattle.al_folder.specs.declared.kept.KeptFile.{KeptFile}
 use Rattle.al_folder.specs.Kept.{folder_of}
 use Rattle.al_folder.specs.Loops.{loop_faults}
-use Rattle.al_folder.proofs.Looping.{entry_number, kept_number, same_entry}
+use Rattle.al_folder.proofs.Looping.{entry_number, kept_number, row_inside, row_quiet, same_entry}
 use Rattle.al_folder.proofs.loops.loop_faults.Goals as goal
+
+pub has_label_of-requires-clause-nodes : goal.has_label_of-requires-clause-nodes
+has_label_of-requires-clause-nodes g c =
+    let F = folder_of c.args.files.now.entries in
+    let n : length F ≡ length c.args.files.now.entries = length-map c.args.files.now.entries _ in
+    let there = c.requires.index in
+    row_inside g.L.Lint.meaning F c.args.calls.now.graph.items c.args.calls.now.labels.items c.deref-2.result.now c.deref.result.now c.index.result.now c.args.index
+    c.requires.calls (omega (arith, there, n)) c.index.ensures c.deref.ensures.value c.deref-2.ensures.value
+
+pub returns-then-not-has_label_of : goal.returns-then-not-has_label_of
+returns-then-not-has_label_of g c p b at =
+    let F = folder_of c.args.files.now.entries in
+    let n : length F ≡ length c.args.files.now.entries = length-map c.args.files.now.entries _ in
+    let there = c.requires.index in
+    c.new.ensures.items ∙ row_quiet g.L.Lint.meaning F c.args.calls.now.graph.items c.args.calls.now.labels.items c.deref-2.result.now c.deref.result.now c.index.result.now
+    c.args.index c.requires.calls (omega (arith, there, n)) c.index.ensures c.deref.ensures.value c.deref-2.ensures.value
+    (sym c.has_label_of.ensures ∙ c.if-not-has_label_of.true) p b at
 
 pub faults_of_calls-requires-clause-there : goal.faults_of_calls-requires-clause-there
 faults_of_calls-requires-clause-there g c =

@@ -8,7 +8,7 @@ use Rattle.al_session.proofs.joining.join_all.Goals as goal
 pub loop-index-init : goal.loop-index-init
 loop-index-init g c =
     let P : List (Option (Vec Fault Global)) → Type 0 = λ ls. AreJoined g.L.Lint.meaning c.args.files.now.entries ls 0 in
-    subst P (sym c.new-lists.ensures.items) (joined_none g.L.Lint.meaning c.args.files.now.entries)
+    subst P (sym c.in_ok-lists.ensures.items) (joined_none g.L.Lint.meaning c.args.files.now.entries)
 
 pub loop-index-preserved : goal.loop-index-preserved
 loop-index-preserved g c =
