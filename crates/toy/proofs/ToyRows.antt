@@ -23,6 +23,17 @@ pub two : report_of true toy ((codes "a.toy", codes "need b.toy\nhave x") ∷ (c
 unfolding report_of status_of reported faults_in answer call_in path_in is_utf8 chars encode digits
 two = refl
 
+pub three : report_of true toy ((codes "p.toy", codes "need q.toy\nhave x") ∷ (codes "q.toy", codes "need r.toy\nhave x") ∷ (codes "r.toy", codes "need p.toy\nhave x") ∷ [])
+    ≡ codes "p.toy:1:1: call of \"q.toy\" leads back to this file [workflow-call]\n" ++ codes "q.toy:1:1: call of \"r.toy\" leads back to this file [workflow-call]\n"
+    ++ codes "r.toy:1:1: call of \"p.toy\" leads back to this file [workflow-call]\n"
+unfolding report_of status_of reported faults_in answer call_in path_in is_utf8 chars encode digits
+three = refl
+
+pub three_without_the_second : report_of true toy ((codes "p.toy", codes "need q.toy\nhave x") ∷ (codes "r.toy", codes "need p.toy\nhave x") ∷ [])
+    ≡ codes "p.toy:1:1: unexpected key \"q.toy\" [syntax-check]\n"
+unfolding report_of status_of reported faults_in answer call_in path_in is_utf8 chars encode digits
+three_without_the_second = refl
+
 pub into : report_of true toy ((codes "a.toy", codes "need b.toy\nhave x") ∷ (codes "b.toy", codes "have y\nneed b.toy") ∷ [])
     ≡ codes "b.toy:2:1: call of \"b.toy\" leads back to this file [workflow-call]\n"
 unfolding report_of status_of reported faults_in answer call_in path_in is_utf8 chars encode digits

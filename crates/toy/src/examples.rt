@@ -14,6 +14,13 @@ pub fn rows()
     ensures two { report_of true toy ((codes "a.toy", codes "need b.toy\nhave x") ∷ (codes "b.toy", codes "have y\nneed a.toy") ∷ [])
         ≡ codes "a.toy:1:1: call of \"b.toy\" leads back to this file [workflow-call]\n"
         ++ codes "b.toy:2:1: call of \"a.toy\" leads back to this file [workflow-call]\n" }
+    ensures three { report_of true toy ((codes "p.toy", codes "need q.toy\nhave x") ∷ (codes "q.toy", codes "need r.toy\nhave x")
+        ∷ (codes "r.toy", codes "need p.toy\nhave x") ∷ [])
+        ≡ codes "p.toy:1:1: call of \"q.toy\" leads back to this file [workflow-call]\n"
+        ++ codes "q.toy:1:1: call of \"r.toy\" leads back to this file [workflow-call]\n"
+        ++ codes "r.toy:1:1: call of \"p.toy\" leads back to this file [workflow-call]\n" }
+    ensures three_without_the_second { report_of true toy ((codes "p.toy", codes "need q.toy\nhave x")
+        ∷ (codes "r.toy", codes "need p.toy\nhave x") ∷ []) ≡ codes "p.toy:1:1: unexpected key \"q.toy\" [syntax-check]\n" }
     ensures into { report_of true toy ((codes "a.toy", codes "need b.toy\nhave x") ∷ (codes "b.toy", codes "have y\nneed b.toy") ∷ [])
         ≡ codes "b.toy:2:1: call of \"b.toy\" leads back to this file [workflow-call]\n" }
     ensures first_there { report_of true toy ((codes "a.toy", codes "need b.toy a.toy\nhave x") ∷ (codes "b.toy", codes "have y") ∷ [])
