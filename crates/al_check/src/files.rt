@@ -190,8 +190,8 @@ fn add_behind(
 ) -> Result<(), AllocError>
     requires laid { IsLaid 1048576 (root_of tree.now) }
     requires texts { HasTexts (root_of tree.now) }
-    ensures { OnOk result (out.new.items ≡ out.old.items
-        ++ calls.behind_faults (kind_in tree.now) (root_of tree.now) (map (λ a. option_copied a) answers.now)) }
+    ensures { OnOk result (SameSet out.new.items (out.old.items
+        ++ calls.behind_faults (kind_in tree.now) (root_of tree.now) (map (λ a. option_copied a) answers.now))) }
 {
     match tree {
         Tree::Workflow(file) => {

@@ -1,3 +1,5 @@
 pub mod Lone
 pub mod Short
 pub mod Steps
+pub mod Repeating
+pub mod Sets

@@ -1,29 +1,25 @@
 //! The faults of the calls of a file.
-ghost use Rattle.std.specs.Prelude.{◌≡◌, ◌++◌, map, All, IsSome, None, OnOk, Some};
+ghost use Rattle.std.specs.Prelude.{◌≡◌, ◌++◌, map, false, All, Contains, IfOk, IfSome, OnOk, Some};
+ghost use Rattle.std.specs.Option.{option_map_or};
 ghost use Rattle.std.specs.List.{flat_map};
-ghost use Rattle.std.specs.Option.{option_copied};
 ghost use Rattle.al_calls.specs.AnswerViews.{answered_of};
 ghost use Rattle.al_calls.specs.Answers.{answered_faults};
 ghost use Rattle.al_contexts.specs.Answered.{known_of};
 ghost use Rattle.al_contexts.specs.Standing.{Stands};
-ghost use Rattle.al_file_calls.specs.FileCalls.{AreShort, call_faults, text_or_empty, typing};
+ghost use Rattle.al_file_calls.specs.Repeats as repeating;
+ghost use Rattle.al_file_calls.specs.FileCalls.{AreShort, call_faults, typing};
+ghost use Rattle.al_text.specs.Growth.{SameSet};
+ghost use Rattle.al_text.specs.declared.faults.Fault.{Fault};
 ghost use Rattle.al_yaml.specs.View.{view};
 
-use crate::values::values_given;
-use al_calls::{Answered, check_call, members_under};
+use crate::repeats::repeats;
+use crate::values::job_values;
+use al_calls::{Answered, check_call};
 use al_contexts::{Env, File};
-use al_text::Fault;
+use al_text::{Fault, ordered};
 use std::alloc::{AllocError, Global};
-
-/// The text of a job's key; empty where there is none.
-fn text_or_empty<'a>(text: Option<&'a [u8]>) -> &'a [u8]
-    ensures { result.now ≡ text_or_empty (option_copied text.entry) }
-{
-    match text {
-        None => &[],
-        Some(text) => text,
-    }
-}
+use std::collections::BTreeMap;
+use std::mem::replace;
 
 /// Adds the faults of a job's call.
 fn check_job<'a>(
@@ -41,9 +37,7 @@ fn check_job<'a>(
         (answered_of answered.entry)) }
 {
     let call = answered.call;
-    let given = members_under(alloc, call.node, "with")?;
-    let job = text_or_empty(call.site.job);
-    let values = values_given(alloc, file, env, job, given.as_slice())?;
+    let values = job_values(alloc, file, env, call)?;
     check_call(alloc, call, values.as_slice(), answered.answer, out)
 }
 
@@ -84,7 +78,82 @@ fn check_answered<'a>(
     }
 }
 
-/// Adds the faults of some calls, to which the environment goes on.
+/// How many faults there may be at least before equal ones are dropped.
+const ROOM: usize = 65_536;
+
+/// Puts the faults in order, each once, where there are more than there may be. Answers how many there may be then, more than twice as
+/// many as are left: so sorting takes time in proportion to the faults that came, but for a logarithm.
+fn once_each(alloc: Global, room: usize, out: &mut Vec<Fault>) -> usize
+    ensures { SameSet out.new.items out.old.items }
+{
+    if out.len() <= room {
+        return room;
+    }
+    let all = replace(out, Vec::new(alloc));
+    *out = ordered(all);
+    out.len().saturating_mul(2).saturating_add(ROOM)
+}
+
+/// Whether a call says again what this earlier one says, if there is one.
+fn is_repeated<'a>(
+    alloc: Global,
+    file: File<'a>,
+    env: &mut Env<'a>,
+    earlier: Option<Answered<'a>>,
+    answered: Answered<'a>,
+) -> Result<bool, AllocError>
+    requires stands { Stands file env.old }
+    requires short { AreShort (view answered.call.now.node.now) }
+    requires earlier_short { IfSome earlier (λ a. AreShort (view a.call.now.node.now)) }
+    ensures stands { OnOk result (Stands file.entry env.new) }
+    ensures same { IfOk result (λ same. same ≡ option_map_or
+        (λ a. repeating.repeats (typing (file.entry).kind (known_of (file.entry).known.now) (view (file.entry).root.now))
+        (answered_of a) (answered_of answered.entry)) earlier.entry false) }
+{
+    match earlier {
+        None => Ok(false),
+        Some(earlier) => repeats(alloc, file, env, earlier, answered),
+    }
+}
+
+/// Adds the faults of a call, unless it says again what an earlier one says, whose faults are there.
+fn check_unrepeated<'a>(
+    alloc: Global,
+    file: File<'a>,
+    env: &mut Env<'a>,
+    earlier: Option<Answered<'a>>,
+    answered: Answered<'a>,
+    out: &mut Vec<Fault>,
+) -> Result<(), AllocError>
+    requires stands { Stands file env.old }
+    requires short { AreShort (view answered.call.now.node.now) }
+    requires earlier_short { IfSome earlier (λ a. AreShort (view a.call.now.node.now)) }
+    requires there { IfSome earlier (λ a. (f : Fault) → Contains
+        (answered_faults (typing file.kind (known_of file.known.now) (view file.root.now)) (answered_of a)) f → Contains out.old.items f) }
+    ensures stands { OnOk result (Stands file.entry env.new) }
+    ensures faults { OnOk result (SameSet out.new.items (out.old.items
+        ++ answered_faults (typing (file.entry).kind (known_of (file.entry).known.now) (view (file.entry).root.now))
+        (answered_of answered.entry))) }
+{
+    if is_repeated(alloc, file, env, earlier, answered)? {
+        return Ok(());
+    }
+    check_answered(alloc, file, env, answered, out)
+}
+
+/// Of these calls the latest one whose `uses` begins at a place, if there is one.
+fn earlier_at<'a>(
+    latest: &BTreeMap<u32, usize>,
+    calls: &[Answered<'a>],
+    start: u32,
+) -> Option<Answered<'a>>
+    ensures { IfSome result (λ a. Contains calls.now a) }
+{
+    let position = latest.get(&start).copied()?;
+    calls.get(position).copied()
+}
+
+/// Adds the faults of some calls, to which the environment goes on. Equal faults are dropped before they take much memory.
 fn check_each<'a>(
     alloc: Global,
     file: File<'a>,
@@ -94,12 +163,20 @@ fn check_each<'a>(
 ) -> Result<(), AllocError>
     requires stands { Stands file env.old }
     requires short { All (λ a. AreShort (view a.call.now.node.now)) answered.now }
-    ensures { OnOk result (out.new.items ≡ out.old.items
+    ensures { OnOk result (SameSet out.new.items (out.old.items
         ++ flat_map (answered_faults (typing (file.entry).kind (known_of (file.entry).known.now) (view (file.entry).root.now)))
-        (map answered_of answered.now)) }
+        (map answered_of answered.now))) }
 {
-    for one in answered {
-        check_answered(alloc, file, env, *one, out)?;
+    let mut latest = BTreeMap::new(alloc);
+    let mut room = ROOM;
+    for i in 0..answered.len() {
+        let (before, _) = answered.split_at(i);
+        let one = answered[i];
+        let start = one.call.uses.span.start;
+        let earlier = earlier_at(&latest, before, start);
+        check_unrepeated(alloc, file, env, earlier, one, out)?;
+        latest.insert(start, i)?;
+        room = once_each(alloc, room, out);
     }
     Ok(())
 }
@@ -112,8 +189,8 @@ pub(crate) fn check_calls<'a>(
     out: &mut Vec<Fault>,
 ) -> Result<(), AllocError>
     requires short { All (λ a. AreShort (view a.call.now.node.now)) answered.now }
-    ensures { OnOk result (out.new.items ≡ out.old.items
-        ++ call_faults (file.entry).kind (known_of (file.entry).known.now) (view (file.entry).root.now) (map answered_of answered.now)) }
+    ensures { OnOk result (SameSet out.new.items (out.old.items
+        ++ call_faults (file.entry).kind (known_of (file.entry).known.now) (view (file.entry).root.now) (map answered_of answered.now))) }
 {
     let mut env = Env::new(alloc, file)?;
     check_each(alloc, file, &mut env, answered, out)

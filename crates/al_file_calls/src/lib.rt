@@ -5,6 +5,7 @@
 mod faults;
 mod files;
 mod known;
+mod repeats;
 mod types;
 mod values;
 

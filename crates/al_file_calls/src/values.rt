@@ -1,23 +1,27 @@
 //! What a job gives under `with`, each value with its type.
 ghost use Rattle.std.specs.Prelude.{◌≡◌, map, All, IfOk, OnOk};
+ghost use Rattle.std.specs.Option.{option_copied};
 ghost use Rattle.al_calls.specs.AnswerViews.{given_of};
 ghost use Rattle.al_calls.specs.CallFaults.{given_type, values_of};
 ghost use Rattle.al_contexts.specs.Answered.{known_of};
 ghost use Rattle.al_contexts.specs.Standing.{Stands};
 ghost use Rattle.al_file_calls.specs.FileCalls as file_calls;
-ghost use Rattle.al_file_calls.specs.FileCalls.{AreShort, type_in_job};
+ghost use Rattle.al_file_calls.specs.FileCalls.{AreShort, type_in_job, typing};
+ghost use Rattle.al_file_calls.specs.Repeats.{values_in};
 ghost use Rattle.al_places.specs.Places.{place_of};
 ghost use Rattle.al_shape.specs.Values.{member_of};
 ghost use Rattle.al_types.specs.TypeViews.{ty_of};
+ghost use Rattle.al_uses.specs.CallViews.{call_of};
 ghost use Rattle.al_yaml.specs.View.{view};
 
 use crate::types::scalar_type;
-use al_calls::Value;
+use al_calls::{Value, members_under};
 use al_contexts::{Env, File};
 use al_places::{Place, Position, Section, Seen, available};
 use al_scalar::Scalar;
 use al_shape::{Member, key_text};
 use al_types::Ty;
+use al_uses::Call;
 use al_yaml::Node;
 use std::alloc::{AllocError, Global};
 
@@ -64,7 +68,7 @@ fn value_type<'a>(
 }
 
 /// What a job gives under these keys, each value with its type. The environment goes to where they stand.
-pub(crate) fn values_given<'a>(
+fn values_given<'a>(
     alloc: Global,
     file: File<'a>,
     env: &mut Env<'a>,
@@ -87,4 +91,32 @@ pub(crate) fn values_given<'a>(
         })?;
     }
     Ok(values)
+}
+
+/// The text of a job's key; empty where there is none.
+fn text_or_empty<'a>(text: Option<&'a [u8]>) -> &'a [u8]
+    ensures { result.now ≡ file_calls.text_or_empty (option_copied text.entry) }
+{
+    match text {
+        None => &[],
+        Some(text) => text,
+    }
+}
+
+/// What a job's call gives, each value with its type. The environment goes to where the values stand.
+pub(crate) fn job_values<'a>(
+    alloc: Global,
+    file: File<'a>,
+    env: &mut Env<'a>,
+    call: &'a Call<'a>,
+) -> Result<Vec<Value<'a>>, AllocError>
+    requires stands { Stands file env.old }
+    requires short { AreShort (view call.now.node.now) }
+    ensures stands { OnOk result (Stands file.entry env.new) }
+    ensures values { IfOk result (λ v. map given_of v.items
+        ≡ values_in (typing (file.entry).kind (known_of (file.entry).known.now) (view (file.entry).root.now)) (call_of call.entry.now)) }
+{
+    let given = members_under(alloc, call.node, "with")?;
+    let job = text_or_empty(call.site.job);
+    values_given(alloc, file, env, job, given.as_slice())
 }

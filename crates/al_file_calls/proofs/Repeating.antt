@@ -1,0 +1,364 @@
+-- Calls that say the same have the same faults.
+use Rattle.std.proofs.Common.{◌≡◌, ℕ, List, [], ◌∷◌, ◌++◌, map, refl, sym, subst, ap, ◌∙◌, Option, Some, None, Bool, true, false, cond, find}
+use Rattle.std.specs.Prelude.{Contains, IfSome, ◌&&◌, ◌||◌, bytes_eq, codes, is_some, option_map}
+use Rattle.std.specs.Cmp.Lexicographic.{pointwise}
+use Rattle.std.specs.List.{flat_map}
+use Rattle.std.specs.Option.{option_eq, option_map_or}
+use Rattle.std.specs.Str.Lossy.{utf8_lossy}
+use Rattle.std.proofs.lemmas.Bool.{and_parts, eqb-true}
+use Rattle.std.proofs.Math.Dec.{eqb}
+use Rattle.std.proofs.lemmas.Slice.Eq.{bytes_eq-Decides}
+use Rattle.al_text.specs.declared.codes.CallCode.{CallCode}
+use Rattle.al_text.specs.declared.codes.CallCode.TheVariants as code
+use Rattle.al_text.specs.declared.codes.Caller.{Caller}
+use Rattle.al_text.specs.declared.codes.Caller.TheVariants as caller
+use Rattle.al_text.specs.declared.codes.Code.TheVariants as kind_of_code
+use Rattle.al_text.specs.declared.faults.Fault.{Fault}
+use Rattle.al_text.specs.declared.faults.Span.{Span}
+use Rattle.al_text.specs.contracts.faults.SpanPartialEq.TheImpl as span
+use Rattle.al_scalar.specs.Scalar.{Scalar, text_of}
+use Rattle.al_types.specs.Types.{Type', Any, Null, Number, Bool', String, ArrayOf, ObjectOf}
+use Rattle.al_types.specs.TypeViews.{form_of}
+use Rattle.al_types.specs.declared.types.Form as forms
+use Rattle.al_types.specs.declared.types.Form.TheVariants as form
+use Rattle.al_types.specs.contracts.types.FormPartialEq.TheImpl as outermost
+use Rattle.al_yaml.specs.Node.{Node, span_of}
+use Rattle.al_shape.specs.Keys.{key_of}
+use Rattle.al_shape.specs.Values.{entries_at, text_at}
+use Rattle.al_declarations.specs.Declarations.{named_among, names_of}
+use Rattle.al_declarations.specs.declared.inputs.InputType.{InputType}
+use Rattle.al_declarations.specs.declared.inputs.InputType.TheVariants as takes
+use Rattle.al_interfaces.specs.declared.interfaces.Interface.{Interface}
+use Rattle.al_interfaces.specs.declared.interfaces.Interface.TheVariants.{Readable, Unreadable}
+use Rattle.al_interfaces.specs.declared.interfaces.Input.{Input}
+use Rattle.al_interfaces.specs.declared.interfaces.Secret.{Secret}
+use Rattle.al_interfaces.specs.declared.interfaces.Signature.{Signature}
+use Rattle.al_interfaces.specs.contracts.interfaces.InterfacePartialEq.TheImpl as interface
+use Rattle.al_interfaces.proofs.Exact.{exact}
+use Rattle.al_uses.specs.Uses.{Call}
+use Rattle.al_uses.specs.declared.forms.Form.{Form}
+use Rattle.al_uses.specs.declared.forms.Form.TheVariants.{Local, Other, Wrong}
+use Rattle.al_text.specs.Growth.{SameSet}
+use Rattle.al_file_calls.proofs.Sets.{set_there}
+use Rattle.al_calls.specs.declared.answers.Answered as code_answers
+use Rattle.al_calls.specs.AnswerViews.{answered_of}
+use Rattle.al_calls.specs.Answers.{Answered, Typing, answered_faults}
+use Rattle.al_calls.specs.CallFaults.{Given, Names, absent_faults, against, answer_faults, called, caller_of, extra_input, extra_secret}
+use Rattle.al_calls.specs.CallFaults.{fault, form_faults, given_names, given_secrets, given_type, input_faults, input_names, is_callable, is_free_for}
+use Rattle.al_calls.specs.CallFaults.{is_inherit, is_input, is_missing, is_missing_secret, job_against, missing_input, missing_inputs, missing_secret, missing_secrets}
+use Rattle.al_calls.specs.CallFaults.{is_right, secret_faults, secret_names, type_faults, type_name, wrong_input}
+use Rattle.al_file_calls.specs.Repeats.{is_local, repeats, same_entries, same_entry, same_given, same_in_jobs, same_in_steps, same_secrets}
+use Rattle.al_file_calls.specs.Repeats.{same_uses, same_value, same_values, secrets_text, values_in}
+
+text_exact : (a b : List ℕ) → bytes_eq a b ≡ true → a ≡ b
+text_exact a b h = (bytes_eq-Decides a b).0 h
+
+span_exact : (a b : Span) → span.ghosts.eq a b ≡ true → a ≡ b
+span_exact a b h =
+    let p = and_parts (eqb a.start b.start) (eqb a.end b.end) h in
+    let e0 = eqb-true a.start b.start p.0 in
+    let e1 = eqb-true a.end b.end p.1 in
+    λ i. record { start = e0 i; end = e1 i }
+
+form_exact : (a b : forms.Form) → outermost.ghosts.eq a b ≡ true → a ≡ b
+form_exact form.Any form.Any h = refl
+form_exact form.Null form.Null h = refl
+form_exact form.Number form.Number h = refl
+form_exact form.Bool form.Bool h = refl
+form_exact form.String form.String h = refl
+form_exact form.Array form.Array h = refl
+form_exact form.Object form.Object h = refl
+form_exact _ _ h = absurd cc
+
+option_exact : {X : Type 0} (eq : X → X → Bool) → ((x y : X) → eq x y ≡ true → x ≡ y) → (a b : Option X) → option_eq eq a b ≡ true → a ≡ b
+option_exact eq one None None h = refl
+option_exact eq one None (Some b) h = absurd cc
+option_exact eq one (Some a) None h = absurd cc
+option_exact eq one (Some a) (Some b) h = ap Some (one a b h)
+
+-- ---- lists whose elements are the same one by one
+
+each_same : {X : Type 0} (same : X → X → Bool) (f g : X → List Fault) → ((x y : X) → same x y ≡ true → f x ≡ g y) → (xs ys : List X) → pointwise same xs ys ≡ true → flat_map f xs ≡ flat_map g ys
+each_same same f g one [] [] h = refl
+each_same same f g one [] (y ∷ ys) h = absurd cc
+each_same same f g one (x ∷ xs) [] h = absurd cc
+each_same same f g one (x ∷ xs) (y ∷ ys) h =
+    let p = and_parts (same x y) (pointwise same xs ys) h in
+    let first = one x y p.0 in
+    let rest = each_same same f g one xs ys p.1 in
+    λ i. first i ++ rest i
+
+maps_same : {X Y : Type 0} (same : X → X → Bool) (f : X → Y) → ((x y : X) → same x y ≡ true → f x ≡ f y) → (xs ys : List X) → pointwise same xs ys ≡ true → map f xs ≡ map f ys
+maps_same same f one [] [] h = refl
+maps_same same f one [] (y ∷ ys) h = absurd cc
+maps_same same f one (x ∷ xs) [] h = absurd cc
+maps_same same f one (x ∷ xs) (y ∷ ys) h =
+    let p = and_parts (same x y) (pointwise same xs ys) h in
+    let first = one x y p.0 in
+    let rest = maps_same same f one xs ys p.1 in
+    λ i. first i ∷ rest i
+
+-- ---- entries and values
+
+key_same : (a b : Node × Node) → same_entry a b ≡ true → key_of a ≡ key_of b
+key_same a b h = text_exact (key_of a) (key_of b) (and_parts _ _ h).0
+
+keys_at : (a b : Node × Node) → same_entry a b ≡ true → span_of a.0 ≡ span_of b.0
+keys_at a b h = span_exact (span_of a.0) (span_of b.0) (and_parts _ _ (and_parts _ _ h).1).0
+
+values_at : (a b : Node × Node) → same_entry a b ≡ true → span_of a.1 ≡ span_of b.1
+values_at a b h = span_exact (span_of a.1) (span_of b.1) (and_parts _ _ (and_parts _ _ h).1).1
+
+entry_same : (v w : Given) → same_value v w ≡ true → same_entry v.0 w.0 ≡ true
+entry_same v w h = (and_parts _ _ h).0
+
+forms_same : (v w : Given) → same_value v w ≡ true → form_of v.1 ≡ form_of w.1
+forms_same v w h = form_exact (form_of v.1) (form_of w.1) (and_parts _ _ h).1
+
+-- what an input takes is told by the outermost form
+abbrev taken : (f : forms.Form) → InputType → Bool
+taken form.Any i = true
+taken form.Null takes.String = true
+taken form.Number takes.Number = true
+taken form.Number takes.String = true
+taken form.Bool takes.Boolean = true
+taken form.Bool takes.String = true
+taken form.String takes.String = true
+taken _ _ = false
+
+taken_is : (t : Type') (i : InputType) → is_right t i ≡ taken (form_of t) i
+taken_is Any takes.Boolean = refl
+taken_is Any takes.Number = refl
+taken_is Any takes.String = refl
+taken_is Null takes.Boolean = refl
+taken_is Null takes.Number = refl
+taken_is Null takes.String = refl
+taken_is Number takes.Boolean = refl
+taken_is Number takes.Number = refl
+taken_is Number takes.String = refl
+taken_is Bool' takes.Boolean = refl
+taken_is Bool' takes.Number = refl
+taken_is Bool' takes.String = refl
+taken_is String takes.Boolean = refl
+taken_is String takes.Number = refl
+taken_is String takes.String = refl
+taken_is (ArrayOf t) takes.Boolean = refl
+taken_is (ArrayOf t) takes.Number = refl
+taken_is (ArrayOf t) takes.String = refl
+taken_is (ObjectOf fs r) takes.Boolean = refl
+taken_is (ObjectOf fs r) takes.Number = refl
+taken_is (ObjectOf fs r) takes.String = refl
+
+right_same : (t u : Type') → form_of t ≡ form_of u → (i : InputType) → is_right t i ≡ is_right u i
+right_same t u e i = taken_is t i ∙ ap (λ f. taken f i) e ∙ sym (taken_is u i)
+
+inherit_by : (o : Option (Scalar × Span)) → option_map_or (λ t. bytes_eq (text_of t.0) (codes "inherit")) o false
+    ≡ option_map_or (λ text. bytes_eq text (codes "inherit")) (option_map (λ t. text_of t.0) o) false
+inherit_by None = refl
+inherit_by (Some t) = refl
+
+inherit_same : (a b : Node) → secrets_text a ≡ secrets_text b → is_inherit a ≡ is_inherit b
+inherit_same a b e =
+    inherit_by (text_at (codes "secrets") a) ∙ ap (λ o. option_map_or (λ text. bytes_eq text (codes "inherit")) o false) e
+    ∙ sym (inherit_by (text_at (codes "secrets") b))
+
+-- ---- calls whose `uses` is the same
+
+module _ (c d : Call) (by : caller_of c ≡ caller_of d) (at : c.at ≡ d.at) (text : text_of c.uses ≡ text_of d.uses) where
+  fault_same : (f : CallCode) (p q : Span) → p ≡ q → (ts us : List (List ℕ)) → ts ≡ us → fault f c p ts ≡ fault f d q us
+  fault_same f p q e ts us h = λ i. record { span = e i; code = kind_of_code.Call f (by i); args = map utf8_lossy (h i) }
+
+  called_same : (s : Signature) → called c s ≡ called d s
+  called_same s = ap (λ t. option_map_or (λ n. n) s.name t) text
+
+  -- a name and how the called file is named
+  names_same : (s : Signature) (m n : List ℕ) → m ≡ n → (m ∷ called c s ∷ []) ≡ (n ∷ called d s ∷ [])
+  names_same s m n e = λ i. e i ∷ called_same s i ∷ []
+
+  extra_same : (s : Signature) (shown : Names) (a b : Node × Node) → same_entry a b ≡ true → extra_input c s shown a ≡ extra_input d s shown b
+  extra_same s shown a b h =
+      let name = key_same a b h in
+      let found = fault_same code.UndefinedInput (span_of a.0) (span_of b.0) (keys_at a b h) _ _ (names_same s (key_of a) (key_of b) name) in
+      λ i. cond (shown (name i) || is_free_for (by i) (name i)) [] (found i ∷ [])
+
+  missing_same : (s : Signature) (given : Names) (input : Input) → missing_input c s given input ≡ missing_input d s given input
+  missing_same s given input =
+      let found = fault_same code.MissingInput c.at d.at at _ _ (names_same s input.name input.name refl) in
+      λ i. cond (is_missing given input) (found i ∷ []) []
+
+  inputs_same : (s : Signature) (xs ys : List (Node × Node)) → same_entries xs ys ≡ true → input_faults c xs s ≡ input_faults d ys s
+  inputs_same s xs ys h =
+      let extra = each_same same_entry (extra_input c s (input_names s)) (extra_input d s (input_names s)) (extra_same s (input_names s)) xs ys h in
+      let names : names_of xs ≡ names_of ys = maps_same same_entry key_of key_same xs ys h in
+      let missing = ap (λ given. flat_map (missing_input c s given) s.inputs) (ap (λ l. named_among l) names) in
+      let missing_then : missing_inputs c (given_names ys) s ≡ missing_inputs d (given_names ys) s = λ i. flat_map (λ input. missing_same s (given_names ys) input i) s.inputs in
+      let both = missing ∙ missing_then in
+      λ i. extra i ++ both i
+
+  wrong_same : (inputs : List Input) (v w : Given) → same_value v w ≡ true → wrong_input c inputs v ≡ wrong_input d inputs w
+  wrong_same inputs v w h =
+      let entry = entry_same v w h in
+      let name = key_same v.0 w.0 entry in
+      let types : (input : Input) → type_faults c v.0 v.1 input ≡ type_faults d w.0 w.1 input = λ input.
+      (let right = right_same v.1 w.1 (forms_same v w h) input.takes in
+      let found = fault_same code.WrongInput (span_of (v.0).1) (span_of (w.0).1) (values_at v.0 w.0 entry) (input.name ∷ type_name input.takes ∷ []) _ refl in
+      λ i. cond (right i) [] (found i ∷ [])) in
+      λ i. option_map_or (λ input. types input i) (find (is_input (name i)) inputs) []
+
+  extra_secret_same : (s : Signature) (shown : Names) (a b : Node × Node) → same_entry a b ≡ true → extra_secret c s shown a ≡ extra_secret d s shown b
+  extra_secret_same s shown a b h =
+      let name = key_same a b h in
+      let found = fault_same code.UndefinedSecret (span_of a.0) (span_of b.0) (keys_at a b h) _ _ (names_same s (key_of a) (key_of b) name) in
+      λ i. cond (shown (name i)) [] (found i ∷ [])
+
+  missing_secret_same : (s : Signature) (given : Names) (x : Secret) → missing_secret c s given x ≡ missing_secret d s given x
+  missing_secret_same s given x =
+      let found = fault_same code.MissingSecret c.at d.at at _ _ (names_same s x.name x.name refl) in
+      λ i. cond (is_missing_secret given x) (found i ∷ []) []
+
+  given_secrets_same : (s : Signature) (xs ys : List (Node × Node)) → same_entries xs ys ≡ true → given_secrets c xs s ≡ given_secrets d ys s
+  given_secrets_same s xs ys h =
+      let extra = each_same same_entry (extra_secret c s (secret_names s)) (extra_secret d s (secret_names s)) (extra_secret_same s (secret_names s)) xs ys h in
+      let names : names_of xs ≡ names_of ys = maps_same same_entry key_of key_same xs ys h in
+      let missing = ap (λ given. flat_map (missing_secret c s given) s.secrets) (ap (λ l. named_among l) names) in
+      let missing_then : missing_secrets c (given_names ys) s ≡ missing_secrets d (given_names ys) s = λ i. flat_map (λ x. missing_secret_same s (given_names ys) x i) s.secrets in
+      let both = missing ∙ missing_then in
+      λ i. extra i ++ both i
+
+  secrets_same : (s : Signature) (a b : Node) → same_secrets a b ≡ true → secret_faults c a s ≡ secret_faults d b s
+  secrets_same s a b h =
+      let p = and_parts (option_eq bytes_eq (secrets_text a) (secrets_text b)) (same_entries (entries_at (codes "secrets") a) (entries_at (codes "secrets") b)) h in
+      let inherit = inherit_same a b (option_exact bytes_eq text_exact (secrets_text a) (secrets_text b) p.0) in
+      let given = given_secrets_same s (entries_at (codes "secrets") a) (entries_at (codes "secrets") b) p.1 in
+      λ i. cond (inherit i) [] (given i)
+
+  absent_same : (k : Caller) → absent_faults c k ≡ absent_faults d k
+  absent_same caller.Step = refl
+  absent_same caller.Job = let found = fault_same code.NoWorkflow c.at d.at at (text_of c.uses ∷ []) (text_of d.uses ∷ []) (ap (λ t. t ∷ []) text) in λ i. found i ∷ []
+
+  answer_same : (answer : Option Interface) (f g : Signature → List Fault) → ((s : Signature) → f s ≡ g s) → answer_faults c answer f ≡ answer_faults d answer g
+  answer_same None f g h = absent_same (caller_of c) ∙ ap (absent_faults d) by
+  answer_same (Some Unreadable) f g h = refl
+  answer_same (Some (Readable s)) f g h =
+      let found = fault_same code.NotCallable c.at d.at at (text_of c.uses ∷ []) (text_of d.uses ∷ []) (ap (λ t. t ∷ []) text) in
+      let each = h s in
+      λ i. cond (is_callable (by i) s.role) (each i) (found i ∷ [])
+
+-- ---- what is given
+
+-- the entries of values are those of which they are the values
+entries_of : (f : Node × Node → Type') (es : List (Node × Node)) → map (λ (v : Given). v.0) (map (λ e. (e, f e)) es) ≡ es
+entries_of f [] = refl
+entries_of f (e ∷ es) = ap (λ l. e ∷ l) (entries_of f es)
+
+entries_same : (vs ws : List Given) → same_values vs ws ≡ true → same_entries (map (λ (v : Given). v.0) vs) (map (λ (v : Given). v.0) ws) ≡ true
+entries_same [] [] h = refl
+entries_same [] (w ∷ ws) h = absurd cc
+entries_same (v ∷ vs) [] h = absurd cc
+entries_same (v ∷ vs) (w ∷ ws) h =
+    let p = and_parts (same_value v w) (same_values vs ws) h in
+    let first = entry_same v w p.0 in
+    let rest = entries_same vs ws p.1 in
+    ap (λ b. b && same_entries (map (λ (x : Given). x.0) vs) (map (λ (x : Given). x.0) ws)) first ∙ rest
+
+by_step : (o : Option ℕ) (n : ℕ) → o ≡ Some n → cond (is_some o) caller.Step caller.Job ≡ caller.Step
+by_step o n e = ap (λ x. cond (is_some x) caller.Step caller.Job) e
+
+by_job : (o : Option ℕ) → o ≡ None → cond (is_some o) caller.Step caller.Job ≡ caller.Job
+by_job o e = ap (λ x. cond (is_some x) caller.Step caller.Job) e
+
+local_faults : (f : Form) (c : Call) (answer : Option Interface) (g : Signature → List Fault) → is_local f ≡ true → form_faults f c answer g ≡ answer_faults c answer g
+local_faults (Local t) c answer g h = refl
+local_faults Other c answer g h = absurd cc
+local_faults Wrong c answer g h = absurd cc
+
+module _ (typing : Typing) (a b : Answered) (uses : same_uses a b ≡ true) where
+  abbrev named : Bool
+  named = bytes_eq (text_of a.call.uses) (text_of b.call.uses) && option_eq interface.ghosts.eq a.answer b.answer
+
+  abbrev placed : Bool
+  placed = span.ghosts.eq a.call.at b.call.at && named
+
+  first : is_local a.call.form ≡ true
+  first = (and_parts (is_local a.call.form) (is_local b.call.form && placed) uses).0
+
+  others : is_local b.call.form && placed ≡ true
+  others = (and_parts (is_local a.call.form) (is_local b.call.form && placed) uses).1
+
+  second : is_local b.call.form ≡ true
+  second = (and_parts (is_local b.call.form) placed others).0
+
+  both_placed : placed ≡ true
+  both_placed = (and_parts (is_local b.call.form) placed others).1
+
+  at_same : a.call.at ≡ b.call.at
+  at_same = span_exact a.call.at b.call.at (and_parts (span.ghosts.eq a.call.at b.call.at) named both_placed).0
+
+  both_named : named ≡ true
+  both_named = (and_parts (span.ghosts.eq a.call.at b.call.at) named both_placed).1
+
+  text_same : text_of a.call.uses ≡ text_of b.call.uses
+  text_same = text_exact (text_of a.call.uses) (text_of b.call.uses) (and_parts _ (option_eq interface.ghosts.eq a.answer b.answer) both_named).0
+
+  answers_same : a.answer ≡ b.answer
+  answers_same = option_exact interface.ghosts.eq exact a.answer b.answer (and_parts (bytes_eq (text_of a.call.uses) (text_of b.call.uses)) _ both_named).1
+
+  abbrev given_by : Call → List Given
+  given_by c = values_in typing c
+
+  -- calls of one kind, against any file the same
+  alike : (by : caller_of a.call ≡ caller_of b.call) → ((s : Signature) → against (caller_of a.call) a.call (given_by a.call) s ≡ against (caller_of b.call) b.call (given_by b.call) s) →
+      answered_faults typing a ≡ answered_faults typing b
+  alike by h =
+      local_faults a.call.form a.call a.answer _ first
+      ∙ answer_same a.call b.call by at_same text_same a.answer _ _ h
+      ∙ ap (λ answer. answer_faults b.call answer (against (caller_of b.call) b.call (given_by b.call))) answers_same
+      ∙ sym (local_faults b.call.form b.call b.answer _ second)
+
+  steps_same : (m n : ℕ) → a.call.site.step ≡ Some m → b.call.site.step ≡ Some n → same_in_steps a.call.node b.call.node ≡ true → answered_faults typing a ≡ answered_faults typing b
+  steps_same m n ea eb h =
+      let bya : caller_of a.call ≡ caller.Step = by_step a.call.site.step m ea in
+      let byb : caller_of b.call ≡ caller.Step = by_step b.call.site.step n eb in
+      let by : caller_of a.call ≡ caller_of b.call = bya ∙ sym byb in
+      alike by (λ s.
+      ap (λ k. against k a.call (given_by a.call) s) bya
+      ∙ inputs_same a.call b.call by at_same text_same s _ _ h
+      ∙ sym (ap (λ k. against k b.call (given_by b.call) s) byb))
+
+  jobs_same : a.call.site.step ≡ None → b.call.site.step ≡ None → same_in_jobs typing a.call b.call ≡ true → answered_faults typing a ≡ answered_faults typing b
+  jobs_same ea eb h =
+      let bya : caller_of a.call ≡ caller.Job = by_job a.call.site.step ea in
+      let byb : caller_of b.call ≡ caller.Job = by_job b.call.site.step eb in
+      let by : caller_of a.call ≡ caller_of b.call = bya ∙ sym byb in
+      let p = and_parts (same_secrets a.call.node b.call.node) (same_values (given_by a.call) (given_by b.call)) h in
+      let va = entries_of (given_type (typing a.call.site)) (entries_at (codes "with") a.call.node) in
+      let vb = entries_of (given_type (typing b.call.site)) (entries_at (codes "with") b.call.node) in
+      let moved : same_entries (map (λ (v : Given). v.0) (given_by a.call)) (map (λ (v : Given). v.0) (given_by b.call))
+      ≡ same_entries (entries_at (codes "with") a.call.node) (entries_at (codes "with") b.call.node) = λ i. same_entries (va i) (vb i) in
+      let entries = sym moved ∙ entries_same (given_by a.call) (given_by b.call) p.1 in
+      alike by (λ s.
+      let inputs = inputs_same a.call b.call by at_same text_same s _ _ entries in
+      let wrong = each_same same_value (wrong_input a.call s.inputs) (wrong_input b.call s.inputs) (wrong_same a.call b.call by at_same text_same s.inputs) _ _ p.1 in
+      let secret = secrets_same a.call b.call by at_same text_same s a.call.node b.call.node p.0 in
+      let all : job_against a.call (given_by a.call) s ≡ job_against b.call (given_by b.call) s = λ i. inputs i ++ wrong i ++ secret i in
+      ap (λ k. against k a.call (given_by a.call) s) bya ∙ all ∙ sym (ap (λ k. against k b.call (given_by b.call) s) byb))
+
+  given_same : (o p : Option ℕ) → a.call.site.step ≡ o → b.call.site.step ≡ p → same_given typing a.call b.call o p ≡ true → answered_faults typing a ≡ answered_faults typing b
+  given_same (Some m) (Some n) ea eb h = steps_same m n ea eb h
+  given_same None None ea eb h = jobs_same ea eb h
+  given_same (Some m) None ea eb h = absurd cc
+  given_same None (Some n) ea eb h = absurd cc
+
+pub same_faults : (typing : Typing) (a b : Answered) → repeats typing a b ≡ true → answered_faults typing a ≡ answered_faults typing b
+same_faults typing a b h =
+    let p = and_parts (same_uses a b) (same_given typing a.call b.call a.call.site.step b.call.site.step) h in
+    given_same typing a b p.0 a.call.site.step b.call.site.step refl refl p.1
+
+-- what a call says again is there, where the faults of the earlier one are
+pub repeated_there : (typing : Typing) (o : Option code_answers.Answered) (b : Answered) (out : List Fault) →
+    option_map_or (λ a. repeats typing (answered_of a) b) o false ≡ true →
+    IfSome o (λ a. (f : Fault) → Contains (answered_faults typing (answered_of a)) f → Contains out f) →
+    SameSet out (out ++ answered_faults typing b)
+repeated_there typing None b out h there = absurd cc
+repeated_there typing (Some a) b out h there =
+    set_there out (answered_faults typing b) (λ f c. there f (subst (λ l. Contains l f) (sym (same_faults typing (answered_of a) b h)) c))
