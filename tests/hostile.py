@@ -1,5 +1,5 @@
-"""Runs the built program on hostile files and streams: files that are cut, deep, long or large; input that is cut, comes a byte a
-read, fails or doesn't end; output that takes so many bytes and no more.
+"""Runs the built program on hostile files and streams: files that are cut, deep, long or large, or whose calls lack the same again and
+again; input that is cut, comes a byte a read, fails or doesn't end; output that takes so many bytes and no more.
 
     python3 tests/hostile.py PROGRAM
 
@@ -82,7 +82,8 @@ def front_differences(place, front, told):
 
 def fronts(place):
     """Each front of four files: accepted, reported as the folder's, and each place in the file."""
-    whole_files = {"clean": WITH_REF, "with-a-matrix": WITH_MATRIX, "that-calls-itself": CALLS_ITSELF, "with-a-shared-job": WITH_A_SHARED_JOB}
+    whole_files = {"clean": WITH_REF, "with-a-matrix": WITH_MATRIX, "that-calls-itself": CALLS_ITSELF,
+                   "with-a-shared-job": WITH_A_SHARED_JOB}
     for name, data in whole_files.items():
         place.fresh()
         files = [data[:size] for size in range(len(data) + 1)]
@@ -157,6 +158,41 @@ def shared_nodes(place):
     text = b"a: &a " + b"x" * 1_000_000 + b"\nb: *a\nc: *a\n"
     reported(place, "text-behind-two-aliases", text, b"3:4: too many nodes [syntax-check]", limits=held_back)
 
+
+# what a called file asks of its callers, and the files that ask it
+INPUTS = [b"i%03d" % number for number in range(1_000)]
+ACTION_FILE = b"name: A\ndescription: d\ninputs:\n%sruns:\n  using: node20\n  main: m.js\n" % b"".join(
+    b"  %s:\n    required: true\n" % name for name in INPUTS)
+REUSABLE = f"{WORKFLOWS}/r.yml".encode()
+REUSABLE_FILE = CLEAN.replace(b"on: push\n", b"on:\n  workflow_call:\n    inputs:\n%s" % b"".join(
+    b"      %s:\n        type: string\n        required: true\n" % name for name in INPUTS))
+
+
+def lacking(position, called, kind):
+    """What is reported of a call at this line and column that gives nothing."""
+    return b"".join(b'%s%s: required input "%s" of "%s" is missing [%s]\n' % (AT, position, name, called, kind) for name in INPUTS)
+
+
+def same_faults(place, name, data, wanted):
+    """A workflow whose calls lack the same again and again, under a limit of memory and of time."""
+    place.fresh({WORKFLOW: data, "a/action.yml": ACTION_FILE, REUSABLE.decode(): REUSABLE_FILE})
+    place.case(name, 1, wanted, NO, ["--oneline"], limits=held_back)
+
+
+def equal_faults(place):
+    """Many calls behind few texts: each fault is reported once, and takes the memory of few."""
+    steps = CLEAN[: CLEAN.index(b"      - ")]
+    first = lacking(b"7:15", b"A", b"action")
+    one = b"      - &s\n        uses: ./a\n"
+    same_faults(place, "aliases-of-a-step", steps + one + b"      - *s\n" * 30_000, first)
+    two = one + b"      - &t\n        uses: ./a\n"
+    both = first + lacking(b"9:15", b"A", b"action")
+    same_faults(place, "aliases-of-two-steps-in-turn", steps + two + b"      - *s\n      - *t\n" * 15_000, both)
+    # each gives another of the inputs, so that no two lack the same
+    given = b"".join(b"      - {uses: *u, with: {%s: 1}}\n" % name for name in INPUTS * 2)
+    same_faults(place, "aliases-of-a-text", steps + b"      - uses: &u ./a\n" + given, lacking(b"6:18", b"A", b"action"))
+    jobs = b"on: push\njobs:\n  a: &j\n    uses: ./%s\n" % REUSABLE + b"".join(b"  a%d: *j\n" % number for number in range(20_000))
+    same_faults(place, "aliases-of-a-job", jobs, lacking(b"4:11", b"./" + REUSABLE, b"workflow-call"))
 
 
 def folder_of_4096(place):
@@ -348,5 +384,5 @@ def narrow_output(place):
 
 
 if __name__ == "__main__":
-    sys.exit(run_parts(fronts, limits, one_line, shared_nodes, folder_of_4096, ring_of_4096, calls_of_one_file,
+    sys.exit(run_parts(fronts, limits, one_line, shared_nodes, equal_faults, folder_of_4096, ring_of_4096, calls_of_one_file,
                        pieces_of_a_script, lines_of_input, input_without_end, narrow_output))
