@@ -1,5 +1,4 @@
 pub mod SameText
 pub mod Pieces
 pub mod ScheduleLemmas
-pub mod RowWords
-pub mod TextRows
+pub mod PatternLemmas

@@ -4,3 +4,6 @@ pub mod Patterns
 pub mod Schedules
 pub mod Views
 pub mod Chunks
+pub mod PatternRows
+pub mod ScheduleRows
+pub mod Private

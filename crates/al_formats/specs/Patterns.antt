@@ -1,56 +1,98 @@
 -- The grammar of filter patterns, over characters (GitHub, "Workflow syntax", "Filter pattern cheat sheet").
-use Rattle.std.specs.Prelude.{ℕ, List, [], ◌∷◌, Bool, true, false, ◌==◌, nat_lt, ◌||◌, ◌&&◌, not, drop, if◌then◌else◌, Option, Some, None}
-use Rattle.std.specs.Prelude.{option_and_then}
+--
+--     pattern = ["!"] item {item}
+--     item    = (character | "\" character | "[" class "]") {"?" | "+"}
+--
+-- A character of an item isn't `\`, `[`, `?` or `+`. A class is one or more characters up to the first `]`; read from left to right,
+-- two of them with `-` between them are a range, whose second one isn't less than its first.
+use Rattle.std.specs.Prelude.{ℕ, zero, suc, List, [], ◌∷◌, Bool, true, false, ◌==◌, nat_le, ◌||◌, ◌&&◌, not, drop, length, if◌then◌else◌}
+use Rattle.std.specs.Prelude.{Option, Some, None, option_map}
 use Rattle.std.specs.List.{list_any}
 use Rattle.std.specs.Str.{chars}
 use Rattle.std.specs.Str.Lossy.{utf8_lossy}
+use Rattle.al_text.specs.Ascii as ascii
 use Rattle.al_text.specs.FirstBytes.{begins_with}
 use Rattle.al_formats.specs.declared.patterns.Filter.{Filter}
 use Rattle.al_formats.specs.declared.patterns.Filter.TheVariants.{Names, Paths}
-use Rattle.al_formats.specs.declared.patterns.State.{State}
-use Rattle.al_formats.specs.declared.patterns.State.TheVariants.{FirstItem, AfterItem, AfterEscape, ClassFirst, ClassNext, ClassLow}
-use Rattle.al_formats.specs.declared.patterns.State.TheVariants.{ClassDash}
 
--- outside a class `\`, `[` and the marks `?` and `+` mean something; a mark stands behind an item
-abbrev pub outside : Bool → ℕ → Option State
-outside is_behind c =
-    if c == 92 then Some AfterEscape
-    else if c == 91 then Some ClassFirst
-    else if c == 63 || c == 43 then (if is_behind then Some AfterItem else None)
-    else Some AfterItem
+-- the marks that may follow an item
+abbrev pub is_mark : ℕ → Bool
+is_mark c = c == ascii.question || c == ascii.plus
 
--- one more character, if it may stand there; `]` ends a class, and of a range the second one isn't less than the first
-abbrev pub read : State → ℕ → Option State
-read FirstItem c = outside false c
-read AfterItem c = outside true c
-read AfterEscape c = Some AfterItem
-read ClassFirst c = if c == 93 then None else Some (ClassLow c)
-read ClassNext c = if c == 93 then Some AfterItem else Some (ClassLow c)
-read (ClassLow a) c = if c == 93 then Some AfterItem else if c == 45 then Some (ClassDash a) else Some (ClassLow c)
-read (ClassDash a) c = if c == 93 then Some AfterItem else if nat_lt c a then None else Some ClassNext
+abbrev pub without_marks : List ℕ → List ℕ
+without_marks [] = []
+without_marks (c ∷ cs) = let behind = without_marks cs in if is_mark c then behind else c ∷ cs
 
-abbrev pub read_all : State → List ℕ → Option State
-read_all s [] = Some s
-read_all s (c ∷ cs) = option_and_then (λ next. read_all next cs) (read s c)
+-- the characters up to the first `]`
+abbrev pub before_closing : List ℕ → List ℕ
+before_closing [] = []
+before_closing (c ∷ cs) = let more = before_closing cs in if c == ascii.close_bracket then [] else c ∷ more
 
-abbrev pub is_done : Option State → Bool
-is_done (Some AfterItem) = true
-is_done _ = false
+-- and from there on
+abbrev pub from_closing : List ℕ → List ℕ
+from_closing [] = []
+from_closing (c ∷ cs) = let more = from_closing cs in if c == ascii.close_bracket then c ∷ cs else more
+
+-- a character, `-` and one more
+abbrev pub begins_range : List ℕ → Bool
+begins_range (low ∷ mark ∷ high ∷ cs) = mark == ascii.dash
+begins_range _ = false
+
+abbrev pub is_ascending : List ℕ → Bool
+is_ascending (low ∷ mark ∷ high ∷ cs) = nat_le low high
+is_ascending _ = true
+
+-- no range descends; the number counts the characters that belong to the range before
+abbrev pub ascends : ℕ → List ℕ → Bool
+ascends n [] = true
+ascends (suc n) (c ∷ cs) = ascends n cs
+ascends zero (c ∷ cs) =
+    let behind_range = ascends 2 cs in
+    let behind_one = ascends 0 cs in
+    if begins_range (c ∷ cs) then is_ascending (c ∷ cs) && behind_range else behind_one
+
+abbrev pub is_class : List ℕ → Bool
+is_class [] = false
+is_class (c ∷ cs) = ascends 0 (c ∷ cs)
+
+-- What stands behind the first character, if there is one.
+abbrev pub behind_one : List ℕ → Option (List ℕ)
+behind_one [] = None
+behind_one (c ∷ cs) = Some cs
+
+-- What stands behind the item at the start, without its marks, if there is one.
+abbrev pub behind_item : List ℕ → Option (List ℕ)
+behind_item [] = None
+behind_item (c ∷ cs) =
+    if c == ascii.backslash then behind_one cs
+    else if c == ascii.open_bracket then (if is_class (before_closing cs) then behind_one (from_closing cs) else None)
+    else if is_mark c then None
+    else Some cs
+
+abbrev pub ends_or : (List ℕ → Bool) → Option (List ℕ) → Bool
+ends_or go None = false
+ends_or go (Some []) = true
+ends_or go (Some (c ∷ cs)) = go (c ∷ cs)
+
+-- An item with its marks, and then nothing or items: at most so many.
+abbrev pub are_items_within : ℕ → List ℕ → Bool
+are_items_within zero cs = false
+are_items_within (suc n) cs = ends_or (are_items_within n) (option_map without_marks (behind_item cs))
 
 -- one or more items
-abbrev pub is_items : List ℕ → Bool
-is_items cs = is_done (read_all FirstItem cs)
+abbrev pub are_items : List ℕ → Bool
+are_items cs = are_items_within (length cs) cs
 
 -- the characters behind a `!` at the start
 abbrev pub behind_not : List ℕ → List ℕ
-behind_not cs = if begins_with 33 cs then drop 1 cs else cs
+behind_not cs = if begins_with ascii.exclamation cs then drop 1 cs else cs
 
 -- `./`
 abbrev pub is_relative : List ℕ → Bool
-is_relative cs = begins_with 46 cs && begins_with 47 (drop 1 cs)
+is_relative cs = begins_with ascii.dot cs && begins_with ascii.slash (drop 1 cs)
 
 abbrev pub is_barred : ℕ → Bool
-is_barred c = c == 32 || c == 126 || c == 94 || c == 58
+is_barred c = c == ascii.space || c == ascii.tilde || c == ascii.caret || c == ascii.colon
 
 -- a path filter doesn't begin with `./`, branch and tag filters lack some characters
 abbrev pub has_barred : Filter → List ℕ → Bool
@@ -59,7 +101,7 @@ has_barred Paths cs = is_relative (behind_not cs)
 
 -- a pattern by its characters: an optional `!`, or none, and then items
 abbrev pub is_right : Filter → List ℕ → Bool
-is_right filter cs = not (has_barred filter cs) && (is_items cs || is_items (behind_not cs))
+is_right filter cs = not (has_barred filter cs) && (are_items cs || are_items (behind_not cs))
 
 abbrev pub is_pattern : Filter → List ℕ → Bool
 is_pattern filter bs = is_right filter (chars (utf8_lossy bs))

@@ -7,9 +7,11 @@ mod names;
 mod patterns;
 mod schedules;
 mod texts;
+mod worked;
 
 pub use chunks::{Around, is_lone_chunk};
 pub use names::{is_id, is_variable};
 pub use patterns::{Filter, is_pattern};
 pub use schedules::{Item, is_too_often, schedule};
 pub use texts::{has_part, is_same_text};
+pub use worked::{pattern_rows, schedule_rows};

@@ -1,9 +1,9 @@
 //! Filter patterns, of branches, tags and paths (GitHub, "Workflow syntax", "Filter pattern cheat sheet").
 
-ghost use Rattle.al_formats.specs.Patterns.{behind_not as without_not, has_barred as barred, is_barred, is_items};
+ghost use Rattle.al_formats.specs.Patterns.{are_items as items, behind_not as without_not, has_barred as barred, is_barred};
+ghost use Rattle.al_formats.specs.Patterns.{is_pattern as pattern, is_relative as relative, is_right};
+ghost use Rattle.al_formats.specs.Private.PatternStates.{outside as outside_class, read as read_one};
 ghost use Rattle.al_text.specs.FirstBytes.{begins_with};
-ghost use Rattle.al_formats.specs.Patterns.{is_pattern as pattern, is_relative as relative, is_right, outside as outside_class};
-ghost use Rattle.al_formats.specs.Patterns.{read as read_one};
 ghost use Rattle.std.specs.List.{list_any};
 ghost use Rattle.std.specs.Prelude.{◌≡◌, IfOk};
 ghost use Rattle.std.specs.Str.{chars};
@@ -74,7 +74,7 @@ fn read(state: State, c: char) -> Option<State>
 
 /// Whether characters are one or more items.
 fn are_items(characters: &[char]) -> bool
-    ensures { result ≡ is_items characters.now }
+    ensures { result ≡ items characters.now }
 {
     let mut state = State::FirstItem;
     for c in characters {

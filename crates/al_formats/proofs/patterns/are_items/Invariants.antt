@@ -1,5 +1,5 @@
 use Rattle.std.proofs.Common.{◌≡◌, drop}
-use Rattle.al_formats.specs.Patterns.{read_all}
+use Rattle.al_formats.specs.Private.PatternStates.{read_all}
 use Rattle.al_formats.specs.declared.patterns.State.TheVariants.{FirstItem}
 use Rattle.al_formats.proofs.patterns.are_items.Given as goal
 

@@ -1,0 +1,23 @@
+//! Filter patterns and schedules that were worked out by hand, computed by the definitions.
+ghost use Rattle.al_formats.specs.PatternRows.{right_names, right_paths, wrong_names, wrong_paths};
+ghost use Rattle.al_formats.specs.Patterns.{is_right};
+ghost use Rattle.al_formats.specs.ScheduleRows.{frequent_schedules, right_schedules, runs_seldom, runs_too_often, wrong_schedules};
+ghost use Rattle.al_formats.specs.Schedules.{schedule_of};
+ghost use Rattle.al_formats.specs.declared.patterns.Filter.TheVariants.{Names, Paths};
+ghost use Rattle.std.specs.List.{list_all, list_any};
+ghost use Rattle.std.specs.Prelude.{◌≡◌, false, is_some, true};
+
+/// Texts that are filter patterns, of branches and tags or of paths, and texts that aren't. Does nothing.
+pub fn pattern_rows()
+    ensures right_names { list_all (is_right Names) right_names ≡ true }
+    ensures wrong_names { list_any (is_right Names) wrong_names ≡ false }
+    ensures right_paths { list_all (is_right Paths) right_paths ≡ true }
+    ensures wrong_paths { list_any (is_right Paths) wrong_paths ≡ false }
+{}
+
+/// Texts that are schedules, and texts that aren't, or that run too often. Does nothing.
+pub fn schedule_rows()
+    ensures right { list_all runs_seldom right_schedules ≡ true }
+    ensures wrong { list_any (λ text. is_some (schedule_of text)) wrong_schedules ≡ false }
+    ensures frequent { list_all runs_too_often frequent_schedules ≡ true }
+{}

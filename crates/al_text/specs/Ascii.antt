@@ -1,0 +1,95 @@
+-- ASCII characters by name.
+use Rattle.std.specs.Prelude.{ℕ}
+
+abbrev pub tab : ℕ
+tab = 9
+
+abbrev pub line_feed : ℕ
+line_feed = 10
+
+abbrev pub carriage_return : ℕ
+carriage_return = 13
+
+abbrev pub space : ℕ
+space = 32
+
+abbrev pub exclamation : ℕ
+exclamation = 33
+
+abbrev pub double_quote : ℕ
+double_quote = 34
+
+abbrev pub hash : ℕ
+hash = 35
+
+abbrev pub dollar : ℕ
+dollar = 36
+
+abbrev pub percent : ℕ
+percent = 37
+
+abbrev pub ampersand : ℕ
+ampersand = 38
+
+abbrev pub single_quote : ℕ
+single_quote = 39
+
+abbrev pub asterisk : ℕ
+asterisk = 42
+
+abbrev pub plus : ℕ
+plus = 43
+
+abbrev pub comma : ℕ
+comma = 44
+
+abbrev pub dash : ℕ
+dash = 45
+
+abbrev pub dot : ℕ
+dot = 46
+
+abbrev pub slash : ℕ
+slash = 47
+
+abbrev pub digit_zero : ℕ
+digit_zero = 48
+
+abbrev pub colon : ℕ
+colon = 58
+
+abbrev pub greater : ℕ
+greater = 62
+
+abbrev pub question : ℕ
+question = 63
+
+abbrev pub at_sign : ℕ
+at_sign = 64
+
+abbrev pub open_bracket : ℕ
+open_bracket = 91
+
+abbrev pub backslash : ℕ
+backslash = 92
+
+abbrev pub close_bracket : ℕ
+close_bracket = 93
+
+abbrev pub caret : ℕ
+caret = 94
+
+abbrev pub backtick : ℕ
+backtick = 96
+
+abbrev pub open_brace : ℕ
+open_brace = 123
+
+abbrev pub bar : ℕ
+bar = 124
+
+abbrev pub close_brace : ℕ
+close_brace = 125
+
+abbrev pub tilde : ℕ
+tilde = 126
