@@ -1,5 +1,5 @@
 -- One step of reading chunks.
-use Rattle.std.proofs.Common.{◌≡◌, ◌≤◌, ◌<◌, ℕ, zero, suc, ◌+◌, List, [], ◌∷◌, ◌++◌, length, drop, get_or, refl, sym, ap, ◌∙◌, arith, add-zero, append_assoc, Bool, true, false, cond, ◌&&◌, subst, length-drop}
+use Rattle.std.proofs.Common.{◌≡◌, ◌≤◌, ◌<◌, ℕ, zero, suc, ◌+◌, List, [], ◌∷◌, ◌++◌, length, drop, get_or, refl, sym, ap, ◌∙◌, arith, add-zero, append_assoc, Bool, true, false, cond, ◌&&◌, ◌==◌, subst, length-drop}
 use Rattle.std.proofs.lemmas.Bool.Decides.{nat_tests}
 use Rattle.std.proofs.lemmas.List.{get_or-drop}
 use Rattle.std.proofs.lemmas.Str.{IsCharBoundary-after_ascii}
@@ -12,11 +12,13 @@ use Rattle.al_grammar.specs.declared.chunk.ChunkState.{ChunkState}
 use Rattle.al_grammar.specs.declared.chunk.ChunkState.TheVariants.{Outside, Inside, Quoted}
 use Rattle.al_grammar.specs.declared.chunk.Move.{Move}
 use Rattle.al_grammar.specs.declared.chunk.Move.TheVariants.{On, End}
+use Rattle.al_text.specs.Ascii as ascii
 use Rattle.al_text.specs.FirstBytes.{first_is}
 use Rattle.al_grammar.specs.Tokens.{span}
-use Rattle.al_grammar.specs.Chunks.{Chunked, is, opens, closes, then_chunk, move, moved, chunks_from, behind_chunks, Opens, StandsIn, IsCutFrom}
+use Rattle.al_grammar.specs.Chunks.{Chunked, opens, closes, is_quote, then_chunk, IsCutFrom}
+use Rattle.al_grammar.specs.Private.ChunkStates.{move, moved, chunks_from, behind_chunks, Opens, StandsIn}
 
-skipped : (n at : ℕ) (w : ChunkState) (bs : List ℕ) → n ≤ length bs → chunks_from n w at bs ≡ chunks_from 0 w (at + n) (drop n bs)
+pub skipped : (n at : ℕ) (w : ChunkState) (bs : List ℕ) → n ≤ length bs → chunks_from n w at bs ≡ chunks_from 0 w (at + n) (drop n bs)
 skipped zero at w bs h = sym (ap (λ a. chunks_from 0 w a bs) (add-zero at))
 skipped (suc n) at w [] h = absurd (omega arith)
 skipped (suc n) at w (b ∷ bs) h = let e : (at + 1) + n ≡ at + suc n = omega arith in skipped n (at + 1) w bs (omega arith) ∙ ap (λ a. chunks_from 0 w a (drop n bs)) e
@@ -58,18 +60,18 @@ second : (x y : Bool) → (x && y) ≡ true → y ≡ true
 second true y h = h
 second false y h = absurd cc
 
-third_is : (p q r : ℕ → Bool) (bs : List ℕ) → (first_is p bs && first_is q (drop 1 bs) && first_is r (drop 2 bs)) ≡ true → (3 ≤ length bs) × (r (get_or bs 2 0) ≡ true)
-third_is p q r [] h = absurd cc
-third_is p q r (a ∷ []) h = absurd (grind arith)
-third_is p q r (a ∷ b ∷ []) h = absurd (grind arith)
-third_is p q r (a ∷ b ∷ c ∷ bs) h = (omega arith, second (p a && q b) (r c) h)
+pub third_is : (bs : List ℕ) → opens bs ≡ true → (3 ≤ length bs) × ((get_or bs 2 0 == ascii.open_brace) ≡ true)
+third_is [] h = absurd cc
+third_is (a ∷ []) h = absurd (grind arith)
+third_is (a ∷ b ∷ []) h = absurd (grind arith)
+third_is (a ∷ b ∷ c ∷ bs) h = (omega arith, second (a == ascii.dollar && b == ascii.open_brace) (c == ascii.open_brace) h)
 
-brace : (b : ℕ) → is 123 b ≡ true → b < 128
+brace : (b : ℕ) → (b == ascii.open_brace) ≡ true → b < 128
 brace b h = grind (arith, nat_tests)
 
 opened : (text : List ℕ) (at : ℕ) → IsUtf8 text → at < length text → opens (drop at text) ≡ true → Opens text (at + 3) (at + 3)
 opened text at u h o =
-    let t = third_is (is 36) (is 123) (is 123) (drop at text) o in
+    let t = third_is (drop at text) o in
     let some : 3 ≤ length (drop at text) = t.0 in
     let low : get_or text (at + 2) 0 < 128 = brace (get_or text (at + 2) 0) (rw get_or-drop at t.1) in
     let e : (at + 2) + 1 ≡ at + 3 = omega arith in
@@ -85,14 +87,14 @@ stands text Outside w at skip u h m s =
     (λ e. same_move _ _ _ _ _ e (λ n v. rw v tt))
 stands text (Inside start) w at skip u h m s =
     let later = further text at (at + 1) start (omega arith) s in
-    either _ (first_is (is 39) (drop at text)) _ _ _ m
+    either _ (first_is is_quote (drop at text)) _ _ _ m
     (λ q e. same_move _ _ _ _ _ e (λ n v. rw (v, n) (later, omega arith)))
     (λ f. either _ (closes (drop at text)) _ _ _ f
     (λ o e. absurd cc)
     (λ e. same_move _ _ _ _ _ e (λ n v. rw (v, n) later)))
 stands text (Quoted start quote) w at skip u h m s =
     let later = further text at (at + 1) start (omega arith) s.0 in
-    either _ (first_is (is 39) (drop at text)) _ _ _ m
+    either _ (first_is is_quote (drop at text)) _ _ _ m
     (λ q e. same_move _ _ _ _ _ e (λ n v. rw (v, n) later))
     (λ e. same_move _ _ _ _ _ e (λ n v. rw (v, n) (later, omega (arith, s.1))))
 

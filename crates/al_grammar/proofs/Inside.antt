@@ -15,7 +15,10 @@ use Rattle.al_grammar.specs.declared.lexer.Read.{Read}
 use Rattle.al_grammar.specs.declared.lexer.Read.TheVariants.{Blank, Token, BadCharacter, OpenText}
 use Rattle.al_grammar.specs.declared.token.TokenKind.{TokenKind}
 use Rattle.al_grammar.specs.declared.token.TokenKind.TheVariants.{Open, Close, OpenIndex, CloseIndex, Dot, Comma, Star}
-use Rattle.al_grammar.specs.Chunks.{Chunked, chunks_from, closes, is, move, moved, open_fault, opens}
+use Rattle.al_grammar.specs.Chunks.{Chunked, chunks_of, closes, is_quote, opens}
+use Rattle.al_grammar.specs.Private.ChunkStates.{chunks_from, end_fault, move, moved}
+use Rattle.al_grammar.proofs.ChunkLemmas.{states_give}
+use Rattle.al_grammar.proofs.Chunking.{third_is}
 use Rattle.al_grammar.specs.Extents.{start_of, end_of, end_of_steps, end_of_operands}
 use Rattle.al_grammar.specs.Grammar.{Nonterminal, Derives, single, chain, positive, negated, bare, path, constant, number, text, name, call_empty, call, group, Operators, no_more, one_more, Walks, arrived, to_property, to_keyword, to_all, to_each, to_index, Lists, listed, and_next}
 use Rattle.al_grammar.specs.Inside.{AllLie}
@@ -383,16 +386,10 @@ module _ (size : ℕ) where
   abbrev ChunkedLies : Chunked → Type 0
   ChunkedLies c = AllByRecursion (λ (s : Span). LiesIn size s) c.chunks × AllLie size (option_to_list c.fault)
 
-  end_lies : (w : ChunkState) (at : ℕ) → Stands at w → AllLie size (option_to_list (open_fault w))
+  end_lies : (w : ChunkState) (at : ℕ) → Stands at w → AllLie size (option_to_list (end_fault w))
   end_lies Outside at s = tt
   end_lies (Inside start) at s = (record { ordered = omega arith; inside = s.1 }, tt)
   end_lies (Quoted start quote) at s = let q = s.2 in (record { ordered = omega arith; inside = omega (arith, q) }, tt)
-
-  three : (bs : List ℕ) → opens bs ≡ true → 3 ≤ length bs
-  three [] h = absurd cc
-  three (a ∷ []) h = absurd (grind arith)
-  three (a ∷ b ∷ []) h = absurd (grind arith)
-  three (a ∷ b ∷ c ∷ bs) h = omega arith
 
   if_leads : (at : ℕ) (t : Bool) (x y : Move) → (t ≡ true → Leads at x) → Leads at y → Leads at (cond t x y)
   if_leads at true x y a b = a refl
@@ -400,14 +397,14 @@ module _ (size : ℕ) where
 
   move_leads : (w : ChunkState) (at b : ℕ) (bs : List ℕ) → at + length (b ∷ bs) ≤ size → Stands at w → Leads at (move w at (b ∷ bs))
   move_leads Outside at b bs room s =
-      if_leads at (opens (b ∷ bs)) (On 2 (Inside (at + 3))) (On 0 Outside) (λ e. let t = three (b ∷ bs) e in (omega arith, omega (arith, t, room))) tt
+      if_leads at (opens (b ∷ bs)) (On 2 (Inside (at + 3))) (On 0 Outside) (λ e. let t = (third_is (b ∷ bs) e).0 in (omega arith, omega (arith, t, room))) tt
   move_leads (Inside start) at b bs room s =
       let h = s.0 in
-      if_leads at (first_is (is 39) (b ∷ bs)) (On 0 (Quoted start at)) (cond (closes (b ∷ bs)) (End start) (On 0 (Inside start))) (λ e. (omega (arith, h), s.1, omega (arith, room)))
+      if_leads at (first_is is_quote (b ∷ bs)) (On 0 (Quoted start at)) (cond (closes (b ∷ bs)) (End start) (On 0 (Inside start))) (λ e. (omega (arith, h), s.1, omega (arith, room)))
       (if_leads at (closes (b ∷ bs)) (End start) (On 0 (Inside start)) (λ e. h) (omega (arith, h), s.1))
   move_leads (Quoted start quote) at b bs room s =
       let h = s.0 in
-      if_leads at (first_is (is 39) (b ∷ bs)) (On 0 (Inside start)) (On 0 (Quoted start quote)) (λ e. (omega (arith, h), s.1)) (omega (arith, h), s.1, s.2)
+      if_leads at (first_is is_quote (b ∷ bs)) (On 0 (Inside start)) (On 0 (Quoted start quote)) (λ e. (omega (arith, h), s.1)) (omega (arith, h), s.1, s.2)
 
   moved_lies : (m : Move) (at : ℕ) (go : ℕ → ChunkState → Chunked) → at ≤ size → Leads at m →
       ((skip : ℕ) (w : ChunkState) → Stands (at + 1 + skip) w → ChunkedLies (go skip w)) → ChunkedLies (moved m at go)
@@ -425,5 +422,5 @@ module _ (size : ℕ) where
       (move_leads w at b bs room (subst (λ n. Stands n w) e s))
       (λ skip v t. chunked_lies bs skip v (at + 1) (omega (arith, room)) t)
 
-pub chunks_lie : (text : List ℕ) → AllByRecursion (λ (s : Span). LiesIn (length text) s) (chunks_from 0 Outside 0 text).chunks × AllLie (length text) (option_to_list (chunks_from 0 Outside 0 text).fault)
-chunks_lie bytes = chunked_lies (length bytes) bytes 0 Outside 0 (omega arith) tt
+pub chunks_lie : (text : List ℕ) → AllByRecursion (λ (s : Span). LiesIn (length text) s) (chunks_of text).chunks × AllLie (length text) (option_to_list (chunks_of text).fault)
+chunks_lie bytes = subst (ChunkedLies (length bytes)) (states_give bytes) (chunked_lies (length bytes) bytes 0 Outside 0 (omega arith) tt)

@@ -13,3 +13,4 @@ pub mod Left
 pub mod Quotes
 pub mod Chunking
 pub mod Inside
+pub mod ChunkLemmas

@@ -1,17 +1,17 @@
--- The chunks of a text, `${{ .. }}`.
-use Rattle.std.specs.Prelude.{◌≡◌, ◌≤◌, ◌<◌, ℕ, zero, suc, ◌+◌, ◌-◌, ◌^◌, List, [], ◌∷◌, ◌++◌, Bool, ◌&&◌, nat_eq, if◌then◌else◌}
-use Rattle.std.specs.Prelude.{drop, slice_range, Option, Some, None}
-use Rattle.std.specs.Str.{IsCharBoundary}
+-- The chunks of a text, `${{ .. }}` (GitHub, "Evaluate expressions in workflows and actions").
+--
+-- A text splits into what stands before its first `${{`, that opening, a content, the closing `}}` and the rest, whose chunks follow. The
+-- closing is the first `}}` outside quotes: an even number of single quotes stands in the content before it. So at most one splitting is
+-- right, and the chunks are the only ones.
+use Rattle.std.specs.Prelude.{◌≡◌, ℕ, zero, suc, ◌+◌, ◌-◌, List, [], ◌∷◌, ◌++◌, Bool, true, ◌==◌, ◌&&◌, not, if◌then◌else◌, length}
+use Rattle.std.specs.Prelude.{drop, slice_range, Option, Some, None, option_map}
+use Rattle.al_text.specs.Ascii as ascii
+use Rattle.al_text.specs.FirstBytes.{begins_with}
 use Rattle.al_text.specs.declared.codes.ExpressionCode.TheVariants as code
 use Rattle.al_text.specs.declared.faults.Fault.{Fault}
 use Rattle.al_text.specs.declared.faults.Span.{Span}
 use Rattle.al_grammar.specs.declared.chunk.Chunk.{Chunk}
-use Rattle.al_grammar.specs.declared.chunk.ChunkState.{ChunkState}
-use Rattle.al_grammar.specs.declared.chunk.ChunkState.TheVariants.{Outside, Inside, Quoted}
-use Rattle.al_grammar.specs.declared.chunk.Move.{Move}
-use Rattle.al_grammar.specs.declared.chunk.Move.TheVariants.{On, End}
-use Rattle.al_text.specs.FirstBytes.{first_is}
-use Rattle.al_grammar.specs.Tokens.{span}
+use Rattle.al_grammar.specs.Tokens.{span, last_place}
 use Rattle.al_grammar.specs.Refusal.{fault}
 
 -- where the contents of the chunks lie, and what is wrong at the text's end
@@ -19,49 +19,70 @@ pub record Chunked : Type 0 where
   pub chunks : List Span
   pub fault : Option Fault
 
-abbrev pub is : ℕ → ℕ → Bool
-is c b = nat_eq b c
-
 -- `${{`
 abbrev pub opens : List ℕ → Bool
-opens bs = first_is (is 36) bs && first_is (is 123) (drop 1 bs) && first_is (is 123) (drop 2 bs)
+opens bs = begins_with ascii.dollar bs && begins_with ascii.open_brace (drop 1 bs) && begins_with ascii.open_brace (drop 2 bs)
 
 -- `}}`
 abbrev pub closes : List ℕ → Bool
-closes bs = first_is (is 125) bs && first_is (is 125) (drop 1 bs)
+closes bs = begins_with ascii.close_brace bs && begins_with ascii.close_brace (drop 1 bs)
+
+abbrev pub is_quote : ℕ → Bool
+is_quote b = b == ascii.single_quote
+
+-- Behind these bytes of a content no quote is open: their number of quotes is even.
+abbrev pub is_outside_quotes : List ℕ → Bool
+is_outside_quotes [] = true
+is_outside_quotes (b ∷ bs) = let more = is_outside_quotes bs in if is_quote b then not more else more
+
+-- how many bytes stand before the first `${{`
+abbrev pub before_opening : List ℕ → Option ℕ
+before_opening [] = None
+before_opening (b ∷ bs) = let later = option_map suc (before_opening bs) in if opens (b ∷ bs) then Some 0 else later
+
+-- How many bytes of a content stand before the first `}}` outside quotes, behind those of it that come first.
+abbrev pub before_closing : List ℕ → List ℕ → Option ℕ
+before_closing front [] = None
+before_closing front (b ∷ bs) =
+    let later = option_map suc (before_closing (front ++ b ∷ []) bs) in
+    if is_outside_quotes front && closes (b ∷ bs) then Some 0 else later
+
+abbrev pub no_chunks : Option Fault → Chunked
+no_chunks f = record { chunks = []; fault = f }
 
 abbrev pub then_chunk : Span → Chunked → Chunked
 then_chunk s c = record { chunks = s ∷ c.chunks; fault = c.fault }
 
--- At the text's end an open quote is X2 at the last quote, otherwise open braces are X20 at them.
-abbrev pub open_fault : ChunkState → Option Fault
-open_fault Outside = None
-open_fault (Inside start) = Some (fault code.UnclosedChunk (span (start - 3) start) [])
-open_fault (Quoted start quote) = Some (fault code.UnclosedText (span quote (quote + 1)) [])
+-- X2 at the last quote
+abbrev pub open_quote : Option ℕ → Option Fault
+open_quote None = None
+open_quote (Some quote) = Some (fault code.UnclosedText (span quote (quote + 1)) [])
 
--- What a byte leads to: where the reader is behind it and how many bytes more it skips, or the end of the chunk from
--- this state. A single quote switches quoting, and the first `}}` outside quotes closes a chunk.
-abbrev pub move : ChunkState → ℕ → List ℕ → Move
-move Outside at bs = if opens bs then On 2 (Inside (at + 3)) else On 0 Outside
-move (Inside start) at bs = if first_is (is 39) bs then On 0 (Quoted start at) else if closes bs then End start else On 0 (Inside start)
-move (Quoted start quote) at bs = if first_is (is 39) bs then On 0 (Inside start) else On 0 (Quoted start quote)
+-- What is wrong with a content from this place on that the text's end cuts off: an open quote is X2 at the last one, otherwise its
+-- opening is X20.
+abbrev pub open_fault : ℕ → List ℕ → Option Fault
+open_fault start content =
+    if is_outside_quotes content then Some (fault code.UnclosedChunk (span (start - 3) start) [])
+    else open_quote (last_place is_quote start content)
 
-abbrev pub moved : Move → ℕ → (ℕ → ChunkState → Chunked) → Chunked
-moved (On skip w) at go = go skip w
-moved (End start) at go = then_chunk (span start at) (go 1 Outside)
+-- the content from a place on, up to its closing, and the chunks of the rest
+abbrev pub with_content : (ℕ → List ℕ → Chunked) → ℕ → List ℕ → Option ℕ → Chunked
+with_content rest start bs None = no_chunks (open_fault start bs)
+with_content rest start bs (Some len) = then_chunk (span start (start + len)) (rest (start + len + 2) (drop (len + 2) bs))
 
--- The chunks from a state on, of which so many bytes were read already.
-abbrev pub chunks_from : ℕ → ChunkState → ℕ → List ℕ → Chunked
-chunks_from skip w at [] = record { chunks = []; fault = open_fault w }
-chunks_from (suc skip) w at (b ∷ bs) = chunks_from skip w (at + 1) bs
-chunks_from zero w at (b ∷ bs) = moved (move w at (b ∷ bs)) at (λ skip w'. chunks_from skip w' (at + 1) bs)
+-- the content behind an opening
+abbrev pub with_opening : (ℕ → List ℕ → Chunked) → ℕ → List ℕ → Option ℕ → Chunked
+with_opening rest at bs None = no_chunks None
+with_opening rest at bs (Some before) =
+    with_content rest (at + before + 3) (drop (before + 3) bs) (before_closing [] (drop (before + 3) bs))
+
+-- the chunks of a text whose first byte stands at this place: at most so many
+abbrev pub chunks_within : ℕ → ℕ → List ℕ → Chunked
+chunks_within zero at bs = no_chunks None
+chunks_within (suc n) at bs = with_opening (chunks_within n) at bs (before_opening bs)
 
 abbrev pub chunks_of : List ℕ → Chunked
-chunks_of text = chunks_from 0 Outside 0 text
-
--- chunks read so far, before those of the rest
-abbrev pub behind_chunks : List Span → Chunked → Chunked
-behind_chunks front c = record { chunks = front ++ c.chunks; fault = c.fault }
+chunks_of text = chunks_within (length text) 0 text
 
 abbrev pub span_of_chunk : Chunk → Span
 span_of_chunk c = c.span
@@ -69,23 +90,3 @@ span_of_chunk c = c.span
 -- A chunk holds the bytes of the text from its start to its end.
 abbrev pub IsCutFrom : List ℕ → Chunk → Type 0
 IsCutFrom text c = c.content.now ≡ slice_range text c.span.start c.span.end
-
--- A character begins where the content of an open chunk does, at or before this state, and its braces before it.
-abbrev pub Opens : List ℕ → ℕ → ℕ → Type 0
-Opens text at start = (3 ≤ start) × (start ≤ at) × IsCharBoundary text start
-
-abbrev pub StandsIn : List ℕ → ℕ → ChunkState → Type 0
-StandsIn text at Outside = Unit {0}
-StandsIn text at (Inside start) = Opens text at start
-StandsIn text at (Quoted start quote) = Opens text at start × (quote < at)
-
--- so many bytes are there to be skipped
-abbrev pub MoveFits : ℕ → Move → Type 0
-MoveFits len (On skip w) = 1 + skip ≤ len
-MoveFits len (End start) = 2 ≤ len
-
--- The places of an open chunk lie in a text of at most 2^32 bytes.
-abbrev pub EndFits : ChunkState → Type 0
-EndFits Outside = Unit {0}
-EndFits (Inside start) = (3 ≤ start) × (start < 2 ^ 32)
-EndFits (Quoted start quote) = quote + 1 < 2 ^ 32

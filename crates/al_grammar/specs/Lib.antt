@@ -10,3 +10,5 @@ pub mod Law
 pub mod View
 pub mod Parsed
 pub mod Inside
+pub mod ChunkRows
+pub mod Private

@@ -3,7 +3,8 @@
 ghost use Rattle.std.specs.Prelude.{◌≡◌, ◌≤◌, ◌<◌, ◌+◌, ◌^◌, IfOk, MatchOption, All, [], ◌∷◌, map, length};
 ghost use Rattle.std.specs.Str.{IsCharBoundary};
 ghost use Rattle.al_grammar.specs.Tokens.{span};
-ghost use Rattle.al_grammar.specs.Chunks.{chunks_of, closes, move, open_fault, opens, span_of_chunk, EndFits, IsCutFrom, MoveFits};
+ghost use Rattle.al_grammar.specs.Chunks.{chunks_of, closes, opens, span_of_chunk, IsCutFrom};
+ghost use Rattle.al_grammar.specs.Private.ChunkStates.{end_fault as fault_at_end, move, EndFits, MoveFits};
 
 use crate::faults::plain_fault;
 use al_text::{ExpressionCode, Fault, Span};
@@ -69,7 +70,7 @@ fn next(state: ChunkState, at: usize, bytes: &[u8]) -> Move
 /// What is wrong where a text ends with the reader in this state.
 fn end_fault(alloc: Global, state: ChunkState) -> Option<Fault>
     requires { EndFits state }
-    ensures { result ≡ open_fault state }
+    ensures { result ≡ fault_at_end state }
 {
     match state {
         ChunkState::Outside => None,

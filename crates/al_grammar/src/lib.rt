@@ -11,6 +11,7 @@ mod lexer;
 mod number;
 mod parser;
 mod token;
+mod worked;
 
 pub use ast::{Expr, Operand, PathStep, Word};
 pub use chunk::{Chunk, chunks};
@@ -19,3 +20,4 @@ pub use extents::{across, extent, path_extent};
 pub use law::{all_lie_inside, grammar};
 pub use lexer::lex;
 pub use token::{Keyword, Operator, Token, TokenKind};
+pub use worked::chunk_rows;

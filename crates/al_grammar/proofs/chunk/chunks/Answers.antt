@@ -1,10 +1,23 @@
-use Rattle.std.proofs.Common.{◌<◌, ◌+◌, length, drop, map, ap, ◌∙◌, arith, length-drop}
+use Rattle.std.proofs.Common.{◌≡◌, ◌<◌, ◌+◌, length, drop, map, ap, sym, ◌∙◌, arith, rules, length-drop}
 use Rattle.std.proofs.lemmas.List.{take_rest, drop-drop, map-append}
 use Rattle.al_grammar.specs.declared.chunk.ChunkState.TheVariants.{Outside}
-use Rattle.al_grammar.specs.Chunks.{behind_chunks, chunks_from, then_chunk, span_of_chunk}
+use Rattle.al_grammar.specs.Chunks.{then_chunk, span_of_chunk}
+use Rattle.al_grammar.specs.Private.ChunkStates.{behind_chunks, chunks_from}
 use Rattle.al_grammar.specs.Tokens.{span}
 use Rattle.al_grammar.proofs.Chunking.{goes_on, ends, behind_one, stands, cut_more}
+use Rattle.al_grammar.proofs.ChunkLemmas.{states_give}
 use Rattle.al_grammar.proofs.chunk.chunks.Goals as goal
+
+pub text-init : goal.text-init
+text-init c =
+    let nothing : chunks_from 0 Outside 0 c.args.text.now ≡ behind_chunks (map span_of_chunk c.new-found.result.items) (chunks_from 0 Outside 0 c.args.text.now) =
+    search rules in
+    record {
+      within = omega arith;
+      stands = tt;
+      contents = search rules;
+      so_far = sym (states_give c.args.text.now) ∙ nothing;
+    }
 
 pub text-preserved-in-On : goal.text-preserved-in-On
 text-preserved-in-On c =

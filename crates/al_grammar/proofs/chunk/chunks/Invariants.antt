@@ -1,6 +1,7 @@
 use Rattle.std.proofs.Common.{◌≡◌, ◌≤◌, ◌-◌, length, drop, map}
 use Rattle.std.specs.Prelude.{All}
-use Rattle.al_grammar.specs.Chunks.{chunks_of, chunks_from, behind_chunks, span_of_chunk, IsCutFrom, StandsIn}
+use Rattle.al_grammar.specs.Chunks.{chunks_of, span_of_chunk, IsCutFrom}
+use Rattle.al_grammar.specs.Private.ChunkStates.{chunks_from, behind_chunks, StandsIn}
 use Rattle.al_grammar.proofs.chunk.chunks.Given as goal
 
 abbrev pub invariant-text : goal.invariant-text
