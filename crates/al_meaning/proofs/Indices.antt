@@ -6,7 +6,7 @@ use Rattle.al_meaning.specs.declared.placeholders.PlaceholderState.{PlaceholderS
 use Rattle.al_meaning.specs.declared.placeholders.PlaceholderState.TheVariants.{Outside, InIndex}
 use Rattle.al_meaning.specs.declared.placeholders.Turn.TheVariants.{To, Names, Wrong}
 use Rattle.al_grammar.specs.Tokens.{is_digit}
-use Rattle.al_meaning.specs.Placeholders.{turned, used_from}
+use Rattle.al_meaning.specs.Private.PlaceholderStates.{turned, used_from}
 
 pub names_none : (n : ℕ) (used : List Bool) (go : PlaceholderState → List Bool → Option (List Bool)) → length used ≤ n → turned (Names n) used go ≡ None
 names_none n used go h = ap (λ b. if b then go Outside (slice_set used n true) else None) (le-ltb n (length used) h)

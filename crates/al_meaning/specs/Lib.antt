@@ -8,3 +8,4 @@ pub mod CallViews
 pub mod FoundTypes
 pub mod Comparison
 pub mod Inside
+pub mod Private

@@ -1,35 +1,32 @@
--- The values of literals.
-use Rattle.std.specs.Prelude.{ℕ, List, [], ◌∷◌, ◌++◌, nat_eq, if◌then◌else◌, Option, Some, None}
+-- The values of literals (GitHub, "Evaluate expressions in workflows and actions", "Literals").
+use Rattle.std.specs.Prelude.{ℕ, zero, suc, List, [], ◌∷◌, ◌++◌, Bool, ◌==◌, if◌then◌else◌, take, drop, Option, Some, None}
 use Rattle.std.specs.List.{flat_map}
 use Rattle.std.specs.Str.{chars}
 use Rattle.std.specs.Char.{encode_utf8}
+use Rattle.al_text.specs.Ascii as ascii
 use Rattle.al_text.specs.declared.faults.Span.{Span}
-use Rattle.al_meaning.specs.declared.literals.Quoting.{Quoting}
-use Rattle.al_meaning.specs.declared.literals.Quoting.TheVariants.{Opening, Inside, BehindQuote}
 use Rattle.al_grammar.specs.declared.token.Keyword.{Keyword}
 use Rattle.al_grammar.specs.declared.token.Keyword.TheVariants as keyword
 use Rattle.al_grammar.specs.Tree as tree
 use Rattle.al_grammar.specs.Tree.{Tree, Group}
 use Rattle.al_types.specs.Types.{Type', Null, Bool'}
 
--- What a character of a text literal adds to its value: the opening quote nothing, nor the first of two quotes, nor
--- the closing one.
-abbrev pub adds : Quoting → ℕ → List ℕ
-adds Opening c = []
-adds Inside c = if nat_eq c 39 then [] else c ∷ []
-adds BehindQuote c = c ∷ []
+abbrev pub is_quote : ℕ → Bool
+is_quote c = c == ascii.single_quote
 
-abbrev pub moves : Quoting → ℕ → Quoting
-moves Inside c = if nat_eq c 39 then BehindQuote else Inside
-moves _ c = Inside
+-- The characters behind an opening quote, up to the closing one: a doubled quote is one, the second, and the closing one, with nothing
+-- behind it, is none. The number counts the characters that are part of a doubled quote.
+abbrev pub unquoted : ℕ → List ℕ → List ℕ
+unquoted n [] = []
+unquoted (suc n) (c ∷ cs) = unquoted n cs
+unquoted zero (c ∷ cs) =
+    let behind_both = unquoted 1 cs in
+    let behind_one = unquoted 0 cs in
+    if is_quote c then take 1 cs ++ behind_both else c ∷ behind_one
 
-abbrev pub unquoted : Quoting → List ℕ → List ℕ
-unquoted q [] = []
-unquoted q (c ∷ cs) = adds q c ++ unquoted (moves q c) cs
-
--- The text between the quotes of a literal, a doubled quote as one.
+-- The text between the quotes of a literal.
 abbrev pub text_value : List ℕ → List ℕ
-text_value literal = flat_map encode_utf8 (unquoted Opening (chars literal))
+text_value literal = flat_map encode_utf8 (unquoted 0 (drop 1 (chars literal)))
 
 -- the value of a text literal, also in brackets, and where it stands
 abbrev pub literal_text : Tree → Option (List ℕ × Span)

@@ -10,7 +10,9 @@ mod reports;
 mod steps;
 mod typing;
 mod untrusted;
+mod worked;
 
 pub use comparison::comparable;
 pub use law::all_lie_in_content;
 pub use typing::type_of;
+pub use worked::{literal_rows, placeholder_rows};

@@ -3,7 +3,8 @@
 ghost use Rattle.std.specs.Prelude.{◌≡◌, ◌++◌, IfOk, OnOk, option_map, string_bytes};
 ghost use Rattle.std.specs.List.{flat_map};
 ghost use Rattle.std.specs.Char.{encode_utf8};
-ghost use Rattle.al_meaning.specs.Literals.{text_value, literal_text, adds, moves, type_of_keyword};
+ghost use Rattle.al_meaning.specs.Literals.{literal_text, text_value, type_of_keyword};
+ghost use Rattle.al_meaning.specs.Private.QuotingStates.{adds, moves};
 ghost use Rattle.al_meaning.specs.LiteralViews.{literal_of};
 ghost use Rattle.al_types.specs.TypeViews.{ty_of};
 ghost use Rattle.al_grammar.specs.View.{tree_of};

@@ -1,7 +1,8 @@
 //! The placeholders of a text for `format`.
 
 ghost use Rattle.std.specs.Prelude.{◌≡◌, ◌∷◌, ℕ, List, IfOk, MatchOption, option_map, None};
-ghost use Rattle.al_meaning.specs.Placeholders.{turn, used_from, used_arguments};
+ghost use Rattle.al_meaning.specs.Placeholders.{used_arguments};
+ghost use Rattle.al_meaning.specs.Private.PlaceholderStates.{turn, used_from};
 ghost use Rattle.al_meaning.specs.PlaceholderViews.{IsSmall};
 
 use std::alloc::{AllocError, Global};
@@ -25,6 +26,7 @@ pub(crate) enum Turn {
 }
 
 /// Which of so many arguments a format text names: none where a brace stands alone, or an index has no argument.
+#[tactic(auto, using(crate::proofs::PlaceholderLemmas::states_tell))]
 pub(crate) fn used_arguments(
     alloc: Global,
     text: &str,
