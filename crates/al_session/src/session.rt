@@ -17,11 +17,14 @@ ghost use Rattle.std.specs.Bool.{Decides};
 ghost use Rattle.al_folder.specs.Affected.{affected};
 ghost use Rattle.al_folder.specs.Meaning.{IsUpTo};
 ghost use Rattle.al_text.specs.Counted.{raised};
+ghost use Rattle.al_folder.specs.Kept.{folder_of};
 ghost use Rattle.al_folder.specs.Missing.{missing_in};
 ghost use Rattle.al_session.specs.Report.{status_of, report_of};
+ghost use Rattle.al_session.specs.Session.{AreLinted};
 
 use crate::edit::{put_file, remove_file};
 use crate::joining::{has_loops, join_all};
+use crate::refused::put_refused;
 use crate::report::{has_faults, write_files};
 use al_folder::{Callers, Files, Lint, Paths, Refused, missing_paths};
 use al_text::{Fault, Output, Path, Stop, path_fault};
@@ -29,12 +32,6 @@ use indexmap::IndexMap;
 use std::alloc::{AllocError, Global};
 use std::io::Write;
 use std::marker::Model;
-
-/// The greatest size of a file, in bytes.
-const LARGEST_FILE: usize = 1_048_576;
-
-/// The greatest number of files.
-const MOST_FILES: usize = 4_096;
 
 /// What an accepted edit did.
 #[derive(Drop)]
@@ -89,6 +86,28 @@ impl<L: Lint> Session<L> {
         }
     }
 
+    /// A session of files that were read and checked. Takes no memory.
+    pub(crate) fn of(
+        alloc: Global,
+        lint: L,
+        files: Files<L::Unit, L::Iface>,
+        callers: Callers,
+    ) -> Session<L>
+        requires { AreLinted L.meaning L.is_unit files.entries callers (L.checks_of lint) }
+        ensures folder { result.folder ≡ folder_of files.entries }
+        ensures checks { result.checks ≡ L.checks_of lint }
+        ensures reads { result.reads ≡ L.reads_of lint }
+    {
+        // A count is at most the greatest `u64`, which the call shows.
+        let _reads = lint.reads();
+        Session {
+            alloc,
+            lint,
+            files,
+            callers,
+        }
+    }
+
     /// How many checks the linter has made, those of refused edits too. It stays at its greatest value. Takes no
     /// memory.
     pub fn meter(&self) -> u64
@@ -125,19 +144,7 @@ impl<L: Lint> Session<L> {
     fn put_refused(&self, path: &str, bytes: &[u8]) -> Option<Refused>
         ensures { result ≡ put_refusal L.meaning self.now.folder path.now bytes.now }
     {
-        if path_fault(path).is_some() {
-            return Some(Refused::BadPath);
-        }
-        if !self.lint.accepts(path) {
-            return Some(Refused::NotAccepted);
-        }
-        if bytes.len() > LARGEST_FILE {
-            return Some(Refused::TooLarge);
-        }
-        if self.files.len() >= MOST_FILES && self.bytes(path).is_none() {
-            return Some(Refused::Full);
-        }
-        None
+        put_refused(&self.lint, &self.files, path, bytes)
     }
 
     // Whether a file has just these bytes.

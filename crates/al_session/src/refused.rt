@@ -1,0 +1,45 @@
+//! Why a file is refused.
+
+ghost use Rattle.std.specs.Prelude.{◌≡◌, is_some};
+ghost use Rattle.al_folder.specs.Folder.{bytes_at, put_refusal};
+ghost use Rattle.al_folder.specs.Kept.{folder_of};
+
+use al_folder::{Files, Lint, Refused};
+use al_text::path_fault;
+
+/// The greatest size of a file, in bytes.
+const LARGEST_FILE: usize = 1_048_576;
+
+/// The greatest number of files.
+const MOST_FILES: usize = 4_096;
+
+/// Why a file with this path and these bytes is refused beside the files that are there, other than for memory.
+pub(crate) fn put_refused<L: Lint>(
+    lint: &L,
+    files: &Files<L::Unit, L::Iface>,
+    path: &str,
+    bytes: &[u8],
+) -> Option<Refused>
+    ensures { result ≡ put_refusal L.meaning (folder_of files.now.entries) path.now bytes.now }
+{
+    if path_fault(path).is_some() {
+        return Some(Refused::BadPath);
+    }
+    if !lint.accepts(path) {
+        return Some(Refused::NotAccepted);
+    }
+    if bytes.len() > LARGEST_FILE {
+        return Some(Refused::TooLarge);
+    }
+    if files.len() >= MOST_FILES && !has_file(files, path) {
+        return Some(Refused::Full);
+    }
+    None
+}
+
+// Whether a file has this path.
+fn has_file<U, I>(files: &Files<U, I>, path: &str) -> bool
+    ensures { result ≡ is_some (bytes_at (folder_of files.now.entries) path.now) }
+{
+    files.contains_key(path)
+}
