@@ -1,8 +1,11 @@
-"""How the time to lint a folder grows with its workflows: bench/folder.py, after ./test or a build of crates/actionlint.
+"""How the time to lint a folder grows with its files: bench/folder.py, after ./test or a build of crates/actionlint.
 
-Folders of 100 and of 1,000 copies of a workflow of some size are linted as a person lints them, without a word. Each time is the least of
-several runs in one run of this program. Where each file is checked once, ten times the files take about ten times as long; where each
-file that is taken has all others checked again, they take a hundred times as long. More than twelve times as long is an error.
+Folders are linted as a person lints them, without a word: copies of a workflow of some size; a workflow with actions of its own; one that
+calls listed workflows, whose name stands before theirs or behind them; workflows that share some actions. Each time is the least of several
+runs in one run of this program. Each file is read and checked once, so that ten times the files take about ten times as long, and twice
+the calls twice; where each called file had its callers checked again, or the files that aren't there were looked for anew at each file,
+ten times the files would take a hundred times as long, and twice the calls four times. The last line compares a folder with a script that
+puts the same files, called files first. More than `MOST` times as long is an error.
 """
 
 import functools
@@ -10,38 +13,115 @@ import pathlib
 import sys
 import tempfile
 
-from common import TOP, least_in_turns, program, run_seconds
+from common import SESSION, TOP, least_in_turns, program, put_commands, run_seconds
 
 EXAMPLE = TOP / "examples" / "release" / ".github" / "workflows" / "release.yml"
+WORKFLOWS = ".github/workflows"
+ACTION = "name: A\ndescription: d\nruns:\n  using: node20\n  main: m.js\n"
+CALLED = "on: workflow_call\njobs: {}\n"
 RUNS = 5
-FEW, MANY = 100, 1_000
-MOST = 12
+# ten times the files, twice the calls, and a folder beside its script
+MOST = {10: 12, 2: 3, 1: 2}
 
 
-def fill(folder, count):
-    """Puts so many workflows into a folder."""
-    workflows = pathlib.Path(folder, ".github", "workflows")
-    workflows.mkdir(parents=True)
-    for number in range(count):
-        (workflows / f"{number:04}.yml").write_bytes(EXAMPLE.read_bytes())
+def copies(count):
+    """So many copies of a workflow that calls nothing of the folder."""
+    text = EXAMPLE.read_text()
+    return [(f"{WORKFLOWS}/{number:04}.yml", text) for number in range(count)]
+
+
+def steps(numbers):
+    """A workflow whose steps call the actions of these numbers."""
+    calls = "".join(f"      - uses: ./actions/a{number:04}\n" for number in numbers)
+    return f"on: push\njobs:\n  a:\n    runs-on: ubuntu-latest\n    steps:\n{calls}"
+
+
+def actions(count):
+    """So many actions."""
+    return [(f"actions/a{number:04}/action.yml", ACTION) for number in range(count)]
+
+
+def with_actions(count):
+    """One workflow with so many actions of its own."""
+    return [*actions(count), (f"{WORKFLOWS}/a.yml", steps(range(count)))]
+
+
+def with_workflows(caller, count):
+    """A workflow of this name with so many jobs that each call a workflow of the list."""
+    names = [f"w{number:04}.yml" for number in range(count)]
+    jobs = "".join(f"  j{number}:\n    uses: ./{WORKFLOWS}/{name}\n" for number, name in enumerate(names))
+    return [*((f"{WORKFLOWS}/{name}", CALLED) for name in names), (f"{WORKFLOWS}/{caller}", f"on: push\njobs:\n{jobs}")]
+
+
+def with_shared_actions(count):
+    """So many workflows that each call the same ten actions, which stand first."""
+    text = EXAMPLE.read_text() + "\n  shared:\n" + steps(range(10)).split("  a:\n")[1]
+    return [*actions(10), *((f"{WORKFLOWS}/{number:04}.yml", text) for number in range(count))]
+
+
+def filled(folder, files):
+    """The folder with these files."""
+    for path, text in files:
+        place = pathlib.Path(folder, path)
+        place.parent.mkdir(parents=True, exist_ok=True)
+        place.write_text(text)
+    return folder
 
 
 def seconds(folder):
     """How long one run over a folder takes."""
-    took, status, out = run_seconds([program("actionlint")], folder=folder)
+    took, status, out = run_seconds([program("actionlint"), "--oneline"], folder=folder)
     if (status, out) != (0, b""):
         sys.exit(f"the folder has faults: {out[:200]}")
     return took
 
 
+def script_seconds(files):
+    """How long a script takes that puts these files."""
+    took, status, out = run_seconds([program("actionlint"), *SESSION], put_commands(files))
+    if status or out.count(b"ok ") != len(files):
+        sys.exit(f"the files were not taken: {out[:200]}")
+    return took
+
+
+def compare(name, sizes, times):
+    """Prints what each size takes, and how it compares with the one before; whether none takes more than it may."""
+    sizes_and_times = list(zip(sizes, times))
+    line = f"{sizes[0]} {name} {times[0]:.3f}s"
+    kept = True
+    for (before, less), (size, took) in zip(sizes_and_times, sizes_and_times[1:]):
+        line += f", {size} {took:.3f}s, {took / less:.2f} times as long"
+        kept = kept and took <= MOST[size // before] * less
+    print(line, flush=True)
+    return kept
+
+
+def growth(name, make, sizes):
+    """Compares folders of these sizes."""
+    with tempfile.TemporaryDirectory() as top:
+        folders = [filled(pathlib.Path(top, str(size)), make(size)) for size in sizes]
+        return compare(name, sizes, least_in_turns(RUNS, [functools.partial(seconds, folder) for folder in folders]))
+
+
+def beside_a_script(name, files):
+    """Compares a script with the folder of its files."""
+    with tempfile.TemporaryDirectory() as top:
+        filled(top, files)
+        script, folder = least_in_turns(RUNS, [functools.partial(script_seconds, files), functools.partial(seconds, top)])
+    print(f"{name}: {folder:.3f}s in a folder, {script:.3f}s as a script, {folder / script:.2f} times as long", flush=True)
+    return folder <= MOST[1] * script
+
+
 def main():
-    """Prints both times and how they compare."""
-    with tempfile.TemporaryDirectory() as few_files, tempfile.TemporaryDirectory() as many_files:
-        fill(few_files, FEW)
-        fill(many_files, MANY)
-        few, many = least_in_turns(RUNS, [functools.partial(seconds, folder) for folder in (few_files, many_files)])
-    print(f"{FEW} workflows {few:.3f}s, {MANY} workflows {many:.3f}s, {many / few:.2f} times as long")
-    return 1 if many > MOST * few else 0
+    """Prints the times and how they compare."""
+    kept = [
+        growth("workflows", copies, [100, 1_000]),
+        growth("actions of one workflow", with_actions, [1_000, 2_000, 4_000]),
+        growth("workflows called by a.yml", functools.partial(with_workflows, "a.yml"), [500, 1_000, 2_000]),
+        growth("workflows called by z.yml", functools.partial(with_workflows, "z.yml"), [500, 1_000, 2_000]),
+        beside_a_script("200 workflows with 10 shared actions", with_shared_actions(200)),
+    ]
+    return 0 if all(kept) else 1
 
 
 if __name__ == "__main__":

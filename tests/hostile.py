@@ -243,6 +243,37 @@ def calls_of_one_file(place):
                stdin=put("x/action.yml", data) + REPORT)
 
 
+# ---- many called files
+
+
+def held_in_memory():
+    """So much memory and no more, for as long as it takes."""
+    resource.setrlimit(resource.RLIMIT_AS, (MEMORY, MEMORY))
+
+
+def many_called_files(place):
+    """Folders of the disk with 4,000 actions of one workflow, and with 2,000 workflows that one calls whose name stands before theirs, or
+    behind them; of the called files the last one requires an input that no call gives. Each file is read and checked once."""
+    count = 4_000
+    files = {f"x/{number:04}/action.yml": CALLED.replace(b"    required: true", b"    required: false") for number in range(count - 1)}
+    files[f"x/{count - 1:04}/action.yml"] = CALLED
+    files[WORKFLOW] = CLEAN.replace(b"      - run: echo\n", b"".join(b"      - uses: ./x/%04d\n" % number for number in range(count)))
+    missing = b'%d:15: required input "who" of "A" is missing [action]\n' % (5 + count)
+    place.fresh(files)
+    place.case("workflow-with-4000-actions", 1, AT + missing, NO, ["--oneline"], limits=held_in_memory)
+    count = 2_000
+    called = b"on:\n  workflow_call:\njobs: {}\n"
+    files = {f"{WORKFLOWS}/w{number:04}.yml": called for number in range(count - 1)}
+    requiring = b"on:\n  workflow_call:\n    inputs:\n      x:\n        type: string\n        required: true\njobs: {}\n"
+    files[f"{WORKFLOWS}/w{count - 1:04}.yml"] = requiring
+    jobs = b"".join(b"  j%04d:\n    uses: ./%s/w%04d.yml\n" % (number, WORKFLOWS.encode(), number) for number in range(count))
+    for name in "a.yml", "z.yml":
+        path = f"{WORKFLOWS}/{name}"
+        missing = f'{path}:{2 + 2 * count}:11: required input "x" of "./{WORKFLOWS}/w{count - 1:04}.yml" is missing [workflow-call]\n'
+        place.fresh({**files, path: b"on: push\njobs:\n" + jobs})
+        place.case(f"2000-workflows-called-by-{name[0]}", 1, missing.encode(), NO, ["--oneline"], limits=held_in_memory)
+
+
 # ---- input
 
 
@@ -385,4 +416,4 @@ def narrow_output(place):
 
 if __name__ == "__main__":
     sys.exit(run_parts(fronts, limits, one_line, shared_nodes, equal_faults, folder_of_4096, ring_of_4096, calls_of_one_file,
-                       pieces_of_a_script, lines_of_input, input_without_end, narrow_output))
+                       many_called_files, pieces_of_a_script, lines_of_input, input_without_end, narrow_output))

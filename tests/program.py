@@ -200,6 +200,32 @@ def calls(place):
     place.case("called-action-is-a-folder", 3, no, cannot_read("a/action.yml"), ["--oneline"])
 
 
+def order_of_calls(place):
+    """Of the paths that calls leave open the first is tried at each turn, also where a file that was just taken left it open; the first
+    fault ends the run, and a file is read before it is counted."""
+    no = b""
+    workflow, large = f"{WORKFLOWS}/m.yml", b"#" * 1_048_577
+    calling = lambda *names: CLEAN.replace(b"      - run: echo\n", b"".join(b"      - uses: ./%s\n" % name.encode() for name in names))
+    composite = b"name: C\ndescription: d\nruns:\n  using: composite\n  steps:\n    - uses: ./a\n"
+    place.fresh({workflow: calling("d", "b"), "d/action.yml": large}, folders=["b/action.yml"])
+    place.case("first-path-is-tried-first", 3, no, cannot_read("b/action.yml"))
+    place.fresh({workflow: calling("d", "c"), "d/action.yml": large, "c/action.yml": composite}, folders=["a/action.yml"])
+    place.case("path-of-a-called-file-is-tried-before-later-ones", 3, no, cannot_read("a/action.yml"))
+    place.fresh({workflow: calling("c", "b"), "b/action.yml": large, "c/action.yml": composite}, folders=["a/action.yml"])
+    place.case("path-of-a-file-that-is-not-taken-yet-comes-later", 3, no, refused("b/action.yml", 3))
+    place.fresh({workflow: calling("b"), "b/action.yml": CALLED}, folders=["b/action.yaml"])
+    place.case("second-candidate-is-tried-by-its-path", 3, no, cannot_read("b/action.yaml"))
+    place.fresh({workflow: calling("b"), "b/action.yml": large, f"{WORKFLOWS}/z.yml": large})
+    place.case("listed-files-are-taken-before-called-ones", 3, no, refused(f"{WORKFLOWS}/z.yml", 3))
+    place.fresh({f"{WORKFLOWS}/{number:04}.yml": CLEAN for number in range(4_095)})
+    place.write(workflow, calling("x"))
+    place.case("folder-of-4096-files-without-the-called-one", 0, no, no)
+    place.write("x/action.yml", CALLED)
+    place.case("called-file-is-the-4097th", 3, no, refused("x/action.yml", 4))
+    place.write("x/action.yml", large)
+    place.case("called-file-too-large-is-the-4097th", 3, no, refused("x/action.yml", 3))
+
+
 # ---- the folders of examples
 
 
@@ -324,4 +350,5 @@ def on_a_small_stack(place, name, data, kibibytes, status):
 
 
 if __name__ == "__main__":
-    sys.exit(run_parts(words, folders, refusals, control_characters, kinds, calls, examples, scripts, streams, memory, sizes))
+    sys.exit(run_parts(words, folders, refusals, control_characters, kinds, calls, order_of_calls, examples, scripts, streams, memory,
+                       sizes))

@@ -1,12 +1,11 @@
 //! The linter as a program: it lints the files of a folder, or runs a script from standard input.
 #![tactic(auto)]
 
-use al_cli::{Fatal, Unread, gather, lint_all};
+use al_cli::{Loaded, Unread, lint_loaded, load};
 use al_scripts::{number_of, run_session};
 use al_session::Refused;
-use al_text::{Input, Output, Path, Stop};
+use al_text::{Input, Output, Stop};
 use al_words::{Usage, Words, parse_words};
-use std::alloc::AllocError;
 use std::io::{BufWriter, ErrorKind};
 use std::process::ExitCode;
 use std::{env, io};
@@ -85,43 +84,23 @@ fn run_script(rt: &HostRuntime, oneline: bool) -> u8 {
 
 // Lints the files that the words ask for.
 fn lint_folder(rt: &HostRuntime, words: &Words) -> u8 {
-    let files = match gather(rt, rt.alloc(), words) {
+    let files = match load(rt, rt.alloc(), words) {
         Ok(files) => files,
         Err(unread) => return say_unread(rt, unread),
     };
-    match lint_files(rt, &files, words.oneline) {
+    match lint_files(rt, files, words.oneline) {
         Ok(status) => status,
-        Err(Fatal::Stopped(stop)) => stopped(rt, stop),
-        Err(Fatal::Refused(index, refused)) => {
-            if let Some((path, _)) = files.get(index) {
-                say_refused(rt, path.as_str(), refused);
-            }
-            FATAL
-        }
+        Err(stop) => stopped(rt, stop),
     }
 }
 
-fn lint_files(rt: &HostRuntime, files: &[(Path, Vec<u8>)], oneline: bool) -> Result<u8, Fatal> {
-    let Ok(buffer) = BufWriter::new(rt.alloc(), rt.stdout()) else {
-        return Err(Fatal::Stopped(Stop::Memory));
-    };
-    let pairs = pairs_of(rt, files)?;
+fn lint_files(rt: &HostRuntime, files: Loaded, oneline: bool) -> Result<u8, Stop> {
+    let buffer = BufWriter::new(rt.alloc(), rt.stdout()).map_err(|_| Stop::Memory)?;
     let mut writer = Output::new(buffer);
-    let answer = lint_all(rt.alloc(), &pairs, &mut writer, oneline);
+    let answer = lint_loaded(files, &mut writer, oneline);
     // A whole report is flushed already; of one that stopped goes out what can.
     let _ = writer.flush();
     answer
-}
-
-fn pairs_of<'a>(
-    rt: &HostRuntime,
-    files: &'a [(Path, Vec<u8>)],
-) -> Result<Vec<(&'a str, &'a [u8])>, AllocError> {
-    let mut pairs = Vec::new(rt.alloc());
-    for (path, bytes) in files {
-        pairs.push((path.as_str(), bytes.as_slice()))?;
-    }
-    Ok(pairs)
 }
 
 fn say_unread(rt: &HostRuntime, unread: Unread) -> u8 {

@@ -1,0 +1,260 @@
+//! The files that a run without a script lints: those that are asked for, and those that they call.
+
+use crate::disk::{Disk, DiskError, SystemFolder, WORKFLOWS};
+use crate::paths::shown;
+use al_check::Actions;
+use al_session::{Refused, SessionBuilder, Target};
+use al_text::{Path, path_fault};
+use al_words::Words;
+use std::alloc::{AllocError, AllocFailed, Global};
+use std::collections::BTreeSet;
+use std::rt::Files;
+
+/// Files that were read, and not checked yet.
+pub type Loaded = SessionBuilder<Actions>;
+
+/// Why files were not gathered. A path is as a fatal line has it, with a `?` for each control character.
+#[derive(Drop)]
+pub enum Unread {
+    /// The file or folder at this path can't be read.
+    Unreadable(String),
+    /// The file at this path was refused.
+    Refused(String, Refused),
+    /// Memory ran out.
+    Memory,
+}
+
+impl From<AllocError> for Unread {
+    fn from(_: AllocError) -> Unread {
+        Unread::Memory
+    }
+}
+
+impl<T: Drop> From<AllocFailed<T>> for Unread {
+    fn from(_: AllocFailed<T>) -> Unread {
+        Unread::Memory
+    }
+}
+
+/// The files that a run without a script lints, each with its path and its bytes: those that the words name, or else all
+/// workflows of the folder in order of path; and then, one after another, each file that those before it call and that is
+/// there. Of what the folder lists only regular files are taken, behind their links; anything else of a name can't be read.
+///
+/// # Errors
+///
+/// [`Unread`], for the first file that can't be read or is refused, or where memory ran out.
+pub fn gather<R: Files + AllocGlobal + Clone + Drop>(
+    rt: &R,
+    alloc: Global,
+    words: &Words,
+) -> Result<Vec<(Path, Vec<u8>)>, Unread> {
+    let mut disk = SystemFolder {
+        rt,
+        root: words.root,
+    };
+    gathered(alloc, &mut disk, words)?.into_files()
+}
+
+/// The same files, read and not checked yet.
+///
+/// # Errors
+///
+/// Those of [`gather`].
+pub fn load<R: Files + AllocGlobal + Clone + Drop>(
+    rt: &R,
+    alloc: Global,
+    words: &Words,
+) -> Result<Loaded, Unread> {
+    let mut disk = SystemFolder {
+        rt,
+        root: words.root,
+    };
+    load_from(alloc, &mut disk, words)
+}
+
+/// The same for any disk.
+///
+/// # Errors
+///
+/// Those of [`gather`].
+pub fn load_from<D: Disk>(alloc: Global, disk: &mut D, words: &Words) -> Result<Loaded, Unread> {
+    Ok(gathered(alloc, disk, words)?.files)
+}
+
+fn gathered<D: Disk>(alloc: Global, disk: &mut D, words: &Words) -> Result<Gathering, Unread> {
+    let mut gathering = Gathering::new(alloc);
+    if words.files.is_empty() {
+        let listed = list_workflows(alloc, disk)?;
+        for path in &listed {
+            gathering.take_named(disk, path.as_str())?;
+        }
+    } else {
+        for file in &words.files {
+            gathering.take_named(disk, without_dot(file))?;
+        }
+    }
+    gathering.take_called(disk)?;
+    Ok(gathering)
+}
+
+// A FILE without a leading `./`.
+fn without_dot(file: &str) -> &str {
+    file.strip_prefix("./").unwrap_or(file)
+}
+
+fn list_workflows<D: Disk>(alloc: Global, disk: &mut D) -> Result<BTreeSet<String>, Unread> {
+    match disk.workflows(alloc) {
+        Ok(listed) => Ok(listed),
+        Err(error) => Err(failed(alloc, WORKFLOWS, error)),
+    }
+}
+
+// The candidates of calls at which no file was taken.
+#[derive(Drop)]
+struct Candidates {
+    // those that weren't tried yet
+    waiting: BTreeSet<String>,
+    // those at which no file is
+    absent: BTreeSet<String>,
+}
+
+impl Candidates {
+    // Lets a path wait, unless a file was taken there or it was tried.
+    fn add(&mut self, alloc: Global, files: &Loaded, path: &Path) -> Result<(), Unread> {
+        let text = path.as_str();
+        if files.bytes(text).is_none()
+            && !self.absent.contains(text)
+            && !self.waiting.contains(text)
+        {
+            self.waiting.insert(String::from_str(alloc, text)?)?;
+        }
+        Ok(())
+    }
+}
+
+// The files that were taken, and what is known of those that they call.
+#[derive(Drop)]
+struct Gathering {
+    alloc: Global,
+    files: Loaded,
+    // the paths of the files, in the order in which they were taken
+    taken: Vec<Path>,
+    candidates: Candidates,
+}
+
+impl Gathering {
+    fn new(alloc: Global) -> Gathering {
+        Gathering {
+            alloc,
+            files: Loaded::new(alloc, Actions::new()),
+            taken: Vec::new(alloc),
+            candidates: Candidates {
+                waiting: BTreeSet::new(alloc),
+                absent: BTreeSet::new(alloc),
+            },
+        }
+    }
+
+    // Takes a file that has to be there.
+    fn take_named<D: Disk>(&mut self, disk: &mut D, path: &str) -> Result<(), Unread> {
+        if self.take(disk, path)? {
+            Ok(())
+        } else {
+            Err(failed(self.alloc, path, DiskError::Unreadable))
+        }
+    }
+
+    // Takes each called file that is there: at each turn the first that wasn't tried.
+    fn take_called<D: Disk>(&mut self, disk: &mut D) -> Result<(), Unread> {
+        for index in 0..self.taken.len() {
+            self.await_calls(index)?;
+        }
+        for _ in 0..u64::MAX {
+            match self.candidates.waiting.pop_first() {
+                Some(path) => self.take_candidate(disk, path)?,
+                None => break,
+            }
+        }
+        Ok(())
+    }
+
+    // Takes a called file, if it is there.
+    fn take_candidate<D: Disk>(&mut self, disk: &mut D, path: String) -> Result<(), Unread> {
+        let index = self.taken.len();
+        if self.take(disk, path.as_str())? {
+            self.await_calls(index)
+        } else {
+            self.candidates.absent.insert(path)?;
+            Ok(())
+        }
+    }
+
+    // Takes a file; answers whether it is there.
+    fn take<D: Disk>(&mut self, disk: &mut D, path: &str) -> Result<bool, Unread> {
+        if path_fault(path).is_some() {
+            return Err(refused(self.alloc, path, Refused::BadPath));
+        }
+        if !self.files.accepts(path) {
+            return Err(refused(self.alloc, path, Refused::NotAccepted));
+        }
+        let bytes = match disk.read(self.alloc, path) {
+            Ok(Some(bytes)) => bytes,
+            Ok(None) => return Ok(false),
+            Err(error) => return Err(failed(self.alloc, path, error)),
+        };
+        if let Err(reason) = self.files.put(path, &bytes) {
+            return Err(refused(self.alloc, path, reason));
+        }
+        match Path::new(self.alloc, path) {
+            Ok(path) => self.taken.push(path)?,
+            Err(_) => return Err(Unread::Memory),
+        }
+        Ok(true)
+    }
+
+    // Lets the candidates wait that the file of this number calls.
+    fn await_calls(&mut self, index: usize) -> Result<(), Unread> {
+        let Some(path) = self.taken.get(index) else {
+            return Ok(());
+        };
+        let Some(calls) = self.files.calls(path.as_str()) else {
+            return Ok(());
+        };
+        for call in calls {
+            match call {
+                Target::Only(path) => self.candidates.add(self.alloc, &self.files, path)?,
+                Target::FirstOf(first, second) => {
+                    self.candidates.add(self.alloc, &self.files, first)?;
+                    self.candidates.add(self.alloc, &self.files, second)?;
+                }
+            }
+        }
+        Ok(())
+    }
+
+    // The files with their bytes, in the order in which they were taken.
+    fn into_files(self) -> Result<Vec<(Path, Vec<u8>)>, Unread> {
+        let mut files = Vec::new(self.alloc);
+        for path in self.taken {
+            if let Some(bytes) = self.files.bytes(path.as_str()) {
+                files.push((path, Vec::from_slice(self.alloc, bytes)?))?;
+            }
+        }
+        Ok(files)
+    }
+}
+
+fn failed(alloc: Global, path: &str, error: DiskError) -> Unread {
+    match (error, shown(alloc, path)) {
+        (DiskError::Unreadable, Ok(path)) => Unread::Unreadable(path),
+        (_, _) => Unread::Memory,
+    }
+}
+
+fn refused(alloc: Global, path: &str, reason: Refused) -> Unread {
+    match (reason, shown(alloc, path)) {
+        (Refused::Memory, _) => Unread::Memory,
+        (_, Err(_)) => Unread::Memory,
+        (reason, Ok(path)) => Unread::Refused(path, reason),
+    }
+}
