@@ -1,6 +1,6 @@
 -- Block nodes, with anchors and aliases, lie in the file.
 use Rattle.std.proofs.Common.{ℕ, zero, suc, ◌+◌, ◌≤◌, List, arith, Bool, true, false, not, ◌&&◌, length, drop}
-use Rattle.std.proofs.Common.{◌||◌, Option, Some, None, Result}
+use Rattle.std.proofs.Common.{◌||◌, Option, Some, None}
 use Rattle.al_text.specs.declared.codes.YamlCode.TheVariants as yaml
 use Rattle.al_scalar.specs.Ascii as ascii
 use Rattle.al_scalar.specs.Line.{Line, start, begins, blanks_dropped}
@@ -16,13 +16,13 @@ use Rattle.al_yaml.specs.Blocks.{flow_at, block_sequence, block_mapping, keyed_n
 use Rattle.al_yaml.specs.Content.{Next, ended, at_line, is_skipped, content, line_ended, whole_lines, behind, is_dash, is_quote}
 use Rattle.al_yaml.specs.Content.{block_fault, is_flow_start, is_property, same_line, characters, is_short_key, is_simple_key}
 use Rattle.al_yaml.specs.Content.{anchor_cells, anchor_name, behind_name, has_no_name}
-use Rattle.al_yaml.specs.Flow.{CollectionReader, flow_collection, empty_node}
+use Rattle.al_yaml.specs.Flow.{CollectionReader, flow_collection}
 use Rattle.al_yaml.specs.Keys.{Key, key_at, has_colon, is_block_start, is_on_key, property_fault, refused_code, flow_refused, no_entry, found_key, entry_key}
 use Rattle.al_yaml.specs.Node.{Node, Nodes, Entries, no_nodes, with_item, no_entries, with_entry, scalar_node}
 use Rattle.al_yaml.specs.Reading.{Reading, gives, fails, given, start_of, alias, anchored, Part, part, ◌>>=◌}
 use Rattle.al_yaml.specs.Spans.{IsLaidIn, AreLaidIn, EntriesLaidIn}
 use Rattle.al_yaml.proofs.LaidLemmas.{laid-item, laid-entry}
-use Rattle.al_yaml.proofs.ScalarSpans.{Answers, ReadIn, scalar-in}
+use Rattle.al_yaml.proofs.ScalarSpans.{ReadIn, scalar-in}
 use Rattle.al_yaml.proofs.SpanBlocks.{TabIn, first_tab-in, spot_behind-in, next-in, scalar_left-in}
 use Rattle.al_yaml.proofs.SpanKeys.{KeyIn, OptionKeyIn, key_at-in}
 use Rattle.al_yaml.proofs.SpanLines.{OptionIn, IsIn, NextIn, content-in, line_ended-in}
@@ -30,7 +30,7 @@ use Rattle.al_yaml.proofs.LaidFlow.{CollectionIn, flow_collection-in}
 use Rattle.al_yaml.proofs.LaidReading.{Gives, NodeIn, NodesIn, EntriesIn, gives-value, gives-fault}
 use Rattle.al_yaml.proofs.LaidReading.{gives-answer, gives-then, gives-listed, gives-unless}
 use Rattle.al_yaml.proofs.LaidReading.{laid-read, read-left, scalar-part, empty-in, sequence-in, mapping-in, alias-in, anchored-in}
-use Rattle.al_yaml.proofs.Standing.{Stand, stand-lower, stand-start, start-behind, start-in, stand-behind, stand-blanks, stand-whole}
+use Rattle.al_yaml.proofs.Standing.{Stand, stand-start, start-behind, start-in, stand-behind, stand-blanks, stand-whole}
 
 module _ (size : ℕ) where
   -- the tab before a compact collection stands in the file; so would an empty node, behind the offset

@@ -1,11 +1,9 @@
 -- What a reading with anchors and aliases gives lies in the file: its value keeps to what is said of it, the nodes of anchors lie in the
 -- file, and its fault and its starts do. An alias stands for a node elsewhere, so nothing is said of the order of nodes.
-use Rattle.std.proofs.Common.{◌≡◌, ℕ, ◌≤◌, List, [], ◌∷◌, ◌++◌, refl, arith, Bool, nat_lt}
+use Rattle.std.proofs.Common.{ℕ, ◌≤◌, List, [], ◌∷◌, ◌++◌, refl, arith, nat_lt}
 use Rattle.std.proofs.Common.{Option, Some, None, Result, Ok, Err}
 use Rattle.std.specs.Str.{bytes_eq}
-use Rattle.al_text.specs.Spans.{LiesIn}
 use Rattle.al_text.specs.declared.codes.YamlCode.{YamlCode}
-use Rattle.al_text.specs.declared.codes.YamlCode.TheVariants as yaml
 use Rattle.al_scalar.specs.Line.{Line}
 use Rattle.al_scalar.specs.Scalar.{ScalarRead, empty_scalar, span}
 use Rattle.al_scalar.specs.Taken.{Fault}

@@ -2,11 +2,9 @@
 use Rattle.std.proofs.Common.{◌≡◌, ℕ, ◌≤◌, List, [], ◌∷◌, ◌++◌, refl, arith, true, false}
 use Rattle.std.proofs.Common.{Option, Some, None, Result, Ok, Err}
 use Rattle.al_text.specs.declared.codes.YamlCode.{YamlCode}
-use Rattle.al_text.specs.declared.codes.YamlCode.TheVariants as yaml
 use Rattle.al_scalar.specs.Line.{Line}
 use Rattle.al_scalar.specs.Scalar.{empty_scalar, span}
 use Rattle.al_scalar.specs.Taken.{Fault}
-use Rattle.al_scalar.proofs.OffsetLemmas.{choose}
 use Rattle.al_yaml.specs.Content.{unless}
 use Rattle.al_yaml.specs.Flow.{empty_node}
 use Rattle.al_yaml.specs.Node.{Node, Nodes, Entries, scalar, sequence, mapping, with_item, with_entry, scalar_node}
@@ -16,7 +14,7 @@ use Rattle.al_yaml.specs.Spans.{IsPlacedIn, ArePlacedIn, EntriesPlacedIn}
 use Rattle.al_yaml.proofs.SpanLemmas.{wider_in, behind-item, behind-entry, over}
 use Rattle.al_scalar.specs.Scalar.{ScalarRead}
 use Rattle.al_yaml.proofs.ScalarSpans.{Answers, ReadIn}
-use Rattle.al_yaml.proofs.Standing.{Stand, low-in}
+use Rattle.al_yaml.proofs.Standing.{Stand}
 
 clash : true ≡ false → ⊥
 clash e = absurd cc

@@ -1,5 +1,5 @@
 -- The tree of a file in which no alias is read lies in it, each node in the one around it and behind those before it.
-use Rattle.std.proofs.Common.{◌≡◌, subst, ℕ, suc, ◌+◌, ◌≤◌, List, [], ◌∷◌, length, drop, refl, arith, Bool, true}
+use Rattle.std.proofs.Common.{◌≡◌, subst, ℕ, suc, ◌+◌, ◌≤◌, List, [], ◌∷◌, length, drop, refl, arith, true}
 use Rattle.std.proofs.Common.{Option, Some, None, Result, Ok, Err, IfOk}
 use Rattle.al_scalar.specs.Line.{Line, lines}
 use Rattle.al_scalar.specs.Taken.{Fault}
