@@ -9,7 +9,7 @@ use Rattle.al_yaml_reader.specs.BlockFrames.{BlockOpen, BlockWaiting, BlockFrame
 use Rattle.al_yaml_reader.specs.FlowFrames.{completing, mark_of}
 use Rattle.al_yaml_reader.specs.Frames.{Answer, Mark, answered, noting}
 use Rattle.al_yaml_reader.specs.Places.{fault_of}
-use Rattle.al_yaml_reader.specs.Reads.{State, run, counted, Stops, part_of}
+use Rattle.al_yaml_reader.specs.Reads.{State, run, Stops, part_of}
 use Rattle.al_yaml_reader.specs.declared.faults.ReadError.{ReadError}
 use Rattle.al_yaml_reader.specs.declared.faults.ReadError.TheVariants as stop
 use Rattle.al_yaml_reader.specs.declared.part.Part as code

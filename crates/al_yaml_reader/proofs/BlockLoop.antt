@@ -1,5 +1,5 @@
 -- The loop over open block collections: what its task and its stack stand for.
-use Rattle.std.proofs.Common.{◌≡◌, ℕ, suc, ◌+◌, ◌<◌, ◌≤◌, List, [], ◌∷◌, length, map, refl, sym, ap, ◌∙◌, subst, arith, Option, Some, None, Ok, Err}
+use Rattle.std.proofs.Common.{◌≡◌, ℕ, suc, ◌+◌, ◌<◌, ◌≤◌, List, [], ◌∷◌, length, map, refl, sym, ap, ◌∙◌, subst, arith, Option, None, Ok, Err}
 use Rattle.al_scalar.specs.Places.{lines_at}
 use Rattle.al_yaml.specs.Node.{Node}
 use Rattle.al_yaml.specs.Reading.{Part}
@@ -16,14 +16,13 @@ use Rattle.al_yaml_reader.specs.BlockReads.{slot_of}
 use Rattle.al_yaml_reader.specs.BlockFrames.{block_rest, block_waits, block_open_of, block_waiting_of, block_frame_of, node_reader, Begins, EntersWith, ResumesBlock, IsNodeAt, IsOpenAt, IsBegun, IsFoundFrom, IsResumed, IsNextBehind, IsNextInside}
 use Rattle.al_yaml_reader.specs.FlowFrames.{completing, mark_of}
 use Rattle.al_yaml_reader.specs.Frames.{Answer, noting}
-use Rattle.al_yaml_reader.specs.Reads.{State, run, counted, IsBehind, part_of}
+use Rattle.al_yaml_reader.specs.Reads.{State, run, IsBehind, part_of}
 use Rattle.al_yaml_reader.specs.declared.slots.Cursor.{Cursor}
 use Rattle.al_yaml_reader.specs.declared.slots.Slot.{Slot}
 use Rattle.al_yaml_reader.specs.declared.block.BlockFrame.{BlockFrame}
 use Rattle.al_yaml_reader.specs.declared.block.BlockOpen.{BlockOpen}
 use Rattle.al_yaml_reader.specs.declared.block.BlockOpen.TheVariants as open_code
 use Rattle.al_yaml_reader.specs.declared.block.BlockWaiting.{BlockWaiting}
-use Rattle.al_yaml_reader.specs.declared.block.BlockWaiting.TheVariants as waiting
 use Rattle.al_yaml_reader.specs.declared.block.BlockTask.{BlockTask}
 use Rattle.al_yaml_reader.specs.declared.block.BlockTask.TheVariants as task
 use Rattle.al_yaml_reader.specs.declared.part.Part as code

@@ -18,7 +18,7 @@ use Rattle.al_yaml_reader.specs.Places.{IsLineFrom}
 use Rattle.al_yaml_reader.specs.declared.content.Next as next_code
 use Rattle.al_yaml_reader.specs.declared.content.Next.TheVariants as next_line
 use Rattle.al_yaml_reader.specs.Frames.{answered, noting}
-use Rattle.al_yaml_reader.specs.Reads.{State, run, counted, Stops}
+use Rattle.al_yaml_reader.specs.Reads.{State, run, Stops}
 use Rattle.al_yaml_reader.specs.declared.block.BlockTask.{BlockTask}
 use Rattle.al_yaml_reader.specs.declared.block.BlockTask.TheVariants as task
 use Rattle.al_yaml_reader.specs.declared.block.BlockWaiting.{BlockWaiting}

@@ -1,5 +1,5 @@
 -- The loop over open flow collections: what its variables and its stack stand for.
-use Rattle.std.proofs.Common.{◌≡◌, ℕ, suc, ◌+◌, ◌<◌, ◌≤◌, List, [], ◌∷◌, length, map, refl, sym, ap, ◌∙◌, subst, arith, Ok, Some, None}
+use Rattle.std.proofs.Common.{◌≡◌, ℕ, suc, ◌+◌, ◌<◌, ◌≤◌, List, [], ◌∷◌, length, map, refl, sym, ap, ◌∙◌, subst, arith, Ok}
 use Rattle.al_scalar.specs.Places.{lines_at}
 use Rattle.al_yaml.specs.Flow.{flow_collection}
 use Rattle.al_yaml.specs.Node.{Node}
@@ -7,11 +7,9 @@ use Rattle.al_yaml.specs.Reading.{Part, part}
 use Rattle.al_yaml_reader.specs.FlowFrames.{closed_of, frame_of, after_at, GoesOn, Opens, Resumes}
 use Rattle.al_yaml_reader.specs.Frames as frames
 use Rattle.al_yaml_reader.specs.Frames.{Answer, Waiting, open_rest}
-use Rattle.al_yaml_reader.specs.Reads.{State, run, counted, part_of, IsAfter}
+use Rattle.al_yaml_reader.specs.Reads.{State, run, part_of, IsAfter}
 use Rattle.al_yaml.specs.View.{view}
 use Rattle.al_yaml_reader.specs.declared.flow.FlowFrame.{FlowFrame}
-use Rattle.al_yaml_reader.specs.declared.flow.Open.{Open}
-use Rattle.al_yaml_reader.specs.declared.flow.Open.TheVariants as open_code
 use Rattle.al_yaml_reader.specs.declared.flow.After.{After}
 use Rattle.al_yaml_reader.specs.declared.flow.After.TheVariants as after
 use Rattle.al_yaml_reader.specs.declared.part.Part as code

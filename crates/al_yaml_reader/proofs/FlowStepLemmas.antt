@@ -9,7 +9,7 @@ use Rattle.al_yaml.specs.Node as tree
 use Rattle.al_yaml.specs.Reading.{Reading, Part, part, fails, gives, given, spanned, ◌>>=◌}
 use Rattle.al_yaml.specs.Flow.{After, goes_on, closes, after_item, gap, CollectionReader, FlowKey, flow_items, flow_items_rest, flow_entries, flow_key, flow_entries_rest, flow_entry_value, flow_node_over, flow_collection}
 use Rattle.al_yaml_reader.specs.Frames.{Answer, answered, Open, Waiting, open_rest, waiting_rest, items, entries, item, value, key}
-use Rattle.al_yaml_reader.specs.Reads.{State, run, counted, Stops, Refuses, after_of}
+use Rattle.al_yaml_reader.specs.Reads.{State, run, Stops, Refuses, after_of}
 use Rattle.al_yaml_reader.specs.FlowFrames.{Finds, GoesOn, IsFirst, Opens}
 use Rattle.al_yaml_reader.specs.declared.flow.After as code_after
 use Rattle.al_yaml_reader.specs.declared.flow.After.TheVariants as after

@@ -10,7 +10,7 @@ use Rattle.al_yaml.specs.Reading.{Reading, Part, part, gives, fails, spanned, â—
 use Rattle.al_yaml.specs.Flow.{CollectionReader, flow_collection}
 use Rattle.al_yaml_reader.specs.Frames.{Answer, Mark, answered, noting, Open, Waiting, Frame, open_rest, waiting_rest, frame_rest}
 use Rattle.al_yaml_reader.specs.Places.{fault_of}
-use Rattle.al_yaml_reader.specs.Reads.{State, run, counted, Stops, part_of}
+use Rattle.al_yaml_reader.specs.Reads.{State, run, Stops, part_of}
 use Rattle.al_yaml_reader.specs.declared.faults.ReadError.{ReadError}
 use Rattle.al_yaml_reader.specs.declared.faults.ReadError.TheVariants as stop
 use Rattle.al_yaml_reader.specs.declared.part.Part as code

@@ -1,7 +1,7 @@
 -- A node that is complete with its anchor, as an answer.
 use Rattle.std.proofs.Common.{◌≡◌, ℕ, List, refl, sym, ap, ◌∙◌, Option, Some, None, Ok, Err}
 use Rattle.al_yaml.specs.Node as tree
-use Rattle.al_yaml.specs.Reading.{Reading, Part, anchored, ◌>>=◌}
+use Rattle.al_yaml.specs.Reading.{Reading, Part, anchored}
 use Rattle.al_yaml_reader.specs.Frames.{Answer, answered, noting}
 use Rattle.al_yaml_reader.specs.FlowFrames.{completing, mark_of}
 use Rattle.al_scalar.specs.Taken.{Fault}

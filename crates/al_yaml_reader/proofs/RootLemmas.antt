@@ -1,8 +1,5 @@
 -- The root and the whole document against offsets.
-use Rattle.std.proofs.Common.{◌≡◌, ℕ, suc, ◌+◌, ◌≤◌, List, [], ◌∷◌, length, drop, ap, ◌∙◌, arith, length-drop, Bool, true, false, cond, Ok, Err}
-use Rattle.al_text.specs.Positions.{begins_char}
-use Rattle.al_text.specs.Spans.{LiesIn}
-use Rattle.al_scalar.specs.Characters.{more_of_character, character_length, character_at}
+use Rattle.std.proofs.Common.{◌≡◌, ℕ, suc, List, length, ap, ◌∙◌, Ok, Err}
 use Rattle.al_scalar.specs.Line.{Line}
 use Rattle.al_scalar.specs.Taken.{Fault}
 use Rattle.al_yaml.specs.Node as tree
@@ -12,7 +9,7 @@ use Rattle.al_yaml.specs.Bytes.{file_lines}
 use Rattle.al_yaml.specs.Blocks.{block_node}
 use Rattle.al_yaml.specs.Document.{document_start, document_end, root_slot, root_found, root, document, document_of}
 use Rattle.al_yaml_reader.specs.Places.{fault_of}
-use Rattle.al_yaml_reader.specs.Reads.{State, at_start, run, counted, Stops, Refuses}
+use Rattle.al_yaml_reader.specs.Reads.{State, at_start, run, Stops, Refuses}
 use Rattle.al_yaml_reader.specs.declared.faults.ReadError.{ReadError}
 use Rattle.al_yaml_reader.specs.declared.faults.ReadError.TheVariants as stop
 use Rattle.al_yaml_reader.proofs.ReadLemmas.{given-ok, bind-ok, stops-bind}

@@ -1,5 +1,5 @@
 -- What is counted of a node, node after node.
-use Rattle.std.proofs.Common.{◌≡◌, ℕ, ◌+◌, ◌<◌, List, [], ◌∷◌, ◌++◌, map, max, refl, ap, sym, ◌∙◌, arith, rules}
+use Rattle.std.proofs.Common.{◌≡◌, ℕ, ◌+◌, ◌<◌, List, [], ◌∷◌, ◌++◌, max, refl, ap, sym, ◌∙◌, arith, rules}
 use Rattle.al_yaml.specs.Access.{nodes, entries}
 use Rattle.al_yaml.specs.Limits.{most_counted}
 use Rattle.al_yaml.specs.Node.{Node, Nodes, Entries, scalar, sequence, mapping, no_nodes, item, no_entries, entry, greater_of}

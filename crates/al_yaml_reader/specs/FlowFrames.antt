@@ -10,7 +10,6 @@ use Rattle.al_yaml.specs.Reading.{Reading, Part, part, anchored, fails, gives, a
 use Rattle.al_yaml.specs.Flow.{CollectionReader}
 use Rattle.al_yaml.specs.Flow as flow
 use Rattle.al_yaml.specs.Content as content
-use Rattle.al_yaml_reader.specs.declared.part.Part as code
 use Rattle.al_yaml_reader.specs.Frames as frames
 use Rattle.al_yaml.specs.Content.{anchor_name, behind_name}
 use Rattle.al_yaml_reader.specs.Frames.{Answer, answered, noting, open_rest, waiting_rest}

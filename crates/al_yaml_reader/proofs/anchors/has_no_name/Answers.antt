@@ -1,5 +1,5 @@
-use Rattle.std.proofs.Common.{arith, ◌∙◌}
-use Rattle.al_yaml_reader.proofs.NameLemmas.{no_name-is, property-inside}
+use Rattle.std.proofs.Common.{◌∙◌}
+use Rattle.al_yaml_reader.proofs.NameLemmas.{no_name-is}
 use Rattle.al_yaml_reader.proofs.anchors.has_no_name.Goals as goal
 
 pub returns : goal.returns

@@ -1,10 +1,10 @@
-use Rattle.std.proofs.Common.{◌≡◌, suc, ap, sym, ◌∙◌, false, not, ◌&&◌, Some}
+use Rattle.std.proofs.Common.{◌≡◌, suc, ap, sym, ◌∙◌, false, not, ◌&&◌}
 use Rattle.std.proofs.lemmas.Result.{err_from_is_err_and}
 use Rattle.al_scalar.specs.Places.{lines_at}
 use Rattle.al_yaml.specs.Blocks.{block_node, is_behind_key, rest_node}
 use Rattle.al_yaml_reader.specs.BlockFrames.{node_reader}
 use Rattle.al_yaml_reader.specs.BlockReads.{slot_of}
-use Rattle.al_yaml_reader.specs.FlowFrames.{alias_part, completing}
+use Rattle.al_yaml_reader.specs.FlowFrames.{completing}
 use Rattle.al_yaml.specs.Keys.{is_on_key}
 use Rattle.al_yaml_reader.specs.Places.{fault_of}
 use Rattle.al_yaml_reader.specs.Reads.{run, part_of, state_of}

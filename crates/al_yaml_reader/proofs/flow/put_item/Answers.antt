@@ -1,7 +1,6 @@
-use Rattle.std.proofs.Common.{length, ◌≤◌, map, ap, ◌∙◌, arith}
+use Rattle.std.proofs.Common.{length, map, ap, ◌∙◌, arith}
 use Rattle.std.proofs.lemmas.Result.{err_from_is_err_and}
 use Rattle.al_yaml.specs.Flow.{after_item}
-use Rattle.al_yaml_reader.specs.FlowFrames.{after_at}
 use Rattle.al_yaml_reader.specs.Reads.{part_of}
 use Rattle.al_yaml.specs.View.{view, nodes_of}
 use Rattle.al_yaml_reader.specs.declared.faults.ReadError.TheVariants as stop

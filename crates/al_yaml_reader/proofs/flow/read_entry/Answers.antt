@@ -1,4 +1,4 @@
-use Rattle.std.proofs.Common.{◌+◌, ◌∙◌, suc, ap, arith, length, map}
+use Rattle.std.proofs.Common.{◌∙◌, suc, ap, arith, map}
 use Rattle.std.proofs.lemmas.Result.{err_from_is_err_and}
 use Rattle.al_scalar.specs.Contract.{read_of}
 use Rattle.al_yaml_reader.specs.Files.{left_at}

@@ -1,8 +1,4 @@
-use Rattle.std.proofs.Common.{ap, ◌∙◌}
 use Rattle.std.proofs.lemmas.Result.{err_from_is_err_and}
-use Rattle.al_scalar.specs.Line.{start}
-use Rattle.al_scalar.specs.Places.{lines_at}
-use Rattle.al_yaml.specs.Content.{anchor_name, behind_name}
 use Rattle.al_yaml_reader.specs.Reads.{state_of}
 use Rattle.al_yaml.specs.View.{view}
 use Rattle.al_yaml_reader.proofs.AliasLemmas.{alias-stops, alias-part}
