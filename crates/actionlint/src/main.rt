@@ -95,7 +95,9 @@ fn lint_folder(rt: &HostRuntime, words: &Words) -> u8 {
 }
 
 fn lint_files(rt: &HostRuntime, files: Loaded, oneline: bool) -> Result<u8, Stop> {
-    let buffer = BufWriter::new(rt.alloc(), rt.stdout()).map_err(|_| Stop::Memory)?;
+    let Ok(buffer) = BufWriter::new(rt.alloc(), rt.stdout()) else {
+        return Err(Stop::Memory);
+    };
     let mut writer = Output::new(buffer);
     let answer = lint_loaded(files, &mut writer, oneline);
     // A whole report is flushed already; of one that stopped goes out what can.
