@@ -16,12 +16,42 @@ import sys
 import tempfile
 
 from common import SESSION, TOP, WORKFLOW, least_in_turns, program, put_commands
-from yaml import workflow as plain_workflow
 
 RUNS = 9
-SIZE = 1_040_000
+JOB = """  job{n}:
+    name: Build and test, part {n}
+    runs-on: ${{{{ matrix.os }}}}
+    strategy:
+      matrix:
+        version: [18, 20, 22]
+        os: [ubuntu-latest, macos-latest]
+    steps:
+      - uses: actions/checkout@v4
+        with:
+          fetch-depth: 0
+      - name: Set up Node
+        uses: actions/setup-node@v4
+        with:
+          node-version: ${{{{ matrix.version }}}}
+          cache: npm
+      - name: Build
+        run: |
+          set -eu
+          npm ci
+          npm run build --if-present
+        env:
+          VERBOSE: 'yes'  # for the log
+      - name: Test
+        if: github.event_name != 'schedule'
+        run: npm test -- --shard={n}
+"""
 # An expression of some 21,000 bytes, without the braces around it.
 EXPRESSION = " && ".join(f"github.event_name == 'push{n:04}'" for n in range(600))
+
+
+def workflow(count):
+    """A workflow of so many jobs of the usual kind."""
+    return "on: push\njobs:\n" + "".join(JOB.format(n=n) for n in range(count))
 
 
 def steps(lines, count):
@@ -58,7 +88,7 @@ def aliases(count):
 
 def shapes():
     """Workflows of one shape each."""
-    yield "a workflow of a megabyte", plain_workflow(SIZE).decode()
+    yield "1,336 jobs of the usual kind", workflow(1_336)
     yield "16,000 steps with an expression each", steps("      - name: Step ${{{{ github.run_id }}}}\n        run: make {n}\n", 16_000)
     yield "10,000 jobs", jobs(10_000)
     yield "10,000 steps with ids", steps("      - id: step{n}\n        run: make\n", 10_000)
@@ -68,11 +98,11 @@ def shapes():
     yield "90,000 nodes behind aliases", aliases(90_000)
 
 
-def fill(folder, count, size):
-    """Puts so many workflows of about so many bytes into a folder, and answers all of their bytes."""
+def fill(folder, count, jobs_of_each):
+    """Puts so many workflows of so many jobs into a folder, and answers all of their bytes."""
     workflows = pathlib.Path(folder, ".github", "workflows")
     workflows.mkdir(parents=True)
-    text = plain_workflow(size)
+    text = workflow(jobs_of_each).encode()
     for number in range(count):
         (workflows / f"{number:04}.yml").write_bytes(text)
     return b"".join(b"---\n" + text for _ in range(count))
@@ -116,9 +146,9 @@ def main():
         for name, text in shapes():
             script = put_commands([(WORKFLOW, text)]) + b"report\n"
             compare(name, [[events], *([it, *SESSION] for it in programs)], [text.encode(), *(script for _ in programs)])
-        for count, size in ((200, 4_000), (4_096, 500)):
+        for count, jobs_of_each in ((200, 5), (4_096, 1)):
             folder = pathlib.Path(made) / str(count)
-            text = fill(folder, count, size)
+            text = fill(folder, count, jobs_of_each)
             compare(f"a folder of {count:,} workflows", [[events], *([it] for it in programs)], [text, *(b"" for _ in programs)], folder)
 
 
