@@ -1,7 +1,8 @@
 """Makes docs/READING.md, or compares it: reading_page.py TOP [--write].
 
 The page names the definitions that the public theorems rest on, in the order to read them. They are found in the sources: the names that a
-function's contract uses, by the `use` lines of its file, and then the names that each of these definitions uses.
+function's contract uses, by the `use` lines of its file, and then the names that each of these definitions uses. None of them may stand in
+`specs/Private`, which holds words of private contracts.
 """
 
 import pathlib
@@ -19,7 +20,8 @@ THEOREMS = (
     ("T", "the type of an expression, and its faults", "al_meaning", "typing.rt", ("pub fn type_of",)),
     ("U", "the faults by the rules of a tree", "al_rules", "files.rt", ("pub fn rules",)),
     ("L", "what the linter finds in any file, and its laws", "al_check", "lint.rt", ("impl Lint for Actions",)),
-    ("E", "any edits, and then all as from scratch", "al_session", "session.rt", ("pub fn put", "pub fn delete", "pub fn report", "pub fn status")),
+    ("E", "any edits, and then all as from scratch", "al_session", "session.rt",
+     ("pub fn put", "pub fn delete", "pub fn report", "pub fn status")),
     ("S", "the output of a script", "al_scripts", "run.rt", ("pub fn run_session",)),
     ("F", "the report and status of a folder", "al_cli", "linted.rt", ("pub fn lint_all",)),
 )
@@ -162,22 +164,24 @@ def tables(top):
     yield "|---|---|---|--:|--:|--:|"
     for letter, what, crate, file, openings in THEOREMS:
         seen, order = reached(roots_of(top, modules, crate, file, openings), modules)
+        if private := [it.name for it in order if ".Private." in it.name]:
+            sys.exit(f"{crate}: {what} rests on words of private contracts: {', '.join(private)}")
         orders.append(order)
         for module, item in seen:
             whose.setdefault(module, set()).add(letter)
             needed.setdefault(module, set()).add(item)
         names = ", ".join(f"`{it.rpartition(' ')[2] if it.startswith('pub') else it}`" for it in openings)
         lines = sum(modules[module].size[item] for module, item in seen)
-        yield f"| {letter} | {what} | [{names}](../crates/{crate}/src/{file}) | {len(seen)} | {lines:,} | {len(order)} |"
+        yield f"| {letter} | {what} | {names} (`{crate}/src/{file}`) | {len(seen)} | {lines:,} | {len(order)} |"
     for crate in crates_of(top):
         of_crate = dict.fromkeys(it for order in orders for it in order if it.name.startswith(f"{crate}."))
         if of_crate:
-            yield from ("", f"## `{crate}`", "", "| Definitions | Lines | Of | For | What they say |", "|---|--:|--:|---|---|")
+            yield from ("", f"## `{crate}/specs`", "", "| Definitions | Lines | Of | For | What they say |", "|---|--:|--:|---|---|")
         for module in of_crate:
             some = sum(module.size[it] for it in needed[module.name])
             letters = " ".join(it[0] for it in THEOREMS if it[0] in whose[module.name])
-            link = f"[{module.file.stem}](../{module.file.relative_to(top)})"
-            yield f"| {link} | {some} | {sum(module.size.values())} | {letters} | {module.sentence().replace('|', chr(92) + '|')} |"
+            name = ".".join(module.name.split(".")[2:])
+            yield f"| `{name}` | {some} | {sum(module.size.values())} | {letters} | {module.sentence().replace('|', chr(92) + '|')} |"
 
 
 def main(folder, option=None):
