@@ -16,6 +16,7 @@ import sys
 FUNCTION = re.compile(r"([0-9a-f]+) <(.*)>:")
 INSTRUCTION = re.compile(r" +([0-9a-f]+):\t(?:(?:notrack|bnd|data16|cs|rep|repz|repnz|lock) )*(\S+) *([^#]*)")
 STEP = re.compile(r"\$0x([0-9a-f]+),%rsp")
+BOTTOM = re.compile(r"\$0x([0-9a-f]+),%r11")
 FROM_FRAME = re.compile(r"-0x([0-9a-f]+)\(%rbp\),%rsp")
 ALLOCATOR = {f"{name}@plt" for name in ("malloc", "realloc", "calloc", "aligned_alloc", "posix_memalign")}
 ENDS = {"ret", "ud2", "int3", "hlt"}
@@ -42,9 +43,21 @@ def functions_of(program):
 
 
 def moved(state, word, rest):
-    """The state behind an instruction: how far the stack's top is below the function's return address, and how far %rbp is, where it was
-    made a frame's."""
-    depth, frame = state
+    """The state behind an instruction: how far the stack's top is below the function's return address, how far %rbp is, where it was made
+    a frame's, and how far %r11 is, to which a loop takes the stack's top down step by step, where a frame is larger than a page."""
+    depth, frame, bottom = state
+    if (word, rest) == ("mov", "%rsp,%r11"):
+        return depth, frame, depth
+    if word == "sub" and (match := BOTTOM.fullmatch(rest)):
+        return depth, frame, bottom + int(match[1], 16)
+    if (word, rest) == ("cmp", "%r11,%rsp"):
+        return bottom, frame, bottom
+    depth, frame = moved_top(depth, frame, word, rest)
+    return depth, frame, bottom
+
+
+def moved_top(depth, frame, word, rest):
+    """The same of the stack's top and %rbp, where no loop moves the top."""
     if word.startswith("push"):
         return depth + 8, frame
     if word.startswith("pop"):
@@ -55,7 +68,7 @@ def moved(state, word, rest):
         return frame + int(match[1], 16), frame
     if word == "leave":
         return frame - 8, frame
-    return (depth, depth) if (word, rest) == ("mov", "%rsp,%rbp") else state
+    return depth, depth if (word, rest) == ("mov", "%rsp,%rbp") else frame
 
 
 class Function:
@@ -65,7 +78,7 @@ class Function:
         self.start, self.name, self.instructions = start, name, instructions
         self.index = {address: at for at, (address, _, _) in enumerate(instructions)}
         self.states, self.calls, self.jumps, self.tables = {}, [], set(), []
-        self.walk(0, (0, 0))
+        self.walk(0, (0, 0, 0))
         # what no jump names is reached by a table of jumps
         for at, (_, word, _) in enumerate(instructions):
             if at not in self.states and self.tables and word not in FILLING:
