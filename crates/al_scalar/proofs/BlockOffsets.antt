@@ -1,6 +1,6 @@
 -- Offsets of a block scalar's text.
 use Rattle.std.proofs.Common.{◌≡◌, ℕ, ◌+◌, ◌-◌, ◌<◌, ◌≤◌, List, [], ◌∷◌, ◌++◌, drop, refl, sym, subst, arith, Bool, true, false, not, if◌then◌else◌, ◌&&◌, ◌||◌, nat_le, Option, Some, None, Result, Ok, Err}
-use Rattle.al_scalar.specs.Ascii as ascii
+use Rattle.al_text.specs.Ascii as ascii
 use Rattle.al_scalar.specs.Line.{Cell, Line, place, start, is_empty, begins, after_blanks, begins_blank, is_comment, indent, is_all_blank}
 use Rattle.al_scalar.specs.Block.{Chomping, strip, clip, keep, Header, header_end, after_digit, after_sign, header, is_digit, is_sign, chomping_of, content_indent, BlockLine, Rows, row_of, at_end, with_row, rows_at, chomped, is_spaced, own_break, between_rows, joint, text_after, last_end, rows_end, block_scalar}
 use Rattle.al_scalar.specs.Offsets.{AreBefore, AreClimbing, IsTail, AreLines}

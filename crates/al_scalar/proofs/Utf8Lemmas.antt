@@ -3,7 +3,7 @@ use Rattle.std.proofs.Common.{◌≡◌, ◌⊎◌, inl, inr, ℕ, zero, suc, �
 use Rattle.std.proofs.lemmas.Grind.{common_steps}
 use Rattle.std.specs.Prelude.{IsUtf8}
 use Rattle.std.proofs.lemmas.Str.{IsUtf8-append, IsUtf8-take, IsUtf8-drop, IsCharBoundary-before_ascii, IsCharBoundary-after_ascii}
-use Rattle.al_scalar.specs.Ascii as ascii
+use Rattle.al_text.specs.Ascii as ascii
 use Rattle.al_scalar.specs.Line.{Cell, Line, lines, is_break, with_cell, with_return, is_blank, after_blanks, begins, is_empty}
 use Rattle.al_text.specs.FirstBytes.{begins_with}
 use Rattle.al_scalar.specs.Quoted.{QuotedLine, is_broken, with_own, single_part}

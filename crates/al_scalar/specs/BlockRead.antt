@@ -1,7 +1,7 @@
 -- What the reader of block scalars answers, in terms of offsets.
 use Rattle.std.specs.Prelude.{◌≡◌, ℕ, List, [], ◌∷◌, ◌++◌, length, Bool, true, false, Option, Some}
 use Rattle.std.specs.Prelude.{None, Result, Ok, Err, cond, nat_le, if◌then◌else◌}
-use Rattle.al_scalar.specs.Ascii as ascii
+use Rattle.al_text.specs.Ascii as ascii
 use Rattle.al_scalar.specs.Line.{Cell, Line, is_all_blank, indent}
 use Rattle.al_scalar.specs.Taken.{Fault, Taken, with_text}
 use Rattle.al_text.specs.declared.codes.YamlCode.TheVariants.{WrongBlockHeader}

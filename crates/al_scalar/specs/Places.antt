@@ -1,7 +1,7 @@
 -- The lines from an offset of a file.
 use Rattle.std.specs.Prelude.{◌≡◌, ◌⊎◌, ℕ, zero, suc, ◌-◌, ◌<◌, ◌≤◌, List, [], ◌∷◌, ◌++◌, length, slice_index, drop, Option, Some}
 use Rattle.std.specs.Prelude.{None, ◌+◌, Bool, true, false}
-use Rattle.al_scalar.specs.Ascii as ascii
+use Rattle.al_text.specs.Ascii as ascii
 use Rattle.al_scalar.specs.Line.{Cell, Line, lines, cut, is_all_blank}
 
 abbrev pub lines_at : List ℕ → ℕ → List Line

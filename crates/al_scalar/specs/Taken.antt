@@ -1,6 +1,6 @@
 -- What reading a scalar takes from the lines that are left.
 use Rattle.std.specs.Prelude.{ℕ, List, [], ◌∷◌, ◌++◌, Option, Some, None, Result, Ok, Err}
-use Rattle.al_scalar.specs.Ascii as ascii
+use Rattle.al_text.specs.Ascii as ascii
 use Rattle.al_scalar.specs.Line.{Cell, Line}
 use Rattle.al_text.specs.declared.codes.YamlCode.{YamlCode}
 

@@ -1,4 +1,4 @@
--- ASCII characters by name.
+-- ASCII characters by name; those that YAML gives a meaning are of YAML 1.2.2, 5.3 to 5.5.
 use Rattle.std.specs.Prelude.{ℕ}
 
 abbrev pub tab : ℕ

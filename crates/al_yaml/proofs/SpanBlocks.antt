@@ -2,7 +2,7 @@
 use Rattle.std.proofs.Common.{◌≡◌, ℕ, zero, suc, ◌+◌, ◌≤◌, List, [], ◌∷◌, arith, Bool, not, ◌&&◌, length, drop, sym, subst}
 use Rattle.std.proofs.Common.{◌||◌, ◌==◌, nat_lt, Option, Some, None, Result, Ok, Err}
 use Rattle.al_text.specs.declared.codes.YamlCode.TheVariants as yaml
-use Rattle.al_scalar.specs.Ascii as ascii
+use Rattle.al_text.specs.Ascii as ascii
 use Rattle.al_scalar.specs.Line.{Cell, Line, start, begins, is_blank, blanks_dropped}
 use Rattle.al_scalar.specs.Offsets.{AreClimbing}
 use Rattle.al_scalar.specs.Places.{first_text}
