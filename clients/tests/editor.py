@@ -24,6 +24,7 @@ class Editor:
         self.requests: list[dict] = []
         self.publications = 0
         self.arrivals: queue.SimpleQueue = queue.SimpleQueue()
+        self._held = b""
         self._ids = 0
         self._versions: dict[str, int] = {}
         self._answers: queue.SimpleQueue = queue.SimpleQueue()
@@ -45,11 +46,12 @@ class Editor:
         self._versions[uri] = 1
         self.notify("textDocument/didOpen", {"textDocument": {"uri": uri, "languageId": "yaml", "version": 1, "text": text}})
 
-    def change(self, path: str, text: str) -> None:
+    def change(self, path: str, text: str, held: bool = False) -> None:
+        """Changes a buffer. What is held goes out with the next message in one write, so that the server isn't idle between the two."""
         uri = self.uri(path)
         self._versions[uri] += 1
         self.notify("textDocument/didChange", {"textDocument": {"uri": uri, "version": self._versions[uri]},
-                                               "contentChanges": [{"text": text}]})
+                                               "contentChanges": [{"text": text}]}, held)
 
     def save(self, path: str) -> None:
         self.notify("textDocument/didSave", {"textDocument": {"uri": self.uri(path)}})
@@ -91,8 +93,8 @@ class Editor:
             if answer["id"] == self._ids:
                 return answer
 
-    def notify(self, method: str, params: dict | None) -> None:
-        self._send({"jsonrpc": "2.0", "method": method, **({} if params is None else {"params": params})})
+    def notify(self, method: str, params: dict | None, held: bool = False) -> None:
+        self._send({"jsonrpc": "2.0", "method": method, **({} if params is None else {"params": params})}, held)
 
     def quit(self) -> int:
         self.request("shutdown", None)
@@ -103,9 +105,12 @@ class Editor:
         self.child.stdin.write(data)
         self.child.stdin.flush()
 
-    def _send(self, message: dict) -> None:
+    def _send(self, message: dict, held: bool = False) -> None:
         body = json.dumps(message).encode()
-        self.send_bytes(b"Content-Length: %d\r\n\r\n" % len(body) + body)
+        self._held += b"Content-Length: %d\r\n\r\n" % len(body) + body
+        if not held:
+            self.send_bytes(self._held)
+            self._held = b""
 
     def _listen(self) -> None:
         while (message := _read(self.child.stdout)) is not None:

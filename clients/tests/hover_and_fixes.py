@@ -117,7 +117,7 @@ def where_fixes_are_asked_for(program: str) -> None:
     there = {"start": {"line": 1, "character": 0}, "end": {"line": 1, "character": 0}}
     assert editor.actions(FILE, here) and not editor.actions(FILE, there)
     assert editor.actions(FILE, here, only=["quickfix"]) and not editor.actions(FILE, here, only=["refactor"])
-    editor.change(FILE, "\non: pussh\njobs: {}\n")
+    editor.change(FILE, "\non: pussh\njobs: {}\n", held=True)
     assert not editor.actions(FILE, here), "the text is another one now"
     for text in ("on: \"pus\\x73h\"\njobs: {}\n", "on: " + "p" * 200 + "\njobs: {}\n", "#" * 1_048_577):
         editor.change(FILE, text)
