@@ -106,8 +106,7 @@ class Editor:
         self.child.stdin.flush()
 
     def _send(self, message: dict, held: bool = False) -> None:
-        body = json.dumps(message).encode()
-        self._held += b"Content-Length: %d\r\n\r\n" % len(body) + body
+        self._held += _framed(message)
         if not held:
             self.send_bytes(self._held)
             self._held = b""
@@ -124,8 +123,14 @@ class Editor:
                 self.messages.append(message["params"]["message"])
             elif "id" in message:
                 self.requests.append(message)
-                self._send({"jsonrpc": "2.0", "id": message["id"], "result": None})
+                # by the listener's thread, which leaves alone what is held
+                self.send_bytes(_framed({"jsonrpc": "2.0", "id": message["id"], "result": None}))
         self._answers.put(None)
+
+
+def _framed(message: dict) -> bytes:
+    body = json.dumps(message).encode()
+    return b"Content-Length: %d\r\n\r\n" % len(body) + body
 
 
 def _read(out) -> dict | None:
