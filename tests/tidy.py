@@ -1,8 +1,9 @@
 """Checks the layout of the crates: tidy.py TOP WHAT.. [--write].
 
-WHAT is `src` or `specs` (no line is longer than 140 characters), `proofs` (none is longer than 200) or `names` (each name that a `use`
-line brings in stands somewhere else in its file). With `--write` the names that don't are taken out; then `rt fmt` and `rt check`
-are to be run in each crate that has changed.
+WHAT is `src` or `specs` (no line is longer than 140 characters), `proofs` (none is longer than 200), `kinds` (no definition uses words of
+private contracts, `specs/Private`, and neither uses worked rows, `specs/Rows`) or `names` (each name that a `use` line brings in stands
+somewhere else in its file). With `--write` the names that don't are taken out; then `rt fmt` and `rt check` are to be run in each crate that
+has changed.
 """
 
 import pathlib
@@ -11,6 +12,9 @@ import sys
 
 LONGEST = {"src": 140, "specs": 140, "proofs": 200}
 ENDINGS = {"src": ".rt", "specs": ".antt", "proofs": ".antt"}
+# the folders of `specs/` that stand apart from what the product means, each of which may use those before it
+KINDS = ["Private", "Rows"]
+MODULE = re.compile(r"\bRattle\.\w+\.specs\.(\w+(?:\.\w+)*)")
 # `use PATH.{NAMES}`, `use PATH as NAME` or `use PATH`; a list may take several lines
 USE = re.compile(r"^ *(?P<passed>pub )?(?:ghost )?use (?P<path>[^{};\n]+?)(?:\{(?P<list>[^}]*)\})?;?\n", re.MULTILINE)
 COMMENT = re.compile(r"^ *(?:--|//).*$", re.MULTILINE)
@@ -32,6 +36,20 @@ def long_lines(top, folder):
         for number, line in enumerate(file.read_text(encoding="utf-8").splitlines(), 1):
             if len(line) > LONGEST[folder]:
                 yield f"{file.relative_to(top)}:{number} has {len(line)} characters, of at most {LONGEST[folder]}"
+
+
+def kind_of(parts):
+    """What a module of `specs/` is for, by its folders there: 0 for what the product means."""
+    return KINDS.index(parts[0]) + 1 if parts[0] in KINDS else 0
+
+
+def later_kinds(top):
+    """The definitions that use those of a later kind."""
+    for file in files_of(top, "specs"):
+        own = kind_of(file.relative_to(top).parts[3:])
+        for module in MODULE.findall(file.read_text(encoding="utf-8")):
+            if kind_of(module.split(".")) > own:
+                yield f"{file.relative_to(top)} uses {module}, which isn't what the product means"
 
 
 def listed(use):
@@ -87,6 +105,8 @@ def main(folder, *words):
     for what in words:
         if what == "names":
             wrong += unused_names(top, "--write" in words)
+        elif what == "kinds":
+            wrong += later_kinds(top)
         elif what != "--write":
             wrong += long_lines(top, what)
     if wrong:

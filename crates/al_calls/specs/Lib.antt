@@ -1,6 +1,6 @@
 pub mod CallFaults
 pub mod Answers
-pub mod AnswerViews
-pub mod Rows
 pub mod Laws
 pub mod Outputs
+pub mod Private
+pub mod Rows

@@ -1,9 +1,9 @@
 //! Which answer belongs to which call.
 ghost use Rattle.std.specs.Prelude.{◌≡◌, drop, map, IfOk};
 ghost use Rattle.std.specs.Option.{option_copied};
-ghost use Rattle.al_calls.specs.AnswerViews.{answered_of};
+ghost use Rattle.al_calls.specs.Private.AnswerViews.{answered_of};
 ghost use Rattle.al_calls.specs.Answers as answering;
-ghost use Rattle.al_uses.specs.CallViews.{call_of};
+ghost use Rattle.al_uses.specs.Private.CallViews.{call_of};
 
 use al_interfaces::Interface;
 use al_uses::{Call, Form};

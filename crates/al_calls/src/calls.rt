@@ -3,9 +3,9 @@
 
 ghost use Rattle.std.specs.Prelude.{◌≡◌, ◌++◌, map, OnOk};
 ghost use Rattle.std.specs.Option.{option_copied};
-ghost use Rattle.al_calls.specs.AnswerViews.{given_of};
+ghost use Rattle.al_calls.specs.Private.AnswerViews.{given_of};
 ghost use Rattle.al_calls.specs.CallFaults as faults;
-ghost use Rattle.al_uses.specs.CallViews.{call_of};
+ghost use Rattle.al_uses.specs.Private.CallViews.{call_of};
 ghost use Rattle.al_text.specs.Growth.{BeginsWith};
 
 use crate::given::check_inputs;

@@ -1,8 +1,8 @@
 //! Worked rows of calls.
-ghost use Rattle.al_calls.specs.Rows as file;
-ghost use Rattle.al_calls.specs.Rows.{faults_of, faults_with, found, shown_by};
+ghost use Rattle.al_calls.specs.Rows.Folders as file;
+ghost use Rattle.al_calls.specs.Rows.Folders.{faults_of, faults_with, found, shown_by};
 ghost use Rattle.al_interfaces.specs.declared.interfaces.Interface.TheVariants.{Unreadable};
-ghost use Rattle.al_shape.specs.Rows.{at};
+ghost use Rattle.al_shape.specs.Rows.Files.{at};
 ghost use Rattle.al_text.specs.declared.codes.CallCode.TheVariants as code;
 ghost use Rattle.al_text.specs.declared.codes.Caller.TheVariants as by;
 ghost use Rattle.al_tree.specs.declared.files.FileKind.TheVariants as kind;

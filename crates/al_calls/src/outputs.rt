@@ -1,7 +1,7 @@
 //! The outputs that answers make known.
 ghost use Rattle.std.specs.Prelude.{◌≡◌};
 ghost use Rattle.std.specs.Option.{option_copied};
-ghost use Rattle.al_calls.specs.AnswerViews.{answered_of};
+ghost use Rattle.al_calls.specs.Private.AnswerViews.{answered_of};
 ghost use Rattle.al_calls.specs.Outputs.{outputs_behind, shows_outputs};
 
 use crate::answers::Answered;

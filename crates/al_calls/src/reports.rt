@@ -3,7 +3,7 @@
 
 ghost use Rattle.std.specs.Prelude.{◌≡◌, ◌++◌, ◌∷◌, [], OnOk};
 ghost use Rattle.al_calls.specs.CallFaults as faults;
-ghost use Rattle.al_uses.specs.CallViews.{call_of};
+ghost use Rattle.al_uses.specs.Private.CallViews.{call_of};
 ghost use Rattle.al_text.specs.Growth.{BeginsWith};
 
 use al_interfaces::{Role, Signature};

@@ -7,8 +7,8 @@ ghost use Rattle.al_declarations.specs.Positions.{name_position};
 ghost use Rattle.al_shape.specs.Values.{member_of};
 ghost use Rattle.al_types.specs.TypeViews.{ty_of};
 ghost use Rattle.al_calls.specs.CallFaults as faults;
-ghost use Rattle.al_uses.specs.CallViews.{call_of};
-ghost use Rattle.al_calls.specs.AnswerViews.{given_of};
+ghost use Rattle.al_uses.specs.Private.CallViews.{call_of};
+ghost use Rattle.al_calls.specs.Private.AnswerViews.{given_of};
 ghost use Rattle.al_text.specs.Growth.{BeginsWith};
 
 use crate::reports::report_two;

@@ -11,7 +11,7 @@ use Rattle.al_yaml.specs.Texts.{HasTexts}
 use Rattle.al_folder.specs.declared.lint.Target.{Target}
 use Rattle.al_uses.specs.declared.forms.Form.TheVariants.{Local}
 use Rattle.al_uses.specs.Uses.{Call, calls_in, target_in}
-use Rattle.al_uses.specs.CallViews.{call_of}
+use Rattle.al_uses.specs.Private.CallViews.{call_of}
 use Rattle.al_uses.specs.declared.calls.Call as code_calls
 use Rattle.al_uses.proofs.Inside.{calls_have_texts}
 use Rattle.al_check.specs.Laws.{each_sited}

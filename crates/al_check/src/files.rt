@@ -12,7 +12,7 @@ ghost use Rattle.al_yaml.specs.Texts.{HasTexts};
 ghost use Rattle.al_yaml.specs.View.{view};
 ghost use Rattle.al_interfaces.specs.Interfaces as interfaces;
 ghost use Rattle.al_uses.specs.Uses as uses;
-ghost use Rattle.al_uses.specs.CallViews.{call_of};
+ghost use Rattle.al_uses.specs.Private.CallViews.{call_of};
 ghost use Rattle.al_calls.specs.CallFaults as call_faults;
 ghost use Rattle.al_scalar.specs.Scalar.{text_of};
 ghost use Rattle.al_folder.specs.declared.lint.Target.{Target};

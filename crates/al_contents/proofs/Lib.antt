@@ -2,3 +2,4 @@ pub mod Spelling
 pub mod EndLemmas
 pub mod Places
 pub mod Inside
+pub mod Plain

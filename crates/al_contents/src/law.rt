@@ -1,5 +1,5 @@
 //! Laws over the definitions.
-ghost use Rattle.al_contents.specs.FileExpressions.{ExpressionFaultsLie};
+ghost use Rattle.al_contents.specs.FileExpressions.{ExpressionFaultsLie, PlainTextsAreRight};
 ghost use Rattle.al_contents.specs.Spelled.{TreeIsSpelled};
 
 use al_grammar::grammar;
@@ -16,3 +16,8 @@ pub fn trees_are_spelled()
 {
     grammar();
 }
+
+/// A text without `${{` that is no condition has no fault, wherever it stands, so it has no place. Does nothing.
+pub fn plain_texts_are_right()
+    ensures { PlainTextsAreRight }
+{}

@@ -7,24 +7,24 @@ use al_tree::FileKind;
 use al_types::{Context, ContextSet, Function, FunctionSet, Scope};
 use std::alloc::{AllocError, Global};
 
-const WORKFLOW: &[u8] = b"name: anything
-run-name: in-run-name
+const WORKFLOW: &[u8] = b"name: '${{ anything }}'
+run-name: '${{ in-run-name }}'
 on: push
 jobs:
   a:
     if: in-job-if
     runs-on: x
-    environment: {name: y, url: in-url}
-    container: {image: in-image, env: {A: in-container-env}}
+    environment: {name: y, url: '${{ in-url }}'}
+    container: {image: '${{ in-image }}', env: {A: '${{ in-container-env }}'}}
     steps:
-      - {name: x, run: in-run}
+      - {name: x, run: '${{ in-run }}'}
       - {run: x, if: in-step-if}
 ";
 
 const ACTION: &[u8] = b"runs:
   using: composite
   steps:
-    - {run: in-run, shell: sh, if: in-if}
+    - {run: '${{ in-run }}', shell: sh, if: in-if}
 ";
 
 static CONTEXTS: [Context; 12] = [
@@ -112,17 +112,17 @@ fn has_sets(alloc: Global, kind: FileKind, text: &[u8], told: &[Told]) -> Result
 }
 
 static OF_A_WORKFLOW: [Told; 8] = [
-    ("anything", 12, 0, false),
-    ("in-run-name", 3, 0, false),
+    ("${{ anything }}", 12, 0, false),
+    ("${{ in-run-name }}", 3, 0, false),
     ("in-job-if", 4, 4, false),
-    ("in-url", 10, 0, false),
-    ("in-image", 6, 0, false),
-    ("in-container-env", 10, 0, false),
-    ("in-run", 11, 1, true),
+    ("${{ in-url }}", 10, 0, false),
+    ("${{ in-image }}", 6, 0, false),
+    ("${{ in-container-env }}", 10, 0, false),
+    ("${{ in-run }}", 11, 1, true),
     ("in-step-if", 10, 5, false),
 ];
 
-static OF_AN_ACTION: [Told; 2] = [("in-run", 11, 1, true), ("in-if", 11, 5, false)];
+static OF_AN_ACTION: [Told; 2] = [("${{ in-run }}", 11, 1, true), ("in-if", 11, 5, false)];
 
 fn told_of_a_workflow() -> &'static [Told] {
     &OF_A_WORKFLOW

@@ -14,26 +14,26 @@ type Told = (&'static str, Context, &'static str);
 
 const BUILD: &[u8] = b"on:
   workflow_call:
-    inputs: {size: {type: number}, name: {default: in-call}}
-    outputs: {path: {value: in-output}}
+    inputs: {size: {type: number}, name: {default: '${{ in-call }}'}}
+    outputs: {path: {value: '${{ in-output }}'}}
   workflow_dispatch: {inputs: {SIZE: {type: boolean}, extra: {type: choice}}}
-env: {A: in-env}
+env: {A: '${{ in-env }}'}
 jobs:
   first:
-    runs-on: in-first
-    outputs: {one: all-first, two: x}
+    runs-on: '${{ in-first }}'
+    outputs: {one: '${{ all-first }}', two: x}
     steps:
-      - {run: step-none, id: a}
-      - {run: step-a, id: A}
-      - {uses: ./local, id: b, with: {x: in-with}}
-      - {run: step-last}
+      - {run: '${{ step-none }}', id: a}
+      - {run: '${{ step-a }}', id: A}
+      - {uses: ./local, id: b, with: {x: '${{ in-with }}'}}
+      - {run: '${{ step-last }}'}
   called:
     needs: [first, FIRST, other]
     uses: o/r/.github/workflows/w.yml@v1
-    with: {x: in-called}
+    with: {x: '${{ in-called }}'}
   last:
     needs: called
-    runs-on: in-last
+    runs-on: '${{ in-last }}'
     strategy:
       matrix:
         os: [linux, 'mac']
@@ -52,23 +52,23 @@ jobs:
 
 const OPEN: &[u8] = b"on: push
 jobs:
-  a: {runs-on: open-include, strategy: {matrix: {os: [x], include: '${{ x }}'}}}
-  b: {runs-on: open-entry, strategy: {matrix: {os: [x], include: [{a: b}, '${{ x }}']}}}
-  c: {runs-on: open-matrix, strategy: {matrix: '${{ x }}'}}
-  d: {runs-on: no-matrix, steps: [{run: x}]}
-  e: {runs-on: mapped-include, strategy: {matrix: {os: [x], include: {a: b}}}}
+  a: {runs-on: '${{ open-include }}', strategy: {matrix: {os: [x], include: '${{ x }}'}}}
+  b: {runs-on: '${{ open-entry }}', strategy: {matrix: {os: [x], include: [{a: b}, '${{ x }}']}}}
+  c: {runs-on: '${{ open-matrix }}', strategy: {matrix: '${{ x }}'}}
+  d: {runs-on: '${{ no-matrix }}', steps: [{run: x}]}
+  e: {runs-on: '${{ mapped-include }}', strategy: {matrix: {os: [x], include: {a: b}}}}
 ";
 
-const ACTION: &[u8] = b"inputs: {a: {default: in-input}, b: {type: number}}
-outputs: {o: {value: in-output}}
+const ACTION: &[u8] = b"inputs: {a: {default: '${{ in-input }}'}, b: {type: number}}
+outputs: {o: {value: '${{ in-output }}'}}
 runs:
   using: composite
   steps:
-    - {id: one, run: in-one, shell: sh}
-    - {id: two, run: in-two, shell: sh}
+    - {id: one, run: '${{ in-one }}', shell: sh}
+    - {id: two, run: '${{ in-two }}', shell: sh}
 ";
 
-const DOCKER: &[u8] = b"runs: {using: docker, image: in-docker}
+const DOCKER: &[u8] = b"runs: {using: docker, image: '${{ in-docker }}'}
 ";
 
 fn is_shown(alloc: Global, ty: &Ty, text: &str) -> Result<bool, AllocError> {
@@ -111,42 +111,42 @@ const ALL_JOBS: &str =
      last: {result: string, outputs: {}}}";
 
 static OF_A_WORKFLOW: [Told; 19] = [
-    ("in-env", Context::Inputs, INPUTS),
-    ("in-env", Context::Needs, "any"),
-    ("in-env", Context::Jobs, "any"),
-    ("in-env", Context::Steps, "any"),
-    ("in-env", Context::Matrix, "any"),
-    ("in-env", Context::Strategy, "any"),
-    ("in-env", Context::Secrets, "{*: string}"),
-    ("in-env", Context::Vars, "{*: string}"),
-    ("in-env", Context::Env, "{*: string}"),
-    ("in-env", Context::Job, "{status: string, *: any}"),
+    ("${{ in-env }}", Context::Inputs, INPUTS),
+    ("${{ in-env }}", Context::Needs, "any"),
+    ("${{ in-env }}", Context::Jobs, "any"),
+    ("${{ in-env }}", Context::Steps, "any"),
+    ("${{ in-env }}", Context::Matrix, "any"),
+    ("${{ in-env }}", Context::Strategy, "any"),
+    ("${{ in-env }}", Context::Secrets, "{*: string}"),
+    ("${{ in-env }}", Context::Vars, "{*: string}"),
+    ("${{ in-env }}", Context::Env, "{*: string}"),
+    ("${{ in-env }}", Context::Job, "{status: string, *: any}"),
     (
-        "in-env",
+        "${{ in-env }}",
         Context::Runner,
         "{name: string, os: string, arch: string, temp: string, tool_cache: string, debug: string, environment: string, *: any}",
     ),
-    ("in-output", Context::Jobs, ALL_JOBS),
-    ("in-output", Context::Needs, "any"),
-    ("in-first", Context::Needs, "{}"),
+    ("${{ in-output }}", Context::Jobs, ALL_JOBS),
+    ("${{ in-output }}", Context::Needs, "any"),
+    ("${{ in-first }}", Context::Needs, "{}"),
     (
-        "in-first",
+        "${{ in-first }}",
         Context::Strategy,
         "{fail-fast: bool, job-index: number, job-total: number, max-parallel: number}",
     ),
-    ("in-first", Context::Matrix, "{}"),
+    ("${{ in-first }}", Context::Matrix, "{}"),
     (
-        "in-called",
+        "${{ in-called }}",
         Context::Needs,
         "{first: {result: string, outputs: {one: string, two: string}}}",
     ),
     (
-        "in-last",
+        "${{ in-last }}",
         Context::Needs,
         "{called: {result: string, outputs: {*: any}}}",
     ),
     (
-        "in-last",
+        "${{ in-last }}",
         Context::Matrix,
         "{os: any, Version: string, mixed: any, lone: any, pair: {a: string, b: string}, empty: any, extra: [string]}",
     ),
@@ -169,16 +169,16 @@ const STEPS_A_B: &str = "{a: {conclusion: string, outcome: string, outputs: {*: 
      b: {conclusion: string, outcome: string, outputs: {path: string}}}";
 
 static OF_STEPS: [Told; 9] = [
-    ("in-first", Context::Steps, "{}"),
-    ("step-none", Context::Steps, "{}"),
-    ("step-a", Context::Steps, STEP_A),
-    ("in-with", Context::Steps, STEP_A),
-    ("step-last", Context::Steps, STEPS_A_B),
-    ("all-first", Context::Steps, STEPS_A_B),
-    ("step-a", Context::Steps, STEP_A),
-    ("in-called", Context::Steps, "{}"),
+    ("${{ in-first }}", Context::Steps, "{}"),
+    ("${{ step-none }}", Context::Steps, "{}"),
+    ("${{ step-a }}", Context::Steps, STEP_A),
+    ("${{ in-with }}", Context::Steps, STEP_A),
+    ("${{ step-last }}", Context::Steps, STEPS_A_B),
+    ("${{ all-first }}", Context::Steps, STEPS_A_B),
+    ("${{ step-a }}", Context::Steps, STEP_A),
+    ("${{ in-called }}", Context::Steps, "{}"),
     (
-        "in-last",
+        "${{ in-last }}",
         Context::Needs,
         "{called: {result: string, outputs: {made: string}}}",
     ),
@@ -222,11 +222,11 @@ fn of_steps(rt: HostRuntime) -> Result<(), AllocError> {
 }
 
 static OF_OPEN_MATRICES: [Told; 5] = [
-    ("open-include", Context::Matrix, "{*: any}"),
-    ("open-entry", Context::Matrix, "{*: any}"),
-    ("open-matrix", Context::Matrix, "{*: any}"),
-    ("no-matrix", Context::Matrix, "{}"),
-    ("mapped-include", Context::Matrix, "{os: string}"),
+    ("${{ open-include }}", Context::Matrix, "{*: any}"),
+    ("${{ open-entry }}", Context::Matrix, "{*: any}"),
+    ("${{ open-matrix }}", Context::Matrix, "{*: any}"),
+    ("${{ no-matrix }}", Context::Matrix, "{}"),
+    ("${{ mapped-include }}", Context::Matrix, "{os: string}"),
 ];
 
 fn told_of_open_matrices() -> &'static [Told] {
@@ -246,16 +246,16 @@ const STEPS_ONE_TWO: &str = "{one: {conclusion: string, outcome: string, outputs
      two: {conclusion: string, outcome: string, outputs: {*: string}}}";
 
 static OF_AN_ACTION: [Told; 7] = [
-    ("in-input", Context::Inputs, "{a: string, b: string}"),
-    ("in-input", Context::Steps, "{}"),
-    ("in-output", Context::Steps, STEPS_ONE_TWO),
-    ("in-one", Context::Steps, "{}"),
-    ("in-two", Context::Steps, STEP_ONE),
-    ("in-two", Context::Needs, "any"),
-    ("in-two", Context::Matrix, "any"),
+    ("${{ in-input }}", Context::Inputs, "{a: string, b: string}"),
+    ("${{ in-input }}", Context::Steps, "{}"),
+    ("${{ in-output }}", Context::Steps, STEPS_ONE_TWO),
+    ("${{ in-one }}", Context::Steps, "{}"),
+    ("${{ in-two }}", Context::Steps, STEP_ONE),
+    ("${{ in-two }}", Context::Needs, "any"),
+    ("${{ in-two }}", Context::Matrix, "any"),
 ];
 
-static OF_A_CONTAINER: [Told; 1] = [("in-docker", Context::Steps, "any")];
+static OF_A_CONTAINER: [Told; 1] = [("${{ in-docker }}", Context::Steps, "any")];
 
 fn told_of_an_action() -> &'static [Told] {
     &OF_AN_ACTION

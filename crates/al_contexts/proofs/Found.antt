@@ -12,7 +12,7 @@ use Rattle.std.specs.Str.{bytes_eq}
 use Rattle.std.specs.declared.cmp.Ordering.{Ordering}
 use Rattle.std.specs.declared.cmp.Ordering.TheVariants.{Less, Equal, Greater}
 use Rattle.al_contexts.specs.Answered.{Behind, is_at, known_in}
-use Rattle.al_contexts.specs.Lookups.{Found, and_found, found_at, known_by, names_by}
+use Rattle.al_contexts.specs.Private.Lookups.{Found, and_found, found_at, known_by, names_by}
 use Rattle.al_contexts.specs.declared.known.Outputs.{Outputs}
 
 -- ---- keys of the map as places

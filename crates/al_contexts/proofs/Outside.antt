@@ -10,7 +10,7 @@ use Rattle.al_tree.specs.declared.files.FileKind.TheVariants as kind
 use Rattle.al_places.specs.Positions.{apart}
 use Rattle.al_contexts.specs.Answered.{known_of}
 use Rattle.al_contexts.specs.Contexts.{Known}
-use Rattle.al_contexts.specs.Environment.{OfSection, jobs_in, matrix_in, needs_in, strategy_in}
+use Rattle.al_contexts.specs.Private.Environment.{OfSection, jobs_in, matrix_in, needs_in, strategy_in}
 use Rattle.al_contexts.specs.declared.env.File.{File}
 
 strategy_apart : (k : FileKind) (root : Node) → strategy_in k root apart ≡ Any

@@ -21,8 +21,8 @@ use Rattle.al_yaml.specs.Node.{Node}
 use Rattle.al_places.specs.Positions.{Position, Section, Seen, apart, in_on, in_job}
 use Rattle.al_contexts.specs.Contexts.{Known, job_among, job_in, jobs_of, jobs_seen, jobs_type_of, needs_type_of, steps_type, type_at, type_in_job}
 use Rattle.al_declarations.specs.Declarations.{action_steps, is_composite}
-use Rattle.al_contexts.specs.Environment.{Fixed, OfSection, inputs_in, jobs_in, matrix_in, needs_in, owned, owner_in, owner_of, strategy_in}
-use Rattle.al_contexts.specs.Environment as environment
+use Rattle.al_contexts.specs.Private.Environment.{Fixed, OfSection, inputs_in, jobs_in, matrix_in, needs_in, owned, owner_in, owner_of, strategy_in}
+use Rattle.al_contexts.specs.Private.Environment as environment
 
 pub jobs_shown : (k : Known) (js : List (Node × Node)) (s : Section) → environment.jobs_shown k js s ≡ (if environment.shows_jobs s then jobs_type_of k js else Any)
 jobs_shown k js apart = refl

@@ -9,7 +9,7 @@ use Rattle.al_types.specs.TypeViews.{fields_of, fields_of_type}
 use Rattle.al_yaml.specs.Node.{Node}
 use Rattle.al_places.specs.Positions.{Seen, before}
 use Rattle.al_contexts.specs.Contexts.{Known, step_field, steps_fields, steps_shown, steps_type}
-use Rattle.al_contexts.specs.Environment.{Owner, owned_fields}
+use Rattle.al_contexts.specs.Private.Environment.{Owner, owned_fields}
 use Rattle.al_contexts.specs.Objects.{Typed, firsts, put_all, put_new}
 
 pub put_all_more : (put : List Typed → Typed → List Typed) (ts ps qs : List Typed) → put_all put ts (ps ++ qs) ≡ put_all put (put_all put ts ps) qs

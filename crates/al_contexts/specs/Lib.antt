@@ -4,12 +4,6 @@ pub mod Matrix
 pub mod Inputs
 pub mod Contexts
 pub mod Answered
-pub mod Environment
 pub mod Scopes
-pub mod Standing
-pub mod RowWords
-pub mod RowActions
-pub mod RowMatrices
-pub mod RowWorkflows
-pub mod Lookups
-pub mod JobPositions
+pub mod Private
+pub mod Rows

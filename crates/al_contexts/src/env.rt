@@ -9,14 +9,14 @@ ghost use Rattle.al_shape.specs.Values.{member_of};
 ghost use Rattle.al_contexts.specs.Answered.{known_of};
 ghost use Rattle.al_tree.specs.declared.files.FileKind.TheVariants as kind;
 ghost use Rattle.al_contexts.specs.Contexts.{Known, jobs_of, needs_type_of, type_at, type_in_job};
-ghost use Rattle.al_contexts.specs.Environment as environment;
+ghost use Rattle.al_contexts.specs.Private.Environment as environment;
 ghost use Rattle.al_contexts.specs.Fixed.{strategy_type};
 ghost use Rattle.al_contexts.specs.Matrix as specs;
-ghost use Rattle.al_contexts.specs.Environment.{Fixed, OfSection, owned, owned_fields, owner_in, owner_view};
-ghost use Rattle.al_contexts.specs.Lookups.{known_by};
+ghost use Rattle.al_contexts.specs.Private.Environment.{Fixed, OfSection, owned, owned_fields, owner_in, owner_view};
+ghost use Rattle.al_contexts.specs.Private.Lookups.{known_by};
 ghost use Rattle.al_contexts.specs.Objects.{IsIndex};
 ghost use Rattle.al_contexts.specs.Scopes.{scope_at};
-ghost use Rattle.al_contexts.specs.Standing.{Stands};
+ghost use Rattle.al_contexts.specs.Private.Standing.{Stands};
 ghost use Rattle.al_places.specs.Places.{place_of};
 ghost use Rattle.al_types.specs.Scopes.{scope_of};
 

@@ -1,6 +1,6 @@
 //! The types of `inputs`.
 ghost use Rattle.std.specs.Prelude.{◌≡◌, IfOk, map};
-ghost use Rattle.al_contexts.specs.Environment.{inputs_in};
+ghost use Rattle.al_contexts.specs.Private.Environment.{inputs_in};
 ghost use Rattle.al_contexts.specs.Inputs as inputs;
 ghost use Rattle.al_shape.specs.Values.{member_of};
 ghost use Rattle.al_types.specs.TypeViews.{field_of, ty_of};

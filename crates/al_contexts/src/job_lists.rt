@@ -7,7 +7,7 @@ ghost use Rattle.al_shape.specs.Values.{member_of};
 ghost use Rattle.al_types.specs.Names.{same_name};
 ghost use Rattle.al_yaml.specs.View.{view};
 ghost use Rattle.al_contexts.specs.Contexts.{job_among, jobs_of};
-ghost use Rattle.al_contexts.specs.JobPositions.{key_at, named_at};
+ghost use Rattle.al_contexts.specs.Private.JobPositions.{key_at, named_at};
 
 use al_declarations::{NamePositions, TextPositions};
 use al_places::Section;

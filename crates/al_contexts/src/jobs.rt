@@ -4,7 +4,7 @@ ghost use Rattle.std.specs.Option.{option_copied, option_to_list};
 ghost use Rattle.al_types.specs.TypeViews.{field_of, ty_of};
 ghost use Rattle.al_shape.specs.Values.{entries_at, member_of, scalar_node_of};
 ghost use Rattle.al_yaml.specs.View.{view};
-ghost use Rattle.al_contexts.specs.Lookups.{known_by};
+ghost use Rattle.al_contexts.specs.Private.Lookups.{known_by};
 ghost use Rattle.al_contexts.specs.Contexts as contexts;
 ghost use Rattle.al_contexts.specs.Contexts.{call_outputs, jobs_type_of, needs_type_of, needed, needed_by};
 ghost use Rattle.al_declarations.specs.Declarations as declarations;

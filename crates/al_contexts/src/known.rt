@@ -2,8 +2,8 @@
 ghost use Rattle.std.specs.Prelude.{◌≡◌, IfOk, OnOk};
 ghost use Rattle.std.specs.Option.{option_copied};
 ghost use Rattle.al_contexts.specs.Answered.{behind_of, known_of};
-ghost use Rattle.al_contexts.specs.Lookups as lookups;
-ghost use Rattle.al_contexts.specs.Lookups.{and_found, found_at, known_by};
+ghost use Rattle.al_contexts.specs.Private.Lookups as lookups;
+ghost use Rattle.al_contexts.specs.Private.Lookups.{and_found, found_at, known_by};
 
 use al_declarations::NameList;
 use std::alloc::{AllocError, Global};

@@ -1,7 +1,7 @@
 //! The types of contexts at the start of a file.
 ghost use Rattle.std.specs.Prelude.{◌≡◌, IfOk, option_map};
 ghost use Rattle.al_contexts.specs.Answered.{known_of};
-ghost use Rattle.al_contexts.specs.Environment.{Fixed, OfSection, owned, owner_in, owner_view};
+ghost use Rattle.al_contexts.specs.Private.Environment.{Fixed, OfSection, owned, owner_in, owner_view};
 ghost use Rattle.al_places.specs.Positions.{apart, before};
 ghost use Rattle.al_types.specs.TypeViews.{ty_of};
 ghost use Rattle.al_yaml.specs.View.{view};

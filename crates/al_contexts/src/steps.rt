@@ -6,8 +6,8 @@ ghost use Rattle.al_yaml.specs.View.{view};
 ghost use Rattle.al_places.specs.Positions.{before, seen_view};
 ghost use Rattle.al_contexts.specs.Contexts as contexts;
 ghost use Rattle.al_contexts.specs.Contexts.{seen_of, step_field, steps_fields};
-ghost use Rattle.al_contexts.specs.Environment.{owned, owned_fields, owner_view};
-ghost use Rattle.al_contexts.specs.Lookups.{known_by};
+ghost use Rattle.al_contexts.specs.Private.Environment.{owned, owned_fields, owner_view};
+ghost use Rattle.al_contexts.specs.Private.Lookups.{known_by};
 ghost use Rattle.al_contexts.specs.Objects.{IsIndex, put_all, put_new, strictly};
 
 use crate::env::Owner;

@@ -1,8 +1,8 @@
 //! Small files and the types of contexts in them, computed by the definitions.
-ghost use Rattle.al_contexts.specs.RowActions as actions;
-ghost use Rattle.al_contexts.specs.RowMatrices as matrices;
-ghost use Rattle.al_contexts.specs.RowWords.{holds};
-ghost use Rattle.al_contexts.specs.RowWorkflows as workflows;
+ghost use Rattle.al_contexts.specs.Rows.Actions as actions;
+ghost use Rattle.al_contexts.specs.Rows.Matrices as matrices;
+ghost use Rattle.al_contexts.specs.Rows.Words.{holds};
+ghost use Rattle.al_contexts.specs.Rows.Workflows as workflows;
 ghost use Rattle.al_tree.specs.declared.files.FileKind.TheVariants as kind;
 ghost use Rattle.al_types.specs.Types.{Any, ArrayOf, Bool', FieldThen, Loose, NoField, Number, ObjectOf, Strict, String};
 ghost use Rattle.std.specs.Prelude.{◌≡◌, [], ◌∷◌, codes, true};

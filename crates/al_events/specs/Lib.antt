@@ -1,3 +1,3 @@
 pub mod Names
-pub mod Views
 pub mod Events
+pub mod Private

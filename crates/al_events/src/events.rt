@@ -3,7 +3,7 @@
 ghost use Rattle.al_events.specs.Events.{activity_faults, cron_faults, event_faults, filter_faults, filters_faults, input_faults};
 ghost use Rattle.al_events.specs.Events.{inputs_faults, name_faults, named_faults, on_faults, pattern_faults, schedule_faults, type_faults};
 ghost use Rattle.al_formats.specs.Schedules.{schedule_of};
-ghost use Rattle.al_reports.specs.Views.{named_of};
+ghost use Rattle.al_reports.specs.Private.Views.{named_of};
 ghost use Rattle.al_reports.specs.Words.{of_scalar};
 ghost use Rattle.al_text.specs.Growth.{BeginsWith};
 ghost use Rattle.al_shape.specs.Values.{member_of, scalar_node_of};

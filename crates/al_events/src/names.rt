@@ -1,7 +1,7 @@
 //! The names of activity types, and of the types of inputs.
 
 ghost use Rattle.al_events.specs.Names.{activities_of as activities_named};
-ghost use Rattle.al_events.specs.Views.{activity_row, row_types};
+ghost use Rattle.al_events.specs.Private.Views.{activity_row, row_types};
 ghost use Rattle.std.specs.Prelude.{◌≡◌, map, option_map};
 
 use al_tree::is_among;

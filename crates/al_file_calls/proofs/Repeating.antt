@@ -41,14 +41,14 @@ use Rattle.al_uses.specs.declared.forms.Form.TheVariants.{Local, Other, Wrong}
 use Rattle.al_text.specs.Growth.{SameSet}
 use Rattle.al_file_calls.proofs.Sets.{set_there}
 use Rattle.al_calls.specs.declared.answers.Answered as code_answers
-use Rattle.al_calls.specs.AnswerViews.{answered_of}
+use Rattle.al_calls.specs.Private.AnswerViews.{answered_of}
 use Rattle.al_calls.specs.Answers.{Answered, Typing, answered_faults}
 use Rattle.al_calls.specs.CallFaults.{Given, Names, absent_faults, against, answer_faults, called, caller_of, extra_input, extra_secret}
 use Rattle.al_calls.specs.CallFaults.{fault, form_faults, given_names, given_secrets, given_type, input_faults, input_names, is_callable, is_free_for}
 use Rattle.al_calls.specs.CallFaults.{is_inherit, is_input, is_missing, is_missing_secret, job_against, missing_input, missing_inputs, missing_secret, missing_secrets}
 use Rattle.al_calls.specs.CallFaults.{is_right, secret_faults, secret_names, type_faults, type_name, wrong_input}
-use Rattle.al_file_calls.specs.Repeats.{is_local, repeats, same_entries, same_entry, same_given, same_in_jobs, same_in_steps, same_secrets}
-use Rattle.al_file_calls.specs.Repeats.{same_uses, same_value, same_values, secrets_text, values_in}
+use Rattle.al_file_calls.specs.Private.Repeats.{is_local, repeats, same_entries, same_entry, same_given, same_in_jobs, same_in_steps, same_secrets}
+use Rattle.al_file_calls.specs.Private.Repeats.{same_uses, same_value, same_values, secrets_text, values_in}
 
 text_exact : (a b : List ℕ) → bytes_eq a b ≡ true → a ≡ b
 text_exact a b h = (bytes_eq-Decides a b).0 h

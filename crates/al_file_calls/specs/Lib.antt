@@ -1,3 +1,3 @@
 pub mod Types
 pub mod FileCalls
-pub mod Repeats
+pub mod Private

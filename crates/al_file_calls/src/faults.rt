@@ -2,11 +2,11 @@
 ghost use Rattle.std.specs.Prelude.{◌≡◌, ◌++◌, map, false, All, Contains, IfOk, IfSome, OnOk, Some};
 ghost use Rattle.std.specs.Option.{option_map_or};
 ghost use Rattle.std.specs.List.{flat_map};
-ghost use Rattle.al_calls.specs.AnswerViews.{answered_of};
+ghost use Rattle.al_calls.specs.Private.AnswerViews.{answered_of};
 ghost use Rattle.al_calls.specs.Answers.{answered_faults};
 ghost use Rattle.al_contexts.specs.Answered.{known_of};
-ghost use Rattle.al_contexts.specs.Standing.{Stands};
-ghost use Rattle.al_file_calls.specs.Repeats as repeating;
+ghost use Rattle.al_contexts.specs.Private.Standing.{Stands};
+ghost use Rattle.al_file_calls.specs.Private.Repeats as repeating;
 ghost use Rattle.al_file_calls.specs.FileCalls.{AreShort, call_faults, typing};
 ghost use Rattle.al_text.specs.Growth.{SameSet};
 ghost use Rattle.al_text.specs.declared.faults.Fault.{Fault};

@@ -1,6 +1,6 @@
 //! What answers make known.
 ghost use Rattle.std.specs.Prelude.{◌≡◌, map, IfOk};
-ghost use Rattle.al_calls.specs.AnswerViews.{answered_of};
+ghost use Rattle.al_calls.specs.Private.AnswerViews.{answered_of};
 ghost use Rattle.al_contexts.specs.Answered.{behind_of};
 ghost use Rattle.al_file_calls.specs.FileCalls.{behind};
 

@@ -1,14 +1,14 @@
 //! Calls that say again what an earlier one says, as those behind aliases do: their faults are the same.
 ghost use Rattle.std.specs.Prelude.{◌≡◌, map, IfOk, OnOk};
 ghost use Rattle.std.specs.Option.{option_copied, option_eq};
-ghost use Rattle.al_calls.specs.AnswerViews.{answered_of, given_of};
+ghost use Rattle.al_calls.specs.Private.AnswerViews.{answered_of, given_of};
 ghost use Rattle.al_contexts.specs.Answered.{known_of};
-ghost use Rattle.al_contexts.specs.Standing.{Stands};
+ghost use Rattle.al_contexts.specs.Private.Standing.{Stands};
 ghost use Rattle.al_file_calls.specs.FileCalls.{AreShort, typing};
-ghost use Rattle.al_file_calls.specs.Repeats as repeats;
+ghost use Rattle.al_file_calls.specs.Private.Repeats as repeats;
 ghost use Rattle.al_interfaces.specs.contracts.interfaces.InterfacePartialEq.TheImpl as interface;
 ghost use Rattle.al_shape.specs.Values.{member_of};
-ghost use Rattle.al_uses.specs.CallViews.{call_of};
+ghost use Rattle.al_uses.specs.Private.CallViews.{call_of};
 ghost use Rattle.al_yaml.specs.View.{view};
 
 use crate::values::job_values;

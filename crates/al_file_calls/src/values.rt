@@ -1,17 +1,17 @@
 //! What a job gives under `with`, each value with its type.
 ghost use Rattle.std.specs.Prelude.{◌≡◌, map, All, IfOk, OnOk};
 ghost use Rattle.std.specs.Option.{option_copied};
-ghost use Rattle.al_calls.specs.AnswerViews.{given_of};
+ghost use Rattle.al_calls.specs.Private.AnswerViews.{given_of};
 ghost use Rattle.al_calls.specs.CallFaults.{given_type, values_of};
 ghost use Rattle.al_contexts.specs.Answered.{known_of};
-ghost use Rattle.al_contexts.specs.Standing.{Stands};
+ghost use Rattle.al_contexts.specs.Private.Standing.{Stands};
 ghost use Rattle.al_file_calls.specs.FileCalls as file_calls;
 ghost use Rattle.al_file_calls.specs.FileCalls.{AreShort, type_in_job, typing};
-ghost use Rattle.al_file_calls.specs.Repeats.{values_in};
+ghost use Rattle.al_file_calls.specs.Private.Repeats.{values_in};
 ghost use Rattle.al_places.specs.Places.{place_of};
 ghost use Rattle.al_shape.specs.Values.{member_of};
 ghost use Rattle.al_types.specs.TypeViews.{ty_of};
-ghost use Rattle.al_uses.specs.CallViews.{call_of};
+ghost use Rattle.al_uses.specs.Private.CallViews.{call_of};
 ghost use Rattle.al_yaml.specs.View.{view};
 
 use crate::types::scalar_type;

@@ -5,8 +5,7 @@ use Rattle.std.specs.Global.{Global}
 use Rattle.std.specs.List.{filter_map, position}
 use Rattle.al_text.specs.FaultLists.{fault_list}
 use Rattle.al_text.specs.declared.faults.Fault.{Fault}
-use Rattle.al_graph.specs.Graphs.{Edge, edges_of}
-use Rattle.al_graph.specs.Labelling.{StronglyConnected}
+use Rattle.al_graph.specs.Graphs.{Edge, StronglyConnected, edges_of}
 use Rattle.al_graph.specs.Within.{leads}
 use Rattle.al_folder.specs.Meaning.{CallSite, Meaning, candidates}
 use Rattle.al_folder.specs.Folder.{Folder, faults_in, or_else, paths_of}

@@ -5,7 +5,7 @@ use Rattle.std.specs.Char.{is_ascii_digit}
 use Rattle.std.specs.List.{list_all}
 use Rattle.al_formats.specs.Schedules.{counted_from, number_from}
 use Rattle.al_formats.specs.Texts.{before_first, length_of_piece, pieces}
-use Rattle.al_formats.specs.Views.{least_thousand}
+use Rattle.al_formats.specs.Private.Views.{least_thousand}
 
 counted_next : (n a : ℕ) → counted_from (suc n) a ≡ counted_from n a ++ (a + n) ∷ []
 counted_next zero a = ap (λ k. k ∷ []) (omega arith)

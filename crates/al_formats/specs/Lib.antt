@@ -2,8 +2,6 @@ pub mod Texts
 pub mod Names
 pub mod Patterns
 pub mod Schedules
-pub mod Views
 pub mod Chunks
-pub mod PatternRows
-pub mod ScheduleRows
 pub mod Private
+pub mod Rows

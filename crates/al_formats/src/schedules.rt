@@ -6,7 +6,7 @@ ghost use Rattle.al_formats.specs.Schedules.{is_field as field_is_right, is_just
 ghost use Rattle.al_formats.specs.Schedules.{minutes_in, name_in, number_in as in_range_number, number_of, picks as item_picks};
 ghost use Rattle.al_formats.specs.Schedules.{schedule_of, value_in, words};
 ghost use Rattle.al_formats.specs.Texts.{pieces};
-ghost use Rattle.al_formats.specs.Views.{least_thousand, range_of, range_name};
+ghost use Rattle.al_formats.specs.Private.Views.{least_thousand, range_of, range_name};
 ghost use Rattle.std.specs.List.{list_any, filter};
 ghost use Rattle.std.specs.Prelude.{◌≡◌, ◌<◌, ◌≤◌, ◌+◌, ◌*◌, ◌&&◌, [], ◌∷◌, ◌++◌, map, not, option_map, IfOk, OnOk};
 

@@ -1,7 +1,7 @@
 //! Filter patterns and schedules that were worked out by hand, computed by the definitions.
-ghost use Rattle.al_formats.specs.PatternRows.{right_names, right_paths, wrong_names, wrong_paths};
+ghost use Rattle.al_formats.specs.Rows.Patterns.{right_names, right_paths, wrong_names, wrong_paths};
 ghost use Rattle.al_formats.specs.Patterns.{is_right};
-ghost use Rattle.al_formats.specs.ScheduleRows.{frequent_schedules, right_schedules, runs_seldom, runs_too_often, wrong_schedules};
+ghost use Rattle.al_formats.specs.Rows.Schedules.{frequent_schedules, right_schedules, runs_seldom, runs_too_often, wrong_schedules};
 ghost use Rattle.al_formats.specs.Schedules.{schedule_of};
 ghost use Rattle.al_formats.specs.declared.patterns.Filter.TheVariants.{Names, Paths};
 ghost use Rattle.std.specs.List.{list_all, list_any};

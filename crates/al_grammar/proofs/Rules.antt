@@ -10,7 +10,7 @@ use Rattle.al_grammar.specs.Tree as tree
 use Rattle.al_grammar.specs.Tree.{Sign, sign, Tree, Named, Negated, Path, Chain, StepTree, Property, All, steps_of, operands_of, arguments_of, path_of, chain_of}
 use Rattle.al_grammar.specs.Grammar.{Nonterminal, Binary, Unary, Postfix, Primary, level_of, below, Derives, single, chain, positive, negated, bare, path, name, call_empty, call, group, Operators, no_more, one_more, Walks, arrived, to_property, to_keyword, to_all, to_each, to_index, Lists, listed, and_next}
 use Rattle.al_grammar.specs.Table.{Verdict, Early, Unexpected, TooDeep, E, A, I, S, O, N, Frame, Group, Call, Index, outside, scan}
-use Rattle.al_grammar.specs.Parsed.{Goes, EndsPath, EndsLevel, Parsed, Refused, PartOfCall, StepRead, GoesAfter, StepRefused, fault_at, NoClose}
+use Rattle.al_grammar.specs.Private.Parsed.{Goes, EndsPath, EndsLevel, Parsed, Refused, PartOfCall, StepRead, GoesAfter, StepRefused, fault_at, NoClose}
 use Rattle.al_grammar.proofs.Shape.{NoCall}
 use Rattle.std.proofs.lemmas.Bool.Decides.{nat_tests}
 

@@ -7,7 +7,7 @@ use Rattle.al_grammar.specs.declared.parser.ParseError.TheVariants as error
 use Rattle.al_grammar.specs.Lexeme.{Lexeme, lexeme, kinds}
 use Rattle.al_grammar.specs.Tree.{Sign, sign, Tree, StepTree, path_of, chain_of}
 use Rattle.al_grammar.specs.Grammar.{Nonterminal, Binary, Unary, Postfix, Primary, level_of, below}
-use Rattle.al_grammar.specs.Parsed.{Parsed, Refused, NoBang, EndsPath, Stops, PartOfPath, PartOfChain, PartOfCall, StepRead, StepRefused, NoOperator, fault_at, GoesOn, NoClose}
+use Rattle.al_grammar.specs.Private.Parsed.{Parsed, Refused, NoBang, EndsPath, Stops, PartOfPath, PartOfChain, PartOfCall, StepRead, StepRefused, NoOperator, fault_at, GoesOn, NoClose}
 use Rattle.al_grammar.proofs.Rules.{constant_read, number_read, text_read, name_read, group_read, group_refused, group_stray, group_deep, call_empty_read, call_read, call_refused, call_stray, call_deep, argument_refused, arguments_begin, arguments_go_on, index_read, index_refused, index_stray, index_deep, each_read, star_stray, property_read, keyword_read, all_read, dot_stray, unexpected, NoStar}
 use Rattle.al_grammar.proofs.Chains.{not_read, not_refused, not_deep, positive_read, positive_refused, steps_read, path_refused, path_begins, path_goes_on, chain_begins, chain_goes_on, operands_read, first_refused, later_refused}
 

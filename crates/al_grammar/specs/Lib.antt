@@ -8,7 +8,6 @@ pub mod Chunks
 pub mod Extents
 pub mod Law
 pub mod View
-pub mod Parsed
 pub mod Inside
-pub mod ChunkRows
 pub mod Private
+pub mod Rows

@@ -2,8 +2,8 @@
 
 ghost use Rattle.std.specs.Prelude.{map, ℕ, IfOk, ◌≡◌, ◌≢◌, ◌+◌, ◌<◌, MatchOption, MatchResult, List, [], ◌∷◌, string_bytes};
 ghost use Rattle.al_grammar.specs.Lexeme.{seen, kinds, kind_of, text_of, span_of};
-ghost use Rattle.al_grammar.specs.Parsed.{EndsPath, IsStray, NoOperator, Parses, ParsesStep, StepRead, StepRefused, ArgumentsRead};
-ghost use Rattle.al_grammar.specs.Parsed.{ArgumentsRefused, NoClose, NoBang, IsVerdict};
+ghost use Rattle.al_grammar.specs.Private.Parsed.{EndsPath, IsStray, NoOperator, Parses, ParsesStep, StepRead, StepRefused, ArgumentsRead};
+ghost use Rattle.al_grammar.specs.Private.Parsed.{ArgumentsRefused, NoClose, NoBang, IsVerdict};
 ghost use Rattle.al_grammar.specs.View.{tree_of, step_of, operand_of};
 ghost use Rattle.al_grammar.specs.Tree.{path_of, chain_of};
 ghost use Rattle.al_grammar.specs.Grammar.{Binary, Unary, Postfix, Primary, level_of, below, IsTreeOf};

@@ -1,5 +1,5 @@
 //! Chunks of small texts that were worked out by hand, computed by the definitions.
-ghost use Rattle.al_grammar.specs.ChunkRows.{closed, cut_off};
+ghost use Rattle.al_grammar.specs.Rows.Chunks.{closed, cut_off};
 ghost use Rattle.al_grammar.specs.Chunks.{chunks_of};
 ghost use Rattle.al_text.specs.declared.codes.ExpressionCode.TheVariants.{UnclosedChunk, UnclosedText};
 ghost use Rattle.std.specs.Prelude.{◌≡◌, [], ◌∷◌, codes};

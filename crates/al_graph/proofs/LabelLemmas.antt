@@ -6,11 +6,11 @@ use Rattle.std.proofs.lemmas.List.{length-set, get_or-set_other, get_or-set_same
 use Rattle.std.proofs.lemmas.List.Elements.{Contains-append_left, Contains-append_right, Contains-append_cases}
 use Rattle.std.proofs.lemmas.List.Sums.{sum_by-set}
 use Rattle.std.proofs.lemmas.Bool.{cases_eq, cases_lt}
-use Rattle.al_graph.specs.Graphs.{Edge, IsTurned, Walk, here, onward}
+use Rattle.al_graph.specs.Graphs.{Edge, IsTurned, StronglyConnected, Walk, here, onward}
 use Rattle.al_graph.proofs.MarkLemmas.{is_one, none_in, one_is}
 use Rattle.al_graph.proofs.TurnLemmas.{turned_walk}
-use Rattle.al_graph.specs.Finishing.{IsFinished, node_at}
-use Rattle.al_graph.specs.Labelling.{IsBackward, IsLabelling, Labels, LeadsUp, StronglyConnected, free_one, label_at}
+use Rattle.al_graph.specs.Private.Finishing.{IsFinished, node_at}
+use Rattle.al_graph.specs.Private.Labelling.{IsBackward, IsLabelling, Labels, LeadsUp, free_one, label_at}
 use Rattle.al_graph.proofs.Orders.{both_walks}
 
 some_is : (a b : ℕ) → Some a ≡ Some b → a ≡ b

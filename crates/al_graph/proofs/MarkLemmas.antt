@@ -6,7 +6,7 @@ use Rattle.std.proofs.lemmas.List.Elements.{Contains-append_left, Contains-appen
 use Rattle.std.proofs.lemmas.List.Sums.{sum_by-set}
 use Rattle.std.proofs.lemmas.Grind.{get_or-set_at}
 use Rattle.std.proofs.lemmas.Bool.{cases_eq}
-use Rattle.al_graph.specs.Marks.{Marked, Marks, unmarked_one}
+use Rattle.al_graph.specs.Private.Marks.{Marked, Marks, unmarked_one}
 
 one_at : (k j i : ℕ) → i < 1 → get_or (k ∷ []) i j ≡ j → k ≡ j
 one_at k j zero h e = e

@@ -5,7 +5,7 @@ use Rattle.std.specs.Prelude.{Contains}
 use Rattle.std.proofs.lemmas.List.{get_or_append_left}
 use Rattle.std.proofs.Math.Seq.{get_or-append_seam}
 use Rattle.al_graph.specs.Graphs.{Walk, here, onward}
-use Rattle.al_graph.specs.Finishing.{Chain, node_at, nodes_of}
+use Rattle.al_graph.specs.Private.Finishing.{Chain, node_at, nodes_of}
 
 -- walks one behind the other
 pub both_walks : (graph : List (List ℕ)) (i j k : ℕ) → Walk graph i j → Walk graph j k → Walk graph i k

@@ -9,9 +9,9 @@ use Rattle.std.proofs.lemmas.List.Elements.{Contains-append_left, Contains-appen
 use Rattle.std.proofs.lemmas.Grind.{get_or-set_at}
 use Rattle.std.proofs.lemmas.Bool.{cases_eq, cases_lt}
 use Rattle.al_graph.specs.Graphs.{Edge, Walk, here, onward}
-use Rattle.al_graph.specs.Marks.{Marked, unmarked_one}
+use Rattle.al_graph.specs.Private.Marks.{Marked, unmarked_one}
 use Rattle.al_graph.proofs.MarkLemmas.{is_one, none_in, one_is}
-use Rattle.al_graph.specs.Finishing.{Chain, IsBegun, IsFinished, IsSearch, Nested, cost, frame_cost, is_seen_edges, node_at, nodes_of}
+use Rattle.al_graph.specs.Private.Finishing.{Chain, IsBegun, IsFinished, IsSearch, Nested, cost, frame_cost, is_seen_edges, node_at, nodes_of}
 use Rattle.al_graph.proofs.Orders.{all_at, all_front, all_last, all_more, all_weaker, at_before, at_end, chain_front, chain_last, chain_more, last_or_before, nodes_append}
 
 module _ (graph : List (List ℕ)) where

@@ -6,7 +6,7 @@ use Rattle.std.proofs.lemmas.List.{length-replicate, get_or-map, get_or-replicat
 use Rattle.std.proofs.lemmas.List.Elements.{Contains-append_left, Contains-append_right, Contains-append_cases}
 use Rattle.std.proofs.lemmas.Bool.{cases_lt}
 use Rattle.al_graph.specs.Graphs.{Edge, Walk, edges_of, here, onward}
-use Rattle.al_graph.specs.Marks.{Marked, Marks}
+use Rattle.al_graph.specs.Private.Marks.{Marked, Marks}
 use Rattle.al_graph.proofs.MarkLemmas.{is_one, none_in, one_is, written}
 
 -- What holds while a search goes on: each marked node is one that a walk leads to, and each edge from one leads to another, unless its node is still in the list.

@@ -15,6 +15,10 @@ pub data Walk (graph : List (List ℕ)) (from : ℕ) : ℕ → Type 0 where
   here : Walk graph from from
   onward : (j k : ℕ) → Walk graph from j → Edge graph j k → Walk graph from k
 
+-- two nodes are in one strongly connected component: each leads to the other
+abbrev pub StronglyConnected : List (List ℕ) → ℕ → ℕ → Type 0
+StronglyConnected graph j k = Walk graph j k × Walk graph k j
+
 -- each edge of one graph is one of the other, the other way round
 abbrev pub IsTurned : List (List ℕ) → List (List ℕ) → Type 0
 IsTurned graph other = (j k : ℕ) → Edge graph j k ↔ Edge other k j

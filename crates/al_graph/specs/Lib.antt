@@ -1,5 +1,3 @@
 pub mod Graphs
-pub mod Marks
-pub mod Finishing
-pub mod Labelling
 pub mod Within
+pub mod Private

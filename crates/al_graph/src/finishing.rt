@@ -1,8 +1,8 @@
 //! A postorder of a graph: the order in which a depth-first search along its edges is done with its nodes.
 
-ghost use Rattle.al_graph.specs.Finishing.{IsFinished, IsSearch, cost, frame_of, frames_of};
+ghost use Rattle.al_graph.specs.Private.Finishing.{IsFinished, IsSearch, cost, frame_of, frames_of};
 ghost use Rattle.al_graph.specs.Graphs.{Edge, edges_of};
-ghost use Rattle.al_graph.specs.Marks.{Marked};
+ghost use Rattle.al_graph.specs.Private.Marks.{Marked};
 ghost use Rattle.std.specs.Prelude.{◌≡◌, ℕ, ◌<◌, ◌++◌, ◌∷◌, [], false, true, length, slice_index_or, set, IfOk, OnOk, MatchOption};
 
 use std::alloc::{AllocError, Global};

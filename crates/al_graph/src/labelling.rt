@@ -4,8 +4,8 @@
 //! is done with the nodes. The second takes the nodes from the last one on: each that has no label gives its own to all that it leads to
 //! and that has none.
 
-ghost use Rattle.al_graph.specs.Labelling.{IsBackward, IsLabelling, Labels, StronglyConnected};
-ghost use Rattle.al_graph.specs.Graphs.{Edge, edges_of};
+ghost use Rattle.al_graph.specs.Private.Labelling.{IsBackward, IsLabelling, Labels};
+ghost use Rattle.al_graph.specs.Graphs.{Edge, StronglyConnected, edges_of};
 ghost use Rattle.std.specs.Prelude.{◌≡◌, ℕ, ◌<◌, ◌+◌, ◌↔◌, ◌∷◌, [], None, length, slice_index_or, vec_len, Contains, IfOk, OnOk};
 
 use crate::finishing::finish_order;

@@ -1,7 +1,7 @@
 //! Which nodes a walk leads to.
 
 ghost use Rattle.al_graph.specs.Graphs.{Edge, Walk, edges_of};
-ghost use Rattle.al_graph.specs.Marks.{Marked, Marks};
+ghost use Rattle.al_graph.specs.Private.Marks.{Marked, Marks};
 ghost use Rattle.std.specs.Prelude.{◌≡◌, ℕ, ◌<◌, ◌↔◌, ◌∷◌, [], length, slice_index_or, vec_len, Contains, IfOk, OnOk};
 
 use std::alloc::{AllocError, Global};

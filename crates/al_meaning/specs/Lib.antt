@@ -1,11 +1,7 @@
 pub mod Untrusted
 pub mod Placeholders
-pub mod PlaceholderViews
 pub mod Literals
-pub mod LiteralViews
 pub mod Meaning
-pub mod CallViews
-pub mod FoundTypes
 pub mod Comparison
 pub mod Inside
 pub mod Private

@@ -7,7 +7,7 @@ ghost use Rattle.al_meaning.specs.Meaning.{placeholder_faults, unused};
 ghost use Rattle.al_meaning.specs.Meaning as meaning;
 ghost use Rattle.al_meaning.specs.Placeholders.{used_arguments};
 ghost use Rattle.al_grammar.specs.Refusal.{fault};
-ghost use Rattle.al_meaning.specs.CallViews.{argument_of};
+ghost use Rattle.al_meaning.specs.Private.CallViews.{argument_of};
 ghost use Rattle.al_types.specs.Scopes.{scope_of};
 ghost use Rattle.al_types.specs.Signatures.{accepts, wanted};
 ghost use Rattle.al_grammar.specs.Tree.{arguments_of};

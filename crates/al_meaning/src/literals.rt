@@ -5,7 +5,7 @@ ghost use Rattle.std.specs.List.{flat_map};
 ghost use Rattle.std.specs.Char.{encode_utf8};
 ghost use Rattle.al_meaning.specs.Literals.{literal_text, text_value, type_of_keyword};
 ghost use Rattle.al_meaning.specs.Private.QuotingStates.{adds, moves};
-ghost use Rattle.al_meaning.specs.LiteralViews.{literal_of};
+ghost use Rattle.al_meaning.specs.Private.LiteralViews.{literal_of};
 ghost use Rattle.al_types.specs.TypeViews.{ty_of};
 ghost use Rattle.al_grammar.specs.View.{tree_of};
 

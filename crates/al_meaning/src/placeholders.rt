@@ -3,7 +3,7 @@
 ghost use Rattle.std.specs.Prelude.{◌≡◌, ◌∷◌, ℕ, List, IfOk, MatchOption, option_map, None};
 ghost use Rattle.al_meaning.specs.Placeholders.{used_arguments};
 ghost use Rattle.al_meaning.specs.Private.PlaceholderStates.{turn, used_from};
-ghost use Rattle.al_meaning.specs.PlaceholderViews.{IsSmall};
+ghost use Rattle.al_meaning.specs.Private.PlaceholderViews.{IsSmall};
 
 use std::alloc::{AllocError, Global};
 

@@ -1,8 +1,8 @@
 //! The type of an expression, and the faults found on the way.
 
 ghost use Rattle.std.specs.Prelude.{◌≡◌, ◌++◌, ◌||◌, ◌&&◌, not, [], Bool, IfOk, OnOk, MatchOption, map, string_bytes, option_map};
-ghost use Rattle.al_meaning.specs.CallViews.{argument_of};
-ghost use Rattle.al_meaning.specs.FoundTypes.{found_type};
+ghost use Rattle.al_meaning.specs.Private.CallViews.{argument_of};
+ghost use Rattle.al_meaning.specs.Private.FoundTypes.{found_type};
 ghost use Rattle.al_text.specs.Growth.{BeginsWith};
 ghost use Rattle.al_meaning.specs.Meaning.{typed, type_in, faults_in, behind, meaning_of, walked, chained, meanings, operated, is_logic};
 ghost use Rattle.al_meaning.specs.Meaning.{begins_logic, untrusted, all_typed, all_behind, stepped, base_name};

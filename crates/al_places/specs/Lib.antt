@@ -3,7 +3,5 @@ pub mod Ways
 pub mod Positions
 pub mod Places
 pub mod Laws
-pub mod RowWords
-pub mod RowActions
-pub mod RowContainers
-pub mod RowWorkflows
+pub mod Private
+pub mod Rows

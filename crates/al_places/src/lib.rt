@@ -1,4 +1,4 @@
-//! The scalars of workflows and actions that are checked for expressions, each with its place: which contexts and functions stand
+//! The scalars of workflows and actions that have expressions, each with its place: which contexts and functions stand
 //! there, and where it lies.
 #![tactic(auto)]
 

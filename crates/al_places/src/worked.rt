@@ -1,8 +1,8 @@
 //! Small files with their places, computed by the definitions.
-ghost use Rattle.al_places.specs.RowActions as actions;
-ghost use Rattle.al_places.specs.RowContainers as containers;
-ghost use Rattle.al_places.specs.RowWords.{holds};
-ghost use Rattle.al_places.specs.RowWorkflows as workflows;
+ghost use Rattle.al_places.specs.Rows.Actions as actions;
+ghost use Rattle.al_places.specs.Rows.Containers as containers;
+ghost use Rattle.al_places.specs.Rows.Words.{holds};
+ghost use Rattle.al_places.specs.Rows.Workflows as workflows;
 ghost use Rattle.al_tree.specs.declared.files.FileKind.TheVariants as kind;
 ghost use Rattle.std.specs.Prelude.{◌≡◌, [], ◌∷◌, true, false};
 

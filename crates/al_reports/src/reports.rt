@@ -1,6 +1,6 @@
 //! Faults of the rules, each added to a list.
 
-ghost use Rattle.al_reports.specs.Views.{named_of, named_scalar};
+ghost use Rattle.al_reports.specs.Private.Views.{named_of, named_scalar};
 ghost use Rattle.al_reports.specs.Words.{about, fault, of_key, unless, unless_among};
 ghost use Rattle.al_text.specs.Growth.{BeginsWith};
 ghost use Rattle.al_yaml.specs.View.{view};

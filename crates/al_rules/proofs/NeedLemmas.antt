@@ -17,9 +17,9 @@ use Rattle.al_scalar.specs.Scalar.{Scalar}
 use Rattle.al_text.specs.declared.faults.Span.{Span}
 use Rattle.al_shape.specs.Values.{texts_at}
 use Rattle.al_settings.specs.Ids.{with_folded}
-use Rattle.al_settings.specs.Views.{folded_id}
+use Rattle.al_settings.specs.Private.Views.{folded_id}
 use Rattle.al_settings.specs.declared.ids.FoldedId.{FoldedId}
-use Rattle.al_graph.specs.Marks.{Marked}
+use Rattle.al_graph.specs.Private.Marks.{Marked}
 use Rattle.al_rules.specs.Needs.{AddsAllNeeds, AddsNeeds, AreNeedsFaults, undefined_job, leads_back, leads_on, no_needs, and_need, IsNeedFaults, Need, all_needs, cycle_fault, keys_of, named_by, needs_in, needs_lists, needs_of, position_from, position_in, tested_faults}
 use Rattle.al_reports.specs.Words.{Named, of_key, of_scalar}
 

@@ -11,7 +11,7 @@ use Rattle.std.proofs.lemmas.Slice.Eq.{bytes_eq-Decides}
 use Rattle.std.specs.Option.{option_or}
 use Rattle.al_shape.proofs.KeyLemmas.{bytes_swap}
 use Rattle.al_rules.specs.Needs.{position_from}
-use Rattle.al_rules.specs.Positions.{and_position, first_at}
+use Rattle.al_rules.specs.Private.Positions.{and_position, first_at}
 use Rattle.al_rules.specs.declared.needs.Positions.{Positions}
 
 bytes_same : (a b : List ℕ) → bytes_eq a b ≡ true → a ≡ b

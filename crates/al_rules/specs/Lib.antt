@@ -1,6 +1,5 @@
-pub mod Views
-pub mod Positions
 pub mod Needs
 pub mod Rules
 pub mod Inside
+pub mod Private
 pub mod Rows

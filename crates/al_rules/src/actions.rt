@@ -2,7 +2,7 @@
 
 ghost use Rattle.al_rules.specs.Rules.{action_faults, composite_faults, hooks_faults, no_shell_faults, output_faults, runs_faults};
 ghost use Rattle.al_rules.specs.Rules.{scalar_of_value, using_faults};
-ghost use Rattle.al_reports.specs.Views.{named_of};
+ghost use Rattle.al_reports.specs.Private.Views.{named_of};
 ghost use Rattle.al_text.specs.Growth.{BeginsWith};
 ghost use Rattle.al_shape.specs.Values.{entries_at, member_of, value_at};
 ghost use Rattle.al_yaml.specs.View.{view};

@@ -1,7 +1,7 @@
 //! Worked examples of the definitions.
 
-ghost use Rattle.al_rules.specs.Rows as file;
-ghost use Rattle.al_rules.specs.Rows.{at, needs_by_steps};
+ghost use Rattle.al_rules.specs.Rows.Files as file;
+ghost use Rattle.al_rules.specs.Rows.Files.{at, needs_by_steps};
 ghost use Rattle.al_rules.specs.Rules.{action_faults, workflow_faults};
 ghost use Rattle.al_reports.specs.Words.{fault};
 ghost use Rattle.al_text.specs.declared.codes.RuleCode.TheVariants.{AlwaysTrue, DeprecatedCommand, MissingOutputValue, MissingShell};

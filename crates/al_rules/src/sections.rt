@@ -2,7 +2,7 @@
 
 ghost use Rattle.al_rules.specs.Rules.{container_faults, containers_faults, job_faults, matrix_faults_of, run_faults, section_faults};
 ghost use Rattle.al_rules.specs.Rules.{settings_faults, step_faults, step_ids, steps_faults};
-ghost use Rattle.al_reports.specs.Views.{named_of};
+ghost use Rattle.al_reports.specs.Private.Views.{named_of};
 ghost use Rattle.al_text.specs.Growth.{BeginsWith};
 ghost use Rattle.al_shape.specs.Values.{entries_at, member_of, value_at, value_below};
 ghost use Rattle.al_yaml.specs.View.{view};

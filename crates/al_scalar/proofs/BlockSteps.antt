@@ -4,7 +4,7 @@ use Rattle.al_scalar.specs.Line.{Cell, Line, place}
 use Rattle.al_scalar.specs.Taken.{Fault, Taken, ◌>>=◌, with_text}
 use Rattle.al_scalar.specs.Places.{lines_at, broken_line, SameLine, first_text, first_end, first_last, later}
 use Rattle.al_scalar.specs.Block.{Chomping, Header, Rows, header, content_indent, rows_at, block_scalar}
-use Rattle.al_scalar.specs.BlockRead.{rest, is_said}
+use Rattle.al_scalar.specs.Private.BlockRead.{rest, is_said}
 use Rattle.al_scalar.proofs.SingleLemmas.{has_line, cell_at, lines-at_end, lines_at-some, IsInside}
 use Rattle.al_scalar.proofs.RowLemmas.{of_rows, chomped-none}
 

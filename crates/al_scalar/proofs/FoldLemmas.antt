@@ -5,7 +5,7 @@ use Rattle.al_scalar.specs.Line.{Cell, Line, lines, with_return, cut, after_blan
 use Rattle.al_scalar.specs.Taken.{Fault, Taken, before, fault}
 use Rattle.al_scalar.specs.Quoted.{QuotedLine, QuotedEnd, closed, broken, escaped, cut_short, single_part, line_given, single_quoted}
 use Rattle.al_scalar.specs.Places.{lines_at, AreBlank, IsBlankByte, IsLineEnd, SameLine, first_text, first_end, first_last, later}
-use Rattle.al_scalar.specs.Single.{part_at, single_lines}
+use Rattle.al_scalar.specs.Private.Single.{part_at, single_lines}
 use Rattle.al_scalar.proofs.SingleLemmas.{has_line, lines_at-some, is_nothing, is_blank-yes, is_blank-no}
 
 pub before-two : (a b : List Cell) (r : Result Taken Fault) → before a (before b r) ≡ before (a ++ b) r

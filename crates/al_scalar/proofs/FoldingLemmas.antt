@@ -3,8 +3,8 @@ use Rattle.std.proofs.Common.{◌≡◌, ◌≢◌, ℕ, ◌+◌, ◌<◌, ◌�
 use Rattle.al_scalar.specs.Line.{Cell, Line, with_cell, cut, after_blanks, is_empty}
 use Rattle.al_scalar.specs.Taken.{feeds}
 use Rattle.al_scalar.specs.Places.{lines_at, cells_between, with_cells_before, AreBlank, IsBlankByte, IsBreakAt, broken_line}
-use Rattle.al_scalar.specs.PlainLines.{is_blank_line, empty_ends, break_left}
-use Rattle.al_scalar.specs.Folding.{solid_lines}
+use Rattle.al_scalar.specs.Private.PlainLines.{is_blank_line, empty_ends, break_left}
+use Rattle.al_scalar.specs.Private.Folding.{solid_lines}
 use Rattle.al_scalar.proofs.LineLemmas.{lines_at-other}
 use Rattle.al_scalar.proofs.SingleLemmas.{has_line, lines_at-some, lines-at_end}
 use Rattle.al_scalar.proofs.FoldLemmas.{after_blanks-run, after_blanks-solid}

@@ -1,6 +1,6 @@
 -- Offsets of cells.
 use Rattle.std.proofs.Common.{map, ◌^◌, ◌≡◌, ℕ, zero, suc, ◌+◌, ◌<◌, ◌≤◌, List, [], ◌∷◌, length, refl, sym, ap, ◌∙◌, arith}
-use Rattle.al_scalar.specs.Segments.{AreInRange, cells_from, offset_at}
+use Rattle.al_scalar.specs.Private.Segments.{AreInRange, cells_from, offset_at}
 use Rattle.al_scalar.specs.Line.{Cell}
 use Rattle.al_scalar.specs.Scalar.{offset_or}
 use Rattle.al_scalar.specs.declared.texts.Segment.{Segment}

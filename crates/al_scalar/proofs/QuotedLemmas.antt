@@ -5,8 +5,8 @@ use Rattle.al_scalar.specs.Line.{Cell, Line, cut, is_blank, after_blanks, is_emp
 use Rattle.al_scalar.specs.Taken.{Fault, Taken, ◌>>=◌, before, folded, feeds, fault}
 use Rattle.al_scalar.specs.Quoted.{QuotedLine, QuotedEnd, closed, broken, escaped, cut_short, with_cells, part_before, line_given, is_empty_line, quoted_lines, quoted}
 use Rattle.al_scalar.specs.Places.{IsBlankByte, SameLine, first_text, first_end, first_last, later}
-use Rattle.al_scalar.specs.PlainLines.{is_blank_line, empty_ends, break_left}
-use Rattle.al_scalar.specs.Folding.{solid_lines, break_of}
+use Rattle.al_scalar.specs.Private.PlainLines.{is_blank_line, empty_ends, break_left}
+use Rattle.al_scalar.specs.Private.Folding.{solid_lines, break_of}
 use Rattle.al_scalar.proofs.SingleLemmas.{has_line, is_nothing}
 use Rattle.al_scalar.proofs.FoldLemmas.{before-two, before-none, line_given-before, given-line, cut-same}
 

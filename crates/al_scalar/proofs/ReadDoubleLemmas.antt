@@ -4,9 +4,9 @@ use Rattle.al_scalar.specs.Line.{Cell}
 use Rattle.al_scalar.specs.Taken.{Fault, Taken, before}
 use Rattle.al_scalar.specs.Quoted.{double_part, quoted, double_quoted}
 use Rattle.al_scalar.specs.Places.{lines_at, later}
-use Rattle.al_scalar.specs.PlainLines.{empty_ends, break_left}
-use Rattle.al_scalar.specs.Folding.{solid_lines}
-use Rattle.al_scalar.specs.Double.{ReadsOn, read_behind}
+use Rattle.al_scalar.specs.Private.PlainLines.{empty_ends, break_left}
+use Rattle.al_scalar.specs.Private.Folding.{solid_lines}
+use Rattle.al_scalar.specs.Private.Double.{ReadsOn, read_behind}
 use Rattle.al_scalar.proofs.FoldLemmas.{before-two}
 use Rattle.al_scalar.proofs.QuotedLemmas.{IsReader, break-fold}
 use Rattle.al_scalar.proofs.DoubleLemmas.{double-some}

@@ -3,10 +3,10 @@
 ghost use Rattle.std.specs.Prelude.{◌≡◌, ◌+◌, ◌<◌, ◌≤◌, ◌^◌, ◌++◌, ◌∷◌, [], ◌||◌, true, not, cond, Some, None, length, IfOk};
 ghost use Rattle.al_scalar.specs.Block.{block_scalar, found_indent, content_indent, row_of};
 ghost use Rattle.al_scalar.specs.Block.{own_break, chomped, joint, text_after, rows_end};
-ghost use Rattle.al_scalar.specs.BlockRead.{RowStarts, ReadsRows, last_row, row_like, RowTo, indent_from};
-ghost use Rattle.al_scalar.specs.BlockRead.{kind, AddsRow, EndsRow, last_line, is_said};
+ghost use Rattle.al_scalar.specs.Private.BlockRead.{RowStarts, ReadsRows, last_row, row_like, RowTo, indent_from};
+ghost use Rattle.al_scalar.specs.Private.BlockRead.{kind, AddsRow, EndsRow, last_line, is_said};
 ghost use Rattle.al_scalar.specs.Places.{lines_at, text_at, cells_between, IsLineEnd, BlankTo};
-ghost use Rattle.al_scalar.specs.Reads.{Gives, StaysWithin};
+ghost use Rattle.al_scalar.specs.Private.Reads.{Gives, StaysWithin};
 ghost use Rattle.al_scalar.specs.Taken.{feeds, folded_break};
 
 use crate::faults::FaultAt;

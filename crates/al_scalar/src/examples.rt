@@ -2,7 +2,7 @@
 
 ghost use Rattle.std.specs.Prelude.{◌≡◌, ◌∷◌, [], map, codes};
 ghost use Rattle.al_scalar.specs.Class.{class_of};
-ghost use Rattle.al_scalar.specs.Rows.{in_block, in_flow, reads};
+ghost use Rattle.al_scalar.specs.Rows.Words.{in_block, in_flow, reads};
 ghost use Rattle.al_scalar.specs.Taken.{fault};
 
 use crate::styles::{Class, Style};

@@ -2,8 +2,8 @@
 
 ghost use Rattle.std.specs.Prelude.{◌≡◌, ◌<◌, ◌≤◌, ◌^◌, ◌++◌, length, IfOk};
 ghost use Rattle.al_scalar.specs.Places.{lines_at, later, IsLineEnd};
-ghost use Rattle.al_scalar.specs.PlainLines.{empty_ends, break_left};
-ghost use Rattle.al_scalar.specs.Folding.{solid_lines};
+ghost use Rattle.al_scalar.specs.Private.PlainLines.{empty_ends, break_left};
+ghost use Rattle.al_scalar.specs.Private.Folding.{solid_lines};
 ghost use Rattle.al_text.specs.Growth.{BeginsWith};
 
 use crate::lines::{after_break, blanks_end, is_break_at};

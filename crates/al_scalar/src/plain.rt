@@ -4,8 +4,8 @@ ghost use Rattle.std.specs.Prelude.{◌≡◌, ◌<◌, ◌≤◌, ◌^◌, ◌+
 ghost use Rattle.al_scalar.specs.Line as line;
 ghost use Rattle.al_scalar.specs.Places.{lines_at, text_at, SameLine};
 ghost use Rattle.al_scalar.specs.Plain as plain;
-ghost use Rattle.al_scalar.specs.PlainLines.{context_of, begins_blank_line, text_lines, empty_ends, PartTo};
-ghost use Rattle.al_scalar.specs.Reads.{Gives, StaysWithin};
+ghost use Rattle.al_scalar.specs.Private.PlainLines.{context_of, begins_blank_line, text_lines, empty_ends, PartTo};
+ghost use Rattle.al_scalar.specs.Private.Reads.{Gives, StaysWithin};
 ghost use Rattle.al_scalar.specs.Taken.{folded_break};
 
 use crate::faults::FaultAt;

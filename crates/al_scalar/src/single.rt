@@ -3,8 +3,8 @@
 ghost use Rattle.std.specs.Prelude.{◌≡◌, ◌+◌, ◌<◌, ◌≤◌, ◌^◌, ◌++◌, suc, length, IsTrue, IfOk, slice_index};
 ghost use Rattle.al_scalar.specs.Places.{lines_at};
 ghost use Rattle.al_scalar.specs.Quoted.{single_quoted};
-ghost use Rattle.al_scalar.specs.Reads.{Gives, StaysWithin};
-ghost use Rattle.al_scalar.specs.Single.{part_at, StopsSo, StopsFrom};
+ghost use Rattle.al_scalar.specs.Private.Reads.{Gives, StaysWithin};
+ghost use Rattle.al_scalar.specs.Private.Single.{part_at, StopsSo, StopsFrom};
 
 use crate::faults::FaultAt;
 use crate::folding::fold_break;

@@ -4,7 +4,7 @@ ghost use Rattle.std.specs.Prelude.{◌≡◌, ℕ, ◌+◌, ◌<◌, ◌≤◌,
 ghost use Rattle.al_scalar.specs.Line.{Cell};
 ghost use Rattle.al_scalar.specs.Places.{cells_between};
 ghost use Rattle.al_scalar.specs.Scalar.{offset_or};
-ghost use Rattle.al_scalar.specs.Segments.{first_run, offset_in, offset_at, cells_from, AreBehind, IsRising, IsOrdered, GoesOn};
+ghost use Rattle.al_scalar.specs.Private.Segments.{first_run, offset_in, offset_at, cells_from, AreBehind, IsRising, IsOrdered, GoesOn};
 
 use std::alloc::{AllocError, Global};
 use std::marker::Model;
@@ -53,7 +53,7 @@ struct Runs {
 
 impl Model for Runs {
     ghost use Rattle.std.specs.Prelude.{List, ◌∷◌};
-    ghost use Rattle.al_scalar.specs.Segments.{first_run};
+    ghost use Rattle.al_scalar.specs.Private.Segments.{first_run};
     ghost use Rattle.al_scalar.specs.declared.texts.Segment.{Segment};
 
     ghost Value = { List Segment };
@@ -165,7 +165,7 @@ pub struct Text {
 impl Model for Text {
     ghost use Rattle.std.specs.Prelude.{List, length};
     ghost use Rattle.al_scalar.specs.Line.{Cell};
-    ghost use Rattle.al_scalar.specs.Segments.{cells_from, IsOrdered, AreInRange};
+    ghost use Rattle.al_scalar.specs.Private.Segments.{cells_from, IsOrdered, AreInRange};
 
     ghost Value = { List Cell };
 

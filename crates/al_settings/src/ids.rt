@@ -1,8 +1,8 @@
 //! The keys of jobs and the ids of steps.
 
 ghost use Rattle.al_settings.specs.Ids.{id_faults, ids_faults, repeated_faults, with_folded};
-ghost use Rattle.al_reports.specs.Views.{named_of};
-ghost use Rattle.al_settings.specs.Views.{folded_id};
+ghost use Rattle.al_reports.specs.Private.Views.{named_of};
+ghost use Rattle.al_settings.specs.Private.Views.{folded_id};
 ghost use Rattle.al_text.specs.Growth.{BeginsWith};
 ghost use Rattle.std.specs.List.{flat_map};
 ghost use Rattle.std.specs.Prelude.{◌≡◌, ◌++◌, [], map, IfOk, OnOk};

@@ -4,8 +4,8 @@ ghost use Rattle.al_settings.specs.Matrix.{are_combinations as all_combinations,
 ghost use Rattle.al_settings.specs.Matrix.{is_combination as combination, is_dynamic as dynamic};
 ghost use Rattle.al_settings.specs.Matrix.{is_mapping as mapping, is_null_node as null_node, is_row_value as row_value};
 ghost use Rattle.al_settings.specs.Matrix.{is_sequence as sequence, mapping_faults, matrix_faults, row_faults, row_names, shape_faults};
-ghost use Rattle.al_reports.specs.Views.{named_of};
-ghost use Rattle.al_settings.specs.Views.{folded_id};
+ghost use Rattle.al_reports.specs.Private.Views.{named_of};
+ghost use Rattle.al_settings.specs.Private.Views.{folded_id};
 ghost use Rattle.al_reports.specs.Words.{of_key, unless};
 ghost use Rattle.al_text.specs.Growth.{BeginsWith};
 ghost use Rattle.al_shape.specs.Keys.{holds};

@@ -3,8 +3,8 @@
 ghost use Rattle.al_text.specs.declared.codes.KeyCode.TheVariants.{EmptyFile, Missing, NotBeside, Repeated, Unexpected, WrongKind};
 ghost use Rattle.al_text.specs.declared.codes.KeyCode.TheVariants.{WrongType};
 ghost use Rattle.al_shape.specs.Faults.{fault, root_faults};
-ghost use Rattle.al_shape.specs.Rows as file;
-ghost use Rattle.al_shape.specs.Rows.{at};
+ghost use Rattle.al_shape.specs.Rows.Files as file;
+ghost use Rattle.al_shape.specs.Rows.Files.{at};
 ghost use Rattle.al_shape.specs.declared.table.Shape.TheVariants.{Action, Workflow};
 ghost use Rattle.std.specs.Prelude.{◌≡◌, [], ◌∷◌, codes};
 

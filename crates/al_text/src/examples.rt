@@ -1,7 +1,7 @@
 //! Worked lists of faults and worked snippets, computed by the definitions.
 ghost use Rattle.std.specs.Prelude.{◌≡◌, ◌+◌, ◌++◌, ℕ, List, [], ◌∷◌, false, true, length, codes};
 ghost use Rattle.al_text.specs.FaultLists.{fault_list};
-ghost use Rattle.al_text.specs.Rows.{at, span_of};
+ghost use Rattle.al_text.specs.Rows.Words.{at, span_of};
 ghost use Rattle.al_text.specs.Positions.{line_at, column_at};
 ghost use Rattle.al_text.specs.Snippets.{snippet, fault_text, chars_before};
 ghost use Rattle.al_text.specs.declared.codes.Code.TheVariants as code;

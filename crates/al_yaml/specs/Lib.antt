@@ -8,9 +8,9 @@ pub mod Blocks
 pub mod Bytes
 pub mod Document
 pub mod View
-pub mod Rows
 pub mod Access
 pub mod ByteFaults
 pub mod Spans
 pub mod Texts
 pub mod Laws
+pub mod Rows

@@ -5,11 +5,11 @@ use Rattle.al_scalar.specs.Taken.{Fault}
 use Rattle.al_yaml.specs.Node.{Node}
 use Rattle.al_yaml.specs.Reading.{Reading, Part}
 use Rattle.al_yaml.specs.Blocks.{Slot, block_node}
-use Rattle.al_yaml_reader.specs.BlockFrames.{BlockOpen, BlockWaiting, BlockFrame, block_rest, block_waits, node_reader}
-use Rattle.al_yaml_reader.specs.FlowFrames.{completing, mark_of}
-use Rattle.al_yaml_reader.specs.Frames.{Answer, Mark, answered, noting}
-use Rattle.al_yaml_reader.specs.Places.{fault_of}
-use Rattle.al_yaml_reader.specs.Reads.{State, run, Stops, part_of}
+use Rattle.al_yaml_reader.specs.Private.BlockFrames.{BlockOpen, BlockWaiting, BlockFrame, block_rest, block_waits, node_reader}
+use Rattle.al_yaml_reader.specs.Private.FlowFrames.{completing, mark_of}
+use Rattle.al_yaml_reader.specs.Private.Frames.{Answer, Mark, answered, noting}
+use Rattle.al_yaml_reader.specs.Private.Places.{fault_of}
+use Rattle.al_yaml_reader.specs.Private.Reads.{State, run, Stops, part_of}
 use Rattle.al_yaml_reader.specs.declared.faults.ReadError.{ReadError}
 use Rattle.al_yaml_reader.specs.declared.faults.ReadError.TheVariants as stop
 use Rattle.al_yaml_reader.specs.declared.part.Part as code

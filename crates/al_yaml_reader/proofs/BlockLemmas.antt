@@ -21,8 +21,8 @@ use Rattle.al_yaml.specs.Blocks.{scalar_left, scalar_node_at}
 use Rattle.al_yaml.specs.View.{view}
 use Rattle.al_yaml_reader.specs.declared.part.Part as code
 use Rattle.al_yaml.specs.Keys.{Key, one_line, with_lines, read_with_lines, plain_on_line, key_scalar, behind_colon, key_from, key_at, no_entry, entry_key, found_key, property_fault, refused_code, is_block_start}
-use Rattle.al_yaml_reader.specs.Places.{IsReadInside}
-use Rattle.al_yaml_reader.specs.Reads.{State, run, counted, Stops, Refuses, Answers, part_of}
+use Rattle.al_yaml_reader.specs.Private.Places.{IsReadInside}
+use Rattle.al_yaml_reader.specs.Private.Reads.{State, run, counted, Stops, Refuses, Answers, part_of}
 use Rattle.al_yaml_reader.specs.declared.faults.ReadError.{ReadError}
 use Rattle.al_yaml_reader.specs.declared.faults.ReadError.TheVariants as stop
 use Rattle.al_scalar.proofs.SingleLemmas.{has_line, lines_at-some, lines-at_end, text-line_end, is_inside}

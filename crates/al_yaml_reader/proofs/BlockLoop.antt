@@ -7,16 +7,16 @@ use Rattle.al_scalar.specs.Taken.{Fault}
 use Rattle.al_yaml.specs.Blocks as block
 use Rattle.al_yaml.specs.Blocks.{block_node}
 use Rattle.al_yaml.specs.Content.{content}
-use Rattle.al_yaml_reader.specs.BlockFrames as frames
-use Rattle.al_yaml_reader.specs.Places.{IsLineFrom}
+use Rattle.al_yaml_reader.specs.Private.BlockFrames as frames
+use Rattle.al_yaml_reader.specs.Private.Places.{IsLineFrom}
 use Rattle.al_yaml_reader.specs.declared.content.Next as next_code
 use Rattle.al_yaml_reader.specs.declared.content.Next.TheVariants as next_line
 use Rattle.al_yaml_reader.proofs.BlockStepLemmas.{items-unread, entries-unread}
-use Rattle.al_yaml_reader.specs.BlockReads.{slot_of}
-use Rattle.al_yaml_reader.specs.BlockFrames.{block_rest, block_waits, block_open_of, block_waiting_of, block_frame_of, node_reader, Begins, EntersWith, ResumesBlock, IsNodeAt, IsOpenAt, IsBegun, IsFoundFrom, IsResumed, IsNextBehind, IsNextInside}
-use Rattle.al_yaml_reader.specs.FlowFrames.{completing, mark_of}
-use Rattle.al_yaml_reader.specs.Frames.{Answer, noting}
-use Rattle.al_yaml_reader.specs.Reads.{State, run, IsBehind, part_of}
+use Rattle.al_yaml_reader.specs.Private.BlockReads.{slot_of}
+use Rattle.al_yaml_reader.specs.Private.BlockFrames.{block_rest, block_waits, block_open_of, block_waiting_of, block_frame_of, node_reader, Begins, EntersWith, ResumesBlock, IsNodeAt, IsOpenAt, IsBegun, IsFoundFrom, IsResumed, IsNextBehind, IsNextInside}
+use Rattle.al_yaml_reader.specs.Private.FlowFrames.{completing, mark_of}
+use Rattle.al_yaml_reader.specs.Private.Frames.{Answer, noting}
+use Rattle.al_yaml_reader.specs.Private.Reads.{State, run, IsBehind, part_of}
 use Rattle.al_yaml_reader.specs.declared.slots.Cursor.{Cursor}
 use Rattle.al_yaml_reader.specs.declared.slots.Slot.{Slot}
 use Rattle.al_yaml_reader.specs.declared.block.BlockFrame.{BlockFrame}

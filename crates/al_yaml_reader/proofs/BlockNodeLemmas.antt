@@ -12,12 +12,12 @@ use Rattle.al_yaml.specs.Limits.{broken_limit}
 use Rattle.al_yaml.specs.Content.{ended, at_line, content, is_property, is_flow_start, is_dash, is_skipped, block_fault, unless, characters, line_ended, same_line, is_short_key, start_fault, has_no_name, anchor_name, behind_name}
 use Rattle.al_yaml.specs.Flow.{CollectionReader, empty_node, flow_collection}
 use Rattle.al_yaml.specs.Keys.{Key, key_at, is_block_start, has_colon, is_on_key}
-use Rattle.al_yaml_reader.specs.FlowFrames.{alias_part, completing}
-use Rattle.al_yaml_reader.specs.Frames.{Answer, answered}
+use Rattle.al_yaml_reader.specs.Private.FlowFrames.{alias_part, completing}
+use Rattle.al_yaml_reader.specs.Private.Frames.{Answer, answered}
 use Rattle.al_yaml_reader.proofs.FrameLemmas.{bind-answer}
 use Rattle.al_yaml.specs.Blocks.{BlockReader, Slot, Spot, at_spot, spot_behind, is_behind_key, is_deeper, node_found, node_below, rest_node, sequence_entry, sequence_rest, sequence_entries, entry_slot, value_slot, mapping_value, mapping_rest, mapping_entries, scalar_node_at, flow_at, flow_rest, block_sequence, block_mapping, keyed_node, block_content, block_property, block_node, tab_before, unless_at}
-use Rattle.al_yaml_reader.specs.BlockFrames.{node_reader}
-use Rattle.al_yaml_reader.specs.Reads.{State, run, counted, Stops, Refuses}
+use Rattle.al_yaml_reader.specs.Private.BlockFrames.{node_reader}
+use Rattle.al_yaml_reader.specs.Private.Reads.{State, run, counted, Stops, Refuses}
 use Rattle.al_yaml_reader.specs.declared.faults.ReadError.{ReadError}
 use Rattle.al_scalar.specs.Places.{IsLineEnd}
 use Rattle.al_scalar.specs.Scalar.{ScalarRead}

@@ -10,15 +10,15 @@ use Rattle.al_yaml.specs.Reading.{Reading, Part, part, given, gives, spanned, â—
 use Rattle.al_yaml.specs.Flow.{flow_collection}
 use Rattle.al_yaml.specs.Keys.{Key, no_entry, entry_key}
 use Rattle.al_yaml.specs.Blocks.{block_node, rest_node, entry_slot, value_slot, next_found, next_from, next_at, sequence_entries, sequence_rest, sequence_next, mapping_entries, mapping_rest, mapping_next}
-use Rattle.al_yaml_reader.specs.BlockFrames.{block_rest, block_waits, items, entries, item, value, FindsBlock, Begins, EntersWith, IsFoundFrom, IsNextAt, block_waiting_of, node_reader}
-use Rattle.al_yaml_reader.specs.BlockReads.{slot_of}
-use Rattle.al_yaml_reader.specs.FlowFrames.{completing, mark_of}
+use Rattle.al_yaml_reader.specs.Private.BlockFrames.{block_rest, block_waits, items, entries, item, value, FindsBlock, Begins, EntersWith, IsFoundFrom, IsNextAt, block_waiting_of, node_reader}
+use Rattle.al_yaml_reader.specs.Private.BlockReads.{slot_of}
+use Rattle.al_yaml_reader.specs.Private.FlowFrames.{completing, mark_of}
 use Rattle.al_yaml_reader.proofs.NoteLemmas.{completing-noted, completing-runs, completing-stops}
-use Rattle.al_yaml_reader.specs.Places.{IsLineFrom}
+use Rattle.al_yaml_reader.specs.Private.Places.{IsLineFrom}
 use Rattle.al_yaml_reader.specs.declared.content.Next as next_code
 use Rattle.al_yaml_reader.specs.declared.content.Next.TheVariants as next_line
-use Rattle.al_yaml_reader.specs.Frames.{answered, noting}
-use Rattle.al_yaml_reader.specs.Reads.{State, run, Stops}
+use Rattle.al_yaml_reader.specs.Private.Frames.{answered, noting}
+use Rattle.al_yaml_reader.specs.Private.Reads.{State, run, Stops}
 use Rattle.al_yaml_reader.specs.declared.block.BlockTask.{BlockTask}
 use Rattle.al_yaml_reader.specs.declared.block.BlockTask.TheVariants as task
 use Rattle.al_yaml_reader.specs.declared.block.BlockWaiting.{BlockWaiting}

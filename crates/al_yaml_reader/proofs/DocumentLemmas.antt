@@ -7,7 +7,7 @@ use Rattle.al_scalar.specs.Block.{at_end}
 use Rattle.al_scalar.specs.Taken.{Fault, fault}
 use Rattle.al_yaml.specs.Content.{behind, is_skipped, line_ended}
 use Rattle.al_yaml.specs.Document.{first_line, document_start, ended_behind, last_line, document_end}
-use Rattle.al_yaml_reader.specs.DocumentLines.{text_line, IsBehindMarker}
+use Rattle.al_yaml_reader.specs.Private.DocumentLines.{text_line, IsBehindMarker}
 use Rattle.al_yaml_reader.proofs.LineLemmas.{behind-one}
 use Rattle.al_scalar.proofs.RestLemmas.{start-at}
 use Rattle.al_scalar.proofs.SingleLemmas.{lines-at_end, text-line_end, never, IsInside, is_inside}

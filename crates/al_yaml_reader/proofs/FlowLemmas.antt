@@ -13,8 +13,8 @@ use Rattle.al_scalar.specs.Plain.{flow}
 use Rattle.al_scalar.specs.Scalar.{scalar_at}
 use Rattle.al_yaml.specs.Content.{behind, is_quote, is_simple_key, is_property, is_flow_start, has_no_name, anchor_name, behind_name, flow_fault, unless}
 use Rattle.al_yaml.specs.Flow.{goes_on, closes, after_item, gap, is_file_end, FlowReader, CollectionReader, FlowSlot, flow_items, flow_items_rest, flow_entries, flow_entries_rest, flow_key, flow_value, flow_entry_value, flow_content, flow_property, flow_node_over, flow_collection, empty_node, FlowKey, flow_key_of, key_colon, unless_late, behind_colon, is_late_colon}
-use Rattle.al_yaml_reader.specs.Reads.{State, run, counted, Stops, Refuses}
-use Rattle.al_yaml_reader.specs.FlowFrames.{alias_part, completing}
+use Rattle.al_yaml_reader.specs.Private.Reads.{State, run, counted, Stops, Refuses}
+use Rattle.al_yaml_reader.specs.Private.FlowFrames.{alias_part, completing}
 use Rattle.al_yaml_reader.specs.declared.faults.ReadError.{ReadError}
 use Rattle.al_yaml_reader.proofs.Choices.{if-true, if-false}
 use Rattle.al_yaml_reader.proofs.ReadLemmas.{stops-same, stops-given, given-ok, scalar_reading}

@@ -4,10 +4,10 @@ use Rattle.al_scalar.specs.Places.{lines_at}
 use Rattle.al_yaml.specs.Flow.{flow_collection}
 use Rattle.al_yaml.specs.Node.{Node}
 use Rattle.al_yaml.specs.Reading.{Part, part}
-use Rattle.al_yaml_reader.specs.FlowFrames.{closed_of, frame_of, after_at, GoesOn, Opens, Resumes}
-use Rattle.al_yaml_reader.specs.Frames as frames
-use Rattle.al_yaml_reader.specs.Frames.{Answer, Waiting, open_rest}
-use Rattle.al_yaml_reader.specs.Reads.{State, run, part_of, IsAfter}
+use Rattle.al_yaml_reader.specs.Private.FlowFrames.{closed_of, frame_of, after_at, GoesOn, Opens, Resumes}
+use Rattle.al_yaml_reader.specs.Private.Frames as frames
+use Rattle.al_yaml_reader.specs.Private.Frames.{Answer, Waiting, open_rest}
+use Rattle.al_yaml_reader.specs.Private.Reads.{State, run, part_of, IsAfter}
 use Rattle.al_yaml.specs.View.{view}
 use Rattle.al_yaml_reader.specs.declared.flow.FlowFrame.{FlowFrame}
 use Rattle.al_yaml_reader.specs.declared.flow.After.{After}

@@ -8,9 +8,9 @@ use Rattle.al_scalar.specs.Taken.{Fault}
 use Rattle.al_yaml.specs.Node as tree
 use Rattle.al_yaml.specs.Reading.{Reading, Part, part, fails, gives, given, spanned, ◌>>=◌}
 use Rattle.al_yaml.specs.Flow.{After, goes_on, closes, after_item, gap, CollectionReader, FlowKey, flow_items, flow_items_rest, flow_entries, flow_key, flow_entries_rest, flow_entry_value, flow_node_over, flow_collection}
-use Rattle.al_yaml_reader.specs.Frames.{Answer, answered, Open, Waiting, open_rest, waiting_rest, items, entries, item, value, key}
-use Rattle.al_yaml_reader.specs.Reads.{State, run, Stops, Refuses, after_of}
-use Rattle.al_yaml_reader.specs.FlowFrames.{Finds, GoesOn, IsFirst, Opens}
+use Rattle.al_yaml_reader.specs.Private.Frames.{Answer, answered, Open, Waiting, open_rest, waiting_rest, items, entries, item, value, key}
+use Rattle.al_yaml_reader.specs.Private.Reads.{State, run, Stops, Refuses, after_of}
+use Rattle.al_yaml_reader.specs.Private.FlowFrames.{Finds, GoesOn, IsFirst, Opens}
 use Rattle.al_yaml_reader.specs.declared.flow.After as code_after
 use Rattle.al_yaml_reader.specs.declared.flow.After.TheVariants as after
 use Rattle.al_yaml_reader.specs.declared.flow_nodes.Found.{Found}

@@ -8,9 +8,9 @@ use Rattle.al_scalar.specs.Taken.{Fault}
 use Rattle.al_yaml.specs.Node.{Node}
 use Rattle.al_yaml.specs.Reading.{Reading, Part, part, gives, fails, spanned, ◌>>=◌}
 use Rattle.al_yaml.specs.Flow.{CollectionReader, flow_collection}
-use Rattle.al_yaml_reader.specs.Frames.{Answer, Mark, answered, noting, Open, Waiting, Frame, open_rest, waiting_rest, frame_rest}
-use Rattle.al_yaml_reader.specs.Places.{fault_of}
-use Rattle.al_yaml_reader.specs.Reads.{State, run, Stops, part_of}
+use Rattle.al_yaml_reader.specs.Private.Frames.{Answer, Mark, answered, noting, Open, Waiting, Frame, open_rest, waiting_rest, frame_rest}
+use Rattle.al_yaml_reader.specs.Private.Places.{fault_of}
+use Rattle.al_yaml_reader.specs.Private.Reads.{State, run, Stops, part_of}
 use Rattle.al_yaml_reader.specs.declared.faults.ReadError.{ReadError}
 use Rattle.al_yaml_reader.specs.declared.faults.ReadError.TheVariants as stop
 use Rattle.al_yaml_reader.specs.declared.part.Part as code

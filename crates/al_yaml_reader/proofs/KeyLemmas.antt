@@ -12,7 +12,7 @@ use Rattle.al_scalar.proofs.MarkerLemmas.{begins-inside}
 use Rattle.al_yaml.specs.Content.{same_line, characters, behind}
 use Rattle.al_yaml.specs.Flow as items
 use Rattle.al_yaml.specs.Keys as keys
-use Rattle.al_yaml_reader.specs.Places.{IsColon}
+use Rattle.al_yaml_reader.specs.Private.Places.{IsColon}
 use Rattle.al_yaml_reader.proofs.LineLemmas.{solid-lines, behind-one}
 use Rattle.al_scalar.proofs.LineParts.{blanks_dropped-stays, Kind, at_file_end, at_break, at_byte, kind, end-here}
 use Rattle.al_scalar.proofs.SingleLemmas.{has_line, lines-some, lines-at_end, text-line_end, is_inside, never}

@@ -2,10 +2,10 @@
 use Rattle.std.proofs.Common.{◌≡◌, ℕ, List, refl, sym, ap, ◌∙◌, Option, Some, None, Ok, Err}
 use Rattle.al_yaml.specs.Node as tree
 use Rattle.al_yaml.specs.Reading.{Reading, Part, anchored}
-use Rattle.al_yaml_reader.specs.Frames.{Answer, answered, noting}
-use Rattle.al_yaml_reader.specs.FlowFrames.{completing, mark_of}
+use Rattle.al_yaml_reader.specs.Private.Frames.{Answer, answered, noting}
+use Rattle.al_yaml_reader.specs.Private.FlowFrames.{completing, mark_of}
 use Rattle.al_scalar.specs.Taken.{Fault}
-use Rattle.al_yaml_reader.specs.Reads.{State, run, Stops, anchor_at, noted_at, part_of}
+use Rattle.al_yaml_reader.specs.Private.Reads.{State, run, Stops, anchor_at, noted_at, part_of}
 use Rattle.al_yaml.specs.View.{view}
 use Rattle.al_yaml_reader.specs.declared.faults.ReadError.{ReadError}
 use Rattle.al_yaml_reader.specs.declared.part.Part as code

@@ -14,8 +14,8 @@ use Rattle.al_scalar.specs.Taken.{Fault}
 use Rattle.al_yaml.specs.Node as tree
 use Rattle.al_yaml.specs.Reading.{Reading, Part, part, given, gives, listed, start_of, spanned, ◌>>=◌}
 use Rattle.al_yaml.specs.Limits.{broken_limit}
-use Rattle.al_yaml_reader.specs.Places.{fault_of}
-use Rattle.al_yaml_reader.specs.Reads.{State, run, counted, Stops, Refuses, IsRead, part_of}
+use Rattle.al_yaml_reader.specs.Private.Places.{fault_of}
+use Rattle.al_yaml_reader.specs.Private.Reads.{State, run, counted, Stops, Refuses, IsRead, part_of}
 use Rattle.al_yaml.specs.View.{view, entry_view, nodes_of, entries_of}
 use Rattle.al_yaml_reader.specs.declared.faults.ReadError.{ReadError}
 use Rattle.al_yaml_reader.specs.declared.faults.ReadError.TheVariants as stop

@@ -4,7 +4,7 @@ use Rattle.al_yaml.specs.Access.{nodes, entries}
 use Rattle.al_yaml.specs.Limits.{most_counted}
 use Rattle.al_yaml.specs.Node.{Node, Nodes, Entries, scalar, sequence, mapping, no_nodes, item, no_entries, entry, greater_of}
 use Rattle.al_yaml.specs.Node.{nodes_in, nodes_in_items, nodes_in_entries, text_in, text_in_items, text_in_entries, levels_in, levels_in_items, levels_in_entries}
-use Rattle.al_yaml_reader.specs.Sums.{IsOwn, IsSums, inside, members, own_level, own_text, within}
+use Rattle.al_yaml_reader.specs.Private.Sums.{IsOwn, IsSums, inside, members, own_level, own_text, within}
 use Rattle.al_yaml_reader.specs.declared.sums.Sums.{Sums}
 
 greater-is : (m n : ℕ) → greater_of m n ≡ max m n

@@ -1,12 +1,4 @@
-pub mod Sums
 pub mod Contract
-pub mod Places
-pub mod Files
-pub mod Reads
-pub mod BlockReads
-pub mod DocumentLines
 pub mod Cells
 pub mod Stacks
-pub mod Frames
-pub mod FlowFrames
-pub mod BlockFrames
+pub mod Private

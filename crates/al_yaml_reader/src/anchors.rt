@@ -2,10 +2,10 @@
 
 ghost use Rattle.al_scalar.specs.Places.{cells_between, lines_at, text_at, with_cells_before};
 ghost use Rattle.al_yaml.specs.Content as content;
-ghost use Rattle.al_yaml_reader.specs.Files.{left_at, size};
+ghost use Rattle.al_yaml_reader.specs.Private.Files.{left_at, size};
 ghost use Rattle.al_yaml.specs.Reading as reading;
 ghost use Rattle.al_yaml.specs.Reading.{with_anchor, nothing_known};
-ghost use Rattle.al_yaml_reader.specs.Reads.{IsRead, IsStopInside, anchor_at, anchor_seen, known_of, noted_at, state_of};
+ghost use Rattle.al_yaml_reader.specs.Private.Reads.{IsRead, IsStopInside, anchor_at, anchor_seen, known_of, noted_at, state_of};
 ghost use Rattle.al_yaml.specs.View.{view};
 ghost use Rattle.std.specs.Prelude.{IfErr, IfOk, length, true, ◌+◌, ◌<◌, ◌≡◌, ◌≤◌};
 

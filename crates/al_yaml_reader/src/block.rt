@@ -1,16 +1,16 @@
 //! Nodes in block context, read forward: the loop over the open block collections, and its steps.
 
 ghost use Rattle.al_scalar.specs.Contract.{read_of};
-ghost use Rattle.al_yaml_reader.specs.BlockFrames as frames;
-ghost use Rattle.al_yaml_reader.specs.BlockFrames.{Enters, FindsBlock, IsEntered, IsFoundFrom, IsNextAt, IsNodeAt};
-ghost use Rattle.al_yaml_reader.specs.BlockFrames.{IsNextInside, IsOpenAt, IsReadBefore, IsResumed, ResumesBlock};
-ghost use Rattle.al_yaml_reader.specs.BlockFrames.{block_open_of, block_rest, block_waiting_of};
-ghost use Rattle.al_yaml_reader.specs.BlockReads.{IsTabInside, slot_of};
+ghost use Rattle.al_yaml_reader.specs.Private.BlockFrames as frames;
+ghost use Rattle.al_yaml_reader.specs.Private.BlockFrames.{Enters, FindsBlock, IsEntered, IsFoundFrom, IsNextAt, IsNodeAt};
+ghost use Rattle.al_yaml_reader.specs.Private.BlockFrames.{IsNextInside, IsOpenAt, IsReadBefore, IsResumed, ResumesBlock};
+ghost use Rattle.al_yaml_reader.specs.Private.BlockFrames.{block_open_of, block_rest, block_waiting_of};
+ghost use Rattle.al_yaml_reader.specs.Private.BlockReads.{IsTabInside, slot_of};
 ghost use Rattle.al_yaml.specs.Blocks as block;
 ghost use Rattle.al_yaml.specs.Content as content;
-ghost use Rattle.al_yaml_reader.specs.Files.{left_at, size};
-ghost use Rattle.al_yaml_reader.specs.Places.{Shows, next_of, option_lines};
-ghost use Rattle.al_yaml_reader.specs.Reads.{IsBehind, IsRead, IsStopInside, part_of, state_of};
+ghost use Rattle.al_yaml_reader.specs.Private.Files.{left_at, size};
+ghost use Rattle.al_yaml_reader.specs.Private.Places.{Shows, next_of, option_lines};
+ghost use Rattle.al_yaml_reader.specs.Private.Reads.{IsBehind, IsRead, IsStopInside, part_of, state_of};
 ghost use Rattle.al_yaml_reader.specs.Stacks.{HasRoom, depth_in};
 ghost use Rattle.al_yaml.specs.View.{entries_of, entry_view, nodes_of, view};
 ghost use Rattle.std.specs.Prelude.{IfErr, IfOk, IfSome, [], length, map, suc, true, ℕ, ◌+◌, ◌<◌, ◌≡◌, ◌≤◌};

@@ -1,15 +1,15 @@
 //! Nodes in block context that are read whole, and collections that begin.
 
 ghost use Rattle.al_scalar.specs.Places.{lines_at, text_at};
-ghost use Rattle.al_yaml_reader.specs.BlockFrames.{Begins, IsBegun, IsNodeAt, node_reader};
-ghost use Rattle.al_yaml_reader.specs.FlowFrames.{completing};
-ghost use Rattle.al_yaml_reader.specs.BlockReads.{IsKeyBehind, IsTabInside, key_seen, slot_of, spot_of};
+ghost use Rattle.al_yaml_reader.specs.Private.BlockFrames.{Begins, IsBegun, IsNodeAt, node_reader};
+ghost use Rattle.al_yaml_reader.specs.Private.FlowFrames.{completing};
+ghost use Rattle.al_yaml_reader.specs.Private.BlockReads.{IsKeyBehind, IsTabInside, key_seen, slot_of, spot_of};
 ghost use Rattle.al_yaml.specs.Blocks as block;
 ghost use Rattle.al_yaml.specs.Content as content;
-ghost use Rattle.al_yaml_reader.specs.Files.{left_at, size};
+ghost use Rattle.al_yaml_reader.specs.Private.Files.{left_at, size};
 ghost use Rattle.al_yaml.specs.Flow as flow;
 ghost use Rattle.al_yaml.specs.Keys as keys;
-ghost use Rattle.al_yaml_reader.specs.Reads.{IsBehind, IsRead, IsStopInside, part_of, state_of};
+ghost use Rattle.al_yaml_reader.specs.Private.Reads.{IsBehind, IsRead, IsStopInside, part_of, state_of};
 ghost use Rattle.al_yaml_reader.specs.Stacks.{depth_in};
 ghost use Rattle.al_yaml.specs.View.{view};
 ghost use Rattle.std.specs.Prelude.{IfErr, IfOk, [], length, not, suc, true, ℕ, ◌&&◌, ◌+◌, ◌<◌, ◌||◌, ◌≡◌, ◌≤◌};

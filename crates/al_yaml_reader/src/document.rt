@@ -3,8 +3,8 @@
 ghost use Rattle.al_yaml_reader.specs.Contract.{GivesInside, GivesTree};
 ghost use Rattle.al_yaml.specs.Document as document;
 ghost use Rattle.al_yaml.specs.Document.{HasNoAlias};
-ghost use Rattle.al_yaml_reader.specs.Files.{left_at, size};
-ghost use Rattle.al_yaml_reader.specs.Reads.{Answers, IsRead, IsStopInside, part_of, state_of};
+ghost use Rattle.al_yaml_reader.specs.Private.Files.{left_at, size};
+ghost use Rattle.al_yaml_reader.specs.Private.Reads.{Answers, IsRead, IsStopInside, part_of, state_of};
 ghost use Rattle.al_yaml.specs.Spans.{AreFrom, IsLaid, IsWithin};
 ghost use Rattle.al_yaml.specs.Texts.{HasTexts};
 ghost use Rattle.al_yaml.specs.View.{view};

@@ -3,8 +3,8 @@
 ghost use Rattle.al_scalar.specs.Places.{lines_at, text_at};
 ghost use Rattle.al_yaml.specs.Content as content;
 ghost use Rattle.al_yaml.specs.Document as document;
-ghost use Rattle.al_yaml_reader.specs.DocumentLines.{IsBehindMarker, text_line};
-ghost use Rattle.al_yaml_reader.specs.Places.{Shows};
+ghost use Rattle.al_yaml_reader.specs.Private.DocumentLines.{IsBehindMarker, text_line};
+ghost use Rattle.al_yaml_reader.specs.Private.Places.{Shows};
 ghost use Rattle.std.specs.Prelude.{◌<◌, ◌≡◌, ◌≤◌, IfErr, IfOk, false, length};
 
 use crate::content::{is_skipped, line_ended};

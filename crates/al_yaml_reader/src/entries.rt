@@ -1,14 +1,14 @@
 //! Further entries of open block collections, and lines that begin none.
 
 ghost use Rattle.al_scalar.specs.Places.{lines_at, text_at};
-ghost use Rattle.al_yaml_reader.specs.BlockReads.{IsKeyBehind, key_seen};
+ghost use Rattle.al_yaml_reader.specs.Private.BlockReads.{IsKeyBehind, key_seen};
 ghost use Rattle.al_yaml.specs.Content as content;
-ghost use Rattle.al_yaml_reader.specs.Files.{left_at, size};
+ghost use Rattle.al_yaml_reader.specs.Private.Files.{left_at, size};
 ghost use Rattle.al_yaml.specs.Flow as flow;
 ghost use Rattle.al_yaml.specs.Keys as keys;
 ghost use Rattle.al_yaml.specs.Node as tree;
 ghost use Rattle.al_yaml.specs.Reading as reading;
-ghost use Rattle.al_yaml_reader.specs.Reads.{IsRead, IsStopInside, Stops, state_of};
+ghost use Rattle.al_yaml_reader.specs.Private.Reads.{IsRead, IsStopInside, Stops, state_of};
 ghost use Rattle.al_yaml_reader.specs.Stacks.{HasRoom, depth_in};
 ghost use Rattle.std.specs.Prelude.{IfErr, IfOk, MatchResult, length, ℕ, ◌+◌, ◌<◌, ◌||◌, ◌≡◌, ◌≤◌};
 

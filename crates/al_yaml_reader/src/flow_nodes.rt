@@ -3,14 +3,14 @@
 ghost use Rattle.al_scalar.specs.Contract.{read_of};
 ghost use Rattle.al_scalar.specs.Line as line;
 ghost use Rattle.al_scalar.specs.Places.{lines_at, text_at};
-ghost use Rattle.al_yaml_reader.specs.Files.{left_at, size};
+ghost use Rattle.al_yaml_reader.specs.Private.Files.{left_at, size};
 ghost use Rattle.al_yaml.specs.Flow as flow;
 ghost use Rattle.al_text.specs.declared.codes.YamlCode.TheVariants as yaml;
 ghost use Rattle.al_yaml.specs.Content as content;
-ghost use Rattle.al_yaml_reader.specs.FlowFrames.{Finds, FindsKey, IsBare, IsFound, IsFoundKey, alias_part, flow_slot};
-ghost use Rattle.al_yaml_reader.specs.Places.{IsReadInside, Shows, option_lines};
-ghost use Rattle.al_yaml_reader.specs.Reads.{IsBehind, IsColonInside, IsKeyInside, IsRead, IsStopInside};
-ghost use Rattle.al_yaml_reader.specs.Reads.{flow_key_of, noted_at, part_of, state_of};
+ghost use Rattle.al_yaml_reader.specs.Private.FlowFrames.{Finds, FindsKey, IsBare, IsFound, IsFoundKey, alias_part, flow_slot};
+ghost use Rattle.al_yaml_reader.specs.Private.Places.{IsReadInside, Shows, option_lines};
+ghost use Rattle.al_yaml_reader.specs.Private.Reads.{IsBehind, IsColonInside, IsKeyInside, IsRead, IsStopInside};
+ghost use Rattle.al_yaml_reader.specs.Private.Reads.{flow_key_of, noted_at, part_of, state_of};
 ghost use Rattle.al_yaml.specs.View.{view};
 ghost use Rattle.std.specs.Prelude.{IfErr, IfOk, IfSome, false, if◌then◌else◌, length, true, ℕ, ◌<◌, ◌||◌, ◌≡◌, ◌≤◌};
 

@@ -4,13 +4,13 @@ ghost use Rattle.al_scalar.specs.Contract.{read_of};
 ghost use Rattle.al_scalar.specs.Line as line;
 ghost use Rattle.al_scalar.specs.Places.{lines_at, text_at};
 ghost use Rattle.al_scalar.specs.Plain as plain;
-ghost use Rattle.al_yaml_reader.specs.BlockReads.{IsOptionKey, option_key};
+ghost use Rattle.al_yaml_reader.specs.Private.BlockReads.{IsOptionKey, option_key};
 ghost use Rattle.al_yaml.specs.Content as content;
-ghost use Rattle.al_yaml_reader.specs.Files.{left_at, size};
+ghost use Rattle.al_yaml_reader.specs.Private.Files.{left_at, size};
 ghost use Rattle.al_yaml.specs.Flow as flow;
 ghost use Rattle.al_yaml.specs.Keys as keys;
-ghost use Rattle.al_yaml_reader.specs.Places.{IsColon, IsLineTo, IsReadInside};
-ghost use Rattle.al_yaml_reader.specs.Reads.{Answers, IsStopInside};
+ghost use Rattle.al_yaml_reader.specs.Private.Places.{IsColon, IsLineTo, IsReadInside};
+ghost use Rattle.al_yaml_reader.specs.Private.Reads.{Answers, IsStopInside};
 ghost use Rattle.std.specs.Prelude.{IfErr, IfOk, IsTrue, length, true, ◌&&◌, ◌<◌, ◌≡◌, ◌≤◌};
 
 use crate::anchors::{has_no_name, property_end};

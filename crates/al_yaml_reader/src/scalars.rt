@@ -3,11 +3,11 @@
 ghost use Rattle.al_scalar.specs.Contract.{read_of, reading_at};
 ghost use Rattle.al_scalar.specs.Places.{lines_at};
 ghost use Rattle.al_yaml.specs.Blocks as block;
-ghost use Rattle.al_yaml_reader.specs.Files.{left_at, size};
+ghost use Rattle.al_yaml_reader.specs.Private.Files.{left_at, size};
 ghost use Rattle.al_yaml.specs.Flow as flow;
 ghost use Rattle.al_yaml.specs.Node as tree;
-ghost use Rattle.al_yaml_reader.specs.Places.{IsReadInside, Shows};
-ghost use Rattle.al_yaml_reader.specs.Reads.{Answers, IsBehind, IsRead, IsStopInside, part_of, state_of};
+ghost use Rattle.al_yaml_reader.specs.Private.Places.{IsReadInside, Shows};
+ghost use Rattle.al_yaml_reader.specs.Private.Reads.{Answers, IsBehind, IsRead, IsStopInside, part_of, state_of};
 ghost use Rattle.al_yaml.specs.View.{view};
 ghost use Rattle.std.specs.Prelude.{IfErr, IfOk, length, ◌≡◌, ◌≤◌};
 

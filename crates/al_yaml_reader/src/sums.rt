@@ -3,7 +3,7 @@
 ghost use Rattle.al_yaml.specs.Limits.{most_counted};
 ghost use Rattle.al_yaml.specs.Node as tree;
 ghost use Rattle.al_yaml.specs.Reading as reading;
-ghost use Rattle.al_yaml_reader.specs.Sums.{IsOwn, IsSums, inside, members, uncounted_view, within};
+ghost use Rattle.al_yaml_reader.specs.Private.Sums.{IsOwn, IsSums, inside, members, uncounted_view, within};
 ghost use Rattle.al_yaml.specs.View.{entry_view, view};
 ghost use Rattle.std.specs.Prelude.{IfOk, map, ◌++◌, ◌+◌, ◌≡◌};
 

@@ -1,7 +1,7 @@
 use Rattle.std.proofs.Common.{◌≡◌, ◌++◌, drop, map}
 use Rattle.std.specs.Option.{option_copied}
-use Rattle.al_uses.specs.CallViews.{call_of}
-use Rattle.al_calls.specs.AnswerViews.{answered_of}
+use Rattle.al_uses.specs.Private.CallViews.{call_of}
+use Rattle.al_calls.specs.Private.AnswerViews.{answered_of}
 use Rattle.al_calls.specs.Answers as answers
 use Rattle.al_calls.proofs.answers.with_answers.Given as goal
 

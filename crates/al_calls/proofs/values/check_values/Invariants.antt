@@ -1,8 +1,8 @@
 use Rattle.std.proofs.Common.{◌≡◌, ◌++◌, drop, map}
 use Rattle.std.specs.List.{flat_map}
 use Rattle.al_calls.specs.CallFaults.{wrong_input}
-use Rattle.al_uses.specs.CallViews.{call_of}
-use Rattle.al_calls.specs.AnswerViews.{given_of}
+use Rattle.al_uses.specs.Private.CallViews.{call_of}
+use Rattle.al_calls.specs.Private.AnswerViews.{given_of}
 use Rattle.al_text.specs.Growth.{BeginsWith}
 use Rattle.al_calls.proofs.values.check_values.Given as goal
 

@@ -2,7 +2,7 @@ use Rattle.std.proofs.Common.{◌≡◌, ◌++◌, drop, map}
 use Rattle.std.specs.List.{flat_map}
 use Rattle.al_text.specs.Growth.{BeginsWith}
 use Rattle.al_contexts.specs.Answered.{known_of}
-use Rattle.al_contexts.specs.Standing.{Stands}
+use Rattle.al_contexts.specs.Private.Standing.{Stands}
 use Rattle.al_places.specs.Places.{place_of}
 use Rattle.al_yaml.specs.View.{view}
 use Rattle.al_contents.specs.FileExpressions.{faults_at}

@@ -3,7 +3,7 @@ use Rattle.al_shape.specs.Values.{member_of}
 use Rattle.al_places.specs.Positions.{section_view}
 use Rattle.al_contexts.specs.Answered.{known_of}
 use Rattle.al_contexts.specs.Contexts.{needs_type_of, type_in_job}
-use Rattle.al_contexts.specs.Environment.{jobs_shown, owner_view}
+use Rattle.al_contexts.specs.Private.Environment.{jobs_shown, owner_view}
 use Rattle.al_contexts.specs.Objects.{name_at}
 use Rattle.al_contexts.proofs.Sections.{of_workflow}
 use Rattle.al_contexts.proofs.Seen.{none_shown}

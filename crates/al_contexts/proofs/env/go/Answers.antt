@@ -2,7 +2,7 @@ use Rattle.std.proofs.Common.{ap, ◌∙◌}
 use Rattle.al_yaml.specs.View.{view}
 use Rattle.al_places.specs.Positions.{position_view, seen_view}
 use Rattle.al_contexts.specs.Answered.{known_of}
-use Rattle.al_contexts.specs.Environment.{owned, owner_in}
+use Rattle.al_contexts.specs.Private.Environment.{owned, owner_in}
 use Rattle.al_contexts.proofs.Sections.{all_types}
 use Rattle.al_contexts.proofs.env.go.Goals as goal
 

@@ -1,7 +1,7 @@
 use Rattle.std.proofs.Common.{◌≡◌, ◌++◌, List, Option}
 use Rattle.std.specs.Prelude.{OnOk}
 use Rattle.al_events.specs.Events.{schedule_faults}
-use Rattle.al_reports.specs.Views.{named_of}
+use Rattle.al_reports.specs.Private.Views.{named_of}
 use Rattle.al_formats.specs.declared.schedules.Item.{Item}
 use Rattle.al_formats.proofs.ScheduleLemmas.{some_kept}
 use Rattle.al_events.proofs.events.check_parsed.Goals as goal

@@ -1,5 +1,5 @@
 use Rattle.std.proofs.Common.{◌≡◌, drop, map}
-use Rattle.al_events.specs.Views.{activity_row, row_types}
+use Rattle.al_events.specs.Private.Views.{activity_row, row_types}
 use Rattle.al_events.proofs.names.types_in.Given as goal
 
 abbrev pub invariant-loop-row : goal.invariant-loop-row

@@ -1,6 +1,6 @@
 use Rattle.std.proofs.Common.{arith, subst, take}
 use Rattle.std.specs.Prelude.{Contains, IfSome}
-use Rattle.al_calls.specs.AnswerViews.{answered_of}
+use Rattle.al_calls.specs.Private.AnswerViews.{answered_of}
 use Rattle.al_calls.specs.Answers.{answered_faults}
 use Rattle.al_contexts.specs.Answered.{known_of}
 use Rattle.al_yaml.specs.View.{view}

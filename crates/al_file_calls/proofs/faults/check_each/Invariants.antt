@@ -1,9 +1,9 @@
 use Rattle.std.proofs.Common.{◌++◌, map, take}
 use Rattle.std.specs.List.{flat_map}
-use Rattle.al_calls.specs.AnswerViews.{answered_of}
+use Rattle.al_calls.specs.Private.AnswerViews.{answered_of}
 use Rattle.al_calls.specs.Answers.{answered_faults}
 use Rattle.al_contexts.specs.Answered.{known_of}
-use Rattle.al_contexts.specs.Standing.{Stands}
+use Rattle.al_contexts.specs.Private.Standing.{Stands}
 use Rattle.al_file_calls.specs.FileCalls.{typing}
 use Rattle.al_text.specs.Growth.{SameSet}
 use Rattle.al_yaml.specs.View.{view}

@@ -1,6 +1,6 @@
 use Rattle.std.proofs.Common.{◌∙◌, sym}
 use Rattle.std.proofs.lemmas.Result.{on_ok_weaker}
-use Rattle.al_calls.specs.AnswerViews.{answered_of}
+use Rattle.al_calls.specs.Private.AnswerViews.{answered_of}
 use Rattle.al_contexts.specs.Answered.{known_of}
 use Rattle.al_text.proofs.Growing.{same_set}
 use Rattle.al_yaml.specs.View.{view}

@@ -1,5 +1,5 @@
 use Rattle.std.proofs.Common.{◌≡◌, ◌++◌, drop, map}
-use Rattle.al_calls.specs.AnswerViews.{answered_of}
+use Rattle.al_calls.specs.Private.AnswerViews.{answered_of}
 use Rattle.al_contexts.specs.Answered.{behind_of}
 use Rattle.al_file_calls.specs.FileCalls.{behind}
 use Rattle.al_file_calls.proofs.known.known_behind.Given as goal

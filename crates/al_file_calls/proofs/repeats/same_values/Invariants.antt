@@ -1,6 +1,6 @@
 use Rattle.std.proofs.Common.{◌≡◌, drop, map}
-use Rattle.al_calls.specs.AnswerViews.{given_of}
-use Rattle.al_file_calls.specs.Repeats as repeats
+use Rattle.al_calls.specs.Private.AnswerViews.{given_of}
+use Rattle.al_file_calls.specs.Private.Repeats as repeats
 use Rattle.al_file_calls.proofs.repeats.same_values.Given as goal
 
 abbrev pub invariant-loop-i : goal.invariant-loop-i

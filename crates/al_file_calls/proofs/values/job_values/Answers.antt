@@ -1,6 +1,6 @@
 use Rattle.std.proofs.Common.{◌≡◌, ap, ◌∙◌, map, subst}
 use Rattle.std.specs.Prelude.{IfOk, codes}
-use Rattle.al_calls.specs.AnswerViews.{given_of}
+use Rattle.al_calls.specs.Private.AnswerViews.{given_of}
 use Rattle.al_calls.specs.CallFaults.{values_of}
 use Rattle.al_contexts.specs.Answered.{known_of}
 use Rattle.al_shape.specs.Values.{entries_at, member_of}

@@ -1,8 +1,8 @@
 use Rattle.std.proofs.Common.{◌≡◌, ◌++◌, drop, map}
-use Rattle.al_calls.specs.AnswerViews.{given_of}
+use Rattle.al_calls.specs.Private.AnswerViews.{given_of}
 use Rattle.al_calls.specs.CallFaults.{values_of}
 use Rattle.al_contexts.specs.Answered.{known_of}
-use Rattle.al_contexts.specs.Standing.{Stands}
+use Rattle.al_contexts.specs.Private.Standing.{Stands}
 use Rattle.al_file_calls.specs.FileCalls.{type_in_job}
 use Rattle.al_shape.specs.Values.{member_of}
 use Rattle.al_yaml.specs.View.{view}

@@ -1,6 +1,6 @@
 use Rattle.std.proofs.Common.{◌≡◌, ◌++◌, drop, map, option_map}
 use Rattle.al_formats.specs.Schedules.{all_of, item_of}
-use Rattle.al_formats.specs.Views.{range_of}
+use Rattle.al_formats.specs.Private.Views.{range_of}
 use Rattle.al_formats.proofs.schedules.items_of.Given as goal
 
 -- the items so far, and those of what is left, if each is right

@@ -1,6 +1,6 @@
 use Rattle.std.proofs.Common.{◌≡◌, drop, map}
 use Rattle.al_formats.specs.Schedules.{name_in}
-use Rattle.al_formats.specs.Views.{range_name}
+use Rattle.al_formats.specs.Private.Views.{range_name}
 use Rattle.al_formats.proofs.schedules.named_number.Given as goal
 
 abbrev pub invariant-loop-name : goal.invariant-loop-name

@@ -2,7 +2,7 @@ use Rattle.std.proofs.Common.{◌≡◌, ◌≤◌, drop}
 use Rattle.std.specs.Char.{is_ascii_digit}
 use Rattle.std.specs.List.{list_all}
 use Rattle.al_formats.specs.Schedules.{number_from}
-use Rattle.al_formats.specs.Views.{least_thousand}
+use Rattle.al_formats.specs.Private.Views.{least_thousand}
 use Rattle.al_formats.proofs.schedules.number.Given as goal
 
 abbrev pub invariant-loop-byte : goal.invariant-loop-byte

@@ -9,7 +9,7 @@ use Rattle.al_grammar.specs.Tree.{Tree}
 use Rattle.al_grammar.specs.Lexeme.{lexeme}
 use Rattle.al_grammar.specs.Grammar.{IsTreeOf, Derives, Binary}
 use Rattle.al_grammar.specs.Table.{O}
-use Rattle.al_grammar.specs.Parsed.{EndsLevel}
+use Rattle.al_grammar.specs.Private.Parsed.{EndsLevel}
 use Rattle.al_grammar.proofs.Total.{Outcome, read, refused, all}
 use Rattle.al_grammar.proofs.law.grammar.Goals as goal
 

@@ -1,7 +1,7 @@
 use Rattle.std.proofs.Common.{rules, ◌≡◌, ◌∙◌, ap, ◌<◌, ◌++◌, ◌∷◌, [], false, true, length, get_or, arith}
 use Rattle.std.proofs.lemmas.List.{length-map, map-append}
 use Rattle.al_graph.specs.Graphs.{Edge, edges_of}
-use Rattle.al_graph.specs.Finishing.{frames_of, frame_of}
+use Rattle.al_graph.specs.Private.Finishing.{frames_of, frame_of}
 use Rattle.al_graph.proofs.Orders.{read_at}
 use Rattle.al_graph.proofs.SearchLemmas.{step_edge, step_enter, step_finish, step_pass}
 use Rattle.al_graph.proofs.finishing.advance.Goals as goal

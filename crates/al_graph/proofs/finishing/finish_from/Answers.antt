@@ -1,7 +1,7 @@
 use Rattle.std.proofs.Common.{◌≡◌, ◌∙◌, ap, [], false, length, get_or, arith}
 use Rattle.std.proofs.lemmas.List.{length-map}
 use Rattle.al_graph.specs.Graphs.{edges_of}
-use Rattle.al_graph.specs.Finishing.{frames_of}
+use Rattle.al_graph.specs.Private.Finishing.{frames_of}
 use Rattle.al_graph.proofs.Orders.{read_at}
 use Rattle.al_graph.proofs.SearchLemmas.{step_start}
 use Rattle.al_graph.proofs.finishing.finish_from.Goals as goal

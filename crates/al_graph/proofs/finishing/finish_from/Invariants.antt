@@ -1,7 +1,7 @@
 use Rattle.std.proofs.Common.{ℕ}
 use Rattle.al_graph.specs.Graphs.{edges_of}
-use Rattle.al_graph.specs.Marks.{Marked}
-use Rattle.al_graph.specs.Finishing.{IsSearch, cost, frames_of}
+use Rattle.al_graph.specs.Private.Marks.{Marked}
+use Rattle.al_graph.specs.Private.Finishing.{IsSearch, cost, frames_of}
 use Rattle.al_graph.proofs.finishing.finish_from.Given as goal
 
 abbrev pub invariant-loop-frame : goal.invariant-loop-frame

@@ -1,6 +1,6 @@
 use Rattle.std.proofs.Common.{◌≤◌, length, []}
 use Rattle.al_graph.specs.Graphs.{edges_of}
-use Rattle.al_graph.specs.Labelling.{IsLabelling}
+use Rattle.al_graph.specs.Private.Labelling.{IsLabelling}
 use Rattle.al_graph.proofs.labelling.label_all.Given as goal
 
 abbrev pub invariant-loop-left : goal.invariant-loop-left

@@ -1,6 +1,6 @@
 use Rattle.std.proofs.Common.{◌+◌, length, sum_by}
 use Rattle.al_graph.specs.Graphs.{edges_of}
-use Rattle.al_graph.specs.Labelling.{IsLabelling, free_one}
+use Rattle.al_graph.specs.Private.Labelling.{IsLabelling, free_one}
 use Rattle.al_graph.proofs.labelling.label_from.Given as goal
 
 abbrev pub invariant-loop-node : goal.invariant-loop-node

@@ -2,7 +2,7 @@ use Rattle.std.proofs.Common.{◌≡◌, ◌∙◌, [], List, ℕ, get_or, subst
 use Rattle.std.specs.Prelude.{Contains, OnOk}
 use Rattle.al_graph.specs.Graphs.{edges_of}
 use Rattle.al_graph.proofs.Searches.{edges_at}
-use Rattle.al_graph.specs.Labelling.{Labels}
+use Rattle.al_graph.specs.Private.Labelling.{Labels}
 use Rattle.al_graph.proofs.labelling.label_next.Goals as goal
 
 pub label_nodes-requires : goal.label_nodes-requires

@@ -1,5 +1,5 @@
 use Rattle.std.proofs.Common.{take}
-use Rattle.al_graph.specs.Labelling.{Labels}
+use Rattle.al_graph.specs.Private.Labelling.{Labels}
 use Rattle.al_graph.proofs.labelling.label_nodes.Given as goal
 
 abbrev pub invariant-loop-node : goal.invariant-loop-node

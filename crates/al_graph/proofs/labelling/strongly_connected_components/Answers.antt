@@ -2,8 +2,8 @@ use Rattle.std.proofs.Common.{◌≡◌, ◌<◌, ℕ, List, Vec, length, arith,
 use Rattle.std.specs.declared.alloc.Global.{Global}
 use Rattle.std.proofs.lemmas.List.{length-map}
 use Rattle.al_graph.specs.Graphs.{Edge, edges_of}
-use Rattle.al_graph.specs.Finishing.{IsFinished}
-use Rattle.al_graph.specs.Labelling.{IsBackward}
+use Rattle.al_graph.specs.Private.Finishing.{IsFinished}
+use Rattle.al_graph.specs.Private.Labelling.{IsBackward}
 use Rattle.al_graph.proofs.LabelLemmas.{labels_exact, turned_back, turned_inside}
 use Rattle.al_graph.proofs.labelling.strongly_connected_components.Goals as goal
 

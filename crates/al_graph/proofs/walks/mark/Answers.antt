@@ -1,5 +1,5 @@
 use Rattle.std.proofs.Common.{◌≡◌, ◌++◌, ◌∷◌, [], List, ℕ, false, get_or, rules, set, subst, sym, true}
-use Rattle.al_graph.specs.Marks.{Marks}
+use Rattle.al_graph.specs.Private.Marks.{Marks}
 use Rattle.al_graph.proofs.MarkLemmas.{marks_first}
 use Rattle.al_graph.proofs.walks.mark.Goals as goal
 

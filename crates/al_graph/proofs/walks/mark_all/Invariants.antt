@@ -1,5 +1,5 @@
 use Rattle.std.proofs.Common.{take}
-use Rattle.al_graph.specs.Marks.{Marks}
+use Rattle.al_graph.specs.Private.Marks.{Marks}
 use Rattle.al_graph.proofs.walks.mark_all.Given as goal
 
 abbrev pub invariant-loop-node : goal.invariant-loop-node

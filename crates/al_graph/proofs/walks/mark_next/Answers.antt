@@ -1,7 +1,7 @@
 use Rattle.std.proofs.Common.{◌≡◌, ◌∙◌, [], List, ℕ, get_or, subst, sym}
 use Rattle.std.specs.Prelude.{Contains, OnOk}
 use Rattle.al_graph.specs.Graphs.{edges_of}
-use Rattle.al_graph.specs.Marks.{Marks}
+use Rattle.al_graph.specs.Private.Marks.{Marks}
 use Rattle.al_graph.proofs.Searches.{edges_at}
 use Rattle.al_graph.proofs.walks.mark_next.Goals as goal
 

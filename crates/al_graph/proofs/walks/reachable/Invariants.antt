@@ -1,6 +1,6 @@
 use Rattle.std.proofs.Common.{◌≡◌, ◌+◌, length, vec_len, sum_by}
 use Rattle.al_graph.specs.Graphs.{edges_of}
-use Rattle.al_graph.specs.Marks.{unmarked_one}
+use Rattle.al_graph.specs.Private.Marks.{unmarked_one}
 use Rattle.al_graph.proofs.Searches.{IsSearch}
 use Rattle.al_graph.proofs.walks.reachable.Given as goal
 

@@ -1,6 +1,6 @@
 use Rattle.std.proofs.Common.{◌≡◌, ℕ, List, [], ◌∷◌, ◌++◌, Bool, map, drop, refl, sym, ap, ◌∙◌, append-nil, arith}
 use Rattle.std.proofs.lemmas.List.{at_drop_all}
-use Rattle.al_meaning.specs.CallViews.{argument_of}
+use Rattle.al_meaning.specs.Private.CallViews.{argument_of}
 use Rattle.al_meaning.specs.Meaning.{unused}
 use Rattle.al_meaning.proofs.calls.check_used.Goals as goal
 

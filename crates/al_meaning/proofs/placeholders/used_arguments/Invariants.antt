@@ -1,7 +1,7 @@
 use Rattle.std.proofs.Common.{◌≡◌, drop}
 use Rattle.al_meaning.specs.Placeholders.{used_arguments}
 use Rattle.al_meaning.specs.Private.PlaceholderStates.{used_from}
-use Rattle.al_meaning.specs.PlaceholderViews.{IsSmall}
+use Rattle.al_meaning.specs.Private.PlaceholderViews.{IsSmall}
 use Rattle.al_meaning.proofs.placeholders.used_arguments.Given as goal
 
 abbrev pub invariant-loop-byte : goal.invariant-loop-byte

@@ -1,9 +1,9 @@
 use Rattle.std.proofs.Common.{◌≡◌, ◌+◌, [], map, drop, ap, ◌∙◌, string_bytes, None}
 use Rattle.std.specs.Prelude.{not, ◌||◌}
 use Rattle.std.proofs.lemmas.List.{map-append}
-use Rattle.al_meaning.specs.CallViews.{argument_of}
+use Rattle.al_meaning.specs.Private.CallViews.{argument_of}
 use Rattle.al_grammar.specs.Extents.{across}
-use Rattle.al_meaning.specs.FoundTypes.{found_type}
+use Rattle.al_meaning.specs.Private.FoundTypes.{found_type}
 use Rattle.al_meaning.specs.Literals.{literal_text}
 use Rattle.al_types.specs.Types.{Number, String, Bool'}
 use Rattle.al_types.specs.Names.{function_of}

@@ -1,6 +1,6 @@
 use Rattle.std.proofs.Common.{◌≡◌, [], map, drop}
-use Rattle.al_meaning.specs.CallViews.{argument_of}
-use Rattle.al_meaning.specs.FoundTypes.{found_type}
+use Rattle.al_meaning.specs.Private.CallViews.{argument_of}
+use Rattle.al_meaning.specs.Private.FoundTypes.{found_type}
 use Rattle.al_text.specs.Growth.{BeginsWith}
 use Rattle.al_types.specs.Scopes.{scope_of}
 use Rattle.al_grammar.specs.Tree.{steps_of, operands_of, arguments_of}

@@ -2,7 +2,7 @@ use Rattle.std.proofs.Common.{◌≤◌, arith, length, refl}
 use Rattle.al_graph.specs.Graphs.{Walk, edges_of}
 use Rattle.al_text.proofs.Growing.{begins_same, begins_trans}
 use Rattle.al_shape.specs.Values.{member_of}
-use Rattle.al_rules.specs.Positions.{first_at}
+use Rattle.al_rules.specs.Private.Positions.{first_at}
 use Rattle.al_rules.proofs.NeedLemmas.{adds_at, adds_end, adds_none}
 use Rattle.al_rules.proofs.needs.check_each_job.Goals as goal
 

@@ -3,7 +3,7 @@ use Rattle.al_graph.specs.Graphs.{Walk, edges_of}
 use Rattle.al_text.specs.Growth.{BeginsWith}
 use Rattle.al_shape.specs.Values.{member_of}
 use Rattle.al_rules.specs.Needs.{AddsNeeds, all_needs}
-use Rattle.al_rules.specs.Positions.{first_at}
+use Rattle.al_rules.specs.Private.Positions.{first_at}
 use Rattle.al_rules.proofs.needs.check_each_job.Given as goal
 
 abbrev pub invariant-loop-i : goal.invariant-loop-i

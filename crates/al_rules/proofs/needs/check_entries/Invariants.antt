@@ -3,8 +3,8 @@ use Rattle.std.specs.List.{flat_map}
 use Rattle.std.specs.Prelude.{slice_index_or}
 use Rattle.al_text.specs.Growth.{BeginsWith}
 use Rattle.al_rules.specs.Needs.{named_by, tested_faults}
-use Rattle.al_rules.specs.Positions.{first_at}
-use Rattle.al_rules.specs.Views.{need_of}
+use Rattle.al_rules.specs.Private.Positions.{first_at}
+use Rattle.al_rules.specs.Private.Views.{need_of}
 use Rattle.al_rules.proofs.needs.check_entries.Given as goal
 
 abbrev pub invariant-loop-need : goal.invariant-loop-need

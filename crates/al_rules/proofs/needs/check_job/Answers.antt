@@ -1,9 +1,9 @@
 use Rattle.std.proofs.Common.{◌≡◌, ℕ, ap, length, map, rules, ◌∙◌}
 use Rattle.al_graph.specs.Graphs.{Walk, edges_of}
 use Rattle.al_shape.specs.Values.{member_of, scalar_node_of}
-use Rattle.al_rules.specs.Positions.{first_at}
-use Rattle.al_reports.specs.Views.{named_of}
-use Rattle.al_rules.specs.Views.{need_of}
+use Rattle.al_rules.specs.Private.Positions.{first_at}
+use Rattle.al_reports.specs.Private.Views.{named_of}
+use Rattle.al_rules.specs.Private.Views.{need_of}
 use Rattle.al_rules.proofs.NeedLemmas.{adds_tested, adds_without, marked_as, needs_are}
 use Rattle.al_rules.proofs.needs.check_job.Goals as goal
 

@@ -4,8 +4,8 @@ use Rattle.std.specs.declared.alloc.Global.{Global}
 use Rattle.al_graph.specs.Graphs.{IsTurned, edges_of}
 use Rattle.al_shape.specs.Values.{member_of}
 use Rattle.al_rules.specs.Needs.{keys_of, needs_lists, position_in}
-use Rattle.al_rules.specs.Positions.{first_at}
-use Rattle.al_reports.specs.Views.{named_of}
+use Rattle.al_rules.specs.Private.Positions.{first_at}
+use Rattle.al_reports.specs.Private.Views.{named_of}
 use Rattle.al_rules.proofs.NeedLemmas.{adds_all, edges_below, lists_same, other_below, positions_are}
 use Rattle.al_rules.proofs.needs.check_needs.Goals as goal
 

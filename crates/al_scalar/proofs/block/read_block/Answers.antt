@@ -3,7 +3,7 @@ use Rattle.std.proofs.Common.{◌∙◌, ◌≤◌, Some, None, IfSome, Ok, leng
 use Rattle.al_scalar.specs.Taken.{Taken}
 use Rattle.al_scalar.specs.Places.{lines_at, first_text}
 use Rattle.al_scalar.specs.Block.{header_end, content_indent}
-use Rattle.al_scalar.specs.BlockRead.{EndsHeader, header_of, kind, is_said}
+use Rattle.al_scalar.specs.Private.BlockRead.{EndsHeader, header_of, kind, is_said}
 use Rattle.al_scalar.proofs.SingleLemmas.{is_inside}
 use Rattle.al_scalar.proofs.BlockSteps.{block-fault, block-last, block-more, rest-style}
 use Rattle.al_scalar.proofs.block.read_block.Goals as goal

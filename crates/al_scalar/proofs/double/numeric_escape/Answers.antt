@@ -1,6 +1,6 @@
 use Rattle.std.proofs.Common.{◌+◌, slice_index, subst, sym, arith}
 use Rattle.al_scalar.specs.Quoted.{written}
-use Rattle.al_scalar.specs.Double.{ReadsOn}
+use Rattle.al_scalar.specs.Private.Double.{ReadsOn}
 use Rattle.al_scalar.proofs.MarkLemmas.{letter_kind, wrong_digit, number, no_character, scalar_value, no_scalar_value, short_file, short_line}
 use Rattle.al_scalar.proofs.double.numeric_escape.Goals as goal
 

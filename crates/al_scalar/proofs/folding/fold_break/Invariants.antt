@@ -1,8 +1,8 @@
 use Rattle.std.proofs.Common.{length, ◌-◌, ◌≡◌, ◌≤◌, ◌<◌, ◌++◌}
 use Rattle.al_text.specs.Growth.{BeginsWith}
 use Rattle.al_scalar.specs.Places.{lines_at, later}
-use Rattle.al_scalar.specs.PlainLines.{empty_ends, break_left}
-use Rattle.al_scalar.specs.Folding.{solid_lines}
+use Rattle.al_scalar.specs.Private.PlainLines.{empty_ends, break_left}
+use Rattle.al_scalar.specs.Private.Folding.{solid_lines}
 use Rattle.al_scalar.proofs.folding.fold_break.Given as goal
 
 abbrev pub invariant-empty_lines : goal.invariant-empty_lines

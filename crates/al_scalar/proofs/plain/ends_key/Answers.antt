@@ -1,6 +1,6 @@
 use Rattle.std.proofs.Common.{◌∙◌, ◌&&◌, ap, slice_index}
 use Rattle.al_scalar.specs.Plain.{is_flow_indicator}
-use Rattle.al_scalar.specs.PlainLines.{context_of}
+use Rattle.al_scalar.specs.Private.PlainLines.{context_of}
 use Rattle.al_scalar.proofs.PlainLemmas.{ends_key-cell}
 use Rattle.al_scalar.proofs.plain.ends_key.Goals as goal
 

@@ -1,4 +1,4 @@
-use Rattle.al_scalar.specs.PlainLines.{context_of}
+use Rattle.al_scalar.specs.Private.PlainLines.{context_of}
 use Rattle.al_scalar.proofs.SingleLemmas.{never}
 use Rattle.al_scalar.proofs.PlainLemmas.{value_colon-yes, value_colon-no}
 use Rattle.al_scalar.proofs.plain.is_value_colon.Goals as goal

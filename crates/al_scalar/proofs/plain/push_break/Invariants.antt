@@ -1,7 +1,7 @@
 use Rattle.std.proofs.Common.{length, ◌-◌, ◌≡◌, ◌≤◌, ◌++◌}
 use Rattle.al_scalar.specs.Taken.{folded_break}
 use Rattle.al_scalar.specs.Places.{lines_at}
-use Rattle.al_scalar.specs.PlainLines.{empty_ends, break_left}
+use Rattle.al_scalar.specs.Private.PlainLines.{empty_ends, break_left}
 use Rattle.al_scalar.proofs.plain.push_break.Given as goal
 
 abbrev pub invariant-blank_lines : goal.invariant-blank_lines

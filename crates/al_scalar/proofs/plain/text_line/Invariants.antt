@@ -1,6 +1,6 @@
 use Rattle.std.proofs.Common.{length, ◌-◌, ◌≡◌, ◌≤◌}
 use Rattle.al_scalar.specs.Places.{lines_at}
-use Rattle.al_scalar.specs.PlainLines.{text_lines}
+use Rattle.al_scalar.specs.Private.PlainLines.{text_lines}
 use Rattle.al_scalar.proofs.plain.text_line.Given as goal
 
 abbrev pub invariant-blank_lines : goal.invariant-blank_lines

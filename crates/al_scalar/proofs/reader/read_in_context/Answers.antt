@@ -1,8 +1,8 @@
 use Rattle.std.proofs.Common.{◌∙◌, Ok, Err, subst}
 use Rattle.al_scalar.specs.Characters.{character_at}
 use Rattle.al_scalar.specs.Places.{lines_at}
-use Rattle.al_scalar.specs.PlainLines.{context_of}
-use Rattle.al_scalar.specs.Reads.{Gives}
+use Rattle.al_scalar.specs.Private.PlainLines.{context_of}
+use Rattle.al_scalar.specs.Private.Reads.{Gives}
 use Rattle.al_scalar.specs.Scalar.{taken_as}
 use Rattle.al_scalar.proofs.ScalarLemmas.{scalar-is, scalar-ok, scalar-fault, fault-start}
 use Rattle.std.proofs.Common.{◌≡◌, sym}

@@ -1,7 +1,7 @@
 use Rattle.std.proofs.Common.{◌∙◌, ◌+◌, ◌++◌, ◌∷◌, [], refl, ap, sym, arith, append-nil, slice_index}
 use Rattle.al_scalar.specs.Places.{cells_between}
 use Rattle.al_scalar.specs.Quoted.{QuotedLine}
-use Rattle.al_scalar.specs.Single.{part_at}
+use Rattle.al_scalar.specs.Private.Single.{part_at}
 use Rattle.al_scalar.proofs.SingleLemmas.{run_at, text-line_end, part-broken, goes-byte, goes-pair, stops-quote, same-quote, kept-text, done-text, same_then, is_inside, never}
 use Rattle.al_scalar.proofs.LineLemmas.{pushed}
 use Rattle.al_scalar.proofs.single.single_line.Goals as goal

@@ -1,6 +1,6 @@
 use Rattle.std.proofs.Common.{length, ◌-◌, ◌≡◌, ◌≤◌, ◌++◌}
 use Rattle.al_scalar.specs.Places.{lines_at, SameLine}
-use Rattle.al_scalar.specs.Single.{part_at}
+use Rattle.al_scalar.specs.Private.Single.{part_at}
 use Rattle.al_scalar.proofs.single.single_line.Given as goal
 
 abbrev pub invariant-loop-at : goal.invariant-loop-at

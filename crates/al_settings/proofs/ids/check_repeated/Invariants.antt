@@ -3,7 +3,7 @@ use Rattle.al_text.specs.Growth.{BeginsWith}
 use Rattle.al_shape.specs.Keys.{holds}
 use Rattle.al_shape.specs.Names.{among}
 use Rattle.al_settings.specs.Ids.{repeated_faults}
-use Rattle.al_settings.specs.Views.{folded_id}
+use Rattle.al_settings.specs.Private.Views.{folded_id}
 use Rattle.al_settings.proofs.ids.check_repeated.Given as goal
 
 abbrev pub invariant-loop-id : goal.invariant-loop-id

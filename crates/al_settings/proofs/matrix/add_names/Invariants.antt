@@ -1,6 +1,6 @@
 use Rattle.std.proofs.Common.{◌≡◌, ◌++◌, take, map}
 use Rattle.al_shape.specs.Values.{member_of}
-use Rattle.al_reports.specs.Views.{named_of}
+use Rattle.al_reports.specs.Private.Views.{named_of}
 use Rattle.al_reports.specs.Words.{of_key}
 use Rattle.al_settings.proofs.matrix.add_names.Given as goal
 

@@ -1,6 +1,6 @@
 use Rattle.std.proofs.Common.{rules}
 use Rattle.std.proofs.lemmas.Result.{err_from_is_err_and}
-use Rattle.al_text.specs.Fragments.{fragment_bytes}
+use Rattle.al_text.specs.Private.Fragments.{fragment_bytes}
 use Rattle.al_text.proofs.Bytes.{AppendsFront-part}
 use Rattle.al_text.proofs.printing.write_fragments.Goals as goal
 

@@ -1,6 +1,6 @@
 use Rattle.std.proofs.Common.{◌≡◌, take}
 use Rattle.std.specs.Io.KnownBytes.{Appends}
-use Rattle.al_text.specs.Fragments.{joined}
+use Rattle.al_text.specs.Private.Fragments.{joined}
 use Rattle.al_text.proofs.printing.write_fragments.Given as goal
 
 abbrev pub invariant-loop-fragment : goal.invariant-loop-fragment

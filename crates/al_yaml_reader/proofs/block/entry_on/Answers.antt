@@ -1,6 +1,6 @@
 use Rattle.std.proofs.Common.{ap, ◌∙◌}
 use Rattle.al_yaml.specs.Blocks.{next_found}
-use Rattle.al_yaml_reader.specs.Places.{next_of}
+use Rattle.al_yaml_reader.specs.Private.Places.{next_of}
 use Rattle.al_yaml_reader.proofs.ContentLemmas.{next_found-fault}
 use Rattle.al_yaml_reader.proofs.block.entry_on.Goals as goal
 

@@ -3,11 +3,11 @@ use Rattle.std.proofs.lemmas.Result.{err_from_is_err_and}
 use Rattle.al_scalar.specs.Places.{lines_at}
 use Rattle.al_yaml.specs.Flow.{empty_node}
 use Rattle.al_yaml.specs.Blocks.{node_below}
-use Rattle.al_yaml_reader.specs.FlowFrames.{mark_of}
-use Rattle.al_yaml_reader.specs.Frames.{noting}
-use Rattle.al_yaml_reader.specs.BlockReads.{slot_of}
-use Rattle.al_yaml_reader.specs.Places.{fault_of, next_of}
-use Rattle.al_yaml_reader.specs.Reads.{state_of}
+use Rattle.al_yaml_reader.specs.Private.FlowFrames.{mark_of}
+use Rattle.al_yaml_reader.specs.Private.Frames.{noting}
+use Rattle.al_yaml_reader.specs.Private.BlockReads.{slot_of}
+use Rattle.al_yaml_reader.specs.Private.Places.{fault_of, next_of}
+use Rattle.al_yaml_reader.specs.Private.Reads.{state_of}
 use Rattle.al_yaml_reader.proofs.ReadLemmas.{stops-from}
 use Rattle.al_yaml_reader.proofs.BlockNodeLemmas.{below-fault, below-ended, below-empty}
 use Rattle.al_yaml_reader.proofs.NoteLemmas.{noted-part}

@@ -4,13 +4,13 @@ use Rattle.al_scalar.specs.Contract.{read_of}
 use Rattle.al_scalar.specs.Places.{lines_at}
 use Rattle.al_scalar.specs.Scalar.{span}
 use Rattle.al_yaml.specs.Node as tree
-use Rattle.al_yaml_reader.specs.FlowFrames.{mark_of}
-use Rattle.al_yaml_reader.specs.Frames.{noting}
+use Rattle.al_yaml_reader.specs.Private.FlowFrames.{mark_of}
+use Rattle.al_yaml_reader.specs.Private.Frames.{noting}
 use Rattle.al_yaml_reader.proofs.NoteLemmas.{noted-part}
-use Rattle.al_yaml_reader.specs.BlockFrames.{block_rest, entries}
-use Rattle.al_yaml_reader.specs.BlockReads.{key_seen}
-use Rattle.al_yaml_reader.specs.Places.{fault_of, next_of, option_lines}
-use Rattle.al_yaml_reader.specs.Reads.{run, part_of, state_of}
+use Rattle.al_yaml_reader.specs.Private.BlockFrames.{block_rest, entries}
+use Rattle.al_yaml_reader.specs.Private.BlockReads.{key_seen}
+use Rattle.al_yaml_reader.specs.Private.Places.{fault_of, next_of, option_lines}
+use Rattle.al_yaml_reader.specs.Private.Reads.{run, part_of, state_of}
 use Rattle.al_yaml.specs.View.{view, entry_view, entries_of}
 use Rattle.al_yaml_reader.specs.Stacks.{depth_in}
 use Rattle.al_yaml_reader.proofs.ReadLemmas.{entries_of-more, same_part}

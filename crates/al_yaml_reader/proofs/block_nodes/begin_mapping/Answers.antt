@@ -3,10 +3,10 @@ use Rattle.std.proofs.lemmas.Result.{err_from_is_err_and}
 use Rattle.al_scalar.specs.Places.{lines_at}
 use Rattle.al_yaml.specs.Flow.{flow_collection}
 use Rattle.al_yaml.specs.Blocks.{block_node}
-use Rattle.al_yaml_reader.specs.BlockReads.{spot_of, key_seen}
-use Rattle.al_yaml_reader.specs.BlockFrames.{block_rest, entries}
-use Rattle.al_yaml_reader.specs.Places.{fault_of}
-use Rattle.al_yaml_reader.specs.Reads.{run, state_of}
+use Rattle.al_yaml_reader.specs.Private.BlockReads.{spot_of, key_seen}
+use Rattle.al_yaml_reader.specs.Private.BlockFrames.{block_rest, entries}
+use Rattle.al_yaml_reader.specs.Private.Places.{fault_of}
+use Rattle.al_yaml_reader.specs.Private.Reads.{run, state_of}
 use Rattle.al_yaml.specs.View.{entry_view, entries_of}
 use Rattle.al_yaml_reader.specs.Stacks.{depth_in}
 use Rattle.al_yaml_reader.proofs.NoteLemmas.{completing-err, completing-runs}

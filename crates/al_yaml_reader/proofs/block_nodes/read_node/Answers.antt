@@ -3,10 +3,10 @@ use Rattle.std.proofs.lemmas.Result.{err_from_is_err_and}
 use Rattle.al_scalar.specs.Places.{lines_at}
 use Rattle.al_yaml.specs.Flow.{flow_collection}
 use Rattle.al_yaml.specs.Blocks.{block_node, block_sequence, block_mapping, flow_at, scalar_node_at}
-use Rattle.al_yaml_reader.specs.BlockFrames.{node_reader}
-use Rattle.al_yaml_reader.specs.BlockReads.{slot_of, key_seen, option_key}
-use Rattle.al_yaml_reader.specs.FlowFrames.{completing}
-use Rattle.al_yaml_reader.specs.Reads.{run, state_of}
+use Rattle.al_yaml_reader.specs.Private.BlockFrames.{node_reader}
+use Rattle.al_yaml_reader.specs.Private.BlockReads.{slot_of, key_seen, option_key}
+use Rattle.al_yaml_reader.specs.Private.FlowFrames.{completing}
+use Rattle.al_yaml_reader.specs.Private.Reads.{run, state_of}
 use Rattle.al_yaml_reader.specs.Stacks.{depth_in}
 use Rattle.al_yaml_reader.proofs.ReadLemmas.{stops-same, stops-from}
 use Rattle.al_yaml_reader.proofs.NoteLemmas.{completing-err, completing-part, completing-same, completing-stops}

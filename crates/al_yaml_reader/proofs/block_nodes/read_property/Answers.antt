@@ -2,12 +2,12 @@ use Rattle.std.proofs.Common.{◌≡◌, suc, ap, sym, ◌∙◌, false, not, �
 use Rattle.std.proofs.lemmas.Result.{err_from_is_err_and}
 use Rattle.al_scalar.specs.Places.{lines_at}
 use Rattle.al_yaml.specs.Blocks.{block_node, is_behind_key, rest_node}
-use Rattle.al_yaml_reader.specs.BlockFrames.{node_reader}
-use Rattle.al_yaml_reader.specs.BlockReads.{slot_of}
-use Rattle.al_yaml_reader.specs.FlowFrames.{completing}
+use Rattle.al_yaml_reader.specs.Private.BlockFrames.{node_reader}
+use Rattle.al_yaml_reader.specs.Private.BlockReads.{slot_of}
+use Rattle.al_yaml_reader.specs.Private.FlowFrames.{completing}
 use Rattle.al_yaml.specs.Keys.{is_on_key}
-use Rattle.al_yaml_reader.specs.Places.{fault_of}
-use Rattle.al_yaml_reader.specs.Reads.{run, part_of, state_of}
+use Rattle.al_yaml_reader.specs.Private.Places.{fault_of}
+use Rattle.al_yaml_reader.specs.Private.Reads.{run, part_of, state_of}
 use Rattle.al_yaml_reader.specs.Stacks.{depth_in}
 use Rattle.al_yaml_reader.proofs.ReadLemmas.{stops-from}
 use Rattle.al_yaml_reader.proofs.BlockNodeLemmas.{alias-ok, alias-stops, alias-wrong, block-anchor, block-on_key, block-unnamed, content_reader, no-anchor, off-key, off-line, on-key, second-stops}

@@ -1,6 +1,6 @@
 use Rattle.std.proofs.Common.{◌≤◌, map, length, sym, subst, arith}
-use Rattle.al_yaml_reader.specs.Frames.{items, entries}
-use Rattle.al_yaml_reader.specs.FlowFrames.{Opens}
+use Rattle.al_yaml_reader.specs.Private.Frames.{items, entries}
+use Rattle.al_yaml_reader.specs.Private.FlowFrames.{Opens}
 use Rattle.al_yaml.specs.View.{view, entry_view, nodes_of, entries_of}
 use Rattle.al_yaml_reader.proofs.FlowLemmas.{flow_start-solid, collection-sequence, collection-mapping}
 use Rattle.al_yaml_reader.proofs.FlowStepLemmas.{items-first, entries-first}

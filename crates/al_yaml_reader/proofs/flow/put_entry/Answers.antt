@@ -3,7 +3,7 @@ use Rattle.std.proofs.lemmas.Result.{err_from_is_err_and}
 use Rattle.al_scalar.specs.Contract.{read_of}
 use Rattle.al_yaml.specs.Node as tree
 use Rattle.al_yaml.specs.Flow.{after_item}
-use Rattle.al_yaml_reader.specs.Reads.{part_of}
+use Rattle.al_yaml_reader.specs.Private.Reads.{part_of}
 use Rattle.al_yaml.specs.View.{view, entry_view, entries_of}
 use Rattle.al_yaml_reader.specs.declared.faults.ReadError.TheVariants as stop
 use Rattle.al_yaml_reader.proofs.ReadLemmas.{entries_of-more}

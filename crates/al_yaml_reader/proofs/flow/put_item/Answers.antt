@@ -1,7 +1,7 @@
 use Rattle.std.proofs.Common.{length, map, ap, ◌∙◌, arith}
 use Rattle.std.proofs.lemmas.Result.{err_from_is_err_and}
 use Rattle.al_yaml.specs.Flow.{after_item}
-use Rattle.al_yaml_reader.specs.Reads.{part_of}
+use Rattle.al_yaml_reader.specs.Private.Reads.{part_of}
 use Rattle.al_yaml.specs.View.{view, nodes_of}
 use Rattle.al_yaml_reader.specs.declared.faults.ReadError.TheVariants as stop
 use Rattle.al_yaml_reader.proofs.ReadLemmas.{nodes_of-more}

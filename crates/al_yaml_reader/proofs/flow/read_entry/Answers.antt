@@ -1,9 +1,9 @@
 use Rattle.std.proofs.Common.{◌∙◌, suc, ap, arith, map}
 use Rattle.std.proofs.lemmas.Result.{err_from_is_err_and}
 use Rattle.al_scalar.specs.Contract.{read_of}
-use Rattle.al_yaml_reader.specs.Files.{left_at}
-use Rattle.al_yaml_reader.specs.Frames.{answered, open_rest, waiting_rest, value, entries}
-use Rattle.al_yaml_reader.specs.Reads.{part_of, flow_key_of, state_of}
+use Rattle.al_yaml_reader.specs.Private.Files.{left_at}
+use Rattle.al_yaml_reader.specs.Private.Frames.{answered, open_rest, waiting_rest, value, entries}
+use Rattle.al_yaml_reader.specs.Private.Reads.{part_of, flow_key_of, state_of}
 use Rattle.al_yaml.specs.View.{entry_view, entries_of}
 use Rattle.al_yaml_reader.proofs.FlowStepLemmas.{entry-open, entry-closed, entry-stop, entry-key_opens, value-answer, value-stop, put-behind}
 use Rattle.al_yaml_reader.proofs.ReadLemmas.{stops-from}

@@ -1,8 +1,8 @@
 use Rattle.std.proofs.Common.{◌∙◌, suc, ap, arith, map}
 use Rattle.std.proofs.lemmas.Result.{err_from_is_err_and}
-use Rattle.al_yaml_reader.specs.Files.{left_at}
-use Rattle.al_yaml_reader.specs.Frames.{answered, open_rest, waiting_rest, item, items}
-use Rattle.al_yaml_reader.specs.Reads.{part_of, state_of}
+use Rattle.al_yaml_reader.specs.Private.Files.{left_at}
+use Rattle.al_yaml_reader.specs.Private.Frames.{answered, open_rest, waiting_rest, item, items}
+use Rattle.al_yaml_reader.specs.Private.Reads.{part_of, state_of}
 use Rattle.al_yaml.specs.View.{view, nodes_of}
 use Rattle.al_yaml_reader.proofs.FlowStepLemmas.{item-open, item-closed, item-stop, item-answer, put-behind}
 use Rattle.al_yaml_reader.proofs.ReadLemmas.{stops-from}

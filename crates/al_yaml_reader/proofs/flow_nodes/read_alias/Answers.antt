@@ -1,5 +1,5 @@
 use Rattle.std.proofs.lemmas.Result.{err_from_is_err_and}
-use Rattle.al_yaml_reader.specs.Reads.{state_of}
+use Rattle.al_yaml_reader.specs.Private.Reads.{state_of}
 use Rattle.al_yaml.specs.View.{view}
 use Rattle.al_yaml_reader.proofs.AliasLemmas.{alias-stops, alias-part}
 use Rattle.al_yaml_reader.proofs.flow_nodes.read_alias.Goals as goal

@@ -5,8 +5,8 @@ use Rattle.al_scalar.specs.Plain.{flow}
 use Rattle.al_scalar.specs.Scalar.{scalar_at}
 use Rattle.al_yaml.specs.Flow.{flow_content}
 use Rattle.al_yaml.specs.Reading.{listed, start_of}
-use Rattle.al_yaml_reader.specs.Reads.{run, state_of}
-use Rattle.al_yaml_reader.specs.Places.{fault_of}
+use Rattle.al_yaml_reader.specs.Private.Reads.{run, state_of}
+use Rattle.al_yaml_reader.specs.Private.Places.{fault_of}
 use Rattle.al_yaml_reader.proofs.RunLemmas.{run-broken}
 use Rattle.al_yaml_reader.proofs.ReadLemmas.{stops-same, scalar_reading, scalar-stops, scalar-ok}
 use Rattle.al_yaml_reader.proofs.FlowLemmas.{content-fault, content-collection, content-scalar}

@@ -1,7 +1,7 @@
 use Rattle.std.proofs.lemmas.Result.{err_from_is_err_and}
 use Rattle.al_scalar.specs.Contract.{read_of}
-use Rattle.al_yaml_reader.specs.Places.{fault_of, option_lines}
-use Rattle.al_yaml_reader.specs.Reads.{state_of}
+use Rattle.al_yaml_reader.specs.Private.Places.{fault_of, option_lines}
+use Rattle.al_yaml_reader.specs.Private.Reads.{state_of}
 use Rattle.al_yaml_reader.proofs.FlowLemmas.{key-fault, key-property, key-opens, key-unread, key-wrong, key-broken, key-ok}
 use Rattle.al_yaml_reader.proofs.flow_nodes.read_flow_key.Goals as goal
 

@@ -1,7 +1,7 @@
 use Rattle.al_scalar.specs.Places.{lines_at}
 use Rattle.al_yaml.specs.Flow.{flow_content, flow_node_over, flow_property}
-use Rattle.al_yaml_reader.specs.FlowFrames.{flow_slot}
-use Rattle.al_yaml_reader.specs.Reads.{state_of}
+use Rattle.al_yaml_reader.specs.Private.FlowFrames.{flow_slot}
+use Rattle.al_yaml_reader.specs.Private.Reads.{state_of}
 use Rattle.al_yaml_reader.proofs.FlowLemmas.{node-property, node-content}
 use Rattle.al_yaml_reader.proofs.FlowStepLemmas.{finds-same}
 use Rattle.al_yaml_reader.proofs.flow_nodes.read_flow_node.Goals as goal

@@ -2,11 +2,11 @@ use Rattle.std.proofs.Common.{ap, ◌∙◌, Some}
 use Rattle.std.proofs.lemmas.Result.{err_from_is_err_and}
 use Rattle.al_scalar.specs.Places.{lines_at}
 use Rattle.al_yaml.specs.Flow.{CollectionReader, flow_content, flow_property, flow_value}
-use Rattle.al_yaml_reader.specs.FlowFrames.{alias_part, completing, flow_slot, mark_of}
-use Rattle.al_yaml_reader.specs.Frames.{noting}
+use Rattle.al_yaml_reader.specs.Private.FlowFrames.{alias_part, completing, flow_slot, mark_of}
+use Rattle.al_yaml_reader.specs.Private.Frames.{noting}
 use Rattle.al_yaml.specs.Node as tree
 use Rattle.al_yaml.specs.Reading.{Reading, Part, anchored}
-use Rattle.al_yaml_reader.specs.Reads.{run, anchor_at, state_of}
+use Rattle.al_yaml_reader.specs.Private.Reads.{run, anchor_at, state_of}
 use Rattle.al_yaml_reader.proofs.FlowLemmas.{property-unnamed, property-alias, property-anchor}
 use Rattle.al_yaml_reader.proofs.NoteLemmas.{completing-noted, noted-part}
 use Rattle.al_yaml_reader.proofs.ReadLemmas.{stops-bind, stops-same}

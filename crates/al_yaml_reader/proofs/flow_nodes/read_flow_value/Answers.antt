@@ -3,8 +3,8 @@ use Rattle.std.proofs.lemmas.Result.{err_from_is_err_and}
 use Rattle.al_scalar.specs.Contract.{read_of}
 use Rattle.al_scalar.specs.Places.{lines_at}
 use Rattle.al_yaml.specs.Flow.{FlowSlot, empty_node, flow_entry_value, flow_node_over}
-use Rattle.al_yaml_reader.specs.Reads.{run, flow_key_of, state_of}
-use Rattle.al_yaml_reader.specs.Places.{option_lines}
+use Rattle.al_yaml_reader.specs.Private.Reads.{run, flow_key_of, state_of}
+use Rattle.al_yaml_reader.specs.Private.Places.{option_lines}
 use Rattle.al_yaml_reader.proofs.ReadLemmas.{stops-same}
 use Rattle.al_yaml_reader.proofs.FlowLemmas.{value-none, value-open, value-empty, value-node}
 use Rattle.al_yaml_reader.proofs.FlowStepLemmas.{finds-same}

@@ -1,6 +1,6 @@
 use Rattle.std.proofs.lemmas.Result.{err_from_is_err_and}
-use Rattle.al_yaml_reader.specs.Places.{fault_of}
-use Rattle.al_yaml_reader.specs.Reads.{state_of}
+use Rattle.al_yaml_reader.specs.Private.Places.{fault_of}
+use Rattle.al_yaml_reader.specs.Private.Reads.{state_of}
 use Rattle.al_yaml_reader.proofs.BlockLemmas.{line-broken, line-unread, line-wrong, line-ok}
 use Rattle.al_yaml_reader.proofs.scalars.read_line_scalar.Goals as goal
 

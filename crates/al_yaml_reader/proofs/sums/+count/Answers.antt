@@ -1,5 +1,5 @@
 use Rattle.std.proofs.Common.{◌++◌, ◌∙◌, ap, map, sym}
-use Rattle.al_yaml_reader.specs.Sums.{inside, members, uncounted_view, within}
+use Rattle.al_yaml_reader.specs.Private.Sums.{inside, members, uncounted_view, within}
 use Rattle.al_yaml.specs.View.{entry_view, view}
 use Rattle.al_yaml.proofs.ViewLemmas.{entries_again, nodes_again, view_mapping, view_sequence}
 use Rattle.al_yaml_reader.proofs.sums.+count.Goals as goal

@@ -1,5 +1,5 @@
 use Rattle.std.proofs.Common.{◌≡◌, ◌++◌, drop, map}
-use Rattle.al_yaml_reader.specs.Sums.{members, uncounted_view, within}
+use Rattle.al_yaml_reader.specs.Private.Sums.{members, uncounted_view, within}
 use Rattle.al_yaml.specs.View.{entry_view}
 use Rattle.al_yaml_reader.proofs.sums.leave_entries.Given as goal
 

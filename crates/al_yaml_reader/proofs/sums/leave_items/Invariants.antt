@@ -1,5 +1,5 @@
 use Rattle.std.proofs.Common.{◌≡◌, ◌++◌, drop, map}
-use Rattle.al_yaml_reader.specs.Sums.{uncounted_view, within}
+use Rattle.al_yaml_reader.specs.Private.Sums.{uncounted_view, within}
 use Rattle.al_yaml.specs.View.{view}
 use Rattle.al_yaml_reader.proofs.sums.leave_items.Given as goal
 

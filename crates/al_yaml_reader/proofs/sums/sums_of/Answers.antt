@@ -1,7 +1,7 @@
 use Rattle.std.proofs.Common.{◌≡◌, ◌++◌, ◌∷◌, [], ◌∙◌, ap, arith, map, subst, sym}
 use Rattle.std.proofs.lemmas.List.{map-append}
 use Rattle.al_yaml.specs.View.{view}
-use Rattle.al_yaml_reader.specs.Sums.{uncounted_view}
+use Rattle.al_yaml_reader.specs.Private.Sums.{uncounted_view}
 use Rattle.al_yaml_reader.proofs.SumLemmas.{IsCounting, counting-next, fewer-left, nodes_left}
 use Rattle.al_yaml_reader.proofs.sums.sums_of.Goals as goal
 

@@ -1,5 +1,5 @@
 use Rattle.std.proofs.Common.{map}
-use Rattle.al_yaml_reader.specs.Sums.{uncounted_view}
+use Rattle.al_yaml_reader.specs.Private.Sums.{uncounted_view}
 use Rattle.al_yaml.specs.View.{view}
 use Rattle.al_yaml_reader.proofs.SumLemmas.{IsCounting, nodes_left}
 use Rattle.al_yaml_reader.proofs.sums.sums_of.Given as goal

@@ -5,7 +5,7 @@ use Rattle.al_places.specs.Positions.{section_view}
 use Rattle.al_shape.specs.Keys.{key_of}
 use Rattle.al_shape.specs.Values.{member_of}
 use Rattle.al_contexts.specs.Contexts.{job_among}
-use Rattle.al_contexts.specs.JobPositions.{key_at}
+use Rattle.al_contexts.specs.Private.JobPositions.{key_at}
 use Rattle.al_contexts.proofs.job_lists.JobList.job_of.Goals as goal
 
 pub index-requires : goal.index-requires

@@ -3,7 +3,7 @@ use Rattle.al_declarations.proofs.PositionLemmas.{found_nowhere, found_there, fo
 use Rattle.al_shape.specs.Keys.{key_of}
 use Rattle.al_shape.specs.Values.{member_of}
 use Rattle.al_types.specs.Names.{same_name}
-use Rattle.al_contexts.specs.JobPositions.{named_at}
+use Rattle.al_contexts.specs.Private.JobPositions.{named_at}
 use Rattle.al_contexts.proofs.job_lists.JobList.named.Goals as goal
 
 pub index-requires : goal.index-requires

@@ -1,5 +1,5 @@
 use Rattle.std.proofs.Common.{◌∙◌}
-use Rattle.al_rules.specs.Positions.{first_at}
+use Rattle.al_rules.specs.Private.Positions.{first_at}
 use Rattle.al_rules.proofs.needs.Positions.get.Goals as goal
 
 pub returns : goal.returns

@@ -1,6 +1,6 @@
 use Rattle.std.proofs.Common.{◌≡◌, None, rules}
 use Rattle.std.specs.Prelude.{IsSome}
-use Rattle.al_rules.specs.Positions.{first_at}
+use Rattle.al_rules.specs.Private.Positions.{first_at}
 use Rattle.al_rules.proofs.PositionLemmas.{added, kept}
 use Rattle.al_rules.proofs.needs.Positions.insert.Goals as goal
 

@@ -2,7 +2,7 @@ use Rattle.std.specs.BTreeMap.{is_at}
 use Rattle.std.specs.Cmp.Lexicographic.{slice_cmp}
 use Rattle.std.specs.Map.{lookup}
 use Rattle.std.specs.Ordering.{nat_cmp}
-use Rattle.al_rules.specs.Positions.{first_at}
+use Rattle.al_rules.specs.Private.Positions.{first_at}
 use Rattle.al_rules.proofs.needs.Positions.new.Goals as goal
 
 pub returns : goal.returns

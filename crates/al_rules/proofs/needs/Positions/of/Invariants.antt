@@ -1,6 +1,6 @@
 use Rattle.std.proofs.Common.{◌≡◌, map, take}
 use Rattle.al_rules.specs.Needs.{position_from}
-use Rattle.al_rules.specs.Positions.{first_at}
+use Rattle.al_rules.specs.Private.Positions.{first_at}
 use Rattle.al_rules.proofs.needs.Positions.of.Given as goal
 
 abbrev pub invariant-loop-job : goal.invariant-loop-job

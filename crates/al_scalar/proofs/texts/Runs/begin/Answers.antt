@@ -1,5 +1,5 @@
 use Rattle.std.proofs.Common.{◌≡◌, ◌∷◌, ◌∙◌, ◌+◌, ◌≤◌, length, true, ap, subst, sym, refl, arith}
-use Rattle.al_scalar.specs.Segments.{first_run, offset_at, cells_from, IsOrdered}
+use Rattle.al_scalar.specs.Private.Segments.{first_run, offset_at, cells_from, IsOrdered}
 use Rattle.al_scalar.specs.declared.texts.Segment.{Segment}
 use Rattle.al_scalar.proofs.RunLemmas.{equal, first-goes-on, IsOrdered-more, cells_from-run, next-run}
 use Rattle.al_scalar.proofs.texts.Runs.begin.Goals as goal

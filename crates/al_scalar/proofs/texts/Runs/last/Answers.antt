@@ -1,5 +1,5 @@
 use Rattle.std.proofs.Common.{◌≡◌, ◌∙◌, ◌-◌, ◌≤◌, length, get_or, ap, sym, subst, arith}
-use Rattle.al_scalar.specs.Segments.{offset_in, offset_at, AreBehind}
+use Rattle.al_scalar.specs.Private.Segments.{offset_in, offset_at, AreBehind}
 use Rattle.al_scalar.proofs.RunLemmas.{last-offset, last-behind}
 use Rattle.al_scalar.proofs.texts.Runs.last.Goals as goal
 

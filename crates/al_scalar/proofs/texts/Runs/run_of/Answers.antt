@@ -1,5 +1,5 @@
 use Rattle.std.proofs.Common.{◌≡◌, ◌∙◌, ◌+◌, ◌-◌, ◌/◌, ◌<◌, ◌≤◌, ℕ, List, ◌∷◌, length, get_or, take, refl, subst, sym, ap, arith, false}
-use Rattle.al_scalar.specs.Segments.{first_run, offset_after, offset_from, offset_at, IsRising}
+use Rattle.al_scalar.specs.Private.Segments.{first_run, offset_after, offset_from, offset_at, IsRising}
 use Rattle.al_scalar.specs.declared.texts.Segment.{Segment}
 use Rattle.al_scalar.proofs.RunLemmas.{after-behind, search-all, search-below, search-none, search-found}
 use Rattle.al_scalar.proofs.texts.Runs.run_of.Goals as goal

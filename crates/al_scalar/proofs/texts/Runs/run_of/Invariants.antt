@@ -1,5 +1,5 @@
 use Rattle.std.proofs.Common.{◌≡◌, ◌≤◌, ◌<◌, ◌-◌, length, get_or, take, false}
-use Rattle.al_scalar.specs.Segments.{offset_after, offset_from}
+use Rattle.al_scalar.specs.Private.Segments.{offset_after, offset_from}
 use Rattle.al_scalar.proofs.texts.Runs.run_of.Given as goal
 
 abbrev pub invariant-halves : goal.invariant-halves

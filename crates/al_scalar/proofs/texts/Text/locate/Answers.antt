@@ -1,7 +1,7 @@
 use Rattle.std.proofs.Common.{◌≡◌, ◌∙◌, ◌+◌, ◌^◌, ◌<◌, ℕ, List, length, ap, sym, subst, arith}
 use Rattle.al_scalar.specs.Line.{Cell}
 use Rattle.al_scalar.specs.Scalar.{offset_or}
-use Rattle.al_scalar.specs.Segments.{cells_from, offset_in, offset_at, AreInRange}
+use Rattle.al_scalar.specs.Private.Segments.{cells_from, offset_in, offset_at, AreInRange}
 use Rattle.al_scalar.specs.declared.texts.Segment.{Segment}
 use Rattle.al_scalar.proofs.Locating.{length-cells_from, offset_or-cells_from, offset_or-small}
 use Rattle.al_scalar.proofs.texts.Text.locate.Goals as goal

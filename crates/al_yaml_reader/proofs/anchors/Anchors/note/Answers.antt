@@ -1,6 +1,6 @@
 use Rattle.std.proofs.Common.{ap, sym, ◌∙◌}
 use Rattle.al_yaml.specs.Reading.{is_later}
-use Rattle.al_yaml_reader.specs.Reads.{known_of}
+use Rattle.al_yaml_reader.specs.Private.Reads.{known_of}
 use Rattle.al_yaml_reader.proofs.AnchorLemmas.{known-put}
 use Rattle.al_yaml_reader.proofs.anchors.Anchors.note.Goals as goal
 

@@ -2,9 +2,9 @@ use Rattle.std.proofs.Common.{ap, sym, ◌∙◌, Ok}
 use Rattle.std.specs.Prelude.{option_map}
 use Rattle.std.proofs.lemmas.Result.{err_from_is_err_and}
 use Rattle.al_yaml.specs.Content.{anchor_name}
-use Rattle.al_yaml_reader.specs.Files.{left_at}
-use Rattle.al_yaml_reader.specs.Places.{fault_of}
-use Rattle.al_yaml_reader.specs.Reads.{anchor_seen, found_in, known_of, state_of}
+use Rattle.al_yaml_reader.specs.Private.Files.{left_at}
+use Rattle.al_yaml_reader.specs.Private.Places.{fault_of}
+use Rattle.al_yaml_reader.specs.Private.Reads.{anchor_seen, found_in, known_of, state_of}
 use Rattle.al_yaml.specs.View.{view}
 use Rattle.al_yaml_reader.specs.declared.anchors.Anchors.{Anchors}
 use Rattle.al_yaml_reader.proofs.AliasLemmas.{alias-broken, alias-read, alias-unknown}

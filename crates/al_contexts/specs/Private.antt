@@ -1,0 +1,5 @@
+-- Words that only contracts of private functions need: no definition of what the product means stands on them.
+pub mod Environment
+pub mod JobPositions
+pub mod Lookups
+pub mod Standing

@@ -1,0 +1,23 @@
+-- What holds of an environment that stands at a position of a file.
+use Rattle.std.specs.Prelude.{◌≡◌, map, option_map}
+use Rattle.al_types.specs.TypeViews.{ty_of}
+use Rattle.al_yaml.specs.View.{view}
+use Rattle.al_shape.specs.Values.{member_of}
+use Rattle.al_places.specs.Positions.{before, section_view}
+use Rattle.al_contexts.specs.Answered.{known_of}
+use Rattle.al_contexts.specs.Contexts.{jobs_of}
+use Rattle.al_contexts.specs.Private.Environment.{Fixed, OfSection, owned, owned_fields, owner_in, owner_view}
+use Rattle.al_contexts.specs.Private.Lookups.{known_by}
+use Rattle.al_contexts.specs.Objects.{IsIndex}
+use Rattle.al_contexts.specs.declared.env.Env.{Env}
+use Rattle.al_contexts.specs.declared.env.File.{File}
+
+-- its jobs are the file's, as is what is known, its types are those of its section, and `steps` shows as many steps as it has counted
+pub record Stands (f : File) (e : Env) : Type 0 where
+  pub members : map member_of e.jobs.members.items ≡ jobs_of (view f.root.now)
+  pub known : known_by e.outputs ≡ known_of f.known.now
+  pub fixed : Fixed f e.scope.types
+  pub section : OfSection f e.scope.types (section_view e.section)
+  pub owner : option_map owner_view e.owner ≡ owner_in f.kind (view f.root.now) (section_view e.section)
+  pub steps : ty_of e.scope.types.steps ≡ owned (known_of f.known.now) (option_map owner_view e.owner) (before e.seen)
+  pub ids : IsIndex e.ids (owned_fields (known_of f.known.now) (option_map owner_view e.owner) (before e.seen))

@@ -1,0 +1,2 @@
+-- What worked rows are written with: small files and their trees, by hand. No definition stands on them.
+pub mod Chunks

@@ -1,0 +1,13 @@
+use Rattle.std.proofs.Common.{◌++◌, ap, append-nil, map, sym, ◌∙◌}
+use Rattle.al_shape.specs.Table.{rule_view}
+use Rattle.al_places.specs.Places.{place_of}
+use Rattle.al_places.specs.Ways.{step_of}
+use Rattle.al_places.proofs.Endings.{without_expression}
+use Rattle.al_places.proofs.walk.find_scalar.Goals as goal
+
+pub returns-then-not-may_have_expression : goal.returns-then-not-may_have_expression
+returns-then-not-may_have_expression c =
+    let before = map place_of c.args.out.now.items in
+    let none = without_expression c.args.kind (rule_view c.args.rule) c.args.is_item (map step_of c.args.way.now) c.args.scalar.now c.args.span
+    c.may_have_expression.result (cc) c.may_have_expression.ensures in
+    sym (append-nil before) ∙ ap (λ more. before ++ more) (sym none)

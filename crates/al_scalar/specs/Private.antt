@@ -1,0 +1,8 @@
+-- Words that only contracts of private functions need: no definition of what the product means stands on them.
+pub mod BlockRead
+pub mod Double
+pub mod Folding
+pub mod PlainLines
+pub mod Reads
+pub mod Segments
+pub mod Single

@@ -1,0 +1,163 @@
+-- How contracts speak of open flow collections.
+use Rattle.std.specs.Prelude.{◌≡◌, ℕ, suc, ◌+◌, ◌<◌, ◌≤◌, List, [], ◌∷◌, length, map, true, Option, Some, None, option_map, Result, Ok, Err}
+use Rattle.al_text.specs.declared.codes.YamlCode.TheVariants as yaml
+use Rattle.al_scalar.specs.Contract.{read_of}
+use Rattle.al_scalar.specs.Line.{Line, start, begins}
+use Rattle.al_scalar.specs.Places.{lines_at, text_at}
+use Rattle.al_scalar.specs.Scalar.{span}
+use Rattle.al_yaml.specs.Node as tree
+use Rattle.al_yaml.specs.Reading.{Reading, Part, part, anchored, fails, gives, alias, ◌>>=◌}
+use Rattle.al_yaml.specs.Flow.{CollectionReader}
+use Rattle.al_yaml.specs.Flow as flow
+use Rattle.al_yaml.specs.Content as content
+use Rattle.al_yaml_reader.specs.Private.Frames as frames
+use Rattle.al_yaml.specs.Content.{anchor_name, behind_name}
+use Rattle.al_yaml_reader.specs.Private.Frames.{Answer, answered, noting, open_rest, waiting_rest}
+use Rattle.al_yaml_reader.specs.Private.Reads.{State, run, anchor_at, Stops, IsBehind, IsKeyInside, part_of, flow_key_of}
+use Rattle.al_yaml.specs.View.{view, entry_view, nodes_of, entries_of}
+use Rattle.al_yaml_reader.specs.declared.faults.ReadError.{ReadError}
+use Rattle.al_yaml_reader.specs.declared.flow_nodes.Found.{Found}
+use Rattle.al_yaml_reader.specs.declared.flow_nodes.Found.TheVariants as found
+use Rattle.al_yaml_reader.specs.declared.flow_nodes.FoundKey.{FoundKey}
+use Rattle.al_yaml_reader.specs.declared.flow_nodes.FoundKey.TheVariants as found_key
+use Rattle.al_yaml_reader.specs.declared.flow.Open.{Open}
+use Rattle.al_yaml_reader.specs.declared.flow.Open.TheVariants as open_code
+use Rattle.al_yaml_reader.specs.declared.flow.FlowFrame.{FlowFrame}
+use Rattle.al_yaml_reader.specs.declared.flow.After.{After}
+use Rattle.al_yaml_reader.specs.declared.flow.After.TheVariants as after
+use Rattle.al_yaml_reader.specs.declared.flow.FlowStep.{FlowStep}
+use Rattle.al_yaml_reader.specs.declared.flow.FlowStep.TheVariants as step
+
+abbrev pub open_of : Open → frames.Open
+open_of (open_code.Items v) = frames.items (nodes_of (map view v.items))
+open_of (open_code.Entries v waits) = frames.entries (entries_of (map entry_view v.items))
+
+-- what waits for the collection whose bracket stands at an offset
+abbrev pub waiting_of : List ℕ → ℕ → Open → frames.Waiting
+waiting_of bytes at (open_code.Items v) = frames.item (nodes_of (map view v.items))
+waiting_of bytes at (open_code.Entries v (Some read)) = frames.value (entries_of (map entry_view v.items)) (read_of bytes read)
+waiting_of bytes at (open_code.Entries v None) = frames.key at
+
+-- the anchor whose indicator stands at an offset
+abbrev pub mark_at : List ℕ → ℕ → frames.Mark
+mark_at bytes at = record { name = anchor_name (lines_at bytes at); at = at }
+
+abbrev pub mark_of : List ℕ → Option ℕ → Option frames.Mark
+mark_of bytes anchor = option_map (mark_at bytes) anchor
+
+abbrev pub frame_of : List ℕ → FlowFrame → frames.Frame
+frame_of bytes f = record { opening = f.opening; mark = mark_of bytes f.inner.anchor; waiting = waiting_of bytes f.inner.at f.has }
+
+-- the collection that was read from its bracket up to behind its closer
+abbrev pub closed_of : ℕ → frames.Open → ℕ → tree.Node
+closed_of opening (frames.items ns) end = tree.sequence ns (span opening end)
+closed_of opening (frames.entries es) end = tree.mapping es (span opening end)
+
+-- ---- what stands at an offset, whatever reads collections
+
+-- a node that was read whole, or the bracket of a collection
+abbrev pub Finds : List ℕ → (CollectionReader → Reading (Part tree.Node)) → ℕ → State → Result Found ReadError → State → Type 0
+Finds bytes reading depth before (Ok (found.Node p)) after =
+    (c : CollectionReader) → run before (reading c) ≡ Ok (part_of bytes p, after)
+Finds bytes reading depth before (Ok (found.Opens b)) after =
+    (c : CollectionReader) → run before (reading c) ≡ noting (mark_of bytes b.anchor) (run after (c depth (lines_at bytes b.at)))
+Finds bytes reading depth before (Err e) after = (c : CollectionReader) → Stops (reading c) before e
+
+abbrev pub FindsKey : List ℕ → ℕ → (CollectionReader → Reading flow.FlowKey) → ℕ → State → Result FoundKey ReadError → State → Type 0
+FindsKey bytes at reading depth before (Ok (found_key.Key k)) after =
+    (c : CollectionReader) → run before (reading c) ≡ Ok (flow_key_of bytes k, after)
+FindsKey bytes at reading depth before (Ok found_key.Opens) after =
+    (c : CollectionReader) → run before (reading c)
+    ≡ run after (c depth (lines_at bytes at) >>= (λ _. fails yaml.WrongKey at))
+FindsKey bytes at reading depth before (Err e) after = (c : CollectionReader) → Stops (reading c) before e
+
+-- where it stands: a bracket in the file
+pub record IsBracket (bytes : List ℕ) (low at : ℕ) : Type 0 where
+  pub from : low ≤ at
+  pub inside : at < length bytes
+  pub bracket : content.is_flow_start (text_at bytes at) ≡ true
+
+abbrev pub IsFound : List ℕ → ℕ → Found → Type 0
+IsFound bytes from (found.Node p) = IsBehind bytes from p
+IsFound bytes from (found.Opens b) = IsBracket bytes from b.at
+
+-- a collection that was found has no anchor
+abbrev pub IsBare : Found → Type 0
+IsBare (found.Node p) = Unit {0}
+IsBare (found.Opens b) = b.anchor ≡ None
+
+abbrev pub IsFoundKey : List ℕ → ℕ → FoundKey → Type 0
+IsFoundKey bytes at (found_key.Key k) = IsKeyInside bytes at k
+IsFoundKey bytes at found_key.Opens = IsBracket bytes at at
+
+-- ---- a step of an open collection, and what comes behind a node in it
+
+-- reading goes on in a collection behind a comma, or ends with its closer
+abbrev pub GoesOn : List ℕ → ℕ → ℕ → (CollectionReader → ℕ → Answer (Part tree.Node)) → frames.Open → After → State → Type 0
+GoesOn bytes depth opening now has (after.GoesOn at) s =
+    (c : CollectionReader) (turns : ℕ) → now c turns ≡ run s (open_rest c turns depth opening has (lines_at bytes at))
+GoesOn bytes depth opening now has (after.Closes end) s =
+    (c : CollectionReader) (turns : ℕ) → now c turns ≡ Ok (part (closed_of opening has end) end (lines_at bytes end), s)
+
+-- what a collection is from its bracket on, with nothing read in it
+abbrev pub Opens : List ℕ → ℕ → ℕ → State → frames.Open → After → State → Type 0
+Opens bytes depth at s has (after.GoesOn inside) t =
+    (bound : ℕ) → run s (flow.flow_collection (suc bound) depth (lines_at bytes at))
+    ≡ run t (open_rest (flow.flow_collection bound) (suc bound) (depth + 1) at has (lines_at bytes inside))
+Opens bytes depth at s has (after.Closes end) t =
+    (bound : ℕ) → run s (flow.flow_collection (suc bound) depth (lines_at bytes at))
+    ≡ Ok (part (closed_of at has end) end (lines_at bytes end), t)
+
+-- what stands first in it
+abbrev pub IsFirst : List ℕ → ℕ → ℕ → After → Type 0
+IsFirst bytes close at (after.GoesOn inside) = inside ≡ at
+IsFirst bytes close at (after.Closes end) = (end ≡ at + 1) × (true ≡ begins close (text_at bytes at))
+
+abbrev pub Steps : List ℕ → ℕ → ℕ → (CollectionReader → ℕ → Reading (Part tree.Node)) → State → Open
+    → Result FlowStep ReadError → State → Type 0
+Steps bytes depth opening reading before has (Ok (step.Behind next)) s =
+    GoesOn bytes depth opening (λ c turns. run before (reading c (suc turns))) (open_of has) next s
+Steps bytes depth opening reading before has (Ok (step.Opens b)) s =
+    (c : CollectionReader) (turns : ℕ) → run before (reading c (suc turns))
+    ≡ answered (noting (mark_of bytes b.anchor) (run s (c depth (lines_at bytes b.at))))
+    (waiting_rest c turns depth opening (waiting_of bytes b.at has))
+Steps bytes depth opening reading before has (Err e) s = (c : CollectionReader) (turns : ℕ) → Stops (reading c (suc turns)) before e
+
+abbrev pub Resumes : List ℕ → ℕ → ℕ → frames.Waiting → Part tree.Node → State → frames.Open → Result After ReadError → Type 0
+Resumes bytes depth opening w x s has (Ok next) =
+    GoesOn bytes depth opening (λ c turns. run s (waiting_rest c turns depth opening w x)) has next s
+Resumes bytes depth opening w x s has (Err e) = (c : CollectionReader) (turns : ℕ) → Stops (waiting_rest c turns depth opening w x) s e
+
+-- ---- where they lie
+
+-- the offset from which on is read, or behind the closer
+abbrev pub after_at : After → ℕ
+after_at (after.GoesOn at) = at
+after_at (after.Closes end) = end
+
+-- what stands behind a node that is in its collection lies behind an offset
+abbrev pub IsPut : ℕ → ℕ → After → Type 0
+IsPut size from next = (from < after_at next) × (after_at next ≤ size)
+
+abbrev pub IsStep : List ℕ → ℕ → FlowStep → Type 0
+IsStep bytes at (step.Behind next) = IsPut (length bytes) at next
+IsStep bytes at (step.Opens b) = IsBracket bytes at b.at
+
+-- the collections that are open begin in the file
+abbrev pub AreOpen : ℕ → List FlowFrame → Type 0
+AreOpen size [] = Unit {0}
+AreOpen size (f ∷ fs) = (f.opening < size) × (f.inner.at < size) × AreOpen size fs
+
+-- ---- aliases, and where an empty node would stand
+
+abbrev pub flow_slot : ℕ → Option ℕ → flow.FlowSlot
+flow_slot opening empty = record { opening = opening; empty = empty }
+
+-- what an alias that begins the lines stands for, and where it ends
+abbrev pub alias_part : ℕ → List Line → Reading (Part tree.Node)
+alias_part depth ls = alias (anchor_name ls) (start ls) depth >>= (λ n. gives (part n (start (behind_name ls)) (behind_name ls)))
+
+-- a node that is read, and then is complete with the anchor whose indicator stands at an offset, if there is one
+abbrev pub completing : List ℕ → Option ℕ → Reading (Part tree.Node) → Reading (Part tree.Node)
+completing bytes None r = r
+completing bytes (Some at) r = r >>= (λ x. anchored (anchor_at bytes at x.value) x)

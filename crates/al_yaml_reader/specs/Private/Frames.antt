@@ -1,0 +1,74 @@
+-- What a stack of open collections stands for: what is still to be read behind the node that is read now.
+use Rattle.std.specs.Prelude.{ℕ, List, Option, Some, None, Result, Ok, Err}
+use Rattle.al_text.specs.declared.codes.YamlCode.TheVariants as yaml
+use Rattle.al_scalar.specs.Line.{Line}
+use Rattle.al_scalar.specs.Scalar.{ScalarRead}
+use Rattle.al_scalar.specs.Taken.{Fault}
+use Rattle.al_yaml.specs.Node.{Node, Nodes, Entries, sequence, mapping, with_item, with_entry, scalar_node}
+use Rattle.al_yaml.specs.Reading.{Anchor, Reading, fails, Part, spanned}
+use Rattle.al_yaml.specs.Flow.{CollectionReader, flow_items, flow_items_rest, flow_entries, flow_entries_rest, flow_node_over}
+use Rattle.al_yaml_reader.specs.Private.Reads.{State, noted, run}
+
+-- what reading a node ends with, under the limits
+abbrev pub Answer : Type 0 → Type 0
+Answer A = Result (A × State) Fault
+
+-- what is read behind it, if there was no fault
+abbrev pub answered : {A B : Type 0} → Answer A → (A → Reading B) → Answer B
+answered (Err e) f = Err e
+answered (Ok p) f = run p.1 (f p.0)
+
+-- What was read of an open flow collection, up to an item, an entry or the closer.
+pub data Open : Type 0 where
+  items : Nodes → Open
+  entries : Entries → Open
+
+-- What a flow collection waits with while a node in it is read: the items before it; or the entries before it and the
+-- key whose value it is. A collection that is read as a key stands at a place.
+pub data Waiting : Type 0 where
+  item : Nodes → Waiting
+  value : Entries → ScalarRead → Waiting
+  key : ℕ → Waiting
+
+-- An anchor that was read, before its node.
+pub record Mark : Type 0 where
+  pub name : List ℕ
+  pub at : ℕ
+
+abbrev pub anchor_with : Mark → Node → Anchor
+anchor_with m n = record { name = m.name; at = m.at; node = n }
+
+-- a node that was read is complete with its anchor, if it has one
+abbrev pub noting : Option Mark → Answer (Part Node) → Answer (Part Node)
+noting None o = o
+noting (Some m) (Err e) = Err e
+noting (Some m) (Ok p) = Ok (p.0, noted (anchor_with m p.0.value) p.1)
+
+-- With its bracket's place, and the anchor of the node that it waits for.
+pub record Frame : Type 0 where
+  pub opening : ℕ
+  pub mark : Option Mark
+  pub waiting : Waiting
+
+-- An open collection from here on; collection reads what begins with a bracket in it, turns bounds what is still read.
+abbrev pub open_rest : CollectionReader → ℕ → ℕ → ℕ → Open → List Line → Reading (Part Node)
+open_rest collection turns depth opening (items done) ls =
+    spanned sequence opening (flow_items (flow_node_over collection) turns opening depth done ls)
+open_rest collection turns depth opening (entries done) ls =
+    spanned mapping opening (flow_entries (flow_node_over collection) collection turns opening depth done ls)
+
+-- the same from behind the node that it waited for
+abbrev pub waiting_rest : CollectionReader → ℕ → ℕ → ℕ → Waiting → Part Node → Reading (Part Node)
+waiting_rest collection turns depth opening (item done) x =
+    spanned sequence opening
+    (flow_items_rest (λ left. flow_items (flow_node_over collection) turns opening depth (with_item done x.value) left) opening
+    (with_item done x.value) x.left)
+waiting_rest collection turns depth opening (value done k) x =
+    spanned mapping opening
+    (flow_entries_rest (λ left. flow_entries (flow_node_over collection) collection turns opening depth
+    (with_entry done (scalar_node k) x.value) left) opening
+    (with_entry done (scalar_node k) x.value) x.left)
+waiting_rest collection turns depth opening (key at) x = fails yaml.WrongKey at
+
+abbrev pub frame_rest : CollectionReader → ℕ → ℕ → Frame → Part Node → Reading (Part Node)
+frame_rest collection turns depth f x = waiting_rest collection turns depth f.opening f.waiting x
