@@ -28,7 +28,11 @@ use Rattle.al_uses.proofs.Inside.{AtLies, calls_lie, inside_kept}
 use Rattle.al_text.proofs.Elements.{each_both, each_either, each_of}
 use Rattle.al_uses.proofs.Parts.{entries_kept}
 use Rattle.al_calls.specs.Answers.{Answered, Typing, answered, answered_faults}
-use Rattle.al_calls.specs.CallFaults.{Given, Names, absent_faults, against, answer_faults, at_uses, call_faults, called, caller_of, extra_input, extra_inputs, extra_secret, extra_secrets, fault, form_faults, given_names, given_secrets, input_faults, input_names, is_callable, is_inherit, is_input, is_missing, is_missing_secret, is_right, is_taken, missing_input, missing_inputs, missing_secret, missing_secrets, secret_faults, secret_names, that_uses, type_faults, values_of, wrong_input, wrong_inputs}
+use Rattle.al_calls.specs.CallFaults.{Given, Names, absent_faults, against, answer_faults, at_uses, call_faults, called, caller_of}
+use Rattle.al_calls.specs.CallFaults.{extra_input, extra_inputs, extra_secret, extra_secrets, fault, form_faults, given_names}
+use Rattle.al_calls.specs.CallFaults.{given_secrets, input_faults, input_names, is_callable, is_inherit, is_input, is_missing}
+use Rattle.al_calls.specs.CallFaults.{is_missing_secret, is_right, is_taken, missing_input, missing_inputs, missing_secret, missing_secrets}
+use Rattle.al_calls.specs.CallFaults.{secret_faults, secret_names, that_uses, type_faults, values_of, wrong_input, wrong_inputs}
 use Rattle.al_calls.specs.Laws.{CallFaultsLie}
 
 module _ (size : ℕ) where

@@ -3,7 +3,7 @@
 
 ghost use Rattle.std.specs.Prelude.{◌≡◌, ◌++◌, map, IfOk, OnOk};
 ghost use Rattle.al_calls.specs.CallFaults as faults;
-ghost use Rattle.al_declarations.specs.NameSets.{holds};
+ghost use Rattle.al_declarations.specs.Private.NameSets.{holds};
 ghost use Rattle.al_shape.specs.Values.{member_of};
 ghost use Rattle.al_uses.specs.Private.CallViews.{call_of};
 ghost use Rattle.al_text.specs.Growth.{BeginsWith};

@@ -1,7 +1,7 @@
 //! The names of what is given and of what a file shows, as sets.
 ghost use Rattle.std.specs.Prelude.{◌≡◌, map, IfOk};
 ghost use Rattle.al_calls.specs.CallFaults as faults;
-ghost use Rattle.al_declarations.specs.NameSets.{holds};
+ghost use Rattle.al_declarations.specs.Private.NameSets.{holds};
 ghost use Rattle.al_shape.specs.Values.{member_of};
 
 use al_declarations::NameSet;

@@ -1,5 +1,5 @@
 -- What reading a file gave tells what it calls and what it shows.
-use Rattle.std.proofs.Common.{◌≡◌, ◌<◌, ℕ, List, [], ◌∷◌, ◌++◌, length, map, get_or, Option, Some, slice_get, ap, sym, subst, arith, ◌∙◌}
+use Rattle.std.proofs.Common.{◌≡◌, ◌<◌, ℕ, List, [], ◌∷◌, ◌++◌, length, map, get_or, Some, slice_get, ap, sym, subst, arith, ◌∙◌}
 use Rattle.std.specs.Prelude.{Result, Ok, Err, IsUtf8}
 use Rattle.std.specs.List.{AllByRecursion, cons_option}
 use Rattle.std.specs.Option.{option_map}
@@ -51,7 +51,8 @@ texts_of_calls kind root calls texts is =
     all_mapped call_of P Q (λ y p. p.0) calls (subst (AllByRecursion P) (sym is) (calls_have_texts kind root texts))
 
 -- the site of a call with this number is kept
-pub site_kept : (file : ReadFile) (kind : FileKind) (bytes : List ℕ) (call : ℕ) (found : LocalCall) → IsRead file kind bytes → found ≡ get_or file.calls.items call found → call < length file.calls.items →
+pub site_kept : (file : ReadFile) (kind : FileKind) (bytes : List ℕ) (call : ℕ) (found : LocalCall) → IsRead file kind bytes → found
+    ≡ get_or file.calls.items call found → call < length file.calls.items →
     slice_get (file_sites kind bytes) call ≡ Some (kept_site found)
 site_kept file kind bytes call found is read lt =
     ap (λ l. slice_get l call) (sym is.sites) ∙ slice_get-map kept_site file.calls.items call ∙ ap (option_map kept_site) (slice_get-get_or file.calls.items call found lt ∙ ap Some (sym read))

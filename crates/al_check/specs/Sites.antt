@@ -1,5 +1,5 @@
 -- Where a file calls files of the folder, and what is said where such a call leads back to it.
-use Rattle.std.specs.Prelude.{ℕ, List, [], Option, Result, Ok, Err, map, option_map, string_bytes}
+use Rattle.std.specs.Prelude.{ℕ, List, [], Option, Result, Ok, Err, option_map, string_bytes}
 use Rattle.std.specs.List.{filter_map}
 use Rattle.al_text.specs.declared.codes.CallCode.TheVariants.{LeadsBack}
 use Rattle.al_text.specs.declared.codes.Code.TheVariants as code

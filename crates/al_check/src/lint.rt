@@ -1,10 +1,5 @@
 //! The linter, as a session of a folder asks for it.
-ghost use Rattle.std.specs.Prelude.{◌≡◌, ◌≤◌, List, ℕ, length, map, IfOk, Option};
-ghost use Rattle.std.specs.List.{AllByRecursion};
-ghost use Rattle.std.specs.List.Sorted.{IsStrictlySortedBy};
-ghost use Rattle.al_text.specs.FaultLists.{fault_cmp};
-ghost use Rattle.al_text.specs.Spans.{LiesIn};
-ghost use Rattle.al_text.specs.Counted.{raised};
+ghost use Rattle.std.specs.Prelude.{◌≡◌, Option};
 ghost use Rattle.al_tree.specs.Kinds.{file_kind};
 ghost use Rattle.al_check.specs.Linting.{linting};
 ghost use Rattle.al_check.specs.Reading.{IsRead};

@@ -2,7 +2,7 @@
 #![tactic(auto, using(al_text::proofs::Growing::growth))]
 
 ghost use Rattle.std.specs.List.{flat_map};
-ghost use Rattle.std.specs.Prelude.{true, ◌≡◌, ◌++◌, ◌<◌, ◌≤◌, ◌-◌, ◌^◌, length, map, All, OnOk};
+ghost use Rattle.std.specs.Prelude.{true, ◌≡◌, ◌++◌, ◌<◌, ◌≤◌, ◌^◌, length, map, All, OnOk};
 ghost use Rattle.al_scalar.specs.Scalar.{offset_of, text_of};
 ghost use Rattle.al_grammar.specs.View.{tree_of};
 ghost use Rattle.al_types.specs.Scopes.{scope_of};

@@ -5,7 +5,8 @@ use Rattle.std.proofs.Math.Seq.{take-add}
 use Rattle.std.proofs.lemmas.List.Elements.{filter_map-append}
 use Rattle.std.specs.List.{filter_map, enumerate_from}
 use Rattle.al_types.specs.Types.{Fields, FieldThen, NoField}
-use Rattle.al_types.specs.TypeViews.{fields_of, fields_of_type}
+use Rattle.al_types.specs.TypeViews.{fields_of}
+use Rattle.al_types.specs.Private.TypeParts.{fields_of_type}
 use Rattle.al_yaml.specs.Node.{Node}
 use Rattle.al_places.specs.Positions.{Seen, before}
 use Rattle.al_contexts.specs.Contexts.{Known, step_field, steps_fields, steps_shown, steps_type}

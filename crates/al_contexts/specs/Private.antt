@@ -3,3 +3,4 @@ pub mod Environment
 pub mod JobPositions
 pub mod Lookups
 pub mod Standing
+pub mod Indexes

@@ -8,13 +8,12 @@ ghost use Rattle.al_places.specs.Positions.{before, position_view, section_view,
 ghost use Rattle.al_shape.specs.Values.{member_of};
 ghost use Rattle.al_contexts.specs.Answered.{known_of};
 ghost use Rattle.al_tree.specs.declared.files.FileKind.TheVariants as kind;
-ghost use Rattle.al_contexts.specs.Contexts.{Known, jobs_of, needs_type_of, type_at, type_in_job};
+ghost use Rattle.al_contexts.specs.Contexts.{Known, needs_type_of, type_at, type_in_job};
 ghost use Rattle.al_contexts.specs.Private.Environment as environment;
 ghost use Rattle.al_contexts.specs.Fixed.{strategy_type};
 ghost use Rattle.al_contexts.specs.Matrix as specs;
-ghost use Rattle.al_contexts.specs.Private.Environment.{Fixed, OfSection, owned, owned_fields, owner_in, owner_view};
+ghost use Rattle.al_contexts.specs.Private.Environment.{owned, owner_view};
 ghost use Rattle.al_contexts.specs.Private.Lookups.{known_by};
-ghost use Rattle.al_contexts.specs.Objects.{IsIndex};
 ghost use Rattle.al_contexts.specs.Scopes.{scope_at};
 ghost use Rattle.al_contexts.specs.Private.Standing.{Stands};
 ghost use Rattle.al_places.specs.Places.{place_of};
@@ -89,24 +88,9 @@ fn is_same_section(a: Section<'_>, b: Section<'_>) -> bool
 
 /// Goes on to what is seen in the same section.
 fn see<'a>(alloc: Global, file: File<'a>, env: &mut Env<'a>, seen: Seen) -> Result<(), AllocError>
-    requires fixed { Fixed file (env.old).scope.types }
-    requires section { OfSection file (env.old).scope.types (section_view (env.old).section) }
-    requires owner { option_map owner_view (env.old).owner ≡ owner_in file.kind (view file.root.now) (section_view (env.old).section) }
-    requires steps { ty_of (env.old).scope.types.steps ≡ owned (known_of file.known.now) (option_map owner_view (env.old).owner)
-        (before (env.old).seen) }
-    requires ids { IsIndex (env.old).ids (owned_fields (known_of file.known.now) (option_map owner_view (env.old).owner)
-        (before (env.old).seen)) }
-    requires known { known_by (env.old).outputs ≡ known_of file.known.now }
-    ensures fixed { OnOk result (Fixed file.entry (env.new).scope.types) }
-    ensures section { OnOk result (OfSection file.entry (env.new).scope.types (section_view (env.new).section)) }
-    ensures same { OnOk result ((section_view (env.new).section) ≡ (section_view (env.old).section)) }
-    ensures members { OnOk result (map member_of (env.new).jobs.members.items ≡ map member_of (env.old).jobs.members.items) }
-    ensures owner { OnOk result (option_map owner_view (env.new).owner ≡ option_map owner_view (env.old).owner) }
-    ensures steps { OnOk result (ty_of (env.new).scope.types.steps ≡ owned (known_of (file.entry).known.now) (option_map owner_view
-        (env.new).owner) (before (env.new).seen)) }
-    ensures ids { OnOk result (IsIndex (env.new).ids (owned_fields (known_of (file.entry).known.now) (option_map owner_view
-        (env.new).owner) (before (env.new).seen))) }
-    ensures known { OnOk result (known_by (env.new).outputs ≡ known_of (file.entry).known.now) }
+    requires { Stands file env.old }
+    ensures stands { OnOk result (Stands file.entry env.new) }
+    ensures same { OnOk result (section_view (env.new).section ≡ section_view (env.old).section) }
     ensures seen { OnOk result (ty_of (env.new).scope.types.steps ≡ owned (known_of (file.entry).known.now) (option_map owner_view
         (env.new).owner) (seen_view seen)) }
 {
@@ -223,21 +207,9 @@ fn enter_workflow<'a>(
     section: Section<'a>,
 ) -> Result<(), AllocError>
     requires kind { file.kind ≡ kind.Workflow }
-    requires known { known_by (env.old).outputs ≡ known_of file.known.now }
-    requires members { map member_of (env.old).jobs.members.items ≡ jobs_of (view file.root.now) }
-    requires fixed { Fixed file (env.old).scope.types }
-    requires section { OfSection file (env.old).scope.types (section_view (env.old).section) }
-    ensures members { OnOk result (map member_of (env.new).jobs.members.items ≡ jobs_of (view (file.entry).root.now)) }
-    ensures fixed { OnOk result (Fixed file.entry (env.new).scope.types) }
-    ensures section { OnOk result (OfSection file.entry (env.new).scope.types (section_view (env.new).section)) }
+    requires stands { Stands file env.old }
+    ensures stands { OnOk result (Stands file.entry env.new) }
     ensures same { OnOk result (section_view (env.new).section ≡ section_view section.entry) }
-    ensures owner { OnOk result (option_map owner_view (env.new).owner
-        ≡ owner_in (file.entry).kind (view (file.entry).root.now) (section_view section.entry)) }
-    ensures steps { OnOk result (ty_of (env.new).scope.types.steps ≡ owned (known_of (file.entry).known.now) (option_map owner_view
-        (env.new).owner) (before (env.new).seen)) }
-    ensures ids { OnOk result (IsIndex (env.new).ids (owned_fields (known_of (file.entry).known.now) (option_map owner_view
-        (env.new).owner) (before (env.new).seen))) }
-    ensures known { OnOk result (known_by (env.new).outputs ≡ known_of (file.entry).known.now) }
 {
     let job = env.jobs.job_of(section);
     let strategy = strategy_at(alloc, job)?;
@@ -265,26 +237,9 @@ fn enter<'a>(
     env: &mut Env<'a>,
     section: Section<'a>,
 ) -> Result<(), AllocError>
-    requires members { map member_of (env.old).jobs.members.items ≡ jobs_of (view file.root.now) }
-    requires fixed { Fixed file (env.old).scope.types }
-    requires section { OfSection file (env.old).scope.types (section_view (env.old).section) }
-    requires owner { option_map owner_view (env.old).owner ≡ owner_in file.kind (view file.root.now) (section_view (env.old).section) }
-    requires steps { ty_of (env.old).scope.types.steps ≡ owned (known_of file.known.now) (option_map owner_view (env.old).owner)
-        (before (env.old).seen) }
-    requires ids { IsIndex (env.old).ids (owned_fields (known_of file.known.now) (option_map owner_view (env.old).owner)
-        (before (env.old).seen)) }
-    requires known { known_by (env.old).outputs ≡ known_of file.known.now }
-    ensures members { OnOk result (map member_of (env.new).jobs.members.items ≡ jobs_of (view (file.entry).root.now)) }
-    ensures fixed { OnOk result (Fixed file.entry (env.new).scope.types) }
-    ensures section { OnOk result (OfSection file.entry (env.new).scope.types (section_view (env.new).section)) }
+    requires { Stands file env.old }
+    ensures stands { OnOk result (Stands file.entry env.new) }
     ensures same { OnOk result (section_view (env.new).section ≡ section_view section.entry) }
-    ensures owner { OnOk result (option_map owner_view (env.new).owner
-        ≡ owner_in (file.entry).kind (view (file.entry).root.now) (section_view (env.new).section)) }
-    ensures steps { OnOk result (ty_of (env.new).scope.types.steps ≡ owned (known_of (file.entry).known.now) (option_map owner_view
-        (env.new).owner) (before (env.new).seen)) }
-    ensures ids { OnOk result (IsIndex (env.new).ids (owned_fields (known_of (file.entry).known.now) (option_map owner_view
-        (env.new).owner) (before (env.new).seen))) }
-    ensures known { OnOk result (known_by (env.new).outputs ≡ known_of (file.entry).known.now) }
 {
     if is_same_section(env.section, section) {
         return Ok(());
@@ -305,25 +260,8 @@ fn go<'a>(
     env: &mut Env<'a>,
     position: Position<'a>,
 ) -> Result<(), AllocError>
-    requires members { map member_of (env.old).jobs.members.items ≡ jobs_of (view file.root.now) }
-    requires fixed { Fixed file (env.old).scope.types }
-    requires section { OfSection file (env.old).scope.types (section_view (env.old).section) }
-    requires owner { option_map owner_view (env.old).owner ≡ owner_in file.kind (view file.root.now) (section_view (env.old).section) }
-    requires steps { ty_of (env.old).scope.types.steps ≡ owned (known_of file.known.now) (option_map owner_view (env.old).owner)
-        (before (env.old).seen) }
-    requires ids { IsIndex (env.old).ids (owned_fields (known_of file.known.now) (option_map owner_view (env.old).owner)
-        (before (env.old).seen)) }
-    requires known { known_by (env.old).outputs ≡ known_of file.known.now }
-    ensures members { OnOk result (map member_of (env.new).jobs.members.items ≡ jobs_of (view (file.entry).root.now)) }
-    ensures fixed { OnOk result (Fixed file.entry (env.new).scope.types) }
-    ensures section { OnOk result (OfSection file.entry (env.new).scope.types (section_view (env.new).section)) }
-    ensures owner { OnOk result (option_map owner_view (env.new).owner
-        ≡ owner_in (file.entry).kind (view (file.entry).root.now) (section_view (env.new).section)) }
-    ensures steps { OnOk result (ty_of (env.new).scope.types.steps ≡ owned (known_of (file.entry).known.now) (option_map owner_view
-        (env.new).owner) (before (env.new).seen)) }
-    ensures ids { OnOk result (IsIndex (env.new).ids (owned_fields (known_of (file.entry).known.now) (option_map owner_view
-        (env.new).owner) (before (env.new).seen))) }
-    ensures known { OnOk result (known_by (env.new).outputs ≡ known_of (file.entry).known.now) }
+    requires { Stands file env.old }
+    ensures stands { OnOk result (Stands file.entry env.new) }
     ensures types { OnOk result ((c : Context) → type_of_context (env.new).scope.types c
         ≡ type_at (file.entry).kind (known_of (file.entry).known.now) (view (file.entry).root.now) (position_view position.entry) c) }
 {

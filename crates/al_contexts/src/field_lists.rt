@@ -1,7 +1,9 @@
 //! Fields in order, found by their names.
 ghost use Rattle.std.specs.Prelude.{◌≡◌, [], IfOk, OnOk, map};
-ghost use Rattle.al_types.specs.TypeViews.{field_of, ty_of};
-ghost use Rattle.al_contexts.specs.Objects.{IsIndex, put, put_all, put_new, strictly};
+ghost use Rattle.al_types.specs.TypeViews.{ty_of};
+ghost use Rattle.al_types.specs.Private.TypeParts.{field_of};
+ghost use Rattle.al_contexts.specs.Objects.{put, put_all, put_new, strictly};
+ghost use Rattle.al_contexts.specs.Private.Indexes.{IsIndex};
 
 use crate::objects::strict_of;
 use al_declarations::NamePositions;

@@ -3,7 +3,8 @@ ghost use Rattle.std.specs.Prelude.{◌≡◌, IfOk, map};
 ghost use Rattle.al_contexts.specs.Private.Environment.{inputs_in};
 ghost use Rattle.al_contexts.specs.Inputs as inputs;
 ghost use Rattle.al_shape.specs.Values.{member_of};
-ghost use Rattle.al_types.specs.TypeViews.{field_of, ty_of};
+ghost use Rattle.al_types.specs.TypeViews.{ty_of};
+ghost use Rattle.al_types.specs.Private.TypeParts.{field_of};
 ghost use Rattle.al_yaml.specs.View.{view};
 
 use crate::field_lists::FieldList;

@@ -1,6 +1,6 @@
 //! The jobs of a workflow, found by their keys.
 ghost use Rattle.std.specs.Prelude.{◌≡◌, IfOk, find, map, option_map};
-ghost use Rattle.al_declarations.specs.Positions.{name_position, text_position};
+ghost use Rattle.al_declarations.specs.Private.Positions.{name_position, text_position};
 ghost use Rattle.al_places.specs.Positions.{section_view};
 ghost use Rattle.al_shape.specs.Keys.{key_of};
 ghost use Rattle.al_shape.specs.Values.{member_of};

@@ -1,7 +1,8 @@
 //! What a job shows to others, and the types of `jobs` and `needs`.
 ghost use Rattle.std.specs.Prelude.{◌≡◌, IfOk, OnOk, map};
 ghost use Rattle.std.specs.Option.{option_copied, option_to_list};
-ghost use Rattle.al_types.specs.TypeViews.{field_of, ty_of};
+ghost use Rattle.al_types.specs.TypeViews.{ty_of};
+ghost use Rattle.al_types.specs.Private.TypeParts.{field_of};
 ghost use Rattle.al_shape.specs.Values.{entries_at, member_of, scalar_node_of};
 ghost use Rattle.al_yaml.specs.View.{view};
 ghost use Rattle.al_contexts.specs.Private.Lookups.{known_by};

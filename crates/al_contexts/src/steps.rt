@@ -1,14 +1,16 @@
 //! The type of `steps`.
 ghost use Rattle.std.specs.Prelude.{◌≡◌, ◌+◌, ◌<◌, ◌≤◌, ◌^◌, [], IfOk, OnOk, length, map, take, Some};
 ghost use Rattle.std.specs.Option.{option_copied, option_to_list};
-ghost use Rattle.al_types.specs.TypeViews.{field_of, fields_of, fields_of_type, ty_of};
+ghost use Rattle.al_types.specs.TypeViews.{fields_of, ty_of};
+ghost use Rattle.al_types.specs.Private.TypeParts.{field_of, fields_of_type};
 ghost use Rattle.al_yaml.specs.View.{view};
 ghost use Rattle.al_places.specs.Positions.{before, seen_view};
 ghost use Rattle.al_contexts.specs.Contexts as contexts;
 ghost use Rattle.al_contexts.specs.Contexts.{seen_of, step_field, steps_fields};
 ghost use Rattle.al_contexts.specs.Private.Environment.{owned, owned_fields, owner_view};
 ghost use Rattle.al_contexts.specs.Private.Lookups.{known_by};
-ghost use Rattle.al_contexts.specs.Objects.{IsIndex, put_all, put_new, strictly};
+ghost use Rattle.al_contexts.specs.Objects.{put_all, put_new, strictly};
+ghost use Rattle.al_contexts.specs.Private.Indexes.{IsIndex};
 
 use crate::env::Owner;
 use crate::field_lists::FieldList;

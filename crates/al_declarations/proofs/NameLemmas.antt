@@ -14,7 +14,7 @@ use Rattle.al_shape.proofs.KeyLemmas.{or_comm}
 use Rattle.al_types.specs.Names.{same_name}
 use Rattle.al_types.proofs.SameName.{same_sound, same_complete, not_true}
 use Rattle.al_declarations.specs.Declarations.{named_among}
-use Rattle.al_declarations.specs.NameSets.{and_name, folded, holds}
+use Rattle.al_declarations.specs.Private.NameSets.{and_name, folded, holds}
 use Rattle.al_declarations.specs.declared.name_sets.NameSet.{NameSet}
 
 or_assoc : (a b c : Bool) → ((a || b) || c) ≡ (a || (b || c))

@@ -13,8 +13,9 @@ use Rattle.std.proofs.lemmas.List.{length-map, length-take, map-append, take_mor
 use Rattle.std.proofs.lemmas.Map.Text.{is_eq-slice_cmp}
 use Rattle.std.specs.Option.{option_or}
 use Rattle.al_types.specs.Names.{same_name}
-use Rattle.al_declarations.specs.NameSets.{folded}
-use Rattle.al_declarations.specs.Positions.{and_name_at, and_text_at, first_at, name_position, text_position}
+use Rattle.al_declarations.specs.Private.NameSets.{folded}
+use Rattle.al_declarations.specs.Positions.{first_at}
+use Rattle.al_declarations.specs.Private.Positions.{and_name_at, and_text_at, name_position, text_position}
 use Rattle.al_declarations.specs.declared.positions.NamePositions.{NamePositions}
 use Rattle.al_declarations.specs.declared.positions.TextPositions.{TextPositions}
 use Rattle.al_declarations.proofs.NameLemmas.{same_folded}

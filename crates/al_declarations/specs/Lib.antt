@@ -1,4 +1,4 @@
 pub mod Declarations
 pub mod Inputs
-pub mod NameSets
 pub mod Positions
+pub mod Private

@@ -2,7 +2,7 @@
 
 ghost use Rattle.std.specs.Prelude.{◌≡◌, [], not, IfOk, OnErr, OnOk};
 ghost use Rattle.al_declarations.specs.Declarations.{named_among};
-ghost use Rattle.al_declarations.specs.NameSets.{and_name, folded, holds};
+ghost use Rattle.al_declarations.specs.Private.NameSets.{and_name, folded, holds};
 
 use std::alloc::{AllocError, Global};
 use std::collections::BTreeSet;

@@ -1,6 +1,6 @@
 //! Where texts and names first stand in a list.
 ghost use Rattle.std.specs.Prelude.{◌≡◌, None, is_none, IfOk, OnErr, OnOk};
-ghost use Rattle.al_declarations.specs.Positions.{and_name_at, and_text_at, name_position, text_position};
+ghost use Rattle.al_declarations.specs.Private.Positions.{and_name_at, and_text_at, name_position, text_position};
 
 use crate::name_sets::in_lower_case;
 use std::alloc::{AllocError, Global};

@@ -14,11 +14,13 @@ use Rattle.al_scalar.specs.Scalar.{Scalar, text_of}
 use Rattle.al_yaml.specs.Node.{Node}
 use Rattle.al_shape.specs.Names.{among, is_event}
 use Rattle.al_shape.specs.Values.{entries_at, entries_in, items_in, text_at, texts_at, texts_in}
-use Rattle.al_events.specs.Events.{activity_faults, cron_faults, event_faults, filter_faults, filters_faults, input_faults, inputs_faults, name_faults, named_faults, on_faults, pattern_faults, schedule_faults, type_faults}
+use Rattle.al_events.specs.Events.{activity_faults, cron_faults, event_faults, filter_faults, filters_faults, input_faults, inputs_faults}
+use Rattle.al_events.specs.Events.{name_faults, named_faults, on_faults, pattern_faults, schedule_faults, type_faults}
 use Rattle.al_events.specs.Names.{activities_of, call_types, dispatch_types}
 use Rattle.al_reports.specs.Words.{Named, of_key, of_scalar, unless_among}
 use Rattle.al_text.proofs.Elements.{each_of, map_or}
-use Rattle.al_reports.proofs.Inside.{Are, Fine, Lies, NameLies, Pair, Text, about_lies, both, entries_at_fine, entries_in_fine, items_in_fine, or_lies, span_lies, text_at_fine, texts_at_fine, texts_in_fine, unless_lies}
+use Rattle.al_reports.proofs.Inside.{Are, Fine, Lies, NameLies, Pair, Text, about_lies, both, entries_at_fine, entries_in_fine}
+use Rattle.al_reports.proofs.Inside.{items_in_fine, or_lies, span_lies, text_at_fine, texts_at_fine, texts_in_fine, unless_lies}
 
 module _ (size : ℕ) where
   activity : (types : List (List ℕ)) (s : Scalar × Span) → Text size s → Are size (activity_faults types s)

@@ -18,7 +18,7 @@ use Rattle.al_text.specs.declared.faults.Span.{Span}
 use Rattle.al_text.specs.contracts.faults.SpanPartialEq.TheImpl as span
 use Rattle.al_scalar.specs.Scalar.{Scalar, text_of}
 use Rattle.al_types.specs.Types.{Type', Any, Null, Number, Bool', String, ArrayOf, ObjectOf}
-use Rattle.al_types.specs.TypeViews.{form_of}
+use Rattle.al_types.specs.Private.TypeParts.{form_of}
 use Rattle.al_types.specs.declared.types.Form as forms
 use Rattle.al_types.specs.declared.types.Form.TheVariants as form
 use Rattle.al_types.specs.contracts.types.FormPartialEq.TheImpl as outermost

@@ -1,5 +1,6 @@
 -- Lists of faults that are one set, and one call more of those whose faults are there.
-use Rattle.std.proofs.Common.{◌≡◌, ◌<◌, ◌≤◌, ◌+◌, ℕ, zero, suc, cond, Option, Some, None, Result, Ok, Err, OnOk, OnErr, List, [], ◌∷◌, ◌++◌, append_assoc, append-nil, length, take, get_or, map, ap, ◌∙◌, sym, subst, ⊎_elim, arith}
+use Rattle.std.proofs.Common.{◌≡◌, ◌<◌, ◌≤◌, ◌+◌, ℕ, zero, suc, cond, Option, Some, None, Result, Ok, Err, OnOk, OnErr, List, [], ◌∷◌, ◌++◌}
+use Rattle.std.proofs.Common.{append_assoc, append-nil, length, take, get_or, map, ap, ◌∙◌, sym, subst, ⊎_elim, arith}
 use Rattle.std.specs.Prelude.{All, Contains, IfSome, is_ok}
 use Rattle.std.specs.List.{flat_map}
 use Rattle.std.proofs.lemmas.Grind.{flat_map-append}

@@ -12,11 +12,14 @@ use Rattle.al_text.specs.declared.faults.Fault.{Fault}
 use Rattle.al_graph.specs.Graphs.{Edge, StronglyConnected, edges_of, here, onward}
 use Rattle.al_graph.specs.Within.{leads}
 use Rattle.al_graph.proofs.BoundedWalks.{leads_tells}
-use Rattle.al_graph.proofs.Searches.{edges_at}
+use Rattle.al_graph.proofs.FilterMaps.{all_in_filter_map, in_filter_map, put_behind, put_first}
+use Rattle.al_graph.proofs.Labels.{labels_same}
+use Rattle.al_graph.proofs.Edges.{edges_at}
 use Rattle.al_folder.specs.Meaning.{CallSite, Meaning, candidates}
 use Rattle.al_folder.specs.Folder.{Folder, or_else, paths_of}
 use Rattle.al_folder.specs.Kept.{Files, folder_of, entry_of, AllKept, IsKept}
-use Rattle.al_folder.specs.Loops.{AreComponents, IsCallGraph, IsCalledBy, called, calls_graph, leads_back, loop_fault_if, loop_faults, looping, number_among, number_of}
+use Rattle.al_folder.specs.Loops.{called, calls_graph, leads_back, loop_fault_if, loop_faults, looping, number_among, number_of}
+use Rattle.al_folder.specs.Private.CallGraphs.{AreComponents, IsCallGraph, IsCalledBy}
 use Rattle.al_folder.specs.declared.kept.KeptFile.{KeptFile}
 use Rattle.al_folder.specs.declared.lint.Target.{Target}
 
@@ -74,31 +77,6 @@ pub called_below : (f : Folder) (t : Target) (k : ℕ) → called f t ≡ Some k
 called_below f t k e = among_below f (candidates t) k e
 
 -- ---- the graph of calls
-
-module _ {X : Type 0} (h : X → Option ℕ) where
-  put_first : (o : Option ℕ) (k : ℕ) (rest : List ℕ) → o ≡ Some k → Contains (cons_option o rest) k
-  put_first o k rest e = subst (λ p. Contains (cons_option p rest) k) (sym e) (0, omega arith, refl)
-
-  put_behind : (o : Option ℕ) (k : ℕ) (rest : List ℕ) → Contains rest k → Contains (cons_option o rest) k
-  put_behind None k rest c = c
-  put_behind (Some n) k rest c = let lt = c.1 in (suc c.0, omega (arith, lt), c.2)
-
-  pub in_filter_map : (xs : List X) (at : ℕ) (x : X) (k : ℕ) → at < length xs → x ≡ get_or xs at x → h x ≡ Some k → Contains (filter_map h xs) k
-  in_filter_map [] at x k lt is e = absurd (omega arith)
-  in_filter_map (y ∷ ys) zero x k lt is e = put_first (h y) k (filter_map h ys) (ap h (sym is) ∙ e)
-  in_filter_map (y ∷ ys) (suc at) x k lt is e = put_behind (h y) k (filter_map h ys) (in_filter_map ys at x k (omega arith) is e)
-
-  took : (P : ℕ → Type 0) (o : Option ℕ) (k : ℕ) (rest : List ℕ) → ((n : ℕ) → o ≡ Some n → P n) → (Contains rest k → P k) → Contains (cons_option o rest) k → P k
-  took P None k rest f g c = g c
-  took P (Some n) k rest f g c = by c.0 c.1 c.2
-    where
-      by : (i : ℕ) → i < length (n ∷ rest) → get_or (n ∷ rest) i k ≡ k → P k
-      by zero lt e = subst P e (f n refl)
-      by (suc i) lt e = g (i, omega (arith, lt), e)
-
-  pub all_in_filter_map : (P : ℕ → Type 0) → ((x : X) (k : ℕ) → h x ≡ Some k → P k) → (xs : List X) (k : ℕ) → Contains (filter_map h xs) k → P k
-  all_in_filter_map P f [] k c = absurd (let below : c.0 < 0 = c.1 in omega (arith, below))
-  all_in_filter_map P f (x ∷ xs) k c = took P (h x) k (filter_map h xs) (f x) (all_in_filter_map P f xs k) c
 
 module _ {I : Type 0} (m : Meaning I) (f : Folder) where
   at_file : (i : ℕ) (p b : List ℕ) → slice_get f i ≡ Some (p, b) → get_or (calls_graph m f) i [] ≡ filter_map (called f) (m.calls p b)
@@ -173,22 +151,6 @@ module _ (graph : List (List ℕ)) (f : Folder) (i : ℕ) (ts : List Target) (ss
 
   pub looping_end : length ts ≤ at → done ≡ whole
   looping_end past = sym (append-nil done) ∙ sym (ap (λ l. done ++ looping graph f i l (drop at ss)) (drop_all at ts past)) ∙ so_far
-
--- equal labels
-pub labels_same : (a b : Option ℕ) (r : Bool) → r ≡ option_eq nat_eq a b → (r ≡ true → a ≡ b) × (a ≡ b → r ≡ true)
-labels_same None None r e = (λ h. refl, λ h. e)
-labels_same None (Some y) r e = (λ h. absurd (let wrong : false ≡ true = sym e ∙ h in cc), λ h. absurd (wrong h))
-  where
-    wrong : None ≡ Some y → ⊥
-    wrong h = cc
-labels_same (Some x) None r e = (λ h. absurd (let wrong : false ≡ true = sym e ∙ h in cc), λ h. absurd (wrong h))
-  where
-    wrong : Some x ≡ None → ⊥
-    wrong h = cc
-labels_same (Some x) (Some y) r e = (
-  λ h. let t : nat_eq x y ≡ true = sym e ∙ h in let same : x ≡ y = grind (arith, nat_tests) in ap Some same,
-  λ h. let same : x ≡ y = ap (λ o. unwrap_or o x) h in let t : nat_eq x y ≡ true = grind (arith, nat_tests) in e ∙ t,
-)
 
 -- numbers, one call further
 pub numbers_next : (h : Target → Option ℕ) (ts : List Target) (i : ℕ) (t : Target) (old new : List ℕ) → i < length ts → t ≡ get_or ts i t → old ≡ filter_map h (take i ts) →

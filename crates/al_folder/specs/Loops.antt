@@ -1,11 +1,9 @@
 -- Calls that lead back to their own file, at once or over calls of further files.
-use Rattle.std.specs.Prelude.{ℕ, ◌<◌, ◌≡◌, Bool, false, List, [], ◌∷◌, ◌++◌, Option, Some, None, Vec, bytes_eq, map, length, slice_index_or}
+use Rattle.std.specs.Prelude.{ℕ, Bool, false, List, [], ◌∷◌, ◌++◌, Option, Some, None, bytes_eq, map}
 use Rattle.std.specs.Prelude.{if◌then◌else◌}
-use Rattle.std.specs.Global.{Global}
 use Rattle.std.specs.List.{filter_map, position}
 use Rattle.al_text.specs.FaultLists.{fault_list}
 use Rattle.al_text.specs.declared.faults.Fault.{Fault}
-use Rattle.al_graph.specs.Graphs.{Edge, StronglyConnected, edges_of}
 use Rattle.al_graph.specs.Within.{leads}
 use Rattle.al_folder.specs.Meaning.{CallSite, Meaning, candidates}
 use Rattle.al_folder.specs.Folder.{Folder, faults_in, or_else, paths_of}
@@ -27,11 +25,6 @@ called f t = number_among f (candidates t)
 -- for each file the files that its calls lead to
 abbrev pub calls_graph : {I : Type 0} → Meaning I → Folder → List (List ℕ)
 calls_graph m f = map (λ e. filter_map (called f) (m.calls e.0 e.1)) f
-
--- there is an edge from the file with this number to the one that a call leads to
-abbrev pub IsCalledBy : List (List ℕ) → ℕ → Option ℕ → Type 0
-IsCalledBy graph file None = Unit {0}
-IsCalledBy graph file (Some to) = Edge graph file to
 
 -- whether a call of the file with this number leads back to it: the file that it leads to is that file, or further calls lead there
 abbrev pub leads_back : List (List ℕ) → ℕ → Option ℕ → Bool
@@ -57,13 +50,3 @@ loop_faults m f file p b = looping (calls_graph m f) f file (m.calls p b) (m.sit
 -- a file's faults as reports list them: its own, and those of its calls that lead back to it, in order, each once
 unfoldable pub reported : {I : Type 0} → Meaning I → Folder → ℕ → List ℕ → List ℕ → List Fault
 reported m f file p b = fault_list (loop_faults m f file p b ++ faults_in m f p b)
-
--- labels of files, the same just for files in one strongly connected component of the graph
-abbrev pub AreComponents : List (List ℕ) → List (Option ℕ) → Type 0
-AreComponents graph labels = (length labels ≡ length graph) × ((j k : ℕ) → j < length graph → k < length graph →
-    ((slice_index_or labels j None ≡ slice_index_or labels k None) → StronglyConnected graph j k)
-    × (StronglyConnected graph j k → slice_index_or labels j None ≡ slice_index_or labels k None))
-
--- the program's graph of a folder's calls, and labels of the folder's files
-abbrev pub IsCallGraph : {I : Type 0} → Meaning I → Folder → List (Vec ℕ Global) → List (Option ℕ) → Type 0
-IsCallGraph m f graph labels = (edges_of graph ≡ calls_graph m f) × AreComponents (calls_graph m f) labels

@@ -7,6 +7,7 @@ ghost use Rattle.std.specs.Option.{option_eq};
 ghost use Rattle.al_graph.specs.Graphs.{edges_of};
 ghost use Rattle.al_folder.specs.Kept.{AreKept, IsKept, folder_of};
 ghost use Rattle.al_folder.specs.Loops as loops;
+ghost use Rattle.al_folder.specs.Private.CallGraphs.{AreComponents, IsCallGraph, IsCalledBy};
 ghost use Rattle.al_folder.specs.Sites.{site_of};
 
 use crate::kept::{Files, KeptFile};
@@ -108,7 +109,7 @@ pub fn call_graph<L: Lint>(
     files: &Files<L::Unit, L::Iface>,
 ) -> Result<CallGraph, AllocError>
     requires { AreKept L.meaning L.is_unit files.now.entries }
-    ensures { IfOk result (λ calls. loops.IsCallGraph L.meaning (folder_of files.now.entries) calls.graph.items calls.labels.items) }
+    ensures { IfOk result (λ calls. IsCallGraph L.meaning (folder_of files.now.entries) calls.graph.items calls.labels.items) }
 {
     let graph = calls_graph::<L>(alloc, files)?;
     let labels = strongly_connected_components(alloc, graph.as_slice())?;
@@ -160,9 +161,9 @@ fn leads_back<L: Lint>(
     target: &Target,
 ) -> bool
     requires kept { AreKept L.meaning L.is_unit files.now.entries }
-    requires labels { loops.AreComponents (loops.calls_graph L.meaning (folder_of files.now.entries)) labels.now }
+    requires labels { AreComponents (loops.calls_graph L.meaning (folder_of files.now.entries)) labels.now }
     requires index { index < length files.now.entries }
-    requires edge { loops.IsCalledBy (loops.calls_graph L.meaning (folder_of files.now.entries)) index
+    requires edge { IsCalledBy (loops.calls_graph L.meaning (folder_of files.now.entries)) index
         (loops.called (folder_of files.now.entries) target.now) }
     ensures { result ≡ loops.leads_back (loops.calls_graph L.meaning (folder_of files.now.entries)) index
         (loops.called (folder_of files.now.entries) target.now) }
@@ -198,7 +199,7 @@ fn faults_of_calls<L: Lint>(
     file: &KeptFile<L::Unit, L::Iface>,
 ) -> Result<Vec<Fault>, AllocError>
     requires kept { AreKept L.meaning L.is_unit files.now.entries }
-    requires labels { loops.AreComponents (loops.calls_graph L.meaning (folder_of files.now.entries)) labels.now }
+    requires labels { AreComponents (loops.calls_graph L.meaning (folder_of files.now.entries)) labels.now }
     requires there { (p : List ℕ) × IsKept L.meaning L.is_unit p file.now
         × (slice_get (folder_of files.now.entries) index ≡ Some (p, file.now.bytes.items)) }
     ensures { (p : List ℕ) → IsKept L.meaning L.is_unit p file.now → IfOk result (λ faults. faults.items
@@ -230,7 +231,7 @@ pub fn loop_faults<L: Lint>(
     index: usize,
 ) -> Result<Vec<Fault>, AllocError>
     requires kept { AreKept L.meaning L.is_unit files.now.entries }
-    requires calls { loops.IsCallGraph L.meaning (folder_of files.now.entries) calls.now.graph.items calls.now.labels.items }
+    requires calls { IsCallGraph L.meaning (folder_of files.now.entries) calls.now.graph.items calls.now.labels.items }
     requires index { index < length files.now.entries }
     ensures { (p b : List ℕ) → slice_get (folder_of files.now.entries) index ≡ Some (p, b) → IfOk result (λ faults.
         faults.items ≡ loops.loop_faults L.meaning (folder_of files.now.entries) index p b) }

@@ -1,5 +1,6 @@
 -- Pieces between separators, numbers that are cut off, and counting up.
-use Rattle.std.proofs.Common.{◌≡◌, ℕ, zero, suc, ◌+◌, ◌*◌, ◌-◌, ◌<◌, ◌≤◌, Bool, true, false, cond, List, [], ◌∷◌, ◌++◌, length, take, drop, take_all, length-drop, get_or, refl, sym, ap, ◌∙◌, arith, ◌==◌, ◌&&◌, add-one}
+use Rattle.std.proofs.Common.{◌≡◌, ℕ, zero, suc, ◌+◌, ◌*◌, ◌-◌, ◌<◌, ◌≤◌, Bool, true, false, cond, List, [], ◌∷◌, ◌++◌, length, take, drop}
+use Rattle.std.proofs.Common.{take_all, length-drop, get_or, refl, sym, ap, ◌∙◌, arith, ◌==◌, ◌&&◌, add-one}
 use Rattle.std.proofs.lemmas.List.{at_drop_more}
 use Rattle.std.specs.Char.{is_ascii_digit}
 use Rattle.std.specs.List.{list_all}
@@ -16,7 +17,8 @@ counted_more n = ap (λ k. counted_from k 0) (add-one n) ∙ counted_next n 0 �
 
 on_at : (sep b : ℕ) (bs : List ℕ) (here : Bool) → (length_of_piece sep bs < length bs → pieces sep bs ≡ take (length_of_piece sep bs) bs ∷ pieces sep (drop (suc (length_of_piece sep bs)) bs))
     → cond here 0 (suc (length_of_piece sep bs)) < suc (length bs)
-    → cond here ([] ∷ pieces sep bs) (before_first b (pieces sep bs)) ≡ take (cond here 0 (suc (length_of_piece sep bs))) (b ∷ bs) ∷ pieces sep (drop (suc (cond here 0 (suc (length_of_piece sep bs)))) (b ∷ bs))
+    → cond here ([] ∷ pieces sep bs) (before_first b (pieces sep bs)) ≡ take (cond here 0 (suc (length_of_piece sep bs))) (b ∷ bs)
+    ∷ pieces sep (drop (suc (cond here 0 (suc (length_of_piece sep bs)))) (b ∷ bs))
 on_at sep b bs true f h = refl
 on_at sep b bs false f h = ap (before_first b) (f (omega (arith, h)))
 
@@ -58,7 +60,8 @@ cut_number [] n = cut_again n
 cut_number (d ∷ ds) n =
     sym (cut_number ds (least_thousand n * 10 + (d - 48))) ∙ ap (λ k. least_thousand (number_from k ds)) (cut_next n (d - 48)) ∙ cut_number ds (n * 10 + (d - 48))
 
-pub number_step : (bs : List ℕ) (i n next : ℕ) → i < length bs → next ≡ least_thousand (n * 10 + (get_or bs i 0 - 48)) → least_thousand (number_from next (drop (i + 1) bs)) ≡ least_thousand (number_from n (drop i bs))
+pub number_step : (bs : List ℕ) (i n next : ℕ) → i < length bs → next ≡ least_thousand (n * 10 + (get_or bs i 0 - 48))
+    → least_thousand (number_from next (drop (i + 1) bs)) ≡ least_thousand (number_from n (drop i bs))
 number_step bs i n next h e =
     ap (λ k. least_thousand (number_from k (drop (i + 1) bs))) e ∙ cut_number (drop (i + 1) bs) (n * 10 + (get_or bs i 0 - 48)) ∙ sym (at_drop_more (λ ds. least_thousand (number_from n ds)) bs i 0 h)
 

@@ -1,6 +1,6 @@
 //! Texts that are one expression.
 
-ghost use Rattle.al_formats.specs.Chunks.{is_lone, is_lone_chunk as lone_chunk, is_short, may_stand, stands_alone as alone};
+ghost use Rattle.al_formats.specs.Chunks.{is_lone_chunk as lone_chunk, is_short, may_stand, stands_alone as alone};
 ghost use Rattle.std.specs.List.{list_all};
 ghost use Rattle.std.specs.Prelude.{◌≡◌, false, true, drop, take, IfOk, MatchOption};
 

@@ -3,7 +3,6 @@
 ghost use Rattle.al_formats.specs.Patterns.{are_items as items, behind_not as without_not, has_barred as barred, is_barred};
 ghost use Rattle.al_formats.specs.Patterns.{is_pattern as pattern, is_relative as relative, is_right};
 ghost use Rattle.al_formats.specs.Private.PatternStates.{outside as outside_class, read as read_one};
-ghost use Rattle.al_text.specs.FirstBytes.{begins_with};
 ghost use Rattle.std.specs.List.{list_any};
 ghost use Rattle.std.specs.Prelude.{◌≡◌, IfOk};
 ghost use Rattle.std.specs.Str.{chars};

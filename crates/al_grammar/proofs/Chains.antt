@@ -10,13 +10,15 @@ use Rattle.al_grammar.specs.declared.parser.ParseError.{ParseError}
 use Rattle.al_grammar.specs.declared.parser.ParseError.TheVariants as error
 use Rattle.al_grammar.specs.Lexeme.{Lexeme, lexeme, kinds}
 use Rattle.al_grammar.specs.Tree.{Sign, sign, Tree, Negated, Path, Chain, StepTree, steps_of, operands_of, path_of, chain_of}
-use Rattle.al_grammar.specs.Grammar.{Binary, Unary, Postfix, Primary, level_of, below, single, chain, positive, negated, bare, path, Operators, no_more, one_more, Walks, arrived, to_property, to_keyword, to_all, to_each, to_index}
+use Rattle.al_grammar.specs.Grammar.{Binary, Unary, Postfix, Primary, level_of, below, single, chain, positive, negated, bare, path}
+use Rattle.al_grammar.specs.Grammar.{Operators, no_more, one_more, Walks, arrived, to_property, to_keyword, to_all, to_each, to_index}
 use Rattle.al_grammar.specs.Table.{Verdict, TooDeep, E, O, Frame, outside, scan}
 use Rattle.al_grammar.specs.Private.Parsed.{StartsAt, Goes, EndsPath, EndsLevel, Stops, Parsed, Refused, PartOfChain, PartOfPath, StepRead, StepRefused, NoOperator}
 use Rattle.al_grammar.proofs.Rules.{not_deeper, too_deep, settled, same_length, refused_map, path_refused_map}
 
 -- a negation
-pub not_read : (room inner : ℕ) (b : List ℕ) (s : Span) (ts rest : List Lexeme) (t : Tree) → inner + 1 ≡ room → Parsed Unary inner ts t rest → Parsed Unary room (lexeme Bang b s ∷ ts) (Negated s t) rest
+pub not_read : (room inner : ℕ) (b : List ℕ) (s : Span) (ts rest : List Lexeme) (t : Tree) → inner + 1 ≡ room → Parsed Unary inner ts t rest
+    → Parsed Unary room (lexeme Bang b s ∷ ts) (Negated s t) rest
 not_read room inner b s ts rest t e p = record {
   derives = negated p.derives;
   goes = λ k st a h. not_deeper (k + outside st) _ _ (omega arith) ∙ p.goes (suc k) st tt (omega arith) ∙ settled (suc k) k st (kinds rest) p.stops;
@@ -41,7 +43,8 @@ positive_refused room ts e r = refused_map Postfix Unary room room ts ts e (λ v
 pub bare_read : (room : ℕ) (ts rest : List Lexeme) (t : Tree) → Parsed Primary room ts t rest → EndsPath (kinds rest) → Parsed Postfix room ts t rest
 bare_read room ts rest t p ends = record { derives = bare p.derives; goes = p.goes; stops = ends; shorter = p.shorter }
 
-pub path_read : (room : ℕ) (ts mid rest : List Lexeme) (t : Tree) (s : StepTree) (ss : List StepTree) → Parsed Primary room ts t mid → PartOfPath room mid (s ∷ ss) rest → EndsPath (kinds rest) → Parsed Postfix room ts (Path t (steps_of (s ∷ ss))) rest
+pub path_read : (room : ℕ) (ts mid rest : List Lexeme) (t : Tree) (s : StepTree) (ss : List StepTree) → Parsed Primary room ts t mid
+    → PartOfPath room mid (s ∷ ss) rest → EndsPath (kinds rest) → Parsed Postfix room ts (Path t (steps_of (s ∷ ss))) rest
 path_read room ts mid rest t s ss p w ends = record {
   derives = path p.derives w.derives;
   goes = λ k st a h. p.goes k st a h ∙ w.goes k st h;
@@ -49,7 +52,8 @@ path_read room ts mid rest t s ss p w ends = record {
   shorter = let a = p.shorter in let b = w.shorter in omega arith;
 }
 
-pub walks_append : (ts mid : List Lexeme) (ss : List StepTree) (s : StepTree) (rest : List Lexeme) → Walks ts ss mid → ((more : List StepTree) (after : List Lexeme) → Walks rest more after → Walks mid (s ∷ more) after) → Walks ts (ss ++ s ∷ []) rest
+pub walks_append : (ts mid : List Lexeme) (ss : List StepTree) (s : StepTree) (rest : List Lexeme) → Walks ts ss mid
+    → ((more : List StepTree) (after : List Lexeme) → Walks rest more after → Walks mid (s ∷ more) after) → Walks ts (ss ++ s ∷ []) rest
 walks_append ts mid ss s rest arrived one = one [] _ arrived
 walks_append ts mid ss s rest (to_property w) one = to_property (walks_append _ _ _ s rest w one)
 walks_append ts mid ss s rest (to_keyword w) one = to_keyword (walks_append _ _ _ s rest w one)
@@ -75,12 +79,14 @@ walks_none (to_all w) e = cc
 walks_none (to_each w) e = cc
 walks_none (to_index d w) e = cc
 
-pub steps_read : (room : ℕ) (ts mid rest : List Lexeme) (t : Tree) (ss : List StepTree) → Parsed Primary room ts t mid → PartOfPath room mid ss rest → EndsPath (kinds rest) → Parsed Postfix room ts (path_of t ss) rest
+pub steps_read : (room : ℕ) (ts mid rest : List Lexeme) (t : Tree) (ss : List StepTree) → Parsed Primary room ts t mid
+    → PartOfPath room mid ss rest → EndsPath (kinds rest) → Parsed Postfix room ts (path_of t ss) rest
 steps_read room ts mid rest t [] p w ends = bare_read room ts rest t (subst (λ m. Parsed Primary room ts t m) (walks_none w.derives refl) p) ends
 steps_read room ts mid rest t (s ∷ ss) p w ends = path_read room ts mid rest t s ss p w ends
 
 -- a step of a path is refused
-pub path_refused : (room : ℕ) (ts mid left : List Lexeme) (t : Tree) (ss : List StepTree) (e : ParseError) → Parsed Primary room ts t mid → PartOfPath room mid ss left → StepRefused room left e → Refused Postfix room ts e
+pub path_refused : (room : ℕ) (ts mid left : List Lexeme) (t : Tree) (ss : List StepTree) (e : ParseError) → Parsed Primary room ts t mid
+    → PartOfPath room mid ss left → StepRefused room left e → Refused Postfix room ts e
 path_refused room ts mid left t ss e p w r = path_refused_map Postfix room room left ts e (λ v g k st a h. p.goes k st tt h ∙ w.goes k st h ∙ g k st h) r
 
 -- chains of operators
@@ -132,7 +138,9 @@ single_read l room ts rest t h p never = record {
   shorter = p.shorter;
 }
 
-pub chain_read : (l room : ℕ) (ts mid rest : List Lexeme) (t : Tree) (o : Sign × Tree) (os : List (Sign × Tree)) → l < 4 → Parsed (below l) room ts t mid → PartOfChain l room mid (o ∷ os) rest → Stops (below l) (kinds rest) → NoOperator l (kinds rest) → Parsed (Binary l) room ts (Chain t (operands_of (o ∷ os))) rest
+pub chain_read : (l room : ℕ) (ts mid rest : List Lexeme) (t : Tree) (o : Sign × Tree) (os : List (Sign × Tree)) → l < 4
+    → Parsed (below l) room ts t mid → PartOfChain l room mid (o ∷ os) rest → Stops (below l) (kinds rest) → NoOperator l (kinds rest)
+    → Parsed (Binary l) room ts (Chain t (operands_of (o ∷ os))) rest
 chain_read l room ts mid rest t o os h p c s never = record {
   derives = chain p.derives c.derives;
   goes = from_start l room ts (λ k st. scan O k st (kinds rest)) (λ st f. p.goes 0 st (starts_below l) (omega arith) ∙ c.goes st f);
@@ -140,14 +148,17 @@ chain_read l room ts mid rest t o os h p c s never = record {
   shorter = let a = p.shorter in let b = c.shorter in omega arith;
 }
 
-pub operators_append : (l : ℕ) (ts mid : List Lexeme) (os : List (Sign × Tree)) (o : Sign × Tree) (rest : List Lexeme) → Operators l ts os mid → Operators l mid (o ∷ []) rest → Operators l ts (os ++ o ∷ []) rest
+pub operators_append : (l : ℕ) (ts mid : List Lexeme) (os : List (Sign × Tree)) (o : Sign × Tree) (rest : List Lexeme)
+    → Operators l ts os mid → Operators l mid (o ∷ []) rest → Operators l ts (os ++ o ∷ []) rest
 operators_append l ts mid os o rest no_more one = one
 operators_append l ts mid os o rest (one_more e d w) one = one_more e d (operators_append l _ mid _ o rest w one)
 
 pub chain_begins : (l room : ℕ) (ts : List Lexeme) → PartOfChain l room ts [] ts
 chain_begins l room ts = record { derives = no_more; goes = λ st h. refl; shorter = omega arith }
 
-pub chain_goes_on : (l room : ℕ) (ts inner rest : List Lexeme) (os : List (Sign × Tree)) (o : Operator) (b : List ℕ) (s : Span) (t : Tree) → PartOfChain l room ts os (lexeme (Infix o) b s ∷ inner) → level_of o ≡ l → Parsed (below l) room inner t rest → PartOfChain l room ts (os ++ (sign o s, t) ∷ []) rest
+pub chain_goes_on : (l room : ℕ) (ts inner rest : List Lexeme) (os : List (Sign × Tree)) (o : Operator) (b : List ℕ) (s : Span) (t : Tree)
+    → PartOfChain l room ts os (lexeme (Infix o) b s ∷ inner) → level_of o ≡ l → Parsed (below l) room inner t rest
+    → PartOfChain l room ts (os ++ (sign o s, t) ∷ []) rest
 chain_goes_on l room ts inner rest os o b s t c lv p = record {
   derives = operators_append l ts (lexeme (Infix o) b s ∷ inner) os (sign o s, t) rest c.derives (one_more lv p.derives no_more);
   goes = λ st h. c.goes st h ∙ p.goes 0 st (starts_below l) (omega arith);
@@ -158,7 +169,9 @@ operators_none : {l : ℕ} {ts rest : List Lexeme} {os : List (Sign × Tree)} �
 operators_none no_more e = refl
 operators_none (one_more a d w) e = cc
 
-pub operands_read : (l room : ℕ) (ts mid rest : List Lexeme) (t : Tree) (os : List (Sign × Tree)) → l < 4 → Parsed (below l) room ts t mid → PartOfChain l room mid os rest → Stops (below l) (kinds rest) → NoOperator l (kinds rest) → Parsed (Binary l) room ts (chain_of t os) rest
+pub operands_read : (l room : ℕ) (ts mid rest : List Lexeme) (t : Tree) (os : List (Sign × Tree)) → l < 4 → Parsed (below l) room ts t mid
+    → PartOfChain l room mid os rest → Stops (below l) (kinds rest) → NoOperator l (kinds rest)
+    → Parsed (Binary l) room ts (chain_of t os) rest
 operands_read l room ts mid rest t [] h p c s never = single_read l room ts rest t h (subst (λ m. Parsed (below l) room ts t m) (operators_none c.derives refl) p) never
 operands_read l room ts mid rest t (o ∷ os) h p c s never = chain_read l room ts mid rest t o os h p c s never
 
@@ -166,7 +179,9 @@ operands_read l room ts mid rest t (o ∷ os) h p c s never = chain_read l room 
 pub first_refused : (l room : ℕ) (ts : List Lexeme) (e : ParseError) → Refused (below l) room ts e → Refused (Binary l) room ts e
 first_refused l room ts e r = refused_map (below l) (Binary l) room room ts ts e (λ v g. from_start l room ts (λ k st. v) (λ st f. g 0 st (starts_below l) (omega arith))) r
 
-pub later_refused : (l room : ℕ) (ts mid inner : List Lexeme) (t : Tree) (os : List (Sign × Tree)) (o : Operator) (b : List ℕ) (s : Span) (e : ParseError) → Parsed (below l) room ts t mid → PartOfChain l room mid os (lexeme (Infix o) b s ∷ inner) → Refused (below l) room inner e → Refused (Binary l) room ts e
+pub later_refused : (l room : ℕ) (ts mid inner : List Lexeme) (t : Tree) (os : List (Sign × Tree)) (o : Operator) (b : List ℕ) (s : Span)
+    (e : ParseError) → Parsed (below l) room ts t mid → PartOfChain l room mid os (lexeme (Infix o) b s ∷ inner)
+    → Refused (below l) room inner e → Refused (Binary l) room ts e
 later_refused l room ts mid inner t os o b s e p c r = refused_map (below l) (Binary l) room room inner ts e
     (λ v g. from_start l room ts (λ k st. v) (λ st f. p.goes 0 st (starts_below l) (omega arith) ∙ c.goes st f ∙ g 0 st (starts_below l) (omega arith))) r
 

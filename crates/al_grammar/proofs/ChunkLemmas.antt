@@ -1,5 +1,6 @@
 -- The states of the code that reads a text give its chunks.
-use Rattle.std.proofs.Common.{◌≡◌, ◌≤◌, ℕ, zero, suc, ◌+◌, List, [], ◌∷◌, ◌++◌, length, drop, refl, sym, ap, ◌∙◌, arith, append_assoc, append-nil, length-append, length-drop, Bool, true, false, cond, ◌&&◌, not, Option, Some, None, ◌==◌}
+use Rattle.std.proofs.Common.{◌≡◌, ◌≤◌, ℕ, zero, suc, ◌+◌, List, [], ◌∷◌, ◌++◌, length, drop, refl, sym, ap, ◌∙◌, arith, append_assoc}
+use Rattle.std.proofs.Common.{append-nil, length-append, length-drop, Bool, true, false, cond, ◌&&◌, not, Option, Some, None, ◌==◌}
 use Rattle.std.proofs.lemmas.Bool.Decides.{nat_tests}
 use Rattle.std.specs.Prelude.{option_map}
 use Rattle.al_text.specs.Ascii as ascii
@@ -9,7 +10,8 @@ use Rattle.al_grammar.specs.declared.chunk.ChunkState.{ChunkState}
 use Rattle.al_grammar.specs.declared.chunk.ChunkState.TheVariants.{Outside, Inside, Quoted}
 use Rattle.al_grammar.specs.declared.chunk.Move.TheVariants.{On, End}
 use Rattle.al_grammar.specs.Tokens.{span, last_place, if_none}
-use Rattle.al_grammar.specs.Chunks.{Chunked, opens, closes, is_quote, is_outside_quotes, before_opening, before_closing, no_chunks, then_chunk, open_quote, open_fault, with_content, with_opening, chunks_within, chunks_of}
+use Rattle.al_grammar.specs.Chunks.{Chunked, opens, closes, is_quote, is_outside_quotes, before_opening, before_closing, no_chunks}
+use Rattle.al_grammar.specs.Chunks.{then_chunk, open_quote, open_fault, with_content, with_opening, chunks_within, chunks_of}
 use Rattle.al_grammar.specs.Private.ChunkStates.{chunks_from, end_fault, moved}
 use Rattle.al_grammar.proofs.Chunking.{skipped, third_is}
 

@@ -1,5 +1,6 @@
 -- One step of reading chunks.
-use Rattle.std.proofs.Common.{◌≡◌, ◌≤◌, ◌<◌, ℕ, zero, suc, ◌+◌, List, [], ◌∷◌, ◌++◌, length, drop, get_or, refl, sym, ap, ◌∙◌, arith, add-zero, append_assoc, Bool, true, false, cond, ◌&&◌, ◌==◌, subst, length-drop}
+use Rattle.std.proofs.Common.{◌≡◌, ◌≤◌, ◌<◌, ℕ, zero, suc, ◌+◌, List, [], ◌∷◌, ◌++◌, length, drop, get_or, refl, sym, ap, ◌∙◌, arith}
+use Rattle.std.proofs.Common.{add-zero, append_assoc, Bool, true, false, cond, ◌&&◌, ◌==◌, subst, length-drop}
 use Rattle.std.proofs.lemmas.Bool.Decides.{nat_tests}
 use Rattle.std.proofs.lemmas.List.{get_or-drop}
 use Rattle.std.proofs.lemmas.Str.{IsCharBoundary-after_ascii}
@@ -80,7 +81,8 @@ opened text at u h o =
 same_move : (R : Type 0) (n k : ℕ) (v w : ChunkState) → On n v ≡ On k w → (n ≡ k → v ≡ w → R) → R
 same_move R n k v w e f = f (cc) (cc)
 
-pub stands : (text : List ℕ) (state w : ChunkState) (at skip : ℕ) → IsUtf8 text → at < length text → On skip w ≡ move state at (drop at text) → StandsIn text at state → StandsIn text (at + (1 + skip)) w
+pub stands : (text : List ℕ) (state w : ChunkState) (at skip : ℕ) → IsUtf8 text → at < length text → On skip w
+    ≡ move state at (drop at text) → StandsIn text at state → StandsIn text (at + (1 + skip)) w
 stands text Outside w at skip u h m s =
     either _ (opens (drop at text)) _ _ _ m
     (λ o e. same_move _ _ _ _ _ e (λ n v. rw (v, n) (opened text at u h o)))

@@ -1,11 +1,16 @@
 -- A token that is read lies in the bytes, and its last byte is ASCII, so that a character ends with it.
-use Rattle.std.proofs.Common.{◌≡◌, ◌<◌, ◌≤◌, ◌+◌, ◌-◌, ℕ, zero, suc, List, [], ◌∷◌, length, length-drop, add-zero, inl, inr, ◌⊎◌, drop, refl, arith, Bool, true, false, cond, ◌&&◌, nat_eq, max, Option, Some, None}
+use Rattle.std.proofs.Common.{◌≡◌, ◌<◌, ◌≤◌, ◌+◌, ◌-◌, ℕ, zero, suc, List, [], ◌∷◌, length, length-drop, add-zero, inl, inr, ◌⊎◌, drop}
+use Rattle.std.proofs.Common.{refl, subst, arith, Bool, true, false, cond, ◌&&◌, nat_eq, max, Option, Some, None}
 use Rattle.std.proofs.lemmas.Bool.Decides.{nat_tests}
 use Rattle.std.proofs.lemmas.List.{get_or-drop}
 use Rattle.std.proofs.lemmas.List.Sums.{prefix_len_passes, prefix_len-le-length}
 use Rattle.std.specs.Prelude.{slice_index}
 use Rattle.al_text.specs.FirstBytes.{first_is}
-use Rattle.al_grammar.specs.Tokens.{is_digit, is_hex_digit, is_sign, begins_name, goes_on_name, run, with_digits, hex_len, fraction_len, exponent_len, decimal_tail, decimal_len, unsigned_len, number_len, add_to, after_byte, text_tail, text_read, number_read, name_read, Fits}
+use Rattle.al_grammar.specs.Tokens.{is_digit, is_hex_digit, is_sign, begins_name, goes_on_name, run, with_digits, hex_len, fraction_len}
+use Rattle.al_grammar.specs.Tokens.{exponent_len, decimal_tail, decimal_len, unsigned_len, number_len, add_to, text_tail}
+use Rattle.al_grammar.specs.Private.TextTails.{after_byte, tail_from}
+use Rattle.al_grammar.proofs.TextTails.{tail_is}
+use Rattle.al_grammar.specs.Tokens.{text_read, number_read, name_read, Fits}
 
 -- Where it isn't empty, a part of so many bytes at the front lies in them and ends with an ASCII byte.
 pub record Ends (bs : List ℕ) (n : ℕ) : Type 0 where
@@ -72,7 +77,9 @@ fraction_ends : (bs : List ℕ) → Ends bs (fraction_len bs)
 fraction_ends bs = either bs _ _ _ (λ h. with_ends bs 1 _ (one_byte _ bs h) (run_ends is_digit (drop 1 bs) digit_ascii)) (nothing bs)
 
 signed_ends : (bs : List ℕ) → 1 ≤ length bs → Ends bs (cond (first_is is_sign (drop 1 bs)) (with_digits 2 (run is_digit (drop 2 bs))) (with_digits 1 (run is_digit (drop 1 bs))))
-signed_ends bs h = either bs _ _ _ (λ s. with_ends bs 2 _ (let n = one_byte _ (drop 1 bs) s in omega (arith, n, length-drop 1 bs)) (run_ends is_digit (drop 2 bs) digit_ascii)) (with_ends bs 1 _ h (run_ends is_digit (drop 1 bs) digit_ascii))
+signed_ends bs h = either bs _ _ _
+    (λ s. with_ends bs 2 _ (let n = one_byte _ (drop 1 bs) s in omega (arith, n, length-drop 1 bs))
+    (run_ends is_digit (drop 2 bs) digit_ascii)) (with_ends bs 1 _ h (run_ends is_digit (drop 1 bs) digit_ascii))
 
 exponent_ends : (bs : List ℕ) → Ends bs (exponent_len bs)
 exponent_ends bs = either bs _ _ _ (λ h. signed_ends bs (one_byte _ bs h)) (nothing bs)
@@ -127,12 +134,12 @@ one_more quote q b bs (Some (suc m)) f e =
 quote_is : (b : ℕ) → nat_eq b 39 ≡ true → b ≡ 39
 quote_is b h = grind (arith, nat_tests)
 
-stays : (quote t : Bool) (b : ℕ) (bs : List ℕ) → (t ≡ true → b ≡ 39) → ((q : Bool) → TailEnds q bs (text_tail q bs)) → TailEnds quote (b ∷ bs) (after_byte quote t (λ q. text_tail q bs))
-stays false t b bs f g = one_more false t b bs (text_tail t bs) f (g t)
-stays true true b bs f g = one_more true false b bs (text_tail false bs) (λ e. absurd cc) (g false)
+stays : (quote t : Bool) (b : ℕ) (bs : List ℕ) → (t ≡ true → b ≡ 39) → ((q : Bool) → TailEnds q bs (tail_from q bs)) → TailEnds quote (b ∷ bs) (after_byte quote t (λ q. tail_from q bs))
+stays false t b bs f g = one_more false t b bs (tail_from t bs) f (g t)
+stays true true b bs f g = one_more true false b bs (tail_from false bs) (λ e. absurd cc) (g false)
 stays true false b bs f g = (omega arith, (λ h. absurd (omega arith)), (λ e. absurd cc))
 
-tail_ends_at : (bs : List ℕ) (quote : Bool) → TailEnds quote bs (text_tail quote bs)
+tail_ends_at : (bs : List ℕ) (quote : Bool) → TailEnds quote bs (tail_from quote bs)
 tail_ends_at [] false = tt
 tail_ends_at [] true = (omega arith, (λ h. absurd (omega arith)), (λ e. absurd cc))
 tail_ends_at (b ∷ bs) quote = stays quote (nat_eq b 39) b bs (quote_is b) (λ q. tail_ends_at bs q)
@@ -145,5 +152,5 @@ text_fits_at bs (Some n) e =
     let last : slice_index bs (n - 1) ≡ 39 = e.1 some in
     (omega arith, omega (arith, e.0), rw (i, last) (omega arith))
 
-pub text_fits : (bs : List ℕ) → Fits (39 ∷ bs) (text_read (text_tail false bs))
-text_fits bs = text_fits_at bs (text_tail false bs) (tail_ends_at bs false)
+pub text_fits : (bs : List ℕ) → Fits (39 ∷ bs) (text_read (text_tail bs))
+text_fits bs = text_fits_at bs (text_tail bs) (subst (TailEnds false bs) (tail_is bs) (tail_ends_at bs false))

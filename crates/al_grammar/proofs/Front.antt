@@ -94,8 +94,10 @@ module _ (room inner : ℕ) (b : List ℕ) (s : Span) (ts : List Lexeme) (one : 
   pub group_not_closed : (left : List Lexeme) (t : Tree) (e : ParseError) → Parsed (Binary 0) inner ts t left → IsStray left Close e → Refused Primary room (lexeme Open b s ∷ ts) e
   group_not_closed left t e p i = rw i.fault (group_stray room inner b s ts one left t p (no_close (kinds left) i.other))
 
-  pub index_not_closed : (left : List Lexeme) (t : Tree) (e : ParseError) → Parsed (Binary 0) inner ts t left → NoStar (kinds ts) → IsStray left CloseIndex e → StepRefused room (lexeme OpenIndex b s ∷ ts) e
+  pub index_not_closed : (left : List Lexeme) (t : Tree) (e : ParseError) → Parsed (Binary 0) inner ts t left → NoStar (kinds ts)
+      → IsStray left CloseIndex e → StepRefused room (lexeme OpenIndex b s ∷ ts) e
   index_not_closed left t e p n i = rw i.fault (index_stray room inner b s ts one left t n p (no_close_index (kinds left) i.other))
 
-pub star_not_closed : (room inner : ℕ) (b c : List ℕ) (s u : Span) (left : List Lexeme) (e : ParseError) → inner + 1 ≡ room → IsStray left CloseIndex e → StepRefused room (lexeme OpenIndex c u ∷ lexeme Star b s ∷ left) e
+pub star_not_closed : (room inner : ℕ) (b c : List ℕ) (s u : Span) (left : List Lexeme) (e : ParseError) → inner + 1 ≡ room
+    → IsStray left CloseIndex e → StepRefused room (lexeme OpenIndex c u ∷ lexeme Star b s ∷ left) e
 star_not_closed room inner b c s u left e one i = rw i.fault (star_stray room inner b c s u left one (no_close_index (kinds left) i.other))

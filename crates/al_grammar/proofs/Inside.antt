@@ -20,15 +20,21 @@ use Rattle.al_grammar.specs.Private.ChunkStates.{chunks_from, end_fault, move, m
 use Rattle.al_grammar.proofs.ChunkLemmas.{states_give}
 use Rattle.al_grammar.proofs.Chunking.{third_is}
 use Rattle.al_grammar.specs.Extents.{start_of, end_of, end_of_steps, end_of_operands}
-use Rattle.al_grammar.specs.Grammar.{Nonterminal, Derives, single, chain, positive, negated, bare, path, constant, number, text, name, call_empty, call, group, Operators, no_more, one_more, Walks, arrived, to_property, to_keyword, to_all, to_each, to_index, Lists, listed, and_next}
+use Rattle.al_grammar.specs.Grammar.{Nonterminal, Derives, single, chain, positive, negated, bare, path, constant, number, text, name}
+use Rattle.al_grammar.specs.Grammar.{call_empty, call, group, Operators, no_more, one_more, Walks, arrived, to_property, to_keyword, to_all}
+use Rattle.al_grammar.specs.Grammar.{to_each, to_index, Lists, listed, and_next}
 use Rattle.al_grammar.specs.Inside.{AllLie}
 use Rattle.al_grammar.specs.Lexeme.{Lexeme, lexeme, kinds}
 use Rattle.al_grammar.specs.Refusal.{fault_at, fault_of_content, fault_of_lexed, fault_of_tokens, fault_of_verdict, open_text}
 use Rattle.al_grammar.specs.Table.{Verdict, Fine, Early, Unexpected, TooDeep, verdict_of}
 use Rattle.al_text.specs.FirstBytes.{first_is, begins_with}
-use Rattle.al_grammar.specs.Tokens.{Lexed, AllRead, Bad, Unclosed, begins_name, continue_with, doubled, if_none, is_blank, is_digit, is_inside, is_sign, last_place, last_quote, mark, name_read, number_len, number_read, or_equal, read, span, text_read, text_tail, then_token, tokens_from, tokens_of, Fits}
+use Rattle.al_grammar.specs.Tokens.{Lexed, AllRead, Bad, Unclosed, begins_name, continue_with, doubled, if_none, is_blank, is_digit}
+use Rattle.al_grammar.specs.Tokens.{is_inside, is_sign, last_place, last_quote, mark, name_read, number_len, number_read, or_equal, read}
+use Rattle.al_grammar.specs.Tokens.{span, text_read, text_tail, then_token, tokens_from, tokens_of, Fits}
 use Rattle.al_grammar.specs.Tree as tree
-use Rattle.al_grammar.specs.Tree.{Sign, sign, Tree, Constant, Named, Call, Group, Negated, Path, Chain, Steps, NoStep, PropertyThen, AllThen, IndexThen, StepTree, Operands, NoOperand, OperandThen, Arguments, NoArgument, ArgumentThen, steps_of, operands_of, arguments_of}
+use Rattle.al_grammar.specs.Tree.{Sign, sign, Tree, Constant, Named, Call, Group, Negated, Path, Chain, Steps, NoStep, PropertyThen}
+use Rattle.al_grammar.specs.Tree.{AllThen, IndexThen, StepTree, Operands, NoOperand, OperandThen, Arguments, NoArgument, ArgumentThen}
+use Rattle.al_grammar.specs.Tree.{steps_of, operands_of, arguments_of}
 use Rattle.al_grammar.proofs.Fitting.{name_fits, number_fits, text_fits}
 
 -- ---- what is read at a place lies in the bytes
@@ -91,16 +97,16 @@ mark_short b bs =
 quote_is : (b : ℕ) → nat_eq b 39 ≡ true → b ≡ 39
 quote_is b h = grind (arith, nat_tests)
 
-text_short : (b : ℕ) (bs : List ℕ) → nat_eq b 39 ≡ true → Short (b ∷ bs) (text_read (text_tail false bs))
+text_short : (b : ℕ) (bs : List ℕ) → nat_eq b 39 ≡ true → Short (b ∷ bs) (text_read (text_tail bs))
 text_short b bs e =
-    let there = fits_short (39 ∷ bs) (text_read (text_tail false bs)) (text_fits bs) in
-    subst (λ x. Short (x ∷ bs) (text_read (text_tail false bs))) (sym (quote_is b e)) there
+    let there = fits_short (39 ∷ bs) (text_read (text_tail bs)) (text_fits bs) in
+    subst (λ x. Short (x ∷ bs) (text_read (text_tail bs))) (sym (quote_is b e)) there
 
 read_short : (b : ℕ) (bs : List ℕ) → Short (b ∷ bs) (read (b ∷ bs))
 read_short b bs =
     if_short (b ∷ bs) (is_blank b) Blank _ tt
     (if_given (b ∷ bs) (begins_name b) (name_read (b ∷ bs)) _ (λ e. fits_short (b ∷ bs) (name_read (b ∷ bs)) (name_fits b bs e))
-    (if_given (b ∷ bs) (nat_eq b 39) (text_read (text_tail false bs)) _ (text_short b bs)
+    (if_given (b ∷ bs) (nat_eq b 39) (text_read (text_tail bs)) _ (text_short b bs)
     (if_short (b ∷ bs) (is_digit b || is_sign b) (number_read (number_len (b ∷ bs))) (mark b bs)
     (fits_short (b ∷ bs) (number_read (number_len (b ∷ bs))) (number_fits (b ∷ bs))) (mark_short b bs))))
 

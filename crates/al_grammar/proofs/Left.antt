@@ -28,7 +28,8 @@ one_more len (Unexpected n) h = (h.0, omega (arith, h.1))
 one_more len (TooDeep n) h = (h.0, omega (arith, h.1))
 one_more len _ h = tt
 
-lies_on : (o : Transition) (room : Bool) (len : ℕ) (go : Mode → ℕ → List Frame → Verdict) → ((m : Mode) (k : ℕ) (st : List Frame) → LiesIn len (go m k st)) → LiesIn (suc len) (onward o room (suc len) go)
+lies_on : (o : Transition) (room : Bool) (len : ℕ) (go : Mode → ℕ → List Frame → Verdict)
+    → ((m : Mode) (k : ℕ) (st : List Frame) → LiesIn len (go m k st)) → LiesIn (suc len) (onward o room (suc len) go)
 lies_on Stuck room len go f = (omega arith, omega arith)
 lies_on (Go m k st) room len go f = one_more len (go m k st) (f m k st)
 lies_on (Deeper m k st) true len go f = one_more len (go m k st) (f m k st)

@@ -24,7 +24,8 @@ token_step : (at n b : ℕ) (k : TokenKind) (bs : List ℕ) → Token k (suc n) 
     tokens_from 0 at (b ∷ bs) ≡ then_token (lexeme k (b ∷ take n bs) (span at (at + suc n))) (tokens_from 0 (at + suc n) (drop n bs))
 token_step at n b k bs r f =
     ap (λ x. continue_with x at (b ∷ bs) (λ skip. tokens_from skip (at + 1) bs)) (sym r)
-    ∙ ap (then_token _) (let e : suc n - 1 ≡ n = omega arith in let d : (at + 1) + n ≡ at + suc n = omega arith in ap (λ m. tokens_from m (at + 1) bs) e ∙ skipped n (at + 1) bs f ∙ ap (λ a. tokens_from 0 a (drop n bs)) d)
+    ∙ ap (then_token _) (let e : suc n - 1 ≡ n = omega arith in let d : (at + 1) + n ≡ at + suc n = omega arith in
+    ap (λ m. tokens_from m (at + 1) bs) e ∙ skipped n (at + 1) bs f ∙ ap (λ a. tokens_from 0 a (drop n bs)) d)
 
 pub token_read : (at n : ℕ) (k : TokenKind) (bs : List ℕ) → Token k n ≡ read bs → 0 < n → n ≤ length bs →
     tokens_from 0 at bs ≡ then_token (lexeme k (take n bs) (span at (at + n))) (tokens_from 0 (at + n) (drop n bs))

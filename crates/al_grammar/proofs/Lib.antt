@@ -9,6 +9,7 @@ pub mod TreeViews
 pub mod Front
 pub mod Fitting
 pub mod Lexing
+pub mod TextTails
 pub mod Left
 pub mod Quotes
 pub mod Chunking

@@ -4,7 +4,8 @@ use Rattle.al_grammar.specs.declared.lexer.Read.{Read}
 use Rattle.al_grammar.specs.declared.lexer.Read.TheVariants.{Blank, Token, BadCharacter, OpenText}
 use Rattle.al_grammar.specs.declared.token.TokenKind.{TokenKind}
 use Rattle.al_grammar.specs.Lexeme.{Lexeme}
-use Rattle.al_grammar.specs.Tokens.{Lexed, AllRead, Bad, Unclosed, read, mark, number_read, number_len, or_equal, doubled, tokens_of, last_quote, tokens_from, then_token, continue_with, if_none, last_place}
+use Rattle.al_grammar.specs.Tokens.{Lexed, AllRead, Bad, Unclosed, read, mark, number_read, number_len, or_equal, doubled, tokens_of}
+use Rattle.al_grammar.specs.Tokens.{last_quote, tokens_from, then_token, continue_with, if_none, last_place}
 
 abbrev is_quote : ℕ → Bool
 is_quote b = nat_eq b 39

@@ -7,8 +7,10 @@ use Rattle.al_grammar.specs.declared.parser.ParseError.{ParseError}
 use Rattle.al_grammar.specs.declared.parser.ParseError.TheVariants as error
 use Rattle.al_grammar.specs.Lexeme.{Lexeme, lexeme, kinds}
 use Rattle.al_grammar.specs.Tree as tree
-use Rattle.al_grammar.specs.Tree.{Sign, sign, Tree, Named, Negated, Path, Chain, StepTree, Property, All, steps_of, operands_of, arguments_of, path_of, chain_of}
-use Rattle.al_grammar.specs.Grammar.{Nonterminal, Binary, Unary, Postfix, Primary, level_of, below, Derives, single, chain, positive, negated, bare, path, name, call_empty, call, group, Operators, no_more, one_more, Walks, arrived, to_property, to_keyword, to_all, to_each, to_index, Lists, listed, and_next}
+use Rattle.al_grammar.specs.Tree.{Tree, Named, Property, All, arguments_of}
+use Rattle.al_grammar.specs.Grammar.{Nonterminal, Binary, Primary, level_of}
+use Rattle.al_grammar.specs.Grammar.{name, call_empty, call, group}
+use Rattle.al_grammar.specs.Grammar.{to_property, to_keyword, to_all, to_each, to_index, Lists, listed, and_next}
 use Rattle.al_grammar.specs.Table.{Verdict, Early, Unexpected, TooDeep, E, A, I, S, O, N, Frame, Group, Call, Index, outside, scan}
 use Rattle.al_grammar.specs.Private.Parsed.{Goes, EndsPath, EndsLevel, Parsed, Refused, PartOfCall, StepRead, GoesAfter, StepRefused, fault_at, NoClose}
 use Rattle.al_grammar.proofs.Shape.{NoCall}
@@ -68,19 +70,22 @@ in_index k st [] h = refl
 in_index k st (Star ∷ ts) h = absurd h
 in_index k st (t ∷ ts) h = refl
 
-pub refused_map : (p q : Nonterminal) (room other : ℕ) (ts us : List Lexeme) (e : ParseError) → ((v : Verdict) → Goes p room ts (λ k st. v) → Goes q other us (λ k st. v)) → Refused p room ts e → Refused q other us e
+pub refused_map : (p q : Nonterminal) (room other : ℕ) (ts us : List Lexeme) (e : ParseError)
+    → ((v : Verdict) → Goes p room ts (λ k st. v) → Goes q other us (λ k st. v)) → Refused p room ts e → Refused q other us e
 refused_map p q room other ts us error.Memory f r = tt
 refused_map p q room other ts us error.Early f r = f Early r
 refused_map p q room other ts us (error.Unexpected n) f r = f (Unexpected n) r
 refused_map p q room other ts us (error.TooDeep n) f r = f (TooDeep n) r
 
-pub step_refused_map : (p : Nonterminal) (room other : ℕ) (ts us : List Lexeme) (e : ParseError) → ((v : Verdict) → Goes p room ts (λ k st. v) → GoesAfter other us v) → Refused p room ts e → StepRefused other us e
+pub step_refused_map : (p : Nonterminal) (room other : ℕ) (ts us : List Lexeme) (e : ParseError)
+    → ((v : Verdict) → Goes p room ts (λ k st. v) → GoesAfter other us v) → Refused p room ts e → StepRefused other us e
 step_refused_map p room other ts us error.Memory f r = tt
 step_refused_map p room other ts us error.Early f r = f Early r
 step_refused_map p room other ts us (error.Unexpected n) f r = f (Unexpected n) r
 step_refused_map p room other ts us (error.TooDeep n) f r = f (TooDeep n) r
 
-pub path_refused_map : (p : Nonterminal) (room other : ℕ) (ts us : List Lexeme) (e : ParseError) → ((v : Verdict) → GoesAfter room ts v → Goes p other us (λ k st. v)) → StepRefused room ts e → Refused p other us e
+pub path_refused_map : (p : Nonterminal) (room other : ℕ) (ts us : List Lexeme) (e : ParseError)
+    → ((v : Verdict) → GoesAfter room ts v → Goes p other us (λ k st. v)) → StepRefused room ts e → Refused p other us e
 path_refused_map p room other ts us error.Memory f r = tt
 path_refused_map p room other ts us error.Early f r = f Early r
 path_refused_map p room other ts us (error.Unexpected n) f r = f (Unexpected n) r
@@ -176,7 +181,8 @@ module _ (room inner : ℕ) (b : List ℕ) (s : Span) (ts : List Lexeme) (one : 
   to_inside : (k : ℕ) (st : List Frame) → NoStar (kinds ts) → k + outside st + room ≡ 50 → scan O k st (OpenIndex ∷ kinds ts) ≡ scan E 0 (Index k ∷ st) (kinds ts)
   to_inside k st n h = not_deeper (k + outside st) _ _ (omega arith) ∙ in_index 0 (Index k ∷ st) (kinds ts) n
 
-  pub index_read : (c : List ℕ) (e : Span) (rest : List Lexeme) (t : Tree) → NoStar (kinds ts) → Parsed (Binary 0) inner ts t (lexeme CloseIndex c e ∷ rest) → StepRead room (lexeme OpenIndex b s ∷ ts) (tree.Index s t e) rest
+  pub index_read : (c : List ℕ) (e : Span) (rest : List Lexeme) (t : Tree) → NoStar (kinds ts)
+      → Parsed (Binary 0) inner ts t (lexeme CloseIndex c e ∷ rest) → StepRead room (lexeme OpenIndex b s ∷ ts) (tree.Index s t e) rest
   index_read c e rest t n p = record {
     derives = λ ss after w. to_index p.derives w;
     goes = λ k st h. to_inside k st n h ∙ p.goes 0 (Index k ∷ st) refl (omega arith);
@@ -266,7 +272,8 @@ keyword_read room w b c s d rest = record { derives = λ ss after x. to_keyword 
 pub all_read : (room : ℕ) (b c : List ℕ) (s d : Span) (rest : List Lexeme) → StepRead room (lexeme Dot c d ∷ lexeme Star b s ∷ rest) (All d s) rest
 all_read room b c s d rest = record { derives = λ ss after w. to_all w; goes = λ k st h. refl; shorter = omega arith }
 
-pub each_read : (room inner : ℕ) (a b c : List ℕ) (s d e : Span) (rest : List Lexeme) → inner + 1 ≡ room → StepRead room (lexeme OpenIndex c d ∷ lexeme Star b s ∷ lexeme CloseIndex a e ∷ rest) (All d e) rest
+pub each_read : (room inner : ℕ) (a b c : List ℕ) (s d e : Span) (rest : List Lexeme) → inner + 1 ≡ room
+    → StepRead room (lexeme OpenIndex c d ∷ lexeme Star b s ∷ lexeme CloseIndex a e ∷ rest) (All d e) rest
 each_read room inner a b c s d e rest one = record { derives = λ ss after w. to_each w; goes = λ k st h. not_deeper (k + outside st) _ _ (omega arith); shorter = omega arith }
 
 -- after a dot neither a name nor a star
@@ -288,5 +295,6 @@ after_star k st [] n = refl
 after_star k st (lexeme CloseIndex b s ∷ us) n = absurd n
 after_star k st (lexeme t b s ∷ us) n = unexpected us
 
-pub star_stray : (room inner : ℕ) (b c : List ℕ) (s d : Span) (us : List Lexeme) → inner + 1 ≡ room → NoCloseIndex (kinds us) → StepRefused room (lexeme OpenIndex c d ∷ lexeme Star b s ∷ us) (fault_at us)
+pub star_stray : (room inner : ℕ) (b c : List ℕ) (s d : Span) (us : List Lexeme) → inner + 1 ≡ room → NoCloseIndex (kinds us)
+    → StepRefused room (lexeme OpenIndex c d ∷ lexeme Star b s ∷ us) (fault_at us)
 star_stray room inner b c s d us one n = step_stray room (lexeme OpenIndex c d ∷ lexeme Star b s ∷ us) us (λ k st h. not_deeper (k + outside st) _ _ (omega arith) ∙ after_star k st us n)

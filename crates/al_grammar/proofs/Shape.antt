@@ -4,8 +4,12 @@ use Rattle.al_grammar.specs.declared.token.TokenKind.{TokenKind}
 use Rattle.al_grammar.specs.declared.token.TokenKind.TheVariants.{Name, Keyword, Number, Text, Open, Close, OpenIndex, CloseIndex, Dot, Comma, Star, Bang, Infix}
 use Rattle.al_grammar.specs.Lexeme.{Lexeme, kinds}
 use Rattle.al_grammar.specs.Tree.{Sign, Tree, StepTree}
-use Rattle.al_grammar.specs.Grammar.{Nonterminal, Derives, single, chain, positive, negated, bare, path, constant, number, text, name, call_empty, call, group, Operators, no_more, one_more, Walks, arrived, to_property, to_keyword, to_all, to_each, to_index, Lists, listed, and_next}
-use Rattle.al_grammar.specs.Table.{Verdict, Fine, Early, Unexpected, TooDeep, Mode, E, A, I, S, D, O, N, Frame, Group, Call, Index, Transition, Stuck, Go, Deeper, operand, after_operand, close, close_index, comma, step, finish, outside, onward, scan}
+use Rattle.al_grammar.specs.Grammar.{Nonterminal, Derives, single, chain, positive, negated, bare, path, constant, number, text, name}
+use Rattle.al_grammar.specs.Grammar.{call_empty, call, group, Operators, no_more, one_more, Walks, arrived, to_property, to_keyword, to_all}
+use Rattle.al_grammar.specs.Grammar.{to_each, to_index, Lists, listed, and_next}
+use Rattle.al_grammar.specs.Table.{Verdict, Fine, Early, Unexpected, TooDeep, Mode, E, A, I, S, D, O, N, Frame, Group, Call, Index}
+use Rattle.al_grammar.specs.Table.{Transition, Stuck, Go, Deeper, operand, after_operand, close, close_index, comma, step, finish, outside}
+use Rattle.al_grammar.specs.Table.{onward, scan}
 
 abbrev pub forget : List Frame → List Frame
 forget [] = []
@@ -208,7 +212,8 @@ finish_bound N [] n h = cc
 finish_bound N (b ∷ st) n h = cc
 finish_bound _ st n h = cc
 
-bound_on : (o : Transition) (len n : ℕ) (go : Mode → ℕ → List Frame → Verdict) → ((m : Mode) (k : ℕ) (st : List Frame) → go m k st ≡ Unexpected n → n ≤ len) → onward o true (suc len) go ≡ Unexpected n → n ≤ suc len
+bound_on : (o : Transition) (len n : ℕ) (go : Mode → ℕ → List Frame → Verdict)
+    → ((m : Mode) (k : ℕ) (st : List Frame) → go m k st ≡ Unexpected n → n ≤ len) → onward o true (suc len) go ≡ Unexpected n → n ≤ suc len
 bound_on Stuck len n go ih h = let e : suc len ≡ n = cc in omega arith
 bound_on (Go m k st) len n go ih h = let j = ih m k st h in omega (arith, j)
 bound_on (Deeper m k st) len n go ih h = let j = ih m k st h in omega (arith, j)
@@ -217,18 +222,22 @@ bound : (ts : List TokenKind) (m : Mode) (st : List Frame) (n : ℕ) → shape m
 bound [] m st n h = absurd (finish_bound m st n h)
 bound (t ∷ ts) m st n h = bound_on (step m 0 st t) (length ts) n (λ m' k' st'. shape m' st' ts) (λ m' k' st' e. bound ts m' st' n e) h
 
-here : (o : Transition) (back other : List TokenKind) → onward o true (suc (length back)) (λ m k st. shape m st back) ≡ Unexpected (suc (length back)) → onward o true (suc (length other)) (λ m k st. shape m st other) ≡ Unexpected (suc (length other))
+here : (o : Transition) (back other : List TokenKind) → onward o true (suc (length back)) (λ m k st. shape m st back)
+    ≡ Unexpected (suc (length back)) → onward o true (suc (length other)) (λ m k st. shape m st other) ≡ Unexpected (suc (length other))
 here Stuck back other h = refl
 here (Go m k st) back other h = let j = bound back m st _ h in absurd (omega (arith, j))
 here (Deeper m k st) back other h = let j = bound back m st _ h in absurd (omega (arith, j))
 
-further : (o : Transition) (left n m : ℕ) (go on : Mode → ℕ → List Frame → Verdict) → n < left → ((a : Mode) (k : ℕ) (st : List Frame) → go a k st ≡ Unexpected n → on a k st ≡ Unexpected m) → onward o true left go ≡ Unexpected n → (left' : ℕ) → onward o true left' on ≡ Unexpected m
+further : (o : Transition) (left n m : ℕ) (go on : Mode → ℕ → List Frame → Verdict) → n < left
+    → ((a : Mode) (k : ℕ) (st : List Frame) → go a k st ≡ Unexpected n → on a k st ≡ Unexpected m) → onward o true left go ≡ Unexpected n
+    → (left' : ℕ) → onward o true left' on ≡ Unexpected m
 further Stuck left n m go on low ih h left' = let e : left ≡ n = cc in absurd (omega arith)
 further (Go a k st) left n m go on low ih h left' = ih a k st h
 further (Deeper a k st) left n m go on low ih h left' = ih a k st h
 
 -- The first fault is the same whatever follows it.
-pub same_fault : (front back other : List TokenKind) (x : TokenKind) (m : Mode) (st : List Frame) → shape m st (front ++ x ∷ back) ≡ Unexpected (length (x ∷ back)) → shape m st (front ++ x ∷ other) ≡ Unexpected (length (x ∷ other))
+pub same_fault : (front back other : List TokenKind) (x : TokenKind) (m : Mode) (st : List Frame) → shape m st (front ++ x ∷ back)
+    ≡ Unexpected (length (x ∷ back)) → shape m st (front ++ x ∷ other) ≡ Unexpected (length (x ∷ other))
 same_fault [] back other x m st h = here (step m 0 st x) back other h
 same_fault (y ∷ front) back other x m st h =
     further (step m 0 st y) _ _ _ (λ m' k' st'. shape m' st' (front ++ x ∷ back)) (λ m' k' st'. shape m' st' (front ++ x ∷ other))

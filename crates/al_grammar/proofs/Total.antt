@@ -8,8 +8,12 @@ use Rattle.al_grammar.specs.Lexeme.{Lexeme, lexeme, kinds}
 use Rattle.al_grammar.specs.Tree.{Sign, sign, Tree, StepTree, path_of, chain_of}
 use Rattle.al_grammar.specs.Grammar.{Nonterminal, Binary, Unary, Postfix, Primary, level_of, below}
 use Rattle.al_grammar.specs.Private.Parsed.{Parsed, Refused, NoBang, EndsPath, Stops, PartOfPath, PartOfChain, PartOfCall, StepRead, StepRefused, NoOperator, fault_at, GoesOn, NoClose}
-use Rattle.al_grammar.proofs.Rules.{constant_read, number_read, text_read, name_read, group_read, group_refused, group_stray, group_deep, call_empty_read, call_read, call_refused, call_stray, call_deep, argument_refused, arguments_begin, arguments_go_on, index_read, index_refused, index_stray, index_deep, each_read, star_stray, property_read, keyword_read, all_read, dot_stray, unexpected, NoStar}
-use Rattle.al_grammar.proofs.Chains.{not_read, not_refused, not_deep, positive_read, positive_refused, steps_read, path_refused, path_begins, path_goes_on, chain_begins, chain_goes_on, operands_read, first_refused, later_refused}
+use Rattle.al_grammar.proofs.Rules.{constant_read, number_read, text_read, name_read, group_read, group_refused, group_stray, group_deep}
+use Rattle.al_grammar.proofs.Rules.{call_empty_read, call_read, call_refused, call_stray, call_deep, argument_refused, arguments_begin}
+use Rattle.al_grammar.proofs.Rules.{arguments_go_on, index_read, index_refused, index_stray, index_deep, each_read, star_stray}
+use Rattle.al_grammar.proofs.Rules.{property_read, keyword_read, all_read, dot_stray, unexpected, NoStar}
+use Rattle.al_grammar.proofs.Chains.{not_read, not_refused, not_deep, positive_read, positive_refused, steps_read, path_refused}
+use Rattle.al_grammar.proofs.Chains.{path_begins, path_goes_on, chain_begins, chain_goes_on, operands_read, first_refused, later_refused}
 
 abbrev pub IsFault : ParseError → Type 0
 IsFault error.Memory = ⊥
@@ -63,7 +67,8 @@ module _ (n room : ℕ) (b c : List ℕ) (s u : Span) (ts mid : List Lexeme) (t 
   arguments fuel [] more w f = refused (fault_at []) tt (call_stray (suc room) room b c s u ts (omega arith) mid t some p [] more w tt)
   arguments fuel (lexeme k d e ∷ rest) more w f = refused (fault_at (lexeme k d e ∷ rest)) tt (call_stray (suc room) room b c s u ts (omega arith) mid t some p (lexeme k d e ∷ rest) more w tt)
 
-abbrev pub called : (n room : ℕ) (b c : List ℕ) (s u : Span) (ts : List Lexeme) → Inner n → length ts < n → NoClose (kinds ts) → Outcome (Binary 0) room ts → Outcome Primary (suc room) (lexeme Name b s ∷ lexeme Open c u ∷ ts)
+abbrev pub called : (n room : ℕ) (b c : List ℕ) (s u : Span) (ts : List Lexeme) → Inner n → length ts < n → NoClose (kinds ts)
+    → Outcome (Binary 0) room ts → Outcome Primary (suc room) (lexeme Name b s ∷ lexeme Open c u ∷ ts)
 called n room b c s u ts inner h o (refused e i r) = refused e i (call_refused (suc room) room b c s u ts (omega arith) e o r)
 called n room b c s u ts inner h o (read t mid p) = arguments n room b c s u ts mid t inner h o p (length mid) mid [] (arguments_begin room mid p.stops) (omega arith)
 
@@ -95,7 +100,8 @@ step n room (lexeme Dot c d ∷ lexeme k b s ∷ ts) inner h g = step_refused (f
 step n zero (lexeme OpenIndex c d ∷ ts) inner h g = step_refused (error.TooDeep (suc (length ts))) tt (index_deep c d ts)
 step n (suc room) (lexeme OpenIndex c d ∷ lexeme Star b s ∷ []) inner h g = step_refused error.Early tt (star_stray (suc room) room b c s d [] (omega arith) tt)
 step n (suc room) (lexeme OpenIndex c d ∷ lexeme Star b s ∷ lexeme CloseIndex a e ∷ ts) inner h g = step_read _ ts (each_read (suc room) room a b c s d e ts (omega arith))
-step n (suc room) (lexeme OpenIndex c d ∷ lexeme Star b s ∷ lexeme k a e ∷ ts) inner h g = step_refused (fault_at (lexeme k a e ∷ ts)) tt (star_stray (suc room) room b c s d (lexeme k a e ∷ ts) (omega arith) tt)
+step n (suc room) (lexeme OpenIndex c d ∷ lexeme Star b s ∷ lexeme k a e ∷ ts) inner h g = step_refused (fault_at (lexeme k a e ∷ ts)) tt
+    (star_stray (suc room) room b c s d (lexeme k a e ∷ ts) (omega arith) tt)
 step n (suc room) (lexeme OpenIndex c d ∷ []) inner h g = indexed room c d [] tt (inner room [] (omega arith))
 step n (suc room) (lexeme OpenIndex c d ∷ lexeme k b s ∷ ts) inner h g = indexed room c d (lexeme k b s ∷ ts) tt (inner room (lexeme k b s ∷ ts) (omega arith))
 step n room [] inner h g = absurd g
@@ -111,7 +117,8 @@ abbrev pub some_token : (ts : List Lexeme) → GoesOn (kinds ts) → 0 < length 
 some_token [] g = absurd g
 some_token (t ∷ ts) g = omega arith
 
-abbrev pub walk : (fuel n room : ℕ) (ts mid left : List Lexeme) (t : Tree) (ss : List StepTree) → Inner n → length ts ≤ n → Parsed Primary room ts t mid → PartOfPath room mid ss left → length left ≤ fuel → Outcome Postfix room ts
+abbrev pub walk : (fuel n room : ℕ) (ts mid left : List Lexeme) (t : Tree) (ss : List StepTree) → Inner n → length ts ≤ n
+    → Parsed Primary room ts t mid → PartOfPath room mid ss left → length left ≤ fuel → Outcome Postfix room ts
 walk zero n room ts mid left t ss inner h p w f = elim (goes_or_ends left) [
   | inl g ↦ absurd (omega (arith, some_token left g))
   | inr ends ↦ read (path_of t ss) left (steps_read room ts mid left t ss p w ends)
@@ -156,7 +163,8 @@ decide zero (suc m) = inr (λ e. absurd (omega (arith, e)))
 decide (suc n) zero = inr (λ e. absurd (omega (arith, e)))
 decide (suc n) (suc m) = elim (decide n m) [ inl e ↦ inl (ap suc e) | inr e ↦ inr (λ f. e (omega (arith, f))) ]
 
-module _ (l n room : ℕ) (low : l < 4) (operand : (us : List Lexeme) → length us ≤ n → Outcome (below l) room us) (ts mid : List Lexeme) (t : Tree) (h : length ts ≤ n) (p : Parsed (below l) room ts t mid) where
+module _ (l n room : ℕ) (low : l < 4) (operand : (us : List Lexeme) → length us ≤ n → Outcome (below l) room us) (ts mid : List Lexeme)
+    (t : Tree) (h : length ts ≤ n) (p : Parsed (below l) room ts t mid) where
   abbrev pub chain_ends : (left : List Lexeme) (os : List (Sign × Tree)) → PartOfChain l room mid os left → Stops (below l) (kinds left) → NoOperator l (kinds left) → Outcome (Binary l) room ts
   chain_ends left os c s none = read (chain_of t os) left (operands_read l room ts mid left t os low p c s none)
 

@@ -4,7 +4,8 @@ use Rattle.al_grammar.specs.declared.ast.Operand.{Operand}
 use Rattle.al_grammar.specs.Tree.{sign, StepTree, Property, All, Index, steps_of}
 use Rattle.al_grammar.specs.View.{tree_of, operand_of}
 use Rattle.al_grammar.specs.Extents.{end_of_step, end_of_steps}
-use Rattle.al_grammar.proofs.Trees.{tree_of-Keyword, tree_of-Number, tree_of-Text, tree_of-Name, tree_of-Call, tree_of-Group, tree_of-Not, tree_of-Path, tree_of-Chain, step_of-Property, step_of-All, step_of-Index, operand_of-made}
+use Rattle.al_grammar.proofs.Trees.{tree_of-Keyword, tree_of-Number, tree_of-Text, tree_of-Name, tree_of-Call, tree_of-Group, tree_of-Not}
+use Rattle.al_grammar.proofs.Trees.{tree_of-Path, tree_of-Chain, step_of-Property, step_of-All, step_of-Index, operand_of-made}
 
 pub ruleset tree_views = (tree_of-Keyword, tree_of-Number, tree_of-Text, tree_of-Name, tree_of-Call, tree_of-Group, tree_of-Not, tree_of-Path, tree_of-Chain)
 

@@ -15,7 +15,8 @@ use Rattle.al_grammar.specs.declared.ast.Expr.TheViews.{roll-Operand}
 use Rattle.al_grammar.specs.declared.ast.Expr.TheVariants.{rolls-Keyword, rolls-Number, rolls-Text, rolls-Name, rolls-Call, rolls-Group, rolls-Not, rolls-Path, rolls-Chain}
 use Rattle.al_grammar.specs.declared.ast.PathStep.TheVariants.{rolls-Property, rolls-All, rolls-Index}
 use Rattle.al_grammar.specs.declared.ast.Expr.TheFolds.{fold-roll-Expr, fold-roll-PathStep, fold-roll-Operand}
-use Rattle.al_grammar.specs.Tree.{Sign, sign, Tree, Constant, Number, Text, Named, Call, Group, Negated, Path, Chain, StepTree, Property, All, Index, steps_of, operands_of, arguments_of, path_of, chain_of}
+use Rattle.al_grammar.specs.Tree.{Sign, sign, Tree, Constant, Number, Text, Named, Call, Group, Negated, Path, Chain, StepTree, Property}
+use Rattle.al_grammar.specs.Tree.{All, Index, steps_of, operands_of, arguments_of, path_of, chain_of}
 use Rattle.al_grammar.specs.View.{expr_layer, step_layer, operand_layer, tree_of, step_of, operand_of}
 
 pub tree_of-Keyword : (w : Keyword) (s : Span) → tree_of (code.Keyword w s) ≡ Constant w s

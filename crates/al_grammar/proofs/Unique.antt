@@ -5,7 +5,9 @@ use Rattle.al_grammar.specs.declared.token.TokenKind.{TokenKind}
 use Rattle.al_grammar.specs.declared.token.TokenKind.TheVariants.{Open, Close, OpenIndex, Dot, Bang, Infix}
 use Rattle.al_grammar.specs.Lexeme.{Lexeme, lexeme, kinds}
 use Rattle.al_grammar.specs.Tree.{Sign, Tree, Negated, StepTree}
-use Rattle.al_grammar.specs.Grammar.{Nonterminal, Binary, Unary, Postfix, Primary, level_of, below, Derives, single, chain, positive, negated, bare, path, constant, number, text, name, call_empty, call, group, Operators, no_more, one_more, Walks, arrived, to_property, to_keyword, to_all, to_each, to_index, Lists, listed, and_next}
+use Rattle.al_grammar.specs.Grammar.{Nonterminal, Binary, Unary, Postfix, Primary, level_of, below, Derives, single, chain, positive}
+use Rattle.al_grammar.specs.Grammar.{negated, bare, path, constant, number, text, name, call_empty, call, group, Operators, no_more}
+use Rattle.al_grammar.specs.Grammar.{one_more, Walks, arrived, to_property, to_keyword, to_all, to_each, to_index, Lists, listed, and_next}
 use Rattle.al_grammar.proofs.Shape.{NoCall, begins, before_walks}
 
 -- No path and no call goes on.
@@ -91,7 +93,8 @@ not_bang (bare d) = elim d [ ]
 not_bang (path d w) = elim d [ ]
 
 mutual
-  pub unique : {p : Nonterminal} {ts rest : List Lexeme} {t : Tree} → Derives p ts t rest → Ends p (kinds rest) → {u : Tree} {after : List Lexeme} → Derives p ts u after → Ends p (kinds after) → (t ≡ u) × (rest ≡ after)
+  pub unique : {p : Nonterminal} {ts rest : List Lexeme} {t : Tree} → Derives p ts t rest → Ends p (kinds rest)
+      → {u : Tree} {after : List Lexeme} → Derives p ts u after → Ends p (kinds after) → (t ≡ u) × (rest ≡ after)
   unique (single {l = l} d) h (single d') h' = unique d (ends_below l _ h) d' (ends_below l _ h')
   unique (single {l = l} d) h (chain d' w') h' =
       let same = unique d (ends_below l _ h) d' (before_ops w' h') in
@@ -131,7 +134,8 @@ mutual
       (cc, cc)
   unique (group d) h (group d') h' = let same = unique d tt d' tt in (cc, cc)
 
-  unique_ops : {l : ℕ} {ts rest : List Lexeme} {os : List (Sign × Tree)} → Operators l ts os rest → NoMoreAt l (kinds rest) → {os' : List (Sign × Tree)} {after : List Lexeme} → Operators l ts os' after → NoMoreAt l (kinds after) → (os ≡ os') × (rest ≡ after)
+  unique_ops : {l : ℕ} {ts rest : List Lexeme} {os : List (Sign × Tree)} → Operators l ts os rest → NoMoreAt l (kinds rest)
+      → {os' : List (Sign × Tree)} {after : List Lexeme} → Operators l ts os' after → NoMoreAt l (kinds after) → (os ≡ os') × (rest ≡ after)
   unique_ops no_more h no_more h' = (refl, refl)
   unique_ops no_more h (one_more {l = l} {o = o} {ts = ts} e d w) h' = absurd (not_at l o (kinds ts) e h)
   unique_ops (one_more {l = l} {o = o} {ts = ts} e d w) h no_more h' = absurd (not_at l o (kinds ts) e h')
@@ -140,7 +144,8 @@ mutual
       let more = unique_ops w h (subst (λ m. Operators l m os after) (sym same.1) w') h' in
       (cc, more.1)
 
-  unique_walks : {ts rest : List Lexeme} {ss : List StepTree} → Walks ts ss rest → NoMore (kinds rest) → {ss' : List StepTree} {after : List Lexeme} → Walks ts ss' after → NoMore (kinds after) → (ss ≡ ss') × (rest ≡ after)
+  unique_walks : {ts rest : List Lexeme} {ss : List StepTree} → Walks ts ss rest → NoMore (kinds rest)
+      → {ss' : List StepTree} {after : List Lexeme} → Walks ts ss' after → NoMore (kinds after) → (ss ≡ ss') × (rest ≡ after)
   unique_walks arrived h arrived h' = (refl, refl)
   unique_walks arrived h (to_property w) h' = absurd h
   unique_walks arrived h (to_keyword w) h' = absurd h
@@ -163,7 +168,8 @@ mutual
       let more = unique_walks w h (subst (λ m. Walks m ss after) (sym cc) w') h' in
       (cc, more.1)
 
-  unique_lists : {ts rest : List Lexeme} {more : List Tree} → Lists ts more rest → IsClose (kinds rest) → {more' : List Tree} {after : List Lexeme} → Lists ts more' after → IsClose (kinds after) → (more ≡ more') × (rest ≡ after)
+  unique_lists : {ts rest : List Lexeme} {more : List Tree} → Lists ts more rest → IsClose (kinds rest)
+      → {more' : List Tree} {after : List Lexeme} → Lists ts more' after → IsClose (kinds after) → (more ≡ more') × (rest ≡ after)
   unique_lists listed h listed h' = (refl, refl)
   unique_lists listed h (and_next d w) h' = absurd h
   unique_lists (and_next d w) h listed h' = absurd h'

@@ -77,18 +77,12 @@ abbrev pub add_to : ℕ → Option ℕ → Option ℕ
 add_to n None = None
 add_to n (Some m) = Some (n + m)
 
--- on from a byte of a text, after a quote or not, where the byte is a quote or not
-abbrev pub after_byte : Bool → Bool → (Bool → Option ℕ) → Option ℕ
-after_byte false quote go = add_to 1 (go quote)
-after_byte true true go = add_to 1 (go false)
-after_byte true false go = Some 0
-
--- How many bytes follow the quote that opens a text, its closing quote included, where it is closed; a doubled quote doesn't close it.
--- The flag: a quote came last that may close it.
-abbrev pub text_tail : Bool → List ℕ → Option ℕ
-text_tail false [] = None
-text_tail true [] = Some 0
-text_tail quote (b ∷ bs) = after_byte quote (nat_eq b 39) (λ q. text_tail q bs)
+-- How many bytes follow the quote that opens a text, its closing quote included, where it is closed: two quotes stand for one in the
+-- text, and the first that is single closes it.
+abbrev pub text_tail : List ℕ → Option ℕ
+text_tail [] = None
+text_tail (b ∷ []) = if nat_eq b 39 then Some 1 else None
+text_tail (b ∷ c ∷ bs) = if nat_eq b 39 then (if nat_eq c 39 then add_to 2 (text_tail bs) else Some 1) else add_to 1 (text_tail (c ∷ bs))
 
 -- `null`, `true` and `false` are words of their own
 abbrev pub word_kind : List ℕ → TokenKind
@@ -142,7 +136,7 @@ read [] = BadCharacter
 read (b ∷ bs) =
     if is_blank b then Blank
     else if begins_name b then name_read (b ∷ bs)
-    else if nat_eq b 39 then text_read (text_tail false bs)
+    else if nat_eq b 39 then text_read (text_tail bs)
     else if is_digit b || is_sign b then number_read (number_len (b ∷ bs))
     else mark b bs
 

@@ -1,6 +1,6 @@
 //! The expressions that a text holds, each between `${{` and `}}`.
 
-ghost use Rattle.std.specs.Prelude.{◌≡◌, ◌≤◌, ◌<◌, ◌+◌, ◌^◌, IfOk, MatchOption, All, [], ◌∷◌, map, length};
+ghost use Rattle.std.specs.Prelude.{◌≡◌, ◌≤◌, ◌<◌, ◌+◌, ◌^◌, IfOk, All, map, length};
 ghost use Rattle.std.specs.Str.{IsCharBoundary};
 ghost use Rattle.al_grammar.specs.Tokens.{span};
 ghost use Rattle.al_grammar.specs.Chunks.{chunks_of, closes, opens, span_of_chunk, IsCutFrom};

@@ -6,6 +6,7 @@ ghost use Rattle.al_grammar.specs.Tokens.{begins_name, goes_on_name, is_blank, i
 ghost use Rattle.al_text.specs.FirstBytes.{begins_with};
 ghost use Rattle.al_grammar.specs.Tokens.{word_kind, text_tail, text_read, name_read, number_read, number_len, read, tokens_of, AllRead};
 ghost use Rattle.al_grammar.specs.Tokens.{unread, Fits, last_quote};
+ghost use Rattle.al_grammar.specs.Private.TextTails.{tail_from};
 ghost use Rattle.al_grammar.specs.Refusal.{fault_of_lexed};
 
 use crate::faults::plain_fault;
@@ -97,7 +98,7 @@ fn name_kind(name: &[u8]) -> TokenKind
 /// How many bytes follow the quote that opens a text, the closing one included, or none where it is never closed. A
 /// doubled quote is a part of the text.
 fn text_len(bytes: &[u8]) -> Option<usize>
-    ensures value { result ≡ text_tail false bytes.now }
+    ensures value { result ≡ tail_from false bytes.now }
     ensures within { IfSome result (λ n. n ≤ length bytes.now) }
 {
     let mut closes = false;
@@ -196,7 +197,7 @@ fn number_at(bytes: &[u8]) -> Read
 
 /// The text behind its opening quote.
 fn text_at(rest: &[u8]) -> Read
-    ensures { result ≡ text_read (text_tail false rest.now) }
+    ensures { result ≡ text_read (text_tail rest.now) }
 {
     match text_len(rest) {
         Some(len) => Read::Token(TokenKind::Text, 1 + len),

@@ -1,6 +1,6 @@
 //! The tree that tokens spell, level by level of the operators.
 
-ghost use Rattle.std.specs.Prelude.{map, ℕ, IfOk, ◌≡◌, ◌≢◌, ◌+◌, ◌<◌, MatchOption, MatchResult, List, [], ◌∷◌, string_bytes};
+ghost use Rattle.std.specs.Prelude.{map, IfOk, ◌≡◌, ◌≢◌, ◌+◌, ◌<◌, MatchOption, MatchResult, List, [], ◌∷◌, string_bytes};
 ghost use Rattle.al_grammar.specs.Lexeme.{seen, kinds, kind_of, text_of, span_of};
 ghost use Rattle.al_grammar.specs.Private.Parsed.{EndsPath, IsStray, NoOperator, Parses, ParsesStep, StepRead, StepRefused, ArgumentsRead};
 ghost use Rattle.al_grammar.specs.Private.Parsed.{ArgumentsRefused, NoClose, NoBang, IsVerdict};

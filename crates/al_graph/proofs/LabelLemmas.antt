@@ -1,5 +1,6 @@
 -- Labels that are given one after another, and what they say in the end.
-use Rattle.std.proofs.Common.{◌≡◌, ℕ, zero, suc, ◌+◌, ◌<◌, ◌≤◌, List, [], ◌∷◌, ◌++◌, length, get_or, set, take, replicate, refl, sym, subst, ap, ◌∙◌, arith, ⊎_elim, inl, inr, length-append, Option, Some, None, true, false, is_none, is_some}
+use Rattle.std.proofs.Common.{◌≡◌, ℕ, zero, suc, ◌+◌, ◌<◌, ◌≤◌, List, [], ◌∷◌, ◌++◌, length, get_or, set, take, replicate, refl, sym, subst}
+use Rattle.std.proofs.Common.{ap, ◌∙◌, arith, ⊎_elim, inl, inr, length-append, Option, Some, None, true, false, is_none, is_some}
 use Rattle.std.specs.Prelude.{Contains, ◌↔◌}
 use Rattle.std.specs.Option.{unwrap_or}
 use Rattle.std.proofs.lemmas.List.{length-set, get_or-set_other, get_or-set_same, take_more, length-replicate, get_or-replicate, get_or_past}
@@ -7,7 +8,7 @@ use Rattle.std.proofs.lemmas.List.Elements.{Contains-append_left, Contains-appen
 use Rattle.std.proofs.lemmas.List.Sums.{sum_by-set}
 use Rattle.std.proofs.lemmas.Bool.{cases_eq, cases_lt}
 use Rattle.al_graph.specs.Graphs.{Edge, IsTurned, StronglyConnected, Walk, here, onward}
-use Rattle.al_graph.proofs.MarkLemmas.{is_one, none_in, one_is}
+use Rattle.al_graph.proofs.Lists.{is_one, none_in, one_is}
 use Rattle.al_graph.proofs.TurnLemmas.{turned_walk}
 use Rattle.al_graph.specs.Private.Finishing.{IsFinished, node_at}
 use Rattle.al_graph.specs.Private.Labelling.{IsBackward, IsLabelling, Labels, LeadsUp, free_one, label_at}
@@ -60,7 +61,13 @@ labels_first label labels j found h e =
       all = λ k c. (label, subst (λ n. label_at (set labels j (Some label)) n ≡ Some label) (one_is j k c) new);
       kept = λ k l s. ⊎_elim (λ same. absurd (not_both l (label_at labels j) e (subst (λ n. label_at labels n ≡ Some l) same s))) (λ ne. off k ne ∙ s) (cases_eq k j);
       only = λ k l s. ⊎_elim
-          (λ same. inr (subst In (sym same) (is_one j), some_is l label (sym (subst (λ n. label_at (set labels j (Some label)) n ≡ Some l) same s) ∙ new), subst (λ n. label_at labels n ≡ None) (sym same) e))
+          (λ same. inr (
+            subst In (sym same) (is_one j),
+            some_is l label
+                (sym (subst (λ n. label_at (set labels j (Some label)) n ≡ Some l) same s) ∙ new),
+            subst (λ n. label_at labels n ≡ None)
+                (sym same) e,
+          ))
           (λ ne. inl (sym (off k ne) ∙ s)) (cases_eq k j);
       listed = λ k l s. ⊎_elim (λ same. inr (subst InMore (sym same) (Contains-append_right found (j ∷ []) j (is_one j)))) (λ ne. inl (sym (off k ne) ∙ s)) (cases_eq k j);
       list_kept = λ k c. Contains-append_left found (j ∷ []) k c;
@@ -120,7 +127,14 @@ module _ (graph : List (List ℕ)) (order : List ℕ) where
             (m.only j l here_is);
         opened = λ k c. ⊎_elim (λ old. absurd (none_in k (subst (λ (ns : List ℕ). Contains ns k) e old))) (λ n. n) (m.list_only k c);
         reached = only (λ k l. Walk graph (node_at order l) k) s.reached (λ k c n. subst (Walk graph (node_at order at)) (sym is ∙ one_is r k c) here);
-        leads = only (LeadsUp graph order) s.leads (λ k c n. (at, omega arith, sym is ∙ one_is r k c, λ d up down. let same : d ≡ at = omega (arith, up, down) in subst (λ x. Walk graph (node_at order x) (node_at order at)) (sym same) here));
+        leads = only (LeadsUp graph order) s.leads
+            (λ k c n. (
+              at,
+              omega arith,
+              sym is ∙ one_is r k c,
+              λ d up down. let same : d ≡ at = omega (arith, up, down) in
+                  subst (λ x. Walk graph (node_at order x) (node_at order at)) (sym same) here,
+            ));
       }
     where
       above : (a i : ℕ) → a ≤ i → (i ≡ a → ⊥) → a + 1 ≤ i

@@ -1,5 +1,7 @@
-pub mod MarkLemmas
-pub mod Searches
+pub mod Lists
+pub mod Edges
+pub mod FilterMaps
+pub mod Labels
 pub mod TurnLemmas
 pub mod Orders
 pub mod SearchLemmas

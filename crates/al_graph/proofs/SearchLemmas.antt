@@ -1,5 +1,6 @@
 -- Steps of a search that finishes nodes.
-use Rattle.std.proofs.Common.{◌≡◌, ℕ, zero, suc, ◌+◌, ◌*◌, ◌<◌, ◌≤◌, List, [], ◌∷◌, ◌++◌, Bool, true, false, length, get_or, set, refl, sym, subst, ap, ◌∙◌, arith, ◌⊎◌, ⊎_elim, inl, inr, sum_by, replicate}
+use Rattle.std.proofs.Common.{◌≡◌, ℕ, zero, suc, ◌+◌, ◌*◌, ◌<◌, ◌≤◌, List, [], ◌∷◌, ◌++◌, Bool, true, false, length, get_or, set, refl, sym}
+use Rattle.std.proofs.Common.{subst, ap, ◌∙◌, arith, ◌⊎◌, ⊎_elim, inl, inr, sum_by, replicate}
 use Rattle.std.specs.List.{AllByRecursion}
 use Rattle.std.specs.Prelude.{Contains}
 use Rattle.std.proofs.lemmas.List.{length-set, get_or-set_other, get_or-set_same, length-replicate, get_or-replicate, get_or_past}
@@ -10,7 +11,7 @@ use Rattle.std.proofs.lemmas.Grind.{get_or-set_at}
 use Rattle.std.proofs.lemmas.Bool.{cases_eq, cases_lt}
 use Rattle.al_graph.specs.Graphs.{Edge, Walk, here, onward}
 use Rattle.al_graph.specs.Private.Marks.{Marked, unmarked_one}
-use Rattle.al_graph.proofs.MarkLemmas.{is_one, none_in, one_is}
+use Rattle.al_graph.proofs.Lists.{is_one, none_in, one_is}
 use Rattle.al_graph.specs.Private.Finishing.{Chain, IsBegun, IsFinished, IsSearch, Nested, cost, frame_cost, is_seen_edges, node_at, nodes_of}
 use Rattle.al_graph.proofs.Orders.{all_at, all_front, all_last, all_more, all_weaker, at_before, at_end, chain_front, chain_last, chain_more, last_or_before, nodes_append}
 
@@ -92,7 +93,9 @@ module _ (graph : List (List ℕ)) where
               (b.listed k m);
           entered = λ k c. b.entered k (subst (λ (ns : List ℕ). Contains ns k) (sym nodes) (Contains-append_left (nodes_of frames) (w ∷ []) k c));
           finished = λ k c. ⊎_elim (λ old. b.finished k old) (λ new. subst (Marked seen) (one_is w k new) w_seen) (Contains-append_cases order (w ∷ []) k c);
-          closed = λ j k c e. ⊎_elim (λ old. b.closed j k old e) (λ new. let From : ℕ → Type 0 = λ n. Edge graph n k in w_edges k (subst From (sym (one_is w j new)) e)) (Contains-append_cases order (w ∷ []) j c);
+          closed = λ j k c e. ⊎_elim (λ old. b.closed j k old e)
+              (λ new. let From : ℕ → Type 0 = λ n. Edge graph n k in w_edges k (subst From (sym (one_is w j new)) e))
+              (Contains-append_cases order (w ∷ []) j c);
           edges = all_front EdgesOf frames ((w, []) ∷ []) b.edges;
           chain = chain_front graph (nodes_of frames) w chain;
           pending = pending_more order (nodes_of frames) w leads pending;

@@ -7,8 +7,8 @@ use Rattle.std.proofs.lemmas.List.Elements.{Contains-append_left, Contains-appen
 use Rattle.std.proofs.lemmas.Grind.{get_or-set_at}
 use Rattle.std.proofs.lemmas.Bool.{cases_eq, cases_lt}
 use Rattle.al_graph.specs.Graphs.{AddsEdges, Edge, IsTurned, Walk, edges_of, here, onward}
-use Rattle.al_graph.proofs.MarkLemmas.{is_one, none_in, one_is, written}
-use Rattle.al_graph.proofs.Searches.{edges_at}
+use Rattle.al_graph.proofs.Lists.{is_one, none_in, one_is, written}
+use Rattle.al_graph.proofs.Edges.{edges_at}
 
 abbrev no_edges : List ℕ
 no_edges = []
@@ -59,7 +59,8 @@ edges_more xs ys to a b c one two = record {
   only = λ j k e. ⊎_elim (λ f. ⊎_elim (λ o. inl o) (λ l. inr (Contains-append_left xs ys j l.0, l.1)) (one.only j k f)) (λ r. inr (Contains-append_right xs ys j r.0, r.1)) (two.only j k e);
 }
 
-pub edges_next : (nodes : List ℕ) (i to : ℕ) (a b c : List (List ℕ)) → i < length nodes → AddsEdges (take i nodes) to a b → AddsEdges (get_or nodes i 0 ∷ []) to b c → AddsEdges (take (i + 1) nodes) to a c
+pub edges_next : (nodes : List ℕ) (i to : ℕ) (a b c : List (List ℕ)) → i < length nodes → AddsEdges (take i nodes) to a b
+    → AddsEdges (get_or nodes i 0 ∷ []) to b c → AddsEdges (take (i + 1) nodes) to a c
 edges_next nodes i to a b c lt one two =
     subst (λ (ns : List ℕ). AddsEdges ns to a c) (sym (take_more nodes i 0 lt)) (edges_more (take i nodes) (get_or nodes i 0 ∷ []) to a b c one two)
 

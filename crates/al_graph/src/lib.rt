@@ -5,9 +5,7 @@ mod finishing;
 mod labelling;
 mod laws;
 mod turning;
-mod walks;
 
 pub use labelling::strongly_connected_components;
 pub use laws::walk_laws;
 pub use turning::turned;
-pub use walks::reachable;

@@ -79,7 +79,9 @@ secret_exact a b h =
 
 shown_exact : (a b : Signature) → shown.ghosts.eq a b ≡ true → a ≡ b
 shown_exact a b h =
-    let p = and_parts (option_eq bytes_eq a.name b.name) (role.ghosts.eq a.role b.role && (pointwise input.ghosts.eq a.inputs b.inputs && (pointwise secret.ghosts.eq a.secrets b.secrets && pointwise bytes_eq a.outputs b.outputs))) h in
+    let p = and_parts (option_eq bytes_eq a.name b.name)
+    (role.ghosts.eq a.role b.role && (pointwise input.ghosts.eq a.inputs b.inputs
+    && (pointwise secret.ghosts.eq a.secrets b.secrets && pointwise bytes_eq a.outputs b.outputs))) h in
     let q = and_parts (role.ghosts.eq a.role b.role) (pointwise input.ghosts.eq a.inputs b.inputs && (pointwise secret.ghosts.eq a.secrets b.secrets && pointwise bytes_eq a.outputs b.outputs)) p.1 in
     let r = and_parts (pointwise input.ghosts.eq a.inputs b.inputs) (pointwise secret.ghosts.eq a.secrets b.secrets && pointwise bytes_eq a.outputs b.outputs) q.1 in
     let t = and_parts (pointwise secret.ghosts.eq a.secrets b.secrets) (pointwise bytes_eq a.outputs b.outputs) r.1 in

@@ -11,7 +11,8 @@ use Rattle.al_meaning.specs.Private.PlaceholderStates.{turned, used_from}
 pub names_none : (n : ℕ) (used : List Bool) (go : PlaceholderState → List Bool → Option (List Bool)) → length used ≤ n → turned (Names n) used go ≡ None
 names_none n used go h = ap (λ b. if b then go Outside (slice_set used n true) else None) (le-ltb n (length used) h)
 
-too_large_step : (d q : Bool) (n m : ℕ) (used : List Bool) (bs : List ℕ) → length used ≤ n → used_from (InIndex m) used bs ≡ None → turned (if d then To (InIndex m) else if q then Names n else Wrong) used (λ p now. used_from p now bs) ≡ None
+too_large_step : (d q : Bool) (n m : ℕ) (used : List Bool) (bs : List ℕ) → length used ≤ n → used_from (InIndex m) used bs ≡ None
+    → turned (if d then To (InIndex m) else if q then Names n else Wrong) used (λ p now. used_from p now bs) ≡ None
 too_large_step true q n m used bs h e = e
 too_large_step false true n m used bs h e = names_none n used (λ p now. used_from p now bs) h
 too_large_step false false n m used bs h e = refl

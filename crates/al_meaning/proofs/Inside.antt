@@ -10,7 +10,8 @@ use Rattle.al_grammar.specs.Extents.{across, extent, start_of}
 use Rattle.al_grammar.specs.Inside.{AllLie}
 use Rattle.al_grammar.specs.Refusal.{fault}
 use Rattle.al_grammar.specs.Tree as tree
-use Rattle.al_grammar.specs.Tree.{Tree, sign, Constant, Named, Call, Group, Negated, Path, Chain, Steps, NoStep, PropertyThen, AllThen, IndexThen, Operands, NoOperand, OperandThen, Arguments, NoArgument, ArgumentThen}
+use Rattle.al_grammar.specs.Tree.{Tree, sign, Constant, Named, Call, Group, Negated, Path, Chain, Steps, NoStep, PropertyThen, AllThen}
+use Rattle.al_grammar.specs.Tree.{IndexThen, Operands, NoOperand, OperandThen, Arguments, NoArgument, ArgumentThen}
 use Rattle.al_grammar.specs.declared.token.Operator.{Operator}
 use Rattle.al_grammar.proofs.Inside.{TreeLies, StepsLie, OperandsLie, ArgumentsLie, tree_extent}
 use Rattle.al_types.specs.Names.{context_of, function_of}
@@ -23,7 +24,11 @@ use Rattle.al_types.specs.declared.names.Function.TheVariants.{Format}
 use Rattle.al_types.specs.declared.signatures.Parameters.{Parameters}
 use Rattle.al_meaning.specs.Comparison.{comparable_types}
 use Rattle.al_meaning.specs.Literals.{literal_text}
-use Rattle.al_meaning.specs.Meaning.{AllTyped, all_typed, Typed, typed, all_of, and_then, argument_faults, array_of, base_name, before, begins_logic, behind, called, called_with, chained, element_at, faults_in, format_faults, format_text, give, index_of, indexed, is_logic, is_test, meaning, meanings, named, operated, or_fault, parts_of, placeholder_faults, property_of, rest_of, typed_then, untrusted, untrusted_fault, untrusted_from, unused, walked, wrong_arguments}
+use Rattle.al_meaning.specs.Meaning.{AllTyped, all_typed, Typed, typed, all_of, and_then, argument_faults, array_of, base_name, before}
+use Rattle.al_meaning.specs.Meaning.{begins_logic, behind, called, called_with, chained, element_at, faults_in, format_faults, format_text}
+use Rattle.al_meaning.specs.Meaning.{give, index_of, indexed, is_logic, is_test, meaning, meanings, named, operated, or_fault, parts_of}
+use Rattle.al_meaning.specs.Meaning.{placeholder_faults, property_of, rest_of, typed_then, untrusted, untrusted_fault, untrusted_from}
+use Rattle.al_meaning.specs.Meaning.{unused, walked, wrong_arguments}
 use Rattle.al_meaning.specs.Placeholders.{used_arguments}
 use Rattle.al_meaning.specs.Untrusted.{chain_among, untrusted_chains}
 

@@ -13,7 +13,9 @@ use Rattle.al_grammar.specs.Tree.{Tree, Named, Path, Sign, sign, Arguments, Step
 use Rattle.al_types.specs.Scopes.{Scope}
 use Rattle.al_grammar.specs.Extents.{extent}
 use Rattle.al_meaning.specs.Untrusted.{part_of, chain_among, untrusted_chains, with_dots}
-use Rattle.al_meaning.specs.Meaning.{Typed, typed, behind, before, named, called, called_with, base_name, untrusted, untrusted_from, untrusted_fault, and_then, AllTyped, all_typed, typed_then, all_behind, parts_of, stepped, indexed, index_of, operated, meaning, walked, chained, meanings}
+use Rattle.al_meaning.specs.Meaning.{Typed, typed, behind, before, named, called, called_with, base_name, untrusted, untrusted_from}
+use Rattle.al_meaning.specs.Meaning.{untrusted_fault, and_then, AllTyped, all_typed, typed_then, all_behind, parts_of, stepped, indexed}
+use Rattle.al_meaning.specs.Meaning.{index_of, operated, meaning, walked, chained, meanings}
 use Rattle.al_meaning.proofs.TypedSteps.{follows, behind-behind, behind-before}
 
 pub parts_of-steps : (ss : List StepTree) → parts_of (steps_of ss) ≡ map part_of ss
@@ -30,40 +32,50 @@ walked-cons sc safe (All a b) ss u = refl
 walked-cons sc safe (Index a t b) ss u = refl
 
 -- one more step
-pub walked_on : (sc : Scope) (safe : Bool) (s : StepTree) (ss : List StepTree) (u v : Type') (old mid : List Fault) → typed v mid ≡ behind old (stepped sc safe s u) → behind mid (walked sc safe (steps_of ss) v) ≡ behind old (walked sc safe (steps_of (s ∷ ss)) u)
+pub walked_on : (sc : Scope) (safe : Bool) (s : StepTree) (ss : List StepTree) (u v : Type') (old mid : List Fault) → typed v mid
+    ≡ behind old (stepped sc safe s u) → behind mid (walked sc safe (steps_of ss) v) ≡ behind old (walked sc safe (steps_of (s ∷ ss)) u)
 walked_on sc safe s ss u v old mid e = follows old mid v (stepped sc safe s u) (λ w. walked sc safe (steps_of ss) w) e ∙ ap (behind old) (sym (walked-cons sc safe s ss u))
 
 abbrev operated' : Sign → Type' → Type' → Typed
 operated' (sign op at) t u = operated op at t u
 
 -- one more operand
-pub chained_on : (sc : Scope) (safe : Bool) (o : Sign × Tree) (os : List (Sign × Tree)) (t u v : Type') (old mid new : List Fault) → typed u mid ≡ behind old (meaning sc safe o.1) → typed v new ≡ behind mid (operated' o.0 t u) → behind new (chained sc safe (operands_of os) v) ≡ behind old (chained sc safe (operands_of (o ∷ os)) t)
+pub chained_on : (sc : Scope) (safe : Bool) (o : Sign × Tree) (os : List (Sign × Tree)) (t u v : Type') (old mid new : List Fault)
+    → typed u mid ≡ behind old (meaning sc safe o.1) → typed v new ≡ behind mid (operated' o.0 t u)
+    → behind new (chained sc safe (operands_of os) v) ≡ behind old (chained sc safe (operands_of (o ∷ os)) t)
 chained_on sc safe (sign op at, x) os t u v old mid new e f =
     follows mid new v (operated op at t u) (λ w. chained sc safe (operands_of os) w) f
     ∙ follows old mid u (meaning sc safe x) (λ w. and_then (operated op at t w) (λ y. chained sc safe (operands_of os) y)) e
 
-joined_typed : (given : List (Type' × Span)) (old fs : List Fault) (t : Type') (s : Span) (rest : AllTyped) → all_behind (given ++ (t, s) ∷ []) (old ++ fs) rest ≡ all_behind given old (typed_then (typed t fs) s rest)
+joined_typed : (given : List (Type' × Span)) (old fs : List Fault) (t : Type') (s : Span) (rest : AllTyped)
+    → all_behind (given ++ (t, s) ∷ []) (old ++ fs) rest ≡ all_behind given old (typed_then (typed t fs) s rest)
 joined_typed given old fs t s (all_typed as' gs) = ap (λ l. all_typed l ((old ++ fs) ++ gs)) (append_assoc given ((t, s) ∷ []) as') ∙ ap (all_typed (given ++ (t, s) ∷ as')) (append_assoc old fs gs)
 
-joined_on : (given : List (Type' × Span)) (old : List Fault) (x : Typed) (s : Span) (t : Type') (mid : List Fault) (rest : AllTyped) → typed t mid ≡ behind old x → all_behind (given ++ (t, s) ∷ []) mid rest ≡ all_behind given old (typed_then x s rest)
+joined_on : (given : List (Type' × Span)) (old : List Fault) (x : Typed) (s : Span) (t : Type') (mid : List Fault) (rest : AllTyped)
+    → typed t mid ≡ behind old x → all_behind (given ++ (t, s) ∷ []) mid rest ≡ all_behind given old (typed_then x s rest)
 joined_on given old (typed u fs) s t mid rest e =
     let p : t ≡ u = cc in
     let q : mid ≡ old ++ fs = cc in
     rw (p, q) (joined_typed given old fs u s rest)
 
 -- one more argument
-pub meanings_on : (sc : Scope) (safe : Bool) (x : Tree) (xs : List Tree) (t : Type') (given : List (Type' × Span)) (old mid : List Fault) → typed t mid ≡ behind old (meaning sc safe x) → all_behind (given ++ (t, extent x) ∷ []) mid (meanings sc safe (arguments_of xs)) ≡ all_behind given old (meanings sc safe (arguments_of (x ∷ xs)))
+pub meanings_on : (sc : Scope) (safe : Bool) (x : Tree) (xs : List Tree) (t : Type') (given : List (Type' × Span)) (old mid : List Fault)
+    → typed t mid ≡ behind old (meaning sc safe x) → all_behind (given ++ (t, extent x) ∷ []) mid (meanings sc safe (arguments_of xs))
+    ≡ all_behind given old (meanings sc safe (arguments_of (x ∷ xs)))
 meanings_on sc safe x xs t given old mid e = joined_on given old (meaning sc safe x) (extent x) t mid (meanings sc safe (arguments_of xs)) e
 
 -- a call's arguments, then the call
-pub called_on : (sc : Scope) (b : List ℕ) (s : Span) (f : Option Function) (ts : Arguments) (given : List (Type' × Span)) (old mid : List Fault) (m : AllTyped) → all_typed given mid ≡ all_behind [] old m → behind mid (called_with sc b s f ts given) ≡ behind old (called sc b s f ts m)
+pub called_on : (sc : Scope) (b : List ℕ) (s : Span) (f : Option Function) (ts : Arguments) (given : List (Type' × Span))
+    (old mid : List Fault) (m : AllTyped) → all_typed given mid ≡ all_behind [] old m → behind mid (called_with sc b s f ts given)
+    ≡ behind old (called sc b s f ts m)
 called_on sc b s f ts given old mid (all_typed as' fs) e =
     let p : given ≡ as' = cc in
     let q : mid ≡ old ++ fs = cc in
     rw (p, q) (behind-behind old fs (called_with sc b s f ts as'))
 
 -- a path's base, then its steps, then what is wrong with the whole
-pub path_on : (old m1 m2 new gs : List Fault) (u v : Type') (x : Typed) (go : Type' → Typed) → typed u m1 ≡ behind old x → typed v m2 ≡ behind m1 (go u) → new ≡ m2 ++ gs → typed v new ≡ behind old (before gs (and_then x go))
+pub path_on : (old m1 m2 new gs : List Fault) (u v : Type') (x : Typed) (go : Type' → Typed) → typed u m1 ≡ behind old x → typed v m2
+    ≡ behind m1 (go u) → new ≡ m2 ++ gs → typed v new ≡ behind old (before gs (and_then x go))
 path_on old m1 m2 new gs u v x go e f h =
     ap (typed v) h ∙ ap (before gs) (f ∙ follows old m1 u x go e) ∙ sym (behind-before old gs (and_then x go))
 
@@ -72,14 +84,16 @@ fault_none : (whole : Span) (o : Option (List (List ℕ))) → None ≡ option_m
 fault_none whole None h = refl
 fault_none whole (Some c) h = absurd cc
 
-pub untrusted_none : (name : List ℕ) (t : Tree) (ss : List StepTree) → Some name ≡ base_name t → None ≡ option_map with_dots (chain_among untrusted_chains (name ∷ map part_of ss)) → untrusted true t (steps_of ss) ≡ []
+pub untrusted_none : (name : List ℕ) (t : Tree) (ss : List StepTree) → Some name ≡ base_name t → None
+    ≡ option_map with_dots (chain_among untrusted_chains (name ∷ map part_of ss)) → untrusted true t (steps_of ss) ≡ []
 untrusted_none name t ss h k =
     ap (λ o. untrusted_from o (steps_of ss) (extent (Path t (steps_of ss)))) (sym h)
     ∙ ap (λ ps. untrusted_fault (extent (Path t (steps_of ss))) (chain_among untrusted_chains (name ∷ ps))) (parts_of-steps ss)
     ∙ fault_none (extent (Path t (steps_of ss))) (chain_among untrusted_chains (name ∷ map part_of ss)) k
 
 -- an index that is no text literal
-pub indexed_on : (o : Option (List ℕ × Span)) (whole : Span) (u by v : Type') (old mid new : List Fault) (x : Typed) → None ≡ o → typed by mid ≡ behind old x → typed v new ≡ behind mid (index_of whole u by) → typed v new ≡ behind old (indexed o whole u x)
+pub indexed_on : (o : Option (List ℕ × Span)) (whole : Span) (u by v : Type') (old mid new : List Fault) (x : Typed) → None ≡ o
+    → typed by mid ≡ behind old x → typed v new ≡ behind mid (index_of whole u by) → typed v new ≡ behind old (indexed o whole u x)
 indexed_on None whole u by v old mid new x h e f = f ∙ follows old mid by x (λ w. index_of whole u w) e
 indexed_on (Some n) whole u by v old mid new x h e f = absurd cc
 

@@ -6,7 +6,8 @@ use Rattle.al_text.specs.declared.codes.ExpressionCode.TheVariants as code
 use Rattle.al_types.specs.declared.types.Object.{Object, Object'}
 use Rattle.al_grammar.specs.Refusal.{fault}
 use Rattle.al_types.specs.Types.{Type', Any, ArrayOf, Fields, NoField, FieldThen, Rest, Loose, field_at, field_or_rest}
-use Rattle.al_types.specs.TypeViews.{object_of, fields_of_type, rest_of_type}
+use Rattle.al_types.specs.TypeViews.{object_of}
+use Rattle.al_types.specs.Private.TypeParts.{fields_of_type, rest_of_type}
 use Rattle.al_meaning.specs.Meaning.{Typed, typed, behind, before, and_then, array_of, or_fault, property_of, all_of, fuse_all, fuse_next, index_of, element_at, not_indexable}
 
 pub unchanged : (t : Type') (old : List Fault) → typed t old ≡ behind old (typed t [])
@@ -36,7 +37,9 @@ element_at_object whole t (Object' s f r) = refl
 pub index_of_object : (whole : Span) (o : Object) (i : Type') → index_of whole (object_of o) i ≡ typed Any []
 index_of_object whole (Object' s f r) i = refl
 
-pub property_of_object : (n : List ℕ) (at whole : Span) (o : Object) → property_of n at whole (object_of o) ≡ or_fault (fault code.UndefinedProperty at (n ∷ [])) (field_or_rest (field_at n (fields_of_type (object_of o))) (rest_of_type (object_of o)))
+pub property_of_object : (n : List ℕ) (at whole : Span) (o : Object) → property_of n at whole (object_of o)
+    ≡ or_fault (fault code.UndefinedProperty at (n ∷ []))
+    (field_or_rest (field_at n (fields_of_type (object_of o))) (rest_of_type (object_of o)))
 property_of_object n at whole (Object' s f r) = refl
 
 pub all_of_object : (whole : Span) (o : Object) → all_of whole (object_of o) ≡ typed (ArrayOf (fuse_all None (fields_of_type (object_of o)) (rest_of_type (object_of o)))) []

@@ -23,7 +23,7 @@ use Rattle.al_grammar.specs.Extents.{extent, across}
 use Rattle.al_meaning.specs.Literals.{literal_text, type_of_keyword}
 use Rattle.al_meaning.specs.Untrusted.{untrusted_chains, chain_among, part_of_index, with_dots}
 use Rattle.al_grammar.specs.Tree as tree
-use Rattle.al_grammar.specs.Tree.{Tree, Sign, sign, Constant, Named, Call, Group, Negated, Path, Chain, StepTree, Steps, NoStep}
+use Rattle.al_grammar.specs.Tree.{Tree, sign, Constant, Named, Call, Group, Negated, Path, Chain, StepTree, Steps, NoStep}
 use Rattle.al_grammar.specs.Tree.{PropertyThen, AllThen, IndexThen, Operands, NoOperand, OperandThen, Arguments, NoArgument, ArgumentThen}
 
 -- a type with the faults found on the way

@@ -4,7 +4,8 @@ ghost use Rattle.std.specs.Prelude.{◌≡◌, IfOk, None, option_map};
 ghost use Rattle.al_text.specs.Growth.{BeginsWith};
 ghost use Rattle.al_meaning.specs.Meaning.{typed, behind, property_of, all_of, index_of, element_at, not_indexable, fuse_all, fuse_next};
 ghost use Rattle.al_types.specs.Types.{NoField};
-ghost use Rattle.al_types.specs.TypeViews.{ty_of, object_of, fields_of_type, rest_of, rest_of_type};
+ghost use Rattle.al_types.specs.TypeViews.{ty_of, object_of};
+ghost use Rattle.al_types.specs.Private.TypeParts.{fields_of_type, rest_of, rest_of_type};
 
 use crate::reports::{report_plain, report_text};
 use al_text::{ExpressionCode, Fault, Span};

@@ -7,7 +7,7 @@ ghost use Rattle.al_text.specs.Growth.{BeginsWith};
 ghost use Rattle.al_meaning.specs.Meaning.{typed, type_in, faults_in, behind, meaning_of, walked, chained, meanings, operated, is_logic};
 ghost use Rattle.al_meaning.specs.Meaning.{begins_logic, untrusted, all_typed, all_behind, stepped, base_name};
 ghost use Rattle.al_meaning.specs.Meaning as meaning;
-ghost use Rattle.al_types.specs.Names.{context_of, function_of};
+ghost use Rattle.al_types.specs.Names.{context_of};
 ghost use Rattle.al_types.specs.Scopes.{scope_of};
 ghost use Rattle.al_grammar.specs.Tree.{steps_of, operands_of, arguments_of};
 ghost use Rattle.al_types.specs.TypeViews.{ty_of};
@@ -198,6 +198,45 @@ fn available_context<'s>(scope: &'s Scope, expr: &Expr) -> Option<&'s Ty>
     Some(ty)
 }
 
+// The type of a property of a lent object, lent as well.
+#[tactic(auto, using(crate::proofs::TypedSteps::object_steps))]
+fn lent_property<'s>(here: &Found<'s>, name: &str) -> Option<&'s Ty>
+    ensures { MatchOption result (Unit {0}) (λ t. (at whole : Span)
+        → meaning.property_of name.now at whole (found_type here.now) ≡ typed (ty_of t.now) []) }
+{
+    let Found::Lent(ty) = here else {
+        return None;
+    };
+    let Ty::Object(object) = *ty else {
+        return None;
+    };
+    object.property(name)
+}
+
+// The type of a property, whose name stands at `at`. One of a lent object is lent: what a context holds is not copied on the way to what
+// is asked of it.
+#[tactic(auto, using(al_text::proofs::Growing::growth, crate::proofs::TypedSteps::typing))]
+fn property_from<'s>(
+    alloc: Global,
+    here: Found<'s>,
+    name: &str,
+    at: Span,
+    whole: Span,
+    out: &mut Vec<Fault>,
+) -> Result<Found<'s>, AllocError>
+    ensures ok { IfOk result (λ f. typed (found_type f) out.new.items ≡ behind out.old.items
+        (meaning.property_of name.now at whole (found_type here.entry))) }
+    ensures begins { BeginsWith out.new.items out.old.items }
+{
+    match lent_property(&here, name) {
+        Some(ty) => Ok(Found::Lent(ty)),
+        None => {
+            let ty = property(alloc, here.get(), name, at, whole, out)?;
+            Ok(Found::Owned(ty))
+        }
+    }
+}
+
 // The type behind the steps of a path, from the type before them.
 #[tactic(auto, using(al_text::proofs::Growing::growth, crate::proofs::TypedSteps::typing))]
 #[cycle(typing)]
@@ -215,8 +254,8 @@ fn walk<'s>(
 {
     let mut here = start;
     for step in steps {
-        let next = step_from(alloc, scope, safe, step, here.get(), out)?;
-        here = Found::Owned(next);
+        let next = step_from(alloc, scope, safe, step, here, out)?;
+        here = next;
     }
     let ty = here.into_ty(alloc)?;
     Ok(ty)
@@ -224,39 +263,49 @@ fn walk<'s>(
 
 #[tactic(auto, using(al_text::proofs::Growing::growth, crate::proofs::TypedSteps::typing, al_grammar::proofs::TreeViews::step_views))]
 #[cycle(typing)]
-fn step_from(
+fn step_from<'s>(
     alloc: Global,
     scope: &Scope,
     safe: bool,
     step: &PathStep,
-    ty: &Ty,
+    here: Found<'s>,
     out: &mut Vec<Fault>,
-) -> Result<Ty, AllocError>
-    ensures ok { IfOk result (λ t. typed (ty_of t) out.new.items ≡ behind out.old.items
-        (stepped (scope_of scope.now) safe (step_of step.now) (ty_of ty.now))) }
+) -> Result<Found<'s>, AllocError>
+    ensures ok { IfOk result (λ f. typed (found_type f) out.new.items ≡ behind out.old.items
+        (stepped (scope_of scope.now) safe (step_of step.now) (found_type here.entry))) }
     ensures begins { BeginsWith out.new.items out.old.items }
 {
     match step {
         PathStep::Property(dot, name) => {
-            property(
+            property_from(
                 alloc,
-                ty,
+                here,
                 name.text.as_str(),
                 name.span,
                 across(*dot, name.span),
                 out,
             )
         }
-        PathStep::All(first, last) => all(alloc, ty, across(*first, *last), out),
+        PathStep::All(first, last) => {
+            let of = all(alloc, here.get(), across(*first, *last), out)?;
+            Ok(Found::Owned(of))
+        }
         PathStep::Index(open, index, close) => {
             let whole = across(*open, *close);
             let literal = literal_text(alloc, index)?;
             match literal {
-                Some(name) => property(alloc, ty, name.value.as_str(), name.span, whole, out),
+                Some(name) => property_from(
+                    alloc,
+                    here,
+                    name.value.as_str(),
+                    name.span,
+                    whole,
+                    out,
+                ),
                 None => {
                     let by = expression(alloc, scope, safe, index, out)?;
-                    let of = element(alloc, ty, &by, whole, out)?;
-                    Ok(of)
+                    let of = element(alloc, here.get(), &by, whole, out)?;
+                    Ok(Found::Owned(of))
                 }
             }
         }

@@ -108,7 +108,9 @@ pub last_is_under : (way : List rust.WayStep) (s : rust.WayStep) (k : List ℕ) 
     step_of s ≡ under k → is_one conditions (keys_of (map step_of way)) ≡ true → is_condition_key k ≡ true
 last_is_under [] s k h e is = absurd cc
 last_is_under (t ∷ way) s k h e is =
-    last_of_condition (keys_of (map step_of (t ∷ way))) k (at_end (t ∷ way) (length way) s (ap (slice_get (t ∷ way)) (sym (one_less (length way))) ∙ sym h) refl k (ap (λ u. last_key (keys_of (u ∷ []))) e)) is
+    last_of_condition (keys_of (map step_of (t ∷ way))) k
+    (at_end (t ∷ way) (length way) s (ap (slice_get (t ∷ way)) (sym (one_less (length way))) ∙ sym h) refl k
+    (ap (λ u. last_key (keys_of (u ∷ []))) e)) is
 
 -- ---- scalars without an expression
 

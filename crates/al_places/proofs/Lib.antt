@@ -1,3 +1,4 @@
 pub mod Nodes
+pub mod Entries
 pub mod Scalars
 pub mod Endings

@@ -1,4 +1,3 @@
-pub mod PositionLemmas
 pub mod NeedLemmas
 pub mod Joining
 pub mod FileLemmas

@@ -1,26 +1,27 @@
--- What entries of `needs` give, one after another, and where the positions of jobs lie.
-use Rattle.std.proofs.Common.{◌≡◌, ℕ, ◌+◌, ◌<◌, ◌≤◌, take_all, Bool, true, false, cond, List, [], ◌∷◌, ◌++◌, All, length, map, take, Vec, get_or, subst, sym, ap, ◌∙◌, append_assoc, append-nil, arith, refl, Option, Some, None, ⊎_elim}
+-- What entries of `needs` give, by labels of the jobs, and where the positions of jobs lie.
+use Rattle.std.proofs.Common.{◌≡◌, ℕ, ◌+◌, ◌<◌, ◌≤◌, take_all, Bool, true, false, cond, List, [], ◌∷◌, ◌++◌, All, length, map, take, Vec}
+use Rattle.std.proofs.Common.{get_or, subst, sym, ap, ◌∙◌, append_assoc, append-nil, arith, refl, suc, Option, Some, None, ⊎_elim}
 use Rattle.std.proofs.lemmas.Bool.{cases_lt}
 use Rattle.std.proofs.lemmas.Grind.{flat_map-append}
-use Rattle.std.proofs.lemmas.List.{get_or_past, length-map, length-take, map-append, take_more}
+use Rattle.std.proofs.lemmas.List.{get_or_past, get_or-map, length-map, length-take, map-append, take_more}
 use Rattle.std.specs.declared.alloc.Global.{Global}
 use Rattle.std.proofs.lemmas.List.Elements.{All-nil, All-cons, All-get_or, All-contains}
-use Rattle.std.specs.List.{cons_option, enumerate_from, filter_map, flat_map}
+use Rattle.std.specs.List.{AllByRecursion, cons_option, enumerate_from, filter_map, flat_map}
 use Rattle.std.specs.Prelude.{◌↔◌, Contains, codes}
-use Rattle.std.specs.Str.{bytes_eq}
 use Rattle.al_text.specs.declared.faults.Fault.{Fault}
 use Rattle.al_yaml.specs.Node.{Node}
-use Rattle.al_formats.specs.Texts.{folded}
-use Rattle.al_graph.specs.Graphs.{Edge, IsTurned, Walk, edges_of}
-use Rattle.al_graph.proofs.TurnLemmas.{turned_walk}
+use Rattle.al_graph.specs.Graphs.{Edge, StronglyConnected, Walk, edges_of, here, onward}
+use Rattle.al_graph.proofs.FilterMaps.{put_behind, put_first}
+use Rattle.al_graph.proofs.Labels.{labels_same}
 use Rattle.al_scalar.specs.Scalar.{Scalar}
 use Rattle.al_text.specs.declared.faults.Span.{Span}
 use Rattle.al_shape.specs.Values.{texts_at}
-use Rattle.al_settings.specs.Ids.{with_folded}
-use Rattle.al_settings.specs.Private.Views.{folded_id}
-use Rattle.al_settings.specs.declared.ids.FoldedId.{FoldedId}
-use Rattle.al_graph.specs.Private.Marks.{Marked}
-use Rattle.al_rules.specs.Needs.{AddsAllNeeds, AddsNeeds, AreNeedsFaults, undefined_job, leads_back, leads_on, no_needs, and_need, IsNeedFaults, Need, all_needs, cycle_fault, keys_of, named_by, needs_in, needs_lists, needs_of, position_from, position_in, tested_faults}
+use Rattle.al_rules.specs.Private.Components.{has_label_of, labelled_fault, labelled_faults}
+use Rattle.al_rules.specs.Needs.{AddsAllNeeds, AddsNeeds, AreNeedsFaults, undefined_job, leads_back, leads_on, no_needs, and_need}
+use Rattle.al_rules.specs.Needs.{IsNeedFaults, Need, all_needs, cycle_fault, keys_of, named_by, needs_in, needs_lists, needs_of}
+use Rattle.al_rules.specs.Needs.{position_in}
+use Rattle.al_types.specs.Names.{same_name}
+use Rattle.al_declarations.proofs.PositionLemmas.{first_within}
 use Rattle.al_reports.specs.Words.{Named, of_key, of_scalar}
 
 enumerated : {X : Type 0} (i : ℕ) (xs : List X) (y : X) → enumerate_from i (xs ++ y ∷ []) ≡ enumerate_from i xs ++ (i + length xs, y) ∷ []
@@ -32,7 +33,8 @@ needs_and jobs j =
     ap (flat_map needs_in) (enumerated 0 jobs j) ∙ flat_map-append needs_in (enumerate_from 0 jobs) ((0 + length jobs, j) ∷ [])
     ∙ ap (λ l. all_needs jobs ++ l) (append-nil (needs_in (0 + length jobs, j))) ∙ ap (λ k. all_needs jobs ++ needs_in (k, j)) (omega arith)
 
-needs_to : {X : Type 0} (seen : X → Node × Node) (jobs : List X) (i : ℕ) (d : X) → i < length jobs → all_needs (map seen (take (i + 1) jobs)) ≡ all_needs (map seen (take i jobs)) ++ needs_in (i, seen (get_or jobs i d))
+needs_to : {X : Type 0} (seen : X → Node × Node) (jobs : List X) (i : ℕ) (d : X) → i < length jobs
+    → all_needs (map seen (take (i + 1) jobs)) ≡ all_needs (map seen (take i jobs)) ++ needs_in (i, seen (get_or jobs i d))
 needs_to seen jobs i d h =
     let len : length (map seen (take i jobs)) ≡ i = length-map (take i jobs) seen ∙ omega (arith, length-take i jobs, h) in
     ap (λ xs. all_needs (map seen xs)) (take_more jobs i d h) ∙ ap all_needs (map-append seen (take i jobs) (get_or jobs i d ∷ []))
@@ -41,101 +43,95 @@ needs_to seen jobs i d h =
 module _ (position : List ℕ → Option ℕ) (Leads : ℕ → ℕ → Type 0) where
   more : (ns ms : List Need) (fs gs : List Fault) → AreNeedsFaults position Leads ns fs → AreNeedsFaults position Leads ms gs → AreNeedsFaults position Leads (ns ++ ms) (fs ++ gs)
   more _ ms _ gs no_needs b = b
-  more _ ms _ gs (and_need n ns first rest here are) b =
-      subst (AreNeedsFaults position Leads (n ∷ ns ++ ms)) (sym (append_assoc first rest gs)) (and_need n (ns ++ ms) first (rest ++ gs) here (more ns ms rest gs are b))
+  more _ ms _ gs (and_need n ns first rest one are) b =
+      subst (AreNeedsFaults position Leads (n ∷ ns ++ ms)) (sym (append_assoc first rest gs)) (and_need n (ns ++ ms) first (rest ++ gs) one (more ns ms rest gs are b))
 
-  joined : (ns ms : List Need) (old mid new : List Fault) → AddsNeeds position Leads ns old mid → AddsNeeds position Leads ms mid new → AddsNeeds position Leads (ns ++ ms) old new
-  joined ns ms old mid new a b = record {
-    found = a.found ++ b.found;
-    are = more ns ms a.found b.found a.are b.are;
-    grows = b.grows ∙ ap (λ xs. xs ++ b.found) a.grows ∙ append_assoc old a.found b.found;
-  }
+-- a need that is led to by an edge leads back just where it has the label of the job that needs it
+module _ (position : List ℕ → Option ℕ) (graph : List (List ℕ)) (labels : List (Option ℕ))
+    (exact : (j k : ℕ) → j < length graph → k < length graph
+    → (get_or labels j None ≡ get_or labels k None) ↔ StronglyConnected graph j k)
+    (below : (j k : ℕ) → Edge graph j k → k < length graph) where
+  by_label : (n : Need) (j : ℕ) (b : Bool) → (b ≡ true → Walk graph j n.job) → (Walk graph j n.job → b ≡ true)
+      → IsNeedFaults (Walk graph) n (Some j) (cond b (cycle_fault n ∷ []) [])
+  by_label n j true f g = leads_back j (f refl)
+  by_label n j false f g = leads_on j (λ w. absurd (cc (g w)))
 
-  pub adds_none : (old : List Fault) → AddsNeeds position Leads [] old old
-  adds_none old = record { found = []; are = no_needs; grows = sym (append-nil old) }
+  entry_is : (n : Need) (o : Option ℕ) → n.job < length graph → ((j : ℕ) → o ≡ Some j → Edge graph n.job j)
+      → IsNeedFaults (Walk graph) n o (labelled_fault labels n o)
+  entry_is n None inside led = undefined_job
+  entry_is n (Some j) inside led =
+      let edge : Edge graph n.job j = led j refl in
+      let same = labels_same (get_or labels j None) (get_or labels n.job None) (has_label_of labels j n.job) refl in
+      let connected = exact j n.job (below n.job j edge) inside in
+      by_label n j (has_label_of labels j n.job) (λ t. (connected.0 (same.0 t)).0)
+      (λ w. same.1 (connected.1 (w, onward n.job j here edge)))
 
-  -- a job without entries
-  pub adds_without : {X : Type 0} (seen : X → Scalar × Span) (i : ℕ) (job : Node × Node) (old : List Fault) (xs : List X) → length xs ≡ 0 → map seen xs ≡ texts_at (codes "needs") job.1
-      → AddsNeeds position Leads (needs_in (i, job)) old old
-  adds_without {X} seen i job old [] e t =
-      let P : List (Scalar × Span) → Type 0 = λ ss. AddsNeeds position Leads (map (λ n. record { job = i; key = of_key job.0; text = n }) (map of_scalar ss)) old old in
-      subst P t (adds_none old)
-  adds_without {X} seen i job old (x ∷ xs) e t = absurd (omega (arith, e))
+  entries_are : (i : ℕ) (key : Named) (ns : List Named) → i < length graph
+      → AllByRecursion (λ (n : Named). (j : ℕ) → named_by position n ≡ Some j → Edge graph i j) ns
+      → AreNeedsFaults position (Walk graph) (map (λ n. record { job = i; key = key; text = n }) ns)
+      (labelled_faults position labels (map (λ n. record { job = i; key = key; text = n }) ns))
+  entries_are i key [] inside led = no_needs
+  entries_are i key (t ∷ ts) inside led =
+      let n : Need = record { job = i; key = key; text = t } in
+      let ns : List Need = map (λ n. record { job = i; key = key; text = n }) ts in
+      and_need n ns (labelled_fault labels n (named_by position t)) (labelled_faults position labels ns)
+      (entry_is n (named_by position t) inside led.0) (entries_are i key ts inside led.1)
 
-  -- the entries of the job at an index
-  pub adds_job : {X : Type 0} (seen : X → Node × Node) (jobs : List X) (i : ℕ) (d : X) (old mid new : List Fault) → i < length jobs
-      → AddsNeeds position Leads (all_needs (map seen (take i jobs))) old mid → AddsNeeds position Leads (needs_in (i, seen (get_or jobs i d))) mid new
-      → AddsNeeds position Leads (all_needs (map seen (take (i + 1) jobs))) old new
-  adds_job {X} seen jobs i d old mid new h a b =
-      let P : List Need → Type 0 = λ ns. AddsNeeds position Leads ns old new in
-      subst P (sym (needs_to seen jobs i d h)) (joined (all_needs (map seen (take i jobs))) (needs_in (i, seen (get_or jobs i d))) old mid new a b)
+  led_to : (P : ℕ → Type 0) (ns : List Named) → ((k : ℕ) → Contains (filter_map (named_by position) ns) k → P k)
+      → AllByRecursion (λ (n : Named). (j : ℕ) → named_by position n ≡ Some j → P j) ns
+  led_to P [] f = tt
+  led_to P (n ∷ ns) f = (
+    (λ j e. f j (put_first (named_by position) (named_by position n) j (filter_map (named_by position) ns) e)),
+    led_to P ns (λ k c. f k (put_behind (named_by position) (named_by position n) k (filter_map (named_by position) ns) c)),
+  )
 
-  pub adds_at : {X : Type 0} (seen : X → Node × Node) (jobs : List X) (i : ℕ) (x : X) (old mid new : List Fault) → i < length jobs → x ≡ get_or jobs i x
-      → AddsNeeds position Leads (all_needs (map seen (take i jobs))) old mid → AddsNeeds position Leads (needs_in (i, seen x)) mid new
-      → AddsNeeds position Leads (all_needs (map seen (take (i + 1) jobs))) old new
-  adds_at {X} seen jobs i x old mid new h e a b =
-      let P : X → Type 0 = λ y. AddsNeeds position Leads (needs_in (i, seen y)) mid new in
-      adds_job seen jobs i x old mid new h a (subst P e b)
+  job_is : (i : ℕ) (job : Node × Node) → i < length graph → get_or graph i [] ≡ filter_map (named_by position) (needs_of job)
+      → AreNeedsFaults position (Walk graph) (needs_in (i, job)) (labelled_faults position labels (needs_in (i, job)))
+  job_is i job inside row =
+      entries_are i (of_key job.0) (needs_of job) inside
+      (led_to (λ k. Edge graph i k) (needs_of job) (λ k c. subst (λ (ns : List ℕ). Contains ns k) (sym row) c))
 
-  pub adds_end : {X : Type 0} (seen : X → Node × Node) (jobs : List X) (i : ℕ) (old new : List Fault) → length jobs ≤ i
-      → AddsNeeds position Leads (all_needs (map seen (take i jobs))) old new → AddsNeeds position Leads (all_needs (map seen jobs)) old new
-  adds_end {X} seen jobs i old new h a =
-      let P : List X → Type 0 = λ js. AddsNeeds position Leads (all_needs (map seen js)) old new in
-      subst P (take_all i jobs h) a
+  -- the jobs from one position on, each of which has its row of the graph
+  jobs_are : (i : ℕ) (jobs : List (Node × Node)) → ((k : ℕ) (x : Node × Node) → k < length jobs → x ≡ get_or jobs k x
+      → (i + k < length graph) × (get_or graph (i + k) [] ≡ filter_map (named_by position) (needs_of x)))
+      → AreNeedsFaults position (Walk graph) (flat_map needs_in (enumerate_from i jobs))
+      (labelled_faults position labels (flat_map needs_in (enumerate_from i jobs)))
+  jobs_are i [] rows = no_needs
+  jobs_are i (j ∷ js) rows =
+      let first : i + 0 ≡ i = omega arith in
+      let row = rows 0 j (omega arith) refl in
+      let others = flat_map needs_in (enumerate_from (i + 1) js) in
+      let one = job_is i j (subst (λ n. n < length graph) first row.0)
+      (subst (λ n. get_or graph n [] ≡ filter_map (named_by position) (needs_of j)) first row.1) in
+      let rest = jobs_are (i + 1) js (λ k x lt is.
+      let next : i + suc k ≡ (i + 1) + k = omega arith in
+      let row = rows (suc k) x (omega (arith, lt)) is in (
+        subst (λ n. n < length graph) next row.0,
+        subst (λ n. get_or graph n [] ≡ filter_map (named_by position) (needs_of x)) next row.1,
+      )) in
+      subst (AreNeedsFaults position (Walk graph) (needs_in (i, j) ++ others))
+      (sym (flat_map-append (λ n. labelled_fault labels n (named_by position n.text)) (needs_in (i, j)) others))
+      (more position (Walk graph) (needs_in (i, j)) others (labelled_faults position labels (needs_in (i, j)))
+      (labelled_faults position labels others) one rest)
 
-  -- what a test finds that says from which jobs a walk leads to this one
-  by_test : (n : Need) (j : ℕ) (b : Bool) → (b ≡ true → Leads j n.job) → (Leads j n.job → b ≡ true) → IsNeedFaults Leads n (Some j) (cond b (cycle_fault n ∷ []) [])
-  by_test n j true f g = leads_back j (f refl)
-  by_test n j false f g = leads_on j (λ w. absurd (cc (g w)))
+-- ---- what is added for one job after another
 
-  is_tested : (n : Need) (marks : List Bool) → ((j : ℕ) → Marked marks j ↔ Leads j n.job) → (o : Option ℕ) → IsNeedFaults Leads n o (tested_faults (λ j. get_or marks j false) n o)
-  is_tested n marks exact None = undefined_job
-  is_tested n marks exact (Some j) = by_test n j (get_or marks j false) (exact j).0 (exact j).1
+module _ (position : List ℕ → Option ℕ) (labels : List (Option ℕ)) {X : Type 0} (seen : X → Node × Node) (jobs : List X) where
+  pub found_next : (i : ℕ) (x : X) (old mid new : List Fault) → i < length jobs → x ≡ get_or jobs i x
+      → mid ≡ old ++ labelled_faults position labels (all_needs (map seen (take i jobs)))
+      → new ≡ mid ++ labelled_faults position labels (needs_in (i, seen x))
+      → new ≡ old ++ labelled_faults position labels (all_needs (map seen (take (i + 1) jobs)))
+  found_next i x old mid new h e o n =
+      let found : List Need → List Fault = labelled_faults position labels in
+      let before = all_needs (map seen (take i jobs)) in
+      n ∙ ap (λ fs. fs ++ found (needs_in (i, seen x))) o ∙ append_assoc old (found before) (found (needs_in (i, seen x)))
+      ∙ ap (λ fs. old ++ fs) (sym (flat_map-append (λ n. labelled_fault labels n (named_by position n.text)) before (needs_in (i, seen x)))
+      ∙ ap found (ap (λ (y : X). before ++ needs_in (i, seen y)) e ∙ sym (needs_to seen jobs i x h)))
 
-  are_tested : (job : ℕ) (key : Named) (marks : List Bool) → ((j : ℕ) → Marked marks j ↔ Leads j job) → (texts : List Named)
-      → AreNeedsFaults position Leads (map (λ n. record { job = job; key = key; text = n }) texts)
-      (flat_map (λ n. tested_faults (λ j. get_or marks j false) n (named_by position n.text)) (map (λ n. record { job = job; key = key; text = n }) texts))
-  are_tested job key marks exact [] = no_needs
-  are_tested job key marks exact (t ∷ ts) =
-      let n : Need = record { job = job; key = key; text = t } in
-      and_need n (map (λ n. record { job = job; key = key; text = n }) ts) (tested_faults (λ j. get_or marks j false) n (named_by position t))
-      (flat_map (λ n. tested_faults (λ j. get_or marks j false) n (named_by position n.text)) (map (λ n. record { job = job; key = key; text = n }) ts))
-      (is_tested n marks exact (named_by position t)) (are_tested job key marks exact ts)
-
-  pub adds_tested : (i : ℕ) (job : Node × Node) (marks : List Bool) (ns : List Need) (old new : List Fault) → ((j : ℕ) → Marked marks j ↔ Leads j i) → ns ≡ needs_in (i, job)
-      → new ≡ old ++ flat_map (λ n. tested_faults (λ j. get_or marks j false) n (named_by position n.text)) ns → AddsNeeds position Leads (needs_in (i, job)) old new
-  adds_tested i job marks ns old new exact e g =
-      let found : List Need → List Fault = λ ms. flat_map (λ n. tested_faults (λ j. get_or marks j false) n (named_by position n.text)) ms in
-      record {
-        found = found (needs_in (i, job));
-        are = are_tested i (of_key job.0) marks exact (needs_of job);
-        grows = g ∙ ap (λ ms. old ++ found ms) e;
-      }
-
--- the same of a test that says the same
-one_as : (A B : ℕ → ℕ → Type 0) (n : Need) (o : Option ℕ) (fs : List Fault) → ((j k : ℕ) → A j k ↔ B j k) → IsNeedFaults A n o fs → IsNeedFaults B n o fs
-one_as A B n _ _ same undefined_job = undefined_job
-one_as A B n _ _ same (leads_back j a) = leads_back j ((same j n.job).0 a)
-one_as A B n _ _ same (leads_on j never) = leads_on j (λ b. never ((same j n.job).1 b))
-
-all_as : (position : List ℕ → Option ℕ) (A B : ℕ → ℕ → Type 0) (ns : List Need) (fs : List Fault) → ((j k : ℕ) → A j k ↔ B j k) → AreNeedsFaults position A ns fs → AreNeedsFaults position B ns fs
-all_as position A B _ _ same no_needs = no_needs
-all_as position A B _ _ same (and_need n ns first rest here are) = and_need n ns first rest (one_as A B n (named_by position n.text) first same here) (all_as position A B ns rest same are)
-
-pub adds_as : (position : List ℕ → Option ℕ) (A B : ℕ → ℕ → Type 0) (ns : List Need) (old new : List Fault) → ((j k : ℕ) → A j k ↔ B j k) → AddsNeeds position A ns old new → AddsNeeds position B ns old new
-adds_as position A B ns old new same a = record { found = a.found; are = all_as position A B ns a.found same a.are; grows = a.grows }
-
-some_is : (x y : ℕ) → Some x ≡ Some y → x ≡ y
-some_is x y e = cc
-
-position_at : (here : Bool) (i k : ℕ) (ts : List (List ℕ)) (text : List ℕ) → (position_from (i + 1) ts text ≡ Some k → k < (i + 1) + length ts) → cond here (Some i) (position_from (i + 1) ts text) ≡ Some k → k < i + length ts + 1
-position_at true i k ts text f e = let same = some_is i k e in omega (arith, same)
-position_at false i k ts text f e = let below = f e in omega (arith, below)
-
-position_below : (i k : ℕ) (ts : List (List ℕ)) (text : List ℕ) → position_from i ts text ≡ Some k → k < i + length ts
-position_below i k [] text e = absurd cc
-position_below i k (t ∷ ts) text e =
-    let there = position_at (bytes_eq text t) i k ts text (position_below (i + 1) k ts text) e in omega (arith, there)
+  pub found_end : (i : ℕ) (old new : List Fault) → length jobs ≤ i
+      → new ≡ old ++ labelled_faults position labels (all_needs (map seen (take i jobs)))
+      → new ≡ old ++ labelled_faults position labels (all_needs (map seen jobs))
+  found_end i old new h o = o ∙ ap (λ (js : List X). old ++ labelled_faults position labels (all_needs (map seen js))) (take_all i jobs h)
 
 abbrev Below : ℕ → ℕ → Type 0
 Below m k = k < m
@@ -145,14 +141,12 @@ below_cons None xs m f a = a
 below_cons (Some k) xs m f a = All-cons (Below m) k xs (f k refl) a
 
 named_below : (keys : List Named) (text : List ℕ) (k : ℕ) → position_in keys text ≡ Some k → k < length keys
-named_below keys text k e =
-    let there = position_below 0 k (map (λ n. folded n.text) keys) text e in
-    let same : length (map (λ n. folded n.text) keys) ≡ length keys = length-map keys _ in omega (arith, there, same)
+named_below keys text k e = first_within (λ n. same_name n.text text) keys k e
 
 list_below : (keys needs : List Named) → All (Below (length keys)) (filter_map (named_by (position_in keys)) needs)
 list_below keys [] = All-nil (Below (length keys))
 list_below keys (n ∷ ns) =
-    below_cons (named_by (position_in keys) n) (filter_map (named_by (position_in keys)) ns) (length keys) (λ k e. named_below keys (folded n.text) k e) (list_below keys ns)
+    below_cons (named_by (position_in keys) n) (filter_map (named_by (position_in keys)) ns) (length keys) (λ k e. named_below keys n.text k e) (list_below keys ns)
 
 lists_below : (keys : List Named) (jobs : List (Node × Node)) → All (λ l. All (Below (length keys)) l) (needs_lists (position_in keys) jobs)
 lists_below keys [] = All-nil (λ l. All (Below (length keys)) l)
@@ -183,46 +177,44 @@ edges_below jobs lists e j k has =
     let b : length lists ≡ length jobs = lists_length jobs lists e in omega (arith, below, a, b)
 
 -- the entries of a job
-pub needs_are : {X : Type 0} (seen : X → Scalar × Span) (i : ℕ) (job : Node × Node) (key : Named) (xs : List X) (ns : List Need) → ns ≡ map (λ n. record { job = i; key = key; text = n }) (map of_scalar (map seen xs))
+pub needs_are : {X : Type 0} (seen : X → Scalar × Span) (i : ℕ) (job : Node × Node) (key : Named) (xs : List X) (ns : List Need) → ns
+    ≡ map (λ n. record { job = i; key = key; text = n }) (map of_scalar (map seen xs))
     → map seen xs ≡ texts_at (codes "needs") job.1 → key ≡ of_key job.0 → ns ≡ needs_in (i, job)
 needs_are {X} seen i job key xs ns e t k =
     e ∙ ap (λ (ss : List (Scalar × Span)). map (λ n. record { job = i; key = key; text = n }) (map of_scalar ss)) t
     ∙ ap (λ (h : Named). map (λ n. record { job = i; key = h; text = n }) (map of_scalar (texts_at (codes "needs") job.1))) k
 
--- the marks of a search, as a slice of them
-pub marked_as : (Leads : ℕ → Type 0) (marks seen : List Bool) → seen ≡ marks → ((j : ℕ) → Marked marks j ↔ Leads j) → (j : ℕ) → Marked seen j ↔ Leads j
-marked_as Leads marks seen e exact = let P : List Bool → Type 0 = λ ms. (j : ℕ) → Marked ms j ↔ Leads j in subst P (sym e) exact
-
--- the map of the keys of all jobs
-seen_texts : (xs : List FoldedId) → map (λ (p : Named × List ℕ). p.1) (map folded_id xs) ≡ map (λ k. k.text.items) xs
-seen_texts [] = refl
-seen_texts (x ∷ xs) = ap (λ l. x.text.items ∷ l) (seen_texts xs)
-
-folded_texts : (ns : List Named) → map (λ (p : Named × List ℕ). p.1) (map with_folded ns) ≡ map (λ k. folded k.text) ns
-folded_texts [] = refl
-folded_texts (n ∷ ns) = ap (λ l. folded n.text ∷ l) (folded_texts ns)
-
-pub positions_are : (xs keys : List FoldedId) (ns all : List Named) (found : List ℕ → Option ℕ) → found ≡ position_from 0 (map (λ k. k.text.items) keys) → keys ≡ xs → map folded_id xs ≡ map with_folded ns → ns ≡ all → found ≡ position_in all
-positions_are xs keys ns all found f k e a =
-    let texts : map (λ k. k.text.items) xs ≡ map (λ k. folded k.text) ns = sym (seen_texts xs) ∙ ap (map (λ (p : Named × List ℕ). p.1)) e ∙ folded_texts ns in
-    f ∙ ap (λ (l : List FoldedId). position_from 0 (map (λ k. k.text.items) l)) k ∙ ap (position_from 0) texts ∙ ap position_in a
-
--- the faults of all, by edges the other way round
-pub adds_all : (jobs : List (Node × Node)) (position : List ℕ → Option ℕ) (lists other : List (List ℕ)) (old new : List Fault) → position ≡ position_in (keys_of jobs) → lists ≡ needs_lists position jobs
-    → IsTurned lists other → AddsNeeds position (λ j k. Walk other k j) (all_needs jobs) old new → AddsAllNeeds jobs old new
-adds_all jobs position lists other old new p l t a =
-    let there : (j k : ℕ) → Walk other k j → Walk lists j k = λ j k w. turned_walk other lists (λ a b e. (t b a).1 e) k j w in
-    let back : (j k : ℕ) → Walk lists j k → Walk other k j = λ j k w. turned_walk lists other (λ a b e. (t a b).0 e) j k w in
-    let first : AddsNeeds position (Walk lists) (all_needs jobs) old new = adds_as position (λ j k. Walk other k j) (Walk lists) (all_needs jobs) old new (λ j k. (there j k, back j k)) a in
-    let P : List (List ℕ) → Type 0 = λ ls. AddsNeeds position (Walk ls) (all_needs jobs) old new in
-    let Q : (List ℕ → Option ℕ) → Type 0 = λ f. AddsNeeds f (Walk (needs_lists f jobs)) (all_needs jobs) old new in
-    subst Q p (subst P l first)
-
-pub lists_same : (jobs : List (Node × Node)) (position : List ℕ → Option ℕ) (lists : List (List ℕ)) → position ≡ position_in (keys_of jobs) → lists ≡ needs_lists position jobs → lists ≡ needs_lists (position_in (keys_of jobs)) jobs
+pub lists_same : (jobs : List (Node × Node)) (position : List ℕ → Option ℕ) (lists : List (List ℕ)) → position ≡ position_in (keys_of jobs)
+    → lists ≡ needs_lists position jobs → lists ≡ needs_lists (position_in (keys_of jobs)) jobs
 lists_same jobs position lists p l = l ∙ ap (λ f. needs_lists f jobs) p
 
--- what a job needs is a job, and so is what needs it
-pub other_below : (size : ℕ) (lists other : List (List ℕ)) → length lists ≡ size → IsTurned lists other → (j k : ℕ) → Edge other j k → k < size
-other_below size lists other e t j k edge =
-    let has : Edge lists k j = (t k j).1 edge in
-    ⊎_elim (λ lt. omega (arith, lt, e)) (λ past. let P : List ℕ → Type 0 = λ l. Contains l j in let none : Contains [] j = subst P (get_or_past lists k [] past) has in absurd (let below : none.0 < 0 = none.1 in omega (arith, below))) (cases_lt k (length lists))
+-- the faults of all
+pub adds_all : (jobs : List (Node × Node)) (position : List ℕ → Option ℕ) (lists : List (Vec ℕ Global)) (labels : List (Option ℕ))
+    (old new : List Fault) → position ≡ position_in (keys_of jobs) → edges_of lists ≡ needs_lists position jobs
+    → ((j k : ℕ) → j < length lists → k < length lists
+    → (get_or labels j None ≡ get_or labels k None) ↔ StronglyConnected (edges_of lists) j k)
+    → new ≡ old ++ labelled_faults position labels (all_needs jobs) → AddsAllNeeds jobs old new
+adds_all jobs position lists labels old new p l exact grows =
+    let graph = edges_of lists in
+    let size : length graph ≡ length lists = length-map lists _ in
+    let number : length (needs_lists position jobs) ≡ length jobs = length-map jobs _ in
+    let all : length graph ≡ length jobs = ap length l ∙ number in
+    let same : edges_of lists ≡ needs_lists (position_in (keys_of jobs)) jobs = lists_same jobs position graph p l in
+    let below : (j k : ℕ) → Edge graph j k → k < length graph =
+    λ j k e. (let h = edges_below jobs lists same j k e in omega (arith, h, size)) in
+    let are = jobs_are position graph labels (λ j k a b. exact j k (omega (arith, a, size)) (omega (arith, b, size))) below 0 jobs
+    (λ k x lt is. let zero' : k ≡ 0 + k = omega arith in (
+      omega (arith, lt, all),
+      subst (λ n. get_or graph n [] ≡ filter_map (named_by position) (needs_of x)) zero'
+          (ap (λ (g : List (List ℕ)). get_or g k []) l
+          ∙ get_or-map (λ j. filter_map (named_by position) (needs_of j)) jobs k x [] lt
+          ∙ ap (λ j. filter_map (named_by position) (needs_of j)) (sym is)),
+    )) in
+    let adds : AddsNeeds position (Walk graph) (all_needs jobs) old new = record {
+      found = labelled_faults position labels (all_needs jobs);
+      are = are;
+      grows = grows;
+    } in
+    let P : List (List ℕ) → Type 0 = λ ls. AddsNeeds position (Walk ls) (all_needs jobs) old new in
+    let Q : (List ℕ → Option ℕ) → Type 0 = λ f. AddsNeeds f (Walk (needs_lists f jobs)) (all_needs jobs) old new in
+    subst Q p (subst P l adds)

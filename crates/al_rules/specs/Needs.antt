@@ -1,12 +1,12 @@
 -- Faults of what jobs need.
-use Rattle.std.specs.Prelude.{◌≡◌, ℕ, List, [], ◌∷◌, ◌++◌, Bool, ◌+◌, codes, map, Option, Some, None, if◌then◌else◌}
+use Rattle.std.specs.Prelude.{◌≡◌, ℕ, List, [], ◌∷◌, ◌++◌, Bool, codes, map, Option, Some, None, if◌then◌else◌}
 use Rattle.std.specs.List.{flat_map, filter_map, enumerate_from}
-use Rattle.std.specs.Str.{bytes_eq}
 use Rattle.al_text.specs.declared.codes.RuleCode.TheVariants.{NeedsCycle, UndefinedJob}
 use Rattle.al_text.specs.declared.faults.Fault.{Fault}
 use Rattle.al_yaml.specs.Node.{Node}
 use Rattle.al_shape.specs.Values.{texts_at}
-use Rattle.al_formats.specs.Texts.{folded}
+use Rattle.al_types.specs.Names.{same_name}
+use Rattle.al_declarations.specs.Positions.{first_at}
 use Rattle.al_graph.specs.Graphs.{Walk}
 use Rattle.al_reports.specs.Words.{Named, about, fault, of_key, of_scalar}
 
@@ -18,18 +18,13 @@ keys_of jobs = map (λ j. of_key j.0) jobs
 abbrev pub needs_of : Node × Node → List Named
 needs_of j = map of_scalar (texts_at (codes "needs") j.1)
 
--- the position of the first of some texts that is this one
-abbrev pub position_from : ℕ → List (List ℕ) → List ℕ → Option ℕ
-position_from i [] text = None
-position_from i (t ∷ ts) text = if bytes_eq text t then Some i else position_from (i + 1) ts text
-
--- the position of the first job with a key, all without case
+-- where the first job stands whose key is a name, in any ASCII case
 abbrev pub position_in : List Named → List ℕ → Option ℕ
-position_in keys = position_from 0 (map (λ k. folded k.text) keys)
+position_in keys name = first_at (λ k. same_name k.text name) keys
 
--- where the job that a text names stands, by its position without case
+-- where the job stands that a text names
 abbrev pub named_by : (List ℕ → Option ℕ) → Named → Option ℕ
-named_by position n = position (folded n.text)
+named_by position n = position n.text
 
 -- for each job the positions of the jobs that it needs
 abbrev pub needs_lists : (List ℕ → Option ℕ) → List (Node × Node) → List (List ℕ)

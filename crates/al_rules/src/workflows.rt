@@ -37,7 +37,7 @@ fn check_jobs(alloc: Global, jobs: &[Member<'_>], out: &mut Vec<Fault>) -> Resul
 {
     let keys = keys_of(alloc, jobs)?;
     check_ids(alloc, keys.as_slice(), out)?;
-    check_needs(alloc, keys.as_slice(), jobs, out)?;
+    check_needs(alloc, jobs, out)?;
     check_each_job(alloc, jobs, out)?;
     Ok(())
 }

@@ -1,6 +1,6 @@
 //! Graphs.
 
-use al_graph::{reachable, turned};
+use al_graph::{strongly_connected_components, turned};
 use std::alloc::AllocError;
 
 // Whether an edge leads from one node to another.
@@ -20,8 +20,17 @@ fn walks(rt: HostRuntime) -> Result<(), AllocError> {
     graph.push(Vec::from_slice(alloc, &[2])?)?;
     graph.push(Vec::from_slice(alloc, &[1])?)?;
     graph.push(Vec::from_slice(alloc, &[0])?)?;
-    let marks = reachable(alloc, graph.as_slice(), 0)?;
-    assert_eq!(rt; marks.as_slice(), [true, true, true, false].as_slice());
+    let labels = strongly_connected_components(alloc, graph.as_slice())?;
+    assert_eq!(rt; labels.len(), 4);
+    for (node, other, together) in [
+        (1, 2, true),
+        (0, 1, false),
+        (0, 2, false),
+        (0, 3, false),
+        (2, 3, false),
+    ] {
+        assert_eq!(rt; labels[node] == labels[other], together);
+    }
     let other = turned(alloc, graph.as_slice())?;
     assert_eq!(rt; other.len(), 4);
     for (from, to) in [(1, 0), (2, 0), (2, 1), (1, 2), (0, 3)] {

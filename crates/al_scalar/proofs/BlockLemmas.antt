@@ -1,11 +1,13 @@
 -- Block scalars: lines against offsets.
-use Rattle.std.proofs.Common.{◌≡◌, ◌≢◌, ℕ, zero, suc, ◌+◌, ◌-◌, ◌<◌, ◌≤◌, List, [], ◌∷◌, ◌++◌, length, drop, slice_index, refl, sym, ap, subst, ◌∙◌, arith, append-nil, Bool, true, false, cond, inl, inr, ◌⊎◌, Option, Some, None, eq-eqb, is_some}
+use Rattle.std.proofs.Common.{◌≡◌, ◌≢◌, ℕ, zero, suc, ◌+◌, ◌-◌, ◌<◌, ◌≤◌, List, [], ◌∷◌, ◌++◌, length, drop, slice_index, refl, sym, ap}
+use Rattle.std.proofs.Common.{subst, ◌∙◌, arith, append-nil, Bool, true, false, cond, inl, inr, ◌⊎◌, Option, Some, None, eq-eqb, is_some}
 use Rattle.std.proofs.Math.Nat.{eq-or-lt_of_le, le_of_lt}
 use Rattle.std.proofs.lemmas.Grind.{common_steps}
 use Rattle.al_scalar.specs.Block.{row_of, found_indent}
 use Rattle.al_scalar.specs.Line.{Cell, Line, indent, is_empty, is_all_blank}
 use Rattle.al_scalar.specs.Taken.{feeds}
-use Rattle.al_scalar.specs.Places.{lines_at, cells_at, cells_between, with_cells_before, AreBlank, IsBlankByte, IsLineEnd, broken_line, SameLine, first_text, later, AreSpaces, BlankTo}
+use Rattle.al_scalar.specs.Places.{first_text}
+use Rattle.al_scalar.specs.Private.Places.{lines_at, cells_at, cells_between, with_cells_before, AreBlank, IsBlankByte, IsLineEnd, broken_line, SameLine, later, AreSpaces, BlankTo}
 use Rattle.al_scalar.specs.Private.BlockRead.{indent_from}
 use Rattle.al_scalar.proofs.LineLemmas.{cells_between-none, cells_between-more}
 use Rattle.al_scalar.proofs.SingleLemmas.{has_line, RunBefore, run_at, run_then, cell_at, text-line_end, lines-at_end, byte_kind, IsInside}
@@ -69,7 +71,8 @@ length-cells_between bytes i j = length-cells_at bytes i (j - i)
 indent-cell : (c : Cell) (cs : List Cell) → c.0 ≢ 32 → indent (c ∷ cs) ≡ 0
 indent-cell c cs n = grind (arith, common_steps, n)
 
-indent-cases : (bytes : List ℕ) (i : ℕ) → (i ≡ length bytes) ⊎ (i < length bytes) → ((slice_index bytes i ≡ 10) ⊎ (slice_index bytes i ≡ 13)) ⊎ ((slice_index bytes i ≢ 10) × (slice_index bytes i ≢ 13))
+indent-cases : (bytes : List ℕ) (i : ℕ) → (i ≡ length bytes) ⊎ (i < length bytes)
+    → ((slice_index bytes i ≡ 10) ⊎ (slice_index bytes i ≡ 13)) ⊎ ((slice_index bytes i ≢ 10) × (slice_index bytes i ≢ 13))
     → (i < length bytes → slice_index bytes i ≢ 32) → indent (first_text (lines_at bytes i)) ≡ 0
 indent-cases bytes i (inl e) k n = ap (λ ls. indent (first_text ls)) (lines-at_end bytes i e)
 indent-cases bytes i (inr l) (inl k) n = ap indent (text-line_end bytes i (le_of_lt l) (λ _. k))

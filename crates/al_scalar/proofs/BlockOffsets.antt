@@ -1,11 +1,15 @@
 -- Offsets of a block scalar's text.
-use Rattle.std.proofs.Common.{◌≡◌, ℕ, ◌+◌, ◌-◌, ◌<◌, ◌≤◌, List, [], ◌∷◌, ◌++◌, drop, refl, sym, subst, arith, Bool, true, false, not, if◌then◌else◌, ◌&&◌, ◌||◌, nat_le, Option, Some, None, Result, Ok, Err}
+use Rattle.std.proofs.Common.{◌≡◌, ℕ, ◌+◌, ◌-◌, ◌<◌, ◌≤◌, List, [], ◌∷◌, ◌++◌, drop, refl, sym, subst, arith, Bool, true, false, not}
+use Rattle.std.proofs.Common.{if◌then◌else◌, ◌&&◌, ◌||◌, nat_le, Option, Some, None, Result, Ok, Err}
 use Rattle.al_text.specs.Ascii as ascii
 use Rattle.al_scalar.specs.Line.{Cell, Line, place, start, is_empty, begins, after_blanks, begins_blank, is_comment, indent, is_all_blank}
-use Rattle.al_scalar.specs.Block.{Chomping, strip, clip, keep, Header, header_end, after_digit, after_sign, header, is_digit, is_sign, chomping_of, content_indent, BlockLine, Rows, row_of, at_end, with_row, rows_at, chomped, is_spaced, own_break, between_rows, joint, text_after, last_end, rows_end, block_scalar}
+use Rattle.al_scalar.specs.Block.{Chomping, strip, clip, keep, Header, header_end, after_digit, after_sign, header, is_digit, is_sign}
+use Rattle.al_scalar.specs.Block.{chomping_of, content_indent, BlockLine, Rows, row_of, at_end, with_row, rows_at, chomped, is_spaced}
+use Rattle.al_scalar.specs.Block.{own_break, between_rows, joint, text_after, last_end, rows_end, block_scalar}
 use Rattle.al_scalar.specs.Offsets.{AreBefore, AreClimbing, IsTail, AreLines}
 use Rattle.al_scalar.specs.Taken.{Fault, Taken, ◌>>=◌, feeds}
-use Rattle.al_scalar.proofs.OffsetLemmas.{IsFrom, choose, from-none, from-one, from-join, from-wider, from-order, climbing-order, climbing-lower, climbing-place, climbing-drop, climbing-from, tail-lines, feeds-join}
+use Rattle.al_scalar.proofs.OffsetLemmas.{IsFrom, choose, from-none, from-one, from-join, from-wider, from-order, climbing-order}
+use Rattle.al_scalar.proofs.OffsetLemmas.{climbing-lower, climbing-place, climbing-drop, climbing-from, tail-lines, feeds-join}
 
 -- ---- rows
 
@@ -77,14 +81,16 @@ between-from low mid high (e ∷ es) [] h k =
     from-one low high ascii.space e a (omega (arith, b, c))
 between-from low mid high (e ∷ es) (x ∷ xs) h k = from-wider mid high low high (feeds (x ∷ xs)) (from-order low mid (feeds (e ∷ es)) h) (omega arith) k
 
-joint-from : (is_literal : Bool) (low mid high : ℕ) (last : Option BlockLine) (empties : List ℕ) (next : BlockLine) → ArePending low mid high last empties → IsFrom low high (joint is_literal last empties next)
+joint-from : (is_literal : Bool) (low mid high : ℕ) (last : Option BlockLine) (empties : List ℕ) (next : BlockLine)
+    → ArePending low mid high last empties → IsFrom low high (joint is_literal last empties next)
 joint-from is_literal low mid high None empties next h = from-wider mid high low high (feeds empties) (from-order low mid [] h.own) (omega arith) h.since
 joint-from is_literal low mid high (Some r) empties next h =
     choose (IsFrom low high) (is_literal || is_spaced r || is_spaced next)
     (λ _. subst (IsFrom low high) (sym (feeds-join r.break empties)) (from-join low mid high (feeds r.break) (feeds empties) h.own h.since))
     (λ _. between-from low mid high r.break empties h.own h.since)
 
-pending-more : (low mid high to to' : ℕ) (last : Option BlockLine) (empties more : List ℕ) → high ≤ to → ArePending low mid high last empties → IsFrom to to' (feeds more) → ArePending low mid to' last (empties ++ more)
+pending-more : (low mid high to to' : ℕ) (last : Option BlockLine) (empties more : List ℕ) → high ≤ to
+    → ArePending low mid high last empties → IsFrom to to' (feeds more) → ArePending low mid to' last (empties ++ more)
 pending-more low mid high to to' last empties more a h k = record {
   own = h.own;
   since = subst (IsFrom mid to') (sym (feeds-join empties more)) (from-join mid high to' (feeds empties) (feeds more) h.since (from-wider to to' high to' (feeds more) a (omega arith) k));
@@ -147,14 +153,16 @@ before-between low mid next end [] empties h a = before-feeds end empties
 before-between low mid next end (e ∷ es) [] h a = let b = h.rising.1 in ((λ _. omega (arith, b, a)), tt)
 before-between low mid next end (e ∷ es) (x ∷ xs) h a = before-feeds end (x ∷ xs)
 
-before-joint : (is_literal : Bool) (low mid high end : ℕ) (last : Option BlockLine) (empties : List ℕ) (next : BlockLine) → ArePending low mid high last empties → high ≤ end → AreBefore end (joint is_literal last empties next)
+before-joint : (is_literal : Bool) (low mid high end : ℕ) (last : Option BlockLine) (empties : List ℕ) (next : BlockLine)
+    → ArePending low mid high last empties → high ≤ end → AreBefore end (joint is_literal last empties next)
 before-joint is_literal low mid high end None empties next h a = before-feeds end empties
 before-joint is_literal low mid high end (Some r) empties next h a =
     let b = from-order mid high (feeds empties) h.since in
     choose (AreBefore end) (is_literal || is_spaced r || is_spaced next) (λ _. before-feeds end (r.break ++ empties))
     (λ _. before-between low mid high end r.break empties h.own (omega (arith, a, b)))
 
-text-before : (is_literal : Bool) (k : Chomping) (low mid next high : ℕ) (last : Option BlockLine) (empties : List ℕ) (at : ℕ) (rs : List BlockLine) → ArePending low mid next last empties → AreRows next high rs → at ≤ next
+text-before : (is_literal : Bool) (k : Chomping) (low mid next high : ℕ) (last : Option BlockLine) (empties : List ℕ) (at : ℕ)
+    (rs : List BlockLine) → ArePending low mid next last empties → AreRows next high rs → at ≤ next
     → AreBefore (rows_end at rs) (text_after is_literal k last empties rs)
 text-before is_literal k low mid next high last empties at [] h rows a = before-chomped at k (own_break last) empties
 text-before is_literal k low mid next high last empties at (r ∷ rs) h rows a =
@@ -167,9 +175,12 @@ text-before is_literal k low mid next high last empties at (r ∷ rs) h rows a =
     let inside : now ≤ behind = omega (arith, order, below) in
     let ends = rows-end now behind high rs rows.2 inside in
     choose (AreBefore end) (is_empty r.text)
-    (λ _. text-before is_literal k low mid behind high last (empties ++ r.break) now rs (pending-more low mid next break behind last empties r.break (climbing-order next break r.text rows.0) h rows.1) rows.2 inside)
+    (λ _. text-before is_literal k low mid behind high last (empties ++ r.break) now rs
+    (pending-more low mid next break behind last empties r.break (climbing-order next break r.text rows.0) h rows.1) rows.2 inside)
     (λ e. let first = last-behind next break at r.text rows.0 e in before-join end (joint is_literal last empties r ++ r.text) (text_after is_literal k (Some r) [] rs)
-    (before-join end (joint is_literal last empties r) r.text (before-joint is_literal low mid next end last empties r h (omega (arith, first, ends))) (before-climbing next break end at r.text rows.0 ends))
+    (before-join end (joint is_literal last empties r) r.text
+    (before-joint is_literal low mid next end last empties r h (omega (arith, first, ends)))
+    (before-climbing next break end at r.text rows.0 ends))
     (text-before is_literal k break behind behind high (Some r) [] now rs (record { own = rows.1; since = from-none behind behind (omega arith) }) rows.2 inside))
 
 -- ---- the header
@@ -237,7 +248,8 @@ block-by is_literal within low l ls a k (Ok h) r =
       text-before is_literal h.chomping low l.end l.end (start rs.left) None [] h.end rs.rows none rows r,
     )
 
-pub block-from : (is_literal : Bool) (within low q : ℕ) (l : Line) (ls : List Line) → begins q l.text ≡ true → AreLines low (l ∷ ls) → IsBlockTaken (place l.text l.end) (block_scalar is_literal within (l ∷ ls))
+pub block-from : (is_literal : Bool) (within low q : ℕ) (l : Line) (ls : List Line) → begins q l.text ≡ true → AreLines low (l ∷ ls)
+    → IsBlockTaken (place l.text l.end) (block_scalar is_literal within (l ∷ ls))
 block-from is_literal within low q l ls e h =
     let at = place l.text l.end in
     block-by is_literal within at l ls (climbing-order at l.end l.text (climbing-place low l.end l.text h.0).1) h.1

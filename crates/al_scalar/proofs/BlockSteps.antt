@@ -2,7 +2,8 @@
 use Rattle.std.proofs.Common.{◌≡◌, ℕ, ◌+◌, List, [], ◌∷◌, length, drop, refl, sym, ap, ◌∙◌, Bool, true, false, cond, Option, None, Result, Ok, Err}
 use Rattle.al_scalar.specs.Line.{Cell, Line, place}
 use Rattle.al_scalar.specs.Taken.{Fault, Taken, ◌>>=◌, with_text}
-use Rattle.al_scalar.specs.Places.{lines_at, broken_line, SameLine, first_text, first_end, first_last, later}
+use Rattle.al_scalar.specs.Places.{first_text, first_end}
+use Rattle.al_scalar.specs.Private.Places.{lines_at, broken_line, SameLine, first_last, later}
 use Rattle.al_scalar.specs.Block.{Chomping, Header, Rows, header, content_indent, rows_at, block_scalar}
 use Rattle.al_scalar.specs.Private.BlockRead.{rest, is_said}
 use Rattle.al_scalar.proofs.SingleLemmas.{has_line, cell_at, lines-at_end, lines_at-some, IsInside}
@@ -46,7 +47,9 @@ module _ (lit : Bool) (within : ℕ) (bytes : List ℕ) (at : ℕ) (here : IsIns
       let ended : first_end xs ≡ stop = first-same.end ∙ s.end ∙ u.end ∙ ap first_end at_stop in
       let is_last : first_last xs ≡ true = first-same.last ∙ s.last ∙ u.last ∙ ap first_last at_stop in
       block-given ∙ ap (λ r. r >>= body lit within xs) g
-      ∙ ap (λ b. Ok (of_rows lit h.chomping None [] h.end (cond b (record { rows = []; left = record { text = []; end = first_end xs; last = true } ∷ [] }) (rows_at (content_indent h.digit within (later xs)) (is_said h.digit) (later xs))))) is_last
+      ∙ ap (λ b. Ok (of_rows lit h.chomping None [] h.end
+      (cond b (record { rows = []; left = record { text = []; end = first_end xs; last = true } ∷ [] })
+      (rows_at (content_indent h.digit within (later xs)) (is_said h.digit) (later xs))))) is_last
       ∙ ap (λ t. Ok (record { text = t; end = h.end; left = record { text = []; end = first_end xs; last = true } ∷ [] })) (chomped-none h.chomping ∙ sym n)
       ∙ ap (λ m. Ok (record { text = new; end = h.end; left = record { text = []; end = m; last = true } ∷ [] })) ended
       ∙ ap (λ ls. Ok (record { text = new; end = h.end; left = ls })) (sym at_stop)
@@ -61,7 +64,9 @@ module _ (lit : Bool) (within : ℕ) (bytes : List ℕ) (at : ℕ) (here : IsIns
       let is_last : first_last xs ≡ false = first-same.last ∙ s.last ∙ u.last ∙ ap first_last z in
       let behind : later xs ≡ lines_at bytes first = first-same.later ∙ s.later ∙ u.later ∙ ap later z in
       block-given ∙ ap (λ r. r >>= body lit within xs) g
-      ∙ ap (λ b. Ok (of_rows lit h.chomping None [] h.end (cond b (record { rows = []; left = record { text = []; end = first_end xs; last = true } ∷ [] }) (rows_at (content_indent h.digit within (later xs)) (is_said h.digit) (later xs))))) is_last
+      ∙ ap (λ b. Ok (of_rows lit h.chomping None [] h.end
+      (cond b (record { rows = []; left = record { text = []; end = first_end xs; last = true } ∷ [] })
+      (rows_at (content_indent h.digit within (later xs)) (is_said h.digit) (later xs))))) is_last
       ∙ ap (λ ls. Ok (of_rows lit h.chomping None [] h.end (rows_at (content_indent h.digit within ls) (is_said h.digit) ls))) behind
 
 -- the rest, by the style that the code took from the header

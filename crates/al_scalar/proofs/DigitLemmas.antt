@@ -4,7 +4,7 @@ use Rattle.std.proofs.Math.Nat.{pow-le-pow_right}
 use Rattle.std.proofs.Math.Seq.{take-append-add}
 use Rattle.al_scalar.specs.Line.{Cell}
 use Rattle.al_scalar.specs.Quoted.{hex_digit, hex_push, hex_value}
-use Rattle.al_scalar.specs.Places.{text_at, cells_between}
+use Rattle.al_scalar.specs.Private.Places.{text_at, cells_between}
 use Rattle.al_scalar.specs.Private.Double.{Between}
 use Rattle.al_scalar.proofs.BlockLemmas.{length-cells_between}
 use Rattle.al_scalar.proofs.LineLemmas.{cells_between-more, cells_between-none}
@@ -39,7 +39,11 @@ digit-more w d k h m = omega (arith, h, m)
 -- ---- against offsets
 
 pub between-none : (bytes : List ℕ) (from : ℕ) → from ≤ length bytes → Between bytes from from
-between-none bytes from h = (record { from = omega arith; inside = h; same = record { end = refl; last = refl; later = refl } }, ap (λ cs. cs ++ text_at bytes from) (sym (cells_between-none bytes from)))
+between-none bytes from h = (
+  record { from = omega arith; inside = h; same = record { end = refl; last = refl; later = refl } },
+  ap
+      (λ cs. cs ++ text_at bytes from) (sym (cells_between-none bytes from)),
+)
 
 pub between-more : (bytes : List ℕ) (from i : ℕ) → Between bytes from i → IsInside bytes i → Between bytes from (i + 1)
 between-more bytes from i b h =
@@ -49,14 +53,16 @@ between-more bytes from i b h =
           ∙ ap (λ cs. cs ++ text_at bytes (i + 1)) (sym (cells_between-more bytes from i b.0.from)),
     )
 
-pub value-more : (bytes : List ℕ) (from i w d : ℕ) → from ≤ i → hex_value 0 (cells_between bytes from i) ≡ Some w → hex_digit (slice_index bytes i) ≡ Some d → hex_value 0 (cells_between bytes from (i + 1)) ≡ Some (16 * w + d)
+pub value-more : (bytes : List ℕ) (from i w d : ℕ) → from ≤ i → hex_value 0 (cells_between bytes from i) ≡ Some w
+    → hex_digit (slice_index bytes i) ≡ Some d → hex_value 0 (cells_between bytes from (i + 1)) ≡ Some (16 * w + d)
 value-more bytes from i w d o e f =
     ap (hex_value 0) (cells_between-more bytes from i o)
     ∙ hex_value-append 0 w (cells_between bytes from i) ((slice_index bytes i, i) ∷ []) e
     ∙ hex_value-step w d (slice_index bytes i, i) [] f
 
 -- a character that is no digit
-pub digits-wrong : (bytes : List ℕ) (from i count w : ℕ) → Between bytes from i → IsInside bytes i → i < from + count → hex_value 0 (cells_between bytes from i) ≡ Some w → hex_digit (slice_index bytes i) ≡ None
+pub digits-wrong : (bytes : List ℕ) (from i count w : ℕ) → Between bytes from i → IsInside bytes i → i < from + count
+    → hex_value 0 (cells_between bytes from i) ≡ Some w → hex_digit (slice_index bytes i) ≡ None
     → hex_value 0 (take count (text_at bytes from)) ≡ None
 digits-wrong bytes from i count w b h l e f =
     let cell = cell_at bytes i h.inside h.not_feed h.not_return in

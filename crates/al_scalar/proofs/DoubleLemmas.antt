@@ -1,12 +1,14 @@
 -- The parts of a double-quoted scalar's lines.
-use Rattle.std.proofs.Common.{◌≡◌, ◌≢◌, ℕ, ◌+◌, ◌≤◌, List, [], ◌∷◌, ◌++◌, length, map, take, refl, sym, ap, ◌∙◌, arith, append_assoc, Bool, true, false, ◌==◌, nat_lt, cond, inl, inr, Option, Some, None, Result, Ok, Err, encode_utf8}
+use Rattle.std.proofs.Common.{◌≡◌, ◌≢◌, ℕ, ◌+◌, ◌≤◌, List, [], ◌∷◌, ◌++◌, length, map, take, refl, sym, ap, ◌∙◌, arith, append_assoc, Bool}
+use Rattle.std.proofs.Common.{true, false, ◌==◌, nat_lt, cond, inl, inr, Option, Some, None, Result, Ok, Err, encode_utf8}
 use Rattle.std.proofs.lemmas.Grind.{common_steps}
 use Rattle.std.proofs.lemmas.Str.{length-encode, len_utf8_bounds}
 use Rattle.al_text.specs.declared.codes.YamlCode.TheVariants as yaml
 use Rattle.al_scalar.specs.Line.{Cell, is_empty}
 use Rattle.al_scalar.specs.Taken.{Fault, fault}
-use Rattle.al_scalar.specs.Quoted.{QuotedLine, closed, broken, cut_short, part_before, own_before, written, lookup, escape_table, digits_table, hex_value, hex_escape, is_scalar_value, escape, double_part}
-use Rattle.al_scalar.specs.Places.{AreBlank, IsBlankByte}
+use Rattle.al_scalar.specs.Quoted.{QuotedLine, closed, broken, cut_short, part_before, own_before, written, lookup, escape_table}
+use Rattle.al_scalar.specs.Quoted.{digits_table, hex_value, hex_escape, is_scalar_value, escape, double_part}
+use Rattle.al_scalar.specs.Private.Places.{AreBlank, IsBlankByte}
 use Rattle.al_scalar.specs.Private.Double.{IsMarkByte}
 use Rattle.al_scalar.proofs.SingleLemmas.{with_own-solid, with_own-other, with_own-blank}
 use Rattle.al_scalar.proofs.QuotedLemmas.{gives_nothing}

@@ -1,8 +1,9 @@
 -- A break and the empty lines behind it against offsets.
-use Rattle.std.proofs.Common.{◌≡◌, ◌≢◌, ℕ, ◌+◌, ◌<◌, ◌≤◌, List, [], ◌∷◌, ◌++◌, length, slice_index, refl, sym, ap, ◌∙◌, append_assoc, append-nil, Bool, true, false, not, ◌&&◌, cond, inl, inr, ◌⊎◌, eq-or-lt_of_le}
+use Rattle.std.proofs.Common.{◌≡◌, ◌≢◌, ℕ, ◌+◌, ◌<◌, ◌≤◌, List, [], ◌∷◌, ◌++◌, length, slice_index, refl, sym, ap, ◌∙◌, append_assoc}
+use Rattle.std.proofs.Common.{append-nil, Bool, true, false, not, ◌&&◌, cond, inl, inr, ◌⊎◌, eq-or-lt_of_le}
 use Rattle.al_scalar.specs.Line.{Cell, Line, with_cell, cut, after_blanks, is_empty}
 use Rattle.al_scalar.specs.Taken.{feeds}
-use Rattle.al_scalar.specs.Places.{lines_at, cells_between, with_cells_before, AreBlank, IsBlankByte, IsBreakAt, broken_line}
+use Rattle.al_scalar.specs.Private.Places.{lines_at, cells_between, with_cells_before, AreBlank, IsBlankByte, IsBreakAt, broken_line}
 use Rattle.al_scalar.specs.Private.PlainLines.{is_blank_line, empty_ends, break_left}
 use Rattle.al_scalar.specs.Private.Folding.{solid_lines}
 use Rattle.al_scalar.proofs.LineLemmas.{lines_at-other}
@@ -79,6 +80,7 @@ given-feed : (f : Bool) (end s : ℕ) (es : List ℕ) → break_left f end (s �
 given-feed true end s es = refl
 given-feed false end s es = refl
 
-pub given-more : {new whole : List Cell} (f : Bool) (end s : ℕ) (text : List Cell) (left es : List ℕ) → left ≡ s ∷ es → text ++ break_left f end left ≡ whole → new ≡ text ++ (10, s) ∷ [] → new ++ break_left true end es ≡ whole
+pub given-more : {new whole : List Cell} (f : Bool) (end s : ℕ) (text : List Cell) (left es : List ℕ) → left ≡ s ∷ es → text
+    ++ break_left f end left ≡ whole → new ≡ text ++ (10, s) ∷ [] → new ++ break_left true end es ≡ whole
 given-more f end s text left es h e n =
     ap (λ t. t ++ feeds es) n ∙ append_assoc text ((10, s) ∷ []) (feeds es) ∙ ap (λ t. text ++ t) (sym (given-feed f end s es)) ∙ ap (λ es. text ++ break_left f end es) (sym h) ∙ e

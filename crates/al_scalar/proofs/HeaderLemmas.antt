@@ -5,7 +5,8 @@ use Rattle.std.proofs.lemmas.Grind.{common_steps}
 use Rattle.al_scalar.specs.Line.{Cell, place, after_blanks, is_empty, begins_blank, begins}
 use Rattle.al_scalar.specs.Taken.{fault}
 use Rattle.al_scalar.specs.Block.{Header, header_end}
-use Rattle.al_scalar.specs.Places.{lines_at, cells_between, with_cells_before, AreBlank, IsBlankByte, IsLineEnd, first_text}
+use Rattle.al_scalar.specs.Places.{first_text}
+use Rattle.al_scalar.specs.Private.Places.{lines_at, cells_between, with_cells_before, AreBlank, IsBlankByte, IsLineEnd}
 use Rattle.al_scalar.proofs.LineLemmas.{cells_between-front}
 use Rattle.al_scalar.proofs.SingleLemmas.{run_at, text-line_end, is_blank-yes, is_blank-no, IsInside}
 use Rattle.al_scalar.proofs.FoldLemmas.{after_blanks-run, after_blanks-solid}
@@ -31,7 +32,9 @@ module _ (bytes : List ℕ) (at solid : ℕ) (inside : solid ≤ length bytes) (
   header-ended k =
       let text = first_text (lines_at bytes at) in
       let r = run_at bytes at solid (cells_between bytes at solid) e in
-      header-is h text [] (begins_blank text) false (ap after_blanks r.text ∙ after_blanks-run (cells_between bytes at solid) (first_text (lines_at bytes solid)) b ∙ ap after_blanks (text-line_end bytes solid inside k)) refl refl
+      header-is h text [] (begins_blank text) false
+      (ap after_blanks r.text ∙ after_blanks-run (cells_between bytes at solid) (first_text (lines_at bytes solid)) b
+      ∙ ap after_blanks (text-line_end bytes solid inside k)) refl refl
 
   after-solid : IsInside bytes solid → (IsBlankByte (slice_index bytes solid) → ⊥)
       → after_blanks (first_text (lines_at bytes at)) ≡ (slice_index bytes solid, solid) ∷ first_text (lines_at bytes (solid + 1))
@@ -51,7 +54,8 @@ module _ (bytes : List ℕ) (at solid : ℕ) (inside : solid ≤ length bytes) (
       → header_end h (first_text (lines_at bytes at)) ≡ Err (record { code = WrongBlockHeader; at = solid })
   header-close here n same =
       let text = first_text (lines_at bytes at) in
-      let none : begins_blank text ≡ false = ap (λ i. begins_blank (first_text (lines_at bytes i))) same ∙ ap begins_blank (begins-cell bytes solid here) ∙ is_blank-no (slice_index bytes solid, solid) n in
+      let none : begins_blank text ≡ false = ap (λ i. begins_blank (first_text (lines_at bytes i))) same
+      ∙ ap begins_blank (begins-cell bytes solid here) ∙ is_blank-no (slice_index bytes solid, solid) n in
       header-is h text _ false (slice_index bytes solid == 35) (after-solid here n) none refl
 
   pub header-comment : IsInside bytes solid → (IsBlankByte (slice_index bytes solid) → ⊥) → at < solid → slice_index bytes solid ≡ 35

@@ -3,7 +3,7 @@ use Rattle.std.proofs.Common.{◌≡◌, ℕ, zero, suc, ◌+◌, ◌-◌, ◌�
 use Rattle.al_scalar.specs.Line.{Cell}
 use Rattle.al_scalar.specs.Taken.{before}
 use Rattle.al_scalar.specs.Quoted.{part_before, double_part, double_quoted}
-use Rattle.al_scalar.specs.Places.{lines_at, text_at, cells_at, cells_between, with_cells_before, AreBlank, IsBlankByte, IsLineEnd, SameLine}
+use Rattle.al_scalar.specs.Private.Places.{lines_at, text_at, cells_at, cells_between, with_cells_before, AreBlank, IsBlankByte, IsLineEnd, SameLine}
 use Rattle.al_scalar.specs.Private.Double.{IsMarkByte, ReadsOn}
 use Rattle.al_scalar.proofs.LineLemmas.{cells_between-more}
 use Rattle.al_scalar.proofs.SingleLemmas.{lines_at-some, RunBefore, run_at, cell_at, text-line_end, IsInside}
@@ -26,7 +26,8 @@ cells_between-two bytes i j k h l =
 
 -- ---- reading on
 
-pub reads_on : (bytes : List ℕ) (i j : ℕ) (run : List Cell) → SameLine (lines_at bytes i) (lines_at bytes j) → double_part 0 (text_at bytes i) ≡ part_before run (double_part 0 (text_at bytes j)) → ReadsOn bytes i run j
+pub reads_on : (bytes : List ℕ) (i j : ℕ) (run : List Cell) → SameLine (lines_at bytes i) (lines_at bytes j)
+    → double_part 0 (text_at bytes i) ≡ part_before run (double_part 0 (text_at bytes j)) → ReadsOn bytes i run j
 reads_on bytes i j run s e = λ q. quoted-run (double_part 0) q run (lines_at bytes i) (lines_at bytes j) (lines_at-some bytes i) (lines_at-some bytes j) s e
 
 pub reads-then : (bytes : List ℕ) (i j k : ℕ) (xs ys : List Cell) → ReadsOn bytes i xs j → ReadsOn bytes j ys k → ReadsOn bytes i (xs ++ ys) k
@@ -57,8 +58,10 @@ module _ (bytes : List ℕ) (i j : ℕ) (blanks : AreBlank (cells_between bytes 
   pub reads-byte : i ≤ j → IsInside bytes j → (IsBlankByte (slice_index bytes j) → ⊥) → (IsMarkByte (slice_index bytes j) → ⊥) → ReadsOn bytes i (cells_between bytes i (j + 1)) (j + 1)
   reads-byte o h n m =
       let cell = cell_at bytes j h.inside h.not_feed h.not_return in
-      let own : ReadsOn bytes j ((slice_index bytes j, j) ∷ []) (j + 1) = reads_on bytes j (j + 1) ((slice_index bytes j, j) ∷ []) cell.same (ap (double_part 0) cell.text ∙ double-byte (slice_index bytes j, j) (text_at bytes (j + 1)) n m) in
-      let both : ReadsOn bytes i (cells_between bytes i j ++ (slice_index bytes j, j) ∷ []) (j + 1) = reads-then bytes i j (j + 1) (cells_between bytes i j) ((slice_index bytes j, j) ∷ []) (reads-run h n) own in
+      let own : ReadsOn bytes j ((slice_index bytes j, j) ∷ []) (j + 1) = reads_on bytes j (j + 1) ((slice_index bytes j, j) ∷ []) cell.same
+      (ap (double_part 0) cell.text ∙ double-byte (slice_index bytes j, j) (text_at bytes (j + 1)) n m) in
+      let both : ReadsOn bytes i (cells_between bytes i j ++ (slice_index bytes j, j) ∷ []) (j + 1) = reads-then bytes i j (j + 1)
+      (cells_between bytes i j) ((slice_index bytes j, j) ∷ []) (reads-run h n) own in
       subst (λ cs. ReadsOn bytes i cs (j + 1)) (sym (cells_between-more bytes i j o)) both
 
 pub reads-end : (bytes : List ℕ) (i j k : ℕ) (xs : List Cell) → ReadsOn bytes i xs j → ReadsOn bytes j [] k → ReadsOn bytes i xs k

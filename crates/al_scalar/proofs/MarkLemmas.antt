@@ -1,5 +1,7 @@
 -- What ends a run of characters that stand for themselves, against offsets.
-use Rattle.std.proofs.Common.{◌≡◌, ◌≢◌, ℕ, suc, ◌+◌, ◌<◌, List, [], ◌∷◌, ◌++◌, length, take, slice_index, refl, sym, ap, subst, ◌∙◌, arith, append-nil, Bool, true, false, ◌&&◌, ◌||◌, nat_le, nat_lt, cond, inl, inr, ◌⊎◌, Option, Some, None, Result, Ok, Err}
+use Rattle.std.proofs.Common.{◌≡◌, ◌≢◌, ℕ, suc, ◌+◌, ◌<◌, List, [], ◌∷◌, ◌++◌, length, take, slice_index, refl, sym, ap, subst, ◌∙◌, arith}
+use Rattle.std.proofs.Common.{append-nil, Bool, true, false, ◌&&◌, ◌||◌, nat_le, nat_lt, cond, inl, inr, ◌⊎◌, Option, Some, None, Result}
+use Rattle.std.proofs.Common.{Ok, Err}
 use Rattle.std.proofs.lemmas.Grind.{common_steps}
 use Rattle.std.specs.Char.{IsScalar}
 use Rattle.std.proofs.lemmas.List.{take_all}
@@ -7,8 +9,9 @@ use Rattle.std.proofs.Math.Seq.{take-append_seam}
 use Rattle.al_text.specs.declared.codes.YamlCode.TheVariants as yaml
 use Rattle.al_scalar.specs.Line.{Cell}
 use Rattle.al_scalar.specs.Taken.{Fault, fault}
-use Rattle.al_scalar.specs.Quoted.{QuotedLine, closed, escaped, cut_short, part_before, written, lookup, escape_table, digits_table, hex_value, hex_escape, is_scalar_value, escape, double_part, quoted_lines, double_quoted}
-use Rattle.al_scalar.specs.Places.{lines_at, text_at, first_last, later, cells_between, IsLineEnd}
+use Rattle.al_scalar.specs.Quoted.{QuotedLine, closed, escaped, cut_short, part_before, written, lookup, escape_table, digits_table}
+use Rattle.al_scalar.specs.Quoted.{hex_value, hex_escape, is_scalar_value, escape, double_part, quoted_lines, double_quoted}
+use Rattle.al_scalar.specs.Private.Places.{lines_at, text_at, first_last, later, cells_between, IsLineEnd}
 use Rattle.al_scalar.specs.Private.Double.{ReadsOn, EndsRun, Between, read_behind}
 use Rattle.al_scalar.proofs.SingleLemmas.{lines_at-some, cell_at, run_then, RunBefore, text-line_end, lines-at_end, same_then}
 use Rattle.al_scalar.proofs.FoldLemmas.{break-at}
@@ -29,17 +32,23 @@ letter_given at cs more x y = elim x [
 
 -- a letter that digits follow is no break
 pub letter_kind : (b count : ℕ) → lookup b digits_table ≡ Some count → (b ≢ 10) × (b ≢ 13)
-letter_kind b count e = (λ f. let no : lookup 10 digits_table ≡ Some count = subst (λ x. lookup x digits_table ≡ Some count) f e in cc, λ f. let no : lookup 13 digits_table ≡ Some count = subst (λ x. lookup x digits_table ≡ Some count) f e in cc)
+letter_kind b count e = (
+  λ f. let no : lookup 10 digits_table ≡ Some count = subst (λ x. lookup x digits_table ≡ Some count) f e in
+      cc,
+  λ f. let no : lookup 13 digits_table ≡ Some count = subst (λ x. lookup x digits_table ≡ Some count) f e in cc,
+)
 
 -- what the part of a line gives
-given_at : (bytes : List ℕ) (at q : ℕ) (r : Result QuotedLine Fault) → double_part 0 (text_at bytes at) ≡ r → double_quoted q (lines_at bytes at) ≡ elim r [ Ok p ↦ given (double_part 0) q p (lines_at bytes at) | Err e ↦ Err e ]
+given_at : (bytes : List ℕ) (at q : ℕ) (r : Result QuotedLine Fault) → double_part 0 (text_at bytes at) ≡ r
+    → double_quoted q (lines_at bytes at) ≡ elim r [ Ok p ↦ given (double_part 0) q p (lines_at bytes at) | Err e ↦ Err e ]
 given_at bytes at q (Ok p) e = quoted-part (double_part 0) q (lines_at bytes at) (Ok p) (lines_at-some bytes at) e
 given_at bytes at q (Err f) e = quoted-part (double_part 0) q (lines_at bytes at) (Err f) (lines_at-some bytes at) e
 
 pub file_end : (bytes : List ℕ) (at q : ℕ) → at ≡ length bytes → double_quoted q (lines_at bytes at) ≡ Err (record { code = yaml.UnclosedQuote; at = q })
 file_end bytes at q e = ap (double_quoted q) (lines-at_end bytes at e)
 
-pub closing : (bytes : List ℕ) (at q : ℕ) → at < length bytes → slice_index bytes at ≡ 34 → double_quoted q (lines_at bytes at) ≡ Ok (record { text = []; end = at + 1; left = lines_at bytes (at + 1) })
+pub closing : (bytes : List ℕ) (at q : ℕ) → at < length bytes → slice_index bytes at ≡ 34 → double_quoted q (lines_at bytes at)
+    ≡ Ok (record { text = []; end = at + 1; left = lines_at bytes (at + 1) })
 closing bytes at q h e =
     let cell = cell_at bytes at h (omega arith) (omega arith) in
     given_at bytes at q (Ok (record { text = []; stop = closed (at + 1) (text_at bytes (at + 1)) })) (ap (double_part 0) cell.text ∙ double-quote (slice_index bytes at, at) (text_at bytes (at + 1)) e)
@@ -114,11 +123,15 @@ module _ (bytes : List ℕ) (at : ℕ) (h : at < length bytes) (e : slice_index 
       digits_at : List Cell
       digits_at = take count (text_at bytes (at + 1 + 1))
 
-      number-part : double_part 0 (text_at bytes at) ≡ hex_escape at count (take count (text_at bytes (at + 1 + 1))) (hex_value 0 (take count (text_at bytes (at + 1 + 1)))) (double_part (1 + count) ((slice_index bytes (at + 1), at + 1) ∷ text_at bytes (at + 1 + 1)))
+      number-part : double_part 0 (text_at bytes at) ≡ hex_escape at count (take count (text_at bytes (at + 1 + 1)))
+          (hex_value 0 (take count (text_at bytes (at + 1 + 1))))
+          (double_part (1 + count) ((slice_index bytes (at + 1), at + 1) ∷ text_at bytes (at + 1 + 1)))
       number-part = letter-part None (Some count) f g
 
       pub wrong_digit : (q : ℕ) → hex_value 0 (take count (text_at bytes (at + 1 + 1))) ≡ None → double_quoted q (lines_at bytes at) ≡ Err (record { code = yaml.WrongEscape; at = at })
-      wrong_digit q e = given_at bytes at q (Err (record { code = yaml.WrongEscape; at = at })) (number-part ∙ ap (λ o. hex_escape at count (take count (text_at bytes (at + 1 + 1))) o (double_part (1 + count) ((slice_index bytes (at + 1), at + 1) ∷ text_at bytes (at + 1 + 1)))) e)
+      wrong_digit q e = given_at bytes at q (Err (record { code = yaml.WrongEscape; at = at }))
+          (number-part ∙ ap (λ o. hex_escape at count (take count (text_at bytes (at + 1 + 1))) o
+          (double_part (1 + count) ((slice_index bytes (at + 1), at + 1) ∷ text_at bytes (at + 1 + 1)))) e)
 
       -- all the digits
       module _ (b : Between bytes (at + 1 + 1) (at + 1 + 1 + count)) (code : ℕ) (v : hex_value 0 (cells_between bytes (at + 1 + 1) (at + 1 + 1 + count)) ≡ Some code) where
@@ -136,21 +149,30 @@ module _ (bytes : List ℕ) (at : ℕ) (h : at < length bytes) (e : slice_index 
             let long : nat_lt (length ds) count ≡ false = grind (arith, common_steps, size) in
             let one : 1 + count ≡ suc count = omega arith in
             let behind : double_part (1 + count) ((slice_index bytes (at + 1), at + 1) ∷ text_at bytes (at + 1 + 1)) ≡ double_part 0 rest =
-            ap (λ n. double_part n ((slice_index bytes (at + 1), at + 1) ∷ text_at bytes (at + 1 + 1))) one ∙ ap (double_part count) b.1 ∙ ap (λ n. double_part n (ds ++ rest)) (sym size) ∙ double-skip ds rest in
+            ap (λ n. double_part n ((slice_index bytes (at + 1), at + 1) ∷ text_at bytes (at + 1 + 1))) one ∙ ap (double_part count) b.1
+            ∙ ap (λ n. double_part n (ds ++ rest)) (sym size) ∙ double-skip ds rest in
             number-part
             ∙ ap (λ t. hex_escape at count t (hex_value 0 t) (double_part (1 + count) ((slice_index bytes (at + 1), at + 1) ∷ text_at bytes (at + 1 + 1)))) digits-taken
             ∙ ap (λ o. hex_escape at count ds o (double_part (1 + count) ((slice_index bytes (at + 1), at + 1) ∷ text_at bytes (at + 1 + 1)))) v
-            ∙ ap (λ x. cond x (Ok (record { text = []; stop = cut_short at })) (cond (is_scalar_value code) (part_before (written at code) (double_part (1 + count) ((slice_index bytes (at + 1), at + 1) ∷ text_at bytes (at + 1 + 1)))) (fault yaml.WrongEscape at))) long
+            ∙ ap (λ x. cond x (Ok (record { text = []; stop = cut_short at }))
+            (cond (is_scalar_value code) (part_before (written at code)
+            (double_part (1 + count) ((slice_index bytes (at + 1), at + 1) ∷ text_at bytes (at + 1 + 1)))) (fault yaml.WrongEscape at)))
+            long
             ∙ ap (λ r. cond (is_scalar_value code) (part_before (written at code) r) (fault yaml.WrongEscape at)) behind
 
         pub number : is_scalar_value code ≡ true → ReadsOn bytes at (written at code) (at + 1 + 1 + count)
-        number e = reads_on bytes at (at + 1 + 1 + count) (written at code) (same_then both.same b.0.same) (code-part ∙ ap (λ z. cond z (part_before (written at code) (double_part 0 (text_at bytes (at + 1 + 1 + count)))) (fault yaml.WrongEscape at)) e)
+        number e = reads_on bytes at (at + 1 + 1 + count) (written at code) (same_then both.same b.0.same)
+            (code-part ∙ ap (λ z. cond z (part_before (written at code) (double_part 0 (text_at bytes (at + 1 + 1 + count))))
+            (fault yaml.WrongEscape at)) e)
 
         pub no_character : (q : ℕ) → is_scalar_value code ≡ false → double_quoted q (lines_at bytes at) ≡ Err (record { code = yaml.WrongEscape; at = at })
-        no_character q e = given_at bytes at q (Err (record { code = yaml.WrongEscape; at = at })) (code-part ∙ ap (λ z. cond z (part_before (written at code) (double_part 0 (text_at bytes (at + 1 + 1 + count)))) (fault yaml.WrongEscape at)) e)
+        no_character q e = given_at bytes at q (Err (record { code = yaml.WrongEscape; at = at }))
+            (code-part ∙ ap (λ z. cond z (part_before (written at code) (double_part 0 (text_at bytes (at + 1 + 1 + count))))
+            (fault yaml.WrongEscape at)) e)
 
       -- too few digits
-      module _ (end : ℕ) (b : Between bytes (at + 1 + 1) end) (k : IsLineEnd bytes end) (few : end < at + 1 + 1 + count) (value : ℕ) (v : hex_value 0 (cells_between bytes (at + 1 + 1) end) ≡ Some value) where
+      module _ (end : ℕ) (b : Between bytes (at + 1 + 1) end) (k : IsLineEnd bytes end) (few : end < at + 1 + 1 + count) (value : ℕ)
+          (v : hex_value 0 (cells_between bytes (at + 1 + 1) end) ≡ Some value) where
         short-part : double_part 0 (text_at bytes at) ≡ Ok (record { text = []; stop = cut_short at })
         short-part =
             let ds = cells_between bytes (at + 1 + 1) end in

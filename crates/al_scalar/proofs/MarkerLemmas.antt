@@ -1,7 +1,7 @@
 -- Bytes at an offset and document markers.
 use Rattle.std.proofs.Common.{◌≡◌, ℕ, ◌+◌, ◌≤◌, List, [], ◌∷◌, length, slice_index, refl, sym, ap, ◌∙◌, arith, Bool, true, false, ◌&&◌, ◌==◌}
 use Rattle.al_scalar.specs.Line.{Cell, is_blank_or_end, begins, is_marker}
-use Rattle.al_scalar.specs.Places.{IsLineEnd, text_at}
+use Rattle.al_scalar.specs.Private.Places.{IsLineEnd, text_at}
 use Rattle.al_scalar.proofs.SingleLemmas.{text-line_end, never}
 use Rattle.al_scalar.proofs.PlainLemmas.{text_at-cell}
 
@@ -62,7 +62,9 @@ module _ (bytes : List ℕ) (i b : ℕ) (inside : i ≤ length bytes) where
       two_cells : text_at bytes i ≡ (slice_index bytes i, i) ∷ (slice_index bytes (i + 1), i + 1) ∷ text_at bytes (i + 2)
       two_cells =
           let next : i + 1 + 1 ≡ i + 2 = omega arith in
-          first_cell ∙ ap (λ t. (slice_index bytes i, i) ∷ t) (text_at-cell bytes (i + 1) in_second (begins-inside bytes (i + 1) b in_second two) ∙ ap (λ j. (slice_index bytes (i + 1), i + 1) ∷ text_at bytes j) next)
+          first_cell ∙ ap (λ t. (slice_index bytes i, i) ∷ t)
+          (text_at-cell bytes (i + 1) in_second (begins-inside bytes (i + 1) b in_second two)
+          ∙ ap (λ j. (slice_index bytes (i + 1), i + 1) ∷ text_at bytes j) next)
 
       pub marker_at-third : false ≡ begins b (text_at bytes (i + 2)) → false ≡ is_marker b (text_at bytes i)
       marker_at-third h = marker-third b (slice_index bytes i, i) (slice_index bytes (i + 1), i + 1) (text_at bytes (i + 2)) h ∙ sym (ap (is_marker b) two_cells)

@@ -1,5 +1,6 @@
 -- Offsets of a scalar's text: they never fall, and lie in what the scalar takes; and how many bytes it has.
-use Rattle.std.proofs.Common.{◌≡◌, ℕ, zero, suc, ◌+◌, ◌*◌, ◌<◌, ◌≤◌, List, [], ◌∷◌, ◌++◌, length, length-append, drop, refl, sym, ap, subst, ◌∙◌, arith, Bool, true, false, not, ◌&&◌, ◌||◌, ◌==◌, if◌then◌else◌, Result, Ok, Err}
+use Rattle.std.proofs.Common.{◌≡◌, ℕ, zero, suc, ◌+◌, ◌*◌, ◌<◌, ◌≤◌, List, [], ◌∷◌, ◌++◌, length, length-append, drop, refl, sym, ap, subst}
+use Rattle.std.proofs.Common.{◌∙◌, arith, Bool, true, false, not, ◌&&◌, ◌||◌, ◌==◌, if◌then◌else◌, Result, Ok, Err}
 use Rattle.al_text.specs.Ascii as ascii
 use Rattle.al_scalar.specs.Line.{Cell, Line, lines, place, start, is_blank, after_blanks, is_break, with_cell, with_return}
 use Rattle.al_text.specs.FirstBytes.{begins_with}
@@ -164,7 +165,9 @@ pub breaks-more : (low high break : ℕ) (es : List ℕ) (e : ℕ) → high ≤ 
 breaks-more low high break es e a h = let b = h.below in record {
   from = h.from;
   below = omega (arith, a, b);
-  feeds = subst (IsFrom (break + 1) (e + 1)) (sym (feeds-join es (e ∷ []))) (from-join (break + 1) high (e + 1) (feeds es) ((ascii.line_feed, e) ∷ []) h.feeds (from-one high (e + 1) ascii.line_feed e a (omega arith)));
+  feeds = subst (IsFrom (break + 1) (e + 1)) (sym (feeds-join es (e ∷ [])))
+      (from-join (break + 1) high (e + 1) (feeds es) ((ascii.line_feed, e) ∷ []) h.feeds
+      (from-one high (e + 1) ascii.line_feed e a (omega arith)));
 }
 
 pub breaks-one : (low break : ℕ) → low ≤ break → AreBreaks low (break + 1) break []

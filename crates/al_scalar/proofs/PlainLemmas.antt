@@ -1,9 +1,11 @@
 -- The parts of a plain scalar's lines against offsets.
-use Rattle.std.proofs.Common.{◌≡◌, ◌≢◌, ℕ, zero, suc, ◌+◌, ◌-◌, ◌<◌, ◌≤◌, List, [], ◌∷◌, ◌++◌, length, slice_index, refl, sym, ap, ◌∙◌, arith, append_assoc, append-nil, Bool, true, false, ◌&&◌, ◌||◌, ◌==◌, nat_lt, cond, inl, inr, ◌⊎◌, ◌↔◌, IsTrue, eq-or-lt_of_le}
+use Rattle.std.proofs.Common.{◌≡◌, ◌≢◌, ℕ, zero, suc, ◌+◌, ◌-◌, ◌<◌, ◌≤◌, List, [], ◌∷◌, ◌++◌, length, slice_index, refl, sym, ap, ◌∙◌}
+use Rattle.std.proofs.Common.{arith, append_assoc, append-nil, Bool, true, false, ◌&&◌, ◌||◌, ◌==◌, nat_lt, cond, inl, inr, ◌⊎◌, ◌↔◌}
+use Rattle.std.proofs.Common.{IsTrue, eq-or-lt_of_le}
 use Rattle.std.proofs.lemmas.Grind.{common_steps}
 use Rattle.al_scalar.specs.Line.{Cell, is_blank, is_blank_or_end, is_empty}
 use Rattle.al_scalar.specs.Plain.{Context, is_flow, is_flow_indicator, begins_flow_indicator, ends_key, is_value_colon, ends_plain, plain_part}
-use Rattle.al_scalar.specs.Places.{lines_at, cells_at, cells_between, AreBlank, IsBlankByte, IsLineEnd, text_at}
+use Rattle.al_scalar.specs.Private.Places.{lines_at, cells_at, cells_between, AreBlank, IsBlankByte, IsLineEnd, text_at}
 use Rattle.al_scalar.specs.Private.PlainLines.{PartTo}
 use Rattle.al_scalar.proofs.LineLemmas.{cells_between-none, cells_between-front, cells_between-more}
 use Rattle.al_scalar.proofs.SingleLemmas.{RunBefore, cell_at, text-line_end, is_blank-yes, is_blank-no, is_inside, never}
@@ -147,7 +149,9 @@ part_more p first f bytes at i j e r b o h l k n s =
     let more = plain_part p false (text_at bytes (j + 1)) in
     let own = ap (plain_part p f) (r.text ∙ ap (λ t. run ++ t) t)
     ∙ part-goes p f run c (text_at bytes (j + 1)) b n (ap (λ x. ends_plain p x (c ∷ text_at bytes (j + 1))) (flag-value bytes f i j h) ∙ ap (ends_plain p (f || nat_lt i j)) (sym t) ∙ sym s) in
-    let cells : cells_between bytes at (j + 1) ≡ cells_between bytes at i ++ (run ++ c ∷ []) = cells_between-two bytes at i (j + 1) o (omega arith) ∙ ap (λ t. cells_between bytes at i ++ t) (cells_between-more bytes i j h) in
+    let cells : cells_between bytes at (j + 1) ≡ cells_between bytes at i
+    ++ (run ++ c ∷ []) = cells_between-two bytes at i (j + 1) o (omega arith)
+    ∙ ap (λ t. cells_between bytes at i ++ t) (cells_between-more bytes i j h) in
     e ∙ ap (in_front (cells_between bytes at i)) own ∙ ap (λ t. (t, more.1)) (sym (append_assoc (cells_between bytes at i) (run ++ c ∷ []) more.0) ∙ ap (λ t. t ++ more.0) (sym cells))
 
 pub part_none : (p : Context) (f : Bool) (bytes : List ℕ) (at : ℕ) → plain_part p f (text_at bytes at) ≡ in_front (cells_between bytes at at) (plain_part p f (text_at bytes at))

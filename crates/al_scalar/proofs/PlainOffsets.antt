@@ -4,7 +4,8 @@ use Rattle.al_scalar.specs.Line.{Cell, Line, place, start, is_blank, after_blank
 use Rattle.al_scalar.specs.Offsets.{AreClimbing, IsTail, AreLines}
 use Rattle.al_scalar.specs.Plain.{Context, is_flow, is_value_colon, ends_plain, plain_part, continues, ended_before, plain_lines, plain}
 use Rattle.al_scalar.specs.Taken.{Taken, folded_break}
-use Rattle.al_scalar.proofs.OffsetLemmas.{IsFrom, AreTaken, AreBreaks, choose, from-none, from-one, from-join, climbing-order, climbing-place, climbing-blanks, taken-behind, breaks-folded, breaks-more, breaks-one}
+use Rattle.al_scalar.proofs.OffsetLemmas.{IsFrom, AreTaken, AreBreaks, choose, from-none, from-one, from-join, climbing-order}
+use Rattle.al_scalar.proofs.OffsetLemmas.{climbing-place, climbing-blanks, taken-behind, breaks-folded, breaks-more, breaks-one}
 
 record IsPart (low end : ℕ) (p : List Cell × List Cell) : Type 0 where
   taken : IsFrom low (place p.1 end) p.0

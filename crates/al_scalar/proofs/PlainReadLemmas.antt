@@ -1,10 +1,12 @@
 -- The reader of plain scalars, one line after the other.
-use Rattle.std.proofs.Common.{◌≡◌, ◌≢◌, ℕ, ◌+◌, ◌<◌, ◌≤◌, List, [], ◌∷◌, ◌++◌, length, drop, slice_index, refl, sym, ap, ◌∙◌, append_assoc, append-nil, Bool, true, false, not, ◌&&◌, ◌==◌, cond, inl, inr, ◌⊎◌, eq-or-lt_of_le, Result, Ok, Err}
+use Rattle.std.proofs.Common.{◌≡◌, ◌≢◌, ℕ, ◌+◌, ◌<◌, ◌≤◌, List, [], ◌∷◌, ◌++◌, length, drop, slice_index, refl, sym, ap, ◌∙◌, append_assoc}
+use Rattle.std.proofs.Common.{append-nil, Bool, true, false, not, ◌&&◌, ◌==◌, cond, inl, inr, ◌⊎◌, eq-or-lt_of_le, Result, Ok, Err}
 use Rattle.al_text.specs.declared.codes.YamlCode.TheVariants.{UnexpectedCharacter}
 use Rattle.al_scalar.specs.Line.{Cell, Line, lines, with_cell, with_return, is_break, place, cut, after_blanks, is_empty}
 use Rattle.al_scalar.specs.Taken.{Fault, Taken, before, fault, folded_break}
 use Rattle.al_scalar.specs.Plain.{Context, is_flow, is_value_colon, plain_part, continues, ended_before, plain_lines, plain}
-use Rattle.al_scalar.specs.Places.{lines_at, cells_between, with_cells_before, AreBlank, IsBlankByte, IsBreakAt, SameLine, broken_line, first_text, first_end, first_last, later, text_at}
+use Rattle.al_scalar.specs.Places.{first_text, first_end}
+use Rattle.al_scalar.specs.Private.Places.{lines_at, cells_between, with_cells_before, AreBlank, IsBlankByte, IsBreakAt, SameLine, broken_line, first_last, later, text_at}
 use Rattle.al_scalar.specs.Private.PlainLines.{is_blank_line, begins_blank_line, text_lines, empty_ends, here_at, after_part, PartTo}
 use Rattle.al_scalar.proofs.LineLemmas.{lines_at-other}
 use Rattle.al_scalar.proofs.SingleLemmas.{has_line, lines_at-some, lines-at_end, run_at, never}
@@ -14,7 +16,9 @@ use Rattle.al_scalar.proofs.BlankLemmas.{after_blanks-none}
 
 -- ---- the text at an offset
 
-solid-own : (t : List Cell) (bytes : List ℕ) (j : ℕ) → (t ≡ []) ⊎ ((j < length bytes) × (t ≡ (slice_index bytes j, j) ∷ text_at bytes (j + 1))) → (j < length bytes → IsBlankByte (slice_index bytes j) → ⊥) → after_blanks t ≡ t
+solid-own : (t : List Cell) (bytes : List ℕ) (j : ℕ) → (t ≡ [])
+    ⊎ ((j < length bytes) × (t ≡ (slice_index bytes j, j) ∷ text_at bytes (j + 1)))
+    → (j < length bytes → IsBlankByte (slice_index bytes j) → ⊥) → after_blanks t ≡ t
 solid-own t bytes j (inl e) n = ap after_blanks e ∙ sym e
 solid-own t bytes j (inr k) n = ap after_blanks k.1 ∙ after_blanks-solid (slice_index bytes j, j) (text_at bytes (j + 1)) (n k.0) ∙ sym k.1
 
@@ -45,19 +49,22 @@ cond-same : {A : Type 0} (b : Bool) (x : A) → cond b x x ≡ x
 cond-same true x = refl
 cond-same false x = refl
 
-stop-solid : (p : Context) (here : Taken) (run : List Cell) (c : Cell) (ls : List Line) → has_line ls ≡ true → AreBlank run → (IsBlankByte c.0 → ⊥) → after_lines p here (with_cells_before run (with_cell c ls)) ≡ Ok here
+stop-solid : (p : Context) (here : Taken) (run : List Cell) (c : Cell) (ls : List Line) → has_line ls ≡ true → AreBlank run
+    → (IsBlankByte c.0 → ⊥) → after_lines p here (with_cells_before run (with_cell c ls)) ≡ Ok here
 stop-solid p here run c [] k h n = cc
 stop-solid p here run c (m ∷ ms) k h n =
     ap (λ t. cond (is_empty t) (plain_lines p here m.end [] ms) (Ok here)) (after_blanks-run run (c ∷ m.text) h ∙ after_blanks-solid c m.text n)
 
-stop-cases : (p : Context) (here : Taken) (bytes : List ℕ) (i j : ℕ) (run : List Cell) → (j ≡ length bytes) ⊎ (j < length bytes) → lines_at bytes i ≡ with_cells_before run (lines_at bytes j) → AreBlank run
+stop-cases : (p : Context) (here : Taken) (bytes : List ℕ) (i j : ℕ) (run : List Cell) → (j ≡ length bytes) ⊎ (j < length bytes)
+    → lines_at bytes i ≡ with_cells_before run (lines_at bytes j) → AreBlank run
     → (IsBreakAt bytes j → ⊥) → (j < length bytes → IsBlankByte (slice_index bytes j) → ⊥) → after_lines p here (lines_at bytes i) ≡ Ok here
 stop-cases p here bytes i j run (inl e) f h k n =
     ap (after_lines p here) (f ∙ ap (with_cells_before run) (lines-at_end bytes j e)) ∙ cond-same (is_empty (after_blanks (run ++ []))) (Ok here)
 stop-cases p here bytes i j run (inr l) f h k n =
     let feed : slice_index bytes j ≢ 10 = λ e. k (l, inl e) in
     let return : slice_index bytes j ≢ 13 = λ e. k (l, inr e) in
-    ap (after_lines p here) (f ∙ ap (with_cells_before run) (lines_at-other bytes j l feed return)) ∙ stop-solid p here run (slice_index bytes j, j) (lines_at bytes (j + 1)) (lines_at-some bytes (j + 1)) h (n l)
+    ap (after_lines p here) (f ∙ ap (with_cells_before run) (lines_at-other bytes j l feed return))
+    ∙ stop-solid p here run (slice_index bytes j, j) (lines_at bytes (j + 1)) (lines_at-some bytes (j + 1)) h (n l)
 
 before-here : (text : List Cell) (bytes : List ℕ) (end : ℕ) → before text (Ok (here_at bytes end)) ≡ Ok (record { text = text; end = end; left = lines_at bytes end })
 before-here text bytes end = ap (λ t. Ok (record { text = t; end = end; left = lines_at bytes end })) (append-nil text)
@@ -86,7 +93,8 @@ skip-line p here break es l ls true e below =
     let blank : is_empty (after_blanks l.text) ≡ true = and-left (is_empty (after_blanks l.text)) (not l.last) e in
     skipped p here break es l ls blank ∙ below ∙ ap (λ es. plain_lines p here break es (text_lines ls)) (append_assoc es (l.end ∷ []) (empty_ends ls))
   where
-    skipped : (p : Context) (here : Taken) (break : ℕ) (es : List ℕ) (l : Line) (ls : List Line) → is_empty (after_blanks l.text) ≡ true → plain_lines p here break es (l ∷ ls) ≡ plain_lines p here break (es ++ l.end ∷ []) ls
+    skipped : (p : Context) (here : Taken) (break : ℕ) (es : List ℕ) (l : Line) (ls : List Line) → is_empty (after_blanks l.text) ≡ true
+        → plain_lines p here break es (l ∷ ls) ≡ plain_lines p here break (es ++ l.end ∷ []) ls
     skipped p here break es l ls e = rw e refl
 
 -- blank lines only count
@@ -134,7 +142,8 @@ stops-with p here break es l ls true e a h k = rw (e, a (not-false l.last h)) re
     not-false false h = cc
 stops-with p here break es l ls false e a h k = rw (e, k) refl
 
-stops : (p : Context) (here : Taken) (break : ℕ) (es : List ℕ) (ls : List Line) → LastAlone ls → begins_blank_line ls ≡ false → (not (is_empty (after_blanks (first_text ls))) && continues p (first_text ls)) ≡ false
+stops : (p : Context) (here : Taken) (break : ℕ) (es : List ℕ) (ls : List Line) → LastAlone ls → begins_blank_line ls ≡ false
+    → (not (is_empty (after_blanks (first_text ls))) && continues p (first_text ls)) ≡ false
     → plain_lines p here break es ls ≡ Ok here
 stops p here break es [] a h k = refl
 stops p here break es (l ∷ ls) a h k = stops-with p here break es l ls (is_empty (after_blanks l.text)) refl a h k
@@ -146,13 +155,16 @@ pub found_at : {x : Result Taken Fault} (p : Context) (bytes : List ℕ) (end j 
 found_at p bytes end j next start text e f b k m =
     let here = here_at bytes end in
     e ∙ ap (λ ls. before text (after_lines p here ls)) (f ∙ ap (with_cells_before (cells_between bytes end j)) k)
-    ∙ ap (before text) (after-break p here (cells_between bytes end j) j (lines_at bytes next) b ∙ skip p here j [] (lines_at bytes next) ∙ ap (plain_lines p here j (empty_ends (lines_at bytes next))) m)
+    ∙ ap (before text) (after-break p here (cells_between bytes end j) j (lines_at bytes next) b ∙ skip p here j [] (lines_at bytes next)
+    ∙ ap (plain_lines p here j (empty_ends (lines_at bytes next))) m)
 
-pub read_stopped : {x : Result Taken Fault} (p : Context) (bytes : List ℕ) (end j start solid : ℕ) (es : List ℕ) (text : List Cell) → x ≡ before text (plain_lines p (here_at bytes end) j es (lines_at bytes start))
+pub read_stopped : {x : Result Taken Fault} (p : Context) (bytes : List ℕ) (end j start solid : ℕ) (es : List ℕ) (text : List Cell) → x
+    ≡ before text (plain_lines p (here_at bytes end) j es (lines_at bytes start))
     → begins_blank_line (lines_at bytes start) ≡ false → after_blanks (text_at bytes start) ≡ text_at bytes solid → false ≡ (not (is_empty (text_at bytes solid)) && continues p (text_at bytes start))
     → x ≡ Ok (record { text = text; end = end; left = lines_at bytes end })
 read_stopped p bytes end j start solid es text e h f g =
-    e ∙ ap (before text) (stops p (here_at bytes end) j es (lines_at bytes start) (last-alone start (drop start bytes)) h (ap (λ t. not (is_empty t) && continues p (text_at bytes start)) f ∙ sym g)) ∙ before-here text bytes end
+    e ∙ ap (before text) (stops p (here_at bytes end) j es (lines_at bytes start) (last-alone start (drop start bytes)) h
+    (ap (λ t. not (is_empty t) && continues p (text_at bytes start)) f ∙ sym g)) ∙ before-here text bytes end
 
 -- ---- a line that continues the scalar
 
@@ -213,20 +225,24 @@ and-both false y h = absurd (never (sym h))
 
 -- a part of a further line from solid to end, and the place behind the blanks after it
 module _ (p : Context) (bytes : List ℕ) (start solid end rest : ℕ) (text : after_blanks (text_at bytes start) ≡ text_at bytes solid)
-    (goes : true ≡ (not (is_empty (text_at bytes solid)) && continues p (text_at bytes start))) (part : PartTo p true bytes solid end) (behind : after_blanks (text_at bytes end) ≡ text_at bytes rest) where
+    (goes : true ≡ (not (is_empty (text_at bytes solid)) && continues p (text_at bytes start))) (part : PartTo p true bytes solid end)
+    (behind : after_blanks (text_at bytes end) ≡ text_at bytes rest) where
   has_text : is_empty (text_at bytes solid) ≡ false
   has_text = not-true (is_empty (text_at bytes solid)) (and-both (not (is_empty (text_at bytes solid))) (continues p (text_at bytes start)) goes).0
 
   goes_on : continues p (text_at bytes start) ≡ true
   goes_on = (and-both (not (is_empty (text_at bytes solid))) (continues p (text_at bytes start)) goes).1
 
-  pub read_more : {x : Result Taken Fault} {mid new : List Cell} (here : Taken) (break : ℕ) (es : List ℕ) (old : List Cell) → false ≡ (not (is_flow p) && is_value_colon p (text_at bytes rest)) → end ≤ length bytes
-      → SameLine (lines_at bytes start) (lines_at bytes end) → x ≡ before old (plain_lines p here break es (lines_at bytes start)) → mid ≡ old ++ folded_break break es → new ≡ mid ++ cells_between bytes solid end
+  pub read_more : {x : Result Taken Fault} {mid new : List Cell} (here : Taken) (break : ℕ) (es : List ℕ) (old : List Cell) → false
+      ≡ (not (is_flow p) && is_value_colon p (text_at bytes rest)) → end ≤ length bytes
+      → SameLine (lines_at bytes start) (lines_at bytes end) → x ≡ before old (plain_lines p here break es (lines_at bytes start)) → mid
+      ≡ old ++ folded_break break es → new ≡ mid ++ cells_between bytes solid end
       → x ≡ before new (after_part p bytes end)
   read_more here break es old n o s e f g =
       let cells = cells_between bytes solid end in
       let no_colon = ap (λ t. not (is_flow p) && is_value_colon p t) behind ∙ sym n in
-      e ∙ ap (before old) (goes-on p here break es (text_at bytes solid) cells end (lines_at bytes start) (lines_at bytes end) (lines_at-some bytes start) (lines_at-some bytes end) s text has_text goes_on part no_colon
+      e ∙ ap (before old) (goes-on p here break es (text_at bytes solid) cells end (lines_at bytes start) (lines_at bytes end)
+      (lines_at-some bytes start) (lines_at-some bytes end) s text has_text goes_on part no_colon
       (place-same bytes start end o s))
       ∙ before-two old (folded_break break es ++ cells) (after_part p bytes end)
       ∙ ap (λ t. before t (after_part p bytes end)) (sym (append_assoc old (folded_break break es) cells) ∙ ap (λ t. t ++ cells) (sym f) ∙ sym g)
@@ -236,7 +252,8 @@ module _ (p : Context) (bytes : List ℕ) (start solid end rest : ℕ) (text : a
   read_key here break es old h n e =
       let colon = (and-both (not (is_flow p)) (is_value_colon p (text_at bytes rest)) n).1 in
       let z = first_end (lines_at bytes start) in
-      e ∙ ap (before old) (goes-key p here break es (text_at bytes solid) (cells_between bytes solid end) (lines_at bytes start) (lines_at bytes end) (lines_at-some bytes start) (lines_at-some bytes end) text has_text goes_on part
+      e ∙ ap (before old) (goes-key p here break es (text_at bytes solid) (cells_between bytes solid end) (lines_at bytes start)
+      (lines_at bytes end) (lines_at-some bytes start) (lines_at-some bytes end) text has_text goes_on part
       (ap (λ t. not (is_flow p) && is_value_colon p t) behind ∙ sym n))
       ∙ ap (λ a. Err (record { code = UnexpectedCharacter; at = a })) (ap (λ t. place t z) behind ∙ place-colon p bytes rest z h colon)
 

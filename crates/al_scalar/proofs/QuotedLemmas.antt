@@ -4,7 +4,8 @@ use Rattle.al_text.specs.declared.codes.YamlCode.TheVariants as yaml
 use Rattle.al_scalar.specs.Line.{Cell, Line, cut, is_blank, after_blanks, is_empty}
 use Rattle.al_scalar.specs.Taken.{Fault, Taken, ◌>>=◌, before, folded, feeds, fault}
 use Rattle.al_scalar.specs.Quoted.{QuotedLine, QuotedEnd, closed, broken, escaped, cut_short, with_cells, part_before, line_given, is_empty_line, quoted_lines, quoted}
-use Rattle.al_scalar.specs.Places.{IsBlankByte, SameLine, first_text, first_end, first_last, later}
+use Rattle.al_scalar.specs.Places.{first_text, first_end}
+use Rattle.al_scalar.specs.Private.Places.{IsBlankByte, SameLine, first_last, later}
 use Rattle.al_scalar.specs.Private.PlainLines.{is_blank_line, empty_ends, break_left}
 use Rattle.al_scalar.specs.Private.Folding.{solid_lines, break_of}
 use Rattle.al_scalar.proofs.SingleLemmas.{has_line, is_nothing}
@@ -15,19 +16,22 @@ abbrev pub given : (List Cell → Result QuotedLine Fault) → ℕ → QuotedLin
 given part q p [] = fault yaml.UnclosedQuote q
 given part q p (l ∷ ls) = line_given q [] p l ls (λ b. quoted_lines part q b ls)
 
-line-same : (part : List Cell → Result QuotedLine Fault) (q : ℕ) (p : QuotedLine) (x y : Line) (xs ys : List Line) → x.end ≡ y.end → x.last ≡ y.last → xs ≡ ys → given part q p (x ∷ xs) ≡ given part q p (y ∷ ys)
+line-same : (part : List Cell → Result QuotedLine Fault) (q : ℕ) (p : QuotedLine) (x y : Line) (xs ys : List Line) → x.end ≡ y.end → x.last
+    ≡ y.last → xs ≡ ys → given part q p (x ∷ xs) ≡ given part q p (y ∷ ys)
 line-same part q p x y xs ys e f g =
     sym (given-line p.stop q [] p.text y.text x xs (λ b. quoted_lines part q b xs))
     ∙ ap (λ (n : ℕ). line_given q [] p (record { text = y.text; end = n; last = x.last }) xs (λ b. quoted_lines part q b xs)) e
     ∙ ap (λ (z : Bool). line_given q [] p (record { text = y.text; end = y.end; last = z }) xs (λ b. quoted_lines part q b xs)) f
     ∙ ap (λ (r : List Line). line_given q [] p y r (λ b. quoted_lines part q b r)) g
 
-given-same : (part : List Cell → Result QuotedLine Fault) (q : ℕ) (p : QuotedLine) (xs ys : List Line) → has_line xs ≡ true → has_line ys ≡ true → SameLine xs ys → given part q p xs ≡ given part q p ys
+given-same : (part : List Cell → Result QuotedLine Fault) (q : ℕ) (p : QuotedLine) (xs ys : List Line) → has_line xs ≡ true → has_line ys
+    ≡ true → SameLine xs ys → given part q p xs ≡ given part q p ys
 given-same part q p [] ys h k s = cc
 given-same part q p (x ∷ xs) [] h k s = cc
 given-same part q p (x ∷ xs) (y ∷ ys) h k s = line-same part q p x y xs ys s.end s.last s.later
 
-given-run : (part : List Cell → Result QuotedLine Fault) (q : ℕ) (run : List Cell) (p : QuotedLine) (xs : List Line) → has_line xs ≡ true → given part q (with_cells run p) xs ≡ before run (given part q p xs)
+given-run : (part : List Cell → Result QuotedLine Fault) (q : ℕ) (run : List Cell) (p : QuotedLine) (xs : List Line) → has_line xs ≡ true
+    → given part q (with_cells run p) xs ≡ before run (given part q p xs)
 given-run part q run p [] h = cc
 given-run part q run p (x ∷ xs) h = line_given-before q run p x xs (λ b. quoted_lines part q b xs)
 
@@ -83,7 +87,9 @@ given-end part q true (x ∷ xs) h f = ap (λ z. cond z (fault yaml.UnclosedQuot
 given-end part q false (x ∷ xs) h f = ap (λ z. cond z (fault yaml.UnclosedQuote q) (before [] (quoted_lines part q (Some x.end) xs))) f
 
 -- an escape that a line's end cuts
-pub given-cut : (part : List Cell → Result QuotedLine Fault) (q at : ℕ) (xs : List Line) → has_line xs ≡ true → given part q (record { text = []; stop = cut_short at }) xs ≡ cond (first_last xs) (fault yaml.UnclosedQuote q) (fault yaml.WrongEscape at)
+pub given-cut : (part : List Cell → Result QuotedLine Fault) (q at : ℕ) (xs : List Line) → has_line xs ≡ true
+    → given part q (record { text = []; stop = cut_short at }) xs ≡ cond (first_last xs) (fault yaml.UnclosedQuote q)
+    (fault yaml.WrongEscape at)
 given-cut part q at [] h = cc
 given-cut part q at (x ∷ xs) h = refl
 
@@ -169,7 +175,8 @@ module _ (part : List Cell → Result QuotedLine Fault) (q : ℕ) where
             → quoted_lines part q b (l ∷ ls) ≡ before (pending_given b (empty_ends (l ∷ ls))) (quoted part q (solid_lines (l ∷ ls)))
         stops e f = rw e (lines-solid b l ls f)
 
-        by_text : quoted_lines part q None ls ≡ before (pending_given None (empty_ends ls)) (quoted part q (solid_lines ls)) → (after_blanks l.text ≡ []) ⊎ HasCell (after_blanks l.text) → (z : Bool) → l.last ≡ z
+        by_text : quoted_lines part q None ls ≡ before (pending_given None (empty_ends ls)) (quoted part q (solid_lines ls))
+            → (after_blanks l.text ≡ []) ⊎ HasCell (after_blanks l.text) → (z : Bool) → l.last ≡ z
             → quoted_lines part q b (l ∷ ls) ≡ before (pending_given b (empty_ends (l ∷ ls))) (quoted part q (solid_lines (l ∷ ls)))
         by_text below (inl e) true f =
             let blank : is_blank_line l ≡ false = rw (e, f) refl in

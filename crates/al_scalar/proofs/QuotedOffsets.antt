@@ -1,10 +1,14 @@
 -- Offsets of a quoted scalar's text.
-use Rattle.std.proofs.Common.{◌≡◌, ℕ, zero, suc, ◌+◌, ◌<◌, ◌≤◌, List, [], ◌∷◌, ◌++◌, length, map, take, refl, ap, arith, Bool, true, false, not, if◌then◌else◌, ◌&&◌, ◌==◌, nat_lt, Option, Some, None, Result, Ok, Err, encode_utf8}
+use Rattle.std.proofs.Common.{◌≡◌, ℕ, zero, suc, ◌+◌, ◌<◌, ◌≤◌, List, [], ◌∷◌, ◌++◌, length, map, take, refl, ap, arith, Bool, true, false}
+use Rattle.std.proofs.Common.{not, if◌then◌else◌, ◌&&◌, ◌==◌, nat_lt, Option, Some, None, Result, Ok, Err, encode_utf8}
 use Rattle.std.proofs.lemmas.Str.{length-encode, len_utf8_bounds}
 use Rattle.al_text.specs.Ascii as ascii
 use Rattle.al_scalar.specs.Line.{Cell, Line, place, is_blank, after_blanks, is_empty, begins}
 use Rattle.al_scalar.specs.Offsets.{AreRising, AreClimbing, AreLines}
-use Rattle.al_scalar.specs.Quoted.{QuotedLine, QuotedEnd, closed, broken, escaped, cut_short, is_broken, with_own, single_part, escape_table, digits_table, lookup, hex_value, is_scalar_value, written, part_before, own_before, hex_escape, escape, double_part, line_given, is_empty_line, quoted_lines, quoted, single_quoted, double_quoted}
+use Rattle.al_scalar.specs.Quoted.{QuotedLine, QuotedEnd, closed, broken, escaped, cut_short, is_broken, with_own, single_part}
+use Rattle.al_scalar.specs.Quoted.{escape_table, digits_table, lookup, hex_value, is_scalar_value, written, part_before, own_before}
+use Rattle.al_scalar.specs.Quoted.{hex_escape, escape, double_part, line_given, is_empty_line, quoted_lines, quoted, single_quoted}
+use Rattle.al_scalar.specs.Quoted.{double_quoted}
 use Rattle.al_scalar.specs.Taken.{Fault, Taken, ◌>>=◌, before, folded}
 use Rattle.al_scalar.proofs.OffsetLemmas.{IsFrom, AreTaken, choose, from-none, from-one, from-join, from-wider, from-order, climbing-order, climbing-place, climbing-blanks, tail-lines, taken-behind}
 
@@ -44,7 +48,9 @@ single-from zero low end (c ∷ cs) h =
     let pair = single_part 1 cs in
     let a = h.0 in
     choose (IsPart low end) (not (c.0 == ascii.single_quote)) (λ _. own-from low end c (single_part 0 cs) a (single-from 0 (c.1 + 1) end cs h.1))
-    (λ _. choose (IsPart low end) (begins ascii.single_quote cs) (λ _. stop-behind low (c.1 + 1) end (c ∷ []) pair.text pair.stop (from-one low (c.1 + 1) c.0 c.1 a (omega arith)) (single-from 1 (c.1 + 1) end cs h.1))
+    (λ _. choose (IsPart low end) (begins ascii.single_quote cs)
+    (λ _. stop-behind low (c.1 + 1) end (c ∷ []) pair.text pair.stop (from-one low (c.1 + 1) c.0 c.1 a (omega arith))
+    (single-from 1 (c.1 + 1) end cs h.1))
     (λ _. (from-none low (c.1 + 1) (omega (arith, a)), (climbing-place (c.1 + 1) end cs h.1).0)))
 
 -- ---- double quotes
@@ -70,7 +76,8 @@ own-behind : (low end : ℕ) (c : Cell) (r : Result QuotedLine Fault) → low �
 own-behind low end c (Ok p) a k = own-from low end c p a k
 own-behind low end c (Err e) a k = tt
 
-hex-from : (low end at width : ℕ) (digits : List Cell) (o : Option ℕ) (more : Result QuotedLine Fault) → low ≤ at → at < end → GivesPart (at + 1) end more → GivesPart low end (hex_escape at width digits o more)
+hex-from : (low end at width : ℕ) (digits : List Cell) (o : Option ℕ) (more : Result QuotedLine Fault) → low ≤ at → at < end
+    → GivesPart (at + 1) end more → GivesPart low end (hex_escape at width digits o more)
 hex-from low end at width digits None more a b h = tt
 hex-from low end at width digits (Some code) more a b h =
     choose (GivesPart low end) (nat_lt (length digits) width) (λ _. from-none low end (omega (arith, a, b)))
@@ -80,7 +87,8 @@ choose-option : {A : Type 0} (P : A → Type 0) (o : Option ℕ) {x : A} {f : �
 choose-option P None h k = h
 choose-option P (Some n) h k = k n
 
-escape-from : (low end at : ℕ) (cs : List Cell) (more : ℕ → Result QuotedLine Fault) → low ≤ at → AreClimbing (at + 1) end cs → ((n : ℕ) → GivesPart (at + 1) end (more n)) → GivesPart low end (escape at cs more)
+escape-from : (low end at : ℕ) (cs : List Cell) (more : ℕ → Result QuotedLine Fault) → low ≤ at → AreClimbing (at + 1) end cs
+    → ((n : ℕ) → GivesPart (at + 1) end (more n)) → GivesPart low end (escape at cs more)
 escape-from low end at [] more a h k = from-none low end (omega (arith, a, h))
 escape-from low end at (c ∷ cs) more a h k =
     let below = climbing-order (at + 1) end (c ∷ cs) h in
@@ -144,7 +152,8 @@ line-from quote low mid break l ls below h k more (Ok p) r =
     (more (l.end + 1) (l.end + 1) None (from-none (l.end + 1) (l.end + 1) (omega arith)) (tail-lines l.end l.last ls (not-last (is_empty p.text) (is_broken p.stop) l.last e) k.1)))
     (λ _. given-from quote low mid (folded break) p l ls below h r (λ e b f. more l.end (l.end + 1) b f (tail-lines l.end l.last ls e k.1)))
 
-lines-from : (part : List Cell → Result QuotedLine Fault) → PartReader part → (quote low mid : ℕ) (break : Option ℕ) (ls : List Line) → IsFrom low mid (folded break) → AreLines mid ls → AreTaken low (quoted_lines part quote break ls)
+lines-from : (part : List Cell → Result QuotedLine Fault) → PartReader part → (quote low mid : ℕ) (break : Option ℕ) (ls : List Line)
+    → IsFrom low mid (folded break) → AreLines mid ls → AreTaken low (quoted_lines part quote break ls)
 lines-from part q quote low mid break [] h k = tt
 lines-from part q quote low mid break (l ∷ ls) h k =
     line-from quote low mid break l ls (λ b. quoted_lines part quote b ls) h k (λ low mid b f g. lines-from part q quote low mid b ls f g)

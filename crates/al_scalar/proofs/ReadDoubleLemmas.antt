@@ -3,7 +3,7 @@ use Rattle.std.proofs.Common.{◌≡◌, ℕ, List, ◌++◌, refl, sym, ap, ◌
 use Rattle.al_scalar.specs.Line.{Cell}
 use Rattle.al_scalar.specs.Taken.{Fault, Taken, before}
 use Rattle.al_scalar.specs.Quoted.{double_part, quoted, double_quoted}
-use Rattle.al_scalar.specs.Places.{lines_at, later}
+use Rattle.al_scalar.specs.Private.Places.{lines_at, later}
 use Rattle.al_scalar.specs.Private.PlainLines.{empty_ends, break_left}
 use Rattle.al_scalar.specs.Private.Folding.{solid_lines}
 use Rattle.al_scalar.specs.Private.Double.{ReadsOn, read_behind}
@@ -14,7 +14,8 @@ use Rattle.al_scalar.proofs.DoubleLemmas.{double-some}
 is_reader : IsReader (double_part 0)
 is_reader = record { none = refl; some = double-some }
 
-pub read_more : {x : Result Taken Fault} {new : List Cell} (bytes : List ℕ) (i j q : ℕ) (text run : List Cell) → x ≡ before text (double_quoted q (lines_at bytes i)) → ReadsOn bytes i run j → new ≡ text ++ run
+pub read_more : {x : Result Taken Fault} {new : List Cell} (bytes : List ℕ) (i j q : ℕ) (text run : List Cell) → x
+    ≡ before text (double_quoted q (lines_at bytes i)) → ReadsOn bytes i run j → new ≡ text ++ run
     → x ≡ before new (double_quoted q (lines_at bytes j))
 read_more bytes i j q text run e r f =
     e ∙ ap (before text) (r q) ∙ before-two text run (double_quoted q (lines_at bytes j)) ∙ ap (λ t. before t (double_quoted q (lines_at bytes j))) (sym f)

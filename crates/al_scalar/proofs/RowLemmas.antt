@@ -1,9 +1,11 @@
 -- The rows of a block scalar.
-use Rattle.std.proofs.Common.{◌≡◌, ℕ, zero, suc, ◌+◌, ◌-◌, ◌<◌, List, [], ◌∷◌, ◌++◌, length, slice_index, refl, sym, ap, ◌∙◌, arith, append_assoc, append-nil, Bool, true, false, not, ◌||◌, cond, IsTrue, ◌↔◌, Option, Some, None}
+use Rattle.std.proofs.Common.{◌≡◌, ℕ, zero, suc, ◌+◌, ◌-◌, ◌<◌, List, [], ◌∷◌, ◌++◌, length, slice_index, refl, sym, ap, ◌∙◌, arith}
+use Rattle.std.proofs.Common.{append_assoc, append-nil, Bool, true, false, not, ◌||◌, cond, IsTrue, ◌↔◌, Option, Some, None}
 use Rattle.al_scalar.specs.Line.{Cell, Line, is_empty, is_all_blank, begins_blank, is_blank}
 use Rattle.al_scalar.specs.Taken.{Taken, feeds, with_text}
 use Rattle.al_scalar.specs.Block.{last_end, Chomping, strip, clip, keep, BlockLine, Rows, with_row, at_end, row_of, rows_at, rows_end, is_spaced, own_break, between_rows, joint, chomped, text_after}
-use Rattle.al_scalar.specs.Places.{lines_at, cells_at, cells_between, IsBlankByte, broken_line, SameLine, first_text, first_end, first_last, later}
+use Rattle.al_scalar.specs.Places.{first_text, first_end}
+use Rattle.al_scalar.specs.Private.Places.{lines_at, cells_at, cells_between, IsBlankByte, broken_line, SameLine, first_last, later}
 use Rattle.al_scalar.specs.Private.BlockRead.{row_like, rest, last_line}
 use Rattle.al_scalar.proofs.LineLemmas.{cells_between-front}
 use Rattle.al_scalar.proofs.SingleLemmas.{has_line, is_blank-yes, is_blank-no, lines-at_end, lines_at-some, never}
@@ -160,7 +162,8 @@ rows-last new text lit k m found last es end to bytes i from stop e r s u w z g 
     ∙ ap (λ n. record { text = new; end = to; left = record { text = []; end = n; last = true } ∷ [] }) ended
     ∙ ap (λ ls. record { text = new; end = to; left = ls }) (sym at_stop)
 
-pub rows-more : {x : Taken} (new text : List Cell) (lit : Bool) (k : Chomping) (m : Option ℕ) (found found' b : Bool) (last last' : Option BlockLine) (es es' : List ℕ) (end end' : ℕ) (bytes : List ℕ) (i from stop next : ℕ)
+pub rows-more : {x : Taken} (new text : List Cell) (lit : Bool) (k : Chomping) (m : Option ℕ) (found found' b : Bool)
+    (last last' : Option BlockLine) (es es' : List ℕ) (end end' : ℕ) (bytes : List ℕ) (i from stop next : ℕ)
     → x ≡ with_text text (rest lit k m found last es end (lines_at bytes i)) → row_of m found (first_text (lines_at bytes i)) ≡ Some (first_text (lines_at bytes from))
     → SameLine (lines_at bytes i) (lines_at bytes from) → SameLine (lines_at bytes from) (lines_at bytes stop) → first_text (lines_at bytes from) ≡ cells_between bytes from stop
     → lines_at bytes stop ≡ broken_line stop ∷ lines_at bytes next → is_all_blank (first_text (lines_at bytes i)) ≡ b → found' ≡ (found || not b)

@@ -1,9 +1,10 @@
 -- Runs of offsets, and the cells that they stand for.
-use Rattle.std.proofs.Common.{◌≡◌, ◌==◌, ℕ, zero, suc, ◌+◌, ◌-◌, ◌^◌, ◌<◌, ◌≤◌, List, [], ◌∷◌, ◌++◌, length, get_or, refl, sym, ap, subst, ◌∙◌, arith, Bool, true, false, not, cond, map, take, drop, drop-cons, slice_range, slice_index}
+use Rattle.std.proofs.Common.{◌≡◌, ◌==◌, ℕ, zero, suc, ◌+◌, ◌-◌, ◌^◌, ◌<◌, ◌≤◌, List, [], ◌∷◌, ◌++◌, length, get_or, refl, sym, ap, subst}
+use Rattle.std.proofs.Common.{◌∙◌, arith, Bool, true, false, not, cond, map, take, drop, drop-cons, slice_range, slice_index}
 use Rattle.std.proofs.Math.Seq.{take-suc}
 use Rattle.std.proofs.lemmas.Grind.{common_steps}
 use Rattle.al_scalar.specs.Line.{Cell}
-use Rattle.al_scalar.specs.Places.{cells_at, cells_between}
+use Rattle.al_scalar.specs.Private.Places.{cells_at, cells_between}
 use Rattle.al_scalar.specs.Private.Segments.{first_run, offset_in, offset_after, offset_from, offset_at, cells_from, AreBehind, AreFrom, IsRising, IsOrdered, GoesOn, AreInRange}
 use Rattle.al_scalar.specs.declared.texts.Segment.{Segment}
 
@@ -83,7 +84,8 @@ moving last n at k b m o e =
     let sum : last.offset + ((n + k) - last.index) ≡ at + k = omega (arith, b, o, e) in
     ap (λ x. cond x (last.offset + ((n + k) - last.index)) last.offset) (not-false last.moves m) ∙ sum
 
-pub goes-on : (last : Segment) (n at : ℕ) (ss : List Segment) → ((i : ℕ) → AreBehind i ss → offset_in last i ≡ offset_at ss i) → AreBehind n ss → last.index ≤ n → not last.moves ≡ false → last.offset ≤ at
+pub goes-on : (last : Segment) (n at : ℕ) (ss : List Segment) → ((i : ℕ) → AreBehind i ss → offset_in last i ≡ offset_at ss i)
+    → AreBehind n ss → last.index ≤ n → not last.moves ≡ false → last.offset ≤ at
     → at - last.offset ≡ n - last.index → GoesOn ss n at
 goes-on last n at ss f h b m o e = λ k. sym (f (n + k) (AreBehind-up n (n + k) ss h (omega arith))) ∙ moving last n at k b m o e
 
@@ -177,7 +179,8 @@ length-two : (bs ds : List ℕ) → length bs ≤ length (bs ++ ds)
 length-two [] ds = omega arith
 length-two (b ∷ bs) ds = let below = length-two bs ds in omega (arith, below)
 
-pub pushed-kept : (old run : List Cell) (bs ds new : List ℕ) (ss ss' : List Segment) (n : ℕ) → n ≡ length bs → new ≡ bs ++ ds → cells_from 0 bs ss ≡ old → AreInRange (cells_from 0 bs ss) → AreInRange run
+pub pushed-kept : (old run : List Cell) (bs ds new : List ℕ) (ss ss' : List Segment) (n : ℕ) → n ≡ length bs → new ≡ bs ++ ds
+    → cells_from 0 bs ss ≡ old → AreInRange (cells_from 0 bs ss) → AreInRange run
     → IsOrdered n ss' → cells_from 0 new ss' ≡ old ++ run → IsOrdered (length new) ss' × AreInRange (cells_from 0 new ss')
 pushed-kept old run bs ds new ss ss' n e f g p q b t =
     let long : length bs ≤ length new = subst (λ xs. length bs ≤ length xs) (sym f) (length-two bs ds) in
@@ -201,7 +204,8 @@ cut-from found (suc n) zero i d (s ∷ ss) r h o l =
     ap (λ x. offset_from x (take n ss) i) (after-before found s i h) ∙ none-above found n i s.index ss r.0 h
 cut-from found (suc n) (suc m) i d (s ∷ ss) r h o l = cut-from (offset_after found s i) n m i d ss r.1 h (omega (arith, o)) (omega (arith, l))
 
-pub search-below : (found : ℕ) (d : Segment) (ss : List Segment) (high middle i : ℕ) → IsRising ss → i < (get_or ss middle d).index → middle < high → high ≤ length ss → offset_from found ss i ≡ offset_from found (take high ss) i
+pub search-below : (found : ℕ) (d : Segment) (ss : List Segment) (high middle i : ℕ) → IsRising ss → i < (get_or ss middle d).index
+    → middle < high → high ≤ length ss → offset_from found ss i ≡ offset_from found (take high ss) i
     → offset_from found ss i ≡ offset_from found (take middle ss) i
 search-below found d ss high middle i r h o l e = e ∙ cut-from found high middle i d ss r h (omega (arith, o)) (omega (arith, o, l))
 
@@ -215,10 +219,12 @@ search-all found ss i count e = ap (λ xs. offset_from found xs i) (sym (ap (λ 
 pub search-none : (found : ℕ) (ss : List Segment) (i low : ℕ) → low ≡ 0 → offset_from found ss i ≡ offset_from found (take low ss) i → found ≡ offset_from found ss i
 search-none found ss i low z e = sym (e ∙ ap (λ n. offset_from found (take n ss) i) z)
 
-pub search-found : (found : ℕ) (d : Segment) (ss : List Segment) (i low : ℕ) → (low ≡ 0 → ⊥) → low ≤ length ss → (get_or ss (low - 1) d).index ≤ i → offset_from found ss i ≡ offset_from found (take low ss) i
+pub search-found : (found : ℕ) (d : Segment) (ss : List Segment) (i low : ℕ) → (low ≡ 0 → ⊥) → low ≤ length ss
+    → (get_or ss (low - 1) d).index ≤ i → offset_from found ss i ≡ offset_from found (take low ss) i
     → offset_in (get_or ss (low - 1) d) i ≡ offset_from found ss i
 search-found found d ss i low z l h e =
     let s = get_or ss (low - 1) d in
     let last : low ≡ suc (low - 1) = omega (arith, z) in
     let inside : low - 1 < length ss = omega (arith, z, l) in
-    sym (e ∙ ap (λ n. offset_from found (take n ss) i) last ∙ ap (λ xs. offset_from found xs i) (take-suc ss (low - 1) d inside) ∙ offset_from-more found (take (low - 1) ss) s i ∙ after-behind (offset_from found (take (low - 1) ss) i) s i h)
+    sym (e ∙ ap (λ n. offset_from found (take n ss) i) last ∙ ap (λ xs. offset_from found xs i) (take-suc ss (low - 1) d inside)
+    ∙ offset_from-more found (take (low - 1) ss) s i ∙ after-behind (offset_from found (take (low - 1) ss) i) s i h)

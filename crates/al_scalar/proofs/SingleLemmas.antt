@@ -1,12 +1,14 @@
 -- The lines of a single-quoted scalar against offsets.
-use Rattle.std.proofs.Common.{◌≡◌, ◌≢◌, ℕ, suc, ◌+◌, ◌<◌, ◌≤◌, List, [], ◌∷◌, ◌++◌, length, drop, slice_index, refl, sym, ap, subst, ◌∙◌, arith, append_assoc, append-nil, drop-cons, Bool, true, false, ◌&&◌, ◌==◌, cond, inl, inr, ◌⊎◌}
+use Rattle.std.proofs.Common.{◌≡◌, ◌≢◌, ℕ, suc, ◌+◌, ◌<◌, ◌≤◌, List, [], ◌∷◌, ◌++◌, length, drop, slice_index, refl, sym, ap, subst, ◌∙◌}
+use Rattle.std.proofs.Common.{arith, append_assoc, append-nil, drop-cons, Bool, true, false, ◌&&◌, ◌==◌, cond, inl, inr, ◌⊎◌}
 use Rattle.std.proofs.Math.Nat.{eq-or-lt_of_le}
 use Rattle.std.proofs.Math.Seq.{drop-length}
 use native.Mathlib.Decide.{ℕ_discrete}
 use Rattle.std.proofs.lemmas.Grind.{common_steps}
 use Rattle.al_scalar.specs.Line.{Cell, Line, lines, with_cell, with_return, is_break, is_blank, is_empty, begins}
 use Rattle.al_scalar.specs.Quoted.{QuotedLine, closed, broken, is_broken, with_cells, with_own, single_part}
-use Rattle.al_scalar.specs.Places.{lines_at, with_cells_before, AreBlank, IsBlankByte, IsLineEnd, SameLine, first_text}
+use Rattle.al_scalar.specs.Places.{first_text}
+use Rattle.al_scalar.specs.Private.Places.{lines_at, with_cells_before, AreBlank, IsBlankByte, IsLineEnd, SameLine}
 use Rattle.al_scalar.specs.Private.Single.{part_at}
 use Rattle.al_scalar.proofs.LineLemmas.{lines_at-other}
 
@@ -79,7 +81,10 @@ lines-some at [] = refl
 lines-some at (b ∷ bs) =
     let some = lines-some (at + 1) bs in
     let more = lines (at + 1) bs in
-    has_line-cond (is_break b bs) (record { text = []; end = at; last = false } ∷ more) (cond (b == 13) (with_return at more) (with_cell (b, at) more)) refl (has_line-cond (b == 13) (with_return at more) (with_cell (b, at) more) (has_line-with_return at more ∙ some) (has_line-with_cell (b, at) more ∙ some))
+    has_line-cond (is_break b bs) (record { text = []; end = at; last = false } ∷ more)
+    (cond (b == 13) (with_return at more) (with_cell (b, at) more)) refl
+    (has_line-cond (b == 13) (with_return at more) (with_cell (b, at) more) (has_line-with_return at more ∙ some)
+    (has_line-with_cell (b, at) more ∙ some))
 
 pub lines_at-some : (bytes : List ℕ) (i : ℕ) → has_line (lines_at bytes i) ≡ true
 lines_at-some bytes i = lines-some i (drop i bytes)
@@ -106,7 +111,8 @@ run_at bytes i j run e = subst (λ xs. RunBefore run xs (lines_at bytes j)) (sym
 
 pub cell_at : (bytes : List ℕ) (i : ℕ) → i < length bytes → slice_index bytes i ≢ 10 → slice_index bytes i ≢ 13
     → RunBefore ((slice_index bytes i, i) ∷ []) (lines_at bytes i) (lines_at bytes (i + 1))
-cell_at bytes i h n m = subst (λ xs. RunBefore ((slice_index bytes i, i) ∷ []) xs (lines_at bytes (i + 1))) (sym (lines_at-other bytes i h n m)) (cell_before _ (lines_at bytes (i + 1)) (lines_at-some bytes (i + 1)))
+cell_at bytes i h n m = subst (λ xs. RunBefore ((slice_index bytes i, i) ∷ []) xs (lines_at bytes (i + 1)))
+    (sym (lines_at-other bytes i h n m)) (cell_before _ (lines_at bytes (i + 1)) (lines_at-some bytes (i + 1)))
 
 pub run_then : {xs ys zs : List Line} (p q : List Cell) → RunBefore p xs ys → RunBefore q ys zs → RunBefore (p ++ q) xs zs
 run_then p q r s = record {
@@ -193,7 +199,8 @@ module _ (bytes : List ℕ) (i j : ℕ) (run : List Cell) (r : RunBefore run (li
   pub goes-byte : slice_index bytes j ≢ 39 → (IsBlankByte (slice_index bytes j) → ⊥) → Goes bytes i (j + 1) (run ++ (slice_index bytes j, j) ∷ [])
   goes-byte q k =
       let cell = cell_at bytes j l n m in
-      let own : part_at bytes j ≡ with_cells ((slice_index bytes j, j) ∷ []) (part_at bytes (j + 1)) = ap (single_part 0) cell.text ∙ part-byte (slice_index bytes j, j) (first_text (lines_at bytes (j + 1))) q k in
+      let own : part_at bytes j ≡ with_cells ((slice_index bytes j, j) ∷ []) (part_at bytes (j + 1)) = ap (single_part 0) cell.text
+      ∙ part-byte (slice_index bytes j, j) (first_text (lines_at bytes (j + 1))) q k in
       record {
         part = part-run bytes i j run _ r b own refl ∙ with_cells-two run ((slice_index bytes j, j) ∷ []) (part_at bytes (j + 1));
         same = (run_then run ((slice_index bytes j, j) ∷ []) r cell).same;
@@ -204,7 +211,8 @@ module _ (bytes : List ℕ) (i j : ℕ) (run : List Cell) (r : RunBefore run (li
       let cell = cell_at bytes j l n m in
       let next = cell_at bytes (j + 1) k (omega arith) (omega arith) in
       let both = run_then ((slice_index bytes j, j) ∷ []) ((slice_index bytes (j + 1), j + 1) ∷ []) cell next in
-      let own : part_at bytes j ≡ with_cells ((slice_index bytes j, j) ∷ []) (part_at bytes (j + 1 + 1)) = ap (single_part 0) both.text ∙ part-pair (slice_index bytes j, j) (slice_index bytes (j + 1), j + 1) (first_text (lines_at bytes (j + 1 + 1))) e f in
+      let own : part_at bytes j ≡ with_cells ((slice_index bytes j, j) ∷ []) (part_at bytes (j + 1 + 1)) = ap (single_part 0) both.text
+      ∙ part-pair (slice_index bytes j, j) (slice_index bytes (j + 1), j + 1) (first_text (lines_at bytes (j + 1 + 1))) e f in
       let two : j + 1 + 1 ≡ j + 2 = omega arith in
       subst (λ k. Goes bytes i k (run ++ (slice_index bytes j, j) ∷ [])) two (record {
         part = part-run bytes i j run _ r b own refl ∙ with_cells-two run ((slice_index bytes j, j) ∷ []) (part_at bytes (j + 1 + 1));
@@ -215,13 +223,16 @@ module _ (bytes : List ℕ) (i j : ℕ) (run : List Cell) (r : RunBefore run (li
       → part_at bytes i ≡ record { text = run; stop = closed (j + 1) (first_text (lines_at bytes (j + 1))) }
   stops-quote e k =
       let cell = cell_at bytes j l n m in
-      let own : part_at bytes j ≡ record { text = []; stop = closed (j + 1) (first_text (lines_at bytes (j + 1))) } = ap (single_part 0) cell.text ∙ part-quote (slice_index bytes j, j) (first_text (lines_at bytes (j + 1))) e (begins-next bytes (j + 1) (omega arith) k) in
+      let own : part_at bytes j ≡ record { text = []; stop = closed (j + 1) (first_text (lines_at bytes (j + 1))) } = ap (single_part 0)
+      cell.text ∙ part-quote (slice_index bytes j, j) (first_text (lines_at bytes (j + 1))) e
+      (begins-next bytes (j + 1) (omega arith) k) in
       part-run bytes i j run _ r b own refl ∙ ap (λ t. record { text = t; stop = closed (j + 1) (first_text (lines_at bytes (j + 1))) }) (append-nil run)
 
   pub same-quote : SameLine (lines_at bytes i) (lines_at bytes (j + 1))
   same-quote = (run_then run ((slice_index bytes j, j) ∷ []) r (cell_at bytes j l n m)).same
 
-pub kept-text : {new : List Cell} {p : QuotedLine} (old seen text run : List Cell) (q : QuotedLine) → old ++ seen ≡ text ++ p.text → p ≡ with_cells run q → new ≡ text ++ run → old ++ seen ≡ new ++ q.text
+pub kept-text : {new : List Cell} {p : QuotedLine} (old seen text run : List Cell) (q : QuotedLine) → old ++ seen ≡ text ++ p.text → p
+    ≡ with_cells run q → new ≡ text ++ run → old ++ seen ≡ new ++ q.text
 kept-text old seen text run q e f g = e ∙ ap (λ r. text ++ r.text) f ∙ sym (append_assoc text run q.text) ∙ ap (λ t. t ++ q.text) (sym g)
 
 pub done-text : {new : List Cell} {p : QuotedLine} (old seen text : List Cell) (q : QuotedLine) → old ++ seen ≡ text ++ p.text → p ≡ q → new ≡ text ++ q.text → new ≡ old ++ seen

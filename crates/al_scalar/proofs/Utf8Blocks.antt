@@ -4,7 +4,8 @@ use Rattle.std.proofs.lemmas.Bool.Decides.{nat_tests}
 use Rattle.std.proofs.lemmas.Str.{IsUtf8-nil}
 use Rattle.al_text.specs.Ascii as ascii
 use Rattle.al_scalar.specs.Line.{Cell, Line, place, is_empty, indent, is_all_blank}
-use Rattle.al_scalar.specs.Block.{Chomping, strip, clip, keep, Header, header, content_indent, BlockLine, Rows, row_of, at_end, with_row, rows_at, chomped, is_spaced, own_break, between_rows, joint, text_after, rows_end, block_scalar}
+use Rattle.al_scalar.specs.Block.{Chomping, strip, clip, keep, Header, header, content_indent, BlockLine, Rows, row_of, at_end, with_row}
+use Rattle.al_scalar.specs.Block.{rows_at, chomped, is_spaced, own_break, between_rows, joint, text_after, rows_end, block_scalar}
 use Rattle.al_scalar.specs.Taken.{Fault, ◌>>=◌}
 use Rattle.al_scalar.proofs.OffsetLemmas.{choose}
 use Rattle.al_scalar.proofs.Utf8Lemmas.{AreUtf8, bytes_of, split-behind, equal-ascii}
@@ -70,7 +71,9 @@ rows-text : (is_literal : Bool) (k : Chomping) (last : Option BlockLine) (emptie
 rows-text is_literal k last empties [] u = text-chomped k (own_break last) empties
 rows-text is_literal k last empties (r ∷ rs) u =
     choose IsText (is_empty r.text) (λ _. rows-text is_literal k last (empties ++ r.break) rs u.1)
-    (λ _. text-join (joint is_literal last empties r ++ r.text) (text_after is_literal k (Some r) [] rs) (text-join (joint is_literal last empties r) r.text (text-joint is_literal last empties r) u.0) (rows-text is_literal k (Some r) [] rs u.1))
+    (λ _. text-join (joint is_literal last empties r ++ r.text) (text_after is_literal k (Some r) [] rs)
+    (text-join (joint is_literal last empties r) r.text (text-joint is_literal last empties r) u.0)
+    (rows-text is_literal k (Some r) [] rs u.1))
 
 block-by : (is_literal : Bool) (within : ℕ) (l : Line) (ls : List Line) → AreUtf8 ls → (r : Result Header Fault)
     → TakesText (r >>= (λ h.

@@ -1,5 +1,7 @@
 -- Texts of double-quoted scalars are UTF-8 where the lines are.
-use Rattle.std.proofs.Common.{◌≡◌, ℕ, zero, suc, ◌+◌, ◌*◌, ◌-◌, ◌<◌, List, [], ◌∷◌, ◌++◌, length, map, take, refl, sym, ap, subst, arith, Bool, true, false, if◌then◌else◌, ◌&&◌, ◌||◌, ◌==◌, nat_le, nat_lt, cond, Option, Some, None, Result, Ok, Err, encode_utf8}
+use Rattle.std.proofs.Common.{◌≡◌, ℕ, zero, suc, ◌+◌, ◌*◌, ◌-◌, ◌<◌, List, [], ◌∷◌, ◌++◌, length, map, take, refl, sym, ap, subst, arith}
+use Rattle.std.proofs.Common.{Bool, true, false, if◌then◌else◌, ◌&&◌, ◌||◌, ◌==◌, nat_le, nat_lt, cond, Option, Some, None, Result, Ok, Err}
+use Rattle.std.proofs.Common.{encode_utf8}
 use Rattle.std.proofs.lemmas.Grind.{common_steps}
 use Rattle.std.proofs.lemmas.Bool.Decides.{nat_tests}
 use Rattle.std.specs.Prelude.{IsUtf8}
@@ -7,7 +9,8 @@ use Rattle.std.specs.Char.{IsScalar}
 use Rattle.std.proofs.lemmas.Str.{IsUtf8-append, IsUtf8-encode}
 use Rattle.al_text.specs.Ascii as ascii
 use Rattle.al_scalar.specs.Line.{Cell, Line}
-use Rattle.al_scalar.specs.Quoted.{QuotedLine, own_before, part_before, escape_table, digits_table, lookup, hex_digit, hex_push, hex_value, is_scalar_value, written, hex_escape, escape, double_part, double_quoted}
+use Rattle.al_scalar.specs.Quoted.{QuotedLine, own_before, part_before, escape_table, digits_table, lookup, hex_digit, hex_push, hex_value}
+use Rattle.al_scalar.specs.Quoted.{is_scalar_value, written, hex_escape, escape, double_part, double_quoted}
 use Rattle.al_scalar.specs.Taken.{Fault}
 use Rattle.al_scalar.proofs.OffsetLemmas.{choose}
 use Rattle.al_scalar.proofs.Utf8Lemmas.{Keeps, AreUtf8, AreSkipped, bytes_of, split-before, split-behind, keeps-all, keeps-none, keeps-drop, equal-ascii, own-keeps}
@@ -43,7 +46,40 @@ found-scalar b [] h x f = absurd cc
 found-scalar b (e ∷ es) h x f = scalar-by e (lookup b es) (e.0 == b) x h.0 (λ k. found-scalar b es h.1 x k) f
 
 escapes-ascii : AreAscii escape_table
-escapes-ascii = (omega arith, (omega arith, (omega arith, (omega arith, (omega arith, (omega arith, (omega arith, (omega arith, (omega arith, (omega arith, (omega arith, (omega arith, (omega arith, (omega arith, (omega arith, (omega arith, (omega arith, (omega arith, tt))))))))))))))))))
+escapes-ascii = (
+  omega arith,
+  (
+    omega arith,
+    (
+      omega arith,
+      (
+        omega arith,
+        (
+          omega arith,
+          (
+            omega arith,
+            (
+              omega arith,
+              (
+                omega arith,
+                (
+                  omega arith,
+                  (
+                    omega arith,
+                    (
+                      omega arith,
+                      (omega arith, (omega arith, (omega arith, (omega arith, (omega arith, (omega arith, (omega arith, tt))))))),
+                    ),
+                  ),
+                ),
+              ),
+            ),
+          ),
+        ),
+      ),
+    ),
+  ),
+)
 
 escapes-scalar : AreScalars escape_table
 escapes-scalar = (refl, (refl, (refl, (refl, (refl, (refl, (refl, (refl, (refl, (refl, (refl, (refl, (refl, (refl, (refl, (refl, (refl, (refl, tt))))))))))))))))))
@@ -53,7 +89,8 @@ digits-ascii = (omega arith, (omega arith, (omega arith, tt)))
 
 -- ---- digits
 
-digit-by : (b : ℕ) (p q r : Bool) (x y z : ℕ) (d : ℕ) → (p ≡ true → b < 128) → (q ≡ true → b < 128) → (r ≡ true → b < 128) → (if p then Some x else (if q then Some y else (if r then Some z else None))) ≡ Some d → b < 128
+digit-by : (b : ℕ) (p q r : Bool) (x y z : ℕ) (d : ℕ) → (p ≡ true → b < 128) → (q ≡ true → b < 128) → (r ≡ true → b < 128)
+    → (if p then Some x else (if q then Some y else (if r then Some z else None))) ≡ Some d → b < 128
 digit-by b true q r x y z d f g h e = f refl
 digit-by b false true r x y z d f g h e = g refl
 digit-by b false false true x y z d f g h e = h refl
@@ -108,11 +145,14 @@ scalar-of : (a b : Bool) → (a || b) ≡ true → cond a true b ≡ true
 scalar-of true b h = refl
 scalar-of false b h = h
 
-hex-keeps : (c : Cell) (cs : List Cell) (at width : ℕ) (digits : List Cell) (o : Option ℕ) (more : Result QuotedLine Fault) → c.0 < 128 → ((code : ℕ) → o ≡ Some code → PartKeeps cs more) → PartKeeps (c ∷ cs) (hex_escape at width digits o more)
+hex-keeps : (c : Cell) (cs : List Cell) (at width : ℕ) (digits : List Cell) (o : Option ℕ) (more : Result QuotedLine Fault) → c.0 < 128
+    → ((code : ℕ) → o ≡ Some code → PartKeeps cs more) → PartKeeps (c ∷ cs) (hex_escape at width digits o more)
 hex-keeps c cs at width digits None more l k = tt
 hex-keeps c cs at width digits (Some code) more l k =
     choose (PartKeeps (c ∷ cs)) (nat_lt (length digits) width) (λ _. keeps-none c cs l)
-    (λ _. choose (PartKeeps (c ∷ cs)) (is_scalar_value code) (λ e. part-keeps c cs (written at code) more l (written-text at code (scalar-of (nat_lt code 0xd800) (nat_le 0xe000 code && nat_lt code 0x110000) e)) (k code refl)) (λ _. tt))
+    (λ _. choose (PartKeeps (c ∷ cs)) (is_scalar_value code)
+    (λ e. part-keeps c cs (written at code) more l
+    (written-text at code (scalar-of (nat_lt code 0xd800) (nat_le 0xe000 code && nat_lt code 0x110000) e)) (k code refl)) (λ _. tt))
 
 escape-keeps : (c : Cell) (cs : List Cell) (at : ℕ) (more : ℕ → Result QuotedLine Fault) → c.0 < 128 → ((n : ℕ) → AreSkipped n cs → PartKeeps cs (more n)) → PartKeeps (c ∷ cs) (escape at cs more)
 escape-keeps c [] at more l k = keeps-none c [] l
@@ -120,8 +160,12 @@ escape-keeps c (d ∷ ds) at more l k =
     choose-option (PartKeeps (c ∷ d ∷ ds)) (lookup d.0 escape_table)
     (choose-option (PartKeeps (c ∷ d ∷ ds)) (lookup d.0 digits_table) tt
     (λ width e. hex-keeps c (d ∷ ds) at width (take width ds) (hex_value 0 (take width ds)) (more (1 + width)) l
-    (λ code h. k (1 + width) (let same : 1 + width ≡ suc width = omega arith in subst (λ (n : ℕ). AreSkipped n (d ∷ ds)) (sym same) (found-ascii d.0 digits_table digits-ascii width e, hex-skipped width ds 0 code h)))))
-    (λ code e. part-keeps c (d ∷ ds) (written at code) (more 1) l (written-text at code (found-scalar d.0 escape_table escapes-scalar code e)) (k 1 (found-ascii d.0 escape_table escapes-ascii code e, tt)))
+    (λ code h. k (1 + width) (let same : 1 + width ≡ suc width = omega arith in
+    subst (λ (n : ℕ). AreSkipped n (d ∷ ds)) (sym same)
+    (found-ascii d.0 digits_table digits-ascii width e, hex-skipped width ds 0 code h)))))
+    (λ code e. part-keeps c (d ∷ ds) (written at code) (more 1) l
+    (written-text at code (found-scalar d.0 escape_table escapes-scalar code e))
+    (k 1 (found-ascii d.0 escape_table escapes-ascii code e, tt)))
 
 double-keeps : (n : ℕ) (cs : List Cell) → AreSkipped n cs → PartKeeps cs (double_part n cs)
 double-keeps zero [] s = keeps-all []

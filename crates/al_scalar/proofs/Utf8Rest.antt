@@ -1,12 +1,16 @@
 -- What is left behind a scalar is cut where characters begin: its lines are UTF-8 where those were that it was read from.
-use Rattle.std.proofs.Common.{ℕ, zero, suc, ◌+◌, ◌<◌, List, [], ◌∷◌, ◌++◌, drop, length, take, sym, subst, arith, append_assoc, Bool, true, false, not, if◌then◌else◌, ◌&&◌, ◌||◌, ◌==◌, nat_lt, Option, Some, None, Result, Ok, Err}
+use Rattle.std.proofs.Common.{ℕ, zero, suc, ◌+◌, ◌<◌, List, [], ◌∷◌, ◌++◌, drop, length, take, sym, subst, arith, append_assoc, Bool, true}
+use Rattle.std.proofs.Common.{false, not, if◌then◌else◌, ◌&&◌, ◌||◌, ◌==◌, nat_lt, Option, Some, None, Result, Ok, Err}
 use Rattle.std.proofs.lemmas.Str.{IsUtf8-nil}
 use Rattle.std.specs.Prelude.{IsUtf8}
 use Rattle.al_text.specs.Ascii as ascii
 use Rattle.al_scalar.specs.Line.{Cell, Line, place, is_blank, after_blanks, begins, is_empty, is_all_blank}
 use Rattle.al_scalar.specs.Block.{Header, header, content_indent, Rows, row_of, at_end, with_row, rows_at, text_after, rows_end, block_scalar}
 use Rattle.al_scalar.specs.Plain.{Context, is_flow, is_value_colon, ends_plain, plain_part, continues, ended_before, plain_lines, plain}
-use Rattle.al_scalar.specs.Quoted.{QuotedLine, QuotedEnd, closed, broken, escaped, cut_short, is_broken, with_own, single_part, escape_table, digits_table, lookup, hex_value, is_scalar_value, written, part_before, own_before, hex_escape, escape, double_part, line_given, is_empty_line, quoted_lines, quoted, single_quoted, double_quoted}
+use Rattle.al_scalar.specs.Quoted.{QuotedLine, QuotedEnd, closed, broken, escaped, cut_short, is_broken, with_own, single_part}
+use Rattle.al_scalar.specs.Quoted.{escape_table, digits_table, lookup, hex_value, is_scalar_value, written, part_before, own_before}
+use Rattle.al_scalar.specs.Quoted.{hex_escape, escape, double_part, line_given, is_empty_line, quoted_lines, quoted, single_quoted}
+use Rattle.al_scalar.specs.Quoted.{double_quoted}
 use Rattle.al_scalar.specs.Taken.{Fault, Taken, ◌>>=◌, before, folded, folded_break}
 use Rattle.al_scalar.proofs.OffsetLemmas.{choose}
 use Rattle.al_scalar.proofs.Utf8Lemmas.{AreUtf8, bytes_of, split-before, split-behind, keeps-blanks, equal-ascii, both-left, not-false, blank-ascii}
@@ -104,7 +108,8 @@ GivesStop (Err e) = Unit {0}
 abbrev PartReader : (List Cell → Result QuotedLine Fault) → Type 0
 PartReader part = (cs : List Cell) → IsText cs → GivesStop (part cs)
 
-given-left : (quote : ℕ) (space : List Cell) (p : QuotedLine) (l : Line) (ls : List Line) (below : Option ℕ → Result Taken Fault) → AreUtf8 ls → StopsText p.stop → ((b : Option ℕ) → LeavesText (below b))
+given-left : (quote : ℕ) (space : List Cell) (p : QuotedLine) (l : Line) (ls : List Line) (below : Option ℕ → Result Taken Fault)
+    → AreUtf8 ls → StopsText p.stop → ((b : Option ℕ) → LeavesText (below b))
     → LeavesText (line_given quote space p l ls below)
 given-left quote space p l ls below u h more = by-stop p.stop h
   where
@@ -114,7 +119,8 @@ given-left quote space p l ls below u h more = by-stop p.stop h
     by-stop broken h = choose LeavesText l.last (λ _. tt) (λ _. left-before (space ++ p.text) _ (more (Some l.end)))
     by-stop escaped h = choose LeavesText l.last (λ _. tt) (λ _. left-before (space ++ p.text) _ (more None))
 
-line-left : (quote : ℕ) (break : Option ℕ) (l : Line) (ls : List Line) (below : Option ℕ → Result Taken Fault) → AreUtf8 ls → ((b : Option ℕ) → LeavesText (below b)) → (r : Result QuotedLine Fault) → GivesStop r
+line-left : (quote : ℕ) (break : Option ℕ) (l : Line) (ls : List Line) (below : Option ℕ → Result Taken Fault) → AreUtf8 ls
+    → ((b : Option ℕ) → LeavesText (below b)) → (r : Result QuotedLine Fault) → GivesStop r
     → LeavesText (r >>= (λ p. if is_empty_line p l then before ((ascii.line_feed, l.end) ∷ []) (below None) else line_given quote (folded break) p l ls below))
 line-left quote break l ls below u more (Err e) r = tt
 line-left quote break l ls below u more (Ok p) r =

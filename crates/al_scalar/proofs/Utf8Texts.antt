@@ -1,5 +1,6 @@
 -- Texts of scalars are UTF-8 where the lines are.
-use Rattle.std.proofs.Common.{slice_index, ◌≡◌, ◌⊎◌, inl, inr, ℕ, zero, suc, ◌<◌, List, [], ◌∷◌, ◌++◌, drop, refl, sym, ap, subst, arith, Bool, true, false, not, if◌then◌else◌, ◌&&◌, ◌||◌, ◌==◌, Option, Some, None, Result, Ok, Err}
+use Rattle.std.proofs.Common.{slice_index, ◌≡◌, ◌⊎◌, inl, inr, ℕ, zero, suc, ◌<◌, List, [], ◌∷◌, ◌++◌, drop, refl, sym, ap, subst, arith}
+use Rattle.std.proofs.Common.{Bool, true, false, not, if◌then◌else◌, ◌&&◌, ◌||◌, ◌==◌, Option, Some, None, Result, Ok, Err}
 use Rattle.std.specs.Prelude.{IsUtf8}
 use Rattle.std.proofs.lemmas.Str.{IsUtf8-append, IsUtf8-nil, IsUtf8-from_ascii}
 use Rattle.al_text.specs.Ascii as ascii
@@ -62,7 +63,8 @@ GivesText (Err e) = Unit {0}
 abbrev pub PartReader : (List Cell → Result QuotedLine Fault) → Type 0
 PartReader part = (cs : List Cell) → IsText cs → GivesText (part cs)
 
-given-text : (quote : ℕ) (space : List Cell) (p : QuotedLine) (l : Line) (ls : List Line) (below : Option ℕ → Result Taken Fault) → IsText space → IsText p.text → ((b : Option ℕ) → TakesText (below b))
+given-text : (quote : ℕ) (space : List Cell) (p : QuotedLine) (l : Line) (ls : List Line) (below : Option ℕ → Result Taken Fault)
+    → IsText space → IsText p.text → ((b : Option ℕ) → TakesText (below b))
     → TakesText (line_given quote space p l ls below)
 given-text quote space p l ls below h k more = by-stop p.stop
   where

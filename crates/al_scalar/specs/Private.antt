@@ -6,3 +6,5 @@ pub mod PlainLines
 pub mod Reads
 pub mod Segments
 pub mod Single
+pub mod Places
+pub mod Contract

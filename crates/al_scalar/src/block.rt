@@ -5,15 +5,13 @@ ghost use Rattle.al_scalar.specs.Block.{block_scalar, found_indent, content_inde
 ghost use Rattle.al_scalar.specs.Block.{own_break, chomped, joint, text_after, rows_end};
 ghost use Rattle.al_scalar.specs.Private.BlockRead.{RowStarts, ReadsRows, last_row, row_like, RowTo, indent_from};
 ghost use Rattle.al_scalar.specs.Private.BlockRead.{kind, AddsRow, EndsRow, last_line, is_said};
-ghost use Rattle.al_scalar.specs.Places.{lines_at, text_at, cells_between, IsLineEnd, BlankTo};
+ghost use Rattle.al_scalar.specs.Private.Places.{lines_at, text_at, cells_between, IsLineEnd, BlankTo};
 ghost use Rattle.al_scalar.specs.Private.Reads.{Gives, StaysWithin};
 ghost use Rattle.al_scalar.specs.Taken.{feeds, folded_break};
 
 use crate::faults::FaultAt;
 use crate::header::{Chomping, HeaderRead, header_fault, indicators};
-use crate::lines::{
-    after_break, blank_line_end, indent, is_blank, is_line_end, line_end, spaces_end,
-};
+use crate::lines::{after_break, blank_line_end, indent, is_blank, line_end, spaces_end};
 use crate::reads::Taken;
 use crate::texts::Text;
 use al_text::YamlCode;

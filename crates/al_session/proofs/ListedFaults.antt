@@ -1,6 +1,6 @@
 -- The faults that a report lists: each file's own, and those of its calls that lead back to it.
-use Rattle.std.proofs.Common.{◌≤◌, ◌≡◌, ◌<◌, ℕ, zero, suc, ◌+◌, Bool, true, false, cond, not, List, [], ◌∷◌, ◌++◌, length, map}
-use Rattle.std.proofs.Common.{get_or, take, Option, Some, None, String, Vec, slice_get, refl, sym, ◌∙◌, ap, subst, ◌||◌, arith, ◌⊎◌, ⊎_elim, inl, inr}
+use Rattle.std.proofs.Common.{◌≤◌, ◌≡◌, ◌<◌, ℕ, zero, suc, ◌+◌, Bool, true, false, cond, not, List, [], ◌∷◌, ◌++◌, length}
+use Rattle.std.proofs.Common.{get_or, Option, Some, None, String, Vec, slice_get, refl, sym, ◌∙◌, ap, subst, ◌||◌, arith, ◌⊎◌, ⊎_elim}
 use Rattle.std.specs.Prelude.{string_bytes}
 use Rattle.std.specs.Bool.{◌==◌}
 use Rattle.std.specs.Global.{Global}
@@ -11,25 +11,22 @@ use Rattle.std.specs.Ordering.{match_ordering}
 use Rattle.std.specs.declared.cmp.Ordering.{Ordering}
 use Rattle.std.specs.declared.cmp.Ordering.TheVariants.{Less, Equal, Greater}
 use Rattle.std.proofs.lemmas.Bool.Decides.{nat_tests}
-use Rattle.std.proofs.lemmas.List.{length-map}
-use Rattle.std.proofs.lemmas.List.FromFn.{length-enumerate_from, get_or-enumerate_from}
-use Rattle.std.proofs.lemmas.Option.{get_or_from_slice_get}
 use Rattle.al_text.proofs.FaultLists.{AllByRecursion-fault_list, fault_list-sorted}
 use Rattle.al_text.specs.FaultLists.{fault_cmp, fault_list}
 use Rattle.al_text.specs.InOrder.{in_order, with_one}
-use Rattle.al_text.specs.LineStarts.{line_starts}
 use Rattle.al_text.specs.Snippets.{fault_text}
 use Rattle.al_text.specs.Spans.{LiesIn}
 use Rattle.al_text.specs.declared.faults.Fault.{Fault}
 use Rattle.al_folder.specs.Meaning.{CallSite, Meaning}
 use Rattle.al_folder.specs.Folder.{Folder, answers, faults_in}
-use Rattle.al_folder.specs.Kept.{Files, folder_of, AllKept, IsKept}
+use Rattle.al_folder.specs.Kept.{Files, folder_of, AllKept}
 use Rattle.al_folder.specs.Loops.{calls_graph, called, leads_back, loop_fault_if, loop_faults, looping, reported}
 use Rattle.al_folder.specs.declared.kept.KeptFile.{KeptFile}
 use Rattle.al_folder.specs.declared.lint.Target.{Target}
 use Rattle.al_folder.proofs.Looping.{kept_number}
 use Rattle.al_session.specs.Report.{status_of, report_of}
-use Rattle.al_session.specs.Session.{AllChecked, AreJoined, ArePrintable, IsPrintable, lines_of, listed, numbered_lines}
+use Rattle.al_session.specs.Session.{AllChecked}
+use Rattle.al_session.specs.Private.Lists.{AreJoined, ArePrintable, listed, numbered_lines}
 use Rattle.al_session.proofs.Reports.{any_fault}
 
 -- ---- lists that are joined

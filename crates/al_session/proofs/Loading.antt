@@ -1,5 +1,6 @@
 -- Files that are kept without a check, and checked once all of them are there.
-use Rattle.std.proofs.Common.{zero, suc, ◌≡◌, ℕ, ◌+◌, ◌<◌, ◌≤◌, ◌^◌, ◌-◌, ◌||◌, Bool, true, false, List, [], ◌∷◌, ◌++◌, length, map, take, slice_get, Option, Some, None, Err, String, Vec, is_some, refl, sym, ◌∙◌, ap, subst, arith}
+use Rattle.std.proofs.Common.{zero, suc, ◌≡◌, ℕ, ◌+◌, ◌<◌, ◌≤◌, ◌^◌, ◌-◌, ◌||◌, Bool, true, false, List, [], ◌∷◌, ◌++◌, length, map, take}
+use Rattle.std.proofs.Common.{slice_get, Option, Some, None, Err, String, Vec, is_some, refl, sym, ◌∙◌, ap, subst, arith}
 use Rattle.std.specs.Prelude.{string_bytes, bytes_eq, IsSome}
 use Rattle.std.specs.Global.{Global}
 use Rattle.std.specs.Option.{option_map, option_map_or, unwrap_or}
@@ -24,7 +25,8 @@ use Rattle.al_folder.proofs.Places.{gap, length-folder_of}
 use Rattle.al_folder.proofs.Views.{after_same, all_in, bytes_kept, bytes_self, kept_at}
 use Rattle.al_folder.proofs.Affecting.{changed_sorted}
 use Rattle.al_session.specs.Builder.{AreLoaded}
-use Rattle.al_session.specs.Session.{with_lists, AllChecked, AreLinted}
+use Rattle.al_session.specs.Session.{AllChecked, AreLinted}
+use Rattle.al_session.specs.Private.Lists.{with_lists}
 use Rattle.al_session.proofs.Giving.{all_checked, folder_of-with_lists, kept-with_lists}
 use Rattle.al_session.proofs.Puts.{all_insert, all_set, insert_is, set_is}
 
@@ -197,7 +199,8 @@ loaded_linted m is_unit old es callers n k loaded kept checked same bound =
     record { kept = kept; faults = subst C (sym same) checked; index = subst N (sym same) loaded.index; counted = bound }
 
 -- what is kept of no file
-pub empty_loaded : {U I S R : Type 0} (m : Meaning I) (is_unit : U → List ℕ → List ℕ → Type 0) (es : Files U I) (callers : Callers S R) (k : ℕ) → es ≡ [] → callers.entries ≡ [] → k ≤ 2 ^ 64 - 1 → AreLoaded m is_unit es callers k
+pub empty_loaded : {U I S R : Type 0} (m : Meaning I) (is_unit : U → List ℕ → List ℕ → Type 0) (es : Files U I) (callers : Callers S R)
+    (k : ℕ) → es ≡ [] → callers.entries ≡ [] → k ≤ 2 ^ 64 - 1 → AreLoaded m is_unit es callers k
 unfolding IsStrictlySortedBy
 empty_loaded {U} {I} m is_unit es callers k none lacks bound =
     let P : Files U I → Type 0 = λ l. AreLoaded m is_unit l callers k in

@@ -4,7 +4,9 @@ ghost use Rattle.std.specs.Prelude.{◌≡◌, ◌<◌, ◌++◌, not, map, leng
 ghost use Rattle.std.specs.List.{enumerate_from, list_any};
 ghost use Rattle.al_folder.specs.Kept.{AreKept, folder_of};
 ghost use Rattle.al_folder.specs.Loops as loops;
-ghost use Rattle.al_session.specs.Session.{AllChecked, AreJoined, IsListed};
+ghost use Rattle.al_folder.specs.Private.CallGraphs.{IsCallGraph};
+ghost use Rattle.al_session.specs.Session.{AllChecked};
+ghost use Rattle.al_session.specs.Private.Lists.{AreJoined, IsListed};
 
 use al_folder::{CallGraph, Files, Lint, call_graph, file_number, loop_faults};
 use al_text::{Args, Fault, ordered};
@@ -53,7 +55,7 @@ fn joined<L: Lint>(
 ) -> Result<Option<Vec<Fault>>, AllocError>
     requires kept { AreKept L.meaning L.is_unit files.now.entries }
     requires checked { AllChecked L.meaning (folder_of files.now.entries) files.now.entries }
-    requires calls { loops.IsCallGraph L.meaning (folder_of files.now.entries) calls.now.graph.items calls.now.labels.items }
+    requires calls { IsCallGraph L.meaning (folder_of files.now.entries) calls.now.graph.items calls.now.labels.items }
     requires index { index < length files.now.entries }
     ensures { IfOk result (λ joined. IsListed L.meaning files.now.entries index joined) }
 {

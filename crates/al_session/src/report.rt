@@ -1,11 +1,11 @@
 //! What a folder's files print.
 
-ghost use Rattle.std.specs.Prelude.{◌≡◌, ◌<◌, not, length, string_bytes, ◌==◌, OnOk, OnErr, IsOkUnless};
+ghost use Rattle.std.specs.Prelude.{◌≡◌, ◌<◌, not, length, ◌==◌, OnOk, OnErr, IsOkUnless};
 ghost use Rattle.std.specs.List.{enumerate_from, flat_map, list_any};
 ghost use Rattle.std.specs.Io.KnownBytes.{Appends};
 ghost use Rattle.al_text.specs.Counted.{HasRisen, AppendsFront};
 ghost use Rattle.al_text.specs.Streams.{bytes_written, write_failures};
-ghost use Rattle.al_session.specs.Session.{ArePrintable, IsPrintable, lines_of, listed, numbered_lines};
+ghost use Rattle.al_session.specs.Private.Lists.{ArePrintable, IsPrintable, lines_of, listed, numbered_lines};
 
 use al_folder::{Files, KeptFile, file_number};
 use al_text::{Fault, Output, Stop};

@@ -2,7 +2,9 @@
 use Rattle.std.specs.Prelude.{ℕ, ◌||◌, Bool, not, List, [], ◌∷◌, ◌++◌, codes, map, Option, Some, None, IfSome}
 use Rattle.std.specs.List.{AllByRecursion, flat_map}
 use Rattle.al_text.specs.Spans.{LiesIn}
-use Rattle.al_text.specs.declared.codes.RuleCode.TheVariants.{AlwaysTrue, PasswordNotExpression, RepeatedId, UnknownMatrixRow, UnknownPermission, UnknownShell, WrongId, WrongMatrix, WrongPermission, WrongVariable}
+use Rattle.al_text.specs.declared.codes.RuleCode.TheVariants.{AlwaysTrue, PasswordNotExpression, RepeatedId, UnknownMatrixRow}
+use Rattle.al_text.specs.declared.codes.RuleCode.TheVariants.{UnknownPermission, UnknownShell, WrongId, WrongMatrix, WrongPermission}
+use Rattle.al_text.specs.declared.codes.RuleCode.TheVariants.{WrongVariable}
 use Rattle.al_text.specs.declared.faults.Span.{Span}
 use Rattle.al_formats.specs.Names.{is_id, is_variable}
 use Rattle.al_scalar.specs.Scalar.{Scalar, text_of}
@@ -12,11 +14,14 @@ use Rattle.al_shape.specs.Values.{entries_at, entries_in, items_at, text_in, val
 use Rattle.al_settings.specs.Ids.{id_faults, ids_faults, repeated_faults, with_folded}
 use Rattle.al_settings.specs.Matrix.{exclude_faults, exclude_keys, excludes_faults, is_dynamic, is_mapping, is_null_node, is_row_value, matrix_faults, row_faults, row_names, shape_faults}
 use Rattle.al_settings.specs.Names.{permissions, scope_values, whole_values}
-use Rattle.al_settings.specs.Settings.{all_permissions_faults, condition_faults, credentials_faults, env_faults, is_always_true, is_password, is_shell, password_faults, permission_faults, permissions_faults, script_faults, shell_faults, value_faults, variable_faults}
+use Rattle.al_settings.specs.Settings.{all_permissions_faults, condition_faults, credentials_faults, env_faults, is_always_true}
+use Rattle.al_settings.specs.Settings.{is_password, is_shell, password_faults, permission_faults, permissions_faults, script_faults}
+use Rattle.al_settings.specs.Settings.{shell_faults, value_faults, variable_faults}
 use Rattle.al_reports.specs.Words.{Named, of_key, of_scalar, unless, unless_among}
 use Rattle.al_settings.proofs.Places.{commands_lie}
 use Rattle.al_text.proofs.Elements.{each_as, each_of, map_or}
-use Rattle.al_reports.proofs.Inside.{Are, Fine, Lies, NameLies, Pair, Text, below_fine, both, entries_at_fine, entries_in_fine, items_at_fine, one_lies, or_lies, span_lies, text_fine, unless_lies, value_fine}
+use Rattle.al_reports.proofs.Inside.{Are, Fine, Lies, NameLies, Pair, Text, below_fine, both, entries_at_fine, entries_in_fine}
+use Rattle.al_reports.proofs.Inside.{items_at_fine, one_lies, or_lies, span_lies, text_fine, unless_lies, value_fine}
 
 module _ (size : ℕ) where
   -- ---- ids
@@ -27,7 +32,8 @@ module _ (size : ℕ) where
   repeated_lie : (seen : List (List ℕ)) (ps : List (Named × List ℕ)) → AllByRecursion Folded ps → Are size (repeated_faults seen ps)
   repeated_lie seen [] h = tt
   repeated_lie seen (p ∷ ps) h =
-      both size (unless (not (among seen p.1)) RepeatedId p.0) (repeated_faults (seen ++ p.1 ∷ []) ps) (unless_lies size (not (among seen p.1)) RepeatedId p.0 h.0) (repeated_lie (seen ++ p.1 ∷ []) ps h.1)
+      both size (unless (not (among seen p.1)) RepeatedId p.0) (repeated_faults (seen ++ p.1 ∷ []) ps)
+      (unless_lies size (not (among seen p.1)) RepeatedId p.0 h.0) (repeated_lie (seen ++ p.1 ∷ []) ps h.1)
 
   folded_place : (ids : List Named) → AllByRecursion (NameLies size) ids → AllByRecursion Folded (map with_folded ids)
   folded_place ids h = each_as (NameLies size) Folded with_folded (λ n p. p) ids h
@@ -65,11 +71,13 @@ module _ (size : ℕ) where
   -- ---- settings
 
   pub shell_lies : (o : Option (Scalar × Span)) → IfSome o (Text size) → Are size (shell_faults o)
-  shell_lies o h = map_or (Text size) (Lies size) (λ s. unless (is_shell (of_scalar s).text) UnknownShell (of_scalar s)) (λ s t. unless_lies size (is_shell (text_of s.0)) UnknownShell (of_scalar s) t.place) o h
+  shell_lies o h = map_or (Text size) (Lies size) (λ s. unless (is_shell (of_scalar s).text) UnknownShell (of_scalar s))
+      (λ s t. unless_lies size (is_shell (text_of s.0)) UnknownShell (of_scalar s) t.place) o h
 
   value_lies : (values : List (List ℕ)) (n : Node) → Fine size n → Are size (value_faults values n)
   value_lies values n f =
-      map_or (Text size) (Lies size) (λ s. unless_among WrongPermission values (of_scalar s)) (λ s t. unless_lies size (among values (text_of s.0)) WrongPermission (of_scalar s) t.place) (text_in n) (text_fine size n f)
+      map_or (Text size) (Lies size) (λ s. unless_among WrongPermission values (of_scalar s))
+      (λ s t. unless_lies size (among values (text_of s.0)) WrongPermission (of_scalar s) t.place) (text_in n) (text_fine size n f)
 
   permission_lies : (m : Node × Node) → Pair size m → Are size (permission_faults m)
   permission_lies m p =

@@ -69,7 +69,8 @@ module _ (size : ℕ) where
   command_lies : (t : Scalar × Span) (c : List ℕ × List ℕ) → Text size t → IsNeedle c.0 → AllByRecursion (Lies size) (one_command t.0 c)
   command_lies t c p n =
       let hay = text_of t.0 in
-      each_as (OccursAt hay c.0) (Lies size) (command_fault t.0 c.0 c.1) (λ i o. part_lies t c.0 i p n o) (matches hay c.0 0) (recursion_from_All (OccursAt hay c.0) (matches hay c.0 0) (places_occur hay c.0))
+      each_as (OccursAt hay c.0) (Lies size) (command_fault t.0 c.0 c.1) (λ i o. part_lies t c.0 i p n o) (matches hay c.0 0)
+      (recursion_from_All (OccursAt hay c.0) (matches hay c.0 0) (places_occur hay c.0))
 
   needles : AllByRecursion (λ (c : List ℕ × List ℕ). IsNeedle c.0) commands
   needles = (λ e. omega (arith, e), (λ e. omega (arith, e), (λ e. omega (arith, e), (λ e. omega (arith, e), tt))))

@@ -15,15 +15,15 @@ use std::alloc::{AllocError, Global};
 
 /// An id, and its text without ASCII case.
 #[derive(Drop)]
-pub struct FoldedId<'a> {
+pub(crate) struct FoldedId<'a> {
     /// The id as it is written.
-    pub id: Named<'a>,
+    pub(crate) id: Named<'a>,
     /// Its text in lower case.
-    pub text: Vec<u8>,
+    pub(crate) text: Vec<u8>,
 }
 
 /// Ids with their texts without ASCII case, in their order. Fails with `AllocError` for want of memory.
-pub fn folded<'a>(alloc: Global, ids: &[Named<'a>]) -> Result<Vec<FoldedId<'a>>, AllocError>
+pub(crate) fn folded<'a>(alloc: Global, ids: &[Named<'a>]) -> Result<Vec<FoldedId<'a>>, AllocError>
     ensures { IfOk result (λ v. map folded_id v.items ≡ map with_folded (map named_of ids.now)) }
 {
     let mut found = Vec::new(alloc);

@@ -8,7 +8,7 @@ mod matrix;
 mod names;
 mod settings;
 
-pub use ids::{FoldedId, check_ids, folded};
+pub use ids::check_ids;
 pub use matrix::check_matrix;
 pub use settings::{
     check_condition, check_credentials, check_env, check_permissions, check_script, check_shell,

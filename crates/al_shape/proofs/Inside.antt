@@ -12,7 +12,10 @@ use Rattle.al_scalar.specs.Scalar.{Scalar}
 use Rattle.al_yaml.specs.Access.{entries}
 use Rattle.al_yaml.specs.Node.{Node, Nodes, Entries, scalar, sequence, mapping, no_nodes, item, no_entries, entry, span_of}
 use Rattle.al_yaml.specs.Spans.{IsInside, AreInside, EntriesInside}
-use Rattle.al_shape.specs.Faults.{Standing, repeated, unexpected, ignored, expected, beside_faults, entries_faults, entry_faults, fault, faults, is_empty, is_needed, is_null, items_faults, keyed_faults, mapping_faults, missing_fault, missing_faults, one_fault, refined, root_faults, scalar_faults, sequence_faults, standing, takes_null, scalar_fault, fault_if_any}
+use Rattle.al_shape.specs.Faults.{Standing, repeated, unexpected, ignored, expected, beside_faults, entries_faults, entry_faults, fault}
+use Rattle.al_shape.specs.Faults.{faults, is_empty, is_needed, is_null, items_faults, keyed_faults, mapping_faults, missing_fault}
+use Rattle.al_shape.specs.Faults.{missing_faults, one_fault, refined, root_faults, scalar_faults, sequence_faults, standing, takes_null}
+use Rattle.al_shape.specs.Faults.{scalar_fault, fault_if_any}
 use Rattle.al_shape.specs.Keys.{key_text, keys_in}
 use Rattle.al_shape.specs.Names.{among}
 use Rattle.al_shape.specs.Table.{Field, Keys, no_keys, free, keys, Rule, rule}
@@ -51,7 +54,8 @@ module _ (size : ℕ) where
   scalar_lies None above s at i = none_lie
   scalar_lies (Some r) above s at i = word_lies (scalar_fault r.scalars s) above at i
 
-  sequence_lies : (r : Option Rule) (misfit : List Fault) (items : Shape → List Fault) → All (Lies size) misfit → ((s : Shape) → All (Lies size) (items s)) → All (Lies size) (sequence_faults r misfit items)
+  sequence_lies : (r : Option Rule) (misfit : List Fault) (items : Shape → List Fault) → All (Lies size) misfit
+      → ((s : Shape) → All (Lies size) (items s)) → All (Lies size) (sequence_faults r misfit items)
   sequence_lies None misfit items m f = none_lie
   sequence_lies (Some r) misfit items m f = elim r.items as (λ o. All (Lies size) (option_map_or items o misfit)) [ None ↦ m | Some s ↦ f s ]
 
@@ -61,12 +65,14 @@ module _ (size : ℕ) where
       both (missing_fault at all f) (missing_faults at all fs)
       (either (is_needed f.need all && not (all f.key)) _ _ (one_lies _ (start_lies at i)) none_lie) (missing_lies at all fs i)
 
-  keyed_lies : (ks : Keys) (above : List ℕ) (all : List ℕ → Bool) (at : Span) (inside : Keys → List Fault) → LiesIn size at → ((own : Keys) → All (Lies size) (inside own)) → All (Lies size) (keyed_faults ks above all at inside)
+  keyed_lies : (ks : Keys) (above : List ℕ) (all : List ℕ → Bool) (at : Span) (inside : Keys → List Fault)
+      → LiesIn size at → ((own : Keys) → All (Lies size) (inside own)) → All (Lies size) (keyed_faults ks above all at inside)
   keyed_lies no_keys above all at inside i f = one_lies _ i
   keyed_lies (free s) above all at inside i f = f (free s)
   keyed_lies (keys others fs) above all at inside i f = both (missing_faults at all fs) (inside (keys others fs)) (missing_lies at all fs i) (f (keys others fs))
 
-  mapping_lies : (r : Option Rule) (above : List ℕ) (all : List ℕ → Bool) (at : Span) (inside : Keys → List Fault) → LiesIn size at → ((own : Keys) → All (Lies size) (inside own)) → All (Lies size) (mapping_faults r above all at inside)
+  mapping_lies : (r : Option Rule) (above : List ℕ) (all : List ℕ → Bool) (at : Span) (inside : Keys → List Fault)
+      → LiesIn size at → ((own : Keys) → All (Lies size) (inside own)) → All (Lies size) (mapping_faults r above all at inside)
   mapping_lies None above all at inside i f = none_lie
   mapping_lies (Some r) above all at inside i f = keyed_lies r.keys_of above all at inside i f
 

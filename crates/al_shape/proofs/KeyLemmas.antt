@@ -1,5 +1,5 @@
 -- Sets of keys as tests of texts.
-use Rattle.std.proofs.Common.{◌≡◌, ℕ, Bool, true, false, cond, List, [], ◌∷◌, ◌++◌, refl, ap, ◌∙◌, ◌||◌}
+use Rattle.std.proofs.Common.{◌≡◌, ℕ, Bool, true, false, cond, List, [], ◌∷◌, ◌++◌, map, refl, sym, ap, ◌∙◌, ◌||◌}
 use Rattle.std.specs.List.{list_any}
 use Rattle.std.specs.Str.{bytes_eq}
 use Rattle.std.specs.Ordering.{nat_cmp, is_eq}
@@ -7,7 +7,8 @@ use Rattle.std.specs.Cmp.{nat_eq_equiv, partial_equiv_from_equiv, IsPartialEquiv
 use Rattle.std.specs.Cmp.Lexicographic.{slice_cmp, lists_per}
 use Rattle.std.proofs.lemmas.Map.Text.{is_eq-slice_cmp}
 use Rattle.al_shape.specs.Names.{among}
-use Rattle.std.specs.BTreeSet.{Updates}
+use Rattle.std.specs.BTreeSet.{Updates, contains_by}
+use Rattle.std.proofs.lemmas.List.{map-append}
 use Rattle.std.proofs.Common.{Bor}
 use Rattle.al_shape.specs.Keys.{and_text, holds}
 use Rattle.al_shape.specs.declared.keys.KeySet.{KeySet}
@@ -21,6 +22,10 @@ or_comm true true = refl
 or_comm true false = refl
 or_comm false true = refl
 or_comm false false = refl
+
+or_swap : (a b c : Bool) → ((a || b) || c) ≡ ((a || c) || b)
+or_swap true b c = refl
+or_swap false b c = or_comm b c
 
 cond_or : (a b : Bool) → cond a true b ≡ (b || a)
 cond_or true true = refl
@@ -43,11 +48,31 @@ pub added_at : (k text : List ℕ) (old : Bool) → cond (is_eq (slice_cmp nat_c
 added_at k text old =
     ap (λ b. cond b true old) (is_eq-slice_cmp k text ∙ bytes_swap k text) ∙ cond_or (bytes_eq text k) old
 
--- where nothing was inserted
-pub as_it_was : (old new : KeySet) → new.keys.keys ≡ old.keys.keys → holds new ≡ holds old
+-- where nothing was added behind the first keys
+pub as_it_was : (old new : KeySet) → new.few.items ≡ old.few.items → new.more.keys ≡ old.more.keys → holds new ≡ holds old
 unfolding holds
-as_it_was old new e = λ i text. list_any (λ k. is_eq (slice_cmp nat_cmp text k.now)) (e i)
+as_it_was old new same e = λ i text. among (map (λ k. k.now) (same i)) text || list_any (λ k. is_eq (slice_cmp nat_cmp text k.now)) (e i)
 
-pub inserted : (old new : KeySet) (key : Bor (List ℕ)) → Updates (λ a b. slice_cmp nat_cmp a.now b.now) old.keys new.keys key true → holds new ≡ and_text (holds old) key.now
+-- one more of the first keys
+pub appended : (old new : KeySet) (key : Bor (List ℕ)) → new.few.items ≡ old.few.items ++ key ∷ [] → new.more ≡ old.more
+    → holds new ≡ and_text (holds old) key.now
 unfolding holds
-inserted old new key u = λ i text. (u.0 (record key { now = text }) ∙ added_at key.now text (holds old text)) i
+appended old new key more same = λ i text.
+    (ap (λ ks. among ks text || contains_by (λ k. slice_cmp nat_cmp text k.now) new.more)
+    (ap (map (λ k. k.now)) more ∙ map-append (λ k. k.now) old.few.items (key ∷ []))
+    ∙ ap (λ s. among (map (λ k. k.now) old.few.items ++ key.now ∷ []) text || contains_by (λ k. slice_cmp nat_cmp text k.now) s) same
+    ∙ ap (λ b. b || contains_by (λ k. slice_cmp nat_cmp text k.now) old.more)
+    (sym (among_more_at (map (λ k. k.now) old.few.items) key.now text))
+    ∙ or_swap (among (map (λ k. k.now) old.few.items) text) (bytes_eq text key.now)
+    (contains_by (λ k. slice_cmp nat_cmp text k.now) old.more)) i
+
+-- one more behind the first keys
+pub inserted : (old new : KeySet) (key : Bor (List ℕ)) → new.few.items ≡ old.few.items
+    → Updates (λ a b. slice_cmp nat_cmp a.now b.now) old.more new.more key true → holds new ≡ and_text (holds old) key.now
+unfolding holds
+inserted old new key same u = λ i text.
+    (ap (λ fs. among (map (λ k. k.now) fs) text || contains_by (λ k. slice_cmp nat_cmp text k.now) new.more) same
+    ∙ ap (λ b. among (map (λ k. k.now) old.few.items) text || b)
+    (u.0 (record key { now = text }) ∙ added_at key.now text (contains_by (λ k. slice_cmp nat_cmp text k.now) old.more))
+    ∙ sym (or_assoc (among (map (λ k. k.now) old.few.items) text) (contains_by (λ k. slice_cmp nat_cmp text k.now) old.more)
+    (bytes_eq text key.now))) i

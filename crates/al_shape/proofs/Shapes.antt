@@ -23,4 +23,5 @@ pub faults_mapping : (s : Shape) (null : Bool) (above : List ℕ) (n : Node) (v 
     (λ ks. entries_faults ks [] (among (keys_in (map entry_view v.items))) (entries_of (map entry_view v.items)))
 faults_mapping s null above n v e =
     ap (faults s null above) (view_mapping n v e)
-    ∙ ap (λ es. mapping_faults (rule (refined s es)) above (among (keys_in es)) n.span (λ ks. entries_faults ks [] (among (keys_in es)) (entries_of (map entry_view v.items)))) (entries_again (map entry_view v.items))
+    ∙ ap (λ es. mapping_faults (rule (refined s es)) above (among (keys_in es)) n.span
+    (λ ks. entries_faults ks [] (among (keys_in es)) (entries_of (map entry_view v.items)))) (entries_again (map entry_view v.items))

@@ -8,6 +8,7 @@ use Rattle.std.specs.Str.{bytes_eq}
 use Rattle.al_scalar.specs.Scalar.{text_of}
 use Rattle.al_yaml.specs.Access.{scalar_in}
 use Rattle.al_yaml.specs.Node.{Node}
+use Rattle.al_shape.specs.Names.{among}
 use Rattle.al_shape.specs.declared.keys.KeySet.{KeySet}
 
 -- the text of a key; one that is no scalar, of which reading a file gives none, is as an empty one
@@ -22,7 +23,7 @@ keys_in es = map key_of es
 
 -- which texts a set holds
 unfoldable pub holds : KeySet → List ℕ → Bool
-holds s text = contains_by (λ k. slice_cmp nat_cmp text k.now) s.keys
+holds s text = among (map (λ k. k.now) s.few.items) text || contains_by (λ k. slice_cmp nat_cmp text k.now) s.more
 
 -- a test that one more text passes
 abbrev pub and_text : (List ℕ → Bool) → List ℕ → List ℕ → Bool

@@ -3,7 +3,7 @@
 ghost use Rattle.al_shape.specs.Keys.{and_text, holds, key_of as key_in, key_text as text_in, keys_in};
 ghost use Rattle.al_shape.specs.Names.{among};
 ghost use Rattle.al_yaml.specs.View.{entry_view, view};
-ghost use Rattle.std.specs.Prelude.{◌≡◌, [], map, IfOk, OnErr, OnOk};
+ghost use Rattle.std.specs.Prelude.{◌≡◌, [], ◌||◌, map, IfOk, OnErr, OnOk};
 
 use al_yaml::{Entry, Node};
 use std::alloc::{AllocError, Global};
@@ -27,10 +27,28 @@ pub fn key_of(entry: &Entry) -> &[u8]
     key_text(&entry.key)
 }
 
+/// How many keys of a set are compared one by one: as many as most mappings have.
+const FEW: usize = 8;
+
+/// Whether a text is one of some keys.
+fn is_one_of(text: &[u8], keys: &[&[u8]]) -> bool
+    ensures { result ≡ among (map (λ k. k.now) keys.now) text.now }
+{
+    for key in keys {
+        if text == *key {
+            return true;
+        }
+    }
+    false
+}
+
 /// A set of keys. Adding one and looking one up take time that grows with the logarithm of their number.
 #[derive(Drop)]
 pub struct KeySet<'a> {
-    keys: BTreeSet<&'a [u8]>,
+    // The first keys, which cost less in a row than in a tree.
+    few: Vec<&'a [u8]>,
+    // Those behind them.
+    more: BTreeSet<&'a [u8]>,
 }
 
 impl<'a> KeySet<'a> {
@@ -39,7 +57,8 @@ impl<'a> KeySet<'a> {
         ensures { holds result ≡ among [] }
     {
         KeySet {
-            keys: BTreeSet::new(alloc),
+            few: Vec::new(alloc),
+            more: BTreeSet::new(alloc),
         }
     }
 
@@ -48,7 +67,11 @@ impl<'a> KeySet<'a> {
         ensures set { OnOk result (holds self.new ≡ and_text (holds self.old) key.now) }
         ensures as_before { OnErr result (holds self.new ≡ holds self.old) }
     {
-        self.keys.insert(key)?;
+        if self.few.len() < FEW {
+            self.few.push(key)?;
+        } else {
+            self.more.insert(key)?;
+        }
         Ok(())
     }
 
@@ -56,7 +79,7 @@ impl<'a> KeySet<'a> {
     pub fn contains(&self, key: &'a [u8]) -> bool
         ensures { result ≡ holds self.now key.now }
     {
-        self.keys.contains(&key)
+        is_one_of(key, &self.few) || self.more.contains(&key)
     }
 
     /// The keys of some entries. Fails with `AllocError` for want of memory.

@@ -45,7 +45,9 @@ AppendsFront-part {X} f parts i d a b c h p w =
     let more : take (i + 1) parts ≡ take i parts ++ x ∷ [] = take_more parts i d h in
     let whole : parts ≡ (take i parts ++ x ∷ []) ++ drop (i + 1) parts = sym (take-append-drop (i + 1) parts) ∙ ap (λ l. l ++ drop (i + 1) parts) more in
     let split : flat_map f parts ≡ (flat_map f (take i parts) ++ f x) ++ flat_map f (drop (i + 1) parts) =
-    ap (flat_map f) whole ∙ flat_map-append f (take i parts ++ x ∷ []) (drop (i + 1) parts) ∙ ap (λ l. l ++ flat_map f (drop (i + 1) parts)) (flat_map-append f (take i parts) (x ∷ []) ∙ ap (λ l. flat_map f (take i parts) ++ l) (append-nil (f x))) in
+    ap (flat_map f) whole ∙ flat_map-append f (take i parts ++ x ∷ []) (drop (i + 1) parts)
+    ∙ ap (λ l. l ++ flat_map f (drop (i + 1) parts))
+    (flat_map-append f (take i parts) (x ∷ []) ∙ ap (λ l. flat_map f (take i parts) ++ l) (append-nil (f x))) in
     subst (AppendsFront a c) (sym split) (AppendsFront-wider a c (flat_map f (take i parts) ++ f x) _ (AppendsFront-after a b c (flat_map f (take i parts)) (f x) p w))
 
 -- the same for a map
@@ -55,12 +57,14 @@ AppendsFront-item f xs i d a b c h p w =
     subst (AppendsFront a c) (flat_map_single f xs) (AppendsFront-part (λ y. f y ∷ []) xs i d a b c h (subst (Appends a b) (sym (flat_map_single f (take i xs))) p) w)
 
 -- what a loop has appended that writes a part for each element of a list, where x is the next element
-module _ {X : Type 0} (f : X → List ℕ) (parts : List X) (i : ℕ) (x : X) (within : i < length parts) (read : x ≡ get_or parts i x) (a b c : Option (List ℕ)) (so_far : Appends a b (flat_map f (take i parts))) where
+module _ {X : Type 0} (f : X → List ℕ) (parts : List X) (i : ℕ) (x : X) (within : i < length parts) (read : x ≡ get_or parts i x)
+    (a b c : Option (List ℕ)) (so_far : Appends a b (flat_map f (take i parts))) where
   -- one part more
   pub Appends-next : Appends b c (f x) → Appends a c (flat_map f (take (i + 1) parts))
   Appends-next more =
       let whole : flat_map f (take (i + 1) parts) ≡ flat_map f (take i parts) ++ f x =
-      ap (flat_map f) (take_more parts i x within ∙ ap (λ y. take i parts ++ y ∷ []) (sym read)) ∙ flat_map-append f (take i parts) (x ∷ []) ∙ ap (λ l. flat_map f (take i parts) ++ l) (append-nil (f x)) in
+      ap (flat_map f) (take_more parts i x within ∙ ap (λ y. take i parts ++ y ∷ []) (sym read)) ∙ flat_map-append f (take i parts) (x ∷ [])
+      ∙ ap (λ l. flat_map f (take i parts) ++ l) (append-nil (f x)) in
       subst (Appends a c) (sym whole) (Appends-trans a b c (flat_map f (take i parts)) (f x) so_far more)
 
   -- a front of the next part is one of them all

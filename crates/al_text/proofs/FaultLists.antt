@@ -14,17 +14,28 @@ use Rattle.al_text.specs.FaultLists.{fault_cmp, fault_list, kind_place, place_in
 use Rattle.al_text.specs.declared.codes.Code.{Code}
 use Rattle.al_text.specs.declared.codes.Code.TheVariants as C
 use Rattle.al_text.specs.declared.codes.YamlCode.{YamlCode}
-use Rattle.al_text.specs.declared.codes.YamlCode.TheVariants.{NotUtf8, ControlCharacter, TabInIndentation, WrongIndentation, UnclosedQuote, UnclosedFlow, AnchorOrAlias, Tag, ExplicitKey, Directive, SecondDocument, WrongEscape, UnexpectedCharacter, NestingTooDeep, TooManyNodes, WrongBlockHeader, WrongKey, UnknownAlias}
+use Rattle.al_text.specs.declared.codes.YamlCode.TheVariants.{NotUtf8, ControlCharacter, TabInIndentation, WrongIndentation, UnclosedQuote}
+use Rattle.al_text.specs.declared.codes.YamlCode.TheVariants.{UnclosedFlow, AnchorOrAlias, Tag, ExplicitKey, Directive, SecondDocument}
+use Rattle.al_text.specs.declared.codes.YamlCode.TheVariants.{WrongEscape, UnexpectedCharacter, NestingTooDeep, TooManyNodes}
+use Rattle.al_text.specs.declared.codes.YamlCode.TheVariants.{WrongBlockHeader, WrongKey, UnknownAlias}
 use Rattle.al_text.specs.declared.codes.KeyCode.{KeyCode}
 use Rattle.al_text.specs.declared.codes.KeyCode.TheVariants.{Unexpected, Missing, Repeated, WrongKind, WrongType, NotBeside, EmptyFile}
 use Rattle.al_text.specs.declared.codes.RuleCode.{RuleCode}
-use Rattle.al_text.specs.declared.codes.RuleCode.TheVariants.{UnknownEvent, UnknownActivity, WrongPattern, WrongSchedule, ScheduleTooOften, WrongId, RepeatedId, UndefinedJob, NeedsCycle, WrongMatrix, UnknownMatrixRow, UnknownShell, UnknownPermission, WrongPermission, WrongVariable, PasswordNotExpression, DeprecatedCommand, AlwaysTrue, UnknownInputType, UnknownUsing, MissingShell, MissingOutputValue}
+use Rattle.al_text.specs.declared.codes.RuleCode.TheVariants.{UnknownEvent, UnknownActivity, WrongPattern, WrongSchedule, ScheduleTooOften}
+use Rattle.al_text.specs.declared.codes.RuleCode.TheVariants.{WrongId, RepeatedId, UndefinedJob, NeedsCycle, WrongMatrix, UnknownMatrixRow}
+use Rattle.al_text.specs.declared.codes.RuleCode.TheVariants.{UnknownShell, UnknownPermission, WrongPermission, WrongVariable}
+use Rattle.al_text.specs.declared.codes.RuleCode.TheVariants.{PasswordNotExpression, DeprecatedCommand, AlwaysTrue, UnknownInputType}
+use Rattle.al_text.specs.declared.codes.RuleCode.TheVariants.{UnknownUsing, MissingShell, MissingOutputValue}
 use Rattle.al_text.specs.declared.codes.CallCode.{CallCode}
 use Rattle.al_text.specs.declared.codes.CallCode.TheVariants.{NoWorkflow, UndefinedInput, MissingInput, WrongInput, UndefinedSecret, MissingSecret, WrongUses, NotCallable, LeadsBack}
 use Rattle.al_text.specs.declared.codes.Caller.{Caller}
 use Rattle.al_text.specs.declared.codes.Caller.TheVariants as caller
 use Rattle.al_text.specs.declared.codes.ExpressionCode.{ExpressionCode}
-use Rattle.al_text.specs.declared.codes.ExpressionCode.TheVariants.{BadCharacter, UnclosedText, UnexpectedToken, EndsEarly, TooLong, TooDeep, UndefinedContext, UnavailableContext, UndefinedFunction, UnavailableFunction, ArgumentCount, ArgumentType, UndefinedProperty, NotIndexable, NotComparable, WrongPlaceholder, UnusedArgument, NotText, Untrusted, UnclosedChunk}
+use Rattle.al_text.specs.declared.codes.ExpressionCode.TheVariants.{BadCharacter, UnclosedText, UnexpectedToken, EndsEarly, TooLong}
+use Rattle.al_text.specs.declared.codes.ExpressionCode.TheVariants.{TooDeep, UndefinedContext, UnavailableContext, UndefinedFunction}
+use Rattle.al_text.specs.declared.codes.ExpressionCode.TheVariants.{UnavailableFunction, ArgumentCount, ArgumentType, UndefinedProperty}
+use Rattle.al_text.specs.declared.codes.ExpressionCode.TheVariants.{NotIndexable, NotComparable, WrongPlaceholder, UnusedArgument, NotText}
+use Rattle.al_text.specs.declared.codes.ExpressionCode.TheVariants.{Untrusted, UnclosedChunk}
 use Rattle.al_text.specs.declared.faults.Fault.{Fault}
 use Rattle.al_text.specs.contracts.codes.YamlCodeOrd.TheImpl as yaml
 use Rattle.al_text.specs.contracts.codes.KeyCodeOrd.TheImpl as key
@@ -144,7 +155,9 @@ fault_cmp_total =
 
 -- the code at each place
 yaml_at : ℕ → YamlCode
-yaml_at n = get_or (NotUtf8 ∷ ControlCharacter ∷ TabInIndentation ∷ WrongIndentation ∷ UnclosedQuote ∷ UnclosedFlow ∷ AnchorOrAlias ∷ Tag ∷ ExplicitKey ∷ Directive ∷ SecondDocument ∷ WrongEscape ∷ UnexpectedCharacter ∷ NestingTooDeep ∷ TooManyNodes ∷ WrongBlockHeader ∷ WrongKey ∷ UnknownAlias ∷ []) n NotUtf8
+yaml_at n = get_or (NotUtf8 ∷ ControlCharacter ∷ TabInIndentation ∷ WrongIndentation ∷ UnclosedQuote ∷ UnclosedFlow ∷ AnchorOrAlias ∷ Tag
+    ∷ ExplicitKey ∷ Directive ∷ SecondDocument ∷ WrongEscape ∷ UnexpectedCharacter ∷ NestingTooDeep ∷ TooManyNodes ∷ WrongBlockHeader
+    ∷ WrongKey ∷ UnknownAlias ∷ []) n NotUtf8
 
 yaml_back : (a : YamlCode) → yaml_at (yaml_place a) ≡ a
 unfolding yaml_at
@@ -160,7 +173,10 @@ key_back Unexpected = refl
 key_back _ = refl
 
 rule_at : ℕ → RuleCode
-rule_at n = get_or (UnknownEvent ∷ UnknownActivity ∷ WrongPattern ∷ WrongSchedule ∷ ScheduleTooOften ∷ WrongId ∷ RepeatedId ∷ UndefinedJob ∷ NeedsCycle ∷ WrongMatrix ∷ UnknownMatrixRow ∷ UnknownShell ∷ UnknownPermission ∷ WrongPermission ∷ WrongVariable ∷ PasswordNotExpression ∷ DeprecatedCommand ∷ AlwaysTrue ∷ UnknownInputType ∷ UnknownUsing ∷ MissingShell ∷ MissingOutputValue ∷ []) n UnknownEvent
+rule_at n = get_or (UnknownEvent ∷ UnknownActivity ∷ WrongPattern ∷ WrongSchedule ∷ ScheduleTooOften ∷ WrongId ∷ RepeatedId ∷ UndefinedJob
+    ∷ NeedsCycle ∷ WrongMatrix ∷ UnknownMatrixRow ∷ UnknownShell ∷ UnknownPermission ∷ WrongPermission ∷ WrongVariable
+    ∷ PasswordNotExpression ∷ DeprecatedCommand ∷ AlwaysTrue ∷ UnknownInputType ∷ UnknownUsing ∷ MissingShell ∷ MissingOutputValue ∷ []) n
+    UnknownEvent
 
 rule_back : (a : RuleCode) → rule_at (rule_place a) ≡ a
 unfolding rule_at
@@ -168,7 +184,9 @@ rule_back UnknownEvent = refl
 rule_back _ = refl
 
 expression_at : ℕ → ExpressionCode
-expression_at n = get_or (BadCharacter ∷ UnclosedText ∷ UnexpectedToken ∷ EndsEarly ∷ TooLong ∷ TooDeep ∷ UndefinedContext ∷ UnavailableContext ∷ UndefinedFunction ∷ UnavailableFunction ∷ ArgumentCount ∷ ArgumentType ∷ UndefinedProperty ∷ NotIndexable ∷ NotComparable ∷ WrongPlaceholder ∷ UnusedArgument ∷ NotText ∷ Untrusted ∷ UnclosedChunk ∷ []) n BadCharacter
+expression_at n = get_or (BadCharacter ∷ UnclosedText ∷ UnexpectedToken ∷ EndsEarly ∷ TooLong ∷ TooDeep ∷ UndefinedContext
+    ∷ UnavailableContext ∷ UndefinedFunction ∷ UnavailableFunction ∷ ArgumentCount ∷ ArgumentType ∷ UndefinedProperty ∷ NotIndexable
+    ∷ NotComparable ∷ WrongPlaceholder ∷ UnusedArgument ∷ NotText ∷ Untrusted ∷ UnclosedChunk ∷ []) n BadCharacter
 
 expression_back : (a : ExpressionCode) → expression_at (expression_place a) ≡ a
 unfolding expression_at
@@ -176,7 +194,12 @@ expression_back BadCharacter = refl
 expression_back _ = refl
 
 call_at : ℕ → Code
-call_at n = get_or (C.Call NoWorkflow caller.Job ∷ C.Call NoWorkflow caller.Step ∷ C.Call UndefinedInput caller.Job ∷ C.Call UndefinedInput caller.Step ∷ C.Call MissingInput caller.Job ∷ C.Call MissingInput caller.Step ∷ C.Call WrongInput caller.Job ∷ C.Call WrongInput caller.Step ∷ C.Call UndefinedSecret caller.Job ∷ C.Call UndefinedSecret caller.Step ∷ C.Call MissingSecret caller.Job ∷ C.Call MissingSecret caller.Step ∷ C.Call WrongUses caller.Job ∷ C.Call WrongUses caller.Step ∷ C.Call NotCallable caller.Job ∷ C.Call NotCallable caller.Step ∷ C.Call LeadsBack caller.Job ∷ C.Call LeadsBack caller.Step ∷ []) n (C.Call NoWorkflow caller.Job)
+call_at n = get_or (C.Call NoWorkflow caller.Job ∷ C.Call NoWorkflow caller.Step ∷ C.Call UndefinedInput caller.Job
+    ∷ C.Call UndefinedInput caller.Step ∷ C.Call MissingInput caller.Job ∷ C.Call MissingInput caller.Step ∷ C.Call WrongInput caller.Job
+    ∷ C.Call WrongInput caller.Step ∷ C.Call UndefinedSecret caller.Job ∷ C.Call UndefinedSecret caller.Step
+    ∷ C.Call MissingSecret caller.Job ∷ C.Call MissingSecret caller.Step ∷ C.Call WrongUses caller.Job ∷ C.Call WrongUses caller.Step
+    ∷ C.Call NotCallable caller.Job ∷ C.Call NotCallable caller.Step ∷ C.Call LeadsBack caller.Job ∷ C.Call LeadsBack caller.Step ∷ []) n
+    (C.Call NoWorkflow caller.Job)
 
 job_back : (a : CallCode) → call_at (call_place a caller.Job) ≡ C.Call a caller.Job
 unfolding call_at

@@ -101,7 +101,10 @@ module _ {X : Type 0} {R : X → X → Ordering} (o : IsTotalOrder R) (same : Is
   one_list (x ∷ xs) [] s t f g = absurd (f x (inl refl))
   one_list (x ∷ xs) (y ∷ ys) s t f g =
       let first : x ≡ y =
-      ⊎_elim sym (λ in_ys. ⊎_elim (λ e. e) (λ in_xs. absurd (not_below_itself o x (o.trans x y x (all_has (λ z. R x z ≡ Less) xs y s.0 in_xs) (all_has (λ z. R y z ≡ Less) ys x t.0 in_ys)))) (g y (inl refl))) (f x (inl refl)) in
+      ⊎_elim sym (λ in_ys. ⊎_elim (λ e. e)
+      (λ in_xs. absurd (not_below_itself o x
+      (o.trans x y x (all_has (λ z. R x z ≡ Less) xs y s.0 in_xs) (all_has (λ z. R y z ≡ Less) ys x t.0 in_ys)))) (g y (inl refl)))
+      (f x (inl refl)) in
       let into : (z : X) → Has xs z → Has ys z = λ z h.
       ⊎_elim (λ e. absurd (not_below_itself o x (subst (λ w. R x w ≡ Less) (sym (first ∙ e)) (all_has (λ w. R x w ≡ Less) xs z s.0 h)))) (λ l. l) (f z (inr h)) in
       let back : (z : X) → Has ys z → Has xs z = λ z h.

@@ -8,8 +8,10 @@ use Rattle.al_types.specs.declared.types.Ty as code
 use Rattle.al_types.specs.declared.types.Object.{Object, Object', out-Object}
 use Rattle.al_types.specs.declared.types.Form.TheVariants as form
 use Rattle.al_types.specs.Names.{same_name}
-use Rattle.al_types.specs.Types.{Type', Any, Null, Number, Bool', String, ArrayOf, ObjectOf, Fields, NoField, FieldThen, field_at, has_field, fuse_type, fuse_fields, missing_fields, join_fields, with_other, fuse_rest}
-use Rattle.al_types.specs.TypeViews.{ty_of, object_of, rest_of, form_of, fields_of, fields_of_type, missing_list, fuse_with_form}
+use Rattle.al_types.specs.Types.{Type', Any, Null, Number, Bool', String, ArrayOf, ObjectOf, Fields, NoField, FieldThen, field_at}
+use Rattle.al_types.specs.Types.{has_field, fuse_type, fuse_fields, missing_fields, join_fields, with_other, fuse_rest}
+use Rattle.al_types.specs.TypeViews.{ty_of, object_of, fields_of}
+use Rattle.al_types.specs.Private.TypeParts.{rest_of, form_of, fields_of_type, missing_list, fuse_with_form}
 use Rattle.al_types.proofs.TypeFields.{object_fields}
 
 pub fuse_null : (t : Type') → fuse_type Null t ≡ fuse_with_form form.Null (form_of t)
@@ -100,7 +102,10 @@ object_with_other (Object' s f r) code.Bool h = refl
 object_with_other (Object' s f r) code.String h = refl
 
 -- two objects by their fields as lists
-pub fuse_objects : (x y : Object) → fuse_type (object_of x) (object_of y) ≡ ObjectOf (join_fields (fuse_fields (fields_of_type (object_of x)) (fields_of_type (object_of y))) (missing_fields (fields_of_type (object_of x)) (fields_of_type (object_of y)))) (fuse_rest (rest_of (out-Object x).rest) (rest_of (out-Object y).rest))
+pub fuse_objects : (x y : Object) → fuse_type (object_of x) (object_of y)
+    ≡ ObjectOf (join_fields (fuse_fields (fields_of_type (object_of x)) (fields_of_type (object_of y)))
+    (missing_fields (fields_of_type (object_of x)) (fields_of_type (object_of y))))
+    (fuse_rest (rest_of (out-Object x).rest) (rest_of (out-Object y).rest))
 fuse_objects x y = rw (object_fields x, object_fields y) refl
 
 pub some_mapped : {X Y : Type 0} (f : X → Y) (o : Option X) → is_some (option_map f o) ≡ is_some o

@@ -5,9 +5,10 @@ use Rattle.std.specs.Prelude.{string_bytes}
 use Rattle.al_types.specs.declared.types.Ty.{Ty}
 use Rattle.al_types.specs.declared.types.Field.{Field}
 use Rattle.al_types.specs.declared.types.Object.{Object, Object', Object-F, out-Object, roll-Object, out-roll-Object}
-use Rattle.al_types.specs.declared.types.Ty.TheBlock.{Row_of-Field, end_of-Field, more_of-Field, Held-Object-rest, None', Some', items-the_row-Field, items_shown-the_row-Field-0}
+use Rattle.al_types.specs.declared.types.Ty.TheBlock.{Row_of-Field, end_of-Field, more_of-Field, None', Some', items-the_row-Field, items_shown-the_row-Field-0}
 use Rattle.al_types.specs.Types.{ObjectOf, FieldThen, Strict, Loose}
-use Rattle.al_types.specs.TypeViews.{ty_of, object_of, fields_in, rest_of, rest_of_type, field_of, fields_of}
+use Rattle.al_types.specs.TypeViews.{ty_of, object_of, fields_in, fields_of}
+use Rattle.al_types.specs.Private.TypeParts.{rest_of, rest_of_type, field_of}
 
 pub rows : (n : _) (k : Row_of-Field n) → fields_in k ≡ fields_of (map field_of (items-the_row-Field n k))
 rows _ end_of-Field = refl

@@ -7,7 +7,8 @@ use Rattle.al_types.specs.declared.types.Ty as code
 use Rattle.al_types.specs.declared.types.Object.{Object, Object'}
 use Rattle.al_types.specs.declared.types.Form.TheVariants as form
 use Rattle.al_types.specs.Types.{Type', Any, Null, Number, Bool', String, ArrayOf, ObjectOf, assignable_type, is_collection, is_plain}
-use Rattle.al_types.specs.TypeViews.{ty_of, object_of, form_of, assignable_form, is_collection_form, is_plain_form}
+use Rattle.al_types.specs.TypeViews.{ty_of, object_of}
+use Rattle.al_types.specs.Private.TypeParts.{form_of, assignable_form, is_collection_form, is_plain_form}
 
 pub form_object : (o : Object) → form_of (object_of o) ≡ form.Object
 form_object (Object' s f r) = refl

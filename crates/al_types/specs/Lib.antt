@@ -3,3 +3,4 @@ pub mod Types
 pub mod TypeViews
 pub mod Signatures
 pub mod Scopes
+pub mod Private

@@ -3,7 +3,8 @@
 ghost use Rattle.std.specs.Prelude.{◌≡◌, ◌++◌, map, IfOk, OnOk};
 ghost use Rattle.al_types.specs.Types.{ArrayOf, fuse_type};
 ghost use Rattle.al_types.specs.Types as types;
-ghost use Rattle.al_types.specs.TypeViews.{ty_of, object_of, rest_of, field_of, fields_of, fields_of_type, missing_list, fuse_with_form};
+ghost use Rattle.al_types.specs.TypeViews.{ty_of, object_of, fields_of};
+ghost use Rattle.al_types.specs.Private.TypeParts.{rest_of, field_of, fields_of_type, missing_list, fuse_with_form};
 
 use crate::types::{Field, Form, Object, Ty, copy, copy_rest};
 use std::alloc::{AllocError, Global};

@@ -2,7 +2,8 @@
 
 ghost use Rattle.std.specs.Prelude.{◌≡◌};
 ghost use Rattle.al_types.specs.Types.{assignable_type};
-ghost use Rattle.al_types.specs.TypeViews.{ty_of, assignable_form};
+ghost use Rattle.al_types.specs.TypeViews.{ty_of};
+ghost use Rattle.al_types.specs.Private.TypeParts.{assignable_form};
 
 use crate::types::{Form, Ty};
 

@@ -2,7 +2,8 @@
 
 ghost use Rattle.std.specs.Prelude.{◌≡◌, IfOk, option_map};
 ghost use Rattle.al_types.specs.Types.{field_at, field_or_rest, has_field, is_collection, is_plain};
-ghost use Rattle.al_types.specs.TypeViews.{ty_of, object_of, rest_of, form_of, fields_of_type, rest_of_type};
+ghost use Rattle.al_types.specs.TypeViews.{ty_of, object_of};
+ghost use Rattle.al_types.specs.Private.TypeParts.{rest_of, form_of, fields_of_type, rest_of_type};
 
 use crate::names::is_same_name;
 use std::alloc::{AllocError, Global};

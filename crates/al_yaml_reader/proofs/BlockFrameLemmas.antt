@@ -1,6 +1,6 @@
 -- The stack of open block collections: what each step keeps.
 use Rattle.std.proofs.Common.{◌≡◌, ℕ, suc, ◌+◌, ◌<◌, ◌≤◌, List, [], ◌∷◌, length, refl, sym, ap, ◌∙◌, arith, Option, Some, None, Ok, Err}
-use Rattle.al_scalar.specs.Places.{lines_at}
+use Rattle.al_scalar.specs.Private.Places.{lines_at}
 use Rattle.al_scalar.specs.Taken.{Fault}
 use Rattle.al_yaml.specs.Node.{Node}
 use Rattle.al_yaml.specs.Reading.{Reading, Part}
@@ -64,7 +64,8 @@ pub record BehindNode (bytes : List ℕ) (depth : ℕ) (whole : Answer (Part Nod
   pub same : around depth bound fs rest (Ok (part_of bytes p, n)) ≡ whole
 
 -- A node was read that a collection waits for.
-pub record BlockWaits (bytes : List ℕ) (depth : ℕ) (whole : Answer (Part Node)) (fs : List BlockFrame) (n : State) (start column : ℕ) (mark : Option Mark) (w : BlockWaiting) (p : code.Part) : Type 0 where
+pub record BlockWaits (bytes : List ℕ) (depth : ℕ) (whole : Answer (Part Node)) (fs : List BlockFrame) (n : State) (start column : ℕ)
+    (mark : Option Mark) (w : BlockWaiting) (p : code.Part) : Type 0 where
   pub bound : ℕ
   pub turns : ℕ
   pub rest : List ℕ
@@ -124,7 +125,8 @@ module _ (bytes : List ℕ) (depth : ℕ) (whole : Answer (Part Node)) (fs : Lis
 
   -- the node stands behind an anchor
   pub node-anchored : (m : State) (slot' : Slot) (col to : ℕ) (own : Option ℕ)
-      → ((b : ℕ) → length bytes < suc b + at → node_now b ≡ noting (mark_of bytes own) (run m (node_reader (suc b) own slot' d col (lines_at bytes to)))) → at ≤ to → AtNode bytes depth whole fs m slot' col to own
+      → ((b : ℕ) → length bytes < suc b + at → node_now b ≡ noting (mark_of bytes own)
+      (run m (node_reader (suc b) own slot' d col (lines_at bytes to)))) → at ≤ to → AtNode bytes depth whole fs m slot' col to own
   node-anchored m slot' col to own h l =
       let reader : ℕ → Reading (Part Node) = λ i. node_reader (suc level.0) own slot' i col (lines_at bytes to) in
       record {
@@ -139,7 +141,8 @@ module _ (bytes : List ℕ) (depth : ℕ) (whole : Answer (Part Node)) (fs : Lis
 
 -- ---- a collection
 
-module _ (bytes : List ℕ) (depth : ℕ) (whole : Answer (Part Node)) (fs : List BlockFrame) (n : State) (start column : ℕ) (mark : Option Mark) (has : BlockOpen) (at d : ℕ) (deep : d ≡ depth + length fs + 1)
+module _ (bytes : List ℕ) (depth : ℕ) (whole : Answer (Part Node)) (fs : List BlockFrame) (n : State) (start column : ℕ)
+    (mark : Option Mark) (has : BlockOpen) (at d : ℕ) (deep : d ≡ depth + length fs + 1)
     (k : InBlock bytes depth whole fs n start column mark has at) (here : at ≤ length bytes) where
   abbrev pub block_now : ℕ → ℕ → Reading (Part Node)
   block_now b t = block_rest (suc t) b d start column has (lines_at bytes at)
@@ -174,11 +177,14 @@ module _ (bytes : List ℕ) (depth : ℕ) (whole : Answer (Part Node)) (fs : Lis
           room = omega (arith, k.room, l);
           enough = (omega (arith, k.many, some.1, l), later (length bytes) at i fs k.rest (omega (arith, l)) k.enough);
           same = ap (λ j. around depth k.bound (frame_now ∷ fs) (some.0 ∷ k.rest) (run m (block_node k.bound slot j col (lines_at bytes i)))) deeper
-              ∙ ap (λ j. around depth (suc k.bound) fs k.rest (noting mark (answered (run m (block_node k.bound slot d col (lines_at bytes i))) (block_waits some.0 k.bound j start column w)))) (sym deep)
+              ∙ ap (λ j. around depth (suc k.bound) fs k.rest
+              (noting mark (answered (run m (block_node k.bound slot d col (lines_at bytes i)))
+              (block_waits some.0 k.bound j start column w)))) (sym deep)
               ∙ ap (λ o. around depth (suc k.bound) fs k.rest (noting mark o)) (sym (h k.bound some.0)) ∙ block-same;
         }
 
-    pub block-found : (p : code.Part) → ((b t : ℕ) → run n (block_now b t) ≡ run m (block_waits t b d start column w (part_of bytes p))) → at < p.next → BehindNode bytes depth whole (frame_now ∷ fs) m p
+    pub block-found : (p : code.Part) → ((b t : ℕ) → run n (block_now b t) ≡ run m (block_waits t b d start column w (part_of bytes p)))
+        → at < p.next → BehindNode bytes depth whole (frame_now ∷ fs) m p
     block-found p h l = record {
       bound = k.bound;
       rest = some.0 ∷ k.rest;
@@ -191,7 +197,8 @@ module _ (bytes : List ℕ) (depth : ℕ) (whole : Answer (Part Node)) (fs : Lis
 -- ---- behind a node
 
 module _ (bytes : List ℕ) (depth : ℕ) (whole : Answer (Part Node)) (n : State) (p : code.Part) where
-  pops : (f : BlockFrame) (fs : List BlockFrame) (bound : ℕ) (rest : List ℕ) → length bytes < bound + p.next → EachEnough (length bytes) p.next (f ∷ fs) rest → around depth bound (f ∷ fs) rest (Ok (part_of bytes p, n)) ≡ whole
+  pops : (f : BlockFrame) (fs : List BlockFrame) (bound : ℕ) (rest : List ℕ) → length bytes < bound + p.next
+      → EachEnough (length bytes) p.next (f ∷ fs) rest → around depth bound (f ∷ fs) rest (Ok (part_of bytes p, n)) ≡ whole
       → BlockWaits bytes depth whole fs n f.start f.column f.mark f.waiting p
   pops f fs bound [] r e h = absurd e
   pops f fs bound (t ∷ ts) r e h = record { bound = bound; turns = t; rest = ts; room = r; many = e.0; enough = e.1; same = h }
@@ -202,7 +209,8 @@ module _ (bytes : List ℕ) (depth : ℕ) (whole : Answer (Part Node)) (n : Stat
   pub node-ends : BehindNode bytes depth whole [] n p → whole ≡ Ok (part_of bytes p, n)
   node-ends k = sym k.same
 
-module _ (bytes : List ℕ) (depth : ℕ) (whole : Answer (Part Node)) (fs : List BlockFrame) (n : State) (start column : ℕ) (mark : Option Mark) (w : BlockWaiting) (p : code.Part) (d : ℕ) (deep : d ≡ depth + length fs + 1)
+module _ (bytes : List ℕ) (depth : ℕ) (whole : Answer (Part Node)) (fs : List BlockFrame) (n : State) (start column : ℕ)
+    (mark : Option Mark) (w : BlockWaiting) (p : code.Part) (d : ℕ) (deep : d ≡ depth + length fs + 1)
     (k : BlockWaits bytes depth whole fs n start column mark w p) where
   abbrev pub then_block : ℕ → ℕ → Reading (Part Node)
   then_block b t = block_waits t b d start column w (part_of bytes p)
@@ -223,7 +231,8 @@ module _ (bytes : List ℕ) (depth : ℕ) (whole : Answer (Part Node)) (fs : Lis
   block_waits-stops stop.Memory h = tt
 
   pub block_waits-inside : (m : State) (s c : ℕ) (has : BlockOpen) (at : ℕ) → s ≡ start → c ≡ column
-      → ((b t : ℕ) → length bytes < suc b + p.next → run n (then_block b t) ≡ run m (block_rest t b d start column has (lines_at bytes at))) → p.next ≤ at → InBlock bytes depth whole fs m s c mark has at
+      → ((b t : ℕ) → length bytes < suc b + p.next → run n (then_block b t) ≡ run m (block_rest t b d start column has (lines_at bytes at)))
+      → p.next ≤ at → InBlock bytes depth whole fs m s c mark has at
   block_waits-inside m s c has at e g h l = record {
     bound = k.bound;
     turns = k.turns;
@@ -237,7 +246,9 @@ module _ (bytes : List ℕ) (depth : ℕ) (whole : Answer (Part Node)) (fs : Lis
         ∙ ap (λ o. around depth (suc k.bound) fs k.rest (noting mark o)) (sym (h k.bound k.turns enough)) ∙ then-same;
   }
 
-  pub block_waits-behind : (m : State) (q : code.Part) → ((b t : ℕ) → length bytes < suc b + p.next → noting mark (run n (then_block b t)) ≡ Ok (part_of bytes q, m)) → p.next ≤ q.next → BehindNode bytes depth whole fs m q
+  pub block_waits-behind : (m : State) (q : code.Part)
+      → ((b t : ℕ) → length bytes < suc b + p.next → noting mark (run n (then_block b t)) ≡ Ok (part_of bytes q, m)) → p.next ≤ q.next
+      → BehindNode bytes depth whole fs m q
   block_waits-behind m q h l = record {
     bound = suc k.bound;
     rest = k.rest;

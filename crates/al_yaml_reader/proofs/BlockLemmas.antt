@@ -1,12 +1,14 @@
 -- Keys of block mappings and refused lines against offsets.
-use Rattle.std.proofs.Common.{◌≡◌, ℕ, zero, suc, ◌+◌, ◌-◌, ◌<◌, ◌≤◌, List, [], ◌∷◌, length, take, slice_index, refl, sym, ap, ◌∙◌, arith, true, false, ◌||◌, cond, Option, Some, None, Result, Ok, Err, IfOk}
+use Rattle.std.proofs.Common.{◌≡◌, ℕ, zero, suc, ◌+◌, ◌-◌, ◌<◌, ◌≤◌, List, [], ◌∷◌, length, take, slice_index, refl, sym, ap, ◌∙◌, arith}
+use Rattle.std.proofs.Common.{true, false, ◌||◌, cond, Option, Some, None, Result, Ok, Err, IfOk}
 use Rattle.std.proofs.lemmas.List.{get_or-take}
 use Rattle.std.proofs.lemmas.List.{length-take}
 use Rattle.al_text.specs.declared.codes.YamlCode.{YamlCode}
 use Rattle.al_text.specs.declared.codes.YamlCode.TheVariants as yaml
-use Rattle.al_scalar.specs.Contract.{read_of}
+use Rattle.al_scalar.specs.Private.Contract.{read_of}
 use Rattle.al_scalar.specs.Line.{Cell, Line, start, with_cell}
-use Rattle.al_scalar.specs.Places.{lines_at, first_text, first_end, text_at, IsLineEnd}
+use Rattle.al_scalar.specs.Places.{first_text, first_end}
+use Rattle.al_scalar.specs.Private.Places.{lines_at, text_at, IsLineEnd}
 use Rattle.al_scalar.specs.Plain.{block}
 use Rattle.al_scalar.specs.Scalar as value
 use Rattle.al_scalar.specs.Scalar.{scalar_at}
@@ -20,7 +22,8 @@ use Rattle.al_yaml.specs.Flow.{CollectionReader}
 use Rattle.al_yaml.specs.Blocks.{scalar_left, scalar_node_at}
 use Rattle.al_yaml.specs.View.{view}
 use Rattle.al_yaml_reader.specs.declared.part.Part as code
-use Rattle.al_yaml.specs.Keys.{Key, one_line, with_lines, read_with_lines, plain_on_line, key_scalar, behind_colon, key_from, key_at, no_entry, entry_key, found_key, property_fault, refused_code, is_block_start}
+use Rattle.al_yaml.specs.Keys.{Key, one_line, with_lines, read_with_lines, plain_on_line, key_scalar, behind_colon, key_from, key_at}
+use Rattle.al_yaml.specs.Keys.{no_entry, entry_key, found_key, property_fault, refused_code, is_block_start}
 use Rattle.al_yaml_reader.specs.Private.Places.{IsReadInside}
 use Rattle.al_yaml_reader.specs.Private.Reads.{State, run, counted, Stops, Refuses, Answers, part_of}
 use Rattle.al_yaml_reader.specs.declared.faults.ReadError.{ReadError}
@@ -60,7 +63,8 @@ module _ (bytes : List ℕ) (e : ℕ) (inside : e ≤ length bytes) (ended : IsL
   last-line : lines_at (take e bytes) e ≡ one_line (lines_at bytes e)
   last-line =
       let line : List Cell → ℕ → Line = λ t i. record { text = t; end = i; last = true } in
-      lines-at_end (take e bytes) e (sym short_length) ∙ ap (λ t. line t e ∷ []) (sym (text-line_end bytes e inside ended)) ∙ ap (λ i. line (text_at bytes e) i ∷ []) (sym (end-here bytes e inside ended))
+      lines-at_end (take e bytes) e (sym short_length) ∙ ap (λ t. line t e ∷ []) (sym (text-line_end bytes e inside ended))
+      ∙ ap (λ i. line (text_at bytes e) i ∷ []) (sym (end-here bytes e inside ended))
       ∙ sym (one_of (lines_at bytes e) (lines_at-some bytes e))
 
   module _ (i : ℕ) (before : i < e) (line : first_end (lines_at bytes i) ≡ e) where
@@ -79,7 +83,8 @@ module _ (bytes : List ℕ) (e : ℕ) (inside : e ≤ length bytes) (ended : IsL
     short =
         let here = is_inside bytes i (omega arith) solid in
         let room : i < length (take e bytes) = omega (arith, short_length) in
-        lines_at-other (take e bytes) i room (λ k. here.not_feed (sym same_byte ∙ k)) (λ k. here.not_return (sym same_byte ∙ k)) ∙ ap (λ b. with_cell (b, i) (lines_at (take e bytes) (i + 1))) same_byte
+        lines_at-other (take e bytes) i room (λ k. here.not_feed (sym same_byte ∙ k)) (λ k. here.not_return (sym same_byte ∙ k))
+        ∙ ap (λ b. with_cell (b, i) (lines_at (take e bytes) (i + 1))) same_byte
 
     line_on : first_end (lines_at bytes (i + 1)) ≡ e
     line_on =
@@ -91,7 +96,8 @@ module _ (bytes : List ℕ) (e : ℕ) (inside : e ≤ length bytes) (ended : IsL
   short-lines (suc n) i h k =
       let before : i < e = omega arith in
       let next : i + 1 + n ≡ e = omega arith in
-      short i before k ∙ ap (with_cell (slice_index bytes i, i)) (short-lines n (i + 1) next (line_on i before k)) ∙ sym (one_line-with_cell (slice_index bytes i, i) (lines_at bytes (i + 1))) ∙ ap one_line (sym (whole i before k))
+      short i before k ∙ ap (with_cell (slice_index bytes i, i)) (short-lines n (i + 1) next (line_on i before k))
+      ∙ sym (one_line-with_cell (slice_index bytes i, i) (lines_at bytes (i + 1))) ∙ ap one_line (sym (whole i before k))
 
   lines-on : (rest : List Line) (n i j : ℕ) → i + n ≡ j → j ≤ e → first_end (lines_at bytes i) ≡ e → with_lines rest (lines_at bytes i) ≡ with_lines rest (lines_at bytes j)
   lines-on rest zero i j h o k = let here : i ≡ j = omega arith in rw here refl
@@ -112,12 +118,14 @@ module _ (bytes : List ℕ) (e : ℕ) (inside : e ≤ length bytes) (ended : IsL
         let same : first_end (lines_at bytes next) ≡ e = omega (arith, one, two, here, line) in
         let gap : next + (e - next) ≡ e = omega arith in
         let step : at + (next - at) ≡ next = omega arith in
-        ap (λ r. with_lines r (lines_at bytes at)) (short-lines (e - next) next gap same) ∙ lines-on (one_line (lines_at bytes next)) (next - at) at next step k line ∙ with_lines-own (lines_at bytes next)
+        ap (λ r. with_lines r (lines_at bytes at)) (short-lines (e - next) next gap same)
+        ∙ lines-on (one_line (lines_at bytes next)) (next - at) at next step k line ∙ with_lines-own (lines_at bytes next)
 
     plain_at : plain_on_line (lines_at bytes at) ≡ read_with_lines (lines_at bytes at) (scalar_at (block 0) (lines_at (take e bytes) at))
     plain_at = ap (λ ls. read_with_lines (lines_at bytes at) (scalar_at (block 0) ls)) (sym short_at)
 
-    pub line_read : (result : Result ScalarRead ReadError) → Answers (read_of (take e bytes)) (scalar_at (block 0) (lines_at (take e bytes) at)) result → IfOk result (λ r. IsReadInside (take e bytes) at r)
+    pub line_read : (result : Result ScalarRead ReadError) → Answers (read_of (take e bytes))
+        (scalar_at (block 0) (lines_at (take e bytes) at)) result → IfOk result (λ r. IsReadInside (take e bytes) at r)
         → Answers (read_of bytes) (plain_on_line (lines_at bytes at)) result
     line_read (Ok r) h k =
         let read : ScalarRead → List Line → value.ScalarRead = λ r left. record { scalar = r.scalar; span = r.span; left = left } in
@@ -128,7 +136,14 @@ module _ (bytes : List ℕ) (e : ℕ) (inside : e ≤ length bytes) (ended : IsL
     line_read (Err stop.Memory) h k = tt
 
     pub line_inside : (result : Result ScalarRead ReadError) → IfOk result (λ r. IsReadInside (take e bytes) at r) → IfOk result (λ r. IsReadInside bytes at r)
-    line_inside (Ok r) k = record { start = k.start; from = k.from; end = k.end; inside = omega (arith, k.inside, short_length); placed = placed-wider (length (take e bytes)) (length bytes) r.scalar r.span (omega (arith, short_length, inside)) k.placed }
+    line_inside (Ok r) k = record {
+      start = k.start;
+      from = k.from;
+      end = k.end;
+      inside = omega (arith, k.inside, short_length);
+      placed =
+          placed-wider (length (take e bytes)) (length bytes) r.scalar r.span (omega (arith, short_length, inside)) k.placed;
+    }
     line_inside (Err s) k = tt
 
 -- ---- keys
@@ -171,10 +186,12 @@ module _ (collection : CollectionReader) (depth : ℕ) (n : State) (bytes : List
     entry-property h = ap (run n) (entry-right ∙ if-true (is_property (text_at bytes at)) _ _ h) ∙ wrong yaml.UnexpectedCharacter
 
     module _ (plain : false ≡ is_property (text_at bytes at)) where
-      entry-step : true ≡ is_flow_start (text_at bytes at) → no_entry {A = Part tree.Nodes} collection depth (lines_at bytes at) ≡ (collection depth (lines_at bytes at) >>= (λ x. fails yaml.UnexpectedCharacter (start (lines_at bytes at))))
+      entry-step : true ≡ is_flow_start (text_at bytes at) → no_entry {A = Part tree.Nodes} collection depth (lines_at bytes at)
+          ≡ (collection depth (lines_at bytes at) >>= (λ x. fails yaml.UnexpectedCharacter (start (lines_at bytes at))))
       entry-step h = entry-right ∙ if-false (is_property (text_at bytes at)) _ _ plain ∙ if-true (is_flow_start (text_at bytes at)) _ _ h
 
-      pub entry-stop : true ≡ is_flow_start (text_at bytes at) → (e : ReadError) → Stops (collection depth (lines_at bytes at)) n e → Stops (no_entry {A = Part tree.Nodes} collection depth (lines_at bytes at)) n e
+      pub entry-stop : true ≡ is_flow_start (text_at bytes at) → (e : ReadError) → Stops (collection depth (lines_at bytes at)) n e
+          → Stops (no_entry {A = Part tree.Nodes} collection depth (lines_at bytes at)) n e
       entry-stop h e k = stops-same _ _ n e (entry-step h) (stops-bind (collection depth (lines_at bytes at)) (λ x. fails yaml.UnexpectedCharacter (start (lines_at bytes at))) n e k)
 
       pub entry-flow : true ≡ is_flow_start (text_at bytes at) → (m : State) (x : Part tree.Node) → run n (collection depth (lines_at bytes at)) ≡ Ok (x, m)
@@ -184,18 +201,25 @@ module _ (collection : CollectionReader) (depth : ℕ) (n : State) (bytes : List
           ∙ run-fails m yaml.UnexpectedCharacter (start (lines_at bytes at)) ∙ ap (λ i. Err (record { code = yaml.UnexpectedCharacter; at = i })) (start-at bytes at inside)
 
       module _ (block_only : false ≡ is_flow_start (text_at bytes at)) where
-        entry-quote : true ≡ is_quote (text_at bytes at) → no_entry {A = Part tree.Nodes} collection depth (lines_at bytes at) ≡ (given (scalar_at (block 0) (lines_at bytes at)) >>= (λ r. fails yaml.UnexpectedCharacter (start (lines_at bytes at))))
+        entry-quote : true ≡ is_quote (text_at bytes at) → no_entry {A = Part tree.Nodes} collection depth (lines_at bytes at)
+            ≡ (given (scalar_at (block 0) (lines_at bytes at)) >>= (λ r. fails yaml.UnexpectedCharacter (start (lines_at bytes at))))
         entry-quote h = entry-right ∙ if-false (is_property (text_at bytes at)) _ _ plain ∙ if-false (is_flow_start (text_at bytes at)) _ _ block_only ∙ if-true (is_quote (text_at bytes at)) _ _ h
 
-        pub entry-unread : true ≡ is_quote (text_at bytes at) → (e : ReadError) → Refuses (scalar_at (block 0) (lines_at bytes at)) e → Stops (no_entry {A = Part tree.Nodes} collection depth (lines_at bytes at)) n e
+        pub entry-unread : true ≡ is_quote (text_at bytes at) → (e : ReadError) → Refuses (scalar_at (block 0) (lines_at bytes at)) e
+            → Stops (no_entry {A = Part tree.Nodes} collection depth (lines_at bytes at)) n e
         entry-unread h e k = stops-same _ _ n e (entry-quote h) (stops-given (scalar_at (block 0) (lines_at bytes at)) (λ r. fails yaml.UnexpectedCharacter (start (lines_at bytes at))) n e k)
 
-        pub entry-quoted : true ≡ is_quote (text_at bytes at) → (r : value.ScalarRead) → scalar_at (block 0) (lines_at bytes at) ≡ Ok r → run n (no_entry {A = Part tree.Nodes} collection depth (lines_at bytes at)) ≡ Err (record { code = yaml.UnexpectedCharacter; at = at })
-        entry-quoted h r k = ap (run n) (entry-quote h) ∙ given-ok (scalar_at (block 0) (lines_at bytes at)) (λ r. fails yaml.UnexpectedCharacter (start (lines_at bytes at))) n r k ∙ wrong yaml.UnexpectedCharacter
+        pub entry-quoted : true ≡ is_quote (text_at bytes at) → (r : value.ScalarRead) → scalar_at (block 0) (lines_at bytes at) ≡ Ok r
+            → run n (no_entry {A = Part tree.Nodes} collection depth (lines_at bytes at))
+            ≡ Err (record { code = yaml.UnexpectedCharacter; at = at })
+        entry-quoted h r k = ap (run n) (entry-quote h) ∙ given-ok (scalar_at (block 0) (lines_at bytes at))
+            (λ r. fails yaml.UnexpectedCharacter (start (lines_at bytes at))) n r k ∙ wrong yaml.UnexpectedCharacter
 
         pub entry-other : false ≡ is_quote (text_at bytes at) → run n (no_entry {A = Part tree.Nodes} collection depth (lines_at bytes at)) ≡ Err (record { code = yaml.UnexpectedCharacter; at = at })
         entry-other h =
-            ap (run n) (entry-right ∙ if-false (is_property (text_at bytes at)) _ _ plain ∙ if-false (is_flow_start (text_at bytes at)) _ _ block_only ∙ if-false (is_quote (text_at bytes at)) _ _ h) ∙ wrong yaml.UnexpectedCharacter
+            ap (run n) (entry-right ∙ if-false (is_property (text_at bytes at)) _ _ plain
+            ∙ if-false (is_flow_start (text_at bytes at)) _ _ block_only ∙ if-false (is_quote (text_at bytes at)) _ _ h)
+            ∙ wrong yaml.UnexpectedCharacter
 
 -- ---- the key of a further entry
 
@@ -228,19 +252,25 @@ module _ (collection : CollectionReader) (depth : ℕ) (n : State) (bytes : List
         ∙ ap (λ c. Err (record { code = c; at = at })) (sym k)
 
     module _ (plain : false ≡ is_property (text_at bytes at)) where
-      pub further-dash : true ≡ (is_dash (text_at bytes at) || is_block_start (text_at bytes at)) → run n (entry_key collection depth (lines_at bytes at)) ≡ Err (record { code = yaml.UnexpectedCharacter; at = at })
+      pub further-dash : true ≡ (is_dash (text_at bytes at) || is_block_start (text_at bytes at))
+          → run n (entry_key collection depth (lines_at bytes at)) ≡ Err (record { code = yaml.UnexpectedCharacter; at = at })
       further-dash h =
-          ap (run n) (key-right ∙ if-false (is_property (text_at bytes at)) _ _ plain ∙ if-true (is_dash (text_at bytes at) || is_block_start (text_at bytes at)) _ _ h) ∙ no_key n yaml.UnexpectedCharacter
+          ap (run n) (key-right ∙ if-false (is_property (text_at bytes at)) _ _ plain
+          ∙ if-true (is_dash (text_at bytes at) || is_block_start (text_at bytes at)) _ _ h) ∙ no_key n yaml.UnexpectedCharacter
 
       module _ (no_dash : false ≡ (is_dash (text_at bytes at) || is_block_start (text_at bytes at))) where
-        key-flow : true ≡ is_flow_start (text_at bytes at) → entry_key collection depth (lines_at bytes at) ≡ (collection depth (lines_at bytes at) >>= (λ x. fails (refused_code true x.left) (start (lines_at bytes at))))
+        key-flow : true ≡ is_flow_start (text_at bytes at) → entry_key collection depth (lines_at bytes at)
+            ≡ (collection depth (lines_at bytes at) >>= (λ x. fails (refused_code true x.left) (start (lines_at bytes at))))
         key-flow h =
-            key-right ∙ if-false (is_property (text_at bytes at)) _ _ plain ∙ if-false (is_dash (text_at bytes at) || is_block_start (text_at bytes at)) _ _ no_dash ∙ if-true (is_flow_start (text_at bytes at)) _ _ h
+            key-right ∙ if-false (is_property (text_at bytes at)) _ _ plain
+            ∙ if-false (is_dash (text_at bytes at) || is_block_start (text_at bytes at)) _ _ no_dash
+            ∙ if-true (is_flow_start (text_at bytes at)) _ _ h
 
         pub further-stop : true ≡ is_flow_start (text_at bytes at) → (e : ReadError) → Stops (collection depth (lines_at bytes at)) n e → Stops (entry_key collection depth (lines_at bytes at)) n e
         further-stop h e k = stops-same _ _ n e (key-flow h) (stops-bind (collection depth (lines_at bytes at)) (λ x. fails (refused_code true x.left) (start (lines_at bytes at))) n e k)
 
-        pub further-flow : true ≡ is_flow_start (text_at bytes at) → (m : State) (x : Part tree.Node) (code : YamlCode) → run n (collection depth (lines_at bytes at)) ≡ Ok (x, m) → code ≡ refused_code true x.left
+        pub further-flow : true ≡ is_flow_start (text_at bytes at) → (m : State) (x : Part tree.Node) (code : YamlCode)
+            → run n (collection depth (lines_at bytes at)) ≡ Ok (x, m) → code ≡ refused_code true x.left
             → run n (entry_key collection depth (lines_at bytes at)) ≡ Err (record { code = code; at = at })
         further-flow h m x code k c =
             ap (run n) (key-flow h) ∙ bind-ok (collection depth (lines_at bytes at)) (λ x. fails (refused_code true x.left) (start (lines_at bytes at))) n m x k
@@ -249,7 +279,9 @@ module _ (collection : CollectionReader) (depth : ℕ) (n : State) (bytes : List
         module _ (scalar : false ≡ is_flow_start (text_at bytes at)) where
           key-scalar : entry_key collection depth (lines_at bytes at) ≡ (given (key_at (lines_at bytes at)) >>= found_key (lines_at bytes at))
           key-scalar =
-              key-right ∙ if-false (is_property (text_at bytes at)) _ _ plain ∙ if-false (is_dash (text_at bytes at) || is_block_start (text_at bytes at)) _ _ no_dash ∙ if-false (is_flow_start (text_at bytes at)) _ _ scalar
+              key-right ∙ if-false (is_property (text_at bytes at)) _ _ plain
+              ∙ if-false (is_dash (text_at bytes at) || is_block_start (text_at bytes at)) _ _ no_dash
+              ∙ if-false (is_flow_start (text_at bytes at)) _ _ scalar
 
           pub further-unread : (e : ReadError) → Refuses (key_at (lines_at bytes at)) e → Stops (entry_key collection depth (lines_at bytes at)) n e
           further-unread e h = stops-same _ _ n e key-scalar (stops-given (key_at (lines_at bytes at)) (found_key (lines_at bytes at)) n e h)
@@ -307,14 +339,16 @@ module _ (within : ℕ) (n : State) (at : ℕ) (bytes : List ℕ) (inside : at �
           line-read ∙ run-stop m (given (scalar_left (lines_at bytes at) (lines_at bytes r.next))) (λ left. gives (part (tree.scalar_node (read_of bytes r)) r.span.end left)) f
           (run-refused m (scalar_left (lines_at bytes at) (lines_at bytes r.next)) f h)
 
-      pub line-ok : (next : ℕ) (p : code.Part) → scalar_left (lines_at bytes at) (lines_at bytes r.next) ≡ Ok (lines_at bytes next) → view p.node ≡ tree.scalar r.scalar r.span → p.end ≡ r.span.end → p.next ≡ next
+      pub line-ok : (next : ℕ) (p : code.Part) → scalar_left (lines_at bytes at) (lines_at bytes r.next) ≡ Ok (lines_at bytes next)
+          → view p.node ≡ tree.scalar r.scalar r.span → p.end ≡ r.span.end → p.next ≡ next
           → run n (scalar_node_at within (lines_at bytes at)) ≡ Ok (part_of bytes p, m)
       line-ok next p h a b c =
           line-read ∙ given-ok (scalar_left (lines_at bytes at) (lines_at bytes r.next)) (λ left. gives (part (tree.scalar_node (read_of bytes r)) r.span.end left)) m (lines_at bytes next) h
           ∙ run-gives m (part (tree.scalar r.scalar r.span) r.span.end (lines_at bytes next))
           ∙ same_part (tree.scalar r.scalar r.span) (view p.node) r.span.end p.end (lines_at bytes next) (lines_at bytes p.next) m m (sym a) (sym b) (ap (lines_at bytes) (sym c)) refl
 
-pub answers-same : (bytes : List ℕ) (asked other : Result value.ScalarRead Fault) (result : Result ScalarRead ReadError) → asked ≡ other → Answers (read_of bytes) other result → Answers (read_of bytes) asked result
+pub answers-same : (bytes : List ℕ) (asked other : Result value.ScalarRead Fault) (result : Result ScalarRead ReadError) → asked ≡ other
+    → Answers (read_of bytes) other result → Answers (read_of bytes) asked result
 answers-same bytes asked other (Ok r) e h = e ∙ h
 answers-same bytes asked other (Err (stop.Fault f)) e h = e ∙ h
 answers-same bytes asked other (Err stop.Memory) e h = tt

@@ -4,22 +4,26 @@ use Rattle.std.proofs.Common.{◌≡◌, ℕ, suc, ◌+◌, ◌<◌, ◌≤◌, 
 use Rattle.al_text.specs.declared.codes.YamlCode.{YamlCode}
 use Rattle.al_text.specs.declared.codes.YamlCode.TheVariants as yaml
 use Rattle.al_scalar.specs.Line.{Cell, Line, start, begins, blanks_dropped, is_blank_or_end}
-use Rattle.al_scalar.specs.Places.{lines_at, text_at}
+use Rattle.al_scalar.specs.Private.Places.{lines_at, text_at}
 use Rattle.al_scalar.specs.Taken.{Fault}
 use Rattle.al_yaml.specs.Node as tree
 use Rattle.al_yaml.specs.Reading.{Reading, Part, part, alias, anchored, gives, given, fails, listed, start_of, spanned, ◌>>=◌}
 use Rattle.al_yaml.specs.Limits.{broken_limit}
-use Rattle.al_yaml.specs.Content.{ended, at_line, content, is_property, is_flow_start, is_dash, is_skipped, block_fault, unless, characters, line_ended, same_line, is_short_key, start_fault, has_no_name, anchor_name, behind_name}
+use Rattle.al_yaml.specs.Content.{ended, at_line, content, is_property, is_flow_start, is_dash, is_skipped, block_fault, unless, characters}
+use Rattle.al_yaml.specs.Content.{line_ended, same_line, is_short_key, start_fault, has_no_name, anchor_name, behind_name}
 use Rattle.al_yaml.specs.Flow.{CollectionReader, empty_node, flow_collection}
 use Rattle.al_yaml.specs.Keys.{Key, key_at, is_block_start, has_colon, is_on_key}
 use Rattle.al_yaml_reader.specs.Private.FlowFrames.{alias_part, completing}
 use Rattle.al_yaml_reader.specs.Private.Frames.{Answer, answered}
 use Rattle.al_yaml_reader.proofs.FrameLemmas.{bind-answer}
-use Rattle.al_yaml.specs.Blocks.{BlockReader, Slot, Spot, at_spot, spot_behind, is_behind_key, is_deeper, node_found, node_below, rest_node, sequence_entry, sequence_rest, sequence_entries, entry_slot, value_slot, mapping_value, mapping_rest, mapping_entries, scalar_node_at, flow_at, flow_rest, block_sequence, block_mapping, keyed_node, block_content, block_property, block_node, tab_before, unless_at}
+use Rattle.al_yaml.specs.Blocks.{BlockReader, Slot, Spot, at_spot, spot_behind, is_behind_key, is_deeper, node_found, node_below, rest_node}
+use Rattle.al_yaml.specs.Blocks.{sequence_entry, sequence_rest, sequence_entries, entry_slot, value_slot, mapping_value, mapping_rest}
+use Rattle.al_yaml.specs.Blocks.{mapping_entries, scalar_node_at, flow_at, flow_rest, block_sequence, block_mapping, keyed_node}
+use Rattle.al_yaml.specs.Blocks.{block_content, block_property, block_node, tab_before, unless_at}
 use Rattle.al_yaml_reader.specs.Private.BlockFrames.{node_reader}
 use Rattle.al_yaml_reader.specs.Private.Reads.{State, run, counted, Stops, Refuses}
 use Rattle.al_yaml_reader.specs.declared.faults.ReadError.{ReadError}
-use Rattle.al_scalar.specs.Places.{IsLineEnd}
+use Rattle.al_scalar.specs.Private.Places.{IsLineEnd}
 use Rattle.al_scalar.specs.Scalar.{ScalarRead}
 use Rattle.std.proofs.Common.{◌==◌}
 use Rattle.std.proofs.lemmas.Grind.{common_steps}
@@ -188,14 +192,17 @@ module _ (bound : ℕ) (slot : Slot) (depth column : ℕ) (n : State) (bytes : L
         ∙ ap (λ i. Err (record { code = yaml.AnchorOrAlias; at = i })) (start-at bytes at inside)
 
     module _ (free : false ≡ (not (is_behind_key slot.spot) && is_on_key (lines_at bytes at))) where
-      property-free : property_whole ≡ cond (begins 42 (text_at bytes at)) (alias_line (start (lines_at bytes at)) (behind_name (lines_at bytes at))) (anchor_line (start (lines_at bytes at)) (behind_name (lines_at bytes at)))
+      property-free : property_whole ≡ cond (begins 42 (text_at bytes at))
+          (alias_line (start (lines_at bytes at)) (behind_name (lines_at bytes at)))
+          (anchor_line (start (lines_at bytes at)) (behind_name (lines_at bytes at)))
       property-free = property-named ∙ if-false (not (is_behind_key slot.spot) && is_on_key (lines_at bytes at)) _ _ free
 
       module _ (star : true ≡ begins 42 (text_at bytes at)) where
         block-alias : run n property_whole ≡ run n (alias_part depth (lines_at bytes at) >>= line_behind)
         block-alias =
             ap (run n) (property-free ∙ if-true (begins 42 (text_at bytes at)) _ _ star)
-            ∙ run-through n (alias (anchor_name (lines_at bytes at)) (start (lines_at bytes at)) depth) (λ x. part x (start (behind_name (lines_at bytes at))) (behind_name (lines_at bytes at))) line_behind
+            ∙ run-through n (alias (anchor_name (lines_at bytes at)) (start (lines_at bytes at)) depth)
+            (λ x. part x (start (behind_name (lines_at bytes at))) (behind_name (lines_at bytes at))) line_behind
 
         pub alias-stops : (e : ReadError) → Stops (alias_part depth (lines_at bytes at)) n e → Stops property_whole n e
         alias-stops e h = stops-from property_whole (alias_part depth (lines_at bytes at) >>= line_behind) n n e block-alias (stops-bind (alias_part depth (lines_at bytes at)) line_behind n e h)
@@ -230,7 +237,8 @@ second-property bound at' slot depth column n bytes at inside h =
     ap (run n) (if-false (is_dash (text_at bytes at)) _ _ plain.0 ∙ ap (λ o. unless o (start (lines_at bytes at)) behind) (sym plain.1) ∙ if-true (is_property (text_at bytes at)) _ _ (sym h))
     ∙ run-fails n yaml.UnexpectedCharacter (start (lines_at bytes at)) ∙ ap (λ i. Err (record { code = yaml.UnexpectedCharacter; at = i })) (start-at bytes at inside)
 
-pub second-stops : (bound : ℕ) (anchor : Option ℕ) (slot : Slot) (depth column : ℕ) (n : State) (bytes : List ℕ) (at : ℕ) → at ≤ length bytes → is_property (text_at bytes at) ≡ true → true ≡ is_some anchor
+pub second-stops : (bound : ℕ) (anchor : Option ℕ) (slot : Slot) (depth column : ℕ) (n : State) (bytes : List ℕ) (at : ℕ)
+    → at ≤ length bytes → is_property (text_at bytes at) ≡ true → true ≡ is_some anchor
     → run n (completing bytes anchor (node_reader (suc bound) anchor slot depth column (lines_at bytes at))) ≡ Err (record { code = yaml.UnexpectedCharacter; at = at })
 second-stops bound None slot depth column n bytes at inside h k = cc
 second-stops bound (Some at') slot depth column n bytes at inside h k =
@@ -272,7 +280,8 @@ module _ (node : BlockReader) (slot : Slot) (depth : ℕ) (n : State) (bytes : L
 
 -- ---- the entries of a sequence
 
-module _ (node : BlockReader) (collection : CollectionReader) (turns : ℕ) (in_mapping : Bool) (column depth : ℕ) (n : State) (done : tree.Nodes) (bytes : List ℕ) (at : ℕ) (inside : at < length bytes) (solid : IsLineEnd bytes at → ⊥) where
+module _ (node : BlockReader) (collection : CollectionReader) (turns : ℕ) (in_mapping : Bool) (column depth : ℕ) (n : State)
+    (done : tree.Nodes) (bytes : List ℕ) (at : ℕ) (inside : at < length bytes) (solid : IsLineEnd bytes at → ⊥) where
   abbrev pub all_entries : Reading (Part tree.Nodes)
   all_entries = sequence_entries node collection (suc turns) in_mapping column depth done (lines_at bytes at)
 
@@ -281,7 +290,8 @@ module _ (node : BlockReader) (collection : CollectionReader) (turns : ℕ) (in_
 
   abbrev pub entries_behind : Part tree.Node → Reading (Part tree.Nodes)
   entries_behind x =
-      sequence_rest collection (λ left. sequence_entries node collection turns in_mapping column depth (tree.with_item done x.value) left) in_mapping column depth (part (tree.with_item done x.value) x.end x.left)
+      sequence_rest collection (λ left. sequence_entries node collection turns in_mapping column depth (tree.with_item done x.value) left)
+      in_mapping column depth (part (tree.with_item done x.value) x.end x.left)
 
   entry-is : sequence_entry node column depth (lines_at bytes at) ≡ one_entry
   entry-is =
@@ -294,7 +304,8 @@ module _ (node : BlockReader) (collection : CollectionReader) (turns : ℕ) (in_
 
 -- ---- the entries of a mapping
 
-module _ (node : BlockReader) (collection : CollectionReader) (turns column depth : ℕ) (n : State) (done : tree.Entries) (bytes : List ℕ) (scalar : ScalarRead) (behind : ℕ) (inside : behind ≤ length bytes) where
+module _ (node : BlockReader) (collection : CollectionReader) (turns column depth : ℕ) (n : State) (done : tree.Entries) (bytes : List ℕ)
+    (scalar : ScalarRead) (behind : ℕ) (inside : behind ≤ length bytes) where
   abbrev pub this_key : Key
   this_key = record { scalar = scalar; behind = lines_at bytes behind }
 

@@ -1,7 +1,7 @@
 -- Steps of open block collections, one lemma for each way.
 use Rattle.std.proofs.Common.{◌≡◌, ℕ, suc, ◌+◌, ◌<◌, ◌≤◌, List, length, sym, ap, ◌∙◌, arith, Bool, true, false, Option, Some, None, Result, Ok, Err}
 use Rattle.al_scalar.specs.Line.{Line}
-use Rattle.al_scalar.specs.Places.{lines_at, text_at, IsLineEnd}
+use Rattle.al_scalar.specs.Private.Places.{lines_at, text_at, IsLineEnd}
 use Rattle.al_scalar.specs.Scalar.{ScalarRead, span}
 use Rattle.al_scalar.specs.Taken.{Fault}
 use Rattle.al_yaml.specs.Node as tree
@@ -9,7 +9,8 @@ use Rattle.al_yaml.specs.Content.{Next, content, is_dash}
 use Rattle.al_yaml.specs.Reading.{Reading, Part, part, given, gives, spanned, ◌>>=◌}
 use Rattle.al_yaml.specs.Flow.{flow_collection}
 use Rattle.al_yaml.specs.Keys.{Key, no_entry, entry_key}
-use Rattle.al_yaml.specs.Blocks.{block_node, rest_node, entry_slot, value_slot, next_found, next_from, next_at, sequence_entries, sequence_rest, sequence_next, mapping_entries, mapping_rest, mapping_next}
+use Rattle.al_yaml.specs.Blocks.{block_node, rest_node, entry_slot, value_slot, next_found, next_from, next_at, sequence_entries}
+use Rattle.al_yaml.specs.Blocks.{sequence_rest, sequence_next, mapping_entries, mapping_rest, mapping_next}
 use Rattle.al_yaml_reader.specs.Private.BlockFrames.{block_rest, block_waits, items, entries, item, value, FindsBlock, Begins, EntersWith, IsFoundFrom, IsNextAt, block_waiting_of, node_reader}
 use Rattle.al_yaml_reader.specs.Private.BlockReads.{slot_of}
 use Rattle.al_yaml_reader.specs.Private.FlowFrames.{completing, mark_of}
@@ -38,10 +39,13 @@ module _ (bound turns depth start column : ℕ) (n : State) (in_mapping : Bool) 
 
   abbrev item_behind : Part tree.Node → Reading (Part tree.Nodes)
   item_behind x =
-      sequence_rest (flow_collection (suc bound)) (λ left. sequence_entries (block_node bound) (flow_collection (suc bound)) turns in_mapping column depth (tree.with_item done x.value) left) in_mapping column depth
+      sequence_rest (flow_collection (suc bound))
+      (λ left. sequence_entries (block_node bound) (flow_collection (suc bound)) turns in_mapping column depth
+      (tree.with_item done x.value) left) in_mapping column depth
       (part (tree.with_item done x.value) x.end x.left)
 
-  pub dash-answer : run n (block_rest (suc turns) bound depth start column (items in_mapping done) (lines_at bytes at)) ≡ answered (run n item_rest) (block_waits turns bound depth start column (item in_mapping done))
+  pub dash-answer : run n (block_rest (suc turns) bound depth start column (items in_mapping done) (lines_at bytes at))
+      ≡ answered (run n item_rest) (block_waits turns bound depth start column (item in_mapping done))
   dash-answer =
       ap (λ r. run n (spanned tree.sequence start r)) (entries-step (block_node bound) (flow_collection (suc bound)) turns in_mapping column depth n done bytes at inside solid)
       ∙ spanned-answer tree.sequence start n item_rest item_behind
@@ -52,7 +56,9 @@ module _ (bound turns depth start column : ℕ) (n : State) (done : tree.Entries
 
   abbrev value_behind : Part tree.Node → Reading (Part tree.Entries)
   value_behind x =
-      mapping_rest (flow_collection (suc bound)) (λ k. mapping_entries (block_node bound) (flow_collection (suc bound)) turns column depth (tree.with_entry done (tree.scalar_node scalar) x.value) k) column depth
+      mapping_rest (flow_collection (suc bound))
+      (λ k. mapping_entries (block_node bound) (flow_collection (suc bound)) turns column depth
+      (tree.with_entry done (tree.scalar_node scalar) x.value) k) column depth
       (part (tree.with_entry done (tree.scalar_node scalar) x.value) x.end x.left)
 
   pub key-answer : run n (block_rest (suc turns) bound depth start column (entries done (record { scalar = scalar; behind = lines_at bytes behind })) ls)
@@ -65,12 +71,14 @@ module _ (bound turns depth start column : ℕ) (n : State) (done : tree.Entries
 pub enters-with : (bytes : List ℕ) (bound turns depth start column : ℕ) (reading rest : Reading (Part tree.Node)) (n m : State) (w : BlockWaiting) (t : BlockTask)
     → run n reading ≡ answered (run n rest) (block_waits turns bound depth start column (block_waiting_of bytes w))
     → FindsBlock bytes (block_node bound) None depth rest n (Ok t) m → EntersWith bytes bound turns depth start column reading n w t m
-enters-with bytes bound turns depth start column reading rest n m w (task.Node s p own) e h = (h.0, e ∙ ap (λ o. answered o (block_waits turns bound depth start column (block_waiting_of bytes w))) h.1)
+enters-with bytes bound turns depth start column reading rest n m w (task.Node s p own) e h =
+    (h.0, e ∙ ap (λ o. answered o (block_waits turns bound depth start column (block_waiting_of bytes w))) h.1)
 enters-with bytes bound turns depth start column reading rest n m w (task.Found r) e h = e ∙ ap (λ o. answered o (block_waits turns bound depth start column (block_waiting_of bytes w))) h
 enters-with bytes bound turns depth start column reading rest n m w (task.Read p) e h = h
 enters-with bytes bound turns depth start column reading rest n m w (task.Inside s a has at) e h = h
 
-pub enters-stops : (reading rest : Reading (Part tree.Node)) (n : State) (f : Part tree.Node → Reading (Part tree.Node)) (e : ReadError) → run n reading ≡ answered (run n rest) f → Stops rest n e → Stops reading n e
+pub enters-stops : (reading rest : Reading (Part tree.Node)) (n : State) (f : Part tree.Node → Reading (Part tree.Node)) (e : ReadError)
+    → run n reading ≡ answered (run n rest) f → Stops rest n e → Stops reading n e
 enters-stops reading rest n f (stop.Fault x) g h = g ∙ ap (λ o. answered o f) h
 enters-stops reading rest n f stop.Memory g h = tt
 
@@ -118,7 +126,8 @@ module _ (bound turns depth start column : ℕ) (n : State) (bytes : List ℕ) (
           items-found (Some (lines_at bytes at)) found
           ∙ ap (λ r. run n (spanned tree.sequence start r)) (if-false (is_dash (text_at bytes at)) _ _ h ∙ if-true in_mapping _ _ k) ∙ items-part
 
-      pub items-none : false ≡ is_dash (text_at bytes at) → false ≡ in_mapping → (e : ReadError) → Stops (no_entry {A = Part tree.Nodes} (flow_collection (suc bound)) depth (lines_at bytes at)) n e → Stops items_wait n e
+      pub items-none : false ≡ is_dash (text_at bytes at) → false ≡ in_mapping → (e : ReadError)
+          → Stops (no_entry {A = Part tree.Nodes} (flow_collection (suc bound)) depth (lines_at bytes at)) n e → Stops items_wait n e
       items-none h k e s =
           stops-from items_wait (spanned tree.sequence start (no_entry (flow_collection (suc bound)) depth (lines_at bytes at))) n n e
           (items-found (Some (lines_at bytes at)) found ∙ ap (λ r. run n (spanned tree.sequence start r)) (if-false (is_dash (text_at bytes at)) _ _ h ∙ if-false in_mapping _ _ k))
@@ -166,7 +175,8 @@ module _ (bound turns depth start column : ℕ) (n : State) (bytes : List ℕ) (
           → (ls : List Line) → run n entries_wait ≡ run m (block_rest turns bound depth start column (entries entries_now key) ls)
       entries-more m key h ls = entries-key ∙ ap (λ o. answered o (λ key. spanned tree.mapping start (more_entries key))) h
 
-pub begins-from : (bytes : List ℕ) (bound depth : ℕ) (n m : State) (r q : Reading (Part tree.Node)) (result : Result BlockTask ReadError) → run n r ≡ run n q → Begins bytes bound depth q n result m → Begins bytes bound depth r n result m
+pub begins-from : (bytes : List ℕ) (bound depth : ℕ) (n m : State) (r q : Reading (Part tree.Node)) (result : Result BlockTask ReadError)
+    → run n r ≡ run n q → Begins bytes bound depth q n result m → Begins bytes bound depth r n result m
 begins-from bytes bound depth n m r q (Ok (task.Read p)) e h = e ∙ h
 begins-from bytes bound depth n m r q (Ok (task.Inside s a has at)) e h = e ∙ h
 begins-from bytes bound depth n m r q (Ok (task.Node s p a)) e h = e ∙ h
@@ -203,13 +213,25 @@ module _ (bound turns depth start column : ℕ) (n : State) (x : Part tree.Node)
   pub items-unread : (in_mapping : Bool) (done : tree.Nodes) → run n (block_waits turns bound depth start column (item in_mapping done) x) ≡ Err f
   items-unread in_mapping done =
       spanned-answer tree.sequence start n (given (next_at column x.left))
-      (sequence_next (flow_collection (suc bound)) (λ left. sequence_entries (block_node bound) (flow_collection (suc bound)) turns in_mapping column depth (tree.with_item done x.value) left) in_mapping depth (part (tree.with_item done x.value) x.end x.left))
-      ∙ ap (λ o. answered o (λ r. spanned tree.sequence start (sequence_next (flow_collection (suc bound)) (λ left. sequence_entries (block_node bound) (flow_collection (suc bound)) turns in_mapping column depth (tree.with_item done x.value) left) in_mapping depth (part (tree.with_item done x.value) x.end x.left) r)))
+      (sequence_next (flow_collection (suc bound))
+      (λ left. sequence_entries (block_node bound) (flow_collection (suc bound)) turns in_mapping column depth
+      (tree.with_item done x.value) left) in_mapping depth (part (tree.with_item done x.value) x.end x.left))
+      ∙ ap (λ o. answered o (λ r. spanned tree.sequence start
+      (sequence_next (flow_collection (suc bound))
+      (λ left. sequence_entries (block_node bound) (flow_collection (suc bound)) turns in_mapping column depth
+      (tree.with_item done x.value) left) in_mapping depth (part (tree.with_item done x.value) x.end x.left) r)))
       (run-refused n (next_at column x.left) f refused_next)
 
   pub entries-unread : (done : tree.Entries) (k : ScalarRead) → run n (block_waits turns bound depth start column (value done k) x) ≡ Err f
   entries-unread done k =
       spanned-answer tree.mapping start n (given (next_at column x.left))
-      (mapping_next (flow_collection (suc bound)) (λ key. mapping_entries (block_node bound) (flow_collection (suc bound)) turns column depth (tree.with_entry done (tree.scalar_node k) x.value) key) depth (part (tree.with_entry done (tree.scalar_node k) x.value) x.end x.left))
-      ∙ ap (λ o. answered o (λ r. spanned tree.mapping start (mapping_next (flow_collection (suc bound)) (λ key. mapping_entries (block_node bound) (flow_collection (suc bound)) turns column depth (tree.with_entry done (tree.scalar_node k) x.value) key) depth (part (tree.with_entry done (tree.scalar_node k) x.value) x.end x.left) r)))
+      (mapping_next (flow_collection (suc bound))
+      (λ key. mapping_entries (block_node bound) (flow_collection (suc bound)) turns column depth
+      (tree.with_entry done (tree.scalar_node k) x.value) key) depth
+      (part (tree.with_entry done (tree.scalar_node k) x.value) x.end x.left))
+      ∙ ap (λ o. answered o (λ r. spanned tree.mapping start
+      (mapping_next (flow_collection (suc bound))
+      (λ key. mapping_entries (block_node bound) (flow_collection (suc bound)) turns column depth
+      (tree.with_entry done (tree.scalar_node k) x.value) key) depth
+      (part (tree.with_entry done (tree.scalar_node k) x.value) x.end x.left) r)))
       (run-refused n (next_at column x.left) f refused_next)

@@ -2,7 +2,8 @@
 use Rattle.std.proofs.Common.{◌≡◌, ℕ, ◌+◌, ◌<◌, ◌≤◌, List, [], ◌∷◌, length, drop, slice_index, refl, sym, ap, ◌∙◌, arith, Bool, true, false, cond, Some, Result, Ok}
 use Rattle.al_text.specs.declared.codes.YamlCode.TheVariants as yaml
 use Rattle.al_scalar.specs.Line.{Cell, Line, start, cut, is_empty, begins, is_marker, blanks_dropped, spaces_dropped}
-use Rattle.al_scalar.specs.Places.{lines_at, first_text, text_at, IsLineEnd}
+use Rattle.al_scalar.specs.Places.{first_text}
+use Rattle.al_scalar.specs.Private.Places.{lines_at, text_at, IsLineEnd}
 use Rattle.al_scalar.specs.Block.{at_end}
 use Rattle.al_scalar.specs.Taken.{Fault, fault}
 use Rattle.al_yaml.specs.Content.{behind, is_skipped, line_ended}

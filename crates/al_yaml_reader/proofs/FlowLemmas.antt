@@ -3,7 +3,7 @@ use Rattle.std.proofs.Common.{◌≡◌, ℕ, suc, ◌+◌, ◌≤◌, List, [],
 use Rattle.al_text.specs.declared.codes.YamlCode.{YamlCode}
 use Rattle.al_text.specs.declared.codes.YamlCode.TheVariants as yaml
 use Rattle.al_scalar.specs.Line.{Line, start, begins, is_empty}
-use Rattle.al_scalar.specs.Places.{lines_at, text_at, IsLineEnd}
+use Rattle.al_scalar.specs.Private.Places.{lines_at, text_at, IsLineEnd}
 use Rattle.al_scalar.specs.Taken.{Fault, fault}
 use Rattle.al_scalar.specs.Scalar.{ScalarRead}
 use Rattle.al_yaml.specs.Node as tree
@@ -12,7 +12,10 @@ use Rattle.al_yaml.specs.Limits.{broken_limit}
 use Rattle.al_scalar.specs.Plain.{flow}
 use Rattle.al_scalar.specs.Scalar.{scalar_at}
 use Rattle.al_yaml.specs.Content.{behind, is_quote, is_simple_key, is_property, is_flow_start, has_no_name, anchor_name, behind_name, flow_fault, unless}
-use Rattle.al_yaml.specs.Flow.{goes_on, closes, after_item, gap, is_file_end, FlowReader, CollectionReader, FlowSlot, flow_items, flow_items_rest, flow_entries, flow_entries_rest, flow_key, flow_value, flow_entry_value, flow_content, flow_property, flow_node_over, flow_collection, empty_node, FlowKey, flow_key_of, key_colon, unless_late, behind_colon, is_late_colon}
+use Rattle.al_yaml.specs.Flow.{goes_on, closes, after_item, gap, is_file_end, FlowReader, CollectionReader, FlowSlot, flow_items}
+use Rattle.al_yaml.specs.Flow.{flow_items_rest, flow_entries, flow_entries_rest, flow_key, flow_value, flow_entry_value, flow_content}
+use Rattle.al_yaml.specs.Flow.{flow_property, flow_node_over, flow_collection, empty_node, FlowKey, flow_key_of, key_colon, unless_late}
+use Rattle.al_yaml.specs.Flow.{behind_colon, is_late_colon}
 use Rattle.al_yaml_reader.specs.Private.Reads.{State, run, counted, Stops, Refuses}
 use Rattle.al_yaml_reader.specs.Private.FlowFrames.{alias_part, completing}
 use Rattle.al_yaml_reader.specs.declared.faults.ReadError.{ReadError}
@@ -27,7 +30,8 @@ use Rattle.al_yaml_reader.proofs.RunLemmas.{run-gives, run-fails, run-start, run
 -- ---- behind an item
 
 module _ (bytes : List ℕ) (opening close at : ℕ) (inside : at ≤ length bytes) (some : false ≡ is_empty (text_at bytes at)) where
-  pub after-comma : (next : ℕ) → true ≡ begins 44 (text_at bytes at) → gap false (lines_at bytes (at + 1)) ≡ lines_at bytes next → after_item opening close (lines_at bytes at) ≡ Ok (goes_on (lines_at bytes next))
+  pub after-comma : (next : ℕ) → true ≡ begins 44 (text_at bytes at) → gap false (lines_at bytes (at + 1)) ≡ lines_at bytes next
+      → after_item opening close (lines_at bytes at) ≡ Ok (goes_on (lines_at bytes next))
   after-comma next h g =
       if-false (is_file_end (lines_at bytes at)) _ _ some ∙ if-true (begins 44 (text_at bytes at)) _ _ h
       ∙ ap (λ ls. Ok (goes_on (gap false ls))) (behind-one bytes at inside (begins-inside bytes at 44 inside h)) ∙ ap (λ ls. Ok (goes_on ls)) g
@@ -88,7 +92,9 @@ module _ (node : FlowReader) (turns opening depth : ℕ) (n : State) (done : tre
 -- ---- entries
 
 module _ (node : FlowReader) (collection : CollectionReader) (turns opening depth : ℕ) (n : State) (done : tree.Entries) (bytes : List ℕ) (at : ℕ) (inside : at ≤ length bytes) where
-  pub entries-open : true ≡ is_empty (text_at bytes at) → run n (flow_entries node collection (suc turns) opening depth done (lines_at bytes at)) ≡ Err (record { code = yaml.UnclosedFlow; at = opening })
+  pub entries-open : true ≡ is_empty (text_at bytes at) → run n
+      (flow_entries node collection (suc turns) opening depth done (lines_at bytes at))
+      ≡ Err (record { code = yaml.UnclosedFlow; at = opening })
   unfolding flow_entries
   entries-open h = ap (run n) (if-true (is_file_end (lines_at bytes at)) _ _ h) ∙ run-fails n yaml.UnclosedFlow opening
 
@@ -103,7 +109,9 @@ module _ (node : FlowReader) (collection : CollectionReader) (turns opening dept
 
   abbrev pub entry_behind : FlowKey → Part tree.Node → Reading (Part tree.Entries)
   entry_behind key x =
-      flow_entries_rest (λ left. flow_entries node collection turns opening depth (tree.with_entry done (tree.scalar_node key.scalar) x.value) left) opening (tree.with_entry done (tree.scalar_node key.scalar) x.value) x.left
+      flow_entries_rest (λ left. flow_entries node collection turns opening depth
+      (tree.with_entry done (tree.scalar_node key.scalar) x.value) left) opening
+      (tree.with_entry done (tree.scalar_node key.scalar) x.value) x.left
 
   abbrev pub key_behind : FlowKey → Reading (Part tree.Entries)
   key_behind key = flow_entry_value node opening depth key >>= entry_behind key
@@ -149,7 +157,8 @@ module _ (collection : CollectionReader) (slot : FlowSlot) (depth : ℕ) (n : St
       pub content-collection : true ≡ is_flow_start (text_at bytes at) → flow_content collection slot depth (lines_at bytes at) ≡ collection depth (lines_at bytes at)
       content-collection h = content-right ∙ if-false (is_property (text_at bytes at)) _ _ plain ∙ if-true (is_flow_start (text_at bytes at)) _ _ h
 
-      pub content-scalar : false ≡ is_flow_start (text_at bytes at) → flow_content collection slot depth (lines_at bytes at) ≡ listed (start_of at 1 0) (scalar_reading (scalar_at flow (lines_at bytes at)))
+      pub content-scalar : false ≡ is_flow_start (text_at bytes at) → flow_content collection slot depth (lines_at bytes at)
+          ≡ listed (start_of at 1 0) (scalar_reading (scalar_at flow (lines_at bytes at)))
       content-scalar h =
           content-right ∙ if-false (is_property (text_at bytes at)) _ _ plain ∙ if-false (is_flow_start (text_at bytes at)) _ _ h
           ∙ ap (λ i. listed (start_of i 1 0) (scalar_reading (scalar_at flow (lines_at bytes at)))) (start-at bytes at inside)
@@ -244,7 +253,8 @@ module _ (collection : CollectionReader) (depth : ℕ) (n : State) (bytes : List
         ∙ ap (λ i. Err (record { code = other; at = i })) (start-at bytes at inside) ∙ ap (λ c. Err (record { code = c; at = at })) (sym k)
 
     module _ (plain : false ≡ is_property (text_at bytes at)) where
-      pub key-step : true ≡ is_flow_start (text_at bytes at) → flow_key collection depth (lines_at bytes at) ≡ (collection depth (lines_at bytes at) >>= (λ x. fails yaml.WrongKey (start (lines_at bytes at))))
+      pub key-step : true ≡ is_flow_start (text_at bytes at) → flow_key collection depth (lines_at bytes at)
+          ≡ (collection depth (lines_at bytes at) >>= (λ x. fails yaml.WrongKey (start (lines_at bytes at))))
       key-step h = key-right ∙ if-false (is_property (text_at bytes at)) _ _ plain ∙ if-true (is_flow_start (text_at bytes at)) _ _ h
 
       pub key-opens : true ≡ is_flow_start (text_at bytes at) → run n (flow_key collection depth (lines_at bytes at)) ≡ run n (collection depth (lines_at bytes at) >>= (λ _. fails yaml.WrongKey at))
@@ -276,7 +286,8 @@ module _ (collection : CollectionReader) (depth : ℕ) (n : State) (bytes : List
             pub key-broken : (f : Fault) → broken_limit n.nodes n.text (start_of at 1 0 ∷ []) ≡ Some f → run n (flow_key collection depth (lines_at bytes at)) ≡ Err f
             key-broken f h = key-found ∙ run-broken n 1 at 0 (gives (record { scalar = r; behind = colon })) f h
 
-            pub key-ok : (m : State) → broken_limit n.nodes n.text (start_of at 1 0 ∷ []) ≡ None → m ≡ counted 1 n → run n (flow_key collection depth (lines_at bytes at)) ≡ Ok (record { scalar = r; behind = colon }, m)
+            pub key-ok : (m : State) → broken_limit n.nodes n.text (start_of at 1 0 ∷ []) ≡ None → m ≡ counted 1 n
+                → run n (flow_key collection depth (lines_at bytes at)) ≡ Ok (record { scalar = r; behind = colon }, m)
             key-ok m h e =
                 let x : FlowKey = record { scalar = r; behind = colon } in
                 key-found ∙ run-start n 1 at 0 (gives x) h ∙ run-gives (counted 1 n) x ∙ ap (λ i. Ok (x, i)) (sym e)
@@ -288,7 +299,8 @@ module _ (node : FlowReader) (opening depth : ℕ) (n : State) (bytes : List ℕ
   unfolding flow_entry_value
   value-none o h = ap (λ b. flow_entry_value node opening depth (record { scalar = scalar; behind = b })) h
 
-  module _ (o : Option (List Line)) (colon at : ℕ) (inside : colon ≤ length bytes) (here : at ≤ length bytes) (is : o ≡ Some (lines_at bytes colon)) (gapped : gap false (lines_at bytes colon) ≡ lines_at bytes at) where
+  module _ (o : Option (List Line)) (colon at : ℕ) (inside : colon ≤ length bytes) (here : at ≤ length bytes)
+      (is : o ≡ Some (lines_at bytes colon)) (gapped : gap false (lines_at bytes colon) ≡ lines_at bytes at) where
     abbrev pub value_slot : FlowSlot
     value_slot = record { opening = opening; empty = Some colon }
 
@@ -303,10 +315,12 @@ module _ (node : FlowReader) (opening depth : ℕ) (n : State) (bytes : List ℕ
     value-open h = ap (run n) (value-some ∙ if-true (is_file_end (lines_at bytes at)) _ _ h) ∙ run-fails n yaml.UnclosedFlow opening
 
     module _ (some : false ≡ is_empty (text_at bytes at)) where
-      pub value-empty : true ≡ (begins 44 (text_at bytes at) || begins 125 (text_at bytes at)) → flow_entry_value node opening depth (record { scalar = scalar; behind = o }) ≡ empty_node colon (lines_at bytes at)
+      pub value-empty : true ≡ (begins 44 (text_at bytes at) || begins 125 (text_at bytes at))
+          → flow_entry_value node opening depth (record { scalar = scalar; behind = o }) ≡ empty_node colon (lines_at bytes at)
       value-empty h = value-some ∙ if-false (is_file_end (lines_at bytes at)) _ _ some ∙ if-true (begins 44 (text_at bytes at) || begins 125 (text_at bytes at)) _ _ h
 
-      pub value-node : false ≡ (begins 44 (text_at bytes at) || begins 125 (text_at bytes at)) → flow_entry_value node opening depth (record { scalar = scalar; behind = o }) ≡ node value_slot depth (lines_at bytes at)
+      pub value-node : false ≡ (begins 44 (text_at bytes at) || begins 125 (text_at bytes at))
+          → flow_entry_value node opening depth (record { scalar = scalar; behind = o }) ≡ node value_slot depth (lines_at bytes at)
       value-node h = value-some ∙ if-false (is_file_end (lines_at bytes at)) _ _ some ∙ if-false (begins 44 (text_at bytes at) || begins 125 (text_at bytes at)) _ _ h
 
 -- ---- collections
@@ -327,13 +341,15 @@ module _ (bound depth : ℕ) (n : State) (bytes : List ℕ) (at : ℕ) (here : a
   pub collection-broken : (f : Fault) → broken_limit n.nodes n.text (start_of at 1 depth ∷ []) ≡ Some f → run n (flow_collection (suc bound) depth (lines_at bytes at)) ≡ Err f
   collection-broken f h = ap (run n) collection-first ∙ run-broken n 1 at depth (collection_from at (gap false (behind 1 (lines_at bytes at)))) f h
 
-module _ (bound depth : ℕ) (n : State) (bytes : List ℕ) (at inside : ℕ) (here : at ≤ length bytes) (solid : IsLineEnd bytes at → ⊥) (gapped : gap false (lines_at bytes (at + 1)) ≡ lines_at bytes inside) where
+module _ (bound depth : ℕ) (n : State) (bytes : List ℕ) (at inside : ℕ) (here : at ≤ length bytes) (solid : IsLineEnd bytes at → ⊥)
+    (gapped : gap false (lines_at bytes (at + 1)) ≡ lines_at bytes inside) where
   abbrev pub node_reader : FlowReader
   node_reader = flow_node_over (flow_collection bound)
 
   abbrev pub collection_inside : ℕ → List Line → Reading (Part tree.Node)
   collection_inside i ls =
-      cond (begins 91 (text_at bytes at)) (spanned tree.sequence i (flow_items node_reader (suc bound) i (depth + 1) tree.no_nodes ls)) (spanned tree.mapping i (flow_entries node_reader (flow_collection bound) (suc bound) i (depth + 1) tree.no_entries ls))
+      cond (begins 91 (text_at bytes at)) (spanned tree.sequence i (flow_items node_reader (suc bound) i (depth + 1) tree.no_nodes ls))
+      (spanned tree.mapping i (flow_entries node_reader (flow_collection bound) (suc bound) i (depth + 1) tree.no_entries ls))
 
   collection-step : flow_collection (suc bound) depth (lines_at bytes at) ≡ listed (start_of at 1 depth) (collection_inside at (lines_at bytes inside))
   unfolding flow_collection
@@ -352,5 +368,7 @@ module _ (bound depth : ℕ) (n : State) (bytes : List ℕ) (at inside : ℕ) (h
     collection-sequence h = collection-starts ∙ ap (run m) (if-true (begins 91 (text_at bytes at)) _ _ h)
 
     pub collection-mapping : false ≡ begins 91 (text_at bytes at)
-        → run n (flow_collection (suc bound) depth (lines_at bytes at)) ≡ run m (spanned tree.mapping at (flow_entries node_reader (flow_collection bound) (suc bound) at (depth + 1) tree.no_entries (lines_at bytes inside)))
+        → run n (flow_collection (suc bound) depth (lines_at bytes at))
+        ≡ run m (spanned tree.mapping at (flow_entries node_reader (flow_collection bound) (suc bound) at (depth + 1) tree.no_entries
+        (lines_at bytes inside)))
     collection-mapping h = collection-starts ∙ ap (run m) (if-false (begins 91 (text_at bytes at)) _ _ h)

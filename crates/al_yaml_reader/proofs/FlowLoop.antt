@@ -1,6 +1,6 @@
 -- The loop over open flow collections: what its variables and its stack stand for.
 use Rattle.std.proofs.Common.{◌≡◌, ℕ, suc, ◌+◌, ◌<◌, ◌≤◌, List, [], ◌∷◌, length, map, refl, sym, ap, ◌∙◌, subst, arith, Ok}
-use Rattle.al_scalar.specs.Places.{lines_at}
+use Rattle.al_scalar.specs.Private.Places.{lines_at}
 use Rattle.al_yaml.specs.Flow.{flow_collection}
 use Rattle.al_yaml.specs.Node.{Node}
 use Rattle.al_yaml.specs.Reading.{Part, part}
@@ -19,7 +19,8 @@ use Rattle.al_yaml_reader.proofs.ReadLemmas.{same_part}
 -- a part that was made of a collection which ends
 pub closed-part : (bytes : List ℕ) (n : State) (opening : ℕ) (has : frames.Open) (end : ℕ) (p : code.Part) → view p.node ≡ closed_of opening has end → p.end ≡ end → p.next ≡ end
     → ◌≡◌ {A = Answer (Part Node)} (Ok (part (closed_of opening has end) end (lines_at bytes end), n)) (Ok (part_of bytes p, n))
-closed-part bytes n opening has end p a b c = same_part (closed_of opening has end) (view p.node) end p.end (lines_at bytes end) (lines_at bytes p.next) n n (sym a) (sym b) (ap (lines_at bytes) (sym c)) refl
+closed-part bytes n opening has end p a b c = same_part (closed_of opening has end) (view p.node) end p.end (lines_at bytes end)
+    (lines_at bytes p.next) n n (sym a) (sym b) (ap (lines_at bytes) (sym c)) refl
 
 abbrev pub Keeps : List ℕ → ℕ → Answer (Part Node) → List FlowFrame → State → ℕ → frames.Open → After → Type 0
 Keeps bytes depth whole stack n opening has (after.GoesOn at) = Inside bytes depth whole (map (frame_of bytes) stack) n opening has at
@@ -27,7 +28,9 @@ Keeps bytes depth whole stack n opening has (after.Closes end) =
     (p : code.Part) → view p.node ≡ closed_of opening has end → p.end ≡ end → p.next ≡ end → Behind bytes depth whole (map (frame_of bytes) stack) n p
 
 -- the outermost collection, with nothing read in it
-pub first-keeps : (bytes : List ℕ) (depth : ℕ) (n m : State) (at : ℕ) (has : frames.Open) (next : After) (bound : ℕ) (stack : List FlowFrame) → stack ≡ [] → length bytes < bound + at → at < length bytes → at < after_at next → Opens bytes depth at n has next m
+pub first-keeps : (bytes : List ℕ) (depth : ℕ) (n m : State) (at : ℕ) (has : frames.Open) (next : After) (bound : ℕ)
+    (stack : List FlowFrame) → stack ≡ [] → length bytes < bound + at → at < length bytes → at < after_at next
+    → Opens bytes depth at n has next m
     → Keeps bytes depth (run n (flow_collection bound depth (lines_at bytes at))) stack m at has next
 first-keeps bytes depth n m at has (after.GoesOn inside) bound stack e h here l k =
     subst (λ s. Inside bytes depth (run n (flow_collection bound depth (lines_at bytes at))) (map (frame_of bytes) s) m at has inside) (sym e)

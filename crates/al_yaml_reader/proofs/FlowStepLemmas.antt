@@ -2,12 +2,13 @@
 use Rattle.std.proofs.Common.{◌≡◌, ℕ, suc, ◌+◌, ◌≤◌, List, [], ◌∷◌, length, refl, sym, ap, ◌∙◌, true, false, None, Result, Ok, Err}
 use Rattle.al_text.specs.declared.codes.YamlCode.TheVariants as yaml
 use Rattle.al_scalar.specs.Line.{Cell, Line, begins, is_empty}
-use Rattle.al_scalar.specs.Places.{lines_at, text_at}
+use Rattle.al_scalar.specs.Private.Places.{lines_at, text_at}
 use Rattle.al_scalar.specs.Scalar.{ScalarRead, span}
 use Rattle.al_scalar.specs.Taken.{Fault}
 use Rattle.al_yaml.specs.Node as tree
 use Rattle.al_yaml.specs.Reading.{Reading, Part, part, fails, gives, given, spanned, ◌>>=◌}
-use Rattle.al_yaml.specs.Flow.{After, goes_on, closes, after_item, gap, CollectionReader, FlowKey, flow_items, flow_items_rest, flow_entries, flow_key, flow_entries_rest, flow_entry_value, flow_node_over, flow_collection}
+use Rattle.al_yaml.specs.Flow.{After, goes_on, closes, after_item, gap, CollectionReader, FlowKey, flow_items, flow_items_rest}
+use Rattle.al_yaml.specs.Flow.{flow_entries, flow_key, flow_entries_rest, flow_entry_value, flow_node_over, flow_collection}
 use Rattle.al_yaml_reader.specs.Private.Frames.{Answer, answered, Open, Waiting, open_rest, waiting_rest, items, entries, item, value, key}
 use Rattle.al_yaml_reader.specs.Private.Reads.{State, run, Stops, Refuses, after_of}
 use Rattle.al_yaml_reader.specs.Private.FlowFrames.{Finds, GoesOn, IsFirst, Opens}
@@ -130,7 +131,8 @@ begins-some b (c ∷ cs) h = refl
 
 module _ (bytes : List ℕ) (depth : ℕ) (n m : State) (at inside : ℕ) (here : inside ≤ length bytes) where
   pub items-first : (next : code_after.After) → IsFirst bytes 93 inside next
-      → ((bound : ℕ) → run n (flow_collection (suc bound) depth (lines_at bytes at)) ≡ run m (open_rest (flow_collection bound) (suc bound) (depth + 1) at (items tree.no_nodes) (lines_at bytes inside)))
+      → ((bound : ℕ) → run n (flow_collection (suc bound) depth (lines_at bytes at))
+      ≡ run m (open_rest (flow_collection bound) (suc bound) (depth + 1) at (items tree.no_nodes) (lines_at bytes inside)))
       → Opens bytes depth at n (items tree.no_nodes) next m
   items-first (after.GoesOn i) e h = λ bound. h bound ∙ ap (λ j. run m (open_rest (flow_collection bound) (suc bound) (depth + 1) at (items tree.no_nodes) (lines_at bytes j))) (sym e)
   items-first (after.Closes end) e h = λ bound.
@@ -138,7 +140,8 @@ module _ (bytes : List ℕ) (depth : ℕ) (n m : State) (at inside : ℕ) (here 
       ∙ ap (λ i. closed_behind bytes m (tree.sequence tree.no_nodes (span at i)) i) (sym e.0)
 
   pub entries-first : (next : code_after.After) → IsFirst bytes 125 inside next
-      → ((bound : ℕ) → run n (flow_collection (suc bound) depth (lines_at bytes at)) ≡ run m (open_rest (flow_collection bound) (suc bound) (depth + 1) at (entries tree.no_entries) (lines_at bytes inside)))
+      → ((bound : ℕ) → run n (flow_collection (suc bound) depth (lines_at bytes at))
+      ≡ run m (open_rest (flow_collection bound) (suc bound) (depth + 1) at (entries tree.no_entries) (lines_at bytes inside)))
       → Opens bytes depth at n (entries tree.no_entries) next m
   entries-first (after.GoesOn i) e h = λ bound. h bound ∙ ap (λ j. run m (open_rest (flow_collection bound) (suc bound) (depth + 1) at (entries tree.no_entries) (lines_at bytes j))) (sym e)
   entries-first (after.Closes end) e h = λ bound.
@@ -205,18 +208,22 @@ module _ (c : CollectionReader) (turns opening depth : ℕ) (n : State) (bytes :
 
 -- ---- what goes on behind an item or entry that is in its collection
 
-pub item-put : (bytes : List ℕ) (depth opening : ℕ) (n : State) (x : Part tree.Node) (done xs : tree.Nodes) (next : code_after.After) → after_item opening 93 (gap false x.left) ≡ Ok (after_of bytes next) → xs ≡ tree.with_item done x.value
+pub item-put : (bytes : List ℕ) (depth opening : ℕ) (n : State) (x : Part tree.Node) (done xs : tree.Nodes) (next : code_after.After)
+    → after_item opening 93 (gap false x.left) ≡ Ok (after_of bytes next) → xs ≡ tree.with_item done x.value
     → GoesOn bytes depth opening (λ c t. run n (waiting_rest c t depth opening (item done) x)) (items xs) next n
 item-put bytes depth opening n x done xs (after.GoesOn at) h e = λ c t. item-more c t opening depth n bytes x done (lines_at bytes at) xs h e
 item-put bytes depth opening n x done xs (after.Closes end) h e = λ c t. item-end c t opening depth n bytes x done end xs h e
 
-pub entry-put : (bytes : List ℕ) (depth opening : ℕ) (n : State) (x : Part tree.Node) (done xs : tree.Entries) (k : ScalarRead) (next : code_after.After) → after_item opening 125 (gap false x.left) ≡ Ok (after_of bytes next) → xs ≡ tree.with_entry done (tree.scalar_node k) x.value
+pub entry-put : (bytes : List ℕ) (depth opening : ℕ) (n : State) (x : Part tree.Node) (done xs : tree.Entries) (k : ScalarRead)
+    (next : code_after.After) → after_item opening 125 (gap false x.left) ≡ Ok (after_of bytes next) → xs
+    ≡ tree.with_entry done (tree.scalar_node k) x.value
     → GoesOn bytes depth opening (λ c t. run n (waiting_rest c t depth opening (value done k) x)) (entries xs) next n
 entry-put bytes depth opening n x done xs k (after.GoesOn at) h e = λ c t. entry-more c t opening depth n bytes x done k (lines_at bytes at) xs h e
 entry-put bytes depth opening n x done xs k (after.Closes end) h e = λ c t. entry-end c t opening depth n bytes x done k end xs h e
 
 -- what is read in front of it
-pub put-behind : (bytes : List ℕ) (depth opening : ℕ) (n m : State) (reading : CollectionReader → ℕ → Reading (Part tree.Node)) (w : Waiting) (x : Part tree.Node) (has : Open) (next : code_after.After)
+pub put-behind : (bytes : List ℕ) (depth opening : ℕ) (n m : State) (reading : CollectionReader → ℕ → Reading (Part tree.Node))
+    (w : Waiting) (x : Part tree.Node) (has : Open) (next : code_after.After)
     → ((c : CollectionReader) (t : ℕ) → run n (reading c (suc t)) ≡ run m (waiting_rest c t depth opening w x))
     → GoesOn bytes depth opening (λ c t. run m (waiting_rest c t depth opening w x)) has next m → GoesOn bytes depth opening (λ c t. run n (reading c (suc t))) has next m
 put-behind bytes depth opening n m reading w x has (after.GoesOn at) g h = λ c t. g c t ∙ h c t
@@ -224,7 +231,9 @@ put-behind bytes depth opening n m reading w x has (after.Closes end) g h = λ c
 
 -- ---- what was found
 
-pub finds-same : (bytes : List ℕ) (f g : CollectionReader → Reading (Part tree.Node)) (depth : ℕ) (n m : State) (result : Result Found ReadError) → ((c : CollectionReader) → f c ≡ g c) → Finds bytes g depth n result m → Finds bytes f depth n result m
+pub finds-same : (bytes : List ℕ) (f g : CollectionReader → Reading (Part tree.Node)) (depth : ℕ) (n m : State)
+    (result : Result Found ReadError) → ((c : CollectionReader) → f c ≡ g c) → Finds bytes g depth n result m
+    → Finds bytes f depth n result m
 finds-same bytes f g depth n m (Ok (found.Node p)) e h = λ c. ap (run n) (e c) ∙ h c
 finds-same bytes f g depth n m (Ok (found.Opens i)) e h = λ c. ap (run n) (e c) ∙ h c
 finds-same bytes f g depth n m (Err x) e h = λ c. stops-same (f c) (g c) n x (e c) (h c)

@@ -2,7 +2,7 @@
 use Rattle.std.proofs.Common.{◌≡◌, ℕ, zero, suc, ◌+◌, ◌<◌, ◌≤◌, List, [], ◌∷◌, length, refl, sym, ap, ◌∙◌, arith, Option, Some, None, Ok, Err}
 use Rattle.al_text.specs.declared.codes.YamlCode.{YamlCode}
 use Rattle.al_text.specs.declared.faults.Span.{Span}
-use Rattle.al_scalar.specs.Places.{lines_at}
+use Rattle.al_scalar.specs.Private.Places.{lines_at}
 use Rattle.al_scalar.specs.Scalar.{span}
 use Rattle.al_scalar.specs.Taken.{Fault}
 use Rattle.al_yaml.specs.Node.{Node}
@@ -33,7 +33,8 @@ abbrev span_part : {B : Type 0} → (B → Span → Node) → ℕ → Part B →
 span_part f at p = gives (part (f p.value (span at p.end)) p.end p.left)
 
 -- what is read of a collection behind a part of it
-pub spanned-answer : {A B : Type 0} (f : B → Span → Node) (at : ℕ) (s : State) (r : Reading A) (g : A → Reading (Part B)) → run s (spanned f at (r >>= g)) ≡ answered (run s r) (λ x. spanned f at (g x))
+pub spanned-answer : {A B : Type 0} (f : B → Span → Node) (at : ℕ) (s : State) (r : Reading A) (g : A → Reading (Part B))
+    → run s (spanned f at (r >>= g)) ≡ answered (run s r) (λ x. spanned f at (g x))
 spanned-answer f at s r g =
     bind-answer s (r >>= g) (span_part f at) ∙ ap (λ o. answered o (span_part f at)) (bind-answer s r g) ∙ answered-bind (run s r) g (span_part f at)
 
@@ -109,7 +110,8 @@ abbrev pub WholeStops : Answer (Part Node) → ReadError → Type 0
 WholeStops whole (stop.Fault f) = whole ≡ Err (fault_of f)
 WholeStops whole stop.Memory = Unit {0}
 
-module _ (bytes : List ℕ) (depth : ℕ) (whole : Answer (Part Node)) (fs : List Frame) (n : State) (opening : ℕ) (has : Open) (at d : ℕ) (deep : d ≡ depth + length fs + 1) (k : Inside bytes depth whole fs n opening has at) (here : at ≤ length bytes) where
+module _ (bytes : List ℕ) (depth : ℕ) (whole : Answer (Part Node)) (fs : List Frame) (n : State) (opening : ℕ) (has : Open) (at d : ℕ)
+    (deep : d ≡ depth + length fs + 1) (k : Inside bytes depth whole fs n opening has at) (here : at ≤ length bytes) where
   abbrev pub now : CollectionReader → ℕ → Answer (Part Node)
   now c t = run n (open_rest c (suc t) d opening has (lines_at bytes at))
 
@@ -138,7 +140,9 @@ module _ (bytes : List ℕ) (depth : ℕ) (whole : Answer (Part Node)) (fs : Lis
     same = ap (resumed depth (suc k.bound) fs k.rest) (sym (h (flow_collection k.bound) some.0)) ∙ one-turn some.0 some.1;
   }
 
-  pub inside-on : (m : State) (has' : Open) (next : ℕ) → ((c : CollectionReader) (t : ℕ) → now c t ≡ run m (open_rest c t d opening has' (lines_at bytes next))) → at < next → Inside bytes depth whole fs m opening has' next
+  pub inside-on : (m : State) (has' : Open) (next : ℕ)
+      → ((c : CollectionReader) (t : ℕ) → now c t ≡ run m (open_rest c t d opening has' (lines_at bytes next))) → at < next
+      → Inside bytes depth whole fs m opening has' next
   inside-on m has' next h l = record {
     bound = k.bound;
     turns = some.0;
@@ -150,7 +154,9 @@ module _ (bytes : List ℕ) (depth : ℕ) (whole : Answer (Part Node)) (fs : Lis
         ∙ ap (resumed depth (suc k.bound) fs k.rest) (sym (h (flow_collection k.bound) some.0)) ∙ one-turn some.0 some.1;
   }
 
-  module _ (m : State) (i : ℕ) (mk : Option Mark) (w : Waiting) (opens : (c : CollectionReader) (t : ℕ) → now c t ≡ answered (noting mk (run m (c d (lines_at bytes i)))) (waiting_rest c t d opening w)) (from : at ≤ i) (inside : i < length bytes) where
+  module _ (m : State) (i : ℕ) (mk : Option Mark) (w : Waiting)
+      (opens : (c : CollectionReader) (t : ℕ) → now c t ≡ answered (noting mk (run m (c d (lines_at bytes i))))
+      (waiting_rest c t d opening w)) (from : at ≤ i) (inside : i < length bytes) where
     level : (b : ℕ) × (k.bound ≡ suc b)
     level = predecessor k.bound (omega (arith, k.room, from, inside))
 
@@ -182,7 +188,9 @@ module _ (bytes : List ℕ) (depth : ℕ) (whole : Answer (Part Node)) (fs : Lis
           ∙ opened (Ok (part_of bytes q, j)) (h level.0);
     }
 
-    pub inside-opens : (j : State) (in_it : Open) (next : ℕ) → ((b : ℕ) → run m (flow_collection (suc b) d (lines_at bytes i)) ≡ run j (open_rest (flow_collection b) (suc b) (d + 1) i in_it (lines_at bytes next))) → i < next
+    pub inside-opens : (j : State) (in_it : Open) (next : ℕ)
+        → ((b : ℕ) → run m (flow_collection (suc b) d (lines_at bytes i))
+        ≡ run j (open_rest (flow_collection b) (suc b) (d + 1) i in_it (lines_at bytes next))) → i < next
         → Inside bytes depth whole (record { opening = opening; mark = mk; waiting = w } ∷ fs) j i in_it next
     inside-opens j in_it next h l =
         let f : Frame = record { opening = opening; mark = mk; waiting = w } in
@@ -207,7 +215,9 @@ module _ (bytes : List ℕ) (depth : ℕ) (whole : Answer (Part Node)) (fs : Lis
   waits-stops stop.Memory h = tt
 
   pub waits-inside : (has : Open) (at : ℕ)
-      → ((c : CollectionReader) (t : ℕ) → run n (then_rest c t) ≡ run n (open_rest c t (depth + length fs + 1) opening has (lines_at bytes at))) → p.next < at → Inside bytes depth whole fs n opening has at
+      → ((c : CollectionReader) (t : ℕ) → run n (then_rest c t) ≡ run n
+      (open_rest c t (depth + length fs + 1) opening has (lines_at bytes at)))
+      → p.next < at → Inside bytes depth whole fs n opening has at
   waits-inside has at h l = record {
     bound = k.bound;
     turns = k.turns;
@@ -268,7 +278,8 @@ inside-first bytes depth n m at next has bound h inside opens l =
           ∙ ap (λ b. run n (flow_collection b depth (lines_at bytes at))) (sym p.1);
     }
 
-pub empty-first : (bytes : List ℕ) (depth : ℕ) (n m : State) (at : ℕ) (p : code.Part) (bound : ℕ) → length bytes < bound + at → at < length bytes → ((b : ℕ) → run n (flow_collection (suc b) depth (lines_at bytes at)) ≡ Ok (part_of bytes p, m)) → at ≤ p.next
+pub empty-first : (bytes : List ℕ) (depth : ℕ) (n m : State) (at : ℕ) (p : code.Part) (bound : ℕ) → length bytes < bound
+    + at → at < length bytes → ((b : ℕ) → run n (flow_collection (suc b) depth (lines_at bytes at)) ≡ Ok (part_of bytes p, m)) → at ≤ p.next
     → Behind bytes depth (run n (flow_collection bound depth (lines_at bytes at))) [] m p
 empty-first bytes depth n m at p bound h inside opens l =
     let b = predecessor bound (omega (arith, h, inside)) in
@@ -280,7 +291,8 @@ empty-first bytes depth n m at p bound h inside opens l =
       same = sym (opens b.0) ∙ ap (λ b. run n (flow_collection b depth (lines_at bytes at))) (sym b.1);
     }
 
-pub broken-first : (bytes : List ℕ) (depth : ℕ) (n : State) (at : ℕ) (bound : ℕ) (f : Fault) → length bytes < bound + at → at < length bytes → ((b : ℕ) → run n (flow_collection (suc b) depth (lines_at bytes at)) ≡ Err f)
+pub broken-first : (bytes : List ℕ) (depth : ℕ) (n : State) (at : ℕ) (bound : ℕ) (f : Fault) → length bytes < bound + at → at < length bytes
+    → ((b : ℕ) → run n (flow_collection (suc b) depth (lines_at bytes at)) ≡ Err f)
     → run n (flow_collection bound depth (lines_at bytes at)) ≡ Err f
 broken-first bytes depth n at bound f h inside k =
     let p = predecessor bound (omega (arith, h, inside)) in

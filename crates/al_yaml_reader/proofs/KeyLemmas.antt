@@ -4,7 +4,8 @@ use Rattle.std.specs.Prelude.{nat_le, nat_lt}
 use Rattle.std.proofs.lemmas.Grind.{common_steps}
 use Rattle.al_scalar.proofs.FoldLemmas.{end-with_return}
 use Rattle.al_scalar.specs.Line.{Cell, Line, lines, is_break, with_cell, with_return, begins, begins_blank, after_blanks, is_blank_or_end, blanks_dropped}
-use Rattle.al_scalar.specs.Places.{lines_at, first_text, first_end, text_at, IsBreakByte, IsLineEnd}
+use Rattle.al_scalar.specs.Places.{first_text, first_end}
+use Rattle.al_scalar.specs.Private.Places.{lines_at, text_at, IsBreakByte, IsLineEnd}
 use Rattle.std.proofs.Common.{zero}
 use Rattle.std.proofs.lemmas.Bool.{eqb-true}
 use Rattle.al_scalar.specs.Plain.{Context, flow, block, is_value_colon, ends_key, begins_flow_indicator}
@@ -57,7 +58,8 @@ other_line bytes from i to o h k e =
 
 -- ---- characters
 
-line_end-before : (bytes : List ℕ) (from i to : ℕ) → i < to → to ≤ length bytes → same_line (lines_at bytes from) (lines_at bytes to) ≡ true → first_end (lines_at bytes from) ≡ first_end (lines_at bytes i)
+line_end-before : (bytes : List ℕ) (from i to : ℕ) → i < to → to ≤ length bytes → same_line (lines_at bytes from) (lines_at bytes to) ≡ true
+    → first_end (lines_at bytes from) ≡ first_end (lines_at bytes i)
     → IsLineEnd bytes i → ⊥
 line_end-before bytes from i to o h s e k =
     let here = end-here bytes i (omega arith) k in

@@ -4,8 +4,8 @@ use Rattle.al_text.specs.declared.faults.Span.{Span}
 use Rattle.al_scalar.specs.Line.{Line}
 use Rattle.al_scalar.specs.Scalar as value
 use Rattle.al_scalar.specs.Scalar.{span}
-use Rattle.al_scalar.specs.Places.{lines_at}
-use Rattle.al_scalar.specs.Contract.{read_of}
+use Rattle.al_scalar.specs.Private.Places.{lines_at}
+use Rattle.al_scalar.specs.Private.Contract.{read_of}
 use Rattle.al_scalar.specs.declared.scalars.ScalarRead.{ScalarRead}
 use Rattle.al_yaml.specs.Flow.{empty_node}
 use Rattle.al_yaml_reader.specs.declared.part.Part as code
@@ -92,7 +92,8 @@ module _ (asked : Result value.ScalarRead Fault) (n m : State) (at : ℕ) (fits 
   scalar-starts = run-start n 1 at 0 (scalar_reading asked) fits ∙ ap (λ i. run i (scalar_reading asked)) (sym more)
 
   pub scalar-stops : (e : ReadError) → Refuses asked e → Stops (listed (start_of at 1 0) (scalar_reading asked)) n e
-  scalar-stops e h = stops-from (listed (start_of at 1 0) (scalar_reading asked)) (scalar_reading asked) n m e scalar-starts (stops-given asked (λ r. gives (part (tree.scalar_node r) r.span.end r.left)) m e h)
+  scalar-stops e h = stops-from (listed (start_of at 1 0) (scalar_reading asked)) (scalar_reading asked) n m e scalar-starts
+      (stops-given asked (λ r. gives (part (tree.scalar_node r) r.span.end r.left)) m e h)
 
   pub scalar-ok : (bytes : List ℕ) (r : ScalarRead) (p : code.Part) → asked ≡ Ok (read_of bytes r) → view p.node ≡ tree.scalar r.scalar r.span → p.end ≡ r.span.end → p.next ≡ r.next
       → run n (listed (start_of at 1 0) (scalar_reading asked)) ≡ Ok (part_of bytes p, m)

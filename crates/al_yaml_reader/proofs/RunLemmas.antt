@@ -61,7 +61,8 @@ goes-state n t xs ys k r b =
 goes-after : {B : Type 0} (n t : ℕ) (xs : List Start) (o : Outcome B) → broken_limit n t xs ≡ None
     → run_outcome (record { nodes = n; text = t; known = o.known }) (after xs o) ≡ run_outcome (record { nodes = n + nodes_listed xs; text = t + text_listed xs; known = o.known }) o
 goes-after n t xs o h =
-    ap (λ b. finished (record { nodes = n + nodes_listed (xs ++ o.starts); text = t + text_listed (xs ++ o.starts); known = o.known }) (unless_broken b o.answer)) (broken_limit-append n t xs o.starts h)
+    ap (λ b. finished (record { nodes = n + nodes_listed (xs ++ o.starts); text = t + text_listed (xs ++ o.starts); known = o.known })
+    (unless_broken b o.answer)) (broken_limit-append n t xs o.starts h)
     ∙ goes-state n t xs o.starts o.known o.answer (broken_limit (n + nodes_listed xs) (t + text_listed xs) o.starts)
 
 bind-cases : {A B : Type 0} (n t : ℕ) (ss : List Start) (r : Result A Fault) (k : Known) (f : A → Reading B) (x : A) (u : State) (broken : Option Fault) → broken_limit n t ss ≡ broken

@@ -1,6 +1,6 @@
 //! Anchors (YAML 1.2.2, 6.9.2), the nodes that they name, and the aliases that stand for them (7.1).
 
-ghost use Rattle.al_scalar.specs.Places.{cells_between, lines_at, text_at, with_cells_before};
+ghost use Rattle.al_scalar.specs.Private.Places.{cells_between, lines_at, text_at, with_cells_before};
 ghost use Rattle.al_yaml.specs.Content as content;
 ghost use Rattle.al_yaml_reader.specs.Private.Files.{left_at, size};
 ghost use Rattle.al_yaml.specs.Reading as reading;

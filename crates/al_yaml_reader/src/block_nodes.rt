@@ -1,6 +1,6 @@
 //! Nodes in block context that are read whole, and collections that begin.
 
-ghost use Rattle.al_scalar.specs.Places.{lines_at, text_at};
+ghost use Rattle.al_scalar.specs.Private.Places.{lines_at, text_at};
 ghost use Rattle.al_yaml_reader.specs.Private.BlockFrames.{Begins, IsBegun, IsNodeAt, node_reader};
 ghost use Rattle.al_yaml_reader.specs.Private.FlowFrames.{completing};
 ghost use Rattle.al_yaml_reader.specs.Private.BlockReads.{IsKeyBehind, IsTabInside, key_seen, slot_of, spot_of};
@@ -11,7 +11,6 @@ ghost use Rattle.al_yaml.specs.Flow as flow;
 ghost use Rattle.al_yaml.specs.Keys as keys;
 ghost use Rattle.al_yaml_reader.specs.Private.Reads.{IsBehind, IsRead, IsStopInside, part_of, state_of};
 ghost use Rattle.al_yaml_reader.specs.Stacks.{depth_in};
-ghost use Rattle.al_yaml.specs.View.{view};
 ghost use Rattle.std.specs.Prelude.{IfErr, IfOk, [], length, not, suc, true, ℕ, ◌&&◌, ◌+◌, ◌<◌, ◌||◌, ◌≡◌, ◌≤◌};
 
 use crate::anchors::{has_no_name, property_end};

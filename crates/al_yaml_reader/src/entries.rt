@@ -1,6 +1,6 @@
 //! Further entries of open block collections, and lines that begin none.
 
-ghost use Rattle.al_scalar.specs.Places.{lines_at, text_at};
+ghost use Rattle.al_scalar.specs.Private.Places.{lines_at, text_at};
 ghost use Rattle.al_yaml_reader.specs.Private.BlockReads.{IsKeyBehind, key_seen};
 ghost use Rattle.al_yaml.specs.Content as content;
 ghost use Rattle.al_yaml_reader.specs.Private.Files.{left_at, size};

@@ -1,7 +1,7 @@
 //! Flow collections, read forward: the loop over the open ones, and its steps.
 
-ghost use Rattle.al_scalar.specs.Contract.{read_of};
-ghost use Rattle.al_scalar.specs.Places.{lines_at, text_at};
+ghost use Rattle.al_scalar.specs.Private.Contract.{read_of};
+ghost use Rattle.al_scalar.specs.Private.Places.{lines_at, text_at};
 ghost use Rattle.al_yaml.specs.Content as content;
 ghost use Rattle.al_yaml_reader.specs.Private.Files.{left_at, size};
 ghost use Rattle.al_yaml.specs.Flow as flow;

@@ -1,8 +1,8 @@
 //! Keys: what may be one, and the colon behind it.
 
-ghost use Rattle.al_scalar.specs.Contract.{read_of};
+ghost use Rattle.al_scalar.specs.Private.Contract.{read_of};
 ghost use Rattle.al_scalar.specs.Line as line;
-ghost use Rattle.al_scalar.specs.Places.{lines_at, text_at};
+ghost use Rattle.al_scalar.specs.Private.Places.{lines_at, text_at};
 ghost use Rattle.al_scalar.specs.Plain as plain;
 ghost use Rattle.al_yaml_reader.specs.Private.BlockReads.{IsOptionKey, option_key};
 ghost use Rattle.al_yaml.specs.Content as content;

@@ -1,7 +1,7 @@
 //! Scalars and empty nodes, and where they end.
 
-ghost use Rattle.al_scalar.specs.Contract.{read_of, reading_at};
-ghost use Rattle.al_scalar.specs.Places.{lines_at};
+ghost use Rattle.al_scalar.specs.Private.Contract.{read_of, reading_at};
+ghost use Rattle.al_scalar.specs.Private.Places.{lines_at};
 ghost use Rattle.al_yaml.specs.Blocks as block;
 ghost use Rattle.al_yaml_reader.specs.Private.Files.{left_at, size};
 ghost use Rattle.al_yaml.specs.Flow as flow;

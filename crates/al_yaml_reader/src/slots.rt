@@ -1,6 +1,6 @@
 //! Where a node in block context stands.
 
-ghost use Rattle.al_scalar.specs.Places.{lines_at, text_at};
+ghost use Rattle.al_scalar.specs.Private.Places.{lines_at, text_at};
 ghost use Rattle.al_yaml_reader.specs.Private.BlockReads.{IsTabInside, slot_of, spot_of};
 ghost use Rattle.al_yaml.specs.Blocks as block;
 ghost use Rattle.std.specs.Prelude.{length, ◌≡◌, ◌≤◌};

@@ -8,7 +8,7 @@ use Rattle.al_contexts.specs.Answered.{known_of}
 use Rattle.al_contexts.specs.Contexts.{jobs_of}
 use Rattle.al_contexts.specs.Private.Environment.{Fixed, OfSection, owned, owned_fields, owner_in, owner_view}
 use Rattle.al_contexts.specs.Private.Lookups.{known_by}
-use Rattle.al_contexts.specs.Objects.{IsIndex}
+use Rattle.al_contexts.specs.Private.Indexes.{IsIndex}
 use Rattle.al_contexts.specs.declared.env.Env.{Env}
 use Rattle.al_contexts.specs.declared.env.File.{File}
 

@@ -5,7 +5,7 @@ use Rattle.std.specs.Option.{option_eq}
 use Rattle.std.specs.Str.{bytes_eq}
 use Rattle.al_text.specs.contracts.faults.SpanPartialEq.TheImpl as span
 use Rattle.al_scalar.specs.Scalar.{text_of}
-use Rattle.al_types.specs.TypeViews.{form_of}
+use Rattle.al_types.specs.Private.TypeParts.{form_of}
 use Rattle.al_types.specs.contracts.types.FormPartialEq.TheImpl as outermost
 use Rattle.al_yaml.specs.Node.{Node, span_of}
 use Rattle.al_shape.specs.Keys.{key_of}

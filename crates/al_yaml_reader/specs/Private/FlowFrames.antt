@@ -1,9 +1,9 @@
 -- How contracts speak of open flow collections.
 use Rattle.std.specs.Prelude.{◌≡◌, ℕ, suc, ◌+◌, ◌<◌, ◌≤◌, List, [], ◌∷◌, length, map, true, Option, Some, None, option_map, Result, Ok, Err}
 use Rattle.al_text.specs.declared.codes.YamlCode.TheVariants as yaml
-use Rattle.al_scalar.specs.Contract.{read_of}
+use Rattle.al_scalar.specs.Private.Contract.{read_of}
 use Rattle.al_scalar.specs.Line.{Line, start, begins}
-use Rattle.al_scalar.specs.Places.{lines_at, text_at}
+use Rattle.al_scalar.specs.Private.Places.{lines_at, text_at}
 use Rattle.al_scalar.specs.Scalar.{span}
 use Rattle.al_yaml.specs.Node as tree
 use Rattle.al_yaml.specs.Reading.{Reading, Part, part, anchored, fails, gives, alias, ◌>>=◌}

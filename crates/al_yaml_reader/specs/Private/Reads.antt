@@ -3,7 +3,7 @@ use Rattle.std.specs.Prelude.{◌≡◌, ℕ, ◌+◌, ◌<◌, ◌≤◌, List,
 use Rattle.std.specs.BTreeMap.{get_by}
 use Rattle.std.specs.Cmp.Lexicographic.{slice_cmp}
 use Rattle.std.specs.Ordering.{nat_cmp}
-use Rattle.al_scalar.specs.Places.{lines_at}
+use Rattle.al_scalar.specs.Private.Places.{lines_at}
 use Rattle.al_scalar.specs.Taken.{Fault}
 use Rattle.al_yaml.specs.Node as tree
 use Rattle.al_yaml.specs.Content.{anchor_name}
@@ -12,7 +12,7 @@ use Rattle.al_yaml.specs.Limits.{limited_from, nodes_listed, text_listed}
 use Rattle.al_yaml.specs.View.{view}
 use Rattle.al_yaml_reader.specs.Private.Places.{fault_of, option_lines, IsReadInside}
 use Rattle.al_yaml.specs.Flow as flow
-use Rattle.al_scalar.specs.Contract.{read_of}
+use Rattle.al_scalar.specs.Private.Contract.{read_of}
 use Rattle.al_yaml_reader.specs.declared.flow.After.{After}
 use Rattle.al_yaml_reader.specs.declared.flow.After.TheVariants as after
 use Rattle.al_yaml_reader.specs.declared.flow_nodes.FlowKey.{FlowKey}

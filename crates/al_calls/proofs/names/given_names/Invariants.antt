@@ -1,6 +1,6 @@
 use Rattle.std.proofs.Common.{◌≡◌, take, map}
 use Rattle.al_declarations.specs.Declarations.{named_among, names_of}
-use Rattle.al_declarations.specs.NameSets.{holds}
+use Rattle.al_declarations.specs.Private.NameSets.{holds}
 use Rattle.al_shape.specs.Values.{member_of}
 use Rattle.al_calls.proofs.names.given_names.Given as goal
 

@@ -1,4 +1,4 @@
-use Rattle.std.proofs.Common.{◌∙◌, ap, ◌≡◌, ◌≤◌, length, sym, subst, arith}
+use Rattle.std.proofs.Common.{◌∙◌, ap, ◌≡◌, ◌≤◌, length, sym, subst}
 use Rattle.std.specs.Prelude.{Ok}
 use Rattle.al_yaml.proofs.LaidLemmas.{laid-higher}
 use Rattle.al_yaml.specs.Document.{tree_of}

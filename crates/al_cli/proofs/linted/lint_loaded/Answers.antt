@@ -5,9 +5,12 @@ use Rattle.al_cli.proofs.linted.lint_loaded.Goals as goal
 pub returns-in_err-flush-clause-stopped : goal.returns-in_err-flush-clause-stopped
 returns-in_err-flush-clause-stopped g c =
     let p = err_from_is_err_and c.from_residual-in_err-flush.result c.from_residual-in_err-flush.ensures.1 in
-    rw (p.1, p.2) (stopped_late c.args.oneline c.in_ok-session.session.folder c.args.files.folder _ _ _ _ c.in_ok-session.ensures.folder c.in_err-flush.ensures.err c.in_ok-report.ensures.all c.in_err-flush.ensures.bytes)
+    rw (p.1, p.2) (stopped_late c.args.oneline c.in_ok-session.session.folder c.args.files.folder _ _ _ _ c.in_ok-session.ensures.folder
+    c.in_err-flush.ensures.err c.in_ok-report.ensures.all c.in_err-flush.ensures.bytes)
 
 pub returns-in_err-report-clause-stopped : goal.returns-in_err-report-clause-stopped
 returns-in_err-report-clause-stopped g c =
     let p = err_from_is_err_and c.from_residual-in_err-report.result c.from_residual-in_err-report.ensures.1 in
-    rw (p.1, p.2) (stopped_report c.args.oneline c.in_ok-session.session.folder c.args.files.folder _ _ _ c.report.result c.in_ok-session.ensures.folder (c.in_err-report.was {u = tt}) c.in_err-report.ensures.front c.report.ensures.memory c.report.ensures.no_read)
+    rw (p.1, p.2) (stopped_report c.args.oneline c.in_ok-session.session.folder c.args.files.folder _ _ _ c.report.result
+    c.in_ok-session.ensures.folder (c.in_err-report.was {u = tt}) c.in_err-report.ensures.front c.report.ensures.memory
+    c.report.ensures.no_read)

@@ -10,7 +10,7 @@ pub returns-clause-types : goal.returns-clause-types
 returns-clause-types c =
     let f = c.args.file in
     let here = c.in_ok-see.ensures.same ∙ c.in_ok-enter.ensures.same in
-    let section = rw here at c.in_ok-see.ensures.section in
-    let owner = c.in_ok-see.ensures.owner ∙ c.in_ok-enter.ensures.owner ∙ ap (owner_in f.kind (view f.root.now)) c.in_ok-enter.ensures.same in
-    all_types f _ (position_view c.args.position) c.in_ok-see.ensures.fixed section
+    let section = rw here at c.in_ok-see.ensures.stands.section in
+    let owner = c.in_ok-see.ensures.stands.owner ∙ ap (owner_in f.kind (view f.root.now)) here in
+    all_types f _ (position_view c.args.position) c.in_ok-see.ensures.stands.fixed section
     (c.in_ok-see.ensures.seen ∙ ap (λ o. owned (known_of f.known.now) o (seen_view c.args.position.seen)) owner)

@@ -1,9 +1,9 @@
 use Rattle.std.proofs.Common.{ap, sym, ◌∙◌, option_map}
-use Rattle.al_declarations.specs.Positions.{name_position}
+use Rattle.al_declarations.specs.Private.Positions.{name_position}
 use Rattle.al_places.specs.Positions.{before}
 use Rattle.al_contexts.specs.Private.Environment.{owned_fields, owner_view}
 use Rattle.al_contexts.specs.Private.Lookups.{known_by}
-use Rattle.al_contexts.specs.Objects.{name_at}
+use Rattle.al_contexts.specs.Private.Indexes.{name_at}
 use Rattle.al_contexts.proofs.env.see.Goals as goal
 
 pub seen_steps-requires-clause-ids : goal.seen_steps-requires-clause-ids

@@ -1,6 +1,6 @@
 use Rattle.std.proofs.Common.{map, take}
-use Rattle.al_types.specs.TypeViews.{field_of}
-use Rattle.al_contexts.specs.Objects.{IsIndex}
+use Rattle.al_types.specs.Private.TypeParts.{field_of}
+use Rattle.al_contexts.specs.Private.Indexes.{IsIndex}
 use Rattle.al_contexts.proofs.field_lists.positions_of.Given as goal
 
 abbrev pub invariant-loop-i : goal.invariant-loop-i

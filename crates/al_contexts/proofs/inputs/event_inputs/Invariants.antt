@@ -1,5 +1,5 @@
 use Rattle.std.proofs.Common.{◌≡◌, ◌++◌, drop, map}
-use Rattle.al_types.specs.TypeViews.{field_of}
+use Rattle.al_types.specs.Private.TypeParts.{field_of}
 use Rattle.al_shape.specs.Values.{member_of}
 use Rattle.al_contexts.specs.Inputs.{input_field}
 use Rattle.al_contexts.proofs.inputs.event_inputs.Given as goal

@@ -1,6 +1,6 @@
 use Rattle.std.proofs.Common.{◌≡◌, ◌∙◌, ap, rules}
 use Rattle.std.specs.Str.{bytes_eq}
-use Rattle.al_declarations.specs.Positions.{and_text_at, text_position}
+use Rattle.al_declarations.specs.Private.Positions.{and_text_at, text_position}
 use Rattle.al_declarations.proofs.PositionLemmas.{position_next}
 use Rattle.al_shape.specs.Keys.{key_of}
 use Rattle.al_shape.specs.Values.{member_of}

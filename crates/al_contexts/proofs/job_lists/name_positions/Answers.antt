@@ -1,5 +1,5 @@
 use Rattle.std.proofs.Common.{◌≡◌, ◌∙◌, ap, rules}
-use Rattle.al_declarations.specs.Positions.{and_name_at, name_position}
+use Rattle.al_declarations.specs.Private.Positions.{and_name_at, name_position}
 use Rattle.al_declarations.proofs.PositionLemmas.{position_next}
 use Rattle.al_shape.specs.Keys.{key_of}
 use Rattle.al_shape.specs.Values.{member_of}

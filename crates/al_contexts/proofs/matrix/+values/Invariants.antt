@@ -1,5 +1,6 @@
 use Rattle.std.proofs.Common.{◌≡◌, drop, map, option_map, None, []}
-use Rattle.al_types.specs.TypeViews.{field_of, ty_of}
+use Rattle.al_types.specs.TypeViews.{ty_of}
+use Rattle.al_types.specs.Private.TypeParts.{field_of}
 use Rattle.al_yaml.specs.View.{entries_of, entry_view, nodes_of, view}
 use Rattle.al_contexts.specs.Matrix.{entries_types, items_type}
 use Rattle.al_contexts.proofs.matrix.+values.Given as goal

@@ -1,6 +1,6 @@
 use Rattle.std.proofs.Common.{◌≡◌, drop, map}
 use Rattle.al_yaml.specs.View.{view}
-use Rattle.al_types.specs.TypeViews.{field_of}
+use Rattle.al_types.specs.Private.TypeParts.{field_of}
 use Rattle.al_contexts.specs.Matrix.{include_all}
 use Rattle.al_contexts.proofs.matrix.include.Given as goal
 

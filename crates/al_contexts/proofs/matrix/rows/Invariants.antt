@@ -1,7 +1,7 @@
 use Rattle.std.proofs.Common.{◌≡◌, [], drop, map}
 use Rattle.std.specs.List.{filter_map}
 use Rattle.al_shape.specs.Values.{member_of}
-use Rattle.al_types.specs.TypeViews.{field_of}
+use Rattle.al_types.specs.Private.TypeParts.{field_of}
 use Rattle.al_contexts.specs.Matrix.{row_field}
 use Rattle.al_contexts.specs.Objects.{put_all, put_new}
 use Rattle.al_contexts.proofs.matrix.rows.Given as goal

@@ -1,5 +1,5 @@
 use Rattle.std.proofs.Common.{◌≡◌, ◌++◌, drop, map}
-use Rattle.al_types.specs.TypeViews.{field_of}
+use Rattle.al_types.specs.Private.TypeParts.{field_of}
 use Rattle.al_contexts.specs.Objects.{strings}
 use Rattle.al_contexts.proofs.objects.add_listed.Given as goal
 

@@ -9,6 +9,7 @@ use Rattle.al_events.proofs.events.check_names.Given as goal
 -- what was added, and the faults of what is left, are the faults of all
 abbrev pub invariant-loop-name : goal.invariant-loop-name
 invariant-loop-name l = record {
-  all : l.out.items ++ flat_map (λ s. name_faults (of_scalar s)) (map scalar_node_of (drop l.name-index l.names)) ≡ l.fn.out.items ++ flat_map (λ s. name_faults (of_scalar s)) (map scalar_node_of (l.names));
+  all : l.out.items ++ flat_map (λ s. name_faults (of_scalar s)) (map scalar_node_of (drop l.name-index l.names)) ≡ l.fn.out.items
+      ++ flat_map (λ s. name_faults (of_scalar s)) (map scalar_node_of (l.names));
   begins : BeginsWith l.out.items l.fn.out.items;
 }

@@ -9,6 +9,7 @@ use Rattle.al_events.proofs.events.check_patterns.Given as goal
 -- what was added, and the faults of what is left, are the faults of all
 abbrev pub invariant-loop-scalar : goal.invariant-loop-scalar
 invariant-loop-scalar l = record {
-  all : l.out.items ++ flat_map (λ s. pattern_faults l.filter (of_scalar s)) (map scalar_node_of (drop l.scalar-index l.scalars)) ≡ l.fn.out.items ++ flat_map (λ s. pattern_faults l.filter (of_scalar s)) (map scalar_node_of (l.scalars));
+  all : l.out.items ++ flat_map (λ s. pattern_faults l.filter (of_scalar s)) (map scalar_node_of (drop l.scalar-index l.scalars))
+      ≡ l.fn.out.items ++ flat_map (λ s. pattern_faults l.filter (of_scalar s)) (map scalar_node_of (l.scalars));
   begins : BeginsWith l.out.items l.fn.out.items;
 }

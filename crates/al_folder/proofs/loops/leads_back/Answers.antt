@@ -1,8 +1,10 @@
 use Rattle.std.proofs.Common.{◌≡◌, ◌∙◌, ◌<◌, None, Some, length, get_or, ap, sym, subst, arith}
 use Rattle.std.proofs.lemmas.List.{length-map}
 use Rattle.al_folder.specs.Kept.{folder_of}
-use Rattle.al_folder.specs.Loops.{IsCalledBy, calls_graph, leads_back, called}
-use Rattle.al_folder.proofs.Looping.{labels_same, labels_tell, called_below}
+use Rattle.al_folder.specs.Loops.{calls_graph, leads_back, called}
+use Rattle.al_folder.specs.Private.CallGraphs.{IsCalledBy}
+use Rattle.al_folder.proofs.Looping.{labels_tell, called_below}
+use Rattle.al_graph.proofs.Labels.{labels_same}
 use Rattle.al_folder.proofs.loops.leads_back.Goals as goal
 
 pub returns-in-Some : goal.returns-in-Some

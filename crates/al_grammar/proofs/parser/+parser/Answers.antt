@@ -5,7 +5,8 @@ use Rattle.al_grammar.specs.Lexeme.{seen}
 use Rattle.al_grammar.proofs.Trees.{tree_of-Keyword, tree_of-Number, tree_of-Text, tree_of-Name, tree_of-Call, tree_of-Group, tree_of-Not, step_of-All, step_of-Index, operand_of-made}
 use Rattle.al_grammar.proofs.Rules.{constant_read, number_read, text_read, name_read, group_read, call_empty_read, each_read, index_read, index_refused}
 use Rattle.al_grammar.proofs.Chains.{not_read, positive_read, positive_refused, steps_read, path_begins, path_goes_on, chain_begins, chain_goes_on, operands_read, either_way}
-use Rattle.al_grammar.proofs.Front.{no_call, no_close, no_star, first_argument_refused, first_argument_read, later_argument_refused, later_argument_read, call_closed, call_not_closed, index_not_closed}
+use Rattle.al_grammar.proofs.Front.{no_call, no_close, no_star, first_argument_refused, first_argument_read, later_argument_refused}
+use Rattle.al_grammar.proofs.Front.{later_argument_read, call_closed, call_not_closed, index_not_closed}
 use Rattle.al_grammar.proofs.parser.+parser.Goals as goal
 
 pub primary-returns-in-Keyword : goal.primary-returns-in-Keyword
@@ -47,7 +48,9 @@ pub call-returns-in_err-close : goal.call-returns-in_err-close
 call-returns-in_err-close t c =
     let p = err_from_is_err_and c.from_residual-in_err-close.result c.from_residual-in_err-close.ensures.1 in
     rw (p.1, p.2, c.requires.name, c.requires.bracket)
-    (call_not_closed c.args.room c.in_ok-inner.inner c.args.name.text.now c.args.bracket.text.now c.args.name.span c.args.bracket.span (map seen c.args.tokens.now) c.in_ok-inner.ensures (no_close _ c.in_default.ensures) _ _ _ c.in_ok-given.ensures c.in_err-close.ensures)
+    (call_not_closed c.args.room c.in_ok-inner.inner c.args.name.text.now c.args.bracket.text.now c.args.name.span c.args.bracket.span
+    (map seen c.args.tokens.now) c.in_ok-inner.ensures (no_close _ c.in_default.ensures) _ _ _ c.in_ok-given.ensures
+    c.in_err-close.ensures)
 
 pub call-returns : goal.call-returns
 call-returns t c =
@@ -102,13 +105,15 @@ index-returns-in-Some t c =
 pub index-returns-in_err-expr : goal.index-returns-in_err-expr
 index-returns-in_err-expr t c =
     let p = err_from_is_err_and c.from_residual-in_err-expr.result c.from_residual-in_err-expr.ensures.1 in
-    rw (p.1, p.2, c.requires) (index_refused c.args.room c.in_ok-inner.inner c.args.bracket.text.now c.args.bracket.span (map seen c.args.tokens.now) c.in_ok-inner.ensures _ (no_star _ c.in_default.ensures) c.in_err-expr.ensures)
+    rw (p.1, p.2, c.requires) (index_refused c.args.room c.in_ok-inner.inner c.args.bracket.text.now c.args.bracket.span
+    (map seen c.args.tokens.now) c.in_ok-inner.ensures _ (no_star _ c.in_default.ensures) c.in_err-expr.ensures)
 
 pub index-returns-in_err-close-2 : goal.index-returns-in_err-close-2
 index-returns-in_err-close-2 t c =
     let p = err_from_is_err_and c.from_residual-in_err-close-2.result c.from_residual-in_err-close-2.ensures.1 in
     rw (p.1, p.2, c.requires)
-    (index_not_closed c.args.room c.in_ok-inner.inner c.args.bracket.text.now c.args.bracket.span (map seen c.args.tokens.now) c.in_ok-inner.ensures _ _ _ c.in_ok-expr.ensures (no_star _ c.in_default.ensures) c.in_err-close-2.ensures)
+    (index_not_closed c.args.room c.in_ok-inner.inner c.args.bracket.text.now c.args.bracket.span (map seen c.args.tokens.now)
+    c.in_ok-inner.ensures _ _ _ c.in_ok-expr.ensures (no_star _ c.in_default.ensures) c.in_err-close-2.ensures)
 
 pub index-returns : goal.index-returns
 index-returns t c =

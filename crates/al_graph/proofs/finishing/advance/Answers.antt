@@ -10,13 +10,15 @@ pub returns-in_default-clause-search : goal.returns-in_default-clause-search
 returns-in_default-clause-search c =
     let none : c.args.frame.rest.now ≡ [] = search rules in
     let items : c.push.new.self.items ≡ c.args.order.now.items ++ c.args.frame.node ∷ [] = search rules in
-    step_finish (edges_of c.args.graph.now) c.args.seen.now.items (frames_of c.args.frames.now.items) c.args.order.now.items c.push.new.self.items c.args.frame.node c.args.frame.rest.now none items c.requires.search
+    step_finish (edges_of c.args.graph.now) c.args.seen.now.items (frames_of c.args.frames.now.items) c.args.order.now.items
+    c.push.new.self.items c.args.frame.node c.args.frame.rest.now none items c.requires.search
 
 pub index-requires : goal.index-requires
 index-requires c =
     let is : c.args.frame.rest.now ≡ c.in-Some.next ∷ c.in-Some.rest.now = search rules in
     let edge : Edge (edges_of c.args.graph.now) c.args.frame.node c.in-Some.next =
-    step_edge (edges_of c.args.graph.now) c.args.seen.now.items (frames_of c.args.frames.now.items) c.args.order.now.items c.args.frame.node c.in-Some.next c.args.frame.rest.now c.in-Some.rest.now is c.requires.search in
+    step_edge (edges_of c.args.graph.now) c.args.seen.now.items (frames_of c.args.frames.now.items) c.args.order.now.items c.args.frame.node
+    c.in-Some.next c.args.frame.rest.now c.in-Some.rest.now is c.requires.search in
     let below : c.in-Some.next < length c.args.graph.now = c.requires.edges_in c.args.frame.node c.in-Some.next edge in
     let size : length c.args.seen.now.items ≡ length (edges_of c.args.graph.now) = c.requires.search.begun.size in
     let nodes : length (edges_of c.args.graph.now) ≡ length c.args.graph.now = length-map c.args.graph.now _ in
@@ -26,45 +28,57 @@ pub returns-then-index-clause-search : goal.returns-then-index-clause-search
 returns-then-index-clause-search c =
     let is : c.args.frame.rest.now ≡ c.in-Some.next ∷ c.in-Some.rest.now = search rules in
     let edge : Edge (edges_of c.args.graph.now) c.args.frame.node c.in-Some.next =
-    step_edge (edges_of c.args.graph.now) c.args.seen.now.items (frames_of c.args.frames.now.items) c.args.order.now.items c.args.frame.node c.in-Some.next c.args.frame.rest.now c.in-Some.rest.now is c.requires.search in
+    step_edge (edges_of c.args.graph.now) c.args.seen.now.items (frames_of c.args.frames.now.items) c.args.order.now.items c.args.frame.node
+    c.in-Some.next c.args.frame.rest.now c.in-Some.rest.now is c.requires.search in
     let below : c.in-Some.next < length c.args.graph.now = c.requires.edges_in c.args.frame.node c.in-Some.next edge in
     let size : length c.args.seen.now.items ≡ length (edges_of c.args.graph.now) = c.requires.search.begun.size in
     let nodes : length (edges_of c.args.graph.now) ≡ length c.args.graph.now = length-map c.args.graph.now _ in
     let inside : c.in-Some.next < length c.args.seen.now.items = omega (arith, below, size, nodes) in
-    let pushed : frames_of c.push-2.new.self.items ≡ frames_of c.args.frames.now.items ++ (c.args.frame.node, c.in-Some.rest.now) ∷ [] = ap frames_of c.in_ok-push-2.ensures.items ∙ map-append frame_of c.args.frames.now.items _ in
+    let pushed : frames_of c.push-2.new.self.items ≡ frames_of c.args.frames.now.items ++ (c.args.frame.node, c.in-Some.rest.now)
+    ∷ [] = ap frames_of c.in_ok-push-2.ensures.items ∙ map-append frame_of c.args.frames.now.items _ in
     let marked : get_or c.args.seen.now.items c.in-Some.next false ≡ true = read_at c.args.seen.now.items c.in-Some.next c.index.result.now false inside c.index.ensures ∙ c.if-index.true in
-    step_pass (edges_of c.args.graph.now) c.args.seen.now.items (frames_of c.args.frames.now.items) (frames_of c.push-2.new.self.items) c.args.order.now.items c.args.frame.node c.in-Some.next c.args.frame.rest.now c.in-Some.rest.now is pushed marked c.requires.search
+    step_pass (edges_of c.args.graph.now) c.args.seen.now.items (frames_of c.args.frames.now.items) (frames_of c.push-2.new.self.items)
+    c.args.order.now.items c.args.frame.node c.in-Some.next c.args.frame.rest.now c.in-Some.rest.now is pushed marked c.requires.search
 
 pub enter-requires-clause-node_in : goal.enter-requires-clause-node_in
 enter-requires-clause-node_in c =
     let is : c.args.frame.rest.now ≡ c.in-Some.next ∷ c.in-Some.rest.now = search rules in
     c.requires.edges_in c.args.frame.node c.in-Some.next
-    (step_edge (edges_of c.args.graph.now) c.args.seen.now.items (frames_of c.args.frames.now.items) c.args.order.now.items c.args.frame.node c.in-Some.next c.args.frame.rest.now c.in-Some.rest.now is c.requires.search)
+    (step_edge (edges_of c.args.graph.now) c.args.seen.now.items (frames_of c.args.frames.now.items) c.args.order.now.items
+    c.args.frame.node c.in-Some.next c.args.frame.rest.now c.in-Some.rest.now is c.requires.search)
 
 pub returns-clause-search : goal.returns-clause-search
 returns-clause-search c =
     let is : c.args.frame.rest.now ≡ c.in-Some.next ∷ c.in-Some.rest.now = search rules in
     let edge : Edge (edges_of c.args.graph.now) c.args.frame.node c.in-Some.next =
-    step_edge (edges_of c.args.graph.now) c.args.seen.now.items (frames_of c.args.frames.now.items) c.args.order.now.items c.args.frame.node c.in-Some.next c.args.frame.rest.now c.in-Some.rest.now is c.requires.search in
+    step_edge (edges_of c.args.graph.now) c.args.seen.now.items (frames_of c.args.frames.now.items) c.args.order.now.items c.args.frame.node
+    c.in-Some.next c.args.frame.rest.now c.in-Some.rest.now is c.requires.search in
     let below : c.in-Some.next < length c.args.graph.now = c.requires.edges_in c.args.frame.node c.in-Some.next edge in
     let size : length c.args.seen.now.items ≡ length (edges_of c.args.graph.now) = c.requires.search.begun.size in
     let nodes : length (edges_of c.args.graph.now) ≡ length c.args.graph.now = length-map c.args.graph.now _ in
     let inside : c.in-Some.next < length c.args.seen.now.items = omega (arith, below, size, nodes) in
-    let pushed : frames_of c.push-2.new.self.items ≡ frames_of c.args.frames.now.items ++ (c.args.frame.node, c.in-Some.rest.now) ∷ [] = ap frames_of c.in_ok-push-2.ensures.items ∙ map-append frame_of c.args.frames.now.items _ in
+    let pushed : frames_of c.push-2.new.self.items ≡ frames_of c.args.frames.now.items ++ (c.args.frame.node, c.in-Some.rest.now)
+    ∷ [] = ap frames_of c.in_ok-push-2.ensures.items ∙ map-append frame_of c.args.frames.now.items _ in
     let fresh : get_or c.args.seen.now.items c.in-Some.next false ≡ false = read_at c.args.seen.now.items c.in-Some.next c.index.result.now false inside c.index.ensures ∙ c.if-index.false in
-    (step_enter (edges_of c.args.graph.now) c.args.seen.now.items c.enter.new.seen.items (frames_of c.args.frames.now.items) (frames_of c.push-2.new.self.items) (frames_of c.enter.new.frames.items) c.args.order.now.items c.args.frame.node c.in-Some.next c.args.frame.rest.now c.in-Some.rest.now
+    (step_enter (edges_of c.args.graph.now) c.args.seen.now.items c.enter.new.seen.items (frames_of c.args.frames.now.items)
+    (frames_of c.push-2.new.self.items) (frames_of c.enter.new.frames.items) c.args.order.now.items c.args.frame.node c.in-Some.next
+    c.args.frame.rest.now c.in-Some.rest.now
     is pushed (omega (arith, below, nodes)) fresh c.in_ok-enter.ensures.seen c.in_ok-enter.ensures.frames c.requires.search).0
 
 pub returns-clause-smaller : goal.returns-clause-smaller
 returns-clause-smaller c =
     let is : c.args.frame.rest.now ≡ c.in-Some.next ∷ c.in-Some.rest.now = search rules in
     let edge : Edge (edges_of c.args.graph.now) c.args.frame.node c.in-Some.next =
-    step_edge (edges_of c.args.graph.now) c.args.seen.now.items (frames_of c.args.frames.now.items) c.args.order.now.items c.args.frame.node c.in-Some.next c.args.frame.rest.now c.in-Some.rest.now is c.requires.search in
+    step_edge (edges_of c.args.graph.now) c.args.seen.now.items (frames_of c.args.frames.now.items) c.args.order.now.items c.args.frame.node
+    c.in-Some.next c.args.frame.rest.now c.in-Some.rest.now is c.requires.search in
     let below : c.in-Some.next < length c.args.graph.now = c.requires.edges_in c.args.frame.node c.in-Some.next edge in
     let size : length c.args.seen.now.items ≡ length (edges_of c.args.graph.now) = c.requires.search.begun.size in
     let nodes : length (edges_of c.args.graph.now) ≡ length c.args.graph.now = length-map c.args.graph.now _ in
     let inside : c.in-Some.next < length c.args.seen.now.items = omega (arith, below, size, nodes) in
-    let pushed : frames_of c.push-2.new.self.items ≡ frames_of c.args.frames.now.items ++ (c.args.frame.node, c.in-Some.rest.now) ∷ [] = ap frames_of c.in_ok-push-2.ensures.items ∙ map-append frame_of c.args.frames.now.items _ in
+    let pushed : frames_of c.push-2.new.self.items ≡ frames_of c.args.frames.now.items ++ (c.args.frame.node, c.in-Some.rest.now)
+    ∷ [] = ap frames_of c.in_ok-push-2.ensures.items ∙ map-append frame_of c.args.frames.now.items _ in
     let fresh : get_or c.args.seen.now.items c.in-Some.next false ≡ false = read_at c.args.seen.now.items c.in-Some.next c.index.result.now false inside c.index.ensures ∙ c.if-index.false in
-    (step_enter (edges_of c.args.graph.now) c.args.seen.now.items c.enter.new.seen.items (frames_of c.args.frames.now.items) (frames_of c.push-2.new.self.items) (frames_of c.enter.new.frames.items) c.args.order.now.items c.args.frame.node c.in-Some.next c.args.frame.rest.now c.in-Some.rest.now
+    (step_enter (edges_of c.args.graph.now) c.args.seen.now.items c.enter.new.seen.items (frames_of c.args.frames.now.items)
+    (frames_of c.push-2.new.self.items) (frames_of c.enter.new.frames.items) c.args.order.now.items c.args.frame.node c.in-Some.next
+    c.args.frame.rest.now c.in-Some.rest.now
     is pushed (omega (arith, below, nodes)) fresh c.in_ok-enter.ensures.seen c.in_ok-enter.ensures.frames c.requires.search).1

@@ -11,8 +11,10 @@ loop-frame-init c =
     let size : length c.args.seen.now.items ≡ length (edges_of c.args.graph.now) = c.requires.search.begun.size in
     let nodes : length (edges_of c.args.graph.now) ≡ length c.args.graph.now = length-map c.args.graph.now _ in
     let below = c.requires.from_in in
-    let fresh : get_or c.args.seen.now.items c.args.from false ≡ false = read_at c.args.seen.now.items c.args.from c.index.result.now false (omega (arith, below, size, nodes)) c.index.ensures ∙ c.if-index.false in
+    let fresh : get_or c.args.seen.now.items c.args.from false ≡ false = read_at c.args.seen.now.items c.args.from c.index.result.now false
+    (omega (arith, below, size, nodes)) c.index.ensures ∙ c.if-index.false in
     let none : frames_of c.new-frames.result.items ≡ [] = ap frames_of c.new-frames.ensures.items in
-    let s = step_start (edges_of c.args.graph.now) c.args.seen.now.items c.enter.new.seen.items (frames_of c.new-frames.result.items) (frames_of c.enter.new.frames.items) c.args.order.now.items c.args.from
+    let s = step_start (edges_of c.args.graph.now) c.args.seen.now.items c.enter.new.seen.items (frames_of c.new-frames.result.items)
+    (frames_of c.enter.new.frames.items) c.args.order.now.items c.args.from
     (omega (arith, below, nodes)) fresh c.in_ok-enter.ensures.seen none c.in_ok-enter.ensures.frames c.requires.search in
     record { search = s.0; kept = s.1; from_seen = s.2 }

@@ -28,7 +28,8 @@ label_node-requires c =
 
 pub loop-node-init : goal.loop-node-init
 loop-node-init c =
-    labelling_start (edges_of c.args.graph.now) c.args.order.now c.args.labels.now.items c.label_node.new.labels.items c.args.at (get_or c.args.order.now c.args.at 0) c.new-waiting.result.items c.label_node.new.waiting.items
+    labelling_start (edges_of c.args.graph.now) c.args.order.now c.args.labels.now.items c.label_node.new.labels.items c.args.at
+    (get_or c.args.order.now c.args.at 0) c.new-waiting.result.items c.label_node.new.waiting.items
     c.requires.at_in refl c.new-waiting.ensures.items c.requires.labels c.in_ok-label_node.ensures
 
 pub label_next-requires-clause-node_in : goal.label_next-requires-clause-node_in
@@ -47,7 +48,8 @@ label_next-requires-clause-edges_in c k h =
 pub loop-node-preserved : goal.loop-node-preserved
 loop-node-preserved c =
     let nodes : length (edges_of c.args.graph.now) ≡ length c.args.graph.now = length-map c.args.graph.now _ in
-    labelling_next (edges_of c.args.graph.now) c.args.order.now c.loop-node.labels.items c.label_next.new.labels.items c.args.at c.in-Some.node c.loop-node.waiting.items _ c.label_next.new.waiting.items
+    labelling_next (edges_of c.args.graph.now) c.args.order.now c.loop-node.labels.items c.label_next.new.labels.items c.args.at
+    c.in-Some.node c.loop-node.waiting.items _ c.label_next.new.waiting.items
     (λ j k e. let below = c.requires.edges_in j k e in omega (arith, below, nodes)) c.requires.order c.requires.at_in c.in-Some.ensures.items c.loop-node.invariant c.in_ok-label_next.ensures
 
 pub returns : goal.returns

@@ -7,5 +7,6 @@ use Rattle.al_meaning.proofs.calls.check_types.Given as goal
 abbrev pub invariant-loop-index : goal.invariant-loop-index
 invariant-loop-index l = record {
   begins : BeginsWith l.out.items l.initial.out.items;
-  so_far : l.out.items ++ wrong_arguments (string_bytes l.name.text) l.parameters l.index (map argument_of (drop l.index l.arguments)) ≡ l.initial.out.items ++ wrong_arguments (string_bytes l.name.text) l.parameters 0 (map argument_of l.arguments);
+  so_far : l.out.items ++ wrong_arguments (string_bytes l.name.text) l.parameters l.index (map argument_of (drop l.index l.arguments))
+      ≡ l.initial.out.items ++ wrong_arguments (string_bytes l.name.text) l.parameters 0 (map argument_of l.arguments);
 }

@@ -12,7 +12,8 @@ use Rattle.al_grammar.proofs.RestItems.{rest_item}
 use Rattle.al_meaning.proofs.LiteralLemmas.{states_give}
 use Rattle.al_meaning.proofs.literals.text_value.Goals as goal
 
-text_step : (v : List ℕ) (q : Quoting) (ch : ℕ) (cs rest : List ℕ) → cs ≡ ch ∷ rest → (v ++ flat_map encode_utf8 (adds q ch)) ++ flat_map encode_utf8 (unquoted_from (moves q ch) rest) ≡ v ++ flat_map encode_utf8 (unquoted_from q cs)
+text_step : (v : List ℕ) (q : Quoting) (ch : ℕ) (cs rest : List ℕ) → cs ≡ ch ∷ rest → (v ++ flat_map encode_utf8 (adds q ch))
+    ++ flat_map encode_utf8 (unquoted_from (moves q ch) rest) ≡ v ++ flat_map encode_utf8 (unquoted_from q cs)
 text_step v q ch cs rest e = rw e (append_assoc v _ _ ∙ ap (λ x. v ++ x) (sym (flat_map-append encode_utf8 (adds q ch) (unquoted_from (moves q ch) rest))))
 
 pub loop-ch-preserved : goal.loop-ch-preserved

@@ -7,4 +7,5 @@ use Rattle.al_meaning.specs.declared.literals.Quoting.TheVariants.{Opening}
 use Rattle.al_meaning.proofs.literals.text_value.Given as goal
 
 abbrev pub invariant-loop-ch : goal.invariant-loop-ch
-invariant-loop-ch l = string_bytes l.value ++ flat_map encode_utf8 (unquoted_from l.quoting (drop (length l.yielded) (chars l.literal))) ≡ flat_map encode_utf8 (unquoted_from Opening (chars l.literal))
+invariant-loop-ch l = string_bytes l.value ++ flat_map encode_utf8 (unquoted_from l.quoting (drop (length l.yielded) (chars l.literal)))
+    ≡ flat_map encode_utf8 (unquoted_from Opening (chars l.literal))

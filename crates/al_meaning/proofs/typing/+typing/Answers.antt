@@ -53,7 +53,8 @@ expression-returns-in_ok-ty-in-Call-clause-ok t c =
     let n : c.named-function.result ≡ function_of (string_bytes c.in-Call.name.text) = c.named-function.ensures ∙ ap function_of c.as_str.ensures.value in
     let f = rw (c.is_tested-tested.ensures, n, c.deref-in-Call.ensures.value) at c.in_ok-given-in-Call.ensures.ok in
     let g = rw (n, c.deref-in-Call-2.ensures.value, c.deref-in-Call-3.ensures.value) at c.in_ok-ty-in-Call.ensures.ok in
-    rw e (g ∙ called_on (scope_of c.args.scope.now) (string_bytes c.in-Call.name.text) c.in-Call.name.span (function_of (string_bytes c.in-Call.name.text)) (arguments_of (map tree_of c.in-Call.arguments.items)) _ _ _ _ f)
+    rw e (g ∙ called_on (scope_of c.args.scope.now) (string_bytes c.in-Call.name.text) c.in-Call.name.span
+    (function_of (string_bytes c.in-Call.name.text)) (arguments_of (map tree_of c.in-Call.arguments.items)) _ _ _ _ f)
 
 pub expression-returns-in_ok-check_untrusted-in-Path-clause-ok : goal.expression-returns-in_ok-check_untrusted-in-Path-clause-ok
 expression-returns-in_ok-check_untrusted-in-Path-clause-ok t c =
@@ -81,22 +82,27 @@ operations-loop-operand-preserved t c =
     let i = rw (r, operand_view x) at c.loop-operand.invariant.so_far in
     record {
       begins = begins_trans _ _ _ c.loop-operand.invariant.begins (begins_trans _ _ _ c.in_ok-other.ensures.begins c.in_ok-ty.ensures.begins);
-      so_far = chained_on (scope_of c.args.scope.now) c.args.safe (sign x.operator x.at, tree_of x.expr) (map operand_of (drop (c.loop-operand.operand-index + 1) c.args.operands.now)) (ty_of c.loop-operand.ty) (ty_of c.in_ok-other.other) (ty_of c.in_ok-ty.ty) _ _ _ c.in_ok-other.ensures.ok c.in_ok-ty.ensures.ok ∙ i;
+      so_far = chained_on (scope_of c.args.scope.now) c.args.safe (sign x.operator x.at, tree_of x.expr)
+          (map operand_of (drop (c.loop-operand.operand-index + 1) c.args.operands.now)) (ty_of c.loop-operand.ty)
+          (ty_of c.in_ok-other.other) (ty_of c.in_ok-ty.ty) _ _ _ c.in_ok-other.ensures.ok c.in_ok-ty.ensures.ok ∙ i;
     }
 
-pub step_from-returns-in_ok-of-in-None-clause-ok : goal.step_from-returns-in_ok-of-in-None-clause-ok
-step_from-returns-in_ok-of-in-None-clause-ok t c =
+pub step_from-returns-clause-ok : goal.step_from-returns-clause-ok
+step_from-returns-clause-ok t c =
     let e = ap step_of c.in-Index.is ∙ step_of-Index c.in-Index.open c.in-Index.index c.in-Index.close in
     let l : None ≡ literal_text (tree_of c.in-Index.index) = rw c.in-None.is at c.in_ok-literal-in-Index.ensures in
-    let g = rw c.across-whole.ensures at c.in_ok-of-in-None.ensures.ok in
-    rw e (indexed_on (literal_text (tree_of c.in-Index.index)) (across c.in-Index.open c.in-Index.close) (ty_of c.args.ty.now) (ty_of c.in_ok-by-in-None.by) (ty_of c.in_ok-of-in-None.of) _ _ _ _ l c.in_ok-by-in-None.ensures.ok g)
+    let g = rw (c.across-whole.ensures, c.get-in-None.ensures) at c.in_ok-of-in-None.ensures.ok in
+    rw e (indexed_on (literal_text (tree_of c.in-Index.index)) (across c.in-Index.open c.in-Index.close) (found_type c.args.here)
+    (ty_of c.in_ok-by-in-None.by) (ty_of c.in_ok-of-in-None.of) _ _ _ _ l c.in_ok-by-in-None.ensures.ok g)
 
 pub typed_arguments-loop-expr-preserved : goal.typed_arguments-loop-expr-preserved
 typed_arguments-loop-expr-preserved t c =
     let x = c.expr-item.result in
     let r = rest_item c.args.exprs.now c.loop-expr.expr-index x c.loop-expr-test.true c.expr-item.is in
     let i = rw r at c.loop-expr.invariant.so_far in
-    let m = meanings_on (scope_of c.args.scope.now) c.args.safe (tree_of x) (map tree_of (drop (c.loop-expr.expr-index + 1) c.args.exprs.now)) (ty_of c.in_ok-ty.ty) (map argument_of c.loop-expr.arguments.items) _ _ c.in_ok-ty.ensures.ok in
+    let m = meanings_on (scope_of c.args.scope.now) c.args.safe (tree_of x)
+    (map tree_of (drop (c.loop-expr.expr-index + 1) c.args.exprs.now)) (ty_of c.in_ok-ty.ty)
+    (map argument_of c.loop-expr.arguments.items) _ _ c.in_ok-ty.ensures.ok in
     record {
       begins = begins_trans _ _ _ c.loop-expr.invariant.begins c.in_ok-ty.ensures.begins;
       so_far = rw (c.in_ok-push.ensures.items, map-append, c.extent.ensures) (m ∙ i);
@@ -107,8 +113,10 @@ walk-loop-step-preserved t c =
     let x = c.step-item.result in
     let r = rest_item c.args.steps.now c.loop-step.step-index x c.loop-step-test.true c.step-item.is in
     let i = rw r at c.loop-step.invariant.so_far in
-    let f = rw c.get.ensures at c.in_ok-next.ensures.ok in
     record {
       begins = begins_trans _ _ _ c.loop-step.invariant.begins c.in_ok-next.ensures.begins;
-      so_far = walked_on (scope_of c.args.scope.now) c.args.safe (step_of x) (map step_of (drop (c.loop-step.step-index + 1) c.args.steps.now)) (found_type c.loop-step.here) (ty_of c.in_ok-next.next) _ _ f ∙ i;
+      so_far = walked_on (scope_of c.args.scope.now) c.args.safe (step_of x)
+          (map step_of (drop (c.loop-step.step-index + 1) c.args.steps.now)) (found_type c.loop-step.here) (found_type c.in_ok-next.next) _ _
+          c.in_ok-next.ensures.ok
+          ∙ i;
     }

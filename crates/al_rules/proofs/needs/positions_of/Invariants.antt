@@ -2,9 +2,11 @@ use Rattle.std.proofs.Common.{◌≡◌, ◌++◌, drop, map}
 use Rattle.std.specs.List.{filter_map}
 use Rattle.al_shape.specs.Values.{scalar_node_of}
 use Rattle.al_rules.specs.Needs.{named_by}
-use Rattle.al_rules.specs.Private.Positions.{first_at}
+use Rattle.al_declarations.specs.Private.Positions.{name_position}
 use Rattle.al_reports.specs.Words.{of_scalar}
 use Rattle.al_rules.proofs.needs.positions_of.Given as goal
 
 abbrev pub invariant-loop-need : goal.invariant-loop-need
-invariant-loop-need l = l.found.items ++ filter_map (named_by (first_at l.positions)) (map of_scalar (map scalar_node_of (drop l.need-index l.needs))) ≡ filter_map (named_by (first_at l.positions)) (map of_scalar (map scalar_node_of l.needs))
+invariant-loop-need l = l.found.items ++ filter_map (named_by (name_position l.positions))
+    (map of_scalar (map scalar_node_of (drop l.need-index l.needs))) ≡ filter_map (named_by (name_position l.positions))
+    (map of_scalar (map scalar_node_of l.needs))

@@ -1,5 +1,6 @@
 use Rattle.std.proofs.Common.{◌∙◌, Some, None, ap, sym, subst}
-use Rattle.al_scalar.specs.Places.{lines_at, first_text, BlankTo}
+use Rattle.al_scalar.specs.Places.{first_text}
+use Rattle.al_scalar.specs.Private.Places.{lines_at, BlankTo}
 use Rattle.al_scalar.proofs.SingleLemmas.{text-line_end}
 use Rattle.al_scalar.proofs.BlockLemmas.{indented-same, indented-yes, indented-no, row-blank, row-none, blank-is}
 use Rattle.al_scalar.proofs.block.indented_row.Goals as goal
@@ -25,7 +26,9 @@ returns-in-Some c =
     let end = c.in-Some.end in
     let blank : BlankTo bytes at (Some end) = subst (λ b. BlankTo bytes at b) c.in-Some.is c.requires.blank in
     record {
-      row = row-blank c.args.indent (first_text (lines_at bytes at)) (indented-no bytes at from c.args.indent found.from found.inside found.spaces found.lines found.most c.if-from-at.false found.stops) blank.0
+      row = row-blank c.args.indent (first_text (lines_at bytes at))
+          (indented-no bytes at from c.args.indent found.from found.inside found.spaces found.lines found.most c.if-from-at.false
+          found.stops) blank.0
           ∙ ap Some (sym (text-line_end bytes end blank.2.inside blank.1));
       blank = blank.0;
       on_line = blank.2;

@@ -1,6 +1,6 @@
 use Rattle.std.proofs.Common.{◌-◌, ◌<◌, Some, None, ap, sym, subst, arith, length}
 use Rattle.al_scalar.specs.Taken.{with_text}
-use Rattle.al_scalar.specs.Places.{lines_at}
+use Rattle.al_scalar.specs.Private.Places.{lines_at}
 use Rattle.al_scalar.specs.Private.BlockRead.{RowStarts, rest_of, last_row, kind}
 use Rattle.al_scalar.proofs.RowLemmas.{rows-last, rows-more}
 use Rattle.al_scalar.proofs.block.read_rows.Goals as goal
@@ -16,8 +16,10 @@ rows-init c = record {
 pub rows-smaller : goal.rows-smaller
 rows-smaller c =
     let bytes = c.args.bytes.now in
-    let start : RowStarts bytes c.rows.i c.args.style.indent c.rows.found (Some c.in-Some.row) = subst (λ r. RowStarts bytes c.rows.i c.args.style.indent c.rows.found r) c.in-Some.is c.row_start.ensures in
-    let less : length bytes - c.after_break-i.result < length bytes - c.rows.i = omega (arith, start.on_line.from, c.line_end-stop.ensures.on_line.from, c.after_break-i.ensures.after, c.after_break-i.ensures.inside) in
+    let start : RowStarts bytes c.rows.i c.args.style.indent c.rows.found (Some c.in-Some.row) = subst
+    (λ r. RowStarts bytes c.rows.i c.args.style.indent c.rows.found r) c.in-Some.is c.row_start.ensures in
+    let less : length bytes - c.after_break-i.result < length bytes - c.rows.i = omega
+    (arith, start.on_line.from, c.line_end-stop.ensures.on_line.from, c.after_break-i.ensures.after, c.after_break-i.ensures.inside) in
     less
 
 pub rows-preserved : goal.rows-preserved
@@ -45,5 +47,6 @@ returns-then-stop-bytes-clause-rows c =
     let i = c.rows.i in
     let was = c.rows.state in
     let start : RowStarts bytes i style.indent c.rows.found (Some c.in-Some.row) = subst (λ r. RowStarts bytes i style.indent c.rows.found r) c.in-Some.is c.row_start.ensures in
-    rows-last c.end_row.new.text c.rows.text style.literal (kind style.chomping) style.indent c.rows.found (last_row was.last) was.empties.items was.end c.in_ok-end.end bytes i c.in-Some.row.from c.line_end-stop.result
+    rows-last c.end_row.new.text c.rows.text style.literal (kind style.chomping) style.indent c.rows.found (last_row was.last)
+    was.empties.items was.end c.in_ok-end.end bytes i c.in-Some.row.from c.line_end-stop.result
     c.rows.invariant.rows start.row start.on_line.same c.line_end-stop.ensures.on_line.same c.line_end-stop.ensures.text c.if-stop-bytes.true c.in_ok-end.ensures.text c.in_ok-end.ensures.end

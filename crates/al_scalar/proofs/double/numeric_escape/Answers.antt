@@ -15,14 +15,16 @@ returns-in-Short c = λ q.
     let bytes = c.args.bytes.now in
     let kind = letter_kind (slice_index bytes (c.args.backslash + 1)) c.args.count c.requires.letter in
     let read = c.in-Short.ensures in
-    short_file bytes c.args.backslash (omega arith) c.requires.escape c.requires.inside kind.0 kind.1 c.args.count c.requires.other c.requires.letter c.in-Short.end read.0 read.1 read.2 read.3.0 read.3.1 q (omega arith)
+    short_file bytes c.args.backslash (omega arith) c.requires.escape c.requires.inside kind.0 kind.1 c.args.count c.requires.other
+    c.requires.letter c.in-Short.end read.0 read.1 read.2 read.3.0 read.3.1 q (omega arith)
 
 pub returns-in-Short-2 : goal.returns-in-Short-2
 returns-in-Short-2 c = λ q.
     let bytes = c.args.bytes.now in
     let kind = letter_kind (slice_index bytes (c.args.backslash + 1)) c.args.count c.requires.letter in
     let read = c.in-Short.ensures in
-    short_line bytes c.args.backslash (omega arith) c.requires.escape c.requires.inside kind.0 kind.1 c.args.count c.requires.other c.requires.letter c.in-Short.end read.0 read.1 read.2 read.3.0 read.3.1 q (omega (arith, read.0.0.inside))
+    short_line bytes c.args.backslash (omega arith) c.requires.escape c.requires.inside kind.0 kind.1 c.args.count c.requires.other
+    c.requires.letter c.in-Short.end read.0 read.1 read.2 read.3.0 read.3.1 q (omega (arith, read.0.0.inside))
 
 pub returns-in-Some : goal.returns-in-Some
 returns-in-Some c =
@@ -30,7 +32,8 @@ returns-in-Some c =
     let at = c.args.backslash in
     let kind = letter_kind (slice_index bytes (at + 1)) c.args.count c.requires.letter in
     let read = c.in-Code.ensures in
-    let reads = number bytes at (omega arith) c.requires.escape c.requires.inside kind.0 kind.1 c.args.count c.requires.other c.requires.letter read.0 c.in-Code.code read.1 (scalar_value c.in-Code.code c.in-Some.ensures.value.0) in
+    let reads = number bytes at (omega arith) c.requires.escape c.requires.inside kind.0 kind.1 c.args.count c.requires.other
+    c.requires.letter read.0 c.in-Code.code read.1 (scalar_value c.in-Code.code c.in-Some.ensures.value.0) in
     (omega arith, read.0.0.inside, subst (λ x. ReadsOn bytes at (written at x) (at + 1 + 1 + c.args.count)) (sym c.in-Some.ensures.value.1) reads)
 
 pub returns-in-None : goal.returns-in-None
@@ -38,4 +41,5 @@ returns-in-None c = λ q.
     let bytes = c.args.bytes.now in
     let kind = letter_kind (slice_index bytes (c.args.backslash + 1)) c.args.count c.requires.letter in
     let read = c.in-Code.ensures in
-    no_character bytes c.args.backslash (omega arith) c.requires.escape c.requires.inside kind.0 kind.1 c.args.count c.requires.other c.requires.letter read.0 c.in-Code.code read.1 q (no_scalar_value c.in-Code.code c.in-None.ensures.value)
+    no_character bytes c.args.backslash (omega arith) c.requires.escape c.requires.inside kind.0 kind.1 c.args.count c.requires.other
+    c.requires.letter read.0 c.in-Code.code read.1 q (no_scalar_value c.in-Code.code c.in-None.ensures.value)

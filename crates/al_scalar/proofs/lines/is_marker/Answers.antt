@@ -17,4 +17,5 @@ returns c =
     let two = c.if-not-begins-2.ensures.inside refl in
     let in_second : c.args.at + 1 ≤ length c.args.bytes.now = omega (arith, one) in
     let in_third : c.args.at + 2 ≤ length c.args.bytes.now = omega (arith, two) in
-    marker_at-all c.args.bytes.now c.args.at c.args.byte c.requires c.if-not-begins.ensures.value in_second c.if-not-begins-2.ensures.value c.is_blank_or_end.result in_third c.if-not-begins-3.ensures.value c.is_blank_or_end.ensures
+    marker_at-all c.args.bytes.now c.args.at c.args.byte c.requires c.if-not-begins.ensures.value in_second c.if-not-begins-2.ensures.value
+    c.is_blank_or_end.result in_third c.if-not-begins-3.ensures.value c.is_blank_or_end.ensures

@@ -1,6 +1,6 @@
 use Rattle.std.proofs.Common.{◌∙◌, ap, sym, arith}
 use Rattle.al_scalar.specs.Plain.{ends_plain}
-use Rattle.al_scalar.specs.Places.{cells_between, IsLineEnd, text_at}
+use Rattle.al_scalar.specs.Private.Places.{cells_between, IsLineEnd, text_at}
 use Rattle.al_scalar.specs.Private.PlainLines.{context_of}
 use Rattle.al_scalar.proofs.SingleLemmas.{run_at, cell_at, same_then, is_inside, never}
 use Rattle.al_scalar.proofs.PlainLemmas.{part_done, part_more, ends-end}
@@ -12,7 +12,8 @@ returns-then-ends_plain-clause-part c =
     let p = context_of c.args.context in
     let end = c.words.end in
     let found = c.blanks_end-solid in
-    part_done p c.args.after_blank c.words.behind_blank bytes c.args.at end found.result c.words.invariant.part (run_at bytes end found.result (cells_between bytes end found.result) found.ensures.lines)
+    part_done p c.args.after_blank c.words.behind_blank bytes c.args.at end found.result c.words.invariant.part
+    (run_at bytes end found.result (cells_between bytes end found.result) found.ensures.lines)
     found.ensures.blanks found.ensures.from (c.if-ends_plain.ensures ∙ ap (λ f. ends_plain p f (text_at bytes found.result)) c.is_behind_blank-flag.ensures)
 
 pub words-preserved : goal.words-preserved
@@ -29,7 +30,8 @@ words-preserved c =
     record {
       from = omega (arith, found.ensures.from, c.words.invariant.from);
       inside = omega (arith, inside);
-      part = part_more p c.args.after_blank c.words.behind_blank bytes c.args.at end solid c.words.invariant.part run found.ensures.blanks c.words.invariant.from found.ensures.from found.ensures.inside not_end
+      part = part_more p c.args.after_blank c.words.behind_blank bytes c.args.at end solid c.words.invariant.part run found.ensures.blanks
+          c.words.invariant.from found.ensures.from found.ensures.inside not_end
           (found.ensures.not_blank inside) (c.if-ends_plain.ensures ∙ ap (λ f. ends_plain p f (text_at bytes solid)) c.is_behind_blank-flag.ensures);
       same = same_then c.words.invariant.same (same_then run.same (cell_at bytes solid inside here.not_feed here.not_return).same);
     }

@@ -20,6 +20,7 @@ blank_lines-preserved c =
     let next = c.after_break-behind in
     record {
       inside = next.ensures.inside;
-      text = break_more c.args.bytes.now c.blank_lines.start found.result found.ensures.inside found.ensures.lines found.ensures.blanks next.result next.ensures.lines c.args.end c.blank_lines.folded c.blank_lines.text
+      text = break_more c.args.bytes.now c.blank_lines.start found.result found.ensures.inside found.ensures.lines found.ensures.blanks
+          next.result next.ensures.lines c.args.end c.blank_lines.folded c.blank_lines.text
           c.blank_lines.invariant.text c.in_ok-push-2.ensures.added;
     }

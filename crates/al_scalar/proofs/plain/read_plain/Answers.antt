@@ -1,5 +1,5 @@
 use Rattle.std.proofs.Common.{arith}
-use Rattle.al_scalar.specs.Places.{lines_at, cells_between}
+use Rattle.al_scalar.specs.Private.Places.{lines_at, cells_between}
 use Rattle.al_scalar.specs.Private.PlainLines.{context_of, empty_ends, here_at}
 use Rattle.al_scalar.proofs.SingleLemmas.{run_at, same_then, never}
 use Rattle.al_scalar.proofs.PlainReadLemmas.{solid_text, read_first, read_done, found_at, read_stopped, read_more, read_key}
@@ -73,5 +73,7 @@ text_lines-preserved c =
       inside = end.ensures.inside;
       read = read_more p bytes start.result solid.result end.result rest.result
           (solid_text bytes start.result solid.result solid.ensures.inside solid.ensures.lines solid.ensures.blanks solid.ensures.not_blank) c.if-not-goes_on.ensures end.ensures.part
-          (solid_text bytes end.result rest.result rest.ensures.inside rest.ensures.lines rest.ensures.blanks rest.ensures.not_blank) (here_at bytes c.text_lines.end) line.result (empty_ends (lines_at bytes next.result)) text c.if-makes_key.ensures end.ensures.inside same ahead c.in_ok-push_break.ensures c.in_ok-push_run-2.ensures.added;
+          (solid_text bytes end.result rest.result rest.ensures.inside rest.ensures.lines rest.ensures.blanks rest.ensures.not_blank)
+          (here_at bytes c.text_lines.end) line.result (empty_ends (lines_at bytes next.result)) text c.if-makes_key.ensures
+          end.ensures.inside same ahead c.in_ok-push_break.ensures c.in_ok-push_run-2.ensures.added;
     }

@@ -12,7 +12,8 @@ returns-then-not-is_break_at-clause-lines c =
 pub returns-then-not-is_break_at-clause-text : goal.returns-then-not-is_break_at-clause-text
 returns-then-not-is_break_at-clause-text c =
     let found = c.blanks_end-solid in
-    no_blank_line c.args.bytes.now c.blank_lines.start found.result found.ensures.inside found.ensures.lines found.ensures.blanks (λ h. never (c.if-not-is_break_at.ensures.1 h)) found.ensures.not_blank
+    no_blank_line c.args.bytes.now c.blank_lines.start found.result found.ensures.inside found.ensures.lines found.ensures.blanks
+    (λ h. never (c.if-not-is_break_at.ensures.1 h)) found.ensures.not_blank
 
 pub blank_lines-preserved : goal.blank_lines-preserved
 blank_lines-preserved c =
@@ -21,5 +22,6 @@ blank_lines-preserved c =
     record {
       from = omega (arith, c.blank_lines.invariant.from, found.ensures.from, next.ensures.after);
       inside = next.ensures.inside;
-      lines = text_more c.args.bytes.now c.blank_lines.start found.result found.ensures.inside found.ensures.lines found.ensures.blanks next.result next.ensures.lines c.args.from c.blank_lines.invariant.lines;
+      lines = text_more c.args.bytes.now c.blank_lines.start found.result found.ensures.inside found.ensures.lines found.ensures.blanks
+          next.result next.ensures.lines c.args.from c.blank_lines.invariant.lines;
     }

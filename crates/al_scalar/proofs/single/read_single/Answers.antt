@@ -1,7 +1,7 @@
 use Rattle.std.proofs.Common.{◌∙◌, ◌-◌, ◌<◌, List, Ok, length, ap, sym, subst, arith}
 use Rattle.al_scalar.specs.Line.{Cell}
 use Rattle.al_scalar.specs.Taken.{before}
-use Rattle.al_scalar.specs.Places.{lines_at}
+use Rattle.al_scalar.specs.Private.Places.{lines_at}
 use Rattle.al_scalar.specs.Private.Single.{StopsSo, StopsFrom}
 use Rattle.al_scalar.specs.declared.single.LineStop.TheVariants.{Closed, Broken}
 use Rattle.al_scalar.proofs.SingleLemmas.{lines_at-some}
@@ -14,7 +14,9 @@ returns-in-Closed-clause-gives c =
     let bytes = c.args.bytes.now in
     let stop : StopsSo bytes c.text_lines.at (Closed c.in-Closed.next) = subst (λ s. StopsSo bytes c.text_lines.at s) c.in-Closed.is c.in_ok-stop.ensures.stop in
     c.text_lines.invariant.read
-    ∙ ap (before c.text_lines.text) (quoted-closed c.args.quote c.in-Closed.next (lines_at bytes c.text_lines.at) (lines_at bytes c.in-Closed.next) (lines_at-some bytes c.text_lines.at) (lines_at-some bytes c.in-Closed.next) stop.2 stop.0)
+    ∙ ap (before c.text_lines.text)
+    (quoted-closed c.args.quote c.in-Closed.next (lines_at bytes c.text_lines.at) (lines_at bytes c.in-Closed.next)
+    (lines_at-some bytes c.text_lines.at) (lines_at-some bytes c.in-Closed.next) stop.2 stop.0)
     ∙ ap (λ (t : List Cell). Ok (record { text = t; end = c.in-Closed.next; left = lines_at bytes c.in-Closed.next })) (sym c.in_ok-stop.ensures.text)
 
 pub text_lines-smaller : goal.text_lines-smaller

@@ -1,5 +1,5 @@
 use Rattle.std.proofs.Common.{◌∙◌, ◌+◌, ◌++◌, ◌∷◌, [], refl, ap, sym, arith, append-nil, slice_index}
-use Rattle.al_scalar.specs.Places.{cells_between}
+use Rattle.al_scalar.specs.Private.Places.{cells_between}
 use Rattle.al_scalar.specs.Quoted.{QuotedLine}
 use Rattle.al_scalar.specs.Private.Single.{part_at}
 use Rattle.al_scalar.proofs.SingleLemmas.{run_at, text-line_end, part-broken, goes-byte, goes-pair, stops-quote, same-quote, kept-text, done-text, same_then, is_inside, never}
@@ -55,7 +55,8 @@ loop-at-preserved c =
     let run = cells_between bytes i solid in
     let found = c.blanks_end-solid.ensures in
     let here = is_inside bytes solid found.inside (λ h. never (c.if-is_line_end.ensures.1 h)) in
-    let goes = goes-pair bytes i solid run (run_at bytes i solid run found.lines) found.blanks here.inside here.not_feed here.not_return c.if-bytes-solid-ne39.false (c.if-begins_quote.ensures.inside refl) (c.if-begins_quote.ensures.value refl) in
+    let goes = goes-pair bytes i solid run (run_at bytes i solid run found.lines) found.blanks here.inside here.not_feed here.not_return
+    c.if-bytes-solid-ne39.false (c.if-begins_quote.ensures.inside refl) (c.if-begins_quote.ensures.value refl) in
     record {
       from = omega arith;
       inside = let next = c.if-begins_quote.ensures.inside refl in omega arith;
@@ -73,7 +74,8 @@ returns-else-begins_quote-clause-text c =
     let run = cells_between bytes i solid in
     let found = c.blanks_end-solid.ensures in
     let here = is_inside bytes solid found.inside (λ h. never (c.if-is_line_end.ensures.1 h)) in
-    let part = stops-quote bytes i solid run (run_at bytes i solid run found.lines) found.blanks here.inside here.not_feed here.not_return c.if-bytes-solid-ne39.false (λ l e. never (c.if-begins_quote.ensures.none l e)) in
+    let part = stops-quote bytes i solid run (run_at bytes i solid run found.lines) found.blanks here.inside here.not_feed here.not_return
+    c.if-bytes-solid-ne39.false (λ l e. never (c.if-begins_quote.ensures.none l e)) in
     done-text c.args.text.now (part_at bytes c.args.at).text c.loop-at.text _ c.loop-at.invariant.text part c.in_ok-push_run.ensures.added
 
 pub returns-else-begins_quote-clause-stop : goal.returns-else-begins_quote-clause-stop
@@ -85,5 +87,9 @@ returns-else-begins_quote-clause-stop c =
     let found = c.blanks_end-solid.ensures in
     let here = is_inside bytes solid found.inside (λ h. never (c.if-is_line_end.ensures.1 h)) in
     let reached = run_at bytes i solid run found.lines in
-    let part = stops-quote bytes i solid run reached found.blanks here.inside here.not_feed here.not_return c.if-bytes-solid-ne39.false (λ l e. never (c.if-begins_quote.ensures.none l e)) in
-    (c.loop-at.invariant.stop ∙ ap (λ (p : QuotedLine). p.stop) part, omega arith, same_then c.loop-at.invariant.same (same-quote bytes i solid run reached found.blanks here.inside here.not_feed here.not_return))
+    let part = stops-quote bytes i solid run reached found.blanks here.inside here.not_feed here.not_return c.if-bytes-solid-ne39.false (λ l e. never (c.if-begins_quote.ensures.none l e)) in (
+      c.loop-at.invariant.stop ∙ ap (λ (p : QuotedLine). p.stop) part,
+      omega arith,
+      same_then c.loop-at.invariant.same
+          (same-quote bytes i solid run reached found.blanks here.inside here.not_feed here.not_return),
+    )

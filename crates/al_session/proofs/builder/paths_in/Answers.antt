@@ -9,7 +9,8 @@ use Rattle.al_session.proofs.builder.paths_in.Goals as goal
 
 pub path_of-requires : goal.path_of-requires
 path_of-requires g c =
-    ap path_fault_of c.as_str.ensures.value ∙ valid_at g.L.Lint.meaning g.L.Lint.is_unit c.args.files.now.entries c.loop-index.index (c.file_number.result.0.now, c.file_number.result.1.now) c.requires.kept c.file_number.ensures
+    ap path_fault_of c.as_str.ensures.value ∙ valid_at g.L.Lint.meaning g.L.Lint.is_unit c.args.files.now.entries c.loop-index.index
+    (c.file_number.result.0.now, c.file_number.result.1.now) c.requires.kept c.file_number.ensures
 
 pub loop-index-preserved : goal.loop-index-preserved
 loop-index-preserved g c =

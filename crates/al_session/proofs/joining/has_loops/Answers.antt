@@ -1,4 +1,4 @@
-use Rattle.std.proofs.Common.{rules, ◌≡◌, ◌∙◌, ◌<◌, ◌+◌, ap, sym, not, Bool, true, false, length, arith, suc, take, List, ℕ}
+use Rattle.std.proofs.Common.{rules, ◌≡◌, ◌∙◌, ◌+◌, ap, sym, not, Bool, true, false, length, arith, suc, take, List, ℕ}
 use Rattle.std.specs.Bool.{◌==◌}
 use Rattle.std.specs.List.{enumerate_from, list_any}
 use Rattle.std.proofs.lemmas.List.{length-map, take_all}

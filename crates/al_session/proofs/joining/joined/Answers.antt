@@ -1,9 +1,7 @@
 use Rattle.std.specs.Bool.{◌==◌}
-use Rattle.std.proofs.Common.{rules, true, ◌≡◌, ◌∙◌, ◌++◌, [], ap, sym, List, String, length}
+use Rattle.std.proofs.Common.{rules, true, ◌≡◌, ◌∙◌, ◌++◌, ap, sym, String, length}
 use Rattle.std.specs.Prelude.{string_bytes}
 use Rattle.std.specs.Global.{Global}
-use Rattle.al_text.specs.declared.faults.Fault.{Fault}
-use Rattle.al_text.specs.FaultLists.{fault_list}
 use Rattle.al_folder.specs.Kept.{folder_of}
 use Rattle.al_folder.specs.declared.kept.KeptFile.{KeptFile}
 use Rattle.al_folder.proofs.Looping.{entry_number}

@@ -1,4 +1,4 @@
-use Rattle.std.proofs.Common.{arith, ◌<◌, ◌∙◌, ◌≡◌, ℕ, String, sym, subst, ap, Option, Vec, List, length, None, get_or}
+use Rattle.std.proofs.Common.{arith, ◌<◌, ◌∙◌, ◌≡◌, String, sym, subst, Option, Vec, length, None, get_or}
 use Rattle.std.specs.Prelude.{string_bytes}
 use Rattle.std.specs.Global.{Global}
 use Rattle.std.specs.List.{enumerate_from, flat_map}
@@ -8,7 +8,7 @@ use Rattle.std.proofs.lemmas.Result.{err_from_is_err_and}
 use Rattle.std.proofs.lemmas.List.FromFn.{length-enumerate_from}
 use Rattle.al_text.specs.Counted.{AppendsFront}
 use Rattle.al_text.specs.declared.faults.Fault.{Fault}
-use Rattle.al_session.specs.Session.{IsPrintable, lines_of, listed, numbered_lines}
+use Rattle.al_session.specs.Private.Lists.{IsPrintable, lines_of, listed, numbered_lines}
 use Rattle.al_folder.specs.declared.kept.KeptFile.{KeptFile}
 use Rattle.al_folder.proofs.Missings.{read_is}
 use Rattle.al_text.proofs.Bytes.{Appends-next, AppendsFront-next}

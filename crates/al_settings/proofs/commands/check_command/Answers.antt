@@ -24,6 +24,7 @@ loop-at-preserved c =
     record {
       all = ap (λ xs. xs ++ map f c.next.new.self) c.in_ok-report_command.ensures.ok ∙ append_assoc c.loop-at.out.items (f c.in-Some.at ∷ []) (map f c.next.new.self)
           ∙ sym (ap (λ xs. c.loop-at.out.items ++ map f xs) split) ∙ c.loop-at.invariant.all;
-      occur = All-tail (OccursAt (text_of c.args.script.now) c.args.needle.now) c.in-Some.at c.next.new.self (All-same (OccursAt (text_of c.args.script.now) c.args.needle.now) _ _ (sym split) c.loop-at.invariant.occur);
+      occur = All-tail (OccursAt (text_of c.args.script.now) c.args.needle.now) c.in-Some.at c.next.new.self
+          (All-same (OccursAt (text_of c.args.script.now) c.args.needle.now) _ _ (sym split) c.loop-at.invariant.occur);
       begins = begins_trans _ _ _ c.loop-at.invariant.begins c.in_ok-report_command.ensures.begins;
     }

@@ -10,6 +10,7 @@ use Rattle.al_settings.proofs.matrix.check_excluded.Given as goal
 -- what was added, and the faults of what is left, are the faults of all
 abbrev pub invariant-loop-key : goal.invariant-loop-key
 invariant-loop-key l = record {
-  all : l.out.items ++ flat_map (λ p. unless (holds l.rows p.1) UnknownMatrixRow p.0) (map folded_id (drop l.key-index l.keys)) ≡ l.fn.out.items ++ flat_map (λ p. unless (holds l.rows p.1) UnknownMatrixRow p.0) (map folded_id (l.keys));
+  all : l.out.items ++ flat_map (λ p. unless (holds l.rows p.1) UnknownMatrixRow p.0) (map folded_id (drop l.key-index l.keys))
+      ≡ l.fn.out.items ++ flat_map (λ p. unless (holds l.rows p.1) UnknownMatrixRow p.0) (map folded_id (l.keys));
   begins : BeginsWith l.out.items l.fn.out.items;
 }

@@ -13,6 +13,7 @@ check-returns-in-Some-rule_of-2-clause-ok t c =
     let taken : rule (refined c.args.shape (map entry_view es)) ≡ Some (rule_view c.in-Some-rule_of-2.rule) =
     cc (c.refine.ensures, c.as_slice-in-Mapping.ensures.value, c.in-Some-rule_of-2.ensures, c.rule_of-in-Mapping.ensures) in
     let same = faults_mapping c.args.shape c.args.null c.args.above.now c.args.node.now c.in-Mapping.entries c.in-Mapping.is
-    ∙ ap (λ r. mapping_faults r c.args.above.now (among (keys_in (map entry_view es))) c.args.node.now.span (λ ks. entries_faults ks [] (among (keys_in (map entry_view es))) (entries_of (map entry_view es)))) taken in
+    ∙ ap (λ r. mapping_faults r c.args.above.now (among (keys_in (map entry_view es))) c.args.node.now.span
+    (λ ks. entries_faults ks [] (among (keys_in (map entry_view es))) (entries_of (map entry_view es)))) taken in
     let here = rw c.as_slice-in-Some-rule_of-2.ensures.value at c.check_keyed.ensures.ok in
     rw same here

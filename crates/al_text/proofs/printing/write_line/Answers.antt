@@ -13,14 +13,30 @@ line_is p l c h f m s t k = simp append_assoc
 
 pub returns-clause-all : goal.returns-clause-all
 returns-clause-all g c =
-    let w = rw (c.as_bytes.ensures.value, c.as_bytes-2.ensures.value, c.as_bytes-3.ensures.value, c.as_bytes-4.ensures.value, c.as_bytes-5.ensures.value, c.as_bytes-6.ensures.value, c.as_bytes-7.ensures.value) at c.write_fragments.ensures.all in
+    let w = rw (
+      c.as_bytes.ensures.value,
+      c.as_bytes-2.ensures.value,
+      c.as_bytes-3.ensures.value,
+      c.as_bytes-4.ensures.value,
+      c.as_bytes-5.ensures.value,
+      c.as_bytes-6.ensures.value,
+      c.as_bytes-7.ensures.value,
+    ) at c.write_fragments.ensures.all in
     let a = c.args in
     on_ok_weaker c.write_fragments.result
     (λ x. subst (Appends _ _) (line_is a.path.now a.line.now a.column.now a.wording.head.now (shown a.first.now) a.wording.middle.now (shown a.second.now) a.wording.tail.now a.kind.now) x) w
 
 pub returns-clause-front : goal.returns-clause-front
 returns-clause-front g c =
-    let w = rw (c.as_bytes.ensures.value, c.as_bytes-2.ensures.value, c.as_bytes-3.ensures.value, c.as_bytes-4.ensures.value, c.as_bytes-5.ensures.value, c.as_bytes-6.ensures.value, c.as_bytes-7.ensures.value) at c.write_fragments.ensures.front in
+    let w = rw (
+      c.as_bytes.ensures.value,
+      c.as_bytes-2.ensures.value,
+      c.as_bytes-3.ensures.value,
+      c.as_bytes-4.ensures.value,
+      c.as_bytes-5.ensures.value,
+      c.as_bytes-6.ensures.value,
+      c.as_bytes-7.ensures.value,
+    ) at c.write_fragments.ensures.front in
     let a = c.args in
     on_err_weaker c.write_fragments.result
     (λ x. subst (AppendsFront _ _) (line_is a.path.now a.line.now a.column.now a.wording.head.now (shown a.first.now) a.wording.middle.now (shown a.second.now) a.wording.tail.now a.kind.now) x) w

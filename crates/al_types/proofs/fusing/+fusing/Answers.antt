@@ -1,6 +1,7 @@
 use Rattle.std.proofs.Common.{◌≡◌, refl, sym, ap, ◌∙◌, map, arith}
 use Rattle.al_types.specs.declared.types.Object.{out-Object}
-use Rattle.al_types.specs.TypeViews.{field_of, fields_of_type, object_of}
+use Rattle.al_types.specs.TypeViews.{object_of}
+use Rattle.al_types.specs.Private.TypeParts.{field_of, fields_of_type}
 use Rattle.al_types.proofs.TypeFields.{take_all, object_fields, object_made}
 use Rattle.al_types.proofs.Fused.{array_with_other, object_with_other, fuse_objects, fused_field, fused_lists, join_lists, missing_lists}
 use Rattle.al_types.proofs.fusing.+fusing.Goals as goal

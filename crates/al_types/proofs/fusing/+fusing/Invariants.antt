@@ -1,5 +1,6 @@
 use Rattle.std.proofs.Common.{◌≡◌, map, take}
-use Rattle.al_types.specs.TypeViews.{field_of, fields_of_type, object_of}
+use Rattle.al_types.specs.TypeViews.{object_of}
+use Rattle.al_types.specs.Private.TypeParts.{field_of, fields_of_type}
 use Rattle.al_types.proofs.Fused.{fused_field}
 use Rattle.al_types.proofs.fusing.+fusing.Given as goal
 

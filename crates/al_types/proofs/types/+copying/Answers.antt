@@ -1,6 +1,6 @@
 use Rattle.std.proofs.Common.{◌≡◌, ap, ◌∙◌, map, arith}
 use Rattle.al_types.specs.declared.types.Object.{out-Object}
-use Rattle.al_types.specs.TypeViews.{field_of}
+use Rattle.al_types.specs.Private.TypeParts.{field_of}
 use Rattle.al_types.proofs.TypeFields.{take_all, object_fields, object_made}
 use Rattle.al_types.proofs.types.+copying.Goals as goal
 

@@ -1,5 +1,5 @@
 use Rattle.std.proofs.Common.{◌≡◌, map, take}
-use Rattle.al_types.specs.TypeViews.{field_of}
+use Rattle.al_types.specs.Private.TypeParts.{field_of}
 use Rattle.al_types.proofs.types.+copying.Given as goal
 
 abbrev pub invariant-copy_object-loop-field : goal.invariant-copy_object-loop-field

@@ -18,7 +18,9 @@ pub returns-clause-rows : goal.returns-clause-rows
 unfolding rows_in
 returns-clause-rows g c =
     let all : app_of c.in_ok-command.command ≡ linter_app = c.in_ok-command.ensures in
-    IfOk-weaker c.try_get_matches_from.result _ _ (λ m h. (h (ap is_simple all ∙ simple)).0 ∙ ap (λ (a : App). matches_of a (map g.S.AsStr.text c.args.words.now)) all) c.try_get_matches_from.ensures.matches
+    IfOk-weaker c.try_get_matches_from.result _ _
+    (λ m h. (h (ap is_simple all ∙ simple)).0 ∙ ap (λ (a : App). matches_of a (map g.S.AsStr.text c.args.words.now)) all)
+    c.try_get_matches_from.ensures.matches
 
 pub returns-clause-kinds : goal.returns-clause-kinds
 unfolding kinds_in

@@ -1,5 +1,5 @@
 use Rattle.std.proofs.Common.{◌-◌, ◌++◌, ◌≡◌, ◌≤◌, length}
-use Rattle.al_scalar.specs.Places.{cells_between, lines_at, text_at, with_cells_before}
+use Rattle.al_scalar.specs.Private.Places.{cells_between, lines_at, text_at, with_cells_before}
 use Rattle.al_yaml.specs.Content.{anchor_cells}
 use Rattle.al_yaml_reader.proofs.anchors.name_end.Given as goal
 

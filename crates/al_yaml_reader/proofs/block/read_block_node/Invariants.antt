@@ -10,7 +10,9 @@ abbrev pub invariant-nodes : goal.invariant-nodes
 invariant-nodes l = record {
   flows : l.progress.stack.flows ≡ [];
   nested : IsBlockTask l.file.bytes.now l.fn.start.at l.progress.stack.blocks l.task;
-  reads : (whole : Answer (Part Node)) → BlockKeeps l.file.bytes.now whole l.initial.progress.stack.blocks (state_of l.initial.progress.state) l.initial.task → BlockKeeps l.file.bytes.now whole l.progress.stack.blocks (state_of l.progress.state) l.task;
+  reads : (whole : Answer (Part Node)) → BlockKeeps l.file.bytes.now whole l.initial.progress.stack.blocks
+      (state_of l.initial.progress.state) l.initial.task → BlockKeeps l.file.bytes.now whole l.progress.stack.blocks
+      (state_of l.progress.state) l.task;
 }
 
 abbrev pub decreases-nodes : goal.decreases-nodes

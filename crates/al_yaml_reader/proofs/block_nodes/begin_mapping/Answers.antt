@@ -1,6 +1,6 @@
 use Rattle.std.proofs.Common.{suc, ◌+◌, map, sym, ap, ◌∙◌, arith}
 use Rattle.std.proofs.lemmas.Result.{err_from_is_err_and}
-use Rattle.al_scalar.specs.Places.{lines_at}
+use Rattle.al_scalar.specs.Private.Places.{lines_at}
 use Rattle.al_yaml.specs.Flow.{flow_collection}
 use Rattle.al_yaml.specs.Blocks.{block_node}
 use Rattle.al_yaml_reader.specs.Private.BlockReads.{spot_of, key_seen}
@@ -15,23 +15,44 @@ use Rattle.al_yaml_reader.proofs.block_nodes.begin_mapping.Goals as goal
 
 pub returns-then-not-same_line-clause-is : goal.returns-then-not-same_line-clause-is
 returns-then-not-same_line-clause-is c = λ bound. completing-err c.args.file.now.bytes.now c.args.anchor (state_of c.args.progress.now.state) _ _
-    (mapping-lines (block_node bound) (flow_collection (suc bound)) (suc bound) (spot_of c.args.spot) (depth_in c.args.progress.now.stack) c.args.start.column (state_of c.args.progress.now.state) c.args.file.now.bytes.now c.args.start.at (omega (arith, c.requires.key.read.from, c.requires.key.read.end, c.requires.key.read.inside)) (key_seen c.args.file.now.bytes.now c.args.key) c.if-not-same_line.ensures)
+    (mapping-lines (block_node bound) (flow_collection (suc bound)) (suc bound) (spot_of c.args.spot) (depth_in c.args.progress.now.stack)
+    c.args.start.column (state_of c.args.progress.now.state) c.args.file.now.bytes.now c.args.start.at
+    (omega (arith, c.requires.key.read.from, c.requires.key.read.end, c.requires.key.read.inside))
+    (key_seen c.args.file.now.bytes.now c.args.key) c.if-not-same_line.ensures)
 
 pub returns-in-Some-clause-is : goal.returns-in-Some-clause-is
 returns-in-Some-clause-is c = λ bound. completing-err c.args.file.now.bytes.now c.args.anchor (state_of c.args.progress.now.state) _ _
-    (mapping-tab (block_node bound) (flow_collection (suc bound)) (suc bound) (spot_of c.args.spot) (depth_in c.args.progress.now.stack) c.args.start.column (state_of c.args.progress.now.state) c.args.file.now.bytes.now c.args.start.at (omega (arith, c.requires.key.read.from, c.requires.key.read.end, c.requires.key.read.inside)) (key_seen c.args.file.now.bytes.now c.args.key) c.if-not-same_line.ensures c.in-Some.tab c.in-Some.ensures)
+    (mapping-tab (block_node bound) (flow_collection (suc bound)) (suc bound) (spot_of c.args.spot) (depth_in c.args.progress.now.stack)
+    c.args.start.column (state_of c.args.progress.now.state) c.args.file.now.bytes.now c.args.start.at
+    (omega (arith, c.requires.key.read.from, c.requires.key.read.end, c.requires.key.read.inside))
+    (key_seen c.args.file.now.bytes.now c.args.key) c.if-not-same_line.ensures c.in-Some.tab c.in-Some.ensures)
 
 pub returns-then-not-is_short_key-clause-is : goal.returns-then-not-is_short_key-clause-is
 returns-then-not-is_short_key-clause-is c = λ bound. completing-err c.args.file.now.bytes.now c.args.anchor (state_of c.args.progress.now.state) _ _
-    (mapping-long (block_node bound) (flow_collection (suc bound)) (suc bound) (spot_of c.args.spot) (depth_in c.args.progress.now.stack) c.args.start.column (state_of c.args.progress.now.state) c.args.file.now.bytes.now c.args.start.at (omega (arith, c.requires.key.read.from, c.requires.key.read.end, c.requires.key.read.inside)) (key_seen c.args.file.now.bytes.now c.args.key) c.if-not-same_line.ensures c.in_default.ensures c.if-not-is_short_key.ensures)
+    (mapping-long (block_node bound) (flow_collection (suc bound)) (suc bound) (spot_of c.args.spot) (depth_in c.args.progress.now.stack)
+    c.args.start.column (state_of c.args.progress.now.state) c.args.file.now.bytes.now c.args.start.at
+    (omega (arith, c.requires.key.read.from, c.requires.key.read.end, c.requires.key.read.inside))
+    (key_seen c.args.file.now.bytes.now c.args.key) c.if-not-same_line.ensures c.in_default.ensures c.if-not-is_short_key.ensures)
 
 pub returns-in_err-start-clause-is : goal.returns-in_err-start-clause-is
 returns-in_err-start-clause-is c = λ bound.
     let p = err_from_is_err_and c.from_residual.result c.from_residual.ensures.1 in
-    rw (p.1, p.2) (completing-err c.args.file.now.bytes.now c.args.anchor (state_of c.args.progress.now.state) _ _ (mapping-broken (block_node bound) (flow_collection (suc bound)) (suc bound) (spot_of c.args.spot) (depth_in c.args.progress.now.stack) c.args.start.column (state_of c.args.progress.now.state) c.args.file.now.bytes.now c.args.start.at (omega (arith, c.requires.key.read.from, c.requires.key.read.end, c.requires.key.read.inside)) (key_seen c.args.file.now.bytes.now c.args.key) c.if-not-same_line.ensures c.in_default.ensures c.if-not-is_short_key.ensures (fault_of c.in_err-start.field-0.0) (rw c.depth-depth.ensures.value at c.in_err-start.ensures.limits)))
+    rw (p.1, p.2) (completing-err c.args.file.now.bytes.now c.args.anchor (state_of c.args.progress.now.state) _ _
+    (mapping-broken (block_node bound) (flow_collection (suc bound)) (suc bound) (spot_of c.args.spot)
+    (depth_in c.args.progress.now.stack) c.args.start.column (state_of c.args.progress.now.state) c.args.file.now.bytes.now
+    c.args.start.at (omega (arith, c.requires.key.read.from, c.requires.key.read.end, c.requires.key.read.inside))
+    (key_seen c.args.file.now.bytes.now c.args.key) c.if-not-same_line.ensures c.in_default.ensures c.if-not-is_short_key.ensures
+    (fault_of c.in_err-start.field-0.0) (rw c.depth-depth.ensures.value at c.in_err-start.ensures.limits)))
 
 pub returns-clause-is : goal.returns-clause-is
 returns-clause-is c = λ bound.
     completing-runs c.args.file.now.bytes.now c.args.anchor (state_of c.args.progress.now.state) (state_of c.start.new.self) _ _
-    (mapping-starts (block_node bound) (flow_collection (suc bound)) (suc bound) (spot_of c.args.spot) (depth_in c.args.progress.now.stack) c.args.start.column (state_of c.args.progress.now.state) c.args.file.now.bytes.now c.args.start.at (omega (arith, c.requires.key.read.from, c.requires.key.read.end, c.requires.key.read.inside)) (key_seen c.args.file.now.bytes.now c.args.key) c.if-not-same_line.ensures c.in_default.ensures c.if-not-is_short_key.ensures (state_of c.start.new.self) (rw c.depth-depth.ensures.value at c.in_ok-start.ensures.limits) c.in_ok-start.ensures.state
-    ∙ ap (λ xs. run (state_of c.start.new.self) (block_rest (suc bound) bound ((depth_in c.args.progress.now.stack) + 1) c.args.start.at c.args.start.column (entries (entries_of (map entry_view xs)) (key_seen c.args.file.now.bytes.now c.args.key)) (lines_at c.args.file.now.bytes.now c.args.start.at))) (sym c.new.ensures.items))
+    (mapping-starts (block_node bound) (flow_collection (suc bound)) (suc bound) (spot_of c.args.spot) (depth_in c.args.progress.now.stack)
+    c.args.start.column (state_of c.args.progress.now.state) c.args.file.now.bytes.now c.args.start.at
+    (omega (arith, c.requires.key.read.from, c.requires.key.read.end, c.requires.key.read.inside))
+    (key_seen c.args.file.now.bytes.now c.args.key) c.if-not-same_line.ensures c.in_default.ensures c.if-not-is_short_key.ensures
+    (state_of c.start.new.self) (rw c.depth-depth.ensures.value at c.in_ok-start.ensures.limits) c.in_ok-start.ensures.state
+    ∙ ap (λ xs. run (state_of c.start.new.self)
+    (block_rest (suc bound) bound ((depth_in c.args.progress.now.stack) + 1) c.args.start.at c.args.start.column
+    (entries (entries_of (map entry_view xs)) (key_seen c.args.file.now.bytes.now c.args.key))
+    (lines_at c.args.file.now.bytes.now c.args.start.at))) (sym c.new.ensures.items))

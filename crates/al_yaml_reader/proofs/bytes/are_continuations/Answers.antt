@@ -13,5 +13,6 @@ pub bytes-preserved : goal.bytes-preserved
 bytes-preserved c = record {
   inside = omega (arith, c.bytes.invariant.inside, c.if-done-bytes.false);
   up_to = omega arith;
-  left = continuation-more c.args.bytes.now c.args.count c.bytes.done c.bytes.invariant.left c.bytes-test.true (omega (arith, c.bytes.invariant.inside, c.if-done-bytes.false)) c.if-not-is_between.ensures;
+  left = continuation-more c.args.bytes.now c.args.count c.bytes.done c.bytes.invariant.left c.bytes-test.true
+      (omega (arith, c.bytes.invariant.inside, c.if-done-bytes.false)) c.if-not-is_between.ensures;
 }

@@ -9,5 +9,6 @@ returns-then-line-bytes-clause-is c = end-file_end c.args.bytes.now c.args.at c.
 
 pub returns-clause-is : goal.returns-clause-is
 returns-clause-is c =
-    let asked = end-here c.args.bytes.now c.args.at c.next_text_line-line.result c.next_text_line-line.ensures.lines (c.next_text_line-line.ensures.text (omega (arith, c.next_text_line-line.ensures.inside, c.if-line-bytes.false))) in
+    let asked = end-here c.args.bytes.now c.args.at c.next_text_line-line.result c.next_text_line-line.ensures.lines
+    (c.next_text_line-line.ensures.text (omega (arith, c.next_text_line-line.ensures.inside, c.if-line-bytes.false))) in
     subst (λ (r : Result (Unit {0}) Fault). Shows {A = Unit {0}} {B = Unit {0}} (λ x. tt {0}) r c.last_line.result) (sym asked) c.last_line.ensures.is

@@ -7,5 +7,6 @@ returns-then-line-bytes-clause-is c = ended-file_end c.args.bytes.now c.args.at 
 
 pub returns-clause-is : goal.returns-clause-is
 returns-clause-is c =
-    ended-here c.args.bytes.now c.args.at c.next_text_line-line.result c.next_text_line-line.ensures.lines c.next_text_line-line.ensures.inside c.blanks_end.result c.blanks_end.ensures.inside c.blanks_end.ensures.dropped
+    ended-here c.args.bytes.now c.args.at c.next_text_line-line.result c.next_text_line-line.ensures.lines
+    c.next_text_line-line.ensures.inside c.blanks_end.result c.blanks_end.ensures.inside c.blanks_end.ensures.dropped
     (c.next_text_line-line.ensures.text (omega (arith, c.next_text_line-line.ensures.inside, c.if-line-bytes.false)))

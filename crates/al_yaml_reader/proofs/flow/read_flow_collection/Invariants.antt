@@ -13,7 +13,9 @@ invariant-nodes l = record {
   outside : (l.outside ≡ length l.progress.stack.blocks) × (l.outside ≤ l.depth);
   blocks : l.progress.stack.blocks ≡ l.initial.progress.stack.blocks;
   lies : AreOpen (length l.file.bytes.now) l.progress.stack.flows × (l.at < after_at l.next) × (after_at l.next ≤ length l.file.bytes.now) × (l.opening < length l.file.bytes.now);
-  reads : (whole : Answer (Part Node)) → Keeps l.file.bytes.now l.depth whole l.initial.progress.stack.flows (state_of l.initial.progress.state) l.initial.opening (open_of l.initial.has) l.initial.next → Keeps l.file.bytes.now l.depth whole l.progress.stack.flows (state_of l.progress.state) l.opening (open_of l.has) l.next;
+  reads : (whole : Answer (Part Node)) → Keeps l.file.bytes.now l.depth whole l.initial.progress.stack.flows
+      (state_of l.initial.progress.state) l.initial.opening (open_of l.initial.has) l.initial.next
+      → Keeps l.file.bytes.now l.depth whole l.progress.stack.flows (state_of l.progress.state) l.opening (open_of l.has) l.next;
 }
 
 abbrev pub decreases-nodes : goal.decreases-nodes

@@ -9,18 +9,23 @@ use Rattle.al_yaml_reader.proofs.ReadLemmas.{stops-from}
 use Rattle.al_yaml_reader.proofs.flow.read_item.Goals as goal
 
 pub returns-then-is_text_end-clause-is : goal.returns-then-is_text_end-clause-is
-returns-then-is_text_end-clause-is c = λ col turns. let depth = c.args.depth in item-open col turns c.args.opening depth (state_of c.args.state.now) (nodes_of (map view c.args.items.now.items)) c.args.file.now.bytes.now c.args.at c.requires.inside c.if-is_text_end.ensures.text
+returns-then-is_text_end-clause-is c = λ col turns. let depth = c.args.depth in
+    item-open col turns c.args.opening depth (state_of c.args.state.now) (nodes_of (map view c.args.items.now.items))
+    c.args.file.now.bytes.now c.args.at c.requires.inside c.if-is_text_end.ensures.text
 
 pub returns-then-begins-clause-is : goal.returns-then-begins-clause-is
 returns-then-begins-clause-is c = λ col turns.
     let depth = c.args.depth in
-    item-closed col turns c.args.opening depth (state_of c.args.state.now) (nodes_of (map view c.args.items.now.items)) c.args.file.now.bytes.now c.args.at c.requires.inside c.if-is_text_end.ensures.text c.if-begins.ensures.value
+    item-closed col turns c.args.opening depth (state_of c.args.state.now) (nodes_of (map view c.args.items.now.items))
+    c.args.file.now.bytes.now c.args.at c.requires.inside c.if-is_text_end.ensures.text c.if-begins.ensures.value
 
 pub returns-in_err-part-clause-is : goal.returns-in_err-part-clause-is
 returns-in_err-part-clause-is c =
     let depth = c.args.depth in
     let p = err_from_is_err_and c.from_residual.result c.from_residual.ensures.1 in
-    rw (p.1, p.2) (λ col turns. item-stop col turns c.args.opening depth (state_of c.args.state.now) (nodes_of (map view c.args.items.now.items)) c.args.file.now.bytes.now c.args.at c.requires.inside c.if-is_text_end.ensures.text c.if-begins.ensures.value c.in_err-part.field-0.0 (c.in_err-part.ensures.is col))
+    rw (p.1, p.2) (λ col turns. item-stop col turns c.args.opening depth (state_of c.args.state.now)
+    (nodes_of (map view c.args.items.now.items)) c.args.file.now.bytes.now c.args.at c.requires.inside c.if-is_text_end.ensures.text
+    c.if-begins.ensures.value c.in_err-part.field-0.0 (c.in_err-part.ensures.is col))
 
 pub returns-in_err-put_item-in-Node-clause-is : goal.returns-in_err-put_item-in-Node-clause-is
 returns-in_err-put_item-in-Node-clause-is c =
@@ -28,8 +33,13 @@ returns-in_err-put_item-in-Node-clause-is c =
     let found = rw c.in-Node.is at c.in_ok-part.ensures.is in
     let p = err_from_is_err_and c.from_residual-in_err-put_item-in-Node.result c.from_residual-in_err-put_item-in-Node.ensures.1 in
     rw (p.1, p.2) (λ col turns.
-    stops-from (open_rest col (suc turns) depth c.args.opening (items (nodes_of (map view c.args.items.now.items))) (left_at c.args.file.now c.args.at)) (waiting_rest col turns depth c.args.opening (item (nodes_of (map view c.args.items.now.items))) (part_of c.args.file.now.bytes.now c.in-Node.part)) (state_of c.args.state.now) (state_of c.read_flow_node.new.state) c.in_err-put_item-in-Node.field-0.0
-    (item-answer col turns c.args.opening depth (state_of c.args.state.now) (nodes_of (map view c.args.items.now.items)) c.args.file.now.bytes.now c.args.at c.requires.inside c.if-is_text_end.ensures.text c.if-begins.ensures.value
+    stops-from (open_rest col (suc turns) depth c.args.opening (items (nodes_of (map view c.args.items.now.items)))
+    (left_at c.args.file.now c.args.at))
+    (waiting_rest col turns depth c.args.opening (item (nodes_of (map view c.args.items.now.items)))
+    (part_of c.args.file.now.bytes.now c.in-Node.part)) (state_of c.args.state.now) (state_of c.read_flow_node.new.state)
+    c.in_err-put_item-in-Node.field-0.0
+    (item-answer col turns c.args.opening depth (state_of c.args.state.now) (nodes_of (map view c.args.items.now.items))
+    c.args.file.now.bytes.now c.args.at c.requires.inside c.if-is_text_end.ensures.text c.if-begins.ensures.value
     ∙ ap (λ o. answered o (waiting_rest col turns depth c.args.opening (item (nodes_of (map view c.args.items.now.items))))) (found col))
     (c.in_err-put_item-in-Node.ensures.is depth (state_of c.read_flow_node.new.state) col turns))
 
@@ -37,8 +47,13 @@ pub returns-in_ok-put_item-in-Node-clause-is : goal.returns-in_ok-put_item-in-No
 returns-in_ok-put_item-in-Node-clause-is c =
     let depth = c.args.depth in
     let found = rw c.in-Node.is at c.in_ok-part.ensures.is in
-    put-behind c.args.file.now.bytes.now depth c.args.opening (state_of c.args.state.now) (state_of c.read_flow_node.new.state) (λ col t. open_rest col t depth c.args.opening (items (nodes_of (map view c.args.items.now.items))) (left_at c.args.file.now c.args.at)) (item (nodes_of (map view c.args.items.now.items))) (part_of c.args.file.now.bytes.now c.in-Node.part) (items (nodes_of (map view c.put_item.new.items.items))) c.in_ok-put_item-in-Node.field-0
-    (λ col turns. item-answer col turns c.args.opening depth (state_of c.args.state.now) (nodes_of (map view c.args.items.now.items)) c.args.file.now.bytes.now c.args.at c.requires.inside c.if-is_text_end.ensures.text c.if-begins.ensures.value
+    put-behind c.args.file.now.bytes.now depth c.args.opening (state_of c.args.state.now) (state_of c.read_flow_node.new.state)
+    (λ col t. open_rest col t depth c.args.opening (items (nodes_of (map view c.args.items.now.items)))
+    (left_at c.args.file.now c.args.at)) (item (nodes_of (map view c.args.items.now.items)))
+    (part_of c.args.file.now.bytes.now c.in-Node.part) (items (nodes_of (map view c.put_item.new.items.items)))
+    c.in_ok-put_item-in-Node.field-0
+    (λ col turns. item-answer col turns c.args.opening depth (state_of c.args.state.now) (nodes_of (map view c.args.items.now.items))
+    c.args.file.now.bytes.now c.args.at c.requires.inside c.if-is_text_end.ensures.text c.if-begins.ensures.value
     ∙ ap (λ o. answered o (waiting_rest col turns depth c.args.opening (item (nodes_of (map view c.args.items.now.items))))) (found col))
     (c.in_ok-put_item-in-Node.ensures.is depth (state_of c.read_flow_node.new.state))
 
@@ -46,7 +61,8 @@ pub returns-in-Opens-clause-is : goal.returns-in-Opens-clause-is
 returns-in-Opens-clause-is c = λ col turns.
     let depth = c.args.depth in
     let found = rw c.in-Opens.is at c.in_ok-part.ensures.is in
-    item-answer col turns c.args.opening depth (state_of c.args.state.now) (nodes_of (map view c.args.items.now.items)) c.args.file.now.bytes.now c.args.at c.requires.inside c.if-is_text_end.ensures.text c.if-begins.ensures.value
+    item-answer col turns c.args.opening depth (state_of c.args.state.now) (nodes_of (map view c.args.items.now.items))
+    c.args.file.now.bytes.now c.args.at c.requires.inside c.if-is_text_end.ensures.text c.if-begins.ensures.value
     ∙ ap (λ o. answered o (waiting_rest col turns depth c.args.opening (item (nodes_of (map view c.args.items.now.items))))) (found col)
 
 pub returns-then-begins-clause-within : goal.returns-then-begins-clause-within

@@ -1,7 +1,7 @@
 use Rattle.std.proofs.Common.{ap, sym, ◌∙◌}
-use Rattle.al_scalar.specs.Places.{lines_at}
+use Rattle.al_scalar.specs.Private.Places.{lines_at}
 use Rattle.al_yaml.specs.Flow.{behind_colon}
-use Rattle.al_scalar.specs.Contract.{read_of}
+use Rattle.al_scalar.specs.Private.Contract.{read_of}
 use Rattle.al_yaml_reader.proofs.FlowLemmas.{key-not_simple, key-late}
 use Rattle.al_yaml_reader.proofs.flow_nodes.key_colon.Goals as goal
 

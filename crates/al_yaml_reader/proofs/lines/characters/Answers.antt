@@ -11,14 +11,16 @@ text-preserved c =
         inside = omega arith;
         few = omega (arith, w.count-is, c.text.invariant.few);
         line = line-goes c.args.bytes.now c.args.from c.text.i c.args.to c.requires.inside c.text-test.true c.requires.line c.text.invariant.line;
-        characters = rw w.count-is (characters-own c.args.bytes.now c.args.from c.text.i c.args.to c.requires.inside c.text-test.true c.requires.line c.text.invariant.line c.text.count w.if-not-is_continuation.ensures c.text.invariant.characters);
+        characters = rw w.count-is (characters-own c.args.bytes.now c.args.from c.text.i c.args.to c.requires.inside c.text-test.true
+            c.requires.line c.text.invariant.line c.text.count w.if-not-is_continuation.ensures c.text.invariant.characters);
       }
       | else-not-is_continuation w ↦ record {
         from = omega arith;
         inside = omega arith;
         few = omega (arith, w.count-is, c.text.invariant.few);
         line = line-goes c.args.bytes.now c.args.from c.text.i c.args.to c.requires.inside c.text-test.true c.requires.line c.text.invariant.line;
-        characters = rw w.count-is (characters-same c.args.bytes.now c.args.from c.text.i c.args.to c.requires.inside c.text-test.true c.requires.line c.text.invariant.line c.text.count w.if-not-is_continuation.ensures c.text.invariant.characters);
+        characters = rw w.count-is (characters-same c.args.bytes.now c.args.from c.text.i c.args.to c.requires.inside c.text-test.true
+            c.requires.line c.text.invariant.line c.text.count w.if-not-is_continuation.ensures c.text.invariant.characters);
       }
     ]
 

@@ -1,5 +1,6 @@
 use Rattle.std.proofs.Common.{◌-◌, ◌+◌, ◌≡◌, ◌≤◌}
-use Rattle.al_scalar.specs.Places.{lines_at, text_at, first_end}
+use Rattle.al_scalar.specs.Places.{first_end}
+use Rattle.al_scalar.specs.Private.Places.{lines_at, text_at}
 use Rattle.al_yaml.specs.Content.{characters}
 use Rattle.al_yaml_reader.proofs.lines.characters.Given as goal
 

@@ -1,25 +1,14 @@
 use Rattle.al_contexts.proofs.env.Env.go_to.Goals as goal
 
-pub go-requires : goal.go-requires
-go-requires c = record {
-  members = c.requires.members;
-  known = c.requires.known;
-  fixed = c.requires.fixed;
-  section = c.requires.section;
-  owner = c.requires.owner;
-  steps = c.requires.steps;
-  ids = c.requires.ids;
-}
-
 pub returns-clause-stands : goal.returns-clause-stands
 returns-clause-stands c = record {
-  members = c.in_ok-go.ensures.members;
-  known = c.in_ok-go.ensures.known;
-  fixed = c.in_ok-go.ensures.fixed;
-  section = c.in_ok-go.ensures.section;
-  owner = c.in_ok-go.ensures.owner;
-  steps = c.in_ok-go.ensures.steps;
-  ids = c.in_ok-go.ensures.ids;
+  members = c.in_ok-go.ensures.stands.members;
+  known = c.in_ok-go.ensures.stands.known;
+  fixed = c.in_ok-go.ensures.stands.fixed;
+  section = c.in_ok-go.ensures.stands.section;
+  owner = c.in_ok-go.ensures.stands.owner;
+  steps = c.in_ok-go.ensures.stands.steps;
+  ids = c.in_ok-go.ensures.stands.ids;
 }
 
 pub returns-clause-scope : goal.returns-clause-scope

@@ -1,7 +1,7 @@
 use Rattle.std.proofs.Common.{option_map, sym, ap, ◌∙◌}
 use Rattle.al_contexts.specs.Answered.{known_of}
 use Rattle.al_contexts.specs.Private.Environment.{owner_view}
-use Rattle.al_contexts.specs.Objects.{name_at}
+use Rattle.al_contexts.specs.Private.Indexes.{name_at}
 use Rattle.al_contexts.proofs.Seen.{none_shown}
 use Rattle.al_contexts.proofs.env.Env.new.Goals as goal
 

@@ -1,7 +1,7 @@
 use Rattle.std.proofs.Common.{◌≡◌, ◌∷◌, ◌++◌, [], List, ap, ◌∙◌, map, length, arith}
 use Rattle.std.specs.Prelude.{IsOk}
 use Rattle.std.proofs.lemmas.List.{length-map, map-append}
-use Rattle.al_types.specs.TypeViews.{field_of}
+use Rattle.al_types.specs.Private.TypeParts.{field_of}
 use Rattle.al_contexts.specs.Objects.{Typed}
 use Rattle.al_contexts.proofs.Puts.{added_new, added_old, pushed}
 use Rattle.al_contexts.proofs.field_lists.FieldList.add.Goals as goal

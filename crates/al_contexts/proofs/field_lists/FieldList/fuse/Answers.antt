@@ -3,11 +3,13 @@ use Rattle.std.proofs.lemmas.List.{map-set}
 use Rattle.std.proofs.lemmas.List.{get_or-map as get_or-any}
 use Rattle.std.proofs.Math.ListN.{get_or-map}
 use Rattle.std.specs.Prelude.{OnOk}
-use Rattle.al_declarations.specs.Positions.{name_position}
+use Rattle.al_declarations.specs.Private.Positions.{name_position}
 use Rattle.al_declarations.proofs.PositionLemmas.{found_within}
 use Rattle.al_types.specs.Types.{fuse_type}
-use Rattle.al_types.specs.TypeViews.{field_of, ty_of}
-use Rattle.al_contexts.specs.Objects.{Typed, name_at, named_as}
+use Rattle.al_types.specs.TypeViews.{ty_of}
+use Rattle.al_types.specs.Private.TypeParts.{field_of}
+use Rattle.al_contexts.specs.Objects.{Typed}
+use Rattle.al_contexts.specs.Private.Indexes.{name_at, named_as}
 use Rattle.al_contexts.proofs.Puts.{named_same, put_at, put_behind}
 use Rattle.al_contexts.proofs.field_lists.FieldList.fuse.Goals as goal
 

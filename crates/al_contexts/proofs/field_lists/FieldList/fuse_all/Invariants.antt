@@ -1,5 +1,5 @@
 use Rattle.std.proofs.Common.{◌≡◌, map}
-use Rattle.al_types.specs.TypeViews.{field_of}
+use Rattle.al_types.specs.Private.TypeParts.{field_of}
 use Rattle.al_contexts.specs.Objects.{put, put_all}
 use Rattle.al_contexts.proofs.field_lists.FieldList.fuse_all.Given as goal
 

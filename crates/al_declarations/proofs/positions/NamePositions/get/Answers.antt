@@ -1,5 +1,5 @@
 use Rattle.std.proofs.Common.{ap, ◌∙◌}
-use Rattle.al_declarations.specs.Positions.{name_position, text_position}
+use Rattle.al_declarations.specs.Private.Positions.{name_position, text_position}
 use Rattle.al_declarations.proofs.positions.NamePositions.get.Goals as goal
 
 pub returns : goal.returns

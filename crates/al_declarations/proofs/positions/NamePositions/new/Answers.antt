@@ -1,5 +1,5 @@
-use Rattle.al_declarations.specs.NameSets.{folded}
-use Rattle.al_declarations.specs.Positions.{name_position}
+use Rattle.al_declarations.specs.Private.NameSets.{folded}
+use Rattle.al_declarations.specs.Private.Positions.{name_position}
 use Rattle.al_declarations.proofs.positions.NamePositions.new.Goals as goal
 
 pub returns : goal.returns

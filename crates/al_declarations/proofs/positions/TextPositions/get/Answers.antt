@@ -1,5 +1,5 @@
 use Rattle.std.proofs.Common.{◌∙◌}
-use Rattle.al_declarations.specs.Positions.{text_position}
+use Rattle.al_declarations.specs.Private.Positions.{text_position}
 use Rattle.al_declarations.proofs.positions.TextPositions.get.Goals as goal
 
 pub returns : goal.returns

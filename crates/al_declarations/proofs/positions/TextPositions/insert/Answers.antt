@@ -1,5 +1,5 @@
 use Rattle.std.proofs.Common.{◌≡◌, None, rules}
-use Rattle.al_declarations.specs.Positions.{text_position}
+use Rattle.al_declarations.specs.Private.Positions.{text_position}
 use Rattle.al_declarations.proofs.PositionLemmas.{added, on_err, same_texts}
 use Rattle.al_declarations.proofs.positions.TextPositions.insert.Goals as goal
 

@@ -5,4 +5,5 @@ pub overflow_sub-result-2 : goal.overflow_sub-result-2
 overflow_sub-result-2 c = c.last-last.ensures.behind c.args.index c.requires
 
 pub returns : goal.returns
-returns c = λ same. goes-on c.last-last.result c.args.index c.args.at c.args.self.now c.last-last.ensures.offset c.requires (c.last-last.ensures.behind c.args.index c.requires) c.if-not-last.false c.if-at-last.false (equal _ _ same)
+returns c = λ same. goes-on c.last-last.result c.args.index c.args.at c.args.self.now c.last-last.ensures.offset c.requires
+    (c.last-last.ensures.behind c.args.index c.requires) c.if-not-last.false c.if-at-last.false (equal _ _ same)

@@ -44,7 +44,9 @@ halves-preserved c =
       order = omega arith;
       inside = omega (arith, less, c.halves.invariant.inside);
       below = c.halves.invariant.below;
-      above = search-below (offset_after 0 c.first-first.result c.args.i) _ c.as_slice-rest.result.now high (low + (high - low) / 2) c.args.i (rising c.self.inside.first c.self.inside.rest.items _ c.args.self.now c.self.view_is c.as_slice-rest.ensures.value c.requires) c.if-rest-middle.false less c.halves.invariant.inside c.halves.invariant.above;
+      above = search-below (offset_after 0 c.first-first.result c.args.i) _ c.as_slice-rest.result.now high (low + (high - low) / 2)
+          c.args.i (rising c.self.inside.first c.self.inside.rest.items _ c.args.self.now c.self.view_is c.as_slice-rest.ensures.value
+          c.requires) c.if-rest-middle.false less c.halves.invariant.inside c.halves.invariant.above;
     }
 
 pub returns-then-low-eq0-clause-behind : goal.returns-then-low-eq0-clause-behind

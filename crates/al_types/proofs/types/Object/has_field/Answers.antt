@@ -1,6 +1,7 @@
 use Rattle.std.proofs.Common.{sym, ap, ◌∙◌}
 use Rattle.std.specs.Prelude.{is_some}
-use Rattle.al_types.specs.TypeViews.{fields_of_type, object_of}
+use Rattle.al_types.specs.TypeViews.{object_of}
+use Rattle.al_types.specs.Private.TypeParts.{fields_of_type}
 use Rattle.al_types.proofs.Fused.{has_field_at, some_mapped}
 use Rattle.al_types.proofs.types.Object.has_field.Goals as goal
 

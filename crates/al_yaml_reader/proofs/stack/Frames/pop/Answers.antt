@@ -10,7 +10,8 @@ invariant_of-self c =
 pub returns-clause-popped : goal.returns-clause-popped
 returns-clause-popped c =
     let some : c.self.inside.len ≡ suc (c.self.inside.len - 1) = omega (arith, c.if-self-eq0.false) in
-    stack-popped c.self.inside.cells.xs c.self.inside.len (c.self.inside.len - 1) c.replace.result c.replace.new.self.xs c.args.self.now c.self.invariant some c.self.view_is c.replace.ensures.value c.replace.ensures.after
+    stack-popped c.self.inside.cells.xs c.self.inside.len (c.self.inside.len - 1) c.replace.result c.replace.new.self.xs c.args.self.now
+    c.self.invariant some c.self.view_is c.replace.ensures.value c.replace.ensures.after
 
 pub returns-clause-room : goal.returns-clause-room
 returns-clause-room c =

@@ -1,0 +1,27 @@
+-- Where texts and names stand, by the maps that are kept.
+use Rattle.std.specs.Prelude.{ℕ, List, Option, Some, None, if◌then◌else◌}
+use Rattle.std.specs.BTreeMap.{get_by}
+use Rattle.std.specs.Cmp.Lexicographic.{slice_cmp}
+use Rattle.std.specs.Ordering.{nat_cmp}
+use Rattle.std.specs.Option.{option_or}
+use Rattle.std.specs.Str.{bytes_eq}
+use Rattle.al_types.specs.Names.{same_name}
+use Rattle.al_declarations.specs.Private.NameSets.{folded}
+use Rattle.al_declarations.specs.declared.positions.NamePositions.{NamePositions}
+use Rattle.al_declarations.specs.declared.positions.TextPositions.{TextPositions}
+
+-- where a text first stands
+unfoldable pub text_position : TextPositions → List ℕ → Option ℕ
+text_position p text = get_by (λ k. slice_cmp nat_cmp text k.items) p.positions
+
+-- where a name first stands
+unfoldable pub name_position : NamePositions → List ℕ → Option ℕ
+name_position p name = text_position p.texts (folded name)
+
+-- positions, and that of one more text, which counts where it had none
+abbrev pub and_text_at : (List ℕ → Option ℕ) → List ℕ → ℕ → List ℕ → Option ℕ
+and_text_at position more i text = option_or (position text) (if bytes_eq more text then Some i else None)
+
+-- likewise of one more name
+abbrev pub and_name_at : (List ℕ → Option ℕ) → List ℕ → ℕ → List ℕ → Option ℕ
+and_name_at position more i name = option_or (position name) (if same_name more name then Some i else None)

@@ -1,0 +1,18 @@
+-- What jobs need, where labels tell which jobs lead to one another.
+use Rattle.std.specs.Prelude.{ℕ, List, Bool, Option, None, nat_eq, slice_index_or}
+use Rattle.std.specs.List.{flat_map}
+use Rattle.std.specs.Option.{option_eq}
+use Rattle.al_text.specs.declared.faults.Fault.{Fault}
+use Rattle.al_rules.specs.Needs.{Need, named_by, tested_faults}
+
+-- whether two jobs have one label
+abbrev pub has_label_of : List (Option ℕ) → ℕ → ℕ → Bool
+has_label_of labels j k = option_eq nat_eq (slice_index_or labels j None) (slice_index_or labels k None)
+
+-- what an entry gives that names a job, or none
+abbrev pub labelled_fault : List (Option ℕ) → Need → Option ℕ → List Fault
+labelled_fault labels n named = tested_faults (λ j. has_label_of labels j n.job) n named
+
+-- what entries give, where a job that is needed leads back just where it has the label of the one that needs it
+abbrev pub labelled_faults : (List ℕ → Option ℕ) → List (Option ℕ) → List Need → List Fault
+labelled_faults position labels = flat_map (λ n. labelled_fault labels n (named_by position n.text))
