@@ -28,6 +28,8 @@ PIPE_ROOM = 1 << 20
 # what a file of aliases may take: bytes of memory, and seconds of a processor
 MEMORY = 300_000_000
 SECONDS = 10
+# what 120,000 edits of a small folder may take, in bytes of memory
+EDIT_MEMORY = 8_000_000
 
 WITH_REF = CLEAN.replace(b"run: echo", b"run: echo ${{ github.ref }}")
 WITH_MATRIX = b"""on: push
@@ -243,6 +245,47 @@ def calls_of_one_file(place):
                stdin=put("x/action.yml", data) + REPORT)
 
 
+# ---- one count times another
+
+
+def many_of_both(place):
+    """Files in which one count times another would be taken in time or in memory: expressions that read the last of many outputs, each of
+    many inputs read, and jobs that need one another in a chain, or in a ring of which each tells its need."""
+    place.fresh()
+    first = b"on: push\njobs:\n  a: {runs-on: u, outputs: {%s}, steps: [{run: x}]}\n"
+    outputs = b", ".join(b"o%04d: x" % number for number in range(10_000))
+    last = b"  b:\n    needs: a\n    runs-on: u\n    steps:\n" + b"      - run: ${{ needs.a.outputs.o9999 }}\n" * 12_000
+    reported(place, "last-of-10000-outputs-12000-times", first % outputs + last, limits=held_back)
+    inputs = b"".join(b"      i%04d: {type: string}\n" % number for number in range(8_000))
+    steps = b"".join(b"      - run: ${{ inputs.i%04d }}\n" % number for number in range(8_000))
+    called = b"on:\n  workflow_call:\n    inputs:\n" + inputs + b"jobs:\n  a:\n    runs-on: u\n    steps:\n" + steps
+    reported(place, "8000-inputs-each-read", called, limits=held_back)
+    job = b"  j%05d: {needs: j%05d, uses: o/r/.github/workflows/w.yml@v}\n"
+    chain = b"on: push\njobs:\n" + (job % (0, 0)).replace(b"needs: j00000, ", b"") + b"".join(job % (it, it - 1) for it in range(1, 16_000))
+    reported(place, "chain-of-16000-needs", chain, limits=held_back)
+    place.fresh({WORKFLOW: b"on: push\njobs:\n" + b"".join(job % (it, (it - 1) % 16_000) for it in range(16_000))})
+    told = b"".join(b'%s%d:19: "j%05d" needs "j%05d" in a cycle [job-needs]\n' % (AT, 3 + it, it, (it - 1) % 16_000) for it in range(16_000))
+    place.case("ring-of-16000-needs", 1, told, NO, ["--oneline"], limits=held_back)
+
+
+# ---- many edits
+
+
+def held_for_edits():
+    """So much memory as a session of a few files takes, and no more."""
+    resource.setrlimit(resource.RLIMIT_AS, (EDIT_MEMORY, EDIT_MEMORY))
+
+
+def many_edits(place):
+    """120,000 edits of a folder that has at most one file: a workflow that calls an action of its own is put, then one that calls another, and
+    then it is deleted. What is looked for is forgotten with the file that looks for it."""
+    rounds = 40_000
+    calling = lambda name, number: put(WORKFLOW, CLEAN.replace(b"run: echo", b"uses: ./%s/%05d" % (name, number)))
+    edits = b"".join(calling(b"a", it) + calling(b"b", it) + delete(WORKFLOW) for it in range(rounds))
+    place.fresh()
+    place.case("120000-edits", 0, b"ok 1\nok 1\nok 0\n" * rounds + b"status 0\n", NO, SCRIPT, stdin=edits + REPORT, limits=held_for_edits)
+
+
 # ---- many called files
 
 
@@ -416,4 +459,4 @@ def narrow_output(place):
 
 if __name__ == "__main__":
     sys.exit(run_parts(fronts, limits, one_line, shared_nodes, equal_faults, folder_of_4096, ring_of_4096, calls_of_one_file,
-                       many_called_files, pieces_of_a_script, lines_of_input, input_without_end, narrow_output))
+                       many_of_both, many_edits, many_called_files, pieces_of_a_script, lines_of_input, input_without_end, narrow_output))
