@@ -1,10 +1,10 @@
 //! The linter as a program: it lints the files of a folder, or runs a script from standard input.
 #![tactic(auto)]
 
+use al_base::{Input, Output, Stop};
 use al_cli::{Loaded, Unread, lint_loaded, load};
 use al_scripts::{number_of, run_session};
 use al_session::Refused;
-use al_text::{Input, Output, Stop};
 use al_words::{Usage, Words, parse_words};
 use std::io::{BufWriter, ErrorKind};
 use std::process::ExitCode;

@@ -1,9 +1,9 @@
 //! Calls of local actions and workflows, with ample memory.
 
+use al_base::{CallCode, Caller, Code, Fault, position};
 use al_calls::{Value, check_call, with_answers};
+use al_folder::Target;
 use al_interfaces::{Interface, interface_of};
-use al_session::Target;
-use al_text::{CallCode, Caller, Code, Fault, position};
 use al_tree::{FileKind, members, value};
 use al_types::Ty;
 use al_uses::{Call, calls_in, targets};

@@ -3,13 +3,13 @@ use Rattle.std.specs.Prelude.{ℕ, Bool, List, [], ◌∷◌, ◌++◌, codes, d
 use Rattle.std.proofs.Common.{cond}
 use Rattle.std.specs.List.{AllByRecursion, flat_map}
 use Rattle.std.specs.Option.{option_map_or}
-use Rattle.al_text.specs.Spans.{LiesIn}
-use Rattle.al_text.specs.declared.codes.CallCode.{CallCode}
-use Rattle.al_text.specs.declared.codes.CallCode.TheVariants as code
-use Rattle.al_text.specs.declared.codes.Caller.{Caller}
-use Rattle.al_text.specs.declared.codes.Caller.TheVariants as caller
-use Rattle.al_text.specs.declared.faults.Fault.{Fault}
-use Rattle.al_text.specs.declared.faults.Span.{Span}
+use Rattle.al_base.specs.Spans.{LiesIn}
+use Rattle.al_base.specs.declared.codes.CallCode.{CallCode}
+use Rattle.al_base.specs.declared.codes.CallCode.TheVariants as code
+use Rattle.al_base.specs.declared.codes.Caller.{Caller}
+use Rattle.al_base.specs.declared.codes.Caller.TheVariants as caller
+use Rattle.al_base.specs.declared.faults.Fault.{Fault}
+use Rattle.al_base.specs.declared.faults.Span.{Span}
 use Rattle.al_types.specs.Types.{Type'}
 use Rattle.al_scalar.specs.Scalar.{Scalar}
 use Rattle.al_yaml.specs.Node.{Node, scalar, sequence, mapping, span_of}
@@ -25,7 +25,7 @@ use Rattle.al_uses.specs.Uses.{Call, calls_in, target_in}
 use Rattle.al_uses.specs.declared.forms.Form.{Form}
 use Rattle.al_uses.specs.declared.forms.Form.TheVariants.{Local, Other, Wrong}
 use Rattle.al_uses.proofs.Inside.{AtLies, calls_lie, inside_kept}
-use Rattle.al_text.proofs.Elements.{each_both, each_either, each_of}
+use Rattle.al_base.proofs.Elements.{each_both, each_either, each_of}
 use Rattle.al_uses.proofs.Parts.{entries_kept}
 use Rattle.al_calls.specs.Answers.{Answered, Typing, answered, answered_faults}
 use Rattle.al_calls.specs.CallFaults.{Given, Names, absent_faults, against, answer_faults, at_uses, call_faults, called, caller_of}

@@ -5,13 +5,13 @@ use Rattle.std.specs.List.{flat_map}
 use Rattle.std.specs.Option.{option_map_or}
 use Rattle.std.specs.Str.{bytes_eq}
 use Rattle.std.specs.Str.Lossy.{utf8_lossy}
-use Rattle.al_text.specs.declared.codes.CallCode.{CallCode}
-use Rattle.al_text.specs.declared.codes.CallCode.TheVariants as code
-use Rattle.al_text.specs.declared.codes.Caller.{Caller}
-use Rattle.al_text.specs.declared.codes.Caller.TheVariants as caller
-use Rattle.al_text.specs.declared.codes.Code.TheVariants as kind_of_code
-use Rattle.al_text.specs.declared.faults.Fault.{Fault}
-use Rattle.al_text.specs.declared.faults.Span.{Span}
+use Rattle.al_base.specs.declared.codes.CallCode.{CallCode}
+use Rattle.al_base.specs.declared.codes.CallCode.TheVariants as code
+use Rattle.al_base.specs.declared.codes.Caller.{Caller}
+use Rattle.al_base.specs.declared.codes.Caller.TheVariants as caller
+use Rattle.al_base.specs.declared.codes.Code.TheVariants as kind_of_code
+use Rattle.al_base.specs.declared.faults.Fault.{Fault}
+use Rattle.al_base.specs.declared.faults.Span.{Span}
 use Rattle.al_scalar.specs.Scalar.{Scalar, text_of}
 use Rattle.al_types.specs.Names.{same_name}
 use Rattle.al_types.specs.Types.{Type', Any, assignable_type}

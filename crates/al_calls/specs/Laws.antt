@@ -1,8 +1,8 @@
 -- What holds of the faults of calls of any file: they lie in it.
 use Rattle.std.specs.Prelude.{ℕ, List, Option}
 use Rattle.std.specs.List.{AllByRecursion}
-use Rattle.al_text.specs.Spans.{LiesIn}
-use Rattle.al_text.specs.declared.faults.Fault.{Fault}
+use Rattle.al_base.specs.Spans.{LiesIn}
+use Rattle.al_base.specs.declared.faults.Fault.{Fault}
 use Rattle.al_tree.specs.declared.files.FileKind.{FileKind}
 use Rattle.al_yaml.specs.Node.{Node}
 use Rattle.al_yaml.specs.Spans.{IsInside}

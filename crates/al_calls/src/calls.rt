@@ -1,20 +1,20 @@
 //! The faults of one call.
-#![tactic(auto, using(al_text::proofs::Growing::growth))]
+#![tactic(auto, using(al_base::proofs::Growing::growth))]
 
 ghost use Rattle.std.specs.Prelude.{◌≡◌, ◌++◌, map, OnOk};
 ghost use Rattle.std.specs.Option.{option_copied};
 ghost use Rattle.al_calls.specs.Private.AnswerViews.{given_of};
 ghost use Rattle.al_calls.specs.CallFaults as faults;
 ghost use Rattle.al_uses.specs.Private.CallViews.{call_of};
-ghost use Rattle.al_text.specs.Growth.{BeginsWith};
+ghost use Rattle.al_base.specs.Growth.{BeginsWith};
 
 use crate::given::check_inputs;
 use crate::reports::{caller_of, is_callable, report_absent, report_uses};
 use crate::secrets::check_secrets;
 use crate::values::{Value, check_values};
+use al_base::{CallCode, Caller, Fault};
 use al_interfaces::{Interface, Signature};
 use al_shape::members_under;
-use al_text::{CallCode, Caller, Fault};
 use al_uses::{Call, Form};
 use std::alloc::{AllocError, Global};
 

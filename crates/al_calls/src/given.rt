@@ -1,19 +1,19 @@
 //! Inputs that a call gives, against those that the called file shows: C2 and C3.
-#![tactic(auto, using(al_text::proofs::Growing::growth))]
+#![tactic(auto, using(al_base::proofs::Growing::growth))]
 
 ghost use Rattle.std.specs.Prelude.{◌≡◌, ◌++◌, map, IfOk, OnOk};
 ghost use Rattle.al_calls.specs.CallFaults as faults;
 ghost use Rattle.al_declarations.specs.Private.NameSets.{holds};
 ghost use Rattle.al_shape.specs.Values.{member_of};
 ghost use Rattle.al_uses.specs.Private.CallViews.{call_of};
-ghost use Rattle.al_text.specs.Growth.{BeginsWith};
+ghost use Rattle.al_base.specs.Growth.{BeginsWith};
 
 use crate::names::{given_names, input_names};
 use crate::reports::{called, caller_of, report_two};
+use al_base::{CallCode, Caller, Fault};
 use al_declarations::{NameSet, is_named_among};
 use al_interfaces::{Input, Signature};
 use al_shape::{Member, key_text};
-use al_text::{CallCode, Caller, Fault};
 use al_uses::Call;
 use std::alloc::{AllocError, Global};
 

@@ -6,8 +6,8 @@ ghost use Rattle.al_calls.specs.Outputs.{outputs_behind, shows_outputs};
 
 use crate::answers::Answered;
 use crate::reports::caller_of;
+use al_base::Caller;
 use al_interfaces::{Interface, NameList, Role};
-use al_text::Caller;
 
 /// Whether the outputs of such a file are those of a step, or of a job, that calls it.
 fn has_outputs(caller: Caller, role: Role) -> bool

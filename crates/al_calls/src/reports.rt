@@ -1,13 +1,13 @@
 //! Faults of calls that name the text of `uses`: C1, C7 and C8; and the reporting of all.
-#![tactic(auto, using(al_text::proofs::Growing::growth))]
+#![tactic(auto, using(al_base::proofs::Growing::growth))]
 
 ghost use Rattle.std.specs.Prelude.{◌≡◌, ◌++◌, ◌∷◌, [], OnOk};
 ghost use Rattle.al_calls.specs.CallFaults as faults;
 ghost use Rattle.al_uses.specs.Private.CallViews.{call_of};
-ghost use Rattle.al_text.specs.Growth.{BeginsWith};
+ghost use Rattle.al_base.specs.Growth.{BeginsWith};
 
+use al_base::{Args, CallCode, Caller, Code, Fault, Span};
 use al_interfaces::{Role, Signature};
-use al_text::{Args, CallCode, Caller, Code, Fault, Span};
 use al_uses::Call;
 use std::alloc::{AllocError, Global};
 

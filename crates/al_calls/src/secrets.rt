@@ -1,5 +1,5 @@
 //! Secrets that a job gives, against those that the called workflow shows: C5 and C6.
-#![tactic(auto, using(al_text::proofs::Growing::growth))]
+#![tactic(auto, using(al_base::proofs::Growing::growth))]
 
 ghost use Rattle.std.specs.Prelude.{◌≡◌, ◌++◌, map, IfOk, OnOk};
 ghost use Rattle.al_calls.specs.CallFaults as faults;
@@ -7,14 +7,14 @@ ghost use Rattle.al_declarations.specs.Private.NameSets.{holds};
 ghost use Rattle.al_shape.specs.Values.{member_of};
 ghost use Rattle.al_uses.specs.Private.CallViews.{call_of};
 ghost use Rattle.al_yaml.specs.View.{view};
-ghost use Rattle.al_text.specs.Growth.{BeginsWith};
+ghost use Rattle.al_base.specs.Growth.{BeginsWith};
 
 use crate::names::{given_names, secret_names};
 use crate::reports::{called, report_two};
+use al_base::{CallCode, Fault};
 use al_declarations::NameSet;
 use al_interfaces::{Secret, Signature};
 use al_shape::{Member, key_text, members_under, text_under};
-use al_text::{CallCode, Fault};
 use al_uses::Call;
 use al_yaml::Node;
 use std::alloc::{AllocError, Global};

@@ -1,5 +1,5 @@
 //! The types of what a job gives to the workflow that it calls: C4.
-#![tactic(auto, using(al_text::proofs::Growing::growth))]
+#![tactic(auto, using(al_base::proofs::Growing::growth))]
 
 ghost use Rattle.std.specs.Prelude.{◌≡◌, ◌++◌, find, map, IfOk, OnOk};
 ghost use Rattle.std.specs.Option.{option_copied};
@@ -9,13 +9,13 @@ ghost use Rattle.al_types.specs.TypeViews.{ty_of};
 ghost use Rattle.al_calls.specs.CallFaults as faults;
 ghost use Rattle.al_uses.specs.Private.CallViews.{call_of};
 ghost use Rattle.al_calls.specs.Private.AnswerViews.{given_of};
-ghost use Rattle.al_text.specs.Growth.{BeginsWith};
+ghost use Rattle.al_base.specs.Growth.{BeginsWith};
 
 use crate::reports::report_two;
+use al_base::{CallCode, Fault};
 use al_declarations::{InputType, NamePositions, type_of};
 use al_interfaces::{Input, Signature};
 use al_shape::{Member, key_text};
-use al_text::{CallCode, Fault};
 use al_types::{Ty, assignable};
 use al_uses::Call;
 use std::alloc::{AllocError, Global};

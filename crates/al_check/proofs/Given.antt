@@ -21,7 +21,8 @@ use Rattle.al_scalar.specs.declared.faults.YamlFault.{YamlFault}
 use Rattle.al_tree.specs.declared.files.FileKind.{FileKind}
 use Rattle.al_tree.specs.declared.files.Tree.{Tree}
 use Rattle.al_check.specs.Calling.{file_interface, file_targets, interface_given, shown_by, shown_read, targets_given, targets_of, targets_read}
-use Rattle.al_check.specs.Reading.{IsGiven, IsRead, root_of}
+use Rattle.al_check.specs.Reading.{IsGiven, IsRead}
+use Rattle.al_tree.specs.Files.{root_of}
 use Rattle.al_check.specs.declared.files.ReadFile.{ReadFile}
 
 targets_are : (kind : FileKind) (bytes : List ℕ) (read : Result Tree YamlFault) → IsGiven kind bytes read → targets_read read ≡ file_targets kind bytes

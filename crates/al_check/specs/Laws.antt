@@ -6,10 +6,10 @@ use Rattle.std.proofs.lemmas.List.Elements.{recursion_from_All}
 use Rattle.al_scalar.specs.Taken as yaml
 use Rattle.al_shape.proofs.Inside.{root_lies}
 use Rattle.std.specs.List.Sorted.{IsStrictlySortedBy}
-use Rattle.al_text.proofs.FaultLists.{AllByRecursion-fault_list, IsStrictlySortedBy-fault_list}
-use Rattle.al_text.specs.FaultLists.{fault_cmp}
-use Rattle.al_text.specs.Spans.{LiesIn}
-use Rattle.al_text.specs.declared.faults.Fault.{Fault}
+use Rattle.al_base.proofs.FaultLists.{AllByRecursion-fault_list, IsStrictlySortedBy-fault_list}
+use Rattle.al_base.specs.FaultLists.{fault_cmp}
+use Rattle.al_base.specs.Spans.{LiesIn}
+use Rattle.al_base.specs.declared.faults.Fault.{Fault}
 use Rattle.al_tree.specs.Files.{shape_of}
 use Rattle.al_tree.specs.declared.files.FileKind.{FileKind}
 use Rattle.al_yaml.specs.Document.{tree_of}

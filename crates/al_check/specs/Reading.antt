@@ -1,27 +1,16 @@
 -- What reading a file gave.
 use Rattle.std.specs.Prelude.{◌≡◌, ℕ, List, length, map, Result, Ok, Err}
 use Rattle.al_scalar.specs.declared.faults.YamlFault.{YamlFault}
-use Rattle.al_text.specs.Spans.{LiesIn}
+use Rattle.al_base.specs.Spans.{LiesIn}
 use Rattle.al_tree.specs.declared.files.FileKind.{FileKind}
-use Rattle.al_tree.specs.declared.files.FileKind.TheVariants as kind
 use Rattle.al_tree.specs.declared.files.Tree.{Tree}
-use Rattle.al_tree.specs.declared.files.Tree.TheVariants as tree
+use Rattle.al_tree.specs.Files.{kind_in, root_of}
 use Rattle.al_yaml.specs.ByteFaults.{fault_span}
 use Rattle.al_yaml.specs.Document.{tree_of}
-use Rattle.al_yaml.specs.Node.{Node}
 use Rattle.al_yaml.specs.Spans.{AreFrom, IsInside, IsLaid}
 use Rattle.al_yaml.specs.Texts.{HasTexts}
-use Rattle.al_yaml.specs.View.{view}
 use Rattle.al_check.specs.Sites.{file_sites, kept_site}
 use Rattle.al_check.specs.declared.files.ReadFile.{ReadFile}
-
-abbrev pub root_of : Tree → Node
-root_of (tree.Workflow w) = view w.root
-root_of (tree.Action a) = view a.root
-
-abbrev pub kind_in : Tree → FileKind
-kind_in (tree.Workflow w) = kind.Workflow
-kind_in (tree.Action a) = kind.Action
 
 -- the document of these bytes, which lies in them, as a file of this kind
 pub record IsTree (file : FileKind) (bytes : List ℕ) (t : Tree) : Type 0 where

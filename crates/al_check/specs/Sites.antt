@@ -1,8 +1,8 @@
 -- Where a file calls files of the folder, and what is said where such a call leads back to it.
 use Rattle.std.specs.Prelude.{ℕ, List, [], Option, Result, Ok, Err, option_map, string_bytes}
 use Rattle.std.specs.List.{filter_map}
-use Rattle.al_text.specs.declared.codes.CallCode.TheVariants.{LeadsBack}
-use Rattle.al_text.specs.declared.codes.Code.TheVariants as code
+use Rattle.al_base.specs.declared.codes.CallCode.TheVariants.{LeadsBack}
+use Rattle.al_base.specs.declared.codes.Code.TheVariants as code
 use Rattle.al_scalar.specs.Scalar.{text_of}
 use Rattle.al_scalar.specs.Taken as yaml
 use Rattle.al_yaml.specs.Document.{tree_of}

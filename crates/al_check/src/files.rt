@@ -3,9 +3,9 @@ ghost use Rattle.std.specs.Prelude.{◌≡◌, ◌≤◌, ◌++◌, [], ◌∷�
 ghost use Rattle.std.specs.List.{AllByRecursion, cons_option};
 ghost use Rattle.std.specs.Option.{option_copied};
 ghost use Rattle.al_shape.specs.Faults.{root_faults};
-ghost use Rattle.al_text.specs.Growth.{SameSet};
-ghost use Rattle.al_text.specs.FaultLists.{fault_list};
-ghost use Rattle.al_tree.specs.Files.{shape_of};
+ghost use Rattle.al_base.specs.Growth.{SameSet};
+ghost use Rattle.al_base.specs.FaultLists.{fault_list};
+ghost use Rattle.al_tree.specs.Files.{kind_in, root_of, shape_of};
 ghost use Rattle.al_yaml.specs.Document.{tree_of};
 ghost use Rattle.al_yaml.specs.Spans.{AreFrom, IsInside, IsLaid};
 ghost use Rattle.al_yaml.specs.Texts.{HasTexts};
@@ -20,17 +20,16 @@ ghost use Rattle.al_check.specs.Sites as sites;
 ghost use Rattle.al_file_calls.specs.FileCalls as calls;
 ghost use Rattle.al_check.specs.FileFaults as faults;
 ghost use Rattle.al_check.specs.Calling.{shown_by, targets_of};
-ghost use Rattle.al_check.specs.Reading.{IsRead, kind_in, root_of};
+ghost use Rattle.al_check.specs.Reading.{IsRead};
 ghost use Rattle.al_check.specs.RuleFaults.{rule_faults};
 
 use crate::printing::printed;
+use al_base::{Args, Caller, Code, Fault, Span, ordered};
 use al_file_calls::behind_faults;
 use al_folder::Target;
 use al_interfaces::{Interface, interface_of};
 use al_rules::rules;
 use al_scalar::YamlFault;
-use al_shape::{Shape, shape_faults};
-use al_text::{Args, Caller, Code, Fault, Span, ordered};
 use al_tree::{Action, FileKind, Tree, Workflow};
 use al_uses::{Call, Form, calls_in, targets};
 use al_yaml::{Doc, Node};
@@ -161,22 +160,12 @@ pub(crate) fn read_file(alloc: Global, kind: FileKind, bytes: &[u8]) -> Result<R
     }
 }
 
-/// The faults of keys and values, in the order of the document.
-fn key_faults(alloc: Global, tree: &Tree) -> Result<Vec<Fault>, AllocError>
-    ensures { IfOk result (λ found. found.items ≡ root_faults (shape_of (kind_in tree.now)) (root_of tree.now)) }
-{
-    match tree {
-        Tree::Workflow(workflow) => shape_faults(alloc, Shape::Workflow, &workflow.root),
-        Tree::Action(action) => shape_faults(alloc, Shape::Action, &action.root),
-    }
-}
-
 /// The faults of keys, values and rules.
 fn own_faults(alloc: Global, tree: &Tree) -> Result<Vec<Fault>, AllocError>
     ensures { IfOk result (λ found. SameSet found.items
         (root_faults (shape_of (kind_in tree.now)) (root_of tree.now) ++ rule_faults (kind_in tree.now) (root_of tree.now))) }
 {
-    let mut found = key_faults(alloc, tree)?;
+    let mut found = tree.faults(alloc)?;
     rules(alloc, tree, &mut found)?;
     Ok(found)
 }
@@ -193,12 +182,7 @@ fn add_behind(
     ensures { OnOk result (SameSet out.new.items (out.old.items
         ++ calls.behind_faults (kind_in tree.now) (root_of tree.now) (map (λ a. option_copied a) answers.now))) }
 {
-    match tree {
-        Tree::Workflow(file) => {
-            behind_faults(alloc, FileKind::Workflow, &file.root, answers, out)
-        }
-        Tree::Action(file) => behind_faults(alloc, FileKind::Action, &file.root, answers, out),
-    }
+    behind_faults(alloc, tree.kind(), tree.root(), answers, out)
 }
 
 /// These faults as they are printed, in the order of reports, each once.
@@ -259,16 +243,8 @@ pub(crate) fn file_faults(
 fn tree_targets(alloc: Global, tree: &Tree) -> Result<Vec<Target>, AllocError>
     ensures { IfOk result (λ found. found.items ≡ uses.targets_of (uses.calls_in (kind_in tree.now) (root_of tree.now))) }
 {
-    match tree {
-        Tree::Workflow(file) => {
-            let calls = calls_in(alloc, FileKind::Workflow, &file.root)?;
-            targets(alloc, calls.as_slice())
-        }
-        Tree::Action(file) => {
-            let calls = calls_in(alloc, FileKind::Action, &file.root)?;
-            targets(alloc, calls.as_slice())
-        }
-    }
+    let calls = calls_in(alloc, tree.kind(), tree.root())?;
+    targets(alloc, calls.as_slice())
 }
 
 /// The files of the folder that a file calls, in order.
@@ -285,10 +261,7 @@ pub(crate) fn file_targets(alloc: Global, file: &ReadFile) -> Result<Vec<Target>
 fn tree_interface(alloc: Global, tree: &Tree) -> Result<Interface, AllocError>
     ensures { IfOk result (λ i. i ≡ interfaces.interface_of (kind_in tree.now) (root_of tree.now)) }
 {
-    match tree {
-        Tree::Workflow(file) => interface_of(alloc, FileKind::Workflow, &file.root),
-        Tree::Action(file) => interface_of(alloc, FileKind::Action, &file.root),
-    }
+    interface_of(alloc, tree.kind(), tree.root())
 }
 
 /// What a file shows to its callers.

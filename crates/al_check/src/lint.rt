@@ -9,9 +9,9 @@ ghost use Rattle.al_check.specs.Sites.{kept_site};
 ghost use Rattle.al_folder.specs.Sites as sites;
 
 use crate::files::{LocalCall, ReadFile, file_faults, file_interface, file_targets, read_file};
+use al_base::{CallCode, Code, Fault};
 use al_folder::{Lint, Site, Target};
 use al_interfaces::Interface;
-use al_text::{CallCode, Code, Fault};
 use al_tree::{file_kind, is_action, is_workflow};
 use std::alloc::{AllocError, Global};
 

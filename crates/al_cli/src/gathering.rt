@@ -2,9 +2,9 @@
 
 use crate::disk::{Disk, DiskError, SystemFolder, WORKFLOWS};
 use crate::paths::shown;
+use al_base::{Path, path_fault};
 use al_check::Actions;
 use al_session::{Refused, SessionBuilder, Target};
-use al_text::{Path, path_fault};
 use al_words::Words;
 use std::alloc::{AllocError, AllocFailed, Global};
 use std::collections::BTreeSet;
@@ -83,17 +83,7 @@ pub fn load_from<D: Disk>(alloc: Global, disk: &mut D, words: &Words) -> Result<
 
 fn gathered<D: Disk>(alloc: Global, disk: &mut D, words: &Words) -> Result<Gathering, Unread> {
     let mut gathering = Gathering::new(alloc);
-    if words.files.is_empty() {
-        let listed = list_workflows(alloc, disk)?;
-        for path in &listed {
-            gathering.take_named(disk, path.as_str())?;
-        }
-    } else {
-        for file in &words.files {
-            gathering.take_named(disk, without_dot(file))?;
-        }
-    }
-    gathering.take_called(disk)?;
+    gathering.take_asked(disk, words)?;
     Ok(gathering)
 }
 
@@ -119,6 +109,13 @@ struct Candidates {
 }
 
 impl Candidates {
+    fn new(alloc: Global) -> Candidates {
+        Candidates {
+            waiting: BTreeSet::new(alloc),
+            absent: BTreeSet::new(alloc),
+        }
+    }
+
     // Lets a path wait, unless a file was taken there or it was tried.
     fn add(&mut self, alloc: Global, files: &Loaded, path: &Path) -> Result<(), Unread> {
         let text = path.as_str();
@@ -148,11 +145,33 @@ impl Gathering {
             alloc,
             files: Loaded::new(alloc, Actions::new()),
             taken: Vec::new(alloc),
-            candidates: Candidates {
-                waiting: BTreeSet::new(alloc),
-                absent: BTreeSet::new(alloc),
-            },
+            candidates: Candidates::new(alloc),
         }
+    }
+
+    // Takes the files that the words ask for, and then those that they call.
+    fn take_asked<D: Disk>(&mut self, disk: &mut D, words: &Words) -> Result<(), Unread> {
+        if words.files.is_empty() {
+            let listed = list_workflows(self.alloc, disk)?;
+            self.take_listed(disk, &listed)?;
+        } else {
+            for file in &words.files {
+                self.take_named(disk, without_dot(file))?;
+            }
+        }
+        self.take_called(disk)
+    }
+
+    // Takes files that the folder lists.
+    fn take_listed<D: Disk>(
+        &mut self,
+        disk: &mut D,
+        listed: &BTreeSet<String>,
+    ) -> Result<(), Unread> {
+        for path in listed {
+            self.take_named(disk, path.as_str())?;
+        }
+        Ok(())
     }
 
     // Takes a file that has to be there.
@@ -234,14 +253,23 @@ impl Gathering {
 
     // The files with their bytes, in the order in which they were taken.
     fn into_files(self) -> Result<Vec<(Path, Vec<u8>)>, Unread> {
-        let mut files = Vec::new(self.alloc);
-        for path in self.taken {
-            if let Some(bytes) = self.files.bytes(path.as_str()) {
-                files.push((path, Vec::from_slice(self.alloc, bytes)?))?;
-            }
-        }
-        Ok(files)
+        with_bytes(self.alloc, self.taken, &self.files)
     }
+}
+
+// Files with their bytes, by their paths.
+fn with_bytes(
+    alloc: Global,
+    paths: Vec<Path>,
+    loaded: &Loaded,
+) -> Result<Vec<(Path, Vec<u8>)>, Unread> {
+    let mut files = Vec::new(alloc);
+    for path in paths {
+        if let Some(bytes) = loaded.bytes(path.as_str()) {
+            files.push((path, Vec::from_slice(alloc, bytes)?))?;
+        }
+    }
+    Ok(files)
 }
 
 fn failed(alloc: Global, path: &str, error: DiskError) -> Unread {

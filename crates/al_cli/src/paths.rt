@@ -1,7 +1,7 @@
 //! Paths as the lines on standard error have them.
 
 ghost use Rattle.std.specs.Prelude.{◌≡◌, IfOk, map, string_bytes, chars, encode_utf8_all};
-ghost use Rattle.al_text.specs.Messages.{shown_byte};
+ghost use Rattle.al_base.specs.Shown.{shown_byte};
 
 use std::alloc::{AllocError, Global};
 

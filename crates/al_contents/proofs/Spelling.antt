@@ -1,8 +1,8 @@
 -- The tree that a content spells is the one that the law constructs.
 use Rattle.std.proofs.Common.{◌≡◌, ℕ, suc, ◌<◌, List, [], ◌∷◌, length, refl, sym, ap, ◌∙◌, subst, arith, Option, Some, None, Bool, true, false, cond, nat_lt, drop, ◌-◌, ◌+◌}
 use Rattle.std.proofs.lemmas.List.{length-drop}
-use Rattle.al_text.specs.declared.faults.Fault.{Fault}
-use Rattle.al_text.specs.declared.faults.Span.{Span}
+use Rattle.al_base.specs.declared.faults.Fault.{Fault}
+use Rattle.al_base.specs.declared.faults.Span.{Span}
 use Rattle.al_grammar.specs.Lexeme.{Lexeme, lexeme, kinds}
 use Rattle.al_grammar.specs.Tokens.{Lexed, AllRead, Bad, Unclosed, tokens_of}
 use Rattle.al_grammar.specs.Tree.{Tree}

@@ -1,6 +1,6 @@
 -- What holds of each scalar that is checked, and so of the places of its faults.
 use Rattle.std.specs.Prelude.{ℕ, ◌≤◌, length, IsUtf8}
-use Rattle.al_text.specs.Spans.{LiesIn}
+use Rattle.al_base.specs.Spans.{LiesIn}
 use Rattle.al_scalar.specs.Offsets.{IsFrom, IsPlaced}
 use Rattle.al_scalar.specs.Scalar.{text_of}
 use Rattle.al_places.specs.Places.{Place}

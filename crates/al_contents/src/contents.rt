@@ -1,5 +1,5 @@
 //! The expressions of one scalar: their faults, with their places in the file.
-#![tactic(auto, using(al_text::proofs::Growing::growth))]
+#![tactic(auto, using(al_base::proofs::Growing::growth))]
 
 ghost use Rattle.std.specs.List.{flat_map};
 ghost use Rattle.std.specs.Prelude.{true, ◌≡◌, ◌++◌, ◌<◌, ◌≤◌, ◌^◌, length, map, All, OnOk};
@@ -11,13 +11,13 @@ ghost use Rattle.al_contents.specs.Contents.{chunk_faults, chunked_faults, conte
 ghost use Rattle.al_contents.specs.Contents.{is_whole_span, moved, place_faults, tree_faults, HasRoom};
 ghost use Rattle.al_grammar.specs.Chunks.{chunks_of, span_of_chunk, IsCutFrom};
 ghost use Rattle.al_places.specs.Places.{place_of};
-ghost use Rattle.al_text.specs.Growth.{BeginsWith};
+ghost use Rattle.al_base.specs.Growth.{BeginsWith};
 
+use al_base::{Args, Code, ExpressionCode, Fault, Span};
 use al_grammar::{Chunk, Expr, chunks, extent, grammar, parse_expr};
 use al_meaning::type_of;
 use al_places::Place;
 use al_scalar::Scalar;
-use al_text::{Args, Code, ExpressionCode, Fault, Span};
 use al_tree::contains_chunk;
 use al_types::Scope;
 use std::alloc::{AllocError, Global};

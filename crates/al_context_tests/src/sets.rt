@@ -94,21 +94,27 @@ fn has_set(alloc: Global, file: File<'_>, told: &Told) -> Result<bool, AllocErro
     }
 }
 
-fn has_sets(alloc: Global, kind: FileKind, text: &[u8], told: &[Told]) -> Result<bool, AllocError> {
-    let Some(doc) = document(alloc, text)? else {
-        return Ok(false);
-    };
-    let file = File {
-        kind,
-        root: &doc.root,
-        known: &[],
-    };
+fn have_sets(alloc: Global, file: File<'_>, told: &[Told]) -> Result<bool, AllocError> {
     for row in told {
         if !has_set(alloc, file, row)? {
             return Ok(false);
         }
     }
     Ok(true)
+}
+
+fn has_sets(alloc: Global, kind: FileKind, text: &[u8], told: &[Told]) -> Result<bool, AllocError> {
+    match document(alloc, text)? {
+        Some(doc) => {
+            let file = File {
+                kind,
+                root: &doc.root,
+                known: &[],
+            };
+            have_sets(alloc, file, told)
+        }
+        None => Ok(false),
+    }
 }
 
 static OF_A_WORKFLOW: [Told; 8] = [

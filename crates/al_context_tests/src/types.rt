@@ -83,6 +83,15 @@ fn has_type(alloc: Global, file: File<'_>, told: &Told) -> Result<bool, AllocErr
     }
 }
 
+fn have_types(alloc: Global, file: File<'_>, told: &[Told]) -> Result<bool, AllocError> {
+    for row in told {
+        if !has_type(alloc, file, row)? {
+            return Ok(false);
+        }
+    }
+    Ok(true)
+}
+
 /// Whether contexts have these types in a file that calls what is known.
 fn has_types(
     alloc: Global,
@@ -91,17 +100,13 @@ fn has_types(
     known: &[Answer<'_>],
     told: &[Told],
 ) -> Result<bool, AllocError> {
-    let Some(doc) = document(alloc, text)? else {
-        return Ok(false);
-    };
-    let root = &doc.root;
-    let file = File { kind, root, known };
-    for row in told {
-        if !has_type(alloc, file, row)? {
-            return Ok(false);
+    match document(alloc, text)? {
+        Some(doc) => {
+            let root = &doc.root;
+            have_types(alloc, File { kind, root, known }, told)
         }
+        None => Ok(false),
     }
-    Ok(true)
 }
 
 const INPUTS: &str = "{size: string, name: string, extra: string}";
@@ -284,26 +289,36 @@ fn is_github(text: &str) -> bool {
         && text.ends_with(" workspace: string}")
 }
 
-fn has_github(alloc: Global, file: File<'_>) -> Result<bool, AllocError> {
-    let env = Env::new(alloc, file)?;
+fn shows_github(alloc: Global, env: &Env<'_>) -> Result<bool, AllocError> {
     let github = shown(alloc, env.scope.types.get(Context::Github))?;
     Ok(is_github(github.as_str()))
+}
+
+fn has_github(alloc: Global, file: File<'_>) -> Result<bool, AllocError> {
+    let env = Env::new(alloc, file)?;
+    shows_github(alloc, &env)
 }
 
 fn count_of_places(alloc: Global, file: File<'_>) -> Result<usize, AllocError> {
     Ok(places(alloc, file.kind, file.root)?.len())
 }
 
-fn knows_github(alloc: Global, text: &[u8]) -> Result<bool, AllocError> {
-    let Some(doc) = document(alloc, text)? else {
-        return Ok(false);
-    };
-    let file = File {
-        kind: FileKind::Action,
-        root: &doc.root,
-        known: &[],
-    };
+fn is_one_with_github(alloc: Global, file: File<'_>) -> Result<bool, AllocError> {
     Ok(has_github(alloc, file)? && count_of_places(alloc, file)? == 1)
+}
+
+fn knows_github(alloc: Global, text: &[u8]) -> Result<bool, AllocError> {
+    match document(alloc, text)? {
+        Some(doc) => {
+            let file = File {
+                kind: FileKind::Action,
+                root: &doc.root,
+                known: &[],
+            };
+            is_one_with_github(alloc, file)
+        }
+        None => Ok(false),
+    }
 }
 
 #[test]

@@ -3,8 +3,8 @@ use Rattle.std.specs.Prelude.{ℕ, not, List, [], ◌∷◌, codes, Option, Some
 use Rattle.std.specs.List.{flat_map}
 use Rattle.std.specs.Option.{option_map_or}
 use Rattle.std.specs.Str.{bytes_eq}
-use Rattle.al_text.specs.declared.codes.RuleCode.TheVariants.{ScheduleTooOften, UnknownActivity, UnknownEvent, UnknownInputType, WrongPattern, WrongSchedule}
-use Rattle.al_text.specs.declared.faults.Span.{Span}
+use Rattle.al_base.specs.declared.codes.RuleCode.TheVariants.{ScheduleTooOften, UnknownActivity, UnknownEvent, UnknownInputType, WrongPattern, WrongSchedule}
+use Rattle.al_base.specs.declared.faults.Span.{Span}
 use Rattle.al_formats.specs.Patterns.{is_pattern}
 use Rattle.al_formats.specs.Schedules.{is_too_often, schedule_of}
 use Rattle.al_formats.specs.declared.patterns.Filter.{Filter}
@@ -18,7 +18,7 @@ use Rattle.al_events.specs.Events.{activity_faults, cron_faults, event_faults, f
 use Rattle.al_events.specs.Events.{name_faults, named_faults, on_faults, pattern_faults, schedule_faults, type_faults}
 use Rattle.al_events.specs.Names.{activities_of, call_types, dispatch_types}
 use Rattle.al_reports.specs.Words.{Named, of_key, of_scalar, unless_among}
-use Rattle.al_text.proofs.Elements.{each_of, map_or}
+use Rattle.al_base.proofs.Elements.{each_of, map_or}
 use Rattle.al_reports.proofs.Inside.{Are, Fine, Lies, NameLies, Pair, Text, about_lies, both, entries_at_fine, entries_in_fine}
 use Rattle.al_reports.proofs.Inside.{items_in_fine, or_lies, span_lies, text_at_fine, texts_at_fine, texts_in_fine, unless_lies}
 

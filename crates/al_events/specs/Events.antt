@@ -3,10 +3,10 @@ use Rattle.std.specs.Prelude.{ℕ, List, [], ◌∷◌, ◌++◌, codes, Option,
 use Rattle.std.specs.List.{flat_map}
 use Rattle.std.specs.Option.{option_map_or}
 use Rattle.std.specs.Str.{bytes_eq}
-use Rattle.al_text.specs.declared.codes.RuleCode.TheVariants.{ScheduleTooOften, UnknownActivity, UnknownEvent, UnknownInputType}
-use Rattle.al_text.specs.declared.codes.RuleCode.TheVariants.{WrongPattern, WrongSchedule}
-use Rattle.al_text.specs.declared.faults.Fault.{Fault}
-use Rattle.al_text.specs.declared.faults.Span.{Span}
+use Rattle.al_base.specs.declared.codes.RuleCode.TheVariants.{ScheduleTooOften, UnknownActivity, UnknownEvent, UnknownInputType}
+use Rattle.al_base.specs.declared.codes.RuleCode.TheVariants.{WrongPattern, WrongSchedule}
+use Rattle.al_base.specs.declared.faults.Fault.{Fault}
+use Rattle.al_base.specs.declared.faults.Span.{Span}
 use Rattle.al_scalar.specs.Scalar.{Scalar}
 use Rattle.al_yaml.specs.Node.{Node}
 use Rattle.al_shape.specs.Names.{is_event}

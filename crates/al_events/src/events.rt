@@ -5,16 +5,16 @@ ghost use Rattle.al_events.specs.Events.{inputs_faults, name_faults, named_fault
 ghost use Rattle.al_formats.specs.Schedules.{schedule_of};
 ghost use Rattle.al_reports.specs.Private.Views.{named_of};
 ghost use Rattle.al_reports.specs.Words.{of_scalar};
-ghost use Rattle.al_text.specs.Growth.{BeginsWith};
+ghost use Rattle.al_base.specs.Growth.{BeginsWith};
 ghost use Rattle.al_shape.specs.Values.{member_of, scalar_node_of};
 ghost use Rattle.al_yaml.specs.View.{view};
 ghost use Rattle.std.specs.List.{flat_map};
 ghost use Rattle.std.specs.Prelude.{◌≡◌, ◌++◌, map, option_map, OnOk, Some};
 
 use crate::names::{CALL_TYPES, DISPATCH_TYPES, activities_of};
+use al_base::{Fault, RuleCode};
 use al_formats::{Filter, Item, is_pattern, is_too_often, schedule};
 use al_reports::{Named, named_key, named_text, report, report_unless, report_unless_among};
-use al_text::{Fault, RuleCode};
 use al_tree::{
     Member, ScalarNode, is_event, items, members, text_under, texts, texts_under, value,
 };
@@ -22,7 +22,7 @@ use al_yaml::Node;
 use std::alloc::{AllocError, Global};
 
 /// Adds an activity type that an event doesn't take.
-#[tactic(auto, using(al_text::proofs::Growing::growth))]
+#[tactic(auto, using(al_base::proofs::Growing::growth))]
 fn check_type(
     alloc: Global,
     types: &[&str],
@@ -42,7 +42,7 @@ fn check_type(
 }
 
 /// Adds the activity types that an event doesn't take.
-#[tactic(auto, using(al_text::proofs::Growing::growth))]
+#[tactic(auto, using(al_base::proofs::Growing::growth))]
 fn check_types(
     alloc: Global,
     types: &[&str],
@@ -60,7 +60,7 @@ fn check_types(
 }
 
 /// Adds the wrong activity types of an event.
-#[tactic(auto, using(al_text::proofs::Growing::growth))]
+#[tactic(auto, using(al_base::proofs::Growing::growth))]
 fn check_activities(
     alloc: Global,
     name: &[u8],
@@ -80,7 +80,7 @@ fn check_activities(
 }
 
 /// Adds the fault of a filter that is no pattern.
-#[tactic(auto, using(al_text::proofs::Growing::growth))]
+#[tactic(auto, using(al_base::proofs::Growing::growth))]
 fn check_pattern(
     alloc: Global,
     filter: Filter,
@@ -95,7 +95,7 @@ fn check_pattern(
 }
 
 /// Adds the faults of some filters.
-#[tactic(auto, using(al_text::proofs::Growing::growth))]
+#[tactic(auto, using(al_base::proofs::Growing::growth))]
 fn check_patterns(
     alloc: Global,
     filter: Filter,
@@ -113,7 +113,7 @@ fn check_patterns(
 }
 
 /// Adds the faults of the filters under a key of an event.
-#[tactic(auto, using(al_text::proofs::Growing::growth))]
+#[tactic(auto, using(al_base::proofs::Growing::growth))]
 fn check_filter(
     alloc: Global,
     filter: Filter,
@@ -129,7 +129,7 @@ fn check_filter(
 }
 
 /// Adds the faults of the filters under some keys of an event.
-#[tactic(auto, using(al_text::proofs::Growing::growth))]
+#[tactic(auto, using(al_base::proofs::Growing::growth))]
 fn check_keys(
     alloc: Global,
     filter: Filter,
@@ -148,7 +148,7 @@ fn check_keys(
 }
 
 /// Adds the faults of the filters of an event.
-#[tactic(auto, using(al_text::proofs::Growing::growth))]
+#[tactic(auto, using(al_base::proofs::Growing::growth))]
 fn check_filters(alloc: Global, event: &Node, out: &mut Vec<Fault>) -> Result<(), AllocError>
     ensures ok { OnOk result (out.new.items ≡ out.old.items ++ filters_faults (view event.now)) }
     ensures begins { BeginsWith out.new.items out.old.items }
@@ -164,7 +164,7 @@ fn check_filters(alloc: Global, event: &Node, out: &mut Vec<Fault>) -> Result<()
 }
 
 /// Adds the fault of a schedule that is right, with such minutes.
-#[tactic(auto, using(al_text::proofs::Growing::growth))]
+#[tactic(auto, using(al_base::proofs::Growing::growth))]
 fn check_minutes(
     alloc: Global,
     minutes: &[Item],
@@ -179,7 +179,7 @@ fn check_minutes(
 }
 
 /// Adds the fault of a schedule with such minutes, or of one that isn't right.
-#[tactic(auto, using(al_text::proofs::Growing::growth))]
+#[tactic(auto, using(al_base::proofs::Growing::growth))]
 fn check_parsed(
     alloc: Global,
     minutes: &Option<Vec<Item>>,
@@ -197,7 +197,7 @@ fn check_parsed(
 }
 
 /// Adds the fault of a schedule.
-#[tactic(auto, using(al_text::proofs::Growing::growth))]
+#[tactic(auto, using(al_base::proofs::Growing::growth))]
 fn check_schedule(alloc: Global, named: Named<'_>, out: &mut Vec<Fault>) -> Result<(), AllocError>
     ensures ok { OnOk result (out.new.items ≡ out.old.items
         ++ schedule_faults (schedule_of (named_of named.entry).text) (named_of named.entry)) }
@@ -208,7 +208,7 @@ fn check_schedule(alloc: Global, named: Named<'_>, out: &mut Vec<Fault>) -> Resu
 }
 
 /// Adds the fault of an item of `schedule`.
-#[tactic(auto, using(al_text::proofs::Growing::growth))]
+#[tactic(auto, using(al_base::proofs::Growing::growth))]
 fn check_cron(alloc: Global, entry: &Node, out: &mut Vec<Fault>) -> Result<(), AllocError>
     ensures ok { OnOk result (out.new.items ≡ out.old.items ++ cron_faults (view entry.now)) }
     ensures begins { BeginsWith out.new.items out.old.items }
@@ -220,7 +220,7 @@ fn check_cron(alloc: Global, entry: &Node, out: &mut Vec<Fault>) -> Result<(), A
 }
 
 /// Adds the faults of some items of `schedule`.
-#[tactic(auto, using(al_text::proofs::Growing::growth))]
+#[tactic(auto, using(al_base::proofs::Growing::growth))]
 fn check_crons(alloc: Global, entries: &[Node], out: &mut Vec<Fault>) -> Result<(), AllocError>
     ensures ok { OnOk result (out.new.items ≡ out.old.items ++ flat_map cron_faults (map view entries.now)) }
     ensures begins { BeginsWith out.new.items out.old.items }
@@ -232,7 +232,7 @@ fn check_crons(alloc: Global, entries: &[Node], out: &mut Vec<Fault>) -> Result<
 }
 
 /// Adds the fault of an input of an unknown type.
-#[tactic(auto, using(al_text::proofs::Growing::growth))]
+#[tactic(auto, using(al_base::proofs::Growing::growth))]
 fn check_input(
     alloc: Global,
     types: &[&str],
@@ -255,7 +255,7 @@ fn check_input(
 }
 
 /// Adds the faults of some inputs.
-#[tactic(auto, using(al_text::proofs::Growing::growth))]
+#[tactic(auto, using(al_base::proofs::Growing::growth))]
 fn check_members(
     alloc: Global,
     types: &[&str],
@@ -273,7 +273,7 @@ fn check_members(
 }
 
 /// Adds the faults of the inputs of an event.
-#[tactic(auto, using(al_text::proofs::Growing::growth))]
+#[tactic(auto, using(al_base::proofs::Growing::growth))]
 fn check_inputs(
     alloc: Global,
     types: &[&str],
@@ -293,7 +293,7 @@ fn check_inputs(
 }
 
 /// Adds the faults of a known event.
-#[tactic(auto, using(al_text::proofs::Growing::growth))]
+#[tactic(auto, using(al_base::proofs::Growing::growth))]
 fn check_event(
     alloc: Global,
     name: &[u8],
@@ -318,7 +318,7 @@ fn check_event(
 }
 
 /// Adds the faults of an event with what stands under it.
-#[tactic(auto, using(al_text::proofs::Growing::growth))]
+#[tactic(auto, using(al_base::proofs::Growing::growth))]
 fn check_named(alloc: Global, event: Member<'_>, out: &mut Vec<Fault>) -> Result<(), AllocError>
     ensures ok { OnOk result (out.new.items ≡ out.old.items ++ named_faults (member_of event.entry)) }
     ensures begins { BeginsWith out.new.items out.old.items }
@@ -332,7 +332,7 @@ fn check_named(alloc: Global, event: Member<'_>, out: &mut Vec<Fault>) -> Result
 }
 
 /// Adds the faults of events with what stands under them.
-#[tactic(auto, using(al_text::proofs::Growing::growth))]
+#[tactic(auto, using(al_base::proofs::Growing::growth))]
 fn check_events(
     alloc: Global,
     events: &[Member<'_>],
@@ -348,7 +348,7 @@ fn check_events(
 }
 
 /// Adds the names that are no events.
-#[tactic(auto, using(al_text::proofs::Growing::growth))]
+#[tactic(auto, using(al_base::proofs::Growing::growth))]
 fn check_names(
     alloc: Global,
     names: &[ScalarNode<'_>],
@@ -374,7 +374,7 @@ fn check_names(
 /// and types of inputs.
 ///
 /// Fails with `AllocError` for want of memory; the list then begins with what it held.
-#[tactic(auto, using(al_text::proofs::Growing::growth))]
+#[tactic(auto, using(al_base::proofs::Growing::growth))]
 pub fn check_on(alloc: Global, on: &Node, out: &mut Vec<Fault>) -> Result<(), AllocError>
     ensures ok { OnOk result (out.new.items ≡ out.old.items ++ on_faults (view on.now)) }
     ensures begins { BeginsWith out.new.items out.old.items }

@@ -1,7 +1,7 @@
 -- A text without chunks, or with several, isn't one expression.
 use Rattle.std.proofs.Common.{◌≡◌, ◌≢◌, ◌∙◌, ℕ, List, [], ◌∷◌, length, map, ap, sym, refl, false}
 use Rattle.std.proofs.lemmas.List.{length-map}
-use Rattle.al_text.specs.declared.faults.Span.{Span}
+use Rattle.al_base.specs.declared.faults.Span.{Span}
 use Rattle.al_scalar.specs.Scalar.{Scalar, text_of}
 use Rattle.al_grammar.specs.Chunks.{chunks_of, span_of_chunk}
 use Rattle.al_grammar.specs.declared.chunk.Chunk.{Chunk}

@@ -8,14 +8,14 @@ use Rattle.std.specs.Str.Lossy.{utf8_lossy}
 use Rattle.std.proofs.lemmas.Bool.{and_parts, eqb-true}
 use Rattle.std.proofs.Math.Dec.{eqb}
 use Rattle.std.proofs.lemmas.Slice.Eq.{bytes_eq-Decides}
-use Rattle.al_text.specs.declared.codes.CallCode.{CallCode}
-use Rattle.al_text.specs.declared.codes.CallCode.TheVariants as code
-use Rattle.al_text.specs.declared.codes.Caller.{Caller}
-use Rattle.al_text.specs.declared.codes.Caller.TheVariants as caller
-use Rattle.al_text.specs.declared.codes.Code.TheVariants as kind_of_code
-use Rattle.al_text.specs.declared.faults.Fault.{Fault}
-use Rattle.al_text.specs.declared.faults.Span.{Span}
-use Rattle.al_text.specs.contracts.faults.SpanPartialEq.TheImpl as span
+use Rattle.al_base.specs.declared.codes.CallCode.{CallCode}
+use Rattle.al_base.specs.declared.codes.CallCode.TheVariants as code
+use Rattle.al_base.specs.declared.codes.Caller.{Caller}
+use Rattle.al_base.specs.declared.codes.Caller.TheVariants as caller
+use Rattle.al_base.specs.declared.codes.Code.TheVariants as kind_of_code
+use Rattle.al_base.specs.declared.faults.Fault.{Fault}
+use Rattle.al_base.specs.declared.faults.Span.{Span}
+use Rattle.al_base.specs.contracts.faults.SpanPartialEq.TheImpl as span
 use Rattle.al_scalar.specs.Scalar.{Scalar, text_of}
 use Rattle.al_types.specs.Types.{Type', Any, Null, Number, Bool', String, ArrayOf, ObjectOf}
 use Rattle.al_types.specs.Private.TypeParts.{form_of}
@@ -38,7 +38,7 @@ use Rattle.al_interfaces.proofs.Exact.{exact}
 use Rattle.al_uses.specs.Uses.{Call}
 use Rattle.al_uses.specs.declared.forms.Form.{Form}
 use Rattle.al_uses.specs.declared.forms.Form.TheVariants.{Local, Other, Wrong}
-use Rattle.al_text.specs.Growth.{SameSet}
+use Rattle.al_base.specs.Growth.{SameSet}
 use Rattle.al_file_calls.proofs.Sets.{set_there}
 use Rattle.al_calls.specs.declared.answers.Answered as code_answers
 use Rattle.al_calls.specs.Private.AnswerViews.{answered_of}

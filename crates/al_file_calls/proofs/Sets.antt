@@ -6,11 +6,11 @@ use Rattle.std.specs.List.{flat_map}
 use Rattle.std.proofs.lemmas.Grind.{flat_map-append}
 use Rattle.std.proofs.lemmas.List.{map-append, take_all, take_more}
 use Rattle.std.proofs.lemmas.List.Elements.{All-contains, All-take, Contains-append_left, Contains-append_right, Contains-append_cases}
-use Rattle.al_text.proofs.FaultLists.{Contains-fault_list, Contains-from_fault_list}
-use Rattle.al_text.proofs.Growing.{same_set}
-use Rattle.al_text.specs.FaultLists.{fault_list}
-use Rattle.al_text.specs.Growth.{SameSet}
-use Rattle.al_text.specs.declared.faults.Fault.{Fault}
+use Rattle.al_base.proofs.FaultLists.{Contains-fault_list, Contains-from_fault_list}
+use Rattle.al_base.proofs.Growing.{same_set}
+use Rattle.al_base.specs.FaultLists.{fault_list}
+use Rattle.al_base.specs.Growth.{SameSet}
+use Rattle.al_base.specs.declared.faults.Fault.{Fault}
 
 pub set_trans : {X : Type 0} (xs ys zs : List X) → SameSet xs ys → SameSet ys zs → SameSet xs zs
 set_trans xs ys zs s t x = (λ h. (t x).0 ((s x).0 h), λ h. (s x).1 ((t x).1 h))

@@ -1,8 +1,8 @@
 -- What a step gives is looked at by its keys alone.
 use Rattle.std.proofs.Common.{◌≡◌, ℕ, List, ap, ◌∙◌, sym, refl, Option, Some, None, cond}
 use Rattle.std.specs.Prelude.{is_some}
-use Rattle.al_text.specs.declared.codes.Caller.{Caller}
-use Rattle.al_text.specs.declared.codes.Caller.TheVariants as caller
+use Rattle.al_base.specs.declared.codes.Caller.{Caller}
+use Rattle.al_base.specs.declared.codes.Caller.TheVariants as caller
 use Rattle.al_interfaces.specs.declared.interfaces.Interface.{Interface}
 use Rattle.al_uses.specs.Uses.{Call}
 use Rattle.al_calls.specs.CallFaults.{Given, against, call_faults, caller_of, form_faults}

@@ -8,15 +8,15 @@ ghost use Rattle.al_contexts.specs.Answered.{known_of};
 ghost use Rattle.al_contexts.specs.Private.Standing.{Stands};
 ghost use Rattle.al_file_calls.specs.Private.Repeats as repeating;
 ghost use Rattle.al_file_calls.specs.FileCalls.{AreShort, call_faults, typing};
-ghost use Rattle.al_text.specs.Growth.{SameSet};
-ghost use Rattle.al_text.specs.declared.faults.Fault.{Fault};
+ghost use Rattle.al_base.specs.Growth.{SameSet};
+ghost use Rattle.al_base.specs.declared.faults.Fault.{Fault};
 ghost use Rattle.al_yaml.specs.View.{view};
 
 use crate::repeats::repeats;
 use crate::values::job_values;
+use al_base::{Fault, ordered};
 use al_calls::{Answered, check_call};
 use al_contexts::{Env, File};
-use al_text::{Fault, ordered};
 use std::alloc::{AllocError, Global};
 use std::collections::BTreeMap;
 use std::mem::replace;

@@ -8,7 +8,7 @@ use Rattle.std.specs.Option.{unwrap_or, option_map, option_eq}
 use Rattle.std.proofs.lemmas.Bool.Decides.{nat_tests}
 use Rattle.std.proofs.lemmas.List.{drop_more, drop_all, length-map, take_more, map-append}
 use Rattle.std.proofs.lemmas.Option.{slice_get-map, get_or_from_slice_get}
-use Rattle.al_text.specs.declared.faults.Fault.{Fault}
+use Rattle.al_base.specs.declared.faults.Fault.{Fault}
 use Rattle.al_graph.specs.Graphs.{Edge, StronglyConnected, edges_of, here, onward}
 use Rattle.al_graph.specs.Within.{leads}
 use Rattle.al_graph.proofs.BoundedWalks.{leads_tells}

@@ -13,8 +13,8 @@ ghost use Rattle.al_folder.specs.Sites.{site_of};
 use crate::kept::{Files, KeptFile};
 use crate::lint::{Lint, Site, Target};
 use crate::place::file_number;
+use al_base::{Args, Fault, Path};
 use al_graph::strongly_connected_components;
-use al_text::{Args, Fault, Path};
 use std::alloc::{AllocError, Global};
 
 /// The calls between the files of a folder, which are known by their numbers in order of path.

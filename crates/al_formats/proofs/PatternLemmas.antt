@@ -3,7 +3,7 @@ use Rattle.std.proofs.Common.{◌≡◌, ◌≤◌, ◌<◌, ℕ, zero, suc, Lis
 use Rattle.std.proofs.lemmas.Bool.Decides.{nat_tests}
 use Rattle.std.proofs.lemmas.List.{at_drop_all, at_drop_more}
 use Rattle.std.specs.Prelude.{option_map, option_and_then}
-use Rattle.al_text.specs.Ascii as ascii
+use Rattle.al_base.specs.Ascii as ascii
 use Rattle.al_formats.specs.Patterns.{is_mark, without_marks, before_closing, from_closing, ascends, is_class, behind_one, behind_item, ends_or, are_items_within, are_items}
 use Rattle.al_formats.specs.Private.PatternStates.{read, read_all, is_done}
 use Rattle.al_formats.specs.declared.patterns.State.{State}

@@ -2,8 +2,8 @@
 use Rattle.std.specs.Prelude.{ℕ, List, [], ◌∷◌, Bool, false, ◌==◌, ◌||◌, ◌&&◌, ◌+◌, ◌-◌, nat_le, length, take, drop, Option, None}
 use Rattle.std.specs.List.{list_all}
 use Rattle.std.specs.Str.{is_utf8}
-use Rattle.al_text.specs.declared.faults.Fault.{Fault}
-use Rattle.al_text.specs.declared.faults.Span.{Span}
+use Rattle.al_base.specs.declared.faults.Fault.{Fault}
+use Rattle.al_base.specs.declared.faults.Span.{Span}
 use Rattle.al_grammar.specs.Chunks.{chunks_of}
 use Rattle.al_formats.specs.declared.chunks.Around.{Around}
 use Rattle.al_formats.specs.declared.chunks.Around.TheVariants.{Blanks, Nothing}

@@ -10,8 +10,8 @@ use Rattle.std.specs.Prelude.{Option, Some, None, option_map}
 use Rattle.std.specs.List.{list_any}
 use Rattle.std.specs.Str.{chars}
 use Rattle.std.specs.Str.Lossy.{utf8_lossy}
-use Rattle.al_text.specs.Ascii as ascii
-use Rattle.al_text.specs.FirstBytes.{begins_with}
+use Rattle.al_base.specs.Ascii as ascii
+use Rattle.al_base.specs.FirstBytes.{begins_with}
 use Rattle.al_formats.specs.declared.patterns.Filter.{Filter}
 use Rattle.al_formats.specs.declared.patterns.Filter.TheVariants.{Names, Paths}
 

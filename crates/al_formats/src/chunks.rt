@@ -4,8 +4,8 @@ ghost use Rattle.al_formats.specs.Chunks.{is_lone_chunk as lone_chunk, is_short,
 ghost use Rattle.std.specs.List.{list_all};
 ghost use Rattle.std.specs.Prelude.{◌≡◌, false, true, drop, take, IfOk, MatchOption};
 
+use al_base::Span;
 use al_grammar::chunks;
-use al_text::Span;
 use std::alloc::{AllocError, Global};
 
 /// What may stand in a text outside the braces of its one expression.

@@ -3,7 +3,7 @@ use Rattle.std.proofs.Common.{◌≡◌, ◌≢◌, ℕ, zero, suc, ◌+◌, ◌
 use Rattle.std.specs.Prelude.{MatchResult}
 use Rattle.al_grammar.specs.declared.token.Operator.{Operator}
 use Rattle.al_grammar.specs.declared.token.Operator.TheVariants as op
-use Rattle.al_text.specs.declared.faults.Span.{Span}
+use Rattle.al_base.specs.declared.faults.Span.{Span}
 use Rattle.al_grammar.specs.declared.token.TokenKind.{TokenKind}
 use Rattle.al_grammar.specs.declared.token.TokenKind.TheVariants.{Bang, Infix}
 use Rattle.al_grammar.specs.declared.parser.ParseError.{ParseError}
@@ -83,6 +83,10 @@ pub steps_read : (room : ℕ) (ts mid rest : List Lexeme) (t : Tree) (ss : List 
     → PartOfPath room mid ss rest → EndsPath (kinds rest) → Parsed Postfix room ts (path_of t ss) rest
 steps_read room ts mid rest t [] p w ends = bare_read room ts rest t (subst (λ m. Parsed Primary room ts t m) (walks_none w.derives refl) p) ends
 steps_read room ts mid rest t (s ∷ ss) p w ends = path_read room ts mid rest t s ss p w ends
+
+-- what a path begins with is refused
+pub base_refused : (room : ℕ) (ts : List Lexeme) (e : ParseError) → Refused Primary room ts e → Refused Postfix room ts e
+base_refused room ts e r = refused_map Primary Postfix room room ts ts e (λ v g k st a h. g k st tt h) r
 
 -- a step of a path is refused
 pub path_refused : (room : ℕ) (ts mid left : List Lexeme) (t : Tree) (ss : List StepTree) (e : ParseError) → Parsed Primary room ts t mid

@@ -3,9 +3,9 @@ use Rattle.std.proofs.Common.{◌≡◌, ◌≤◌, ℕ, zero, suc, ◌+◌, Lis
 use Rattle.std.proofs.Common.{append-nil, length-append, length-drop, Bool, true, false, cond, ◌&&◌, not, Option, Some, None, ◌==◌}
 use Rattle.std.proofs.lemmas.Bool.Decides.{nat_tests}
 use Rattle.std.specs.Prelude.{option_map}
-use Rattle.al_text.specs.Ascii as ascii
-use Rattle.al_text.specs.FirstBytes.{begins_with}
-use Rattle.al_text.specs.declared.faults.Fault.{Fault}
+use Rattle.al_base.specs.Ascii as ascii
+use Rattle.al_base.specs.FirstBytes.{begins_with}
+use Rattle.al_base.specs.declared.faults.Fault.{Fault}
 use Rattle.al_grammar.specs.declared.chunk.ChunkState.{ChunkState}
 use Rattle.al_grammar.specs.declared.chunk.ChunkState.TheVariants.{Outside, Inside, Quoted}
 use Rattle.al_grammar.specs.declared.chunk.Move.TheVariants.{On, End}

@@ -7,14 +7,14 @@ use Rattle.std.proofs.lemmas.Str.{IsCharBoundary-after_ascii}
 use Rattle.std.proofs.lemmas.List.Elements.{All-append}
 use Rattle.std.specs.Prelude.{All}
 use Rattle.std.specs.Str.{IsUtf8, IsCharBoundary}
-use Rattle.al_text.specs.declared.faults.Span.{Span}
+use Rattle.al_base.specs.declared.faults.Span.{Span}
 use Rattle.al_grammar.specs.declared.chunk.Chunk.{Chunk}
 use Rattle.al_grammar.specs.declared.chunk.ChunkState.{ChunkState}
 use Rattle.al_grammar.specs.declared.chunk.ChunkState.TheVariants.{Outside, Inside, Quoted}
 use Rattle.al_grammar.specs.declared.chunk.Move.{Move}
 use Rattle.al_grammar.specs.declared.chunk.Move.TheVariants.{On, End}
-use Rattle.al_text.specs.Ascii as ascii
-use Rattle.al_text.specs.FirstBytes.{first_is}
+use Rattle.al_base.specs.Ascii as ascii
+use Rattle.al_base.specs.FirstBytes.{first_is}
 use Rattle.al_grammar.specs.Tokens.{span}
 use Rattle.al_grammar.specs.Chunks.{Chunked, opens, closes, is_quote, then_chunk, IsCutFrom}
 use Rattle.al_grammar.specs.Private.ChunkStates.{move, moved, chunks_from, behind_chunks, Opens, StandsIn}

@@ -5,7 +5,7 @@ use Rattle.std.proofs.lemmas.Bool.Decides.{nat_tests}
 use Rattle.std.proofs.lemmas.List.{get_or-drop}
 use Rattle.std.proofs.lemmas.List.Sums.{prefix_len_passes, prefix_len-le-length}
 use Rattle.std.specs.Prelude.{slice_index}
-use Rattle.al_text.specs.FirstBytes.{first_is}
+use Rattle.al_base.specs.FirstBytes.{first_is}
 use Rattle.al_grammar.specs.Tokens.{is_digit, is_hex_digit, is_sign, begins_name, goes_on_name, run, with_digits, hex_len, fraction_len}
 use Rattle.al_grammar.specs.Tokens.{exponent_len, decimal_tail, decimal_len, unsigned_len, number_len, add_to, text_tail}
 use Rattle.al_grammar.specs.Private.TextTails.{after_byte, tail_from}

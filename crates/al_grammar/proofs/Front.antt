@@ -1,6 +1,6 @@
 -- What follows where the parser looked for a token and found it, or found another.
 use Rattle.std.proofs.Common.{◌≡◌, ◌≢◌, ℕ, ◌+◌, List, [], ◌∷◌, ◌++◌, refl, ap}
-use Rattle.al_text.specs.declared.faults.Span.{Span}
+use Rattle.al_base.specs.declared.faults.Span.{Span}
 use Rattle.al_grammar.specs.declared.token.TokenKind.{TokenKind}
 use Rattle.al_grammar.specs.declared.token.TokenKind.TheVariants.{Name, Open, Close, OpenIndex, CloseIndex, Comma, Star, Bang}
 use Rattle.al_grammar.specs.declared.parser.ParseError.{ParseError}

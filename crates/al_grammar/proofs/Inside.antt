@@ -4,9 +4,9 @@ use Rattle.std.specs.List.{AllByRecursion}
 use Rattle.std.specs.Option.{option_to_list}
 use Rattle.std.proofs.lemmas.Bool.Decides.{nat_tests}
 use Rattle.std.proofs.lemmas.List.Sums.{prefix_len-le-length}
-use Rattle.al_text.specs.Spans.{LiesIn}
-use Rattle.al_text.specs.declared.faults.Fault.{Fault}
-use Rattle.al_text.specs.declared.faults.Span.{Span}
+use Rattle.al_base.specs.Spans.{LiesIn}
+use Rattle.al_base.specs.declared.faults.Fault.{Fault}
+use Rattle.al_base.specs.declared.faults.Span.{Span}
 use Rattle.al_grammar.specs.declared.chunk.Move.{Move}
 use Rattle.al_grammar.specs.declared.chunk.Move.TheVariants.{On, End}
 use Rattle.al_grammar.specs.declared.chunk.ChunkState.{ChunkState}
@@ -27,7 +27,7 @@ use Rattle.al_grammar.specs.Inside.{AllLie}
 use Rattle.al_grammar.specs.Lexeme.{Lexeme, lexeme, kinds}
 use Rattle.al_grammar.specs.Refusal.{fault_at, fault_of_content, fault_of_lexed, fault_of_tokens, fault_of_verdict, open_text}
 use Rattle.al_grammar.specs.Table.{Verdict, Fine, Early, Unexpected, TooDeep, verdict_of}
-use Rattle.al_text.specs.FirstBytes.{first_is, begins_with}
+use Rattle.al_base.specs.FirstBytes.{first_is, begins_with}
 use Rattle.al_grammar.specs.Tokens.{Lexed, AllRead, Bad, Unclosed, begins_name, continue_with, doubled, if_none, is_blank, is_digit}
 use Rattle.al_grammar.specs.Tokens.{is_inside, is_sign, last_place, last_quote, mark, name_read, number_len, number_read, or_equal, read}
 use Rattle.al_grammar.specs.Tokens.{span, text_read, text_tail, then_token, tokens_from, tokens_of, Fits}

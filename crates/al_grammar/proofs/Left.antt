@@ -2,8 +2,8 @@
 use Rattle.std.proofs.Common.{◌≡◌, ◌<◌, ◌≤◌, ℕ, zero, suc, List, [], ◌∷◌, length, drop, arith, Bool, true, false, subst, Some}
 use Rattle.std.proofs.lemmas.List.{length-map}
 use Rattle.std.specs.Prelude.{map, slice_get}
-use Rattle.al_text.specs.declared.faults.Span.{Span}
-use Rattle.al_text.specs.declared.faults.Fault.{Fault}
+use Rattle.al_base.specs.declared.faults.Span.{Span}
+use Rattle.al_base.specs.declared.faults.Fault.{Fault}
 use Rattle.al_grammar.specs.declared.token.TokenKind.{TokenKind}
 use Rattle.al_grammar.specs.declared.token.Token.{Token}
 use Rattle.al_grammar.specs.Lexeme.{Lexeme, lexeme, kinds, text_of, span_of, seen}

@@ -5,11 +5,11 @@
 -- right, and the chunks are the only ones.
 use Rattle.std.specs.Prelude.{◌≡◌, ℕ, zero, suc, ◌+◌, ◌-◌, List, [], ◌∷◌, ◌++◌, Bool, true, ◌==◌, ◌&&◌, not, if◌then◌else◌, length}
 use Rattle.std.specs.Prelude.{drop, slice_range, Option, Some, None, option_map}
-use Rattle.al_text.specs.Ascii as ascii
-use Rattle.al_text.specs.FirstBytes.{begins_with}
-use Rattle.al_text.specs.declared.codes.ExpressionCode.TheVariants as code
-use Rattle.al_text.specs.declared.faults.Fault.{Fault}
-use Rattle.al_text.specs.declared.faults.Span.{Span}
+use Rattle.al_base.specs.Ascii as ascii
+use Rattle.al_base.specs.FirstBytes.{begins_with}
+use Rattle.al_base.specs.declared.codes.ExpressionCode.TheVariants as code
+use Rattle.al_base.specs.declared.faults.Fault.{Fault}
+use Rattle.al_base.specs.declared.faults.Span.{Span}
 use Rattle.al_grammar.specs.declared.chunk.Chunk.{Chunk}
 use Rattle.al_grammar.specs.Tokens.{span, last_place}
 use Rattle.al_grammar.specs.Refusal.{fault}

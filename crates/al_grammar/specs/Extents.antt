@@ -1,6 +1,6 @@
 -- Where an expression begins and ends, its own brackets included.
 use Rattle.std.specs.Prelude.{ℕ}
-use Rattle.al_text.specs.declared.faults.Span.{Span}
+use Rattle.al_base.specs.declared.faults.Span.{Span}
 use Rattle.al_grammar.specs.Tokens.{span}
 use Rattle.al_grammar.specs.Tree as tree
 use Rattle.al_grammar.specs.Tree.{Tree, Constant, Named, Call, Group, Negated, Path, Chain, Steps, NoStep, PropertyThen, AllThen, IndexThen}

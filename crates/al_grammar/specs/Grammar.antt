@@ -2,7 +2,7 @@
 use Rattle.std.specs.Prelude.{◌≡◌, ℕ, zero, suc, List, [], ◌∷◌}
 use Rattle.al_grammar.specs.declared.token.Operator.{Operator}
 use Rattle.al_grammar.specs.declared.token.Operator.TheVariants as op
-use Rattle.al_text.specs.declared.faults.Span.{Span}
+use Rattle.al_base.specs.declared.faults.Span.{Span}
 use Rattle.al_grammar.specs.declared.token.Keyword.{Keyword}
 use Rattle.al_grammar.specs.declared.token.TokenKind.TheVariants as kind
 use Rattle.al_grammar.specs.Lexeme.{Lexeme, lexeme}

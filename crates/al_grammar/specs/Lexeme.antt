@@ -1,6 +1,6 @@
 -- A token without where its text lies.
 use Rattle.std.specs.Prelude.{ℕ, List, map}
-use Rattle.al_text.specs.declared.faults.Span.{Span}
+use Rattle.al_base.specs.declared.faults.Span.{Span}
 use Rattle.al_grammar.specs.declared.token.TokenKind.{TokenKind}
 use Rattle.al_grammar.specs.declared.token.Token.{Token}
 

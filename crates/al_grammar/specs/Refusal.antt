@@ -1,10 +1,10 @@
 -- The fault of a content that is no expression.
 use Rattle.std.specs.Prelude.{◌≡◌, ℕ, ◌+◌, ◌-◌, List, [], ◌∷◌, nat_lt, if◌then◌else◌, length, drop, Option, Some, None}
-use Rattle.al_text.specs.declared.codes.Code.TheVariants.{Expression}
-use Rattle.al_text.specs.declared.codes.ExpressionCode as codes
-use Rattle.al_text.specs.declared.codes.ExpressionCode.TheVariants as code
-use Rattle.al_text.specs.declared.faults.Fault.{Fault}
-use Rattle.al_text.specs.declared.faults.Span.{Span}
+use Rattle.al_base.specs.declared.codes.Code.TheVariants.{Expression}
+use Rattle.al_base.specs.declared.codes.ExpressionCode as codes
+use Rattle.al_base.specs.declared.codes.ExpressionCode.TheVariants as code
+use Rattle.al_base.specs.declared.faults.Fault.{Fault}
+use Rattle.al_base.specs.declared.faults.Span.{Span}
 use Rattle.al_grammar.specs.Lexeme.{Lexeme, lexeme, kinds}
 use Rattle.al_grammar.specs.Tokens.{Lexed, AllRead, Bad, Unclosed, tokens_of, last_quote, span}
 use Rattle.al_grammar.specs.Tree.{Tree}

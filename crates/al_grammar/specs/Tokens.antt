@@ -1,5 +1,5 @@
 -- The tokens of a content.
-use Rattle.al_text.specs.FirstBytes.{first_is, begins_with}
+use Rattle.al_base.specs.FirstBytes.{first_is, begins_with}
 use Rattle.al_grammar.specs.declared.token.Operator.TheVariants.{Or, And, Equal, NotEqual, Less, LessEqual, Greater, GreaterEqual}
 use Rattle.al_grammar.specs.declared.token.Keyword.TheVariants as keyword
 use Rattle.al_grammar.specs.declared.lexer.LexError.{LexError}
@@ -9,7 +9,7 @@ use Rattle.al_grammar.specs.declared.lexer.Read.TheVariants.{Blank, Token, BadCh
 use Rattle.al_grammar.specs.declared.token.TokenKind.{TokenKind}
 use Rattle.al_grammar.specs.declared.token.TokenKind.TheVariants.{Name, Keyword, Number, Text, Open, Close, OpenIndex, CloseIndex, Dot}
 use Rattle.al_grammar.specs.declared.token.TokenKind.TheVariants.{Comma, Star, Bang, Infix}
-use Rattle.al_text.specs.declared.faults.Span.{Span}
+use Rattle.al_base.specs.declared.faults.Span.{Span}
 use Rattle.al_grammar.specs.Lexeme.{Lexeme, lexeme}
 use Rattle.std.specs.List.{prefix_len}
 use Rattle.std.specs.Str.{bytes_eq}

@@ -1,7 +1,7 @@
 -- An expression without where it lies in memory.
 use Rattle.std.specs.Prelude.{ℕ, List, [], ◌∷◌}
 use Rattle.al_grammar.specs.declared.token.Operator.{Operator}
-use Rattle.al_text.specs.declared.faults.Span.{Span}
+use Rattle.al_base.specs.declared.faults.Span.{Span}
 use Rattle.al_grammar.specs.declared.token.Keyword.{Keyword}
 
 -- an operator, and where it stands

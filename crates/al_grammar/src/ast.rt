@@ -1,7 +1,7 @@
 //! The tree of an expression.
 
 use crate::token::{Keyword, Operator};
-use al_text::Span;
+use al_base::Span;
 
 /// A name or literal as written, and where it stands in the content.
 #[derive(Drop)]

@@ -7,7 +7,7 @@ ghost use Rattle.al_grammar.specs.Chunks.{chunks_of, closes, opens, span_of_chun
 ghost use Rattle.al_grammar.specs.Private.ChunkStates.{end_fault as fault_at_end, move, EndFits, MoveFits};
 
 use crate::faults::plain_fault;
-use al_text::{ExpressionCode, Fault, Span};
+use al_base::{ExpressionCode, Fault, Span};
 use std::alloc::{AllocError, Global};
 
 /// What stands between the braces of a `${{ .. }}`, and its place in the text.

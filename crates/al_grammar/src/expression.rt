@@ -13,7 +13,7 @@ use crate::faults::{named_fault, plain_fault};
 use crate::lexer::lex;
 use crate::parser::{ParseError, parse};
 use crate::token::Token;
-use al_text::{ExpressionCode, Fault, Span};
+use al_base::{ExpressionCode, Fault, Span};
 use std::alloc::{AllocError, Global};
 
 /// The most bytes of a content.

@@ -7,7 +7,7 @@ ghost use Rattle.al_grammar.specs.Tree.{Path, steps_of, operands_of};
 ghost use Rattle.al_grammar.specs.View.{tree_of, step_of, operand_of};
 
 use crate::ast::{Expr, Operand, PathStep};
-use al_text::Span;
+use al_base::Span;
 
 /// Where an expression stands, its outer brackets included.
 pub fn extent(expr: &Expr) -> Span

@@ -3,7 +3,7 @@
 ghost use Rattle.std.specs.Prelude.{◌≡◌, IfOk, [], ◌∷◌};
 ghost use Rattle.al_grammar.specs.Refusal.{fault};
 
-use al_text::{Args, Code, ExpressionCode, Fault, Span};
+use al_base::{Args, Code, ExpressionCode, Fault, Span};
 use std::alloc::{AllocError, Global};
 
 /// A fault whose message names nothing.

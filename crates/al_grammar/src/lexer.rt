@@ -3,7 +3,7 @@
 ghost use Rattle.std.specs.Prelude.{map, ℕ, IfOk, IfSome, MatchOption, MatchResult, ◌≡◌, ◌≤◌, ◌<◌, ◌+◌, ◌^◌, Some, [], ◌∷◌, length, false};
 ghost use Rattle.al_grammar.specs.Lexeme.{seen};
 ghost use Rattle.al_grammar.specs.Tokens.{begins_name, goes_on_name, is_blank, is_sign, is_inside, run, or_equal, doubled, mark};
-ghost use Rattle.al_text.specs.FirstBytes.{begins_with};
+ghost use Rattle.al_base.specs.FirstBytes.{begins_with};
 ghost use Rattle.al_grammar.specs.Tokens.{word_kind, text_tail, text_read, name_read, number_read, number_len, read, tokens_of, AllRead};
 ghost use Rattle.al_grammar.specs.Tokens.{unread, Fits, last_quote};
 ghost use Rattle.al_grammar.specs.Private.TextTails.{tail_from};
@@ -12,7 +12,7 @@ ghost use Rattle.al_grammar.specs.Refusal.{fault_of_lexed};
 use crate::faults::plain_fault;
 use crate::number::{digit, number};
 use crate::token::{Keyword, Operator, Token, TokenKind};
-use al_text::{ExpressionCode, Fault, Span};
+use al_base::{ExpressionCode, Fault, Span};
 use std::alloc::{AllocError, Global};
 
 /// What stands at the front of the rest of a content.

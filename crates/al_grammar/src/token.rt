@@ -1,6 +1,6 @@
 //! What a token is, and where it stands.
 
-use al_text::Span;
+use al_base::Span;
 
 /// An operator between two operands.
 #[derive(Clone, Copy, PartialEq, Eq, Debug)]

@@ -1,7 +1,7 @@
 //! Chunks of small texts that were worked out by hand, computed by the definitions.
 ghost use Rattle.al_grammar.specs.Rows.Chunks.{closed, cut_off};
 ghost use Rattle.al_grammar.specs.Chunks.{chunks_of};
-ghost use Rattle.al_text.specs.declared.codes.ExpressionCode.TheVariants.{UnclosedChunk, UnclosedText};
+ghost use Rattle.al_base.specs.declared.codes.ExpressionCode.TheVariants.{UnclosedChunk, UnclosedText};
 ghost use Rattle.std.specs.Prelude.{◌≡◌, [], ◌∷◌, codes};
 
 /// Where the contents of chunks lie in some texts, and what is wrong at their ends. Does nothing.

@@ -1,8 +1,8 @@
 -- The states of the code that reads a format text tell which arguments it names.
 use Rattle.std.proofs.Common.{◌≡◌, ◌≤◌, ℕ, zero, suc, ◌+◌, ◌*◌, ◌-◌, List, [], ◌∷◌, length, drop, refl, sym, ap, ◌∙◌, arith, Bool, true, false, cond, nat_lt, ◌==◌, Option, None}
 use Rattle.std.specs.Prelude.{slice_set}
-use Rattle.al_text.specs.Ascii as ascii
-use Rattle.al_text.specs.FirstBytes.{begins_with}
+use Rattle.al_base.specs.Ascii as ascii
+use Rattle.al_base.specs.FirstBytes.{begins_with}
 use Rattle.al_grammar.specs.Tokens.{is_digit}
 use Rattle.al_meaning.specs.declared.placeholders.PlaceholderState.TheVariants.{Outside, BehindOpening, InIndex, BehindClosing}
 use Rattle.al_meaning.specs.declared.placeholders.Turn.{Turn}

@@ -1,8 +1,8 @@
 -- A type with its faults, step by step.
 use Rattle.std.proofs.Common.{◌≡◌, ℕ, List, [], ◌∷◌, ◌++◌, refl, sym, ap, ◌∙◌, append_assoc, append-nil, Option, Some, None}
-use Rattle.al_text.specs.declared.faults.Fault.{Fault}
-use Rattle.al_text.specs.declared.faults.Span.{Span}
-use Rattle.al_text.specs.declared.codes.ExpressionCode.TheVariants as code
+use Rattle.al_base.specs.declared.faults.Fault.{Fault}
+use Rattle.al_base.specs.declared.faults.Span.{Span}
+use Rattle.al_base.specs.declared.codes.ExpressionCode.TheVariants as code
 use Rattle.al_types.specs.declared.types.Object.{Object, Object'}
 use Rattle.al_grammar.specs.Refusal.{fault}
 use Rattle.al_types.specs.Types.{Type', Any, ArrayOf, Fields, NoField, FieldThen, Rest, Loose, field_at, field_or_rest}

@@ -2,9 +2,9 @@
 use Rattle.std.specs.Prelude.{ℕ, ◌+◌, List, [], ◌∷◌, ◌++◌, Bool, true, false, ◌&&◌, ◌||◌, not, if◌then◌else◌, Option, Some}
 use Rattle.std.specs.Prelude.{None, length}
 use Rattle.std.specs.Fmt.{decimal}
-use Rattle.al_text.specs.declared.codes.ExpressionCode.TheVariants as code
-use Rattle.al_text.specs.declared.faults.Fault.{Fault}
-use Rattle.al_text.specs.declared.faults.Span.{Span}
+use Rattle.al_base.specs.declared.codes.ExpressionCode.TheVariants as code
+use Rattle.al_base.specs.declared.faults.Fault.{Fault}
+use Rattle.al_base.specs.declared.faults.Span.{Span}
 use Rattle.al_grammar.specs.declared.token.Operator.{Operator}
 use Rattle.al_grammar.specs.declared.token.Operator.TheVariants as operator
 use Rattle.al_types.specs.declared.names.Context.{Context}

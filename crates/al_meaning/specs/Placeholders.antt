@@ -6,8 +6,8 @@
 -- `{{` and `}}` stand for braces, `{0}`, `{1}` .. for the arguments behind the text.
 use Rattle.std.specs.Prelude.{ℕ, zero, suc, ◌+◌, ◌*◌, ◌-◌, List, [], ◌∷◌, Bool, true, false, ◌==◌, nat_lt, if◌then◌else◌}
 use Rattle.std.specs.Prelude.{Option, Some, None, drop, length, slice_set, replicate}
-use Rattle.al_text.specs.Ascii as ascii
-use Rattle.al_text.specs.FirstBytes.{begins_with}
+use Rattle.al_base.specs.Ascii as ascii
+use Rattle.al_base.specs.FirstBytes.{begins_with}
 use Rattle.al_grammar.specs.Tokens.{is_digit}
 
 -- the piece at the start of a text, and what stands behind it

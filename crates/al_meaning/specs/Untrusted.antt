@@ -1,7 +1,7 @@
 -- Chains from `github` whose text comes from outside, as an author of an issue or a branch wrote it.
 use Rattle.std.specs.Prelude.{codes, ℕ, List, [], ◌∷◌, ◌++◌, Bool, true, false, ◌&&◌, if◌then◌else◌, Option, Some, None}
 use Rattle.std.specs.List.{flat_map}
-use Rattle.al_text.specs.declared.faults.Span.{Span}
+use Rattle.al_base.specs.declared.faults.Span.{Span}
 use Rattle.al_grammar.specs.Tree.{StepTree, Property, All, Index}
 use Rattle.al_types.specs.Names.{same_name}
 use Rattle.al_meaning.specs.Literals.{literal_text}

@@ -1,7 +1,7 @@
 //! Calls of functions: whether one is known and may stand here, and what is wrong with its arguments.
 
 ghost use Rattle.std.specs.Prelude.{◌≡◌, ◌++◌, ◌+◌, ◌^◌, ◌<◌, IfOk, OnOk, not, map, length, string_bytes, ◌∷◌, []};
-ghost use Rattle.al_text.specs.Growth.{BeginsWith};
+ghost use Rattle.al_base.specs.Growth.{BeginsWith};
 ghost use Rattle.al_meaning.specs.Meaning.{typed, behind, give, is_test, called_with, argument_faults, wrong_arguments, format_faults};
 ghost use Rattle.al_meaning.specs.Meaning.{placeholder_faults, unused};
 ghost use Rattle.al_meaning.specs.Meaning as meaning;
@@ -14,13 +14,13 @@ ghost use Rattle.al_grammar.specs.Tree.{arguments_of};
 ghost use Rattle.al_types.specs.TypeViews.{ty_of};
 ghost use Rattle.al_grammar.specs.View.{tree_of};
 ghost use Rattle.std.specs.Fmt.{decimal};
-ghost use Rattle.al_text.specs.declared.codes.ExpressionCode.TheVariants as code;
+ghost use Rattle.al_base.specs.declared.codes.ExpressionCode.TheVariants as code;
 
 use crate::literals::{Literal, literal_text};
 use crate::placeholders::used_arguments;
 use crate::reports::{report, report_plain, report_text};
+use al_base::{ExpressionCode, Fault, Span};
 use al_grammar::{Expr, Word};
-use al_text::{ExpressionCode, Fault, Span};
 use al_types::{Function, Parameters, Scope, Ty};
 use std::alloc::{AllocError, Global};
 
@@ -53,7 +53,7 @@ pub(crate) fn is_test(function: Option<Function>) -> bool
 }
 
 /// The type of a call whose arguments have these types.
-#[tactic(auto, using(al_text::proofs::Growing::growth))]
+#[tactic(auto, using(al_base::proofs::Growing::growth))]
 pub(crate) fn called(
     alloc: Global,
     scope: &Scope,
@@ -85,7 +85,7 @@ pub(crate) fn called(
     Ok(signature.returned.ty())
 }
 
-#[tactic(auto, using(al_text::proofs::Growing::growth))]
+#[tactic(auto, using(al_base::proofs::Growing::growth))]
 fn check_available(
     alloc: Global,
     scope: &Scope,
@@ -109,7 +109,7 @@ fn check_available(
     Ok(())
 }
 
-#[tactic(auto, using(al_text::proofs::Growing::growth))]
+#[tactic(auto, using(al_base::proofs::Growing::growth))]
 fn check_arguments(
     alloc: Global,
     name: &Word,
@@ -134,7 +134,7 @@ fn check_arguments(
     }
 }
 
-#[tactic(auto, using(al_text::proofs::Growing::growth))]
+#[tactic(auto, using(al_base::proofs::Growing::growth))]
 fn check_types(
     alloc: Global,
     name: &Word,
@@ -152,7 +152,7 @@ fn check_types(
     Ok(())
 }
 
-#[tactic(auto, using(al_text::proofs::Growing::growth))]
+#[tactic(auto, using(al_base::proofs::Growing::growth))]
 fn check_type(
     alloc: Global,
     name: &Word,
@@ -176,7 +176,7 @@ fn check_type(
     Ok(())
 }
 
-#[tactic(auto, using(al_text::proofs::Growing::growth))]
+#[tactic(auto, using(al_base::proofs::Growing::growth))]
 fn check_format(
     alloc: Global,
     function: Function,
@@ -209,7 +209,7 @@ fn behind_first(arguments: &[Argument]) -> &[Argument]
     }
 }
 
-#[tactic(auto, using(al_text::proofs::Growing::growth))]
+#[tactic(auto, using(al_base::proofs::Growing::growth))]
 fn check_placeholders(
     alloc: Global,
     literal: &Literal,
@@ -227,7 +227,7 @@ fn check_placeholders(
     }
 }
 
-#[tactic(auto, using(al_text::proofs::Growing::growth))]
+#[tactic(auto, using(al_base::proofs::Growing::growth))]
 fn check_used(
     alloc: Global,
     used: &[bool],
@@ -245,7 +245,7 @@ fn check_used(
     Ok(())
 }
 
-#[tactic(auto, using(al_text::proofs::Growing::growth))]
+#[tactic(auto, using(al_base::proofs::Growing::growth))]
 fn check_argument(
     alloc: Global,
     used: bool,

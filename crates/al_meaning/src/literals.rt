@@ -9,8 +9,8 @@ ghost use Rattle.al_meaning.specs.Private.LiteralViews.{literal_of};
 ghost use Rattle.al_types.specs.TypeViews.{ty_of};
 ghost use Rattle.al_grammar.specs.View.{tree_of};
 
+use al_base::Span;
 use al_grammar::{Expr, Keyword};
-use al_text::Span;
 use al_types::Ty;
 use std::alloc::{AllocError, Global};
 
@@ -22,7 +22,7 @@ pub struct Literal {
 }
 
 /// Where the reader of a text literal stands.
-#[derive(Clone, Copy, PartialEq, Eq, Debug)]
+#[derive(Clone, Copy)]
 pub(crate) enum Quoting {
     Opening,
     Inside,

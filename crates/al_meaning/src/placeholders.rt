@@ -8,7 +8,7 @@ ghost use Rattle.al_meaning.specs.Private.PlaceholderViews.{IsSmall};
 use std::alloc::{AllocError, Global};
 
 /// Where the reader of a format text stands.
-#[derive(Clone, Copy, PartialEq, Eq, Debug)]
+#[derive(Clone, Copy)]
 pub(crate) enum PlaceholderState {
     Outside,
     BehindOpening,
@@ -18,7 +18,7 @@ pub(crate) enum PlaceholderState {
 }
 
 /// What a byte of a format text leads to: another state, the index that it ends, or a wrong brace.
-#[derive(Clone, Copy, PartialEq, Eq, Debug)]
+#[derive(Clone, Copy)]
 pub(crate) enum Turn {
     To(PlaceholderState),
     Names(u128),

@@ -2,13 +2,13 @@
 
 ghost use Rattle.std.specs.Prelude.{◌≡◌, ◌++◌, ◌∷◌, [], OnOk, map, string_bytes};
 ghost use Rattle.al_grammar.specs.Refusal.{fault};
-ghost use Rattle.al_text.specs.Growth.{BeginsWith};
+ghost use Rattle.al_base.specs.Growth.{BeginsWith};
 
-use al_text::{Args, Code, ExpressionCode, Fault, Span};
+use al_base::{Args, Code, ExpressionCode, Fault, Span};
 use std::alloc::{AllocError, Global};
 
 /// Adds a fault whose message names these texts.
-#[tactic(auto, using(al_text::proofs::Growing::growth))]
+#[tactic(auto, using(al_base::proofs::Growing::growth))]
 pub(crate) fn report(
     out: &mut Vec<Fault>,
     code: ExpressionCode,
@@ -27,7 +27,7 @@ pub(crate) fn report(
 }
 
 /// Adds a fault whose message names nothing.
-#[tactic(auto, using(al_text::proofs::Growing::growth))]
+#[tactic(auto, using(al_base::proofs::Growing::growth))]
 pub(crate) fn report_plain(
     alloc: Global,
     out: &mut Vec<Fault>,
@@ -41,7 +41,7 @@ pub(crate) fn report_plain(
 }
 
 /// Adds a fault whose message names one text.
-#[tactic(auto, using(al_text::proofs::Growing::growth))]
+#[tactic(auto, using(al_base::proofs::Growing::growth))]
 pub(crate) fn report_text(
     alloc: Global,
     out: &mut Vec<Fault>,

@@ -1,19 +1,19 @@
 //! The types that property, index and `.*` steps lead to.
 
 ghost use Rattle.std.specs.Prelude.{◌≡◌, IfOk, None, option_map};
-ghost use Rattle.al_text.specs.Growth.{BeginsWith};
+ghost use Rattle.al_base.specs.Growth.{BeginsWith};
 ghost use Rattle.al_meaning.specs.Meaning.{typed, behind, property_of, all_of, index_of, element_at, not_indexable, fuse_all, fuse_next};
 ghost use Rattle.al_types.specs.Types.{NoField};
 ghost use Rattle.al_types.specs.TypeViews.{ty_of, object_of};
 ghost use Rattle.al_types.specs.Private.TypeParts.{fields_of_type, rest_of, rest_of_type};
 
 use crate::reports::{report_plain, report_text};
-use al_text::{ExpressionCode, Fault, Span};
+use al_base::{ExpressionCode, Fault, Span};
 use al_types::{Object, Ty, copy, fuse};
 use std::alloc::{AllocError, Global};
 
 /// The type of a property, whose name stands at `at`, of a value of this type.
-#[tactic(auto, using(al_text::proofs::Growing::growth, crate::proofs::TypedSteps::typing, crate::proofs::TypedSteps::object_steps))]
+#[tactic(auto, using(al_base::proofs::Growing::growth, crate::proofs::TypedSteps::typing, crate::proofs::TypedSteps::object_steps))]
 pub(crate) fn property(
     alloc: Global,
     ty: &Ty,
@@ -46,7 +46,7 @@ pub(crate) fn property(
 }
 
 /// The type of the element of a value of this type that an index of the type `by` names.
-#[tactic(auto, using(al_text::proofs::Growing::growth, crate::proofs::TypedSteps::typing, crate::proofs::TypedSteps::object_steps))]
+#[tactic(auto, using(al_base::proofs::Growing::growth, crate::proofs::TypedSteps::typing, crate::proofs::TypedSteps::object_steps))]
 pub(crate) fn element(
     alloc: Global,
     ty: &Ty,
@@ -68,7 +68,7 @@ pub(crate) fn element(
     }
 }
 
-#[tactic(auto, using(al_text::proofs::Growing::growth, crate::proofs::TypedSteps::typing, crate::proofs::TypedSteps::object_steps))]
+#[tactic(auto, using(al_base::proofs::Growing::growth, crate::proofs::TypedSteps::typing, crate::proofs::TypedSteps::object_steps))]
 fn element_of(
     alloc: Global,
     of: &Ty,
@@ -90,7 +90,7 @@ fn element_of(
     }
 }
 
-#[tactic(auto, using(al_text::proofs::Growing::growth))]
+#[tactic(auto, using(al_base::proofs::Growing::growth))]
 fn not_indexable(alloc: Global, whole: Span, out: &mut Vec<Fault>) -> Result<Ty, AllocError>
     ensures ok { IfOk result (λ t. typed (ty_of t) out.new.items ≡ behind out.old.items (not_indexable whole)) }
     ensures begins { BeginsWith out.new.items out.old.items }
@@ -100,7 +100,7 @@ fn not_indexable(alloc: Global, whole: Span, out: &mut Vec<Fault>) -> Result<Ty,
 }
 
 /// The type of `.*` of a value of this type: an array of what its elements, or its fields, have in common.
-#[tactic(auto, using(al_text::proofs::Growing::growth, crate::proofs::TypedSteps::typing, crate::proofs::TypedSteps::object_steps))]
+#[tactic(auto, using(al_base::proofs::Growing::growth, crate::proofs::TypedSteps::typing, crate::proofs::TypedSteps::object_steps))]
 pub(crate) fn all(
     alloc: Global,
     ty: &Ty,

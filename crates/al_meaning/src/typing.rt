@@ -1,13 +1,14 @@
 //! The type of an expression, and the faults found on the way.
 
-ghost use Rattle.std.specs.Prelude.{◌≡◌, ◌++◌, ◌||◌, ◌&&◌, not, [], Bool, IfOk, OnOk, MatchOption, map, string_bytes, option_map};
+ghost use Rattle.std.specs.Prelude.{◌≡◌, ◌++◌, ◌||◌, ◌&&◌, not, [], Bool, IfOk, OnOk, MatchOption, None, map, string_bytes, option_map};
 ghost use Rattle.al_meaning.specs.Private.CallViews.{argument_of};
 ghost use Rattle.al_meaning.specs.Private.FoundTypes.{found_type};
-ghost use Rattle.al_text.specs.Growth.{BeginsWith};
+ghost use Rattle.al_base.specs.Growth.{BeginsWith};
 ghost use Rattle.al_meaning.specs.Meaning.{typed, type_in, faults_in, behind, meaning_of, walked, chained, meanings, operated, is_logic};
-ghost use Rattle.al_meaning.specs.Meaning.{begins_logic, untrusted, all_typed, all_behind, stepped, base_name};
+ghost use Rattle.al_meaning.specs.Meaning.{begins_logic, untrusted, all_typed, all_behind, stepped, indexed, base_name};
 ghost use Rattle.al_meaning.specs.Meaning as meaning;
-ghost use Rattle.al_types.specs.Names.{context_of};
+ghost use Rattle.al_meaning.specs.Literals.{literal_text};
+ghost use Rattle.al_types.specs.Names.{context_of, function_of};
 ghost use Rattle.al_types.specs.Scopes.{scope_of};
 ghost use Rattle.al_grammar.specs.Tree.{steps_of, operands_of, arguments_of};
 ghost use Rattle.al_types.specs.TypeViews.{ty_of};
@@ -19,8 +20,8 @@ use crate::literals::{literal_text, type_of_keyword};
 use crate::reports::{report_plain, report_text};
 use crate::steps::{all, element, property};
 use crate::untrusted::untrusted_chain;
+use al_base::{ExpressionCode, Fault, Span};
 use al_grammar::{Expr, Operand, Operator, PathStep, Word, across, extent, path_extent};
-use al_text::{ExpressionCode, Fault, Span};
 use al_types::{Context, Function, Scope, Ty, copy, fuse};
 use std::alloc::{AllocError, Global};
 
@@ -42,7 +43,7 @@ pub fn type_of(
 }
 
 // `safe`: whether the expression stands where untrusted text does no harm.
-#[tactic(auto, using(al_text::proofs::Growing::growth, crate::proofs::TypedSteps::typing, al_grammar::proofs::TreeViews::tree_views))]
+#[tactic(auto, using(al_base::proofs::Growing::growth))]
 #[cycle(typing)]
 fn expression(
     alloc: Global,
@@ -60,21 +61,12 @@ fn expression(
         Expr::Number(_) => Ok(Ty::Number),
         Expr::Text(_) => Ok(Ty::String),
         Expr::Name(word) => named(alloc, scope, word, out),
-        Expr::Group(inner, _, _) => {
-            let ty = expression(alloc, scope, safe, inner, out)?;
-            Ok(ty)
-        }
+        Expr::Group(inner, _, _) => expression(alloc, scope, safe, inner, out),
         Expr::Not(_, operand) => {
             let _ty = expression(alloc, scope, true, operand, out)?;
             Ok(Ty::Bool)
         }
-        Expr::Call(name, arguments, _) => {
-            let function = Function::named(name.text.as_str());
-            let tested = is_tested(safe, function);
-            let given = typed_arguments(alloc, scope, tested, arguments, out)?;
-            let ty = called(alloc, scope, name, function, arguments, &given, out)?;
-            Ok(ty)
-        }
+        Expr::Call(name, arguments, _) => call(alloc, scope, safe, name, arguments, out),
         Expr::Path(base, steps) => {
             let start = base_type(alloc, scope, safe, base, out)?;
             let ty = walk(alloc, scope, safe, steps, start, out)?;
@@ -88,6 +80,30 @@ fn expression(
             Ok(ty)
         }
     }
+}
+
+// The type of a call, from the types of its arguments.
+#[tactic(auto, using(al_base::proofs::Growing::growth))]
+#[cycle(typing)]
+fn call(
+    alloc: Global,
+    scope: &Scope,
+    safe: bool,
+    name: &Word,
+    arguments: &[Expr],
+    out: &mut Vec<Fault>,
+) -> Result<Ty, AllocError>
+    ensures ok { IfOk result (λ t. typed (ty_of t) out.new.items ≡ behind out.old.items
+        (meaning.called (scope_of scope.now) (string_bytes name.now.text) name.now.span (function_of (string_bytes name.now.text))
+        (arguments_of (map tree_of arguments.now)) (meanings (scope_of scope.now)
+        (safe || meaning.is_test (function_of (string_bytes name.now.text))) (arguments_of (map tree_of arguments.now))))) }
+    ensures begins { BeginsWith out.new.items out.old.items }
+{
+    let function = Function::named(name.text.as_str());
+    let tested = is_tested(safe, function);
+    let given = typed_arguments(alloc, scope, tested, arguments, out)?;
+    let ty = called(alloc, scope, name, function, arguments, &given, out)?;
+    Ok(ty)
 }
 
 fn is_tested(safe: bool, function: Option<Function>) -> bool
@@ -108,7 +124,7 @@ fn is_exposed(scope: &Scope, safe: bool) -> bool
     scope.in_run && !safe
 }
 
-#[tactic(auto, using(al_text::proofs::Growing::growth, crate::proofs::TypedSteps::typing))]
+#[tactic(auto, using(al_base::proofs::Growing::growth, crate::proofs::TypedSteps::typing))]
 fn named(alloc: Global, scope: &Scope, word: &Word, out: &mut Vec<Fault>) -> Result<Ty, AllocError>
     ensures ok { IfOk result (λ t. typed (ty_of t) out.new.items ≡ behind out.old.items
         (meaning.named (scope_of scope.now) (string_bytes word.now.text) word.now.span (context_of (string_bytes word.now.text)))) }
@@ -156,7 +172,7 @@ impl<'s> Found<'s> {
 }
 
 // The type of a path's base.
-#[tactic(auto, using(al_text::proofs::Growing::growth, crate::proofs::TypedSteps::typing))]
+#[tactic(auto, using(al_base::proofs::Growing::growth))]
 #[cycle(typing)]
 fn base_type<'s>(
     alloc: Global,
@@ -215,20 +231,20 @@ fn lent_property<'s>(here: &Found<'s>, name: &str) -> Option<&'s Ty>
 
 // The type of a property, whose name stands at `at`. One of a lent object is lent: what a context holds is not copied on the way to what
 // is asked of it.
-#[tactic(auto, using(al_text::proofs::Growing::growth, crate::proofs::TypedSteps::typing))]
+#[tactic(auto, using(al_base::proofs::Growing::growth, crate::proofs::TypedSteps::typing))]
 fn property_from<'s>(
     alloc: Global,
-    here: Found<'s>,
+    here: &Found<'s>,
     name: &str,
     at: Span,
     whole: Span,
     out: &mut Vec<Fault>,
 ) -> Result<Found<'s>, AllocError>
     ensures ok { IfOk result (λ f. typed (found_type f) out.new.items ≡ behind out.old.items
-        (meaning.property_of name.now at whole (found_type here.entry))) }
+        (meaning.property_of name.now at whole (found_type here.now))) }
     ensures begins { BeginsWith out.new.items out.old.items }
 {
-    match lent_property(&here, name) {
+    match lent_property(here, name) {
         Some(ty) => Ok(Found::Lent(ty)),
         None => {
             let ty = property(alloc, here.get(), name, at, whole, out)?;
@@ -238,7 +254,7 @@ fn property_from<'s>(
 }
 
 // The type behind the steps of a path, from the type before them.
-#[tactic(auto, using(al_text::proofs::Growing::growth, crate::proofs::TypedSteps::typing))]
+#[tactic(auto, using(al_base::proofs::Growing::growth))]
 #[cycle(typing)]
 fn walk<'s>(
     alloc: Global,
@@ -254,66 +270,103 @@ fn walk<'s>(
 {
     let mut here = start;
     for step in steps {
-        let next = step_from(alloc, scope, safe, step, here, out)?;
+        let next = step_from(alloc, scope, safe, step, &here, out)?;
         here = next;
     }
     let ty = here.into_ty(alloc)?;
     Ok(ty)
 }
 
-#[tactic(auto, using(al_text::proofs::Growing::growth, crate::proofs::TypedSteps::typing, al_grammar::proofs::TreeViews::step_views))]
+// The type behind one step of a path.
+#[tactic(auto, using(al_base::proofs::Growing::growth))]
 #[cycle(typing)]
 fn step_from<'s>(
     alloc: Global,
     scope: &Scope,
     safe: bool,
     step: &PathStep,
-    here: Found<'s>,
+    here: &Found<'s>,
     out: &mut Vec<Fault>,
 ) -> Result<Found<'s>, AllocError>
     ensures ok { IfOk result (λ f. typed (found_type f) out.new.items ≡ behind out.old.items
-        (stepped (scope_of scope.now) safe (step_of step.now) (found_type here.entry))) }
+        (stepped (scope_of scope.now) safe (step_of step.now) (found_type here.now))) }
     ensures begins { BeginsWith out.new.items out.old.items }
 {
     match step {
-        PathStep::Property(dot, name) => {
-            property_from(
-                alloc,
-                here,
-                name.text.as_str(),
-                name.span,
-                across(*dot, name.span),
-                out,
-            )
-        }
+        PathStep::Property(dot, name) => property_from(
+            alloc,
+            here,
+            name.text.as_str(),
+            name.span,
+            across(*dot, name.span),
+            out,
+        ),
         PathStep::All(first, last) => {
             let of = all(alloc, here.get(), across(*first, *last), out)?;
             Ok(Found::Owned(of))
         }
-        PathStep::Index(open, index, close) => {
-            let whole = across(*open, *close);
-            let literal = literal_text(alloc, index)?;
-            match literal {
-                Some(name) => property_from(
-                    alloc,
-                    here,
-                    name.value.as_str(),
-                    name.span,
-                    whole,
-                    out,
-                ),
-                None => {
-                    let by = expression(alloc, scope, safe, index, out)?;
-                    let of = element(alloc, here.get(), &by, whole, out)?;
-                    Ok(Found::Owned(of))
-                }
-            }
+        PathStep::Index(open, index, close) => index_from(
+            alloc,
+            scope,
+            safe,
+            index,
+            across(*open, *close),
+            here,
+            out,
+        ),
+    }
+}
+
+// The type behind an index: a property where it is a text literal, else an element.
+#[tactic(auto, using(al_base::proofs::Growing::growth))]
+#[cycle(typing)]
+fn index_from<'s>(
+    alloc: Global,
+    scope: &Scope,
+    safe: bool,
+    index: &Expr,
+    whole: Span,
+    here: &Found<'s>,
+    out: &mut Vec<Fault>,
+) -> Result<Found<'s>, AllocError>
+    ensures ok { IfOk result (λ f. typed (found_type f) out.new.items ≡ behind out.old.items
+        (indexed (literal_text (tree_of index.now)) whole (found_type here.now)
+        (meaning.meaning (scope_of scope.now) safe (tree_of index.now)))) }
+    ensures begins { BeginsWith out.new.items out.old.items }
+{
+    let literal = literal_text(alloc, index)?;
+    match literal {
+        Some(name) => property_from(alloc, here, name.value.as_str(), name.span, whole, out),
+        None => {
+            let of = element_from(alloc, scope, safe, index, whole, here.get(), out)?;
+            Ok(Found::Owned(of))
         }
     }
 }
 
+// The type of the element that an index tells.
+#[tactic(auto, using(al_base::proofs::Growing::growth))]
+#[cycle(typing)]
+fn element_from(
+    alloc: Global,
+    scope: &Scope,
+    safe: bool,
+    index: &Expr,
+    whole: Span,
+    ty: &Ty,
+    out: &mut Vec<Fault>,
+) -> Result<Ty, AllocError>
+    ensures ok { IfOk result (λ t. typed (ty_of t) out.new.items ≡ behind out.old.items
+        (indexed None whole (ty_of ty.now) (meaning.meaning (scope_of scope.now) safe (tree_of index.now)))) }
+    ensures begins { BeginsWith out.new.items out.old.items }
+{
+    let by = expression(alloc, scope, safe, index, out)?;
+    let of = element(alloc, ty, &by, whole, out)?;
+    Ok(of)
+}
+
 // The type of the operators of one level and their operands, from the type of the first operand.
-#[tactic(auto, using(al_text::proofs::Growing::growth, crate::proofs::TypedSteps::typing))]
+#[tactic(auto, using(al_base::proofs::Growing::growth))]
 #[cycle(typing)]
 fn operations(
     alloc: Global,
@@ -335,7 +388,7 @@ fn operations(
     Ok(ty)
 }
 
-#[tactic(auto, using(al_text::proofs::Growing::growth, crate::proofs::TypedSteps::typing))]
+#[tactic(auto, using(al_base::proofs::Growing::growth, crate::proofs::TypedSteps::typing))]
 fn operation(
     alloc: Global,
     operator: Operator,
@@ -385,7 +438,7 @@ fn begins_logic(operands: &[Operand]) -> bool
 }
 
 // The types and places of arguments.
-#[tactic(auto, using(al_text::proofs::Growing::growth))]
+#[tactic(auto, using(al_base::proofs::Growing::growth))]
 #[cycle(typing)]
 fn typed_arguments(
     alloc: Global,
@@ -410,7 +463,7 @@ fn typed_arguments(
 }
 
 // Adds the fault of a path that is an untrusted chain, where its text could do harm.
-#[tactic(auto, using(al_text::proofs::Growing::growth, crate::proofs::Paths::parts))]
+#[tactic(auto, using(al_base::proofs::Growing::growth, crate::proofs::Paths::parts))]
 fn check_untrusted(
     alloc: Global,
     exposed: bool,

@@ -1,10 +1,10 @@
 -- Small words of the rules: texts with their places, and faults that name them.
 use Rattle.std.specs.Prelude.{ℕ, List, [], ◌∷◌, Bool, map, if◌then◌else◌}
 use Rattle.std.specs.Str.Lossy.{utf8_lossy}
-use Rattle.al_text.specs.declared.codes.Code.TheVariants as code
-use Rattle.al_text.specs.declared.codes.RuleCode.{RuleCode}
-use Rattle.al_text.specs.declared.faults.Fault.{Fault}
-use Rattle.al_text.specs.declared.faults.Span.{Span}
+use Rattle.al_base.specs.declared.codes.Code.TheVariants as code
+use Rattle.al_base.specs.declared.codes.RuleCode.{RuleCode}
+use Rattle.al_base.specs.declared.faults.Fault.{Fault}
+use Rattle.al_base.specs.declared.faults.Span.{Span}
 use Rattle.al_scalar.specs.Scalar.{Scalar, text_of}
 use Rattle.al_yaml.specs.Node.{Node, span_of}
 use Rattle.al_shape.specs.Keys.{key_text}

@@ -2,11 +2,11 @@
 
 ghost use Rattle.al_reports.specs.Private.Views.{named_of, named_scalar};
 ghost use Rattle.al_reports.specs.Words.{about, fault, of_key, unless, unless_among};
-ghost use Rattle.al_text.specs.Growth.{BeginsWith};
+ghost use Rattle.al_base.specs.Growth.{BeginsWith};
 ghost use Rattle.al_yaml.specs.View.{view};
 ghost use Rattle.std.specs.Prelude.{◌≡◌, [], ◌∷◌, ◌++◌, map, OnOk};
 
-use al_text::{Args, Code, Fault, RuleCode, Span};
+use al_base::{Args, Code, Fault, RuleCode, Span};
 use al_tree::{ScalarNode, is_among, key_text};
 use al_yaml::Node;
 use std::alloc::{AllocError, Global};
@@ -43,7 +43,7 @@ pub fn named_text(scalar: ScalarNode<'_>) -> Named<'_>
 /// Adds a fault that names one text; bytes of it that aren't UTF-8 become U+FFFD.
 ///
 /// Fails with `AllocError` for want of memory; the list then begins with what it held.
-#[tactic(auto, using(al_text::proofs::Growing::growth))]
+#[tactic(auto, using(al_base::proofs::Growing::growth))]
 pub fn report_at(
     alloc: Global,
     rule: RuleCode,
@@ -67,7 +67,7 @@ pub fn report_at(
 /// Adds a fault that names two texts; bytes of them that aren't UTF-8 become U+FFFD.
 ///
 /// Fails with `AllocError` for want of memory; the list then begins with what it held.
-#[tactic(auto, using(al_text::proofs::Growing::growth))]
+#[tactic(auto, using(al_base::proofs::Growing::growth))]
 pub fn report_two(
     alloc: Global,
     rule: RuleCode,
@@ -93,7 +93,7 @@ pub fn report_two(
 /// Adds a fault that names no text.
 ///
 /// Fails with `AllocError` for want of memory; the list then begins with what it held.
-#[tactic(auto, using(al_text::proofs::Growing::growth))]
+#[tactic(auto, using(al_base::proofs::Growing::growth))]
 pub fn report_plain(
     alloc: Global,
     rule: RuleCode,
@@ -129,7 +129,7 @@ pub fn report(
 /// Adds the fault of a text, unless it is right.
 ///
 /// Fails with `AllocError` for want of memory; the list then begins with what it held.
-#[tactic(auto, using(al_text::proofs::Growing::growth))]
+#[tactic(auto, using(al_base::proofs::Growing::growth))]
 pub fn report_unless(
     alloc: Global,
     right: bool,

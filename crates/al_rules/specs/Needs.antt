@@ -1,8 +1,8 @@
 -- Faults of what jobs need.
 use Rattle.std.specs.Prelude.{◌≡◌, ℕ, List, [], ◌∷◌, ◌++◌, Bool, codes, map, Option, Some, None, if◌then◌else◌}
 use Rattle.std.specs.List.{flat_map, filter_map, enumerate_from}
-use Rattle.al_text.specs.declared.codes.RuleCode.TheVariants.{NeedsCycle, UndefinedJob}
-use Rattle.al_text.specs.declared.faults.Fault.{Fault}
+use Rattle.al_base.specs.declared.codes.RuleCode.TheVariants.{NeedsCycle, UndefinedJob}
+use Rattle.al_base.specs.declared.faults.Fault.{Fault}
 use Rattle.al_yaml.specs.Node.{Node}
 use Rattle.al_shape.specs.Values.{texts_at}
 use Rattle.al_types.specs.Names.{same_name}

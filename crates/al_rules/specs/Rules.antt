@@ -4,8 +4,8 @@ use Rattle.std.specs.Prelude.{option_and_then}
 use Rattle.std.specs.List.{flat_map, filter_map}
 use Rattle.std.specs.Option.{option_map_or}
 use Rattle.std.specs.Str.{bytes_eq}
-use Rattle.al_text.specs.declared.codes.RuleCode.TheVariants.{MissingOutputValue, MissingShell, UnknownUsing}
-use Rattle.al_text.specs.declared.faults.Fault.{Fault}
+use Rattle.al_base.specs.declared.codes.RuleCode.TheVariants.{MissingOutputValue, MissingShell, UnknownUsing}
+use Rattle.al_base.specs.declared.faults.Fault.{Fault}
 use Rattle.al_yaml.specs.Access.{scalar_in}
 use Rattle.al_yaml.specs.Node.{Node, span_of}
 use Rattle.al_yaml.specs.View.{view}

@@ -3,16 +3,16 @@
 ghost use Rattle.al_rules.specs.Rules.{action_faults, composite_faults, hooks_faults, no_shell_faults, output_faults, runs_faults};
 ghost use Rattle.al_rules.specs.Rules.{scalar_of_value, using_faults};
 ghost use Rattle.al_reports.specs.Private.Views.{named_of};
-ghost use Rattle.al_text.specs.Growth.{BeginsWith};
+ghost use Rattle.al_base.specs.Growth.{BeginsWith};
 ghost use Rattle.al_shape.specs.Values.{entries_at, member_of, value_at};
 ghost use Rattle.al_yaml.specs.View.{view};
 ghost use Rattle.std.specs.List.{flat_map};
 ghost use Rattle.std.specs.Prelude.{◌≡◌, ◌++◌, codes, map, option_and_then, option_map, OnOk};
 
 use crate::sections::check_steps;
+use al_base::{Fault, RuleCode};
 use al_reports::{Named, named_key, report, report_plain};
 use al_settings::{check_condition, check_env};
-use al_text::{Fault, RuleCode};
 use al_tree::{Member, is_among, items_under, key, members, text_under, value};
 use al_yaml::Node;
 use std::alloc::{AllocError, Global};
@@ -21,7 +21,7 @@ use std::alloc::{AllocError, Global};
 const NODE_USINGS: &[&str] = &["node12", "node16", "node20", "node24"];
 
 /// Adds the fault of a step of a composite action that runs a script and names no shell.
-#[tactic(auto, using(al_text::proofs::Growing::growth))]
+#[tactic(auto, using(al_base::proofs::Growing::growth))]
 fn check_no_shell(alloc: Global, step: &Node, out: &mut Vec<Fault>) -> Result<(), AllocError>
     ensures ok { OnOk result (out.new.items ≡ out.old.items ++ no_shell_faults (view step.now)) }
     ensures begins { BeginsWith out.new.items out.old.items }
@@ -36,7 +36,7 @@ fn check_no_shell(alloc: Global, step: &Node, out: &mut Vec<Fault>) -> Result<()
 }
 
 /// Adds the faults of such steps.
-#[tactic(auto, using(al_text::proofs::Growing::growth))]
+#[tactic(auto, using(al_base::proofs::Growing::growth))]
 fn check_no_shells(alloc: Global, steps: &[Node], out: &mut Vec<Fault>) -> Result<(), AllocError>
     ensures ok { OnOk result (out.new.items ≡ out.old.items ++ flat_map no_shell_faults (map view steps.now)) }
     ensures begins { BeginsWith out.new.items out.old.items }
@@ -48,7 +48,7 @@ fn check_no_shells(alloc: Global, steps: &[Node], out: &mut Vec<Fault>) -> Resul
 }
 
 /// Adds the fault of an output without a value.
-#[tactic(auto, using(al_text::proofs::Growing::growth))]
+#[tactic(auto, using(al_base::proofs::Growing::growth))]
 fn check_output(alloc: Global, output: Member<'_>, out: &mut Vec<Fault>) -> Result<(), AllocError>
     ensures ok { OnOk result (out.new.items ≡ out.old.items ++ output_faults (member_of output.entry)) }
     ensures begins { BeginsWith out.new.items out.old.items }
@@ -65,7 +65,7 @@ fn check_output(alloc: Global, output: Member<'_>, out: &mut Vec<Fault>) -> Resu
 }
 
 /// Adds the faults of some outputs.
-#[tactic(auto, using(al_text::proofs::Growing::growth))]
+#[tactic(auto, using(al_base::proofs::Growing::growth))]
 fn check_each_output(
     alloc: Global,
     outputs: &[Member<'_>],
@@ -81,7 +81,7 @@ fn check_each_output(
 }
 
 /// Adds the faults of the outputs of a composite action.
-#[tactic(auto, using(al_text::proofs::Growing::growth))]
+#[tactic(auto, using(al_base::proofs::Growing::growth))]
 fn check_outputs(alloc: Global, root: &Node, out: &mut Vec<Fault>) -> Result<(), AllocError>
     ensures ok { OnOk result (out.new.items ≡ out.old.items ++ flat_map output_faults (entries_at (codes "outputs") (view root.now))) }
     ensures begins { BeginsWith out.new.items out.old.items }
@@ -96,7 +96,7 @@ fn check_outputs(alloc: Global, root: &Node, out: &mut Vec<Fault>) -> Result<(),
 }
 
 /// Adds the faults of a composite action.
-#[tactic(auto, using(al_text::proofs::Growing::growth))]
+#[tactic(auto, using(al_base::proofs::Growing::growth))]
 fn check_composite(
     alloc: Global,
     root: &Node,
@@ -113,7 +113,7 @@ fn check_composite(
 }
 
 /// Adds the faults of the conditions before and behind an action.
-#[tactic(auto, using(al_text::proofs::Growing::growth))]
+#[tactic(auto, using(al_base::proofs::Growing::growth))]
 fn check_hooks(alloc: Global, runs: &Node, out: &mut Vec<Fault>) -> Result<(), AllocError>
     ensures ok { OnOk result (out.new.items ≡ out.old.items ++ hooks_faults (view runs.now)) }
     ensures begins { BeginsWith out.new.items out.old.items }
@@ -123,7 +123,7 @@ fn check_hooks(alloc: Global, runs: &Node, out: &mut Vec<Fault>) -> Result<(), A
 }
 
 /// Adds the faults of `runs` by what `using` says.
-#[tactic(auto, using(al_text::proofs::Growing::growth))]
+#[tactic(auto, using(al_base::proofs::Growing::growth))]
 fn check_using(
     alloc: Global,
     root: &Node,
@@ -164,7 +164,7 @@ fn using_of(runs: &Node) -> Option<Named<'_>>
 }
 
 /// Adds the faults of `runs`.
-#[tactic(auto, using(al_text::proofs::Growing::growth))]
+#[tactic(auto, using(al_base::proofs::Growing::growth))]
 fn check_runs(
     alloc: Global,
     root: &Node,
@@ -181,7 +181,7 @@ fn check_runs(
 }
 
 /// Adds the faults of an action.
-#[tactic(auto, using(al_text::proofs::Growing::growth))]
+#[tactic(auto, using(al_base::proofs::Growing::growth))]
 pub(crate) fn check_action(
     alloc: Global,
     root: &Node,

@@ -4,12 +4,12 @@ ghost use Rattle.al_rules.specs.Rows.Files as file;
 ghost use Rattle.al_rules.specs.Rows.Files.{at, needs_by_steps};
 ghost use Rattle.al_rules.specs.Rules.{action_faults, workflow_faults};
 ghost use Rattle.al_reports.specs.Words.{fault};
-ghost use Rattle.al_text.specs.declared.codes.RuleCode.TheVariants.{AlwaysTrue, DeprecatedCommand, MissingOutputValue, MissingShell};
-ghost use Rattle.al_text.specs.declared.codes.RuleCode.TheVariants.{NeedsCycle, PasswordNotExpression, RepeatedId, ScheduleTooOften};
-ghost use Rattle.al_text.specs.declared.codes.RuleCode.TheVariants.{UndefinedJob, UnknownActivity, UnknownEvent, UnknownInputType};
-ghost use Rattle.al_text.specs.declared.codes.RuleCode.TheVariants.{UnknownMatrixRow, UnknownPermission, UnknownShell, UnknownUsing};
-ghost use Rattle.al_text.specs.declared.codes.RuleCode.TheVariants.{WrongId, WrongMatrix, WrongPattern, WrongPermission, WrongSchedule};
-ghost use Rattle.al_text.specs.declared.codes.RuleCode.TheVariants.{WrongVariable};
+ghost use Rattle.al_base.specs.declared.codes.RuleCode.TheVariants.{AlwaysTrue, DeprecatedCommand, MissingOutputValue, MissingShell};
+ghost use Rattle.al_base.specs.declared.codes.RuleCode.TheVariants.{NeedsCycle, PasswordNotExpression, RepeatedId, ScheduleTooOften};
+ghost use Rattle.al_base.specs.declared.codes.RuleCode.TheVariants.{UndefinedJob, UnknownActivity, UnknownEvent, UnknownInputType};
+ghost use Rattle.al_base.specs.declared.codes.RuleCode.TheVariants.{UnknownMatrixRow, UnknownPermission, UnknownShell, UnknownUsing};
+ghost use Rattle.al_base.specs.declared.codes.RuleCode.TheVariants.{WrongId, WrongMatrix, WrongPattern, WrongPermission, WrongSchedule};
+ghost use Rattle.al_base.specs.declared.codes.RuleCode.TheVariants.{WrongVariable};
 ghost use Rattle.std.specs.Prelude.{◌≡◌, [], ◌∷◌, codes};
 
 /// The faults of some small files, as the definitions give them. Does nothing.

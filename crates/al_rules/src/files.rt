@@ -1,19 +1,19 @@
 //! The rules of a file.
 
 ghost use Rattle.al_rules.specs.Rules.{AddsRules};
-ghost use Rattle.al_text.specs.Growth.{BeginsWith};
+ghost use Rattle.al_base.specs.Growth.{BeginsWith};
 ghost use Rattle.std.specs.Prelude.{OnOk};
 
 use crate::actions::check_action;
 use crate::workflows::check_workflow;
-use al_text::Fault;
+use al_base::Fault;
 use al_tree::Tree;
 use std::alloc::{AllocError, Global};
 
 /// Adds the faults of the rules that a file breaks by itself.
 ///
 /// Fails with `AllocError` for want of memory; the list then begins with what it held.
-#[tactic(auto, using(al_text::proofs::Growing::growth))]
+#[tactic(auto, using(al_base::proofs::Growing::growth))]
 pub fn rules(alloc: Global, tree: &Tree, out: &mut Vec<Fault>) -> Result<(), AllocError>
     ensures rules { OnOk result (AddsRules tree.now out.old.items out.new.items) }
     ensures begins { BeginsWith out.new.items out.old.items }

@@ -9,15 +9,15 @@ ghost use Rattle.al_rules.specs.Private.Components.{labelled_fault, labelled_fau
 ghost use Rattle.al_reports.specs.Private.Views.{named_of};
 ghost use Rattle.al_rules.specs.Private.Views.{need_of};
 ghost use Rattle.al_reports.specs.Words.{of_key, of_scalar};
-ghost use Rattle.al_text.specs.Growth.{BeginsWith};
+ghost use Rattle.al_base.specs.Growth.{BeginsWith};
 ghost use Rattle.al_shape.specs.Values.{member_of, scalar_node_of};
 ghost use Rattle.std.specs.List.{filter_map};
 ghost use Rattle.std.specs.Prelude.{◌≡◌, ◌++◌, map, slice_index_or, IfOk, OnOk, None};
 
+use al_base::{Fault, RuleCode};
 use al_declarations::NamePositions;
 use al_graph::strongly_connected_components;
 use al_reports::{Named, named_key, named_text, report, report_two};
-use al_text::{Fault, RuleCode};
 use al_tree::{Member, ScalarNode, key_text, texts_under};
 use std::alloc::{AllocError, Global};
 
@@ -103,7 +103,7 @@ fn has_label_of(labels: &[Option<usize>], job: usize, other: usize) -> bool
 }
 
 /// Adds the fault of an entry that names this job, if any. Jobs have one label where they lead to one another.
-#[tactic(auto, using(al_text::proofs::Growing::growth))]
+#[tactic(auto, using(al_base::proofs::Growing::growth))]
 fn check_named(
     alloc: Global,
     labels: &[Option<usize>],
@@ -127,7 +127,7 @@ fn check_named(
 }
 
 /// Adds the fault of an entry, if any.
-#[tactic(auto, using(al_text::proofs::Growing::growth))]
+#[tactic(auto, using(al_base::proofs::Growing::growth))]
 fn check_need(
     alloc: Global,
     positions: &NamePositions,
@@ -162,7 +162,7 @@ fn entries_of<'a>(
 }
 
 /// Adds the faults of some entries.
-#[tactic(auto, using(al_text::proofs::Growing::growth))]
+#[tactic(auto, using(al_base::proofs::Growing::growth))]
 fn check_entries(
     alloc: Global,
     positions: &NamePositions,
@@ -181,7 +181,7 @@ fn check_entries(
 }
 
 /// Adds the faults of the `needs` of a job at a position.
-#[tactic(auto, using(al_text::proofs::Growing::growth))]
+#[tactic(auto, using(al_base::proofs::Growing::growth))]
 fn check_job(
     alloc: Global,
     positions: &NamePositions,
@@ -201,7 +201,7 @@ fn check_job(
 }
 
 /// Adds the faults of the `needs` of some jobs.
-#[tactic(auto, using(al_text::proofs::Growing::growth))]
+#[tactic(auto, using(al_base::proofs::Growing::growth))]
 fn check_each_job(
     alloc: Global,
     positions: &NamePositions,
@@ -223,7 +223,7 @@ fn check_each_job(
 ///
 /// An entry is in a cycle where the job that it names leads back: where both are in one strongly connected component. So it takes time in
 /// proportion to jobs and entries, but for finding each name.
-#[tactic(auto, using(al_text::proofs::Growing::growth))]
+#[tactic(auto, using(al_base::proofs::Growing::growth))]
 pub(crate) fn check_needs(
     alloc: Global,
     jobs: &[Member<'_>],

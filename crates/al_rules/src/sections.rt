@@ -3,25 +3,25 @@
 ghost use Rattle.al_rules.specs.Rules.{container_faults, containers_faults, job_faults, matrix_faults_of, run_faults, section_faults};
 ghost use Rattle.al_rules.specs.Rules.{settings_faults, step_faults, step_ids, steps_faults};
 ghost use Rattle.al_reports.specs.Private.Views.{named_of};
-ghost use Rattle.al_text.specs.Growth.{BeginsWith};
-ghost use Rattle.al_shape.specs.Values.{entries_at, member_of, value_at, value_below};
+ghost use Rattle.al_base.specs.Growth.{BeginsWith};
+ghost use Rattle.al_shape.specs.Values.{entries_at, member_of, scalar_node_of, text_below, value_at, value_below};
 ghost use Rattle.al_yaml.specs.View.{view};
 ghost use Rattle.std.specs.List.{flat_map};
 ghost use Rattle.std.specs.Option.{option_map_or};
 ghost use Rattle.std.specs.Prelude.{◌≡◌, ◌++◌, [], ◌∷◌, codes, map, option_map, IfOk, OnOk};
 
+use al_base::Fault;
 use al_reports::{Named, named_text};
 use al_settings::{
     check_condition, check_credentials, check_env, check_ids, check_matrix, check_permissions,
     check_script, check_shell,
 };
-use al_text::Fault;
-use al_tree::{Member, default_shell, items_under, members, text_under, value};
+use al_tree::{Member, ScalarNode, items_under, members, text_under, value};
 use al_yaml::Node;
 use std::alloc::{AllocError, Global};
 
 /// Adds the faults of what a step runs.
-#[tactic(auto, using(al_text::proofs::Growing::growth))]
+#[tactic(auto, using(al_base::proofs::Growing::growth))]
 fn check_run(alloc: Global, step: &Node, out: &mut Vec<Fault>) -> Result<(), AllocError>
     ensures ok { OnOk result (out.new.items ≡ out.old.items ++ run_faults (view step.now)) }
     ensures begins { BeginsWith out.new.items out.old.items }
@@ -31,7 +31,7 @@ fn check_run(alloc: Global, step: &Node, out: &mut Vec<Fault>) -> Result<(), All
 }
 
 /// Adds the faults of a step by itself.
-#[tactic(auto, using(al_text::proofs::Growing::growth))]
+#[tactic(auto, using(al_base::proofs::Growing::growth))]
 fn check_step(alloc: Global, step: &Node, out: &mut Vec<Fault>) -> Result<(), AllocError>
     ensures ok { OnOk result (out.new.items ≡ out.old.items ++ step_faults (view step.now)) }
     ensures begins { BeginsWith out.new.items out.old.items }
@@ -55,7 +55,7 @@ fn ids_of(alloc: Global, steps: &[Node]) -> Result<Vec<Named<'_>>, AllocError>
 }
 
 /// Adds the faults of some steps, each by itself.
-#[tactic(auto, using(al_text::proofs::Growing::growth))]
+#[tactic(auto, using(al_base::proofs::Growing::growth))]
 fn check_each_step(alloc: Global, steps: &[Node], out: &mut Vec<Fault>) -> Result<(), AllocError>
     ensures ok { OnOk result (out.new.items ≡ out.old.items ++ flat_map step_faults (map view steps.now)) }
     ensures begins { BeginsWith out.new.items out.old.items }
@@ -67,7 +67,7 @@ fn check_each_step(alloc: Global, steps: &[Node], out: &mut Vec<Fault>) -> Resul
 }
 
 /// Adds the faults of some steps.
-#[tactic(auto, using(al_text::proofs::Growing::growth))]
+#[tactic(auto, using(al_base::proofs::Growing::growth))]
 pub(crate) fn check_steps(
     alloc: Global,
     steps: &[Node],
@@ -82,7 +82,7 @@ pub(crate) fn check_steps(
 }
 
 /// Adds the faults of a container or a service.
-#[tactic(auto, using(al_text::proofs::Growing::growth))]
+#[tactic(auto, using(al_base::proofs::Growing::growth))]
 fn check_container(alloc: Global, node: &Node, out: &mut Vec<Fault>) -> Result<(), AllocError>
     ensures ok { OnOk result (out.new.items ≡ out.old.items ++ container_faults (view node.now)) }
     ensures begins { BeginsWith out.new.items out.old.items }
@@ -91,8 +91,15 @@ fn check_container(alloc: Global, node: &Node, out: &mut Vec<Fault>) -> Result<(
     check_credentials(alloc, node, out)
 }
 
+/// The shell that the scripts of a workflow or a job run in, where no step names its own: `shell` of `defaults.run`.
+fn default_shell(node: &Node) -> Option<ScalarNode<'_>>
+    ensures { option_map scalar_node_of result ≡ text_below (codes "defaults" ∷ codes "run" ∷ codes "shell" ∷ []) (view node.now) }
+{
+    text_under(value(value(node, "defaults")?, "run")?, "shell")
+}
+
 /// Adds the faults that a workflow and a job have alike.
-#[tactic(auto, using(al_text::proofs::Growing::growth))]
+#[tactic(auto, using(al_base::proofs::Growing::growth))]
 pub(crate) fn check_section(
     alloc: Global,
     node: &Node,
@@ -107,7 +114,7 @@ pub(crate) fn check_section(
 }
 
 /// Adds the faults of some services.
-#[tactic(auto, using(al_text::proofs::Growing::growth))]
+#[tactic(auto, using(al_base::proofs::Growing::growth))]
 fn check_each_service(
     alloc: Global,
     services: &[Member<'_>],
@@ -123,7 +130,7 @@ fn check_each_service(
 }
 
 /// Adds the faults of the services of a job.
-#[tactic(auto, using(al_text::proofs::Growing::growth))]
+#[tactic(auto, using(al_base::proofs::Growing::growth))]
 fn check_services(alloc: Global, job: &Node, out: &mut Vec<Fault>) -> Result<(), AllocError>
     ensures ok { OnOk result (out.new.items ≡ out.old.items
         ++ flat_map (λ m. container_faults m.1) (entries_at (codes "services") (view job.now))) }
@@ -139,7 +146,7 @@ fn check_services(alloc: Global, job: &Node, out: &mut Vec<Fault>) -> Result<(),
 }
 
 /// Adds the faults of the container of a job.
-#[tactic(auto, using(al_text::proofs::Growing::growth))]
+#[tactic(auto, using(al_base::proofs::Growing::growth))]
 fn check_job_container(alloc: Global, job: &Node, out: &mut Vec<Fault>) -> Result<(), AllocError>
     ensures ok { OnOk result (out.new.items ≡ out.old.items
         ++ option_map_or container_faults (value_at (codes "container") (view job.now)) []) }
@@ -159,7 +166,7 @@ fn matrix_of(job: &Node) -> Option<&Node>
 }
 
 /// Adds the faults of the matrix of a job.
-#[tactic(auto, using(al_text::proofs::Growing::growth))]
+#[tactic(auto, using(al_base::proofs::Growing::growth))]
 fn check_job_matrix(alloc: Global, job: &Node, out: &mut Vec<Fault>) -> Result<(), AllocError>
     ensures ok { OnOk result (out.new.items ≡ out.old.items ++ matrix_faults_of (view job.now)) }
     ensures begins { BeginsWith out.new.items out.old.items }
@@ -171,7 +178,7 @@ fn check_job_matrix(alloc: Global, job: &Node, out: &mut Vec<Fault>) -> Result<(
 }
 
 /// Adds the faults of the container and the services of a job.
-#[tactic(auto, using(al_text::proofs::Growing::growth))]
+#[tactic(auto, using(al_base::proofs::Growing::growth))]
 fn check_containers(alloc: Global, job: &Node, out: &mut Vec<Fault>) -> Result<(), AllocError>
     ensures ok { OnOk result (out.new.items ≡ out.old.items ++ containers_faults (view job.now)) }
     ensures begins { BeginsWith out.new.items out.old.items }
@@ -181,7 +188,7 @@ fn check_containers(alloc: Global, job: &Node, out: &mut Vec<Fault>) -> Result<(
 }
 
 /// Adds the faults of the settings of a job.
-#[tactic(auto, using(al_text::proofs::Growing::growth))]
+#[tactic(auto, using(al_base::proofs::Growing::growth))]
 fn check_settings(alloc: Global, job: &Node, out: &mut Vec<Fault>) -> Result<(), AllocError>
     ensures ok { OnOk result (out.new.items ≡ out.old.items ++ settings_faults (view job.now)) }
     ensures begins { BeginsWith out.new.items out.old.items }
@@ -192,7 +199,7 @@ fn check_settings(alloc: Global, job: &Node, out: &mut Vec<Fault>) -> Result<(),
 }
 
 /// Adds the faults of a job by itself.
-#[tactic(auto, using(al_text::proofs::Growing::growth))]
+#[tactic(auto, using(al_base::proofs::Growing::growth))]
 fn check_job(alloc: Global, job: Member<'_>, out: &mut Vec<Fault>) -> Result<(), AllocError>
     ensures ok { OnOk result (out.new.items ≡ out.old.items ++ job_faults (member_of job.entry)) }
     ensures begins { BeginsWith out.new.items out.old.items }
@@ -203,7 +210,7 @@ fn check_job(alloc: Global, job: Member<'_>, out: &mut Vec<Fault>) -> Result<(),
 }
 
 /// Adds the faults of some jobs, each by itself.
-#[tactic(auto, using(al_text::proofs::Growing::growth))]
+#[tactic(auto, using(al_base::proofs::Growing::growth))]
 pub(crate) fn check_each_job(
     alloc: Global,
     jobs: &[Member<'_>],

@@ -2,7 +2,7 @@
 
 ghost use Rattle.al_events.specs.Events.{on_faults};
 ghost use Rattle.al_rules.specs.Rules.{AddsJobs, AddsWorkflow};
-ghost use Rattle.al_text.specs.Growth.{BeginsWith};
+ghost use Rattle.al_base.specs.Growth.{BeginsWith};
 ghost use Rattle.al_shape.specs.Values.{member_of, value_at};
 ghost use Rattle.al_yaml.specs.View.{view};
 ghost use Rattle.std.specs.Option.{option_map_or};
@@ -10,15 +10,15 @@ ghost use Rattle.std.specs.Prelude.{◌≡◌, ◌++◌, [], codes, map, OnOk};
 
 use crate::needs::{check_needs, keys_of};
 use crate::sections::{check_each_job, check_section};
+use al_base::Fault;
 use al_events::check_on;
 use al_settings::check_ids;
-use al_text::Fault;
 use al_tree::{Member, members_under, value};
 use al_yaml::Node;
 use std::alloc::{AllocError, Global};
 
 /// Adds the faults of the events of a workflow.
-#[tactic(auto, using(al_text::proofs::Growing::growth))]
+#[tactic(auto, using(al_base::proofs::Growing::growth))]
 fn check_events(alloc: Global, root: &Node, out: &mut Vec<Fault>) -> Result<(), AllocError>
     ensures ok { OnOk result (out.new.items ≡ out.old.items ++ option_map_or on_faults (value_at (codes "on") (view root.now)) []) }
     ensures begins { BeginsWith out.new.items out.old.items }
@@ -30,7 +30,7 @@ fn check_events(alloc: Global, root: &Node, out: &mut Vec<Fault>) -> Result<(), 
 }
 
 /// Adds the faults of some jobs.
-#[tactic(auto, using(al_text::proofs::Growing::growth))]
+#[tactic(auto, using(al_base::proofs::Growing::growth))]
 fn check_jobs(alloc: Global, jobs: &[Member<'_>], out: &mut Vec<Fault>) -> Result<(), AllocError>
     ensures ok { OnOk result (AddsJobs (map member_of jobs.now) out.old.items out.new.items) }
     ensures begins { BeginsWith out.new.items out.old.items }
@@ -43,7 +43,7 @@ fn check_jobs(alloc: Global, jobs: &[Member<'_>], out: &mut Vec<Fault>) -> Resul
 }
 
 /// Adds the faults of a workflow.
-#[tactic(auto, using(al_text::proofs::Growing::growth))]
+#[tactic(auto, using(al_base::proofs::Growing::growth))]
 pub(crate) fn check_workflow(
     alloc: Global,
     root: &Node,

@@ -1,7 +1,7 @@
 //! Faults of the rules of whole files.
 
+use al_base::{Code, Fault, RuleCode, position};
 use al_rules::{rules, spans};
-use al_text::{Code, Fault, RuleCode, position};
 use al_tree::{FileKind, Tree, read_action, read_workflow};
 use al_yaml::Doc;
 use al_yaml_reader::read_yaml;

@@ -1,7 +1,7 @@
 -- The lines of a quoted scalar.
 use Rattle.std.proofs.Common.{◌≡◌, ℕ, suc, ◌<◌, List, [], ◌∷◌, ◌++◌, length, drop, drop-cons, slice_index, refl, sym, ap, ◌∙◌, append_assoc}
 use Rattle.std.proofs.Common.{Bool, true, false, ◌==◌, cond, inl, inr, ◌⊎◌, Option, Some, None, Result, Ok, Err}
-use Rattle.al_text.specs.declared.codes.YamlCode.TheVariants.{UnclosedQuote, WrongEscape}
+use Rattle.al_base.specs.declared.codes.YamlCode.TheVariants.{UnclosedQuote, WrongEscape}
 use Rattle.al_scalar.specs.Line.{Cell, Line, lines, with_return, cut, after_blanks, begins}
 use Rattle.al_scalar.specs.Taken.{Fault, Taken, before, fault}
 use Rattle.al_scalar.specs.Quoted.{QuotedLine, QuotedEnd, closed, broken, escaped, cut_short, single_part, line_given, single_quoted}

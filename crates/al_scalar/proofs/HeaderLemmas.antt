@@ -1,5 +1,5 @@
 -- The end of a block scalar's header.
-use Rattle.al_text.specs.declared.codes.YamlCode.TheVariants.{WrongBlockHeader}
+use Rattle.al_base.specs.declared.codes.YamlCode.TheVariants.{WrongBlockHeader}
 use Rattle.std.proofs.Common.{◌≡◌, ◌≢◌, ℕ, suc, ◌+◌, ◌<◌, ◌≤◌, List, [], ◌∷◌, ◌++◌, length, slice_index, refl, ap, subst, ◌∙◌, arith, Bool, true, false, ◌&&◌, ◌||◌, ◌==◌, cond, Ok, Err, eq-eqb}
 use Rattle.std.proofs.lemmas.Grind.{common_steps}
 use Rattle.al_scalar.specs.Line.{Cell, place, after_blanks, is_empty, begins_blank, begins}

@@ -6,7 +6,7 @@ use Rattle.std.proofs.lemmas.Grind.{common_steps}
 use Rattle.std.specs.Char.{IsScalar}
 use Rattle.std.proofs.lemmas.List.{take_all}
 use Rattle.std.proofs.Math.Seq.{take-append_seam}
-use Rattle.al_text.specs.declared.codes.YamlCode.TheVariants as yaml
+use Rattle.al_base.specs.declared.codes.YamlCode.TheVariants as yaml
 use Rattle.al_scalar.specs.Line.{Cell}
 use Rattle.al_scalar.specs.Taken.{Fault, fault}
 use Rattle.al_scalar.specs.Quoted.{QuotedLine, closed, escaped, cut_short, part_before, written, lookup, escape_table, digits_table}

@@ -1,9 +1,9 @@
 -- Offsets of a scalar's text: they never fall, and lie in what the scalar takes; and how many bytes it has.
 use Rattle.std.proofs.Common.{◌≡◌, ℕ, zero, suc, ◌+◌, ◌*◌, ◌<◌, ◌≤◌, List, [], ◌∷◌, ◌++◌, length, length-append, drop, refl, sym, ap, subst}
 use Rattle.std.proofs.Common.{◌∙◌, arith, Bool, true, false, not, ◌&&◌, ◌||◌, ◌==◌, if◌then◌else◌, Result, Ok, Err}
-use Rattle.al_text.specs.Ascii as ascii
+use Rattle.al_base.specs.Ascii as ascii
 use Rattle.al_scalar.specs.Line.{Cell, Line, lines, place, start, is_blank, after_blanks, is_break, with_cell, with_return}
-use Rattle.al_text.specs.FirstBytes.{begins_with}
+use Rattle.al_base.specs.FirstBytes.{begins_with}
 use Rattle.al_scalar.specs.Places.{first_text}
 use Rattle.al_scalar.specs.Offsets.{AreRising, AreClimbing, IsTail, AreLines}
 use Rattle.al_scalar.specs.Taken.{Fault, Taken, before, feeds, folded_break}

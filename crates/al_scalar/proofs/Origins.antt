@@ -8,7 +8,7 @@ use Rattle.al_scalar.specs.Plain.{Context}
 use Rattle.al_scalar.specs.Scalar.{Scalar, empty_scalar}
 use Rattle.al_scalar.specs.declared.faults.YamlFault.{YamlFault}
 use Rattle.al_scalar.specs.declared.scalars.ScalarRead as code
-use Rattle.al_text.specs.declared.faults.Span.{Span}
+use Rattle.al_base.specs.declared.faults.Span.{Span}
 use Rattle.al_scalar.proofs.PlacedLemmas.{offset-within, placed-read}
 
 reach-inside : (b : Bool) (high end size : ℕ) → high ≤ size → end ≤ size → (if b then high else end) ≤ size

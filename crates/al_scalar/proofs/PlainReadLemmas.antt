@@ -1,7 +1,7 @@
 -- The reader of plain scalars, one line after the other.
 use Rattle.std.proofs.Common.{◌≡◌, ◌≢◌, ℕ, ◌+◌, ◌<◌, ◌≤◌, List, [], ◌∷◌, ◌++◌, length, drop, slice_index, refl, sym, ap, ◌∙◌, append_assoc}
 use Rattle.std.proofs.Common.{append-nil, Bool, true, false, not, ◌&&◌, ◌==◌, cond, inl, inr, ◌⊎◌, eq-or-lt_of_le, Result, Ok, Err}
-use Rattle.al_text.specs.declared.codes.YamlCode.TheVariants.{UnexpectedCharacter}
+use Rattle.al_base.specs.declared.codes.YamlCode.TheVariants.{UnexpectedCharacter}
 use Rattle.al_scalar.specs.Line.{Cell, Line, lines, with_cell, with_return, is_break, place, cut, after_blanks, is_empty}
 use Rattle.al_scalar.specs.Taken.{Fault, Taken, before, fault, folded_break}
 use Rattle.al_scalar.specs.Plain.{Context, is_flow, is_value_colon, plain_part, continues, ended_before, plain_lines, plain}

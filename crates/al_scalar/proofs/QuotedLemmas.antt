@@ -1,6 +1,6 @@
 -- Quoted scalars from the lines that are left, for each reader of a line's part.
 use Rattle.std.proofs.Common.{◌≡◌, ℕ, List, [], ◌∷◌, refl, sym, ap, ◌∙◌, Bool, true, false, not, ◌&&◌, cond, inl, inr, ◌⊎◌, Option, Some, None, Result, Ok, Err}
-use Rattle.al_text.specs.declared.codes.YamlCode.TheVariants as yaml
+use Rattle.al_base.specs.declared.codes.YamlCode.TheVariants as yaml
 use Rattle.al_scalar.specs.Line.{Cell, Line, cut, is_blank, after_blanks, is_empty}
 use Rattle.al_scalar.specs.Taken.{Fault, Taken, ◌>>=◌, before, folded, feeds, fault}
 use Rattle.al_scalar.specs.Quoted.{QuotedLine, QuotedEnd, closed, broken, escaped, cut_short, with_cells, part_before, line_given, is_empty_line, quoted_lines, quoted}

@@ -2,7 +2,7 @@
 use Rattle.std.proofs.Common.{◌≡◌, ℕ, zero, suc, ◌+◌, ◌≤◌, List, [], ◌∷◌, ◌++◌, drop, refl, arith, Bool, true, false, not, if◌then◌else◌, ◌&&◌, ◌||◌, ◌==◌, nat_le, Option, Some, None, Result, Ok, Err}
 use Rattle.std.proofs.lemmas.Bool.Decides.{nat_tests}
 use Rattle.std.proofs.lemmas.Str.{IsUtf8-nil}
-use Rattle.al_text.specs.Ascii as ascii
+use Rattle.al_base.specs.Ascii as ascii
 use Rattle.al_scalar.specs.Line.{Cell, Line, place, is_empty, indent, is_all_blank}
 use Rattle.al_scalar.specs.Block.{Chomping, strip, clip, keep, Header, header, content_indent, BlockLine, Rows, row_of, at_end, with_row}
 use Rattle.al_scalar.specs.Block.{rows_at, chomped, is_spaced, own_break, between_rows, joint, text_after, rows_end, block_scalar}

@@ -4,9 +4,9 @@ use Rattle.std.proofs.Common.{drop, take, refl, sym, ap, subst, arith, append_as
 use Rattle.std.proofs.lemmas.Grind.{common_steps}
 use Rattle.std.specs.Prelude.{IsUtf8}
 use Rattle.std.proofs.lemmas.Str.{IsUtf8-append, IsUtf8-take, IsUtf8-drop, IsCharBoundary-before_ascii, IsCharBoundary-after_ascii}
-use Rattle.al_text.specs.Ascii as ascii
+use Rattle.al_base.specs.Ascii as ascii
 use Rattle.al_scalar.specs.Line.{Cell, Line, lines, is_break, with_cell, with_return, is_blank, after_blanks, begins, is_empty}
-use Rattle.al_text.specs.FirstBytes.{begins_with}
+use Rattle.al_base.specs.FirstBytes.{begins_with}
 use Rattle.al_scalar.specs.Quoted.{QuotedLine, is_broken, with_own, single_part}
 use Rattle.al_scalar.proofs.OffsetLemmas.{choose}
 

@@ -3,7 +3,7 @@ use Rattle.std.proofs.Common.{ℕ, zero, suc, ◌+◌, ◌<◌, List, [], ◌∷
 use Rattle.std.proofs.Common.{false, not, if◌then◌else◌, ◌&&◌, ◌||◌, ◌==◌, nat_lt, Option, Some, None, Result, Ok, Err}
 use Rattle.std.proofs.lemmas.Str.{IsUtf8-nil}
 use Rattle.std.specs.Prelude.{IsUtf8}
-use Rattle.al_text.specs.Ascii as ascii
+use Rattle.al_base.specs.Ascii as ascii
 use Rattle.al_scalar.specs.Line.{Cell, Line, place, is_blank, after_blanks, begins, is_empty, is_all_blank}
 use Rattle.al_scalar.specs.Block.{Header, header, content_indent, Rows, row_of, at_end, with_row, rows_at, text_after, rows_end, block_scalar}
 use Rattle.al_scalar.specs.Plain.{Context, is_flow, is_value_colon, ends_plain, plain_part, continues, ended_before, plain_lines, plain}

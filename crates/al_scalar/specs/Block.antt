@@ -1,8 +1,8 @@
 -- Block scalars (8.1).
 use Rattle.std.specs.Prelude.{ℕ, ◌+◌, ◌-◌, List, [], ◌∷◌, ◌++◌, drop, Bool, true, false, not, ◌&&◌, ◌||◌, ◌==◌, nat_le, if◌then◌else◌}
 use Rattle.std.specs.Prelude.{Option, Some, None, Result, Ok}
-use Rattle.al_text.specs.Ascii as ascii
-use Rattle.al_text.specs.declared.codes.YamlCode.TheVariants as yaml
+use Rattle.al_base.specs.Ascii as ascii
+use Rattle.al_base.specs.declared.codes.YamlCode.TheVariants as yaml
 use Rattle.al_scalar.specs.Line.{Cell, Line, place, after_blanks, indent, is_empty, is_all_blank, begins_blank, is_comment}
 use Rattle.al_scalar.specs.Taken.{Fault, Taken, ◌>>=◌, fault, feeds, folded_break}
 

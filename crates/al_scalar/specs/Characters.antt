@@ -1,7 +1,7 @@
 -- The character at an offset, in UTF-8 (YAML 1.2.2, 5.1 and 5.2).
 use Rattle.std.specs.Prelude.{ℕ, ◌+◌, List, [], ◌∷◌, drop, if◌then◌else◌}
-use Rattle.al_text.specs.Positions.{begins_char}
-use Rattle.al_text.specs.declared.faults.Span.{Span}
+use Rattle.al_base.specs.Positions.{begins_char}
+use Rattle.al_base.specs.declared.faults.Span.{Span}
 
 -- how many bytes go on with the character before them
 abbrev pub more_of_character : List ℕ → ℕ

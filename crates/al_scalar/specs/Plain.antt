@@ -1,7 +1,7 @@
 -- Plain scalars (7.3.3).
 use Rattle.std.specs.Prelude.{ℕ, List, [], ◌∷◌, ◌++◌, Bool, true, false, not, ◌&&◌, ◌||◌, ◌==◌, nat_le, if◌then◌else◌, Result, Ok}
-use Rattle.al_text.specs.Ascii as ascii
-use Rattle.al_text.specs.declared.codes.YamlCode.TheVariants as yaml
+use Rattle.al_base.specs.Ascii as ascii
+use Rattle.al_base.specs.declared.codes.YamlCode.TheVariants as yaml
 use Rattle.al_scalar.specs.Line.{Cell, Line, place, cut, is_blank, after_blanks, indent, is_empty}
 use Rattle.al_scalar.specs.Line.{begins, is_blank_or_end, is_comment, is_document_marker}
 use Rattle.al_scalar.specs.Taken.{Fault, Taken, before, fault, folded_break}

@@ -1,8 +1,8 @@
 -- Quoted scalars (7.3.1 double-quoted, 7.3.2 single-quoted, 5.7 escaped characters, 6.5 line folding).
 use Rattle.std.specs.Prelude.{ℕ, zero, suc, ◌+◌, ◌*◌, ◌-◌, List, [], ◌∷◌, ◌++◌, length, map, take, Bool, true, false, not, ◌&&◌, ◌||◌}
 use Rattle.std.specs.Prelude.{◌==◌, nat_le, nat_lt, if◌then◌else◌, Option, Some, None, Result, Ok, Err, encode_utf8}
-use Rattle.al_text.specs.Ascii as ascii
-use Rattle.al_text.specs.declared.codes.YamlCode.TheVariants as yaml
+use Rattle.al_base.specs.Ascii as ascii
+use Rattle.al_base.specs.declared.codes.YamlCode.TheVariants as yaml
 use Rattle.al_scalar.specs.Line.{Cell, Line, cut, is_blank, after_blanks, is_empty, begins}
 use Rattle.al_scalar.specs.Taken.{Fault, Taken, ◌>>=◌, before, fault, folded}
 

@@ -1,7 +1,7 @@
 -- One scalar: its style, its class and its decoded bytes with their offsets (7.3, 8.1, 7.2 for the empty node).
 use Rattle.std.specs.Prelude.{ℕ, zero, suc, List, [], ◌∷◌, map, drop, true, false, if◌then◌else◌, Result, Ok, Err}
-use Rattle.al_text.specs.Ascii as ascii
-use Rattle.al_text.specs.declared.codes.YamlCode.TheVariants as yaml
+use Rattle.al_base.specs.Ascii as ascii
+use Rattle.al_base.specs.declared.codes.YamlCode.TheVariants as yaml
 use Rattle.al_scalar.specs.Line.{Cell, Line, start, begins, cut}
 use Rattle.al_scalar.specs.Taken.{Fault, Taken, fault}
 use Rattle.al_scalar.specs.Plain.{Context, flow, block, is_flow, plain}
@@ -12,7 +12,7 @@ use Rattle.al_scalar.specs.declared.styles.Style.{Style}
 use Rattle.al_scalar.specs.declared.styles.Style.TheVariants as style
 use Rattle.al_scalar.specs.declared.styles.Class.{Class}
 use Rattle.al_scalar.specs.declared.styles.Class.TheVariants as class
-use Rattle.al_text.specs.declared.faults.Span.{Span}
+use Rattle.al_base.specs.declared.faults.Span.{Span}
 
 -- the end is that of the written form, where `locate` is at the length of the text
 pub record Scalar : Type 0 where

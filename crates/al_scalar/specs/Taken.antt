@@ -1,8 +1,8 @@
 -- What reading a scalar takes from the lines that are left.
 use Rattle.std.specs.Prelude.{ℕ, List, [], ◌∷◌, ◌++◌, Option, Some, None, Result, Ok, Err}
-use Rattle.al_text.specs.Ascii as ascii
+use Rattle.al_base.specs.Ascii as ascii
 use Rattle.al_scalar.specs.Line.{Cell, Line}
-use Rattle.al_text.specs.declared.codes.YamlCode.{YamlCode}
+use Rattle.al_base.specs.declared.codes.YamlCode.{YamlCode}
 
 -- a fault, and the offset of the character that it is at
 pub record Fault : Type 0 where

@@ -14,7 +14,7 @@ use crate::header::{Chomping, HeaderRead, header_fault, indicators};
 use crate::lines::{after_break, blank_line_end, indent, is_blank, line_end, spaces_end};
 use crate::reads::Taken;
 use crate::texts::Text;
-use al_text::YamlCode;
+use al_base::YamlCode;
 use std::alloc::{AllocError, Global};
 
 /// The last line with text: whether it begins with a blank, and its break.

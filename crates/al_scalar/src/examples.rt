@@ -6,7 +6,7 @@ ghost use Rattle.al_scalar.specs.Rows.Words.{in_block, in_flow, reads};
 ghost use Rattle.al_scalar.specs.Taken.{fault};
 
 use crate::styles::{Class, Style};
-use al_text::YamlCode;
+use al_base::YamlCode;
 
 const SINGLE: &[u8] = b"a: 'it''s'\n";
 

@@ -2,9 +2,9 @@
 
 ghost use Rattle.std.specs.Prelude.{◌≡◌, ◌+◌, ◌<◌, ◌≤◌, ◌^◌, drop, length};
 ghost use Rattle.al_scalar.specs.Characters.{character_at, character_length};
-ghost use Rattle.al_text.specs.Positions.{begins_char};
+ghost use Rattle.al_base.specs.Positions.{begins_char};
 
-use al_text::{Span, YamlCode};
+use al_base::{Span, YamlCode};
 
 /// What is wrong with a file as YAML, and the character that it is at; at the file's end an empty span.
 #[derive(Clone, Copy, PartialEq, Eq, Debug)]

@@ -4,7 +4,7 @@ ghost use Rattle.std.specs.Prelude.{◌≡◌, ◌<◌, ◌≤◌, ◌^◌, ◌+
 ghost use Rattle.al_scalar.specs.Private.Places.{lines_at, later, IsLineEnd};
 ghost use Rattle.al_scalar.specs.Private.PlainLines.{empty_ends, break_left};
 ghost use Rattle.al_scalar.specs.Private.Folding.{solid_lines};
-ghost use Rattle.al_text.specs.Growth.{BeginsWith};
+ghost use Rattle.al_base.specs.Growth.{BeginsWith};
 
 use crate::lines::{after_break, blanks_end, is_break_at};
 use crate::texts::Text;
@@ -14,7 +14,7 @@ use std::alloc::AllocError;
 /// gives nothing of its own (YAML 1.2.2, 6.5 and 7.3.1).
 ///
 /// Fails with `AllocError` for want of memory; the text then begins with what it held.
-#[tactic(auto, using(al_text::proofs::Growing::growth))]
+#[tactic(auto, using(al_base::proofs::Growing::growth))]
 pub fn fold_break(
     text: &mut Text,
     bytes: &[u8],

@@ -15,7 +15,7 @@ use crate::lines::{
 };
 use crate::reads::Taken;
 use crate::texts::Text;
-use al_text::YamlCode;
+use al_base::YamlCode;
 use std::alloc::{AllocError, Global};
 
 /// The context of a plain scalar: a flow collection, or block context with the least indent of further lines.

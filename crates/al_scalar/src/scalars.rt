@@ -6,7 +6,7 @@ ghost use Rattle.al_scalar.specs.Scalar.{offset_of, text_of};
 use crate::reads::Taken;
 use crate::styles::{Class, Style};
 use crate::texts::Text;
-use al_text::Span;
+use al_base::Span;
 use std::marker::Model;
 
 /// Where a node that is a scalar stands.

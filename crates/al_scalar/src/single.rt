@@ -11,7 +11,7 @@ use crate::folding::fold_break;
 use crate::lines::{blanks_end, is_line_end};
 use crate::reads::Taken;
 use crate::texts::Text;
-use al_text::YamlCode;
+use al_base::YamlCode;
 use std::alloc::{AllocError, Global};
 
 /// Whether a single quote stands at an offset.

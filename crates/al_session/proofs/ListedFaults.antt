@@ -11,12 +11,12 @@ use Rattle.std.specs.Ordering.{match_ordering}
 use Rattle.std.specs.declared.cmp.Ordering.{Ordering}
 use Rattle.std.specs.declared.cmp.Ordering.TheVariants.{Less, Equal, Greater}
 use Rattle.std.proofs.lemmas.Bool.Decides.{nat_tests}
-use Rattle.al_text.proofs.FaultLists.{AllByRecursion-fault_list, fault_list-sorted}
-use Rattle.al_text.specs.FaultLists.{fault_cmp, fault_list}
-use Rattle.al_text.specs.InOrder.{in_order, with_one}
+use Rattle.al_base.proofs.FaultLists.{AllByRecursion-fault_list, fault_list-sorted}
+use Rattle.al_base.specs.FaultLists.{fault_cmp, fault_list}
+use Rattle.al_base.specs.InOrder.{in_order, with_one}
 use Rattle.al_text.specs.Snippets.{fault_text}
-use Rattle.al_text.specs.Spans.{LiesIn}
-use Rattle.al_text.specs.declared.faults.Fault.{Fault}
+use Rattle.al_base.specs.Spans.{LiesIn}
+use Rattle.al_base.specs.declared.faults.Fault.{Fault}
 use Rattle.al_folder.specs.Meaning.{CallSite, Meaning}
 use Rattle.al_folder.specs.Folder.{Folder, answers, faults_in}
 use Rattle.al_folder.specs.Kept.{Files, folder_of, AllKept}

@@ -13,8 +13,8 @@ use Rattle.std.proofs.lemmas.Map.{length-set_value}
 use Rattle.std.proofs.lemmas.List.{length-map}
 use Rattle.std.proofs.lemmas.List.Edits.{length-insert}
 use Rattle.indexmap.specs.IndexSet.{contains_text}
-use Rattle.al_text.specs.declared.faults.Fault.{Fault}
-use Rattle.al_text.specs.Paths.{path_fault_of}
+use Rattle.al_base.specs.declared.faults.Fault.{Fault}
+use Rattle.al_base.specs.Paths.{path_fault_of}
 use Rattle.al_folder.specs.Meaning.{Meaning}
 use Rattle.al_folder.specs.declared.kept.KeptFile.{KeptFile}
 use Rattle.al_folder.specs.Folder.{Folder, bytes_at, faults_in, paths_of}

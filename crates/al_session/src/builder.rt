@@ -2,8 +2,8 @@
 
 ghost use Rattle.std.specs.Prelude.{◌≡◌, ◌≢◌, ◌≤◌, ◌<◌, ◌^◌, ◌-◌, [], None, Some, length, true, IfOk, OnOk, OnErr, IfErr};
 ghost use Rattle.std.specs.Option.{option_copied, option_map};
-ghost use Rattle.al_text.specs.Counted.{raised};
-ghost use Rattle.al_text.specs.Paths.{path_fault_of};
+ghost use Rattle.al_base.specs.Counted.{raised};
+ghost use Rattle.al_base.specs.Paths.{path_fault_of};
 ghost use Rattle.al_folder.specs.Folder.{bytes_at, paths_of, put_refusal, refusal_or_memory, with_file};
 ghost use Rattle.al_folder.specs.Kept.{folder_of, AreKept};
 ghost use Rattle.al_folder.specs.Meaning.{IsUpTo};
@@ -13,8 +13,8 @@ ghost use Rattle.al_session.specs.Session.{AllChecked};
 use crate::edit::{insert_file, read_file, replace_file, set_faults};
 use crate::refused::put_refused;
 use crate::session::Session;
+use al_base::Path;
 use al_folder::{Callers, Files, Lint, Refused, Target, check_paths, file_number, place_in};
-use al_text::Path;
 use indexmap::IndexMap;
 use std::alloc::{AllocError, Global};
 use std::marker::Model;

@@ -8,8 +8,8 @@ ghost use Rattle.al_folder.specs.Private.CallGraphs.{IsCallGraph};
 ghost use Rattle.al_session.specs.Session.{AllChecked};
 ghost use Rattle.al_session.specs.Private.Lists.{AreJoined, IsListed};
 
+use al_base::{Args, Fault, ordered};
 use al_folder::{CallGraph, Files, Lint, call_graph, file_number, loop_faults};
-use al_text::{Args, Fault, ordered};
 use std::alloc::{AllocError, Global};
 
 // Copies of texts.

@@ -4,8 +4,8 @@ ghost use Rattle.std.specs.Prelude.{◌≡◌, is_some};
 ghost use Rattle.al_folder.specs.Folder.{bytes_at, put_refusal};
 ghost use Rattle.al_folder.specs.Kept.{folder_of};
 
+use al_base::path_fault;
 use al_folder::{Files, Lint, Refused};
-use al_text::path_fault;
 
 /// The greatest size of a file, in bytes.
 const LARGEST_FILE: usize = 1_048_576;

@@ -3,12 +3,13 @@
 ghost use Rattle.std.specs.Prelude.{◌≡◌, ◌<◌, not, length, ◌==◌, OnOk, OnErr, IsOkUnless};
 ghost use Rattle.std.specs.List.{enumerate_from, flat_map, list_any};
 ghost use Rattle.std.specs.Io.KnownBytes.{Appends};
-ghost use Rattle.al_text.specs.Counted.{HasRisen, AppendsFront};
-ghost use Rattle.al_text.specs.Streams.{bytes_written, write_failures};
+ghost use Rattle.al_base.specs.Counted.{HasRisen, AppendsFront};
+ghost use Rattle.al_base.specs.Streams.{bytes_written, write_failures};
 ghost use Rattle.al_session.specs.Private.Lists.{ArePrintable, IsPrintable, lines_of, listed, numbered_lines};
 
+use al_base::{Fault, Output, Stop};
 use al_folder::{Files, KeptFile, file_number};
-use al_text::{Fault, Output, Stop};
+use al_text::write_faults;
 use std::io::Write;
 
 /// Whether a file has a fault.
@@ -82,6 +83,5 @@ fn write_file<U, I, W: Write>(
     ensures err { IsOkUnless result Stop.WriteFault }
 {
     let faults = listed_faults(file, joined);
-    file.lines
-        .write_faults(writer, path, &file.bytes, faults, oneline)
+    write_faults(writer, &file.lines, path, &file.bytes, faults, oneline)
 }

@@ -1,11 +1,11 @@
 -- Each fault of a setting lies in the file that the tree was read from.
 use Rattle.std.specs.Prelude.{ℕ, ◌||◌, Bool, not, List, [], ◌∷◌, ◌++◌, codes, map, Option, Some, None, IfSome}
 use Rattle.std.specs.List.{AllByRecursion, flat_map}
-use Rattle.al_text.specs.Spans.{LiesIn}
-use Rattle.al_text.specs.declared.codes.RuleCode.TheVariants.{AlwaysTrue, PasswordNotExpression, RepeatedId, UnknownMatrixRow}
-use Rattle.al_text.specs.declared.codes.RuleCode.TheVariants.{UnknownPermission, UnknownShell, WrongId, WrongMatrix, WrongPermission}
-use Rattle.al_text.specs.declared.codes.RuleCode.TheVariants.{WrongVariable}
-use Rattle.al_text.specs.declared.faults.Span.{Span}
+use Rattle.al_base.specs.Spans.{LiesIn}
+use Rattle.al_base.specs.declared.codes.RuleCode.TheVariants.{AlwaysTrue, PasswordNotExpression, RepeatedId, UnknownMatrixRow}
+use Rattle.al_base.specs.declared.codes.RuleCode.TheVariants.{UnknownPermission, UnknownShell, WrongId, WrongMatrix, WrongPermission}
+use Rattle.al_base.specs.declared.codes.RuleCode.TheVariants.{WrongVariable}
+use Rattle.al_base.specs.declared.faults.Span.{Span}
 use Rattle.al_formats.specs.Names.{is_id, is_variable}
 use Rattle.al_scalar.specs.Scalar.{Scalar, text_of}
 use Rattle.al_yaml.specs.Node.{Node, span_of}
@@ -19,7 +19,7 @@ use Rattle.al_settings.specs.Settings.{is_password, is_shell, password_faults, p
 use Rattle.al_settings.specs.Settings.{shell_faults, value_faults, variable_faults}
 use Rattle.al_reports.specs.Words.{Named, of_key, of_scalar, unless, unless_among}
 use Rattle.al_settings.proofs.Places.{commands_lie}
-use Rattle.al_text.proofs.Elements.{each_as, each_of, map_or}
+use Rattle.al_base.proofs.Elements.{each_as, each_of, map_or}
 use Rattle.al_reports.proofs.Inside.{Are, Fine, Lies, NameLies, Pair, Text, below_fine, both, entries_at_fine, entries_in_fine}
 use Rattle.al_reports.proofs.Inside.{items_at_fine, one_lies, or_lies, span_lies, text_fine, unless_lies, value_fine}
 

@@ -6,13 +6,13 @@ use Rattle.std.proofs.lemmas.List.{length-map}
 use Rattle.std.proofs.lemmas.List.Elements.{recursion_from_All}
 use Rattle.memchr.specs.Find.{OccursAt, matches}
 use Rattle.memchr.proofs.lemmas.CallerLemmas.{All-matches}
-use Rattle.al_text.specs.Spans.{LiesIn}
-use Rattle.al_text.specs.declared.faults.Span.{Span}
+use Rattle.al_base.specs.Spans.{LiesIn}
+use Rattle.al_base.specs.declared.faults.Span.{Span}
 use Rattle.al_scalar.specs.Line.{Cell}
 use Rattle.al_scalar.specs.Offsets.{AreBefore, AreRising, reach}
 use Rattle.al_scalar.specs.Scalar.{Scalar, offset_of, offset_or, text_of}
 use Rattle.al_settings.specs.Commands.{command_fault, command_faults, commands, one_command, part_span}
-use Rattle.al_text.proofs.Elements.{each_as, each_of}
+use Rattle.al_base.proofs.Elements.{each_as, each_of}
 use Rattle.al_reports.proofs.Inside.{Lies, Text}
 
 pub places_occur : (hay needle : List ℕ) → All (OccursAt hay needle) (matches hay needle 0)

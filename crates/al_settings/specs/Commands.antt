@@ -2,9 +2,9 @@
 use Rattle.std.specs.Prelude.{ℕ, List, [], ◌∷◌, ◌^◌, map, codes, ◌+◌, ◌-◌, length, nat_lt, if◌then◌else◌}
 use Rattle.std.specs.List.{flat_map}
 use Rattle.memchr.specs.Find.{matches}
-use Rattle.al_text.specs.declared.codes.RuleCode.TheVariants.{DeprecatedCommand}
-use Rattle.al_text.specs.declared.faults.Fault.{Fault}
-use Rattle.al_text.specs.declared.faults.Span.{Span}
+use Rattle.al_base.specs.declared.codes.RuleCode.TheVariants.{DeprecatedCommand}
+use Rattle.al_base.specs.declared.faults.Fault.{Fault}
+use Rattle.al_base.specs.declared.faults.Span.{Span}
 use Rattle.al_scalar.specs.Scalar.{Scalar, offset_of, text_of}
 use Rattle.al_reports.specs.Words.{fault}
 

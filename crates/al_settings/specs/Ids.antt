@@ -1,8 +1,8 @@
 -- Faults of the keys of jobs and the ids of steps.
 use Rattle.std.specs.Prelude.{ℕ, List, [], ◌∷◌, ◌++◌, not, map}
 use Rattle.std.specs.List.{flat_map}
-use Rattle.al_text.specs.declared.codes.RuleCode.TheVariants.{RepeatedId, WrongId}
-use Rattle.al_text.specs.declared.faults.Fault.{Fault}
+use Rattle.al_base.specs.declared.codes.RuleCode.TheVariants.{RepeatedId, WrongId}
+use Rattle.al_base.specs.declared.faults.Fault.{Fault}
 use Rattle.al_shape.specs.Names.{among}
 use Rattle.al_formats.specs.Names.{is_id}
 use Rattle.al_formats.specs.Texts.{folded}

@@ -2,9 +2,9 @@
 use Rattle.std.specs.Prelude.{ℕ, List, [], ◌∷◌, ◌++◌, Bool, true, false, ◌||◌, not, codes, map, if◌then◌else◌}
 use Rattle.std.specs.List.{list_all, flat_map, filter}
 use Rattle.std.specs.Option.{option_map_or}
-use Rattle.al_text.specs.declared.codes.RuleCode.TheVariants.{UnknownMatrixRow, WrongMatrix}
-use Rattle.al_text.specs.declared.faults.Fault.{Fault}
-use Rattle.al_text.specs.declared.faults.Span.{Span}
+use Rattle.al_base.specs.declared.codes.RuleCode.TheVariants.{UnknownMatrixRow, WrongMatrix}
+use Rattle.al_base.specs.declared.faults.Fault.{Fault}
+use Rattle.al_base.specs.declared.faults.Span.{Span}
 use Rattle.al_scalar.specs.Scalar.{text_of}
 use Rattle.al_yaml.specs.Access.{nodes, scalar_in}
 use Rattle.al_yaml.specs.Node.{Node, scalar, sequence, mapping, span_of}

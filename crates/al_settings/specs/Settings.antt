@@ -2,10 +2,10 @@
 use Rattle.std.specs.Prelude.{ℕ, List, [], ◌∷◌, ◌++◌, Bool, false, ◌||◌, ◌&&◌, not, codes, Option, if◌then◌else◌}
 use Rattle.std.specs.List.{flat_map}
 use Rattle.std.specs.Option.{option_map_or}
-use Rattle.al_text.specs.declared.codes.RuleCode.TheVariants.{AlwaysTrue, PasswordNotExpression, UnknownPermission, UnknownShell}
-use Rattle.al_text.specs.declared.codes.RuleCode.TheVariants.{WrongPermission, WrongVariable}
-use Rattle.al_text.specs.declared.faults.Fault.{Fault}
-use Rattle.al_text.specs.declared.faults.Span.{Span}
+use Rattle.al_base.specs.declared.codes.RuleCode.TheVariants.{AlwaysTrue, PasswordNotExpression, UnknownPermission, UnknownShell}
+use Rattle.al_base.specs.declared.codes.RuleCode.TheVariants.{WrongPermission, WrongVariable}
+use Rattle.al_base.specs.declared.faults.Fault.{Fault}
+use Rattle.al_base.specs.declared.faults.Span.{Span}
 use Rattle.al_scalar.specs.Scalar.{Scalar, text_of}
 use Rattle.al_yaml.specs.Access.{scalar_in}
 use Rattle.al_yaml.specs.Node.{Node, span_of}

@@ -2,12 +2,12 @@
 
 ghost use Rattle.al_settings.specs.Commands.{behind, command_fault, command_faults, one_command};
 ghost use Rattle.al_scalar.specs.Scalar.{text_of};
-ghost use Rattle.al_text.specs.Growth.{BeginsWith};
+ghost use Rattle.al_base.specs.Growth.{BeginsWith};
 ghost use Rattle.std.specs.Prelude.{◌≡◌, ◌<◌, ◌≤◌, ◌+◌, ◌^◌, ◌++◌, ◌∷◌, [], length, OnOk};
 
+use al_base::{Fault, RuleCode, Span};
 use al_reports::report_at;
 use al_scalar::Scalar;
-use al_text::{Fault, RuleCode, Span};
 use memchr::memmem;
 use std::alloc::{AllocError, Global};
 
@@ -19,7 +19,7 @@ fn next_place(at: u32) -> u32
 }
 
 /// Adds the fault of a command at a place of a script.
-#[tactic(auto, using(al_text::proofs::Growing::growth))]
+#[tactic(auto, using(al_base::proofs::Growing::growth))]
 fn report_command(
     alloc: Global,
     script: &Scalar,
@@ -49,7 +49,7 @@ fn report_command(
 }
 
 /// Adds the faults of one command of a script.
-#[tactic(auto, using(al_text::proofs::Growing::growth))]
+#[tactic(auto, using(al_base::proofs::Growing::growth))]
 fn check_command(
     alloc: Global,
     script: &Scalar,
@@ -69,7 +69,7 @@ fn check_command(
 }
 
 /// Adds the deprecated commands of a script.
-#[tactic(auto, using(al_text::proofs::Growing::growth))]
+#[tactic(auto, using(al_base::proofs::Growing::growth))]
 pub(crate) fn check_commands(
     alloc: Global,
     script: &Scalar,

@@ -3,13 +3,13 @@
 ghost use Rattle.al_settings.specs.Ids.{id_faults, ids_faults, repeated_faults, with_folded};
 ghost use Rattle.al_reports.specs.Private.Views.{named_of};
 ghost use Rattle.al_settings.specs.Private.Views.{folded_id};
-ghost use Rattle.al_text.specs.Growth.{BeginsWith};
+ghost use Rattle.al_base.specs.Growth.{BeginsWith};
 ghost use Rattle.std.specs.List.{flat_map};
 ghost use Rattle.std.specs.Prelude.{◌≡◌, ◌++◌, [], map, IfOk, OnOk};
 
+use al_base::{Fault, RuleCode};
 use al_formats::is_id;
 use al_reports::{Named, report_unless};
-use al_text::{Fault, RuleCode};
 use al_tree::KeySet;
 use std::alloc::{AllocError, Global};
 
@@ -35,7 +35,7 @@ pub(crate) fn folded<'a>(alloc: Global, ids: &[Named<'a>]) -> Result<Vec<FoldedI
 }
 
 /// Adds the ids that are wrong.
-#[tactic(auto, using(al_text::proofs::Growing::growth))]
+#[tactic(auto, using(al_base::proofs::Growing::growth))]
 fn check_each(alloc: Global, ids: &[Named<'_>], out: &mut Vec<Fault>) -> Result<(), AllocError>
     ensures ok { OnOk result (out.new.items ≡ out.old.items ++ flat_map id_faults (map named_of ids.now)) }
     ensures begins { BeginsWith out.new.items out.old.items }
@@ -47,7 +47,7 @@ fn check_each(alloc: Global, ids: &[Named<'_>], out: &mut Vec<Fault>) -> Result<
 }
 
 /// Adds the ids that are repeated.
-#[tactic(auto, using(al_text::proofs::Growing::growth, al_shape::proofs::KeyLemmas::among_more))]
+#[tactic(auto, using(al_base::proofs::Growing::growth, al_shape::proofs::KeyLemmas::among_more))]
 fn check_repeated(
     alloc: Global,
     ids: &[FoldedId<'_>],
@@ -74,7 +74,7 @@ fn check_repeated(
 /// Adds the faults of the keys of jobs or the ids of steps: those that are no ids, and those that repeat an earlier one without ASCII case.
 ///
 /// Fails with `AllocError` for want of memory; the list then begins with what it held.
-#[tactic(auto, using(al_text::proofs::Growing::growth))]
+#[tactic(auto, using(al_base::proofs::Growing::growth))]
 pub fn check_ids(alloc: Global, ids: &[Named<'_>], out: &mut Vec<Fault>) -> Result<(), AllocError>
     ensures ok { OnOk result (out.new.items ≡ out.old.items ++ ids_faults (map named_of ids.now)) }
     ensures begins { BeginsWith out.new.items out.old.items }

@@ -7,18 +7,18 @@ ghost use Rattle.al_settings.specs.Matrix.{is_sequence as sequence, mapping_faul
 ghost use Rattle.al_reports.specs.Private.Views.{named_of};
 ghost use Rattle.al_settings.specs.Private.Views.{folded_id};
 ghost use Rattle.al_reports.specs.Words.{of_key, unless};
-ghost use Rattle.al_text.specs.Growth.{BeginsWith};
+ghost use Rattle.al_base.specs.Growth.{BeginsWith};
 ghost use Rattle.al_shape.specs.Keys.{holds};
 ghost use Rattle.al_shape.specs.Names.{among};
 ghost use Rattle.al_shape.specs.Values.{entries_in, member_of};
-ghost use Rattle.al_text.specs.declared.codes.RuleCode.TheVariants.{UnknownMatrixRow};
+ghost use Rattle.al_base.specs.declared.codes.RuleCode.TheVariants.{UnknownMatrixRow};
 ghost use Rattle.al_yaml.specs.View.{view};
 ghost use Rattle.std.specs.List.{flat_map, list_all};
 ghost use Rattle.std.specs.Prelude.{◌≡◌, ◌++◌, map, IfOk, OnOk};
 
 use crate::ids::{FoldedId, folded};
+use al_base::{Fault, RuleCode, Span};
 use al_reports::{Named, named_key, report_at, report_unless};
-use al_text::{Fault, RuleCode, Span};
 use al_tree::{
     KeySet, Member, contains_chunk, is_combination_key, is_null_scalar, items_under, members,
 };
@@ -103,7 +103,7 @@ fn is_row_value(key: &[u8], value: &Node) -> bool
 }
 
 /// Adds the fault of a wrong shape.
-#[tactic(auto, using(al_text::proofs::Growing::growth))]
+#[tactic(auto, using(al_base::proofs::Growing::growth))]
 fn check_shape(
     alloc: Global,
     right: bool,
@@ -121,7 +121,7 @@ fn check_shape(
 }
 
 /// Adds the fault of a row.
-#[tactic(auto, using(al_text::proofs::Growing::growth))]
+#[tactic(auto, using(al_base::proofs::Growing::growth))]
 fn check_row(alloc: Global, row: Member<'_>, out: &mut Vec<Fault>) -> Result<(), AllocError>
     ensures ok { OnOk result (out.new.items ≡ out.old.items ++ row_faults (member_of row.entry)) }
     ensures begins { BeginsWith out.new.items out.old.items }
@@ -137,7 +137,7 @@ fn check_row(alloc: Global, row: Member<'_>, out: &mut Vec<Fault>) -> Result<(),
 }
 
 /// Adds the faults of some rows.
-#[tactic(auto, using(al_text::proofs::Growing::growth))]
+#[tactic(auto, using(al_base::proofs::Growing::growth))]
 fn check_rows(alloc: Global, rows: &[Member<'_>], out: &mut Vec<Fault>) -> Result<(), AllocError>
     ensures ok { OnOk result (out.new.items ≡ out.old.items ++ flat_map row_faults (map member_of rows.now)) }
     ensures begins { BeginsWith out.new.items out.old.items }
@@ -205,7 +205,7 @@ fn excluded(alloc: Global, items: &[Node]) -> Result<Vec<Named<'_>>, AllocError>
 }
 
 /// Adds the faults of some keys of `exclude`.
-#[tactic(auto, using(al_text::proofs::Growing::growth))]
+#[tactic(auto, using(al_base::proofs::Growing::growth))]
 fn check_excluded<'a>(
     alloc: Global,
     rows: &KeySet<'a>,
@@ -224,7 +224,7 @@ fn check_excluded<'a>(
 }
 
 /// Adds the faults of some keys of `exclude`, beside rows with these names.
-#[tactic(auto, using(al_text::proofs::Growing::growth))]
+#[tactic(auto, using(al_base::proofs::Growing::growth))]
 fn check_beside<'a>(
     alloc: Global,
     names: &'a [Vec<u8>],
@@ -240,7 +240,7 @@ fn check_beside<'a>(
 }
 
 /// Adds the faults of the keys of `exclude` beside some rows.
-#[tactic(auto, using(al_text::proofs::Growing::growth))]
+#[tactic(auto, using(al_base::proofs::Growing::growth))]
 fn check_excludes(
     alloc: Global,
     rows: &[Member<'_>],
@@ -258,7 +258,7 @@ fn check_excludes(
 }
 
 /// Adds the faults of a matrix that is a mapping.
-#[tactic(auto, using(al_text::proofs::Growing::growth))]
+#[tactic(auto, using(al_base::proofs::Growing::growth))]
 fn check_mapping(alloc: Global, node: &Node, out: &mut Vec<Fault>) -> Result<(), AllocError>
     ensures ok { OnOk result (out.new.items ≡ out.old.items ++ mapping_faults (view node.now)) }
     ensures begins { BeginsWith out.new.items out.old.items }
@@ -271,7 +271,7 @@ fn check_mapping(alloc: Global, node: &Node, out: &mut Vec<Fault>) -> Result<(),
 /// Adds the faults of a matrix: of its rows, and of the keys of `exclude` that name none of them.
 ///
 /// Fails with `AllocError` for want of memory; the list then begins with what it held.
-#[tactic(auto, using(al_text::proofs::Growing::growth))]
+#[tactic(auto, using(al_base::proofs::Growing::growth))]
 pub fn check_matrix(alloc: Global, node: &Node, out: &mut Vec<Fault>) -> Result<(), AllocError>
     ensures ok { OnOk result (out.new.items ≡ out.old.items ++ matrix_faults (view node.now)) }
     ensures begins { BeginsWith out.new.items out.old.items }

@@ -6,7 +6,7 @@ ghost use Rattle.al_settings.specs.Settings.{all_permissions_faults, condition_f
 ghost use Rattle.al_settings.specs.Settings.{is_always_true as always_true, is_password as password, is_shell as shell, password_faults};
 ghost use Rattle.al_settings.specs.Settings.{permission_faults, permissions_faults, script_faults, shell_faults, value_faults};
 ghost use Rattle.al_settings.specs.Settings.{variable_faults};
-ghost use Rattle.al_text.specs.Growth.{BeginsWith};
+ghost use Rattle.al_base.specs.Growth.{BeginsWith};
 ghost use Rattle.al_scalar.specs.Scalar.{text_of};
 ghost use Rattle.al_shape.specs.Faults.{is_null};
 ghost use Rattle.al_shape.specs.Values.{member_of, scalar_node_of, value_below};
@@ -16,10 +16,10 @@ ghost use Rattle.std.specs.Prelude.{◌≡◌, ◌++◌, ◌||◌, [], ◌∷◌
 
 use crate::commands::check_commands;
 use crate::names::{PERMISSIONS, SCOPE_VALUES, SHELLS, WHOLE_VALUES};
+use al_base::{Fault, RuleCode};
 use al_formats::{Around, has_part, is_lone_chunk, is_variable};
 use al_reports::{named_key, named_text, report_plain, report_unless, report_unless_among};
 use al_scalar::Scalar;
-use al_text::{Fault, RuleCode};
 use al_tree::{Member, ScalarNode, contains_chunk, is_among, is_null_scalar, members, text, value};
 use al_yaml::Node;
 use std::alloc::{AllocError, Global};
@@ -34,7 +34,7 @@ fn is_shell(text: &[u8]) -> bool
 /// Adds the fault of a shell that isn't known, has no place for the script, and no expression.
 ///
 /// Fails with `AllocError` for want of memory; the list then begins with what it held.
-#[tactic(auto, using(al_text::proofs::Growing::growth))]
+#[tactic(auto, using(al_base::proofs::Growing::growth))]
 pub fn check_shell(
     alloc: Global,
     shell: Option<ScalarNode<'_>>,
@@ -59,7 +59,7 @@ pub fn check_shell(
 }
 
 /// Adds the fault of a value of permissions that isn't one of these.
-#[tactic(auto, using(al_text::proofs::Growing::growth))]
+#[tactic(auto, using(al_base::proofs::Growing::growth))]
 fn check_value(
     alloc: Global,
     values: &[&str],
@@ -82,7 +82,7 @@ fn check_value(
 }
 
 /// Adds the faults of one permission.
-#[tactic(auto, using(al_text::proofs::Growing::growth))]
+#[tactic(auto, using(al_base::proofs::Growing::growth))]
 fn check_permission(
     alloc: Global,
     permission: Member<'_>,
@@ -102,7 +102,7 @@ fn check_permission(
 }
 
 /// Adds the faults of some permissions.
-#[tactic(auto, using(al_text::proofs::Growing::growth))]
+#[tactic(auto, using(al_base::proofs::Growing::growth))]
 fn check_scopes(
     alloc: Global,
     scopes: &[Member<'_>],
@@ -118,7 +118,7 @@ fn check_scopes(
 }
 
 /// Adds the faults of a node of permissions.
-#[tactic(auto, using(al_text::proofs::Growing::growth))]
+#[tactic(auto, using(al_base::proofs::Growing::growth))]
 fn check_all_permissions(alloc: Global, node: &Node, out: &mut Vec<Fault>) -> Result<(), AllocError>
     ensures ok { OnOk result (out.new.items ≡ out.old.items ++ all_permissions_faults (view node.now)) }
     ensures begins { BeginsWith out.new.items out.old.items }
@@ -131,7 +131,7 @@ fn check_all_permissions(alloc: Global, node: &Node, out: &mut Vec<Fault>) -> Re
 /// Adds the faults of the permissions of a workflow or a job: unknown scopes, and wrong values.
 ///
 /// Fails with `AllocError` for want of memory; the list then begins with what it held.
-#[tactic(auto, using(al_text::proofs::Growing::growth))]
+#[tactic(auto, using(al_base::proofs::Growing::growth))]
 pub fn check_permissions(
     alloc: Global,
     section: &Node,
@@ -147,7 +147,7 @@ pub fn check_permissions(
 }
 
 /// Adds the fault of a wrong name of an environment variable.
-#[tactic(auto, using(al_text::proofs::Growing::growth))]
+#[tactic(auto, using(al_base::proofs::Growing::growth))]
 fn check_variable(
     alloc: Global,
     variable: Member<'_>,
@@ -167,7 +167,7 @@ fn check_variable(
 }
 
 /// Adds the faults of some environment variables.
-#[tactic(auto, using(al_text::proofs::Growing::growth))]
+#[tactic(auto, using(al_base::proofs::Growing::growth))]
 fn check_variables(
     alloc: Global,
     variables: &[Member<'_>],
@@ -185,7 +185,7 @@ fn check_variables(
 /// Adds the faults of `env` of a section: wrong names of environment variables.
 ///
 /// Fails with `AllocError` for want of memory; the list then begins with what it held.
-#[tactic(auto, using(al_text::proofs::Growing::growth))]
+#[tactic(auto, using(al_base::proofs::Growing::growth))]
 pub fn check_env(alloc: Global, section: &Node, out: &mut Vec<Fault>) -> Result<(), AllocError>
     ensures ok { OnOk result (out.new.items ≡ out.old.items ++ env_faults (view section.now)) }
     ensures begins { BeginsWith out.new.items out.old.items }
@@ -220,7 +220,7 @@ fn is_password(alloc: Global, node: &Node) -> Result<bool, AllocError>
 }
 
 /// Adds the fault of a password that isn't one expression.
-#[tactic(auto, using(al_text::proofs::Growing::growth))]
+#[tactic(auto, using(al_base::proofs::Growing::growth))]
 fn check_password(alloc: Global, node: &Node, out: &mut Vec<Fault>) -> Result<(), AllocError>
     ensures ok { OnOk result (out.new.items ≡ out.old.items ++ password_faults (view node.now)) }
     ensures begins { BeginsWith out.new.items out.old.items }
@@ -241,7 +241,7 @@ fn password_of(container: &Node) -> Option<&Node>
 /// Adds the fault of the credentials of a container or a service: a password that isn't one expression.
 ///
 /// Fails with `AllocError` for want of memory; the list then begins with what it held.
-#[tactic(auto, using(al_text::proofs::Growing::growth))]
+#[tactic(auto, using(al_base::proofs::Growing::growth))]
 pub fn check_credentials(
     alloc: Global,
     container: &Node,
@@ -259,7 +259,7 @@ pub fn check_credentials(
 /// Adds the faults of a script: each deprecated command in it.
 ///
 /// Fails with `AllocError` for want of memory; the list then begins with what it held.
-#[tactic(auto, using(al_text::proofs::Growing::growth))]
+#[tactic(auto, using(al_base::proofs::Growing::growth))]
 pub fn check_script(
     alloc: Global,
     run: Option<ScalarNode<'_>>,
@@ -287,7 +287,7 @@ fn is_always_true(alloc: Global, text: &[u8]) -> Result<bool, AllocError>
 /// Adds the fault of a condition that is always true: an expression with other text beside it.
 ///
 /// Fails with `AllocError` for want of memory; the list then begins with what it held.
-#[tactic(auto, using(al_text::proofs::Growing::growth))]
+#[tactic(auto, using(al_base::proofs::Growing::growth))]
 pub fn check_condition(
     alloc: Global,
     condition: Option<ScalarNode<'_>>,

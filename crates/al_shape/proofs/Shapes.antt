@@ -6,7 +6,7 @@ use Rattle.al_yaml.specs.declared.node.Entry.{Entry}
 use Rattle.al_yaml.specs.declared.node.Kind.TheVariants.{Mapping, Sequence}
 use Rattle.al_yaml.specs.declared.node.Node.{Node}
 use Rattle.al_yaml.proofs.ViewLemmas.{entries_again, view_mapping, view_sequence}
-use Rattle.al_text.specs.declared.codes.KeyCode.TheVariants.{WrongKind}
+use Rattle.al_base.specs.declared.codes.KeyCode.TheVariants.{WrongKind}
 use Rattle.al_shape.specs.Faults.{entries_faults, faults, items_faults, mapping_faults, one_fault, refined, sequence_faults}
 use Rattle.al_shape.specs.Keys.{keys_in}
 use Rattle.al_shape.specs.Names.{among}

@@ -10,11 +10,11 @@ use Rattle.al_scalar.specs.declared.styles.Class.{Class}
 use Rattle.al_scalar.specs.declared.styles.Class.TheVariants as class
 use Rattle.al_scalar.specs.declared.styles.Style.{Style}
 use Rattle.al_scalar.specs.declared.styles.Style.TheVariants as style
-use Rattle.al_text.specs.declared.codes.Code.TheVariants as code
-use Rattle.al_text.specs.declared.codes.KeyCode as codes_key
-use Rattle.al_text.specs.declared.codes.KeyCode.TheVariants.{Unexpected, Missing, Repeated, WrongKind, WrongType, NotBeside, EmptyFile}
-use Rattle.al_text.specs.declared.faults.Fault.{Fault}
-use Rattle.al_text.specs.declared.faults.Span.{Span}
+use Rattle.al_base.specs.declared.codes.Code.TheVariants as code
+use Rattle.al_base.specs.declared.codes.KeyCode as codes_key
+use Rattle.al_base.specs.declared.codes.KeyCode.TheVariants.{Unexpected, Missing, Repeated, WrongKind, WrongType, NotBeside, EmptyFile}
+use Rattle.al_base.specs.declared.faults.Fault.{Fault}
+use Rattle.al_base.specs.declared.faults.Span.{Span}
 use Rattle.al_yaml.specs.Access.{entries, scalar_in}
 use Rattle.al_yaml.specs.Node.{Node, Nodes, Entries, scalar, sequence, mapping, no_nodes, item, no_entries, entry, span_of}
 use Rattle.al_shape.specs.Keys.{key_of, key_text, keys_in}

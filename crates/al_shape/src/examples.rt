@@ -1,7 +1,7 @@
 //! Worked rows of shapes.
 
-ghost use Rattle.al_text.specs.declared.codes.KeyCode.TheVariants.{EmptyFile, Missing, NotBeside, Repeated, Unexpected, WrongKind};
-ghost use Rattle.al_text.specs.declared.codes.KeyCode.TheVariants.{WrongType};
+ghost use Rattle.al_base.specs.declared.codes.KeyCode.TheVariants.{EmptyFile, Missing, NotBeside, Repeated, Unexpected, WrongKind};
+ghost use Rattle.al_base.specs.declared.codes.KeyCode.TheVariants.{WrongType};
 ghost use Rattle.al_shape.specs.Faults.{fault, root_faults};
 ghost use Rattle.al_shape.specs.Rows.Files as file;
 ghost use Rattle.al_shape.specs.Rows.Files.{at};

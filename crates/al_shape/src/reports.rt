@@ -3,7 +3,7 @@
 ghost use Rattle.al_shape.specs.Faults.{fault};
 ghost use Rattle.std.specs.Prelude.{◌≡◌, [], ◌∷◌, ◌++◌, OnErr, OnOk};
 
-use al_text::{Args, Code, Fault, KeyCode, Span};
+use al_base::{Args, Code, Fault, KeyCode, Span};
 use std::alloc::{AllocError, Global};
 
 /// Adds a fault that names one text.

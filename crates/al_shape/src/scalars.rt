@@ -5,8 +5,8 @@ ghost use Rattle.al_shape.specs.Faults as faults;
 ghost use Rattle.std.specs.Prelude.{◌≡◌};
 
 use crate::table::ScalarSet;
+use al_base::KeyCode;
 use al_scalar::{Class, Scalar};
-use al_text::KeyCode;
 
 /// Whether a text has a `${{`.
 pub fn contains_chunk(text: &[u8]) -> bool

@@ -4,16 +4,17 @@ ghost use Rattle.al_shape.specs.Values.{entries_at, entries_in, firsts, items_at
 ghost use Rattle.al_shape.specs.Values.{texts_at, texts_in, unless_null, value_at, scalar_node_of};
 ghost use Rattle.al_yaml.specs.View.{entry_view, view};
 ghost use Rattle.std.specs.List.{filter_map};
-ghost use Rattle.std.specs.Option.{option_copied, option_to_list};
+ghost use Rattle.std.specs.Option.{option_copied};
 ghost use Rattle.std.specs.Prelude.{◌≡◌, [], map, option_map, IfOk};
 
 use crate::entries::{key_among, value_among};
 use crate::keys::{KeySet, key_of};
 use crate::scalars::is_null_scalar;
+use al_base::Span;
 use al_scalar::Scalar;
-use al_text::Span;
 use al_yaml::{Entry, Node};
 use std::alloc::{AllocError, Global};
+use std::slice;
 
 /// The items of a sequence, else none.
 pub fn items(node: &Node) -> &[Node]
@@ -83,7 +84,7 @@ pub fn texts(alloc: Global, node: &Node) -> Result<Vec<ScalarNode<'_>>, AllocErr
 {
     match node.sequence() {
         Some(items) => item_texts(alloc, items),
-        None => one_text(alloc, text(node)),
+        None => item_texts(alloc, slice::from_ref(node)),
     }
 }
 
@@ -96,20 +97,6 @@ fn item_texts(alloc: Global, nodes: &[Node]) -> Result<Vec<ScalarNode<'_>>, Allo
         if let Some(scalar) = text(node) {
             found.push(scalar)?;
         }
-    }
-    Ok(found)
-}
-
-/// A scalar as a list of one; none as an empty one.
-fn one_text(
-    alloc: Global,
-    scalar: Option<ScalarNode<'_>>,
-) -> Result<Vec<ScalarNode<'_>>, AllocError>
-    ensures { IfOk result (λ v. map scalar_node_of v.items ≡ option_to_list (option_map scalar_node_of scalar.entry)) }
-{
-    let mut found = Vec::new(alloc);
-    if let Some(scalar) = scalar {
-        found.push(scalar)?;
     }
     Ok(found)
 }
@@ -185,7 +172,6 @@ fn as_member(entry: &Entry) -> Member<'_>
 }
 
 /// The entries with a key that no earlier one has.
-#[tactic(auto, using(crate::proofs::KeyLemmas::among_more))]
 fn first_members(alloc: Global, entries: &[Entry]) -> Result<Vec<Member<'_>>, AllocError>
     ensures { IfOk result (λ v. map member_of v.items ≡ firsts [] (map entry_view entries.now)) }
 {

@@ -3,7 +3,7 @@ use Rattle.std.proofs.Common.{◌≡◌, ◌∙◌, ℕ, ◌+◌, ◌<◌, false
 use Rattle.std.specs.List.{All}
 use Rattle.std.proofs.lemmas.List.{take-append-drop, drop_more, map-append}
 use Rattle.std.proofs.lemmas.List.Elements.{All-head, All-tail}
-use Rattle.al_text.specs.Messages.{is_control, shown, shown_byte}
+use Rattle.al_base.specs.Shown.{is_control, shown, shown_byte}
 
 -- a byte that is no control byte
 abbrev pub IsPlain : ℕ → Type 0

@@ -1,34 +1,34 @@
 -- What a report prints of one fault: PATH:LINE:COL: MESSAGE [KIND], and the table of messages.
-use Rattle.std.specs.Prelude.{ℕ, Bool, ◌||◌, ◌==◌, nat_lt, List, [], ◌++◌, map, codes, decimal, slice_get}
-use Rattle.std.specs.Prelude.{unwrap_or, if◌then◌else◌}
-use Rattle.al_text.specs.Positions.{line_at, column_at}
-use Rattle.al_text.specs.declared.codes.Code.{Code}
-use Rattle.al_text.specs.declared.codes.Code.TheVariants as C
-use Rattle.al_text.specs.declared.codes.YamlCode.{YamlCode}
-use Rattle.al_text.specs.declared.codes.YamlCode.TheVariants.{NotUtf8, ControlCharacter, TabInIndentation, WrongIndentation, UnclosedQuote}
-use Rattle.al_text.specs.declared.codes.YamlCode.TheVariants.{UnclosedFlow, AnchorOrAlias, Tag, ExplicitKey, Directive, SecondDocument}
-use Rattle.al_text.specs.declared.codes.YamlCode.TheVariants.{WrongEscape, UnexpectedCharacter, NestingTooDeep, TooManyNodes}
-use Rattle.al_text.specs.declared.codes.YamlCode.TheVariants.{WrongBlockHeader, WrongKey, UnknownAlias}
-use Rattle.al_text.specs.declared.codes.KeyCode.{KeyCode}
-use Rattle.al_text.specs.declared.codes.KeyCode.TheVariants.{Unexpected, Missing, Repeated, WrongKind, WrongType, NotBeside, EmptyFile}
-use Rattle.al_text.specs.declared.codes.RuleCode.{RuleCode}
-use Rattle.al_text.specs.declared.codes.RuleCode.TheVariants.{UnknownEvent, UnknownActivity, WrongPattern, WrongSchedule, ScheduleTooOften}
-use Rattle.al_text.specs.declared.codes.RuleCode.TheVariants.{WrongId, RepeatedId, UndefinedJob, NeedsCycle, WrongMatrix, UnknownMatrixRow}
-use Rattle.al_text.specs.declared.codes.RuleCode.TheVariants.{UnknownShell, UnknownPermission, WrongPermission, WrongVariable}
-use Rattle.al_text.specs.declared.codes.RuleCode.TheVariants.{PasswordNotExpression, DeprecatedCommand, AlwaysTrue, UnknownInputType}
-use Rattle.al_text.specs.declared.codes.RuleCode.TheVariants.{UnknownUsing, MissingShell, MissingOutputValue}
-use Rattle.al_text.specs.declared.codes.CallCode.{CallCode}
-use Rattle.al_text.specs.declared.codes.CallCode.TheVariants.{NoWorkflow, UndefinedInput, MissingInput, WrongInput, UndefinedSecret}
-use Rattle.al_text.specs.declared.codes.CallCode.TheVariants.{MissingSecret, WrongUses, NotCallable, LeadsBack}
-use Rattle.al_text.specs.declared.codes.Caller.{Caller}
-use Rattle.al_text.specs.declared.codes.Caller.TheVariants as caller
-use Rattle.al_text.specs.declared.codes.ExpressionCode.{ExpressionCode}
-use Rattle.al_text.specs.declared.codes.ExpressionCode.TheVariants.{BadCharacter, UnclosedText, UnexpectedToken, EndsEarly, TooLong}
-use Rattle.al_text.specs.declared.codes.ExpressionCode.TheVariants.{TooDeep, UndefinedContext, UnavailableContext, UndefinedFunction}
-use Rattle.al_text.specs.declared.codes.ExpressionCode.TheVariants.{UnavailableFunction, ArgumentCount, ArgumentType, UndefinedProperty}
-use Rattle.al_text.specs.declared.codes.ExpressionCode.TheVariants.{NotIndexable, NotComparable, WrongPlaceholder, UnusedArgument, NotText}
-use Rattle.al_text.specs.declared.codes.ExpressionCode.TheVariants.{Untrusted, UnclosedChunk}
-use Rattle.al_text.specs.declared.faults.Fault.{Fault}
+use Rattle.std.specs.Prelude.{ℕ, List, [], ◌++◌, codes, decimal, slice_get, unwrap_or}
+use Rattle.al_base.specs.Positions.{line_at, column_at}
+use Rattle.al_base.specs.Shown.{shown}
+use Rattle.al_base.specs.declared.codes.Code.{Code}
+use Rattle.al_base.specs.declared.codes.Code.TheVariants as C
+use Rattle.al_base.specs.declared.codes.YamlCode.{YamlCode}
+use Rattle.al_base.specs.declared.codes.YamlCode.TheVariants.{NotUtf8, ControlCharacter, TabInIndentation, WrongIndentation, UnclosedQuote}
+use Rattle.al_base.specs.declared.codes.YamlCode.TheVariants.{UnclosedFlow, AnchorOrAlias, Tag, ExplicitKey, Directive, SecondDocument}
+use Rattle.al_base.specs.declared.codes.YamlCode.TheVariants.{WrongEscape, UnexpectedCharacter, NestingTooDeep, TooManyNodes}
+use Rattle.al_base.specs.declared.codes.YamlCode.TheVariants.{WrongBlockHeader, WrongKey, UnknownAlias}
+use Rattle.al_base.specs.declared.codes.KeyCode.{KeyCode}
+use Rattle.al_base.specs.declared.codes.KeyCode.TheVariants.{Unexpected, Missing, Repeated, WrongKind, WrongType, NotBeside, EmptyFile}
+use Rattle.al_base.specs.declared.codes.RuleCode.{RuleCode}
+use Rattle.al_base.specs.declared.codes.RuleCode.TheVariants.{UnknownEvent, UnknownActivity, WrongPattern, WrongSchedule, ScheduleTooOften}
+use Rattle.al_base.specs.declared.codes.RuleCode.TheVariants.{WrongId, RepeatedId, UndefinedJob, NeedsCycle, WrongMatrix, UnknownMatrixRow}
+use Rattle.al_base.specs.declared.codes.RuleCode.TheVariants.{UnknownShell, UnknownPermission, WrongPermission, WrongVariable}
+use Rattle.al_base.specs.declared.codes.RuleCode.TheVariants.{PasswordNotExpression, DeprecatedCommand, AlwaysTrue, UnknownInputType}
+use Rattle.al_base.specs.declared.codes.RuleCode.TheVariants.{UnknownUsing, MissingShell, MissingOutputValue}
+use Rattle.al_base.specs.declared.codes.CallCode.{CallCode}
+use Rattle.al_base.specs.declared.codes.CallCode.TheVariants.{NoWorkflow, UndefinedInput, MissingInput, WrongInput, UndefinedSecret}
+use Rattle.al_base.specs.declared.codes.CallCode.TheVariants.{MissingSecret, WrongUses, NotCallable, LeadsBack}
+use Rattle.al_base.specs.declared.codes.Caller.{Caller}
+use Rattle.al_base.specs.declared.codes.Caller.TheVariants as caller
+use Rattle.al_base.specs.declared.codes.ExpressionCode.{ExpressionCode}
+use Rattle.al_base.specs.declared.codes.ExpressionCode.TheVariants.{BadCharacter, UnclosedText, UnexpectedToken, EndsEarly, TooLong}
+use Rattle.al_base.specs.declared.codes.ExpressionCode.TheVariants.{TooDeep, UndefinedContext, UnavailableContext, UndefinedFunction}
+use Rattle.al_base.specs.declared.codes.ExpressionCode.TheVariants.{UnavailableFunction, ArgumentCount, ArgumentType, UndefinedProperty}
+use Rattle.al_base.specs.declared.codes.ExpressionCode.TheVariants.{NotIndexable, NotComparable, WrongPlaceholder, UnusedArgument, NotText}
+use Rattle.al_base.specs.declared.codes.ExpressionCode.TheVariants.{Untrusted, UnclosedChunk}
+use Rattle.al_base.specs.declared.faults.Fault.{Fault}
 
 -- a message's words, before, between and after its arguments
 pub record Wording : Type 0 where
@@ -177,17 +177,6 @@ fault_kind (C.Key fault) = codes "syntax-check"
 fault_kind (C.Rule fault) = rule_kind fault
 fault_kind (C.Expression fault) = codes "expression"
 fault_kind (C.Call fault by) = call_kind by
-
--- a control byte of ASCII
-abbrev pub is_control : ℕ → Bool
-is_control b = nat_lt b 32 || b == 127
-
--- a byte of an argument as it is printed
-abbrev pub shown_byte : ℕ → ℕ
-shown_byte b = if is_control b then 63 else b
-
-abbrev pub shown : List ℕ → List ℕ
-shown text = map shown_byte text
 
 -- the argument i, as it is printed
 abbrev pub argument : List (List ℕ) → ℕ → List ℕ

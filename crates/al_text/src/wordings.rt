@@ -3,7 +3,7 @@ ghost use Rattle.std.specs.Prelude.{◌≡◌, []};
 ghost use Rattle.al_text.specs.Messages.{wording, yaml_wording, key_wording, rule_wording, expression_wording, call_wording, fault_kind};
 ghost use Rattle.al_text.specs.Messages.{rule_kind, call_kind};
 
-use crate::codes::{CallCode, Caller, Code, ExpressionCode, KeyCode, RuleCode, YamlCode};
+use al_base::{CallCode, Caller, Code, ExpressionCode, KeyCode, RuleCode, YamlCode};
 
 /// A message's words, before, between and after its arguments.
 #[derive(Clone, Copy)]

@@ -2,9 +2,9 @@
 use Rattle.std.specs.Prelude.{ℕ}
 use Rattle.std.specs.List.{AllByRecursion}
 use Rattle.std.proofs.lemmas.List.Elements.{recursion_from_All}
-use Rattle.al_text.specs.Spans.{LiesIn}
-use Rattle.al_text.specs.declared.faults.Fault.{Fault}
-use Rattle.al_text.proofs.FaultLists.{AllByRecursion-fault_list}
+use Rattle.al_base.specs.Spans.{LiesIn}
+use Rattle.al_base.specs.declared.faults.Fault.{Fault}
+use Rattle.al_base.proofs.FaultLists.{AllByRecursion-fault_list}
 use Rattle.al_yaml.specs.Node.{Node}
 use Rattle.al_yaml.specs.Spans.{IsInside}
 use Rattle.al_shape.specs.Faults.{root_faults}

@@ -1,7 +1,7 @@
--- What the program's jobs stand for, and the faults of a file's tree.
+-- What a tree is, and the faults of its keys and values.
 use Rattle.std.specs.Prelude.{List}
-use Rattle.al_text.specs.FaultLists.{fault_list}
-use Rattle.al_text.specs.declared.faults.Fault.{Fault}
+use Rattle.al_base.specs.FaultLists.{fault_list}
+use Rattle.al_base.specs.declared.faults.Fault.{Fault}
 use Rattle.al_yaml.specs.Node.{Node}
 use Rattle.al_yaml.specs.View.{view}
 use Rattle.al_shape.specs.Faults.{root_faults}
@@ -9,10 +9,16 @@ use Rattle.al_shape.specs.declared.table.Shape.{Shape}
 use Rattle.al_shape.specs.declared.table.Shape.TheVariants as shape
 use Rattle.al_tree.specs.declared.files.FileKind.{FileKind}
 use Rattle.al_tree.specs.declared.files.FileKind.TheVariants as kind
-use Rattle.al_tree.specs.declared.jobs.Job as jobs
+use Rattle.al_tree.specs.declared.files.Tree.{Tree}
+use Rattle.al_tree.specs.declared.files.Tree.TheVariants as tree
 
-abbrev pub job_of : jobs.Job → Node × Node
-job_of j = (view j.key.now, view j.node.now)
+abbrev pub root_of : Tree → Node
+root_of (tree.Workflow w) = view w.root
+root_of (tree.Action a) = view a.root
+
+abbrev pub kind_in : Tree → FileKind
+kind_in (tree.Workflow w) = kind.Workflow
+kind_in (tree.Action a) = kind.Action
 
 -- the section that a file's root should be
 abbrev pub shape_of : FileKind → Shape

@@ -1,18 +1,28 @@
 //! A document taken as a workflow or an action, and its faults of keys and shapes.
 
 ghost use Rattle.al_shape.specs.Faults.{root_faults};
-ghost use Rattle.al_text.specs.Growth.{SameSet};
+ghost use Rattle.al_base.specs.Growth.{SameSet};
 ghost use Rattle.al_shape.specs.declared.table.Shape.TheVariants.{Action as ActionShape, Workflow as WorkflowShape};
-ghost use Rattle.al_tree.specs.Files.{key_faults, shape_of};
+ghost use Rattle.al_tree.specs.Files.{key_faults, kind_in, root_of, shape_of};
 ghost use Rattle.al_yaml.specs.View.{view};
 ghost use Rattle.std.specs.Prelude.{◌≡◌, IfOk};
 
-use crate::action::Action;
-use crate::workflow::Workflow;
+use al_base::{Fault, ordered};
 use al_shape::{Shape, shape_faults};
-use al_text::{Fault, ordered};
-use al_yaml::Doc;
+use al_yaml::{Doc, Node};
 use std::alloc::{AllocError, Global};
+
+/// A workflow, by the root of its file (GitHub, "Workflow syntax for GitHub Actions").
+#[derive(Drop)]
+pub struct Workflow {
+    pub root: Node,
+}
+
+/// An action, by the root of its file (GitHub, "Metadata syntax for GitHub Actions").
+#[derive(Drop)]
+pub struct Action {
+    pub root: Node,
+}
 
 /// A workflow or an action.
 #[derive(Drop)]
@@ -28,11 +38,43 @@ pub enum FileKind {
     Action,
 }
 
+impl Tree {
+    /// What the file is read as.
+    pub fn kind(&self) -> FileKind
+        ensures { result ≡ kind_in self.now }
+    {
+        match self {
+            Tree::Workflow(_) => FileKind::Workflow,
+            Tree::Action(_) => FileKind::Action,
+        }
+    }
+
+    /// The root of the file.
+    pub fn root(&self) -> &Node
+        ensures { view result.now ≡ root_of self.now }
+    {
+        match self {
+            Tree::Workflow(workflow) => &workflow.root,
+            Tree::Action(action) => &action.root,
+        }
+    }
+
+    /// What in the file breaks the syntax: the faults of its keys and values in the order of the document, which are exactly
+    /// those that the syntax's table gives.
+    ///
+    /// Fails with `AllocError` for want of memory.
+    pub fn faults(&self, alloc: Global) -> Result<Vec<Fault>, AllocError>
+        ensures { IfOk result (λ found. found.items ≡ root_faults (shape_of (kind_in self.now)) (root_of self.now)) }
+    {
+        shape_faults(alloc, root_shape(self.kind()), self.root())
+    }
+}
+
 /// The workflow that a document is, and what in it breaks the syntax of workflows: its faults in the order of the document,
 /// which are exactly those that the syntax's table gives.
 ///
 /// Fails with `AllocError` for want of memory.
-#[tactic(auto, using(al_text::proofs::Growing::same_set))]
+#[tactic(auto, using(al_base::proofs::Growing::same_set))]
 pub fn read_workflow(alloc: Global, doc: Doc) -> Result<(Workflow, Vec<Fault>), AllocError>
     ensures tree { IfOk result (λ r. view r.0.root ≡ view doc.root) }
     ensures list { IfOk result (λ r. r.1.items ≡ root_faults WorkflowShape (view doc.root)) }
@@ -46,7 +88,7 @@ pub fn read_workflow(alloc: Global, doc: Doc) -> Result<(Workflow, Vec<Fault>), 
 /// which are exactly those that the syntax's table gives.
 ///
 /// Fails with `AllocError` for want of memory.
-#[tactic(auto, using(al_text::proofs::Growing::same_set))]
+#[tactic(auto, using(al_base::proofs::Growing::same_set))]
 pub fn read_action(alloc: Global, doc: Doc) -> Result<(Action, Vec<Fault>), AllocError>
     ensures tree { IfOk result (λ r. view r.0.root ≡ view doc.root) }
     ensures list { IfOk result (λ r. r.1.items ≡ root_faults ActionShape (view doc.root)) }

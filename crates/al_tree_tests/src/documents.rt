@@ -1,8 +1,8 @@
 //! YAML files, their trees and their faults.
 
 use crate::scalars::comes_from;
+use al_base::YamlCode;
 use al_scalar::{Class, Scalar};
-use al_text::YamlCode;
 use al_yaml::{Doc, Node};
 use al_yaml_reader::read_yaml;
 use std::alloc::{AllocError, Global};

@@ -1,7 +1,7 @@
 //! Scalars and their faults, by worked rows.
 
+use al_base::YamlCode;
 use al_scalar::{Class, Scalar, ScalarContext, Style, read_scalar};
-use al_text::YamlCode;
 use std::alloc::{AllocError, Global};
 
 /// A scalar that is to be read, the offset of each byte of its text and of its end, and where the rest begins.

@@ -1,9 +1,7 @@
-//! Paths, positions and printed faults.
+//! Paths and positions.
 
-use al_text::{
-    Args, Code, Fault, KeyCode, Output, Path, PathFault, Span, Stop, position, write_fault,
-};
-use std::alloc::{AllocError, Global};
+use al_base::{Path, PathFault, position};
+use std::alloc::Global;
 
 static REFUSED: [(&str, PathFault); 7] = [
     ("", PathFault::Empty),
@@ -66,44 +64,4 @@ fn positions(rt: HostRuntime) {
     for (offset, place) in places() {
         assert!(rt; is_at(TEXT.as_bytes(), *offset, *place));
     }
-}
-
-fn args_of(alloc: Global, text: &str) -> Result<Args, AllocError> {
-    let mut texts = Vec::new(alloc);
-    texts.push(String::from_str(alloc, text)?)?;
-    Ok(Args::new(texts))
-}
-
-fn printed(alloc: Global, args: Args) -> Result<Vec<u8>, Stop> {
-    let fault = Fault {
-        span: Span { start: 3, end: 4 },
-        code: Code::Key(KeyCode::Unexpected),
-        args,
-    };
-    let mut output = Vec::new(alloc);
-    write_fault(
-        &mut Output::new(&mut output),
-        "x.yml",
-        b"a\r\nb",
-        &fault,
-        true,
-    )?;
-    Ok(output)
-}
-
-const PRINTED: &[u8] = b"x.yml:2:1: unexpected key \"a?b?\" [syntax-check]\n";
-
-fn wanted() -> &'static [u8] {
-    PRINTED
-}
-
-fn is_printed(alloc: Global, text: &str) -> Result<bool, Stop> {
-    let found = printed(alloc, args_of(alloc, text)?)?;
-    Ok(found.as_slice() == wanted())
-}
-
-#[test]
-fn control_bytes_are_not_printed(rt: HostRuntime) -> Result<(), Stop> {
-    assert!(rt; is_printed(rt.alloc(), "a\tb\u{7f}")?);
-    Ok(())
 }

@@ -1,12 +1,10 @@
-//! Trees of workflows and actions: their faults, and what stands in their sections.
+//! Trees of workflows and actions: their faults, and what stands under their keys.
 
 use crate::documents::document;
-use al_text::{Code, Fault, KeyCode, position};
+use al_base::{Code, Fault, KeyCode, position};
 use al_tree::{
-    Action, Concurrency, Container, Declared, Event, FileKind, Job, Member, Runs, RunsOn,
-    ScalarNode, Schedule, Step, Strategy, Workflow, default_shell, default_working_directory,
-    document_faults, items, key, key_text, members, read_action, read_workflow, texts, texts_under,
-    value,
+    FileKind, ScalarNode, Tree, document_faults, items_under, key, key_text, members_under,
+    read_action, read_workflow, text_under, texts_under, value,
 };
 use al_yaml::Node;
 use std::alloc::{AllocError, Global};
@@ -129,12 +127,20 @@ branding: {icon: k}
 ";
 
 // What the file above is read as, and how many faults it has; none where it is no document.
-fn workflow(alloc: Global) -> Result<Option<(Workflow, usize)>, AllocError> {
+fn workflow(alloc: Global) -> Result<Option<(Tree, usize)>, AllocError> {
     let Some(doc) = document(alloc, WORKFLOW)? else {
         return Ok(None);
     };
     let (workflow, faults) = read_workflow(alloc, doc)?;
-    Ok(Some((workflow, faults.len())))
+    Ok(Some((Tree::Workflow(workflow), faults.len())))
+}
+
+fn action(alloc: Global) -> Result<Option<(Tree, usize)>, AllocError> {
+    let Some(doc) = document(alloc, ACTION)? else {
+        return Ok(None);
+    };
+    let (action, faults) = read_action(alloc, doc)?;
+    Ok(Some((Tree::Action(action), faults.len())))
 }
 
 // Whether a text is this one; one that isn't there is as an empty one.
@@ -152,80 +158,54 @@ fn begins_at(node: Option<&Node>, start: u32) -> bool {
     }
 }
 
-fn has_names(workflow: &Workflow) -> bool {
-    says(workflow.name(), "Build") && says(workflow.run_name(), "by me")
+fn has_names(root: &Node) -> bool {
+    says(text_under(root, "name"), "Build")
+        && says(text_under(root, "run-name"), "by me")
+        && says(text_under(root, "on"), "")
+        && begins_at(key(root, "jobs"), 307)
 }
 
-fn has_defaults(root: &Node) -> bool {
-    says(default_shell(root), "bash") && says(default_working_directory(root), "src")
+fn push_of(root: &Node) -> Option<&Node> {
+    value(value(root, "on")?, "push")
 }
 
-fn has_branches(alloc: Global, node: &Node) -> Result<bool, AllocError> {
-    let branches = texts(alloc, node)?;
-    Ok(branches.len() == 2 && says(branches.get(1).copied(), "v*"))
-}
-
-fn has_push(alloc: Global, node: &Node) -> Result<bool, AllocError> {
-    let push = Event { node };
-    match push.branches() {
-        Some(branches) => has_branches(alloc, branches),
+// Whether the branches are there, but for the one that is null.
+fn has_branches(alloc: Global, root: &Node) -> Result<bool, AllocError> {
+    match push_of(root) {
+        Some(push) => {
+            let branches = texts_under(alloc, push, "branches")?;
+            Ok(branches.len() == 2 && says(branches.get(1).copied(), "v*"))
+        }
         None => Ok(false),
     }
 }
 
-fn is_sunday(node: &Node) -> bool {
-    let time = Schedule { node };
-    says(time.cron(), "0 0 * * 0") && says(time.timezone(), "UTC")
+// Whether the one step is there, of whose equal keys the first counts.
+fn has_step(job: &Node) -> bool {
+    match items_under(job, "steps") {
+        [only] => says(text_under(only, "run"), "make") && says(text_under(only, "uses"), ""),
+        _ => false,
+    }
 }
 
-fn is_size(member: &Member<'_>) -> bool {
-    let input = Declared { node: member.value };
-    key_text(member.key) == b"size".as_slice()
-        && says(input.input_type(), "number")
-        && says(input.required(), "true")
-        && says(input.deprecation_message(), "old")
-        && says(input.description(), "")
-}
-
-fn has_inputs(alloc: Global, node: &Node) -> Result<bool, AllocError> {
-    match members(alloc, node)?.as_slice() {
-        [only] => Ok(is_size(only)),
+// Whether the two jobs are there, of whose equal keys the first counts.
+fn has_jobs(alloc: Global, root: &Node) -> Result<bool, AllocError> {
+    match members_under(alloc, root, "jobs")?.as_slice() {
+        [test, call] => Ok(
+            key_text(test.key) == b"test".as_slice()
+                && has_step(test.value)
+                && says(text_under(call.value, "uses"), "./.github/workflows/b.yml"),
+        ),
         _ => Ok(false),
     }
 }
 
-fn has_call(alloc: Global, node: &Node) -> Result<bool, AllocError> {
-    let call = Event { node };
-    match call.inputs() {
-        Some(inputs) => has_inputs(alloc, inputs),
-        None => Ok(false),
+fn is_as_written(alloc: Global, workflow: &Tree) -> Result<bool, AllocError> {
+    let root = workflow.root();
+    if !has_names(root) || !matches!(workflow.kind(), FileKind::Workflow) {
+        return Ok(false);
     }
-}
-
-// Whether the three events are there, each as it is written.
-fn has_events(alloc: Global, workflow: &Workflow) -> Result<bool, AllocError> {
-    let Some(push) = workflow.event("push") else {
-        return Ok(false);
-    };
-    let Some(schedule) = workflow.event("schedule") else {
-        return Ok(false);
-    };
-    let Some(call) = workflow.event("workflow_call") else {
-        return Ok(false);
-    };
-    match items(schedule) {
-        [time] => Ok(is_sunday(time) && has_push(alloc, push)? && has_call(alloc, call)?),
-        _ => Ok(false),
-    }
-}
-
-fn is_as_written(alloc: Global, workflow: &Workflow) -> Result<bool, AllocError> {
-    Ok(
-        has_names(workflow)
-            && has_defaults(&workflow.root)
-            && begins_at(key(&workflow.root, "jobs"), 307)
-            && has_events(alloc, workflow)?,
-    )
+    Ok(has_branches(alloc, root)? && has_jobs(alloc, root)?)
 }
 
 fn reads_workflow(alloc: Global) -> Result<bool, AllocError> {
@@ -236,150 +216,24 @@ fn reads_workflow(alloc: Global) -> Result<bool, AllocError> {
 }
 
 #[test]
-fn sections_of_a_workflow(rt: HostRuntime) -> Result<(), AllocError> {
+fn keys_of_a_workflow(rt: HostRuntime) -> Result<(), AllocError> {
     assert!(rt; reads_workflow(rt.alloc())?);
     Ok(())
 }
 
-fn has_runners(alloc: Global, node: &Node) -> Result<bool, AllocError> {
-    let runners = RunsOn { node };
-    let labels = texts_under(alloc, node, "labels")?;
-    Ok(labels.len() == 1 && says(runners.group(), "large"))
-}
-
-fn has_turns(node: &Node) -> bool {
-    let turns = Concurrency { node };
-    says(turns.group(), "one") && says(turns.cancel_in_progress(), "false")
-}
-
-fn has_strategy(node: &Node) -> bool {
-    let strategy = Strategy { node };
-    says(strategy.fail_fast(), "true") && says(strategy.max_parallel(), "2")
-}
-
-fn has_container(node: &Node) -> bool {
-    let container = Container { node };
-    says(container.image(), "alpine")
-        && says(container.options(), "--rm")
-        && says(container.username(), "u")
-        && says(container.password(), "p")
-}
-
-fn has_systems(matrix: &Node) -> bool {
-    match value(matrix, "os") {
-        Some(systems) => items(systems).len() == 2,
+fn has_args(root: &Node) -> bool {
+    match value(root, "runs") {
+        Some(runs) => items_under(runs, "args").len() == 1,
         None => false,
     }
 }
 
-fn is_first_step(node: &Node) -> bool {
-    let step = Step { node };
-    says(step.id(), "first")
-        && says(step.run(), "make")
-        && says(step.shell(), "sh")
-        && says(step.uses(), "")
-}
-
-// Whether the settings of a job are there, each as it is written.
-fn has_settings(alloc: Global, job: &Job<'_>) -> Result<bool, AllocError> {
-    let Some(runners) = job.runs_on() else {
-        return Ok(false);
-    };
-    let Some(turns) = job.concurrency() else {
-        return Ok(false);
-    };
-    let Some(container) = job.container() else {
-        return Ok(false);
-    };
-    Ok(has_runners(alloc, runners)? && has_turns(turns) && has_container(container))
-}
-
-fn has_matrix(job: &Job<'_>) -> bool {
-    let Some(strategy) = job.strategy() else {
-        return false;
-    };
-    match job.matrix() {
-        Some(matrix) => has_strategy(strategy) && has_systems(matrix),
-        None => false,
-    }
-}
-
-fn has_step(job: &Job<'_>) -> bool {
-    match job.steps() {
-        [only] => is_first_step(only),
-        _ => false,
-    }
-}
-
-fn is_test(alloc: Global, job: &Job<'_>) -> Result<bool, AllocError> {
-    Ok(
-        key_text(job.key) == b"test".as_slice()
-            && has_matrix(job)
-            && has_step(job)
-            && has_settings(alloc, job)?,
-    )
-}
-
-fn has_jobs(alloc: Global, workflow: &Workflow) -> Result<bool, AllocError> {
-    match workflow.jobs(alloc)?.as_slice() {
-        [test, call] => Ok(says(call.uses(), "./.github/workflows/b.yml") && is_test(alloc, test)?),
-        _ => Ok(false),
-    }
-}
-
-fn reads_jobs(alloc: Global) -> Result<bool, AllocError> {
-    match workflow(alloc)? {
-        Some((workflow, _)) => has_jobs(alloc, &workflow),
-        None => Ok(false),
-    }
-}
-
-#[test]
-fn sections_of_a_job(rt: HostRuntime) -> Result<(), AllocError> {
-    assert!(rt; reads_jobs(rt.alloc())?);
-    Ok(())
-}
-
-fn action(alloc: Global) -> Result<Option<(Action, usize)>, AllocError> {
-    let Some(doc) = document(alloc, ACTION)? else {
-        return Ok(None);
-    };
-    let (action, faults) = read_action(alloc, doc)?;
-    Ok(Some((action, faults.len())))
-}
-
-fn is_described(action: &Action) -> bool {
-    says(action.name(), "A") && says(action.author(), "B") && says(action.description(), "C")
-}
-
-fn has_programs(runs: &Runs<'_>) -> bool {
-    says(runs.using(), "docker")
-        && says(runs.image(), "D")
-        && says(runs.entrypoint(), "e")
-        && says(runs.pre_entrypoint(), "f")
-        && says(runs.post_entrypoint(), "g")
-}
-
-fn has_conditions(runs: &Runs<'_>) -> bool {
-    says(runs.pre_if(), "h") && says(runs.post_if(), "i") && says(runs.main(), "")
-}
-
-fn has_args(runs: &Runs<'_>) -> bool {
-    match runs.args() {
-        Some(args) => items(args).len() == 1,
-        None => false,
-    }
-}
-
-fn has_runs(action: &Action) -> bool {
-    match action.runs() {
-        Some(runs) => has_programs(&runs) && has_conditions(&runs) && has_args(&runs),
-        None => false,
-    }
-}
-
-fn is_action(action: &Action) -> bool {
-    is_described(action) && has_runs(action) && begins_at(action.branding(), 192)
+fn is_action(action: &Tree) -> bool {
+    let root = action.root();
+    matches!(action.kind(), FileKind::Action)
+        && says(text_under(root, "author"), "B")
+        && has_args(root)
+        && begins_at(value(root, "branding"), 192)
 }
 
 fn reads_action(alloc: Global) -> Result<bool, AllocError> {
@@ -390,7 +244,7 @@ fn reads_action(alloc: Global) -> Result<bool, AllocError> {
 }
 
 #[test]
-fn sections_of_an_action(rt: HostRuntime) -> Result<(), AllocError> {
+fn keys_of_an_action(rt: HostRuntime) -> Result<(), AllocError> {
     assert!(rt; reads_action(rt.alloc())?);
     Ok(())
 }

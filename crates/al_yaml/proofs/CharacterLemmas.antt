@@ -1,7 +1,7 @@
 -- A character at an offset of a file lies in it.
 use Rattle.std.proofs.Common.{ℕ, suc, ◌+◌, ◌≤◌, List, [], ◌∷◌, length, drop, arith, length-drop, Bool, true, false, cond}
-use Rattle.al_text.specs.Positions.{begins_char}
-use Rattle.al_text.specs.Spans.{LiesIn}
+use Rattle.al_base.specs.Positions.{begins_char}
+use Rattle.al_base.specs.Spans.{LiesIn}
 use Rattle.al_scalar.specs.Characters.{more_of_character, character_length, character_at}
 
 more-short : (b : Bool) (more : ℕ) (n : ℕ) → more ≤ n → cond b 0 (more + 1) ≤ suc n

@@ -1,8 +1,8 @@
 -- Block nodes, with anchors and aliases, lie in the file.
 use Rattle.std.proofs.Common.{ℕ, zero, suc, ◌+◌, ◌≤◌, List, arith, Bool, true, false, not, ◌&&◌, length, drop}
 use Rattle.std.proofs.Common.{◌||◌, Option, Some, None}
-use Rattle.al_text.specs.declared.codes.YamlCode.TheVariants as yaml
-use Rattle.al_text.specs.Ascii as ascii
+use Rattle.al_base.specs.declared.codes.YamlCode.TheVariants as yaml
+use Rattle.al_base.specs.Ascii as ascii
 use Rattle.al_scalar.specs.Line.{Line, start, begins, blanks_dropped}
 use Rattle.al_scalar.specs.Places.{first_text}
 use Rattle.al_scalar.specs.Plain.{block}

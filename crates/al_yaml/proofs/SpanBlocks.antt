@@ -1,8 +1,8 @@
 -- Block nodes lie between the offset behind which the lines stand and the lines left.
 use Rattle.std.proofs.Common.{◌≡◌, ℕ, zero, suc, ◌+◌, ◌≤◌, List, [], ◌∷◌, arith, Bool, not, ◌&&◌, length, drop, sym, subst}
 use Rattle.std.proofs.Common.{◌||◌, ◌==◌, nat_lt, Option, Some, None, Result, Ok, Err}
-use Rattle.al_text.specs.declared.codes.YamlCode.TheVariants as yaml
-use Rattle.al_text.specs.Ascii as ascii
+use Rattle.al_base.specs.declared.codes.YamlCode.TheVariants as yaml
+use Rattle.al_base.specs.Ascii as ascii
 use Rattle.al_scalar.specs.Line.{Cell, Line, start, begins, is_blank, blanks_dropped}
 use Rattle.al_scalar.specs.Offsets.{AreClimbing}
 use Rattle.al_scalar.specs.Places.{first_text}

@@ -1,7 +1,7 @@
 -- What a reading gives lies in the file, in order, where no alias is read: its value keeps to what is said of it.
 use Rattle.std.proofs.Common.{◌≡◌, ℕ, ◌≤◌, List, [], ◌∷◌, ◌++◌, refl, arith, true, false}
 use Rattle.std.proofs.Common.{Option, Some, None, Result, Ok, Err}
-use Rattle.al_text.specs.declared.codes.YamlCode.{YamlCode}
+use Rattle.al_base.specs.declared.codes.YamlCode.{YamlCode}
 use Rattle.al_scalar.specs.Line.{Line}
 use Rattle.al_scalar.specs.Scalar.{empty_scalar, span}
 use Rattle.al_scalar.specs.Taken.{Fault}

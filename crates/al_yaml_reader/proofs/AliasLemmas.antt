@@ -1,7 +1,7 @@
 -- What an alias reads, and its limits.
 use Rattle.std.proofs.Common.{◌≡◌, ℕ, zero, suc, ◌+◌, ◌-◌, ◌<◌, ◌≤◌, List, [], ◌∷◌, length, refl, sym, ap, ◌∙◌, arith, Bool, true, false, ◌||◌, cond, nat_lt, Option, Some, None, Ok, Err}
 use Rattle.std.proofs.lemmas.Grind.{common_steps}
-use Rattle.al_text.specs.declared.codes.YamlCode.TheVariants as yaml
+use Rattle.al_base.specs.declared.codes.YamlCode.TheVariants as yaml
 use Rattle.al_scalar.specs.Taken.{Fault}
 use Rattle.al_yaml.specs.Limits.{broken_limit, most_counted}
 use Rattle.al_yaml.specs.Node.{Node, nodes_in, text_in, levels_in}

@@ -3,8 +3,8 @@ use Rattle.std.proofs.Common.{◌≡◌, ℕ, zero, suc, ◌+◌, ◌-◌, ◌<�
 use Rattle.std.proofs.Common.{true, false, ◌||◌, cond, Option, Some, None, Result, Ok, Err, IfOk}
 use Rattle.std.proofs.lemmas.List.{get_or-take}
 use Rattle.std.proofs.lemmas.List.{length-take}
-use Rattle.al_text.specs.declared.codes.YamlCode.{YamlCode}
-use Rattle.al_text.specs.declared.codes.YamlCode.TheVariants as yaml
+use Rattle.al_base.specs.declared.codes.YamlCode.{YamlCode}
+use Rattle.al_base.specs.declared.codes.YamlCode.TheVariants as yaml
 use Rattle.al_scalar.specs.Private.Contract.{read_of}
 use Rattle.al_scalar.specs.Line.{Cell, Line, start, with_cell}
 use Rattle.al_scalar.specs.Places.{first_text, first_end}

@@ -1,6 +1,6 @@
 -- The lines round a document against offsets.
 use Rattle.std.proofs.Common.{◌≡◌, ℕ, ◌+◌, ◌<◌, ◌≤◌, List, [], ◌∷◌, length, drop, slice_index, refl, sym, ap, ◌∙◌, arith, Bool, true, false, cond, Some, Result, Ok}
-use Rattle.al_text.specs.declared.codes.YamlCode.TheVariants as yaml
+use Rattle.al_base.specs.declared.codes.YamlCode.TheVariants as yaml
 use Rattle.al_scalar.specs.Line.{Cell, Line, start, cut, is_empty, begins, is_marker, blanks_dropped, spaces_dropped}
 use Rattle.al_scalar.specs.Places.{first_text}
 use Rattle.al_scalar.specs.Private.Places.{lines_at, text_at, IsLineEnd}

@@ -1,7 +1,7 @@
 -- Flow collections against offsets.
 use Rattle.std.proofs.Common.{◌≡◌, ℕ, suc, ◌+◌, ◌≤◌, List, [], ◌∷◌, length, refl, sym, ap, ◌∙◌, true, false, not, ◌||◌, cond, Option, Some, None, Ok, Err}
-use Rattle.al_text.specs.declared.codes.YamlCode.{YamlCode}
-use Rattle.al_text.specs.declared.codes.YamlCode.TheVariants as yaml
+use Rattle.al_base.specs.declared.codes.YamlCode.{YamlCode}
+use Rattle.al_base.specs.declared.codes.YamlCode.TheVariants as yaml
 use Rattle.al_scalar.specs.Line.{Line, start, begins, is_empty}
 use Rattle.al_scalar.specs.Private.Places.{lines_at, text_at, IsLineEnd}
 use Rattle.al_scalar.specs.Taken.{Fault, fault}

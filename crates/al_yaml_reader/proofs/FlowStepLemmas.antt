@@ -1,6 +1,6 @@
 -- Steps of open flow collections, one lemma for each way.
 use Rattle.std.proofs.Common.{◌≡◌, ℕ, suc, ◌+◌, ◌≤◌, List, [], ◌∷◌, length, refl, sym, ap, ◌∙◌, true, false, None, Result, Ok, Err}
-use Rattle.al_text.specs.declared.codes.YamlCode.TheVariants as yaml
+use Rattle.al_base.specs.declared.codes.YamlCode.TheVariants as yaml
 use Rattle.al_scalar.specs.Line.{Cell, Line, begins, is_empty}
 use Rattle.al_scalar.specs.Private.Places.{lines_at, text_at}
 use Rattle.al_scalar.specs.Scalar.{ScalarRead, span}

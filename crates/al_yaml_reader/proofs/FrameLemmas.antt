@@ -1,7 +1,7 @@
 -- The stack of open flow collections: what each step keeps.
 use Rattle.std.proofs.Common.{◌≡◌, ℕ, zero, suc, ◌+◌, ◌<◌, ◌≤◌, List, [], ◌∷◌, length, refl, sym, ap, ◌∙◌, arith, Option, Some, None, Ok, Err}
-use Rattle.al_text.specs.declared.codes.YamlCode.{YamlCode}
-use Rattle.al_text.specs.declared.faults.Span.{Span}
+use Rattle.al_base.specs.declared.codes.YamlCode.{YamlCode}
+use Rattle.al_base.specs.declared.faults.Span.{Span}
 use Rattle.al_scalar.specs.Private.Places.{lines_at}
 use Rattle.al_scalar.specs.Scalar.{span}
 use Rattle.al_scalar.specs.Taken.{Fault}

@@ -1,6 +1,6 @@
 -- How readings end: with a fault, or with an answer behind which more is read.
 use Rattle.std.proofs.Common.{◌≡◌, ℕ, ◌≤◌, List, [], ◌∷◌, ◌++◌, map, length, refl, sym, ap, ◌∙◌, Result, Ok, Err, Some, None}
-use Rattle.al_text.specs.declared.faults.Span.{Span}
+use Rattle.al_base.specs.declared.faults.Span.{Span}
 use Rattle.al_scalar.specs.Line.{Line}
 use Rattle.al_scalar.specs.Scalar as value
 use Rattle.al_scalar.specs.Scalar.{span}

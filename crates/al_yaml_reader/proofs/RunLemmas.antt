@@ -1,7 +1,7 @@
 -- Laws of reading from one state to the next, for every type of what is read.
 use Rattle.std.proofs.Common.{◌≡◌, ℕ, ◌+◌, List, [], ◌∷◌, ◌++◌, refl, ap, ◌∙◌, arith, Bool, true, false, ◌||◌, cond, Option, Some, None, Result, Ok, Err}
 use Rattle.std.specs.Prelude.{nat_lt}
-use Rattle.al_text.specs.declared.codes.YamlCode.{YamlCode}
+use Rattle.al_base.specs.declared.codes.YamlCode.{YamlCode}
 use Rattle.al_scalar.specs.Taken.{Fault}
 use Rattle.al_yaml.specs.Reading.{Start, start_of, start_with, Anchor, anchored, with_anchor, nothing_known, listed, Known, Outcome, Reading, gives, fails, given, after, next, ◌>>=◌}
 use Rattle.al_yaml.specs.Limits.{broken_limit, unless_broken, limited, nodes_listed, text_listed, max_nodes, max_text, max_depth}

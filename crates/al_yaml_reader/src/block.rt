@@ -27,9 +27,9 @@ use crate::lines::{characters, next_line};
 use crate::part::{Part, mapping_part, sequence_part};
 use crate::scalars::empty_part;
 use crate::slots::{Cursor, Slot, Spot, is_deeper, spot_behind};
+use al_base::YamlCode;
 use al_scalar::lines::blanks_end;
 use al_scalar::{FaultAt, ScalarRead};
-use al_text::YamlCode;
 use al_yaml::{Entry, Node, entry_of, scalar_node};
 
 /// What was read of an open block collection: of a sequence the items before a dash, and whether it is the value of a

@@ -26,9 +26,9 @@ use crate::part::Part;
 use crate::scalars::read_line_scalar;
 use crate::slots::{Cursor, Slot, Spot, is_behind_key, tab_before};
 use crate::starts::{block_fault, is_block_start, is_flow_start, is_property};
+use al_base::YamlCode;
 use al_scalar::FaultAt;
 use al_scalar::lines::begins;
-use al_text::YamlCode;
 
 /// Whether a scalar that stands here is no key: a block scalar, or a value on its key's line.
 fn is_no_key(bytes: &[u8], spot: Spot, at: usize) -> bool

@@ -8,9 +8,9 @@ ghost use Rattle.al_yaml_reader.specs.Private.Places.{IsLineFrom, Shows, next_of
 ghost use Rattle.std.specs.Prelude.{IfErr, IfOk, IfSome, IsTrue, false, length, ◌<◌, ◌≡◌, ◌≤◌};
 
 use crate::lines::{is_text_end, next_line};
+use al_base::YamlCode;
 use al_scalar::FaultAt;
 use al_scalar::lines::{begins, blanks_end, indent, is_blank_or_end, is_document_marker};
-use al_text::YamlCode;
 
 /// The next content line of the document, or its end.
 #[derive(Clone, Copy)]

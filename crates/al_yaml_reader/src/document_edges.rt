@@ -9,9 +9,9 @@ ghost use Rattle.std.specs.Prelude.{◌<◌, ◌≡◌, ◌≤◌, IfErr, IfOk, 
 
 use crate::content::{is_skipped, line_ended};
 use crate::lines::next_line;
+use al_base::YamlCode;
 use al_scalar::FaultAt;
 use al_scalar::lines::{begins, blanks_end, indent, is_marker};
-use al_text::YamlCode;
 
 /// The first line from a line's start on that is no blank line and no comment, or else the file's end.
 fn next_text_line(bytes: &[u8], at: usize) -> usize

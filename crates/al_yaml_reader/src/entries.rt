@@ -19,8 +19,8 @@ use crate::flow::read_flow_collection;
 use crate::keys::{Key, behind_colon, is_simple_key, key_at, property_fault};
 use crate::scalars::scalar_at;
 use crate::starts::{block_fault, is_block_start, is_flow_start, is_property, is_quote};
+use al_base::YamlCode;
 use al_scalar::{FaultAt, ScalarContext};
-use al_text::YamlCode;
 
 /// The fault of a flow collection that begins a line but no entry, by what stands behind it.
 fn refused_code(bytes: &[u8], in_mapping: bool, next: usize) -> YamlCode

@@ -27,9 +27,9 @@ use crate::flow_nodes::{
 use crate::limits::State;
 use crate::lines::is_text_end;
 use crate::part::{Part, mapping_part, sequence_part};
+use al_base::YamlCode;
 use al_scalar::lines::begins;
 use al_scalar::{FaultAt, ScalarRead};
-use al_text::YamlCode;
 use al_yaml::{Entry, Node, entry_of, scalar_node};
 
 /// What stands behind an item: a comma, with the offset of what follows it, or the closer, with the offset behind it.

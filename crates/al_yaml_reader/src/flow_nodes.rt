@@ -5,7 +5,7 @@ ghost use Rattle.al_scalar.specs.Line as line;
 ghost use Rattle.al_scalar.specs.Private.Places.{lines_at, text_at};
 ghost use Rattle.al_yaml_reader.specs.Private.Files.{left_at, size};
 ghost use Rattle.al_yaml.specs.Flow as flow;
-ghost use Rattle.al_text.specs.declared.codes.YamlCode.TheVariants as yaml;
+ghost use Rattle.al_base.specs.declared.codes.YamlCode.TheVariants as yaml;
 ghost use Rattle.al_yaml.specs.Content as content;
 ghost use Rattle.al_yaml_reader.specs.Private.FlowFrames.{Finds, FindsKey, IsBare, IsFound, IsFoundKey, alias_part, flow_slot};
 ghost use Rattle.al_yaml_reader.specs.Private.Places.{IsReadInside, Shows, option_lines};
@@ -24,9 +24,9 @@ use crate::lines::is_text_end;
 use crate::part::Part;
 use crate::scalars::{empty_part, scalar_at, scalar_part};
 use crate::starts::{flow_fault, is_flow_start, is_property, is_quote};
+use al_base::YamlCode;
 use al_scalar::lines::begins;
 use al_scalar::{FaultAt, ScalarContext, ScalarRead};
-use al_text::YamlCode;
 use std::alloc::AllocError;
 
 /// The key of a flow mapping's entry, and the offset behind its colon if it has one.

@@ -22,9 +22,9 @@ use crate::scalars::scalar_at;
 use crate::starts::{
     begins_flow_indicator, block_fault, is_block_start, is_flow_start, is_property, is_quote,
 };
+use al_base::YamlCode;
 use al_scalar::lines::{begins, blanks_end, is_blank_or_end, line_end};
 use al_scalar::{ScalarContext, ScalarRead};
-use al_text::YamlCode;
 use std::alloc::{AllocError, Global};
 
 /// The most characters of a key.

@@ -7,8 +7,8 @@ ghost use Rattle.al_yaml.specs.Reading.{start_with, start_of};
 ghost use Rattle.std.specs.Prelude.{◌+◌, ◌≡◌, ◌≤◌, ◌∷◌, [], IfErr, IfOk, MatchResult};
 
 use crate::anchors::Anchors;
+use al_base::YamlCode;
 use al_scalar::FaultAt;
-use al_text::YamlCode;
 
 /// The most nodes of a file.
 const MAX_NODES: u32 = 100_000;

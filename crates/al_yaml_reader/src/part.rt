@@ -5,7 +5,7 @@ ghost use Rattle.al_yaml.specs.Node as tree;
 ghost use Rattle.al_yaml.specs.View.{entries_of, entry_view, nodes_of, view};
 ghost use Rattle.std.specs.Prelude.{map, ◌<◌, ◌^◌, ◌≡◌};
 
-use al_text::Span;
+use al_base::Span;
 use al_yaml::{Entry, Node, mapping_node, sequence_node};
 
 /// A node that was read, the end of its written form, and the offset of what is left.

@@ -1,8 +1,8 @@
 //! Tests of a session over the small linter.
 
 use crate::linter::Toy;
+use al_base::{Output, Path, Stop};
 use al_session::{Change, Refused, Session, apply_change, apply_changes};
-use al_text::{Output, Path, Stop};
 use std::alloc::{AllocError, Global};
 
 // An edit, the files that it checks again, and the report then.

@@ -1,10 +1,10 @@
 -- Small folders, as the trees of their files, and the faults of their calls.
 use Rattle.std.specs.Prelude.{ℕ, List, [], ◌∷◌, codes, Option, Some}
-use Rattle.al_text.specs.declared.codes.CallCode.{CallCode}
-use Rattle.al_text.specs.declared.codes.Caller.{Caller}
-use Rattle.al_text.specs.declared.codes.Code.TheVariants as code_of
-use Rattle.al_text.specs.declared.faults.Fault.{Fault}
-use Rattle.al_text.specs.declared.faults.Span.{Span}
+use Rattle.al_base.specs.declared.codes.CallCode.{CallCode}
+use Rattle.al_base.specs.declared.codes.Caller.{Caller}
+use Rattle.al_base.specs.declared.codes.Code.TheVariants as code_of
+use Rattle.al_base.specs.declared.faults.Fault.{Fault}
+use Rattle.al_base.specs.declared.faults.Span.{Span}
 use Rattle.al_scalar.specs.declared.styles.Class.TheVariants.{Bool as BoolClass, Int}
 use Rattle.al_types.specs.Types.{Type', Any}
 use Rattle.al_yaml.specs.Node.{Node, sequence, mapping, no_nodes, item, no_entries, entry}

@@ -1,6 +1,6 @@
 -- Why putting files stopped.
 use Rattle.std.specs.Prelude.{◌≡◌, ℕ, List, Option, Some}
-use Rattle.al_text.specs.declared.stops.Stop.TheVariants.{Memory}
+use Rattle.al_base.specs.declared.stops.Stop.TheVariants.{Memory}
 use Rattle.al_session.specs.Folder.{Folder}
 use Rattle.al_session.specs.declared.lint.Refused.{Refused}
 use Rattle.al_cli.specs.declared.linted.Fatal.{Fatal}

@@ -3,7 +3,7 @@ use Rattle.std.specs.Prelude.{ℕ, List, Bool, true, false, ◌&&◌, codes, Opt
 use Rattle.std.specs.Cmp.Lexicographic.{pointwise}
 use Rattle.std.specs.Option.{option_eq}
 use Rattle.std.specs.Str.{bytes_eq}
-use Rattle.al_text.specs.contracts.faults.SpanPartialEq.TheImpl as span
+use Rattle.al_base.specs.contracts.faults.SpanPartialEq.TheImpl as span
 use Rattle.al_scalar.specs.Scalar.{text_of}
 use Rattle.al_types.specs.Private.TypeParts.{form_of}
 use Rattle.al_types.specs.contracts.types.FormPartialEq.TheImpl as outermost

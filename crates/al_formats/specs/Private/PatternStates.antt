@@ -1,7 +1,7 @@
 -- Words of private contracts: the states of the code that reads a filter pattern. What a pattern is, `Patterns` says; that the two agree,
 -- `proofs/PatternLemmas`.
 use Rattle.std.specs.Prelude.{ℕ, List, [], ◌∷◌, Bool, true, false, ◌==◌, nat_lt, if◌then◌else◌, Option, Some, None, option_and_then}
-use Rattle.al_text.specs.Ascii as ascii
+use Rattle.al_base.specs.Ascii as ascii
 use Rattle.al_formats.specs.Patterns.{is_mark}
 use Rattle.al_formats.specs.declared.patterns.State.{State}
 use Rattle.al_formats.specs.declared.patterns.State.TheVariants.{FirstItem, AfterItem, AfterEscape, ClassFirst, ClassNext, ClassLow}

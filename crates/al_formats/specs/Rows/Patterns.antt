@@ -1,6 +1,6 @@
 -- Filter patterns that were worked out by hand.
 use Rattle.std.specs.Prelude.{ℕ, List, [], ◌∷◌, ◌++◌, codes}
-use Rattle.al_text.specs.Ascii.{backslash}
+use Rattle.al_base.specs.Ascii.{backslash}
 
 abbrev pub e_acute : ℕ
 e_acute = 233

@@ -1,6 +1,6 @@
 -- Schedules that were worked out by hand.
 use Rattle.std.specs.Prelude.{ℕ, List, [], ◌∷◌, ◌++◌, codes, Bool, false, not, Option, Some, None}
-use Rattle.al_text.specs.Ascii.{tab}
+use Rattle.al_base.specs.Ascii.{tab}
 use Rattle.al_formats.specs.Schedules.{is_too_often, schedule_of}
 use Rattle.al_formats.specs.declared.schedules.Item.{Item}
 

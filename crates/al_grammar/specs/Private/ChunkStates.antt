@@ -2,10 +2,10 @@
 -- `proofs/ChunkLemmas`.
 use Rattle.std.specs.Prelude.{◌≤◌, ◌<◌, ℕ, zero, suc, ◌+◌, ◌-◌, ◌^◌, List, [], ◌∷◌, ◌++◌, if◌then◌else◌, Option, Some, None}
 use Rattle.std.specs.Str.{IsCharBoundary}
-use Rattle.al_text.specs.FirstBytes.{first_is}
-use Rattle.al_text.specs.declared.codes.ExpressionCode.TheVariants as code
-use Rattle.al_text.specs.declared.faults.Fault.{Fault}
-use Rattle.al_text.specs.declared.faults.Span.{Span}
+use Rattle.al_base.specs.FirstBytes.{first_is}
+use Rattle.al_base.specs.declared.codes.ExpressionCode.TheVariants as code
+use Rattle.al_base.specs.declared.faults.Fault.{Fault}
+use Rattle.al_base.specs.declared.faults.Span.{Span}
 use Rattle.al_grammar.specs.Chunks.{Chunked, closes, is_quote, no_chunks, opens, then_chunk}
 use Rattle.al_grammar.specs.declared.chunk.ChunkState.{ChunkState}
 use Rattle.al_grammar.specs.declared.chunk.ChunkState.TheVariants.{Outside, Inside, Quoted}

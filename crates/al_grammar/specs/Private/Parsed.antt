@@ -8,7 +8,7 @@ use Rattle.al_grammar.specs.declared.token.TokenKind.{TokenKind}
 use Rattle.al_grammar.specs.declared.token.TokenKind.TheVariants.{Name, Open, Close, OpenIndex, Comma, Bang, Dot, Infix}
 use Rattle.al_grammar.specs.declared.parser.ParseError.{ParseError}
 use Rattle.al_grammar.specs.declared.parser.ParseError.TheVariants as error
-use Rattle.al_text.specs.declared.faults.Span.{Span}
+use Rattle.al_base.specs.declared.faults.Span.{Span}
 use Rattle.al_grammar.specs.Lexeme.{Lexeme, lexeme, kinds, seen}
 use Rattle.al_grammar.specs.Tree.{Sign, Tree, StepTree}
 use Rattle.al_grammar.specs.Grammar.{Nonterminal, Binary, Unary, Postfix, Primary, level_of, Derives, Operators, Walks, Lists}

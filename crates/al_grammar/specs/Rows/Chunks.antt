@@ -1,7 +1,7 @@
 -- What rows of chunks are written with.
 use Rattle.std.specs.Prelude.{ℕ, List, map, Some, None}
-use Rattle.al_text.specs.declared.codes.ExpressionCode.{ExpressionCode}
-use Rattle.al_text.specs.declared.faults.Span.{Span}
+use Rattle.al_base.specs.declared.codes.ExpressionCode.{ExpressionCode}
+use Rattle.al_base.specs.declared.faults.Span.{Span}
 use Rattle.al_grammar.specs.Chunks.{Chunked}
 use Rattle.al_grammar.specs.Refusal.{fault}
 use Rattle.al_grammar.specs.Tokens.{span}

@@ -1,5 +1,5 @@
 -- What clauses see of a call's arguments.
-use Rattle.al_text.specs.declared.faults.Span.{Span}
+use Rattle.al_base.specs.declared.faults.Span.{Span}
 use Rattle.al_meaning.specs.declared.calls.Argument.{Argument}
 use Rattle.al_types.specs.Types.{Type'}
 use Rattle.al_types.specs.TypeViews.{ty_of}

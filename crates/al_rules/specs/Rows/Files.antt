@@ -4,8 +4,8 @@ use Rattle.al_scalar.specs.Line.{Cell}
 use Rattle.al_scalar.specs.declared.styles.Class.{Class}
 use Rattle.al_scalar.specs.declared.styles.Class.TheVariants.{Str}
 use Rattle.al_scalar.specs.declared.styles.Style.TheVariants.{Plain, SingleQuoted}
-use Rattle.al_text.specs.declared.faults.Fault.{Fault}
-use Rattle.al_text.specs.declared.faults.Span.{Span}
+use Rattle.al_base.specs.declared.faults.Fault.{Fault}
+use Rattle.al_base.specs.declared.faults.Span.{Span}
 use Rattle.al_yaml.specs.Node.{Node, scalar, sequence, mapping, no_nodes, item, no_entries, entry}
 use Rattle.al_graph.specs.Within.{leads_within}
 use Rattle.al_rules.specs.Needs.{keys_of, needs_faults, needs_lists, position_in}

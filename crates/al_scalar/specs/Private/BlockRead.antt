@@ -1,10 +1,10 @@
 -- What the reader of block scalars answers, in terms of offsets.
 use Rattle.std.specs.Prelude.{◌≡◌, ℕ, List, [], ◌∷◌, ◌++◌, length, Bool, true, false, Option, Some}
 use Rattle.std.specs.Prelude.{None, Result, Ok, Err, cond, nat_le, if◌then◌else◌}
-use Rattle.al_text.specs.Ascii as ascii
+use Rattle.al_base.specs.Ascii as ascii
 use Rattle.al_scalar.specs.Line.{Cell, Line, is_all_blank, indent}
 use Rattle.al_scalar.specs.Taken.{Fault, Taken, with_text}
-use Rattle.al_text.specs.declared.codes.YamlCode.TheVariants.{WrongBlockHeader}
+use Rattle.al_base.specs.declared.codes.YamlCode.TheVariants.{WrongBlockHeader}
 use Rattle.al_scalar.specs.Private.Places.{lines_at, text_at, cells_between, OnLine}
 use Rattle.al_scalar.specs.Block as block
 use Rattle.al_scalar.specs.Block.{Header, BlockLine, last_end}

@@ -1,7 +1,7 @@
 -- What the reader of double-quoted scalars answers, in terms of offsets.
 use Rattle.std.specs.Prelude.{◌≡◌, ◌⊎◌, ℕ, ◌+◌, ◌<◌, ◌≤◌, List, [], ◌++◌, length, slice_index, Bool, Some, None, Result, Ok, Err, take}
-use Rattle.al_text.specs.Ascii as ascii
-use Rattle.al_text.specs.declared.codes.YamlCode.TheVariants as yaml
+use Rattle.al_base.specs.Ascii as ascii
+use Rattle.al_base.specs.declared.codes.YamlCode.TheVariants as yaml
 use Rattle.al_scalar.specs.Line.{Cell}
 use Rattle.al_scalar.specs.Private.Places.{lines_at, text_at, later, cells_between, OnLine, IsBreakByte, IsLineEnd}
 use Rattle.al_scalar.specs.Taken.{Fault, Taken, before}

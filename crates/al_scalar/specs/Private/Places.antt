@@ -1,7 +1,7 @@
 -- The lines from an offset, and where they end.
 use Rattle.std.specs.Prelude.{◌≡◌, ◌⊎◌, ℕ, zero, suc, ◌-◌, ◌<◌, ◌≤◌, List, [], ◌∷◌, ◌++◌, length, slice_index, drop, Option, Some}
 use Rattle.std.specs.Prelude.{None, ◌+◌, Bool, true, false}
-use Rattle.al_text.specs.Ascii as ascii
+use Rattle.al_base.specs.Ascii as ascii
 use Rattle.al_scalar.specs.Line.{Cell, Line, lines, cut, is_all_blank}
 use Rattle.al_scalar.specs.Places.{first_end, first_text}
 

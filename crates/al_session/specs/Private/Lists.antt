@@ -3,10 +3,10 @@ use Rattle.std.specs.Prelude.{◌≡◌, ℕ, ◌≤◌, Bool, List, [], ◌∷�
 use Rattle.std.specs.Prelude.{length, ◌<◌, Option, Some, None, String, Vec, slice_get, slice_index_or, string_bytes, bytes_eq, cond}
 use Rattle.std.specs.Global.{Global}
 use Rattle.std.specs.List.{AllByRecursion, flat_map}
-use Rattle.al_text.specs.declared.faults.Fault.{Fault}
-use Rattle.al_text.specs.LineStarts.{line_starts}
+use Rattle.al_base.specs.declared.faults.Fault.{Fault}
+use Rattle.al_base.specs.LineStarts.{line_starts}
 use Rattle.al_text.specs.Snippets.{fault_text}
-use Rattle.al_text.specs.Spans.{LiesIn}
+use Rattle.al_base.specs.Spans.{LiesIn}
 use Rattle.al_folder.specs.Meaning.{Meaning}
 use Rattle.al_folder.specs.Loops.{reported}
 use Rattle.al_folder.specs.declared.kept.KeptFile.{KeptFile}

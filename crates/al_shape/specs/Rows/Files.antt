@@ -3,7 +3,7 @@ use Rattle.std.specs.Prelude.{ℕ, ◌+◌, List, [], codes, length, map}
 use Rattle.al_scalar.specs.declared.styles.Class.{Class}
 use Rattle.al_scalar.specs.declared.styles.Class.TheVariants.{Null, Int, Str}
 use Rattle.al_scalar.specs.declared.styles.Style.TheVariants.{Plain}
-use Rattle.al_text.specs.declared.faults.Span.{Span}
+use Rattle.al_base.specs.declared.faults.Span.{Span}
 use Rattle.al_yaml.specs.Node.{Node, scalar, sequence, mapping, no_nodes, item, no_entries, entry}
 
 abbrev pub at : ℕ → ℕ → Span

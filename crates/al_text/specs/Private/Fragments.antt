@@ -1,7 +1,7 @@
 -- Fragments of what is printed, one after another.
 use Rattle.std.specs.Prelude.{ℕ, List, ◌++◌, map, codes}
 use Rattle.std.specs.List.{flat_map}
-use Rattle.al_text.specs.Messages.{shown}
+use Rattle.al_base.specs.Shown.{shown}
 use Rattle.al_text.specs.Snippets.{spaces_for}
 use Rattle.al_text.specs.Private.Marks.{chars_of, mark_byte}
 use Rattle.al_text.specs.declared.printing.Fragment.{Fragment}

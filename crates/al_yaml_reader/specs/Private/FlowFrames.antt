@@ -1,6 +1,6 @@
 -- How contracts speak of open flow collections.
 use Rattle.std.specs.Prelude.{◌≡◌, ℕ, suc, ◌+◌, ◌<◌, ◌≤◌, List, [], ◌∷◌, length, map, true, Option, Some, None, option_map, Result, Ok, Err}
-use Rattle.al_text.specs.declared.codes.YamlCode.TheVariants as yaml
+use Rattle.al_base.specs.declared.codes.YamlCode.TheVariants as yaml
 use Rattle.al_scalar.specs.Private.Contract.{read_of}
 use Rattle.al_scalar.specs.Line.{Line, start, begins}
 use Rattle.al_scalar.specs.Private.Places.{lines_at, text_at}

@@ -1,6 +1,6 @@
 -- What a stack of open collections stands for: what is still to be read behind the node that is read now.
 use Rattle.std.specs.Prelude.{ℕ, List, Option, Some, None, Result, Ok, Err}
-use Rattle.al_text.specs.declared.codes.YamlCode.TheVariants as yaml
+use Rattle.al_base.specs.declared.codes.YamlCode.TheVariants as yaml
 use Rattle.al_scalar.specs.Line.{Line}
 use Rattle.al_scalar.specs.Scalar.{ScalarRead}
 use Rattle.al_scalar.specs.Taken.{Fault}

@@ -3,7 +3,7 @@ use Rattle.std.specs.List.{flat_map}
 use Rattle.al_calls.specs.CallFaults as faults
 use Rattle.al_declarations.specs.Private.NameSets.{holds}
 use Rattle.al_uses.specs.Private.CallViews.{call_of}
-use Rattle.al_text.specs.Growth.{BeginsWith}
+use Rattle.al_base.specs.Growth.{BeginsWith}
 use Rattle.al_calls.proofs.secrets.check_missing_secrets.Given as goal
 
 abbrev pub invariant-loop-secret : goal.invariant-loop-secret

@@ -3,7 +3,7 @@ use Rattle.std.specs.List.{flat_map}
 use Rattle.al_calls.specs.CallFaults.{wrong_input}
 use Rattle.al_uses.specs.Private.CallViews.{call_of}
 use Rattle.al_calls.specs.Private.AnswerViews.{given_of}
-use Rattle.al_text.specs.Growth.{BeginsWith}
+use Rattle.al_base.specs.Growth.{BeginsWith}
 use Rattle.al_calls.proofs.values.check_values.Given as goal
 
 abbrev pub invariant-loop-value : goal.invariant-loop-value

@@ -5,7 +5,7 @@ use Rattle.al_yaml.specs.Document.{tree_of}
 use Rattle.al_yaml.specs.Spans.{AreFrom, IsInside, IsLaid}
 use Rattle.al_yaml.specs.Texts.{HasTexts}
 use Rattle.al_yaml.specs.View.{view}
-use Rattle.al_check.specs.Reading.{root_of}
+use Rattle.al_tree.specs.Files.{root_of}
 use Rattle.al_check.specs.Sites.{sites_given}
 use Rattle.al_check.proofs.files.read_tree.Goals as goal
 

@@ -1,6 +1,6 @@
 use Rattle.std.proofs.Common.{◌≡◌, ◌++◌, drop, map}
 use Rattle.std.specs.List.{flat_map}
-use Rattle.al_text.specs.Growth.{BeginsWith}
+use Rattle.al_base.specs.Growth.{BeginsWith}
 use Rattle.al_grammar.specs.Chunks.{span_of_chunk}
 use Rattle.al_types.specs.Scopes.{scope_of}
 use Rattle.al_contents.specs.Contents.{chunk_faults}

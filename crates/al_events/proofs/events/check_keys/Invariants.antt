@@ -1,5 +1,5 @@
 use Rattle.std.proofs.Common.{◌≡◌, ◌++◌, drop, map}
-use Rattle.al_text.specs.Growth.{BeginsWith}
+use Rattle.al_base.specs.Growth.{BeginsWith}
 use Rattle.std.specs.List.{flat_map}
 use Rattle.al_yaml.specs.View.{view}
 use Rattle.al_events.specs.Events.{filter_faults}

@@ -5,7 +5,7 @@ use Rattle.al_calls.specs.Answers.{answered_faults}
 use Rattle.al_contexts.specs.Answered.{known_of}
 use Rattle.al_contexts.specs.Private.Standing.{Stands}
 use Rattle.al_file_calls.specs.FileCalls.{typing}
-use Rattle.al_text.specs.Growth.{SameSet}
+use Rattle.al_base.specs.Growth.{SameSet}
 use Rattle.al_yaml.specs.View.{view}
 use Rattle.al_file_calls.proofs.faults.check_each.Given as goal
 

@@ -2,7 +2,7 @@ use Rattle.std.proofs.Common.{◌∙◌, sym}
 use Rattle.std.proofs.lemmas.Result.{on_ok_weaker}
 use Rattle.al_calls.specs.Private.AnswerViews.{answered_of}
 use Rattle.al_contexts.specs.Answered.{known_of}
-use Rattle.al_text.proofs.Growing.{same_set}
+use Rattle.al_base.proofs.Growing.{same_set}
 use Rattle.al_yaml.specs.View.{view}
 use Rattle.al_file_calls.specs.FileCalls.{typing}
 use Rattle.al_file_calls.proofs.Repeating.{repeated_there}

@@ -1,5 +1,5 @@
 use Rattle.std.proofs.Common.{ap, ◌∙◌}
-use Rattle.al_text.specs.FaultLists.{fault_list}
+use Rattle.al_base.specs.FaultLists.{fault_list}
 use Rattle.al_file_calls.proofs.Sets.{set_listed}
 use Rattle.al_file_calls.proofs.faults.once_each.Goals as goal
 

@@ -1,7 +1,7 @@
 use Rattle.std.proofs.Common.{◌≡◌, ◌++◌, List, ap, ◌∙◌, subst, map}
 use Rattle.al_calls.specs.Private.AnswerViews.{answered_of}
-use Rattle.al_text.specs.Growth.{SameSet}
-use Rattle.al_text.specs.declared.faults.Fault.{Fault}
+use Rattle.al_base.specs.Growth.{SameSet}
+use Rattle.al_base.specs.declared.faults.Fault.{Fault}
 use Rattle.al_contexts.specs.Answered.{behind_of, known_in, known_of}
 use Rattle.al_contexts.specs.Contexts.{Known}
 use Rattle.al_contents.specs.FileExpressions.{expression_faults}

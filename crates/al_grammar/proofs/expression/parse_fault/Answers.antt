@@ -1,9 +1,9 @@
 use Rattle.std.proofs.Common.{◌≡◌, [], ◌∷◌, sym, ap, ◌∙◌, map, Some, Option, Result}
 use Rattle.std.specs.Prelude.{IfOk}
-use Rattle.al_text.specs.declared.faults.Fault.{Fault}
+use Rattle.al_base.specs.declared.faults.Fault.{Fault}
 use Rattle.std.proofs.lemmas.List.{length-map}
 use Rattle.std.proofs.lemmas.Result.{IfOk-weaker}
-use Rattle.al_text.specs.declared.codes.ExpressionCode.TheVariants as code
+use Rattle.al_base.specs.declared.codes.ExpressionCode.TheVariants as code
 use Rattle.al_grammar.specs.Lexeme.{seen, kinds}
 use Rattle.al_grammar.specs.Refusal.{fault, fault_of_verdict}
 use Rattle.al_grammar.specs.Table.{verdict_of}

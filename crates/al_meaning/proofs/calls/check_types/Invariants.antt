@@ -1,6 +1,6 @@
 use Rattle.std.proofs.Common.{◌≡◌, ◌++◌, map, drop, string_bytes}
 use Rattle.al_meaning.specs.Private.CallViews.{argument_of}
-use Rattle.al_text.specs.Growth.{BeginsWith}
+use Rattle.al_base.specs.Growth.{BeginsWith}
 use Rattle.al_meaning.specs.Meaning.{wrong_arguments}
 use Rattle.al_meaning.proofs.calls.check_types.Given as goal
 

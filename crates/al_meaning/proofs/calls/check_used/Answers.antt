@@ -2,6 +2,7 @@ use Rattle.std.proofs.Common.{◌≡◌, ℕ, List, [], ◌∷◌, ◌++◌, Boo
 use Rattle.std.proofs.lemmas.List.{at_drop_all}
 use Rattle.al_meaning.specs.Private.CallViews.{argument_of}
 use Rattle.al_meaning.specs.Meaning.{unused}
+use Rattle.al_base.proofs.Growing.{begins_trans}
 use Rattle.al_meaning.proofs.calls.check_used.Goals as goal
 
 unused-nil : (n : ℕ) (used : List Bool) → unused n used [] ≡ []
@@ -14,3 +15,6 @@ returns-clause-ok c =
     let used = drop c.loop-index.index c.args.used.now in
     let d = at_drop_all (λ l. now ++ unused c.loop-index.index used (map argument_of l)) c.args.arguments.now c.loop-index.index (omega arith) in
     sym (append-nil now) ∙ ap (λ l. now ++ l) (sym (unused-nil c.loop-index.index used)) ∙ sym d ∙ c.loop-index.invariant.so_far
+
+pub returns-in_err-check_argument-clause-begins : goal.returns-in_err-check_argument-clause-begins
+returns-in_err-check_argument-clause-begins c = begins_trans _ _ _ c.loop-index.invariant.begins c.check_argument.ensures.begins

@@ -1,6 +1,6 @@
 use Rattle.std.proofs.Common.{◌≡◌, ◌++◌, map, drop}
 use Rattle.al_meaning.specs.Private.CallViews.{argument_of}
-use Rattle.al_text.specs.Growth.{BeginsWith}
+use Rattle.al_base.specs.Growth.{BeginsWith}
 use Rattle.al_meaning.specs.Meaning.{unused}
 use Rattle.al_meaning.proofs.calls.check_used.Given as goal
 

@@ -1,7 +1,7 @@
 use Rattle.std.proofs.Common.{◌≡◌, [], map, drop}
 use Rattle.al_meaning.specs.Private.CallViews.{argument_of}
 use Rattle.al_meaning.specs.Private.FoundTypes.{found_type}
-use Rattle.al_text.specs.Growth.{BeginsWith}
+use Rattle.al_base.specs.Growth.{BeginsWith}
 use Rattle.al_types.specs.Scopes.{scope_of}
 use Rattle.al_grammar.specs.Tree.{steps_of, operands_of, arguments_of}
 use Rattle.al_types.specs.TypeViews.{ty_of}

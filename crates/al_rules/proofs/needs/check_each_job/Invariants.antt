@@ -1,5 +1,5 @@
 use Rattle.std.proofs.Common.{◌≡◌, ◌++◌, take, map}
-use Rattle.al_text.specs.Growth.{BeginsWith}
+use Rattle.al_base.specs.Growth.{BeginsWith}
 use Rattle.al_shape.specs.Values.{member_of}
 use Rattle.al_declarations.specs.Private.Positions.{name_position}
 use Rattle.al_rules.specs.Needs.{all_needs}

@@ -1,4 +1,4 @@
-use Rattle.al_text.specs.declared.codes.YamlCode.TheVariants.{WrongBlockHeader}
+use Rattle.al_base.specs.declared.codes.YamlCode.TheVariants.{WrongBlockHeader}
 use Rattle.std.proofs.Common.{◌∙◌, ◌≤◌, Some, None, IfSome, Ok, length, ap, subst, arith}
 use Rattle.al_scalar.specs.Taken.{Taken}
 use Rattle.al_scalar.specs.Places.{first_text}

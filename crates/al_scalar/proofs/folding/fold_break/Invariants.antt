@@ -1,5 +1,5 @@
 use Rattle.std.proofs.Common.{length, ◌-◌, ◌≡◌, ◌≤◌, ◌<◌, ◌++◌}
-use Rattle.al_text.specs.Growth.{BeginsWith}
+use Rattle.al_base.specs.Growth.{BeginsWith}
 use Rattle.al_scalar.specs.Private.Places.{lines_at, later}
 use Rattle.al_scalar.specs.Private.PlainLines.{empty_ends, break_left}
 use Rattle.al_scalar.specs.Private.Folding.{solid_lines}

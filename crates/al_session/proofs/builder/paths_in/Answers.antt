@@ -1,5 +1,5 @@
 use Rattle.std.proofs.Common.{◌∙◌, ◌++◌, ◌∷◌, [], ap, sym, arith, take, List, ℕ}
-use Rattle.al_text.specs.Paths.{path_fault_of}
+use Rattle.al_base.specs.Paths.{path_fault_of}
 use Rattle.std.proofs.lemmas.List.{length-map, take_all}
 use Rattle.al_folder.specs.Folder.{paths_of}
 use Rattle.al_folder.specs.Kept.{folder_of}

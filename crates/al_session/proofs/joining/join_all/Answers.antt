@@ -1,6 +1,6 @@
 use Rattle.std.proofs.Common.{sym, subst, arith, ℕ, List, Option, Vec}
 use Rattle.std.specs.Global.{Global}
-use Rattle.al_text.specs.declared.faults.Fault.{Fault}
+use Rattle.al_base.specs.declared.faults.Fault.{Fault}
 use Rattle.al_session.specs.Private.Lists.{AreJoined}
 use Rattle.al_session.proofs.ListedFaults.{joined_next, joined_none}
 use Rattle.al_session.proofs.joining.join_all.Goals as goal

@@ -6,12 +6,12 @@ use Rattle.std.specs.Io.KnownBytes.{Appends}
 use Rattle.std.proofs.lemmas.List.{take_all}
 use Rattle.std.proofs.lemmas.Result.{err_from_is_err_and}
 use Rattle.std.proofs.lemmas.List.FromFn.{length-enumerate_from}
-use Rattle.al_text.specs.Counted.{AppendsFront}
-use Rattle.al_text.specs.declared.faults.Fault.{Fault}
+use Rattle.al_base.specs.Counted.{AppendsFront}
+use Rattle.al_base.specs.declared.faults.Fault.{Fault}
 use Rattle.al_session.specs.Private.Lists.{IsPrintable, lines_of, listed, numbered_lines}
 use Rattle.al_folder.specs.declared.kept.KeptFile.{KeptFile}
 use Rattle.al_folder.proofs.Missings.{read_is}
-use Rattle.al_text.proofs.Bytes.{Appends-next, AppendsFront-next}
+use Rattle.al_base.proofs.Bytes.{Appends-next, AppendsFront-next}
 use Rattle.al_session.proofs.ListedFaults.{list_read, numbered}
 use Rattle.al_session.proofs.report.write_files.Goals as goal
 

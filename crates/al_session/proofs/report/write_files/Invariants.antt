@@ -1,7 +1,7 @@
 use Rattle.std.proofs.Common.{◌≡◌, take}
 use Rattle.std.specs.Io.KnownBytes.{Appends}
 use Rattle.std.specs.List.{enumerate_from, flat_map}
-use Rattle.al_text.specs.Streams.{bytes_written, write_failures}
+use Rattle.al_base.specs.Streams.{bytes_written, write_failures}
 use Rattle.al_session.specs.Private.Lists.{numbered_lines}
 use Rattle.al_session.proofs.report.write_files.Given as goal
 

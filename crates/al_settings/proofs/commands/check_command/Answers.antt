@@ -2,7 +2,7 @@ use Rattle.std.proofs.Common.{◌≡◌, ◌++◌, ◌∷◌, [], map, ap, ◌�
 use Rattle.std.proofs.lemmas.List.Elements.{All-same, All-tail}
 use Rattle.memchr.specs.Find.{OccursAt, matches}
 use Rattle.al_scalar.specs.Scalar.{text_of}
-use Rattle.al_text.proofs.Growing.{begins_same, begins_trans}
+use Rattle.al_base.proofs.Growing.{begins_same, begins_trans}
 use Rattle.al_settings.specs.Commands.{command_fault}
 use Rattle.al_settings.proofs.Places.{places_occur}
 use Rattle.al_settings.proofs.commands.check_command.Goals as goal

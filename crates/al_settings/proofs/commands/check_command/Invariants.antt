@@ -2,7 +2,7 @@ use Rattle.std.proofs.Common.{◌≡◌, ◌++◌, map}
 use Rattle.std.specs.Prelude.{All}
 use Rattle.memchr.specs.Find.{OccursAt}
 use Rattle.al_scalar.specs.Scalar.{text_of}
-use Rattle.al_text.specs.Growth.{BeginsWith}
+use Rattle.al_base.specs.Growth.{BeginsWith}
 use Rattle.al_settings.specs.Commands.{command_fault, one_command}
 use Rattle.al_settings.proofs.commands.check_command.Given as goal
 

@@ -1,5 +1,5 @@
 use Rattle.std.proofs.Common.{◌≡◌, ◌++◌, [], drop, take, map}
-use Rattle.al_text.specs.Growth.{BeginsWith}
+use Rattle.al_base.specs.Growth.{BeginsWith}
 use Rattle.al_shape.specs.Keys.{holds}
 use Rattle.al_shape.specs.Names.{among}
 use Rattle.al_settings.specs.Ids.{repeated_faults}

@@ -1,8 +1,8 @@
 use Rattle.std.proofs.Common.{◌≡◌, ◌++◌, drop, map}
-use Rattle.al_text.specs.Growth.{BeginsWith}
+use Rattle.al_base.specs.Growth.{BeginsWith}
 use Rattle.std.specs.List.{flat_map}
 use Rattle.al_shape.specs.Keys.{holds}
-use Rattle.al_text.specs.declared.codes.RuleCode.TheVariants.{UnknownMatrixRow}
+use Rattle.al_base.specs.declared.codes.RuleCode.TheVariants.{UnknownMatrixRow}
 use Rattle.al_settings.specs.Private.Views.{folded_id}
 use Rattle.al_reports.specs.Words.{unless}
 use Rattle.al_settings.proofs.matrix.check_excluded.Given as goal

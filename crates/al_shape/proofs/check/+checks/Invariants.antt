@@ -1,7 +1,7 @@
 use Rattle.std.proofs.Common.{◌≡◌, ◌++◌, [], take, drop, map}
 use Rattle.al_yaml.specs.View.{entries_of, entry_view, nodes_of, view}
 use Rattle.al_shape.specs.Faults.{entries_faults, items_faults}
-use Rattle.al_text.specs.Growth.{BeginsWith}
+use Rattle.al_base.specs.Growth.{BeginsWith}
 use Rattle.al_shape.specs.Keys.{holds, keys_in}
 use Rattle.al_shape.specs.Names.{among}
 use Rattle.al_shape.specs.Table.{keys_view}

@@ -1,7 +1,7 @@
 use Rattle.std.proofs.Common.{rules}
 use Rattle.std.proofs.lemmas.Result.{err_from_is_err_and}
 use Rattle.al_text.specs.Private.Fragments.{fragment_bytes}
-use Rattle.al_text.proofs.Bytes.{AppendsFront-part}
+use Rattle.al_base.proofs.Bytes.{AppendsFront-part}
 use Rattle.al_text.proofs.printing.write_fragments.Goals as goal
 
 pub returns-in_err-write_fragment-clause-front : goal.returns-in_err-write_fragment-clause-front

@@ -1,8 +1,8 @@
 use Rattle.std.proofs.Common.{◌≡◌, ◌++◌, ◌∷◌, [], ℕ, List, subst, append_assoc}
 use Rattle.std.proofs.lemmas.Result.{on_ok_weaker, on_err_weaker}
 use Rattle.std.specs.Io.KnownBytes.{Appends}
-use Rattle.al_text.specs.Counted.{AppendsFront}
-use Rattle.al_text.specs.Messages.{shown}
+use Rattle.al_base.specs.Counted.{AppendsFront}
+use Rattle.al_base.specs.Shown.{shown}
 use Rattle.al_text.proofs.printing.write_line.Goals as goal
 
 -- parts one after another, as a sum from the left

@@ -1,7 +1,7 @@
 use Rattle.std.proofs.Common.{◌≡◌, ◌≤◌, ℕ, List, Option, length}
 use Rattle.std.specs.Io.KnownBytes.{Appends}
-use Rattle.al_text.specs.Counted.{AppendsFront}
-use Rattle.al_text.specs.Messages.{shown}
+use Rattle.al_base.specs.Counted.{AppendsFront}
+use Rattle.al_base.specs.Shown.{shown}
 use Rattle.al_text.proofs.printing.write_shown.Given as goal
 
 abbrev pub invariant-loop-at : goal.invariant-loop-at

@@ -1,5 +1,5 @@
 use Rattle.std.proofs.Common.{length, subst, sym, arith}
-use Rattle.al_text.specs.Spans.{LiesIn}
+use Rattle.al_base.specs.Spans.{LiesIn}
 use Rattle.al_yaml.proofs.CharacterLemmas.{character-inside}
 use Rattle.al_yaml_reader.proofs.bytes.byte_fault.Goals as goal
 

@@ -1,5 +1,5 @@
 use Rattle.std.proofs.Common.{arith, length, subst, sym}
-use Rattle.al_text.specs.Spans.{LiesIn}
+use Rattle.al_base.specs.Spans.{LiesIn}
 use Rattle.al_yaml.specs.View.{view}
 use Rattle.al_yaml.proofs.LaidRoot.{document-from, document-inside, document-laid}
 use Rattle.al_yaml.proofs.LaidLemmas.{laid-wider}

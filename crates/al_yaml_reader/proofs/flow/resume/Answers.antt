@@ -1,5 +1,5 @@
 use Rattle.std.proofs.Common.{sym, ◌∙◌}
-use Rattle.al_text.specs.declared.codes.YamlCode.TheVariants as yaml
+use Rattle.al_base.specs.declared.codes.YamlCode.TheVariants as yaml
 use Rattle.al_yaml_reader.proofs.RunLemmas.{run-fails}
 use Rattle.al_yaml_reader.proofs.flow.resume.Goals as goal
 

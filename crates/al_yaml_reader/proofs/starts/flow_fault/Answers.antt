@@ -1,6 +1,6 @@
 use Rattle.std.proofs.Common.{◌≡◌, ◌∙◌, ◌+◌, ℕ, List, length, ◌≤◌, ap, sym, slice_index, Bool, true, false, cond, Some, None}
-use Rattle.al_text.specs.declared.codes.YamlCode.{YamlCode}
-use Rattle.al_text.specs.declared.codes.YamlCode.TheVariants as yaml
+use Rattle.al_base.specs.declared.codes.YamlCode.{YamlCode}
+use Rattle.al_base.specs.declared.codes.YamlCode.TheVariants as yaml
 use Rattle.al_scalar.specs.Line.{is_empty, is_blank_or_end}
 use Rattle.al_scalar.specs.Private.Places.{text_at}
 use Rattle.al_scalar.specs.Plain.{begins_flow_indicator}

@@ -1,0 +1,268 @@
+-- The order of faults is the derived one, it is total, and it tells equal faults.
+use Rattle.std.proofs.Common.{◌≡◌, ℕ, List, [], ◌∷◌, get_or, refl, sym, ap, ◌∙◌, arith}
+use Rattle.std.specs.Cmp.{IsTotalOrder}
+use Rattle.std.specs.List.{AllByRecursion, Contains}
+use Rattle.std.specs.List.Sorted.{IsPermutation, IsStrictlySortedBy}
+use Rattle.std.specs.FinMap.{IsAntisymmetric, nat_cmp-IsAntisymmetric, slice_cmp-IsAntisymmetric}
+use Rattle.std.specs.Ordering.{nat_cmp, ordering_then, eq_by_cmp, is_eq}
+use Rattle.std.specs.declared.cmp.Ordering.{Ordering}
+use Rattle.std.specs.declared.cmp.Ordering.TheVariants.{Less, Equal, Greater}
+use Rattle.std.proofs.lemmas.List.Sorted.{Contains-permutation, IsPermutation-sym}
+use Rattle.std.proofs.lemmas.Cmp.{nat_cmp_total, on_total, then_total}
+use Rattle.al_base.specs.Orders.{args_cmp, args_total}
+use Rattle.al_base.specs.FaultLists.{fault_cmp, fault_list, kind_place, place_in_kind, yaml_place, key_place, rule_place, expression_place, call_place}
+use Rattle.al_base.specs.declared.codes.Code.{Code}
+use Rattle.al_base.specs.declared.codes.Code.TheVariants as C
+use Rattle.al_base.specs.declared.codes.YamlCode.{YamlCode}
+use Rattle.al_base.specs.declared.codes.YamlCode.TheVariants.{NotUtf8, ControlCharacter, TabInIndentation, WrongIndentation, UnclosedQuote}
+use Rattle.al_base.specs.declared.codes.YamlCode.TheVariants.{UnclosedFlow, AnchorOrAlias, Tag, ExplicitKey, Directive, SecondDocument}
+use Rattle.al_base.specs.declared.codes.YamlCode.TheVariants.{WrongEscape, UnexpectedCharacter, NestingTooDeep, TooManyNodes}
+use Rattle.al_base.specs.declared.codes.YamlCode.TheVariants.{WrongBlockHeader, WrongKey, UnknownAlias}
+use Rattle.al_base.specs.declared.codes.KeyCode.{KeyCode}
+use Rattle.al_base.specs.declared.codes.KeyCode.TheVariants.{Unexpected, Missing, Repeated, WrongKind, WrongType, NotBeside, EmptyFile}
+use Rattle.al_base.specs.declared.codes.RuleCode.{RuleCode}
+use Rattle.al_base.specs.declared.codes.RuleCode.TheVariants.{UnknownEvent, UnknownActivity, WrongPattern, WrongSchedule, ScheduleTooOften}
+use Rattle.al_base.specs.declared.codes.RuleCode.TheVariants.{WrongId, RepeatedId, UndefinedJob, NeedsCycle, WrongMatrix, UnknownMatrixRow}
+use Rattle.al_base.specs.declared.codes.RuleCode.TheVariants.{UnknownShell, UnknownPermission, WrongPermission, WrongVariable}
+use Rattle.al_base.specs.declared.codes.RuleCode.TheVariants.{PasswordNotExpression, DeprecatedCommand, AlwaysTrue, UnknownInputType}
+use Rattle.al_base.specs.declared.codes.RuleCode.TheVariants.{UnknownUsing, MissingShell, MissingOutputValue}
+use Rattle.al_base.specs.declared.codes.CallCode.{CallCode}
+use Rattle.al_base.specs.declared.codes.CallCode.TheVariants.{NoWorkflow, UndefinedInput, MissingInput, WrongInput, UndefinedSecret, MissingSecret, WrongUses, NotCallable, LeadsBack}
+use Rattle.al_base.specs.declared.codes.Caller.{Caller}
+use Rattle.al_base.specs.declared.codes.Caller.TheVariants as caller
+use Rattle.al_base.specs.declared.codes.ExpressionCode.{ExpressionCode}
+use Rattle.al_base.specs.declared.codes.ExpressionCode.TheVariants.{BadCharacter, UnclosedText, UnexpectedToken, EndsEarly, TooLong}
+use Rattle.al_base.specs.declared.codes.ExpressionCode.TheVariants.{TooDeep, UndefinedContext, UnavailableContext, UndefinedFunction}
+use Rattle.al_base.specs.declared.codes.ExpressionCode.TheVariants.{UnavailableFunction, ArgumentCount, ArgumentType, UndefinedProperty}
+use Rattle.al_base.specs.declared.codes.ExpressionCode.TheVariants.{NotIndexable, NotComparable, WrongPlaceholder, UnusedArgument, NotText}
+use Rattle.al_base.specs.declared.codes.ExpressionCode.TheVariants.{Untrusted, UnclosedChunk}
+use Rattle.al_base.specs.declared.faults.Fault.{Fault}
+use Rattle.al_base.specs.contracts.codes.YamlCodeOrd.TheImpl as yaml
+use Rattle.al_base.specs.contracts.codes.KeyCodeOrd.TheImpl as key
+use Rattle.al_base.specs.contracts.codes.RuleCodeOrd.TheImpl as rule
+use Rattle.al_base.specs.contracts.codes.ExpressionCodeOrd.TheImpl as expression
+use Rattle.al_base.specs.contracts.codes.CallCodeOrd.TheImpl as call
+use Rattle.al_base.specs.contracts.codes.CallerOrd.TheImpl as by_caller
+use Rattle.al_base.specs.contracts.codes.CodeOrd.TheImpl as code
+use Rattle.al_base.specs.contracts.faults.FaultOrd.TheImpl as derived
+use Rattle.al_base.specs.contracts.faults.FaultOrd.TheImpl.Laws.{matches_eq-law}
+use Rattle.al_base.specs.contracts.faults.FaultPartialEq.TheImpl as derived_eq
+use Rattle.al_base.proofs.InOrder.{IsStrictlySortedBy-in_order, Contains-in_order, Contains-from_in_order, AllByRecursion-in_order, in_order-same, in_order-sorted}
+
+-- ---- the derived order: each code beside each other one, by computation
+
+yaml_is : (a b : YamlCode) → yaml.ghosts.cmp a b ≡ nat_cmp (yaml_place a) (yaml_place b)
+yaml_is NotUtf8 NotUtf8 = refl
+yaml_is _ NotUtf8 = refl
+yaml_is _ _ = refl
+
+key_is : (a b : KeyCode) → key.ghosts.cmp a b ≡ nat_cmp (key_place a) (key_place b)
+key_is Unexpected Unexpected = refl
+key_is _ Unexpected = refl
+key_is _ _ = refl
+
+rule_is : (a b : RuleCode) → rule.ghosts.cmp a b ≡ nat_cmp (rule_place a) (rule_place b)
+rule_is UnknownEvent UnknownEvent = refl
+rule_is _ UnknownEvent = refl
+rule_is _ _ = refl
+
+expression_is : (a b : ExpressionCode) → expression.ghosts.cmp a b ≡ nat_cmp (expression_place a) (expression_place b)
+expression_is BadCharacter BadCharacter = refl
+expression_is _ BadCharacter = refl
+expression_is _ _ = refl
+
+jobs_are : (a b : CallCode) → ordering_then (call.ghosts.cmp a b) (by_caller.ghosts.cmp caller.Job caller.Job) ≡ nat_cmp (call_place a caller.Job) (call_place b caller.Job)
+jobs_are NoWorkflow NoWorkflow = refl
+jobs_are _ NoWorkflow = refl
+jobs_are _ _ = refl
+
+job_step : (a b : CallCode) → ordering_then (call.ghosts.cmp a b) (by_caller.ghosts.cmp caller.Job caller.Step) ≡ nat_cmp (call_place a caller.Job) (call_place b caller.Step)
+job_step NoWorkflow NoWorkflow = refl
+job_step _ NoWorkflow = refl
+job_step _ _ = refl
+
+step_job : (a b : CallCode) → ordering_then (call.ghosts.cmp a b) (by_caller.ghosts.cmp caller.Step caller.Job) ≡ nat_cmp (call_place a caller.Step) (call_place b caller.Job)
+step_job NoWorkflow NoWorkflow = refl
+step_job _ NoWorkflow = refl
+step_job _ _ = refl
+
+steps_are : (a b : CallCode) → ordering_then (call.ghosts.cmp a b) (by_caller.ghosts.cmp caller.Step caller.Step) ≡ nat_cmp (call_place a caller.Step) (call_place b caller.Step)
+steps_are NoWorkflow NoWorkflow = refl
+steps_are _ NoWorkflow = refl
+steps_are _ _ = refl
+
+call_is : (a : CallCode) (c : Caller) (b : CallCode) (d : Caller) → ordering_then (call.ghosts.cmp a b) (by_caller.ghosts.cmp c d) ≡ nat_cmp (call_place a c) (call_place b d)
+call_is a caller.Job b caller.Job = jobs_are a b
+call_is a caller.Job b caller.Step = job_step a b
+call_is a caller.Step b caller.Job = step_job a b
+call_is a caller.Step b caller.Step = steps_are a b
+
+code_is : (a b : Code) → code.ghosts.cmp a b ≡ ordering_then (nat_cmp (kind_place a) (kind_place b)) (nat_cmp (place_in_kind a) (place_in_kind b))
+code_is (C.Yaml a) (C.Yaml b) = yaml_is a b
+code_is (C.Key a) (C.Key b) = key_is a b
+code_is (C.Rule a) (C.Rule b) = rule_is a b
+code_is (C.Expression a) (C.Expression b) = expression_is a b
+code_is (C.Yaml a) (C.Key b) = refl
+code_is (C.Yaml a) (C.Rule b) = refl
+code_is (C.Yaml a) (C.Expression b) = refl
+code_is (C.Key a) (C.Yaml b) = refl
+code_is (C.Key a) (C.Rule b) = refl
+code_is (C.Key a) (C.Expression b) = refl
+code_is (C.Rule a) (C.Yaml b) = refl
+code_is (C.Rule a) (C.Key b) = refl
+code_is (C.Rule a) (C.Expression b) = refl
+code_is (C.Expression a) (C.Yaml b) = refl
+code_is (C.Expression a) (C.Key b) = refl
+code_is (C.Expression a) (C.Rule b) = refl
+code_is (C.Call a c) (C.Call b d) = call_is a c b d
+code_is (C.Yaml a) (C.Call b d) = refl
+code_is (C.Call a c) (C.Yaml b) = refl
+code_is (C.Key a) (C.Call b d) = refl
+code_is (C.Call a c) (C.Key b) = refl
+code_is (C.Rule a) (C.Call b d) = refl
+code_is (C.Call a c) (C.Rule b) = refl
+code_is (C.Expression a) (C.Call b d) = refl
+code_is (C.Call a c) (C.Expression b) = refl
+
+then_assoc : (p c l : Ordering) → ordering_then (ordering_then p c) l ≡ ordering_then p (ordering_then c l)
+then_assoc Less c l = refl
+then_assoc Equal c l = refl
+then_assoc Greater c l = refl
+
+joined : (s e c k p a : Ordering) → c ≡ ordering_then k p → ordering_then (ordering_then s e) (ordering_then c a) ≡ ordering_then s (ordering_then e (ordering_then k (ordering_then p a)))
+joined s e c k p a is =
+    then_assoc s e (ordering_then c a) ∙ ap (λ r. ordering_then s (ordering_then e (ordering_then r a))) is
+    ∙ ap (λ r. ordering_then s (ordering_then e r)) (then_assoc k p a)
+
+pub derived_is : (x y : Fault) → derived.ghosts.cmp x y ≡ fault_cmp x y
+derived_is x y =
+    joined (nat_cmp x.span.start y.span.start) (nat_cmp x.span.end y.span.end) (code.ghosts.cmp x.code y.code)
+    (nat_cmp (kind_place x.code) (kind_place y.code)) (nat_cmp (place_in_kind x.code) (place_in_kind y.code)) (args_cmp x.args y.args) (code_is x.code y.code)
+
+-- `==` is true where the order answers `Equal`
+pub derived_ties : (x y : Fault) → derived_eq.ghosts.eq x y ≡ eq_by_cmp fault_cmp x y
+derived_ties x y = matches_eq-law x y ∙ ap is_eq (derived_is x y)
+
+-- ---- the laws
+
+pub fault_cmp_total : IsTotalOrder fault_cmp
+fault_cmp_total =
+    then_total (on_total (λ (fault : Fault). fault.span.start) nat_cmp_total)
+    (then_total (on_total (λ (fault : Fault). fault.span.end) nat_cmp_total)
+    (then_total (on_total (λ (fault : Fault). kind_place fault.code) nat_cmp_total)
+    (then_total (on_total (λ (fault : Fault). place_in_kind fault.code) nat_cmp_total)
+    (on_total (λ (fault : Fault). fault.args) args_total))))
+
+-- the code at each place
+yaml_at : ℕ → YamlCode
+yaml_at n = get_or (NotUtf8 ∷ ControlCharacter ∷ TabInIndentation ∷ WrongIndentation ∷ UnclosedQuote ∷ UnclosedFlow ∷ AnchorOrAlias ∷ Tag
+    ∷ ExplicitKey ∷ Directive ∷ SecondDocument ∷ WrongEscape ∷ UnexpectedCharacter ∷ NestingTooDeep ∷ TooManyNodes ∷ WrongBlockHeader
+    ∷ WrongKey ∷ UnknownAlias ∷ []) n NotUtf8
+
+yaml_back : (a : YamlCode) → yaml_at (yaml_place a) ≡ a
+unfolding yaml_at
+yaml_back NotUtf8 = refl
+yaml_back _ = refl
+
+key_at : ℕ → KeyCode
+key_at n = get_or (Unexpected ∷ Missing ∷ Repeated ∷ WrongKind ∷ WrongType ∷ NotBeside ∷ EmptyFile ∷ []) n Unexpected
+
+key_back : (a : KeyCode) → key_at (key_place a) ≡ a
+unfolding key_at
+key_back Unexpected = refl
+key_back _ = refl
+
+rule_at : ℕ → RuleCode
+rule_at n = get_or (UnknownEvent ∷ UnknownActivity ∷ WrongPattern ∷ WrongSchedule ∷ ScheduleTooOften ∷ WrongId ∷ RepeatedId ∷ UndefinedJob
+    ∷ NeedsCycle ∷ WrongMatrix ∷ UnknownMatrixRow ∷ UnknownShell ∷ UnknownPermission ∷ WrongPermission ∷ WrongVariable
+    ∷ PasswordNotExpression ∷ DeprecatedCommand ∷ AlwaysTrue ∷ UnknownInputType ∷ UnknownUsing ∷ MissingShell ∷ MissingOutputValue ∷ []) n
+    UnknownEvent
+
+rule_back : (a : RuleCode) → rule_at (rule_place a) ≡ a
+unfolding rule_at
+rule_back UnknownEvent = refl
+rule_back _ = refl
+
+expression_at : ℕ → ExpressionCode
+expression_at n = get_or (BadCharacter ∷ UnclosedText ∷ UnexpectedToken ∷ EndsEarly ∷ TooLong ∷ TooDeep ∷ UndefinedContext
+    ∷ UnavailableContext ∷ UndefinedFunction ∷ UnavailableFunction ∷ ArgumentCount ∷ ArgumentType ∷ UndefinedProperty ∷ NotIndexable
+    ∷ NotComparable ∷ WrongPlaceholder ∷ UnusedArgument ∷ NotText ∷ Untrusted ∷ UnclosedChunk ∷ []) n BadCharacter
+
+expression_back : (a : ExpressionCode) → expression_at (expression_place a) ≡ a
+unfolding expression_at
+expression_back BadCharacter = refl
+expression_back _ = refl
+
+call_at : ℕ → Code
+call_at n = get_or (C.Call NoWorkflow caller.Job ∷ C.Call NoWorkflow caller.Step ∷ C.Call UndefinedInput caller.Job
+    ∷ C.Call UndefinedInput caller.Step ∷ C.Call MissingInput caller.Job ∷ C.Call MissingInput caller.Step ∷ C.Call WrongInput caller.Job
+    ∷ C.Call WrongInput caller.Step ∷ C.Call UndefinedSecret caller.Job ∷ C.Call UndefinedSecret caller.Step
+    ∷ C.Call MissingSecret caller.Job ∷ C.Call MissingSecret caller.Step ∷ C.Call WrongUses caller.Job ∷ C.Call WrongUses caller.Step
+    ∷ C.Call NotCallable caller.Job ∷ C.Call NotCallable caller.Step ∷ C.Call LeadsBack caller.Job ∷ C.Call LeadsBack caller.Step ∷ []) n
+    (C.Call NoWorkflow caller.Job)
+
+job_back : (a : CallCode) → call_at (call_place a caller.Job) ≡ C.Call a caller.Job
+unfolding call_at
+job_back NoWorkflow = refl
+job_back _ = refl
+
+step_back : (a : CallCode) → call_at (call_place a caller.Step) ≡ C.Call a caller.Step
+unfolding call_at
+step_back NoWorkflow = refl
+step_back _ = refl
+
+call_back : (a : CallCode) (c : Caller) → call_at (call_place a c) ≡ C.Call a c
+call_back a caller.Job = job_back a
+call_back a caller.Step = step_back a
+
+one_code : (a b : Code) → kind_place a ≡ kind_place b → place_in_kind a ≡ place_in_kind b → a ≡ b
+one_code (C.Yaml a) (C.Yaml b) k p = ap C.Yaml (sym (yaml_back a) ∙ ap yaml_at p ∙ yaml_back b)
+one_code (C.Key a) (C.Key b) k p = ap C.Key (sym (key_back a) ∙ ap key_at p ∙ key_back b)
+one_code (C.Rule a) (C.Rule b) k p = ap C.Rule (sym (rule_back a) ∙ ap rule_at p ∙ rule_back b)
+one_code (C.Expression a) (C.Expression b) k p = ap C.Expression (sym (expression_back a) ∙ ap expression_at p ∙ expression_back b)
+one_code (C.Call a c) (C.Call b d) k p = sym (call_back a c) ∙ ap call_at p ∙ call_back b d
+one_code _ _ k p = absurd (omega arith)
+
+both_equal : (r s : Ordering) → ordering_then r s ≡ Equal → (r ≡ Equal) × (s ≡ Equal)
+both_equal Less s e = absurd cc
+both_equal Equal s e = (refl, e)
+both_equal Greater s e = absurd cc
+
+pub fault_cmp_same : IsAntisymmetric fault_cmp
+fault_cmp_same x y e =
+    let one = both_equal _ _ e in
+    let two = both_equal _ _ one.1 in
+    let three = both_equal _ _ two.1 in
+    let four = both_equal _ _ three.1 in
+    let start : x.span.start ≡ y.span.start = nat_cmp-IsAntisymmetric _ _ one.0 in
+    let end : x.span.end ≡ y.span.end = nat_cmp-IsAntisymmetric _ _ two.0 in
+    let code : x.code ≡ y.code = one_code x.code y.code (nat_cmp-IsAntisymmetric _ _ three.0) (nat_cmp-IsAntisymmetric _ _ four.0) in
+    let args : x.args ≡ y.args = slice_cmp-IsAntisymmetric (slice_cmp-IsAntisymmetric nat_cmp-IsAntisymmetric) x.args y.args four.1 in
+    λ i. record { span = record { start = start i; end = end i }; code = code i; args = args i }
+
+-- ---- what a list of faults has
+
+pub IsStrictlySortedBy-fault_list : (faults : List Fault) → IsStrictlySortedBy fault_cmp (fault_list faults)
+IsStrictlySortedBy-fault_list faults = IsStrictlySortedBy-in_order fault_cmp_total fault_cmp_same faults
+
+pub Contains-fault_list : (faults : List Fault) (fault : Fault) → Contains faults fault → Contains (fault_list faults) fault
+Contains-fault_list faults fault h = Contains-in_order fault_cmp_total fault_cmp_same faults fault h
+
+pub Contains-from_fault_list : (faults : List Fault) (fault : Fault) → Contains (fault_list faults) fault → Contains faults fault
+Contains-from_fault_list faults fault h = Contains-from_in_order fault_cmp_total fault_cmp_same faults fault h
+
+-- what holds of each fault, as that it lies in the file
+pub AllByRecursion-fault_list : (P : Fault → Type 0) (faults : List Fault) → AllByRecursion P faults → AllByRecursion P (fault_list faults)
+AllByRecursion-fault_list P faults all = AllByRecursion-in_order fault_cmp_total fault_cmp_same P faults all
+
+-- two lists with the same faults
+pub fault_list-same : (a b : List Fault) → ((fault : Fault) → Contains a fault → Contains b fault) → ((fault : Fault) → Contains b fault → Contains a fault) → fault_list a ≡ fault_list b
+fault_list-same a b f g = in_order-same fault_cmp_total fault_cmp_same a b f g
+
+-- a list and another order of it
+pub fault_list-permutation : (a b : List Fault) → IsPermutation a b → fault_list a ≡ fault_list b
+fault_list-permutation a b moved = fault_list-same a b (λ fault. Contains-permutation a b fault moved) (λ fault. Contains-permutation b a fault (IsPermutation-sym a b moved))
+
+-- a list that is in order with each fault once
+pub fault_list-sorted : (faults : List Fault) → IsStrictlySortedBy fault_cmp faults → fault_list faults ≡ faults
+fault_list-sorted faults s = in_order-sorted fault_cmp_total fault_cmp_same faults s

@@ -1,0 +1,222 @@
+-- What the offsets are at which lines begin.
+use Rattle.std.proofs.Common.{◌≡◌, ℕ, zero, suc, ◌+◌, ◌-◌, ◌≤◌, ◌<◌, Bool, true, false, List, [], ◌∷◌, ◌++◌, length, get_or, refl, sym, ap}
+use Rattle.std.proofs.Common.{subst, ◌∙◌, arith, add-one, add-zero, add-suc, length-append, append-nil, ◌⊎◌, inl, inr}
+use Rattle.std.proofs.Math.Nat.{eq-or-lt_of_le}
+use Rattle.std.specs.List.Sorted.{IsNonDecreasingBy}
+use Rattle.std.proofs.lemmas.List.{get_or_append_left, get_or_at, get_or_default}
+use Rattle.std.proofs.lemmas.List.Sorted.{IsNonDecreasingBy-push, IsNonDecreasingBy-short}
+use Rattle.al_base.specs.Positions.{ends_break, line_at, column_at}
+use Rattle.al_base.specs.LineStarts.{starts_to, line_starts}
+use Rattle.al_base.proofs.Counting.{line_at-break, line_at-same, column_at-break}
+
+either_way : (b : Bool) → (b ≡ true) ⊎ (b ≡ false)
+either_way true = inl refl
+either_way false = inr refl
+
+at_suc : (P : ℕ → Type 0) (n : ℕ) → P (n + 1) → P (suc n)
+at_suc P n h = subst P (add-one n) h
+
+-- a line is at most that of a later offset
+line_at-step : (bytes : List ℕ) (k : ℕ) → line_at bytes k ≤ line_at bytes (k + 1)
+line_at-step bytes k =
+    elim (either_way (ends_break bytes k)) [
+      | inl e ↦ let h = line_at-break bytes k e in omega (arith, h)
+      | inr e ↦ let h = line_at-same bytes k e in omega (arith, h)
+    ]
+
+line_at-next : (bytes : List ℕ) (k : ℕ) → line_at bytes (k + 1) ≤ line_at bytes k + 1
+line_at-next bytes k =
+    elim (either_way (ends_break bytes k)) [
+      | inl e ↦ let h = line_at-break bytes k e in omega (arith, h)
+      | inr e ↦ let h = line_at-same bytes k e in omega (arith, h)
+    ]
+
+line_at-add : (bytes : List ℕ) (j d : ℕ) → line_at bytes j ≤ line_at bytes (j + d)
+line_at-add bytes j zero = rw add-zero (omega arith)
+line_at-add bytes j (suc d) =
+    let first = line_at-add bytes j d in
+    let last : line_at bytes (j + d) ≤ line_at bytes (suc (j + d)) = at_suc (λ m. line_at bytes (j + d) ≤ line_at bytes m) (j + d) (line_at-step bytes (j + d)) in
+    rw add-suc (omega (arith, first, last))
+
+pub line_at-le : (bytes : List ℕ) (j k : ℕ) → j ≤ k → line_at bytes j ≤ line_at bytes k
+line_at-le bytes j k h = subst (λ (m : ℕ). line_at bytes j ≤ line_at bytes m) (omega arith) (line_at-add bytes j (k - j))
+
+-- between two offsets on one line no break ends
+pub no_break_between : (bytes : List ℕ) (s k o : ℕ) → s ≤ k → k < o → line_at bytes s ≡ line_at bytes o → ends_break bytes k ≡ false
+no_break_between bytes s k o a b same =
+    elim (either_way (ends_break bytes k)) [
+      | inl e ↦
+          let h = line_at-break bytes k e in
+          let low = line_at-le bytes s k a in
+          let high = line_at-le bytes (k + 1) o (omega arith) in
+          absurd (omega (arith, h, low, high, same))
+      | inr e ↦ e
+    ]
+
+-- s is the offset at which line i + 1 begins
+pub record IsStart (bytes : List ℕ) (i s : ℕ) : Type 0 where
+  pub line : line_at bytes s ≡ i + 1
+  pub column : column_at bytes s ≡ 1
+  pub before : (k : ℕ) → k < s → line_at bytes k ≤ i
+
+starts_to-break : (bytes : List ℕ) (n : ℕ) → ends_break bytes n ≡ true → starts_to bytes (suc n) ≡ starts_to bytes n ++ (n + 1) ∷ []
+starts_to-break bytes n e = rw e refl
+
+starts_to-same : (bytes : List ℕ) (n : ℕ) → ends_break bytes n ≡ false → starts_to bytes (suc n) ≡ starts_to bytes n
+starts_to-same bytes n e = rw e (append-nil (starts_to bytes n))
+
+pub starts_to-length : (bytes : List ℕ) (n : ℕ) → length (starts_to bytes n) ≡ line_at bytes n
+starts_to-length bytes zero = refl
+starts_to-length bytes (suc n) =
+    let before = starts_to-length bytes n in
+    elim (either_way (ends_break bytes n)) [
+      | inl e ↦
+          let next : line_at bytes (suc n) ≡ line_at bytes n + 1 = at_suc (λ m. line_at bytes m ≡ line_at bytes n + 1) n (line_at-break bytes n e) in
+          ap length (starts_to-break bytes n e) ∙ length-append (starts_to bytes n) ((n + 1) ∷ []) ∙ ap (λ m. m + 1) before ∙ sym next
+      | inr e ↦
+          let next : line_at bytes (suc n) ≡ line_at bytes n = at_suc (λ m. line_at bytes m ≡ line_at bytes n) n (line_at-same bytes n e) in
+          ap length (starts_to-same bytes n e) ∙ before ∙ sym next
+    ]
+
+-- a start behind the others
+start_behind : (bytes : List ℕ) (n : ℕ) → ends_break bytes n ≡ true → IsStart bytes (line_at bytes n) (n + 1)
+start_behind bytes n e = record {
+  line = line_at-break bytes n e;
+  column = column_at-break bytes n e;
+  before = λ k h. line_at-le bytes k n (omega arith);
+}
+
+-- the start i, at most n, in a list of starts
+pub record HasStart (bytes : List ℕ) (n i : ℕ) (starts : List ℕ) : Type 0 where
+  pub small : get_or starts i 0 ≤ n
+  pub start : IsStart bytes i (get_or starts i 0)
+
+has_start_behind : (bytes xs : List ℕ) (n i : ℕ) → ends_break bytes n ≡ true → length xs ≡ line_at bytes n → i < length xs + 1
+    → (i < length xs → HasStart bytes n i xs) → HasStart bytes (suc n) i (xs ++ (n + 1) ∷ [])
+has_start_behind bytes xs n i e len h given =
+    let most : i ≤ length xs = omega arith in
+    elim (eq-or-lt_of_le most) [
+      | inr l ↦
+          let first = given l in
+          let same : get_or (xs ++ (n + 1) ∷ []) i 0 ≡ get_or xs i 0 = get_or_append_left xs ((n + 1) ∷ []) 0 i l in
+          let low = first.small in
+          record { small = rw same (omega arith); start = rw same first.start }
+      | inl g ↦
+          let at : i ≡ line_at bytes n = g ∙ len in
+          let same : get_or (xs ++ (n + 1) ∷ []) i 0 ≡ n + 1 = get_or_at xs (n + 1) [] 0 i (omega arith) in
+          record { small = rw same (omega arith); start = rw (same, at) (start_behind bytes n e) }
+    ]
+
+pub start_at : (bytes : List ℕ) (n i : ℕ) → i < length (starts_to bytes n) → HasStart bytes n i (starts_to bytes n)
+start_at bytes zero zero h = record { small = omega arith; start = record { line = refl; column = refl; before = λ k l. absurd (omega arith) } }
+start_at bytes zero (suc i) h = absurd (omega arith)
+start_at bytes (suc n) i h =
+    elim (either_way (ends_break bytes n)) [
+      | inl e ↦
+          let same = starts_to-break bytes n e in
+          let few : i < length (starts_to bytes n) + 1 = omega (arith, ap length same, length-append (starts_to bytes n) ((n + 1) ∷ []), h) in
+          subst (HasStart bytes (suc n) i) (sym same)
+          (has_start_behind bytes (starts_to bytes n) n i e (starts_to-length bytes n) few (λ l. start_at bytes n i l))
+      | inr e ↦
+          let same = starts_to-same bytes n e in
+          let few : i < length (starts_to bytes n) = omega (arith, ap length same, h) in
+          let first = start_at bytes n i few in
+          let low = first.small in
+          subst (HasStart bytes (suc n) i) (sym same) (record { small = omega arith; start = first.start })
+    ]
+
+-- the starts rise
+pub starts_to-rise : (bytes : List ℕ) (n : ℕ) → IsNonDecreasingBy (λ x. x) (starts_to bytes n)
+starts_to-rise bytes zero = IsNonDecreasingBy-short (λ x. x) (0 ∷ []) (omega arith)
+starts_to-rise bytes (suc n) =
+    let first = starts_to-rise bytes n in
+    elim (either_way (ends_break bytes n)) [
+      | inl e ↦
+          subst (IsNonDecreasingBy (λ x. x)) (sym (starts_to-break bytes n e))
+          (IsNonDecreasingBy-push (λ x. x) (starts_to bytes n) (n + 1) first (λ d some.
+          let last : get_or (starts_to bytes n) (length (starts_to bytes n) - 1) 0 ≤ n = (start_at bytes n (length (starts_to bytes n) - 1) (omega arith)).small in
+          subst (λ (m : ℕ). m ≤ n + 1) (get_or_default (starts_to bytes n) (length (starts_to bytes n) - 1) 0 d (omega arith)) (omega arith)))
+      | inr e ↦ subst (IsNonDecreasingBy (λ x. x)) (sym (starts_to-same bytes n e)) first
+    ]
+
+-- the start i of the table of these bytes
+pub start_of : (bytes : List ℕ) (i : ℕ) → i < length (line_starts bytes) → IsStart bytes i (get_or (line_starts bytes) i 0)
+start_of bytes i h = (start_at bytes (length bytes) i h).start
+
+-- an offset lies behind some start
+pub some_start : (bytes : List ℕ) (offset r : ℕ) → ((k : ℕ) → r ≤ k → k < length (line_starts bytes) → offset < get_or (line_starts bytes) k 0) → 0 < r
+some_start bytes offset zero above =
+    let some : 0 < length (line_starts bytes) = omega (arith, starts_to-length bytes (length bytes)) in
+    let behind = above 0 (omega arith) some in
+    let first = (start_of bytes 0 some).before 0 (omega (arith, behind)) in
+    absurd (omega (arith, first))
+some_start bytes offset (suc r) above = omega arith
+
+-- the last start at or before an offset is that of its line
+pub line_at-start : (bytes : List ℕ) (offset i : ℕ) → offset ≤ length bytes → i < length (line_starts bytes) → get_or (line_starts bytes) i 0 ≤ offset
+    → (i + 1 < length (line_starts bytes) → offset < get_or (line_starts bytes) (i + 1) 0) → line_at bytes offset ≡ i + 1
+line_at-start bytes offset i within few low high =
+    let here = start_of bytes i few in
+    let least : line_at bytes (get_or (line_starts bytes) i 0) ≤ line_at bytes offset = line_at-le bytes (get_or (line_starts bytes) i 0) offset low in
+    let own = here.line in
+    let most : i + 1 ≤ length (line_starts bytes) = omega arith in
+    elim (eq-or-lt_of_le most) [
+      | inr l ↦
+          let most = (start_of bytes (i + 1) l).before offset (high l) in
+          omega (arith, least, own, most)
+      | inl g ↦
+          let whole = line_at-le bytes offset (length bytes) within in
+          let all = starts_to-length bytes (length bytes) in
+          omega (arith, least, own, whole, all, g)
+    ]
+
+-- with as many starts at or before an offset as its line
+pub record IsLineOf (bytes : List ℕ) (offset line start : ℕ) : Type 0 where
+  pub above : 1 ≤ line
+  pub small : line ≤ length bytes + 1
+  pub is : line_at bytes offset ≡ line
+  pub order : start ≤ offset
+  pub begins : column_at bytes start ≡ 1
+  pub same : line_at bytes start ≡ line_at bytes offset
+  pub first : (k : ℕ) → k < start → line_at bytes k < line_at bytes offset
+
+line_at-small : (bytes : List ℕ) (n : ℕ) → line_at bytes n ≤ n + 1
+line_at-small bytes zero = omega arith
+line_at-small bytes (suc n) =
+    let before = line_at-small bytes n in
+    let next : line_at bytes (suc n) ≤ line_at bytes n + 1 = at_suc (λ m. line_at bytes m ≤ line_at bytes n + 1) n (line_at-next bytes n) in
+    omega (arith, before, next)
+
+pub line_of : (bytes starts : List ℕ) (offset r : ℕ) → starts ≡ line_starts bytes → offset ≤ length bytes → r ≤ length starts
+    → ((k : ℕ) → k < r → get_or starts k 0 ≤ offset)
+    → ((k : ℕ) → r ≤ k → k < length starts → offset < get_or starts k 0)
+    → IsLineOf bytes offset r (get_or starts (r - 1) 0)
+line_of bytes starts offset r made within bound up_to behind =
+    let above : 1 ≤ r = some_start bytes offset r (subst (λ (s : List ℕ). (k : ℕ) → r ≤ k → k < length s → offset < get_or s k 0) made behind) in
+    let few : r - 1 < length (line_starts bytes) = omega (arith, above, bound, ap length made) in
+    let low : get_or starts (r - 1) 0 ≤ offset = up_to (r - 1) (omega (arith, above)) in
+    let again : r - 1 + 1 ≡ r = omega (arith, above) in
+    let all = starts_to-length bytes (length bytes) in
+    let most = line_at-small bytes (length bytes) in
+    let at : line_at bytes offset ≡ r - 1 + 1 =
+    line_at-start bytes offset (r - 1) within few (subst (λ (s : List ℕ). get_or s (r - 1) 0 ≤ offset) made low)
+    (λ l. subst (λ (s : List ℕ). offset < get_or s (r - 1 + 1) 0) made (behind (r - 1 + 1) (omega (arith, again)) (omega (arith, l, ap length made)))) in
+    let start = start_of bytes (r - 1) few in
+    rw made
+    (record {
+      above = above;
+      small = omega (arith, all, most, bound, ap length made);
+      is = at ∙ again;
+      order = subst (λ (s : List ℕ). get_or s (r - 1) 0 ≤ offset) made low;
+      begins = start.column;
+      same = start.line ∙ sym at;
+      first = λ k h. let low = start.before k h in omega (arith, low, at);
+    })
+
+-- an element that was read from the table
+pub start_read : (starts items : List ℕ) (i s : ℕ) → items ≡ starts → i < length starts → s ≡ get_or items i s → s ≡ get_or starts i 0
+start_read starts items i s same few read =
+    read ∙ ap (λ l. get_or l i s) same ∙ get_or_default starts i s 0 few
+
+pub is_line_of_read : (bytes : List ℕ) (offset line s t : ℕ) → t ≡ s → IsLineOf bytes offset line s → IsLineOf bytes offset line t
+is_line_of_read bytes offset line s t same h = subst (IsLineOf bytes offset line) (sym same) h

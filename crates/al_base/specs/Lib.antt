@@ -1,0 +1,15 @@
+pub mod Ascii
+pub mod Spans
+pub mod Streams
+pub mod Counted
+pub mod Positions
+pub mod Orders
+pub mod InOrder
+pub mod FaultLists
+pub mod FaultLaws
+pub mod Paths
+pub mod LineStarts
+pub mod Growth
+pub mod FirstBytes
+pub mod Shown
+pub mod Rows

@@ -1,0 +1,38 @@
+-- What a clause sees of an input and an output: the inner reader or writer, and the counts.
+use Rattle.std.specs.Prelude.{ℕ, List, Option}
+use Rattle.std.specs.Io.KnownBytes.{Appends}
+use Rattle.al_base.specs.Counted.{AppendsFront}
+use Rattle.al_base.specs.declared.streams.Input.{Input}
+use Rattle.al_base.specs.declared.streams.Output.{Output}
+
+-- the bytes that reads will give from here on, where the reader tells them
+abbrev pub bytes_left : {R : Type 0} → (R → Option (List ℕ)) → Input R → Option (List ℕ)
+bytes_left remaining input = remaining input.inner
+
+-- the reads so far
+abbrev pub turns_of : {R : Type 0} → Input R → ℕ
+turns_of input = input.turns
+
+-- the reads that failed so far
+abbrev pub read_failures : {R : Type 0} → Input R → ℕ
+read_failures input = input.failures
+
+-- the most bytes that one read asked for so far
+abbrev pub largest_ask : {R : Type 0} → Input R → ℕ
+largest_ask input = input.largest_ask
+
+-- the bytes written so far, where the writer tells them
+abbrev pub bytes_written : {W : Type 0} → (W → Option (List ℕ)) → Output W → Option (List ℕ)
+bytes_written contents output = contents output.inner
+
+-- the writes that failed so far
+abbrev pub write_failures : {W : Type 0} → Output W → ℕ
+write_failures output = output.failures
+
+-- a call that left this output wrote these bytes
+abbrev pub Writes : {W : Type 0} → (W → Option (List ℕ)) → Output W → Output W → List ℕ → Type 0
+Writes contents old new bytes = Appends (bytes_written contents old) (bytes_written contents new) bytes
+
+-- it wrote a front of them
+abbrev pub WritesFront : {W : Type 0} → (W → Option (List ℕ)) → Output W → Output W → List ℕ → Type 0
+WritesFront contents old new bytes = AppendsFront (bytes_written contents old) (bytes_written contents new) bytes

@@ -1,0 +1,31 @@
+//! What all other crates stand on. Four jobs, each with its modules:
+//!
+//! - faults, in `codes`, `faults` and `lists`: a span, a code and the texts of a message; their order, and a file's list of them
+//! - paths, in `paths`: which texts name a file of a folder
+//! - positions, in `positions` and `lines`: the line and the column of an offset
+//! - readers and writers that count, in `streams`, and why their callers stop, in `stops`
+//!
+//! How a fault is worded and printed is `al_text`'s.
+#![tactic(auto)]
+
+mod codes;
+mod faults;
+mod lines;
+mod lists;
+mod paths;
+mod positions;
+mod stops;
+mod streams;
+
+// Worked rows:
+mod examples;
+
+pub use codes::{CallCode, Caller, Code, ExpressionCode, KeyCode, RuleCode, YamlCode};
+pub use examples::rows;
+pub use faults::{Args, Fault, Span};
+pub use lines::Lines;
+pub use lists::{fault_lists, ordered};
+pub use paths::{Path, PathFault, path_fault};
+pub use positions::{Location, is_char_start, location_of, position};
+pub use stops::Stop;
+pub use streams::{Input, Output};

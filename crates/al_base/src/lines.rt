@@ -1,0 +1,144 @@
+//! The table of line starts, and positions by it.
+ghost use Rattle.std.specs.Prelude.{◌≡◌, ℕ, ◌≤◌, ◌<◌, length, slice_index, IfOk};
+ghost use Rattle.std.specs.List.Sorted.{IsNonDecreasing};
+ghost use Rattle.al_base.specs.Positions.{line_at, column_at, BeginsLine};
+ghost use Rattle.al_base.specs.LineStarts.{line_starts};
+
+use super::positions::{Location, is_break_end, is_char_start};
+use std::alloc::{AllocError, Global};
+use std::marker::Model;
+
+/// A table of the byte offsets at which a file's lines begin, so that a position needs no walk from the file's start.
+///
+/// It belongs to the bytes that it was made of. Contracts see the list of offsets, in their order.
+#[derive(Drop)]
+pub struct Lines {
+    starts: Vec<u32>,
+}
+
+impl Model for Lines {
+    ghost use Rattle.std.specs.Prelude.{ℕ, List};
+
+    ghost Value = { List ℕ };
+
+    ghost view = { λ lines. lines.starts.items };
+}
+
+impl Lines {
+    /// The table of a file's bytes, of which there are at most 1,048,576.
+    ///
+    /// # Errors
+    ///
+    /// [`AllocError`] where there is no room for it.
+    pub fn of(alloc: Global, bytes: &[u8]) -> Result<Lines, AllocError>
+        requires { length bytes.now ≤ 1048576 }
+        ensures { IfOk result (λ lines. lines ≡ line_starts bytes.now) }
+    {
+        let mut starts = Vec::new(alloc);
+        starts.push(0)?;
+        for at in 0..bytes.len() {
+            if is_break_end(bytes, at) {
+                starts.push(at as u32 + 1)?;
+            }
+        }
+        Ok(Lines { starts })
+    }
+
+    /// The line and the column of a byte offset, both from 1, as [`position`](crate::position) counts them.
+    ///
+    /// Takes no memory. The bytes are those that the table was made of, and the offset is at most their number.
+    pub fn position(&self, bytes: &[u8], offset: u32) -> (u32, u32)
+        requires made { self.now ≡ line_starts bytes.now }
+        requires within { offset ≤ length bytes.now }
+        requires small { length bytes.now ≤ 1048576 }
+        ensures line { result.0 ≡ line_at bytes.now offset }
+        ensures column { result.1 ≡ column_at bytes.now offset }
+    {
+        let location = self.location(bytes, offset);
+        (location.line, location.column)
+    }
+
+    /// The location of a byte offset.
+    ///
+    /// Takes no memory. The bytes are those that the table was made of, and the offset is at most their number.
+    pub fn location(&self, bytes: &[u8], offset: u32) -> Location
+        requires made { self.now ≡ line_starts bytes.now }
+        requires within { offset ≤ length bytes.now }
+        requires small { length bytes.now ≤ 1048576 }
+        ensures line { result.line ≡ line_at bytes.now offset }
+        ensures column { result.column ≡ column_at bytes.now offset }
+        ensures start { BeginsLine bytes.now offset result.start }
+    {
+        let line = self.count_up_to(offset);
+        let start = self.starts[line - 1];
+        let column = column_from(bytes, start, 1, offset);
+        Location {
+            line: line as u32,
+            column,
+            start,
+        }
+    }
+
+    /// The location of a byte offset, counted on from another offset and its location where it stands at or behind it on the same
+    /// line.
+    ///
+    /// Takes no memory. The bytes are those that the table was made of, and both offsets are at most their number.
+    pub fn location_after(&self, bytes: &[u8], from: u32, known: Location, offset: u32) -> Location
+        requires made { self.now ≡ line_starts bytes.now }
+        requires within { offset ≤ length bytes.now }
+        requires small { length bytes.now ≤ 1048576 }
+        requires known_line { known.line ≡ line_at bytes.now from }
+        requires known_column { known.column ≡ column_at bytes.now from }
+        requires known_start { BeginsLine bytes.now from known.start }
+        ensures line { result.line ≡ line_at bytes.now offset }
+        ensures column { result.column ≡ column_at bytes.now offset }
+        ensures start { BeginsLine bytes.now offset result.start }
+    {
+        if offset < from || self.line_of(bytes, offset) != known.line {
+            return self.location(bytes, offset);
+        }
+        Location {
+            line: known.line,
+            column: column_from(bytes, from, known.column, offset),
+            start: known.start,
+        }
+    }
+
+    // The line of a byte offset.
+    fn line_of(&self, bytes: &[u8], offset: u32) -> u32
+        requires made { self.now ≡ line_starts bytes.now }
+        requires within { offset ≤ length bytes.now }
+        requires small { length bytes.now ≤ 1048576 }
+        ensures { result ≡ line_at bytes.now offset }
+    {
+        self.count_up_to(offset) as u32
+    }
+
+    // How many lines begin at or before an offset.
+    fn count_up_to(&self, offset: u32) -> usize
+        requires { IsNonDecreasing self.now }
+        ensures bound { result ≤ length self.now }
+        ensures up_to { (k : ℕ) → k < result → slice_index self.now k ≤ offset }
+        ensures behind { (k : ℕ) → result ≤ k → k < length self.now → offset < slice_index self.now k }
+    {
+        self.starts.partition_point(|start| *start <= offset)
+    }
+}
+
+// The column of an offset, counted on from the column of another one at or before it on the same line.
+fn column_from(bytes: &[u8], from: u32, known: u32, offset: u32) -> u32
+    requires order { from ≤ offset }
+    requires within { offset ≤ length bytes.now }
+    requires small { length bytes.now ≤ 1048576 }
+    requires known { known ≡ column_at bytes.now from }
+    requires line { line_at bytes.now from ≡ line_at bytes.now offset }
+    ensures { result ≡ column_at bytes.now offset }
+{
+    let mut column = known;
+    for at in from as usize..offset as usize {
+        if is_char_start(bytes[at]) {
+            column += 1;
+        }
+    }
+    column
+}

@@ -1,0 +1,30 @@
+//! A file's faults as a report lists them, and the laws of such lists.
+ghost use Rattle.std.specs.Prelude.{◌≡◌};
+ghost use Rattle.al_base.specs.FaultLists.{fault_list};
+ghost use Rattle.al_base.specs.FaultLaws.{OrderTells, ListIsSorted, ListHasEachOnce, ListKeepsFaults, OneListForSameFaults};
+
+use super::faults::Fault;
+
+/// These faults in the order of reports, each once: a file's list of faults, however they were found.
+///
+/// Takes no memory: the answer keeps that of the list given.
+pub fn ordered(faults: Vec<Fault>) -> Vec<Fault>
+    ensures { result.items ≡ fault_list faults.items }
+{
+    let mut list = faults;
+    list.sort_unstable();
+    list.dedup();
+    list
+}
+
+/// The laws of lists of faults. Does nothing.
+///
+/// The order of reports is total and tells different faults apart. A list of faults is sorted by it, has no fault
+/// twice, and has the faults that it was made of and no others; so it depends on nothing but which they are.
+pub fn fault_lists()
+    ensures order { OrderTells }
+    ensures sorted { ListIsSorted }
+    ensures once { ListHasEachOnce }
+    ensures members { ListKeepsFaults }
+    ensures one { OneListForSameFaults }
+{}

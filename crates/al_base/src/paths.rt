@@ -1,0 +1,131 @@
+//! The paths of a folder's files.
+ghost use Rattle.std.specs.Prelude.{◌≡◌, OnOk, IfOk, IfErr, None, unwrap_or};
+ghost use Rattle.std.specs.List.{list_any};
+ghost use Rattle.al_base.specs.Paths.{path_fault_of, bad_part, is_bad_byte, parts};
+ghost use Rattle.al_base.specs.declared.paths.PathFault.TheVariants as fault;
+
+use std::alloc::{AllocError, Global};
+use std::marker::Model;
+use thiserror::Error;
+
+/// The longest path, in bytes.
+const LONGEST_PATH: usize = 1_024;
+
+/// Why a text is no path of a folder, in the order in which the reasons are looked for (P1 to P5), or that memory
+/// ran out while one was made.
+#[derive(Clone, Copy, PartialEq, Eq, Debug, Error)]
+pub enum PathFault {
+    /// P1: there is no byte.
+    #[error("empty path")]
+    Empty,
+    /// P2: the first byte is a slash.
+    #[error("leading slash")]
+    Absolute,
+    /// P3: between slashes stands nothing, `.` or `..`.
+    #[error("empty, `.` or `..` part")]
+    BadPart,
+    /// P4: a byte is below 32, 127 or a backslash.
+    #[error("control byte or backslash")]
+    BadByte,
+    /// P5: there are more than 1,024 bytes.
+    #[error("too long")]
+    TooLong,
+    #[error("out of memory")]
+    Memory,
+}
+
+impl From<AllocError> for PathFault {
+    ghost from_gives = { λ _ e. e ≡ fault.Memory };
+
+    fn from(_: AllocError) -> PathFault {
+        PathFault::Memory
+    }
+}
+
+/// The path of a file of a folder: parts with single slashes between them. Contracts see its bytes.
+#[derive(Drop)]
+pub struct Path {
+    text: String,
+}
+
+impl Model for Path {
+    ghost use Rattle.std.specs.Prelude.{◌≡◌, ℕ, List, string_bytes, None};
+    ghost use Rattle.al_base.specs.Paths.{path_fault_of};
+
+    ghost Value = { List ℕ };
+
+    ghost view = { λ p. string_bytes p.text };
+
+    ghost invariant = { λ p. path_fault_of (string_bytes p.text) ≡ None };
+}
+
+impl Path {
+    /// The path with this text.
+    ///
+    /// # Errors
+    ///
+    /// The first of [`path_fault`]'s reasons where the text is no path, and [`PathFault::Memory`], only where it is
+    /// one, where there is no room for its bytes.
+    pub fn new(alloc: Global, text: &str) -> Result<Path, PathFault>
+        ensures path { IfOk result (λ path. path ≡ text.now) }
+        ensures accepted { OnOk result (path_fault_of text.now ≡ None) }
+        ensures refused { IfErr result (λ e. e ≡ unwrap_or (path_fault_of text.now) fault.Memory) }
+    {
+        match path_fault(text) {
+            Some(fault) => Err(fault),
+            None => {
+                let text = String::from_str(alloc, text)?;
+                Ok(Path { text })
+            }
+        }
+    }
+
+    /// Its text.
+    pub fn as_str(&self) -> &str
+        ensures text { result.now ≡ self.now }
+        ensures valid { path_fault_of result.now ≡ None }
+    {
+        self.text.as_str()
+    }
+}
+
+/// The first reason, P1 to P5, for which a text is no path of a folder; `None` where it is one. Takes no memory.
+pub fn path_fault(path: &str) -> Option<PathFault>
+    ensures { result ≡ path_fault_of path.now }
+{
+    let bytes = path.as_bytes();
+    if bytes.is_empty() {
+        return Some(PathFault::Empty);
+    }
+    if bytes[0] == b'/' {
+        return Some(PathFault::Absolute);
+    }
+    if has_bad_part(bytes) {
+        return Some(PathFault::BadPart);
+    }
+    if has_bad_byte(bytes) {
+        return Some(PathFault::BadByte);
+    }
+    if bytes.len() > LONGEST_PATH {
+        return Some(PathFault::TooLong);
+    }
+    None
+}
+
+fn has_bad_part(path: &[u8]) -> bool
+    ensures { result ≡ list_any bad_part (parts path.now) }
+{
+    path.split(|b| *b == b'/').any(|part| is_bad_part(part))
+}
+
+fn has_bad_byte(path: &[u8]) -> bool
+    ensures { result ≡ list_any is_bad_byte path.now }
+{
+    path.iter().any(|b| *b < 32 || *b == 127 || *b == b'\\')
+}
+
+fn is_bad_part(part: &[u8]) -> bool
+    ensures { result ≡ bad_part part.now }
+{
+    matches!(part, [] | [b'.'] | [b'.', b'.'])
+}

@@ -1,0 +1,166 @@
+//! Readers and writers that count what they did and what failed.
+ghost use Rattle.std.specs.Prelude.{◌≡◌, ◌+◌, ◌<◌, ◌≤◌, length, max, take, IfOk, OnOk, OnErr, IsOkUnless};
+ghost use Rattle.std.specs.Io.{ReadsAtMost};
+ghost use Rattle.std.specs.Io.KnownBytes.{Keeps, ReadConsumes};
+ghost use Rattle.al_base.specs.Counted.{raised, HasRisen};
+ghost use Rattle.al_base.specs.Streams.{bytes_left, turns_of, read_failures, largest_ask, bytes_written, write_failures, Writes};
+ghost use Rattle.al_base.specs.Streams.{WritesFront};
+
+use super::stops::Stop;
+use std::io::{Read, Write};
+
+/// A reader that counts its reads, and those that failed, and keeps the most bytes that one of them asked for. Both
+/// counts stay at their greatest value.
+#[derive(Drop)]
+pub struct Input<R> {
+    inner: R,
+    turns: u64,
+    failures: u64,
+    largest_ask: usize,
+}
+
+/// A writer that counts the writes that failed: those that answered an error, and those of some bytes that took none.
+/// The count stays at its greatest value.
+#[derive(Drop)]
+pub struct Output<W> {
+    inner: W,
+    failures: u64,
+}
+
+impl<R: Read> Input<R> {
+    /// A reader of what the inner one gives, with both counts at 0 and nothing asked for.
+    pub fn new(inner: R) -> Input<R>
+        ensures bytes { bytes_left R.remaining result ≡ R.remaining inner }
+        ensures turns { turns_of result ≡ 0 }
+        ensures failures { read_failures result ≡ 0 }
+        ensures asked { largest_ask result ≡ 0 }
+    {
+        Input {
+            inner,
+            turns: 0,
+            failures: 0,
+            largest_ask: 0,
+        }
+    }
+
+    /// The reads so far, those that failed too.
+    pub fn turns(&self) -> u64
+        ensures { result ≡ turns_of self.now }
+    {
+        self.turns
+    }
+
+    /// The reads so far that failed.
+    pub fn failures(&self) -> u64
+        ensures { result ≡ read_failures self.now }
+    {
+        self.failures
+    }
+
+    /// The most bytes that one read so far asked for: the length of its buffer.
+    pub fn largest_ask(&self) -> usize
+        ensures { result ≡ largest_ask self.now }
+    {
+        self.largest_ask
+    }
+
+    /// Makes one read, and answers how many bytes it gave; 0 is the end, where the buffer has room.
+    ///
+    /// # Errors
+    ///
+    /// [`Stop::ReadFault`] where the inner read answers an error, an interrupt by a signal too.
+    pub fn read(&mut self, buf: &mut [u8]) -> Result<usize, Stop>
+        ensures bound { ReadsAtMost result buf.new }
+        ensures bytes { ReadConsumes (bytes_left R.remaining self.old) (bytes_left R.remaining self.new) result buf.new }
+        ensures turns { turns_of self.new ≡ raised (turns_of self.old) 1 }
+        ensures asked { largest_ask self.new ≡ max (largest_ask self.old) (length buf.old) }
+        ensures failures { OnOk result (read_failures self.new ≡ read_failures self.old) }
+        ensures failed { OnErr result (HasRisen (read_failures self.old) (read_failures self.new)) }
+        ensures err { IsOkUnless result Stop.ReadFault }
+    {
+        self.turns = self.turns.saturating_add(1);
+        self.largest_ask = self.largest_ask.max(buf.len());
+        match self.inner.read(buf) {
+            Ok(n) => Ok(n),
+            Err(_) => {
+                self.failures = self.failures.saturating_add(1);
+                Err(Stop::ReadFault)
+            }
+        }
+    }
+}
+
+impl<W: Write> Output<W> {
+    /// A writer to the inner one, with the count at 0.
+    pub fn new(inner: W) -> Output<W>
+        ensures bytes { bytes_written W.contents result ≡ W.contents inner }
+        ensures failures { write_failures result ≡ 0 }
+    {
+        Output { inner, failures: 0 }
+    }
+
+    /// The writes so far that failed.
+    pub fn failures(&self) -> u64
+        ensures { result ≡ write_failures self.now }
+    {
+        self.failures
+    }
+
+    /// Writes all of the bytes.
+    ///
+    /// # Errors
+    ///
+    /// [`Stop::WriteFault`] where a write failed; a front of the bytes is written then.
+    pub fn write_all(&mut self, bytes: &[u8]) -> Result<(), Stop>
+        ensures all { OnOk result (Writes W.contents self.old self.new bytes.now) }
+        ensures front { OnErr result (WritesFront W.contents self.old self.new bytes.now) }
+        ensures failures { OnOk result (write_failures self.new ≡ write_failures self.old) }
+        ensures failed { OnErr result (HasRisen (write_failures self.old) (write_failures self.new)) }
+        ensures err { IsOkUnless result Stop.WriteFault }
+    {
+        let mut done = 0;
+        while done < bytes.len() {
+            done += self.write_some(&bytes[done..])?;
+        }
+        Ok(())
+    }
+
+    // One write, which takes at least one byte or fails.
+    fn write_some(&mut self, bytes: &[u8]) -> Result<usize, Stop>
+        requires { 0 < length bytes.now }
+        ensures bound { IfOk result (λ n. (0 < n) × (n ≤ length bytes.now)) }
+        ensures all { IfOk result (λ n. Writes W.contents self.old self.new (take n bytes.now)) }
+        ensures kept { OnErr result (Keeps (bytes_written W.contents self.old) (bytes_written W.contents self.new)) }
+        ensures failures { OnOk result (write_failures self.new ≡ write_failures self.old) }
+        ensures failed { OnErr result (HasRisen (write_failures self.old) (write_failures self.new)) }
+        ensures err { IsOkUnless result Stop.WriteFault }
+    {
+        match self.inner.write(bytes) {
+            Ok(n) if n > 0 => Ok(n),
+            _ => {
+                self.failures = self.failures.saturating_add(1);
+                Err(Stop::WriteFault)
+            }
+        }
+    }
+
+    /// Hands on what the inner writer holds back.
+    ///
+    /// # Errors
+    ///
+    /// [`Stop::WriteFault`] where that failed, which counts as a write that failed.
+    pub fn flush(&mut self) -> Result<(), Stop>
+        ensures bytes { Keeps (bytes_written W.contents self.old) (bytes_written W.contents self.new) }
+        ensures failures { OnOk result (write_failures self.new ≡ write_failures self.old) }
+        ensures failed { OnErr result (HasRisen (write_failures self.old) (write_failures self.new)) }
+        ensures err { IsOkUnless result Stop.WriteFault }
+    {
+        match self.inner.flush() {
+            Ok(()) => Ok(()),
+            Err(_) => {
+                self.failures = self.failures.saturating_add(1);
+                Err(Stop::WriteFault)
+            }
+        }
+    }
+}

@@ -1,0 +1,23 @@
+use Rattle.std.proofs.Common.{arith, ◌∙◌}
+use Rattle.std.proofs.lemmas.Result.{err_from_is_err_and}
+use Rattle.al_text.specs.Snippets.{fault_text}
+use Rattle.al_base.proofs.Bytes.{Appends-next, AppendsFront-next}
+use Rattle.al_text.proofs.printing.write_faults.Goals as goal
+
+pub returns-in_err-write_fault_at-clause-front : goal.returns-in_err-write_fault_at-clause-front
+returns-in_err-write_fault_at-clause-front g c =
+    let p = err_from_is_err_and c.from_residual.result c.from_residual.ensures.1 in
+    rw p.1 (AppendsFront-next (fault_text c.args.oneline c.args.path.now c.args.bytes.now) c.args.faults.now c.loop-fault.fault-index
+    c.fault-item.result (omega (arith, c.loop-fault-test.true)) c.fault-item.is _ _ _ c.loop-fault.invariant.appended
+    c.in_err-write_fault_at.ensures.front)
+
+pub loop-fault-preserved : goal.loop-fault-preserved
+loop-fault-preserved g c = record {
+  appended = Appends-next (fault_text c.args.oneline c.args.path.now c.args.bytes.now) c.args.faults.now c.loop-fault.fault-index
+      c.fault-item.result (omega (arith, c.loop-fault-test.true)) c.fault-item.is _ _ _ c.loop-fault.invariant.appended
+      c.in_ok-write_fault_at.ensures.all;
+  unfailed = c.in_ok-write_fault_at.ensures.failures ∙ c.loop-fault.invariant.unfailed;
+  line = c.location_after-location.ensures.line;
+  column = c.location_after-location.ensures.column;
+  start = c.location_after-location.ensures.start;
+}

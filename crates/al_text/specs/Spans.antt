@@ -1,8 +1,0 @@
--- Spans of a text.
-use Rattle.std.specs.Prelude.{ℕ, ◌≤◌}
-use Rattle.al_text.specs.declared.faults.Span.{Span}
-
--- a span of a text of this many bytes
-pub record LiesIn (size : ℕ) (span : Span) : Type 0 where
-  pub ordered : span.start ≤ span.end
-  pub inside : span.end ≤ size
