@@ -1,7 +1,7 @@
 """Tells which functions of a crate take the prover's time: functions.py TOP CRATE [COUNT].
 
-    cd crates/al_text && rm -r out && rt check --jobs 1; cd ../..
-    python3 bench/functions.py . al_text
+    cd crates/al_base && rm -r out && rt check --jobs 1; cd ../..
+    python3 bench/functions.py . al_base
 
 A check with one job keeps each module that it has proved in the crate's out/, one after another; so the time between two files is that of
 the later one. TOP is the repository. Prints the COUNT (20) functions that took the longest, each with the seconds of its proof and those of

@@ -1,6 +1,6 @@
 """Compares the pages of faults with the code and the definitions: fault_pages.py TOP LETTERS.
 
-Each fault code of al_text names its identifier (`/// K2: ..`) and has its message in al_text's table; each whose identifier begins
+Each fault code of al_base names its identifier (`/// K2: ..`) and has its message in al_text's table; each whose identifier begins
 with one of LETTERS (the kinds of faults that the program prints) has one entry on a page docs/FAULTS*.md (tests/fault_entries.py), with
 that message. Each entry says why the fault matters and how it is repaired, and which definitions decide it: after
 `crate/specs/File.antt`, a colon and the names, each in backquotes. The file must exist below crates/ and define each of the names.
@@ -22,7 +22,7 @@ INDEX = "| Message | KIND | Entry |\n|---|---|---|\n"
 
 def codes(top):
     """The identifiers and variants of the fault codes, in order."""
-    return CODE.findall((top / "crates/al_text/src/codes.rt").read_text())
+    return CODE.findall((top / "crates/al_base/src/codes.rt").read_text())
 
 
 def tables(top):

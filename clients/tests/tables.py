@@ -38,7 +38,7 @@ def made_anew(program: str) -> None:
 @CASES.case
 def every_code(program: str) -> None:
     """The codes are those that the linter's code names."""
-    codes = CODE.findall((TOP / "crates/al_text/src/codes.rt").read_text(encoding="utf-8"))
+    codes = CODE.findall((TOP / "crates/al_base/src/codes.rt").read_text(encoding="utf-8"))
     assert codes and sorted(codes) == sorted(entry.code for entry in entries.entries()), codes
     assert all(entry.text and entry.why and entry.repair for entry in entries.entries())
 
