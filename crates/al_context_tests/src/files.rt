@@ -17,23 +17,6 @@ pub(crate) fn document(alloc: Global, text: &[u8]) -> Result<Option<Doc>, AllocE
     }
 }
 
-/// Goes from place to place up to the first whose scalar says a text, and answers whether there is one.
-fn go_to_text<'a>(
-    alloc: Global,
-    file: File<'a>,
-    text: &str,
-    env: &mut Env<'a>,
-) -> Result<bool, AllocError> {
-    let found = places(alloc, file.kind, file.root)?;
-    for place in found.as_slice() {
-        env.go_to(alloc, file, *place)?;
-        if place.scalar.text() == text.as_bytes() {
-            return Ok(true);
-        }
-    }
-    Ok(false)
-}
-
 /// The environment at the first place of a file whose scalar says a text, gone to from place to place; none where there is no such place.
 pub(crate) fn env_at<'a>(
     alloc: Global,
@@ -41,6 +24,12 @@ pub(crate) fn env_at<'a>(
     text: &str,
 ) -> Result<Option<Env<'a>>, AllocError> {
     let mut env = Env::new(alloc, file)?;
-    let is_there = go_to_text(alloc, file, text, &mut env)?;
-    Ok(if is_there { Some(env) } else { None })
+    let found = places(alloc, file.kind, file.root)?;
+    for place in found.as_slice() {
+        env.go_to(alloc, file, *place)?;
+        if place.scalar.text() == text.as_bytes() {
+            return Ok(Some(env));
+        }
+    }
+    Ok(None)
 }
