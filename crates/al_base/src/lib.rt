@@ -1,6 +1,6 @@
 //! What all other crates stand on. Four jobs, each with its modules:
 //!
-//! - faults, in `codes`, `faults` and `lists`: a span, a code and the texts of a message; their order, and a file's list of them
+//! - faults, in `codes`, `faults`, `lists` and `copies`: a span, a code and the texts of a message; their order, and a file's list of them
 //! - paths, in `paths`: which texts name a file of a folder
 //! - positions, in `positions` and `lines`: the line and the column of an offset
 //! - readers and writers that count, in `streams`, and why their callers stop, in `stops`
@@ -9,6 +9,7 @@
 #![tactic(auto)]
 
 mod codes;
+mod copies;
 mod faults;
 mod lines;
 mod lists;
@@ -21,6 +22,7 @@ mod streams;
 mod examples;
 
 pub use codes::{CallCode, Caller, Code, ExpressionCode, KeyCode, RuleCode, YamlCode};
+pub use copies::add_copies;
 pub use examples::rows;
 pub use faults::{Args, Fault, Span};
 pub use lines::Lines;

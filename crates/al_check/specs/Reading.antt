@@ -1,14 +1,19 @@
 -- What reading a file gave.
-use Rattle.std.specs.Prelude.{◌≡◌, ℕ, List, length, map, Result, Ok, Err}
+use Rattle.std.specs.Prelude.{◌≡◌, ◌++◌, ℕ, List, [], length, map, Result, Ok, Err}
 use Rattle.al_scalar.specs.declared.faults.YamlFault.{YamlFault}
+use Rattle.al_base.specs.Growth.{SameSet}
 use Rattle.al_base.specs.Spans.{LiesIn}
+use Rattle.al_base.specs.declared.faults.Fault.{Fault}
+use Rattle.al_shape.specs.Faults.{root_faults}
 use Rattle.al_tree.specs.declared.files.FileKind.{FileKind}
 use Rattle.al_tree.specs.declared.files.Tree.{Tree}
-use Rattle.al_tree.specs.Files.{kind_in, root_of}
+use Rattle.al_tree.specs.Files.{kind_in, root_of, shape_of}
 use Rattle.al_yaml.specs.ByteFaults.{fault_span}
 use Rattle.al_yaml.specs.Document.{tree_of}
+use Rattle.al_yaml.specs.Node.{Node}
 use Rattle.al_yaml.specs.Spans.{AreFrom, IsInside, IsLaid}
 use Rattle.al_yaml.specs.Texts.{HasTexts}
+use Rattle.al_check.specs.RuleFaults.{rule_faults}
 use Rattle.al_check.specs.Sites.{file_sites, kept_site}
 use Rattle.al_check.specs.declared.files.ReadFile.{ReadFile}
 
@@ -31,6 +36,16 @@ abbrev pub IsGiven : FileKind → List ℕ → Result Tree YamlFault → Type 0
 IsGiven file bytes (Ok t) = IsTree file bytes t
 IsGiven file bytes (Err f) = IsFault bytes f
 
+-- of keys and values, and of rules
+abbrev pub own_faults : FileKind → Node → List Fault
+own_faults kind root = root_faults (shape_of kind) root ++ rule_faults kind root
+
+-- likewise of a file that was read; one that is no YAML has none
+abbrev pub own_given : Result Tree YamlFault → List Fault
+own_given (Ok t) = own_faults (kind_in t) (root_of t)
+own_given (Err f) = []
+
 pub record IsRead (read : ReadFile) (file : FileKind) (bytes : List ℕ) : Type 0 where
   pub given : IsGiven file bytes read.tree
+  pub own : SameSet read.own.items (own_given read.tree)
   pub sites : map kept_site read.calls.items ≡ file_sites file bytes

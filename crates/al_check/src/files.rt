@@ -20,17 +20,17 @@ ghost use Rattle.al_check.specs.Sites as sites;
 ghost use Rattle.al_file_calls.specs.FileCalls as calls;
 ghost use Rattle.al_check.specs.FileFaults as faults;
 ghost use Rattle.al_check.specs.Calling.{shown_by, targets_of};
-ghost use Rattle.al_check.specs.Reading.{IsRead};
+ghost use Rattle.al_check.specs.Reading.{IsRead, own_faults};
 ghost use Rattle.al_check.specs.RuleFaults.{rule_faults};
 
 use crate::printing::printed;
-use al_base::{Args, Caller, Code, Fault, Span, ordered};
+use al_base::{Args, Caller, Code, Fault, Span, add_copies, ordered};
 use al_file_calls::behind_faults;
 use al_folder::Target;
 use al_interfaces::{Interface, interface_of};
 use al_rules::rules;
 use al_scalar::YamlFault;
-use al_tree::{Action, FileKind, Tree, Workflow};
+use al_tree::{FileKind, Tree, read_action, read_workflow};
 use al_uses::{Call, Form, calls_in, targets};
 use al_yaml::{Doc, Node};
 use al_yaml_reader::read_yaml;
@@ -44,26 +44,50 @@ pub(crate) struct LocalCall {
     pub(crate) text: String,
 }
 
-/// A file as it was read: a workflow or an action, or its fault as YAML; and its calls of files of the folder.
+/// A file as it was read: a workflow or an action, or its fault as YAML; what in it breaks the syntax or a rule, which depends on no other
+/// file; and its calls of files of the folder.
 #[derive(Drop)]
 pub struct ReadFile {
     pub(crate) tree: Result<Tree, YamlFault>,
+    pub(crate) own: Vec<Fault>,
     pub(crate) calls: Vec<LocalCall>,
 }
 
-/// A document as a workflow or an action.
-fn tree_as(kind: FileKind, doc: Doc) -> Tree
-    ensures root { root_of result ≡ view doc.root }
-    ensures kind { kind_in result ≡ kind }
+/// A document as a workflow or an action, with its faults of keys and values.
+fn tree_as(alloc: Global, kind: FileKind, doc: Doc) -> Result<(Tree, Vec<Fault>), AllocError>
+    ensures root { IfOk result (λ r. root_of r.0 ≡ view doc.root) }
+    ensures kind { IfOk result (λ r. kind_in r.0 ≡ kind) }
+    ensures faults { IfOk result (λ r. r.1.items ≡ root_faults (shape_of kind) (view doc.root)) }
 {
     match kind {
-        FileKind::Workflow => Tree::Workflow(Workflow { root: doc.root }),
-        FileKind::Action => Tree::Action(Action { root: doc.root }),
+        FileKind::Workflow => {
+            let (workflow, faults) = read_workflow(alloc, doc)?;
+            Ok((Tree::Workflow(workflow), faults))
+        }
+        FileKind::Action => {
+            let (action, faults) = read_action(alloc, doc)?;
+            Ok((Tree::Action(action), faults))
+        }
     }
 }
 
+/// Adds the faults of rules to those of keys and values.
+fn with_rules(alloc: Global, tree: &Tree, keys: Vec<Fault>) -> Result<Vec<Fault>, AllocError>
+    ensures { IfOk result (λ own. SameSet own.items (keys.items ++ rule_faults (kind_in tree.now) (root_of tree.now))) }
+{
+    let mut own = keys;
+    rules(alloc, tree, &mut own)?;
+    Ok(own)
+}
+
 /// A document that was read from these bytes, as a workflow or an action.
-fn read_tree(kind: FileKind, bytes: &[u8], doc: Doc, calls: Vec<LocalCall>) -> ReadFile
+fn read_tree(
+    alloc: Global,
+    kind: FileKind,
+    bytes: &[u8],
+    doc: Doc,
+    calls: Vec<LocalCall>,
+) -> Result<ReadFile, AllocError>
     requires small { length bytes.now ≤ 1048576 }
     requires root { tree_of bytes.now ≡ Ok (view doc.root) }
     requires inside { IsInside (length bytes.now) (view doc.root) }
@@ -71,12 +95,15 @@ fn read_tree(kind: FileKind, bytes: &[u8], doc: Doc, calls: Vec<LocalCall>) -> R
     requires texts { HasTexts (view doc.root) }
     requires from { AreFrom (length bytes.now) (view doc.root) }
     requires calls { map sites.kept_site calls.items ≡ sites.sites_of (uses.calls_in kind (view doc.root)) }
-    ensures { IsRead result kind bytes.now }
+    ensures { IfOk result (λ file. IsRead file kind bytes.now) }
 {
-    ReadFile {
-        tree: Ok(tree_as(kind, doc)),
+    let (tree, keys) = tree_as(alloc, kind, doc)?;
+    let own = with_rules(alloc, &tree, keys)?;
+    Ok(ReadFile {
+        tree: Ok(tree),
+        own,
         calls,
-    }
+    })
 }
 
 /// Who calls.
@@ -151,23 +178,14 @@ pub(crate) fn read_file(alloc: Global, kind: FileKind, bytes: &[u8]) -> Result<R
     match read_yaml(alloc, bytes)? {
         Ok(doc) => {
             let calls = document_calls(alloc, kind, &doc.root)?;
-            Ok(read_tree(kind, bytes, doc, calls))
+            read_tree(alloc, kind, bytes, doc, calls)
         }
         Err(fault) => Ok(ReadFile {
             tree: Err(fault),
+            own: Vec::new(alloc),
             calls: Vec::new(alloc),
         }),
     }
-}
-
-/// The faults of keys, values and rules.
-fn own_faults(alloc: Global, tree: &Tree) -> Result<Vec<Fault>, AllocError>
-    ensures { IfOk result (λ found. SameSet found.items
-        (root_faults (shape_of (kind_in tree.now)) (root_of tree.now) ++ rule_faults (kind_in tree.now) (root_of tree.now))) }
-{
-    let mut found = tree.faults(alloc)?;
-    rules(alloc, tree, &mut found)?;
-    Ok(found)
 }
 
 /// Adds the faults that depend on what answers the file's calls: of its expressions and of its calls.
@@ -192,18 +210,21 @@ fn listed(alloc: Global, found: Vec<Fault>) -> Result<Vec<Fault>, AllocError>
     Ok(ordered(printed(alloc, found)?))
 }
 
-/// The faults of a workflow or an action, in the order of reports, each once.
+/// The faults of a workflow or an action, of which these are its own, in the order of reports, each once.
 fn document_faults(
     alloc: Global,
     tree: &Tree,
+    own: &[Fault],
     answers: &[Option<&Interface>],
 ) -> Result<Vec<Fault>, AllocError>
     requires laid { IsLaid 1048576 (root_of tree.now) }
     requires texts { HasTexts (root_of tree.now) }
+    requires own { SameSet own.now (own_faults (kind_in tree.now) (root_of tree.now)) }
     ensures { IfOk result (λ list. list.items
         ≡ faults.document_faults (kind_in tree.now) (root_of tree.now) (map (λ a. option_copied a) answers.now)) }
 {
-    let mut found = own_faults(alloc, tree)?;
+    let mut found = Vec::new(alloc);
+    add_copies(alloc, own, &mut found)?;
     add_behind(alloc, tree, answers, &mut found)?;
     listed(alloc, found)
 }
@@ -235,7 +256,7 @@ pub(crate) fn file_faults(
 {
     match &file.tree {
         Err(fault) => yaml_fault(alloc, *fault),
-        Ok(tree) => document_faults(alloc, tree, answers),
+        Ok(tree) => document_faults(alloc, tree, &file.own, answers),
     }
 }
 

@@ -1,6 +1,6 @@
 //! The faults of calls that lead back to their own file, joined with the file's others.
 
-ghost use Rattle.std.specs.Prelude.{◌≡◌, ◌<◌, ◌++◌, not, map, length, string_bytes, ◌==◌, IfOk, OnOk};
+ghost use Rattle.std.specs.Prelude.{◌≡◌, ◌<◌, not, length, ◌==◌, IfOk};
 ghost use Rattle.std.specs.List.{enumerate_from, list_any};
 ghost use Rattle.al_folder.specs.Kept.{AreKept, folder_of};
 ghost use Rattle.al_folder.specs.Loops as loops;
@@ -8,42 +8,9 @@ ghost use Rattle.al_folder.specs.Private.CallGraphs.{IsCallGraph};
 ghost use Rattle.al_session.specs.Session.{AllChecked};
 ghost use Rattle.al_session.specs.Private.Lists.{AreJoined, IsListed};
 
-use al_base::{Args, Fault, ordered};
+use al_base::{Fault, add_copies, ordered};
 use al_folder::{CallGraph, Files, Lint, call_graph, file_number, loop_faults};
 use std::alloc::{AllocError, Global};
-
-// Copies of texts.
-fn copied_texts(alloc: Global, texts: &[String]) -> Result<Vec<String>, AllocError>
-    ensures { IfOk result (λ copies. map string_bytes copies.items ≡ map string_bytes texts.now) }
-{
-    let mut copies = Vec::with_capacity(alloc, texts.len())?;
-    for text in texts {
-        copies.push(String::from_str(alloc, text.as_str())?)?;
-    }
-    Ok(copies)
-}
-
-// A copy of a fault.
-fn copied(alloc: Global, fault: &Fault) -> Result<Fault, AllocError>
-    ensures { IfOk result (λ copy. copy ≡ fault.now) }
-{
-    let texts = copied_texts(alloc, fault.args.texts())?;
-    Ok(Fault {
-        span: fault.span,
-        code: fault.code,
-        args: Args::new(texts),
-    })
-}
-
-// Adds copies of faults.
-fn add_copies(alloc: Global, faults: &[Fault], out: &mut Vec<Fault>) -> Result<(), AllocError>
-    ensures { OnOk result (out.new.items ≡ out.old.items ++ faults.now) }
-{
-    for fault in faults {
-        out.push(copied(alloc, fault)?)?;
-    }
-    Ok(())
-}
 
 // The faults of the file with this number, joined with those of its calls that lead back to it, where there are any.
 fn joined<L: Lint>(

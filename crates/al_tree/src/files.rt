@@ -58,16 +58,6 @@ impl Tree {
             Tree::Action(action) => &action.root,
         }
     }
-
-    /// What in the file breaks the syntax: the faults of its keys and values in the order of the document, which are exactly
-    /// those that the syntax's table gives.
-    ///
-    /// Fails with `AllocError` for want of memory.
-    pub fn faults(&self, alloc: Global) -> Result<Vec<Fault>, AllocError>
-        ensures { IfOk result (λ found. found.items ≡ root_faults (shape_of (kind_in self.now)) (root_of self.now)) }
-    {
-        shape_faults(alloc, root_shape(self.kind()), self.root())
-    }
 }
 
 /// The workflow that a document is, and what in it breaks the syntax of workflows: its faults in the order of the document,

@@ -1,26 +1,31 @@
-use Rattle.std.proofs.Common.{◌∙◌, ap, ◌≡◌, ◌≤◌, length, sym, subst}
+use Rattle.std.proofs.Common.{◌++◌, ◌∙◌, ap, ◌≡◌, ◌≤◌, length, sym, subst}
 use Rattle.std.specs.Prelude.{Ok}
+use Rattle.al_base.specs.Growth.{SameSet}
+use Rattle.al_shape.specs.Faults.{root_faults}
 use Rattle.al_yaml.proofs.LaidLemmas.{laid-higher}
 use Rattle.al_yaml.specs.Document.{tree_of}
 use Rattle.al_yaml.specs.Spans.{AreFrom, IsInside, IsLaid}
 use Rattle.al_yaml.specs.Texts.{HasTexts}
 use Rattle.al_yaml.specs.View.{view}
-use Rattle.al_tree.specs.Files.{root_of}
+use Rattle.al_tree.specs.Files.{kind_in, root_of, shape_of}
+use Rattle.al_check.specs.RuleFaults.{rule_faults}
 use Rattle.al_check.specs.Sites.{sites_given}
 use Rattle.al_check.proofs.files.read_tree.Goals as goal
 
 pub returns : goal.returns
 returns c =
-    let same : view c.args.doc.root ≡ root_of c.tree_as.result = sym c.tree_as.ensures.root in
+    let tree = c.in_ok-tree_as.tree in
+    let same : view c.args.doc.root ≡ root_of tree = sym c.in_ok-tree_as.ensures.root in
     let small : length c.args.bytes.now ≤ 1048576 = c.requires.small in
     record {
       given = record {
-        kind_is = c.tree_as.ensures.kind;
+        kind_is = c.in_ok-tree_as.ensures.kind;
         root_is = subst (λ n. tree_of c.args.bytes.now ≡ Ok n) same c.requires.root;
         inside = subst (IsInside (length c.args.bytes.now)) same c.requires.inside;
         laid = subst (IsLaid 1048576) same (laid-higher (length c.args.bytes.now) 1048576 (view c.args.doc.root) small c.requires.laid);
         texts = subst HasTexts same c.requires.texts;
         from = subst (AreFrom (length c.args.bytes.now)) same c.requires.from;
       };
+      own = c.in_ok-own.ensures;
       sites = c.requires.calls ∙ sym (ap (sites_given c.args.kind) c.requires.root);
     }
