@@ -2,6 +2,7 @@
 use Rattle.std.specs.Prelude.{ℕ, Bool, true, false, ◌||◌, ◌==◌, nat_lt, List, [], ◌∷◌, length, slice_index, Option, None, Some}
 use Rattle.std.specs.Prelude.{if◌then◌else◌}
 use Rattle.std.specs.List.{list_any, slice_split}
+use Rattle.al_base.specs.Limits.{longest_path}
 use Rattle.al_base.specs.declared.paths.PathFault.{PathFault}
 use Rattle.al_base.specs.declared.paths.PathFault.TheVariants.{Empty, Absolute, BadPart, BadByte, TooLong}
 
@@ -25,4 +26,4 @@ path_fault_of path =
     if slice_index path 0 == 47 then Some Absolute else
     if list_any bad_part (parts path) then Some BadPart else
     if list_any is_bad_byte path then Some BadByte else
-    if nat_lt 1024 (length path) then Some TooLong else None
+    if nat_lt longest_path (length path) then Some TooLong else None

@@ -1,5 +1,6 @@
 -- The position of an offset, as two counts over the whole list of bytes. Breaks are LF, CRLF and CR (YAML 1.2.2, 5.4).
-use Rattle.std.specs.Prelude.{◌≡◌, ◌≤◌, ◌<◌, ℕ, zero, suc, ◌+◌, Bool, not, ◌&&◌, ◌||◌, ◌==◌, nat_lt, nat_le, List, slice_index, if◌then◌else◌}
+use Rattle.std.specs.Prelude.{◌≡◌, ◌≤◌, ◌<◌, ℕ, zero, suc, ◌+◌, Bool, not, ◌&&◌, ◌||◌, ◌==◌, nat_lt, nat_le, List}
+use Rattle.std.specs.Prelude.{slice_index, if◌then◌else◌}
 
 -- how many k below n pass
 abbrev pub count_below : (ℕ → Bool) → ℕ → ℕ

@@ -1,8 +1,9 @@
-//! What all other crates stand on. Four jobs, each with its modules:
+//! What all other crates stand on. Five jobs, each with its modules:
 //!
 //! - faults, in `codes`, `faults`, `lists` and `copies`: a span, a code and the texts of a message; their order, and a file's list of them
 //! - paths, in `paths`: which texts name a file of a folder
 //! - positions, in `positions` and `lines`: the line and the column of an offset
+//! - the limits of the product, in `limits`
 //! - readers and writers that count, in `streams`, and why their callers stop, in `stops`
 //!
 //! How a fault is worded and printed is `al_text`'s.
@@ -11,6 +12,7 @@
 mod codes;
 mod copies;
 mod faults;
+pub mod limits;
 mod lines;
 mod lists;
 mod paths;

@@ -1,6 +1,7 @@
 //! The table of line starts, and positions by it.
 ghost use Rattle.std.specs.Prelude.{◌≡◌, ℕ, ◌≤◌, ◌<◌, length, slice_index, IfOk};
 ghost use Rattle.std.specs.List.Sorted.{IsNonDecreasing};
+ghost use Rattle.al_base.specs.Limits.{largest_file};
 ghost use Rattle.al_base.specs.Positions.{line_at, column_at, BeginsLine};
 ghost use Rattle.al_base.specs.LineStarts.{line_starts};
 
@@ -31,7 +32,7 @@ impl Lines {
     ///
     /// [`AllocError`] where there is no room for it.
     pub fn of(alloc: Global, bytes: &[u8]) -> Result<Lines, AllocError>
-        requires { length bytes.now ≤ 1048576 }
+        requires { length bytes.now ≤ largest_file }
         ensures { IfOk result (λ lines. lines ≡ line_starts bytes.now) }
     {
         let mut starts = Vec::new(alloc);
@@ -50,7 +51,7 @@ impl Lines {
     pub fn position(&self, bytes: &[u8], offset: u32) -> (u32, u32)
         requires made { self.now ≡ line_starts bytes.now }
         requires within { offset ≤ length bytes.now }
-        requires small { length bytes.now ≤ 1048576 }
+        requires small { length bytes.now ≤ largest_file }
         ensures line { result.0 ≡ line_at bytes.now offset }
         ensures column { result.1 ≡ column_at bytes.now offset }
     {
@@ -64,7 +65,7 @@ impl Lines {
     pub fn location(&self, bytes: &[u8], offset: u32) -> Location
         requires made { self.now ≡ line_starts bytes.now }
         requires within { offset ≤ length bytes.now }
-        requires small { length bytes.now ≤ 1048576 }
+        requires small { length bytes.now ≤ largest_file }
         ensures line { result.line ≡ line_at bytes.now offset }
         ensures column { result.column ≡ column_at bytes.now offset }
         ensures start { BeginsLine bytes.now offset result.start }
@@ -86,7 +87,7 @@ impl Lines {
     pub fn location_after(&self, bytes: &[u8], from: u32, known: Location, offset: u32) -> Location
         requires made { self.now ≡ line_starts bytes.now }
         requires within { offset ≤ length bytes.now }
-        requires small { length bytes.now ≤ 1048576 }
+        requires small { length bytes.now ≤ largest_file }
         requires known_line { known.line ≡ line_at bytes.now from }
         requires known_column { known.column ≡ column_at bytes.now from }
         requires known_start { BeginsLine bytes.now from known.start }
@@ -108,7 +109,7 @@ impl Lines {
     fn line_of(&self, bytes: &[u8], offset: u32) -> u32
         requires made { self.now ≡ line_starts bytes.now }
         requires within { offset ≤ length bytes.now }
-        requires small { length bytes.now ≤ 1048576 }
+        requires small { length bytes.now ≤ largest_file }
         ensures { result ≡ line_at bytes.now offset }
     {
         self.count_up_to(offset) as u32
@@ -129,7 +130,7 @@ impl Lines {
 fn column_from(bytes: &[u8], from: u32, known: u32, offset: u32) -> u32
     requires order { from ≤ offset }
     requires within { offset ≤ length bytes.now }
-    requires small { length bytes.now ≤ 1048576 }
+    requires small { length bytes.now ≤ largest_file }
     requires known { known ≡ column_at bytes.now from }
     requires line { line_at bytes.now from ≡ line_at bytes.now offset }
     ensures { result ≡ column_at bytes.now offset }

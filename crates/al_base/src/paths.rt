@@ -4,12 +4,10 @@ ghost use Rattle.std.specs.List.{list_any};
 ghost use Rattle.al_base.specs.Paths.{path_fault_of, bad_part, is_bad_byte, parts};
 ghost use Rattle.al_base.specs.declared.paths.PathFault.TheVariants as fault;
 
+use super::limits::LONGEST_PATH;
 use std::alloc::{AllocError, Global};
 use std::marker::Model;
 use thiserror::Error;
-
-/// The longest path, in bytes.
-const LONGEST_PATH: usize = 1_024;
 
 /// Why a text is no path of a folder, in the order in which the reasons are looked for (P1 to P5), or that memory
 /// ran out while one was made.

@@ -1,5 +1,6 @@
 //! Lines and columns, counted from the file's start.
 ghost use Rattle.std.specs.Prelude.{◌≡◌, ◌≤◌, length, ◌<◌};
+ghost use Rattle.al_base.specs.Limits.{largest_file};
 ghost use Rattle.al_base.specs.Positions.{line_at, column_at, ends_break, begins_char};
 ghost use Rattle.al_base.specs.Positions.{BeginsLine};
 
@@ -17,7 +18,7 @@ pub struct Location {
 /// number of characters of that line before it. Takes no memory. The offset is at most the number of bytes.
 pub fn position(bytes: &[u8], offset: u32) -> (u32, u32)
     requires within { offset ≤ length bytes.now }
-    requires small { length bytes.now ≤ 1048576 }
+    requires small { length bytes.now ≤ largest_file }
     ensures line { result.0 ≡ line_at bytes.now offset }
     ensures column { result.1 ≡ column_at bytes.now offset }
 {
@@ -30,7 +31,7 @@ pub fn position(bytes: &[u8], offset: u32) -> (u32, u32)
 /// Takes no memory. The offset is at most the number of bytes.
 pub fn location_of(bytes: &[u8], offset: u32) -> Location
     requires within { offset ≤ length bytes.now }
-    requires small { length bytes.now ≤ 1048576 }
+    requires small { length bytes.now ≤ largest_file }
     ensures line { result.line ≡ line_at bytes.now offset }
     ensures column { result.column ≡ column_at bytes.now offset }
     ensures start { BeginsLine bytes.now offset result.start }
@@ -57,7 +58,7 @@ pub fn location_of(bytes: &[u8], offset: u32) -> Location
 // Whether a break ends right behind this byte: at an LF, or at a CR that no LF follows.
 pub(crate) fn is_break_end(bytes: &[u8], at: usize) -> bool
     requires within { at < length bytes.now }
-    requires small { length bytes.now ≤ 1048576 }
+    requires small { length bytes.now ≤ largest_file }
     ensures { result ≡ ends_break bytes.now at }
 {
     match bytes[at] {

@@ -63,8 +63,7 @@ fn check_extra_input(
         CallCode::UndefinedInput,
         call,
         member.key.span(),
-        name,
-        called(call, signature),
+        (name, called(call, signature)),
         out,
     )
 }
@@ -121,8 +120,7 @@ fn check_missing_input(
         CallCode::MissingInput,
         call,
         call.uses.span,
-        input.name.as_bytes(),
-        called(call, signature),
+        (input.name.as_bytes(), called(call, signature)),
         out,
     )
 }

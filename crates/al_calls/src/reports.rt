@@ -59,17 +59,16 @@ pub(crate) fn report_two(
     code: CallCode,
     call: &Call<'_>,
     at: Span,
-    first: &[u8],
-    second: &[u8],
+    named: (&[u8], &[u8]),
     out: &mut Vec<Fault>,
 ) -> Result<(), AllocError>
     ensures ok { OnOk result (out.new.items ≡ out.old.items
-        ++ faults.fault code (call_of call.now) at (first.now ∷ second.now ∷ []) ∷ []) }
+        ++ faults.fault code (call_of call.now) at ((named.entry).0.now ∷ (named.entry).1.now ∷ []) ∷ []) }
     ensures begins { BeginsWith out.new.items out.old.items }
 {
     let mut texts = Vec::new(alloc);
-    texts.push(String::from_utf8_lossy(alloc, first)?)?;
-    texts.push(String::from_utf8_lossy(alloc, second)?)?;
+    texts.push(String::from_utf8_lossy(alloc, named.0)?)?;
+    texts.push(String::from_utf8_lossy(alloc, named.1)?)?;
     out.push(Fault {
         span: at,
         code: Code::Call(code, caller_of(call)),

@@ -41,8 +41,7 @@ fn check_extra_secret(
         CallCode::UndefinedSecret,
         call,
         member.key.span(),
-        name,
-        called(call, signature),
+        (name, called(call, signature)),
         out,
     )
 }
@@ -96,8 +95,7 @@ fn check_missing_secret(
         CallCode::MissingSecret,
         call,
         call.uses.span,
-        secret.name.as_bytes(),
-        called(call, signature),
+        (secret.name.as_bytes(), called(call, signature)),
         out,
     )
 }

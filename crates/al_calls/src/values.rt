@@ -90,8 +90,7 @@ fn check_type(
         CallCode::WrongInput,
         call,
         value.member.value.span(),
-        input.name.as_bytes(),
-        type_name(input.takes),
+        (input.name.as_bytes(), type_name(input.takes)),
         out,
     )
 }

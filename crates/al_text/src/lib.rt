@@ -13,7 +13,8 @@ mod examples;
 
 pub use al_base::{
     Args, CallCode, Caller, Code, ExpressionCode, Fault, Input, KeyCode, Lines, Output, Path,
-    PathFault, RuleCode, Span, Stop, YamlCode, add_copies, fault_lists, ordered, path_fault, position, rows,
+    PathFault, RuleCode, Span, Stop, YamlCode, add_copies, fault_lists, ordered, path_fault,
+    position, rows,
 };
 pub use examples::snippet_rows;
 pub use printing::{write_fault, write_faults};

@@ -14,18 +14,20 @@ use Rattle.al_check.proofs.files.read_tree.Goals as goal
 
 pub returns : goal.returns
 returns c =
-    let tree = c.in_ok-tree_as.tree in
-    let same : view c.args.doc.root ≡ root_of tree = sym c.in_ok-tree_as.ensures.root in
+    let tree = c.in_ok-tree.tree in
+    let same : view c.args.doc.root ≡ root_of tree = sym c.in_ok-tree.ensures.root in
+    let keys = c.in_ok-tree.ensures.faults ∙ ap (λ kind. root_faults (shape_of kind) (view c.args.doc.root)) (sym c.in_ok-tree.ensures.kind)
+    ∙ ap (root_faults (shape_of (kind_in tree))) same in
     let small : length c.args.bytes.now ≤ 1048576 = c.requires.small in
     record {
       given = record {
-        kind_is = c.in_ok-tree_as.ensures.kind;
+        kind_is = c.in_ok-tree.ensures.kind;
         root_is = subst (λ n. tree_of c.args.bytes.now ≡ Ok n) same c.requires.root;
         inside = subst (IsInside (length c.args.bytes.now)) same c.requires.inside;
         laid = subst (IsLaid 1048576) same (laid-higher (length c.args.bytes.now) 1048576 (view c.args.doc.root) small c.requires.laid);
         texts = subst HasTexts same c.requires.texts;
         from = subst (AreFrom (length c.args.bytes.now)) same c.requires.from;
       };
-      own = c.in_ok-own.ensures;
+      own = subst (λ list. SameSet c.in_ok-own.own.items (list ++ rule_faults (kind_in tree) (root_of tree))) keys c.in_ok-own.ensures;
       sites = c.requires.calls ∙ sym (ap (sites_given c.args.kind) c.requires.root);
     }

@@ -23,5 +23,5 @@ returns g c e at =
     let is = c.in_ok-faults.ensures (string_bytes e.0) e.1.bytes.items (entry_number c.args.files.now.entries c.args.index e at) in
     let own : String Global × KeptFile _ _ = (c.file_number.result.0.now, c.file_number.result.1.now) in
     let same = one_entry c.args.files.now.entries c.args.index own e c.file_number.ensures at in
-    let all = c.in_ok-add_copies.ensures ∙ ap (λ l. c.in_ok-faults.faults.items ++ l) (c.deref.ensures.value ∙ ap (λ x. x.1.faults.items) same) in
+    let all = c.in_ok-add_copies.ensures.all ∙ ap (λ l. c.in_ok-faults.faults.items ++ l) (c.deref.ensures.value ∙ ap (λ x. x.1.faults.items) same) in
     listed_both g.L.Lint.meaning c.args.files.now.entries c.args.index e c.in_ok-faults.faults.items c.add_copies.new.out.items c.ordered.result c.requires.checked at is all c.ordered.ensures

@@ -1,0 +1,61 @@
+//! The limits of the product: each number once, with what it counts.
+ghost use Rattle.std.specs.Prelude.{◌≡◌};
+ghost use Rattle.al_base.specs.Limits.{largest_file, most_files, longest_path, most_nodes, most_alias_text, deepest_collection};
+ghost use Rattle.al_base.specs.Limits.{longest_key, longest_text, longest_expression, deepest_expression, longest_line};
+ghost use Rattle.al_base.specs.Limits.{most_reads, largest_read};
+
+/// The most bytes of a file of a folder.
+pub const LARGEST_FILE: usize = 1_048_576;
+
+/// The most files of a folder.
+pub const MOST_FILES: usize = 4_096;
+
+/// The most bytes of a path.
+pub const LONGEST_PATH: usize = 1_024;
+
+/// The most nodes of a file, those behind aliases counted at each alias.
+pub const MOST_NODES: u32 = 100_000;
+
+/// The most bytes of a file's texts behind aliases.
+pub const MOST_ALIAS_TEXT: u32 = 1_048_576;
+
+/// The most collections of a file inside one another.
+pub const DEEPEST_COLLECTION: u32 = 64;
+
+/// The most characters of a key, as it is written, that no `?` begins.
+pub const LONGEST_KEY: usize = 1_024;
+
+/// The most bytes of a text that may have expressions; no file gives a longer one.
+pub const LONGEST_TEXT: usize = 4_194_304;
+
+/// The most bytes of an expression.
+pub const LONGEST_EXPRESSION: usize = 21_000;
+
+/// The most brackets and negations of an expression inside one another.
+pub const DEEPEST_EXPRESSION: u32 = 50;
+
+/// The most bytes of the line of a script's command, without its end.
+pub const LONGEST_LINE: usize = 2_048;
+
+/// The most reads of a run of a script.
+pub const MOST_READS: u32 = 1_048_576;
+
+/// The most bytes that each of these reads asks for.
+pub const LARGEST_READ: usize = 65_536;
+
+/// These limits are those of the definitions. Does nothing.
+pub fn defined()
+    ensures file { LARGEST_FILE ≡ largest_file }
+    ensures files { MOST_FILES ≡ most_files }
+    ensures path { LONGEST_PATH ≡ longest_path }
+    ensures nodes { MOST_NODES ≡ most_nodes }
+    ensures alias_text { MOST_ALIAS_TEXT ≡ most_alias_text }
+    ensures collection { DEEPEST_COLLECTION ≡ deepest_collection }
+    ensures key { LONGEST_KEY ≡ longest_key }
+    ensures text { LONGEST_TEXT ≡ longest_text }
+    ensures expression { LONGEST_EXPRESSION ≡ longest_expression }
+    ensures nesting { DEEPEST_EXPRESSION ≡ deepest_expression }
+    ensures line { LONGEST_LINE ≡ longest_line }
+    ensures reads { MOST_READS ≡ most_reads }
+    ensures read { LARGEST_READ ≡ largest_read }
+{}
