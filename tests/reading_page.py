@@ -2,7 +2,8 @@
 
 The page names the definitions that the public theorems rest on, in the order to read them. They are found in the sources: the names that a
 function's contract uses, by the `use` lines of its file, and then the names that each of these definitions uses. None of them may stand in
-`specs/Private`, which holds words of private contracts.
+`specs/Private`, which holds words of private contracts. Where an `impl` names proofs of its trait's laws (`specs/Proofs`), what counts are
+the laws, which the trait states.
 """
 
 import pathlib
@@ -25,6 +26,8 @@ THEOREMS = (
     ("S", "the output of a script", "al_scripts", "run.rt", ("pub fn run_session",)),
     ("F", "the report and status of a folder", "al_cli", "linted.rt", ("pub fn lint_all",)),
 )
+# the trait whose laws a theorem's `impl` proves: its crate, its file, and its opening
+LAWS = {"L": ("al_folder", "lint.rt", "pub trait Lint")}
 USE = re.compile(r"\buse Rattle\.([\w.]+?)(?:\.\{([^}]*)\}| as (\w+))?;?\s*$")
 HEAD = re.compile(r"^( {0,4})((?:(?:abbrev|unfoldable|pub|record|data|mutual) )+)?(\S+)(.*)$")
 WORD = re.compile(r"[^\s(){},;]+")
@@ -91,6 +94,8 @@ def modules_of(top):
     for crate in crates_of(top):
         for file in sorted((top / "crates" / crate / "specs").rglob("*.antt")):
             way = ".".join((crate, "specs", *file.relative_to(top / "crates" / crate / "specs").with_suffix("").parts))
+            if ".specs.Proofs." in way:
+                continue
             if file.stem != "Lib":
                 found[way] = Module(file, way)
                 continue
@@ -138,9 +143,9 @@ def reached(roots, modules):
 
 
 def contract(source, opening):
-    """The text of a contract: from its first words to the line that opens the body, or a whole `impl` block."""
+    """The text of a contract: from its first words to the line that opens the body, or a whole `impl` or `trait`."""
     match = re.search(rf"^( *){re.escape(opening)}\b", source, re.MULTILINE)
-    end = re.compile(rf"^{match[1]}\}}" if opening.startswith("impl") else rf"^{match[1]}\{{", re.MULTILINE)
+    end = re.compile(rf"^{match[1]}\}}" if opening.startswith(("impl", "pub trait")) else rf"^{match[1]}\{{", re.MULTILINE)
     return source[match.start():end.search(source, match.end()).start()]
 
 
@@ -163,7 +168,10 @@ def tables(top):
     yield "| | Promise | Contract | Definitions | Their lines | Modules |"
     yield "|---|---|---|--:|--:|--:|"
     for letter, what, crate, file, openings in THEOREMS:
-        seen, order = reached(roots_of(top, modules, crate, file, openings), modules)
+        roots = [*roots_of(top, modules, crate, file, openings)]
+        if letter in LAWS:
+            roots += [it for it in roots_of(top, modules, *LAWS[letter][:2], LAWS[letter][2:]) if it not in roots]
+        seen, order = reached(roots, modules)
         if private := [it.name for it in order if ".Private." in it.name]:
             sys.exit(f"{crate}: {what} rests on words of private contracts: {', '.join(private)}")
         orders.append(order)

@@ -1,8 +1,8 @@
 """Checks the layout of the crates: tidy.py TOP WHAT.. [--write].
 
 WHAT is `src` or `specs` (no line is longer than 140 characters), `proofs` (none is longer than 200), `kinds` (no definition uses words of
-private contracts, `specs/Private`, and neither uses worked rows, `specs/Rows`) or `names` (each name that a `use` line brings in stands
-somewhere else in its file). With `--write` the names that don't are taken out; then `rt fmt` and `rt check` are to be run in each crate that
+private contracts, `specs/Private`, neither uses worked rows, `specs/Rows`, and none of them uses proofs, also those of `specs/Proofs`) or
+`names` (each name that a `use` line brings in stands somewhere else in its file). With `--write` the names that don't are taken out; then `rt fmt` and `rt check` are to be run in each crate that
 has changed.
 """
 
@@ -13,7 +13,10 @@ import sys
 LONGEST = {"src": 140, "specs": 140, "proofs": 200}
 ENDINGS = {"src": ".rt", "specs": ".antt", "proofs": ".antt"}
 # the folders of `specs/` that stand apart from what the product means, each of which may use those before it
-KINDS = ["Private", "Rows"]
+KINDS = ["Private", "Rows", "Proofs"]
+# proofs of the crates, and the definition that takes a tree from one
+PROOFS = re.compile(r"\bRattle\.((?!std\.)\w+\.proofs\.\w+)")
+WITH_PROOF = {"crates/al_contents/specs/Spelled.antt"}
 MODULE = re.compile(r"\bRattle\.\w+\.specs\.(\w+(?:\.\w+)*)")
 # `use PATH.{NAMES}`, `use PATH as NAME` or `use PATH`; a list may take several lines
 USE = re.compile(r"^ *(?P<passed>pub )?(?:ghost )?use (?P<path>[^{};\n]+?)(?:\{(?P<list>[^}]*)\})?;?\n", re.MULTILINE)
@@ -47,9 +50,12 @@ def later_kinds(top):
     """The definitions that use those of a later kind."""
     for file in files_of(top, "specs"):
         own = kind_of(file.relative_to(top).parts[3:])
-        for module in MODULE.findall(file.read_text(encoding="utf-8")):
+        text = file.read_text(encoding="utf-8")
+        for module in MODULE.findall(text):
             if kind_of(module.split(".")) > own:
                 yield f"{file.relative_to(top)} uses {module}, which isn't what the product means"
+        if own <= KINDS.index("Rows") + 1 and str(file.relative_to(top)) not in WITH_PROOF:
+            yield from (f"{file.relative_to(top)} uses {proof}, and has definitions alone" for proof in PROOFS.findall(text))
 
 
 def listed(use):

@@ -14,7 +14,7 @@ use Rattle.al_uses.specs.Uses.{Call, calls_in, target_in}
 use Rattle.al_uses.specs.Private.CallViews.{call_of}
 use Rattle.al_uses.specs.declared.calls.Call as code_calls
 use Rattle.al_uses.proofs.Inside.{calls_have_texts}
-use Rattle.al_check.specs.Laws.{each_sited}
+use Rattle.al_check.specs.Proofs.Laws.{each_sited}
 use Rattle.al_check.specs.Sites.{file_sites, kept_site, site_in, site_of_call}
 use Rattle.al_check.specs.declared.files.LocalCall.{LocalCall}
 use Rattle.al_scalar.specs.declared.faults.YamlFault.{YamlFault}

@@ -2,7 +2,6 @@ pub mod RuleFaults
 pub mod FileFaults
 pub mod Sites
 pub mod Reading
-pub mod RuleSets
 pub mod Calling
 pub mod Linting
-pub mod Laws
+pub mod Proofs

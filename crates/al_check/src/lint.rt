@@ -4,7 +4,7 @@ ghost use Rattle.al_tree.specs.Kinds.{file_kind};
 ghost use Rattle.al_check.specs.Linting.{linting};
 ghost use Rattle.al_check.specs.Reading.{IsRead};
 ghost use Rattle.al_interfaces.proofs.Exact.{exact};
-ghost use Rattle.al_check.specs.Laws.{each_sited, faults_inside, faults_ordered, sites_inside};
+ghost use Rattle.al_check.specs.Proofs.Laws.{each_sited, faults_inside, faults_ordered, sites_inside};
 ghost use Rattle.al_check.specs.Sites.{kept_site};
 ghost use Rattle.al_folder.specs.Sites as sites;
 

@@ -1,5 +1,5 @@
 -- Chunks, tokens, trees and faults lie in the text or content that they were found in.
-use Rattle.std.proofs.Common.{◌≡◌, ◌<◌, ◌≤◌, ◌+◌, ◌-◌, ℕ, zero, suc, List, [], ◌∷◌, length, drop, refl, sym, subst, arith, Bool, true, false, cond, nat_eq, nat_lt, Option, Some, None, ◌||◌}
+use Rattle.std.proofs.Common.{◌≡◌, ◌<◌, ◌≤◌, ◌+◌, ◌-◌, ℕ, zero, suc, List, [], ◌∷◌, length, drop, refl, sym, subst, arith, Bool, true, false, cond, nat_eq, nat_lt, Option, Some, None}
 use Rattle.std.specs.List.{AllByRecursion}
 use Rattle.std.specs.Option.{option_to_list}
 use Rattle.std.proofs.lemmas.Bool.Decides.{nat_tests}
@@ -14,8 +14,8 @@ use Rattle.al_grammar.specs.declared.chunk.ChunkState.TheVariants.{Outside, Insi
 use Rattle.al_grammar.specs.declared.lexer.Read.{Read}
 use Rattle.al_grammar.specs.declared.lexer.Read.TheVariants.{Blank, Token, BadCharacter, OpenText}
 use Rattle.al_grammar.specs.declared.token.TokenKind.{TokenKind}
-use Rattle.al_grammar.specs.declared.token.TokenKind.TheVariants.{Open, Close, OpenIndex, CloseIndex, Dot, Comma, Star}
 use Rattle.al_grammar.specs.Chunks.{Chunked, chunks_of, closes, is_quote, opens}
+use Rattle.al_grammar.specs.Private.TokenStates.{continue_with, tokens_from}
 use Rattle.al_grammar.specs.Private.ChunkStates.{chunks_from, end_fault, move, moved}
 use Rattle.al_grammar.proofs.ChunkLemmas.{states_give}
 use Rattle.al_grammar.proofs.Chunking.{third_is}
@@ -27,88 +27,16 @@ use Rattle.al_grammar.specs.Inside.{AllLie}
 use Rattle.al_grammar.specs.Lexeme.{Lexeme, lexeme, kinds}
 use Rattle.al_grammar.specs.Refusal.{fault_at, fault_of_content, fault_of_lexed, fault_of_tokens, fault_of_verdict, open_text}
 use Rattle.al_grammar.specs.Table.{Verdict, Fine, Early, Unexpected, TooDeep, verdict_of}
-use Rattle.al_base.specs.FirstBytes.{first_is, begins_with}
-use Rattle.al_grammar.specs.Tokens.{Lexed, AllRead, Bad, Unclosed, begins_name, continue_with, doubled, if_none, is_blank, is_digit}
-use Rattle.al_grammar.specs.Tokens.{is_inside, is_sign, last_place, last_quote, mark, name_read, number_len, number_read, or_equal, read}
-use Rattle.al_grammar.specs.Tokens.{span, text_read, text_tail, then_token, tokens_from, tokens_of, Fits}
+use Rattle.al_base.specs.FirstBytes.{first_is}
+use Rattle.al_grammar.specs.Tokens.{Lexed, AllRead, Bad, Unclosed, if_none}
+use Rattle.al_grammar.specs.Tokens.{is_inside, last_place, last_quote, read}
+use Rattle.al_grammar.specs.Tokens.{span, then_token, tokens_of}
 use Rattle.al_grammar.specs.Tree as tree
 use Rattle.al_grammar.specs.Tree.{Sign, sign, Tree, Constant, Named, Call, Group, Negated, Path, Chain, Steps, NoStep, PropertyThen}
 use Rattle.al_grammar.specs.Tree.{AllThen, IndexThen, StepTree, Operands, NoOperand, OperandThen, Arguments, NoArgument, ArgumentThen}
 use Rattle.al_grammar.specs.Tree.{steps_of, operands_of, arguments_of}
-use Rattle.al_grammar.proofs.Fitting.{name_fits, number_fits, text_fits}
-
--- ---- what is read at a place lies in the bytes
-
-abbrev Short : List ℕ → Read → Type 0
-Short bs (Token k n) = n ≤ length bs
-Short bs _ = Unit {0}
-
-fits_short : (bs : List ℕ) (r : Read) → Fits bs r → Short bs r
-fits_short bs (Token k n) f = f.1
-fits_short bs Blank f = tt
-fits_short bs BadCharacter f = tt
-fits_short bs OpenText f = tt
-
-if_short : (bs : List ℕ) (t : Bool) (x y : Read) → Short bs x → Short bs y → Short bs (cond t x y)
-if_short bs true x y a b = a
-if_short bs false x y a b = b
-
-if_given : (bs : List ℕ) (t : Bool) (x y : Read) → (t ≡ true → Short bs x) → Short bs y → Short bs (cond t x y)
-if_given bs true x y a b = a refl
-if_given bs false x y a b = b
-
-some_first : (c : ℕ) (bs : List ℕ) → begins_with c bs ≡ true → 1 ≤ length bs
-some_first c [] e = absurd cc
-some_first c (b ∷ bs) e = omega arith
-
-one_byte : (b : ℕ) (bs : List ℕ) (k : TokenKind) → Short (b ∷ bs) (Token k 1)
-one_byte b bs k = omega arith
-
-equal_short_at : (b : ℕ) (bs : List ℕ) (t : Bool) (j k : TokenKind) → (t ≡ true → 1 ≤ length bs) → Short (b ∷ bs) (or_equal t j k)
-equal_short_at b bs true j k f = let h = f refl in omega (arith, h)
-equal_short_at b bs false j k f = omega arith
-
-equal_short : (b : ℕ) (bs : List ℕ) (j k : TokenKind) → Short (b ∷ bs) (or_equal (begins_with 61 bs) j k)
-equal_short b bs j k = equal_short_at b bs (begins_with 61 bs) j k (some_first 61 bs)
-
-doubled_short_at : (b : ℕ) (bs : List ℕ) (t : Bool) (k : TokenKind) → (t ≡ true → 1 ≤ length bs) → Short (b ∷ bs) (doubled t k)
-doubled_short_at b bs true k f = let h = f refl in omega (arith, h)
-doubled_short_at b bs false k f = tt
-
-doubled_short : (b c : ℕ) (bs : List ℕ) (k : TokenKind) → Short (b ∷ bs) (doubled (begins_with c bs) k)
-doubled_short b c bs k = doubled_short_at b bs (begins_with c bs) k (some_first c bs)
-
-mark_short : (b : ℕ) (bs : List ℕ) → Short (b ∷ bs) (mark b bs)
-mark_short b bs =
-    if_short (b ∷ bs) (nat_eq b 40) _ _ (one_byte b bs Open)
-    (if_short (b ∷ bs) (nat_eq b 41) _ _ (one_byte b bs Close)
-    (if_short (b ∷ bs) (nat_eq b 91) _ _ (one_byte b bs OpenIndex)
-    (if_short (b ∷ bs) (nat_eq b 93) _ _ (one_byte b bs CloseIndex)
-    (if_short (b ∷ bs) (nat_eq b 46) _ _ (one_byte b bs Dot)
-    (if_short (b ∷ bs) (nat_eq b 44) _ _ (one_byte b bs Comma)
-    (if_short (b ∷ bs) (nat_eq b 42) _ _ (one_byte b bs Star)
-    (if_short (b ∷ bs) (nat_eq b 33) _ _ (equal_short b bs _ _)
-    (if_short (b ∷ bs) (nat_eq b 60) _ _ (equal_short b bs _ _)
-    (if_short (b ∷ bs) (nat_eq b 62) _ _ (equal_short b bs _ _)
-    (if_short (b ∷ bs) (nat_eq b 61) _ _ (doubled_short b 61 bs _)
-    (if_short (b ∷ bs) (nat_eq b 38) _ _ (doubled_short b 38 bs _)
-    (if_short (b ∷ bs) (nat_eq b 124) _ _ (doubled_short b 124 bs _) tt))))))))))))
-
-quote_is : (b : ℕ) → nat_eq b 39 ≡ true → b ≡ 39
-quote_is b h = grind (arith, nat_tests)
-
-text_short : (b : ℕ) (bs : List ℕ) → nat_eq b 39 ≡ true → Short (b ∷ bs) (text_read (text_tail bs))
-text_short b bs e =
-    let there = fits_short (39 ∷ bs) (text_read (text_tail bs)) (text_fits bs) in
-    subst (λ x. Short (x ∷ bs) (text_read (text_tail bs))) (sym (quote_is b e)) there
-
-read_short : (b : ℕ) (bs : List ℕ) → Short (b ∷ bs) (read (b ∷ bs))
-read_short b bs =
-    if_short (b ∷ bs) (is_blank b) Blank _ tt
-    (if_given (b ∷ bs) (begins_name b) (name_read (b ∷ bs)) _ (λ e. fits_short (b ∷ bs) (name_read (b ∷ bs)) (name_fits b bs e))
-    (if_given (b ∷ bs) (nat_eq b 39) (text_read (text_tail bs)) _ (text_short b bs)
-    (if_short (b ∷ bs) (is_digit b || is_sign b) (number_read (number_len (b ∷ bs))) (mark b bs)
-    (fits_short (b ∷ bs) (number_read (number_len (b ∷ bs))) (number_fits (b ∷ bs))) (mark_short b bs))))
+use Rattle.al_grammar.proofs.Reading.{Short, read_short}
+use Rattle.al_grammar.proofs.Splitting.{tokens_are}
 
 -- ---- tokens lie in their content, one behind another
 
@@ -144,7 +72,7 @@ module _ (size : ℕ) where
       record { ordered = omega arith; inside = omega (arith, within, room) }
   continued OpenText at b bs go room short ih = tt
   continued (Token k n) at b bs go room short ih =
-      then_lies k _ (span at (at + n)) (go (n - 1)) (record { ordered = omega arith; inside = omega (arith, room, short) })
+      then_lies k _ (span at (at + n)) (go (n - 1)) (record { ordered = omega arith; inside = omega (arith, room, short.1) })
       (weaker_lexed at (at + 1) (go (n - 1)) (omega arith) (ih (n - 1)))
 
   lexed_lies : (bs : List ℕ) (skip at : ℕ) → at + length bs ≤ size → LexedLies at (tokens_from skip at bs)
@@ -349,7 +277,8 @@ tokens_fault content (Bad s) l = (l, tt)
 tokens_fault content Unclosed l = unclosed_lies content
 
 content_lexed : (content : List ℕ) → LexedLies (length content) 0 (tokens_of content)
-content_lexed content = lexed_lies (length content) content 0 0 (omega arith)
+content_lexed content =
+    subst (LexedLies (length content) 0) (sym (tokens_are (length content) 0 content (omega arith))) (lexed_lies (length content) content 0 0 (omega arith))
 
 pub token_fault_lies : (content : List ℕ) → AllLie (length content) (option_to_list (fault_of_lexed content (tokens_of content)))
 token_fault_lies content = lexed_fault content (tokens_of content) (content_lexed content)

@@ -6,7 +6,8 @@ use Rattle.std.proofs.lemmas.Str.{IsCharBoundary-after_ascii}
 use Rattle.al_grammar.specs.declared.token.TokenKind.{TokenKind}
 use Rattle.al_grammar.specs.declared.lexer.Read.TheVariants.{Blank, Token}
 use Rattle.al_grammar.specs.Lexeme.{Lexeme, lexeme}
-use Rattle.al_grammar.specs.Tokens.{Lexed, AllRead, Bad, Unclosed, read, tokens_from, then_token, continue_with, behind, span}
+use Rattle.al_grammar.specs.Private.TokenStates.{behind, continue_with, tokens_from}
+use Rattle.al_grammar.specs.Tokens.{Lexed, AllRead, Bad, Unclosed, read, then_token, span}
 
 pub skipped : (n at : ℕ) (bs : List ℕ) → n ≤ length bs → tokens_from n at bs ≡ tokens_from 0 (at + n) (drop n bs)
 skipped zero at bs h = sym (ap (λ a. tokens_from 0 a bs) (add-zero at))
@@ -32,6 +33,11 @@ pub token_read : (at n : ℕ) (k : TokenKind) (bs : List ℕ) → Token k n ≡ 
 token_read at zero k bs r p f = absurd (omega arith)
 token_read at (suc n) k [] r p f = absurd (omega arith)
 token_read at (suc n) k (b ∷ bs) r p f = token_step at n b k bs r (omega arith)
+
+pub behind_none : (r : Lexed) → r ≡ behind [] r
+behind_none (AllRead ts) = refl
+behind_none (Bad n) = refl
+behind_none Unclosed = refl
 
 pub behind_one : (front : List Lexeme) (t : Lexeme) (r : Lexed) → behind front (then_token t r) ≡ behind (front ++ t ∷ []) r
 behind_one front t (AllRead ts) = ap AllRead (sym (append_assoc front (t ∷ []) ts))

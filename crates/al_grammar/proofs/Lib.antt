@@ -13,5 +13,7 @@ pub mod TextTails
 pub mod Left
 pub mod Quotes
 pub mod Chunking
+pub mod Reading
+pub mod Splitting
 pub mod Inside
 pub mod ChunkLemmas

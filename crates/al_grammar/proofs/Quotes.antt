@@ -1,11 +1,13 @@
 -- A text that is never closed has a quote.
-use Rattle.std.proofs.Common.{◌≡◌, ◌≢◌, ◌-◌, ◌+◌, ℕ, zero, suc, List, [], ◌∷◌, refl, sym, ◌∙◌, Bool, true, false, cond, nat_eq, Option, Some, None}
+use Rattle.std.proofs.Common.{◌≡◌, ◌≢◌, ◌-◌, ◌+◌, ℕ, zero, suc, List, [], ◌∷◌, length, arith, refl, sym, ◌∙◌, Bool, true, false, cond, nat_eq, Option, Some, None}
 use Rattle.al_grammar.specs.declared.lexer.Read.{Read}
 use Rattle.al_grammar.specs.declared.lexer.Read.TheVariants.{Blank, Token, BadCharacter, OpenText}
 use Rattle.al_grammar.specs.declared.token.TokenKind.{TokenKind}
 use Rattle.al_grammar.specs.Lexeme.{Lexeme}
 use Rattle.al_grammar.specs.Tokens.{Lexed, AllRead, Bad, Unclosed, read, mark, number_read, number_len, or_equal, doubled, tokens_of}
-use Rattle.al_grammar.specs.Tokens.{last_quote, tokens_from, then_token, continue_with, if_none, last_place}
+use Rattle.al_grammar.specs.Tokens.{last_quote, then_token, if_none, last_place}
+use Rattle.al_grammar.specs.Private.TokenStates.{continue_with, tokens_from}
+use Rattle.al_grammar.proofs.Splitting.{tokens_are}
 
 abbrev is_quote : ℕ → Bool
 is_quote b = nat_eq b 39
@@ -87,4 +89,4 @@ none_of (Some n) f = absurd (f n refl)
 
 -- An open text and no quote are absurd.
 pub quote_found : (content : List ℕ) (o : Option ℕ) → tokens_of content ≡ Unclosed → o ≡ last_quote content → ((n : ℕ) → o ≡ Some n → ⊥) → ⊥
-quote_found content o u e f = has_quote content 0 0 u (sym e ∙ none_of o f)
+quote_found content o u e f = has_quote content 0 0 (sym (tokens_are (length content) 0 content (omega arith)) ∙ u) (sym e ∙ none_of o f)

@@ -2,3 +2,4 @@
 pub mod ChunkStates
 pub mod Parsed
 pub mod TextTails
+pub mod TokenStates

@@ -1,4 +1,7 @@
 -- The tokens of a content.
+--
+-- A content splits into what stands first and the rest behind it, whose tokens follow: a blank, or a token, the longest that begins there.
+-- Else its first character begins none, or a text is never closed.
 use Rattle.al_base.specs.FirstBytes.{first_is, begins_with}
 use Rattle.al_grammar.specs.declared.token.Operator.TheVariants.{Or, And, Equal, NotEqual, Less, LessEqual, Greater, GreaterEqual}
 use Rattle.al_grammar.specs.declared.token.Keyword.TheVariants as keyword
@@ -13,7 +16,7 @@ use Rattle.al_base.specs.declared.faults.Span.{Span}
 use Rattle.al_grammar.specs.Lexeme.{Lexeme, lexeme}
 use Rattle.std.specs.List.{prefix_len}
 use Rattle.std.specs.Str.{bytes_eq}
-use Rattle.std.specs.Prelude.{codes, ◌<◌, ◌≤◌, ℕ, zero, suc, ◌+◌, ◌-◌, List, [], ◌∷◌, ◌++◌, Bool, true, false, ◌&&◌, ◌||◌, nat_eq, nat_le}
+use Rattle.std.specs.Prelude.{codes, ◌<◌, ◌≤◌, ℕ, zero, suc, ◌+◌, ◌-◌, List, [], ◌∷◌, Bool, true, false, ◌&&◌, ◌||◌, nat_eq, nat_le}
 use Rattle.std.specs.Prelude.{if◌then◌else◌, max, take, drop, Option, Some, None, slice_index, length}
 
 abbrev pub is_digit : ℕ → Bool
@@ -158,25 +161,25 @@ span a b = record { start = a; end = b }
 abbrev pub is_inside : ℕ → Bool
 is_inside b = nat_le 128 b && nat_le b 191
 
-abbrev pub continue_with : Read → ℕ → List ℕ → (ℕ → Lexed) → Lexed
-continue_with Blank at bs go = go 0
-continue_with BadCharacter at bs go = Bad (span at (at + 1 + run is_inside (drop 1 bs)))
-continue_with OpenText at bs go = Unclosed
-continue_with (Token k n) at bs go = then_token (lexeme k (take n bs) (span at (at + n))) (go (n - 1))
+-- the character that bytes begin with which stand at a place
+abbrev pub character_at : ℕ → List ℕ → Span
+character_at at bs = span at (at + 1 + run is_inside (drop 1 bs))
 
--- The tokens from a place on, where the first bytes still belong to the token before.
-abbrev pub tokens_from : ℕ → ℕ → List ℕ → Lexed
-tokens_from skip at [] = AllRead []
-tokens_from (suc skip) at (b ∷ bs) = tokens_from skip (at + 1) bs
-tokens_from zero at (b ∷ bs) = continue_with (read (b ∷ bs)) at (b ∷ bs) (λ skip. tokens_from skip (at + 1) bs)
+-- what bytes begin with, and the rest behind it
+abbrev pub with_first : (ℕ → List ℕ → Lexed) → Read → ℕ → List ℕ → Lexed
+with_first rest Blank at bs = rest (at + 1) (drop 1 bs)
+with_first rest (Token k n) at bs = then_token (lexeme k (take n bs) (span at (at + n))) (rest (at + n) (drop n bs))
+with_first rest BadCharacter at bs = Bad (character_at at bs)
+with_first rest OpenText at bs = Unclosed
+
+-- the tokens of bytes that stand at a place: at most so many, each blank counted too
+abbrev pub tokens_within : ℕ → ℕ → List ℕ → Lexed
+tokens_within zero at bs = AllRead []
+tokens_within (suc n) at [] = AllRead []
+tokens_within (suc n) at (b ∷ bs) = with_first (tokens_within n) (read (b ∷ bs)) at (b ∷ bs)
 
 abbrev pub tokens_of : List ℕ → Lexed
-tokens_of content = tokens_from 0 0 content
-
--- tokens read so far, before what the rest gives
-abbrev pub behind : List Lexeme → Lexed → Lexed
-behind front (AllRead ts) = AllRead (front ++ ts)
-behind front other = other
+tokens_of content = tokens_within (length content) 0 content
 
 abbrev pub if_none : Option ℕ → Option ℕ → Option ℕ
 if_none None o = o

@@ -1,4 +1,4 @@
-use Rattle.al_check.specs.RuleSets.{rules_added}
+use Rattle.al_check.proofs.RuleSets.{rules_added}
 use Rattle.al_check.proofs.files.with_rules.Goals as goal
 
 pub returns : goal.returns

@@ -2,9 +2,19 @@ use Rattle.std.proofs.Common.{◌<◌, map, length, length-drop, ap, ◌∙◌, 
 use Rattle.std.proofs.lemmas.Str.{IsUtf8-drop}
 use Rattle.std.proofs.lemmas.List.{map-append}
 use Rattle.al_grammar.specs.Lexeme.{seen}
-use Rattle.al_grammar.specs.Tokens.{behind}
-use Rattle.al_grammar.proofs.Lexing.{token_read, behind_one, ends_char}
+use Rattle.al_grammar.specs.Private.TokenStates.{behind}
+use Rattle.al_grammar.proofs.Lexing.{token_read, behind_none, behind_one, ends_char}
+use Rattle.al_grammar.proofs.Splitting.{tokens_are}
 use Rattle.al_grammar.proofs.lexer.tokens.Goals as goal
+
+pub tokens-init : goal.tokens-init
+tokens-init c =
+    let content = c.args.content.now in
+    record {
+      place = omega arith;
+      text = c.utf8.content;
+      so_far = rw c.new-tokens.ensures.items (tokens_are (length content) 0 content (omega arith) ∙ behind_none _);
+    }
 
 pub range_from-rest-requires : goal.range_from-rest-requires
 range_from-rest-requires c =

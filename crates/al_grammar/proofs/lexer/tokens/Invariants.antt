@@ -1,7 +1,8 @@
 use Rattle.std.proofs.Common.{◌≡◌, ◌+◌, length, map}
 use Rattle.std.specs.Str.{IsUtf8}
 use Rattle.al_grammar.specs.Lexeme.{seen}
-use Rattle.al_grammar.specs.Tokens.{tokens_of, tokens_from, behind}
+use Rattle.al_grammar.specs.Tokens.{tokens_of}
+use Rattle.al_grammar.specs.Private.TokenStates.{behind, tokens_from}
 use Rattle.al_grammar.proofs.lexer.tokens.Given as goal
 
 abbrev pub invariant-tokens : goal.invariant-tokens

@@ -33,7 +33,7 @@ use Rattle.al_rules.proofs.Lying.{rules_lie}
 use Rattle.al_shape.specs.Faults.{root_faults}
 use Rattle.al_check.specs.FileFaults.{Answers, document_faults, faults_given, file_faults, found_in, printed}
 use Rattle.al_check.specs.RuleFaults.{rule_faults}
-use Rattle.al_check.specs.RuleSets.{rules_hold}
+use Rattle.al_check.specs.Proofs.RuleSets.{rules_hold}
 
 abbrev AllLie : ℕ → List Fault → Type 0
 AllLie size faults = AllByRecursion (λ (f : Fault). LiesIn size f.span) faults
