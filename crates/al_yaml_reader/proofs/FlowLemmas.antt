@@ -1,8 +1,9 @@
 -- Flow collections against offsets.
-use Rattle.std.proofs.Common.{◌≡◌, ℕ, suc, ◌+◌, ◌≤◌, List, [], ◌∷◌, length, refl, sym, ap, ◌∙◌, true, false, not, ◌||◌, cond, Option, Some, None, Ok, Err}
+use Rattle.std.proofs.Common.{◌≡◌, ℕ, suc, ◌+◌, ◌≤◌, List, [], ◌∷◌, length, refl, sym, ap, subst, ◌∙◌, Bool, true, false, not, ◌||◌, ◌==◌, cond, Option, Some, None, Ok, Err}
 use Rattle.al_base.specs.declared.codes.YamlCode.{YamlCode}
 use Rattle.al_base.specs.declared.codes.YamlCode.TheVariants as yaml
-use Rattle.al_scalar.specs.Line.{Line, start, begins, is_empty}
+use Rattle.std.proofs.lemmas.Bool.{eqb-true}
+use Rattle.al_scalar.specs.Line.{Cell, Line, start, begins, is_empty}
 use Rattle.al_scalar.specs.Private.Places.{lines_at, text_at, IsLineEnd}
 use Rattle.al_scalar.specs.Taken.{Fault, fault}
 use Rattle.al_scalar.specs.Scalar.{ScalarRead}
@@ -123,6 +124,18 @@ module _ (node : FlowReader) (collection : CollectionReader) (turns opening dept
 
 -- ---- nodes
 
+-- where no first character is forbidden, and none of an anchor or alias stands
+abbrev IsClear : List Cell → Type 0
+IsClear cs = (None ≡ flow_fault cs) × (false ≡ is_property cs)
+
+clear-byte : (m : Bool) (b at : ℕ) (cs : List Cell) → (b == 91) ≡ m → true ≡ (m || (b == 123)) → IsClear ((b, at) ∷ cs)
+clear-byte true b at cs h k = subst (λ x. IsClear ((x, at) ∷ cs)) (sym (eqb-true b 91 h)) (refl, refl)
+clear-byte false b at cs h k = subst (λ x. IsClear ((x, at) ∷ cs)) (sym (eqb-true b 123 (sym k))) (refl, refl)
+
+clear-bracket : (cs : List Cell) → true ≡ is_flow_start cs → IsClear cs
+clear-bracket [] h = absurd (never (sym h))
+clear-bracket (c ∷ cs) h = clear-byte (c.0 == 91) c.0 c.1 cs refl h
+
 module _ (collection : CollectionReader) (slot : FlowSlot) (depth : ℕ) (n : State) (bytes : List ℕ) (at : ℕ) (inside : at ≤ length bytes) where
   pub node-property : true ≡ is_property (text_at bytes at) → flow_node_over collection slot depth (lines_at bytes at) ≡ flow_property collection slot depth (lines_at bytes at)
   node-property h = if-true (is_property (text_at bytes at)) _ _ h
@@ -162,6 +175,12 @@ module _ (collection : CollectionReader) (slot : FlowSlot) (depth : ℕ) (n : St
       content-scalar h =
           content-right ∙ if-false (is_property (text_at bytes at)) _ _ plain ∙ if-false (is_flow_start (text_at bytes at)) _ _ h
           ∙ ap (λ i. listed (start_of i 1 0) (scalar_reading (scalar_at flow (lines_at bytes at)))) (start-at bytes at inside)
+
+  -- a bracket, at which neither a fault nor an anchor stands
+  pub node-bracket : true ≡ is_flow_start (text_at bytes at) → flow_node_over collection slot depth (lines_at bytes at) ≡ collection depth (lines_at bytes at)
+  node-bracket h =
+      let clear = clear-bracket (text_at bytes at) h in
+      node-content clear.1 ∙ content-collection clear.0 clear.1 h
 
 -- ---- anchors and aliases
 

@@ -27,6 +27,7 @@ use crate::flow_nodes::{
 use crate::limits::State;
 use crate::lines::is_text_end;
 use crate::part::{Part, mapping_part, sequence_part};
+use crate::starts::is_flow_start;
 use al_base::YamlCode;
 use al_scalar::lines::begins;
 use al_scalar::{FaultAt, ScalarRead};
@@ -157,6 +158,10 @@ fn read_item(
     }
     if begins(file.bytes, at, b']') {
         return Ok(FlowStep::Behind(After::Closes(at + 1)));
+    }
+    // read_flow_node would say the same, in more steps
+    if is_flow_start(file.bytes, at) {
+        return Ok(FlowStep::Opens(Bracket { at, anchor: None }));
     }
     match read_flow_node(file, state, opening, None, at, depth)? {
         Found::Node(part) => Ok(FlowStep::Behind(put_item(file, opening, items, part)?)),
@@ -377,6 +382,10 @@ pub fn read_flow_collection(
             }
             After::Closes(end) => {
                 let part = closed_part(opening, has, end);
+                // what is open outside isn't moved
+                if progress.stack.len() == outside {
+                    return Ok(part);
+                }
                 let Some(frame) = progress.stack.pop_flow() else {
                     return Ok(part);
                 };
