@@ -124,17 +124,14 @@ module _ (node : FlowReader) (collection : CollectionReader) (turns opening dept
 
 -- ---- nodes
 
--- where no first character is forbidden, and none of an anchor or alias stands
-abbrev IsClear : List Cell → Type 0
-IsClear cs = (None ≡ flow_fault cs) × (false ≡ is_property cs)
+-- no bracket is forbidden
+right-byte : (m : Bool) (b at : ℕ) (cs : List Cell) → (b == 91) ≡ m → true ≡ (m || (b == 123)) → None ≡ flow_fault ((b, at) ∷ cs)
+right-byte true b at cs h k = subst (λ x. None ≡ flow_fault ((x, at) ∷ cs)) (sym (eqb-true b 91 h)) refl
+right-byte false b at cs h k = subst (λ x. None ≡ flow_fault ((x, at) ∷ cs)) (sym (eqb-true b 123 (sym k))) refl
 
-clear-byte : (m : Bool) (b at : ℕ) (cs : List Cell) → (b == 91) ≡ m → true ≡ (m || (b == 123)) → IsClear ((b, at) ∷ cs)
-clear-byte true b at cs h k = subst (λ x. IsClear ((x, at) ∷ cs)) (sym (eqb-true b 91 h)) (refl, refl)
-clear-byte false b at cs h k = subst (λ x. IsClear ((x, at) ∷ cs)) (sym (eqb-true b 123 (sym k))) (refl, refl)
-
-clear-bracket : (cs : List Cell) → true ≡ is_flow_start cs → IsClear cs
-clear-bracket [] h = absurd (never (sym h))
-clear-bracket (c ∷ cs) h = clear-byte (c.0 == 91) c.0 c.1 cs refl h
+pub right-bracket : (cs : List Cell) → true ≡ is_flow_start cs → None ≡ flow_fault cs
+right-bracket [] h = absurd (never (sym h))
+right-bracket (c ∷ cs) h = right-byte (c.0 == 91) c.0 c.1 cs refl h
 
 module _ (collection : CollectionReader) (slot : FlowSlot) (depth : ℕ) (n : State) (bytes : List ℕ) (at : ℕ) (inside : at ≤ length bytes) where
   pub node-property : true ≡ is_property (text_at bytes at) → flow_node_over collection slot depth (lines_at bytes at) ≡ flow_property collection slot depth (lines_at bytes at)
@@ -175,12 +172,6 @@ module _ (collection : CollectionReader) (slot : FlowSlot) (depth : ℕ) (n : St
       content-scalar h =
           content-right ∙ if-false (is_property (text_at bytes at)) _ _ plain ∙ if-false (is_flow_start (text_at bytes at)) _ _ h
           ∙ ap (λ i. listed (start_of i 1 0) (scalar_reading (scalar_at flow (lines_at bytes at)))) (start-at bytes at inside)
-
-  -- a bracket, at which neither a fault nor an anchor stands
-  pub node-bracket : true ≡ is_flow_start (text_at bytes at) → flow_node_over collection slot depth (lines_at bytes at) ≡ collection depth (lines_at bytes at)
-  node-bracket h =
-      let clear = clear-bracket (text_at bytes at) h in
-      node-content clear.1 ∙ content-collection clear.0 clear.1 h
 
 -- ---- anchors and aliases
 

@@ -27,7 +27,6 @@ use crate::flow_nodes::{
 use crate::limits::State;
 use crate::lines::is_text_end;
 use crate::part::{Part, mapping_part, sequence_part};
-use crate::starts::is_flow_start;
 use al_base::YamlCode;
 use al_scalar::lines::begins;
 use al_scalar::{FaultAt, ScalarRead};
@@ -158,10 +157,6 @@ fn read_item(
     }
     if begins(file.bytes, at, b']') {
         return Ok(FlowStep::Behind(After::Closes(at + 1)));
-    }
-    // read_flow_node would say the same, in more steps
-    if is_flow_start(file.bytes, at) {
-        return Ok(FlowStep::Opens(Bracket { at, anchor: None }));
     }
     match read_flow_node(file, state, opening, None, at, depth)? {
         Found::Node(part) => Ok(FlowStep::Behind(put_item(file, opening, items, part)?)),

@@ -1,10 +1,9 @@
-use Rattle.std.proofs.Common.{◌∙◌, suc, ap, arith, map, None, sym, refl}
+use Rattle.std.proofs.Common.{◌∙◌, suc, ap, arith, map}
 use Rattle.std.proofs.lemmas.Result.{err_from_is_err_and}
 use Rattle.al_yaml_reader.specs.Private.Files.{left_at}
 use Rattle.al_yaml_reader.specs.Private.Frames.{answered, open_rest, waiting_rest, item, items}
-use Rattle.al_yaml_reader.specs.Private.Reads.{part_of, run, state_of}
+use Rattle.al_yaml_reader.specs.Private.Reads.{part_of, state_of}
 use Rattle.al_yaml.specs.View.{view, nodes_of}
-use Rattle.al_yaml_reader.proofs.FlowLemmas.{node-bracket}
 use Rattle.al_yaml_reader.proofs.FlowStepLemmas.{item-open, item-closed, item-stop, item-answer, put-behind}
 use Rattle.al_yaml_reader.proofs.ReadLemmas.{stops-from}
 use Rattle.al_yaml_reader.proofs.flow.read_item.Goals as goal
@@ -19,15 +18,6 @@ returns-then-begins-clause-is c = λ col turns.
     let depth = c.args.depth in
     item-closed col turns c.args.opening depth (state_of c.args.state.now) (nodes_of (map view c.args.items.now.items))
     c.args.file.now.bytes.now c.args.at c.requires.inside c.if-is_text_end.ensures.text c.if-begins.ensures.value
-
-pub returns-then-is_flow_start-clause-is : goal.returns-then-is_flow_start-clause-is
-returns-then-is_flow_start-clause-is c = λ col turns.
-    let depth = c.args.depth in
-    item-answer col turns c.args.opening depth (state_of c.args.state.now) (nodes_of (map view c.args.items.now.items))
-    c.args.file.now.bytes.now c.args.at c.requires.inside c.if-is_text_end.ensures.text c.if-begins.ensures.value
-    ∙ ap (λ r. answered (run (state_of c.args.state.now) r) (waiting_rest col turns depth c.args.opening (item (nodes_of (map view c.args.items.now.items)))))
-    (node-bracket col (record { opening = c.args.opening; empty = None }) depth (state_of c.args.state.now) c.args.file.now.bytes.now c.args.at
-    c.requires.inside c.if-is_flow_start.ensures.value)
 
 pub returns-in_err-part-clause-is : goal.returns-in_err-part-clause-is
 returns-in_err-part-clause-is c =
@@ -77,13 +67,6 @@ returns-in-Opens-clause-is c = λ col turns.
 
 pub returns-then-begins-clause-within : goal.returns-then-begins-clause-within
 returns-then-begins-clause-within c = (omega arith, omega (arith, c.if-begins.ensures.inside))
-
-pub returns-then-is_flow_start-clause-within : goal.returns-then-is_flow_start-clause-within
-returns-then-is_flow_start-clause-within c = record {
-  from = omega arith;
-  inside = c.if-is_flow_start.ensures.inside refl;
-  bracket = sym c.if-is_flow_start.ensures.value;
-}
 
 pub returns-in-Opens-clause-within : goal.returns-in-Opens-clause-within
 returns-in-Opens-clause-within c = rw c.in-Opens.is at c.in_ok-part.ensures.within
