@@ -1,8 +1,9 @@
 -- Flow collections against offsets.
-use Rattle.std.proofs.Common.{◌≡◌, ℕ, suc, ◌+◌, ◌≤◌, List, [], ◌∷◌, length, refl, sym, ap, ◌∙◌, true, false, not, ◌||◌, cond, Option, Some, None, Ok, Err}
+use Rattle.std.proofs.Common.{◌≡◌, ℕ, suc, ◌+◌, ◌≤◌, List, [], ◌∷◌, length, refl, sym, ap, subst, ◌∙◌, Bool, true, false, not, ◌||◌, ◌==◌, cond, Option, Some, None, Ok, Err}
 use Rattle.al_base.specs.declared.codes.YamlCode.{YamlCode}
 use Rattle.al_base.specs.declared.codes.YamlCode.TheVariants as yaml
-use Rattle.al_scalar.specs.Line.{Line, start, begins, is_empty}
+use Rattle.std.proofs.lemmas.Bool.{eqb-true}
+use Rattle.al_scalar.specs.Line.{Cell, Line, start, begins, is_empty}
 use Rattle.al_scalar.specs.Private.Places.{lines_at, text_at, IsLineEnd}
 use Rattle.al_scalar.specs.Taken.{Fault, fault}
 use Rattle.al_scalar.specs.Scalar.{ScalarRead}
@@ -122,6 +123,15 @@ module _ (node : FlowReader) (collection : CollectionReader) (turns opening dept
     entries-step = if-false (is_file_end (lines_at bytes at)) _ _ some ∙ if-false (begins 125 (text_at bytes at)) _ _ other
 
 -- ---- nodes
+
+-- no bracket is forbidden
+right-byte : (m : Bool) (b at : ℕ) (cs : List Cell) → (b == 91) ≡ m → true ≡ (m || (b == 123)) → None ≡ flow_fault ((b, at) ∷ cs)
+right-byte true b at cs h k = subst (λ x. None ≡ flow_fault ((x, at) ∷ cs)) (sym (eqb-true b 91 h)) refl
+right-byte false b at cs h k = subst (λ x. None ≡ flow_fault ((x, at) ∷ cs)) (sym (eqb-true b 123 (sym k))) refl
+
+pub right-bracket : (cs : List Cell) → true ≡ is_flow_start cs → None ≡ flow_fault cs
+right-bracket [] h = absurd (never (sym h))
+right-bracket (c ∷ cs) h = right-byte (c.0 == 91) c.0 c.1 cs refl h
 
 module _ (collection : CollectionReader) (slot : FlowSlot) (depth : ℕ) (n : State) (bytes : List ℕ) (at : ℕ) (inside : at ≤ length bytes) where
   pub node-property : true ≡ is_property (text_at bytes at) → flow_node_over collection slot depth (lines_at bytes at) ≡ flow_property collection slot depth (lines_at bytes at)

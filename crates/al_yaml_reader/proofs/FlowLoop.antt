@@ -39,6 +39,10 @@ first-keeps bytes depth n m at has (after.Closes end) bound stack e h here l k =
     subst (λ s. Behind bytes depth (run n (flow_collection bound depth (lines_at bytes at))) (map (frame_of bytes) s) m p) (sym e)
     (empty-first bytes depth n m at p bound h here (λ i. k i ∙ closed-part bytes m at has end p a b c) (omega (arith, l, c)))
 
+pub none-open : {A : Type 0} (xs : List A) → length xs ≡ 0 → xs ≡ []
+none-open [] h = refl
+none-open (x ∷ xs) h = absurd (omega (arith, h))
+
 pub frames-length : (bytes : List ℕ) (stack : List FlowFrame) → length (map (frame_of bytes) stack) ≡ length stack
 frames-length bytes [] = refl
 frames-length bytes (f ∷ fs) = ap suc (frames-length bytes fs)

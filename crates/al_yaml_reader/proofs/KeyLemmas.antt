@@ -124,6 +124,31 @@ characters-kind bytes i (at_file_end e) = ap (λ ls. characters i (first_text ls
 characters-kind bytes i (at_break l k) = ap (characters i) (text-line_end bytes i (omega arith) (λ _. k))
 characters-kind bytes i (at_byte l k) = ap (characters i) (text_at-cell bytes i (omega arith) k) ∙ characters-none i (slice_index bytes i, i) (text_at bytes (i + 1)) (omega arith)
 
+-- no more than bytes
+counted-few : (b : Bool) (n k : ℕ) → n ≤ k → counted_byte b n ≤ suc k
+counted-few true n k h = omega (arith, h)
+counted-few false n k h = omega (arith, h)
+
+few-kind : (bytes : List ℕ) (i to k : ℕ) → i + suc k ≡ to → Kind bytes i → characters to (text_at bytes (i + 1)) ≤ k → characters to (text_at bytes i) ≤ suc k
+few-kind bytes i to k e (at_file_end d) h = let none = ap (λ ls. characters to (first_text ls)) (lines-at_end bytes i d) in omega (arith, none)
+few-kind bytes i to k e (at_break l d) h = let none = ap (characters to) (text-line_end bytes i (omega arith) (λ _. d)) in omega (arith, none)
+few-kind bytes i to k e (at_byte l d) h =
+    let b = nat_le 128 (slice_index bytes i) && nat_lt (slice_index bytes i) 192 in
+    let one = ap (characters to) (text_at-cell bytes i (omega arith) d) ∙ characters-cell to (slice_index bytes i, i) (text_at bytes (i + 1)) b (omega (arith, e)) refl in
+    subst (λ n. n ≤ suc k) (sym one) (counted-few b (characters to (text_at bytes (i + 1))) k h)
+
+pub characters-few : (bytes : List ℕ) (k i to : ℕ) → to ≤ length bytes → i + k ≡ to → characters to (text_at bytes i) ≤ k
+characters-few bytes zero i to inside e =
+    let none : characters to (text_at bytes i) ≡ 0 = ap (λ j. characters j (text_at bytes i)) (omega (arith, e)) ∙ characters-kind bytes i (kind bytes i (omega (arith, e, inside))) in
+    omega (arith, none)
+characters-few bytes (suc k) i to inside e =
+    few-kind bytes i to k e (kind bytes i (omega (arith, e, inside))) (characters-few bytes k (i + 1) to inside (omega (arith, e)))
+
+pub short-few : (bytes : List ℕ) (at end : ℕ) → at ≤ end → end ≤ length bytes → end - at ≤ 1024 → true ≡ nat_le (characters end (text_at bytes at)) 1024
+short-few bytes at end a b h =
+    let few = characters-few bytes (end - at) at end b (omega (arith, a)) in
+    grind (arith, common_steps, few, h)
+
 module _ (bytes : List ℕ) (from i to : ℕ) (inside : to ≤ length bytes) where
   pub characters-done : i ≡ to → (n : ℕ) → characters to (text_at bytes from) ≡ n + characters to (text_at bytes i) → n ≡ characters to (text_at bytes from)
   characters-done e n h =

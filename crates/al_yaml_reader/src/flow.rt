@@ -377,6 +377,10 @@ pub fn read_flow_collection(
             }
             After::Closes(end) => {
                 let part = closed_part(opening, has, end);
+                // what is open outside isn't moved
+                if progress.stack.len() == outside {
+                    return Ok(part);
+                }
                 let Some(frame) = progress.stack.pop_flow() else {
                     return Ok(part);
                 };

@@ -140,11 +140,12 @@ fn read_flow_content(file: &File, state: &mut State, at: usize) -> Result<Found,
     ensures within { IfOk result (λ found. IsFound file.now.bytes.now at found) }
     ensures bare { IfOk result IsBare }
 {
-    if let Some(code) = flow_fault(file.bytes, at) {
-        return Err(ReadError::Fault(FaultAt { code, at }));
-    }
+    // a bracket has no fault
     if is_flow_start(file.bytes, at) {
         return Ok(Found::Opens(Bracket { at, anchor: None }));
+    }
+    if let Some(code) = flow_fault(file.bytes, at) {
+        return Err(ReadError::Fault(FaultAt { code, at }));
     }
     state.start(at, 1, 0)?;
     let read = scalar_at(file.alloc, file.bytes, at, ScalarContext::Flow)?;

@@ -44,7 +44,12 @@ pub fn is_short_key(bytes: &[u8], at: usize, read: &ScalarRead) -> bool
     requires line { content.same_line (lines_at bytes.now at) (lines_at bytes.now read.now.next) ≡ true }
     ensures { result ≡ content.is_short_key (lines_at bytes.now at) (read_of bytes.now read.now) }
 {
-    characters(bytes, at, read.span.end as usize) <= MAX_KEY
+    let end = read.span.end as usize;
+    // no more characters than bytes
+    if end - at <= MAX_KEY {
+        return true;
+    }
+    characters(bytes, at, end) <= MAX_KEY
 }
 
 /// Whether a colon that parts a key from its value in block context stands at an offset.

@@ -1,7 +1,7 @@
 //! The stack of open collections.
 
 ghost use Rattle.al_yaml_reader.specs.Stacks.{Opened, depth_in};
-ghost use Rattle.std.specs.Prelude.{◌≡◌, ◌+◌, ◌<◌, ◌≤◌, ◌∷◌, [], IfSome, MatchOption, length, slice_index_or, slice_set};
+ghost use Rattle.std.specs.Prelude.{◌≡◌, ◌+◌, ◌<◌, ◌≤◌, ◌∷◌, [], IfSome, MatchOption, Some, length, slice_index_or, slice_set};
 
 use crate::block::BlockFrame;
 use crate::flow::FlowFrame;
@@ -22,6 +22,15 @@ struct Cells {
 }
 
 impl Cells {
+    /// Puts a frame into a cell.
+    #[inline(always)]
+    fn put(&mut self, index: usize, frame: Frame)
+        requires { index < 64 }
+        ensures { self.new.xs ≡ slice_set self.old.xs index (Some frame) }
+    {
+        self.xs[index] = Some(frame);
+    }
+
     /// Puts something into a cell, and returns what was there.
     #[inline(always)]
     fn replace(&mut self, index: usize, cell: Option<Frame>) -> Option<Frame>
@@ -84,7 +93,7 @@ impl Frames {
         ensures { self.new ≡ frame ∷ self.old }
     {
         let len = self.len;
-        let _ = self.cells.replace(len, Some(frame));
+        self.cells.put(len, frame);
         self.len = len + 1;
     }
 

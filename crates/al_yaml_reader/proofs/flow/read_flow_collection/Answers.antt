@@ -6,7 +6,7 @@ use Rattle.al_yaml_reader.specs.Private.FlowFrames.{mark_of, open_of, waiting_of
 use Rattle.al_yaml_reader.specs.Private.Places.{fault_of}
 use Rattle.al_yaml_reader.specs.Private.Reads.{run, state_of}
 use Rattle.al_yaml_reader.proofs.FlowLemmas.{collection-broken}
-use Rattle.al_yaml_reader.proofs.FlowLoop.{frames-length, first-keeps, closed-part, step-keeps, resumed-keeps}
+use Rattle.al_yaml_reader.proofs.FlowLoop.{frames-length, none-open, first-keeps, closed-part, step-keeps, resumed-keeps}
 use Rattle.al_yaml_reader.proofs.FrameLemmas.{Inside, Behind, broken-first, whole-stops, inside-stops, inside-broken, inside-empty, inside-opens, waits-stops, behind-pops, behind-ends}
 use Rattle.al_yaml_reader.proofs.NoteLemmas.{noted-part}
 use Rattle.al_yaml_reader.proofs.flow.read_flow_collection.Goals as goal
@@ -220,6 +220,24 @@ nodes-preserved-in-GoesOn-first c =
           (state_of c.start-in-Opens.new.self) (open_of c.open_at-nothing.result.0) c.in-GoesOn-first.inside
           first from);
     }
+
+pub returns-then-len-outside-clause-is : goal.returns-then-len-outside-clause-is
+returns-then-len-outside-clause-is c = λ bound h.
+    let now = rw c.in-Closes.is at (c.nodes.invariant.reads
+    (run (state_of c.args.progress.now.state) (flow_collection bound c.args.depth (lines_at c.args.file.now.bytes.now c.args.at)))
+    (first-keeps c.args.file.now.bytes.now c.args.depth (state_of c.args.progress.now.state) (state_of c.start.new.self) c.args.at
+    (open_of c.open_at-has.result.0) c.open_at-has.result.1 bound c.args.progress.now.stack.flows c.requires.outside h c.requires.inside
+    c.open_at-has.ensures.from (c.open_at-has.ensures.is c.args.depth (state_of c.args.progress.now.state) (state_of c.start.new.self)
+    c.in_ok-start.ensures.limits c.in_ok-start.ensures.state))) in
+    behind-ends c.args.file.now.bytes.now c.args.depth
+    (run (state_of c.args.progress.now.state) (flow_collection bound c.args.depth (lines_at c.args.file.now.bytes.now c.args.at)))
+    (state_of c.nodes.progress.state) c.closed_part-part-in-Closes.result
+    (subst (λ s. Behind c.args.file.now.bytes.now c.args.depth
+    (run (state_of c.args.progress.now.state) (flow_collection bound c.args.depth (lines_at c.args.file.now.bytes.now c.args.at)))
+    (map (frame_of c.args.file.now.bytes.now) s) (state_of c.nodes.progress.state) c.closed_part-part-in-Closes.result)
+    (none-open c.nodes.progress.stack.flows
+    (omega (arith, c.if-len-outside.true, c.len-in-Closes.ensures.value, c.nodes.invariant.outside.0))) (now c.closed_part-part-in-Closes.result c.closed_part-part-in-Closes.ensures.node
+    c.closed_part-part-in-Closes.ensures.end c.closed_part-part-in-Closes.ensures.next))
 
 pub returns-in_default-clause-is : goal.returns-in_default-clause-is
 returns-in_default-clause-is c = λ bound h.

@@ -1,6 +1,6 @@
 use Rattle.std.proofs.Common.{ap, ◌∙◌}
 use Rattle.std.proofs.lemmas.Result.{err_from_is_err_and}
-use Rattle.al_scalar.specs.Private.Places.{lines_at}
+use Rattle.al_scalar.specs.Private.Places.{lines_at, text_at}
 use Rattle.al_scalar.specs.Plain.{flow}
 use Rattle.al_scalar.specs.Scalar.{scalar_at}
 use Rattle.al_yaml.specs.Flow.{flow_content}
@@ -9,7 +9,7 @@ use Rattle.al_yaml_reader.specs.Private.Reads.{run, state_of}
 use Rattle.al_yaml_reader.specs.Private.Places.{fault_of}
 use Rattle.al_yaml_reader.proofs.RunLemmas.{run-broken}
 use Rattle.al_yaml_reader.proofs.ReadLemmas.{stops-same, scalar_reading, scalar-stops, scalar-ok}
-use Rattle.al_yaml_reader.proofs.FlowLemmas.{content-fault, content-collection, content-scalar}
+use Rattle.al_yaml_reader.proofs.FlowLemmas.{right-bracket, content-fault, content-collection, content-scalar}
 use Rattle.al_yaml_reader.proofs.flow_nodes.read_flow_content.Goals as goal
 
 pub returns-in-Some-clause-is : goal.returns-in-Some-clause-is
@@ -18,7 +18,8 @@ returns-in-Some-clause-is c = λ depth slot col. content-fault col slot depth (s
 pub returns-then-is_flow_start-clause-is : goal.returns-then-is_flow_start-clause-is
 returns-then-is_flow_start-clause-is c = λ depth slot col. ap (run (state_of c.args.state.now))
     (content-collection col slot depth (state_of c.args.state.now) c.args.file.now.bytes.now c.args.at c.requires.inside
-    c.in_default.ensures c.requires.plain c.if-is_flow_start.ensures.value)
+    (right-bracket (text_at c.args.file.now.bytes.now c.args.at) c.if-is_flow_start.ensures.value)
+    c.requires.plain c.if-is_flow_start.ensures.value)
 
 pub returns-in_err-start-clause-is : goal.returns-in_err-start-clause-is
 returns-in_err-start-clause-is c = λ depth slot.
