@@ -1,5 +1,5 @@
 -- Sets of keys as tests of texts.
-use Rattle.std.proofs.Common.{◌≡◌, ℕ, Bool, true, false, cond, List, [], ◌∷◌, ◌++◌, map, refl, sym, ap, ◌∙◌, ◌||◌}
+use Rattle.std.proofs.Common.{◌≡◌, ℕ, Bool, true, false, cond, List, [], ◌∷◌, ◌++◌, map, take, refl, sym, ap, ◌∙◌, ◌||◌}
 use Rattle.std.specs.List.{list_any}
 use Rattle.std.specs.Str.{bytes_eq}
 use Rattle.std.specs.Ordering.{nat_cmp, is_eq}
@@ -49,30 +49,32 @@ added_at k text old =
     ap (λ b. cond b true old) (is_eq-slice_cmp k text ∙ bytes_swap k text) ∙ cond_or (bytes_eq text k) old
 
 -- where nothing was added behind the first keys
-pub as_it_was : (old new : KeySet) → new.few.items ≡ old.few.items → new.more.keys ≡ old.more.keys → holds new ≡ holds old
+pub as_it_was : (old new : KeySet) → new.few ≡ old.few → new.count ≡ old.count → new.more.keys ≡ old.more.keys → holds new ≡ holds old
 unfolding holds
-as_it_was old new same e = λ i text. among (map (λ k. k.now) (same i)) text || list_any (λ k. is_eq (slice_cmp nat_cmp text k.now)) (e i)
+as_it_was old new few count e = λ i text.
+    among (map (λ k. k.now) (take (count i) (few i))) text || list_any (λ k. is_eq (slice_cmp nat_cmp text k.now)) (e i)
 
 -- one more of the first keys
-pub appended : (old new : KeySet) (key : Bor (List ℕ)) → new.few.items ≡ old.few.items ++ key ∷ [] → new.more ≡ old.more
+pub appended : (old new : KeySet) (key : Bor (List ℕ)) → take new.count new.few ≡ take old.count old.few ++ key ∷ [] → new.more ≡ old.more
     → holds new ≡ and_text (holds old) key.now
 unfolding holds
 appended old new key more same = λ i text.
     (ap (λ ks. among ks text || contains_by (λ k. slice_cmp nat_cmp text k.now) new.more)
-    (ap (map (λ k. k.now)) more ∙ map-append (λ k. k.now) old.few.items (key ∷ []))
-    ∙ ap (λ s. among (map (λ k. k.now) old.few.items ++ key.now ∷ []) text || contains_by (λ k. slice_cmp nat_cmp text k.now) s) same
+    (ap (map (λ k. k.now)) more ∙ map-append (λ k. k.now) (take old.count old.few) (key ∷ []))
+    ∙ ap (λ s. among (map (λ k. k.now) (take old.count old.few) ++ key.now ∷ []) text || contains_by (λ k. slice_cmp nat_cmp text k.now) s) same
     ∙ ap (λ b. b || contains_by (λ k. slice_cmp nat_cmp text k.now) old.more)
-    (sym (among_more_at (map (λ k. k.now) old.few.items) key.now text))
-    ∙ or_swap (among (map (λ k. k.now) old.few.items) text) (bytes_eq text key.now)
+    (sym (among_more_at (map (λ k. k.now) (take old.count old.few)) key.now text))
+    ∙ or_swap (among (map (λ k. k.now) (take old.count old.few)) text) (bytes_eq text key.now)
     (contains_by (λ k. slice_cmp nat_cmp text k.now) old.more)) i
 
 -- one more behind the first keys
-pub inserted : (old new : KeySet) (key : Bor (List ℕ)) → new.few.items ≡ old.few.items
+pub inserted : (old new : KeySet) (key : Bor (List ℕ)) → new.few ≡ old.few → new.count ≡ old.count
     → Updates (λ a b. slice_cmp nat_cmp a.now b.now) old.more new.more key true → holds new ≡ and_text (holds old) key.now
 unfolding holds
-inserted old new key same u = λ i text.
-    (ap (λ fs. among (map (λ k. k.now) fs) text || contains_by (λ k. slice_cmp nat_cmp text k.now) new.more) same
-    ∙ ap (λ b. among (map (λ k. k.now) old.few.items) text || b)
+inserted old new key few count u = λ i text.
+    (ap (λ fs. among (map (λ k. k.now) (take new.count fs)) text || contains_by (λ k. slice_cmp nat_cmp text k.now) new.more) few
+    ∙ ap (λ n. among (map (λ k. k.now) (take n old.few)) text || contains_by (λ k. slice_cmp nat_cmp text k.now) new.more) count
+    ∙ ap (λ b. among (map (λ k. k.now) (take old.count old.few)) text || b)
     (u.0 (record key { now = text }) ∙ added_at key.now text (contains_by (λ k. slice_cmp nat_cmp text k.now) old.more))
-    ∙ sym (or_assoc (among (map (λ k. k.now) old.few.items) text) (contains_by (λ k. slice_cmp nat_cmp text k.now) old.more)
+    ∙ sym (or_assoc (among (map (λ k. k.now) (take old.count old.few)) text) (contains_by (λ k. slice_cmp nat_cmp text k.now) old.more)
     (bytes_eq text key.now))) i

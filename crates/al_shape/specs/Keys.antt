@@ -1,5 +1,5 @@
 -- The keys of a mapping's entries, and sets of them.
-use Rattle.std.specs.Prelude.{ℕ, List, [], map, Bool, ◌||◌}
+use Rattle.std.specs.Prelude.{ℕ, List, [], map, take, Bool, ◌||◌}
 use Rattle.std.specs.BTreeSet.{contains_by}
 use Rattle.std.specs.Cmp.Lexicographic.{slice_cmp}
 use Rattle.std.specs.Option.{option_map_or}
@@ -23,7 +23,7 @@ keys_in es = map key_of es
 
 -- which texts a set holds
 unfoldable pub holds : KeySet → List ℕ → Bool
-holds s text = among (map (λ k. k.now) s.few.items) text || contains_by (λ k. slice_cmp nat_cmp text k.now) s.more
+holds s text = among (map (λ k. k.now) (take s.count s.few)) text || contains_by (λ k. slice_cmp nat_cmp text k.now) s.more
 
 -- a test that one more text passes
 abbrev pub and_text : (List ℕ → Bool) → List ℕ → List ℕ → Bool

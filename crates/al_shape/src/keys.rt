@@ -3,7 +3,7 @@
 ghost use Rattle.al_shape.specs.Keys.{and_text, holds, key_of as key_in, key_text as text_in, keys_in};
 ghost use Rattle.al_shape.specs.Names.{among};
 ghost use Rattle.al_yaml.specs.View.{entry_view, view};
-ghost use Rattle.std.specs.Prelude.{◌≡◌, [], ◌||◌, map, IfOk, OnErr, OnOk};
+ghost use Rattle.std.specs.Prelude.{◌≡◌, [], ◌||◌, map, take, IfOk, OnErr, OnOk};
 
 use al_yaml::{Entry, Node};
 use std::alloc::{AllocError, Global};
@@ -45,8 +45,10 @@ fn is_one_of(text: &[u8], keys: &[&[u8]]) -> bool
 /// A set of keys. Adding one and looking one up take time that grows with the logarithm of their number.
 #[derive(Drop)]
 pub struct KeySet<'a> {
-    // The first keys, which cost less in a row than in a tree.
-    few: Vec<&'a [u8]>,
+    // The first keys, which cost less in a row than in a tree, and take no memory of their own.
+    few: [&'a [u8]; FEW],
+    // How many first keys there are.
+    count: usize,
     // Those behind them.
     more: BTreeSet<&'a [u8]>,
 }
@@ -57,7 +59,8 @@ impl<'a> KeySet<'a> {
         ensures { holds result ≡ among [] }
     {
         KeySet {
-            few: Vec::new(alloc),
+            few: [&[]; FEW],
+            count: 0,
             more: BTreeSet::new(alloc),
         }
     }
@@ -67,19 +70,30 @@ impl<'a> KeySet<'a> {
         ensures set { OnOk result (holds self.new ≡ and_text (holds self.old) key.now) }
         ensures as_before { OnErr result (holds self.new ≡ holds self.old) }
     {
-        if self.few.len() < FEW {
-            self.few.push(key)?;
+        let room = self.few.as_slice().len();
+        if self.count < room {
+            self.few[self.count] = key;
+            self.count += 1;
         } else {
             self.more.insert(key)?;
         }
         Ok(())
     }
 
+    /// The first keys.
+    #[tactic(auto, using(std::proofs::lemmas::List::take_min))]
+    fn first_keys(&self) -> &[&'a [u8]]
+        ensures { result.now ≡ take self.now.count self.now.few }
+    {
+        let few = self.few.as_slice();
+        &few[..self.count.min(few.len())]
+    }
+
     /// Whether a key is in the set.
     pub fn contains(&self, key: &'a [u8]) -> bool
         ensures { result ≡ holds self.now key.now }
     {
-        is_one_of(key, &self.few) || self.more.contains(&key)
+        is_one_of(key, self.first_keys()) || self.more.contains(&key)
     }
 
     /// The keys of some entries. Fails with `AllocError` for want of memory.

@@ -1,4 +1,4 @@
-use Rattle.std.proofs.Common.{map, ◌||◌}
+use Rattle.std.proofs.Common.{map}
 use Rattle.std.specs.BTreeMap.{is_at}
 use Rattle.std.specs.Cmp.Lexicographic.{slice_cmp}
 use Rattle.std.specs.List.{list_any}
@@ -10,5 +10,4 @@ use Rattle.al_shape.proofs.keys.KeySet.new.Goals as goal
 pub returns : goal.returns
 unfolding holds
 returns c = λ i text.
-    among (map (λ k. k.now) (c.new.ensures.items i)) text
-    || list_any (is_at (λ k. slice_cmp nat_cmp text k.now)) (c.new-2.ensures.empty i)
+    list_any (is_at (λ k. slice_cmp nat_cmp text k.now)) (c.new.ensures.empty i)
