@@ -1,9 +1,10 @@
 -- What a session is, what is true of what it keeps, and what it prints.
-use Rattle.std.specs.Prelude.{◌≡◌, ℕ, ◌≤◌, ◌^◌, ◌-◌, List}
+use Rattle.std.specs.Prelude.{◌≡◌, ◌≢◌, ℕ, ◌≤◌, ◌^◌, ◌-◌, List, None, Some}
 use Rattle.std.specs.Prelude.{string_bytes}
 use Rattle.std.specs.List.{AllByRecursion}
-use Rattle.al_folder.specs.Meaning.{Meaning}
-use Rattle.al_folder.specs.Folder.{Folder, faults_in}
+use Rattle.al_base.specs.Counted.{raised}
+use Rattle.al_folder.specs.Meaning.{IsUpTo, Meaning}
+use Rattle.al_folder.specs.Folder.{Folder, bytes_at, faults_in, put_refusal}
 use Rattle.al_folder.specs.Kept.{Files, folder_of, Callers, IsIndex, AreKept}
 
 -- What contracts see of a session: its folder, and its linter's two counts.
@@ -23,3 +24,10 @@ pub record AreLinted {U I S R : Type 0} (m : Meaning I) (is_unit : U → List �
   pub faults : AllChecked m (folder_of files) files
   pub index : IsIndex m (folder_of files) callers
   pub counted : checks ≤ 2 ^ 64 - 1
+
+-- What a put of these bytes adds to the count of reads: one at most; none where the file has just these bytes, and one where it has others
+-- and only memory can refuse them.
+pub record ReadsForPut {I : Type 0} (m : Meaning I) (f : Folder) (path bytes : List ℕ) (before now : ℕ) : Type 0 where
+  pub at_most : IsUpTo before now 1
+  pub there : bytes_at f path ≡ Some bytes → now ≡ before
+  pub read_once : put_refusal m f path bytes ≡ None → bytes_at f path ≢ Some bytes → now ≡ raised before 1

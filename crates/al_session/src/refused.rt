@@ -37,8 +37,8 @@ pub(crate) fn put_refused<L: Lint>(
     None
 }
 
-// Whether a file has this path.
-fn has_file<U, I>(files: &Files<U, I>, path: &str) -> bool
+/// Whether a file has this path.
+pub(crate) fn has_file<U, I>(files: &Files<U, I>, path: &str) -> bool
     ensures { result ≡ is_some (bytes_at (folder_of files.now.entries) path.now) }
 {
     files.contains_key(path)

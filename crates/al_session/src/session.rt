@@ -20,7 +20,7 @@ ghost use Rattle.al_base.specs.Counted.{raised};
 ghost use Rattle.al_folder.specs.Kept.{folder_of};
 ghost use Rattle.al_folder.specs.Missing.{missing_in};
 ghost use Rattle.al_session.specs.Report.{status_of, report_of};
-ghost use Rattle.al_session.specs.Session.{AreLinted};
+ghost use Rattle.al_session.specs.Session.{AreLinted, ReadsForPut};
 
 use crate::edit::{put_file, remove_file};
 use crate::joining::{has_loops, join_all};
@@ -179,11 +179,8 @@ impl<L: Lint> Session<L> {
         ensures few_checks { OnErr result (IsUpTo self.old.checks self.new.checks
             (length (affected L.Iface.eq L.meaning self.old.folder
             (with_file self.old.folder path.now bytes.now)))) }
-        ensures reads { IsUpTo self.old.reads self.new.reads 1 }
+        ensures reads { ReadsForPut L.meaning self.old.folder path.now bytes.now self.old.reads self.new.reads }
         ensures no_read { IfErr result (λ refused. refused ≢ Refused.Memory → self.new.reads ≡ self.old.reads) }
-        ensures there { bytes_at self.old.folder path.now ≡ Some bytes.now → self.new.reads ≡ self.old.reads }
-        ensures read_once { put_refusal L.meaning self.old.folder path.now bytes.now ≡ None
-            → bytes_at self.old.folder path.now ≢ Some bytes.now → self.new.reads ≡ raised self.old.reads 1 }
     {
         if let Some(refused) = self.put_refused(path, bytes) {
             return Err(refused);
