@@ -249,13 +249,22 @@ def calls_of_one_file(place):
 
 
 def many_of_both(place):
-    """Files in which one count times another would be taken in time or in memory: expressions that read the last of many outputs, each of
-    many inputs read, and jobs that need one another in a chain, or in a ring of which each tells its need."""
+    """Files in which one count times another would be taken in time or in memory: expressions that read the last of many outputs, jobs that
+    need one with many outputs, steps that read those before them, each of many inputs read, and jobs that need one another in a chain, or
+    in a ring of which each tells its need."""
     place.fresh()
     first = b"on: push\njobs:\n  a: {runs-on: u, outputs: {%s}, steps: [{run: x}]}\n"
     outputs = b", ".join(b"o%04d: x" % number for number in range(10_000))
     last = b"  b:\n    needs: a\n    runs-on: u\n    steps:\n" + b"      - run: ${{ needs.a.outputs.o9999 }}\n" * 12_000
     reported(place, "last-of-10000-outputs-12000-times", first % outputs + last, limits=held_back)
+    outputs = b", ".join(b"o%04d: x" % number for number in range(4_000))
+    expressions = [b"${{ github.ref }}", b"${{ needs.a.outputs.o0000 }}"]
+    for name, expression in zip(("4000-jobs-that-need-4000-outputs", "4000-jobs-that-read-one-of-4000-outputs"), expressions):
+        jobs = b"".join(b"  b%04d: {needs: [a, A], runs-on: u, steps: [{run: '%s'}]}\n" % (number, expression) for number in range(4_000))
+        reported(place, name, first % outputs + jobs, limits=held_back)
+    before = lambda number: b" ".join(b"${{ steps.s%04d.outcome }}" % it for it in range(max(number - 4, 0), number)) or b"x"
+    steps = b"".join(b"      - {id: s%04d, run: '%s'}\n" % (number, before(number)) for number in range(3_000))
+    reported(place, "3000-steps-that-read-the-4-before", CLEAN[: CLEAN.index(b"      - ")] + steps, limits=held_back)
     inputs = b"".join(b"      i%04d: {type: string}\n" % number for number in range(8_000))
     steps = b"".join(b"      - run: ${{ inputs.i%04d }}\n" % number for number in range(8_000))
     called = b"on:\n  workflow_call:\n    inputs:\n" + inputs + b"jobs:\n  a:\n    runs-on: u\n    steps:\n" + steps

@@ -5,3 +5,4 @@ pub mod Values
 pub mod Sets
 pub mod Outside
 pub mod Found
+pub mod Needed

@@ -15,16 +15,18 @@ ghost use Rattle.al_contexts.specs.Matrix as specs;
 ghost use Rattle.al_contexts.specs.Private.Environment.{owned, owner_view};
 ghost use Rattle.al_contexts.specs.Private.Lookups.{known_by};
 ghost use Rattle.al_contexts.specs.Scopes.{scope_at};
+ghost use Rattle.al_contexts.specs.Private.ShownJobs.{Keeps};
 ghost use Rattle.al_contexts.specs.Private.Standing.{Stands};
 ghost use Rattle.al_places.specs.Places.{place_of};
 ghost use Rattle.al_types.specs.Scopes.{scope_of};
 
 use crate::fixed::strategy;
 use crate::job_lists::JobList;
-use crate::jobs::{jobs_type, needs_type};
+use crate::jobs::jobs_type;
 use crate::known::{Answer, Outputs};
 use crate::matrix::matrix_type;
-use crate::objects::strict_of;
+use crate::needs::{ShownJobs, needs_type};
+use crate::objects::{into_fields, strict_of};
 use crate::scopes::{context_set, function_set};
 use crate::start::{NO_CONTEXTS, NO_FUNCTIONS, first_owner, first_types};
 use crate::steps::{Shown, seen_count, seen_steps};
@@ -63,6 +65,7 @@ pub struct Env<'a> {
     jobs: JobList<'a>,
     /// What is known of the outputs behind calls.
     outputs: Outputs<'a>,
+    shown: ShownJobs,
     pub scope: Scope,
 }
 
@@ -144,14 +147,20 @@ fn needs_at<'a>(
     alloc: Global,
     known: &Outputs<'a>,
     jobs: &JobList<'a>,
+    shown: &mut ShownJobs,
     job: Option<Member<'_>>,
 ) -> Result<Ty, AllocError>
-    ensures { IfOk result (λ t. ty_of t ≡ type_in_job (λ j. needs_type_of (known_by known.now) (map member_of jobs.now.members.items) j.1)
-        (option_map member_of job.entry)) }
+    requires keeps { Keeps (known_by known.now) (map member_of jobs.now.members.items) shown.old }
+    ensures ty { IfOk result (λ t. ty_of t ≡ type_in_job (λ j. needs_type_of (known_by known.now)
+        (map member_of jobs.now.members.items) j.1) (option_map member_of job.entry)) }
+    ensures keeps { OnOk result (Keeps (known_by known.now) (map member_of jobs.now.members.items) shown.new) }
 {
     match job {
         None => Ok(Ty::Any),
-        Some(job) => needs_type(alloc, known, jobs, job.value),
+        Some(job) => {
+            let ty = needs_type(alloc, known, jobs, shown, job.value)?;
+            Ok(ty)
+        }
     }
 }
 
@@ -213,7 +222,10 @@ fn enter_workflow<'a>(
 {
     let job = env.jobs.job_of(section);
     let strategy = strategy_at(alloc, job)?;
-    let needs = needs_at(alloc, &env.outputs, &env.jobs, job)?;
+    let needed = replace(&mut env.scope.types.needs, Ty::Any);
+    let fields = into_fields(alloc, needed);
+    env.shown.put_back(alloc, &env.jobs, fields)?;
+    let needs = needs_at(alloc, &env.outputs, &env.jobs, &mut env.shown, job)?;
     let matrix = matrix_at(alloc, job)?;
     let old = replace(&mut env.scope.types.jobs, Ty::Any);
     let jobs = jobs_at(alloc, &env.outputs, &env.jobs, old, env.section, section)?;
@@ -279,6 +291,7 @@ impl<'a> Env<'a> {
     {
         let jobs = JobList::of(alloc, file.root)?;
         let outputs = Outputs::of(alloc, file.known)?;
+        let shown = ShownJobs::new(alloc, &jobs)?;
         let owner = first_owner(file.kind, file.root);
         let types = first_types(alloc, file, owner)?;
         Ok(Env {
@@ -288,6 +301,7 @@ impl<'a> Env<'a> {
             ids: NamePositions::new(alloc),
             jobs,
             outputs,
+            shown,
             scope: Scope {
                 types,
                 contexts: NO_CONTEXTS,

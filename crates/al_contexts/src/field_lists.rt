@@ -1,9 +1,9 @@
 //! Fields in order, found by their names.
-ghost use Rattle.std.specs.Prelude.{◌≡◌, [], IfOk, OnOk, map};
+ghost use Rattle.std.specs.Prelude.{◌≡◌, [], IfOk, OnOk, is_none, map};
 ghost use Rattle.al_types.specs.TypeViews.{ty_of};
 ghost use Rattle.al_types.specs.Private.TypeParts.{field_of};
 ghost use Rattle.al_contexts.specs.Objects.{put, put_all, put_new, strictly};
-ghost use Rattle.al_contexts.specs.Private.Indexes.{IsIndex};
+ghost use Rattle.al_contexts.specs.Private.Indexes.{IsIndex, name_at};
 
 use crate::objects::strict_of;
 use al_declarations::NamePositions;
@@ -66,6 +66,14 @@ impl FieldList {
         ensures { ty_of result ≡ strictly (map field_of self.fields.items) }
     {
         strict_of(self.fields)
+    }
+
+    /// Whether no field has a name.
+    pub(crate) fn lacks(&self, alloc: Global, name: &[u8]) -> Result<bool, AllocError>
+        ensures { IfOk result (λ b. b ≡ is_none (name_at (map field_of self.now.fields.items) name.now)) }
+    {
+        let position = self.positions.get(alloc, name)?;
+        Ok(position.is_none())
     }
 
     /// Adds a field, unless one has its name.

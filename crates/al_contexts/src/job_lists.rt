@@ -1,10 +1,8 @@
 //! The jobs of a workflow, found by their keys.
-ghost use Rattle.std.specs.Prelude.{◌≡◌, IfOk, find, map, option_map};
+ghost use Rattle.std.specs.Prelude.{◌≡◌, IfOk, map, option_map};
 ghost use Rattle.al_declarations.specs.Private.Positions.{name_position, text_position};
 ghost use Rattle.al_places.specs.Positions.{section_view};
-ghost use Rattle.al_shape.specs.Keys.{key_of};
 ghost use Rattle.al_shape.specs.Values.{member_of};
-ghost use Rattle.al_types.specs.Names.{same_name};
 ghost use Rattle.al_yaml.specs.View.{view};
 ghost use Rattle.al_contexts.specs.Contexts.{job_among, jobs_of};
 ghost use Rattle.al_contexts.specs.Private.JobPositions.{key_at, named_at};
@@ -86,14 +84,15 @@ impl<'a> JobList<'a> {
         }
     }
 
-    /// The first job of a name, in any ASCII case. Fails with `AllocError` for want of memory.
-    pub(crate) fn named(&self, alloc: Global, name: &[u8]) -> Result<Option<Member<'a>>, AllocError>
-        ensures { IfOk result (λ j. option_map member_of j ≡ find (λ j. same_name (key_of j) name.now)
-            (map member_of self.now.members.items)) }
+    /// Where the first job of a name stands, in any ASCII case. Fails with `AllocError` for want of memory.
+    pub(crate) fn position_of(
+        &self,
+        alloc: Global,
+        name: &[u8],
+    ) -> Result<Option<usize>, AllocError>
+        ensures { IfOk result (λ i. i ≡ named_at (map member_of self.now.members.items) name.now) }
     {
-        match self.names.get(alloc, name)? {
-            Some(i) => Ok(Some(self.members[i])),
-            None => Ok(None),
-        }
+        let i = self.names.get(alloc, name)?;
+        Ok(i)
     }
 }

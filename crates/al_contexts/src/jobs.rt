@@ -1,22 +1,21 @@
-//! What a job shows to others, and the types of `jobs` and `needs`.
-ghost use Rattle.std.specs.Prelude.{◌≡◌, IfOk, OnOk, map};
-ghost use Rattle.std.specs.Option.{option_copied, option_to_list};
+//! What a job shows to others, and the type of `jobs`.
+ghost use Rattle.std.specs.Prelude.{◌≡◌, IfOk, map};
+ghost use Rattle.std.specs.Option.{option_copied};
 ghost use Rattle.al_types.specs.TypeViews.{ty_of};
 ghost use Rattle.al_types.specs.Private.TypeParts.{field_of};
-ghost use Rattle.al_shape.specs.Values.{entries_at, member_of, scalar_node_of};
+ghost use Rattle.al_shape.specs.Values.{entries_at, member_of};
 ghost use Rattle.al_yaml.specs.View.{view};
 ghost use Rattle.al_contexts.specs.Private.Lookups.{known_by};
 ghost use Rattle.al_contexts.specs.Contexts as contexts;
-ghost use Rattle.al_contexts.specs.Contexts.{call_outputs, jobs_type_of, needs_type_of, needed, needed_by};
+ghost use Rattle.al_contexts.specs.Contexts.{call_outputs, jobs_type_of};
 ghost use Rattle.al_declarations.specs.Declarations as declarations;
-ghost use Rattle.al_contexts.specs.Objects.{put_all, put_new};
 
 use crate::field_lists::FieldList;
 use crate::job_lists::JobList;
 use crate::known::Outputs;
 use crate::objects::{field, listed_strings, loose_any, named_strings, strict_of};
 use al_declarations::NameList;
-use al_shape::{Member, ScalarNode, key_text, members, texts_under, value};
+use al_shape::{Member, key_text, members, value};
 use al_types::{Field, Ty};
 use al_yaml::Node;
 use std::alloc::{AllocError, Global};
@@ -58,7 +57,11 @@ fn outputs_type<'a>(alloc: Global, known: &Outputs<'a>, job: Member<'a>) -> Resu
 }
 
 /// What a job shows to others.
-fn job_field<'a>(alloc: Global, known: &Outputs<'a>, job: Member<'a>) -> Result<Field, AllocError>
+pub(crate) fn job_field<'a>(
+    alloc: Global,
+    known: &Outputs<'a>,
+    job: Member<'a>,
+) -> Result<Field, AllocError>
     ensures { IfOk result (λ f. field_of f ≡ contexts.job_field (known_by known.now) (member_of job.entry)) }
 {
     let mut fields = Vec::new(alloc);
@@ -78,54 +81,6 @@ pub(crate) fn jobs_type<'a>(
     let mut fields = FieldList::new(alloc);
     for job in jobs.as_slice() {
         fields.add(alloc, job_field(alloc, known, *job)?)?;
-    }
-    Ok(fields.into_strict())
-}
-
-/// Adds what a job needs, where it is a job.
-fn add_need<'a>(
-    alloc: Global,
-    known: &Outputs<'a>,
-    jobs: &JobList<'a>,
-    name: &[u8],
-    fields: &mut FieldList,
-) -> Result<(), AllocError>
-    ensures { OnOk result (map field_of fields.new.fields.items ≡ put_all put_new (map field_of fields.old.fields.items) (option_to_list
-        (needed (known_by known.now) (map member_of jobs.now.members.items) name.now))) }
-{
-    if let Some(job) = jobs.named(alloc, name)? {
-        fields.add(alloc, job_field(alloc, known, job)?)?;
-    }
-    Ok(())
-}
-
-/// Adds what a job needs by this text.
-fn add_need_by<'a>(
-    alloc: Global,
-    known: &Outputs<'a>,
-    jobs: &JobList<'a>,
-    text: ScalarNode<'_>,
-    fields: &mut FieldList,
-) -> Result<(), AllocError>
-    ensures { OnOk result (map field_of fields.new.fields.items ≡ put_all put_new (map field_of fields.old.fields.items) (option_to_list
-        (needed_by (known_by known.now) (map member_of jobs.now.members.items) (scalar_node_of text.entry)))) }
-{
-    add_need(alloc, known, jobs, text.scalar.text(), fields)
-}
-
-/// The type of `needs` in a job.
-pub(crate) fn needs_type<'a>(
-    alloc: Global,
-    known: &Outputs<'a>,
-    jobs: &JobList<'a>,
-    job: &Node,
-) -> Result<Ty, AllocError>
-    ensures { IfOk result (λ t. ty_of t ≡ needs_type_of (known_by known.now) (map member_of jobs.now.members.items) (view job.now)) }
-{
-    let mut fields = FieldList::new(alloc);
-    let names = texts_under(alloc, job, "needs")?;
-    for name in names.as_slice() {
-        add_need_by(alloc, known, jobs, *name, &mut fields)?;
     }
     Ok(fields.into_strict())
 }

@@ -10,6 +10,7 @@ mod job_lists;
 mod jobs;
 mod known;
 mod matrix;
+mod needs;
 mod objects;
 mod scopes;
 mod start;

@@ -1,7 +1,7 @@
 //! Object types, made of names with their types.
 ghost use Rattle.std.specs.Prelude.{◌≡◌, ◌++◌, IfOk, OnOk, map, string_bytes};
-ghost use Rattle.al_types.specs.TypeViews.{ty_of};
-ghost use Rattle.al_types.specs.Private.TypeParts.{field_of};
+ghost use Rattle.al_types.specs.TypeViews.{fields_of, ty_of};
+ghost use Rattle.al_types.specs.Private.TypeParts.{field_of, fields_of_type};
 ghost use Rattle.al_contexts.specs.Objects as objects;
 ghost use Rattle.al_contexts.specs.Objects.{loosely, strictly, strings};
 
@@ -45,6 +45,17 @@ pub(crate) fn loose_of(alloc: Global, fields: Vec<Field>, rest: Ty) -> Result<Ty
         fields,
         rest: Some(rest),
     }))
+}
+
+/// The fields of an object; of another type none.
+#[tactic(auto, using(al_types::proofs::TypeFields::object_fields, al_types::proofs::TypeFields::object_made))]
+pub(crate) fn into_fields(alloc: Global, ty: Ty) -> Vec<Field>
+    ensures { fields_of (map field_of result.items) ≡ fields_of_type (ty_of ty) }
+{
+    match ty {
+        Ty::Object(object) => object.fields,
+        _ => Vec::new(alloc),
+    }
 }
 
 /// Adds fields that are strings, by their names. Fails with `AllocError` for want of memory.

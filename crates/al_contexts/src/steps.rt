@@ -1,8 +1,8 @@
 //! The type of `steps`.
 ghost use Rattle.std.specs.Prelude.{◌≡◌, ◌+◌, ◌<◌, ◌≤◌, ◌^◌, [], IfOk, OnOk, length, map, take, Some};
 ghost use Rattle.std.specs.Option.{option_copied, option_to_list};
-ghost use Rattle.al_types.specs.TypeViews.{fields_of, ty_of};
-ghost use Rattle.al_types.specs.Private.TypeParts.{field_of, fields_of_type};
+ghost use Rattle.al_types.specs.TypeViews.{ty_of};
+ghost use Rattle.al_types.specs.Private.TypeParts.{field_of};
 ghost use Rattle.al_yaml.specs.View.{view};
 ghost use Rattle.al_places.specs.Positions.{before, seen_view};
 ghost use Rattle.al_contexts.specs.Contexts as contexts;
@@ -15,11 +15,11 @@ ghost use Rattle.al_contexts.specs.Private.Indexes.{IsIndex};
 use crate::env::Owner;
 use crate::field_lists::FieldList;
 use crate::known::Outputs;
-use crate::objects::{field, listed_strings, loose_strings, strict_of};
+use crate::objects::{field, into_fields, listed_strings, loose_strings, strict_of};
 use al_declarations::{NameList, NamePositions};
 use al_places::Seen;
 use al_shape::text_under;
-use al_types::{Field, Ty};
+use al_types::Ty;
 use al_yaml::Node;
 use std::alloc::{AllocError, Global};
 
@@ -82,17 +82,6 @@ fn add_steps<'a>(
         i += 1;
     }
     Ok(())
-}
-
-/// The fields of an object; of another type none.
-#[tactic(auto, using(al_types::proofs::TypeFields::object_fields, al_types::proofs::TypeFields::object_made))]
-fn into_fields(alloc: Global, ty: Ty) -> Vec<Field>
-    ensures { fields_of (map field_of result.items) ≡ fields_of_type (ty_of ty) }
-{
-    match ty {
-        Ty::Object(object) => object.fields,
-        _ => Vec::new(alloc),
-    }
 }
 
 /// What is shown of steps: the type of `steps`, and where each id stands among its fields.

@@ -9,6 +9,7 @@ use Rattle.al_contexts.specs.Contexts.{jobs_of}
 use Rattle.al_contexts.specs.Private.Environment.{Fixed, OfSection, owned, owned_fields, owner_in, owner_view}
 use Rattle.al_contexts.specs.Private.Lookups.{known_by}
 use Rattle.al_contexts.specs.Private.Indexes.{IsIndex}
+use Rattle.al_contexts.specs.Private.ShownJobs.{Keeps}
 use Rattle.al_contexts.specs.declared.env.Env.{Env}
 use Rattle.al_contexts.specs.declared.env.File.{File}
 
@@ -21,3 +22,4 @@ pub record Stands (f : File) (e : Env) : Type 0 where
   pub owner : option_map owner_view e.owner ≡ owner_in f.kind (view f.root.now) (section_view e.section)
   pub steps : ty_of e.scope.types.steps ≡ owned (known_of f.known.now) (option_map owner_view e.owner) (before e.seen)
   pub ids : IsIndex e.ids (owned_fields (known_of f.known.now) (option_map owner_view e.owner) (before e.seen))
+  pub shown : Keeps (known_by e.outputs) (map member_of e.jobs.members.items) e.shown

@@ -1,10 +1,15 @@
 use Rattle.std.proofs.Common.{ap, sym, ◌∙◌, map, option_map, rules}
+use Rattle.std.proofs.lemmas.List.{length-map}
+use Rattle.al_types.specs.TypeViews.{ty_of}
+use Rattle.al_types.specs.Private.TypeParts.{fields_of_type}
 use Rattle.al_shape.specs.Values.{member_of}
 use Rattle.al_places.specs.Positions.{section_view}
 use Rattle.al_contexts.specs.Answered.{known_of}
 use Rattle.al_contexts.specs.Contexts.{needs_type_of, type_in_job}
 use Rattle.al_contexts.specs.Private.Environment.{jobs_shown, owner_view}
 use Rattle.al_contexts.specs.Private.Indexes.{name_at}
+use Rattle.al_contexts.specs.Private.Lookups.{known_by}
+use Rattle.al_contexts.proofs.Needed.{given_back_here}
 use Rattle.al_contexts.proofs.Sections.{of_workflow}
 use Rattle.al_contexts.proofs.Seen.{none_shown}
 use Rattle.al_contexts.proofs.env.enter_workflow.Goals as goal
@@ -27,10 +32,28 @@ returns-clause-stands c =
         inputs = c.requires.stands.fixed.inputs;
       };
       section = of_workflow c.args.file _ s js job c.requires.kind c.requires.stands.members c.job_of-job.ensures c.in_ok-strategy.ensures
-          (c.in_ok-needs.ensures ∙ ap (λ k. type_in_job (λ j. needs_type_of k js j.1) job) c.requires.stands.known)
+          (c.in_ok-needs.ensures.ty ∙ ap (λ k. type_in_job (λ j. needs_type_of k js j.1) job) c.requires.stands.known)
           (c.in_ok-jobs.ensures ∙ ap (λ k. jobs_shown k js s) c.requires.stands.known) c.in_ok-matrix.ensures;
       owner = search rules;
       steps = search rules;
       ids = c.new.ensures
           ∙ sym (ap name_at (none_shown (known_of c.args.file.known.now) (option_map owner_view c.owner_at-owner.result)));
+      shown = c.in_ok-needs.ensures.keeps;
+    }
+
+pub put_back-requires : goal.put_back-requires
+put_back-requires c = record { long = c.requires.stands.shown.long ∙ length-map c.args.env.now.jobs.members.items member_of }
+
+pub needs_at-requires : goal.needs_at-requires
+needs_at-requires c =
+    let env = c.args.env.now in
+    let k = known_by env.outputs in
+    let js = map member_of env.jobs.members.items in
+    record {
+      keeps = record {
+        long = c.in_ok-put_back.ensures.long ∙ sym (length-map env.jobs.members.items member_of);
+        shown = c.in_ok-put_back.ensures.shown k c.requires.stands.shown.shown
+            (given_back_here c.args.file env.scope.types (section_view env.section) k js _ c.requires.kind c.requires.stands.known c.requires.stands.members
+            c.requires.stands.section.needs (c.into_fields-fields.ensures ∙ ap fields_of_type (ap ty_of c.replace-needed.ensures.value)));
+      };
     }

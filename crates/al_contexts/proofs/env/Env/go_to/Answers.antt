@@ -9,6 +9,7 @@ returns-clause-stands c = record {
   owner = c.in_ok-go.ensures.stands.owner;
   steps = c.in_ok-go.ensures.stands.steps;
   ids = c.in_ok-go.ensures.stands.ids;
+  shown = c.in_ok-go.ensures.stands.shown;
 }
 
 pub returns-clause-scope : goal.returns-clause-scope
