@@ -1,4 +1,4 @@
-use Rattle.std.proofs.Common.{◌≡◌, List, subst, sym}
+use Rattle.std.proofs.Common.{List, subst, sym}
 use Rattle.al_base.specs.Growth.{SameSet}
 use Rattle.al_base.specs.declared.faults.Fault.{Fault}
 use Rattle.al_tree.specs.Files.{kind_in, root_of}

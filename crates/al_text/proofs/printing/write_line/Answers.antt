@@ -24,7 +24,8 @@ returns-clause-all g c =
     ) at c.write_fragments.ensures.all in
     let a = c.args in
     on_ok_weaker c.write_fragments.result
-    (λ x. subst (Appends _ _) (line_is a.place.path.now a.place.line.now a.place.column.now a.wording.head.now (shown a.first.now) a.wording.middle.now (shown a.second.now) a.wording.tail.now a.kind.now) x) w
+    (λ x. subst (Appends _ _) (line_is a.place.path.now a.place.line.now a.place.column.now a.wording.head.now (shown a.first.now)
+    a.wording.middle.now (shown a.second.now) a.wording.tail.now a.kind.now) x) w
 
 pub returns-clause-front : goal.returns-clause-front
 returns-clause-front g c =
@@ -39,4 +40,5 @@ returns-clause-front g c =
     ) at c.write_fragments.ensures.front in
     let a = c.args in
     on_err_weaker c.write_fragments.result
-    (λ x. subst (AppendsFront _ _) (line_is a.place.path.now a.place.line.now a.place.column.now a.wording.head.now (shown a.first.now) a.wording.middle.now (shown a.second.now) a.wording.tail.now a.kind.now) x) w
+    (λ x. subst (AppendsFront _ _) (line_is a.place.path.now a.place.line.now a.place.column.now a.wording.head.now (shown a.first.now)
+    a.wording.middle.now (shown a.second.now) a.wording.tail.now a.kind.now) x) w

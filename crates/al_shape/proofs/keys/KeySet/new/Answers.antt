@@ -1,10 +1,8 @@
-use Rattle.std.proofs.Common.{map}
 use Rattle.std.specs.BTreeMap.{is_at}
 use Rattle.std.specs.Cmp.Lexicographic.{slice_cmp}
 use Rattle.std.specs.List.{list_any}
 use Rattle.std.specs.Ordering.{nat_cmp}
 use Rattle.al_shape.specs.Keys.{holds}
-use Rattle.al_shape.specs.Names.{among}
 use Rattle.al_shape.proofs.keys.KeySet.new.Goals as goal
 
 pub returns : goal.returns
