@@ -4,6 +4,7 @@ use Rattle.al_scalar.specs.declared.faults.YamlFault.{YamlFault}
 use Rattle.al_base.specs.Growth.{SameSet}
 use Rattle.al_base.specs.Spans.{LiesIn}
 use Rattle.al_base.specs.declared.faults.Fault.{Fault}
+use Rattle.al_base.specs.Limits.{largest_file}
 use Rattle.al_shape.specs.Faults.{root_faults}
 use Rattle.al_tree.specs.declared.files.FileKind.{FileKind}
 use Rattle.al_tree.specs.declared.files.Tree.{Tree}
@@ -22,7 +23,7 @@ pub record IsTree (file : FileKind) (bytes : List ℕ) (t : Tree) : Type 0 where
   pub kind_is : kind_in t ≡ file
   pub root_is : tree_of bytes ≡ Ok (root_of t)
   pub inside : IsInside (length bytes) (root_of t)
-  pub laid : IsLaid 1048576 (root_of t)
+  pub laid : IsLaid largest_file (root_of t)
   pub texts : HasTexts (root_of t)
   pub from : AreFrom (length bytes) (root_of t)
 

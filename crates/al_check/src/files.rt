@@ -5,6 +5,7 @@ ghost use Rattle.std.specs.Option.{option_copied};
 ghost use Rattle.al_shape.specs.Faults.{root_faults};
 ghost use Rattle.al_base.specs.Growth.{SameSet};
 ghost use Rattle.al_base.specs.FaultLists.{fault_list};
+ghost use Rattle.al_base.specs.Limits.{largest_file};
 ghost use Rattle.al_tree.specs.Files.{kind_in, root_of, shape_of};
 ghost use Rattle.al_yaml.specs.Document.{tree_of};
 ghost use Rattle.al_yaml.specs.Spans.{AreFrom, IsInside, IsLaid};
@@ -88,7 +89,7 @@ fn read_tree(
     doc: Doc,
     calls: Vec<LocalCall>,
 ) -> Result<ReadFile, AllocError>
-    requires small { length bytes.now ≤ 1048576 }
+    requires small { length bytes.now ≤ largest_file }
     requires root { tree_of bytes.now ≡ Ok (view doc.root) }
     requires inside { IsInside (length bytes.now) (view doc.root) }
     requires laid { IsLaid (length bytes.now) (view doc.root) }
@@ -172,7 +173,7 @@ fn document_calls(alloc: Global, kind: FileKind, root: &Node) -> Result<Vec<Loca
 
 /// Reads the bytes of a file as a workflow or an action.
 pub(crate) fn read_file(alloc: Global, kind: FileKind, bytes: &[u8]) -> Result<ReadFile, AllocError>
-    requires { length bytes.now ≤ 1048576 }
+    requires { length bytes.now ≤ largest_file }
     ensures { IfOk result (λ file. IsRead file kind bytes.now) }
 {
     match read_yaml(alloc, bytes)? {
@@ -195,7 +196,7 @@ fn add_behind(
     answers: &[Option<&Interface>],
     out: &mut Vec<Fault>,
 ) -> Result<(), AllocError>
-    requires laid { IsLaid 1048576 (root_of tree.now) }
+    requires laid { IsLaid largest_file (root_of tree.now) }
     requires texts { HasTexts (root_of tree.now) }
     ensures { OnOk result (SameSet out.new.items (out.old.items
         ++ calls.behind_faults (kind_in tree.now) (root_of tree.now) (map (λ a. option_copied a) answers.now))) }
@@ -217,7 +218,7 @@ fn document_faults(
     own: &[Fault],
     answers: &[Option<&Interface>],
 ) -> Result<Vec<Fault>, AllocError>
-    requires laid { IsLaid 1048576 (root_of tree.now) }
+    requires laid { IsLaid largest_file (root_of tree.now) }
     requires texts { HasTexts (root_of tree.now) }
     requires own { SameSet own.now (own_faults (kind_in tree.now) (root_of tree.now)) }
     ensures { IfOk result (λ list. list.items

@@ -12,6 +12,7 @@ ghost use Rattle.al_contents.specs.Contents.{is_whole_span, moved, place_faults,
 ghost use Rattle.al_grammar.specs.Chunks.{chunks_of, span_of_chunk, IsCutFrom};
 ghost use Rattle.al_places.specs.Places.{place_of};
 ghost use Rattle.al_base.specs.Growth.{BeginsWith};
+ghost use Rattle.al_base.specs.Limits.{longest_text};
 
 use al_base::{Args, Code, ExpressionCode, Fault, Span};
 use al_grammar::{Chunk, Expr, chunks, extent, grammar, parse_expr};
@@ -204,7 +205,7 @@ fn check_chunks(
     out: &mut Vec<Fault>,
 ) -> Result<(), AllocError>
     requires text { text.now ≡ text_of scalar.now }
-    requires small { length text.now ≤ 4194304 }
+    requires small { length text.now ≤ longest_text }
     requires room { HasRoom scalar.now }
     ensures ok { OnOk result
         (out.new.items ≡ out.old.items ++ chunked_faults (scope_of scope.now) is_scalar_only scalar.now
@@ -259,7 +260,7 @@ pub(crate) fn check_place(
     out: &mut Vec<Fault>,
 ) -> Result<(), AllocError>
     requires text { text.now ≡ text_of place.now.scalar.now }
-    requires small { length text.now ≤ 4194304 }
+    requires small { length text.now ≤ longest_text }
     requires room { HasRoom place.now.scalar.now }
     ensures ok { OnOk result (out.new.items ≡ out.old.items ++ place_faults (scope_of scope.now) (place_of place.now)) }
     ensures begins { BeginsWith out.new.items out.old.items }

@@ -2,6 +2,7 @@
 use Rattle.std.specs.Prelude.{ℕ, List, [], ◌∷◌, ◌++◌, ◌≤◌, true, codes, length, map, Option, Some, None, IsUtf8}
 use Rattle.std.specs.List.{flat_map}
 use Rattle.al_base.specs.declared.faults.Fault.{Fault}
+use Rattle.al_base.specs.Limits.{longest_text}
 use Rattle.al_scalar.specs.Scalar.{Scalar, text_of}
 use Rattle.al_types.specs.Types.{Type'}
 use Rattle.al_yaml.specs.Node.{Node, Nodes, Entries, scalar, sequence, mapping, no_nodes, item, no_entries, entry, span_of}
@@ -60,7 +61,7 @@ behind_faults kind root answers = faults_by kind root (answered (calls_in kind r
 
 -- each text of a node, of keys too, is UTF-8 and short enough to look for expressions in it
 abbrev pub IsShort : Scalar → Type 0
-IsShort s = IsUtf8 (text_of s) × (length (text_of s) ≤ 4194304)
+IsShort s = IsUtf8 (text_of s) × (length (text_of s) ≤ longest_text)
 
 abbrev mutual
   pub AreShort : Node → Type 0

@@ -1,7 +1,6 @@
 //! The faults of the calls of a file.
 ghost use Rattle.std.specs.Prelude.{◌≡◌, ◌++◌, map, false, All, Contains, IfOk, IfSome, OnOk, Some};
 ghost use Rattle.std.specs.Option.{option_map_or};
-ghost use Rattle.std.specs.List.{flat_map};
 ghost use Rattle.al_calls.specs.Private.AnswerViews.{answered_of};
 ghost use Rattle.al_calls.specs.Answers.{answered_faults};
 ghost use Rattle.al_contexts.specs.Answered.{known_of};
@@ -153,8 +152,8 @@ fn earlier_at<'a>(
     calls.get(position).copied()
 }
 
-/// Adds the faults of some calls, to which the environment goes on. Equal faults are dropped before they take much memory.
-fn check_each<'a>(
+/// Adds the faults of some calls of a file, to which the environment goes on. Equal faults are dropped before they take much memory.
+pub(crate) fn check_calls<'a>(
     alloc: Global,
     file: File<'a>,
     env: &mut Env<'a>,
@@ -164,8 +163,7 @@ fn check_each<'a>(
     requires stands { Stands file env.old }
     requires short { All (λ a. AreShort (view a.call.now.node.now)) answered.now }
     ensures { OnOk result (SameSet out.new.items (out.old.items
-        ++ flat_map (answered_faults (typing (file.entry).kind (known_of (file.entry).known.now) (view (file.entry).root.now)))
-        (map answered_of answered.now))) }
+        ++ call_faults (file.entry).kind (known_of (file.entry).known.now) (view (file.entry).root.now) (map answered_of answered.now))) }
 {
     let mut latest = BTreeMap::new(alloc);
     let mut room = ROOM;
@@ -179,19 +177,4 @@ fn check_each<'a>(
         room = once_each(alloc, room, out);
     }
     Ok(())
-}
-
-/// Adds the faults of some calls of a file.
-pub(crate) fn check_calls<'a>(
-    alloc: Global,
-    file: File<'a>,
-    answered: &[Answered<'a>],
-    out: &mut Vec<Fault>,
-) -> Result<(), AllocError>
-    requires short { All (λ a. AreShort (view a.call.now.node.now)) answered.now }
-    ensures { OnOk result (SameSet out.new.items (out.old.items
-        ++ call_faults (file.entry).kind (known_of (file.entry).known.now) (view (file.entry).root.now) (map answered_of answered.now))) }
-{
-    let mut env = Env::new(alloc, file)?;
-    check_each(alloc, file, &mut env, answered, out)
 }

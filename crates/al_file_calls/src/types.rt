@@ -1,5 +1,6 @@
 //! The type of a scalar that is given to an input: that of its expression where it is one, else by its class.
 ghost use Rattle.std.specs.Prelude.{◌≡◌, ◌≤◌, ◌∷◌, [], length, map, All, IfOk, IsUtf8};
+ghost use Rattle.al_base.specs.Limits.{longest_text};
 ghost use Rattle.al_file_calls.specs.Types as types;
 ghost use Rattle.al_grammar.specs.Chunks.{IsCutFrom, chunks_of, span_of_chunk};
 ghost use Rattle.al_scalar.specs.Scalar.{text_of};
@@ -80,7 +81,7 @@ fn type_by_chunks(
 /// The type of a scalar that is given to an input.
 pub(crate) fn scalar_type(alloc: Global, scope: &Scope, scalar: &Scalar) -> Result<Ty, AllocError>
     requires utf8 { IsUtf8 (text_of scalar.now) }
-    requires small { length (text_of scalar.now) ≤ 4194304 }
+    requires small { length (text_of scalar.now) ≤ longest_text }
     ensures { IfOk result (λ t. ty_of t ≡ types.scalar_type (scope_of scope.now) scalar.now) }
 {
     let (found, _) = chunks(alloc, scalar.as_str())?;

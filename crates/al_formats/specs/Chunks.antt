@@ -4,6 +4,7 @@ use Rattle.std.specs.List.{list_all}
 use Rattle.std.specs.Str.{is_utf8}
 use Rattle.al_base.specs.declared.faults.Fault.{Fault}
 use Rattle.al_base.specs.declared.faults.Span.{Span}
+use Rattle.al_base.specs.Limits.{longest_text}
 use Rattle.al_grammar.specs.Chunks.{chunks_of}
 use Rattle.al_formats.specs.declared.chunks.Around.{Around}
 use Rattle.al_formats.specs.declared.chunks.Around.TheVariants.{Blanks, Nothing}
@@ -22,7 +23,7 @@ is_lone around text _ _ = false
 
 -- A text that has chunks: UTF-8 of at most 4,194,304 bytes, which each text of a file is.
 abbrev pub is_short : List ℕ → Bool
-is_short text = is_utf8 text && nat_le (length text) 4194304
+is_short text = is_utf8 text && nat_le (length text) longest_text
 
 -- the text is one chunk, and outside it nothing else stands than what may
 abbrev pub is_lone_chunk : Around → List ℕ → Bool

@@ -5,6 +5,7 @@ ghost use Rattle.std.specs.List.{list_all};
 ghost use Rattle.std.specs.Prelude.{◌≡◌, false, true, drop, take, IfOk, MatchOption};
 
 use al_base::Span;
+use al_base::limits::LONGEST_TEXT;
 use al_grammar::chunks;
 use std::alloc::{AllocError, Global};
 
@@ -16,9 +17,6 @@ pub enum Around {
     /// Spaces, tabs and breaks.
     Blanks,
 }
-
-/// The longest text that has chunks, in bytes; a text of a file is never longer.
-const LONGEST_TEXT: usize = 4_194_304;
 
 /// Whether a byte may stand outside the braces.
 fn may_be(around: Around, byte: u8) -> bool

@@ -5,6 +5,7 @@ use Rattle.al_base.specs.declared.codes.ExpressionCode as codes
 use Rattle.al_base.specs.declared.codes.ExpressionCode.TheVariants as code
 use Rattle.al_base.specs.declared.faults.Fault.{Fault}
 use Rattle.al_base.specs.declared.faults.Span.{Span}
+use Rattle.al_base.specs.Limits.{longest_expression}
 use Rattle.al_grammar.specs.Lexeme.{Lexeme, lexeme, kinds}
 use Rattle.al_grammar.specs.Tokens.{Lexed, AllRead, Bad, Unclosed, tokens_of, last_quote, span}
 use Rattle.al_grammar.specs.Tree.{Tree}
@@ -44,7 +45,8 @@ fault_of_tokens content other = fault_of_lexed content other
 -- X5, else X1 or X2, else X3 or X6, else X4
 abbrev pub fault_of_content : List ℕ → Option Fault
 fault_of_content content =
-    if nat_lt 21000 (length content) then Some (fault code.TooLong (span 0 1) []) else fault_of_tokens content (tokens_of content)
+    if nat_lt longest_expression (length content) then Some (fault code.TooLong (span 0 1) [])
+    else fault_of_tokens content (tokens_of content)
 
 -- an expression of this tree
 pub record Spells (content : List ℕ) (t : Tree) : Type 0 where

@@ -2,6 +2,7 @@
 
 ghost use Rattle.std.specs.Prelude.{◌≡◌, ◌≤◌, ◌<◌, ◌+◌, ◌^◌, IfOk, All, map, length};
 ghost use Rattle.std.specs.Str.{IsCharBoundary};
+ghost use Rattle.al_base.specs.Limits.{longest_text};
 ghost use Rattle.al_grammar.specs.Tokens.{span};
 ghost use Rattle.al_grammar.specs.Chunks.{chunks_of, closes, opens, span_of_chunk, IsCutFrom};
 ghost use Rattle.al_grammar.specs.Private.ChunkStates.{end_fault as fault_at_end, move, EndFits, MoveFits};
@@ -116,7 +117,7 @@ fn cut(text: &str, start: usize, end: usize) -> Chunk
 /// X2 at the last quote where the text ends in quotes, or X20 at the `${{` of a chunk that is open otherwise. The error
 /// is want of memory.
 pub fn chunks(alloc: Global, text: &str) -> Result<(Vec<Chunk>, Option<Fault>), AllocError>
-    requires { length text.now ≤ 4194304 }
+    requires { length text.now ≤ longest_text }
     ensures spans { IfOk result (λ r. map span_of_chunk r.0.items ≡ (chunks_of text.now).chunks) }
     ensures contents { IfOk result (λ r. All (IsCutFrom text.now) r.0.items) }
     ensures fault { IfOk result (λ r. r.1 ≡ (chunks_of text.now).fault) }

@@ -13,11 +13,9 @@ use crate::faults::{named_fault, plain_fault};
 use crate::lexer::lex;
 use crate::parser::{ParseError, parse};
 use crate::token::Token;
+use al_base::limits::LONGEST_EXPRESSION;
 use al_base::{ExpressionCode, Fault, Span};
 use std::alloc::{AllocError, Global};
-
-/// The most bytes of a content.
-const MAX_LENGTH: usize = 21_000;
 
 /// The token behind which so many are left, itself counted.
 fn token_at<'a>(tokens: &[Token<'a>], left: usize) -> Token<'a>
@@ -74,7 +72,7 @@ pub fn parse_expr(alloc: Global, content: &str) -> Result<Result<Expr, Fault>, A
     ensures none { IfOk result (λ r. IfOk r (λ e. fault_of_content content.now ≡ None)) }
     ensures fault { IfOk result (λ r. IfErr r (λ f. fault_of_content content.now ≡ Some f)) }
 {
-    if content.len() > MAX_LENGTH {
+    if content.len() > LONGEST_EXPRESSION {
         let first = Span { start: 0, end: 1 };
         return Ok(Err(plain_fault(alloc, ExpressionCode::TooLong, first)));
     }

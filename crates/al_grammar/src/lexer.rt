@@ -4,6 +4,7 @@ ghost use Rattle.std.specs.Prelude.{map, ℕ, IfOk, IfSome, MatchOption, MatchRe
 ghost use Rattle.al_grammar.specs.Lexeme.{seen};
 ghost use Rattle.al_grammar.specs.Tokens.{begins_name, goes_on_name, is_blank, is_sign, is_inside, run, or_equal, doubled, mark};
 ghost use Rattle.al_base.specs.FirstBytes.{begins_with};
+ghost use Rattle.al_base.specs.Limits.{longest_text};
 ghost use Rattle.al_grammar.specs.Tokens.{word_kind, text_tail, text_read, name_read, number_read, number_len, read, tokens_of, AllRead};
 ghost use Rattle.al_grammar.specs.Tokens.{unread, Fits, last_quote};
 ghost use Rattle.al_grammar.specs.Private.TextTails.{tail_from};
@@ -294,7 +295,7 @@ fn last_quote(bytes: &[u8]) -> Option<usize>
 /// The fault is X1 at the first character that begins no token, or X2 at the content's last quote where a text is never
 /// closed. The outer error is want of memory.
 pub fn lex(alloc: Global, content: &str) -> Result<Result<Vec<Token>, Fault>, AllocError>
-    requires { length content.now ≤ 4194304 }
+    requires { length content.now ≤ longest_text }
     ensures { IfOk result (λ r. MatchResult r (λ v. tokens_of content.now ≡ AllRead (map seen v.items))
         (λ f. fault_of_lexed content.now (tokens_of content.now) ≡ Some f)) }
 {

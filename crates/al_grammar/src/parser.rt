@@ -14,6 +14,7 @@ ghost use Rattle.al_grammar.specs.declared.token.TokenKind.TheVariants.{Infix, N
 
 use crate::ast::{Expr, Operand, PathStep, Word};
 use crate::token::{Operator, Token, TokenKind};
+use al_base::limits::DEEPEST_EXPRESSION;
 use std::alloc::{AllocError, AllocFailed, Global};
 
 /// Why tokens were not read, with how many are left where the fault stands, the faulty one included.
@@ -391,15 +392,12 @@ fn operand<'t, 'a>(
     }
 }
 
-/// The deepest nesting of brackets and negations.
-const MAX_NESTING: u32 = 50;
-
 /// The tree of the tokens, or the first fault in them.
 pub fn parse(alloc: Global, tokens: &[Token]) -> Result<Expr, ParseError>
     ensures { MatchResult result (λ e. (verdict_of (kinds (map seen tokens.now)) ≡ Fine) × IsTreeOf (tree_of e) (map seen tokens.now))
         (λ e. IsVerdict e (verdict_of (kinds (map seen tokens.now)))) }
 {
-    let (expr, rest) = binary(alloc, 0, tokens, MAX_NESTING)?;
+    let (expr, rest) = binary(alloc, 0, tokens, DEEPEST_EXPRESSION)?;
     if rest.is_empty() {
         Ok(expr)
     } else {

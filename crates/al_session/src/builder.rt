@@ -4,6 +4,7 @@ ghost use Rattle.std.specs.Prelude.{◌≡◌, ◌≢◌, ◌≤◌, ◌<◌, �
 ghost use Rattle.std.specs.Option.{option_copied, option_map};
 ghost use Rattle.al_base.specs.Counted.{raised};
 ghost use Rattle.al_base.specs.Paths.{path_fault_of};
+ghost use Rattle.al_base.specs.Limits.{largest_file, most_files};
 ghost use Rattle.al_folder.specs.Folder.{bytes_at, paths_of, put_refusal, refusal_or_memory, with_file};
 ghost use Rattle.al_folder.specs.Kept.{folder_of, AreKept};
 ghost use Rattle.al_folder.specs.Meaning.{IsUpTo};
@@ -149,8 +150,8 @@ fn load_file<L: Lint>(
     requires loaded { AreLoaded L.meaning L.is_unit files.old.entries callers.old (L.checks_of lint.old) }
     requires valid { path_fault_of path.now ≡ None }
     requires accepted { L.meaning.accepts path.now ≡ true }
-    requires small { length bytes.now ≤ 1048576 }
-    requires room { bytes_at (folder_of files.old.entries) path.now ≡ None → length files.old.entries < 4096 }
+    requires small { length bytes.now ≤ largest_file }
+    requires room { bytes_at (folder_of files.old.entries) path.now ≡ None → length files.old.entries < most_files }
     ensures loaded { AreLoaded L.meaning L.is_unit files.new.entries callers.new (L.checks_of lint.new) }
     ensures folder { OnOk result (folder_of files.new.entries
         ≡ with_file (folder_of files.old.entries) path.now bytes.now) }

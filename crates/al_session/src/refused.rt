@@ -4,14 +4,9 @@ ghost use Rattle.std.specs.Prelude.{◌≡◌, is_some};
 ghost use Rattle.al_folder.specs.Folder.{bytes_at, put_refusal};
 ghost use Rattle.al_folder.specs.Kept.{folder_of};
 
+use al_base::limits::{LARGEST_FILE, MOST_FILES};
 use al_base::path_fault;
 use al_folder::{Files, Lint, Refused};
-
-/// The greatest size of a file, in bytes.
-const LARGEST_FILE: usize = 1_048_576;
-
-/// The greatest number of files.
-const MOST_FILES: usize = 4_096;
 
 /// Why a file with this path and these bytes is refused beside the files that are there, other than for memory.
 pub(crate) fn put_refused<L: Lint>(

@@ -9,6 +9,7 @@ ghost use Rattle.al_yaml.specs.Spans.{AreFrom, IsLaid, IsWithin};
 ghost use Rattle.al_yaml.specs.Texts.{HasTexts};
 ghost use Rattle.al_yaml.specs.View.{view};
 ghost use Rattle.std.specs.Prelude.{◌≡◌, ◌≤◌, IfErr, IfOk, [], length};
+ghost use Rattle.al_base.specs.Limits.{largest_file};
 
 use crate::anchors::Anchors;
 use crate::block::read_block_node;
@@ -81,7 +82,7 @@ fn read_document(file: &File) -> Result<Node, ReadError>
 /// read it lies in the span of the node around it, behind those of the nodes before it. The text of each scalar, keys too, is UTF-8,
 /// and each of its bytes has an offset in the file. Fails with `AllocError` for want of memory.
 pub fn read_yaml(alloc: Global, bytes: &[u8]) -> Result<Result<Doc, YamlFault>, AllocError>
-    requires { length bytes.now ≤ 1048576 }
+    requires { length bytes.now ≤ largest_file }
     ensures tree { IfOk result (GivesTree bytes.now) }
     ensures inside { IfOk result (GivesInside (length bytes.now)) }
     ensures laid { IfOk result (λ read. IfOk read (λ doc. IsLaid (length bytes.now) (view doc.root))) }

@@ -12,6 +12,7 @@ ghost use Rattle.al_yaml.specs.Keys as keys;
 ghost use Rattle.al_yaml_reader.specs.Private.Places.{IsColon, IsLineTo, IsReadInside};
 ghost use Rattle.al_yaml_reader.specs.Private.Reads.{Answers, IsStopInside};
 ghost use Rattle.std.specs.Prelude.{IfErr, IfOk, IsTrue, length, true, ◌&&◌, ◌<◌, ◌≡◌, ◌≤◌};
+ghost use Rattle.al_base.specs.Limits.{largest_file};
 
 use crate::anchors::{has_no_name, property_end};
 use crate::content::{gap, is_dash, is_skipped};
@@ -23,12 +24,10 @@ use crate::starts::{
     begins_flow_indicator, block_fault, is_block_start, is_flow_start, is_property, is_quote,
 };
 use al_base::YamlCode;
+use al_base::limits::LONGEST_KEY;
 use al_scalar::lines::{begins, blanks_end, is_blank_or_end, line_end};
 use al_scalar::{ScalarContext, ScalarRead};
 use std::alloc::{AllocError, Global};
-
-/// The most characters of a key.
-const MAX_KEY: usize = 1024;
 
 /// Whether a scalar that was read from an offset on may be a key: on one line, with at most 1,024 characters.
 pub fn is_simple_key(bytes: &[u8], at: usize, read: &ScalarRead) -> bool
@@ -46,10 +45,10 @@ pub fn is_short_key(bytes: &[u8], at: usize, read: &ScalarRead) -> bool
 {
     let end = read.span.end as usize;
     // no more characters than bytes
-    if end - at <= MAX_KEY {
+    if end - at <= LONGEST_KEY {
         return true;
     }
-    characters(bytes, at, end) <= MAX_KEY
+    characters(bytes, at, end) <= LONGEST_KEY
 }
 
 /// Whether a colon that parts a key from its value in block context stands at an offset.
@@ -156,7 +155,7 @@ fn plain_on_line(
 ) -> Result<ScalarRead, ReadError>
     requires order { at ≤ end }
     requires inside { end ≤ length bytes.now }
-    requires size { length bytes.now ≤ 1048576 }
+    requires size { length bytes.now ≤ largest_file }
     requires line { IsLineTo bytes.now at end }
     ensures fault { IfErr result (IsStopInside (length bytes.now)) }
     ensures is { Answers (read_of bytes.now) (keys.plain_on_line (lines_at bytes.now at)) result }

@@ -8,16 +8,8 @@ ghost use Rattle.std.specs.Prelude.{◌+◌, ◌≡◌, ◌≤◌, ◌∷◌, []
 
 use crate::anchors::Anchors;
 use al_base::YamlCode;
+use al_base::limits::{DEEPEST_COLLECTION, MOST_ALIAS_TEXT, MOST_NODES};
 use al_scalar::FaultAt;
-
-/// The most nodes of a file.
-const MAX_NODES: u32 = 100_000;
-
-/// The most bytes of text behind aliases of a file.
-const MAX_TEXT: u32 = 1_048_576;
-
-/// The deepest collection of a file; the root is at depth 1.
-const MAX_DEPTH: u32 = 64;
 
 /// What came before: the nodes that have started, those behind aliases too; the bytes of their texts behind aliases; and
 /// the anchors.
@@ -54,19 +46,19 @@ impl State {
     {
         let nodes = self.nodes.saturating_add(more);
         let text = self.text.saturating_add(text);
-        if nodes > MAX_NODES {
+        if nodes > MOST_NODES {
             return Err(FaultAt {
                 code: YamlCode::TooManyNodes,
                 at,
             });
         }
-        if text > MAX_TEXT {
+        if text > MOST_ALIAS_TEXT {
             return Err(FaultAt {
                 code: YamlCode::TooManyNodes,
                 at,
             });
         }
-        if depth > MAX_DEPTH {
+        if depth > DEEPEST_COLLECTION {
             return Err(FaultAt {
                 code: YamlCode::NestingTooDeep,
                 at,

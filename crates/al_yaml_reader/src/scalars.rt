@@ -10,6 +10,7 @@ ghost use Rattle.al_yaml_reader.specs.Private.Places.{IsReadInside, Shows};
 ghost use Rattle.al_yaml_reader.specs.Private.Reads.{Answers, IsBehind, IsRead, IsStopInside, part_of, state_of};
 ghost use Rattle.al_yaml.specs.View.{view};
 ghost use Rattle.std.specs.Prelude.{IfErr, IfOk, length, ◌≡◌, ◌≤◌};
+ghost use Rattle.al_base.specs.Limits.{largest_file};
 
 use crate::content::line_ended;
 use crate::faults::ReadError;
@@ -30,7 +31,7 @@ pub fn scalar_at(
     place: ScalarContext,
 ) -> Result<ScalarRead, ReadError>
     requires inside { at ≤ length bytes.now }
-    requires size { length bytes.now ≤ 1048576 }
+    requires size { length bytes.now ≤ largest_file }
     ensures fault { IfErr result (IsStopInside (length bytes.now)) }
     ensures is { Answers (read_of bytes.now) (reading_at place (lines_at bytes.now at)) result }
     ensures inside { IfOk result (λ read. IsReadInside bytes.now at read) }

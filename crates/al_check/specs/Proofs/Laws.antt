@@ -10,6 +10,7 @@ use Rattle.al_base.proofs.FaultLists.{AllByRecursion-fault_list, IsStrictlySorte
 use Rattle.al_base.specs.FaultLists.{fault_cmp}
 use Rattle.al_base.specs.Spans.{LiesIn}
 use Rattle.al_base.specs.declared.faults.Fault.{Fault}
+use Rattle.al_base.specs.Limits.{largest_file}
 use Rattle.al_tree.specs.Files.{shape_of}
 use Rattle.al_tree.specs.declared.files.FileKind.{FileKind}
 use Rattle.al_yaml.specs.Document.{tree_of}
@@ -73,7 +74,7 @@ given_lies : (kind : FileKind) (bytes : List ℕ) (answers : Answers) (read : Re
 given_lies kind bytes answers (Ok root) there i w f = document_lies (length bytes) kind root i w f answers
 given_lies kind bytes answers (Err fault) there i w f = (there, tt)
 
-pub faults_inside : (kind : FileKind) (bytes : List ℕ) (answers : Answers) → length bytes ≤ 1048576 →
+pub faults_inside : (kind : FileKind) (bytes : List ℕ) (answers : Answers) → length bytes ≤ largest_file →
     AllLie (length bytes) (file_faults kind bytes answers)
 faults_inside kind bytes answers small =
     given_lies kind bytes answers (tree_of bytes) (tree-laid_in bytes) (tree-inside bytes) (tree-laid bytes small) (tree-from bytes)

@@ -7,6 +7,7 @@ use Rattle.al_base.specs.declared.faults.Fault.{Fault}
 use Rattle.al_base.specs.LineStarts.{line_starts}
 use Rattle.al_text.specs.Snippets.{fault_text}
 use Rattle.al_base.specs.Spans.{LiesIn}
+use Rattle.al_base.specs.Limits.{largest_file}
 use Rattle.al_folder.specs.Meaning.{Meaning}
 use Rattle.al_folder.specs.Loops.{reported}
 use Rattle.al_folder.specs.declared.kept.KeptFile.{KeptFile}
@@ -42,7 +43,7 @@ numbered_lines oneline lists x = lines_of oneline (string_bytes x.1.0) x.1.1 (li
 
 -- A kept file of which these faults can be printed: they lie in it.
 pub record IsPrintable {U I : Type 0} (file : KeptFile U I) (faults : List Fault) : Type 0 where
-  pub small : length file.bytes.items ≤ 1048576
+  pub small : length file.bytes.items ≤ largest_file
   pub lines : file.lines ≡ line_starts file.bytes.items
   pub inside : AllByRecursion (λ fault. LiesIn (length file.bytes.items) fault.span) faults
 

@@ -6,7 +6,7 @@ pub characters-requires-clause-line : goal.characters-requires-clause-line
 characters-requires-clause-line c =
     same_line-before c.args.bytes.now c.args.at c.args.read.now.span.end c.args.read.now.next c.requires.inside.from c.requires.inside.end c.requires.inside.inside c.requires.line
 
-pub returns-then-end-at-le-MAX_KEY : goal.returns-then-end-at-le-MAX_KEY
-returns-then-end-at-le-MAX_KEY c =
+pub returns-then-end-at-le-LONGEST_KEY : goal.returns-then-end-at-le-LONGEST_KEY
+returns-then-end-at-le-LONGEST_KEY c =
     short-few c.args.bytes.now c.args.at c.args.read.now.span.end c.requires.inside.from
     (omega (arith, c.requires.inside.end, c.requires.inside.inside)) (omega arith)

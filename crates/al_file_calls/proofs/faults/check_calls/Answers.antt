@@ -6,7 +6,7 @@ use Rattle.al_contexts.specs.Answered.{known_of}
 use Rattle.al_yaml.specs.View.{view}
 use Rattle.al_file_calls.specs.FileCalls.{AreShort, typing}
 use Rattle.al_file_calls.proofs.Sets.{earlier_holds, earlier_there, step_last, step_more}
-use Rattle.al_file_calls.proofs.faults.check_each.Goals as goal
+use Rattle.al_file_calls.proofs.faults.check_calls.Goals as goal
 
 pub check_unrepeated-requires-clause-earlier_short : goal.check_unrepeated-requires-clause-earlier_short
 check_unrepeated-requires-clause-earlier_short c =

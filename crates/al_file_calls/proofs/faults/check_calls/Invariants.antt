@@ -7,7 +7,7 @@ use Rattle.al_contexts.specs.Private.Standing.{Stands}
 use Rattle.al_file_calls.specs.FileCalls.{typing}
 use Rattle.al_base.specs.Growth.{SameSet}
 use Rattle.al_yaml.specs.View.{view}
-use Rattle.al_file_calls.proofs.faults.check_each.Given as goal
+use Rattle.al_file_calls.proofs.faults.check_calls.Given as goal
 
 abbrev pub invariant-loop-i : goal.invariant-loop-i
 invariant-loop-i l =
