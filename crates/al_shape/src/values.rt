@@ -51,7 +51,7 @@ fn unless_null_scalar(scalar: &Scalar) -> Option<&Scalar>
     }
 }
 
-/// A scalar that isn't null, and the span of its written form.
+/// A scalar, and the span of its written form.
 #[derive(Clone, Copy)]
 pub struct ScalarNode<'a> {
     pub scalar: &'a Scalar,
