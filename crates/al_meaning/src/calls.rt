@@ -31,6 +31,14 @@ pub(crate) struct Argument {
     pub span: Span,
 }
 
+/// What a call names.
+#[derive(Clone, Copy)]
+pub(crate) struct Callee<'a> {
+    pub name: &'a Word,
+    /// The function of that name, where there is one.
+    pub function: Option<Function>,
+}
+
 /// Whether a function only tests its arguments, so that no text of theirs gets into a script.
 pub(crate) fn is_test(function: Option<Function>) -> bool
     ensures { result ≡ is_test function }
@@ -57,18 +65,18 @@ pub(crate) fn is_test(function: Option<Function>) -> bool
 pub(crate) fn called(
     alloc: Global,
     scope: &Scope,
-    name: &Word,
-    function: Option<Function>,
+    callee: Callee<'_>,
     exprs: &[Expr],
     arguments: &[Argument],
     out: &mut Vec<Fault>,
 ) -> Result<Ty, AllocError>
     ensures ok { IfOk result (λ t. typed (ty_of t) out.new.items ≡ behind out.old.items
-        (called_with (scope_of scope.now) (string_bytes name.now.text) name.now.span function
+        (called_with (scope_of scope.now) (string_bytes (callee.entry).name.now.text) (callee.entry).name.now.span (callee.entry).function
         (arguments_of (map tree_of exprs.now)) (map argument_of arguments.now))) }
     ensures begins { BeginsWith out.new.items out.old.items }
 {
-    let Some(function) = function else {
+    let name = callee.name;
+    let Some(function) = callee.function else {
         report_text(
             alloc,
             out,

@@ -14,7 +14,7 @@ ghost use Rattle.al_grammar.specs.Tree.{steps_of, operands_of, arguments_of};
 ghost use Rattle.al_types.specs.TypeViews.{ty_of};
 ghost use Rattle.al_grammar.specs.View.{tree_of, step_of, operand_of};
 
-use crate::calls::{Argument, called, is_test};
+use crate::calls::{Argument, Callee, called, is_test};
 use crate::comparison::comparable;
 use crate::literals::{literal_text, type_of_keyword};
 use crate::reports::{report_plain, report_text};
@@ -38,45 +38,62 @@ pub fn type_of(
     ensures faults { OnOk result (out.new.items ≡ out.old.items ++ faults_in (meaning_of (scope_of env.now) (tree_of expr.now))) }
     ensures begins { BeginsWith out.new.items out.old.items }
 {
-    let ty = expression(alloc, env, false, expr, out)?;
+    let around = Surroundings {
+        scope: env,
+        safe: false,
+    };
+    let ty = expression(alloc, around, expr, out)?;
     Ok(ty)
 }
 
-// `safe`: whether the expression stands where untrusted text does no harm.
+// What an expression stands in.
+#[derive(Clone, Copy)]
+struct Surroundings<'s> {
+    scope: &'s Scope,
+    // Whether untrusted text does no harm there.
+    safe: bool,
+}
+
 #[tactic(auto, using(al_base::proofs::Growing::growth))]
 #[cycle(typing)]
 fn expression(
     alloc: Global,
-    scope: &Scope,
-    safe: bool,
+    around: Surroundings<'_>,
     expr: &Expr,
     out: &mut Vec<Fault>,
 ) -> Result<Ty, AllocError>
     ensures ok { IfOk result (λ t. typed (ty_of t) out.new.items ≡ behind out.old.items
-        (meaning.meaning (scope_of scope.now) safe (tree_of expr.now))) }
+        (meaning.meaning (scope_of (around.entry).scope.now) (around.entry).safe (tree_of expr.now))) }
     ensures begins { BeginsWith out.new.items out.old.items }
 {
     match expr {
         Expr::Keyword(keyword, _) => Ok(type_of_keyword(*keyword)),
         Expr::Number(_) => Ok(Ty::Number),
         Expr::Text(_) => Ok(Ty::String),
-        Expr::Name(word) => named(alloc, scope, word, out),
-        Expr::Group(inner, _, _) => expression(alloc, scope, safe, inner, out),
+        Expr::Name(word) => named(alloc, around.scope, word, out),
+        Expr::Group(inner, _, _) => expression(alloc, around, inner, out),
         Expr::Not(_, operand) => {
-            let _ty = expression(alloc, scope, true, operand, out)?;
+            let tested = Surroundings {
+                safe: true,
+                ..around
+            };
+            let _ty = expression(alloc, tested, operand, out)?;
             Ok(Ty::Bool)
         }
-        Expr::Call(name, arguments, _) => call(alloc, scope, safe, name, arguments, out),
+        Expr::Call(name, arguments, _) => call(alloc, around, name, arguments, out),
         Expr::Path(base, steps) => {
-            let start = base_type(alloc, scope, safe, base, out)?;
-            let ty = walk(alloc, scope, safe, steps, start, out)?;
-            check_untrusted(alloc, is_exposed(scope, safe), base, steps, out)?;
+            let start = base_type(alloc, around, base, out)?;
+            let ty = walk(alloc, around, steps, start, out)?;
+            check_untrusted(alloc, is_exposed(around), base, steps, out)?;
             Ok(ty)
         }
         Expr::Chain(first, operands) => {
-            let compared = is_compared(safe, operands);
-            let start = expression(alloc, scope, compared, first, out)?;
-            let ty = operations(alloc, scope, compared, operands, start, out)?;
+            let compared = Surroundings {
+                safe: is_compared(around.safe, operands),
+                ..around
+            };
+            let start = expression(alloc, compared, first, out)?;
+            let ty = operations(alloc, compared, operands, start, out)?;
             Ok(ty)
         }
     }
@@ -87,22 +104,25 @@ fn expression(
 #[cycle(typing)]
 fn call(
     alloc: Global,
-    scope: &Scope,
-    safe: bool,
+    around: Surroundings<'_>,
     name: &Word,
     arguments: &[Expr],
     out: &mut Vec<Fault>,
 ) -> Result<Ty, AllocError>
     ensures ok { IfOk result (λ t. typed (ty_of t) out.new.items ≡ behind out.old.items
-        (meaning.called (scope_of scope.now) (string_bytes name.now.text) name.now.span (function_of (string_bytes name.now.text))
-        (arguments_of (map tree_of arguments.now)) (meanings (scope_of scope.now)
-        (safe || meaning.is_test (function_of (string_bytes name.now.text))) (arguments_of (map tree_of arguments.now))))) }
+        (meaning.called (scope_of (around.entry).scope.now) (string_bytes name.now.text) name.now.span
+        (function_of (string_bytes name.now.text)) (arguments_of (map tree_of arguments.now)) (meanings (scope_of (around.entry).scope.now)
+        ((around.entry).safe || meaning.is_test (function_of (string_bytes name.now.text))) (arguments_of (map tree_of arguments.now))))) }
     ensures begins { BeginsWith out.new.items out.old.items }
 {
     let function = Function::named(name.text.as_str());
-    let tested = is_tested(safe, function);
-    let given = typed_arguments(alloc, scope, tested, arguments, out)?;
-    let ty = called(alloc, scope, name, function, arguments, &given, out)?;
+    let tested = Surroundings {
+        safe: is_tested(around.safe, function),
+        ..around
+    };
+    let given = typed_arguments(alloc, tested, arguments, out)?;
+    let callee = Callee { name, function };
+    let ty = called(alloc, around.scope, callee, arguments, &given, out)?;
     Ok(ty)
 }
 
@@ -118,10 +138,10 @@ fn is_compared(safe: bool, operands: &[Operand]) -> bool
     safe || !begins_logic(operands)
 }
 
-fn is_exposed(scope: &Scope, safe: bool) -> bool
-    ensures { result ≡ ((scope_of scope.now).in_run && not safe) }
+fn is_exposed(around: Surroundings<'_>) -> bool
+    ensures { result ≡ ((scope_of (around.entry).scope.now).in_run && not (around.entry).safe) }
 {
-    scope.in_run && !safe
+    around.scope.in_run && !around.safe
 }
 
 #[tactic(auto, using(al_base::proofs::Growing::growth, crate::proofs::TypedSteps::typing))]
@@ -176,19 +196,18 @@ impl<'s> Found<'s> {
 #[cycle(typing)]
 fn base_type<'s>(
     alloc: Global,
-    scope: &'s Scope,
-    safe: bool,
+    around: Surroundings<'s>,
     base: &Expr,
     out: &mut Vec<Fault>,
 ) -> Result<Found<'s>, AllocError>
     ensures ok { IfOk result (λ f. typed (found_type f) out.new.items ≡ behind out.old.items
-        (meaning.meaning (scope_of scope.now) safe (tree_of base.now))) }
+        (meaning.meaning (scope_of (around.entry).scope.now) (around.entry).safe (tree_of base.now))) }
     ensures begins { BeginsWith out.new.items out.old.items }
 {
-    match available_context(scope, base) {
+    match available_context(around.scope, base) {
         Some(ty) => Ok(Found::Lent(ty)),
         None => {
-            let ty = expression(alloc, scope, safe, base, out)?;
+            let ty = expression(alloc, around, base, out)?;
             Ok(Found::Owned(ty))
         }
     }
@@ -258,19 +277,18 @@ fn property_from<'s>(
 #[cycle(typing)]
 fn walk<'s>(
     alloc: Global,
-    scope: &Scope,
-    safe: bool,
+    around: Surroundings<'_>,
     steps: &[PathStep],
     start: Found<'s>,
     out: &mut Vec<Fault>,
 ) -> Result<Ty, AllocError>
     ensures ok { IfOk result (λ t. typed (ty_of t) out.new.items ≡ behind out.old.items
-        (walked (scope_of scope.now) safe (steps_of (map step_of steps.now)) (found_type start.entry))) }
+        (walked (scope_of (around.entry).scope.now) (around.entry).safe (steps_of (map step_of steps.now)) (found_type start.entry))) }
     ensures begins { BeginsWith out.new.items out.old.items }
 {
     let mut here = start;
     for step in steps {
-        let next = step_from(alloc, scope, safe, step, &here, out)?;
+        let next = step_from(alloc, around, step, &here, out)?;
         here = next;
     }
     let ty = here.into_ty(alloc)?;
@@ -282,14 +300,13 @@ fn walk<'s>(
 #[cycle(typing)]
 fn step_from<'s>(
     alloc: Global,
-    scope: &Scope,
-    safe: bool,
+    around: Surroundings<'_>,
     step: &PathStep,
     here: &Found<'s>,
     out: &mut Vec<Fault>,
 ) -> Result<Found<'s>, AllocError>
     ensures ok { IfOk result (λ f. typed (found_type f) out.new.items ≡ behind out.old.items
-        (stepped (scope_of scope.now) safe (step_of step.now) (found_type here.now))) }
+        (stepped (scope_of (around.entry).scope.now) (around.entry).safe (step_of step.now) (found_type here.now))) }
     ensures begins { BeginsWith out.new.items out.old.items }
 {
     match step {
@@ -307,8 +324,7 @@ fn step_from<'s>(
         }
         PathStep::Index(open, index, close) => index_from(
             alloc,
-            scope,
-            safe,
+            around,
             index,
             across(*open, *close),
             here,
@@ -322,8 +338,7 @@ fn step_from<'s>(
 #[cycle(typing)]
 fn index_from<'s>(
     alloc: Global,
-    scope: &Scope,
-    safe: bool,
+    around: Surroundings<'_>,
     index: &Expr,
     whole: Span,
     here: &Found<'s>,
@@ -331,14 +346,14 @@ fn index_from<'s>(
 ) -> Result<Found<'s>, AllocError>
     ensures ok { IfOk result (λ f. typed (found_type f) out.new.items ≡ behind out.old.items
         (indexed (literal_text (tree_of index.now)) whole (found_type here.now)
-        (meaning.meaning (scope_of scope.now) safe (tree_of index.now)))) }
+        (meaning.meaning (scope_of (around.entry).scope.now) (around.entry).safe (tree_of index.now)))) }
     ensures begins { BeginsWith out.new.items out.old.items }
 {
     let literal = literal_text(alloc, index)?;
     match literal {
         Some(name) => property_from(alloc, here, name.value.as_str(), name.span, whole, out),
         None => {
-            let of = element_from(alloc, scope, safe, index, whole, here.get(), out)?;
+            let of = element_from(alloc, around, index, whole, here.get(), out)?;
             Ok(Found::Owned(of))
         }
     }
@@ -349,18 +364,17 @@ fn index_from<'s>(
 #[cycle(typing)]
 fn element_from(
     alloc: Global,
-    scope: &Scope,
-    safe: bool,
+    around: Surroundings<'_>,
     index: &Expr,
     whole: Span,
     ty: &Ty,
     out: &mut Vec<Fault>,
 ) -> Result<Ty, AllocError>
     ensures ok { IfOk result (λ t. typed (ty_of t) out.new.items ≡ behind out.old.items
-        (indexed None whole (ty_of ty.now) (meaning.meaning (scope_of scope.now) safe (tree_of index.now)))) }
+        (indexed None whole (ty_of ty.now) (meaning.meaning (scope_of (around.entry).scope.now) (around.entry).safe (tree_of index.now)))) }
     ensures begins { BeginsWith out.new.items out.old.items }
 {
-    let by = expression(alloc, scope, safe, index, out)?;
+    let by = expression(alloc, around, index, out)?;
     let of = element(alloc, ty, &by, whole, out)?;
     Ok(of)
 }
@@ -370,19 +384,18 @@ fn element_from(
 #[cycle(typing)]
 fn operations(
     alloc: Global,
-    scope: &Scope,
-    safe: bool,
+    around: Surroundings<'_>,
     operands: &[Operand],
     start: Ty,
     out: &mut Vec<Fault>,
 ) -> Result<Ty, AllocError>
     ensures ok { IfOk result (λ t. typed (ty_of t) out.new.items ≡ behind out.old.items
-        (chained (scope_of scope.now) safe (operands_of (map operand_of operands.now)) (ty_of start))) }
+        (chained (scope_of (around.entry).scope.now) (around.entry).safe (operands_of (map operand_of operands.now)) (ty_of start))) }
     ensures begins { BeginsWith out.new.items out.old.items }
 {
     let mut ty = start;
     for operand in operands {
-        let other = expression(alloc, scope, safe, &operand.expr, out)?;
+        let other = expression(alloc, around, &operand.expr, out)?;
         ty = operation(alloc, operand.operator, operand.at, &ty, &other, out)?;
     }
     Ok(ty)
@@ -442,18 +455,17 @@ fn begins_logic(operands: &[Operand]) -> bool
 #[cycle(typing)]
 fn typed_arguments(
     alloc: Global,
-    scope: &Scope,
-    safe: bool,
+    around: Surroundings<'_>,
     exprs: &[Expr],
     out: &mut Vec<Fault>,
 ) -> Result<Vec<Argument>, AllocError>
     ensures ok { IfOk result (λ v. all_typed (map argument_of v.items) out.new.items ≡ all_behind [] out.old.items
-        (meanings (scope_of scope.now) safe (arguments_of (map tree_of exprs.now)))) }
+        (meanings (scope_of (around.entry).scope.now) (around.entry).safe (arguments_of (map tree_of exprs.now)))) }
     ensures begins { BeginsWith out.new.items out.old.items }
 {
     let mut arguments = Vec::new(alloc);
     for expr in exprs {
-        let ty = expression(alloc, scope, safe, expr, out)?;
+        let ty = expression(alloc, around, expr, out)?;
         arguments.push(Argument {
             ty,
             span: extent(expr),

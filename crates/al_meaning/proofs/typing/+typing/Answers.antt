@@ -71,7 +71,7 @@ expression-returns-in_ok-check_untrusted-in-Path-clause-ok t c =
     let f = rw c.deref-in-Path.ensures at c.in_ok-start-in-Path.ensures.ok in
     let g = rw c.deref-in-Path-2.ensures.value at c.in_ok-ty-in-Path.ensures.ok in
     let h = rw (c.is_exposed.ensures, c.deref-in-Path-3.ensures, c.deref-in-Path-4.ensures.value) at c.in_ok-check_untrusted-in-Path.ensures.ok in
-    rw e (path_on _ _ _ _ _ _ _ _ (λ u. walked (scope_of c.args.scope.now) c.args.safe (steps_of (map step_of c.in-Path.steps.items)) u) f g h)
+    rw e (path_on _ _ _ _ _ _ _ _ (λ u. walked (scope_of c.args.around.scope.now) c.args.around.safe (steps_of (map step_of c.in-Path.steps.items)) u) f g h)
 
 pub expression-returns-in_ok-check_untrusted-in-Path-clause-begins : goal.expression-returns-in_ok-check_untrusted-in-Path-clause-begins
 expression-returns-in_ok-check_untrusted-in-Path-clause-begins t c =
@@ -84,9 +84,9 @@ pub expression-returns-in_ok-ty-in-Chain-clause-ok : goal.expression-returns-in_
 expression-returns-in_ok-ty-in-Chain-clause-ok t c =
     let e = ap tree_of c.in-Chain.is ∙ tree_of-Chain c.in-Chain.first c.in-Chain.operands in
     let os = operands_of (map operand_of c.in-Chain.operands.items) in
-    let f = rw (c.is_compared-compared.ensures, c.deref-in-Chain.ensures.value, c.deref-in-Chain-2.ensures) at c.in_ok-start-in-Chain.ensures.ok in
-    let g = rw (c.is_compared-compared.ensures, c.deref-in-Chain.ensures.value, c.deref-in-Chain-3.ensures.value) at c.in_ok-ty-in-Chain.ensures.ok in
-    rw e (g ∙ follows _ _ _ _ (λ u. chained (scope_of c.args.scope.now) (c.args.safe || not (begins_logic os)) os u) f)
+    let f = rw (c.is_compared.ensures, c.deref-in-Chain.ensures.value, c.deref-in-Chain-2.ensures) at c.in_ok-start-in-Chain.ensures.ok in
+    let g = rw (c.is_compared.ensures, c.deref-in-Chain.ensures.value, c.deref-in-Chain-3.ensures.value) at c.in_ok-ty-in-Chain.ensures.ok in
+    rw e (g ∙ follows _ _ _ _ (λ u. chained (scope_of c.args.around.scope.now) (c.args.around.safe || not (begins_logic os)) os u) f)
 
 pub expression-returns-in_ok-ty-in-Chain-clause-begins : goal.expression-returns-in_ok-ty-in-Chain-clause-begins
 expression-returns-in_ok-ty-in-Chain-clause-begins t c = begins_trans _ _ _ c.in_ok-start-in-Chain.ensures.begins c.in_ok-ty-in-Chain.ensures.begins
@@ -94,9 +94,9 @@ expression-returns-in_ok-ty-in-Chain-clause-begins t c = begins_trans _ _ _ c.in
 pub call-returns-clause-ok : goal.call-returns-clause-ok
 call-returns-clause-ok t c =
     let n : c.named-function.result ≡ function_of (string_bytes c.args.name.now.text) = c.named-function.ensures ∙ ap function_of c.as_str.ensures.value in
-    let f = rw (c.is_tested-tested.ensures, n) at c.in_ok-given.ensures.ok in
+    let f = rw (c.is_tested.ensures, n) at c.in_ok-given.ensures.ok in
     let g = rw (n, c.deref.ensures.value) at c.in_ok-ty.ensures.ok in
-    g ∙ called_on (scope_of c.args.scope.now) (string_bytes c.args.name.now.text) c.args.name.now.span
+    g ∙ called_on (scope_of c.args.around.scope.now) (string_bytes c.args.name.now.text) c.args.name.now.span
     (function_of (string_bytes c.args.name.now.text)) (arguments_of (map tree_of c.args.arguments.now)) _ _ _ _ f
 
 pub call-returns-clause-begins : goal.call-returns-clause-begins
@@ -106,7 +106,7 @@ pub call-returns-in_err-ty-clause-begins : goal.call-returns-in_err-ty-clause-be
 call-returns-in_err-ty-clause-begins t c = begins_trans _ _ _ c.in_ok-given.ensures.begins c.called.ensures.begins
 
 pub base_type-returns-in-Some-clause-ok : goal.base_type-returns-in-Some-clause-ok
-base_type-returns-in-Some-clause-ok t c = rw (c.in-Some.ensures c.args.safe) (unchanged _ _)
+base_type-returns-in-Some-clause-ok t c = rw (c.in-Some.ensures c.args.around.safe) (unchanged _ _)
 
 pub operations-loop-operand-preserved : goal.operations-loop-operand-preserved
 operations-loop-operand-preserved t c =
@@ -115,14 +115,14 @@ operations-loop-operand-preserved t c =
     let i = rw (r, operand_view x) at c.loop-operand.invariant.so_far in
     record {
       begins = begins_trans _ _ _ c.loop-operand.invariant.begins (begins_trans _ _ _ c.in_ok-other.ensures.begins c.in_ok-ty.ensures.begins);
-      so_far = chained_on (scope_of c.args.scope.now) c.args.safe (sign x.operator x.at, tree_of x.expr)
+      so_far = chained_on (scope_of c.args.around.scope.now) c.args.around.safe (sign x.operator x.at, tree_of x.expr)
           (map operand_of (drop (c.loop-operand.operand-index + 1) c.args.operands.now)) (ty_of c.loop-operand.ty)
           (ty_of c.in_ok-other.other) (ty_of c.in_ok-ty.ty) _ _ _ c.in_ok-other.ensures.ok c.in_ok-ty.ensures.ok ∙ i;
     }
 
 pub operations-returns-clause-ok : goal.operations-returns-clause-ok
 operations-returns-clause-ok t c =
-    let d = at_drop_all (λ l. behind c.loop-operand.out.items (chained (scope_of c.args.scope.now) c.args.safe (operands_of (map operand_of l))
+    let d = at_drop_all (λ l. behind c.loop-operand.out.items (chained (scope_of c.args.around.scope.now) c.args.around.safe (operands_of (map operand_of l))
     (ty_of c.loop-operand.ty))) c.args.operands.now c.loop-operand.operand-index (omega arith) in
     unchanged _ _ ∙ sym d ∙ c.loop-operand.invariant.so_far
 
@@ -186,7 +186,7 @@ typed_arguments-loop-expr-preserved t c =
     let x = c.expr-item.result in
     let r = rest_item c.args.exprs.now c.loop-expr.expr-index x c.loop-expr-test.true c.expr-item.is in
     let i = rw r at c.loop-expr.invariant.so_far in
-    let m = meanings_on (scope_of c.args.scope.now) c.args.safe (tree_of x)
+    let m = meanings_on (scope_of c.args.around.scope.now) c.args.around.safe (tree_of x)
     (map tree_of (drop (c.loop-expr.expr-index + 1) c.args.exprs.now)) (ty_of c.in_ok-ty.ty)
     (map argument_of c.loop-expr.arguments.items) _ _ c.in_ok-ty.ensures.ok in
     record {
@@ -201,7 +201,7 @@ walk-loop-step-preserved t c =
     let i = rw r at c.loop-step.invariant.so_far in
     record {
       begins = begins_trans _ _ _ c.loop-step.invariant.begins c.in_ok-next.ensures.begins;
-      so_far = walked_on (scope_of c.args.scope.now) c.args.safe (step_of x)
+      so_far = walked_on (scope_of c.args.around.scope.now) c.args.around.safe (step_of x)
           (map step_of (drop (c.loop-step.step-index + 1) c.args.steps.now)) (found_type c.loop-step.here) (found_type c.in_ok-next.next) _ _
           c.in_ok-next.ensures.ok
           ∙ i;
@@ -209,6 +209,6 @@ walk-loop-step-preserved t c =
 
 pub walk-returns-clause-ok : goal.walk-returns-clause-ok
 walk-returns-clause-ok t c =
-    let d = at_drop_all (λ l. behind c.loop-step.out.items (walked (scope_of c.args.scope.now) c.args.safe (steps_of (map step_of l))
+    let d = at_drop_all (λ l. behind c.loop-step.out.items (walked (scope_of c.args.around.scope.now) c.args.around.safe (steps_of (map step_of l))
     (found_type c.loop-step.here))) c.args.steps.now c.loop-step.step-index (omega arith) in
     rw c.in_ok-ty.ensures (unchanged _ _ ∙ sym d ∙ c.loop-step.invariant.so_far)

@@ -12,22 +12,22 @@ use Rattle.al_meaning.proofs.typing.+typing.Given as goal
 abbrev pub invariant-walk-loop-step : goal.invariant-walk-loop-step
 invariant-walk-loop-step l = record {
   begins : BeginsWith l.out.items l.initial.out.items;
-  so_far : behind l.out.items (walked (scope_of l.scope) l.safe (steps_of (map step_of (drop l.step-index l.steps))) (found_type l.here))
-      ≡ behind l.initial.out.items (walked (scope_of l.scope) l.safe (steps_of (map step_of l.steps)) (found_type l.initial.here));
+  so_far : behind l.out.items (walked (scope_of l.around.scope.now) l.around.safe (steps_of (map step_of (drop l.step-index l.steps))) (found_type l.here))
+      ≡ behind l.initial.out.items (walked (scope_of l.around.scope.now) l.around.safe (steps_of (map step_of l.steps)) (found_type l.initial.here));
 }
 
 abbrev pub invariant-operations-loop-operand : goal.invariant-operations-loop-operand
 invariant-operations-loop-operand l = record {
   begins : BeginsWith l.out.items l.initial.out.items;
-  so_far : behind l.out.items (chained (scope_of l.scope) l.safe (operands_of (map operand_of (drop l.operand-index l.operands)))
+  so_far : behind l.out.items (chained (scope_of l.around.scope.now) l.around.safe (operands_of (map operand_of (drop l.operand-index l.operands)))
       (ty_of l.ty)) ≡ behind l.initial.out.items
-      (chained (scope_of l.scope) l.safe (operands_of (map operand_of l.operands)) (ty_of l.fn.start));
+      (chained (scope_of l.around.scope.now) l.around.safe (operands_of (map operand_of l.operands)) (ty_of l.fn.start));
 }
 
 abbrev pub invariant-typed_arguments-loop-expr : goal.invariant-typed_arguments-loop-expr
 invariant-typed_arguments-loop-expr l = record {
   begins : BeginsWith l.out.items l.initial.out.items;
   so_far : all_behind (map argument_of l.arguments.items) l.out.items
-      (meanings (scope_of l.scope) l.safe (arguments_of (map tree_of (drop l.expr-index l.exprs))))
-      ≡ all_behind [] l.initial.out.items (meanings (scope_of l.scope) l.safe (arguments_of (map tree_of l.exprs)));
+      (meanings (scope_of l.around.scope.now) l.around.safe (arguments_of (map tree_of (drop l.expr-index l.exprs))))
+      ≡ all_behind [] l.initial.out.items (meanings (scope_of l.around.scope.now) l.around.safe (arguments_of (map tree_of l.exprs)));
 }
