@@ -142,21 +142,20 @@ fn is_one(len: usize, chunks: &[Chunk<'_>]) -> bool
     }
 }
 
-/// Adds the faults of a chunk of a scalar's text.
+/// Adds the faults of a chunk of the text at a place.
 fn check_chunk(
     alloc: Global,
     scope: &Scope,
     is_alone: bool,
-    is_scalar_only: bool,
-    scalar: &Scalar,
+    place: &Place<'_>,
     chunk: &Chunk<'_>,
     out: &mut Vec<Fault>,
 ) -> Result<(), AllocError>
-    requires room { HasRoom scalar.now }
-    requires cut { IsCutFrom (text_of scalar.now) chunk.now }
-    requires alone { is_alone ≡ is_one_chunk (text_of scalar.now) }
-    ensures ok { OnOk result
-        (out.new.items ≡ out.old.items ++ chunk_faults (scope_of scope.now) is_scalar_only scalar.now (span_of_chunk chunk.now)) }
+    requires room { HasRoom place.now.scalar.now }
+    requires cut { IsCutFrom (text_of place.now.scalar.now) chunk.now }
+    requires alone { is_alone ≡ is_one_chunk (text_of place.now.scalar.now) }
+    ensures ok { OnOk result (out.new.items
+        ≡ out.old.items ++ chunk_faults (scope_of scope.now) place.now.is_scalar_only place.now.scalar.now (span_of_chunk chunk.now)) }
     ensures begins { BeginsWith out.new.items out.old.items }
 {
     let mut faults = Vec::new(alloc);
@@ -164,68 +163,58 @@ fn check_chunk(
         alloc,
         scope,
         is_alone,
-        is_scalar_only,
+        place.is_scalar_only,
         chunk.content,
         &mut faults,
     )?;
-    move_faults(scalar, chunk.span.start as usize, faults, out)
+    move_faults(place.scalar, chunk.span.start as usize, faults, out)
 }
 
-/// Adds the faults of the chunks of a scalar's text.
+/// Adds the faults of the chunks of the text at a place.
 fn check_each(
     alloc: Global,
     scope: &Scope,
     is_alone: bool,
-    is_scalar_only: bool,
-    scalar: &Scalar,
+    place: &Place<'_>,
     chunks: &[Chunk<'_>],
     out: &mut Vec<Fault>,
 ) -> Result<(), AllocError>
-    requires room { HasRoom scalar.now }
-    requires cut { All (IsCutFrom (text_of scalar.now)) chunks.now }
-    requires alone { is_alone ≡ is_one_chunk (text_of scalar.now) }
+    requires room { HasRoom place.now.scalar.now }
+    requires cut { All (IsCutFrom (text_of place.now.scalar.now)) chunks.now }
+    requires alone { is_alone ≡ is_one_chunk (text_of place.now.scalar.now) }
     ensures ok { OnOk result
-        (out.new.items ≡ out.old.items ++ flat_map (chunk_faults (scope_of scope.now) is_scalar_only scalar.now)
+        (out.new.items ≡ out.old.items ++ flat_map (chunk_faults (scope_of scope.now) place.now.is_scalar_only place.now.scalar.now)
         (map span_of_chunk chunks.now)) }
     ensures begins { BeginsWith out.new.items out.old.items }
 {
     for chunk in chunks {
-        check_chunk(alloc, scope, is_alone, is_scalar_only, scalar, chunk, out)?;
+        check_chunk(alloc, scope, is_alone, place, chunk, out)?;
     }
     Ok(())
 }
 
-/// Adds the faults of a scalar's text as chunks.
+/// Adds the faults of the text at a place as chunks.
 fn check_chunks(
     alloc: Global,
     scope: &Scope,
-    is_scalar_only: bool,
-    scalar: &Scalar,
+    place: &Place<'_>,
     text: &str,
     out: &mut Vec<Fault>,
 ) -> Result<(), AllocError>
-    requires text { text.now ≡ text_of scalar.now }
+    requires text { text.now ≡ text_of place.now.scalar.now }
     requires small { length text.now ≤ longest_text }
-    requires room { HasRoom scalar.now }
+    requires room { HasRoom place.now.scalar.now }
     ensures ok { OnOk result
-        (out.new.items ≡ out.old.items ++ chunked_faults (scope_of scope.now) is_scalar_only scalar.now
-        (chunks_of (text_of scalar.now))) }
+        (out.new.items ≡ out.old.items ++ chunked_faults (scope_of scope.now) place.now.is_scalar_only place.now.scalar.now
+        (chunks_of (text_of place.now.scalar.now))) }
     ensures begins { BeginsWith out.new.items out.old.items }
 {
     let (found, open) = chunks(alloc, text)?;
     let is_alone = is_one(text.len(), found.as_slice());
-    check_each(
-        alloc,
-        scope,
-        is_alone,
-        is_scalar_only,
-        scalar,
-        found.as_slice(),
-        out,
-    )?;
+    check_each(alloc, scope, is_alone, place, found.as_slice(), out)?;
     match open {
         Some(fault) => {
-            out.push(move_fault(scalar, 0, fault))?;
+            out.push(move_fault(place.scalar, 0, fault))?;
             Ok(())
         }
         None => Ok(()),
@@ -236,19 +225,18 @@ fn check_chunks(
 fn check_whole(
     alloc: Global,
     scope: &Scope,
-    is_scalar_only: bool,
-    scalar: &Scalar,
+    place: &Place<'_>,
     text: &str,
     out: &mut Vec<Fault>,
 ) -> Result<(), AllocError>
-    requires room { HasRoom scalar.now }
-    ensures ok { OnOk result
-        (out.new.items ≡ out.old.items ++ map (moved scalar.now 0) (content_faults (scope_of scope.now) true is_scalar_only text.now)) }
+    requires room { HasRoom place.now.scalar.now }
+    ensures ok { OnOk result (out.new.items ≡ out.old.items
+        ++ map (moved place.now.scalar.now 0) (content_faults (scope_of scope.now) true place.now.is_scalar_only text.now)) }
     ensures begins { BeginsWith out.new.items out.old.items }
 {
     let mut faults = Vec::new(alloc);
-    check_content(alloc, scope, true, is_scalar_only, text, &mut faults)?;
-    move_faults(scalar, 0, faults, out)
+    check_content(alloc, scope, true, place.is_scalar_only, text, &mut faults)?;
+    move_faults(place.scalar, 0, faults, out)
 }
 
 /// Adds the faults of the expressions at a place, whose scalar has this text.
@@ -266,8 +254,8 @@ pub(crate) fn check_place(
     ensures begins { BeginsWith out.new.items out.old.items }
 {
     if place.is_condition && !contains_chunk(text.as_bytes()) {
-        check_whole(alloc, scope, place.is_scalar_only, place.scalar, text, out)
+        check_whole(alloc, scope, place, text, out)
     } else {
-        check_chunks(alloc, scope, place.is_scalar_only, place.scalar, text, out)
+        check_chunks(alloc, scope, place, text, out)
     }
 }

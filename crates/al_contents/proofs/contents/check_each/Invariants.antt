@@ -8,7 +8,7 @@ use Rattle.al_contents.proofs.contents.check_each.Given as goal
 
 abbrev pub invariant-loop-chunk : goal.invariant-loop-chunk
 invariant-loop-chunk l = record {
-  all : l.out.items ++ flat_map (chunk_faults (scope_of l.scope) l.is_scalar_only l.scalar) (map span_of_chunk (drop l.chunk-index l.chunks))
-      ≡ l.fn.out.items ++ flat_map (chunk_faults (scope_of l.scope) l.is_scalar_only l.scalar) (map span_of_chunk l.chunks);
+  all : l.out.items ++ flat_map (chunk_faults (scope_of l.scope) l.place.is_scalar_only l.place.scalar.now) (map span_of_chunk (drop l.chunk-index l.chunks))
+      ≡ l.fn.out.items ++ flat_map (chunk_faults (scope_of l.scope) l.place.is_scalar_only l.place.scalar.now) (map span_of_chunk l.chunks);
   begins : BeginsWith l.out.items l.fn.out.items;
 }
