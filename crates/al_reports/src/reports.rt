@@ -1,10 +1,10 @@
 //! Faults of the rules, each added to a list.
 
-ghost use Rattle.al_reports.specs.Private.Views.{named_of, named_scalar};
+ghost use Rattle.al_reports.specs.Private.Views.{named_of, named_scalar, naming};
 ghost use Rattle.al_reports.specs.Words.{about, fault, of_key, unless, unless_among};
 ghost use Rattle.al_base.specs.Growth.{BeginsWith};
 ghost use Rattle.al_yaml.specs.View.{view};
-ghost use Rattle.std.specs.Prelude.{◌≡◌, [], ◌∷◌, ◌++◌, map, OnOk};
+ghost use Rattle.std.specs.Prelude.{◌≡◌, [], ◌∷◌, ◌++◌, map, string_bytes, OnOk};
 
 use al_base::{Args, Code, Fault, RuleCode, Span};
 use al_tree::{ScalarNode, is_among, key_text};
@@ -40,6 +40,17 @@ pub fn named_text(scalar: ScalarNode<'_>) -> Named<'_>
     }
 }
 
+/// The fault of a rule that names these texts as they are.
+fn rule_fault(rule: RuleCode, span: Span, texts: Vec<String>) -> Fault
+    ensures { result ≡ naming rule span (map string_bytes texts.items) }
+{
+    Fault {
+        span,
+        code: Code::Rule(rule),
+        args: Args::new(texts),
+    }
+}
+
 /// Adds a fault that names one text; bytes of it that aren't UTF-8 become U+FFFD.
 ///
 /// Fails with `AllocError` for want of memory; the list then begins with what it held.
@@ -56,11 +67,7 @@ pub fn report_at(
 {
     let mut texts = Vec::new(alloc);
     texts.push(String::from_utf8_lossy(alloc, text)?)?;
-    out.push(Fault {
-        span,
-        code: Code::Rule(rule),
-        args: Args::new(texts),
-    })?;
+    out.push(rule_fault(rule, span, texts))?;
     Ok(())
 }
 
@@ -82,11 +89,7 @@ pub fn report_two(
     let mut texts = Vec::new(alloc);
     texts.push(String::from_utf8_lossy(alloc, first)?)?;
     texts.push(String::from_utf8_lossy(alloc, second)?)?;
-    out.push(Fault {
-        span,
-        code: Code::Rule(rule),
-        args: Args::new(texts),
-    })?;
+    out.push(rule_fault(rule, span, texts))?;
     Ok(())
 }
 
@@ -103,11 +106,7 @@ pub fn report_plain(
     ensures ok { OnOk result (out.new.items ≡ out.old.items ++ fault rule span [] ∷ []) }
     ensures begins { BeginsWith out.new.items out.old.items }
 {
-    out.push(Fault {
-        span,
-        code: Code::Rule(rule),
-        args: Args::new(Vec::new(alloc)),
-    })?;
+    out.push(rule_fault(rule, span, Vec::new(alloc)))?;
     Ok(())
 }
 
