@@ -9,7 +9,8 @@ use Rattle.std.specs.declared.cmp.Ordering.{Ordering}
 use Rattle.std.specs.declared.cmp.Ordering.TheVariants.{Less, Equal, Greater}
 use Rattle.std.proofs.lemmas.List.Sorted.{Contains-permutation, IsPermutation-sym}
 use Rattle.std.proofs.lemmas.Cmp.{nat_cmp_total, on_total, then_total}
-use Rattle.al_base.specs.Orders.{args_cmp, args_total}
+use Rattle.al_base.specs.Orders.{args_cmp}
+use Rattle.al_base.specs.Proofs.Orders.{args_total}
 use Rattle.al_base.specs.FaultLists.{fault_cmp, fault_list, kind_place, place_in_kind, yaml_place, key_place, rule_place, expression_place, call_place}
 use Rattle.al_base.specs.declared.codes.Code.{Code}
 use Rattle.al_base.specs.declared.codes.Code.TheVariants as C

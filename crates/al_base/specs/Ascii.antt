@@ -34,6 +34,12 @@ ampersand = 38
 abbrev pub single_quote : ℕ
 single_quote = 39
 
+abbrev pub open_parenthesis : ℕ
+open_parenthesis = 40
+
+abbrev pub close_parenthesis : ℕ
+close_parenthesis = 41
+
 abbrev pub asterisk : ℕ
 asterisk = 42
 
@@ -58,6 +64,12 @@ digit_zero = 48
 abbrev pub colon : ℕ
 colon = 58
 
+abbrev pub less : ℕ
+less = 60
+
+abbrev pub equals : ℕ
+equals = 61
+
 abbrev pub greater : ℕ
 greater = 62
 
@@ -66,6 +78,9 @@ question = 63
 
 abbrev pub at_sign : ℕ
 at_sign = 64
+
+abbrev pub capital_e : ℕ
+capital_e = 69
 
 abbrev pub open_bracket : ℕ
 open_bracket = 91
@@ -79,8 +94,17 @@ close_bracket = 93
 abbrev pub caret : ℕ
 caret = 94
 
+abbrev pub underscore : ℕ
+underscore = 95
+
 abbrev pub backtick : ℕ
 backtick = 96
+
+abbrev pub small_e : ℕ
+small_e = 101
+
+abbrev pub small_x : ℕ
+small_x = 120
 
 abbrev pub open_brace : ℕ
 open_brace = 123

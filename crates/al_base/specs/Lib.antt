@@ -12,5 +12,7 @@ pub mod Paths
 pub mod LineStarts
 pub mod Growth
 pub mod FirstBytes
+pub mod Digits
 pub mod Shown
 pub mod Rows
+pub mod Proofs

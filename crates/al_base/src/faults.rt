@@ -88,7 +88,8 @@ impl PartialOrd for Args {
 impl Ord for Args {
     ghost use Rattle.std.proofs.Common.{rules};
     ghost use Rattle.std.specs.Cmp.Rules.{comparing};
-    ghost use Rattle.al_base.specs.Orders.{args_cmp, args_total};
+    ghost use Rattle.al_base.specs.Orders.{args_cmp};
+    ghost use Rattle.al_base.specs.Proofs.Orders.{args_total};
 
     ghost cmp = { args_cmp };
 

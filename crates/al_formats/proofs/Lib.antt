@@ -1,4 +1,4 @@
 pub mod SameText
-pub mod Pieces
+pub mod Numbers
 pub mod ScheduleLemmas
 pub mod PatternLemmas

@@ -1,9 +1,11 @@
 -- The grammar of schedules, and their minutes (GitHub, "Events that trigger workflows", `schedule`).
-use Rattle.std.specs.Prelude.{ℕ, zero, suc, List, [], ◌∷◌, Bool, true, false, Option, Some, None, option_map, option_and_then, map, ◌+◌}
-use Rattle.std.specs.Prelude.{◌-◌, ◌*◌, ◌%◌, ◌==◌, nat_lt, nat_le, ◌&&◌, not, codes, if◌then◌else◌, find, is_some}
-use Rattle.std.specs.List.{list_all, list_any, filter}
+use Rattle.std.specs.Prelude.{ℕ, List, [], ◌∷◌, Bool, true, false, Option, Some, None, option_map, option_and_then, map}
+use Rattle.std.specs.Prelude.{◌-◌, ◌%◌, ◌==◌, nat_lt, nat_le, ◌&&◌, not, codes, if◌then◌else◌, find, is_some}
+use Rattle.std.specs.List.{list_all, list_any, filter, range_with_len}
 use Rattle.std.specs.Str.{bytes_eq}
 use Rattle.std.specs.Char.{is_ascii_digit}
+use Rattle.al_base.specs.Ascii as ascii
+use Rattle.al_base.specs.Digits.{decimal}
 use Rattle.al_formats.specs.Texts.{pieces, same_text}
 use Rattle.al_formats.specs.declared.schedules.Item.{Item}
 
@@ -46,13 +48,9 @@ abbrev pub is_empty : List ℕ → Bool
 is_empty [] = true
 is_empty (b ∷ bs) = false
 
--- the number that digits spell, behind those that spell n
-abbrev pub number_from : ℕ → List ℕ → ℕ
-number_from n [] = n
-number_from n (d ∷ ds) = number_from (n * 10 + (d - 48)) ds
-
+-- the number that digits write
 abbrev pub number_of : List ℕ → Option ℕ
-number_of bs = if not (is_empty bs) && list_all is_ascii_digit bs then Some (number_from 0 bs) else None
+number_of bs = if not (is_empty bs) && list_all is_ascii_digit bs then Some (decimal bs) else None
 
 abbrev pub in_range : ℕ → ℕ → ℕ → Option ℕ
 in_range low high n = if nat_le low n && nat_le n high then Some n else None
@@ -96,12 +94,12 @@ head_of r step _ = None
 
 -- a head, perhaps with a slash and a step from 1 to the greatest value
 abbrev pub item_parts : Range → List (List ℕ) → Option Item
-item_parts r (head ∷ []) = head_of r None (pieces 45 head)
-item_parts r (head ∷ step ∷ []) = option_and_then (λ n. head_of r (Some n) (pieces 45 head)) (number_in 1 r.high step)
+item_parts r (head ∷ []) = head_of r None (pieces ascii.dash head)
+item_parts r (head ∷ step ∷ []) = option_and_then (λ n. head_of r (Some n) (pieces ascii.dash head)) (number_in 1 r.high step)
 item_parts r _ = None
 
 abbrev pub item_of : Range → List ℕ → Option Item
-item_of r bs = item_parts r (pieces 47 bs)
+item_of r bs = item_parts r (pieces ascii.slash bs)
 
 -- all of them, if each is there
 abbrev pub all_of : {X : Type 0} → List (Option X) → Option (List X)
@@ -110,14 +108,14 @@ all_of (x ∷ xs) = option_and_then (λ y. option_map (λ ys. y ∷ ys) (all_of 
 
 -- items separated by commas
 abbrev pub field_of : Range → List ℕ → Option (List Item)
-field_of r bs = all_of (map (item_of r) (pieces 44 bs))
+field_of r bs = all_of (map (item_of r) (pieces ascii.comma bs))
 
 abbrev pub is_field : Range → List ℕ → Bool
 is_field r bs = is_some (field_of r bs)
 
 -- the texts between spaces
 abbrev pub words : List ℕ → List (List ℕ)
-words bs = filter (λ w. not (is_empty w)) (pieces 32 bs)
+words bs = filter (λ w. not (is_empty w)) (pieces ascii.space bs)
 
 -- Five fields: minutes, hours, days of the month, months, days of the week. If all are right, the minutes' items.
 abbrev pub minutes_in : List (List ℕ) → Option (List Item)
@@ -132,13 +130,9 @@ schedule_of bs = minutes_in (words bs)
 abbrev pub picks : ℕ → Item → Bool
 picks n i = nat_le i.low n && nat_le n i.high && nat_lt 0 i.step && ((n - i.low) % i.step == 0)
 
-abbrev pub counted_from : ℕ → ℕ → List ℕ
-counted_from zero a = []
-counted_from (suc n) a = a ∷ counted_from n (a + 1)
-
--- the set of minutes
+-- the set of minutes, of 60 from 0 on
 abbrev pub minute_set : List Item → List ℕ
-minute_set items = filter (λ n. list_any (picks n) items) (counted_from 60 0)
+minute_set items = filter (λ n. list_any (picks n) items) (range_with_len 0 60)
 
 -- two of the numbers differ by less than 5
 abbrev pub is_just_below : ℕ → ℕ → Bool

@@ -14,4 +14,4 @@ pub use names::{is_id, is_variable};
 pub use patterns::{Filter, is_pattern};
 pub use schedules::{Item, is_too_often, schedule};
 pub use texts::{has_part, is_same_text};
-pub use worked::{pattern_rows, schedule_rows};
+pub use worked::{part_rows, pattern_rows, schedule_rows};

@@ -6,6 +6,7 @@ ghost use Rattle.al_formats.specs.Schedules.{is_field as field_is_right, is_just
 ghost use Rattle.al_formats.specs.Schedules.{minutes_in, name_in, number_in as in_range_number, number_of, picks as item_picks};
 ghost use Rattle.al_formats.specs.Schedules.{schedule_of, value_in, words};
 ghost use Rattle.al_formats.specs.Texts.{pieces};
+ghost use Rattle.al_base.specs.Ascii as ascii;
 ghost use Rattle.al_formats.specs.Private.Views.{least_thousand, range_of, range_name};
 ghost use Rattle.std.specs.List.{list_any, filter};
 ghost use Rattle.std.specs.Prelude.{◌≡◌, ◌<◌, ◌≤◌, ◌+◌, ◌*◌, ◌&&◌, [], ◌∷◌, ◌++◌, map, not, option_map, IfOk, OnOk};
@@ -144,7 +145,7 @@ const WEEKDAYS: Range = Range {
     ],
 };
 
-/// The number that digits spell, or 1,000 where they spell a greater one.
+/// The number that digits write, or 1,000 where they write a greater one.
 fn number(text: &[u8]) -> Option<u32>
     ensures { result ≡ option_map least_thousand (number_of text.now) }
 {
@@ -171,7 +172,7 @@ fn at_most_thousand(number: u32, digit: u8) -> u32
     if next < 1_000 { next } else { 1_000 }
 }
 
-/// The number that digits spell, where it lies in a range.
+/// The number that digits write, where it lies in a range.
 fn number_in(low: u32, high: u32, text: &[u8]) -> Option<u32>
     requires { high < 1000 }
     ensures { result ≡ in_range_number low high text.now }
@@ -251,7 +252,7 @@ fn head(
     text: &[u8],
 ) -> Result<Option<Item>, AllocError>
     requires { range.high < 1000 }
-    ensures { IfOk result (λ r. r ≡ head_of (range_of range) step (pieces 45 text.now)) }
+    ensures { IfOk result (λ r. r ≡ head_of (range_of range) step (pieces ascii.dash text.now)) }
 {
     let parts = split(alloc, text, b'-')?;
     Ok(match parts.as_slice() {

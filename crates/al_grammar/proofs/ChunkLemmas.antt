@@ -9,11 +9,13 @@ use Rattle.al_base.specs.declared.faults.Fault.{Fault}
 use Rattle.al_grammar.specs.declared.chunk.ChunkState.{ChunkState}
 use Rattle.al_grammar.specs.declared.chunk.ChunkState.TheVariants.{Outside, Inside, Quoted}
 use Rattle.al_grammar.specs.declared.chunk.Move.TheVariants.{On, End}
-use Rattle.al_grammar.specs.Tokens.{span, last_place, if_none}
-use Rattle.al_grammar.specs.Chunks.{Chunked, opens, closes, is_quote, is_outside_quotes, before_opening, before_closing, no_chunks}
-use Rattle.al_grammar.specs.Chunks.{then_chunk, open_quote, open_fault, with_content, with_opening, chunks_within, chunks_of}
+use Rattle.al_grammar.specs.Tokens.{add_to, is_quote, last_quote, span}
+use Rattle.al_grammar.specs.Chunks.{Chunked, opens, closes, is_outside_quotes, before_opening, before_closing, no_chunks}
+use Rattle.al_grammar.specs.Chunks.{then_chunk, open_fault, with_content, with_opening, chunks_within, chunks_of}
+use Rattle.al_grammar.specs.Refusal.{open_text}
 use Rattle.al_grammar.specs.Private.ChunkStates.{chunks_from, end_fault, moved}
 use Rattle.al_grammar.proofs.Chunking.{skipped, third_is}
+use Rattle.al_grammar.proofs.LastQuote.{last_next}
 
 -- the same bytes from the same place
 placed : (w : ChunkState) (at to : ℕ) (bs cs : List ℕ) → at ≡ to → bs ≡ cs → chunks_from 0 w at bs ≡ chunks_from 0 w to cs
@@ -70,19 +72,13 @@ quotes_next : (front : List ℕ) (b : ℕ) → is_outside_quotes (front ++ b ∷
 quotes_next [] b = refl
 quotes_next (c ∷ front) b = turned b (is_quote c) (is_outside_quotes front) (is_outside_quotes (front ++ b ∷ [])) (quotes_next front b)
 
-last_here : (t : Bool) (at to : ℕ) → at ≡ to → if_none None (cond t (Some at) None) ≡ cond t (Some to) None
-last_here true at to e = ap Some e
-last_here false at to e = refl
+-- where the last quote of a content stands that begins at a place
+abbrev last_at : ℕ → List ℕ → Option ℕ
+last_at start content = add_to start (last_quote content)
 
-last_there : (t : Bool) (at to : ℕ) (o p : Option ℕ) → at ≡ to → if_none (cond t (Some at) o) p ≡ cond t (Some to) (if_none o p)
-last_there true at to o p e = ap Some e
-last_there false at to o p e = refl
-
-last_next : (front : List ℕ) (b at : ℕ) → last_place is_quote at (front ++ b ∷ []) ≡ cond (is_quote b) (Some (at + length front)) (last_place is_quote at front)
-last_next [] b at = last_here (is_quote b) at (at + 0) (omega arith)
-last_next (c ∷ front) b at =
-    ap (λ o. if_none o (cond (is_quote c) (Some at) None)) (last_next front b (at + 1))
-    ∙ last_there (is_quote b) (at + 1 + length front) (at + suc (length front)) (last_place is_quote (at + 1) front) (cond (is_quote c) (Some at) None) (omega arith)
+added_if : (start n : ℕ) (here : Bool) (o : Option ℕ) → add_to start (cond here (Some n) o) ≡ cond here (Some (start + n)) (add_to start o)
+added_if start n true o = refl
+added_if start n false o = refl
 
 -- ---- up to a closing
 
@@ -124,7 +120,7 @@ IsReadOutside bs = (front : List ℕ) (start at : ℕ) → at ≡ start + length
     → chunks_from 0 (Inside start) at bs ≡ closed start front bs (before_closing front bs)
 
 abbrev IsReadInside : List ℕ → Type 0
-IsReadInside bs = (front : List ℕ) (start quote at : ℕ) → at ≡ start + length front → is_outside_quotes front ≡ false → last_place is_quote start front ≡ Some quote
+IsReadInside bs = (front : List ℕ) (start quote at : ℕ) → at ≡ start + length front → is_outside_quotes front ≡ false → last_at start front ≡ Some quote
     → chunks_from 0 (Quoted start quote) at bs ≡ closed start front bs (before_closing front bs)
 
 one_more : (front : List ℕ) (b start at : ℕ) → at ≡ start + length front → at + 1 ≡ start + length (front ++ b ∷ [])
@@ -133,8 +129,8 @@ one_more front b start at e = let l = length-append front (b ∷ []) in omega (a
 quotes_are : (front : List ℕ) (b : ℕ) (here was : Bool) → is_quote b ≡ here → is_outside_quotes front ≡ was → is_outside_quotes (front ++ b ∷ []) ≡ cond here (not was) was
 quotes_are front b here was q o = quotes_next front b ∙ ap (λ t. cond t (not (is_outside_quotes front)) (is_outside_quotes front)) q ∙ ap (λ t. cond here (not t) t) o
 
-last_is : (front : List ℕ) (b start : ℕ) (here : Bool) → is_quote b ≡ here → last_place is_quote start (front ++ b ∷ []) ≡ cond here (Some (start + length front)) (last_place is_quote start front)
-last_is front b start here q = last_next front b start ∙ ap (λ t. cond t (Some (start + length front)) (last_place is_quote start front)) q
+last_is : (front : List ℕ) (b start : ℕ) (here : Bool) → is_quote b ≡ here → last_at start (front ++ b ∷ []) ≡ cond here (Some (start + length front)) (last_at start front)
+last_is front b start here q = ap (add_to start) (last_next front b ∙ ap (λ t. cond t (Some (length front)) (last_quote front)) q) ∙ added_if start (length front) here (last_quote front)
 
 is_shut : (front bs : List ℕ) (b : ℕ) (shut : Bool) → is_outside_quotes front ≡ true → closes (b ∷ bs) ≡ shut → (is_outside_quotes front && closes (b ∷ bs)) ≡ shut
 is_shut front bs b shut o s = ap (λ t. t && closes (b ∷ bs)) o ∙ s
@@ -160,7 +156,7 @@ outside_at b bs front start at false false q s e o f g =
     ∙ goes_later b start bs front (is_shut front bs b false o s)
 
 inside_quotes : (b : ℕ) (bs front : List ℕ) (start quote at : ℕ) (here : Bool) → is_quote b ≡ here → at ≡ start + length front → is_outside_quotes front ≡ false
-    → last_place is_quote start front ≡ Some quote → IsReadOutside bs → IsReadInside bs
+    → last_at start front ≡ Some quote → IsReadOutside bs → IsReadInside bs
     → moved (cond here (On 0 (Inside start)) (On 0 (Quoted start quote))) at (λ skip w. chunks_from skip w (at + 1) bs)
     ≡ closed start front (b ∷ bs) (before_closing front (b ∷ bs))
 inside_quotes b bs front start quote at true q e o l f g =
@@ -172,12 +168,12 @@ inside_quotes b bs front start quote at false q e o l f g =
 
 -- the fault of a content that is cut off, by whether a quote is open
 abbrev fault_by : Bool → ℕ → List ℕ → Option Fault
-fault_by outside start content = cond outside (end_fault (Inside start)) (open_quote (last_place is_quote start content))
+fault_by outside start content = cond outside (end_fault (Inside start)) (open_text (last_at start content))
 
 all_read : (bs : List ℕ) → IsReadOutside bs × IsReadInside bs
 all_read [] = (
   (λ front start at e o. sym (ap (λ l. no_chunks (open_fault start l)) (append-nil front) ∙ ap (λ t. no_chunks (fault_by t start front)) o)),
-  (λ front start quote at e o l. sym (ap (λ x. no_chunks (open_fault start x)) (append-nil front) ∙ ap (λ t. no_chunks (fault_by t start front)) o ∙ ap (λ p. no_chunks (open_quote p)) l)),
+  (λ front start quote at e o l. sym (ap (λ x. no_chunks (open_fault start x)) (append-nil front) ∙ ap (λ t. no_chunks (fault_by t start front)) o ∙ ap (λ p. no_chunks (open_text p)) l)),
 )
 all_read (b ∷ bs) =
     let f = all_read bs in (

@@ -15,8 +15,8 @@ use Rattle.al_grammar.specs.declared.chunk.Move.{Move}
 use Rattle.al_grammar.specs.declared.chunk.Move.TheVariants.{On, End}
 use Rattle.al_base.specs.Ascii as ascii
 use Rattle.al_base.specs.FirstBytes.{first_is}
-use Rattle.al_grammar.specs.Tokens.{span}
-use Rattle.al_grammar.specs.Chunks.{Chunked, opens, closes, is_quote, then_chunk, IsCutFrom}
+use Rattle.al_grammar.specs.Tokens.{is_quote, span}
+use Rattle.al_grammar.specs.Chunks.{Chunked, opens, closes, then_chunk, IsCutFrom}
 use Rattle.al_grammar.specs.Private.ChunkStates.{move, moved, chunks_from, behind_chunks, Opens, StandsIn}
 
 pub skipped : (n at : ℕ) (w : ChunkState) (bs : List ℕ) → n ≤ length bs → chunks_from n w at bs ≡ chunks_from 0 w (at + n) (drop n bs)

@@ -5,12 +5,13 @@ use Rattle.std.proofs.lemmas.Bool.Decides.{nat_tests}
 use Rattle.std.proofs.lemmas.List.{get_or-drop}
 use Rattle.std.proofs.lemmas.List.Sums.{prefix_len_passes, prefix_len-le-length}
 use Rattle.std.specs.Prelude.{slice_index}
-use Rattle.al_base.specs.FirstBytes.{first_is}
+use Rattle.al_base.specs.FirstBytes.{begins_with, first_is}
 use Rattle.al_grammar.specs.Tokens.{is_digit, is_hex_digit, is_sign, begins_name, goes_on_name, run, with_digits, hex_len, fraction_len}
 use Rattle.al_grammar.specs.Tokens.{exponent_len, decimal_tail, decimal_len, unsigned_len, number_len, add_to, text_tail}
 use Rattle.al_grammar.specs.Private.TextTails.{after_byte, tail_from}
 use Rattle.al_grammar.proofs.TextTails.{tail_is}
-use Rattle.al_grammar.specs.Tokens.{text_read, number_read, name_read, Fits}
+use Rattle.al_grammar.specs.Private.TokenStates.{Fits}
+use Rattle.al_grammar.specs.Tokens.{text_read, number_read, name_read}
 
 -- Where it isn't empty, a part of so many bytes at the front lies in them and ends with an ASCII byte.
 pub record Ends (bs : List ℕ) (n : ℕ) : Type 0 where
@@ -68,13 +69,17 @@ one_byte : (p : ℕ → Bool) (bs : List ℕ) → first_is p bs ≡ true → 1 �
 one_byte p [] h = absurd cc
 one_byte p (b ∷ bs) h = omega arith
 
-two_bytes : (p q : ℕ → Bool) (bs : List ℕ) → (first_is p bs && first_is q (drop 1 bs)) ≡ true → 2 ≤ length bs
-two_bytes p q [] h = absurd cc
-two_bytes p q (b ∷ []) h = absurd (grind arith)
-two_bytes p q (b ∷ c ∷ bs) h = omega arith
+begun : (c : ℕ) (bs : List ℕ) → begins_with c bs ≡ true → 1 ≤ length bs
+begun c [] h = absurd cc
+begun c (b ∷ bs) h = omega arith
+
+two_begun : (c d : ℕ) (bs : List ℕ) → (begins_with c bs && begins_with d (drop 1 bs)) ≡ true → 2 ≤ length bs
+two_begun c d [] h = absurd cc
+two_begun c d (b ∷ []) h = absurd (grind arith)
+two_begun c d (b ∷ e ∷ bs) h = omega arith
 
 fraction_ends : (bs : List ℕ) → Ends bs (fraction_len bs)
-fraction_ends bs = either bs _ _ _ (λ h. with_ends bs 1 _ (one_byte _ bs h) (run_ends is_digit (drop 1 bs) digit_ascii)) (nothing bs)
+fraction_ends bs = either bs _ _ _ (λ h. with_ends bs 1 _ (begun _ bs h) (run_ends is_digit (drop 1 bs) digit_ascii)) (nothing bs)
 
 signed_ends : (bs : List ℕ) → 1 ≤ length bs → Ends bs (cond (first_is is_sign (drop 1 bs)) (with_digits 2 (run is_digit (drop 2 bs))) (with_digits 1 (run is_digit (drop 1 bs))))
 signed_ends bs h = either bs _ _ _
@@ -85,7 +90,7 @@ exponent_ends : (bs : List ℕ) → Ends bs (exponent_len bs)
 exponent_ends bs = either bs _ _ _ (λ h. signed_ends bs (one_byte _ bs h)) (nothing bs)
 
 hex_ends : (bs : List ℕ) → Ends bs (hex_len bs)
-hex_ends bs = either bs _ _ _ (λ h. with_ends bs 2 _ (two_bytes _ _ bs h) (run_ends is_hex_digit (drop 2 bs) hex_ascii)) (nothing bs)
+hex_ends bs = either bs _ _ _ (λ h. with_ends bs 2 _ (two_begun _ _ bs h) (run_ends is_hex_digit (drop 2 bs) hex_ascii)) (nothing bs)
 
 tail_ends : (bs : List ℕ) → Ends bs (decimal_tail bs)
 tail_ends bs = further bs (fraction_len bs) _ (fraction_ends bs) (exponent_ends (drop (fraction_len bs) bs))

@@ -1,7 +1,7 @@
 -- Chunks, tokens, trees and faults lie in the text or content that they were found in.
-use Rattle.std.proofs.Common.{◌≡◌, ◌<◌, ◌≤◌, ◌+◌, ◌-◌, ℕ, zero, suc, List, [], ◌∷◌, length, drop, refl, sym, subst, arith, Bool, true, false, cond, nat_eq, nat_lt, Option, Some, None}
+use Rattle.std.proofs.Common.{◌≡◌, ◌<◌, ◌≤◌, ◌+◌, ◌-◌, ℕ, zero, suc, List, [], ◌∷◌, length, drop, refl, sym, subst, arith, Bool, true, false, cond, nat_lt, Option, Some, None}
 use Rattle.std.specs.List.{AllByRecursion}
-use Rattle.std.specs.Option.{option_to_list}
+use Rattle.std.specs.Option.{option_map, option_to_list}
 use Rattle.std.proofs.lemmas.Bool.Decides.{nat_tests}
 use Rattle.std.proofs.lemmas.List.Sums.{prefix_len-le-length}
 use Rattle.al_base.specs.Spans.{LiesIn}
@@ -14,7 +14,7 @@ use Rattle.al_grammar.specs.declared.chunk.ChunkState.TheVariants.{Outside, Insi
 use Rattle.al_grammar.specs.declared.lexer.Read.{Read}
 use Rattle.al_grammar.specs.declared.lexer.Read.TheVariants.{Blank, Token, BadCharacter, OpenText}
 use Rattle.al_grammar.specs.declared.token.TokenKind.{TokenKind}
-use Rattle.al_grammar.specs.Chunks.{Chunked, chunks_of, closes, is_quote, opens}
+use Rattle.al_grammar.specs.Chunks.{Chunked, chunks_of, closes, opens}
 use Rattle.al_grammar.specs.Private.TokenStates.{continue_with, tokens_from}
 use Rattle.al_grammar.specs.Private.ChunkStates.{chunks_from, end_fault, move, moved}
 use Rattle.al_grammar.proofs.ChunkLemmas.{states_give}
@@ -29,7 +29,7 @@ use Rattle.al_grammar.specs.Refusal.{fault_at, fault_of_content, fault_of_lexed,
 use Rattle.al_grammar.specs.Table.{Verdict, Fine, Early, Unexpected, TooDeep, verdict_of}
 use Rattle.al_base.specs.FirstBytes.{first_is}
 use Rattle.al_grammar.specs.Tokens.{Lexed, AllRead, Bad, Unclosed, if_none}
-use Rattle.al_grammar.specs.Tokens.{is_inside, last_place, last_quote, read}
+use Rattle.al_grammar.specs.Tokens.{is_inside, is_quote, last_place, last_quote, read}
 use Rattle.al_grammar.specs.Tokens.{span, then_token, tokens_of}
 use Rattle.al_grammar.specs.Tree as tree
 use Rattle.al_grammar.specs.Tree.{Sign, sign, Tree, Constant, Named, Call, Group, Negated, Path, Chain, Steps, NoStep, PropertyThen}
@@ -254,17 +254,22 @@ here_below : (t : Bool) (n at : ℕ) → at < n → IsBelow n (cond t (Some at) 
 here_below true n at h = h
 here_below false n at h = tt
 
-last_below : (p : ℕ → Bool) (bs : List ℕ) (at n : ℕ) → at + length bs ≤ n → IsBelow n (last_place p at bs)
-last_below p [] at n h = tt
-last_below p (b ∷ bs) at n h =
-    either_below n (last_place p (at + 1) bs) (cond (p b) (Some at) None) (last_below p bs (at + 1) n (omega (arith, h))) (here_below (p b) n at (omega (arith, h)))
+further_below : (n : ℕ) (o : Option ℕ) → IsBelow n o → IsBelow (suc n) (option_map suc o)
+further_below n None h = tt
+further_below n (Some q) h = omega (arith, h)
+
+last_below : (p : ℕ → Bool) (bs : List ℕ) → IsBelow (length bs) (last_place p bs)
+last_below p [] = tt
+last_below p (b ∷ bs) =
+    either_below (suc (length bs)) (option_map suc (last_place p bs)) (cond (p b) (Some 0) None)
+    (further_below (length bs) (last_place p bs) (last_below p bs)) (here_below (p b) (suc (length bs)) 0 (omega arith))
 
 quote_lies : (n : ℕ) (o : Option ℕ) → IsBelow n o → AllLie n (option_to_list (open_text o))
 quote_lies n None h = tt
 quote_lies n (Some q) h = (record { ordered = omega arith; inside = omega (arith, h) }, tt)
 
 unclosed_lies : (content : List ℕ) → AllLie (length content) (option_to_list (open_text (last_quote content)))
-unclosed_lies content = quote_lies (length content) (last_quote content) (last_below (λ b. nat_eq b 39) content 0 (length content) (omega arith))
+unclosed_lies content = quote_lies (length content) (last_quote content) (last_below is_quote content)
 
 lexed_fault : (content : List ℕ) (r : Lexed) → LexedLies (length content) 0 r → AllLie (length content) (option_to_list (fault_of_lexed content r))
 lexed_fault content (AllRead ts) l = tt

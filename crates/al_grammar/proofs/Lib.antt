@@ -16,4 +16,5 @@ pub mod Chunking
 pub mod Reading
 pub mod Splitting
 pub mod Inside
+pub mod LastQuote
 pub mod ChunkLemmas

@@ -1,16 +1,14 @@
 -- A text that is never closed has a quote.
-use Rattle.std.proofs.Common.{◌≡◌, ◌≢◌, ◌-◌, ◌+◌, ℕ, zero, suc, List, [], ◌∷◌, length, arith, refl, sym, ◌∙◌, Bool, true, false, cond, nat_eq, Option, Some, None}
+use Rattle.std.proofs.Common.{◌≡◌, ◌≢◌, ◌-◌, ◌+◌, ℕ, zero, suc, List, [], ◌∷◌, length, arith, refl, sym, ◌∙◌, Bool, true, false, cond, Option, Some, None}
+use Rattle.std.specs.Prelude.{option_map}
 use Rattle.al_grammar.specs.declared.lexer.Read.{Read}
 use Rattle.al_grammar.specs.declared.lexer.Read.TheVariants.{Blank, Token, BadCharacter, OpenText}
 use Rattle.al_grammar.specs.declared.token.TokenKind.{TokenKind}
 use Rattle.al_grammar.specs.Lexeme.{Lexeme}
 use Rattle.al_grammar.specs.Tokens.{Lexed, AllRead, Bad, Unclosed, read, mark, number_read, number_len, or_equal, doubled, tokens_of}
-use Rattle.al_grammar.specs.Tokens.{last_quote, then_token, if_none, last_place}
+use Rattle.al_grammar.specs.Tokens.{is_quote, last_quote, then_token, if_none}
 use Rattle.al_grammar.specs.Private.TokenStates.{continue_with, tokens_from}
 use Rattle.al_grammar.proofs.Splitting.{tokens_are}
-
-abbrev is_quote : ℕ → Bool
-is_quote b = nat_eq b 39
 
 apart : (t : Bool) (x y : Read) → x ≢ OpenText → y ≢ OpenText → cond t x y ≢ OpenText
 apart true x y f g = f
@@ -52,10 +50,6 @@ begins_with_quote : (b : ℕ) (bs : List ℕ) → read (b ∷ bs) ≡ OpenText �
 begins_with_quote b bs e =
     quote_or _ _ _ (apart _ _ _ (number_apart (number_len (b ∷ bs))) (mark_apart b bs)) (other _ _ _ (token _ _) (other _ _ _ blank_apart e))
 
-some_first : (o p : Option ℕ) → o ≢ None → if_none o p ≢ None
-some_first None p f = absurd (f refl)
-some_first (Some n) p f = λ e. cc
-
 some_second : (o : Option ℕ) (n : ℕ) → if_none o (Some n) ≢ None
 some_second None n = λ e. cc
 some_second (Some m) n = λ e. cc
@@ -72,16 +66,20 @@ leads P (Token k n) at bs go here there e = there (n - 1) (more_tokens _ _ e)
 leads P BadCharacter at bs go here there e = absurd cc
 leads P OpenText at bs go here there e = here refl
 
-at_first : (b at : ℕ) (bs : List ℕ) → is_quote b ≡ true → last_place is_quote at (b ∷ bs) ≢ None
-at_first b at bs h = rw h (some_second (last_place is_quote (at + 1) bs) at)
+at_first : (b : ℕ) (bs : List ℕ) → is_quote b ≡ true → last_quote (b ∷ bs) ≢ None
+at_first b bs h = rw h (some_second (option_map suc (last_quote bs)) 0)
 
-pub has_quote : (bs : List ℕ) (skip at : ℕ) → tokens_from skip at bs ≡ Unclosed → last_place is_quote at bs ≢ None
+behind_first : (o p : Option ℕ) → o ≢ None → if_none (option_map suc o) p ≢ None
+behind_first None p f = absurd (f refl)
+behind_first (Some n) p f = λ e. cc
+
+pub has_quote : (bs : List ℕ) (skip at : ℕ) → tokens_from skip at bs ≡ Unclosed → last_quote bs ≢ None
 has_quote [] skip at e = absurd cc
-has_quote (b ∷ bs) (suc skip) at e = some_first _ _ (has_quote bs skip (at + 1) e)
+has_quote (b ∷ bs) (suc skip) at e = behind_first (last_quote bs) _ (has_quote bs skip (at + 1) e)
 has_quote (b ∷ bs) zero at e =
-    leads (last_place is_quote at (b ∷ bs) ≢ None) (read (b ∷ bs)) at (b ∷ bs) (λ skip. tokens_from skip (at + 1) bs)
-    (λ r. at_first b at bs (begins_with_quote b bs r))
-    (λ skip f. some_first _ _ (has_quote bs skip (at + 1) f)) e
+    leads (last_quote (b ∷ bs) ≢ None) (read (b ∷ bs)) at (b ∷ bs) (λ skip. tokens_from skip (at + 1) bs)
+    (λ r. at_first b bs (begins_with_quote b bs r))
+    (λ skip f. behind_first (last_quote bs) _ (has_quote bs skip (at + 1) f)) e
 
 none_of : (o : Option ℕ) → ((n : ℕ) → o ≡ Some n → ⊥) → o ≡ None
 none_of None f = refl

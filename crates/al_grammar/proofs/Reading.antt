@@ -7,7 +7,8 @@ use Rattle.al_grammar.specs.declared.token.TokenKind.{TokenKind}
 use Rattle.al_grammar.specs.declared.token.TokenKind.TheVariants.{Open, Close, OpenIndex, CloseIndex, Dot, Comma, Star}
 use Rattle.al_base.specs.FirstBytes.{begins_with}
 use Rattle.al_grammar.specs.Tokens.{begins_name, doubled, is_blank, is_digit, is_sign, mark, name_read, number_len, number_read, or_equal}
-use Rattle.al_grammar.specs.Tokens.{read, text_read, text_tail, Fits}
+use Rattle.al_grammar.specs.Tokens.{read, text_read, text_tail}
+use Rattle.al_grammar.specs.Private.TokenStates.{Fits}
 use Rattle.al_grammar.proofs.Fitting.{name_fits, number_fits, text_fits}
 
 abbrev pub Short : List ℕ → Read → Type 0

@@ -1,6 +1,6 @@
 -- Byte by byte a text ends where the definition says.
-use Rattle.std.proofs.Common.{◌≡◌, ℕ, List, [], ◌∷◌, Bool, true, false, cond, nat_eq, Option, Some, None, refl, ap, ◌∙◌, arith}
-use Rattle.al_grammar.specs.Tokens.{add_to, text_tail}
+use Rattle.std.proofs.Common.{◌≡◌, ℕ, List, [], ◌∷◌, Bool, true, false, cond, Option, Some, None, refl, ap, ◌∙◌, arith}
+use Rattle.al_grammar.specs.Tokens.{add_to, is_quote, text_tail}
 use Rattle.al_grammar.specs.Private.TextTails.{after_byte, tail_from}
 
 twice : (o : Option ℕ) → add_to 1 (add_to 1 o) ≡ add_to 2 o
@@ -20,6 +20,6 @@ two_bytes false second c bs rest behind e f = ap (add_to 1) f
 
 pub tail_is : (bs : List ℕ) → tail_from false bs ≡ text_tail bs
 tail_is [] = refl
-tail_is (b ∷ []) = last_byte (nat_eq b 39)
+tail_is (b ∷ []) = last_byte (is_quote b)
 tail_is (b ∷ c ∷ bs) =
-    two_bytes (nat_eq b 39) (nat_eq c 39) c bs (text_tail bs) (text_tail (c ∷ bs)) (tail_is bs) (tail_is (c ∷ bs))
+    two_bytes (is_quote b) (is_quote c) c bs (text_tail bs) (text_tail (c ∷ bs)) (tail_is bs) (tail_is (c ∷ bs))

@@ -3,7 +3,7 @@
 -- A text splits into what stands before its first `${{`, that opening, a content, the closing `}}` and the rest, whose chunks follow. The
 -- closing is the first `}}` outside quotes: an even number of single quotes stands in the content before it. So at most one splitting is
 -- right, and the chunks are the only ones.
-use Rattle.std.specs.Prelude.{◌≡◌, ℕ, zero, suc, ◌+◌, ◌-◌, List, [], ◌∷◌, ◌++◌, Bool, true, ◌==◌, ◌&&◌, not, if◌then◌else◌, length}
+use Rattle.std.specs.Prelude.{◌≡◌, ℕ, zero, suc, ◌+◌, ◌-◌, List, [], ◌∷◌, ◌++◌, Bool, true, ◌&&◌, not, if◌then◌else◌, length}
 use Rattle.std.specs.Prelude.{drop, slice_range, Option, Some, None, option_map}
 use Rattle.al_base.specs.Ascii as ascii
 use Rattle.al_base.specs.FirstBytes.{begins_with}
@@ -11,8 +11,8 @@ use Rattle.al_base.specs.declared.codes.ExpressionCode.TheVariants as code
 use Rattle.al_base.specs.declared.faults.Fault.{Fault}
 use Rattle.al_base.specs.declared.faults.Span.{Span}
 use Rattle.al_grammar.specs.declared.chunk.Chunk.{Chunk}
-use Rattle.al_grammar.specs.Tokens.{span, last_place}
-use Rattle.al_grammar.specs.Refusal.{fault}
+use Rattle.al_grammar.specs.Tokens.{add_to, is_quote, last_quote, span}
+use Rattle.al_grammar.specs.Refusal.{fault, open_text}
 
 -- where the contents of the chunks lie, and what is wrong at the text's end
 pub record Chunked : Type 0 where
@@ -26,9 +26,6 @@ opens bs = begins_with ascii.dollar bs && begins_with ascii.open_brace (drop 1 b
 -- `}}`
 abbrev pub closes : List ℕ → Bool
 closes bs = begins_with ascii.close_brace bs && begins_with ascii.close_brace (drop 1 bs)
-
-abbrev pub is_quote : ℕ → Bool
-is_quote b = b == ascii.single_quote
 
 -- Behind these bytes of a content no quote is open: their number of quotes is even.
 abbrev pub is_outside_quotes : List ℕ → Bool
@@ -53,17 +50,12 @@ no_chunks f = record { chunks = []; fault = f }
 abbrev pub then_chunk : Span → Chunked → Chunked
 then_chunk s c = record { chunks = s ∷ c.chunks; fault = c.fault }
 
--- X2 at the last quote
-abbrev pub open_quote : Option ℕ → Option Fault
-open_quote None = None
-open_quote (Some quote) = Some (fault code.UnclosedText (span quote (quote + 1)) [])
-
 -- What is wrong with a content from this place on that the text's end cuts off: an open quote is X2 at the last one, otherwise its
 -- opening is X20.
 abbrev pub open_fault : ℕ → List ℕ → Option Fault
 open_fault start content =
     if is_outside_quotes content then Some (fault code.UnclosedChunk (span (start - 3) start) [])
-    else open_quote (last_place is_quote start content)
+    else open_text (add_to start (last_quote content))
 
 -- the content from a place on, up to its closing, and the chunks of the rest
 abbrev pub with_content : (ℕ → List ℕ → Chunked) → ℕ → List ℕ → Option ℕ → Chunked

@@ -2,11 +2,10 @@
 --
 -- A content splits into what stands first and the rest behind it, whose tokens follow: a blank, or a token, the longest that begins there.
 -- Else its first character begins none, or a text is never closed.
+use Rattle.al_base.specs.Ascii as ascii
 use Rattle.al_base.specs.FirstBytes.{first_is, begins_with}
 use Rattle.al_grammar.specs.declared.token.Operator.TheVariants.{Or, And, Equal, NotEqual, Less, LessEqual, Greater, GreaterEqual}
 use Rattle.al_grammar.specs.declared.token.Keyword.TheVariants as keyword
-use Rattle.al_grammar.specs.declared.lexer.LexError.{LexError}
-use Rattle.al_grammar.specs.declared.lexer.LexError.TheVariants as error
 use Rattle.al_grammar.specs.declared.lexer.Read.{Read}
 use Rattle.al_grammar.specs.declared.lexer.Read.TheVariants.{Blank, Token, BadCharacter, OpenText}
 use Rattle.al_grammar.specs.declared.token.TokenKind.{TokenKind}
@@ -14,28 +13,33 @@ use Rattle.al_grammar.specs.declared.token.TokenKind.TheVariants.{Name, Keyword,
 use Rattle.al_grammar.specs.declared.token.TokenKind.TheVariants.{Comma, Star, Bang, Infix}
 use Rattle.al_base.specs.declared.faults.Span.{Span}
 use Rattle.al_grammar.specs.Lexeme.{Lexeme, lexeme}
+use Rattle.std.specs.Char.{is_ascii_alphabetic, is_ascii_digit, is_ascii_hexdigit}
+use Rattle.std.specs.Int.{is_in_range}
 use Rattle.std.specs.List.{prefix_len}
 use Rattle.std.specs.Str.{bytes_eq}
-use Rattle.std.specs.Prelude.{codes, ◌<◌, ◌≤◌, ℕ, zero, suc, ◌+◌, ◌-◌, List, [], ◌∷◌, Bool, true, false, ◌&&◌, ◌||◌, nat_eq, nat_le}
-use Rattle.std.specs.Prelude.{if◌then◌else◌, max, take, drop, Option, Some, None, slice_index, length}
+use Rattle.std.specs.Prelude.{codes, ℕ, zero, suc, ◌+◌, List, [], ◌∷◌, Bool, true, false, ◌&&◌, ◌||◌, ◌==◌, if◌then◌else◌, max}
+use Rattle.std.specs.Prelude.{take, drop, Option, Some, None, option_map, length}
 
 abbrev pub is_digit : ℕ → Bool
-is_digit b = nat_le 48 b && nat_le b 57
+is_digit b = is_ascii_digit b
 
 abbrev pub is_hex_digit : ℕ → Bool
-is_hex_digit b = is_digit b || (nat_le 65 b && nat_le b 70) || (nat_le 97 b && nat_le b 102)
+is_hex_digit b = is_ascii_hexdigit b
 
 abbrev pub begins_name : ℕ → Bool
-begins_name b = (nat_le 65 b && nat_le b 90) || (nat_le 97 b && nat_le b 122) || nat_eq b 95
+begins_name b = is_ascii_alphabetic b || b == ascii.underscore
 
 abbrev pub goes_on_name : ℕ → Bool
-goes_on_name b = begins_name b || is_digit b || nat_eq b 45
+goes_on_name b = begins_name b || is_digit b || b == ascii.dash
 
 abbrev pub is_blank : ℕ → Bool
-is_blank b = nat_eq b 32 || nat_eq b 9 || nat_eq b 10 || nat_eq b 13
+is_blank b = b == ascii.space || b == ascii.tab || b == ascii.line_feed || b == ascii.carriage_return
 
 abbrev pub is_sign : ℕ → Bool
-is_sign b = nat_eq b 43 || nat_eq b 45
+is_sign b = b == ascii.plus || b == ascii.dash
+
+abbrev pub is_quote : ℕ → Bool
+is_quote b = b == ascii.single_quote
 
 -- how many bytes at the front pass a test
 abbrev pub run : (ℕ → Bool) → List ℕ → ℕ
@@ -49,16 +53,16 @@ with_digits lead (suc n) = lead + suc n
 -- `0x` and hexadecimal digits
 abbrev pub hex_len : List ℕ → ℕ
 hex_len bs =
-    if first_is (λ b. nat_eq b 48) bs && first_is (λ b. nat_eq b 120) (drop 1 bs) then with_digits 2 (run is_hex_digit (drop 2 bs)) else 0
+    if begins_with ascii.digit_zero bs && begins_with ascii.small_x (drop 1 bs) then with_digits 2 (run is_hex_digit (drop 2 bs)) else 0
 
 -- a dot and digits
 abbrev pub fraction_len : List ℕ → ℕ
-fraction_len bs = if first_is (λ b. nat_eq b 46) bs then with_digits 1 (run is_digit (drop 1 bs)) else 0
+fraction_len bs = if begins_with ascii.dot bs then with_digits 1 (run is_digit (drop 1 bs)) else 0
 
 -- an `e`, a sign or none, and digits
 abbrev pub exponent_len : List ℕ → ℕ
 exponent_len bs =
-    if first_is (λ b. nat_eq b 69 || nat_eq b 101) bs
+    if first_is (λ b. b == ascii.capital_e || b == ascii.small_e) bs
     then (if first_is is_sign (drop 1 bs) then with_digits 2 (run is_digit (drop 2 bs)) else with_digits 1 (run is_digit (drop 1 bs)))
     else 0
 
@@ -84,8 +88,8 @@ add_to n (Some m) = Some (n + m)
 -- text, and the first that is single closes it.
 abbrev pub text_tail : List ℕ → Option ℕ
 text_tail [] = None
-text_tail (b ∷ []) = if nat_eq b 39 then Some 1 else None
-text_tail (b ∷ c ∷ bs) = if nat_eq b 39 then (if nat_eq c 39 then add_to 2 (text_tail bs) else Some 1) else add_to 1 (text_tail (c ∷ bs))
+text_tail (b ∷ []) = if is_quote b then Some 1 else None
+text_tail (b ∷ c ∷ bs) = if is_quote b then (if is_quote c then add_to 2 (text_tail bs) else Some 1) else add_to 1 (text_tail (c ∷ bs))
 
 -- `null`, `true` and `false` are words of their own
 abbrev pub word_kind : List ℕ → TokenKind
@@ -107,19 +111,19 @@ doubled false k = BadCharacter
 
 abbrev pub mark : ℕ → List ℕ → Read
 mark b bs =
-    if nat_eq b 40 then Token Open 1
-    else if nat_eq b 41 then Token Close 1
-    else if nat_eq b 91 then Token OpenIndex 1
-    else if nat_eq b 93 then Token CloseIndex 1
-    else if nat_eq b 46 then Token Dot 1
-    else if nat_eq b 44 then Token Comma 1
-    else if nat_eq b 42 then Token Star 1
-    else if nat_eq b 33 then or_equal (begins_with 61 bs) Bang (Infix NotEqual)
-    else if nat_eq b 60 then or_equal (begins_with 61 bs) (Infix Less) (Infix LessEqual)
-    else if nat_eq b 62 then or_equal (begins_with 61 bs) (Infix Greater) (Infix GreaterEqual)
-    else if nat_eq b 61 then doubled (begins_with 61 bs) (Infix Equal)
-    else if nat_eq b 38 then doubled (begins_with 38 bs) (Infix And)
-    else if nat_eq b 124 then doubled (begins_with 124 bs) (Infix Or)
+    if b == ascii.open_parenthesis then Token Open 1
+    else if b == ascii.close_parenthesis then Token Close 1
+    else if b == ascii.open_bracket then Token OpenIndex 1
+    else if b == ascii.close_bracket then Token CloseIndex 1
+    else if b == ascii.dot then Token Dot 1
+    else if b == ascii.comma then Token Comma 1
+    else if b == ascii.asterisk then Token Star 1
+    else if b == ascii.exclamation then or_equal (begins_with ascii.equals bs) Bang (Infix NotEqual)
+    else if b == ascii.less then or_equal (begins_with ascii.equals bs) (Infix Less) (Infix LessEqual)
+    else if b == ascii.greater then or_equal (begins_with ascii.equals bs) (Infix Greater) (Infix GreaterEqual)
+    else if b == ascii.equals then doubled (begins_with ascii.equals bs) (Infix Equal)
+    else if b == ascii.ampersand then doubled (begins_with ascii.ampersand bs) (Infix And)
+    else if b == ascii.bar then doubled (begins_with ascii.bar bs) (Infix Or)
     else BadCharacter
 
 abbrev pub text_read : Option ℕ → Read
@@ -139,7 +143,7 @@ read [] = BadCharacter
 read (b ∷ bs) =
     if is_blank b then Blank
     else if begins_name b then name_read (b ∷ bs)
-    else if nat_eq b 39 then text_read (text_tail bs)
+    else if is_quote b then text_read (text_tail bs)
     else if is_digit b || is_sign b then number_read (number_len (b ∷ bs))
     else mark b bs
 
@@ -159,7 +163,7 @@ span a b = record { start = a; end = b }
 
 -- the bytes that continue a character
 abbrev pub is_inside : ℕ → Bool
-is_inside b = nat_le 128 b && nat_le b 191
+is_inside b = is_in_range 0x80 0xBF b
 
 -- the character that bytes begin with which stand at a place
 abbrev pub character_at : ℕ → List ℕ → Span
@@ -185,22 +189,11 @@ abbrev pub if_none : Option ℕ → Option ℕ → Option ℕ
 if_none None o = o
 if_none (Some n) o = Some n
 
--- the place of the last byte that passes a test, from a place on
-abbrev pub last_place : (ℕ → Bool) → ℕ → List ℕ → Option ℕ
-last_place p at [] = None
-last_place p at (b ∷ bs) = if_none (last_place p (at + 1) bs) (if p b then Some at else None)
+-- the place of the last of some bytes that pass a test
+abbrev pub last_place : (ℕ → Bool) → List ℕ → Option ℕ
+last_place p [] = None
+last_place p (b ∷ bs) = if_none (option_map suc (last_place p bs)) (if p b then Some 0 else None)
 
 -- the place of the last quote
 abbrev pub last_quote : List ℕ → Option ℕ
-last_quote bs = last_place (λ b. nat_eq b 39) 0 bs
-
--- where tokens are not all read
-abbrev pub unread : LexError → Lexed
-unread (error.BadCharacter s) = Bad s
-unread error.OpenText = Unclosed
-
--- A token has a byte and lies in these, and a character ends with it, as after a blank.
-abbrev pub Fits : List ℕ → Read → Type 0
-Fits bs Blank = slice_index bs 0 < 128
-Fits bs (Token k n) = (0 < n) × (n ≤ length bs) × (slice_index bs (n - 1) < 128)
-Fits bs _ = Unit {0}
+last_quote bs = last_place is_quote bs

@@ -3,10 +3,12 @@
 ghost use Rattle.std.specs.Prelude.{map, ℕ, IfOk, IfSome, MatchOption, MatchResult, ◌≡◌, ◌≤◌, ◌<◌, ◌+◌, ◌^◌, Some, [], ◌∷◌, length, false};
 ghost use Rattle.al_grammar.specs.Lexeme.{seen};
 ghost use Rattle.al_grammar.specs.Tokens.{begins_name, goes_on_name, is_blank, is_sign, is_inside, run, or_equal, doubled, mark};
+ghost use Rattle.al_base.specs.Ascii as ascii;
 ghost use Rattle.al_base.specs.FirstBytes.{begins_with};
 ghost use Rattle.al_base.specs.Limits.{longest_text};
 ghost use Rattle.al_grammar.specs.Tokens.{word_kind, text_tail, text_read, name_read, number_read, number_len, read, tokens_of, AllRead};
-ghost use Rattle.al_grammar.specs.Tokens.{unread, Fits, last_quote};
+ghost use Rattle.al_grammar.specs.Tokens.{last_quote};
+ghost use Rattle.al_grammar.specs.Private.TokenStates.{unread, Fits};
 ghost use Rattle.al_grammar.specs.Private.TextTails.{tail_from};
 ghost use Rattle.al_grammar.specs.Refusal.{fault_of_lexed};
 
@@ -124,7 +126,7 @@ fn starts_with(bytes: &[u8], b: u8) -> bool
 
 /// A mark that means another thing before `=`.
 fn alone_or_equal(rest: &[u8], alone: TokenKind, equal: TokenKind) -> Read
-    ensures value { result ≡ or_equal (begins_with 61 rest.now) alone equal }
+    ensures value { result ≡ or_equal (begins_with ascii.equals rest.now) alone equal }
     ensures fits { (b : ℕ) → b < 128 → Fits (b ∷ rest.now) result }
 {
     if starts_with(rest, b'=') {

@@ -2,9 +2,9 @@
 ghost use Rattle.al_grammar.specs.Rows.Chunks.{closed, cut_off};
 ghost use Rattle.al_grammar.specs.Rows.Tokens as row;
 ghost use Rattle.al_grammar.specs.Chunks.{chunks_of};
-ghost use Rattle.al_grammar.specs.Tokens.{AllRead, Bad, Unclosed, span, tokens_of};
+ghost use Rattle.al_grammar.specs.Tokens.{AllRead, Bad, Unclosed, last_quote, span, tokens_of};
 ghost use Rattle.al_base.specs.declared.codes.ExpressionCode.TheVariants.{UnclosedChunk, UnclosedText};
-ghost use Rattle.std.specs.Prelude.{◌≡◌, [], ◌∷◌, codes};
+ghost use Rattle.std.specs.Prelude.{◌≡◌, [], ◌∷◌, codes, None, Some};
 
 /// Where the contents of chunks lie in some texts, and what is wrong at their ends. Does nothing.
 pub fn chunk_rows()
@@ -35,4 +35,9 @@ pub fn token_rows()
     ensures bad { tokens_of (codes "a = 2") ≡ Bad (span 2 3) }
     ensures bad_character { tokens_of (97 ∷ 195 ∷ 169 ∷ 98 ∷ []) ≡ Bad (span 1 3) }
     ensures open { tokens_of (codes "a 'b''c") ≡ Unclosed }
+    ensures last_quote { last_quote (codes "a 'b''c") ≡ Some 5 }
+    ensures no_quote { last_quote (codes "a b") ≡ None }
+    ensures doubled_marks { tokens_of (codes "&&||==!=") ≡ AllRead (row.and (codes "&&") 0 ∷ row.or (codes "||") 2
+        ∷ row.equal (codes "==") 4 ∷ row.not_equal (codes "!=") 6 ∷ []) }
+    ensures hexadecimal { tokens_of (codes "0xaF 1E+2") ≡ AllRead (row.number (codes "0xaF") 0 ∷ row.number (codes "1E+2") 5 ∷ []) }
 {}

@@ -1,13 +1,15 @@
 -- The states of the code that reads a format text tell which arguments it names.
 use Rattle.std.proofs.Common.{◌≡◌, ◌≤◌, ℕ, zero, suc, ◌+◌, ◌*◌, ◌-◌, List, [], ◌∷◌, length, drop, refl, sym, ap, ◌∙◌, arith, Bool, true, false, cond, nat_lt, ◌==◌, Option, None}
-use Rattle.std.specs.Prelude.{slice_set}
+use Rattle.std.specs.Int.Digits.{number_from_digits_after}
+use Rattle.std.specs.Prelude.{map, slice_set}
 use Rattle.al_base.specs.Ascii as ascii
+use Rattle.al_base.specs.Digits.{decimal, digit_of}
 use Rattle.al_base.specs.FirstBytes.{begins_with}
 use Rattle.al_grammar.specs.Tokens.{is_digit}
 use Rattle.al_meaning.specs.declared.placeholders.PlaceholderState.TheVariants.{Outside, BehindOpening, InIndex, BehindClosing}
 use Rattle.al_meaning.specs.declared.placeholders.Turn.{Turn}
 use Rattle.al_meaning.specs.declared.placeholders.Turn.TheVariants.{To, Names, Wrong}
-use Rattle.al_meaning.specs.Placeholders.{Piece, Plain, Argument, NoPiece, digits_of, behind_digits, number_from, index_of, piece_of, used_with, used_within}
+use Rattle.al_meaning.specs.Placeholders.{Piece, Plain, Argument, NoPiece, digits_of, behind_digits, index_of, piece_of, used_with, used_within}
 use Rattle.al_meaning.specs.Private.PlaceholderStates.{turned, used_from}
 
 -- what is read behind a piece
@@ -18,15 +20,21 @@ behind used p = used_with (used_from Outside) used p
 abbrev goes : List Bool → List ℕ → Turn → Option (List Bool)
 goes used bs t = turned t used (λ p now. used_from p now bs)
 
+-- the number that digits write behind those that wrote n
+abbrev number_on : ℕ → List ℕ → ℕ
+number_on n ds = number_from_digits_after 10 n (map digit_of ds)
+
 -- an index that has digits already
 abbrev index_behind : ℕ → List ℕ → List ℕ → Piece
-index_behind n ds rest = cond (begins_with ascii.close_brace rest) (Argument (number_from n ds) (drop 1 rest)) NoPiece
+index_behind n ds rest = cond (begins_with ascii.close_brace rest) (Argument (number_on n ds) (drop 1 rest)) NoPiece
 
 index_at : (used : List Bool) (n b : ℕ) (bs : List ℕ) (digit closing : Bool) → (b == ascii.close_brace) ≡ closing
     → used_from (InIndex (10 * n + (b - ascii.digit_zero))) used bs ≡ behind used (index_behind (10 * n + (b - ascii.digit_zero)) (digits_of bs) (behind_digits bs))
     → goes used bs (cond digit (To (InIndex (10 * n + (b - ascii.digit_zero)))) (cond closing (Names n) Wrong))
     ≡ behind used (index_behind n (cond digit (b ∷ digits_of bs) []) (cond digit (behind_digits bs) (b ∷ bs)))
-index_at used n b bs true closing e f = f
+index_at used n b bs true closing e f =
+    let same : 10 * n + (b - ascii.digit_zero) ≡ n * 10 + (b - ascii.digit_zero) = omega arith in
+    f ∙ ap (λ m. behind used (index_behind m (digits_of bs) (behind_digits bs))) same
 index_at used n b bs false true e f = sym (ap (λ t. behind used (cond t (Argument n bs) NoPiece)) e)
 index_at used n b bs false false e f = sym (ap (λ t. behind used (cond t (Argument n bs) NoPiece)) e)
 
@@ -39,7 +47,7 @@ opening_at : (used : List Bool) (b : ℕ) (bs : List ℕ) (opens digit : Bool)
     ≡ behind used (cond opens (Plain bs) (index_of (cond digit (b ∷ digits_of bs) []) (cond digit (behind_digits bs) (b ∷ bs))))
 opening_at used b bs true digit = refl
 opening_at used b bs false true =
-    let e : b - ascii.digit_zero ≡ 10 * 0 + (b - ascii.digit_zero) = omega arith in
+    let e : b - ascii.digit_zero ≡ 0 * 10 + (b - ascii.digit_zero) = omega arith in
     index used (b - ascii.digit_zero) bs ∙ ap (λ n. behind used (index_behind n (digits_of bs) (behind_digits bs))) e
 opening_at used b bs false false = refl
 
@@ -94,7 +102,7 @@ digits_within (b ∷ bs) n h = later_within (is_digit b) b bs n (digits_within b
 
 index_within : (ds rest : List ℕ) (n : ℕ) → length rest ≤ n → IsWithin n (index_of ds rest)
 index_within [] rest n h = tt
-index_within (d ∷ ds) rest n h = within_cond (begins_with ascii.close_brace rest) (Argument (number_from 0 (d ∷ ds)) (drop 1 rest)) NoPiece n (drop_within rest n h) tt
+index_within (d ∷ ds) rest n h = within_cond (begins_with ascii.close_brace rest) (Argument (decimal (d ∷ ds)) (drop 1 rest)) NoPiece n (drop_within rest n h) tt
 
 piece_within : (b : ℕ) (bs : List ℕ) (n : ℕ) → length bs ≤ n → IsWithin n (piece_of (b ∷ bs))
 piece_within b bs n h =

@@ -4,6 +4,10 @@ use Rattle.al_base.specs.Ascii.{tab}
 use Rattle.al_formats.specs.Schedules.{is_too_often, schedule_of}
 use Rattle.al_formats.specs.declared.schedules.Item.{Item}
 
+-- the numbers from one to another, each so many further
+abbrev pub every : ℕ → ℕ → ℕ → Item
+every low high step = record { low = low; high = high; step = step }
+
 -- whether there are items of which this is true
 abbrev pub has_items : (List Item → Bool) → Option (List Item) → Bool
 has_items p None = false

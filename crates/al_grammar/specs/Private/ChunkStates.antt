@@ -6,12 +6,12 @@ use Rattle.al_base.specs.FirstBytes.{first_is}
 use Rattle.al_base.specs.declared.codes.ExpressionCode.TheVariants as code
 use Rattle.al_base.specs.declared.faults.Fault.{Fault}
 use Rattle.al_base.specs.declared.faults.Span.{Span}
-use Rattle.al_grammar.specs.Chunks.{Chunked, closes, is_quote, no_chunks, opens, then_chunk}
+use Rattle.al_grammar.specs.Chunks.{Chunked, closes, no_chunks, opens, then_chunk}
 use Rattle.al_grammar.specs.declared.chunk.ChunkState.{ChunkState}
 use Rattle.al_grammar.specs.declared.chunk.ChunkState.TheVariants.{Outside, Inside, Quoted}
 use Rattle.al_grammar.specs.declared.chunk.Move.{Move}
 use Rattle.al_grammar.specs.declared.chunk.Move.TheVariants.{On, End}
-use Rattle.al_grammar.specs.Tokens.{span}
+use Rattle.al_grammar.specs.Tokens.{is_quote, span}
 use Rattle.al_grammar.specs.Refusal.{fault}
 
 -- what is wrong at the text's end

@@ -1,6 +1,6 @@
 -- Where a text ends, byte by byte.
-use Rattle.std.specs.Prelude.{ℕ, List, [], ◌∷◌, Bool, true, false, nat_eq, Option, Some, None}
-use Rattle.al_grammar.specs.Tokens.{add_to}
+use Rattle.std.specs.Prelude.{ℕ, List, [], ◌∷◌, Bool, true, false, Option, Some, None}
+use Rattle.al_grammar.specs.Tokens.{add_to, is_quote}
 
 -- on from a byte of a text, after a quote or not, where the byte is a quote or not
 abbrev pub after_byte : Bool → Bool → (Bool → Option ℕ) → Option ℕ
@@ -12,4 +12,4 @@ after_byte true false go = Some 0
 abbrev pub tail_from : Bool → List ℕ → Option ℕ
 tail_from false [] = None
 tail_from true [] = Some 0
-tail_from quote (b ∷ bs) = after_byte quote (nat_eq b 39) (λ q. tail_from q bs)
+tail_from quote (b ∷ bs) = after_byte quote (is_quote b) (λ q. tail_from q bs)

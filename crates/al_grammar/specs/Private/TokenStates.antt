@@ -1,6 +1,8 @@
 -- Words of private contracts: how the code that reads tokens goes from byte to byte. What the tokens are, `Tokens` says; that the two
 -- agree, `proofs/Splitting`.
-use Rattle.std.specs.Prelude.{ℕ, zero, suc, ◌+◌, ◌-◌, List, [], ◌∷◌, ◌++◌, take}
+use Rattle.std.specs.Prelude.{◌<◌, ◌≤◌, ℕ, zero, suc, ◌+◌, ◌-◌, List, [], ◌∷◌, ◌++◌, length, slice_index, take}
+use Rattle.al_grammar.specs.declared.lexer.LexError.{LexError}
+use Rattle.al_grammar.specs.declared.lexer.LexError.TheVariants as error
 use Rattle.al_grammar.specs.declared.lexer.Read.{Read}
 use Rattle.al_grammar.specs.declared.lexer.Read.TheVariants.{Blank, Token, BadCharacter, OpenText}
 use Rattle.al_grammar.specs.Lexeme.{Lexeme, lexeme}
@@ -22,3 +24,14 @@ tokens_from zero at (b ∷ bs) = continue_with (read (b ∷ bs)) at (b ∷ bs) (
 abbrev pub behind : List Lexeme → Lexed → Lexed
 behind front (AllRead ts) = AllRead (front ++ ts)
 behind front other = other
+
+-- where tokens are not all read
+abbrev pub unread : LexError → Lexed
+unread (error.BadCharacter s) = Bad s
+unread error.OpenText = Unclosed
+
+-- A token has a byte and lies in these, and a character ends with it, as after a blank.
+abbrev pub Fits : List ℕ → Read → Type 0
+Fits bs Blank = slice_index bs 0 < 128
+Fits bs (Token k n) = (0 < n) × (n ≤ length bs) × (slice_index bs (n - 1) < 128)
+Fits bs _ = Unit {0}

@@ -31,3 +31,15 @@ less = token (kind.Infix operator.Less)
 
 abbrev pub less_equal : List ℕ → ℕ → Lexeme
 less_equal = token (kind.Infix operator.LessEqual)
+
+abbrev pub and : List ℕ → ℕ → Lexeme
+and = token (kind.Infix operator.And)
+
+abbrev pub or : List ℕ → ℕ → Lexeme
+or = token (kind.Infix operator.Or)
+
+abbrev pub equal : List ℕ → ℕ → Lexeme
+equal = token (kind.Infix operator.Equal)
+
+abbrev pub not_equal : List ℕ → ℕ → Lexeme
+not_equal = token (kind.Infix operator.NotEqual)

@@ -1,6 +1,6 @@
 use Rattle.std.proofs.Common.{◌≡◌, ◌∙◌, true, get_or, rules}
 use Rattle.std.specs.Char.{is_ascii_digit}
-use Rattle.al_formats.proofs.Pieces.{digits_step, number_step}
+use Rattle.al_formats.proofs.Numbers.{digits_step, number_step}
 use Rattle.al_formats.proofs.schedules.number.Goals as goal
 
 pub loop-byte-preserved : goal.loop-byte-preserved

@@ -34,3 +34,15 @@ returns-clause-bad_character c = refl
 
 pub returns-clause-open : goal.returns-clause-open
 returns-clause-open c = refl
+
+pub returns-clause-last_quote : goal.returns-clause-last_quote
+returns-clause-last_quote c = refl
+
+pub returns-clause-no_quote : goal.returns-clause-no_quote
+returns-clause-no_quote c = refl
+
+pub returns-clause-doubled_marks : goal.returns-clause-doubled_marks
+returns-clause-doubled_marks c = refl
+
+pub returns-clause-hexadecimal : goal.returns-clause-hexadecimal
+returns-clause-hexadecimal c = refl
