@@ -1,7 +1,7 @@
 -- What a list holds of which some elements give a number.
 use Rattle.std.proofs.Common.{◌≡◌, ℕ, zero, suc, ◌<◌, List, [], ◌∷◌, length, get_or, Option, Some, None, sym, ◌∙◌, ap, subst, refl, arith}
 use Rattle.std.specs.Prelude.{Contains}
-use Rattle.std.specs.List.{cons_option, filter_map}
+use Rattle.std.specs.List.{AllByRecursion, cons_option, filter_map}
 
 module _ {X : Type 0} (h : X → Option ℕ) where
   pub put_first : (o : Option ℕ) (k : ℕ) (rest : List ℕ) → o ≡ Some k → Contains (cons_option o rest) k
@@ -27,3 +27,8 @@ module _ {X : Type 0} (h : X → Option ℕ) where
   pub all_in_filter_map : (P : ℕ → Type 0) → ((x : X) (k : ℕ) → h x ≡ Some k → P k) → (xs : List X) (k : ℕ) → Contains (filter_map h xs) k → P k
   all_in_filter_map P f [] k c = absurd (let below : c.0 < 0 = c.1 in omega (arith, below))
   all_in_filter_map P f (x ∷ xs) k c = took P (h x) k (filter_map h xs) (f x) (all_in_filter_map P f xs k) c
+
+  -- what holds of each number that an element of the list gives
+  pub each_in_filter_map : (P : ℕ → Type 0) (xs : List X) → AllByRecursion (λ x. (k : ℕ) → h x ≡ Some k → P k) xs → (k : ℕ) → Contains (filter_map h xs) k → P k
+  each_in_filter_map P [] all k c = absurd (let below : c.0 < 0 = c.1 in omega (arith, below))
+  each_in_filter_map P (x ∷ xs) all k c = took P (h x) k (filter_map h xs) all.0 (each_in_filter_map P xs all.1 k) c

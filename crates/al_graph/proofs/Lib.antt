@@ -7,3 +7,4 @@ pub mod Orders
 pub mod SearchLemmas
 pub mod LabelLemmas
 pub mod BoundedWalks
+pub mod OneWay

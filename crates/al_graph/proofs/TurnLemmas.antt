@@ -115,7 +115,7 @@ turned_end graph other i e t =
     turned_all (edges_of graph) other (subst P (e ∙ sym len) t)
 
 -- a walk the other way round, and an edge before it
-before : (graph : List (List ℕ)) (i j k : ℕ) → Edge graph i j → Walk graph j k → Walk graph i k
+pub before : (graph : List (List ℕ)) (i j k : ℕ) → Edge graph i j → Walk graph j k → Walk graph i k
 before graph i j _ e here = onward i j here e
 before graph i j _ e (onward l m w f) = onward l m (before graph i j l e w) f
 

@@ -75,28 +75,29 @@ fn advance<'a>(
     Ok(())
 }
 
-/// Searches from a node, unless it was seen, until all that it leads to is finished.
-fn finish_from(
-    alloc: Global,
-    graph: &[Vec<usize>],
+/// Searches from a node, unless it was seen, until all that it leads to is finished. The list of frames is empty before and afterwards.
+fn finish_from<'a>(
+    graph: &'a [Vec<usize>],
     from: usize,
     seen: &mut Vec<bool>,
+    frames: &mut Vec<Frame<'a>>,
     order: &mut Vec<usize>,
 ) -> Result<(), AllocError>
     requires edges_in { (j k : ℕ) → Edge (edges_of graph.now) j k → k < length graph.now }
     requires from_in { from < length graph.now }
+    requires empty { frames.old.items ≡ [] }
     requires search { IsSearch (edges_of graph.now) seen.old.items [] order.old.items }
     ensures search { OnOk result (IsSearch (edges_of graph.now) seen.new.items [] order.new.items) }
     ensures kept { OnOk result ((k : ℕ) → Marked seen.old.items k → Marked seen.new.items k) }
     ensures from_seen { OnOk result (Marked seen.new.items from) }
+    ensures emptied { OnOk result (frames.new.items ≡ []) }
 {
     if seen[from] {
         return Ok(());
     }
-    let mut frames = Vec::new(alloc);
-    enter(graph, from, seen, &mut frames)?;
+    enter(graph, from, seen, frames)?;
     while let Some(frame) = frames.pop() {
-        advance(graph, frame, seen, &mut frames, order)?;
+        advance(graph, frame, seen, frames, order)?;
     }
     Ok(())
 }
@@ -109,9 +110,10 @@ pub(crate) fn finish_order(alloc: Global, graph: &[Vec<usize>]) -> Result<Vec<us
     ensures { IfOk result (λ order. IsFinished (edges_of graph.now) order.items) }
 {
     let mut seen = vec![in alloc; false; graph.len()]?;
-    let mut order = Vec::new(alloc);
+    let mut frames = Vec::new(alloc);
+    let mut order = Vec::with_capacity(alloc, graph.len())?;
     for node in 0..graph.len() {
-        finish_from(alloc, graph, node, &mut seen, &mut order)?;
+        finish_from(graph, node, &mut seen, &mut frames, &mut order)?;
     }
     Ok(order)
 }

@@ -61,27 +61,29 @@ fn label_next(
     label_nodes(graph[node].as_slice(), label, labels, waiting)
 }
 
-/// Labels the node at this place of the order, unless it has a label, and all that it leads to and that has none.
+/// Labels the node at this place of the order, unless it has a label, and all that it leads to and that has none. The list of nodes that
+/// wait is empty before and afterwards.
 fn label_from(
-    alloc: Global,
     graph: &[Vec<usize>],
     order: &[usize],
     at: usize,
     labels: &mut Vec<Option<usize>>,
+    waiting: &mut Vec<usize>,
 ) -> Result<(), AllocError>
     requires edges_in { (j k : ℕ) → Edge (edges_of graph.now) j k → k < length graph.now }
     requires order { IsBackward (edges_of graph.now) order.now }
     requires at_in { at < length order.now }
     requires labels { IsLabelling (edges_of graph.now) order.now labels.old.items (at + 1) [] }
-    ensures { OnOk result (IsLabelling (edges_of graph.now) order.now labels.new.items at []) }
+    requires empty { waiting.old.items ≡ [] }
+    ensures labels { OnOk result (IsLabelling (edges_of graph.now) order.now labels.new.items at []) }
+    ensures emptied { OnOk result (waiting.new.items ≡ []) }
 {
     if labels[order[at]].is_some() {
         return Ok(());
     }
-    let mut waiting = Vec::new(alloc);
-    label_node(order[at], at, labels, &mut waiting)?;
+    label_node(order[at], at, labels, waiting)?;
     while let Some(node) = waiting.pop() {
-        label_next(graph, node, at, labels, &mut waiting)?;
+        label_next(graph, node, at, labels, waiting)?;
     }
     Ok(())
 }
@@ -97,10 +99,11 @@ fn label_all(
     ensures { IfOk result (λ labels. IsLabelling (edges_of graph.now) order.now labels.items 0 []) }
 {
     let mut labels = vec![in alloc; None; graph.len()]?;
+    let mut waiting = Vec::new(alloc);
     let mut left = order.len();
     while left > 0 {
         left -= 1;
-        label_from(alloc, graph, order, left, &mut labels)?;
+        label_from(graph, order, left, &mut labels, &mut waiting)?;
     }
     Ok(labels)
 }

@@ -1,7 +1,8 @@
-use Rattle.std.proofs.Common.{◌≡◌, ◌∙◌, ap, [], false, length, get_or, arith}
+use Rattle.std.proofs.Common.{rules, ◌≡◌, ◌∙◌, ap, [], false, length, get_or, arith}
 use Rattle.std.proofs.lemmas.List.{length-map}
 use Rattle.al_graph.specs.Graphs.{edges_of}
 use Rattle.al_graph.specs.Private.Finishing.{frames_of}
+use Rattle.al_graph.proofs.Lists.{nothing}
 use Rattle.al_graph.proofs.Orders.{read_at}
 use Rattle.al_graph.proofs.SearchLemmas.{step_start}
 use Rattle.al_graph.proofs.finishing.finish_from.Goals as goal
@@ -13,8 +14,11 @@ loop-frame-init c =
     let below = c.requires.from_in in
     let fresh : get_or c.args.seen.now.items c.args.from false ≡ false = read_at c.args.seen.now.items c.args.from c.index.result.now false
     (omega (arith, below, size, nodes)) c.index.ensures ∙ c.if-index.false in
-    let none : frames_of c.new-frames.result.items ≡ [] = ap frames_of c.new-frames.ensures.items in
-    let s = step_start (edges_of c.args.graph.now) c.args.seen.now.items c.enter.new.seen.items (frames_of c.new-frames.result.items)
+    let none : frames_of c.args.frames.now.items ≡ [] = ap frames_of c.requires.empty in
+    let s = step_start (edges_of c.args.graph.now) c.args.seen.now.items c.enter.new.seen.items (frames_of c.args.frames.now.items)
     (frames_of c.enter.new.frames.items) c.args.order.now.items c.args.from
     (omega (arith, below, nodes)) fresh c.in_ok-enter.ensures.seen none c.in_ok-enter.ensures.frames c.requires.search in
     record { search = s.0; kept = s.1; from_seen = s.2 }
+
+pub returns-clause-emptied : goal.returns-clause-emptied
+returns-clause-emptied c = nothing c.pop.new.self.items (search rules)

@@ -2,6 +2,7 @@ use Rattle.std.proofs.Common.{rules, ◌≡◌, ◌<◌, None, is_some, true, ge
 use Rattle.std.proofs.lemmas.List.{length-map}
 use Rattle.std.proofs.lemmas.List.Elements.{Contains-get_or}
 use Rattle.al_graph.specs.Graphs.{edges_of}
+use Rattle.al_graph.proofs.Lists.{nothing}
 use Rattle.al_graph.proofs.Orders.{read_at}
 use Rattle.al_graph.proofs.LabelLemmas.{labelling_next, labelling_start, no_waiting, skipped, node_inside}
 use Rattle.al_graph.proofs.labelling.label_from.Goals as goal
@@ -12,8 +13,8 @@ index-requires c =
     let size = c.requires.labels.size in
     omega (arith, below, size)
 
-pub returns-then-is_some : goal.returns-then-is_some
-returns-then-is_some c =
+pub returns-then-is_some-clause-labels : goal.returns-then-is_some-clause-labels
+returns-then-is_some-clause-labels c =
     let below = c.requires.order.inside (get_or c.args.order.now c.args.at 0) (Contains-get_or c.args.order.now c.args.at 0 c.requires.at_in) in
     let size = c.requires.labels.size in
     let some : is_some c.index.result.now ≡ true = search rules in
@@ -29,8 +30,8 @@ label_node-requires c =
 pub loop-node-init : goal.loop-node-init
 loop-node-init c =
     labelling_start (edges_of c.args.graph.now) c.args.order.now c.args.labels.now.items c.label_node.new.labels.items c.args.at
-    (get_or c.args.order.now c.args.at 0) c.new-waiting.result.items c.label_node.new.waiting.items
-    c.requires.at_in refl c.new-waiting.ensures.items c.requires.labels c.in_ok-label_node.ensures
+    (get_or c.args.order.now c.args.at 0) c.args.waiting.now.items c.label_node.new.waiting.items
+    c.requires.at_in refl c.requires.empty c.requires.labels c.in_ok-label_node.ensures
 
 pub label_next-requires-clause-node_in : goal.label_next-requires-clause-node_in
 label_next-requires-clause-node_in c =
@@ -52,7 +53,10 @@ loop-node-preserved c =
     c.in-Some.node c.loop-node.waiting.items _ c.label_next.new.waiting.items
     (λ j k e. let below = c.requires.edges_in j k e in omega (arith, below, nodes)) c.requires.order c.requires.at_in c.in-Some.ensures.items c.loop-node.invariant c.in_ok-label_next.ensures
 
-pub returns : goal.returns
-returns c =
+pub returns-clause-emptied : goal.returns-clause-emptied
+returns-clause-emptied c = nothing c.pop.new.self.items (search rules)
+
+pub returns-clause-labels : goal.returns-clause-labels
+returns-clause-labels c =
     let none : length c.loop-node.waiting.items ≡ 0 = search rules in
     no_waiting (edges_of c.args.graph.now) c.args.order.now c.loop-node.labels.items c.args.at c.loop-node.waiting.items none c.loop-node.invariant
