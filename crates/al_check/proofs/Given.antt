@@ -1,5 +1,5 @@
 -- What reading a file gave tells what it calls and what it shows.
-use Rattle.std.proofs.Common.{◌≡◌, ◌<◌, ℕ, List, [], ◌∷◌, ◌++◌, length, map, get_or, Some, slice_get, ap, sym, subst, arith, ◌∙◌}
+use Rattle.std.proofs.Common.{◌≡◌, ◌<◌, ℕ, List, [], ◌∷◌, ◌++◌, length, map, get_or, Some, absurd, refl, slice_get, ap, sym, subst, arith, ◌∙◌}
 use Rattle.std.specs.Prelude.{Result, Ok, Err, IsUtf8}
 use Rattle.std.specs.List.{AllByRecursion, cons_option}
 use Rattle.std.specs.Option.{option_map}
@@ -38,6 +38,17 @@ targets_called file kind bytes is = targets_are kind bytes file.tree is.given
 
 pub interface_shown : (file : ReadFile) (kind : FileKind) (bytes : List ℕ) → IsRead file kind bytes → shown_by file ≡ file_interface kind bytes
 interface_shown file kind bytes is = interface_is kind bytes file.tree is.given
+
+-- a file of which no call is kept calls nothing
+nothing : {X : Type 0} (xs : List X) → length xs ≡ 0 → xs ≡ []
+nothing [] h = refl
+nothing (x ∷ xs) h = absurd (omega (arith, h))
+
+pub none_called : (file : ReadFile) (kind : FileKind) (bytes : List ℕ) → IsRead file kind bytes → length file.calls.items ≡ 0 → [] ≡ file_targets kind bytes
+none_called file kind bytes is none =
+    let kept : length (map kept_site file.calls.items) ≡ length (file_sites kind bytes) = ap length is.sites in
+    let all : length (map kept_site file.calls.items) ≡ length file.calls.items = length-map file.calls.items kept_site in
+    sym (nothing (file_targets kind bytes) (sym (each_sited kind bytes) ∙ sym kept ∙ all ∙ none))
 
 -- the texts of calls
 all_mapped : {X Y : Type 0} (f : X → Y) (P Q : Y → Type 0) → ((y : Y) → P y → Q y) → (xs : List X) → AllByRecursion P (map f xs) → AllByRecursion (λ x. Q (f x)) xs

@@ -1,5 +1,5 @@
 //! Files as they are read, and the faults of each.
-ghost use Rattle.std.specs.Prelude.{◌≡◌, ◌≤◌, ◌++◌, [], ◌∷◌, length, map, IfOk, OnOk, IsUtf8};
+ghost use Rattle.std.specs.Prelude.{◌≡◌, ◌≤◌, ◌++◌, [], ◌∷◌, ℕ, List, length, map, IfOk, OnOk, IsUtf8};
 ghost use Rattle.std.specs.List.{AllByRecursion, cons_option};
 ghost use Rattle.std.specs.Option.{option_copied};
 ghost use Rattle.al_shape.specs.Faults.{root_faults};
@@ -20,7 +20,9 @@ ghost use Rattle.al_folder.specs.declared.lint.Target.{Target};
 ghost use Rattle.al_check.specs.Sites as sites;
 ghost use Rattle.al_file_calls.specs.FileCalls as calls;
 ghost use Rattle.al_check.specs.FileFaults as faults;
-ghost use Rattle.al_check.specs.Calling.{shown_by, targets_of};
+ghost use Rattle.al_check.specs.Calling as calling;
+ghost use Rattle.al_check.specs.Calling.{shown_by};
+ghost use Rattle.al_tree.specs.declared.files.FileKind.{FileKind};
 ghost use Rattle.al_check.specs.Reading.{IsRead, own_faults};
 ghost use Rattle.al_check.specs.RuleFaults.{rule_faults};
 
@@ -269,10 +271,14 @@ fn tree_targets(alloc: Global, tree: &Tree) -> Result<Vec<Target>, AllocError>
     targets(alloc, calls.as_slice())
 }
 
-/// The files of the folder that a file calls, in order.
+/// The files of the folder that a file calls, in order. Most files call none, which is known since they were read.
 pub(crate) fn file_targets(alloc: Global, file: &ReadFile) -> Result<Vec<Target>, AllocError>
-    ensures { IfOk result (λ found. found.items ≡ targets_of file.now) }
+    ensures { (kind : FileKind) (bytes : List ℕ) → IsRead file.now kind bytes
+        → IfOk result (λ found. found.items ≡ calling.file_targets kind bytes) }
 {
+    if file.calls.is_empty() {
+        return Ok(Vec::new(alloc));
+    }
     match &file.tree {
         Err(_) => Ok(Vec::new(alloc)),
         Ok(tree) => tree_targets(alloc, tree),

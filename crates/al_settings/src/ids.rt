@@ -58,15 +58,8 @@ fn check_repeated(
 {
     let mut seen = KeySet::new(alloc);
     for id in ids {
-        let text = id.text.as_slice();
-        report_unless(
-            alloc,
-            !seen.contains(text),
-            RuleCode::RepeatedId,
-            id.id,
-            out,
-        )?;
-        seen.insert(text)?;
+        let is_new = seen.insert_new(id.text.as_slice())?;
+        report_unless(alloc, is_new, RuleCode::RepeatedId, id.id, out)?;
     }
     Ok(())
 }

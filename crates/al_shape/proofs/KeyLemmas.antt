@@ -6,6 +6,7 @@ use Rattle.std.specs.Ordering.{nat_cmp, is_eq}
 use Rattle.std.specs.Cmp.{nat_eq_equiv, partial_equiv_from_equiv, IsPartialEquivalence}
 use Rattle.std.specs.Cmp.Lexicographic.{slice_cmp, lists_per}
 use Rattle.std.proofs.lemmas.Map.Text.{is_eq-slice_cmp}
+use Rattle.std.proofs.lemmas.Slice.Eq.{bytes_eq-Decides}
 use Rattle.al_shape.specs.Names.{among}
 use Rattle.std.specs.BTreeSet.{Updates, contains_by}
 use Rattle.std.proofs.lemmas.List.{map-append}
@@ -78,3 +79,23 @@ inserted old new key few count u = λ i text.
     (u.0 (record key { now = text }) ∙ added_at key.now text (contains_by (λ k. slice_cmp nat_cmp text k.now) old.more))
     ∙ sym (or_assoc (among (map (λ k. k.now) (take old.count old.few)) text) (contains_by (λ k. slice_cmp nat_cmp text k.now) old.more)
     (bytes_eq text key.now))) i
+
+-- where a key stands
+pub first_held : (s : KeySet) (key : List ℕ) → true ≡ among (map (λ k. k.now) (take s.count s.few)) key → true ≡ holds s key
+unfolding holds
+first_held s key few = ap (λ b. b || contains_by (λ k. slice_cmp nat_cmp key k.now) s.more) few
+
+pub behind_first : (s : KeySet) (key : List ℕ) → false ≡ among (map (λ k. k.now) (take s.count s.few)) key
+    → contains_by (λ k. slice_cmp nat_cmp key k.now) s.more ≡ holds s key
+unfolding holds
+behind_first s key few = ap (λ b. b || contains_by (λ k. slice_cmp nat_cmp key k.now) s.more) few
+
+held_at : (seen same : Bool) → (same ≡ true → seen ≡ true) → seen ≡ (seen || same)
+held_at true same h = refl
+held_at false true h = h refl
+held_at false false h = refl
+
+-- a key that is there
+pub held : (s : KeySet) (key : List ℕ) → true ≡ holds s key → holds s ≡ and_text (holds s) key
+held s key there = λ i text.
+    held_at (holds s text) (bytes_eq text key) (λ same. ap (holds s) ((bytes_eq-Decides text key).0 same) ∙ sym there) i

@@ -1,5 +1,5 @@
 -- Tests of mapped lists, what holds of the first entries of each key, and lists up to an item and behind it.
-use Rattle.std.specs.Prelude.{ℕ, Bool, List, [], ◌∷◌, ◌++◌, ◌+◌, ◌<◌, length}
+use Rattle.std.specs.Prelude.{ℕ, Bool, true, false, not, List, [], ◌∷◌, ◌++◌, ◌+◌, ◌<◌, length}
 use Rattle.std.proofs.Common.{◌≡◌, refl, ap, map, ◌||◌, cond, add-one, drop, drop-cons, get_or, sym, take, ◌∙◌}
 use Rattle.std.proofs.lemmas.List.{flat_map_more, map-append, map_more}
 use Rattle.std.specs.List.{AllByRecursion, flat_map, list_any}
@@ -10,6 +10,10 @@ use Rattle.al_yaml.specs.declared.node.Entry.{Entry}
 use Rattle.al_shape.specs.Keys.{key_of, keys_in}
 use Rattle.al_shape.specs.Names.{among}
 use Rattle.al_shape.specs.Values.{firsts}
+
+pub not_not : (b : Bool) → not (not b) ≡ b
+not_not true = refl
+not_not false = refl
 
 pub list_any_map : {X Y : Type 0} (p : Y → Bool) (f : X → Y) (xs : List X) → list_any p (map f xs) ≡ list_any (λ x. p (f x)) xs
 list_any_map p f [] = refl

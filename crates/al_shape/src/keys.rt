@@ -3,7 +3,7 @@
 ghost use Rattle.al_shape.specs.Keys.{and_text, holds, key_of as key_in, key_text as text_in, keys_in};
 ghost use Rattle.al_shape.specs.Names.{among};
 ghost use Rattle.al_yaml.specs.View.{entry_view, view};
-ghost use Rattle.std.specs.Prelude.{◌≡◌, [], ◌||◌, map, take, IfOk, OnErr, OnOk};
+ghost use Rattle.std.specs.Prelude.{◌≡◌, [], ◌||◌, map, not, take, IfOk, OnErr, OnOk};
 
 use al_yaml::{Entry, Node};
 use std::alloc::{AllocError, Global};
@@ -78,6 +78,25 @@ impl<'a> KeySet<'a> {
             self.more.insert(key)?;
         }
         Ok(())
+    }
+
+    /// Adds a key and answers whether it is new, for about the time of looking it up. Fails with `AllocError` for want of memory; the set
+    /// is then as before.
+    pub fn insert_new(&mut self, key: &'a [u8]) -> Result<bool, AllocError>
+        ensures set { OnOk result (holds self.new ≡ and_text (holds self.old) key.now) }
+        ensures is_new { IfOk result (λ b. b ≡ not (holds self.old key.now)) }
+        ensures as_before { OnErr result (holds self.new ≡ holds self.old) }
+    {
+        if self.count < FEW {
+            let is_new = !self.contains(key);
+            self.insert(key)?;
+            return Ok(is_new);
+        }
+        if is_one_of(key, self.first_keys()) {
+            return Ok(false);
+        }
+        let added = self.more.insert(key)?;
+        Ok(added)
     }
 
     /// The first keys.

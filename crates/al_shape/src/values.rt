@@ -178,11 +178,10 @@ fn first_members(alloc: Global, entries: &[Entry]) -> Result<Vec<Member<'_>>, Al
     let mut seen = KeySet::new(alloc);
     let mut firsts = Vec::new(alloc);
     for entry in entries {
-        let key = key_of(entry);
-        if !seen.contains(key) {
+        let is_new = seen.insert_new(key_of(entry))?;
+        if is_new {
             firsts.push(as_member(entry))?;
         }
-        seen.insert(key)?;
     }
     Ok(firsts)
 }
