@@ -1,5 +1,6 @@
 -- What reading a file gave tells what it calls and what it shows.
-use Rattle.std.proofs.Common.{◌≡◌, ◌<◌, ℕ, List, [], ◌∷◌, ◌++◌, length, map, get_or, Some, absurd, refl, slice_get, ap, sym, subst, arith, ◌∙◌}
+use Rattle.std.proofs.Common.{◌≡◌, ◌<◌, ℕ, List, [], ◌∷◌, ◌++◌, length, map, get_or, Some, refl, slice_get, ap, sym, subst, arith, ◌∙◌, true, zero, suc, ◌==◌}
+use Rattle.std.proofs.lemmas.Bool.Decides.{nat_tests}
 use Rattle.std.specs.Prelude.{Result, Ok, Err, IsUtf8}
 use Rattle.std.specs.List.{AllByRecursion, cons_option}
 use Rattle.std.specs.Option.{option_map}
@@ -43,6 +44,13 @@ interface_shown file kind bytes is = interface_is kind bytes file.tree is.given
 nothing : {X : Type 0} (xs : List X) → length xs ≡ 0 → xs ≡ []
 nothing [] h = refl
 nothing (x ∷ xs) h = absurd (omega (arith, h))
+
+pub is_none : (n : ℕ) → true ≡ (n == 0) → n ≡ 0
+is_none zero h = refl
+is_none (suc n) h = absurd (never n h)
+  where
+    never : (n : ℕ) → true ≡ (suc n == 0) → ⊥
+    never n h = grind (arith, nat_tests)
 
 pub none_called : (file : ReadFile) (kind : FileKind) (bytes : List ℕ) → IsRead file kind bytes → length file.calls.items ≡ 0 → [] ≡ file_targets kind bytes
 none_called file kind bytes is none =
