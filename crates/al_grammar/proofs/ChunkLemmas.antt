@@ -13,8 +13,9 @@ use Rattle.al_grammar.specs.Tokens.{add_to, is_quote, last_quote, span}
 use Rattle.al_grammar.specs.Chunks.{Chunked, opens, closes, is_outside_quotes, before_opening, before_closing, no_chunks}
 use Rattle.al_grammar.specs.Chunks.{then_chunk, open_fault, with_content, with_opening, chunks_within, chunks_of}
 use Rattle.al_grammar.specs.Refusal.{open_text}
-use Rattle.al_grammar.specs.Private.ChunkStates.{chunks_from, end_fault, moved}
+use Rattle.al_grammar.specs.Private.ChunkStates.{before_closing_on, chunks_from, end_fault, moved}
 use Rattle.al_grammar.proofs.Chunking.{skipped, third_is}
+use Rattle.al_grammar.proofs.Closings.{closing_is}
 use Rattle.al_grammar.proofs.LastQuote.{last_next}
 
 -- the same bytes from the same place
@@ -109,19 +110,19 @@ two (a ∷ []) h = absurd (grind arith)
 two (a ∷ b ∷ bs) h = omega arith
 
 goes_later : (b start : ℕ) (bs front : List ℕ) → (is_outside_quotes front && closes (b ∷ bs)) ≡ false
-    → closed start (front ++ b ∷ []) bs (before_closing (front ++ b ∷ []) bs) ≡ closed start front (b ∷ bs) (before_closing front (b ∷ bs))
+    → closed start (front ++ b ∷ []) bs (before_closing_on (front ++ b ∷ []) bs) ≡ closed start front (b ∷ bs) (before_closing_on front (b ∷ bs))
 goes_later b start bs front h =
-    closed_later start b front bs (before_closing (front ++ b ∷ []) bs)
-    ∙ sym (ap (λ t. closed start front (b ∷ bs) (cond t (Some 0) (option_map suc (before_closing (front ++ b ∷ []) bs)))) h)
+    closed_later start b front bs (before_closing_on (front ++ b ∷ []) bs)
+    ∙ sym (ap (λ t. closed start front (b ∷ bs) (cond t (Some 0) (option_map suc (before_closing_on (front ++ b ∷ []) bs)))) h)
 
 -- what holds of the bytes that are left of a content, outside quotes and in them
 abbrev IsReadOutside : List ℕ → Type 0
 IsReadOutside bs = (front : List ℕ) (start at : ℕ) → at ≡ start + length front → is_outside_quotes front ≡ true
-    → chunks_from 0 (Inside start) at bs ≡ closed start front bs (before_closing front bs)
+    → chunks_from 0 (Inside start) at bs ≡ closed start front bs (before_closing_on front bs)
 
 abbrev IsReadInside : List ℕ → Type 0
 IsReadInside bs = (front : List ℕ) (start quote at : ℕ) → at ≡ start + length front → is_outside_quotes front ≡ false → last_at start front ≡ Some quote
-    → chunks_from 0 (Quoted start quote) at bs ≡ closed start front bs (before_closing front bs)
+    → chunks_from 0 (Quoted start quote) at bs ≡ closed start front bs (before_closing_on front bs)
 
 one_more : (front : List ℕ) (b start at : ℕ) → at ≡ start + length front → at + 1 ≡ start + length (front ++ b ∷ [])
 one_more front b start at e = let l = length-append front (b ∷ []) in omega (arith, l)
@@ -138,7 +139,7 @@ is_shut front bs b shut o s = ap (λ t. t && closes (b ∷ bs)) o ∙ s
 outside_at : (b : ℕ) (bs front : List ℕ) (start at : ℕ) (here shut : Bool) → is_quote b ≡ here → closes (b ∷ bs) ≡ shut → at ≡ start + length front
     → is_outside_quotes front ≡ true → IsReadOutside bs → IsReadInside bs
     → moved (cond here (On 0 (Quoted start at)) (cond shut (End start) (On 0 (Inside start)))) at (λ skip w. chunks_from skip w (at + 1) bs)
-    ≡ closed start front (b ∷ bs) (before_closing front (b ∷ bs))
+    ≡ closed start front (b ∷ bs) (before_closing_on front (b ∷ bs))
 outside_at b bs front start at true shut q s e o f g =
     g (front ++ b ∷ []) start at (at + 1) (one_more front b start at e) (quotes_are front b true true q o) (last_is front b start true q ∙ ap Some (sym e))
     ∙ goes_later b start bs front (is_shut front bs b false o (no_closing b bs q))
@@ -150,7 +151,7 @@ outside_at b bs front start at false true q s e o f g =
     ap (then_chunk (span start at))
     (skipped 1 (at + 1) Outside bs one_more ∙ placed Outside (at + 1 + 1) (start + length front + 0 + 2) (drop 1 bs) (drop 1 bs) behind refl)
     ∙ ap (λ a. then_chunk (span start a) (chunks_from 0 Outside (start + length front + 0 + 2) (drop 1 bs))) here
-    ∙ sym (ap (λ t. closed start front (b ∷ bs) (cond t (Some 0) (option_map suc (before_closing (front ++ b ∷ []) bs)))) (is_shut front bs b true o s))
+    ∙ sym (ap (λ t. closed start front (b ∷ bs) (cond t (Some 0) (option_map suc (before_closing_on (front ++ b ∷ []) bs)))) (is_shut front bs b true o s))
 outside_at b bs front start at false false q s e o f g =
     f (front ++ b ∷ []) start (at + 1) (one_more front b start at e) (quotes_are front b false true q o)
     ∙ goes_later b start bs front (is_shut front bs b false o s)
@@ -158,7 +159,7 @@ outside_at b bs front start at false false q s e o f g =
 inside_quotes : (b : ℕ) (bs front : List ℕ) (start quote at : ℕ) (here : Bool) → is_quote b ≡ here → at ≡ start + length front → is_outside_quotes front ≡ false
     → last_at start front ≡ Some quote → IsReadOutside bs → IsReadInside bs
     → moved (cond here (On 0 (Inside start)) (On 0 (Quoted start quote))) at (λ skip w. chunks_from skip w (at + 1) bs)
-    ≡ closed start front (b ∷ bs) (before_closing front (b ∷ bs))
+    ≡ closed start front (b ∷ bs) (before_closing_on front (b ∷ bs))
 inside_quotes b bs front start quote at true q e o l f g =
     f (front ++ b ∷ []) start (at + 1) (one_more front b start at e) (quotes_are front b true false q o)
     ∙ goes_later b start bs front (ap (λ t. t && closes (b ∷ bs)) o)
@@ -204,7 +205,8 @@ from_opening n at bs (Some before) h f =
     let here : at + before + 3 ≡ at + before + 3 + 0 = omega arith in
     let shorter : length (drop (before + 3) bs) ≤ suc n = omega (arith, d) in
     (all_read (drop (before + 3) bs)).0 [] (at + before + 3) (at + before + 3) here refl
-    ∙ from_content n (at + before + 3) (drop (before + 3) bs) (before_closing [] (drop (before + 3) bs)) shorter f
+    ∙ ap (closed (at + before + 3) [] (drop (before + 3) bs)) (closing_is (drop (before + 3) bs))
+    ∙ from_content n (at + before + 3) (drop (before + 3) bs) (before_closing (drop (before + 3) bs)) shorter f
 
 within : (n : ℕ) → AreWithin n
 within zero at [] h = refl

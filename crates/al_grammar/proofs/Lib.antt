@@ -17,4 +17,5 @@ pub mod Reading
 pub mod Splitting
 pub mod Inside
 pub mod LastQuote
+pub mod Closings
 pub mod ChunkLemmas

@@ -3,8 +3,9 @@
 -- A text splits into what stands before its first `${{`, that opening, a content, the closing `}}` and the rest, whose chunks follow. The
 -- closing is the first `}}` outside quotes: an even number of single quotes stands in the content before it. So at most one splitting is
 -- right, and the chunks are the only ones.
-use Rattle.std.specs.Prelude.{◌≡◌, ℕ, zero, suc, ◌+◌, ◌-◌, List, [], ◌∷◌, ◌++◌, Bool, true, ◌&&◌, not, if◌then◌else◌, length}
-use Rattle.std.specs.Prelude.{drop, slice_range, Option, Some, None, option_map}
+use Rattle.std.specs.Prelude.{◌≡◌, ℕ, zero, suc, ◌+◌, ◌-◌, List, [], ◌∷◌, Bool, true, ◌&&◌, not, if◌then◌else◌, length}
+use Rattle.std.specs.Prelude.{drop, find, slice_range, take, Option, Some, None, option_map}
+use Rattle.std.specs.List.{range_with_len}
 use Rattle.al_base.specs.Ascii as ascii
 use Rattle.al_base.specs.FirstBytes.{begins_with}
 use Rattle.al_base.specs.declared.codes.ExpressionCode.TheVariants as code
@@ -37,12 +38,13 @@ abbrev pub before_opening : List ℕ → Option ℕ
 before_opening [] = None
 before_opening (b ∷ bs) = let later = option_map suc (before_opening bs) in if opens (b ∷ bs) then Some 0 else later
 
--- How many bytes of a content stand before the first `}}` outside quotes, behind those of it that come first.
-abbrev pub before_closing : List ℕ → List ℕ → Option ℕ
-before_closing front [] = None
-before_closing front (b ∷ bs) =
-    let later = option_map suc (before_closing (front ++ b ∷ []) bs) in
-    if is_outside_quotes front && closes (b ∷ bs) then Some 0 else later
+-- a `}}` outside quotes stands behind so many bytes of a content
+abbrev pub closes_behind : List ℕ → ℕ → Bool
+closes_behind bs n = is_outside_quotes (take n bs) && closes (drop n bs)
+
+-- how many bytes stand before the first one
+abbrev pub before_closing : List ℕ → Option ℕ
+before_closing bs = find (closes_behind bs) (range_with_len 0 (length bs))
 
 abbrev pub no_chunks : Option Fault → Chunked
 no_chunks f = record { chunks = []; fault = f }
@@ -66,7 +68,7 @@ with_content rest start bs (Some len) = then_chunk (span start (start + len)) (r
 abbrev pub with_opening : (ℕ → List ℕ → Chunked) → ℕ → List ℕ → Option ℕ → Chunked
 with_opening rest at bs None = no_chunks None
 with_opening rest at bs (Some before) =
-    with_content rest (at + before + 3) (drop (before + 3) bs) (before_closing [] (drop (before + 3) bs))
+    with_content rest (at + before + 3) (drop (before + 3) bs) (before_closing (drop (before + 3) bs))
 
 -- the chunks of a text whose first byte stands at this place: at most so many
 abbrev pub chunks_within : ℕ → ℕ → List ℕ → Chunked

@@ -1,18 +1,26 @@
 -- Words of private contracts: the states of the code that reads the chunks of a text. What chunks are, `Chunks` says; that the two agree,
 -- `proofs/ChunkLemmas`.
 use Rattle.std.specs.Prelude.{◌≤◌, ◌<◌, ℕ, zero, suc, ◌+◌, ◌-◌, ◌^◌, List, [], ◌∷◌, ◌++◌, if◌then◌else◌, Option, Some, None}
+use Rattle.std.specs.Prelude.{option_map, ◌&&◌}
 use Rattle.std.specs.Str.{IsCharBoundary}
 use Rattle.al_base.specs.FirstBytes.{first_is}
 use Rattle.al_base.specs.declared.codes.ExpressionCode.TheVariants as code
 use Rattle.al_base.specs.declared.faults.Fault.{Fault}
 use Rattle.al_base.specs.declared.faults.Span.{Span}
-use Rattle.al_grammar.specs.Chunks.{Chunked, closes, no_chunks, opens, then_chunk}
+use Rattle.al_grammar.specs.Chunks.{Chunked, closes, is_outside_quotes, no_chunks, opens, then_chunk}
 use Rattle.al_grammar.specs.declared.chunk.ChunkState.{ChunkState}
 use Rattle.al_grammar.specs.declared.chunk.ChunkState.TheVariants.{Outside, Inside, Quoted}
 use Rattle.al_grammar.specs.declared.chunk.Move.{Move}
 use Rattle.al_grammar.specs.declared.chunk.Move.TheVariants.{On, End}
 use Rattle.al_grammar.specs.Tokens.{is_quote, span}
 use Rattle.al_grammar.specs.Refusal.{fault}
+
+-- How many bytes of a content stand before the first `}}` outside quotes, behind those of it that come first.
+abbrev pub before_closing_on : List ℕ → List ℕ → Option ℕ
+before_closing_on front [] = None
+before_closing_on front (b ∷ bs) =
+    let later = option_map suc (before_closing_on (front ++ b ∷ []) bs) in
+    if is_outside_quotes front && closes (b ∷ bs) then Some 0 else later
 
 -- what is wrong at the text's end
 abbrev pub end_fault : ChunkState → Option Fault
