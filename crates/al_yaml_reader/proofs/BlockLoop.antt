@@ -47,7 +47,7 @@ blocks-length bytes (f ∷ fs) = ap suc (blocks-length bytes fs)
 -- the collections that are open begin in the file, behind an offset
 abbrev pub AreAround : ℕ → ℕ → List BlockFrame → Type 0
 AreAround size low [] = Unit {0}
-AreAround size low (f ∷ fs) = (f.start.at ≤ size) × AreAround size low fs
+AreAround size low (f ∷ fs) = (f.begun.start.at ≤ size) × AreAround size low fs
 
 abbrev pub IsBlockTask : List ℕ → ℕ → List BlockFrame → BlockTask → Type 0
 IsBlockTask bytes low stack (task.Node s p anchor) = AreAround (length bytes) low stack × (low ≤ p.at) × IsNodeAt bytes s p.column p.at
@@ -106,7 +106,7 @@ pub enters-keeps : (bytes : List ℕ) (whole : Answer (Part Node)) (stack : List
     → d ≡ 1 + length (map (block_frame_of bytes) stack) + 1
     → InBlock bytes 1 whole (map (block_frame_of bytes) stack) n start.at start.column (mark_of bytes anchor) (block_open_of bytes has) at → at ≤ length bytes
     → ((b u : ℕ) → EntersWith bytes b u d start.at start.column (block_rest (suc u) b d start.at start.column (block_open_of bytes has) (lines_at bytes at)) n w t m) → IsFoundFrom bytes (suc at) t
-    → BlockKeeps bytes whole (record { start = start; anchor = anchor; waiting = w } ∷ stack) m t
+    → BlockKeeps bytes whole (record { begun = record { start = start; anchor = anchor }; waiting = w } ∷ stack) m t
 enters-keeps bytes whole stack n m start anchor has at d w (task.Node s p own) deep k here h f =
     block-node bytes 1 whole (map (block_frame_of bytes) stack) n start.at start.column (mark_of bytes anchor)
     (block_open_of bytes has) at d deep k here m (block_waiting_of bytes w) (slot_of s) p.column p.at own (h 0 0).0 (λ b u. (h b u).1)
@@ -119,7 +119,7 @@ enters-keeps bytes whole stack n m start anchor has at d w (task.Inside s a e i)
 
 pub enters-nested : (bytes : List ℕ) (low : ℕ) (stack : List BlockFrame) (start : Cursor) (anchor : Option ℕ) (at : ℕ) (w : BlockWaiting)
     (t : BlockTask) → AreAround (length bytes) low stack → start.at ≤ length bytes → low ≤ at → IsFoundFrom bytes (suc at) t
-    → IsBlockTask bytes low (record { start = start; anchor = anchor; waiting = w } ∷ stack) t
+    → IsBlockTask bytes low (record { begun = record { start = start; anchor = anchor }; waiting = w } ∷ stack) t
 enters-nested bytes low stack start anchor at w (task.Node s p own) a b l f = ((b, a), omega (arith, l, f.1), f.0)
 enters-nested bytes low stack start anchor at w (task.Found r) a b l f = ((b, a), behind-wider bytes (suc at) low r.part (omega (arith, l)) f.0, f.1)
 enters-nested bytes low stack start anchor at w (task.Read p) a b l f = absurd f
@@ -176,7 +176,7 @@ pub unread-stops : (bytes : List ℕ) (whole : Answer (Part Node)) (stack : List
     → whole ≡ Err f
 unread-stops bytes whole [] n p f k some h = absurd (some refl)
 unread-stops bytes whole (g ∷ gs) n p f k some h =
-    block_waits-fault bytes 1 whole (map (block_frame_of bytes) gs) n g.start.at g.start.column (mark_of bytes g.anchor)
+    block_waits-fault bytes 1 whole (map (block_frame_of bytes) gs) n g.begun.start.at g.begun.start.column (mark_of bytes g.begun.anchor)
     (block_waiting_of bytes g.waiting) p (1 + length (map (block_frame_of bytes) gs) + 1) refl
     (node-pops bytes 1 whole n p (block_frame_of bytes g) (map (block_frame_of bytes) gs) k) f
-    (λ b t _. unread b t (1 + length (map (block_frame_of bytes) gs) + 1) g.start.at g.start.column n (block_waiting_of bytes g.waiting) (part_of bytes p) f h)
+    (λ b t _. unread b t (1 + length (map (block_frame_of bytes) gs) + 1) g.begun.start.at g.begun.start.column n (block_waiting_of bytes g.waiting) (part_of bytes p) f h)

@@ -133,6 +133,15 @@ pub right-bracket : (cs : List Cell) → true ≡ is_flow_start cs → None ≡ 
 right-bracket [] h = absurd (never (sym h))
 right-bracket (c ∷ cs) h = right-byte (c.0 == 91) c.0 c.1 cs refl h
 
+-- none is an anchor or alias
+bare-byte : (m : Bool) (b at : ℕ) (cs : List Cell) → (b == 91) ≡ m → true ≡ (m || (b == 123)) → false ≡ is_property ((b, at) ∷ cs)
+bare-byte true b at cs h k = subst (λ x. false ≡ is_property ((x, at) ∷ cs)) (sym (eqb-true b 91 h)) refl
+bare-byte false b at cs h k = subst (λ x. false ≡ is_property ((x, at) ∷ cs)) (sym (eqb-true b 123 (sym k))) refl
+
+pub bare-bracket : (cs : List Cell) → true ≡ is_flow_start cs → false ≡ is_property cs
+bare-bracket [] h = refl
+bare-bracket (c ∷ cs) h = bare-byte (c.0 == 91) c.0 c.1 cs refl h
+
 module _ (collection : CollectionReader) (slot : FlowSlot) (depth : ℕ) (n : State) (bytes : List ℕ) (at : ℕ) (inside : at ≤ length bytes) where
   pub node-property : true ≡ is_property (text_at bytes at) → flow_node_over collection slot depth (lines_at bytes at) ≡ flow_property collection slot depth (lines_at bytes at)
   node-property h = if-true (is_property (text_at bytes at)) _ _ h

@@ -48,11 +48,17 @@ pub enum BlockWaiting {
     Value(Vec<Entry>, ScalarRead),
 }
 
-/// A block collection that waits for a node: its start, its own anchor if it has one, and what it waits with.
-#[derive(Drop)]
-pub struct BlockFrame {
+/// Where a block collection begins, and where its own anchor stands if it has one.
+#[derive(Clone, Copy)]
+pub struct BlockStart {
     pub start: Cursor,
     pub anchor: Option<usize>,
+}
+
+/// A block collection that waits for a node: where it begins, and what it waits with.
+#[derive(Drop)]
+pub struct BlockFrame {
+    pub begun: BlockStart,
     pub waiting: BlockWaiting,
 }
 
@@ -235,18 +241,17 @@ fn entry_on(bytes: &[u8], column: usize, next: Next) -> Result<Option<usize>, Fa
 fn put_block_item(
     file: &File,
     progress: &mut Progress,
-    start: Cursor,
-    anchor: Option<usize>,
+    begun: BlockStart,
     in_mapping: bool,
     items: Vec<Node>,
     read: PartBefore,
 ) -> Result<BlockTask, ReadError>
-    requires start { start.at ≤ size file.now }
+    requires start { begun.start.at ≤ size file.now }
     requires read { IsReadBefore file.now.bytes.now read }
     requires room { HasRoom progress.old.stack }
     ensures fault { IfErr result (IsStopInside (size file.now)) }
     ensures is { (bound turns : ℕ) → size file.now < suc bound + read.part.next
-        → ResumesBlock file.now.bytes.now bound turns (depth_in progress.old.stack + 1) start.at start.column anchor
+        → ResumesBlock file.now.bytes.now bound turns (depth_in progress.old.stack + 1) begun.start.at begun.start.column begun.anchor
         (frames.item in_mapping (nodes_of (map view items.items))) (part_of file.now.bytes.now read.part)
         (state_of progress.old.state) result (state_of progress.new.state) }
     ensures within { IfOk result (λ task. IsResumed file.now.bytes.now read.part.next task) }
@@ -255,28 +260,28 @@ fn put_block_item(
     let PartBefore { part, next } = read;
     let mut items = items;
     items.push(part.node)?;
-    let Some(at) = entry_on(file.bytes, start.column, next)? else {
-        let part = sequence_part(items, start.at, part.end, part.next);
-        let part = completed(file, &mut progress.state, anchor, part)?;
+    let Some(at) = entry_on(file.bytes, begun.start.column, next)? else {
+        let part = sequence_part(items, begun.start.at, part.end, part.next);
+        let part = completed(file, &mut progress.state, begun.anchor, part)?;
         return Ok(BlockTask::Found(PartBefore { part, next }));
     };
     if is_dash(file.bytes, at) {
         return Ok(BlockTask::Inside {
-            start,
-            anchor,
+            start: begun.start,
+            anchor: begun.anchor,
             has: BlockOpen::Items(in_mapping, items),
             at,
         });
     }
     if in_mapping {
-        let part = sequence_part(items, start.at, part.end, part.next);
-        let part = completed(file, &mut progress.state, anchor, part)?;
+        let part = sequence_part(items, begun.start.at, part.end, part.next);
+        let part = completed(file, &mut progress.state, begun.anchor, part)?;
         return Ok(BlockTask::Found(PartBefore { part, next }));
     }
     no_entry(file, progress, at)?;
     Ok(BlockTask::Inside {
-        start,
-        anchor,
+        start: begun.start,
+        anchor: begun.anchor,
         has: BlockOpen::Items(in_mapping, items),
         at,
     })
@@ -286,18 +291,17 @@ fn put_block_item(
 fn put_block_entry(
     file: &File,
     progress: &mut Progress,
-    start: Cursor,
-    anchor: Option<usize>,
+    begun: BlockStart,
     entries: Vec<Entry>,
     key: ScalarRead,
     read: PartBefore,
 ) -> Result<BlockTask, ReadError>
-    requires start { start.at ≤ size file.now }
+    requires start { begun.start.at ≤ size file.now }
     requires read { IsReadBefore file.now.bytes.now read }
     requires room { HasRoom progress.old.stack }
     ensures fault { IfErr result (IsStopInside (size file.now)) }
     ensures is { (bound turns : ℕ) → size file.now < suc bound + read.part.next
-        → ResumesBlock file.now.bytes.now bound turns (depth_in progress.old.stack + 1) start.at start.column anchor
+        → ResumesBlock file.now.bytes.now bound turns (depth_in progress.old.stack + 1) begun.start.at begun.start.column begun.anchor
         (frames.value (entries_of (map entry_view entries.items)) (read_of file.now.bytes.now key))
         (part_of file.now.bytes.now read.part) (state_of progress.old.state) result (state_of progress.new.state) }
     ensures within { IfOk result (λ task. IsResumed file.now.bytes.now read.part.next task) }
@@ -307,15 +311,15 @@ fn put_block_entry(
     let mut entries = entries;
     let key = scalar_node(key.scalar, key.span);
     entries.push(entry_of(key, part.node))?;
-    let Some(at) = entry_on(file.bytes, start.column, next)? else {
-        let part = mapping_part(entries, start.at, part.end, part.next);
-        let part = completed(file, &mut progress.state, anchor, part)?;
+    let Some(at) = entry_on(file.bytes, begun.start.column, next)? else {
+        let part = mapping_part(entries, begun.start.at, part.end, part.next);
+        let part = completed(file, &mut progress.state, begun.anchor, part)?;
         return Ok(BlockTask::Found(PartBefore { part, next }));
     };
     let key = entry_key(file, progress, at)?;
     Ok(BlockTask::Inside {
-        start,
-        anchor,
+        start: begun.start,
+        anchor: begun.anchor,
         has: BlockOpen::Entries(entries, key),
         at,
     })
@@ -328,28 +332,24 @@ fn resume_block(
     frame: BlockFrame,
     read: PartBefore,
 ) -> Result<BlockTask, ReadError>
-    requires start { frame.start.at ≤ size file.now }
+    requires start { frame.begun.start.at ≤ size file.now }
     requires read { IsReadBefore file.now.bytes.now read }
     requires room { HasRoom progress.old.stack }
     ensures fault { IfErr result (IsStopInside (size file.now)) }
     ensures is { (bound turns : ℕ) → size file.now < suc bound + read.part.next
-        → ResumesBlock file.now.bytes.now bound turns (depth_in progress.old.stack + 1) frame.start.at frame.start.column frame.anchor
-        (block_waiting_of file.now.bytes.now frame.waiting) (part_of file.now.bytes.now read.part)
-        (state_of progress.old.state) result (state_of progress.new.state) }
+        → ResumesBlock file.now.bytes.now bound turns (depth_in progress.old.stack + 1) frame.begun.start.at
+        frame.begun.start.column frame.begun.anchor (block_waiting_of file.now.bytes.now frame.waiting)
+        (part_of file.now.bytes.now read.part) (state_of progress.old.state) result (state_of progress.new.state) }
     ensures within { IfOk result (λ task. IsResumed file.now.bytes.now read.part.next task) }
     ensures same { IfOk result (λ _. progress.new.stack ≡ progress.old.stack) }
 {
-    let BlockFrame {
-        start,
-        anchor,
-        waiting,
-    } = frame;
+    let BlockFrame { begun, waiting } = frame;
     match waiting {
-        BlockWaiting::Item(in_mapping, items) => put_block_item(
-            file, progress, start, anchor, in_mapping, items, read,
-        ),
+        BlockWaiting::Item(in_mapping, items) => {
+            put_block_item(file, progress, begun, in_mapping, items, read)
+        }
         BlockWaiting::Value(entries, key) => {
-            put_block_entry(file, progress, start, anchor, entries, key, read)
+            put_block_entry(file, progress, begun, entries, key, read)
         }
     }
 }
@@ -393,11 +393,8 @@ pub fn read_block_node(
                 at: from,
             } => {
                 let (waiting, inner) = enter(file, &mut progress.state, start, has, from)?;
-                progress.stack.push_block(BlockFrame {
-                    start,
-                    anchor,
-                    waiting,
-                });
+                let begun = BlockStart { start, anchor };
+                progress.stack.push_block(BlockFrame { begun, waiting });
                 task = inner;
             }
             BlockTask::Read(part) => {

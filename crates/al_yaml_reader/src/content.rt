@@ -148,6 +148,14 @@ fn is_gap_line(bytes: &[u8], at: usize, at_start: bool, solid: usize) -> bool
     is_blank_or_end(bytes, at)
 }
 
+/// Whether a byte stands at an offset that is above blanks, breaks and `#`, so that no gap begins with it.
+#[tactic(auto, using(crate::proofs::ContentLemmas::gap_solid))]
+fn is_solid(bytes: &[u8], at: usize) -> bool
+    ensures { IsTrue result → flow.gap false (lines_at bytes.now at) ≡ lines_at bytes.now at }
+{
+    at < bytes.len() && bytes[at] > b'#'
+}
+
 /// The offset behind the blanks, breaks and comments at an offset in a flow collection.
 #[inline(always)]
 pub fn gap(bytes: &[u8], at: usize) -> usize
@@ -156,6 +164,9 @@ pub fn gap(bytes: &[u8], at: usize) -> usize
     ensures inside { result ≤ length bytes.now }
     ensures lines { flow.gap false (lines_at bytes.now at) ≡ lines_at bytes.now result }
 {
+    if is_solid(bytes, at) {
+        return at;
+    }
     let mut line = at;
     let mut at_start = false;
     'lines: loop {

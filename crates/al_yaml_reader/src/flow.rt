@@ -1,5 +1,6 @@
 //! Flow collections, read forward: the loop over the open ones, and its steps.
 
+ghost use Rattle.al_scalar.specs.Line as line;
 ghost use Rattle.al_scalar.specs.Private.Contract.{read_of};
 ghost use Rattle.al_scalar.specs.Private.Places.{lines_at, text_at};
 ghost use Rattle.al_yaml.specs.Content as content;
@@ -16,17 +17,19 @@ ghost use Rattle.al_yaml_reader.specs.Private.Reads as reads;
 ghost use Rattle.al_yaml_reader.specs.Private.Reads.{IsAfter, IsBehind, IsRead, IsStopInside, after_of, counted, part_of, state_of};
 ghost use Rattle.al_yaml.specs.View.{entries_of, entry_view, nodes_of, view};
 ghost use Rattle.al_yaml_reader.specs.declared.flow.Open.TheVariants as open_code;
-ghost use Rattle.std.specs.Prelude.{IfErr, IfOk, None, [], length, map, true, ℕ, ◌+◌, ◌<◌, ◌^◌, ◌∷◌, ◌≡◌, ◌≤◌};
+ghost use Rattle.std.specs.Prelude.{IfErr, IfOk, None, [], false, length, map, true, ℕ, ◌+◌, ◌<◌, ◌^◌, ◌∷◌, ◌≡◌, ◌≤◌};
 
 use crate::content::gap;
 use crate::faults::ReadError;
 use crate::file::{File, Progress};
 use crate::flow_nodes::{
-    Bracket, Found, FoundKey, completed, read_flow_key, read_flow_node, read_flow_value,
+    Bracket, Found, FoundKey, completed, read_flow_key, read_flow_property, read_flow_scalar,
+    read_flow_value,
 };
 use crate::limits::State;
 use crate::lines::is_text_end;
 use crate::part::{Part, mapping_part, sequence_part};
+use crate::starts::{is_flow_start, is_property};
 use al_base::YamlCode;
 use al_scalar::lines::begins;
 use al_scalar::{FaultAt, ScalarRead};
@@ -39,12 +42,18 @@ pub enum After {
     Closes(usize),
 }
 
-/// What was read of an open flow collection, up to an item, an entry or the closer; of a mapping also the key whose value
-/// is a collection that is read now.
+/// What was read of an open flow mapping, and the key whose value is a collection that is read now.
+#[derive(Drop)]
+pub struct OpenMapping {
+    pub entries: Vec<Entry>,
+    pub waits: Option<ScalarRead>,
+}
+
+/// What was read of an open flow collection, up to an item, an entry or the closer.
 #[derive(Drop)]
 pub enum Open {
     Items(Vec<Node>),
-    Entries(Vec<Entry>, Option<ScalarRead>),
+    Entries(OpenMapping),
 }
 
 /// A flow collection that waits for the collection inside it whose bracket was met: for an item, for the value of its
@@ -132,6 +141,32 @@ fn put_entry(
     Ok(after_item(file.bytes, opening, b'}', gap(file.bytes, part.next))?)
 }
 
+/// Reads an item that begins with an anchor or is an alias, to what stands behind it or to a bracket.
+fn read_property_item(
+    file: &File,
+    state: &mut State,
+    opening: usize,
+    items: &mut Vec<Node>,
+    at: usize,
+    depth: u32,
+) -> Result<FlowStep, ReadError>
+    requires inside { at ≤ size file.now }
+    requires opening { opening ≤ size file.now }
+    requires property { content.is_property (text_at file.now.bytes.now at) ≡ true }
+    requires solid { false ≡ line.is_empty (text_at file.now.bytes.now at) }
+    requires other { false ≡ line.begins 93 (text_at file.now.bytes.now at) }
+    ensures fault { IfErr result (IsStopInside (size file.now)) }
+    ensures is { Steps file.now.bytes.now depth opening (λ c t. open_rest c t depth opening
+        (frames.items (nodes_of (map view items.old.items))) (left_at file.now at)) (state_of state.old) (open_code.Items items.new)
+        result (state_of state.new) }
+    ensures within { IfOk result (IsStep file.now.bytes.now at) }
+{
+    match read_flow_property(file, state, opening, None, at, depth)? {
+        Found::Node(part) => Ok(FlowStep::Behind(put_item(file, opening, items, part)?)),
+        Found::Opens(bracket) => Ok(FlowStep::Opens(bracket)),
+    }
+}
+
 /// Reads an open sequence to what stands behind its next item, to its closer or to a bracket in it.
 fn read_item(
     file: &File,
@@ -158,10 +193,15 @@ fn read_item(
     if begins(file.bytes, at, b']') {
         return Ok(FlowStep::Behind(After::Closes(at + 1)));
     }
-    match read_flow_node(file, state, opening, None, at, depth)? {
-        Found::Node(part) => Ok(FlowStep::Behind(put_item(file, opening, items, part)?)),
-        Found::Opens(bracket) => Ok(FlowStep::Opens(bracket)),
+    // most items are scalars; a bracket has no fault
+    if is_flow_start(file.bytes, at) {
+        return Ok(FlowStep::Opens(Bracket { at, anchor: None }));
     }
+    if is_property(file.bytes, at) {
+        return read_property_item(file, state, opening, items, at, depth);
+    }
+    let part = read_flow_scalar(file, state, at)?;
+    Ok(FlowStep::Behind(put_item(file, opening, items, part)?))
 }
 
 /// Reads an open mapping to what stands behind its next entry, to its closer or to a bracket in it.
@@ -170,8 +210,7 @@ fn read_entry(
     file: &File,
     state: &mut State,
     opening: usize,
-    entries: &mut Vec<Entry>,
-    waits: &mut Option<ScalarRead>,
+    mapping: &mut OpenMapping,
     at: usize,
     depth: u32,
 ) -> Result<FlowStep, ReadError>
@@ -179,8 +218,8 @@ fn read_entry(
     requires opening { opening ≤ size file.now }
     ensures fault { IfErr result (IsStopInside (size file.now)) }
     ensures is { Steps file.now.bytes.now depth opening (λ c t. open_rest c t depth opening
-        (frames.entries (entries_of (map entry_view entries.old.items))) (left_at file.now at)) (state_of state.old)
-        (open_code.Entries entries.new waits.new) result (state_of state.new) }
+        (frames.entries (entries_of (map entry_view mapping.old.entries.items))) (left_at file.now at)) (state_of state.old)
+        (open_code.Entries mapping.new) result (state_of state.new) }
     ensures within { IfOk result (IsStep file.now.bytes.now at) }
 {
     if is_text_end(file.bytes, at) {
@@ -195,16 +234,20 @@ fn read_entry(
     let key = match read_flow_key(file, state, at)? {
         FoundKey::Key(key) => key,
         FoundKey::Opens => {
-            *waits = None;
+            mapping.waits = None;
             return Ok(FlowStep::Opens(Bracket { at, anchor: None }));
         }
     };
     match read_flow_value(file, state, opening, &key, depth)? {
         Found::Node(part) => Ok(FlowStep::Behind(put_entry(
-            file, opening, entries, key.read, part,
+            file,
+            opening,
+            &mut mapping.entries,
+            key.read,
+            part,
         )?)),
         Found::Opens(bracket) => {
-            *waits = Some(key.read);
+            mapping.waits = Some(key.read);
             Ok(FlowStep::Opens(bracket))
         }
     }
@@ -229,9 +272,7 @@ fn read_inside(
 {
     match has {
         Open::Items(items) => read_item(file, state, opening, items, at, depth),
-        Open::Entries(entries, waits) => read_entry(
-            file, state, opening, entries, waits, at, depth,
-        ),
+        Open::Entries(mapping) => read_entry(file, state, opening, mapping, at, depth),
     }
 }
 
@@ -255,8 +296,8 @@ fn resume(
 {
     match has {
         Open::Items(items) => put_item(file, opening, items, part),
-        Open::Entries(entries, waits) => match waits.take() {
-            Some(key) => put_entry(file, opening, entries, key, part),
+        Open::Entries(mapping) => match mapping.waits.take() {
+            Some(key) => put_entry(file, opening, &mut mapping.entries, key, part),
             None => Err(ReadError::Fault(FaultAt {
                 code: YamlCode::WrongKey,
                 at,
@@ -296,7 +337,10 @@ fn open_at(file: &File, at: usize) -> (Open, After)
         );
     }
     (
-        Open::Entries(Vec::new(file.alloc), None),
+        Open::Entries(OpenMapping {
+            entries: Vec::new(file.alloc),
+            waits: None,
+        }),
         first_inside(file.bytes, b'}', inside),
     )
 }
@@ -312,7 +356,7 @@ fn closed_part(opening: usize, has: Open, end: usize) -> Part
 {
     match has {
         Open::Items(items) => sequence_part(items, opening, end, end),
-        Open::Entries(entries, _) => mapping_part(entries, opening, end, end),
+        Open::Entries(mapping) => mapping_part(mapping.entries, opening, end, end),
     }
 }
 

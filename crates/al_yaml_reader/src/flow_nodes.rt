@@ -129,6 +129,26 @@ fn ends_value(bytes: &[u8], at: usize) -> bool
     begins(bytes, at, b',') || begins(bytes, at, b'}')
 }
 
+/// Reads a scalar without anchor in a flow collection.
+#[inline(always)]
+pub fn read_flow_scalar(file: &File, state: &mut State, at: usize) -> Result<Part, ReadError>
+    requires inside { at ≤ size file.now }
+    requires plain { false ≡ content.is_property (text_at file.now.bytes.now at) }
+    requires scalar { false ≡ content.is_flow_start (text_at file.now.bytes.now at) }
+    ensures fault { IfErr result (IsStopInside (size file.now)) }
+    ensures is { (collection : flow.CollectionReader) (slot : flow.FlowSlot) (depth : ℕ) → IsRead (part_of file.now.bytes.now)
+        (flow.flow_content collection slot depth (left_at file.now at)) (state_of state.old) result (state_of state.new) }
+    ensures within { IfOk result (λ part. IsBehind file.now.bytes.now at part) }
+{
+    if let Some(code) = flow_fault(file.bytes, at) {
+        return Err(ReadError::Fault(FaultAt { code, at }));
+    }
+    state.start(at, 1, 0)?;
+    let read = scalar_at(file.alloc, file.bytes, at, ScalarContext::Flow)?;
+    let next = read.next;
+    Ok(scalar_part(read, next))
+}
+
 /// Reads a node without anchor in a flow collection, if it is no collection.
 #[inline(always)]
 fn read_flow_content(file: &File, state: &mut State, at: usize) -> Result<Found, ReadError>
@@ -144,13 +164,7 @@ fn read_flow_content(file: &File, state: &mut State, at: usize) -> Result<Found,
     if is_flow_start(file.bytes, at) {
         return Ok(Found::Opens(Bracket { at, anchor: None }));
     }
-    if let Some(code) = flow_fault(file.bytes, at) {
-        return Err(ReadError::Fault(FaultAt { code, at }));
-    }
-    state.start(at, 1, 0)?;
-    let read = scalar_at(file.alloc, file.bytes, at, ScalarContext::Flow)?;
-    let next = read.next;
-    Ok(Found::Node(scalar_part(read, next)))
+    Ok(Found::Node(read_flow_scalar(file, state, at)?))
 }
 
 /// Reads an alias.
@@ -172,7 +186,7 @@ pub fn read_alias(file: &File, state: &mut State, at: usize, depth: u32) -> Resu
 }
 
 /// Reads an alias, or an anchor and its node if that is no collection. empty is where an empty node would stand.
-fn read_flow_property(
+pub fn read_flow_property(
     file: &File,
     state: &mut State,
     opening: usize,

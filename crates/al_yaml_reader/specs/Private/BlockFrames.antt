@@ -77,7 +77,9 @@ block_waiting_of bytes (waiting_code.Value v read) = value (entries_of (map entr
 
 abbrev pub block_frame_of : List ℕ → frame_type.BlockFrame → BlockFrame
 block_frame_of bytes f =
-    record { start = f.start.at; column = f.start.column; mark = mark_of bytes f.anchor; waiting = block_waiting_of bytes f.waiting }
+    let begun = f.begun in
+    let waiting = block_waiting_of bytes f.waiting in
+    record { start = begun.start.at; column = begun.start.column; mark = mark_of bytes begun.anchor; waiting = waiting }
 
 -- what reads a node from its first character on, or from behind its anchor
 abbrev pub node_reader : ℕ → Option ℕ → BlockReader

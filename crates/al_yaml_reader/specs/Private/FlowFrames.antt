@@ -5,6 +5,7 @@ use Rattle.al_scalar.specs.Private.Contract.{read_of}
 use Rattle.al_scalar.specs.Line.{Line, start, begins}
 use Rattle.al_scalar.specs.Private.Places.{lines_at, text_at}
 use Rattle.al_scalar.specs.Scalar.{span}
+use Rattle.al_scalar.specs.declared.scalars.ScalarRead.{ScalarRead}
 use Rattle.al_yaml.specs.Node as tree
 use Rattle.al_yaml.specs.Reading.{Reading, Part, part, anchored, fails, gives, alias, ◌>>=◌}
 use Rattle.al_yaml.specs.Flow.{CollectionReader}
@@ -30,13 +31,17 @@ use Rattle.al_yaml_reader.specs.declared.flow.FlowStep.TheVariants as step
 
 abbrev pub open_of : Open → frames.Open
 open_of (open_code.Items v) = frames.items (nodes_of (map view v.items))
-open_of (open_code.Entries v waits) = frames.entries (entries_of (map entry_view v.items))
+open_of (open_code.Entries m) = frames.entries (entries_of (map entry_view m.entries.items))
 
--- what waits for the collection whose bracket stands at an offset
+-- what waits in a mapping for the collection whose bracket stands at an offset
+abbrev pub mapping_waiting : List ℕ → ℕ → tree.Entries → Option ScalarRead → frames.Waiting
+mapping_waiting bytes at es (Some read) = frames.value es (read_of bytes read)
+mapping_waiting bytes at es None = frames.key at
+
+-- what waits for it in any collection
 abbrev pub waiting_of : List ℕ → ℕ → Open → frames.Waiting
 waiting_of bytes at (open_code.Items v) = frames.item (nodes_of (map view v.items))
-waiting_of bytes at (open_code.Entries v (Some read)) = frames.value (entries_of (map entry_view v.items)) (read_of bytes read)
-waiting_of bytes at (open_code.Entries v None) = frames.key at
+waiting_of bytes at (open_code.Entries m) = mapping_waiting bytes at (entries_of (map entry_view m.entries.items)) m.waits
 
 -- the anchor whose indicator stands at an offset
 abbrev pub mark_at : List ℕ → ℕ → frames.Mark

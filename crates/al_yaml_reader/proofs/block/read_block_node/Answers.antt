@@ -191,7 +191,7 @@ returns-in_err-task-in-Found-clause-is c = λ bound h.
     (run (state_of c.args.progress.now.state)
     (block_node bound (slot_of c.args.slot) 1 c.args.start.column (lines_at c.args.file.now.bytes.now c.args.start.at)))
     (map (block_frame_of c.args.file.now.bytes.now) c.pop_block.new.self.blocks) (state_of c.nodes.progress.state)
-    c.in-Some.frame.start.at c.in-Some.frame.start.column (mark_of c.args.file.now.bytes.now c.in-Some.frame.anchor)
+    c.in-Some.frame.begun.start.at c.in-Some.frame.begun.start.column (mark_of c.args.file.now.bytes.now c.in-Some.frame.begun.anchor)
     (block_waiting_of c.args.file.now.bytes.now c.in-Some.frame.waiting) c.in-Found.read.part (depth_in c.pop_block.new.self + 1) deep
     waits c.in_err-task-in-Found.field-0.0 c.in_err-task-in-Found.ensures.is))
 
@@ -207,7 +207,7 @@ nodes-preserved c =
       flows = ap (λ o. o.flows) same ∙ c.in-Some.ensures.flows;
       nested = subst (λ o. IsBlockTask c.args.file.now.bytes.now c.args.start.at o.blocks c.in_ok-task-in-Found.task) (sym same)
           (resumes-nested c.args.file.now.bytes.now c.args.start.at c.pop_block.new.self.blocks (state_of c.nodes.progress.state)
-          (state_of c.resume_block.new.progress.state) c.in-Some.frame.start.at c.in-Some.frame.start.column c.in-Some.frame.anchor
+          (state_of c.resume_block.new.progress.state) c.in-Some.frame.begun.start.at c.in-Some.frame.begun.start.column c.in-Some.frame.begun.anchor
           c.in-Some.frame.waiting c.in-Found.read.part (depth_in c.pop_block.new.self + 1) c.in_ok-task-in-Found.task around.1 around.0
           nested.1.from c.in-Some.ensures.room (c.in_ok-task-in-Found.ensures.is (length c.args.file.now.bytes.now) 0 enough)
           c.in_ok-task-in-Found.ensures.within);
@@ -220,7 +220,7 @@ nodes-preserved c =
           (state_of c.nodes.progress.state) c.in-Found.read.part) c.in-Some.ensures.blocks now) in
           subst (λ o. BlockKeeps c.args.file.now.bytes.now whole o.blocks (state_of c.resume_block.new.progress.state) c.in_ok-task-in-Found.task) (sym same)
           (resumes-keeps c.args.file.now.bytes.now whole c.pop_block.new.self.blocks (state_of c.nodes.progress.state)
-          (state_of c.resume_block.new.progress.state) c.in-Some.frame.start.at c.in-Some.frame.start.column c.in-Some.frame.anchor
+          (state_of c.resume_block.new.progress.state) c.in-Some.frame.begun.start.at c.in-Some.frame.begun.start.column c.in-Some.frame.begun.anchor
           c.in-Some.frame.waiting c.in-Found.read.part (depth_in c.pop_block.new.self + 1) c.in_ok-task-in-Found.task deep waits
           c.in_ok-task-in-Found.ensures.is c.in_ok-task-in-Found.ensures.within);
     }
