@@ -5,7 +5,7 @@ ghost use Rattle.al_scalar.specs.Private.Places.{lines_at, text_at};
 ghost use Rattle.al_yaml.specs.Content as content;
 ghost use Rattle.al_yaml.specs.Flow as flow;
 ghost use Rattle.al_yaml_reader.specs.Private.Places.{IsLineFrom, Shows, next_of};
-ghost use Rattle.std.specs.Prelude.{IfErr, IfOk, IfSome, IsTrue, false, length, ◌<◌, ◌≡◌, ◌≤◌};
+ghost use Rattle.std.specs.Prelude.{IfErr, IfOk, IfSome, IsTrue, false, length, slice_index, ◌<◌, ◌↔◌, ◌≡◌, ◌≤◌};
 
 use crate::lines::{is_text_end, next_line};
 use al_base::YamlCode;
@@ -149,9 +149,8 @@ fn is_gap_line(bytes: &[u8], at: usize, at_start: bool, solid: usize) -> bool
 }
 
 /// Whether a byte stands at an offset that is above blanks, breaks and `#`, so that no gap begins with it.
-#[tactic(auto, using(crate::proofs::ContentLemmas::gap_solid))]
 fn is_solid(bytes: &[u8], at: usize) -> bool
-    ensures { IsTrue result → flow.gap false (lines_at bytes.now at) ≡ lines_at bytes.now at }
+    ensures { IsTrue result ↔ ((at < length bytes.now) × (35 < slice_index bytes.now at)) }
 {
     at < bytes.len() && bytes[at] > b'#'
 }

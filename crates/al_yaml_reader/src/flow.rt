@@ -193,7 +193,7 @@ fn read_item(
     if begins(file.bytes, at, b']') {
         return Ok(FlowStep::Behind(After::Closes(at + 1)));
     }
-    // most items are scalars; a bracket has no fault
+    // a bracket has no fault, and is neither anchor nor alias
     if is_flow_start(file.bytes, at) {
         return Ok(FlowStep::Opens(Bracket { at, anchor: None }));
     }
