@@ -1,5 +1,5 @@
 -- Walks along edges that all go one way, and a part of a graph that has its loops.
-use Rattle.std.proofs.Common.{◌≡◌, ℕ, ◌<◌, ◌≤◌, List, Option, None, get_or, length, arith}
+use Rattle.std.proofs.Common.{◌≡◌, ℕ, ◌<◌, ◌≤◌, List, Option, None, get_or, arith}
 use Rattle.std.specs.Prelude.{◌↔◌}
 use Rattle.al_graph.specs.Graphs.{Edge, StronglyConnected, Walk, here, onward}
 use Rattle.al_graph.proofs.TurnLemmas.{before}
