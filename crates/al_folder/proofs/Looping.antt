@@ -1,27 +1,34 @@
 -- Which calls lead back to their own file.
 use Rattle.std.proofs.Common.{◌≡◌, ℕ, zero, suc, ◌+◌, ◌<◌, ◌≤◌, Bool, true, false, cond, not, List, [], ◌∷◌, ◌++◌, length, map}
 use Rattle.std.proofs.Common.{get_or, drop, take, Option, Some, None, String, Vec, slice_get, refl, sym, ◌∙◌, ◌||◌, ap, subst, arith, append_assoc, append-nil, nat_lt, nat_eq}
-use Rattle.std.specs.Prelude.{string_bytes, bytes_eq, Contains, ◌↔◌}
+use Rattle.std.proofs.Common.{⊎_elim}
+use Rattle.std.specs.Prelude.{string_bytes, bytes_eq, Contains, ◌↔◌, ◌&&◌, nat_le}
+use Rattle.std.specs.Borrow.{Bor}
 use Rattle.std.specs.Global.{Global}
-use Rattle.std.specs.List.{cons_option, filter_map, list_any, position, prefix_len}
+use Rattle.std.specs.List.{cons_option, enumerate_from, filter_map, list_any, position, prefix_len}
 use Rattle.std.specs.Option.{unwrap_or, option_map, option_eq}
+use Rattle.std.proofs.lemmas.Bool.{cases_lt}
 use Rattle.std.proofs.lemmas.Bool.Decides.{nat_tests}
-use Rattle.std.proofs.lemmas.List.{drop_more, drop_all, length-map, take_more, map-append}
+use Rattle.std.proofs.lemmas.List.{drop_more, drop_all, get_or_past, length-map, take_more, map-append}
+use Rattle.std.proofs.lemmas.List.FromFn.{length-enumerate_from}
 use Rattle.std.proofs.lemmas.Option.{slice_get-map, get_or_from_slice_get}
 use Rattle.al_base.specs.declared.faults.Fault.{Fault}
-use Rattle.al_graph.specs.Graphs.{Edge, StronglyConnected, edges_of, here, onward}
+use Rattle.al_graph.specs.Graphs.{Edge, StronglyConnected, Walk, edges_of}
 use Rattle.al_graph.specs.Within.{leads}
 use Rattle.al_graph.proofs.BoundedWalks.{leads_tells}
 use Rattle.al_graph.proofs.FilterMaps.{all_in_filter_map, in_filter_map, put_behind, put_first}
 use Rattle.al_graph.proofs.Labels.{labels_same}
 use Rattle.al_graph.proofs.Edges.{edges_at}
+use Rattle.al_graph.proofs.Lists.{none_in}
+use Rattle.al_graph.proofs.OneWay.{no_loop_before, no_loop_behind, part_tells}
 use Rattle.al_folder.specs.Meaning.{CallSite, Meaning, candidates}
 use Rattle.al_folder.specs.Folder.{Folder, or_else, paths_of}
-use Rattle.al_folder.specs.Kept.{Files, folder_of, entry_of, AllKept, IsKept}
-use Rattle.al_folder.specs.Loops.{called, calls_graph, leads_back, loop_fault_if, loop_faults, looping, number_among, number_of}
-use Rattle.al_folder.specs.Private.CallGraphs.{AreComponents, IsCallGraph, IsCalledBy}
+use Rattle.al_folder.specs.Kept.{Files, folder_of, entry_of, AllKept, AreKept, IsKept, referred}
+use Rattle.al_folder.specs.Loops.{called, calls_graph, leads_back, loop_fault, loop_fault_if, loop_faults, looping, number_among, number_of}
+use Rattle.al_folder.specs.Private.CallGraphs.{IsCallGraph, IsCalledBy, NoneBackward, NoneForward, TellLoops, part_of}
 use Rattle.al_folder.specs.declared.kept.KeptFile.{KeptFile}
 use Rattle.al_folder.specs.declared.lint.Target.{Target}
+use Rattle.al_folder.proofs.Ways.{leads_before, leads_behind}
 
 -- ---- numbers of files
 
@@ -100,15 +107,58 @@ module _ {I : Type 0} (m : Meaning I) (f : Folder) where
   pub graph_inside : (j k : ℕ) → Edge (calls_graph m f) j k → k < length (calls_graph m f)
   graph_inside j k e = let h = edges_below f j k e in let l : length (calls_graph m f) ≡ length f = length-map f _ in omega (arith, h, l)
 
--- the graph as it is made of kept files
-pub graph_of_kept : {U I : Type 0} (m : Meaning I) (is_unit : U → List ℕ → List ℕ → Type 0) (h : Target → Option ℕ) (files : Files U I) → AllKept m is_unit files →
-    map (λ (e : String Global × KeptFile U I). filter_map h e.1.calls.items) files ≡ map (λ (e : List ℕ × List ℕ). filter_map h (m.calls e.0 e.1)) (folder_of files)
-graph_of_kept m is_unit h [] kept = refl
-graph_of_kept m is_unit h (e ∷ es) kept =
-    let first : e.1.calls.items ≡ m.calls (string_bytes e.0) e.1.bytes.items = kept.0.calls in
-    let rest = graph_of_kept m is_unit h es kept.1 in
-    ap (λ ts. filter_map h ts ∷ map (λ e. filter_map h e.1.calls.items) es) first
-    ∙ ap (λ l. filter_map h (m.calls (string_bytes e.0) e.1.bytes.items) ∷ l) rest
+-- ---- numbers of elements
+
+pub entry_there : {X : Type 0} (xs : List X) (i : ℕ) → i < length xs → (x : X) × (slice_get xs i ≡ Some x)
+entry_there [] i h = absurd (omega (arith, h))
+entry_there (x ∷ xs) zero h = (x, refl)
+entry_there (x ∷ xs) (suc i) h = entry_there xs i (omega arith)
+
+numbered_from : {X : Type 0} (n : ℕ) (xs : List X) (i j : ℕ) (x : X) → j ≡ n + i → slice_get xs i ≡ Some x → slice_get (enumerate_from n xs) i ≡ Some (j, x)
+numbered_from n [] i j x is e = absurd (wrong e)
+  where
+    wrong : None ≡ Some x → ⊥
+    wrong h = cc
+numbered_from n (y ∷ ys) zero j x is e =
+    let same : n ≡ j = omega (arith, is) in
+    ap (λ k. Some (k, y)) same ∙ ap (λ o. Some (j, unwrap_or o y)) e
+numbered_from n (y ∷ ys) (suc i) j x is e = numbered_from (n + 1) ys i j x (omega (arith, is)) e
+
+pub numbered : {X : Type 0} (xs : List X) (i : ℕ) (x : X) → slice_get xs i ≡ Some x → slice_get (enumerate_from 0 xs) i ≡ Some (i, x)
+numbered xs i x e = numbered_from 0 xs i i x (omega arith) e
+
+pub below_length : {X : Type 0} (xs : List X) (n : ℕ) (x : X) → slice_get xs n ≡ Some x → n < length xs
+below_length [] n x e = absurd (wrong e)
+  where
+    wrong : None ≡ Some x → ⊥
+    wrong h = cc
+below_length (y ∷ ys) zero x e = omega arith
+below_length (y ∷ ys) (suc n) x e = let h = below_length ys n x e in omega (arith, h)
+
+-- ---- files that call one way
+
+module _ {U I : Type 0} (files : Files U I) where
+  pub none_yet : (first : ℕ) → first ≡ 0 → NoneForward files first
+  none_yet first is k e lt at = absurd (omega (arith, lt, is))
+
+  pub next_forward : (n : ℕ) (x : String Global × KeptFile U I) → slice_get files n ≡ Some x → x.1.calls_forward ≡ false → NoneForward files n → NoneForward files (n + 1)
+  next_forward n x there quiet before k e lt at = ⊎_elim
+      (λ below. before k e below at)
+      (λ past. let same : k ≡ n = omega (arith, lt, past) in
+      let is : Some x ≡ Some e = sym there ∙ ap (slice_get files) (sym same) ∙ at in
+      ap (λ (o : Option (String Global × KeptFile U I)). (unwrap_or o x).1.calls_forward) (sym is) ∙ quiet)
+      (cases_lt k n)
+
+  pub none_left : (end : ℕ) → end ≡ length files → NoneBackward files end
+  none_left end is k e past at = let below = below_length files k e at in absurd (omega (arith, past, is, below))
+
+  pub next_backward : (n end : ℕ) (x : String Global × KeptFile U I) → end ≡ n + 1 → slice_get files n ≡ Some x → x.1.calls_backward ≡ false → NoneBackward files end → NoneBackward files n
+  next_backward n end x one there quiet behind k e past at = ⊎_elim
+      (λ above. behind k e (omega (arith, above, one)) at)
+      (λ last. let same : k ≡ n = omega (arith, last, past) in
+      let is : Some x ≡ Some e = sym there ∙ ap (slice_get files) (sym same) ∙ at in
+      ap (λ (o : Option (String Global × KeptFile U I)). (unwrap_or o x).1.calls_backward) (sym is) ∙ quiet)
+      (cases_lt n k)
 
 -- ---- calls that lead back
 
@@ -119,12 +169,12 @@ same_truth false true f g = g refl
 same_truth false false f g = refl
 
 -- labels tell which calls do
-pub labels_tell : (graph : List (List ℕ)) (labels : List (Option ℕ)) (i to : ℕ) (r : Bool) → AreComponents graph labels → i < length graph → to < length graph → Edge graph i to →
+pub labels_tell : (graph : List (List ℕ)) (labels : List (Option ℕ)) (i to : ℕ) (r : Bool) → TellLoops graph labels → Edge graph i to →
     ((r ≡ true → get_or labels to None ≡ get_or labels i None) × (get_or labels to None ≡ get_or labels i None → r ≡ true)) → r ≡ leads graph to i
-labels_tell graph labels i to r c il tl edge says =
+labels_tell graph labels i to r c edge says =
     same_truth r (leads graph to i)
-    (λ h. (leads_tells graph to i).1 ((c.1 to i tl il).0 (says.0 h)).0)
-    (λ h. says.1 ((c.1 to i tl il).1 ((leads_tells graph to i).0 h, onward i to here edge)))
+    (λ h. (leads_tells graph to i).1 ((c.1 i to edge).0 (says.0 h)))
+    (λ h. says.1 ((c.1 i to edge).1 ((leads_tells graph to i).0 h)))
 
 -- a call more
 module _ (graph : List (List ℕ)) (f : Folder) (i : ℕ) (ts : List Target) (ss : List CallSite) (at : ℕ) (done whole : List Fault)
@@ -132,7 +182,7 @@ module _ (graph : List (List ℕ)) (f : Folder) (i : ℕ) (ts : List Target) (ss
   pub looping_next : (more : List Fault) (t : Target) (s : CallSite) → at < length ts → t ≡ get_or ts at t → slice_get ss at ≡ Some s →
       more ≡ done ++ loop_fault_if (leads_back graph i (called f t)) s → more ++ looping graph f i (drop (at + 1) ts) (drop (at + 1) ss) ≡ whole
   looping_next more t s within read known now =
-      let inside : at < length ss = below ss at s known in
+      let inside : at < length ss = below_length ss at s known in
       let is : get_or ss at s ≡ s = get_or_from_slice_get ss at s s known in
       let one : drop at ts ≡ t ∷ drop (at + 1) ts = drop_more ts at t within ∙ sym (ap (λ c. c ∷ drop (at + 1) ts) read) in
       let two : drop at ss ≡ s ∷ drop (at + 1) ss = drop_more ss at s inside ∙ ap (λ a. a ∷ drop (at + 1) ss) is in
@@ -140,17 +190,28 @@ module _ (graph : List (List ℕ)) (f : Folder) (i : ℕ) (ts : List Target) (ss
       let one_fault = loop_fault_if (leads_back graph i (called f t)) s in
       ap (λ l. l ++ rest) now ∙ append_assoc done one_fault rest
       ∙ sym (ap (λ l. done ++ l) (ap (λ l. looping graph f i l (drop at ss)) one ∙ ap (looping graph f i (t ∷ drop (at + 1) ts)) two)) ∙ so_far
-    where
-      below : {X : Type 0} (xs : List X) (n : ℕ) (x : X) → slice_get xs n ≡ Some x → n < length xs
-      below [] n x e = absurd (wrong e)
-        where
-          wrong : None ≡ Some x → ⊥
-          wrong h = cc
-      below (y ∷ ys) zero x e = omega arith
-      below (y ∷ ys) (suc n) x e = let h = below ys n x e in omega (arith, h)
 
   pub looping_end : length ts ≤ at → done ≡ whole
   looping_end past = sym (append-nil done) ∙ sym (ap (λ l. done ++ looping graph f i l (drop at ss)) (drop_all at ts past)) ∙ so_far
+
+-- the fault that is kept of a call
+pub kept_fault : (ss : List CallSite) (faults : List Fault) (at : ℕ) (s : CallSite) (fault : Fault) → faults ≡ map loop_fault ss → slice_get ss at ≡ Some s → fault ≡ get_or faults at fault →
+    fault ≡ loop_fault s
+kept_fault ss faults at s fault is known read =
+    read ∙ ap (λ l. get_or l at fault) is
+    ∙ get_or_from_slice_get (map loop_fault ss) at (loop_fault s) fault (slice_get-map loop_fault ss at ∙ ap (option_map loop_fault) known)
+
+-- the faults of calls, a call further
+pub faults_next : (ss : List CallSite) (i : ℕ) (s : CallSite) (old new : List Fault) → slice_get ss i ≡ Some s → old ≡ map loop_fault (take i ss) → new ≡ old ++ loop_fault s ∷ [] →
+    new ≡ map loop_fault (take (i + 1) ss)
+faults_next ss i s old new known is more =
+    let lt = below_length ss i s known in
+    more ∙ ap (λ l. l ++ loop_fault s ∷ []) is
+    ∙ sym (ap (map loop_fault) (take_more ss i s lt ∙ ap (λ x. take i ss ++ x ∷ []) (get_or_from_slice_get ss i s s known)) ∙ map-append loop_fault (take i ss) (s ∷ []))
+
+-- references that were added
+pub referred_more : {T : Type 0} (old new : List (Bor T)) (r : Bor T) → new ≡ old ++ r ∷ [] → referred new ≡ referred old ++ r.now ∷ []
+referred_more {T} old new r more = ap referred more ∙ map-append (λ (x : Bor T). x.now) old (r ∷ [])
 
 -- numbers, one call further
 pub numbers_next : (h : Target → Option ℕ) (ts : List Target) (i : ℕ) (t : Target) (old new : List ℕ) → i < length ts → t ≡ get_or ts i t → old ≡ filter_map h (take i ts) →
@@ -189,27 +250,149 @@ entry_number files i e at = slice_get-map entry_of files i ∙ ap (option_map en
 pub same_entry : (f : Folder) (i : ℕ) (a b : List ℕ × List ℕ) → slice_get f i ≡ Some a → slice_get f i ≡ Some b → a ≡ b
 same_entry f i a b x y = ap (λ o. unwrap_or o a) (sym x ∙ y)
 
--- the graph of the program is that of the folder
-pub program_inside : {I : Type 0} (m : Meaning I) (f : Folder) (items seen : List (Vec ℕ Global)) → edges_of items ≡ calls_graph m f → seen ≡ items →
-    (j k : ℕ) → Edge (edges_of seen) j k → k < length seen
-program_inside m f items seen is same j k e =
-    let all : edges_of seen ≡ calls_graph m f = ap edges_of same ∙ is in
-    let below = graph_inside m f j k (subst (λ g. Edge g j k) all e) in
-    let n : length (edges_of seen) ≡ length seen = length-map seen _ in
-    let l : length (edges_of seen) ≡ length (calls_graph m f) = ap length all in
-    omega (arith, below, n, l)
+-- ---- the part of the graph that the program makes
 
-pub program_labels : {I : Type 0} (m : Meaning I) (f : Folder) (items seen : List (Vec ℕ Global)) (labels : List (Option ℕ)) → edges_of items ≡ calls_graph m f → seen ≡ items →
-    length labels ≡ length seen →
-    ((j k : ℕ) → j < length seen → k < length seen → (get_or labels j None ≡ get_or labels k None) ↔ StronglyConnected (edges_of seen) j k) → AreComponents (calls_graph m f) labels
-program_labels m f items seen labels is same len exact =
-    let all : edges_of seen ≡ calls_graph m f = ap edges_of same ∙ is in
-    let n : length (edges_of seen) ≡ length seen = length-map seen _ in
-    let l : length (edges_of seen) ≡ length (calls_graph m f) = ap length all in (
-      omega (arith, len, n, l),
-      λ j k jn kn. let x = exact j k (omega (arith, jn, n, l)) (omega (arith, kn, n, l)) in
-          (λ e. subst (λ g. StronglyConnected g j k) all (x.0 e), λ t. x.1 (subst (λ g. StronglyConnected g j k) (sym all) t)),
-    )
+module _ (first end : ℕ) where
+  abbrev pub Inside : ℕ → Bool
+  Inside k = nat_le first k && nat_lt k end
+
+  abbrev Row : ℕ × List ℕ → List ℕ
+  Row x = cond (Inside x.0) x.1 []
+
+  abbrev no_row : List ℕ
+  no_row = []
+
+  either_none : (b : Bool) → no_row ≡ cond b no_row no_row
+  either_none true = refl
+  either_none false = refl
+
+  row_from : (n : ℕ) (g : List (List ℕ)) (k j : ℕ) → j ≡ n + k → get_or (map Row (enumerate_from n g)) k [] ≡ cond (Inside j) (get_or g k []) []
+  row_from n [] k j is = either_none (Inside j)
+  row_from n (r ∷ rs) zero j is = let same : n ≡ j = omega (arith, is) in ap (λ i. cond (Inside i) r []) same
+  row_from n (r ∷ rs) (suc k) j is = row_from (n + 1) rs k j (omega (arith, is))
+
+  part_row : (g : List (List ℕ)) (k : ℕ) → get_or (part_of first end g) k [] ≡ cond (Inside k) (get_or g k []) []
+  part_row g k = row_from 0 g k k (omega arith)
+
+  length-part_of : (g : List (List ℕ)) → length (part_of first end g) ≡ length g
+  length-part_of g = length-map (enumerate_from 0 g) Row ∙ length-enumerate_from 0 g
+
+  in_part : (g : List (List ℕ)) (j k : ℕ) → Edge (part_of first end g) j k → Edge g j k
+  in_part g j k e = by (Inside j) (subst (λ ns. Contains ns k) (part_row g j) e)
+    where
+      by : (b : Bool) → Contains (cond b (get_or g j []) []) k → Contains (get_or g j []) k
+      by true c = c
+      by false c = absurd (none_in k c)
+
+  part_has : (g : List (List ℕ)) (j k : ℕ) → first ≤ j → j < end → Edge g j k → Edge (part_of first end g) j k
+  part_has g j k low high e =
+      let both : Inside j ≡ true = grind (arith, nat_tests) in
+      subst (λ ns. Contains ns k) (sym (part_row g j ∙ ap (λ b. cond b (get_or g j []) []) both)) e
+
+  -- made file after file
+  pub part_of_kept : {U I : Type 0} (m : Meaning I) (is_unit : U → List ℕ → List ℕ → Type 0) (h : Target → Option ℕ) (n : ℕ) (files : Files U I) → AllKept m is_unit files →
+      map (λ (x : ℕ × (String Global × KeptFile U I)). filter_map h (cond (Inside x.0) x.1.1.calls.items [])) (enumerate_from n files)
+      ≡ map Row (enumerate_from n (map (λ (e : List ℕ × List ℕ). filter_map h (m.calls e.0 e.1)) (folder_of files)))
+  part_of_kept m is_unit h n [] kept = refl
+  part_of_kept {U} {I} m is_unit h n (e ∷ es) kept =
+      let calls : e.1.calls.items ≡ m.calls (string_bytes e.0) e.1.bytes.items = kept.0.calls in
+      let one : filter_map h (cond (Inside n) e.1.calls.items []) ≡ cond (Inside n) (filter_map h (m.calls (string_bytes e.0) e.1.bytes.items)) [] =
+      ap (λ ts. filter_map h (cond (Inside n) ts [])) calls ∙ through (Inside n) (m.calls (string_bytes e.0) e.1.bytes.items) in
+      ap (λ l. l ∷ map (λ (x : ℕ × (String Global × KeptFile U I)). filter_map h (cond (Inside x.0) x.1.1.calls.items [])) (enumerate_from (n + 1) es)) one
+      ∙ ap (λ l. cond (Inside n) (filter_map h (m.calls (string_bytes e.0) e.1.bytes.items)) [] ∷ l) (part_of_kept m is_unit h (n + 1) es kept.1)
+    where
+      through : (b : Bool) (ts : List Target) → filter_map h (cond b ts []) ≡ cond b (filter_map h ts) []
+      through true ts = refl
+      through false ts = refl
+
+module _ {U I : Type 0} (m : Meaning I) (is_unit : U → List ℕ → List ℕ → Type 0) (files : Files U I) (kept : AreKept m is_unit files) where
+  abbrev F : Folder
+  F = folder_of files
+
+  abbrev G : List (List ℕ)
+  G = calls_graph m F
+
+  paths_number : length (paths_of F) ≡ length files
+  paths_number = length-map F _ ∙ length-map files _
+
+  row_entry : (y z : ℕ) → Edge G y z → (e : String Global × KeptFile U I) × (slice_get files y ≡ Some e)
+  row_entry y z e = ⊎_elim (λ lt. entry_there files y lt) (λ past. absurd (none_in z (subst (λ ns. Contains ns z) (get_or_past G y [] (longer past)) e))) (cases_lt y (length files))
+    where
+      longer : length files ≤ y → length G ≤ y
+      longer past = let n : length G ≡ length F = length-map F _ in let l : length F ≡ length files = length-map files _ in omega (arith, past, n, l)
+
+  goes_back : (first : ℕ) → NoneForward files first → (y z : ℕ) → y < first → Edge G y z → z < y
+  goes_back first none y z lt edge =
+      let there = row_entry y z edge in
+      let e = there.0 in
+      let one = kept_number m is_unit files y e kept.kept there.1 in
+      let at = entry_number files y e there.1 in
+      let p = string_bytes e.0 in
+      let b = e.1.bytes.items in
+      leads_before F kept.ordered y p b at
+      (λ c k is. let n : length (paths_of F) ≡ length F = length-map F _ in let below = number_below F c k is in omega (arith, n, below))
+      (m.calls p b) z (sym one.forward ∙ none y e lt there.1)
+      (subst (λ ns. Contains ns z) (at_file m F y p b at) edge)
+
+  goes_on : (end : ℕ) → NoneBackward files end → (y z : ℕ) → end ≤ y → Edge G y z → y < z
+  goes_on end none y z past edge =
+      let there = row_entry y z edge in
+      let e = there.0 in
+      let one = kept_number m is_unit files y e kept.kept there.1 in
+      let at = entry_number files y e there.1 in
+      let p = string_bytes e.0 in
+      let b = e.1.bytes.items in
+      let inside = below_length files y e there.1 in
+      leads_behind F kept.ordered y p b at (omega (arith, inside, paths_number)) (m.calls p b) z (sym one.backward ∙ none y e past there.1)
+      (subst (λ ns. Contains ns z) (at_file m F y p b at) edge)
+
+  -- the part has each call that leads back
+  has_loops : (first end : ℕ) → NoneForward files first → NoneBackward files end → (j k : ℕ) → Edge G j k → Walk G k j → Edge (part_of first end G) j k
+  has_loops first end low high j k e w = ⊎_elim
+      (λ lt. absurd (no_loop_before G first (goes_back first low) j k lt e w))
+      (λ from. ⊎_elim (λ lt. part_has first end G j k from lt e) (λ past. absurd (no_loop_behind G end (goes_on end high) j k past e w)) (cases_lt j end))
+      (cases_lt j first)
+
+  module _ (first end : ℕ) (items seen : List (Vec ℕ Global)) (is : edges_of items ≡ part_of first end G) (same : seen ≡ items) where
+    seen_is : edges_of seen ≡ part_of first end G
+    seen_is = ap edges_of same ∙ is
+
+    seen_number : length seen ≡ length F
+    seen_number =
+        let n : length (edges_of seen) ≡ length seen = length-map seen _ in
+        let all : length (edges_of seen) ≡ length G = ap length seen_is ∙ length-part_of first end G in
+        let l : length G ≡ length F = length-map F _ in
+        omega (arith, n, all, l)
+
+    pub program_inside : (j k : ℕ) → Edge (edges_of seen) j k → k < length seen
+    program_inside j k e =
+        let below = graph_inside m F j k (in_part first end G j k (subst (λ g. Edge g j k) seen_is e)) in
+        let l : length G ≡ length F = length-map F _ in
+        omega (arith, below, seen_number, l)
+
+    pub program_graph : (labels : List (Option ℕ)) → NoneForward files first → NoneBackward files end → length labels ≡ length seen →
+        ((j k : ℕ) → j < length seen → k < length seen → (get_or labels j None ≡ get_or labels k None) ↔ StronglyConnected (edges_of seen) j k) → IsCallGraph m F items labels
+    program_graph labels low high len exact =
+        let l : length G ≡ length F = length-map F _ in
+        let P = part_of first end G in
+        record {
+          size = ap length (sym same) ∙ seen_number;
+          inside = λ j k e. let below = graph_inside m F j k (in_part first end G j k (subst (λ g. Edge g j k) is e)) in omega (arith, below, l);
+          kept = λ j k e w. subst (λ g. Edge g j k) (sym is) (has_loops first end low high j k e w);
+          tell = (
+            omega (arith, len, seen_number, l),
+            λ j k e. part_tells G P (in_part first end G) (has_loops first end low high) labels j k
+                (subst (λ g. (get_or labels k None ≡ get_or labels j None) ↔ StronglyConnected g k j) seen_is
+                (exact k j (let below = graph_inside m F j k e in omega (arith, below, seen_number, l)) (source j k e l)))
+                e,
+          );
+        }
+      where
+        source : (j k : ℕ) → Edge G j k → length G ≡ length F → j < length seen
+        source j k e l = ⊎_elim (λ lt. lt) (λ past. absurd (none_in k (subst (λ ns. Contains ns k) (get_or_past G j [] (longer past)) e))) (cases_lt j (length seen))
+          where
+            longer : length seen ≤ j → length G ≤ j
+            longer past = omega (arith, past, seen_number, l)
 
 -- ---- files none of whose calls leads back
 
@@ -242,40 +425,37 @@ module _ (graph : List (List ℕ)) (f : Folder) (i : ℕ) where
           ∙ ap (λ b. loop_fault_if b s ++ looping graph f i ts ss) (h k (put_first (called f) (called f t) k (filter_map (called f) ts) a))
           ∙ more (λ j c. h j (put_behind (called f) (called f t) j (filter_map (called f) ts) c))
 
--- a file whose calls lead to none with its label
-module _ {I : Type 0} (m : Meaning I) (f : Folder) (labels : List (Option ℕ)) (c : AreComponents (calls_graph m f) labels) (i : ℕ) where
-  pub quiet : (p b : List ℕ) → slice_get f i ≡ Some (p, b) → i < length f →
-      list_any (λ k. option_eq nat_eq (get_or labels k None) (get_or labels i None)) (get_or (calls_graph m f) i []) ≡ false → (ss : List CallSite) →
-      looping (calls_graph m f) f i (m.calls p b) ss ≡ []
-  quiet p b at below none ss = no_loops (calls_graph m f) f i (m.calls p b) ss (λ k there. apart k (subst (λ (ns : List ℕ). Contains ns k) (sym (at_file m f i p b at)) there))
-    where
-      l : length (calls_graph m f) ≡ length f
-      l = length-map f _
+not_true : (b : Bool) → (b ≡ true → ⊥) → b ≡ false
+not_true true f = absurd (f refl)
+not_true false f = refl
 
-      apart : (k : ℕ) → Edge (calls_graph m f) i k → leads (calls_graph m f) k i ≡ false
-      apart k edge =
-          sym (labels_tell (calls_graph m f) labels i k false c (omega (arith, below, l)) (graph_inside m f i k edge) edge
-          (labels_same (get_or labels k None) (get_or labels i None) false (sym (none_has _ (get_or (calls_graph m f) i []) k none edge))))
-
--- the same of a row of the program's graph
+-- a file whose calls lead to none with its label, by its row of the program's graph
 module _ {I : Type 0} (m : Meaning I) (f : Folder) (edges : List (Vec ℕ Global)) (labels seen : List (Option ℕ)) (row : List ℕ) (v : Vec ℕ Global) (i : ℕ)
     (calls : IsCallGraph m f edges labels) (below : i < length f) (read : v ≡ get_or edges i v) (is : row ≡ v.items) (same : seen ≡ labels) where
-  row_is : get_or (calls_graph m f) i [] ≡ row
-  row_is =
-      let n : length (edges_of edges) ≡ length edges = length-map edges _ in
-      let l : length (calls_graph m f) ≡ length f = length-map f _ in
-      let all : length (edges_of edges) ≡ length (calls_graph m f) = ap length calls.0 in
-      sym (ap (λ g. get_or g i []) calls.0) ∙ edges_at edges i v (omega (arith, below, n, l, all)) read ∙ sym is
+  row_is : get_or (edges_of edges) i [] ≡ row
+  row_is = let size = calls.size in edges_at edges i v (omega (arith, below, size)) read ∙ sym is
 
   pub row_inside : (k : ℕ) → Contains row k → k < length seen
   row_inside k there =
-      let inside = graph_inside m f i k (subst (λ (ns : List ℕ). Contains ns k) (sym row_is) there) in
-      let size : length labels ≡ length (calls_graph m f) = calls.1.0 in
+      let inside = calls.inside i k (subst (λ (ns : List ℕ). Contains ns k) (sym row_is) there) in
+      let size : length labels ≡ length (calls_graph m f) = calls.tell.0 in
       let all : length seen ≡ length labels = ap length same in
-      omega (arith, inside, size, all)
+      let l : length (calls_graph m f) ≡ length f = length-map f _ in
+      omega (arith, inside, size, all, l)
 
   pub row_quiet : list_any (λ k. option_eq nat_eq (get_or seen k None) (get_or seen i None)) row ≡ false → (p b : List ℕ) → slice_get f i ≡ Some (p, b) → [] ≡ loop_faults m f i p b
   row_quiet none p b at =
-      let P : List (Option ℕ) → List ℕ → Bool = λ ls ns. list_any (λ k. option_eq nat_eq (get_or ls k None) (get_or ls i None)) ns in
-      let all : P labels (get_or (calls_graph m f) i []) ≡ false = ap (P labels) row_is ∙ sym (ap (λ ls. P ls row) same) ∙ none in
-      sym (quiet m f labels calls.1 i p b at below all (m.sites p b))
+      sym (no_loops (calls_graph m f) f i (m.calls p b) (m.sites p b) (λ k there. apart k (subst (λ (ns : List ℕ). Contains ns k) (sym (at_file m f i p b at)) there)))
+    where
+      has_it : (k : ℕ) → Edge (calls_graph m f) i k → leads (calls_graph m f) k i ≡ true → ⊥
+      has_it k edge t =
+          let walk : Walk (calls_graph m f) k i = (leads_tells (calls_graph m f) k i).0 t in
+          let there : Contains row k = subst (λ (ns : List ℕ). Contains ns k) row_is (calls.kept i k edge walk) in
+          let equal : get_or seen k None ≡ get_or seen i None = subst (λ (ls : List (Option ℕ)). get_or ls k None ≡ get_or ls i None) (sym same) ((calls.tell.1 i k edge).1 walk) in
+          let one : option_eq nat_eq (get_or seen k None) (get_or seen i None) ≡ true =
+          (labels_same (get_or seen k None) (get_or seen i None) (option_eq nat_eq (get_or seen k None) (get_or seen i None)) refl).1 equal in
+          let wrong : true ≡ false = sym one ∙ none_has (λ k. option_eq nat_eq (get_or seen k None) (get_or seen i None)) row k none there in
+          cc
+
+      apart : (k : ℕ) → Edge (calls_graph m f) i k → leads (calls_graph m f) k i ≡ false
+      apart k edge = not_true (leads (calls_graph m f) k i) (has_it k edge)

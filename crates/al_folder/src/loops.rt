@@ -1,13 +1,14 @@
 //! Calls that lead back to their own file.
 
-ghost use Rattle.std.specs.Prelude.{◌≡◌, ◌<◌, ◌++◌, [], ℕ, List, None, Some, Contains, length, nat_eq, slice_get, slice_index_or};
+ghost use Rattle.std.specs.Prelude.{◌≡◌, ◌<◌, ◌++◌, ◌&&◌, ◌∷◌, [], ℕ, List, None, Some, Contains, cond, length};
+ghost use Rattle.std.specs.Prelude.{map, nat_eq, nat_le, nat_lt, slice_get, slice_index_or};
 ghost use Rattle.std.specs.Prelude.{IfOk, IfSome, OnOk};
 ghost use Rattle.std.specs.List.{cons_option, filter_map, list_any};
 ghost use Rattle.std.specs.Option.{option_eq};
 ghost use Rattle.al_graph.specs.Graphs.{edges_of};
-ghost use Rattle.al_folder.specs.Kept.{AreKept, IsKept, folder_of};
+ghost use Rattle.al_folder.specs.Kept.{AreKept, IsKept, folder_of, referred};
 ghost use Rattle.al_folder.specs.Loops as loops;
-ghost use Rattle.al_folder.specs.Private.CallGraphs.{AreComponents, IsCallGraph, IsCalledBy};
+ghost use Rattle.al_folder.specs.Private.CallGraphs.{IsCallGraph, IsCalledBy, NoneBackward, NoneForward, TellLoops, part_of};
 ghost use Rattle.al_folder.specs.Sites.{site_of};
 
 use crate::kept::{Files, KeptFile};
@@ -17,12 +18,12 @@ use al_base::{Args, Fault, Path};
 use al_graph::strongly_connected_components;
 use std::alloc::{AllocError, Global};
 
-/// The calls between the files of a folder, which are known by their numbers in order of path.
+/// The calls between the files of a folder, which are known by their numbers in order of path, as far as they can lead back.
 #[derive(Drop)]
 pub struct CallGraph {
-    // For each file the numbers of the files that its calls lead to.
+    // For each file the numbers of the files that its calls lead to, or none where no call of the file can lead back.
     graph: Vec<Vec<usize>>,
-    // Of each file a label, the same for two files just where calls lead from each to the other.
+    // Of each file a label, the same for two files that these calls lead between just where they lead from each to the other.
     labels: Vec<Option<usize>>,
 }
 
@@ -81,25 +82,77 @@ fn all_called<U, I>(
     Ok(numbers)
 }
 
-/// For each file the numbers of the files that its calls lead to.
+/// The number of the first file that calls its own path or one behind it, or how many files there are. Calls of the files before it go back
+/// in the order of paths, and so do all calls that they lead to: none leads back to its own file.
+fn first_forward<U, I>(files: &Files<U, I>) -> usize
+    ensures { NoneForward files.now.entries result }
+{
+    for index in 0..files.len() {
+        let (_, file) = file_number(files, index);
+        if file.calls_forward {
+            return index;
+        }
+    }
+    files.len()
+}
+
+/// The number behind the last file that calls its own path or one in front of it, or 0. Calls of the files from there on go on in the order
+/// of paths.
+fn end_backward<U, I>(files: &Files<U, I>) -> usize
+    ensures { NoneBackward files.now.entries result }
+{
+    let mut end = files.len();
+    while end > 0 {
+        let (_, file) = file_number(files, end - 1);
+        if file.calls_backward {
+            return end;
+        }
+        end -= 1;
+    }
+    0
+}
+
+/// Whether a number isn't before one and is before the other.
+fn is_between(first: usize, index: usize, end: usize) -> bool
+    ensures { result ≡ (nat_le first index && nat_lt index end) }
+{
+    first <= index && index < end
+}
+
+/// The calls of a file, or none.
+fn calls_if<U, I>(is_wanted: bool, file: &KeptFile<U, I>) -> &[Target]
+    ensures { result.now ≡ cond is_wanted file.now.calls.items [] }
+{
+    if is_wanted {
+        file.calls.as_slice()
+    } else {
+        &[]
+    }
+}
+
+/// For each file from one number on and before another the numbers of the files that its calls lead to, and for the others none.
 fn calls_graph<L: Lint>(
     alloc: Global,
     files: &Files<L::Unit, L::Iface>,
+    first: usize,
+    end: usize,
 ) -> Result<Vec<Vec<usize>>, AllocError>
     requires { AreKept L.meaning L.is_unit files.now.entries }
-    ensures { IfOk result (λ graph. edges_of graph.items ≡ loops.calls_graph L.meaning (folder_of files.now.entries)) }
+    ensures { IfOk result (λ graph. edges_of graph.items ≡ part_of first end (loops.calls_graph L.meaning (folder_of files.now.entries))) }
 {
     let mut graph = Vec::with_capacity(alloc, files.len())?;
     for index in 0..files.len() {
         let (_, file) = file_number(files, index);
-        graph.push(all_called(alloc, files, &file.calls)?)?;
+        let calls = calls_if(is_between(first, index, end), file);
+        graph.push(all_called(alloc, files, calls)?)?;
     }
     Ok(graph)
 }
 
-/// The calls between the files, with the strongly connected components of their graph.
+/// The calls between the files, as far as they can lead back, with the strongly connected components of their graph.
 ///
-/// Takes time in proportion to the files and calls, and looks each candidate of a call up by hash.
+/// Takes time in proportion to the files and calls, and looks each candidate of a call up by hash, but for those of files whose calls can't
+/// lead back: where all calls of the files before one go back in the order of paths, or all calls of the files from one on go on.
 ///
 /// # Errors
 ///
@@ -111,7 +164,9 @@ pub fn call_graph<L: Lint>(
     requires { AreKept L.meaning L.is_unit files.now.entries }
     ensures { IfOk result (λ calls. IsCallGraph L.meaning (folder_of files.now.entries) calls.graph.items calls.labels.items) }
 {
-    let graph = calls_graph::<L>(alloc, files)?;
+    let first = first_forward(files);
+    let end = end_backward(files);
+    let graph = calls_graph::<L>(alloc, files, first, end)?;
     let labels = strongly_connected_components(alloc, graph.as_slice())?;
     Ok(CallGraph { graph, labels })
 }
@@ -161,7 +216,7 @@ fn leads_back<L: Lint>(
     target: &Target,
 ) -> bool
     requires kept { AreKept L.meaning L.is_unit files.now.entries }
-    requires labels { AreComponents (loops.calls_graph L.meaning (folder_of files.now.entries)) labels.now }
+    requires labels { TellLoops (loops.calls_graph L.meaning (folder_of files.now.entries)) labels.now }
     requires index { index < length files.now.entries }
     requires edge { IsCalledBy (loops.calls_graph L.meaning (folder_of files.now.entries)) index
         (loops.called (folder_of files.now.entries) target.now) }
@@ -174,43 +229,62 @@ fn leads_back<L: Lint>(
     }
 }
 
-/// Adds the fault of a call, if it leads back.
-fn add_if(
-    leads_back: bool,
+/// The faults of so many calls of a file, in their order, which reports list where the calls lead back.
+///
+/// # Errors
+///
+/// [`AllocError`] where memory ran out.
+pub fn call_faults<L: Lint>(
+    lint: &L,
     alloc: Global,
-    site: Site<'_>,
-    faults: &mut Vec<Fault>,
+    unit: &L::Unit,
+    count: usize,
+) -> Result<Vec<Fault>, AllocError>
+    requires { (p : List ℕ) × (b : List ℕ) × L.is_unit unit.now p b × (count ≡ length (L.meaning.calls p b)) }
+    ensures { (p b : List ℕ) → L.is_unit unit.now p b → count ≡ length (L.meaning.calls p b)
+        → IfOk result (λ faults. faults.items ≡ map loops.loop_fault (L.meaning.sites p b)) }
+{
+    let mut faults = Vec::with_capacity(alloc, count)?;
+    for call in 0..count {
+        faults.push(loop_fault(alloc, lint.site(unit, call))?)?;
+    }
+    Ok(faults)
+}
+
+/// Adds the fault of a call, if it leads back.
+fn add_if<'a>(
+    leads_back: bool,
+    fault: &'a Fault,
+    faults: &mut Vec<&'a Fault>,
 ) -> Result<(), AllocError>
-    ensures { OnOk result (faults.new.items ≡ faults.old.items ++ loops.loop_fault_if leads_back (site_of site.entry)) }
+    ensures { OnOk result (referred faults.new.items ≡ referred faults.old.items ++ cond leads_back (fault.entry.now ∷ []) []) }
 {
     if leads_back {
-        faults.push(loop_fault(alloc, site)?)?;
+        faults.push(fault)?;
     }
     Ok(())
 }
 
 /// The faults of the calls of a file with this number that lead back to it, in the order of the calls.
-fn faults_of_calls<L: Lint>(
-    lint: &L,
+fn faults_of_calls<'a, L: Lint>(
     alloc: Global,
     files: &Files<L::Unit, L::Iface>,
     labels: &[Option<usize>],
     index: usize,
-    file: &KeptFile<L::Unit, L::Iface>,
-) -> Result<Vec<Fault>, AllocError>
+    file: &'a KeptFile<L::Unit, L::Iface>,
+) -> Result<Vec<&'a Fault>, AllocError>
     requires kept { AreKept L.meaning L.is_unit files.now.entries }
-    requires labels { AreComponents (loops.calls_graph L.meaning (folder_of files.now.entries)) labels.now }
+    requires labels { TellLoops (loops.calls_graph L.meaning (folder_of files.now.entries)) labels.now }
     requires there { (p : List ℕ) × IsKept L.meaning L.is_unit p file.now
         × (slice_get (folder_of files.now.entries) index ≡ Some (p, file.now.bytes.items)) }
-    ensures { (p : List ℕ) → IsKept L.meaning L.is_unit p file.now → IfOk result (λ faults. faults.items
+    ensures { (p : List ℕ) → IsKept L.meaning L.is_unit p file.now → IfOk result (λ faults. referred faults.items
         ≡ loops.loop_faults L.meaning (folder_of files.now.entries) index p file.now.bytes.items) }
 {
     let mut faults = Vec::new(alloc);
     for (call, target) in file.calls.iter().enumerate() {
         add_if(
             leads_back::<L>(files, labels, index, target),
-            alloc,
-            lint.site(&file.unit, call),
+            &file.call_faults[call],
             &mut faults,
         )?;
     }
@@ -223,23 +297,22 @@ fn faults_of_calls<L: Lint>(
 /// # Errors
 ///
 /// [`AllocError`] where memory ran out.
-pub fn loop_faults<L: Lint>(
-    lint: &L,
+pub fn loop_faults<'a, L: Lint>(
     alloc: Global,
-    files: &Files<L::Unit, L::Iface>,
+    files: &'a Files<L::Unit, L::Iface>,
     calls: &CallGraph,
     index: usize,
-) -> Result<Vec<Fault>, AllocError>
+) -> Result<Vec<&'a Fault>, AllocError>
     requires kept { AreKept L.meaning L.is_unit files.now.entries }
     requires calls { IsCallGraph L.meaning (folder_of files.now.entries) calls.now.graph.items calls.now.labels.items }
     requires index { index < length files.now.entries }
     ensures { (p b : List ℕ) → slice_get (folder_of files.now.entries) index ≡ Some (p, b) → IfOk result (λ faults.
-        faults.items ≡ loops.loop_faults L.meaning (folder_of files.now.entries) index p b) }
+        referred faults.items ≡ loops.loop_faults L.meaning (folder_of files.now.entries) index p b) }
 {
     if !has_label_of(&calls.graph[index], &calls.labels, index) {
         return Ok(Vec::new(alloc));
     }
     let (_, file) = file_number(files, index);
-    let faults = faults_of_calls(lint, alloc, files, &calls.labels, index, file)?;
+    let faults = faults_of_calls::<L>(alloc, files, &calls.labels, index, file)?;
     Ok(faults)
 }

@@ -3,15 +3,21 @@ use Rattle.std.proofs.Common.{◌≤◌, ◌≡◌, ◌<◌, ℕ, zero, suc, ◌
 use Rattle.std.proofs.Common.{get_or, Option, Some, None, String, Vec, slice_get, refl, sym, ◌∙◌, ap, subst, ◌||◌, arith, ◌⊎◌, ⊎_elim}
 use Rattle.std.specs.Prelude.{string_bytes}
 use Rattle.std.specs.Bool.{◌==◌}
+use Rattle.std.specs.Borrow.{Bor}
 use Rattle.std.specs.Global.{Global}
-use Rattle.std.specs.List.{AllByRecursion, enumerate_from, flat_map, list_any}
-use Rattle.std.specs.List.Sorted.{IsStrictlySortedBy}
+use Rattle.std.specs.List.{AllByRecursion, dedup, dedup_from, enumerate_from, flat_map, list_any}
+use Rattle.std.specs.List.Sorted.{IsPermutation, IsSorted, IsStrictlySortedBy}
 use Rattle.std.specs.Option.{unwrap_or}
-use Rattle.std.specs.Ordering.{match_ordering}
+use Rattle.std.specs.Ordering.{is_lt, match_ordering}
 use Rattle.std.specs.declared.cmp.Ordering.{Ordering}
 use Rattle.std.specs.declared.cmp.Ordering.TheVariants.{Less, Equal, Greater}
 use Rattle.std.proofs.lemmas.Bool.Decides.{nat_tests}
-use Rattle.al_base.proofs.FaultLists.{AllByRecursion-fault_list, fault_list-sorted}
+use Rattle.std.proofs.lemmas.List.{get_or-map, length-map}
+use Rattle.std.proofs.lemmas.List.Sorted.{IsPermutation-map}
+use Rattle.al_base.proofs.FaultLists.{AllByRecursion-fault_list, derived_is, derived_ties, fault_cmp_same, fault_cmp_total, fault_list-sorted}
+use Rattle.al_base.proofs.InOrder.{dedup-in_order}
+use Rattle.al_base.specs.contracts.faults.FaultOrd.TheImpl as derived
+use Rattle.al_base.specs.contracts.faults.FaultPartialEq.TheImpl as derived_eq
 use Rattle.al_base.specs.FaultLists.{fault_cmp, fault_list}
 use Rattle.al_base.specs.InOrder.{in_order, with_one}
 use Rattle.al_text.specs.Snippets.{fault_text}
@@ -19,31 +25,31 @@ use Rattle.al_base.specs.Spans.{LiesIn}
 use Rattle.al_base.specs.declared.faults.Fault.{Fault}
 use Rattle.al_folder.specs.Meaning.{CallSite, Meaning}
 use Rattle.al_folder.specs.Folder.{Folder, answers, faults_in}
-use Rattle.al_folder.specs.Kept.{Files, folder_of, AllKept}
+use Rattle.al_folder.specs.Kept.{Files, folder_of, referred, AllKept}
 use Rattle.al_folder.specs.Loops.{calls_graph, called, leads_back, loop_fault_if, loop_faults, looping, reported}
 use Rattle.al_folder.specs.declared.kept.KeptFile.{KeptFile}
 use Rattle.al_folder.specs.declared.lint.Target.{Target}
-use Rattle.al_folder.proofs.Looping.{kept_number}
+use Rattle.al_folder.proofs.Looping.{below_length, kept_number}
 use Rattle.al_session.specs.Report.{status_of, report_of}
 use Rattle.al_session.specs.Session.{AllChecked}
-use Rattle.al_session.specs.Private.Lists.{AreJoined, ArePrintable, listed, numbered_lines}
+use Rattle.al_session.specs.Private.Lists.{AreJoined, ArePrintable, Joined, listed, numbered_lines}
 use Rattle.al_session.proofs.Reports.{any_fault}
 
 -- ---- lists that are joined
 
 abbrev Lists : Type 0
-Lists = List (Option (Vec Fault Global))
+Lists = List Joined
 
-at_before : (ls : Lists) (o : Option (Vec Fault Global)) (i : ℕ) → i < length ls → get_or (ls ++ o ∷ []) i None ≡ get_or ls i None
+at_before : (ls : Lists) (o : Joined) (i : ℕ) → i < length ls → get_or (ls ++ o ∷ []) i None ≡ get_or ls i None
 at_before [] o i h = absurd (omega (arith, h))
 at_before (l ∷ ls) o zero h = refl
 at_before (l ∷ ls) o (suc i) h = at_before ls o i (omega arith)
 
-at_end : (ls : Lists) (o : Option (Vec Fault Global)) → get_or (ls ++ o ∷ []) (length ls) None ≡ o
+at_end : (ls : Lists) (o : Joined) → get_or (ls ++ o ∷ []) (length ls) None ≡ o
 at_end [] o = refl
 at_end (l ∷ ls) o = at_end ls o
 
-one_longer : (ls : Lists) (o : Option (Vec Fault Global)) → length (ls ++ o ∷ []) ≡ length ls + 1
+one_longer : (ls : Lists) (o : Joined) → length (ls ++ o ∷ []) ≡ length ls + 1
 one_longer [] o = refl
 one_longer (l ∷ ls) o = let rest = one_longer ls o in omega (arith, rest)
 
@@ -54,7 +60,7 @@ module _ {U I : Type 0} (m : Meaning I) (files : Files U I) where
   pub joined_none : AreJoined m files [] 0
   joined_none = record { size = refl; each = λ i e lt at. absurd (omega (arith, lt)) }
 
-  pub joined_next : (old new : Lists) (o : Option (Vec Fault Global)) (n : ℕ) → new ≡ old ++ o ∷ [] → AreJoined m files old n →
+  pub joined_next : (old new : Lists) (o : Joined) (n : ℕ) → new ≡ old ++ o ∷ [] → AreJoined m files old n →
       ((e : String Global × KeptFile U I) → slice_get files n ≡ Some e → listed e.1 o ≡ reported m (folder_of files) n (string_bytes e.0) e.1.bytes.items) → AreJoined m files new (n + 1)
   joined_next old new o n more j one =
       let size : length old ≡ n = j.size in
@@ -124,17 +130,9 @@ module _ {I : Type 0} (m : Meaning I)
         record {
           small = one.small;
           lines = one.lines;
-          inside = subst P (sym (j.each i e (below files i e at) at)) (reported_inside (folder_of files) i (string_bytes e.0) e.1.bytes.items one.small);
+          inside = subst P (sym (j.each i e (below_length files i e at) at)) (reported_inside (folder_of files) i (string_bytes e.0) e.1.bytes.items one.small);
         };
   }
-    where
-      below : {X : Type 0} (xs : List X) (n : ℕ) (x : X) → slice_get xs n ≡ Some x → n < length xs
-      below [] n x e = absurd (wrong e)
-        where
-          wrong : None ≡ Some x → ⊥
-          wrong h = cc
-      below (y ∷ ys) zero x e = omega arith
-      below (y ∷ ys) (suc n) x e = let h = below ys n x e in omega (arith, h)
 
 -- ---- the report
 
@@ -154,15 +152,7 @@ pub report_is : {U I : Type 0} (m : Meaning I) (files : Files U I) (oneline : Bo
 unfolding report_of
 report_is m files oneline lists j =
     lines_from m (folder_of files) oneline lists 0 files (λ i k e is at. let same : k ≡ i = omega (arith, is) in
-    ap (λ n. listed e.1 (get_or lists n None)) same ∙ j.each i e (below files i e at) at ∙ ap (λ n. reported m (folder_of files) n (string_bytes e.0) e.1.bytes.items) (sym same))
-  where
-    below : {X : Type 0} (xs : List X) (n : ℕ) (x : X) → slice_get xs n ≡ Some x → n < length xs
-    below [] n x e = absurd (wrong e)
-      where
-        wrong : None ≡ Some x → ⊥
-        wrong h = cc
-    below (y ∷ ys) zero x e = omega arith
-    below (y ∷ ys) (suc n) x e = let h = below ys n x e in omega (arith, h)
+    ap (λ n. listed e.1 (get_or lists n None)) same ∙ j.each i e (below_length files i e at) at ∙ ap (λ n. reported m (folder_of files) n (string_bytes e.0) e.1.bytes.items) (sym same))
 
 -- ---- the status
 
@@ -172,9 +162,12 @@ some_list x xs = ap not (apart (length xs))
     apart : (n : ℕ) → (suc n == 0) ≡ false
     apart n = grind (arith, nat_tests)
 
-pub none_of : (xs : List Fault) → (length xs == 0) ≡ true → xs ≡ []
+pub none_of : {X : Type 0} (xs : List X) → (length xs == 0) ≡ true → xs ≡ []
 none_of [] e = refl
-none_of (x ∷ xs) e = absurd (let wrong : false ≡ true = sym (ap not e) ∙ some_list x xs in cc)
+none_of (x ∷ xs) e = absurd (apart (length xs) e)
+  where
+    apart : (n : ℕ) → (suc n == 0) ≡ true → ⊥
+    apart n h = grind (arith, nat_tests)
 
 put_some : (x : Fault) (ys : List Fault) → not (length (with_one fault_cmp x ys) == 0) ≡ true
 put_some x [] = some_list x []
@@ -241,33 +234,60 @@ module _ {U I : Type 0} (m : Meaning I) (files : Files U I) (checked : AllChecke
 
 -- ---- what is read by numbers
 
-pub entry_there : {X : Type 0} (xs : List X) (i : ℕ) → i < length xs → (x : X) × (slice_get xs i ≡ Some x)
-entry_there [] i h = absurd (omega (arith, h))
-entry_there (x ∷ xs) zero h = (x, refl)
-entry_there (x ∷ xs) (suc i) h = entry_there xs i (omega arith)
-
-numbered_from : {X : Type 0} (n : ℕ) (xs : List X) (i j : ℕ) (x : X) → j ≡ n + i → slice_get xs i ≡ Some x → slice_get (enumerate_from n xs) i ≡ Some (j, x)
-numbered_from n [] i j x is e = absurd (wrong e)
-  where
-    wrong : None ≡ Some x → ⊥
-    wrong h = cc
-numbered_from n (y ∷ ys) zero j x is e =
-    let same : n ≡ j = omega (arith, is) in
-    ap (λ k. Some (k, y)) same ∙ ap (λ o. Some (j, unwrap_or o y)) e
-numbered_from n (y ∷ ys) (suc i) j x is e = numbered_from (n + 1) ys i j x (omega (arith, is)) e
-
-pub numbered : {X : Type 0} (xs : List X) (i : ℕ) (x : X) → slice_get xs i ≡ Some x → slice_get (enumerate_from 0 xs) i ≡ Some (i, x)
-numbered xs i x e = numbered_from 0 xs i i x (omega arith) e
-
-pub list_read : (lists : Lists) (i : ℕ) (o : Option (Vec Fault Global)) → i < length lists → o ≡ get_or lists i o → get_or lists i None ≡ o
+pub list_read : (lists : Lists) (i : ℕ) (o : Joined) → i < length lists → o ≡ get_or lists i o → get_or lists i None ≡ o
 list_read [] i o h e = absurd (omega (arith, h))
 list_read (l ∷ ls) zero o h e = sym e
 list_read (l ∷ ls) (suc i) o h e = list_read ls i o (omega arith) e
 
+-- ---- faults in order by references to them
+
+module _ (E : Fault → Fault → Bool) where
+  dedup_from_referred : (k : Bor Fault) (xs : List (Bor Fault)) → referred (dedup_from (λ (x y : Bor Fault). E x.now y.now) k xs) ≡ dedup_from E k.now (referred xs)
+  dedup_from_referred k [] = refl
+  dedup_from_referred k (x ∷ xs) = by (E x.now k.now) (dedup_from_referred k xs) (dedup_from_referred x xs)
+    where
+      by : (b : Bool) → referred (dedup_from (λ (x y : Bor Fault). E x.now y.now) k xs) ≡ dedup_from E k.now (referred xs)
+          → referred (dedup_from (λ (x y : Bor Fault). E x.now y.now) x xs) ≡ dedup_from E x.now (referred xs)
+          → referred (cond b (dedup_from (λ (x y : Bor Fault). E x.now y.now) k xs) (k ∷ dedup_from (λ (x y : Bor Fault). E x.now y.now) x xs))
+          ≡ cond b (dedup_from E k.now (referred xs)) (k.now ∷ dedup_from E x.now (referred xs))
+      by true left right = left
+      by false left right = ap (λ l. k.now ∷ l) right
+
+  dedup_referred : (xs : List (Bor Fault)) → referred (dedup (λ (x y : Bor Fault). E x.now y.now) xs) ≡ dedup E (referred xs)
+  dedup_referred [] = refl
+  dedup_referred (x ∷ xs) = dedup_from_referred x xs
+
+sorted_referred : (xs : List (Bor Fault)) → IsSorted (λ x y. fault_cmp x.now y.now) xs → IsSorted fault_cmp (referred xs)
+sorted_referred [] s k d low high = absurd (omega (arith, high))
+sorted_referred (y ∷ ys) s k d low high =
+    let n : length (referred (y ∷ ys)) ≡ length (y ∷ ys) = length-map (y ∷ ys) (λ (r : Bor Fault). r.now) in
+    let next : get_or (referred (y ∷ ys)) (k + 1) d ≡ (get_or (y ∷ ys) (k + 1) y).now = get_or-map (λ (r : Bor Fault). r.now) (y ∷ ys) (k + 1) y d (omega (arith, n, high)) in
+    let here : get_or (referred (y ∷ ys)) k d ≡ (get_or (y ∷ ys) k y).now = get_or-map (λ (r : Bor Fault). r.now) (y ∷ ys) k y d (omega (arith, n, high)) in
+    ap (λ v. is_lt (fault_cmp v (get_or (referred (y ∷ ys)) k d))) next ∙ ap (λ v. is_lt (fault_cmp (get_or (y ∷ ys) (k + 1) y).now v)) here ∙ s k y low (omega (arith, n, high))
+
+pub ordered_referred : (xs sorted out : List (Bor Fault)) → IsPermutation xs sorted → IsSorted (λ x y. derived.ghosts.cmp x.now y.now) sorted →
+    out ≡ dedup (λ (x y : Bor Fault). derived_eq.ghosts.eq x.now y.now) sorted → referred out ≡ fault_list (referred xs)
+ordered_referred xs sorted out moved by_cmp is =
+    let order : IsSorted (λ (x y : Bor Fault). fault_cmp x.now y.now) sorted =
+    subst (λ (cmp : Fault → Fault → Ordering). IsSorted (λ (x y : Bor Fault). cmp x.now y.now) sorted) (λ i x y. derived_is x y i) by_cmp in
+    ap referred is ∙ dedup_referred derived_eq.ghosts.eq sorted
+    ∙ dedup-in_order fault_cmp_total fault_cmp_same derived_eq.ghosts.eq derived_ties (referred xs) (referred sorted) (IsPermutation-map (λ (r : Bor Fault). r.now) xs sorted moved)
+    (sorted_referred sorted order)
+
+-- what is printed of each fault that is referred to
+pub flat_map-referred : (f : Fault → List ℕ) (xs : List (Bor Fault)) → flat_map (λ (r : Bor Fault). f r.now) xs ≡ flat_map f (referred xs)
+flat_map-referred f [] = refl
+flat_map-referred f (x ∷ xs) = ap (λ l. f x.now ++ l) (flat_map-referred f xs)
+
+pub all-referred : (P : Fault → Type 0) (xs : List (Bor Fault)) (i : ℕ) (r : Bor Fault) → AllByRecursion P (referred xs) → i < length xs → r ≡ get_or xs i r → P r.now
+all-referred P [] i r all lt is = absurd (omega (arith, lt))
+all-referred P (x ∷ xs) zero r all lt is = subst (λ (y : Bor Fault). P y.now) (sym is) all.0
+all-referred P (x ∷ xs) (suc i) r all lt is = all-referred P xs i r all.1 (omega (arith, lt)) is
+
 -- a list of the program joins the file's own faults to those of its loops
 pub listed_both : {U I : Type 0} (m : Meaning I) (files : Files U I) (i : ℕ) (e : String Global × KeptFile U I) (loops all : List Fault)
-    (list : Vec Fault Global) → AllChecked m (folder_of files) files →
-    slice_get files i ≡ Some e → loops ≡ loop_faults m (folder_of files) i (string_bytes e.0) e.1.bytes.items → all ≡ loops ++ e.1.faults.items → list.items ≡ fault_list all →
+    (list : Vec (Bor Fault) Global) → AllChecked m (folder_of files) files →
+    slice_get files i ≡ Some e → loops ≡ loop_faults m (folder_of files) i (string_bytes e.0) e.1.bytes.items → all ≡ loops ++ e.1.faults.items → referred list.items ≡ fault_list all →
     listed e.1 (Some list) ≡ reported m (folder_of files) i (string_bytes e.0) e.1.bytes.items
 unfolding reported
 listed_both m files i e loops all list checked at is a o =

@@ -1,15 +1,20 @@
 //! What a folder's files print.
 
-ghost use Rattle.std.specs.Prelude.{◌≡◌, ◌<◌, not, length, ◌==◌, OnOk, OnErr, IsOkUnless};
-ghost use Rattle.std.specs.List.{enumerate_from, flat_map, list_any};
+ghost use Rattle.std.specs.Prelude.{◌≡◌, ◌<◌, ◌≤◌, not, length, ◌==◌, OnOk, OnErr, IsOkUnless};
+ghost use Rattle.std.specs.List.{AllByRecursion, enumerate_from, flat_map, list_any};
 ghost use Rattle.std.specs.Io.KnownBytes.{Appends};
 ghost use Rattle.al_base.specs.Counted.{HasRisen, AppendsFront};
+ghost use Rattle.al_base.specs.Limits.{largest_file};
+ghost use Rattle.al_base.specs.LineStarts.{line_starts};
+ghost use Rattle.al_base.specs.Spans.{LiesIn};
+ghost use Rattle.al_text.specs.Snippets.{fault_text};
 ghost use Rattle.al_base.specs.Streams.{bytes_written, write_failures};
+ghost use Rattle.al_folder.specs.Kept.{referred};
 ghost use Rattle.al_session.specs.Private.Lists.{ArePrintable, IsPrintable, lines_of, listed, numbered_lines};
 
-use al_base::{Fault, Output, Stop};
+use al_base::{Fault, Lines, Location, Output, Stop};
 use al_folder::{Files, KeptFile, file_number};
-use al_text::write_faults;
+use al_text::{write_fault_at, write_faults};
 use std::io::Write;
 
 /// Whether a file has a fault.
@@ -32,21 +37,11 @@ fn is_clean<U, I>(file: &KeptFile<U, I>) -> bool
     file.faults.is_empty()
 }
 
-// The faults that are listed of a file: those that were joined for it, or else its own.
-fn listed_faults<'a, U, I>(file: &'a KeptFile<U, I>, joined: &'a Option<Vec<Fault>>) -> &'a [Fault]
-    ensures { result.now ≡ listed file.now joined.now }
-{
-    match joined {
-        Some(faults) => faults.as_slice(),
-        None => file.faults.as_slice(),
-    }
-}
-
 /// Writes the faults that are listed of all files, each as its line, and its snippet unless `oneline` is asked for.
 pub(crate) fn write_files<U, I, W: Write>(
     writer: &mut Output<W>,
     files: &Files<U, I>,
-    lists: &[Option<Vec<Fault>>],
+    lists: &[Option<Vec<&Fault>>],
     oneline: bool,
 ) -> Result<(), Stop>
     requires { ArePrintable files.now.entries lists.now }
@@ -70,7 +65,7 @@ fn write_file<U, I, W: Write>(
     writer: &mut Output<W>,
     path: &str,
     file: &KeptFile<U, I>,
-    joined: &Option<Vec<Fault>>,
+    joined: &Option<Vec<&Fault>>,
     oneline: bool,
 ) -> Result<(), Stop>
     requires { IsPrintable file.now (listed file.now joined.now) }
@@ -82,6 +77,49 @@ fn write_file<U, I, W: Write>(
     ensures failed { OnErr result (HasRisen (write_failures writer.old) (write_failures writer.new)) }
     ensures err { IsOkUnless result Stop.WriteFault }
 {
-    let faults = listed_faults(file, joined);
-    write_faults(writer, &file.lines, path, &file.bytes, faults, oneline)
+    match joined {
+        Some(faults) => write_referred(writer, &file.lines, path, &file.bytes, faults, oneline),
+        None => write_faults(
+            writer,
+            &file.lines,
+            path,
+            &file.bytes,
+            &file.faults,
+            oneline,
+        ),
+    }
+}
+
+// Writes faults of a file that are referred to, as `write_faults` writes those of one list.
+fn write_referred<W: Write>(
+    writer: &mut Output<W>,
+    lines: &Lines,
+    path: &str,
+    bytes: &[u8],
+    faults: &[&Fault],
+    oneline: bool,
+) -> Result<(), Stop>
+    requires made { lines.now ≡ line_starts bytes.now }
+    requires within { AllByRecursion (λ fault. LiesIn (length bytes.now) fault.span) (referred faults.now) }
+    requires small { length bytes.now ≤ largest_file }
+    ensures all { OnOk result (Appends (bytes_written W.contents writer.old) (bytes_written W.contents writer.new)
+        (flat_map (fault_text oneline path.now bytes.now) (referred faults.now))) }
+    ensures front { OnErr result (AppendsFront (bytes_written W.contents writer.old) (bytes_written W.contents writer.new)
+        (flat_map (fault_text oneline path.now bytes.now) (referred faults.now))) }
+    ensures failures { OnOk result (write_failures writer.new ≡ write_failures writer.old) }
+    ensures failed { OnErr result (HasRisen (write_failures writer.old) (write_failures writer.new)) }
+    ensures err { IsOkUnless result Stop.WriteFault }
+{
+    let mut at = 0;
+    let mut location = Location {
+        line: 1,
+        column: 1,
+        start: 0,
+    };
+    for fault in faults {
+        location = lines.location_after(bytes, at, location, fault.span.start);
+        at = fault.span.start;
+        write_fault_at(writer, path, bytes, *fault, location, oneline)?;
+    }
+    Ok(())
 }

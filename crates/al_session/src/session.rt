@@ -267,7 +267,7 @@ impl<L: Lint> Session<L> {
         if has_faults(&self.files) {
             return Ok(1);
         }
-        let some = has_loops(&self.lint, self.alloc, &self.files)?;
+        let some = has_loops::<L>(self.alloc, &self.files)?;
         if some {
             return Ok(1);
         }
@@ -293,7 +293,7 @@ impl<L: Lint> Session<L> {
         ensures failed { result ≡ Err Stop.WriteFault → HasRisen (write_failures writer.old) (write_failures writer.new) }
         ensures no_read { (result ≢ Err Stop.ReadFault) × (result ≢ Err Stop.TooManyTurns) }
     {
-        let Ok(lists) = join_all(&self.lint, self.alloc, &self.files) else {
+        let Ok(lists) = join_all::<L>(self.alloc, &self.files) else {
             return Err(Stop::Memory);
         };
         write_files(writer, &self.files, lists.as_slice(), oneline)

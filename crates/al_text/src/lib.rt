@@ -17,5 +17,5 @@ pub use al_base::{
     position, rows,
 };
 pub use examples::snippet_rows;
-pub use printing::{write_fault, write_faults};
+pub use printing::{write_fault, write_fault_at, write_faults};
 pub use wordings::kind;

@@ -1,22 +1,42 @@
--- The graph of calls, and labels of its strongly connected components.
-use Rattle.std.specs.Prelude.{ℕ, ◌<◌, ◌≡◌, List, Option, Some, None, Vec, length, slice_index_or}
+-- The graph of calls, as far as calls can lead back, and labels that tell which ones do.
+use Rattle.std.specs.Prelude.{ℕ, ◌≤◌, ◌<◌, ◌≡◌, ◌↔◌, ◌&&◌, false, List, [], Option, Some, None, String, Vec, length, map}
+use Rattle.std.specs.Prelude.{cond, nat_le, nat_lt, slice_get, slice_index_or}
 use Rattle.std.specs.Global.{Global}
-use Rattle.al_graph.specs.Graphs.{Edge, StronglyConnected, edges_of}
+use Rattle.std.specs.List.{enumerate_from}
+use Rattle.al_graph.specs.Graphs.{Edge, Walk, edges_of}
 use Rattle.al_folder.specs.Meaning.{Meaning}
 use Rattle.al_folder.specs.Folder.{Folder}
+use Rattle.al_folder.specs.Kept.{Files}
 use Rattle.al_folder.specs.Loops.{calls_graph}
+use Rattle.al_folder.specs.declared.kept.KeptFile.{KeptFile}
+
+-- no file before this number calls its own path or one behind it
+abbrev pub NoneForward : {U I : Type 0} → Files U I → ℕ → Type 0
+NoneForward {U} {I} files first = (k : ℕ) (e : String Global × KeptFile U I) → k < first → slice_get files k ≡ Some e →
+    e.1.calls_forward ≡ false
+
+-- no file from this number on calls its own path or one in front of it
+abbrev pub NoneBackward : {U I : Type 0} → Files U I → ℕ → Type 0
+NoneBackward {U} {I} files end = (k : ℕ) (e : String Global × KeptFile U I) → end ≤ k → slice_get files k ≡ Some e →
+    e.1.calls_backward ≡ false
+
+-- a graph with the edges from some nodes alone: those from one number on and before another
+abbrev pub part_of : ℕ → ℕ → List (List ℕ) → List (List ℕ)
+part_of first end graph = map (λ x. cond (nat_le first x.0 && nat_lt x.0 end) x.1 []) (enumerate_from 0 graph)
 
 -- there is an edge from the file with this number to the one that a call leads to
 abbrev pub IsCalledBy : List (List ℕ) → ℕ → Option ℕ → Type 0
 IsCalledBy graph file None = Unit {0}
 IsCalledBy graph file (Some to) = Edge graph file to
 
--- labels of files, the same just for files in one strongly connected component of the graph
-abbrev pub AreComponents : List (List ℕ) → List (Option ℕ) → Type 0
-AreComponents graph labels = (length labels ≡ length graph) × ((j k : ℕ) → j < length graph → k < length graph →
-    ((slice_index_or labels j None ≡ slice_index_or labels k None) → StronglyConnected graph j k)
-    × (StronglyConnected graph j k → slice_index_or labels j None ≡ slice_index_or labels k None))
+-- labels of files: that of a file is the same as that of one to which a call of it leads just where further calls lead back
+abbrev pub TellLoops : List (List ℕ) → List (Option ℕ) → Type 0
+TellLoops graph labels = (length labels ≡ length graph) × ((j k : ℕ) → Edge graph j k →
+    (slice_index_or labels k None ≡ slice_index_or labels j None) ↔ Walk graph k j)
 
--- the program's graph of a folder's calls, and labels of the folder's files
-abbrev pub IsCallGraph : {I : Type 0} → Meaning I → Folder → List (Vec ℕ Global) → List (Option ℕ) → Type 0
-IsCallGraph m f graph labels = (edges_of graph ≡ calls_graph m f) × AreComponents (calls_graph m f) labels
+-- The program's graph of a folder's calls: it has those that lead back, and labels tell which ones they are.
+pub record IsCallGraph {I : Type 0} (m : Meaning I) (f : Folder) (graph : List (Vec ℕ Global)) (labels : List (Option ℕ)) : Type 0 where
+  pub size : length graph ≡ length f
+  pub inside : (j k : ℕ) → Edge (edges_of graph) j k → k < length f
+  pub kept : (j k : ℕ) → Edge (calls_graph m f) j k → Walk (calls_graph m f) k j → Edge (edges_of graph) j k
+  pub tell : TellLoops (calls_graph m f) labels

@@ -1,6 +1,7 @@
 -- Faults that are given to files, joined for a report, and printed.
 use Rattle.std.specs.Prelude.{◌≡◌, ℕ, ◌≤◌, Bool, List, [], ◌∷◌}
 use Rattle.std.specs.Prelude.{length, ◌<◌, Option, Some, None, String, Vec, slice_get, slice_index_or, string_bytes, bytes_eq, cond}
+use Rattle.std.specs.Borrow.{Bor}
 use Rattle.std.specs.Global.{Global}
 use Rattle.std.specs.List.{AllByRecursion, flat_map}
 use Rattle.al_base.specs.declared.faults.Fault.{Fault}
@@ -11,7 +12,7 @@ use Rattle.al_base.specs.Limits.{largest_file}
 use Rattle.al_folder.specs.Meaning.{Meaning}
 use Rattle.al_folder.specs.Loops.{reported}
 use Rattle.al_folder.specs.declared.kept.KeptFile.{KeptFile}
-use Rattle.al_folder.specs.Kept.{Files, folder_of}
+use Rattle.al_folder.specs.Kept.{Files, folder_of, referred}
 
 -- Faults that are given
 
@@ -28,17 +29,21 @@ with_lists files (p ∷ ps) (list ∷ lists) = with_faults (with_lists files ps 
 
 -- Printing
 
+-- faults of one file that stand in two lists, where they were joined
+abbrev pub Joined : Type 0
+Joined = Option (Vec (Bor Fault) Global)
+
 -- the faults that are listed of a kept file: those that were joined for it, or else its own
-abbrev pub listed : {U I : Type 0} → KeptFile U I → Option (Vec Fault Global) → List Fault
+abbrev pub listed : {U I : Type 0} → KeptFile U I → Joined → List Fault
 listed file None = file.faults.items
-listed file (Some faults) = faults.items
+listed file (Some faults) = referred faults.items
 
 -- what a report prints of these faults of a kept file
 abbrev pub lines_of : {U I : Type 0} → Bool → List ℕ → KeptFile U I → List Fault → List ℕ
 lines_of oneline path file faults = flat_map (fault_text oneline path file.bytes.items) faults
 
 -- of the file with this number, where these lists were joined
-abbrev pub numbered_lines : {U I : Type 0} → Bool → List (Option (Vec Fault Global)) → ℕ × (String Global × KeptFile U I) → List ℕ
+abbrev pub numbered_lines : {U I : Type 0} → Bool → List Joined → ℕ × (String Global × KeptFile U I) → List ℕ
 numbered_lines oneline lists x = lines_of oneline (string_bytes x.1.0) x.1.1 (listed x.1.1 (slice_index_or lists x.0 None))
 
 -- A kept file of which these faults can be printed: they lie in it.
@@ -48,18 +53,18 @@ pub record IsPrintable {U I : Type 0} (file : KeptFile U I) (faults : List Fault
   pub inside : AllByRecursion (λ fault. LiesIn (length file.bytes.items) fault.span) faults
 
 -- where this was joined for the file with this number, its listed faults are those that a report lists
-abbrev pub IsListed : {U I : Type 0} → Meaning I → Files U I → ℕ → Option (Vec Fault Global) → Type 0
+abbrev pub IsListed : {U I : Type 0} → Meaning I → Files U I → ℕ → Joined → Type 0
 IsListed {U} {I} m files i joined = (e : String Global × KeptFile U I) → slice_get files i ≡ Some e →
     listed e.1 joined ≡ reported m (folder_of files) i (string_bytes e.0) e.1.bytes.items
 
 -- Lists joined for the files before a number: each file's listed faults are those that a report lists.
-pub record AreJoined {U I : Type 0} (m : Meaning I) (files : Files U I) (lists : List (Option (Vec Fault Global))) (n : ℕ) : Type 0 where
+pub record AreJoined {U I : Type 0} (m : Meaning I) (files : Files U I) (lists : List Joined) (n : ℕ) : Type 0 where
   pub size : length lists ≡ n
   pub each : (i : ℕ) (e : String Global × KeptFile U I) → i < n → slice_get files i ≡ Some e →
       listed e.1 (slice_index_or lists i None) ≡ reported m (folder_of files) i (string_bytes e.0) e.1.bytes.items
 
 -- a list for each file, and each file's listed faults can be printed
-pub record ArePrintable {U I : Type 0} (files : Files U I) (lists : List (Option (Vec Fault Global))) : Type 0 where
+pub record ArePrintable {U I : Type 0} (files : Files U I) (lists : List Joined) : Type 0 where
   pub size : length lists ≡ length files
   pub each : (i : ℕ) (e : String Global × KeptFile U I) → slice_get files i ≡ Some e →
       IsPrintable e.1 (listed e.1 (slice_index_or lists i None))

@@ -1,8 +1,9 @@
-use Rattle.std.proofs.Common.{◌∙◌, ◌<◌, ◌++◌, length, get_or, ap, arith}
-use Rattle.al_folder.specs.Kept.{folder_of}
-use Rattle.al_folder.specs.Loops.{calls_graph, loop_fault_if}
-use Rattle.al_folder.specs.Sites.{site_of}
-use Rattle.al_folder.proofs.Looping.{call_edge, looping_next}
+use Rattle.std.proofs.Common.{◌≡◌, ◌∙◌, ◌<◌, ◌++◌, ◌∷◌, [], cond, length, get_or, ap, arith, map}
+use Rattle.std.proofs.lemmas.List.{length-map}
+use Rattle.al_base.specs.declared.faults.Fault.{Fault}
+use Rattle.al_folder.specs.Kept.{folder_of, referred}
+use Rattle.al_folder.specs.Loops.{called, calls_graph, leads_back, loop_fault}
+use Rattle.al_folder.proofs.Looping.{call_edge, entry_there, kept_fault, looping_next}
 use Rattle.al_folder.proofs.loops.faults_of_calls.Goals as goal
 
 pub leads_back-requires-clause-edge : goal.leads_back-requires-clause-edge
@@ -16,11 +17,16 @@ leads_back-requires-clause-edge g c =
     call_edge m F c.args.index c.loop-call.call p c.args.file.now.bytes.items c.target-item.result c.requires.there.2
     (omega (arith, c.loop-call-test.true, ap length items)) read
 
-pub site-requires : goal.site-requires
-site-requires g c =
+pub index-requires : goal.index-requires
+index-requires g c =
+    let m = g.L.Lint.meaning in
+    let p = c.requires.there.0 in
     let kept = c.requires.there.1 in
+    let b = c.args.file.now.bytes.items in
     let items = c.deref-target-items.ensures.value ∙ kept.calls in
-    (c.requires.there.0, c.args.file.now.bytes.items, kept.unit, omega (arith, c.loop-call-test.true, ap length items))
+    let n : length (m.sites p b) ≡ length (m.calls p b) = g.met.L.Lint.sited p b in
+    let f : length (map loop_fault (m.sites p b)) ≡ length (m.sites p b) = length-map (m.sites p b) loop_fault in
+    omega (arith, c.loop-call-test.true, ap length items, ap length kept.call_faults, n, f)
 
 pub loop-call-preserved : goal.loop-call-preserved
 loop-call-preserved g c p kept =
@@ -30,7 +36,12 @@ loop-call-preserved g c p kept =
     let items = c.deref-target-items.ensures.value ∙ kept.calls in
     let read = c.target-item.is ∙ ap (λ l. get_or l c.loop-call.call c.target-item.result) items in
     let within : c.loop-call.call < length (m.calls p b) = omega (arith, c.loop-call-test.true, ap length items) in
-    let site = site_of c.site.result in
-    let added = c.in_ok-add_if.ensures ∙ ap (λ v. c.loop-call.faults.items ++ loop_fault_if v site) c.leads_back.ensures in
-    looping_next (calls_graph m F) F c.args.index (m.calls p b) (m.sites p b) c.loop-call.call c.loop-call.faults.items _
-    (c.loop-call.invariant p kept) c.add_if.new.faults.items c.target-item.result site within read (c.site.ensures p b kept.unit) added
+    let n : length (m.sites p b) ≡ length (m.calls p b) = g.met.L.Lint.sited p b in
+    let site = entry_there (m.sites p b) c.loop-call.call (omega (arith, within, n)) in
+    let fault = kept_fault (m.sites p b) c.args.file.now.call_faults.items c.loop-call.call site.0 c.index.result.now kept.call_faults site.1 c.index.ensures in
+    let G = calls_graph m F in
+    let before = referred c.loop-call.faults.items in
+    let added = c.in_ok-add_if.ensures ∙ ap (λ v. before ++ cond v (c.index.result.now ∷ []) []) c.leads_back.ensures
+    ∙ ap (λ (f : Fault). before ++ cond (leads_back G c.args.index (called F c.target-item.result)) (f ∷ []) []) fault in
+    looping_next (calls_graph m F) F c.args.index (m.calls p b) (m.sites p b) c.loop-call.call before _
+    (c.loop-call.invariant p kept) (referred c.add_if.new.faults.items) c.target-item.result site.0 within read site.1 added

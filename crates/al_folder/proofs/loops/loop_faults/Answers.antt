@@ -1,9 +1,9 @@
-use Rattle.std.proofs.Common.{◌≡◌, ◌∙◌, arith, length, subst, sym, String, List, ℕ}
+use Rattle.std.proofs.Common.{◌≡◌, ◌∙◌, ap, arith, length, subst, sym, String, List, ℕ}
 use Rattle.std.proofs.lemmas.List.{length-map}
 use Rattle.std.specs.Prelude.{string_bytes}
 use Rattle.std.specs.Global.{Global}
 use Rattle.al_folder.specs.declared.kept.KeptFile.{KeptFile}
-use Rattle.al_folder.specs.Kept.{folder_of}
+use Rattle.al_folder.specs.Kept.{folder_of, referred}
 use Rattle.al_folder.specs.Loops.{loop_faults}
 use Rattle.al_folder.proofs.Looping.{entry_number, kept_number, row_inside, row_quiet, same_entry}
 use Rattle.al_folder.proofs.loops.loop_faults.Goals as goal
@@ -21,7 +21,7 @@ returns-then-not-has_label_of g c p b at =
     let F = folder_of c.args.files.now.entries in
     let n : length F ≡ length c.args.files.now.entries = length-map c.args.files.now.entries _ in
     let there = c.requires.index in
-    c.new.ensures.items ∙ row_quiet g.L.Lint.meaning F c.args.calls.now.graph.items c.args.calls.now.labels.items c.deref-2.result.now c.deref.result.now c.index.result.now
+    ap referred c.new.ensures.items ∙ row_quiet g.L.Lint.meaning F c.args.calls.now.graph.items c.args.calls.now.labels.items c.deref-2.result.now c.deref.result.now c.index.result.now
     c.args.index c.requires.calls (omega (arith, there, n)) c.index.ensures c.deref.ensures.value c.deref-2.ensures.value
     (sym c.has_label_of.ensures ∙ c.if-not-has_label_of.true) p b at
 
@@ -39,5 +39,5 @@ returns g c p b at =
     let kept = kept_number g.L.Lint.meaning g.L.Lint.is_unit c.args.files.now.entries c.args.index e c.requires.kept.kept c.file_number.ensures in
     let same = same_entry (folder_of c.args.files.now.entries) c.args.index (string_bytes e.0, e.1.bytes.items) (p, b)
     (entry_number c.args.files.now.entries c.args.index e c.file_number.ensures) at in
-    subst (λ (x : List ℕ × List ℕ). c.in_ok-faults.faults.items ≡ loop_faults g.L.Lint.meaning (folder_of c.args.files.now.entries) c.args.index x.0 x.1) same
+    subst (λ (x : List ℕ × List ℕ). referred c.in_ok-faults.faults.items ≡ loop_faults g.L.Lint.meaning (folder_of c.args.files.now.entries) c.args.index x.0 x.1) same
     (c.in_ok-faults.ensures (string_bytes e.0) kept)

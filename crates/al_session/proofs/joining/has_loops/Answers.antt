@@ -5,8 +5,8 @@ use Rattle.std.proofs.lemmas.List.{length-map, take_all}
 use Rattle.std.proofs.lemmas.List.FromFn.{length-enumerate_from}
 use Rattle.al_folder.specs.Kept.{folder_of}
 use Rattle.al_folder.specs.Loops.{loop_faults}
+use Rattle.al_folder.proofs.Looping.{entry_there, numbered}
 use Rattle.al_session.proofs.Reports.{any_found, any_none}
-use Rattle.al_session.proofs.ListedFaults.{entry_there, numbered}
 use Rattle.al_session.proofs.joining.has_loops.Goals as goal
 
 pub returns-then-not-is_empty : goal.returns-then-not-is_empty
@@ -17,7 +17,8 @@ returns-then-not-is_empty g c =
     let x = entry_there F c.loop-index.index (omega (arith, n, c.len-index-end.ensures.len, c.loop-index-test.true)) in
     let is = c.in_ok-faults.ensures x.0.0 x.0.1 x.1 in
     let some : not (length c.in_ok-faults.faults.items == 0) ≡ true = search rules in
-    sym (any_found T (enumerate_from 0 F) c.loop-index.index (c.loop-index.index, x.0) (numbered F c.loop-index.index x.0 x.1) (ap (λ l. not (length l == 0)) (sym is) ∙ some))
+    sym (any_found T (enumerate_from 0 F) c.loop-index.index (c.loop-index.index, x.0) (numbered F c.loop-index.index x.0 x.1)
+    (ap (λ l. not (length l == 0)) (sym is) ∙ ap (λ k. not (k == 0)) (length-map c.in_ok-faults.faults.items _) ∙ some))
 
 pub loop-index-preserved : goal.loop-index-preserved
 loop-index-preserved g c =
@@ -29,7 +30,7 @@ loop-index-preserved g c =
     let none : not (length c.in_ok-faults.faults.items == 0) ≡ false = search rules in
     let e : c.loop-index.index + 1 ≡ suc c.loop-index.index = omega arith in
     ap (λ j. list_any T (take j (enumerate_from 0 F))) e ∙ any_none T (enumerate_from 0 F) c.loop-index.index (c.loop-index.index, x.0)
-    (numbered F c.loop-index.index x.0 x.1) (ap (λ l. not (length l == 0)) (sym is) ∙ none) c.loop-index.invariant
+    (numbered F c.loop-index.index x.0 x.1) (ap (λ l. not (length l == 0)) (sym is) ∙ ap (λ k. not (k == 0)) (length-map c.in_ok-faults.faults.items _) ∙ none) c.loop-index.invariant
 
 pub returns : goal.returns
 returns g c =

@@ -1,13 +1,11 @@
-use Rattle.std.proofs.Common.{sym, subst, arith, ℕ, List, Option, Vec}
-use Rattle.std.specs.Global.{Global}
-use Rattle.al_base.specs.declared.faults.Fault.{Fault}
-use Rattle.al_session.specs.Private.Lists.{AreJoined}
+use Rattle.std.proofs.Common.{sym, subst, arith, ℕ, List}
+use Rattle.al_session.specs.Private.Lists.{Joined, AreJoined}
 use Rattle.al_session.proofs.ListedFaults.{joined_next, joined_none}
 use Rattle.al_session.proofs.joining.join_all.Goals as goal
 
 pub loop-index-init : goal.loop-index-init
 loop-index-init g c =
-    let P : List (Option (Vec Fault Global)) → Type 0 = λ ls. AreJoined g.L.Lint.meaning c.args.files.now.entries ls 0 in
+    let P : List Joined → Type 0 = λ ls. AreJoined g.L.Lint.meaning c.args.files.now.entries ls 0 in
     subst P (sym c.in_ok-lists.ensures.items) (joined_none g.L.Lint.meaning c.args.files.now.entries)
 
 pub loop-index-preserved : goal.loop-index-preserved

@@ -2,7 +2,7 @@ use Rattle.std.specs.Bool.{◌==◌}
 use Rattle.std.proofs.Common.{rules, true, ◌≡◌, ◌∙◌, ◌++◌, ap, sym, String, length}
 use Rattle.std.specs.Prelude.{string_bytes}
 use Rattle.std.specs.Global.{Global}
-use Rattle.al_folder.specs.Kept.{folder_of}
+use Rattle.al_folder.specs.Kept.{folder_of, referred}
 use Rattle.al_folder.specs.declared.kept.KeptFile.{KeptFile}
 use Rattle.al_folder.proofs.Looping.{entry_number}
 use Rattle.al_session.proofs.ListedFaults.{checked_number, listed_both, none_of, one_entry, own_reported}
@@ -13,15 +13,15 @@ returns-then-is_empty g c e at =
     let F = folder_of c.args.files.now.entries in
     let is = c.in_ok-faults.ensures (string_bytes e.0) e.1.bytes.items (entry_number c.args.files.now.entries c.args.index e at) in
     let empty : (length c.in_ok-faults.faults.items == 0) ≡ true = search rules in
-    let none = none_of c.in_ok-faults.faults.items empty in
+    let none = ap referred (none_of c.in_ok-faults.faults.items empty) in
     own_reported g.L.Lint.meaning g.met.L.Lint.ordered F c.args.index (string_bytes e.0) e.1.bytes.items e.1.faults.items
     (checked_number g.L.Lint.meaning F c.args.files.now.entries c.args.index e c.requires.checked at) (sym is ∙ none)
 
 pub returns : goal.returns
 returns g c e at =
-    let F = folder_of c.args.files.now.entries in
     let is = c.in_ok-faults.ensures (string_bytes e.0) e.1.bytes.items (entry_number c.args.files.now.entries c.args.index e at) in
     let own : String Global × KeptFile _ _ = (c.file_number.result.0.now, c.file_number.result.1.now) in
     let same = one_entry c.args.files.now.entries c.args.index own e c.file_number.ensures at in
-    let all = c.in_ok-add_copies.ensures.all ∙ ap (λ l. c.in_ok-faults.faults.items ++ l) (c.deref.ensures.value ∙ ap (λ x. x.1.faults.items) same) in
-    listed_both g.L.Lint.meaning c.args.files.now.entries c.args.index e c.in_ok-faults.faults.items c.add_copies.new.out.items c.ordered.result c.requires.checked at is all c.ordered.ensures
+    let all = c.in_ok-add_references.ensures ∙ ap (λ l. referred c.in_ok-faults.faults.items ++ l) (c.deref.ensures.value ∙ ap (λ x. x.1.faults.items) same) in
+    listed_both g.L.Lint.meaning c.args.files.now.entries c.args.index e (referred c.in_ok-faults.faults.items) (referred c.add_references.new.out.items) c.in_order.result
+    c.requires.checked at is all c.in_order.ensures

@@ -1,4 +1,4 @@
-use Rattle.std.proofs.Common.{arith, ◌<◌, ◌∙◌, ◌≡◌, String, sym, subst, Option, Vec, length, None, get_or}
+use Rattle.std.proofs.Common.{arith, ◌<◌, ◌∙◌, ◌≡◌, String, sym, subst, length, None, get_or}
 use Rattle.std.specs.Prelude.{string_bytes}
 use Rattle.std.specs.Global.{Global}
 use Rattle.std.specs.List.{enumerate_from, flat_map}
@@ -7,12 +7,12 @@ use Rattle.std.proofs.lemmas.List.{take_all}
 use Rattle.std.proofs.lemmas.Result.{err_from_is_err_and}
 use Rattle.std.proofs.lemmas.List.FromFn.{length-enumerate_from}
 use Rattle.al_base.specs.Counted.{AppendsFront}
-use Rattle.al_base.specs.declared.faults.Fault.{Fault}
-use Rattle.al_session.specs.Private.Lists.{IsPrintable, lines_of, listed, numbered_lines}
+use Rattle.al_session.specs.Private.Lists.{Joined, IsPrintable, lines_of, listed, numbered_lines}
 use Rattle.al_folder.specs.declared.kept.KeptFile.{KeptFile}
+use Rattle.al_folder.proofs.Looping.{numbered}
 use Rattle.al_folder.proofs.Missings.{read_is}
 use Rattle.al_base.proofs.Bytes.{Appends-next, AppendsFront-next}
-use Rattle.al_session.proofs.ListedFaults.{list_read, numbered}
+use Rattle.al_session.proofs.ListedFaults.{list_read}
 use Rattle.al_session.proofs.report.write_files.Goals as goal
 
 pub write_file-requires : goal.write_file-requires
@@ -20,7 +20,7 @@ write_file-requires g c =
     let e : String Global × KeptFile _ _ = (c.file_number.result.0.now, c.file_number.result.1.now) in
     let inside : c.loop-index.index < length c.args.lists.now = omega (arith, c.requires.size, c.len-index-end.ensures.len, c.loop-index-test.true) in
     let read : get_or c.args.lists.now c.loop-index.index None ≡ c.index-lists-index.result = list_read c.args.lists.now c.loop-index.index c.index-lists-index.result inside c.index-lists-index.is in
-    let P : Option (Vec Fault Global) → Type 0 = λ o. IsPrintable e.1 (listed e.1 o) in
+    let P : Joined → Type 0 = λ o. IsPrintable e.1 (listed e.1 o) in
     subst P read (c.requires.each c.loop-index.index e c.file_number.ensures)
 
 pub returns-in_err-write_file-clause-front : goal.returns-in_err-write_file-clause-front
@@ -30,7 +30,7 @@ returns-in_err-write_file-clause-front g c =
     let e : String Global × KeptFile _ _ = (c.file_number.result.0.now, c.file_number.result.1.now) in
     let inside : c.loop-index.index < length c.args.lists.now = omega (arith, c.requires.size, c.len-index-end.ensures.len, c.loop-index-test.true) in
     let read : get_or c.args.lists.now c.loop-index.index None ≡ c.index-lists-index.result = list_read c.args.lists.now c.loop-index.index c.index-lists-index.result inside c.index-lists-index.is in
-    let P : Option (Vec Fault Global) → Type 0 = λ o. AppendsFront (g.W.Write.contents c.loop-index.writer.inner)
+    let P : Joined → Type 0 = λ o. AppendsFront (g.W.Write.contents c.loop-index.writer.inner)
     (g.W.Write.contents c.write_file.new.writer.inner) (lines_of c.args.oneline (string_bytes e.0) e.1 (listed e.1 o)) in
     rw p.1 (AppendsFront-next (numbered_lines c.args.oneline c.args.lists.now) (enumerate_from 0 files) c.loop-index.index (c.loop-index.index, e)
     (omega (arith, length-enumerate_from 0 files, c.len-index-end.ensures.len, c.loop-index-test.true))
@@ -43,7 +43,7 @@ loop-index-preserved g c =
     let e : String Global × KeptFile _ _ = (c.file_number.result.0.now, c.file_number.result.1.now) in
     let inside : c.loop-index.index < length c.args.lists.now = omega (arith, c.requires.size, c.len-index-end.ensures.len, c.loop-index-test.true) in
     let read : get_or c.args.lists.now c.loop-index.index None ≡ c.index-lists-index.result = list_read c.args.lists.now c.loop-index.index c.index-lists-index.result inside c.index-lists-index.is in
-    let P : Option (Vec Fault Global) → Type 0 = λ o. Appends (g.W.Write.contents c.loop-index.writer.inner) (g.W.Write.contents c.write_file.new.writer.inner)
+    let P : Joined → Type 0 = λ o. Appends (g.W.Write.contents c.loop-index.writer.inner) (g.W.Write.contents c.write_file.new.writer.inner)
     (lines_of c.args.oneline (string_bytes e.0) e.1 (listed e.1 o)) in
     record {
       appended = Appends-next (numbered_lines c.args.oneline c.args.lists.now) (enumerate_from 0 files) c.loop-index.index (c.loop-index.index, e)
