@@ -1,18 +1,19 @@
 -- Texts that are one expression.
-use Rattle.std.specs.Prelude.{ℕ, List, [], ◌∷◌, Bool, false, ◌==◌, ◌||◌, ◌&&◌, ◌+◌, ◌-◌, nat_le, length, take, drop, Option, None}
+use Rattle.std.specs.Prelude.{ℕ, List, [], ◌∷◌, Bool, false, ◌&&◌, ◌+◌, ◌-◌, nat_le, length, take, drop, Option, None}
 use Rattle.std.specs.List.{list_all}
 use Rattle.std.specs.Str.{is_utf8}
 use Rattle.al_base.specs.declared.faults.Fault.{Fault}
 use Rattle.al_base.specs.declared.faults.Span.{Span}
 use Rattle.al_base.specs.Limits.{longest_text}
 use Rattle.al_grammar.specs.Chunks.{chunks_of}
+use Rattle.al_grammar.specs.Tokens.{is_blank}
 use Rattle.al_formats.specs.declared.chunks.Around.{Around}
 use Rattle.al_formats.specs.declared.chunks.Around.TheVariants.{Blanks, Nothing}
 
 -- what may stand outside the braces: nothing, or blanks and breaks
 abbrev pub may_stand : Around → ℕ → Bool
 may_stand Nothing b = false
-may_stand Blanks b = b == 32 || b == 9 || b == 10 || b == 13
+may_stand Blanks b = is_blank b
 
 abbrev pub stands_alone : Around → List ℕ → Span → Bool
 stands_alone around text s = list_all (may_stand around) (take (s.start - 3) text) && list_all (may_stand around) (drop (s.end + 2) text)
