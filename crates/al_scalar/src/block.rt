@@ -87,13 +87,10 @@ fn row_start(bytes: &[u8], at: usize, indent: Option<usize>, found: bool) -> Opt
     let blank = blank_line_end(bytes, at);
     match blank {
         Some(end) => {
-            match indent {
-                Some(most) => {
-                    if found {
-                        return indented_row(bytes, at, most, blank);
-                    }
+            if let Some(most) = indent {
+                if found {
+                    return indented_row(bytes, at, most, blank);
                 }
-                None => {}
             }
             Some(RowStart {
                 from: end,

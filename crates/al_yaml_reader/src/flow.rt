@@ -386,39 +386,7 @@ pub fn read_flow_collection(
     let (mut has, mut next) = open_at(file, at);
     let mut opening = at;
     'nodes: loop {
-        match next {
-            After::GoesOn(from) => {
-                let inner = depth + 1 + (progress.stack.len() - outside) as u32;
-                match read_inside(file, &mut progress.state, opening, &mut has, from, inner)? {
-                    FlowStep::Behind(after) => next = after,
-                    FlowStep::Opens(bracket) => {
-                        progress.state.start(bracket.at, 1, inner)?;
-                        let (nothing, first) = open_at(file, bracket.at);
-                        match first {
-                            After::Closes(end) => {
-                                let part = closed_part(bracket.at, nothing, end);
-                                let part = completed(
-                                    file,
-                                    &mut progress.state,
-                                    bracket.anchor,
-                                    part,
-                                )?;
-                                next = resume(file, opening, &mut has, bracket.at, part)?;
-                            }
-                            After::GoesOn(inside) => {
-                                progress.stack.push_flow(FlowFrame {
-                                    opening,
-                                    has,
-                                    inner: bracket,
-                                });
-                                opening = bracket.at;
-                                has = nothing;
-                                next = After::GoesOn(inside);
-                            }
-                        }
-                    }
-                }
-            }
+        let from = match next {
             After::Closes(end) => {
                 let part = closed_part(opening, has, end);
                 // what is open outside isn't moved
@@ -432,6 +400,42 @@ pub fn read_flow_collection(
                 has = frame.has;
                 let part = completed(file, &mut progress.state, frame.inner.anchor, part)?;
                 next = resume(file, opening, &mut has, frame.inner.at, part)?;
+                continue 'nodes;
+            }
+            After::GoesOn(from) => from,
+        };
+        let inner = depth + 1 + (progress.stack.len() - outside) as u32;
+        let bracket = match read_inside(
+            file,
+            &mut progress.state,
+            opening,
+            &mut has,
+            from,
+            inner,
+        )? {
+            FlowStep::Behind(after) => {
+                next = after;
+                continue 'nodes;
+            }
+            FlowStep::Opens(bracket) => bracket,
+        };
+        progress.state.start(bracket.at, 1, inner)?;
+        let (nothing, first) = open_at(file, bracket.at);
+        match first {
+            After::Closes(end) => {
+                let part = closed_part(bracket.at, nothing, end);
+                let part = completed(file, &mut progress.state, bracket.anchor, part)?;
+                next = resume(file, opening, &mut has, bracket.at, part)?;
+            }
+            After::GoesOn(inside) => {
+                progress.stack.push_flow(FlowFrame {
+                    opening,
+                    has,
+                    inner: bracket,
+                });
+                opening = bracket.at;
+                has = nothing;
+                next = After::GoesOn(inside);
             }
         }
     }
