@@ -5,8 +5,9 @@
 Each file crates/NAME/more-edits/*.edit has the form of one of must-fail/: the prover must refuse the crate with it. With --must-fail those
 of the gate are tried instead, in a fraction of the time that it takes for them from nothing. Edits of different functions go into one
 check of a copy of the crate, over the work that `rt check` keeps in the crates' out/, so the crate has to be proved there first. An edit
-is refused where the function that it stands in is not proved; one that stands in no function (a table) goes into a check of its own, which
-must fail. Prints a line for each edit; the status is 1 where one is let through or can't be tried.
+is refused where a goal of the function that it stands in fails, or a proof below the folder of that function's own proofs: not where only
+what it calls isn't proved, or where a proof names what the edit took away. One that stands in no function (a table) goes into a check of
+its own, which must fail. Prints a line for each edit; the status is 1 where one is let through or can't be tried.
 """
 
 import collections
@@ -22,10 +23,16 @@ sys.path.insert(0, str(pathlib.Path(__file__).resolve().parent.parent / "tools")
 from crates import crates_of, with_below, write_list
 
 Edit = collections.namedtuple("Edit", "name pairs function")
-Function = collections.namedtuple("Function", "file module owner name")
+Function = collections.namedtuple("Function", "file module owner name cycle")
 
 FUNCTION = re.compile(r"^( *)(?:pub(?:\([a-z]+\))? )?(?:(?:const|unsafe|async) )*fn (\w+)", re.MULTILINE)
 OWNER = re.compile(r"^(?:unsafe )?(?:impl|trait)\b(?:<[^>]*>)? *([\w:]+)(?:<[^{]*>)?(?: for ([\w:]+))?", re.MULTILINE)
+CYCLE = re.compile(r"#\[cycle\((\w+)\)\]")
+# what a check says of a function one of whose goals has no answer, and of a place of a proof that is wrong
+FAILED = re.compile(r"^fn (\S+): no proof: expected answers in ", re.MULTILINE)
+WRONG = re.compile(r"^(?:note: )?(?:\./)?proofs/(\S+)/\w+\.antt:\d+:\d+: error(.*)$", re.MULTILINE)
+# a proof that names what an edit took away tells nothing of the contract
+TAKEN = re.compile(r"has no field|is not in scope|has no `|was not admitted")
 PARTS = ("src", "specs", "proofs")
 
 
@@ -58,7 +65,9 @@ def function_at(source, file, at):
             owner = match
     module = pathlib.PurePath(file).relative_to("src").with_suffix("").parts
     module = tuple(it for it in module if it not in ("lib", "main", "mod"))
-    return Function(file, module, (owner[2] or owner[1]).split("::")[-1] if owner else None, found[2])
+    # the attributes of a function stand between it and the line before that is empty
+    cycle = CYCLE.search(source, source.rfind("\n\n", 0, found.start()) + 1, found.start())
+    return Function(file, module, (owner[2] or owner[1]).split("::")[-1] if owner else None, found[2], cycle and cycle[1])
 
 
 def read_edit(path, crate):
@@ -118,14 +127,15 @@ def said_of(crate, edits):
 
 
 def is_refused(crate, function, said):
-    """Whether the lines of a check say that the function isn't proved, and not only since it calls another that isn't."""
-    found = re.findall(r"^fn (\S+): (?:not proved|no proof)(?!: it (?:calls|passes))", said, re.MULTILINE)
-    if function.owner:
-        # a method's name goes by the module of its type
-        ends = re.compile(rf"{crate}::(?:\w+::)*\S*{function.owner}\S*::{function.name}")
-    else:
-        ends = re.compile("::".join([crate, *function.module, function.name]))
-    return any(ends.fullmatch(it) for it in found)
+    """Whether the lines of a check say that a goal of the function fails, or a proof below the folder of its own proofs."""
+    # a method's name goes by the module of its type, and the proof of a cycle of calls by the cycle's name
+    way = rf"(?:\w+{{0}})*\S*{function.owner}\S*" if function.owner else "{0}".join(function.module)
+    name = rf"(?:{function.name}|\+{function.cycle})" if function.cycle else function.name
+    goal = re.compile("::".join(it for it in (crate, way.format("::"), name) if it))
+    folder = re.compile("/".join(it for it in (way.format("/"), name) if it))
+    if any(goal.fullmatch(it) for it in FAILED.findall(said)):
+        return True
+    return any(folder.fullmatch(path) and not TAKEN.search(why) for path, why in WRONG.findall(said))
 
 
 def tried(name, crate, edits):
