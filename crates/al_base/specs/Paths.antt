@@ -1,29 +1,31 @@
 -- What a path of the folder is: parts with single slashes between them, none of them `.` or `..`.
 use Rattle.std.specs.Prelude.{ℕ, Bool, true, false, ◌||◌, ◌==◌, nat_lt, List, [], ◌∷◌, length, slice_index, Option, None, Some}
 use Rattle.std.specs.Prelude.{if◌then◌else◌}
+use Rattle.std.specs.Char.{is_ascii_control}
 use Rattle.std.specs.List.{list_any, slice_split}
+use Rattle.al_base.specs.Ascii.{backslash, dot, slash}
 use Rattle.al_base.specs.Limits.{longest_path}
 use Rattle.al_base.specs.declared.paths.PathFault.{PathFault}
 use Rattle.al_base.specs.declared.paths.PathFault.TheVariants.{Empty, Absolute, BadPart, BadByte, TooLong}
 
 -- the parts between slashes
 abbrev pub parts : List ℕ → List (List ℕ)
-parts path = slice_split (λ b. b == 47) path
+parts path = slice_split (λ b. b == slash) path
 
 abbrev pub bad_part : List ℕ → Bool
 bad_part [] = true
-bad_part (b ∷ []) = b == 46
-bad_part (b ∷ c ∷ []) = if b == 46 then c == 46 else false
+bad_part (b ∷ []) = b == dot
+bad_part (b ∷ c ∷ []) = if b == dot then c == dot else false
 bad_part (b ∷ c ∷ d ∷ rest) = false
 
 abbrev pub is_bad_byte : ℕ → Bool
-is_bad_byte b = nat_lt b 32 || b == 127 || b == 92
+is_bad_byte b = is_ascii_control b || b == backslash
 
 -- the lowest of P1 to P5 that applies
 abbrev pub path_fault_of : List ℕ → Option PathFault
 path_fault_of path =
     if length path == 0 then Some Empty else
-    if slice_index path 0 == 47 then Some Absolute else
+    if slice_index path 0 == slash then Some Absolute else
     if list_any bad_part (parts path) then Some BadPart else
     if list_any is_bad_byte path then Some BadByte else
     if nat_lt longest_path (length path) then Some TooLong else None

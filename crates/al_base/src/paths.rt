@@ -119,7 +119,7 @@ fn has_bad_part(path: &[u8]) -> bool
 fn has_bad_byte(path: &[u8]) -> bool
     ensures { result ≡ list_any is_bad_byte path.now }
 {
-    path.iter().any(|b| *b < 32 || *b == 127 || *b == b'\\')
+    path.iter().any(|b| b.is_ascii_control() || *b == b'\\')
 }
 
 fn is_bad_part(part: &[u8]) -> bool
