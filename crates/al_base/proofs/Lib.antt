@@ -6,3 +6,4 @@ pub mod InOrder
 pub mod FaultLists
 pub mod Growing
 pub mod Elements
+pub mod ShownTexts

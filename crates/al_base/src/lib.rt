@@ -1,7 +1,8 @@
-//! What all other crates stand on. Five jobs, each with its modules:
+//! What all other crates stand on. Six jobs, each with its modules:
 //!
 //! - faults, in `codes`, `faults`, `lists` and `copies`: a span, a code and the texts of a message; their order, and a file's list of them
 //! - paths, in `paths`: which texts name a file of a folder
+//! - control bytes of texts that are printed, in `controls`
 //! - positions, in `positions` and `lines`: the line and the column of an offset
 //! - the limits of the product, in `limits`
 //! - readers and writers that count, in `streams`, and why their callers stop, in `stops`
@@ -10,6 +11,7 @@
 #![tactic(auto)]
 
 mod codes;
+mod controls;
 mod copies;
 mod faults;
 pub mod limits;
@@ -24,6 +26,7 @@ mod streams;
 mod examples;
 
 pub use codes::{CallCode, Caller, Code, ExpressionCode, KeyCode, RuleCode, YamlCode};
+pub use controls::{first_control, shown};
 pub use copies::add_copies;
 pub use examples::rows;
 pub use faults::{Args, Fault, Span};

@@ -1,0 +1,61 @@
+-- Texts without control bytes are printed as they are, and a text's characters are printed as its bytes are.
+use Rattle.std.proofs.Common.{◌≡◌, ◌∙◌, inl, inr, ℕ, ◌<◌, ◌≤◌, Bool, true, false, cond, List, [], ◌∷◌, map, refl, sym, ap, arith}
+use Rattle.std.proofs.Math.Utf8.{encode, encodes}
+use Rattle.std.proofs.lemmas.Bool.{cases_lt}
+use Rattle.std.proofs.lemmas.Bool.Decides.{nat_tests}
+use Rattle.std.proofs.lemmas.List.{map-append}
+use Rattle.std.proofs.lemmas.List.Elements.{All-head, All-tail}
+use Rattle.std.proofs.lemmas.Str.{encode_ascii, encodes-chars}
+use Rattle.std.specs.Char.{is_ascii_control}
+use Rattle.std.specs.List.{All, AllByRecursion}
+use Rattle.std.specs.Prelude.{IsUtf8, chars, nat_lt}
+use Rattle.al_base.specs.Shown.{shown, shown_byte}
+use Rattle.al_base.proofs.Elements.{each_either}
+
+-- a byte that is no control byte
+abbrev pub IsPlain : ℕ → Type 0
+IsPlain b = is_ascii_control b ≡ false
+
+pub shown_plain : (xs : List ℕ) → All IsPlain xs → shown xs ≡ xs
+shown_plain [] p = refl
+shown_plain (x ∷ xs) p =
+    let first : is_ascii_control x ≡ false = All-head IsPlain x xs p in
+    let rest : shown xs ≡ xs = shown_plain xs (All-tail IsPlain x xs p) in
+    rw (first, rest) refl
+
+-- ---- characters
+
+-- a byte of a character that isn't of ASCII
+abbrev IsHigh : ℕ → Type 0
+IsHigh b = 128 ≤ b
+
+high_byte : (b : ℕ) → IsHigh b → shown_byte b ≡ b
+high_byte b h = let plain : is_ascii_control b ≡ false = grind (arith, nat_tests) in rw plain refl
+
+high_bytes : (bs : List ℕ) → AllByRecursion IsHigh bs → shown bs ≡ bs
+high_bytes [] p = refl
+high_bytes (b ∷ bs) p = rw (high_byte b p.0, high_bytes bs p.1) refl
+
+high_character : (c : ℕ) → IsHigh c → AllByRecursion IsHigh (encode c)
+unfolding encode
+high_character c h =
+    let wide : nat_lt c 128 ≡ false = grind (arith, nat_tests) in
+    rw wide (each_either IsHigh (nat_lt c 2048) _ _ (omega arith, (omega arith, tt))
+    (each_either IsHigh (nat_lt c 65536) _ _ (omega arith, (omega arith, (omega arith, tt))) (omega arith, (omega arith, (omega arith, (omega arith, tt))))))
+
+low_shown : (control : Bool) (c : ℕ) → c < 128 → cond control 63 c < 128
+low_shown true c h = omega arith
+low_shown false c h = h
+
+shown_character : (c : ℕ) → encode (shown_byte c) ≡ shown (encode c)
+shown_character c = elim (cases_lt c 128) [
+  | inl low ↦ encode_ascii (shown_byte c) (low_shown (is_ascii_control c) c low) ∙ sym (ap shown (encode_ascii c low))
+  | inr high ↦ ap encode (high_byte c high) ∙ sym (high_bytes (encode c) (high_character c high))
+]
+
+shown_encoded : (cs : List ℕ) → encodes (map shown_byte cs) ≡ shown (encodes cs)
+shown_encoded [] = refl
+shown_encoded (c ∷ cs) = rw (shown_character c, shown_encoded cs) (sym (map-append shown_byte (encode c) (encodes cs)))
+
+pub shown_characters : (bs : List ℕ) → IsUtf8 bs → encodes (map shown_byte (chars bs)) ≡ shown bs
+shown_characters bs text = shown_encoded (chars bs) ∙ ap shown (encodes-chars bs text)

@@ -1,0 +1,32 @@
+//! Texts as they are printed, with a `?` for each control byte of ASCII.
+ghost use Rattle.std.specs.Prelude.{◌≡◌, ◌<◌, All, IfOk, MatchOption, false, length, slice_index, string_bytes, take, true};
+ghost use Rattle.std.specs.Char.{is_ascii_control};
+ghost use Rattle.al_base.specs.Shown.{shown, shown_byte};
+
+use std::alloc::{AllocError, Global};
+
+/// Where the first control byte of a text stands.
+pub fn first_control(text: &[u8]) -> Option<usize>
+    ensures { MatchOption result (All (λ b. is_ascii_control b ≡ false) text.now)
+        (λ at. (at < length text.now) × All (λ b. is_ascii_control b ≡ false) (take at text.now)
+        × (is_ascii_control (slice_index text.now at) ≡ true)) }
+{
+    text.iter().position(|byte| byte.is_ascii_control())
+}
+
+/// A copy of a text as it is printed. Fails with `AllocError` for want of memory.
+pub fn shown(alloc: Global, text: &str) -> Result<String, AllocError>
+    ensures { IfOk result (λ it. string_bytes it ≡ shown text.now) }
+{
+    text.chars().map(shown_character).collect(alloc)
+}
+
+fn shown_character(character: char) -> char
+    ensures { result ≡ shown_byte character }
+{
+    if character.is_ascii_control() {
+        '?'
+    } else {
+        character
+    }
+}
