@@ -2,13 +2,13 @@ use Rattle.std.proofs.Common.{◌≡◌, ap, ◌∙◌, ◌+◌, ◌∷◌, ◌+
 use Rattle.al_base.specs.declared.faults.Fault.{Fault}
 use Rattle.al_base.proofs.Growing.{begins_trans}
 use Rattle.al_yaml.specs.View.{entries_of, entry_view, nodes_of, view}
-use Rattle.al_shape.specs.Faults.{entries_faults, entry_faults, faults, items_faults, mapping_faults, refined, Standing, standing, standing_view, takes_null}
+use Rattle.al_shape.specs.Faults.{entries_faults, entry_faults, faults, items_faults, keyed_faults, mapping_faults, refined, Standing, standing, standing_view, takes_null}
 use Rattle.al_shape.specs.Keys.{and_text, holds, key_of, keys_in}
 use Rattle.al_shape.specs.Names.{among}
 use Rattle.al_shape.specs.Table.{keys_view, rule, rule_view}
 use Rattle.al_shape.proofs.KeyLemmas.{among_more}
 use Rattle.al_shape.proofs.Lists.{keys_next, left_next}
-use Rattle.al_shape.proofs.Shapes.{faults_mapping}
+use Rattle.al_shape.proofs.Shapes.{faults_mapping, free_apart}
 use Rattle.al_shape.proofs.check.+checks.Goals as goal
 
 pub check-returns-in-Some-rule_of-clause-ok : goal.check-returns-in-Some-rule_of-clause-ok
@@ -21,6 +21,15 @@ check-returns-in-Some-rule_of-clause-ok t c =
     (λ ks. entries_faults ks [] (among (keys_in (map entry_view es))) (entries_of (map entry_view es)))) taken in
     let here = rw c.as_slice-in-Some-rule_of.ensures.value at c.check_keyed.ensures.ok in
     rw same here
+
+pub check_keyed-returns-in-Free-clause-ok : goal.check_keyed-returns-in-Free-clause-ok
+check_keyed-returns-in-Free-clause-ok t c =
+    let es = entries_of (map entry_view c.args.entries.now) in
+    let all = among (keys_in (map entry_view c.args.entries.now)) in
+    let kind = ap keys_view c.in-Free.is in
+    let same = ap (λ ks. entries_faults ks [] (holds c.new.result) es) kind ∙ free_apart c.in-Free.field-0 [] (holds c.new.result) all es
+    ∙ sym (ap (λ ks. keyed_faults ks c.args.above.now all c.args.at (λ ks'. entries_faults ks' [] all es)) kind) in
+    rw same at c.check_entries.ensures.ok
 
 pub check_items-loop-node-preserved : goal.check_items-loop-node-preserved
 check_items-loop-node-preserved t c =
