@@ -7,3 +7,4 @@ pub mod FaultLists
 pub mod Growing
 pub mod Elements
 pub mod ShownTexts
+pub mod SameName

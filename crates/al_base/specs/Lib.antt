@@ -1,5 +1,6 @@
 pub mod Limits
 pub mod Ascii
+pub mod Names
 pub mod Spans
 pub mod Streams
 pub mod Counted

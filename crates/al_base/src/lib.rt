@@ -1,6 +1,7 @@
 //! What all other crates stand on. Six jobs, each with its modules:
 //!
 //! - faults, in `codes`, `faults`, `lists` and `copies`: a span, a code and the texts of a message; their order, and a file's list of them
+//! - names in which case does not count, in `names`
 //! - paths, in `paths`: which texts name a file of a folder
 //! - control bytes of texts that are printed, in `controls`
 //! - positions, in `positions` and `lines`: the line and the column of an offset
@@ -17,6 +18,7 @@ mod faults;
 pub mod limits;
 mod lines;
 mod lists;
+mod names;
 mod paths;
 mod positions;
 mod stops;
@@ -32,6 +34,7 @@ pub use examples::rows;
 pub use faults::{Args, Fault, Span};
 pub use lines::Lines;
 pub use lists::{fault_lists, ordered};
+pub use names::is_same_name;
 pub use paths::{Path, PathFault, path_fault};
 pub use positions::{Location, is_char_start, location_of, position};
 pub use stops::Stop;

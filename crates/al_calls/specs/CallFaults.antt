@@ -13,7 +13,7 @@ use Rattle.al_base.specs.declared.codes.Code.TheVariants as kind_of_code
 use Rattle.al_base.specs.declared.faults.Fault.{Fault}
 use Rattle.al_base.specs.declared.faults.Span.{Span}
 use Rattle.al_scalar.specs.Scalar.{Scalar, text_of}
-use Rattle.al_types.specs.Names.{same_name}
+use Rattle.al_base.specs.Names.{same_name}
 use Rattle.al_types.specs.Types.{Type', Any, assignable_type}
 use Rattle.al_yaml.specs.Access.{scalar_in}
 use Rattle.al_yaml.specs.Node.{Node, span_of}

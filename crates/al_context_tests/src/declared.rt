@@ -3,7 +3,7 @@
 use crate::files::document;
 use al_declarations::{
     InputType, declared_at, declared_in, has_value, input_of, is_composite, is_named_among,
-    is_same_name, type_of, value_below_three, value_below_two,
+    type_of, value_below_three, value_below_two,
 };
 use al_shape::{Member, key_text};
 use al_types::Form;
@@ -106,18 +106,12 @@ fn actions(rt: HostRuntime) -> Result<(), AllocError> {
     Ok(())
 }
 
-fn are_same(one: &[u8], other: &[u8]) -> bool {
-    is_same_name(one, other)
-}
-
 fn are_named(names: &[&[u8]], name: &[u8]) -> bool {
     is_named_among(names, name)
 }
 
 #[test]
 fn names(rt: HostRuntime) {
-    assert!(rt; are_same(b"Token", b"tOKEN"));
-    assert!(rt; !are_same(b"token", b"tokens"));
     assert!(rt; are_named(&[b"a", b"B"], b"b"));
     assert!(rt; !are_named(&[b"a", b"B"], b"c"));
 }

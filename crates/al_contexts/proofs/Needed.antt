@@ -5,8 +5,8 @@ use Rattle.std.specs.List.{cons_option, filter_map}
 use Rattle.std.specs.Option.{option_to_list}
 use Rattle.al_scalar.specs.Scalar.{Scalar}
 use Rattle.al_base.specs.declared.faults.Span.{Span}
-use Rattle.al_types.proofs.SameName.{same_complete, same_sound}
-use Rattle.al_types.specs.Names.{same_name}
+use Rattle.std.proofs.lemmas.Slice.Eq.{bytes_eq-Decides}
+use Rattle.al_base.specs.Names.{folded, same_name}
 use Rattle.al_types.specs.TypeViews.{fields_of}
 use Rattle.al_types.specs.Private.TypeParts.{field_of, fields_of_type}
 use Rattle.al_types.specs.declared.types.Field.{Field}
@@ -20,12 +20,13 @@ use Rattle.al_declarations.proofs.PositionLemmas.{find_first, first_within}
 use Rattle.al_types.specs.TypeViews.{ty_of}
 use Rattle.al_types.specs.declared.scope.ContextTypes.{ContextTypes}
 use Rattle.al_yaml.specs.View.{view}
+use Rattle.al_tree.specs.Files.{jobs_of}
 use Rattle.al_tree.specs.declared.files.FileKind.TheVariants as kind
 use Rattle.al_places.specs.Positions.{Section}
 use Rattle.al_contexts.specs.Answered.{known_of}
 use Rattle.al_contexts.specs.Private.Environment.{needs_in}
 use Rattle.al_contexts.specs.declared.env.File.{File}
-use Rattle.al_contexts.specs.Contexts.{Known, job_among, jobs_of, job_field, needed, needed_by, needs_type_of, type_in_job}
+use Rattle.al_contexts.specs.Contexts.{Known, job_among, job_field, needed, needed_by, needs_type_of, type_in_job}
 use Rattle.al_contexts.specs.Objects.{Typed, firsts, put_all, put_new}
 use Rattle.al_contexts.specs.Private.ShownJobs.{AreNeeded, AreShown, IsNeeded}
 use Rattle.al_contexts.proofs.Puts.{unless, when}
@@ -63,14 +64,16 @@ push_shown (t ∷ ts) (x ∷ fs) h (suc k) f e = push_shown ts fs (λ m g y. h (
 -- ---- a name finds the job that its own key finds
 
 same_self : (a : List ℕ) → same_name a a ≡ true
-same_self a = same_complete a a refl
+same_self a = (bytes_eq-Decides (folded a) (folded a)).1 refl
 
 not_both : (s r : Bool) → (s ≡ true → r ≡ true) → r ≡ false → s ≡ false
 not_both true r f e = let y : r ≡ true = f refl in absurd cc
 not_both false r f e = refl
 
 apart : (a b n : List ℕ) → same_name a n ≡ false → same_name b n ≡ true → same_name a b ≡ false
-apart a b n h k = not_both (same_name a b) (same_name a n) (λ y. same_complete a n (same_sound a b y ∙ same_sound b n k)) h
+apart a b n h k =
+    let like = λ (x y : List ℕ). bytes_eq-Decides (folded x) (folded y) in
+    not_both (same_name a b) (same_name a n) (λ y. (like a n).1 ((like a b).0 y ∙ (like b n).0 k)) h
 
 by_find : {P : Type 0} {A : Type 0} (b : Bool) (x j : A) (o : Option A) → (b ≡ true → x ≡ j → P) → (b ≡ false → o ≡ Some j → P) → (if b then Some x else o) ≡ Some j → P
 by_find true x j o f g e = f refl cc

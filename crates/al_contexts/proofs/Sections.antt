@@ -8,6 +8,7 @@ use Rattle.al_types.specs.TypeViews.{ty_of}
 use Rattle.al_yaml.specs.View.{view}
 use Rattle.al_shape.specs.Keys.{key_of}
 use Rattle.al_shape.specs.Values.{items_at}
+use Rattle.al_tree.specs.Files.{jobs_of}
 use Rattle.al_tree.specs.declared.files.FileKind.{FileKind}
 use Rattle.al_tree.specs.declared.files.FileKind.TheVariants as kind
 use Rattle.al_contexts.specs.Answered.{known_of}
@@ -19,7 +20,7 @@ use Rattle.std.specs.Prelude.{if◌then◌else◌, option_map}
 use Rattle.al_types.specs.Types.{Type', Any}
 use Rattle.al_yaml.specs.Node.{Node}
 use Rattle.al_places.specs.Positions.{Position, Section, Seen, apart, in_on, in_job}
-use Rattle.al_contexts.specs.Contexts.{Known, job_among, job_in, jobs_of, jobs_seen, jobs_type_of, needs_type_of, steps_type, type_at, type_in_job}
+use Rattle.al_contexts.specs.Contexts.{Known, job_among, job_in, jobs_seen, jobs_type_of, needs_type_of, steps_type, type_at, type_in_job}
 use Rattle.al_declarations.specs.Declarations.{action_steps, is_composite}
 use Rattle.al_contexts.specs.Private.Environment.{Fixed, OfSection, inputs_in, jobs_in, matrix_in, needs_in, owned, owner_in, owner_of, strategy_in}
 use Rattle.al_contexts.specs.Private.Environment as environment

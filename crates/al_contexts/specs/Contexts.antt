@@ -5,13 +5,14 @@ use Rattle.std.specs.Option.{option_map_or}
 use Rattle.std.specs.Str.{bytes_eq}
 use Rattle.al_base.specs.declared.faults.Span.{Span}
 use Rattle.al_scalar.specs.Scalar.{Scalar, text_of}
-use Rattle.al_types.specs.Names.{same_name}
+use Rattle.al_base.specs.Names.{same_name}
 use Rattle.al_types.specs.Types.{Type', Any, String}
 use Rattle.al_types.specs.declared.names.Context.{Context}
 use Rattle.al_types.specs.declared.names.Context.TheVariants as context
 use Rattle.al_yaml.specs.Node.{Node}
 use Rattle.al_shape.specs.Keys.{key_of}
 use Rattle.al_shape.specs.Values.{entries_at, items_at, text_at, texts_at}
+use Rattle.al_tree.specs.Files.{jobs_of}
 use Rattle.al_tree.specs.declared.files.FileKind.{FileKind}
 use Rattle.al_tree.specs.declared.files.FileKind.TheVariants as kind
 use Rattle.al_places.specs.Positions.{Position, Section, apart, in_on, in_job, Seen, no_step, before, every_step}
@@ -66,9 +67,6 @@ job_outputs known j =
 
 abbrev pub job_field : Known → Node × Node → Typed
 job_field known j = (key_of j, strictly ((codes "result", String) ∷ (codes "outputs", job_outputs known j) ∷ []))
-
-abbrev pub jobs_of : Node → List (Node × Node)
-jobs_of = entries_at (codes "jobs")
 
 abbrev pub jobs_type_of : Known → List (Node × Node) → Type'
 jobs_type_of known jobs = strictly (firsts (map (job_field known) jobs))

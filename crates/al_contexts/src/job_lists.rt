@@ -3,8 +3,9 @@ ghost use Rattle.std.specs.Prelude.{◌≡◌, IfOk, map, option_map};
 ghost use Rattle.al_declarations.specs.Private.Positions.{name_position, text_position};
 ghost use Rattle.al_places.specs.Positions.{section_view};
 ghost use Rattle.al_shape.specs.Values.{member_of};
+ghost use Rattle.al_tree.specs.Files.{jobs_of};
 ghost use Rattle.al_yaml.specs.View.{view};
-ghost use Rattle.al_contexts.specs.Contexts.{job_among, jobs_of};
+ghost use Rattle.al_contexts.specs.Contexts.{job_among};
 ghost use Rattle.al_contexts.specs.Private.JobPositions.{key_at, named_at};
 
 use al_declarations::{NamePositions, TextPositions};

@@ -6,15 +6,14 @@ use Rattle.std.specs.Cmp.Lexicographic.{slice_cmp}
 use Rattle.std.specs.Ordering.{nat_cmp, is_eq, match_ordering}
 use Rattle.std.specs.declared.cmp.Ordering.{Ordering}
 use Rattle.std.specs.declared.cmp.Ordering.TheVariants.{Less, Equal, Greater}
-use Rattle.std.specs.Str.{bytes_eq}
 use Rattle.std.specs.Global.{Vec}
+use Rattle.std.proofs.lemmas.Bool.Decides.{Decides-like, same_from_decides}
 use Rattle.std.proofs.lemmas.Map.Text.{is_eq-slice_cmp}
 use Rattle.std.proofs.lemmas.Slice.Eq.{bytes_eq-Decides}
 use Rattle.al_shape.proofs.KeyLemmas.{or_comm}
-use Rattle.al_types.specs.Names.{same_name}
-use Rattle.al_types.proofs.SameName.{same_sound, same_complete, not_true}
+use Rattle.al_base.specs.Names.{folded, same_name}
 use Rattle.al_declarations.specs.Declarations.{named_among}
-use Rattle.al_declarations.specs.Private.NameSets.{and_name, folded, holds}
+use Rattle.al_declarations.specs.Private.NameSets.{and_name, holds}
 use Rattle.al_declarations.specs.declared.name_sets.NameSet.{NameSet}
 
 or_assoc : (a b c : Bool) → ((a || b) || c) ≡ (a || (b || c))
@@ -26,14 +25,8 @@ or_false true = refl
 or_false false = refl
 
 -- names are the same where they fold to the same text
-pub same_folded : (a b : List ℕ) → bytes_eq (folded a) (folded b) ≡ same_name a b
-same_folded a b =
-    not_true (bytes_eq (folded a) (folded b)) (same_name a b)
-    (λ h. (bytes_eq-Decides (folded a) (folded b)).1 (same_sound a b h))
-    (λ h. same_complete a b ((bytes_eq-Decides (folded a) (folded b)).0 h))
-
 pub eq_folded : (a b : List ℕ) → is_eq (slice_cmp nat_cmp (folded a) (folded b)) ≡ same_name a b
-eq_folded a b = is_eq-slice_cmp (folded a) (folded b) ∙ same_folded a b
+eq_folded a b = is_eq-slice_cmp (folded a) (folded b)
 
 named_more_at : (ns : List (List ℕ)) (k name : List ℕ) → and_name (named_among ns) k name ≡ named_among (ns ++ k ∷ []) name
 named_more_at [] k name = or_false (same_name k name)
@@ -78,11 +71,10 @@ module _ {V : Type 0} (items : V → List ℕ) (text : List ℕ) where
   any_inserted k [] = refl
   any_inserted k (x ∷ xs) = inserted_before k x xs (insert_key compared xs k) (compared k x) refl (any_inserted k xs)
 
-same_swap : (a b : List ℕ) → same_name a b ≡ true → same_name b a ≡ true
-same_swap a b h = same_complete b a (sym (same_sound a b h))
-
 same_comm : (a b : List ℕ) → same_name a b ≡ same_name b a
-same_comm a b = not_true (same_name a b) (same_name b a) (same_swap b a) (same_swap a b)
+same_comm a b =
+    let back = bytes_eq-Decides (folded b) (folded a) in
+    same_from_decides (same_name a b) (same_name b a) (bytes_eq-Decides (folded a) (folded b)) (Decides-like (same_name b a) sym sym back)
 
 -- what inserting a folded name makes of a set
 inserted_at : (old new : NameSet) (key : Vec ℕ) (name q : List ℕ) → key.items ≡ folded name → new.names.keys ≡ insert_key (λ a b. slice_cmp nat_cmp a.items b.items) old.names.keys key →

@@ -12,13 +12,11 @@ use Rattle.std.proofs.Math.ListN.{get_or-map}
 use Rattle.std.proofs.lemmas.List.{length-map, length-take, map-append, take_more}
 use Rattle.std.proofs.lemmas.Map.Text.{is_eq-slice_cmp}
 use Rattle.std.specs.Option.{option_or}
-use Rattle.al_types.specs.Names.{same_name}
-use Rattle.al_declarations.specs.Private.NameSets.{folded}
+use Rattle.al_base.specs.Names.{folded, same_name}
 use Rattle.al_declarations.specs.Positions.{first_at}
 use Rattle.al_declarations.specs.Private.Positions.{and_name_at, and_text_at, name_position, text_position}
 use Rattle.al_declarations.specs.declared.positions.NamePositions.{NamePositions}
 use Rattle.al_declarations.specs.declared.positions.TextPositions.{TextPositions}
-use Rattle.al_declarations.proofs.NameLemmas.{same_folded}
 
 abbrev at_text : List ℕ → Vec ℕ → Bool
 at_text text = is_at (λ k. slice_cmp nat_cmp text k.items)
@@ -82,7 +80,7 @@ pub name_added : (old new : NamePositions) (name : List ℕ) (i : ℕ) → text_
     name_position new ≡ and_name_at (name_position old) name i
 unfolding name_position
 name_added old new name i e =
-    λ d other. (ap (λ f. f (folded other)) e ∙ ap (λ b. option_or (name_position old other) (if b then Some i else None)) (same_folded name other)) d
+    λ d other. ap (λ f. f (folded other)) e d
 
 -- a name that is there
 pub name_kept : (p : NamePositions) (name : List ℕ) (i : ℕ) → is_none (name_position p name) ≡ false → and_name_at (name_position p) name i ≡ name_position p
@@ -90,7 +88,7 @@ unfolding name_position
 name_kept p name i h =
     λ d other.
     was_there (same_name name other) (name_position p other) i
-    (λ e. ap (λ t. is_none (text_position p.texts t)) (sym ((bytes_decides (folded name) (folded other)).0 (same_folded name other ∙ e))) ∙ h) d
+    (λ e. ap (λ t. is_none (text_position p.texts t)) (sym ((bytes_decides (folded name) (folded other)).0 e)) ∙ h) d
 
 module _ {A : Type 0} (test : A → Bool) where
   more_at : (here : Bool) (o more : Option ℕ) → (if here then Some 0 else option_map (λ i. i + 1) (option_or o more))

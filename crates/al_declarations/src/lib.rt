@@ -15,5 +15,5 @@ pub use inputs::{InputType, input_of, type_of};
 pub use mappings::{declared_at, declared_in};
 pub use name_lists::{Name, NameList};
 pub use name_sets::NameSet;
-pub use names::{is_named_among, is_same_name};
+pub use names::is_named_among;
 pub use positions::{NamePositions, TextPositions};

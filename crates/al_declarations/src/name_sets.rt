@@ -2,7 +2,8 @@
 
 ghost use Rattle.std.specs.Prelude.{◌≡◌, [], not, IfOk, OnErr, OnOk};
 ghost use Rattle.al_declarations.specs.Declarations.{named_among};
-ghost use Rattle.al_declarations.specs.Private.NameSets.{and_name, folded, holds};
+ghost use Rattle.al_base.specs.Names.{folded};
+ghost use Rattle.al_declarations.specs.Private.NameSets.{and_name, holds};
 
 use std::alloc::{AllocError, Global};
 use std::collections::BTreeSet;

@@ -1,14 +1,8 @@
 //! Names without regard to ASCII case.
 ghost use Rattle.std.specs.Prelude.{◌≡◌, map};
 ghost use Rattle.al_declarations.specs.Declarations.{named_among};
-ghost use Rattle.al_types.specs.Names.{same_name};
 
-/// Whether two names are the same, but for ASCII case.
-pub fn is_same_name(a: &[u8], b: &[u8]) -> bool
-    ensures { result ≡ same_name a.now b.now }
-{
-    a.eq_ignore_ascii_case(b)
-}
+use al_base::is_same_name;
 
 /// Whether one of some texts is a name, in any ASCII case.
 pub fn is_named_among(texts: &[&[u8]], name: &[u8]) -> bool

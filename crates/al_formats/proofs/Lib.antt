@@ -1,4 +1,3 @@
-pub mod SameText
 pub mod Numbers
 pub mod ScheduleLemmas
 pub mod PatternLemmas

@@ -6,7 +6,8 @@ use Rattle.std.specs.Str.{bytes_eq}
 use Rattle.std.specs.Char.{is_ascii_digit}
 use Rattle.al_base.specs.Ascii as ascii
 use Rattle.al_base.specs.Digits.{decimal}
-use Rattle.al_formats.specs.Texts.{pieces, same_text}
+use Rattle.al_base.specs.Names.{same_name}
+use Rattle.al_formats.specs.Texts.{pieces}
 use Rattle.al_formats.specs.declared.schedules.Item.{Item}
 
 -- a field takes the numbers from low to high, and names for some of them
@@ -60,7 +61,7 @@ number_in low high bs = option_and_then (in_range low high) (number_of bs)
 
 -- a name without case
 abbrev pub name_in : List (List ℕ × ℕ) → List ℕ → Option ℕ
-name_in names bs = option_map (λ p. p.1) (find (λ p. same_text bs p.0) names)
+name_in names bs = option_map (λ p. p.1) (find (λ p. same_name bs p.0) names)
 
 -- a value: a name, or a number in the range
 abbrev pub value_or : Option ℕ → Option ℕ → Option ℕ

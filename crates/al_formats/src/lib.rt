@@ -13,5 +13,5 @@ pub use chunks::{Around, is_lone_chunk};
 pub use names::{is_id, is_variable};
 pub use patterns::{Filter, is_pattern};
 pub use schedules::{Item, is_too_often, schedule};
-pub use texts::{has_part, is_same_text};
+pub use texts::has_part;
 pub use worked::{part_rows, pattern_rows, schedule_rows};

@@ -11,7 +11,8 @@ ghost use Rattle.al_formats.specs.Private.Views.{least_thousand, range_of, range
 ghost use Rattle.std.specs.List.{list_any, filter};
 ghost use Rattle.std.specs.Prelude.{◌≡◌, ◌<◌, ◌≤◌, ◌+◌, ◌*◌, ◌&&◌, [], ◌∷◌, ◌++◌, map, not, option_map, IfOk, OnOk};
 
-use crate::texts::{is_same_text, split};
+use crate::texts::split;
+use al_base::is_same_name;
 use std::alloc::{AllocError, Global};
 
 /// A name for a number.
@@ -190,7 +191,7 @@ fn named_number(names: &[Name], text: &[u8]) -> Option<u32>
     ensures { result ≡ name_in (map range_name names.now) text.now }
 {
     for name in names {
-        if is_same_text(text, name.name.as_bytes()) {
+        if is_same_name(text, name.name.as_bytes()) {
             return Some(name.number);
         }
     }

@@ -1,16 +1,9 @@
-//! Texts without ASCII case, their parts, and the pieces between separators.
+//! The parts of a text, and the pieces between separators.
 
-ghost use Rattle.al_formats.specs.Texts.{has_part as part_of, pieces, same_text};
+ghost use Rattle.al_formats.specs.Texts.{has_part as part_of, pieces};
 ghost use Rattle.std.specs.Prelude.{◌≡◌, map, IfOk};
 
 use std::alloc::{AllocError, Global};
-
-/// Whether two texts are the same, but for ASCII case.
-pub fn is_same_text(a: &[u8], b: &[u8]) -> bool
-    ensures { result ≡ same_text a.now b.now }
-{
-    a.eq_ignore_ascii_case(b)
-}
 
 /// Whether a part stands somewhere in a text; an empty part stands in each text that isn't empty.
 pub fn has_part(part: &[u8], text: &[u8]) -> bool

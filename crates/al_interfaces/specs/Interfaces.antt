@@ -6,7 +6,7 @@ use Rattle.std.specs.Option.{option_map_or}
 use Rattle.std.specs.Str.{bytes_eq}
 use Rattle.al_base.specs.declared.faults.Span.{Span}
 use Rattle.al_scalar.specs.Scalar.{Scalar, text_of}
-use Rattle.al_types.specs.Names.{same_name}
+use Rattle.al_base.specs.Names.{same_name}
 use Rattle.al_yaml.specs.Access.{scalar_in}
 use Rattle.al_yaml.specs.Node.{Node, scalar, sequence, mapping}
 use Rattle.al_shape.specs.Keys.{key_of}

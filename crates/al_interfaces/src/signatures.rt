@@ -11,9 +11,9 @@ ghost use Rattle.al_interfaces.specs.Interfaces.{input_shown, secret_shown};
 ghost use Rattle.al_declarations.specs.declared.inputs.InputType.TheVariants as type_variant;
 
 use crate::interfaces::{Input, InputList, Interface, Role, Secret, SecretList, Signature};
+use al_base::is_same_name;
 use al_declarations::{
-    InputType, Name, NameList, declared_at, has_value, input_of, is_composite, is_same_name,
-    value_below_three,
+    InputType, Name, NameList, declared_at, has_value, input_of, is_composite, value_below_three,
 };
 use al_shape::{Member, ScalarNode, key_text, text_under, texts, value};
 use al_tree::FileKind;

@@ -91,6 +91,19 @@ untrusted_none name t ss h k =
     ∙ ap (λ ps. untrusted_fault (extent (Path t (steps_of ss))) (chain_among untrusted_chains (name ∷ ps))) (parts_of-steps ss)
     ∙ fault_none (extent (Path t (steps_of ss))) (chain_among untrusted_chains (name ∷ map part_of ss)) k
 
+fault_some : (whole : Span) (o : Option (List (List ℕ))) (text : List ℕ) → Some text ≡ option_map with_dots o →
+    untrusted_fault whole o ≡ fault code.Untrusted whole (text ∷ []) ∷ []
+fault_some whole None text h = absurd cc
+fault_some whole (Some c) text h = cc
+
+pub untrusted_some : (name : List ℕ) (t : Tree) (ss : List StepTree) (text : List ℕ) → Some name ≡ base_name t → Some text
+    ≡ option_map with_dots (chain_among untrusted_chains (name ∷ map part_of ss)) → untrusted true t (steps_of ss)
+    ≡ fault code.Untrusted (extent (Path t (steps_of ss))) (text ∷ []) ∷ []
+untrusted_some name t ss text h k =
+    ap (λ o. untrusted_from o (steps_of ss) (extent (Path t (steps_of ss)))) (sym h)
+    ∙ ap (λ ps. untrusted_fault (extent (Path t (steps_of ss))) (chain_among untrusted_chains (name ∷ ps))) (parts_of-steps ss)
+    ∙ fault_some (extent (Path t (steps_of ss))) (chain_among untrusted_chains (name ∷ map part_of ss)) text k
+
 -- an index that is no text literal
 pub indexed_on : (o : Option (List ℕ × Span)) (whole : Span) (u by v : Type') (old mid new : List Fault) (x : Typed) → None ≡ o
     → typed by mid ≡ behind old x → typed v new ≡ behind mid (index_of whole u by) → typed v new ≡ behind old (indexed o whole u x)

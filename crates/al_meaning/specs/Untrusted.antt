@@ -3,7 +3,7 @@ use Rattle.std.specs.Prelude.{codes, ℕ, List, [], ◌∷◌, ◌++◌, Bool, t
 use Rattle.std.specs.List.{flat_map}
 use Rattle.al_base.specs.declared.faults.Span.{Span}
 use Rattle.al_grammar.specs.Tree.{StepTree, Property, All, Index}
-use Rattle.al_types.specs.Names.{same_name}
+use Rattle.al_base.specs.Names.{same_name}
 use Rattle.al_meaning.specs.Literals.{literal_text}
 
 -- each by its parts

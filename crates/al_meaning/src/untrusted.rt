@@ -2,12 +2,12 @@
 
 ghost use Rattle.std.specs.Prelude.{◌≡◌, ◌∷◌, IfOk, length, map, option_map, string_bytes};
 ghost use Rattle.al_meaning.specs.Untrusted.{untrusted_chains, part_of, same_parts, chain_among, with_dots};
-ghost use Rattle.al_types.specs.Names.{same_name};
+ghost use Rattle.al_base.specs.Names.{same_name};
 ghost use Rattle.al_grammar.specs.View.{step_of};
 
 use crate::literals::literal_text;
+use al_base::is_same_name;
 use al_grammar::PathStep;
-use al_types::is_same_name;
 use std::alloc::{AllocError, Global};
 
 type Parts = &'static [&'static str];
@@ -88,7 +88,7 @@ fn is_chain(
     if rest.len() != steps.len() {
         return Ok(false);
     }
-    if !is_same_name(first, name) {
+    if !is_same_name(first.as_bytes(), name.as_bytes()) {
         return Ok(false);
     }
     are_parts(alloc, rest, steps)
@@ -110,12 +110,13 @@ fn are_parts(alloc: Global, parts: &[&str], steps: &[PathStep]) -> Result<bool, 
 fn is_part(alloc: Global, part: &str, step: &PathStep) -> Result<bool, AllocError>
     ensures { IfOk result (λ b. b ≡ same_name part.now (part_of (step_of step.now))) }
 {
+    let part = part.as_bytes();
     match step {
-        PathStep::Property(_, name) => Ok(is_same_name(part, name.text.as_str())),
-        PathStep::All(_, _) => Ok(is_same_name(part, "*")),
+        PathStep::Property(_, name) => Ok(is_same_name(part, name.text.as_bytes())),
+        PathStep::All(_, _) => Ok(is_same_name(part, b"*")),
         PathStep::Index(_, index, _) => match literal_text(alloc, index)? {
-            Some(literal) => Ok(is_same_name(part, literal.value.as_str())),
-            None => Ok(is_same_name(part, "*")),
+            Some(literal) => Ok(is_same_name(part, literal.value.as_bytes())),
+            None => Ok(is_same_name(part, b"*")),
         },
     }
 }

@@ -20,7 +20,7 @@ use Rattle.al_rules.specs.Private.Components.{has_label_of, labelled_fault, labe
 use Rattle.al_rules.specs.Needs.{AddsAllNeeds, AddsNeeds, AreNeedsFaults, undefined_job, leads_back, leads_on, no_needs, and_need}
 use Rattle.al_rules.specs.Needs.{IsNeedFaults, Need, all_needs, cycle_fault, keys_of, named_by, needs_in, needs_lists, needs_of}
 use Rattle.al_rules.specs.Needs.{position_in}
-use Rattle.al_types.specs.Names.{same_name}
+use Rattle.al_base.specs.Names.{same_name}
 use Rattle.al_declarations.proofs.PositionLemmas.{first_within}
 use Rattle.al_reports.specs.Words.{Named, of_key, of_scalar}
 

@@ -11,6 +11,7 @@ use Rattle.al_yaml.specs.Node.{Node, span_of}
 use Rattle.al_yaml.specs.View.{view}
 use Rattle.al_shape.specs.Names.{among}
 use Rattle.al_shape.specs.Values.{entries_at, items_at, key_at, text_at, text_below, value_at, value_below}
+use Rattle.al_tree.specs.Files.{jobs_of}
 use Rattle.al_tree.specs.declared.files.FileKind.{FileKind}
 use Rattle.al_tree.specs.declared.files.FileKind.TheVariants as kind
 use Rattle.al_tree.specs.declared.files.Tree.{Tree}
@@ -56,9 +57,6 @@ settings_faults job = section_faults job ++ condition_faults (text_at (codes "if
 
 abbrev pub job_faults : Node × Node → List Fault
 job_faults j = settings_faults j.1 ++ containers_faults j.1 ++ steps_faults (items_at (codes "steps") j.1)
-
-abbrev pub jobs_of : Node → List (Node × Node)
-jobs_of root = entries_at (codes "jobs") root
 
 -- of a workflow, given the faults of what its jobs need
 abbrev pub workflow_faults : List Fault → Node → List Fault

@@ -1,8 +1,8 @@
 //! Filter patterns, schedules, names and lone expressions.
 
+use al_base::is_same_name;
 use al_formats::{
-    Around, Filter, has_part, is_id, is_lone_chunk, is_pattern, is_same_text, is_too_often,
-    is_variable, schedule,
+    Around, Filter, has_part, is_id, is_lone_chunk, is_pattern, is_too_often, is_variable, schedule,
 };
 use std::alloc::{AllocError, Global};
 
@@ -179,7 +179,7 @@ fn is_part(part: &[u8], text: &[u8]) -> bool {
 }
 
 fn are_same(one: &[u8], other: &[u8]) -> bool {
-    is_same_text(one, other)
+    is_same_name(one, other)
 }
 
 #[test]

@@ -5,7 +5,7 @@ use Rattle.al_base.specs.declared.codes.RuleCode.TheVariants.{RepeatedId, WrongI
 use Rattle.al_base.specs.declared.faults.Fault.{Fault}
 use Rattle.al_shape.specs.Names.{among}
 use Rattle.al_formats.specs.Names.{is_id}
-use Rattle.al_formats.specs.Texts.{folded}
+use Rattle.al_base.specs.Names.{folded}
 use Rattle.al_reports.specs.Words.{Named, unless}
 
 -- an id that is none

@@ -11,7 +11,7 @@ use Rattle.al_yaml.specs.Node.{Node, scalar, sequence, mapping, span_of}
 use Rattle.al_shape.specs.Faults.{has_chunk, is_null}
 use Rattle.al_shape.specs.Names.{among, is_combination_key}
 use Rattle.al_shape.specs.Values.{entries_in, items_at}
-use Rattle.al_formats.specs.Texts.{folded}
+use Rattle.al_base.specs.Names.{folded}
 use Rattle.al_settings.specs.Ids.{with_folded}
 use Rattle.al_reports.specs.Words.{Named, fault, of_key, unless}
 

@@ -1,10 +1,11 @@
 -- What a tree is, and the faults of its keys and values.
-use Rattle.std.specs.Prelude.{List}
+use Rattle.std.specs.Prelude.{List, codes}
 use Rattle.al_base.specs.FaultLists.{fault_list}
 use Rattle.al_base.specs.declared.faults.Fault.{Fault}
 use Rattle.al_yaml.specs.Node.{Node}
 use Rattle.al_yaml.specs.View.{view}
 use Rattle.al_shape.specs.Faults.{root_faults}
+use Rattle.al_shape.specs.Values.{entries_at}
 use Rattle.al_shape.specs.declared.table.Shape.{Shape}
 use Rattle.al_shape.specs.declared.table.Shape.TheVariants as shape
 use Rattle.al_tree.specs.declared.files.FileKind.{FileKind}
@@ -24,6 +25,10 @@ kind_in (tree.Action a) = kind.Action
 abbrev pub shape_of : FileKind → Shape
 shape_of kind.Workflow = shape.Workflow
 shape_of kind.Action = shape.Action
+
+-- the jobs of a workflow, by its root
+abbrev pub jobs_of : Node → List (Node × Node)
+jobs_of = entries_at (codes "jobs")
 
 -- the faults of keys and values as a report lists them
 abbrev pub key_faults : FileKind → Node → List Fault

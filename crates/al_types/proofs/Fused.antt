@@ -7,7 +7,7 @@ use Rattle.al_types.specs.declared.types.Ty.{Ty}
 use Rattle.al_types.specs.declared.types.Ty as code
 use Rattle.al_types.specs.declared.types.Object.{Object, Object', out-Object}
 use Rattle.al_types.specs.declared.types.Form.TheVariants as form
-use Rattle.al_types.specs.Names.{same_name}
+use Rattle.al_base.specs.Names.{same_name}
 use Rattle.al_types.specs.Types.{Type', Any, Null, Number, Bool', String, ArrayOf, ObjectOf, Fields, NoField, FieldThen, field_at}
 use Rattle.al_types.specs.Types.{has_field, fuse_type, fuse_fields, missing_fields, join_fields, with_other, fuse_rest}
 use Rattle.al_types.specs.TypeViews.{ty_of, object_of, fields_of}

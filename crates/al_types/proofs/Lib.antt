@@ -1,4 +1,3 @@
 pub mod TypeForms
 pub mod TypeFields
-pub mod SameName
 pub mod Fused

@@ -1,16 +1,10 @@
 -- Names of contexts and functions (GitHub's pages on contexts and on expressions).
-use Rattle.std.specs.Prelude.{codes, ℕ, List, [], ◌∷◌, Bool, true, false, ◌&&◌, nat_eq, if◌then◌else◌, Option, Some, None}
-use Rattle.std.specs.Char.{to_ascii_lowercase}
+use Rattle.std.specs.Prelude.{codes, ℕ, List, [], ◌∷◌, if◌then◌else◌, Option, Some, None}
+use Rattle.al_base.specs.Names.{same_name}
 use Rattle.al_types.specs.declared.names.Context.{Context}
 use Rattle.al_types.specs.declared.names.Context.TheVariants as context
 use Rattle.al_types.specs.declared.names.Function.{Function}
 use Rattle.al_types.specs.declared.names.Function.TheVariants as function
-
--- the same text, but for ASCII case
-abbrev pub same_name : List ℕ → List ℕ → Bool
-same_name [] [] = true
-same_name (a ∷ as') (b ∷ bs) = nat_eq (to_ascii_lowercase a) (to_ascii_lowercase b) && same_name as' bs
-same_name _ _ = false
 
 abbrev pub context_name : Context → List ℕ
 context_name context.Github = codes "github"

@@ -1,6 +1,6 @@
 -- The types of expressions: which may stand where another is wanted, and what two have in common.
 use Rattle.std.specs.Prelude.{ℕ, List, Bool, true, false, ◌||◌, if◌then◌else◌, Option, Some, None}
-use Rattle.al_types.specs.Names.{same_name}
+use Rattle.al_base.specs.Names.{same_name}
 
 mutual
   pub data Type' : Type 0 where

@@ -10,7 +10,7 @@ mod signatures;
 mod types;
 
 pub use fusing::fuse;
-pub use names::{Context, Function, is_same_name};
+pub use names::{Context, Function};
 pub use relations::assignable;
 pub use scope::{ContextSet, ContextTypes, FunctionSet, Scope};
 pub use signatures::{Parameters, Returned, Signature, Wanted, signature_of};

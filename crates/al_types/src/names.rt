@@ -1,8 +1,10 @@
 //! The names of contexts and functions, in which letter case does not count.
 
 ghost use Rattle.std.specs.Prelude.{◌≡◌};
-ghost use Rattle.al_types.specs.Names.{same_name, context_name, function_name, first_named};
+ghost use Rattle.al_types.specs.Names.{context_name, function_name, first_named};
 ghost use Rattle.al_types.specs.Names as names;
+
+use al_base::is_same_name;
 
 /// A context of GitHub Actions, such as `github` or `steps`.
 #[derive(Clone, Copy, PartialEq, Eq, Debug)]
@@ -130,7 +132,7 @@ fn context_among(contexts: &[Context], name: &str) -> Option<Context>
     ensures { result ≡ first_named context_name name.now contexts.now }
 {
     for context in contexts {
-        if is_same_name(context.name(), name) {
+        if is_same_name(context.name().as_bytes(), name.as_bytes()) {
             return Some(*context);
         }
     }
@@ -141,16 +143,9 @@ fn function_among(functions: &[Function], name: &str) -> Option<Function>
     ensures { result ≡ first_named function_name name.now functions.now }
 {
     for function in functions {
-        if is_same_name(function.name(), name) {
+        if is_same_name(function.name().as_bytes(), name.as_bytes()) {
             return Some(*function);
         }
     }
     None
-}
-
-/// Whether two names are the same, but for ASCII case.
-pub fn is_same_name(a: &str, b: &str) -> bool
-    ensures { result ≡ same_name a.now b.now }
-{
-    a.eq_ignore_ascii_case(b)
 }

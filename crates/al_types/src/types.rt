@@ -1,12 +1,11 @@
 //! Types of expressions.
 
-ghost use Rattle.std.specs.Prelude.{◌≡◌, IfOk, IsTrue, option_map};
-ghost use Rattle.al_types.specs.Names.{same_name};
+ghost use Rattle.std.specs.Prelude.{◌≡◌, IfOk, option_map};
 ghost use Rattle.al_types.specs.Types.{field_at, field_or_rest, has_field, is_collection, is_plain};
 ghost use Rattle.al_types.specs.TypeViews.{ty_of, object_of};
-ghost use Rattle.al_types.specs.Private.TypeParts.{rest_of, field_of, form_of, fields_of_type, rest_of_type};
+ghost use Rattle.al_types.specs.Private.TypeParts.{rest_of, form_of, fields_of_type, rest_of_type};
 
-use crate::names::is_same_name;
+use al_base::is_same_name;
 use std::alloc::{AllocError, Global};
 
 /// The type of a value, as far as it is known before a workflow runs.
@@ -84,24 +83,6 @@ impl Ty {
     }
 }
 
-/// Whether two names are of one length and end alike, as the same ones do. Most others are told apart by that.
-fn end_alike(a: &[u8], b: &[u8]) -> bool
-    ensures { IsTrue (same_name a.now b.now) → IsTrue result }
-{
-    let length = a.len();
-    if length != b.len() {
-        return false;
-    }
-    length == 0 || a[length - 1].eq_ignore_ascii_case(&b[length - 1])
-}
-
-/// Whether a field has a name, in any ASCII case.
-fn is_named(field: &Field, name: &str) -> bool
-    ensures { result ≡ same_name (field_of field.now).0 name.now }
-{
-    end_alike(field.name.as_bytes(), name.as_bytes()) && is_same_name(field.name.as_str(), name)
-}
-
 impl Object {
     /// The type of the first field of a name, in any ASCII case: none where no field has it. The type of other fields
     /// is not looked at.
@@ -109,7 +90,7 @@ impl Object {
         ensures { option_map (λ t. ty_of t.now) result ≡ field_at name.now (fields_of_type (object_of self.now)) }
     {
         for field in &self.fields {
-            if is_named(field, name) {
+            if is_same_name(field.name.as_bytes(), name.as_bytes()) {
                 return Some(&field.ty);
             }
         }

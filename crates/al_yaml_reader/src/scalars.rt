@@ -9,7 +9,7 @@ ghost use Rattle.al_yaml.specs.Node as tree;
 ghost use Rattle.al_yaml_reader.specs.Private.Places.{IsReadInside, Shows};
 ghost use Rattle.al_yaml_reader.specs.Private.Reads.{Answers, IsBehind, IsRead, IsStopInside, part_of, state_of};
 ghost use Rattle.al_yaml.specs.View.{view};
-ghost use Rattle.std.specs.Prelude.{IfErr, IfOk, length, ◌≡◌, ◌≤◌};
+ghost use Rattle.std.specs.Prelude.{IfErr, IfOk, length, ◌+◌, ◌≡◌, ◌≤◌};
 ghost use Rattle.al_base.specs.Limits.{largest_file};
 
 use crate::content::line_ended;
@@ -96,7 +96,7 @@ pub fn read_line_scalar(
     at: usize,
 ) -> Result<Part, ReadError>
     requires inside { at ≤ size file.now }
-    requires within { within ≤ 1048577 }
+    requires within { within ≤ largest_file + 1 }
     ensures fault { IfErr result (IsStopInside (size file.now)) }
     ensures is { IsRead (part_of file.now.bytes.now) (block.scalar_node_at within (left_at file.now at))
         (state_of state.old) result (state_of state.new) }

@@ -8,7 +8,8 @@ use Rattle.al_graph.specs.Within.{leads}
 use Rattle.al_base.specs.declared.faults.Fault.{Fault}
 use Rattle.al_rules.specs.Needs.{AreNeedsFaults, IsNeedFaults, Need, all_needs, and_need, cycle_fault, keys_of}
 use Rattle.al_rules.specs.Needs.{leads_back, leads_on, named_by, needs_faults, no_needs, position_in, tested_faults, undefined_job}
-use Rattle.al_rules.specs.Rules.{AreRuleFaults, jobs_of}
+use Rattle.al_rules.specs.Rules.{AreRuleFaults}
+use Rattle.al_tree.specs.Files.{jobs_of}
 use Rattle.al_tree.specs.declared.files.FileKind.{FileKind}
 use Rattle.al_tree.specs.declared.files.FileKind.TheVariants as kind
 use Rattle.al_yaml.specs.Node.{Node}

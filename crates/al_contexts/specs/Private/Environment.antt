@@ -8,11 +8,12 @@ use Rattle.al_yaml.specs.Node.{Node}
 use Rattle.al_yaml.specs.View.{view}
 use Rattle.al_shape.specs.Keys.{key_of}
 use Rattle.al_shape.specs.Values.{items_at}
+use Rattle.al_tree.specs.Files.{jobs_of}
 use Rattle.al_tree.specs.declared.files.FileKind.{FileKind}
 use Rattle.al_tree.specs.declared.files.FileKind.TheVariants as kind
 use Rattle.al_places.specs.Positions.{Section, apart, in_on, in_job, Seen}
 use Rattle.al_contexts.specs.Answered.{known_of}
-use Rattle.al_contexts.specs.Contexts.{Known, job_in, jobs_of, jobs_type_of, needs_type, steps_shown, steps_type, type_in_job}
+use Rattle.al_contexts.specs.Contexts.{Known, job_in, jobs_type_of, needs_type, steps_shown, steps_type, type_in_job}
 use Rattle.al_declarations.specs.Declarations.{action_steps, is_composite}
 use Rattle.al_contexts.specs.Fixed.{github_type, runner_type, job_type, strategy_type}
 use Rattle.al_contexts.specs.Inputs.{workflow_inputs, action_inputs}

@@ -1,7 +1,7 @@
 -- Where jobs stand.
 use Rattle.std.specs.Prelude.{ℕ, List, Option}
 use Rattle.std.specs.Str.{bytes_eq}
-use Rattle.al_types.specs.Names.{same_name}
+use Rattle.al_base.specs.Names.{same_name}
 use Rattle.al_yaml.specs.Node.{Node}
 use Rattle.al_shape.specs.Keys.{key_of}
 use Rattle.al_declarations.specs.Positions.{first_at}

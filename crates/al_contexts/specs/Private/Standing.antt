@@ -3,9 +3,9 @@ use Rattle.std.specs.Prelude.{◌≡◌, map, option_map}
 use Rattle.al_types.specs.TypeViews.{ty_of}
 use Rattle.al_yaml.specs.View.{view}
 use Rattle.al_shape.specs.Values.{member_of}
+use Rattle.al_tree.specs.Files.{jobs_of}
 use Rattle.al_places.specs.Positions.{before, section_view}
 use Rattle.al_contexts.specs.Answered.{known_of}
-use Rattle.al_contexts.specs.Contexts.{jobs_of}
 use Rattle.al_contexts.specs.Private.Environment.{Fixed, OfSection, owned, owned_fields, owner_in, owner_view}
 use Rattle.al_contexts.specs.Private.Lookups.{known_by}
 use Rattle.al_contexts.specs.Private.Indexes.{IsIndex}

@@ -1,14 +1,10 @@
 -- Sets of names without regard to ASCII case.
-use Rattle.std.specs.Prelude.{ℕ, List, map, Bool, ◌||◌}
+use Rattle.std.specs.Prelude.{ℕ, List, Bool, ◌||◌}
 use Rattle.std.specs.BTreeSet.{contains_by}
-use Rattle.std.specs.Char.{to_ascii_lowercase}
 use Rattle.std.specs.Cmp.Lexicographic.{slice_cmp}
 use Rattle.std.specs.Ordering.{nat_cmp}
-use Rattle.al_types.specs.Names.{same_name}
+use Rattle.al_base.specs.Names.{folded, same_name}
 use Rattle.al_declarations.specs.declared.name_sets.NameSet.{NameSet}
-
-abbrev pub folded : List ℕ → List ℕ
-folded = map to_ascii_lowercase
 
 -- which names a set holds
 unfoldable pub holds : NameSet → List ℕ → Bool

@@ -5,8 +5,7 @@ use Rattle.std.specs.Cmp.Lexicographic.{slice_cmp}
 use Rattle.std.specs.Ordering.{nat_cmp}
 use Rattle.std.specs.Option.{option_or}
 use Rattle.std.specs.Str.{bytes_eq}
-use Rattle.al_types.specs.Names.{same_name}
-use Rattle.al_declarations.specs.Private.NameSets.{folded}
+use Rattle.al_base.specs.Names.{folded, same_name}
 use Rattle.al_declarations.specs.declared.positions.NamePositions.{NamePositions}
 use Rattle.al_declarations.specs.declared.positions.TextPositions.{TextPositions}
 

@@ -9,7 +9,7 @@ use Rattle.al_base.specs.declared.faults.Span.{Span}
 use Rattle.al_yaml.specs.Node.{Node, scalar, sequence, mapping, no_nodes, item, no_entries, entry}
 use Rattle.al_graph.specs.Within.{leads_within}
 use Rattle.al_rules.specs.Needs.{keys_of, needs_faults, needs_lists, position_in}
-use Rattle.al_rules.specs.Rules.{jobs_of}
+use Rattle.al_tree.specs.Files.{jobs_of}
 
 abbrev pub at : ℕ → ℕ → Span
 at i j = record { start = i; end = j }

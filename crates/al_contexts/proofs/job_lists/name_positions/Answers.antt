@@ -3,7 +3,7 @@ use Rattle.al_declarations.specs.Private.Positions.{and_name_at, name_position}
 use Rattle.al_declarations.proofs.PositionLemmas.{position_next}
 use Rattle.al_shape.specs.Keys.{key_of}
 use Rattle.al_shape.specs.Values.{member_of}
-use Rattle.al_types.specs.Names.{same_name}
+use Rattle.al_base.specs.Names.{same_name}
 use Rattle.al_contexts.proofs.job_lists.name_positions.Goals as goal
 
 pub loop-i-preserved : goal.loop-i-preserved

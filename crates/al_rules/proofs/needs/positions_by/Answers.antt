@@ -1,5 +1,5 @@
 use Rattle.std.proofs.Common.{◌≡◌, ◌∙◌, ap, rules}
-use Rattle.al_types.specs.Names.{same_name}
+use Rattle.al_base.specs.Names.{same_name}
 use Rattle.al_declarations.specs.Private.Positions.{and_name_at, name_position}
 use Rattle.al_declarations.proofs.PositionLemmas.{position_next}
 use Rattle.al_reports.specs.Words.{Named, of_key}

@@ -2,7 +2,8 @@ use Rattle.std.specs.BTreeMap.{is_at}
 use Rattle.std.specs.Cmp.Lexicographic.{slice_cmp}
 use Rattle.std.specs.List.{list_any}
 use Rattle.std.specs.Ordering.{nat_cmp}
-use Rattle.al_declarations.specs.Private.NameSets.{folded, holds}
+use Rattle.al_base.specs.Names.{folded}
+use Rattle.al_declarations.specs.Private.NameSets.{holds}
 use Rattle.al_declarations.proofs.name_sets.NameSet.new.Goals as goal
 
 pub returns : goal.returns

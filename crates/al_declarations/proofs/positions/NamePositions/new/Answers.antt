@@ -1,4 +1,4 @@
-use Rattle.al_declarations.specs.Private.NameSets.{folded}
+use Rattle.al_base.specs.Names.{folded}
 use Rattle.al_declarations.specs.Private.Positions.{name_position}
 use Rattle.al_declarations.proofs.positions.NamePositions.new.Goals as goal
 

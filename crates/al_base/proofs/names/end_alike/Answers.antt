@@ -1,7 +1,7 @@
 use Rattle.std.proofs.Common.{arith, length, ◌-◌, ◌∙◌}
 use Rattle.std.proofs.lemmas.Bool.{eq-eqb}
-use Rattle.al_types.proofs.SameName.{same_at, same_length}
-use Rattle.al_types.proofs.types.end_alike.Goals as goal
+use Rattle.al_base.proofs.SameName.{same_at, same_length}
+use Rattle.al_base.proofs.names.end_alike.Goals as goal
 
 pub returns-then-length-b : goal.returns-then-length-b
 returns-then-length-b c = λ h. let e = same_length c.args.a.now c.args.b.now h in absurd (omega (arith, e, c.if-length-b.true))
