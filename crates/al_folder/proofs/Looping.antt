@@ -1,8 +1,8 @@
 -- Which calls lead back to their own file.
 use Rattle.std.proofs.Common.{◌≡◌, ℕ, zero, suc, ◌+◌, ◌<◌, ◌≤◌, Bool, true, false, cond, not, List, [], ◌∷◌, ◌++◌, length, map}
 use Rattle.std.proofs.Common.{get_or, drop, take, Option, Some, None, String, Vec, slice_get, refl, sym, ◌∙◌, ◌||◌, ap, subst, arith, append_assoc, append-nil, nat_lt, nat_eq}
-use Rattle.std.proofs.Common.{⊎_elim}
-use Rattle.std.specs.Prelude.{string_bytes, bytes_eq, Contains, ◌↔◌, ◌&&◌, nat_le}
+use Rattle.std.proofs.Common.{⊎_elim, inl, inr}
+use Rattle.std.specs.Prelude.{string_bytes, bytes_eq, Contains, IfSome, ◌↔◌, ◌&&◌, nat_le}
 use Rattle.std.specs.Borrow.{Bor}
 use Rattle.std.specs.Global.{Global}
 use Rattle.std.specs.List.{cons_option, enumerate_from, filter_map, list_any, position, prefix_len}
@@ -25,7 +25,7 @@ use Rattle.al_folder.specs.Meaning.{CallSite, Meaning, candidates}
 use Rattle.al_folder.specs.Folder.{Folder, or_else, paths_of}
 use Rattle.al_folder.specs.Kept.{Files, folder_of, entry_of, AllKept, AreKept, IsKept, referred}
 use Rattle.al_folder.specs.Loops.{called, calls_graph, leads_back, loop_fault, loop_fault_if, loop_faults, looping, number_among, number_of}
-use Rattle.al_folder.specs.Private.CallGraphs.{IsCallGraph, IsCalledBy, NoneBackward, NoneForward, TellLoops, part_of}
+use Rattle.al_folder.specs.Private.CallGraphs.{IsCallGraph, IsCalledBy, IsRow, NoneBackward, NoneForward, TellLoops, part_of}
 use Rattle.al_folder.specs.declared.kept.KeptFile.{KeptFile}
 use Rattle.al_folder.specs.declared.lint.Target.{Target}
 use Rattle.al_folder.proofs.Ways.{leads_before, leads_behind}
@@ -194,6 +194,38 @@ module _ (graph : List (List ℕ)) (f : Folder) (i : ℕ) (ts : List Target) (ss
   pub looping_end : length ts ≤ at → done ≡ whole
   looping_end past = sym (append-nil done) ∙ sym (ap (λ l. done ++ looping graph f i l (drop at ss)) (drop_all at ts past)) ∙ so_far
 
+-- where as many numbers are in a row as there are calls, each is that of its call
+few_called : (h : Target → Option ℕ) (ts : List Target) → length (filter_map h ts) ≤ length ts
+few_called h [] = omega arith
+few_called h (t ∷ ts) = let rest = few_called h ts in by (h t) rest
+  where
+    by : (o : Option ℕ) → length (filter_map h ts) ≤ length ts → length (cons_option o (filter_map h ts)) ≤ length (t ∷ ts)
+    by None rest = omega (arith, rest)
+    by (Some n) rest = omega (arith, rest)
+
+all_called_at : (h : Target → Option ℕ) (ts : List Target) (at : ℕ) (t : Target) (d : ℕ) → length (filter_map h ts) ≡ length ts → at < length ts → t ≡ get_or ts at t →
+    Some (get_or (filter_map h ts) at d) ≡ h t
+all_called_at h [] at t d n lt is = absurd (omega (arith, lt))
+all_called_at h (x ∷ xs) at t d n lt is = by (h x) refl at n lt is (λ j u d. all_called_at h xs j u d)
+  where
+    by : (o : Option ℕ) → h x ≡ o → (i : ℕ) → length (cons_option o (filter_map h xs)) ≡ length (x ∷ xs) → i < length (x ∷ xs) → t ≡ get_or (x ∷ xs) i t →
+        ((j : ℕ) (u : Target) (d : ℕ) → length (filter_map h xs) ≡ length xs → j < length xs → u ≡ get_or xs j u → Some (get_or (filter_map h xs) j d) ≡ h u) →
+        Some (get_or (cons_option o (filter_map h xs)) i d) ≡ h t
+    by None a i n lt is rest = absurd (let few = few_called h xs in omega (arith, few, n))
+    by (Some k) a zero n lt is rest = sym a ∙ ap h (sym is)
+    by (Some k) a (suc i) n lt is rest = rest i t d (omega (arith, n)) (omega (arith, lt)) is
+
+pub row_called : (f : Folder) (row : List ℕ) (ts : List Target) (at d n : ℕ) (t : Target) → IsRow f row ts → length row ≡ length ts → at < length ts → t ≡ get_or ts at t →
+    n ≡ get_or row at d → Some n ≡ called f t
+row_called f row ts at d n t row_of size lt is read = ⊎_elim
+    (λ none. absurd (let empty : length row ≡ 0 = ap length none in omega (arith, empty, size, lt)))
+    (λ all. ap Some (read ∙ ap (λ l. get_or l at d) all) ∙ all_called_at (called f) ts at t d (sym (ap length all) ∙ size) lt is)
+    row_of
+
+pub if_called : (f : Folder) (t : Target) (o : Option ℕ) (bound : ℕ) → o ≡ called f t → length f ≡ bound → IfSome o (λ k. k < bound)
+if_called f t None bound is n = tt
+if_called f t (Some k) bound is n = let below = called_below f t k (sym is) in omega (arith, below, n)
+
 -- the fault that is kept of a call
 pub kept_fault : (ss : List CallSite) (faults : List Fault) (at : ℕ) (s : CallSite) (fault : Fault) → faults ≡ map loop_fault ss → slice_get ss at ≡ Some s → fault ≡ get_or faults at fault →
     fault ≡ loop_fault s
@@ -289,6 +321,13 @@ module _ (first end : ℕ) where
       let both : Inside j ≡ true = grind (arith, nat_tests) in
       subst (λ ns. Contains ns k) (sym (part_row g j ∙ ap (λ b. cond b (get_or g j []) []) both)) e
 
+  part_is_row : {I : Type 0} (m : Meaning I) (f : Folder) (i : ℕ) (p b : List ℕ) → slice_get f i ≡ Some (p, b) → IsRow f (get_or (part_of first end (calls_graph m f)) i []) (m.calls p b)
+  part_is_row m f i p b at = by (Inside i) (part_row (calls_graph m f) i)
+    where
+      by : (t : Bool) → get_or (part_of first end (calls_graph m f)) i [] ≡ cond t (get_or (calls_graph m f) i []) [] → IsRow f (get_or (part_of first end (calls_graph m f)) i []) (m.calls p b)
+      by true e = inr (e ∙ at_file m f i p b at)
+      by false e = inl e
+
   -- made file after file
   pub part_of_kept : {U I : Type 0} (m : Meaning I) (is_unit : U → List ℕ → List ℕ → Type 0) (h : Target → Option ℕ) (n : ℕ) (files : Files U I) → AllKept m is_unit files →
       map (λ (x : ℕ × (String Global × KeptFile U I)). filter_map h (cond (Inside x.0) x.1.1.calls.items [])) (enumerate_from n files)
@@ -378,6 +417,7 @@ module _ {U I : Type 0} (m : Meaning I) (is_unit : U → List ℕ → List ℕ �
         record {
           size = ap length (sym same) ∙ seen_number;
           inside = λ j k e. let below = graph_inside m F j k (in_part first end G j k (subst (λ g. Edge g j k) is e)) in omega (arith, below, l);
+          rows = λ i p b at. subst (λ g. IsRow F (get_or g i []) (m.calls p b)) (sym is) (part_is_row first end m F i p b at);
           kept = λ j k e w. subst (λ g. Edge g j k) (sym is) (has_loops first end low high j k e w);
           tell = (
             omega (arith, len, seen_number, l),
@@ -434,6 +474,9 @@ module _ {I : Type 0} (m : Meaning I) (f : Folder) (edges : List (Vec ℕ Global
     (calls : IsCallGraph m f edges labels) (below : i < length f) (read : v ≡ get_or edges i v) (is : row ≡ v.items) (same : seen ≡ labels) where
   row_is : get_or (edges_of edges) i [] ≡ row
   row_is = let size = calls.size in edges_at edges i v (omega (arith, below, size)) read ∙ sym is
+
+  pub row_of : (p b : List ℕ) (ts : List Target) → slice_get f i ≡ Some (p, b) → ts ≡ m.calls p b → IsRow f row ts
+  row_of p b ts at is_calls = subst (λ l. IsRow f row l) (sym is_calls) (subst (λ r. IsRow f r (m.calls p b)) row_is (calls.rows i p b at))
 
   pub row_inside : (k : ℕ) → Contains row k → k < length seen
   row_inside k there =

@@ -8,7 +8,7 @@ ghost use Rattle.std.specs.Option.{option_eq};
 ghost use Rattle.al_graph.specs.Graphs.{edges_of};
 ghost use Rattle.al_folder.specs.Kept.{AreKept, IsKept, folder_of, referred};
 ghost use Rattle.al_folder.specs.Loops as loops;
-ghost use Rattle.al_folder.specs.Private.CallGraphs.{IsCallGraph, IsCalledBy, NoneBackward, NoneForward, TellLoops, part_of};
+ghost use Rattle.al_folder.specs.Private.CallGraphs.{IsCallGraph, IsCalledBy, IsRow, NoneBackward, NoneForward, TellLoops, part_of};
 ghost use Rattle.al_folder.specs.Sites.{site_of};
 
 use crate::kept::{Files, KeptFile};
@@ -208,22 +208,34 @@ fn loop_fault(alloc: Global, site: Site<'_>) -> Result<Fault, AllocError>
     })
 }
 
-/// Whether a call of the file with this number leads back to it.
-fn leads_back<L: Lint>(
-    files: &Files<L::Unit, L::Iface>,
-    labels: &[Option<usize>],
-    index: usize,
+/// The number of the file that one of a file's calls leads to, by the row that these calls gave in the graph. Where each of them leads to a
+/// file, it has its place in the row, and nothing is looked up again.
+fn called_again<U, I>(
+    files: &Files<U, I>,
+    row: &[usize],
+    calls: &[Target],
+    call: usize,
     target: &Target,
-) -> bool
-    requires kept { AreKept L.meaning L.is_unit files.now.entries }
-    requires labels { TellLoops (loops.calls_graph L.meaning (folder_of files.now.entries)) labels.now }
-    requires index { index < length files.now.entries }
-    requires edge { IsCalledBy (loops.calls_graph L.meaning (folder_of files.now.entries)) index
-        (loops.called (folder_of files.now.entries) target.now) }
-    ensures { result ≡ loops.leads_back (loops.calls_graph L.meaning (folder_of files.now.entries)) index
-        (loops.called (folder_of files.now.entries) target.now) }
+) -> Option<usize>
+    requires row { IsRow (folder_of files.now.entries) row.now calls.now }
+    requires call { call < length calls.now }
+    requires target { target.now ≡ slice_index_or calls.now call target.now }
+    ensures { result ≡ loops.called (folder_of files.now.entries) target.now }
 {
-    match called(files, target) {
+    if row.len() == calls.len() {
+        Some(row[call])
+    } else {
+        called(files, target)
+    }
+}
+
+/// Whether a call of the file with this number leads back to it, by the number of the file that the call leads to.
+fn leads_back(labels: &[Option<usize>], index: usize, to: Option<usize>) -> bool
+    requires index { index < length labels.now }
+    requires to { IfSome to (λ number. number < length labels.now) }
+    ensures { (graph : List (List ℕ)) → TellLoops graph labels.now → IsCalledBy graph index to → result ≡ loops.leads_back graph index to }
+{
+    match to {
         None => false,
         Some(to) => labels[to] == labels[index],
     }
@@ -270,11 +282,13 @@ fn faults_of_calls<'a, L: Lint>(
     alloc: Global,
     files: &Files<L::Unit, L::Iface>,
     labels: &[Option<usize>],
+    row: &[usize],
     index: usize,
     file: &'a KeptFile<L::Unit, L::Iface>,
 ) -> Result<Vec<&'a Fault>, AllocError>
     requires kept { AreKept L.meaning L.is_unit files.now.entries }
     requires labels { TellLoops (loops.calls_graph L.meaning (folder_of files.now.entries)) labels.now }
+    requires row { IsRow (folder_of files.now.entries) row.now file.now.calls.items }
     requires there { (p : List ℕ) × IsKept L.meaning L.is_unit p file.now
         × (slice_get (folder_of files.now.entries) index ≡ Some (p, file.now.bytes.items)) }
     ensures { (p : List ℕ) → IsKept L.meaning L.is_unit p file.now → IfOk result (λ faults. referred faults.items
@@ -282,8 +296,9 @@ fn faults_of_calls<'a, L: Lint>(
 {
     let mut faults = Vec::new(alloc);
     for (call, target) in file.calls.iter().enumerate() {
+        let to = called_again(files, row, &file.calls, call, target);
         add_if(
-            leads_back::<L>(files, labels, index, target),
+            leads_back(labels, index, to),
             &file.call_faults[call],
             &mut faults,
         )?;
@@ -291,8 +306,8 @@ fn faults_of_calls<'a, L: Lint>(
     Ok(faults)
 }
 
-/// The faults of the calls of the file with this number that lead back to it, in the order of the calls. Of a file that no call of its own
-/// leads back to, no candidate is looked up.
+/// The faults of the calls of the file with this number that lead back to it, in the order of the calls. No candidate is looked up of a
+/// file that no call of its own leads back to, nor of one each of whose calls leads to a file.
 ///
 /// # Errors
 ///
@@ -309,10 +324,11 @@ pub fn loop_faults<'a, L: Lint>(
     ensures { (p b : List ℕ) → slice_get (folder_of files.now.entries) index ≡ Some (p, b) → IfOk result (λ faults.
         referred faults.items ≡ loops.loop_faults L.meaning (folder_of files.now.entries) index p b) }
 {
-    if !has_label_of(&calls.graph[index], &calls.labels, index) {
+    let row = calls.graph[index].as_slice();
+    if !has_label_of(row, &calls.labels, index) {
         return Ok(Vec::new(alloc));
     }
     let (_, file) = file_number(files, index);
-    let faults = faults_of_calls::<L>(alloc, files, &calls.labels, index, file)?;
+    let faults = faults_of_calls::<L>(alloc, files, &calls.labels, row, index, file)?;
     Ok(faults)
 }

@@ -1,14 +1,15 @@
 -- The graph of calls, as far as calls can lead back, and labels that tell which ones do.
-use Rattle.std.specs.Prelude.{ℕ, ◌≤◌, ◌<◌, ◌≡◌, ◌↔◌, ◌&&◌, false, List, [], Option, Some, None, String, Vec, length, map}
+use Rattle.std.specs.Prelude.{ℕ, ◌≤◌, ◌<◌, ◌≡◌, ◌↔◌, ◌⊎◌, ◌&&◌, false, List, [], Option, Some, None, String, Vec, length, map}
 use Rattle.std.specs.Prelude.{cond, nat_le, nat_lt, slice_get, slice_index_or}
 use Rattle.std.specs.Global.{Global}
-use Rattle.std.specs.List.{enumerate_from}
+use Rattle.std.specs.List.{enumerate_from, filter_map}
 use Rattle.al_graph.specs.Graphs.{Edge, Walk, edges_of}
 use Rattle.al_folder.specs.Meaning.{Meaning}
 use Rattle.al_folder.specs.Folder.{Folder}
 use Rattle.al_folder.specs.Kept.{Files}
-use Rattle.al_folder.specs.Loops.{calls_graph}
+use Rattle.al_folder.specs.Loops.{called, calls_graph}
 use Rattle.al_folder.specs.declared.kept.KeptFile.{KeptFile}
+use Rattle.al_folder.specs.declared.lint.Target.{Target}
 
 -- no file before this number calls its own path or one behind it
 abbrev pub NoneForward : {U I : Type 0} → Files U I → ℕ → Type 0
@@ -24,6 +25,10 @@ NoneBackward {U} {I} files end = (k : ℕ) (e : String Global × KeptFile U I) �
 abbrev pub part_of : ℕ → ℕ → List (List ℕ) → List (List ℕ)
 part_of first end graph = map (λ x. cond (nat_le first x.0 && nat_lt x.0 end) x.1 []) (enumerate_from 0 graph)
 
+-- the numbers of the files that these calls lead to, or none
+abbrev pub IsRow : Folder → List ℕ → List Target → Type 0
+IsRow f row calls = (row ≡ []) ⊎ (row ≡ filter_map (called f) calls)
+
 -- there is an edge from the file with this number to the one that a call leads to
 abbrev pub IsCalledBy : List (List ℕ) → ℕ → Option ℕ → Type 0
 IsCalledBy graph file None = Unit {0}
@@ -38,5 +43,6 @@ TellLoops graph labels = (length labels ≡ length graph) × ((j k : ℕ) → Ed
 pub record IsCallGraph {I : Type 0} (m : Meaning I) (f : Folder) (graph : List (Vec ℕ Global)) (labels : List (Option ℕ)) : Type 0 where
   pub size : length graph ≡ length f
   pub inside : (j k : ℕ) → Edge (edges_of graph) j k → k < length f
+  pub rows : (i : ℕ) (p b : List ℕ) → slice_get f i ≡ Some (p, b) → IsRow f (slice_index_or (edges_of graph) i []) (m.calls p b)
   pub kept : (j k : ℕ) → Edge (calls_graph m f) j k → Walk (calls_graph m f) k j → Edge (edges_of graph) j k
   pub tell : TellLoops (calls_graph m f) labels

@@ -1,21 +1,26 @@
-use Rattle.std.proofs.Common.{◌≡◌, ◌∙◌, ◌<◌, ◌++◌, ◌∷◌, [], cond, length, get_or, ap, arith, map}
+use Rattle.std.proofs.Common.{◌≡◌, ◌∙◌, ◌<◌, ◌++◌, ◌∷◌, [], cond, length, get_or, ap, arith, map, subst, sym}
 use Rattle.std.proofs.lemmas.List.{length-map}
 use Rattle.al_base.specs.declared.faults.Fault.{Fault}
 use Rattle.al_folder.specs.Kept.{folder_of, referred}
 use Rattle.al_folder.specs.Loops.{called, calls_graph, leads_back, loop_fault}
-use Rattle.al_folder.proofs.Looping.{call_edge, entry_there, kept_fault, looping_next}
+use Rattle.al_folder.specs.Private.CallGraphs.{IsCalledBy}
+use Rattle.al_folder.proofs.Looping.{below_length, call_edge, entry_there, if_called, kept_fault, looping_next}
 use Rattle.al_folder.proofs.loops.faults_of_calls.Goals as goal
 
-pub leads_back-requires-clause-edge : goal.leads_back-requires-clause-edge
-leads_back-requires-clause-edge g c =
-    let m = g.L.Lint.meaning in
+pub leads_back-requires-clause-index : goal.leads_back-requires-clause-index
+leads_back-requires-clause-index g c =
     let F = folder_of c.args.files.now.entries in
-    let p = c.requires.there.0 in
-    let kept = c.requires.there.1 in
-    let items = c.deref-target-items.ensures.value ∙ kept.calls in
-    let read = c.target-item.is ∙ ap (λ l. get_or l c.loop-call.call c.target-item.result) items in
-    call_edge m F c.args.index c.loop-call.call p c.args.file.now.bytes.items c.target-item.result c.requires.there.2
-    (omega (arith, c.loop-call-test.true, ap length items)) read
+    let below = below_length F c.args.index _ c.requires.there.2 in
+    let size = c.requires.labels.0 in
+    let n : length (calls_graph g.L.Lint.meaning F) ≡ length F = length-map F _ in
+    omega (arith, below, size, n)
+
+pub leads_back-requires-clause-to : goal.leads_back-requires-clause-to
+leads_back-requires-clause-to g c =
+    let F = folder_of c.args.files.now.entries in
+    let size = c.requires.labels.0 in
+    let n : length (calls_graph g.L.Lint.meaning F) ≡ length F = length-map F _ in
+    if_called F c.target-item.result c.called_again-to.result (length c.args.labels.now) c.called_again-to.ensures (omega (arith, size, n))
 
 pub index-requires : goal.index-requires
 index-requires g c =
@@ -41,7 +46,13 @@ loop-call-preserved g c p kept =
     let fault = kept_fault (m.sites p b) c.args.file.now.call_faults.items c.loop-call.call site.0 c.index.result.now kept.call_faults site.1 c.index.ensures in
     let G = calls_graph m F in
     let before = referred c.loop-call.faults.items in
-    let added = c.in_ok-add_if.ensures ∙ ap (λ v. before ++ cond v (c.index.result.now ∷ []) []) c.leads_back.ensures
+    let to = c.called_again-to.ensures in
+    let own = c.deref-target-items.ensures.value ∙ c.requires.there.1.calls in
+    let edge : IsCalledBy G c.args.index c.called_again-to.result =
+    subst (IsCalledBy G c.args.index) (sym to) (call_edge m F c.args.index c.loop-call.call c.requires.there.0 b c.target-item.result c.requires.there.2
+    (omega (arith, c.loop-call-test.true, ap length own)) (c.target-item.is ∙ ap (λ l. get_or l c.loop-call.call c.target-item.result) own)) in
+    let back = c.leads_back.ensures G c.requires.labels edge ∙ ap (leads_back G c.args.index) to in
+    let added = c.in_ok-add_if.ensures ∙ ap (λ v. before ++ cond v (c.index.result.now ∷ []) []) back
     ∙ ap (λ (f : Fault). before ++ cond (leads_back G c.args.index (called F c.target-item.result)) (f ∷ []) []) fault in
     looping_next (calls_graph m F) F c.args.index (m.calls p b) (m.sites p b) c.loop-call.call before _
     (c.loop-call.invariant p kept) (referred c.add_if.new.faults.items) c.target-item.result site.0 within read site.1 added

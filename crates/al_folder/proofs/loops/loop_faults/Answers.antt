@@ -5,7 +5,7 @@ use Rattle.std.specs.Global.{Global}
 use Rattle.al_folder.specs.declared.kept.KeptFile.{KeptFile}
 use Rattle.al_folder.specs.Kept.{folder_of, referred}
 use Rattle.al_folder.specs.Loops.{loop_faults}
-use Rattle.al_folder.proofs.Looping.{entry_number, kept_number, row_inside, row_quiet, same_entry}
+use Rattle.al_folder.proofs.Looping.{entry_number, kept_number, row_inside, row_of, row_quiet, same_entry}
 use Rattle.al_folder.proofs.loops.loop_faults.Goals as goal
 
 pub has_label_of-requires-clause-nodes : goal.has_label_of-requires-clause-nodes
@@ -13,16 +13,16 @@ has_label_of-requires-clause-nodes g c =
     let F = folder_of c.args.files.now.entries in
     let n : length F ≡ length c.args.files.now.entries = length-map c.args.files.now.entries _ in
     let there = c.requires.index in
-    row_inside g.L.Lint.meaning F c.args.calls.now.graph.items c.args.calls.now.labels.items c.deref-2.result.now c.deref.result.now c.index.result.now c.args.index
-    c.requires.calls (omega (arith, there, n)) c.index.ensures c.deref.ensures.value c.deref-2.ensures.value
+    row_inside g.L.Lint.meaning F c.args.calls.now.graph.items c.args.calls.now.labels.items c.deref.result.now c.as_slice-row.result.now c.index.result.now c.args.index
+    c.requires.calls (omega (arith, there, n)) c.index.ensures c.as_slice-row.ensures.value c.deref.ensures.value
 
 pub returns-then-not-has_label_of : goal.returns-then-not-has_label_of
 returns-then-not-has_label_of g c p b at =
     let F = folder_of c.args.files.now.entries in
     let n : length F ≡ length c.args.files.now.entries = length-map c.args.files.now.entries _ in
     let there = c.requires.index in
-    ap referred c.new.ensures.items ∙ row_quiet g.L.Lint.meaning F c.args.calls.now.graph.items c.args.calls.now.labels.items c.deref-2.result.now c.deref.result.now c.index.result.now
-    c.args.index c.requires.calls (omega (arith, there, n)) c.index.ensures c.deref.ensures.value c.deref-2.ensures.value
+    ap referred c.new.ensures.items ∙ row_quiet g.L.Lint.meaning F c.args.calls.now.graph.items c.args.calls.now.labels.items c.deref.result.now c.as_slice-row.result.now c.index.result.now
+    c.args.index c.requires.calls (omega (arith, there, n)) c.index.ensures c.as_slice-row.ensures.value c.deref.ensures.value
     (sym c.has_label_of.ensures ∙ c.if-not-has_label_of.true) p b at
 
 pub faults_of_calls-requires-clause-there : goal.faults_of_calls-requires-clause-there
@@ -32,6 +32,17 @@ faults_of_calls-requires-clause-there g c =
       kept_number g.L.Lint.meaning g.L.Lint.is_unit c.args.files.now.entries c.args.index e c.requires.kept.kept c.file_number.ensures,
       entry_number c.args.files.now.entries c.args.index e c.file_number.ensures,
     )
+
+pub faults_of_calls-requires-clause-row : goal.faults_of_calls-requires-clause-row
+faults_of_calls-requires-clause-row g c =
+    let F = folder_of c.args.files.now.entries in
+    let n : length F ≡ length c.args.files.now.entries = length-map c.args.files.now.entries _ in
+    let there = c.requires.index in
+    let e : String Global × KeptFile _ _ = (c.file_number.result.0.now, c.file_number.result.1.now) in
+    let kept = kept_number g.L.Lint.meaning g.L.Lint.is_unit c.args.files.now.entries c.args.index e c.requires.kept.kept c.file_number.ensures in
+    row_of g.L.Lint.meaning F c.args.calls.now.graph.items c.args.calls.now.labels.items c.deref.result.now c.as_slice-row.result.now c.index.result.now c.args.index
+    c.requires.calls (omega (arith, there, n)) c.index.ensures c.as_slice-row.ensures.value c.deref.ensures.value (string_bytes e.0) e.1.bytes.items e.1.calls.items
+    (entry_number c.args.files.now.entries c.args.index e c.file_number.ensures) kept.calls
 
 pub returns : goal.returns
 returns g c p b at =
