@@ -67,5 +67,15 @@ shown_onward k job ss from count h i =
     ∙ put_all_more put_new [] first (steps_fields k job (0 + length (take from ss)) rest)
     ∙ ap (λ n. put_all put_new (firsts first) (steps_fields k job n rest)) few
 
+-- what is shown as steps behind those that are shown are added
+pub shown_added : (k : Known) (job : Option (List ℕ)) (ss part : List Node) (from count : ℕ) (ts us : List Typed) → from ≤ count → count ≤ length ss →
+    part ≡ take (count - from) (drop from ss) → fields_of ts ≡ fields_of_type (steps_type k job ss (before from)) →
+    us ≡ put_all put_new ts (steps_fields k job from part) → us ≡ steps_shown k job ss (before count)
+shown_added k job ss part from count ts us order inside cut old added =
+    added
+    ∙ ap (λ l. put_all put_new l (steps_fields k job from part)) (shown_fields k job ss (before from) ts old)
+    ∙ ap (λ l. put_all put_new (steps_shown k job ss (before from)) (steps_fields k job from l)) cut
+    ∙ sym (shown_onward k job ss from count order inside)
+
 pub seen_take : (ss : List Node) (n : ℕ) → length ss ≤ n → take n ss ≡ ss
 seen_take ss n h = grind (arith, common_steps)

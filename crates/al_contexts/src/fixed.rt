@@ -4,7 +4,7 @@ ghost use Rattle.al_types.specs.TypeViews.{ty_of};
 ghost use Rattle.al_contexts.specs.Fixed as fixed;
 ghost use Rattle.al_contexts.specs.Fixed.{github_type, job_type, runner_type, strategy_type};
 
-use crate::objects::{add_strings, field, loose_of, strict_of};
+use crate::objects::{add_field, add_strings, loose_of, strict_of};
 use al_types::Ty;
 use std::alloc::{AllocError, Global};
 
@@ -80,8 +80,8 @@ pub(crate) fn github(alloc: Global) -> Result<Ty, AllocError>
     ensures { IfOk result (λ t. ty_of t ≡ github_type) }
 {
     let mut fields = Vec::new(alloc);
-    fields.push(field(alloc, b"event", Ty::Any)?)?;
-    fields.push(field(alloc, b"ref_protected", Ty::Bool)?)?;
+    add_field(alloc, &mut fields, b"event", Ty::Any)?;
+    add_field(alloc, &mut fields, b"ref_protected", Ty::Bool)?;
     add_strings(alloc, &mut fields, github_names())?;
     Ok(strict_of(fields))
 }
@@ -98,7 +98,7 @@ pub(crate) fn job(alloc: Global) -> Result<Ty, AllocError>
     ensures { IfOk result (λ t. ty_of t ≡ job_type) }
 {
     let mut fields = Vec::new(alloc);
-    fields.push(field(alloc, b"status", Ty::String)?)?;
+    add_field(alloc, &mut fields, b"status", Ty::String)?;
     loose_of(alloc, fields, Ty::Any)
 }
 
@@ -106,9 +106,9 @@ pub(crate) fn strategy(alloc: Global) -> Result<Ty, AllocError>
     ensures { IfOk result (λ t. ty_of t ≡ strategy_type) }
 {
     let mut fields = Vec::new(alloc);
-    fields.push(field(alloc, b"fail-fast", Ty::Bool)?)?;
-    fields.push(field(alloc, b"job-index", Ty::Number)?)?;
-    fields.push(field(alloc, b"job-total", Ty::Number)?)?;
-    fields.push(field(alloc, b"max-parallel", Ty::Number)?)?;
+    add_field(alloc, &mut fields, b"fail-fast", Ty::Bool)?;
+    add_field(alloc, &mut fields, b"job-index", Ty::Number)?;
+    add_field(alloc, &mut fields, b"job-total", Ty::Number)?;
+    add_field(alloc, &mut fields, b"max-parallel", Ty::Number)?;
     Ok(strict_of(fields))
 }

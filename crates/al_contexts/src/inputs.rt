@@ -8,7 +8,7 @@ ghost use Rattle.al_types.specs.Private.TypeParts.{field_of};
 ghost use Rattle.al_yaml.specs.View.{view};
 
 use crate::field_lists::FieldList;
-use crate::objects::{field, named_strings};
+use crate::objects::{field, key_texts, named_strings};
 use al_declarations::{declared_at, input_of, type_of, value_below_three};
 use al_shape::{Member, key_text, value};
 use al_tree::FileKind;
@@ -23,16 +23,23 @@ fn input_field(alloc: Global, input: Member<'_>) -> Result<Field, AllocError>
     field(alloc, key_text(input.key), type_of(input_of(input.value)))
 }
 
+/// The fields that inputs are.
+fn input_fields(alloc: Global, declared: &[Member<'_>]) -> Result<Vec<Field>, AllocError>
+    ensures { IfOk result (λ v. map field_of v.items ≡ map inputs.input_field (map member_of declared.now)) }
+{
+    let mut fields = Vec::new(alloc);
+    for input in declared {
+        fields.push(input_field(alloc, *input)?)?;
+    }
+    Ok(fields)
+}
+
 /// The inputs that an event of a workflow declares.
 fn event_inputs(alloc: Global, root: &Node, event: &str) -> Result<Vec<Field>, AllocError>
     ensures { IfOk result (λ v. map field_of v.items ≡ inputs.event_inputs event.now (view root.now)) }
 {
-    let mut fields = Vec::new(alloc);
     let declared = declared_at(alloc, value_below_three(root, "on", event, "inputs"))?;
-    for input in declared.as_slice() {
-        fields.push(input_field(alloc, *input)?)?;
-    }
-    Ok(fields)
+    input_fields(alloc, declared.as_slice())
 }
 
 /// The type of `inputs` in a workflow.
@@ -48,11 +55,8 @@ fn workflow_inputs(alloc: Global, root: &Node) -> Result<Ty, AllocError>
 fn action_inputs(alloc: Global, root: &Node) -> Result<Ty, AllocError>
     ensures { IfOk result (λ t. ty_of t ≡ inputs.action_inputs (view root.now)) }
 {
-    let mut names = Vec::new(alloc);
     let declared = declared_at(alloc, value(root, "inputs"))?;
-    for input in declared.as_slice() {
-        names.push(key_text(input.key))?;
-    }
+    let names = key_texts(alloc, declared.as_slice())?;
     named_strings(alloc, names.as_slice())
 }
 

@@ -13,7 +13,9 @@ ghost use Rattle.al_declarations.specs.Declarations as declarations;
 use crate::field_lists::FieldList;
 use crate::job_lists::JobList;
 use crate::known::Outputs;
-use crate::objects::{field, listed_strings, loose_any, named_strings, strict_of};
+use crate::objects::{
+    add_field, field, key_texts, listed_strings, loose_any, named_strings, strict_of,
+};
 use al_declarations::NameList;
 use al_shape::{Member, key_text, members, value};
 use al_types::{Field, Ty};
@@ -24,14 +26,13 @@ use std::alloc::{AllocError, Global};
 fn declared_names<'a>(alloc: Global, node: &'a Node, key: &str) -> Result<Vec<&'a [u8]>, AllocError>
     ensures { IfOk result (λ v. map (λ n. n.now) v.items ≡ declarations.names_of (entries_at key.now (view node.now))) }
 {
-    let mut names = Vec::new(alloc);
-    if let Some(mapping) = value(node, key) {
-        let entries = members(alloc, mapping)?;
-        for entry in entries.as_slice() {
-            names.push(key_text(entry.key))?;
+    match value(node, key) {
+        None => Ok(Vec::new(alloc)),
+        Some(mapping) => {
+            let entries = members(alloc, mapping)?;
+            key_texts(alloc, entries.as_slice())
         }
     }
-    Ok(names)
 }
 
 /// The type of the outputs of a job that calls a workflow, by what is known of them.
@@ -64,9 +65,10 @@ pub(crate) fn job_field<'a>(
 ) -> Result<Field, AllocError>
     ensures { IfOk result (λ f. field_of f ≡ contexts.job_field (known_by known.now) (member_of job.entry)) }
 {
+    let outputs = outputs_type(alloc, known, job)?;
     let mut fields = Vec::new(alloc);
-    fields.push(field(alloc, b"result", Ty::String)?)?;
-    fields.push(field(alloc, b"outputs", outputs_type(alloc, known, job)?)?)?;
+    add_field(alloc, &mut fields, b"result", Ty::String)?;
+    add_field(alloc, &mut fields, b"outputs", outputs)?;
     field(alloc, key_text(job.key), strict_of(fields))
 }
 

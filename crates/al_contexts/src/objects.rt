@@ -1,11 +1,14 @@
 //! Object types, made of names with their types.
-ghost use Rattle.std.specs.Prelude.{◌≡◌, ◌++◌, IfOk, OnOk, map, string_bytes};
+ghost use Rattle.std.specs.Prelude.{◌≡◌, ◌++◌, ◌∷◌, [], IfOk, OnOk, map, string_bytes};
+ghost use Rattle.al_declarations.specs.Declarations.{names_of};
+ghost use Rattle.al_shape.specs.Values.{member_of};
 ghost use Rattle.al_types.specs.TypeViews.{fields_of, ty_of};
 ghost use Rattle.al_types.specs.Private.TypeParts.{field_of, fields_of_type};
 ghost use Rattle.al_contexts.specs.Objects as objects;
 ghost use Rattle.al_contexts.specs.Objects.{loosely, strictly, strings};
 
 use al_declarations::{Name, NameList};
+use al_shape::{Member, key_text};
 use al_types::{Field, Object, Ty};
 use std::alloc::{AllocError, Global};
 
@@ -58,6 +61,19 @@ pub(crate) fn into_fields(alloc: Global, ty: Ty) -> Vec<Field>
     }
 }
 
+/// Adds a field of a name and a type. Fails with `AllocError` for want of memory.
+pub(crate) fn add_field(
+    alloc: Global,
+    fields: &mut Vec<Field>,
+    name: &[u8],
+    ty: Ty,
+) -> Result<(), AllocError>
+    ensures { OnOk result (map field_of fields.new.items ≡ map field_of fields.old.items ++ (name.now, ty_of ty) ∷ []) }
+{
+    fields.push(field(alloc, name, ty)?)?;
+    Ok(())
+}
+
 /// Adds fields that are strings, by their names. Fails with `AllocError` for want of memory.
 pub(crate) fn add_strings(
     alloc: Global,
@@ -67,9 +83,23 @@ pub(crate) fn add_strings(
     ensures { OnOk result (map field_of fields.new.items ≡ map field_of fields.old.items ++ strings (map (λ n. n.now) names.now)) }
 {
     for name in names {
-        fields.push(field(alloc, name, Ty::String)?)?;
+        add_field(alloc, fields, name, Ty::String)?;
     }
     Ok(())
+}
+
+/// The keys of entries. Fails with `AllocError` for want of memory.
+pub(crate) fn key_texts<'a>(
+    alloc: Global,
+    entries: &[Member<'a>],
+) -> Result<Vec<&'a [u8]>, AllocError>
+    ensures { IfOk result (λ v. map (λ n. n.now) v.items ≡ names_of (map member_of entries.now)) }
+{
+    let mut keys = Vec::new(alloc);
+    for entry in entries {
+        keys.push(key_text(entry.key))?;
+    }
+    Ok(keys)
 }
 
 /// Adds fields that are strings, by the names of a list. Fails with `AllocError` for want of memory.
@@ -77,7 +107,7 @@ fn add_listed(alloc: Global, fields: &mut Vec<Field>, names: &[Name]) -> Result<
     ensures { OnOk result (map field_of fields.new.items ≡ map field_of fields.old.items ++ strings names.now) }
 {
     for name in names {
-        fields.push(field(alloc, name.as_bytes(), Ty::String)?)?;
+        add_field(alloc, fields, name.as_bytes(), Ty::String)?;
     }
     Ok(())
 }

@@ -1,5 +1,5 @@
 //! The types of contexts at the start of a file.
-ghost use Rattle.std.specs.Prelude.{◌≡◌, IfOk, option_map};
+ghost use Rattle.std.specs.Prelude.{◌≡◌, IfOk, OnOk, option_map};
 ghost use Rattle.al_contexts.specs.Answered.{known_of};
 ghost use Rattle.al_contexts.specs.Private.Environment.{Fixed, OfSection, owned, owner_in, owner_view};
 ghost use Rattle.al_places.specs.Positions.{apart, before};
@@ -58,6 +58,22 @@ pub(crate) fn first_owner(kind: FileKind, root: &Node) -> Option<Owner<'_>>
     }
 }
 
+/// Sets the types that are the same at every place of a file. Fails with `AllocError` for want of memory.
+fn set_fixed(alloc: Global, file: File<'_>, types: &mut ContextTypes) -> Result<(), AllocError>
+    ensures fixed { OnOk result (Fixed file.entry types.new) }
+    ensures section { OnOk result (OfSection file.entry types.old apart → OfSection file.entry types.new apart) }
+    ensures steps { OnOk result ((types.new).steps ≡ (types.old).steps) }
+{
+    types.github = github(alloc)?;
+    types.env = loose_strings(alloc)?;
+    types.vars = loose_strings(alloc)?;
+    types.secrets = loose_strings(alloc)?;
+    types.runner = runner(alloc)?;
+    types.job = job(alloc)?;
+    types.inputs = inputs_type(alloc, file.kind, file.root)?;
+    Ok(())
+}
+
 /// The types of contexts at the start of a file. Fails with `AllocError` for want of memory.
 pub(crate) fn first_types(
     alloc: Global,
@@ -69,25 +85,20 @@ pub(crate) fn first_types(
     ensures steps { IfOk result (λ ts. ty_of ts.steps ≡ owned (known_of (file.entry).known.now) (option_map owner_view owner.entry)
         (before 0)) }
 {
-    let github = github(alloc)?;
-    let env = loose_strings(alloc)?;
-    let vars = loose_strings(alloc)?;
-    let secrets = loose_strings(alloc)?;
-    let runner = runner(alloc)?;
-    let job = job(alloc)?;
-    let inputs = inputs_type(alloc, file.kind, file.root)?;
-    Ok(ContextTypes {
-        github,
-        env,
-        vars,
-        secrets,
-        runner,
-        job,
+    let mut types = ContextTypes {
+        github: Ty::Any,
+        env: Ty::Any,
+        vars: Ty::Any,
+        secrets: Ty::Any,
+        runner: Ty::Any,
+        job: Ty::Any,
         strategy: Ty::Any,
         needs: Ty::Any,
         jobs: Ty::Any,
         steps: start_steps(alloc, owner),
         matrix: Ty::Any,
-        inputs,
-    })
+        inputs: Ty::Any,
+    };
+    set_fixed(alloc, file, &mut types)?;
+    Ok(types)
 }

@@ -15,7 +15,7 @@ ghost use Rattle.al_contexts.specs.Private.Indexes.{IsIndex};
 use crate::env::Owner;
 use crate::field_lists::FieldList;
 use crate::known::Outputs;
-use crate::objects::{field, into_fields, listed_strings, loose_strings, strict_of};
+use crate::objects::{add_field, field, into_fields, listed_strings, loose_strings, strict_of};
 use al_declarations::{NameList, NamePositions};
 use al_places::Seen;
 use al_shape::text_under;
@@ -37,10 +37,11 @@ fn outputs_type(alloc: Global, outputs: Option<&NameList>) -> Result<Ty, AllocEr
 fn step_type(alloc: Global, outputs: Option<&NameList>) -> Result<Ty, AllocError>
     ensures { IfOk result (λ t. ty_of t ≡ contexts.step_type (option_copied outputs.entry)) }
 {
+    let outputs = outputs_type(alloc, outputs)?;
     let mut fields = Vec::new(alloc);
-    fields.push(field(alloc, b"conclusion", Ty::String)?)?;
-    fields.push(field(alloc, b"outcome", Ty::String)?)?;
-    fields.push(field(alloc, b"outputs", outputs_type(alloc, outputs)?)?)?;
+    add_field(alloc, &mut fields, b"conclusion", Ty::String)?;
+    add_field(alloc, &mut fields, b"outcome", Ty::String)?;
+    add_field(alloc, &mut fields, b"outputs", outputs)?;
     Ok(strict_of(fields))
 }
 

@@ -1,17 +1,11 @@
-use Rattle.std.proofs.Common.{refl}
+use Rattle.std.proofs.Common.{refl, ap, ◌∙◌}
+use Rattle.al_types.specs.TypeViews.{ty_of}
+use Rattle.al_contexts.specs.Answered.{known_of}
 use Rattle.al_contexts.proofs.Outside.{of_start}
 use Rattle.al_contexts.proofs.start.first_types.Goals as goal
 
-pub returns-clause-fixed : goal.returns-clause-fixed
-returns-clause-fixed c = record {
-  github = c.in_ok-github.ensures;
-  env = c.in_ok-env.ensures;
-  vars = c.in_ok-vars.ensures;
-  secrets = c.in_ok-secrets.ensures;
-  runner = c.in_ok-runner.ensures;
-  job = c.in_ok-job.ensures;
-  inputs = c.in_ok-inputs.ensures;
-}
-
 pub returns-clause-section : goal.returns-clause-section
-returns-clause-section c = of_start c.args.file _ refl refl refl refl
+returns-clause-section c = c.in_ok-set_fixed.ensures.section (of_start c.args.file _ refl refl refl refl)
+
+pub returns-clause-steps : goal.returns-clause-steps
+returns-clause-steps c = ap ty_of c.in_ok-set_fixed.ensures.steps ∙ c.start_steps.ensures (known_of c.args.file.known.now)

@@ -1,7 +1,0 @@
-use Rattle.std.proofs.Common.{◌≡◌, ◌++◌, drop, map}
-use Rattle.al_shape.specs.Values.{member_of}
-use Rattle.al_declarations.specs.Declarations.{names_of}
-use Rattle.al_contexts.proofs.jobs.declared_names.Given as goal
-
-abbrev pub invariant-loop-entry : goal.invariant-loop-entry
-invariant-loop-entry l = map (λ n. n.now) l.names.items ++ names_of (map member_of (drop l.entry-index l.entry-items)) ≡ names_of (map member_of l.entry-items)
