@@ -16,7 +16,7 @@ fn has_context(contexts: &[Context], context: Context) -> bool
     ensures { result ≡ scopes.has_context contexts.now context }
 {
     for other in contexts {
-        if other.name().as_bytes() == context.name().as_bytes() {
+        if *other == context {
             return true;
         }
     }
