@@ -7,11 +7,20 @@ ghost use Rattle.al_folder.specs.Kept.{AreKept, folder_of, referred};
 ghost use Rattle.al_folder.specs.Loops as loops;
 ghost use Rattle.al_folder.specs.Private.CallGraphs.{IsCallGraph};
 ghost use Rattle.al_session.specs.Session.{AllChecked};
-ghost use Rattle.al_session.specs.Private.Lists.{AreJoined, IsListed};
+ghost use Rattle.al_session.specs.Private.Lists.{AreJoined, IsJoined};
 
 use al_base::Fault;
 use al_folder::{CallGraph, Files, Lint, call_graph, file_number, loop_faults};
 use std::alloc::{AllocError, Global};
+
+/// The faults that a report lists of the files that have a call which leads back to them.
+#[derive(Drop)]
+pub(crate) struct JoinedFaults<'a> {
+    /// All of them, one file's behind another's: a vector for each file would be made and freed at each report.
+    pub(crate) faults: Vec<&'a Fault>,
+    /// Of each file where its own stand there, if it has such a call.
+    pub(crate) spans: Vec<Option<(usize, usize)>>,
+}
 
 // Adds references to faults.
 fn add_references<'a>(faults: &'a [Fault], out: &mut Vec<&'a Fault>) -> Result<(), AllocError>
@@ -33,18 +42,20 @@ fn in_order<'a>(faults: Vec<&'a Fault>) -> Vec<&'a Fault>
     list
 }
 
-// The faults of the file with this number, joined with those of its calls that lead back to it, where there are any.
-fn joined<'a, L: Lint>(
+// Adds the faults of the file with this number, joined with those of its calls that lead back to it, where there are any. Answers where
+// they stand then.
+fn join_file<'a, L: Lint>(
     alloc: Global,
     files: &'a Files<L::Unit, L::Iface>,
     calls: &CallGraph,
     index: usize,
-) -> Result<Option<Vec<&'a Fault>>, AllocError>
+    all: &mut Vec<&'a Fault>,
+) -> Result<Option<(usize, usize)>, AllocError>
     requires kept { AreKept L.meaning L.is_unit files.now.entries }
     requires checked { AllChecked L.meaning (folder_of files.now.entries) files.now.entries }
     requires calls { IsCallGraph L.meaning (folder_of files.now.entries) calls.now.graph.items calls.now.labels.items }
     requires index { index < length files.now.entries }
-    ensures { IfOk result (λ joined. IsListed L.meaning files.now.entries index joined) }
+    ensures { IfOk result (λ span. IsJoined L.meaning files.now.entries index all.old.items all.new.items span) }
 {
     let mut faults = loop_faults::<L>(alloc, files, calls, index)?;
     if faults.is_empty() {
@@ -52,7 +63,10 @@ fn joined<'a, L: Lint>(
     }
     let (_, file) = file_number(files, index);
     add_references(&file.faults, &mut faults)?;
-    Ok(Some(in_order(faults)))
+    let list = in_order(faults);
+    let start = all.len();
+    all.extend_from_slice(list.as_slice())?;
+    Ok(Some((start, all.len())))
 }
 
 /// Of each file the faults that a report lists, where they are not its own alone.
@@ -63,17 +77,19 @@ fn joined<'a, L: Lint>(
 pub(crate) fn join_all<'a, L: Lint>(
     alloc: Global,
     files: &'a Files<L::Unit, L::Iface>,
-) -> Result<Vec<Option<Vec<&'a Fault>>>, AllocError>
+) -> Result<JoinedFaults<'a>, AllocError>
     requires kept { AreKept L.meaning L.is_unit files.now.entries }
     requires checked { AllChecked L.meaning (folder_of files.now.entries) files.now.entries }
-    ensures { IfOk result (λ lists. AreJoined L.meaning files.now.entries lists.items (length files.now.entries)) }
+    ensures { IfOk result (λ joined.
+        AreJoined L.meaning files.now.entries joined.faults.items joined.spans.items (length files.now.entries)) }
 {
     let calls = call_graph::<L>(alloc, files)?;
-    let mut lists = Vec::with_capacity(alloc, files.len())?;
+    let mut faults = Vec::new(alloc);
+    let mut spans = Vec::with_capacity(alloc, files.len())?;
     for index in 0..files.len() {
-        lists.push(joined::<L>(alloc, files, &calls, index)?)?;
+        spans.push(join_file::<L>(alloc, files, &calls, index, &mut faults)?)?;
     }
-    Ok(lists)
+    Ok(JoinedFaults { faults, spans })
 }
 
 /// Whether a call of a file leads back to it.

@@ -10,8 +10,9 @@ ghost use Rattle.al_base.specs.Spans.{LiesIn};
 ghost use Rattle.al_text.specs.Snippets.{fault_text};
 ghost use Rattle.al_base.specs.Streams.{bytes_written, write_failures};
 ghost use Rattle.al_folder.specs.Kept.{referred};
-ghost use Rattle.al_session.specs.Private.Lists.{ArePrintable, IsPrintable, lines_of, listed, numbered_lines};
+ghost use Rattle.al_session.specs.Private.Lists.{ArePrintable, IsPrintable, IsSpan, in_span, lines_of, listed, numbered_lines};
 
+use crate::joining::JoinedFaults;
 use al_base::{Fault, Lines, Location, Output, Stop};
 use al_folder::{Files, KeptFile, file_number};
 use al_text::{write_fault_at, write_faults};
@@ -41,44 +42,54 @@ fn is_clean<U, I>(file: &KeptFile<U, I>) -> bool
 pub(crate) fn write_files<U, I, W: Write>(
     writer: &mut Output<W>,
     files: &Files<U, I>,
-    lists: &[Option<Vec<&Fault>>],
+    joined: &JoinedFaults,
     oneline: bool,
 ) -> Result<(), Stop>
-    requires { ArePrintable files.now.entries lists.now }
+    requires { ArePrintable files.now.entries joined.now.faults.items joined.now.spans.items }
     ensures all { OnOk result (Appends (bytes_written W.contents writer.old) (bytes_written W.contents writer.new)
-        (flat_map (numbered_lines oneline lists.now) (enumerate_from 0 files.now.entries))) }
+        (flat_map (numbered_lines oneline joined.now.faults.items joined.now.spans.items) (enumerate_from 0 files.now.entries))) }
     ensures front { OnErr result (AppendsFront (bytes_written W.contents writer.old) (bytes_written W.contents writer.new)
-        (flat_map (numbered_lines oneline lists.now) (enumerate_from 0 files.now.entries))) }
+        (flat_map (numbered_lines oneline joined.now.faults.items joined.now.spans.items) (enumerate_from 0 files.now.entries))) }
     ensures failures { OnOk result (write_failures writer.new ≡ write_failures writer.old) }
     ensures failed { OnErr result (HasRisen (write_failures writer.old) (write_failures writer.new)) }
     ensures err { IsOkUnless result Stop.WriteFault }
 {
     for index in 0..files.len() {
         let (path, file) = file_number(files, index);
-        write_file(writer, path.as_str(), file, &lists[index], oneline)?;
+        let span = joined.spans[index];
+        write_file(writer, path.as_str(), file, &joined.faults, span, oneline)?;
     }
     Ok(())
 }
 
-// Writes the listed faults of one file.
+// Writes the listed faults of one file: those that stand in this span of the ones that were joined, or its own.
 fn write_file<U, I, W: Write>(
     writer: &mut Output<W>,
     path: &str,
     file: &KeptFile<U, I>,
-    joined: &Option<Vec<&Fault>>,
+    joined: &[&Fault],
+    span: Option<(usize, usize)>,
     oneline: bool,
 ) -> Result<(), Stop>
-    requires { IsPrintable file.now (listed file.now joined.now) }
+    requires span { IsSpan joined.now span }
+    requires printable { IsPrintable file.now (listed file.now (in_span joined.now span)) }
     ensures all { OnOk result (Appends (bytes_written W.contents writer.old) (bytes_written W.contents writer.new)
-        (lines_of oneline path.now file.now (listed file.now joined.now))) }
+        (lines_of oneline path.now file.now (listed file.now (in_span joined.now span)))) }
     ensures front { OnErr result (AppendsFront (bytes_written W.contents writer.old) (bytes_written W.contents writer.new)
-        (lines_of oneline path.now file.now (listed file.now joined.now))) }
+        (lines_of oneline path.now file.now (listed file.now (in_span joined.now span)))) }
     ensures failures { OnOk result (write_failures writer.new ≡ write_failures writer.old) }
     ensures failed { OnErr result (HasRisen (write_failures writer.old) (write_failures writer.new)) }
     ensures err { IsOkUnless result Stop.WriteFault }
 {
-    match joined {
-        Some(faults) => write_referred(writer, &file.lines, path, &file.bytes, faults, oneline),
+    match span {
+        Some((start, end)) => write_referred(
+            writer,
+            &file.lines,
+            path,
+            &file.bytes,
+            &joined[start..end],
+            oneline,
+        ),
         None => write_faults(
             writer,
             &file.lines,

@@ -293,10 +293,10 @@ impl<L: Lint> Session<L> {
         ensures failed { result ≡ Err Stop.WriteFault → HasRisen (write_failures writer.old) (write_failures writer.new) }
         ensures no_read { (result ≢ Err Stop.ReadFault) × (result ≢ Err Stop.TooManyTurns) }
     {
-        let Ok(lists) = join_all::<L>(self.alloc, &self.files) else {
+        let Ok(joined) = join_all::<L>(self.alloc, &self.files) else {
             return Err(Stop::Memory);
         };
-        write_files(writer, &self.files, lists.as_slice(), oneline)
+        write_files(writer, &self.files, &joined, oneline)
     }
 
     /// The candidates of calls that are not in the folder, in order of path, each once.

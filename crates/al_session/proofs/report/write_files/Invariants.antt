@@ -7,7 +7,7 @@ use Rattle.al_session.proofs.report.write_files.Given as goal
 
 abbrev pub invariant-loop-index : goal.invariant-loop-index
 invariant-loop-index g l = record {
-  appended : Appends (bytes_written g.W.Write.contents l.fn.writer) (bytes_written g.W.Write.contents l.writer) (flat_map (numbered_lines l.oneline l.lists)
+  appended : Appends (bytes_written g.W.Write.contents l.fn.writer) (bytes_written g.W.Write.contents l.writer) (flat_map (numbered_lines l.oneline l.joined.faults.items l.joined.spans.items)
       (take l.index (enumerate_from 0 l.files.entries)));
   unfailed : write_failures l.writer ≡ write_failures l.fn.writer;
 }
