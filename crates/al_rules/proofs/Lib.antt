@@ -2,3 +2,4 @@ pub mod NeedLemmas
 pub mod Joining
 pub mod FileLemmas
 pub mod Lying
+pub mod Turns
