@@ -1,8 +1,7 @@
 //! The files that a run without a script lints: those that are asked for, and those that they call.
 
 use crate::disk::{Disk, DiskError, SystemFolder, WORKFLOWS};
-use crate::paths::shown;
-use al_base::{Path, path_fault};
+use al_base::{Path, path_fault, shown};
 use al_check::Actions;
 use al_session::{Refused, SessionBuilder, Target};
 use al_words::Words;
