@@ -6,15 +6,16 @@ use Rattle.al_yaml.specs.Node.{Node}
 use Rattle.al_yaml.specs.Reading.{Reading, Part}
 use Rattle.al_yaml.specs.Blocks.{Slot, block_node}
 use Rattle.al_yaml_reader.specs.Private.BlockFrames.{BlockOpen, BlockWaiting, BlockFrame, block_rest, block_waits, node_reader}
-use Rattle.al_yaml_reader.specs.Private.FlowFrames.{completing, mark_of}
-use Rattle.al_yaml_reader.specs.Private.Frames.{Answer, Mark, answered, noting}
-use Rattle.al_yaml_reader.specs.Private.Places.{fault_of}
-use Rattle.al_yaml_reader.specs.Private.Reads.{State, run, Stops, part_of}
-use Rattle.al_yaml_reader.specs.declared.faults.ReadError.{ReadError}
-use Rattle.al_yaml_reader.specs.declared.faults.ReadError.TheVariants as stop
-use Rattle.al_yaml_reader.specs.declared.part.Part as code
-use Rattle.al_yaml_reader.proofs.FrameLemmas.{noting-err, predecessor, WholeStops}
-use Rattle.al_yaml_reader.proofs.NoteLemmas.{completing-noted}
+use Rattle.al_yaml_parts.specs.Private.Answers.{completing, mark_of}
+use Rattle.al_yaml_parts.specs.Private.Answers.{Answer, Mark, answered, noting}
+use Rattle.al_yaml_parts.specs.Private.Places.{fault_of}
+use Rattle.al_yaml_parts.specs.Private.Reads.{State, run, Stops, part_of}
+use Rattle.al_yaml_parts.specs.declared.faults.ReadError.{ReadError}
+use Rattle.al_yaml_parts.specs.declared.faults.ReadError.TheVariants as stop
+use Rattle.al_yaml_parts.specs.declared.part.Part as code
+use Rattle.al_yaml_reader.proofs.FrameLemmas.{predecessor, WholeStops}
+use Rattle.al_yaml_parts.proofs.NoteLemmas.{noting-err}
+use Rattle.al_yaml_parts.proofs.NoteLemmas.{completing-noted}
 
 -- What the whole answers if what is read in the innermost of these answers so. Each has a bound on what it still reads.
 abbrev pub around : ℕ → ℕ → List BlockFrame → List ℕ → Answer (Part Node) → Answer (Part Node)

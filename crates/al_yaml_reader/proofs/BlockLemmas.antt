@@ -1,162 +1,27 @@
--- Keys of block mappings and refused lines against offsets.
-use Rattle.std.proofs.Common.{◌≡◌, ℕ, zero, suc, ◌+◌, ◌-◌, ◌<◌, ◌≤◌, List, [], ◌∷◌, length, take, slice_index, refl, sym, ap, ◌∙◌, arith}
-use Rattle.std.proofs.Common.{true, false, ◌||◌, cond, Option, Some, None, Result, Ok, Err, IfOk}
-use Rattle.std.proofs.lemmas.List.{get_or-take}
-use Rattle.std.proofs.lemmas.List.{length-take}
+-- Lines of an open block mapping against offsets: those that begin no entry, and keys of further entries.
+use Rattle.std.proofs.Common.{◌≡◌, ℕ, ◌≤◌, List, [], ◌∷◌, length, refl, sym, ap, ◌∙◌}
+use Rattle.std.proofs.Common.{true, false, ◌||◌, cond, Some, None, Ok, Err}
 use Rattle.al_base.specs.declared.codes.YamlCode.{YamlCode}
 use Rattle.al_base.specs.declared.codes.YamlCode.TheVariants as yaml
-use Rattle.al_scalar.specs.Private.Contract.{read_of}
-use Rattle.al_scalar.specs.Line.{Cell, Line, start, with_cell}
-use Rattle.al_scalar.specs.Places.{first_text, first_end}
-use Rattle.al_scalar.specs.Private.Places.{lines_at, text_at, IsLineEnd}
+use Rattle.al_scalar.specs.Line.{start}
+use Rattle.al_scalar.specs.Private.Places.{lines_at, text_at}
 use Rattle.al_scalar.specs.Plain.{block}
 use Rattle.al_scalar.specs.Scalar as value
 use Rattle.al_scalar.specs.Scalar.{scalar_at}
 use Rattle.al_scalar.specs.Taken.{Fault}
-use Rattle.al_scalar.specs.declared.scalars.ScalarRead.{ScalarRead}
 use Rattle.al_yaml.specs.Node as tree
-use Rattle.al_yaml.specs.Reading.{Reading, Part, part, gives, given, fails, listed, start_of, ◌>>=◌}
+use Rattle.al_yaml.specs.Reading.{Reading, Part, gives, given, fails, listed, start_of, ◌>>=◌}
 use Rattle.al_yaml.specs.Limits.{broken_limit}
 use Rattle.al_yaml.specs.Content.{is_property, is_flow_start, is_quote, is_dash, block_fault, unless, is_simple_key}
 use Rattle.al_yaml.specs.Flow.{CollectionReader}
-use Rattle.al_yaml.specs.Blocks.{scalar_left, scalar_node_at}
-use Rattle.al_yaml.specs.View.{view}
-use Rattle.al_yaml_reader.specs.declared.part.Part as code
-use Rattle.al_yaml.specs.Keys.{Key, one_line, with_lines, read_with_lines, plain_on_line, key_scalar, behind_colon, key_from, key_at}
+use Rattle.al_yaml.specs.Keys.{Key, key_at}
 use Rattle.al_yaml.specs.Keys.{no_entry, entry_key, found_key, property_fault, refused_code, is_block_start}
-use Rattle.al_yaml_reader.specs.Private.Places.{IsReadInside}
-use Rattle.al_yaml_reader.specs.Private.Reads.{State, run, counted, Stops, Refuses, Answers, part_of}
-use Rattle.al_yaml_reader.specs.declared.faults.ReadError.{ReadError}
-use Rattle.al_yaml_reader.specs.declared.faults.ReadError.TheVariants as stop
-use Rattle.al_scalar.proofs.SingleLemmas.{has_line, lines_at-some, lines-at_end, text-line_end, is_inside}
-use Rattle.al_scalar.proofs.LineLemmas.{lines_at-other}
+use Rattle.al_yaml_parts.specs.Private.Reads.{State, run, counted, Stops, Refuses}
+use Rattle.al_yaml_parts.specs.declared.faults.ReadError.{ReadError}
 use Rattle.al_scalar.proofs.RestLemmas.{start-at}
-use Rattle.al_scalar.proofs.PlacedLemmas.{placed-wider}
-use Rattle.al_yaml_reader.proofs.KeyLemmas.{end-more, end-order}
-use Rattle.al_scalar.proofs.LineParts.{end-here}
-use Rattle.al_yaml_reader.proofs.RunLemmas.{run-gives, run-fails, run-start, run-broken, run-stop, run-refused}
-use Rattle.al_yaml_reader.proofs.ReadLemmas.{stops-bind, stops-from, stops-same, stops-given, bind-ok, given-ok, same_part}
-use Rattle.al_yaml_reader.proofs.Choices.{if-true, if-false}
-
--- ---- a file cut at a line's end
-
-one_of : (ls : List Line) → has_line ls ≡ true → one_line ls ≡ record { text = first_text ls; end = first_end ls; last = true } ∷ []
-one_of [] h = cc
-one_of (l ∷ ls) h = refl
-
-one_line-with_cell : (c : Cell) (ls : List Line) → one_line (with_cell c ls) ≡ with_cell c (one_line ls)
-one_line-with_cell c [] = refl
-one_line-with_cell c (l ∷ ls) = refl
-
-with_lines-with_cell : (rest : List Line) (c : Cell) (ls : List Line) → with_lines rest (with_cell c ls) ≡ with_lines rest ls
-with_lines-with_cell rest c [] = refl
-with_lines-with_cell rest c (l ∷ ls) = refl
-
-with_lines-own : (ls : List Line) → with_lines (one_line ls) ls ≡ ls
-with_lines-own [] = refl
-with_lines-own (l ∷ ls) = refl
-
-module _ (bytes : List ℕ) (e : ℕ) (inside : e ≤ length bytes) (ended : IsLineEnd bytes e) where
-  short_length : length (take e bytes) ≡ e
-  short_length = omega (arith, length-take e bytes)
-
-  last-line : lines_at (take e bytes) e ≡ one_line (lines_at bytes e)
-  last-line =
-      let line : List Cell → ℕ → Line = λ t i. record { text = t; end = i; last = true } in
-      lines-at_end (take e bytes) e (sym short_length) ∙ ap (λ t. line t e ∷ []) (sym (text-line_end bytes e inside ended))
-      ∙ ap (λ i. line (text_at bytes e) i ∷ []) (sym (end-here bytes e inside ended))
-      ∙ sym (one_of (lines_at bytes e) (lines_at-some bytes e))
-
-  module _ (i : ℕ) (before : i < e) (line : first_end (lines_at bytes i) ≡ e) where
-    solid : IsLineEnd bytes i → ⊥
-    solid k = let here = end-here bytes i (omega arith) k in absurd (omega (arith, here, line))
-
-    whole : lines_at bytes i ≡ with_cell (slice_index bytes i, i) (lines_at bytes (i + 1))
-    whole =
-        let here = is_inside bytes i (omega arith) solid in
-        lines_at-other bytes i here.inside here.not_feed here.not_return
-
-    same_byte : slice_index (take e bytes) i ≡ slice_index bytes i
-    same_byte = get_or-take e bytes i 0 before
-
-    short : lines_at (take e bytes) i ≡ with_cell (slice_index bytes i, i) (lines_at (take e bytes) (i + 1))
-    short =
-        let here = is_inside bytes i (omega arith) solid in
-        let room : i < length (take e bytes) = omega (arith, short_length) in
-        lines_at-other (take e bytes) i room (λ k. here.not_feed (sym same_byte ∙ k)) (λ k. here.not_return (sym same_byte ∙ k))
-        ∙ ap (λ b. with_cell (b, i) (lines_at (take e bytes) (i + 1))) same_byte
-
-    line_on : first_end (lines_at bytes (i + 1)) ≡ e
-    line_on =
-        let here = is_inside bytes i (omega arith) solid in
-        sym (end-more bytes i i here.inside here.not_feed here.not_return refl) ∙ line
-
-  short-lines : (n : ℕ) (i : ℕ) → i + n ≡ e → first_end (lines_at bytes i) ≡ e → lines_at (take e bytes) i ≡ one_line (lines_at bytes i)
-  short-lines zero i h k = let here : i ≡ e = omega arith in rw here last-line
-  short-lines (suc n) i h k =
-      let before : i < e = omega arith in
-      let next : i + 1 + n ≡ e = omega arith in
-      short i before k ∙ ap (with_cell (slice_index bytes i, i)) (short-lines n (i + 1) next (line_on i before k))
-      ∙ sym (one_line-with_cell (slice_index bytes i, i) (lines_at bytes (i + 1))) ∙ ap one_line (sym (whole i before k))
-
-  lines-on : (rest : List Line) (n i j : ℕ) → i + n ≡ j → j ≤ e → first_end (lines_at bytes i) ≡ e → with_lines rest (lines_at bytes i) ≡ with_lines rest (lines_at bytes j)
-  lines-on rest zero i j h o k = let here : i ≡ j = omega arith in rw here refl
-  lines-on rest (suc n) i j h o k =
-      let before : i < e = omega arith in
-      let next : i + 1 + n ≡ j = omega arith in
-      ap (with_lines rest) (whole i before k) ∙ with_lines-with_cell rest (slice_index bytes i, i) (lines_at bytes (i + 1)) ∙ lines-on rest n (i + 1) j next o (line_on i before k)
-
-  module _ (at : ℕ) (order : at ≤ e) (line : first_end (lines_at bytes at) ≡ e) where
-    short_at : lines_at (take e bytes) at ≡ one_line (lines_at bytes at)
-    short_at = let gap : at + (e - at) ≡ e = omega arith in short-lines (e - at) at gap line
-
-    left_at : (next : ℕ) → at ≤ next → next ≤ e → with_lines (lines_at (take e bytes) next) (lines_at bytes at) ≡ lines_at bytes next
-    left_at next h k =
-        let one = end-order bytes at next h (omega arith) in
-        let two = end-order bytes next e k inside in
-        let here = end-here bytes e inside ended in
-        let same : first_end (lines_at bytes next) ≡ e = omega (arith, one, two, here, line) in
-        let gap : next + (e - next) ≡ e = omega arith in
-        let step : at + (next - at) ≡ next = omega arith in
-        ap (λ r. with_lines r (lines_at bytes at)) (short-lines (e - next) next gap same)
-        ∙ lines-on (one_line (lines_at bytes next)) (next - at) at next step k line ∙ with_lines-own (lines_at bytes next)
-
-    plain_at : plain_on_line (lines_at bytes at) ≡ read_with_lines (lines_at bytes at) (scalar_at (block 0) (lines_at (take e bytes) at))
-    plain_at = ap (λ ls. read_with_lines (lines_at bytes at) (scalar_at (block 0) ls)) (sym short_at)
-
-    pub line_read : (result : Result ScalarRead ReadError) → Answers (read_of (take e bytes))
-        (scalar_at (block 0) (lines_at (take e bytes) at)) result → IfOk result (λ r. IsReadInside (take e bytes) at r)
-        → Answers (read_of bytes) (plain_on_line (lines_at bytes at)) result
-    line_read (Ok r) h k =
-        let read : ScalarRead → List Line → value.ScalarRead = λ r left. record { scalar = r.scalar; span = r.span; left = left } in
-        let next_in : r.next ≤ e = omega (arith, k.inside, short_length) in
-        let next_from : at ≤ r.next = omega (arith, k.from, k.end) in
-        plain_at ∙ ap (read_with_lines (lines_at bytes at)) h ∙ ap (λ left. Ok (read r left)) (left_at r.next next_from next_in)
-    line_read (Err (stop.Fault f)) h k = plain_at ∙ ap (read_with_lines (lines_at bytes at)) h
-    line_read (Err stop.Memory) h k = tt
-
-    pub line_inside : (result : Result ScalarRead ReadError) → IfOk result (λ r. IsReadInside (take e bytes) at r) → IfOk result (λ r. IsReadInside bytes at r)
-    line_inside (Ok r) k = record {
-      start = k.start;
-      from = k.from;
-      end = k.end;
-      inside = omega (arith, k.inside, short_length);
-      placed =
-          placed-wider (length (take e bytes)) (length bytes) r.scalar r.span (omega (arith, short_length, inside)) k.placed;
-    }
-    line_inside (Err s) k = tt
-
--- ---- keys
-
-pub key-stops : (asked : Result value.ScalarRead Fault) (e : ReadError) → Refuses asked e → Refuses (key_from asked) e
-key-stops asked (stop.Fault f) h = ap key_from h
-key-stops asked stop.Memory h = tt
-
-abbrev pub key_with : value.ScalarRead → Option (List Line) → Option Key
-key_with r o = elim o [ None ↦ None | Some left ↦ Some (record { scalar = r; behind = left }) ]
-
-pub key-given : (asked : Result value.ScalarRead Fault) (r : value.ScalarRead) (o : Option (List Line)) → asked ≡ Ok r → behind_colon r.left ≡ o → key_from asked ≡ Ok (key_with r o)
-key-given asked r o h k = ap key_from h ∙ ap (λ x. Ok (key_with r x)) k
+use Rattle.al_yaml_parts.proofs.RunLemmas.{run-gives, run-fails, run-start, run-broken}
+use Rattle.al_yaml_parts.proofs.ReadLemmas.{stops-bind, stops-same, stops-given, bind-ok, given-ok}
+use Rattle.al_yaml_parts.proofs.Choices.{if-true, if-false}
 
 -- ---- lines that begin no entry
 
@@ -307,54 +172,3 @@ module _ (collection : CollectionReader) (depth : ℕ) (n : State) (bytes : List
 
               pub further-ok : (m : State) → broken_limit n.nodes n.text (start_of at 1 0 ∷ []) ≡ None → m ≡ counted 1 n → run n (entry_key collection depth (lines_at bytes at)) ≡ Ok (key, m)
               further-ok m h e = key-starts ∙ run-start n 1 at 0 (gives key) h ∙ run-gives (counted 1 n) key ∙ ap (λ i. Ok (key, i)) (sym e)
-
--- ---- a scalar with the rest of its line
-
-module _ (within : ℕ) (n : State) (at : ℕ) (bytes : List ℕ) (inside : at ≤ length bytes) where
-  abbrev pub left_of : value.ScalarRead → Reading (Part tree.Node)
-  left_of r = given (scalar_left (lines_at bytes at) r.left) >>= (λ left. gives (part (tree.scalar_node r) r.span.end left))
-
-  abbrev pub line_scalar : Reading (Part tree.Node)
-  line_scalar = given (scalar_at (block within) (lines_at bytes at)) >>= left_of
-
-  line-first : scalar_node_at within (lines_at bytes at) ≡ listed (start_of at 1 0) line_scalar
-  line-first = ap (λ i. listed (start_of i 1 0) line_scalar) (start-at bytes at inside)
-
-  pub line-broken : (f : Fault) → broken_limit n.nodes n.text (start_of at 1 0 ∷ []) ≡ Some f → run n (scalar_node_at within (lines_at bytes at)) ≡ Err f
-  line-broken f h = ap (run n) line-first ∙ run-broken n 1 at 0 line_scalar f h
-
-  module _ (m : State) (fits : broken_limit n.nodes n.text (start_of at 1 0 ∷ []) ≡ None) (more : m ≡ counted 1 n) where
-    line-starts : run n (scalar_node_at within (lines_at bytes at)) ≡ run m line_scalar
-    line-starts = ap (run n) line-first ∙ run-start n 1 at 0 line_scalar fits ∙ ap (λ i. run i line_scalar) (sym more)
-
-    pub line-unread : (e : ReadError) → Refuses (scalar_at (block within) (lines_at bytes at)) e → Stops (scalar_node_at within (lines_at bytes at)) n e
-    line-unread e h = stops-from _ _ n m e line-starts (stops-given (scalar_at (block within) (lines_at bytes at)) left_of m e h)
-
-    module _ (r : ScalarRead) (read : scalar_at (block within) (lines_at bytes at) ≡ Ok (read_of bytes r)) where
-      line-read : run n (scalar_node_at within (lines_at bytes at)) ≡ run m (left_of (read_of bytes r))
-      line-read = line-starts ∙ given-ok (scalar_at (block within) (lines_at bytes at)) left_of m (read_of bytes r) read
-
-      pub line-wrong : (f : Fault) → scalar_left (lines_at bytes at) (lines_at bytes r.next) ≡ Err f → run n (scalar_node_at within (lines_at bytes at)) ≡ Err f
-      line-wrong f h =
-          line-read ∙ run-stop m (given (scalar_left (lines_at bytes at) (lines_at bytes r.next))) (λ left. gives (part (tree.scalar_node (read_of bytes r)) r.span.end left)) f
-          (run-refused m (scalar_left (lines_at bytes at) (lines_at bytes r.next)) f h)
-
-      pub line-ok : (next : ℕ) (p : code.Part) → scalar_left (lines_at bytes at) (lines_at bytes r.next) ≡ Ok (lines_at bytes next)
-          → view p.node ≡ tree.scalar r.scalar r.span → p.end ≡ r.span.end → p.next ≡ next
-          → run n (scalar_node_at within (lines_at bytes at)) ≡ Ok (part_of bytes p, m)
-      line-ok next p h a b c =
-          line-read ∙ given-ok (scalar_left (lines_at bytes at) (lines_at bytes r.next)) (λ left. gives (part (tree.scalar_node (read_of bytes r)) r.span.end left)) m (lines_at bytes next) h
-          ∙ run-gives m (part (tree.scalar r.scalar r.span) r.span.end (lines_at bytes next))
-          ∙ same_part (tree.scalar r.scalar r.span) (view p.node) r.span.end p.end (lines_at bytes next) (lines_at bytes p.next) m m (sym a) (sym b) (ap (lines_at bytes) (sym c)) refl
-
-pub answers-same : (bytes : List ℕ) (asked other : Result value.ScalarRead Fault) (result : Result ScalarRead ReadError) → asked ≡ other
-    → Answers (read_of bytes) other result → Answers (read_of bytes) asked result
-answers-same bytes asked other (Ok r) e h = e ∙ h
-answers-same bytes asked other (Err (stop.Fault f)) e h = e ∙ h
-answers-same bytes asked other (Err stop.Memory) e h = tt
-
-pub key-quoted : (ls : List Line) → true ≡ is_quote (first_text ls) → key_scalar ls ≡ scalar_at (block 0) ls
-key-quoted ls h = if-true (is_quote (first_text ls)) _ _ h
-
-pub key-plain : (ls : List Line) → false ≡ is_quote (first_text ls) → key_scalar ls ≡ plain_on_line ls
-key-plain ls h = if-false (is_quote (first_text ls)) _ _ h

@@ -8,26 +8,26 @@ use Rattle.al_yaml.specs.Blocks as block
 use Rattle.al_yaml.specs.Blocks.{block_node}
 use Rattle.al_yaml.specs.Content.{content}
 use Rattle.al_yaml_reader.specs.Private.BlockFrames as frames
-use Rattle.al_yaml_reader.specs.Private.Places.{IsLineFrom}
-use Rattle.al_yaml_reader.specs.declared.content.Next as next_code
-use Rattle.al_yaml_reader.specs.declared.content.Next.TheVariants as next_line
+use Rattle.al_yaml_parts.specs.Private.Places.{IsLineFrom}
+use Rattle.al_yaml_parts.specs.declared.content.Next as next_code
+use Rattle.al_yaml_parts.specs.declared.content.Next.TheVariants as next_line
 use Rattle.al_yaml_reader.proofs.BlockStepLemmas.{items-unread, entries-unread}
-use Rattle.al_yaml_reader.specs.Private.BlockReads.{slot_of}
+use Rattle.al_yaml_parts.specs.Private.BlockReads.{slot_of}
 use Rattle.al_yaml_reader.specs.Private.BlockFrames.{block_rest, block_waits, block_open_of, block_waiting_of, block_frame_of, node_reader}
 use Rattle.al_yaml_reader.specs.Private.BlockFrames.{Begins, EntersWith, ResumesBlock, IsNodeAt, IsOpenAt, IsBegun, IsFoundFrom, IsResumed}
 use Rattle.al_yaml_reader.specs.Private.BlockFrames.{IsNextBehind, IsNextInside}
-use Rattle.al_yaml_reader.specs.Private.FlowFrames.{completing, mark_of}
-use Rattle.al_yaml_reader.specs.Private.Frames.{Answer, noting}
-use Rattle.al_yaml_reader.specs.Private.Reads.{State, run, IsBehind, part_of}
-use Rattle.al_yaml_reader.specs.declared.slots.Cursor.{Cursor}
-use Rattle.al_yaml_reader.specs.declared.slots.Slot.{Slot}
-use Rattle.al_yaml_reader.specs.declared.block.BlockFrame.{BlockFrame}
+use Rattle.al_yaml_parts.specs.Private.Answers.{completing, mark_of}
+use Rattle.al_yaml_parts.specs.Private.Answers.{Answer, noting}
+use Rattle.al_yaml_parts.specs.Private.Reads.{State, run, IsBehind, part_of}
+use Rattle.al_yaml_parts.specs.declared.slots.Cursor.{Cursor}
+use Rattle.al_yaml_parts.specs.declared.slots.Slot.{Slot}
+use Rattle.al_yaml_parts.specs.declared.frames.BlockFrame.{BlockFrame}
 use Rattle.al_yaml_reader.specs.declared.block.BlockOpen.{BlockOpen}
 use Rattle.al_yaml_reader.specs.declared.block.BlockOpen.TheVariants as open_code
-use Rattle.al_yaml_reader.specs.declared.block.BlockWaiting.{BlockWaiting}
+use Rattle.al_yaml_parts.specs.declared.frames.BlockWaiting.{BlockWaiting}
 use Rattle.al_yaml_reader.specs.declared.block.BlockTask.{BlockTask}
 use Rattle.al_yaml_reader.specs.declared.block.BlockTask.TheVariants as task
-use Rattle.al_yaml_reader.specs.declared.part.Part as code
+use Rattle.al_yaml_parts.specs.declared.part.Part as code
 use Rattle.al_yaml_reader.proofs.BlockFrameLemmas.{AtNode, InBlock, BehindNode, BlockWaits, node-anchored, node-read, node-opens}
 use Rattle.al_yaml_reader.proofs.BlockFrameLemmas.{block-node, block-found, block_waits-inside, block_waits-behind, block_waits-fault}
 use Rattle.al_yaml_reader.proofs.BlockFrameLemmas.{node-pops}

@@ -13,30 +13,31 @@ use Rattle.al_yaml.specs.Content.{ended, at_line, content, is_property, is_flow_
 use Rattle.al_yaml.specs.Content.{line_ended, same_line, is_short_key, start_fault, has_no_name, anchor_name, behind_name}
 use Rattle.al_yaml.specs.Flow.{CollectionReader, empty_node, flow_collection}
 use Rattle.al_yaml.specs.Keys.{Key, key_at, is_block_start, has_colon, is_on_key}
-use Rattle.al_yaml_reader.specs.Private.FlowFrames.{alias_part, completing}
-use Rattle.al_yaml_reader.specs.Private.Frames.{Answer, answered}
-use Rattle.al_yaml_reader.proofs.FrameLemmas.{bind-answer}
+use Rattle.al_yaml_parts.specs.Private.Answers.{completing}
+use Rattle.al_yaml_parts.specs.Private.Reads.{alias_part}
+use Rattle.al_yaml_parts.specs.Private.Answers.{Answer, answered}
+use Rattle.al_yaml_parts.proofs.NoteLemmas.{bind-answer}
 use Rattle.al_yaml.specs.Blocks.{BlockReader, Slot, Spot, at_spot, spot_behind, is_behind_key, is_deeper, node_found, node_below, rest_node}
 use Rattle.al_yaml.specs.Blocks.{sequence_entry, sequence_rest, sequence_entries, entry_slot, value_slot, mapping_value, mapping_rest}
 use Rattle.al_yaml.specs.Blocks.{mapping_entries, scalar_node_at, flow_at, flow_rest, block_sequence, block_mapping, keyed_node}
 use Rattle.al_yaml.specs.Blocks.{block_content, block_property, block_node, tab_before, unless_at}
 use Rattle.al_yaml_reader.specs.Private.BlockFrames.{node_reader}
-use Rattle.al_yaml_reader.specs.Private.Reads.{State, run, counted, Stops, Refuses}
-use Rattle.al_yaml_reader.specs.declared.faults.ReadError.{ReadError}
+use Rattle.al_yaml_parts.specs.Private.Reads.{State, run, counted, Stops, Refuses}
+use Rattle.al_yaml_parts.specs.declared.faults.ReadError.{ReadError}
 use Rattle.al_scalar.specs.Private.Places.{IsLineEnd}
 use Rattle.al_scalar.specs.Scalar.{ScalarRead}
 use Rattle.std.proofs.Common.{◌==◌}
 use Rattle.std.proofs.lemmas.Grind.{common_steps}
 use Rattle.al_scalar.specs.Places.{first_end, first_text}
-use Rattle.al_yaml_reader.proofs.KeyLemmas.{end-more}
-use Rattle.al_yaml_reader.proofs.LineLemmas.{behind-one}
+use Rattle.al_yaml_parts.proofs.KeyLemmas.{end-more}
+use Rattle.al_yaml_parts.proofs.LineLemmas.{behind-one}
 use Rattle.al_scalar.proofs.RestLemmas.{start-at}
 use Rattle.al_scalar.proofs.SingleLemmas.{is_inside, never, text-line_end}
-use Rattle.al_yaml_reader.proofs.RunLemmas.{run-gives, run-fails, run-start, run-broken, run-stop, run-refused}
-use Rattle.al_yaml_reader.proofs.ReadLemmas.{stops-bind, stops-from, stops-same, stops-given, bind-ok, given-ok}
-use Rattle.al_yaml_reader.proofs.NoteLemmas.{completing-err}
+use Rattle.al_yaml_parts.proofs.RunLemmas.{run-gives, run-fails, run-start, run-broken, run-stop, run-refused}
+use Rattle.al_yaml_parts.proofs.ReadLemmas.{stops-bind, stops-from, stops-same, stops-given, bind-ok, given-ok}
+use Rattle.al_yaml_parts.proofs.NoteLemmas.{completing-err}
 use Rattle.std.specs.Option.{is_some}
-use Rattle.al_yaml_reader.proofs.Choices.{if-true, if-false}
+use Rattle.al_yaml_parts.proofs.Choices.{if-true, if-false}
 
 -- ---- a node
 

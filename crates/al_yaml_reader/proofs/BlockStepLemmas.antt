@@ -12,24 +12,24 @@ use Rattle.al_yaml.specs.Keys.{Key, no_entry, entry_key}
 use Rattle.al_yaml.specs.Blocks.{block_node, rest_node, entry_slot, value_slot, next_found, next_from, next_at, sequence_entries}
 use Rattle.al_yaml.specs.Blocks.{sequence_rest, sequence_next, mapping_entries, mapping_rest, mapping_next}
 use Rattle.al_yaml_reader.specs.Private.BlockFrames.{block_rest, block_waits, items, entries, item, value, FindsBlock, Begins, EntersWith, IsFoundFrom, IsNextAt, block_waiting_of, node_reader}
-use Rattle.al_yaml_reader.specs.Private.BlockReads.{slot_of}
-use Rattle.al_yaml_reader.specs.Private.FlowFrames.{completing, mark_of}
-use Rattle.al_yaml_reader.proofs.NoteLemmas.{completing-noted, completing-runs, completing-stops}
-use Rattle.al_yaml_reader.specs.Private.Places.{IsLineFrom}
-use Rattle.al_yaml_reader.specs.declared.content.Next as next_code
-use Rattle.al_yaml_reader.specs.declared.content.Next.TheVariants as next_line
-use Rattle.al_yaml_reader.specs.Private.Frames.{answered, noting}
-use Rattle.al_yaml_reader.specs.Private.Reads.{State, run, Stops}
+use Rattle.al_yaml_parts.specs.Private.BlockReads.{slot_of}
+use Rattle.al_yaml_parts.specs.Private.Answers.{completing, mark_of}
+use Rattle.al_yaml_parts.proofs.NoteLemmas.{completing-noted, completing-runs, completing-stops}
+use Rattle.al_yaml_parts.specs.Private.Places.{IsLineFrom}
+use Rattle.al_yaml_parts.specs.declared.content.Next as next_code
+use Rattle.al_yaml_parts.specs.declared.content.Next.TheVariants as next_line
+use Rattle.al_yaml_parts.specs.Private.Answers.{answered, noting}
+use Rattle.al_yaml_parts.specs.Private.Reads.{State, run, Stops}
 use Rattle.al_yaml_reader.specs.declared.block.BlockTask.{BlockTask}
 use Rattle.al_yaml_reader.specs.declared.block.BlockTask.TheVariants as task
-use Rattle.al_yaml_reader.specs.declared.block.BlockWaiting.{BlockWaiting}
-use Rattle.al_yaml_reader.specs.declared.faults.ReadError.{ReadError}
-use Rattle.al_yaml_reader.specs.declared.faults.ReadError.TheVariants as stop
-use Rattle.al_yaml_reader.proofs.RunLemmas.{run-given, run-gives, run-refused}
-use Rattle.al_yaml_reader.proofs.ReadLemmas.{stops-from, stops-given, spanned-ok, spanned-stops}
-use Rattle.al_yaml_reader.proofs.Choices.{if-true, if-false}
+use Rattle.al_yaml_parts.specs.declared.frames.BlockWaiting.{BlockWaiting}
+use Rattle.al_yaml_parts.specs.declared.faults.ReadError.{ReadError}
+use Rattle.al_yaml_parts.specs.declared.faults.ReadError.TheVariants as stop
+use Rattle.al_yaml_parts.proofs.RunLemmas.{run-given, run-gives, run-refused}
+use Rattle.al_yaml_parts.proofs.ReadLemmas.{stops-from, stops-given, spanned-ok, spanned-stops}
+use Rattle.al_yaml_parts.proofs.Choices.{if-true, if-false}
 use Rattle.al_yaml_reader.proofs.BlockNodeLemmas.{entries-step, values-step}
-use Rattle.al_yaml_reader.proofs.FrameLemmas.{spanned-answer}
+use Rattle.al_yaml_parts.proofs.NoteLemmas.{spanned-answer}
 
 -- ---- from a dash, from behind a key
 

@@ -6,15 +6,17 @@ use Rattle.al_yaml.specs.Node.{Node}
 use Rattle.al_yaml.specs.Reading.{Part, part}
 use Rattle.al_yaml_reader.specs.Private.FlowFrames.{closed_of, frame_of, after_at, GoesOn, Opens, Resumes}
 use Rattle.al_yaml_reader.specs.Private.Frames as frames
-use Rattle.al_yaml_reader.specs.Private.Frames.{Answer, Waiting, open_rest}
-use Rattle.al_yaml_reader.specs.Private.Reads.{State, run, part_of, IsAfter}
+use Rattle.al_yaml_reader.specs.Private.Frames.{Waiting, open_rest}
+use Rattle.al_yaml_parts.specs.Private.Answers.{Answer}
+use Rattle.al_yaml_parts.specs.Private.Reads.{State, run, part_of}
+use Rattle.al_yaml_reader.specs.Private.FlowFrames.{IsAfter}
 use Rattle.al_yaml.specs.View.{view}
-use Rattle.al_yaml_reader.specs.declared.flow.FlowFrame.{FlowFrame}
+use Rattle.al_yaml_parts.specs.declared.frames.FlowFrame.{FlowFrame}
 use Rattle.al_yaml_reader.specs.declared.flow.After.{After}
 use Rattle.al_yaml_reader.specs.declared.flow.After.TheVariants as after
-use Rattle.al_yaml_reader.specs.declared.part.Part as code
+use Rattle.al_yaml_parts.specs.declared.part.Part as code
 use Rattle.al_yaml_reader.proofs.FrameLemmas.{Inside, Waits, Behind, inside-on, inside-first, inside-closed, empty-first, waits-inside, waits-behind}
-use Rattle.al_yaml_reader.proofs.ReadLemmas.{same_part}
+use Rattle.al_yaml_parts.proofs.ReadLemmas.{same_part}
 
 -- a part that was made of a collection which ends
 pub closed-part : (bytes : List ℕ) (n : State) (opening : ℕ) (has : frames.Open) (end : ℕ) (p : code.Part) → view p.node ≡ closed_of opening has end → p.end ≡ end → p.next ≡ end

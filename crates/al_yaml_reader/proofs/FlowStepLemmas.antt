@@ -1,5 +1,5 @@
 -- Steps of open flow collections, one lemma for each way.
-use Rattle.std.proofs.Common.{◌≡◌, ℕ, suc, ◌+◌, ◌≤◌, List, [], ◌∷◌, length, refl, sym, ap, ◌∙◌, true, false, None, Result, Ok, Err}
+use Rattle.std.proofs.Common.{◌≡◌, ℕ, suc, ◌+◌, ◌≤◌, List, [], ◌∷◌, length, refl, sym, ap, ◌∙◌, true, false, None, Result, Ok}
 use Rattle.al_base.specs.declared.codes.YamlCode.TheVariants as yaml
 use Rattle.al_scalar.specs.Line.{Cell, Line, begins, is_empty}
 use Rattle.al_scalar.specs.Private.Places.{lines_at, text_at}
@@ -9,19 +9,19 @@ use Rattle.al_yaml.specs.Node as tree
 use Rattle.al_yaml.specs.Reading.{Reading, Part, part, fails, gives, given, spanned, ◌>>=◌}
 use Rattle.al_yaml.specs.Flow.{After, goes_on, closes, after_item, gap, CollectionReader, FlowKey, flow_items, flow_items_rest}
 use Rattle.al_yaml.specs.Flow.{flow_entries, flow_key, flow_entries_rest, flow_entry_value, flow_node_over, flow_collection}
-use Rattle.al_yaml_reader.specs.Private.Frames.{Answer, answered, Open, Waiting, open_rest, waiting_rest, items, entries, item, value, key}
-use Rattle.al_yaml_reader.specs.Private.Reads.{State, run, Stops, Refuses, after_of}
-use Rattle.al_yaml_reader.specs.Private.FlowFrames.{Finds, GoesOn, IsFirst, Opens}
+use Rattle.al_yaml_reader.specs.Private.Frames.{Open, Waiting, open_rest, waiting_rest, items, entries, item, value, key}
+use Rattle.al_yaml_parts.specs.Private.Answers.{Answer, answered}
+use Rattle.al_yaml_parts.specs.Private.Reads.{State, run, Stops, Refuses}
+use Rattle.al_yaml_reader.specs.Private.FlowFrames.{after_of}
+use Rattle.al_yaml_reader.specs.Private.FlowFrames.{GoesOn, IsFirst, Opens}
 use Rattle.al_yaml_reader.specs.declared.flow.After as code_after
 use Rattle.al_yaml_reader.specs.declared.flow.After.TheVariants as after
-use Rattle.al_yaml_reader.specs.declared.flow_nodes.Found.{Found}
-use Rattle.al_yaml_reader.specs.declared.flow_nodes.Found.TheVariants as found
-use Rattle.al_yaml_reader.specs.declared.faults.ReadError.{ReadError}
-use Rattle.al_yaml_reader.specs.declared.faults.ReadError.TheVariants as stop
-use Rattle.al_yaml_reader.proofs.RunLemmas.{run-given, run-gives}
-use Rattle.al_yaml_reader.proofs.ReadLemmas.{stops-bind, stops-same, stops-given, spanned-ok, spanned-stops}
+use Rattle.al_yaml_parts.specs.declared.faults.ReadError.{ReadError}
+use Rattle.al_yaml_parts.specs.declared.faults.ReadError.TheVariants as stop
+use Rattle.al_yaml_parts.proofs.RunLemmas.{run-given, run-gives}
+use Rattle.al_yaml_parts.proofs.ReadLemmas.{stops-bind, stops-same, stops-given, spanned-ok, spanned-stops}
 use Rattle.al_yaml_reader.proofs.FlowLemmas.{items-open, items-closed, items-step, entries-open, entries-closed, entries-step}
-use Rattle.al_yaml_reader.proofs.FrameLemmas.{bind-answer, answered-fails, spanned-answer}
+use Rattle.al_yaml_parts.proofs.NoteLemmas.{bind-answer, answered-fails, spanned-answer}
 
 abbrev unclosed : ℕ → ReadError
 unclosed opening = stop.Fault (record { code = yaml.UnclosedFlow; at = opening })
@@ -228,12 +228,3 @@ pub put-behind : (bytes : List ℕ) (depth opening : ℕ) (n m : State) (reading
     → GoesOn bytes depth opening (λ c t. run m (waiting_rest c t depth opening w x)) has next m → GoesOn bytes depth opening (λ c t. run n (reading c (suc t))) has next m
 put-behind bytes depth opening n m reading w x has (after.GoesOn at) g h = λ c t. g c t ∙ h c t
 put-behind bytes depth opening n m reading w x has (after.Closes end) g h = λ c t. g c t ∙ h c t
-
--- ---- what was found
-
-pub finds-same : (bytes : List ℕ) (f g : CollectionReader → Reading (Part tree.Node)) (depth : ℕ) (n m : State)
-    (result : Result Found ReadError) → ((c : CollectionReader) → f c ≡ g c) → Finds bytes g depth n result m
-    → Finds bytes f depth n result m
-finds-same bytes f g depth n m (Ok (found.Node p)) e h = λ c. ap (run n) (e c) ∙ h c
-finds-same bytes f g depth n m (Ok (found.Opens i)) e h = λ c. ap (run n) (e c) ∙ h c
-finds-same bytes f g depth n m (Err x) e h = λ c. stops-same (f c) (g c) n x (e c) (h c)

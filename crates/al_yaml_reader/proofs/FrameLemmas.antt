@@ -1,60 +1,24 @@
 -- The stack of open flow collections: what each step keeps.
-use Rattle.std.proofs.Common.{◌≡◌, ℕ, zero, suc, ◌+◌, ◌<◌, ◌≤◌, List, [], ◌∷◌, length, refl, sym, ap, ◌∙◌, arith, Option, Some, None, Ok, Err}
-use Rattle.al_base.specs.declared.codes.YamlCode.{YamlCode}
-use Rattle.al_base.specs.declared.faults.Span.{Span}
+use Rattle.std.proofs.Common.{◌≡◌, ℕ, zero, suc, ◌+◌, ◌<◌, ◌≤◌, List, [], ◌∷◌, length, refl, sym, ap, ◌∙◌, arith, Option, Ok, Err}
 use Rattle.al_scalar.specs.Private.Places.{lines_at}
-use Rattle.al_scalar.specs.Scalar.{span}
 use Rattle.al_scalar.specs.Taken.{Fault}
 use Rattle.al_yaml.specs.Node.{Node}
-use Rattle.al_yaml.specs.Reading.{Reading, Part, part, gives, fails, spanned, ◌>>=◌}
+use Rattle.al_yaml.specs.Reading.{Reading, Part}
 use Rattle.al_yaml.specs.Flow.{CollectionReader, flow_collection}
-use Rattle.al_yaml_reader.specs.Private.Frames.{Answer, Mark, answered, noting, Open, Waiting, Frame, open_rest, waiting_rest, frame_rest}
-use Rattle.al_yaml_reader.specs.Private.Places.{fault_of}
-use Rattle.al_yaml_reader.specs.Private.Reads.{State, run, Stops, part_of}
-use Rattle.al_yaml_reader.specs.declared.faults.ReadError.{ReadError}
-use Rattle.al_yaml_reader.specs.declared.faults.ReadError.TheVariants as stop
-use Rattle.al_yaml_reader.specs.declared.part.Part as code
-use Rattle.al_yaml_reader.proofs.RunLemmas.{run-bind, run-stop}
-
--- ---- answers
-
-bind-cases : {A B : Type 0} (s : State) (r : Reading A) (f : A → Reading B) (o : Answer A) → run s r ≡ o → run s (r >>= f) ≡ answered o f
-bind-cases s r f (Err e) h = run-stop s r f e h
-bind-cases s r f (Ok p) h = run-bind s r f p.0 p.1 h
-
-pub bind-answer : {A B : Type 0} (s : State) (r : Reading A) (f : A → Reading B) → run s (r >>= f) ≡ answered (run s r) f
-bind-answer s r f = bind-cases s r f (run s r) refl
-
-pub answered-bind : {A B C : Type 0} (o : Answer A) (g : A → Reading B) (h : B → Reading C) → answered (answered o g) h ≡ answered o (λ x. g x >>= h)
-answered-bind (Err e) g h = refl
-answered-bind (Ok p) g h = sym (bind-answer p.1 (g p.0) h)
-
-abbrev span_part : {B : Type 0} → (B → Span → Node) → ℕ → Part B → Reading (Part Node)
-span_part f at p = gives (part (f p.value (span at p.end)) p.end p.left)
-
--- what is read of a collection behind a part of it
-pub spanned-answer : {A B : Type 0} (f : B → Span → Node) (at : ℕ) (s : State) (r : Reading A) (g : A → Reading (Part B))
-    → run s (spanned f at (r >>= g)) ≡ answered (run s r) (λ x. spanned f at (g x))
-spanned-answer f at s r g =
-    bind-answer s (r >>= g) (span_part f at) ∙ ap (λ o. answered o (span_part f at)) (bind-answer s r g) ∙ answered-bind (run s r) g (span_part f at)
-
--- a fault behind an answer
-pub answered-fails : {A B C : Type 0} (o : Answer A) (code : YamlCode) (at : ℕ) (f : B → Reading C) → answered (answered o (λ _. fails code at)) f ≡ answered o (λ _. fails code at)
-unfolding run
-answered-fails (Err e) code at f = refl
-answered-fails (Ok p) code at f = refl
-
--- ---- the stack
+use Rattle.al_yaml_reader.specs.Private.Frames.{Open, Waiting, Frame, open_rest, waiting_rest, frame_rest}
+use Rattle.al_yaml_parts.specs.Private.Answers.{Answer, Mark, answered, noting}
+use Rattle.al_yaml_parts.specs.Private.Places.{fault_of}
+use Rattle.al_yaml_parts.specs.Private.Reads.{State, run, Stops, part_of}
+use Rattle.al_yaml_parts.specs.declared.faults.ReadError.{ReadError}
+use Rattle.al_yaml_parts.specs.declared.faults.ReadError.TheVariants as stop
+use Rattle.al_yaml_parts.specs.declared.part.Part as code
+use Rattle.al_yaml_parts.proofs.NoteLemmas.{noting-err}
 
 -- What the whole answers if what is read in the innermost of these answers so. Each has a bound on what it still reads.
 abbrev pub resumed : ℕ → ℕ → List Frame → List ℕ → Answer (Part Node) → Answer (Part Node)
 resumed depth bound [] ts o = o
 resumed depth bound (f ∷ fs) [] o = o
 resumed depth bound (f ∷ fs) (t ∷ ts) o = resumed depth (suc bound) fs ts (answered (noting f.mark o) (frame_rest (flow_collection bound) t (depth + length fs + 1) f))
-
-pub noting-err : (o : Option Mark) (e : Fault) → noting o (Err e) ≡ Err e
-noting-err None e = refl
-noting-err (Some m) e = refl
 
 pub resumed-err : (depth bound : ℕ) (fs : List Frame) (ts : List ℕ) (e : Fault) → resumed depth bound fs ts (Err e) ≡ Err e
 resumed-err depth bound [] ts e = refl

@@ -1,18 +1,5 @@
-pub mod Choices
-pub mod LineLemmas
-pub mod NameLemmas
-pub mod SumLemmas
-pub mod AnchorLemmas
-pub mod AliasLemmas
-pub mod CellLemmas
-pub mod StackLemmas
-pub mod ContentLemmas
-pub mod RunLemmas
-pub mod KeyLemmas
-pub mod ReadLemmas
 pub mod FlowLemmas
 pub mod FrameLemmas
-pub mod NoteLemmas
 pub mod FlowStepLemmas
 pub mod FlowLoop
 pub mod BlockFrameLemmas
@@ -20,6 +7,4 @@ pub mod BlockStepLemmas
 pub mod BlockLoop
 pub mod BlockLemmas
 pub mod BlockNodeLemmas
-pub mod ByteLemmas
-pub mod DocumentLemmas
 pub mod RootLemmas

@@ -8,12 +8,12 @@ use Rattle.al_yaml.specs.Content.{at_line, content}
 use Rattle.al_yaml.specs.Bytes.{file_lines}
 use Rattle.al_yaml.specs.Blocks.{block_node}
 use Rattle.al_yaml.specs.Document.{document_start, document_end, root_slot, root_found, root, document, document_of}
-use Rattle.al_yaml_reader.specs.Private.Places.{fault_of}
-use Rattle.al_yaml_reader.specs.Private.Reads.{State, at_start, run, Stops, Refuses}
-use Rattle.al_yaml_reader.specs.declared.faults.ReadError.{ReadError}
-use Rattle.al_yaml_reader.specs.declared.faults.ReadError.TheVariants as stop
-use Rattle.al_yaml_reader.proofs.ReadLemmas.{given-ok, bind-ok, stops-bind}
-use Rattle.al_yaml_reader.proofs.RunLemmas.{run-gives, run-stop, run-refused, run-limited, run-limited_fault}
+use Rattle.al_yaml_parts.specs.Private.Places.{fault_of}
+use Rattle.al_yaml_parts.specs.Private.Reads.{State, at_start, run, Stops, Refuses}
+use Rattle.al_yaml_parts.specs.declared.faults.ReadError.{ReadError}
+use Rattle.al_yaml_parts.specs.declared.faults.ReadError.TheVariants as stop
+use Rattle.al_yaml_parts.proofs.ReadLemmas.{given-ok, bind-ok, stops-bind}
+use Rattle.al_yaml_parts.proofs.RunLemmas.{run-gives, run-stop, run-refused, run-limited, run-limited_fault}
 
 -- ---- the root
 

@@ -1,4 +1,2 @@
 pub mod Contract
-pub mod Cells
-pub mod Stacks
 pub mod Private

@@ -5,32 +5,33 @@ ghost use Rattle.al_yaml_reader.specs.Private.BlockFrames as frames;
 ghost use Rattle.al_yaml_reader.specs.Private.BlockFrames.{Enters, FindsBlock, IsEntered, IsFoundFrom, IsNextAt, IsNodeAt};
 ghost use Rattle.al_yaml_reader.specs.Private.BlockFrames.{IsNextInside, IsOpenAt, IsReadBefore, IsResumed, ResumesBlock};
 ghost use Rattle.al_yaml_reader.specs.Private.BlockFrames.{block_open_of, block_rest, block_waiting_of};
-ghost use Rattle.al_yaml_reader.specs.Private.BlockReads.{IsTabInside, slot_of};
+ghost use Rattle.al_yaml_parts.specs.Private.BlockReads.{IsTabInside, slot_of};
 ghost use Rattle.al_yaml.specs.Blocks as block;
 ghost use Rattle.al_yaml.specs.Content as content;
-ghost use Rattle.al_yaml_reader.specs.Private.Files.{left_at, size};
-ghost use Rattle.al_yaml_reader.specs.Private.Places.{Shows, next_of, option_lines};
-ghost use Rattle.al_yaml_reader.specs.Private.Reads.{IsBehind, IsRead, IsStopInside, part_of, state_of};
-ghost use Rattle.al_yaml_reader.specs.Stacks.{HasRoom, depth_in};
+ghost use Rattle.al_yaml_parts.specs.Private.Files.{left_at, size};
+ghost use Rattle.al_yaml_parts.specs.Private.Places.{Shows, next_of, option_lines};
+ghost use Rattle.al_yaml_parts.specs.Private.Reads.{IsBehind, IsRead, IsStopInside, part_of, state_of};
+ghost use Rattle.al_yaml_parts.specs.Stacks.{HasRoom, depth_in};
 ghost use Rattle.al_yaml.specs.View.{entries_of, entry_view, nodes_of, view};
 ghost use Rattle.std.specs.Prelude.{IfErr, IfOk, IfSome, [], length, map, suc, true, ℕ, ◌+◌, ◌<◌, ◌≡◌, ◌≤◌};
 
 use crate::block_nodes::read_node;
-use crate::content::{Next, is_dash, is_skipped, next_content};
 use crate::entries::{entry_key, no_entry};
-use crate::faults::ReadError;
-use crate::file::{File, Progress};
-use crate::flow_nodes::completed;
-use crate::keys::Key;
-use crate::limits::State;
-use crate::lines::{characters, next_line};
-use crate::part::{Part, mapping_part, sequence_part};
-use crate::scalars::empty_part;
-use crate::slots::{Cursor, Slot, Spot, is_deeper, spot_behind};
 use al_base::YamlCode;
 use al_scalar::lines::blanks_end;
 use al_scalar::{FaultAt, ScalarRead};
 use al_yaml::{Entry, Node, entry_of, scalar_node};
+use al_yaml_parts::content::{Next, is_dash, is_skipped, next_content};
+use al_yaml_parts::faults::ReadError;
+use al_yaml_parts::file::{File, Progress};
+use al_yaml_parts::flow_nodes::completed;
+use al_yaml_parts::frames::{BlockFrame, BlockStart, BlockWaiting};
+use al_yaml_parts::keys::Key;
+use al_yaml_parts::limits::State;
+use al_yaml_parts::lines::{characters, next_line};
+use al_yaml_parts::part::{Part, mapping_part, sequence_part};
+use al_yaml_parts::scalars::empty_part;
+use al_yaml_parts::slots::{Cursor, Slot, Spot, is_deeper, spot_behind};
 
 /// What was read of an open block collection: of a sequence the items before a dash, and whether it is the value of a
 /// mapping's entry; of a mapping the entries before a key, and the key.
@@ -38,28 +39,6 @@ use al_yaml::{Entry, Node, entry_of, scalar_node};
 pub enum BlockOpen {
     Items(bool, Vec<Node>),
     Entries(Vec<Entry>, Key),
-}
-
-/// What a block collection waits with while a node in it is read: the items before it; or the entries before it and the
-/// key whose value it is.
-#[derive(Drop)]
-pub enum BlockWaiting {
-    Item(bool, Vec<Node>),
-    Value(Vec<Entry>, ScalarRead),
-}
-
-/// Where a block collection begins, and where its own anchor stands if it has one.
-#[derive(Clone, Copy)]
-pub struct BlockStart {
-    pub start: Cursor,
-    pub anchor: Option<usize>,
-}
-
-/// A block collection that waits for a node: where it begins, and what it waits with.
-#[derive(Drop)]
-pub struct BlockFrame {
-    pub begun: BlockStart,
-    pub waiting: BlockWaiting,
 }
 
 /// A node that was read, and the next content line behind it.

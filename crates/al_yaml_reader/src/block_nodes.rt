@@ -2,33 +2,33 @@
 
 ghost use Rattle.al_scalar.specs.Private.Places.{lines_at, text_at};
 ghost use Rattle.al_yaml_reader.specs.Private.BlockFrames.{Begins, IsBegun, IsNodeAt, node_reader};
-ghost use Rattle.al_yaml_reader.specs.Private.FlowFrames.{completing};
-ghost use Rattle.al_yaml_reader.specs.Private.BlockReads.{IsKeyBehind, IsTabInside, key_seen, slot_of, spot_of};
+ghost use Rattle.al_yaml_parts.specs.Private.Answers.{completing};
+ghost use Rattle.al_yaml_parts.specs.Private.BlockReads.{IsKeyBehind, IsTabInside, key_seen, slot_of, spot_of};
 ghost use Rattle.al_yaml.specs.Blocks as block;
 ghost use Rattle.al_yaml.specs.Content as content;
-ghost use Rattle.al_yaml_reader.specs.Private.Files.{left_at, size};
+ghost use Rattle.al_yaml_parts.specs.Private.Files.{left_at, size};
 ghost use Rattle.al_yaml.specs.Flow as flow;
 ghost use Rattle.al_yaml.specs.Keys as keys;
-ghost use Rattle.al_yaml_reader.specs.Private.Reads.{IsBehind, IsRead, IsStopInside, part_of, state_of};
-ghost use Rattle.al_yaml_reader.specs.Stacks.{depth_in};
+ghost use Rattle.al_yaml_parts.specs.Private.Reads.{IsBehind, IsRead, IsStopInside, part_of, state_of};
+ghost use Rattle.al_yaml_parts.specs.Stacks.{depth_in};
 ghost use Rattle.std.specs.Prelude.{IfErr, IfOk, [], length, not, suc, true, ℕ, ◌&&◌, ◌+◌, ◌<◌, ◌||◌, ◌≡◌, ◌≤◌};
 
-use crate::anchors::{has_no_name, property_end};
 use crate::block::{BlockOpen, BlockTask, find_rest};
-use crate::content::{is_dash, line_ended};
-use crate::faults::ReadError;
-use crate::file::{File, Progress};
 use crate::flow::read_flow_collection;
-use crate::flow_nodes::{completed, read_alias};
-use crate::keys::{Key, has_colon, is_on_key, is_short_key, key_at};
-use crate::lines::same_line;
-use crate::part::Part;
-use crate::scalars::read_line_scalar;
-use crate::slots::{Cursor, Slot, Spot, is_behind_key, tab_before};
-use crate::starts::{block_fault, is_block_start, is_flow_start, is_property};
 use al_base::YamlCode;
 use al_scalar::FaultAt;
 use al_scalar::lines::begins;
+use al_yaml_parts::anchors::{has_no_name, property_end};
+use al_yaml_parts::content::{is_dash, line_ended};
+use al_yaml_parts::faults::ReadError;
+use al_yaml_parts::file::{File, Progress};
+use al_yaml_parts::flow_nodes::{completed, read_alias};
+use al_yaml_parts::keys::{Key, has_colon, is_on_key, is_short_key, key_at};
+use al_yaml_parts::lines::same_line;
+use al_yaml_parts::part::Part;
+use al_yaml_parts::scalars::read_line_scalar;
+use al_yaml_parts::slots::{Cursor, Slot, Spot, is_behind_key, tab_before};
+use al_yaml_parts::starts::{block_fault, is_block_start, is_flow_start, is_property};
 
 /// Whether a scalar that stands here is no key: a block scalar, or a value on its key's line.
 fn is_no_key(bytes: &[u8], spot: Spot, at: usize) -> bool

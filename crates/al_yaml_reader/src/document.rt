@@ -3,28 +3,28 @@
 ghost use Rattle.al_yaml_reader.specs.Contract.{GivesInside, GivesTree};
 ghost use Rattle.al_yaml.specs.Document as document;
 ghost use Rattle.al_yaml.specs.Document.{HasNoAlias};
-ghost use Rattle.al_yaml_reader.specs.Private.Files.{left_at, size};
-ghost use Rattle.al_yaml_reader.specs.Private.Reads.{Answers, IsRead, IsStopInside, part_of, state_of};
+ghost use Rattle.al_yaml_parts.specs.Private.Files.{left_at, size};
+ghost use Rattle.al_yaml_parts.specs.Private.Reads.{Answers, IsRead, IsStopInside, part_of, state_of};
 ghost use Rattle.al_yaml.specs.Spans.{AreFrom, IsLaid, IsWithin};
 ghost use Rattle.al_yaml.specs.Texts.{HasTexts};
 ghost use Rattle.al_yaml.specs.View.{view};
 ghost use Rattle.std.specs.Prelude.{◌≡◌, ◌≤◌, IfErr, IfOk, [], length};
 ghost use Rattle.al_base.specs.Limits.{largest_file};
 
-use crate::anchors::Anchors;
 use crate::block::read_block_node;
-use crate::bytes::{byte_fault, mark_end};
-use crate::content::{Next, next_content};
-use crate::document_edges::{document_end, document_start};
-use crate::faults::ReadError;
-use crate::file::{File, Progress};
-use crate::limits::State;
-use crate::part::Part;
-use crate::scalars::empty_part;
-use crate::slots::{Cursor, Slot, Spot};
-use crate::stack::Stack;
 use al_scalar::{YamlFault, fault_at};
 use al_yaml::{Doc, Node};
+use al_yaml_parts::anchors::Anchors;
+use al_yaml_parts::bytes::{byte_fault, mark_end};
+use al_yaml_parts::content::{Next, next_content};
+use al_yaml_parts::document_edges::{document_end, document_start};
+use al_yaml_parts::faults::ReadError;
+use al_yaml_parts::file::{File, Progress};
+use al_yaml_parts::limits::State;
+use al_yaml_parts::part::Part;
+use al_yaml_parts::scalars::empty_part;
+use al_yaml_parts::slots::{Cursor, Slot, Spot};
+use al_yaml_parts::stack::Stack;
 use std::alloc::{AllocError, Global};
 
 /// Reads the root of a document: the node on the first content line, or else an empty node at the file's end.

@@ -1,26 +1,26 @@
 //! Further entries of open block collections, and lines that begin none.
 
 ghost use Rattle.al_scalar.specs.Private.Places.{lines_at, text_at};
-ghost use Rattle.al_yaml_reader.specs.Private.BlockReads.{IsKeyBehind, key_seen};
+ghost use Rattle.al_yaml_parts.specs.Private.BlockReads.{IsKeyBehind, key_seen};
 ghost use Rattle.al_yaml.specs.Content as content;
-ghost use Rattle.al_yaml_reader.specs.Private.Files.{left_at, size};
+ghost use Rattle.al_yaml_parts.specs.Private.Files.{left_at, size};
 ghost use Rattle.al_yaml.specs.Flow as flow;
 ghost use Rattle.al_yaml.specs.Keys as keys;
 ghost use Rattle.al_yaml.specs.Node as tree;
 ghost use Rattle.al_yaml.specs.Reading as reading;
-ghost use Rattle.al_yaml_reader.specs.Private.Reads.{IsRead, IsStopInside, Stops, state_of};
-ghost use Rattle.al_yaml_reader.specs.Stacks.{HasRoom, depth_in};
+ghost use Rattle.al_yaml_parts.specs.Private.Reads.{IsRead, IsStopInside, Stops, state_of};
+ghost use Rattle.al_yaml_parts.specs.Stacks.{HasRoom, depth_in};
 ghost use Rattle.std.specs.Prelude.{IfErr, IfOk, MatchResult, length, ℕ, ◌+◌, ◌<◌, ◌||◌, ◌≡◌, ◌≤◌};
 
-use crate::content::is_dash;
-use crate::faults::ReadError;
-use crate::file::{File, Progress};
 use crate::flow::read_flow_collection;
-use crate::keys::{Key, behind_colon, is_simple_key, key_at, property_fault};
-use crate::scalars::scalar_at;
-use crate::starts::{block_fault, is_block_start, is_flow_start, is_property, is_quote};
 use al_base::YamlCode;
 use al_scalar::{FaultAt, ScalarContext};
+use al_yaml_parts::content::is_dash;
+use al_yaml_parts::faults::ReadError;
+use al_yaml_parts::file::{File, Progress};
+use al_yaml_parts::keys::{Key, behind_colon, is_simple_key, key_at, property_fault};
+use al_yaml_parts::scalars::scalar_at;
+use al_yaml_parts::starts::{block_fault, is_block_start, is_flow_start, is_property, is_quote};
 
 /// The fault of a flow collection that begins a line but no entry, by what stands behind it.
 fn refused_code(bytes: &[u8], in_mapping: bool, next: usize) -> YamlCode

@@ -4,65 +4,44 @@ ghost use Rattle.al_scalar.specs.Line as line;
 ghost use Rattle.al_scalar.specs.Private.Contract.{read_of};
 ghost use Rattle.al_scalar.specs.Private.Places.{lines_at, text_at};
 ghost use Rattle.al_yaml.specs.Content as content;
-ghost use Rattle.al_yaml_reader.specs.Private.Files.{left_at, size};
+ghost use Rattle.al_yaml_parts.specs.Private.Files.{left_at, size};
 ghost use Rattle.al_yaml.specs.Flow as flow;
 ghost use Rattle.al_yaml_reader.specs.Private.FlowFrames.{IsFirst, IsPut, IsStep, Opens, Resumes, Steps};
 ghost use Rattle.al_yaml_reader.specs.Private.FlowFrames.{after_at, closed_of, open_of, waiting_of};
 ghost use Rattle.al_yaml_reader.specs.Private.Frames as frames;
 ghost use Rattle.al_yaml_reader.specs.Private.Frames.{open_rest};
 ghost use Rattle.al_yaml.specs.Limits.{broken_limit};
-ghost use Rattle.al_yaml_reader.specs.Private.Places.{Shows};
+ghost use Rattle.al_yaml_parts.specs.Private.Places.{Shows};
 ghost use Rattle.al_yaml.specs.Reading.{start_of};
-ghost use Rattle.al_yaml_reader.specs.Private.Reads as reads;
-ghost use Rattle.al_yaml_reader.specs.Private.Reads.{IsAfter, IsBehind, IsRead, IsStopInside, after_of, counted, part_of, state_of};
+ghost use Rattle.al_yaml_parts.specs.Private.Reads as reads;
+ghost use Rattle.al_yaml_parts.specs.Private.Reads.{IsBehind, IsRead, IsStopInside, counted, part_of, state_of};
+ghost use Rattle.al_yaml_reader.specs.Private.FlowFrames.{IsAfter, after_of};
 ghost use Rattle.al_yaml.specs.View.{entries_of, entry_view, nodes_of, view};
-ghost use Rattle.al_yaml_reader.specs.declared.flow.Open.TheVariants as open_code;
+ghost use Rattle.al_yaml_parts.specs.declared.frames.Open.TheVariants as open_code;
 ghost use Rattle.std.specs.Prelude.{IfErr, IfOk, None, [], false, length, map, true, ℕ, ◌+◌, ◌<◌, ◌^◌, ◌∷◌, ◌≡◌, ◌≤◌};
 
-use crate::content::gap;
-use crate::faults::ReadError;
-use crate::file::{File, Progress};
-use crate::flow_nodes::{
-    Bracket, Found, FoundKey, completed, read_flow_key, read_flow_property, read_flow_scalar,
-    read_flow_value,
-};
-use crate::limits::State;
-use crate::lines::is_text_end;
-use crate::part::{Part, mapping_part, sequence_part};
-use crate::starts::{is_flow_start, is_property};
 use al_base::YamlCode;
 use al_scalar::lines::begins;
 use al_scalar::{FaultAt, ScalarRead};
 use al_yaml::{Entry, Node, entry_of, scalar_node};
+use al_yaml_parts::content::gap;
+use al_yaml_parts::faults::ReadError;
+use al_yaml_parts::file::{File, Progress};
+use al_yaml_parts::flow_nodes::{
+    Bracket, Found, FoundKey, completed, read_flow_key, read_flow_property, read_flow_scalar,
+    read_flow_value,
+};
+use al_yaml_parts::frames::{FlowFrame, Open, OpenMapping};
+use al_yaml_parts::limits::State;
+use al_yaml_parts::lines::is_text_end;
+use al_yaml_parts::part::{Part, mapping_part, sequence_part};
+use al_yaml_parts::starts::{is_flow_start, is_property};
 
 /// What stands behind an item: a comma, with the offset of what follows it, or the closer, with the offset behind it.
 #[derive(Clone, Copy)]
 pub enum After {
     GoesOn(usize),
     Closes(usize),
-}
-
-/// What was read of an open flow mapping, and the key whose value is a collection that is read now.
-#[derive(Drop)]
-pub struct OpenMapping {
-    pub entries: Vec<Entry>,
-    pub waits: Option<ScalarRead>,
-}
-
-/// What was read of an open flow collection, up to an item, an entry or the closer.
-#[derive(Drop)]
-pub enum Open {
-    Items(Vec<Node>),
-    Entries(OpenMapping),
-}
-
-/// A flow collection that waits for the collection inside it whose bracket was met: for an item, for the value of its
-/// key, or where it has no key for one.
-#[derive(Drop)]
-pub struct FlowFrame {
-    pub opening: usize,
-    pub has: Open,
-    pub inner: Bracket,
 }
 
 /// How far one step reads: to what stands behind a node, or to the bracket of a collection inside.

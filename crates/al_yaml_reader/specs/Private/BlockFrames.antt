@@ -10,22 +10,22 @@ use Rattle.al_yaml.specs.Content as content
 use Rattle.al_yaml.specs.Flow.{flow_collection}
 use Rattle.al_yaml.specs.Keys.{Key}
 use Rattle.al_yaml.specs.Blocks.{BlockReader, sequence_entries, sequence_rest, mapping_entries, mapping_rest, block_node, bare_node}
-use Rattle.al_yaml_reader.specs.Private.BlockReads.{IsKeyBehind, IsTabInside, key_seen, slot_of}
-use Rattle.al_yaml_reader.specs.Private.Frames.{Mark, answered, noting}
-use Rattle.al_yaml_reader.specs.Private.FlowFrames.{mark_of}
-use Rattle.al_yaml_reader.specs.Private.Places.{next_of, IsLineFrom}
-use Rattle.al_yaml_reader.specs.Private.Reads.{State, run, Stops, IsBehind, part_of}
+use Rattle.al_yaml_parts.specs.Private.BlockReads.{IsKeyBehind, IsTabInside, key_seen, slot_of}
+use Rattle.al_yaml_parts.specs.Private.Answers.{Mark, answered, noting}
+use Rattle.al_yaml_parts.specs.Private.Answers.{mark_of}
+use Rattle.al_yaml_parts.specs.Private.Places.{next_of, IsLineFrom}
+use Rattle.al_yaml_parts.specs.Private.Reads.{State, run, Stops, IsBehind, part_of}
 use Rattle.al_yaml.specs.View.{view, entry_view, nodes_of, entries_of}
-use Rattle.al_yaml_reader.specs.declared.faults.ReadError.{ReadError}
-use Rattle.al_yaml_reader.specs.declared.part.Part as code
-use Rattle.al_yaml_reader.specs.declared.content.Next.{Next}
-use Rattle.al_yaml_reader.specs.declared.content.Next.TheVariants as next
-use Rattle.al_yaml_reader.specs.declared.slots.Slot as slot
+use Rattle.al_yaml_parts.specs.declared.faults.ReadError.{ReadError}
+use Rattle.al_yaml_parts.specs.declared.part.Part as code
+use Rattle.al_yaml_parts.specs.declared.content.Next.{Next}
+use Rattle.al_yaml_parts.specs.declared.content.Next.TheVariants as next
+use Rattle.al_yaml_parts.specs.declared.slots.Slot as slot
 use Rattle.al_yaml_reader.specs.declared.block.BlockOpen as open_type
 use Rattle.al_yaml_reader.specs.declared.block.BlockOpen.TheVariants as open_code
-use Rattle.al_yaml_reader.specs.declared.block.BlockWaiting as waiting_type
-use Rattle.al_yaml_reader.specs.declared.block.BlockWaiting.TheVariants as waiting_code
-use Rattle.al_yaml_reader.specs.declared.block.BlockFrame as frame_type
+use Rattle.al_yaml_parts.specs.declared.frames.BlockWaiting as waiting_type
+use Rattle.al_yaml_parts.specs.declared.frames.BlockWaiting.TheVariants as waiting_code
+use Rattle.al_yaml_parts.specs.declared.frames.BlockFrame as frame_type
 use Rattle.al_yaml_reader.specs.declared.block.BlockTask as task_type
 use Rattle.al_yaml_reader.specs.declared.block.PartBefore as before_type
 use Rattle.al_yaml_reader.specs.declared.block.BlockTask.TheVariants as task

@@ -1,29 +1,25 @@
 -- How contracts speak of open flow collections.
-use Rattle.std.specs.Prelude.{◌≡◌, ℕ, suc, ◌+◌, ◌<◌, ◌≤◌, List, [], ◌∷◌, length, map, true, Option, Some, None, option_map, Result, Ok, Err}
-use Rattle.al_base.specs.declared.codes.YamlCode.TheVariants as yaml
+use Rattle.std.specs.Prelude.{◌≡◌, ℕ, suc, ◌+◌, ◌<◌, ◌≤◌, List, [], ◌∷◌, length, map, true, Option, Some, None, Result, Ok, Err}
 use Rattle.al_scalar.specs.Private.Contract.{read_of}
-use Rattle.al_scalar.specs.Line.{Line, start, begins}
+use Rattle.al_scalar.specs.Line.{begins}
 use Rattle.al_scalar.specs.Private.Places.{lines_at, text_at}
 use Rattle.al_scalar.specs.Scalar.{span}
 use Rattle.al_scalar.specs.declared.scalars.ScalarRead.{ScalarRead}
 use Rattle.al_yaml.specs.Node as tree
-use Rattle.al_yaml.specs.Reading.{Reading, Part, part, anchored, fails, gives, alias, ◌>>=◌}
+use Rattle.al_yaml.specs.Reading.{Reading, Part, part}
 use Rattle.al_yaml.specs.Flow.{CollectionReader}
 use Rattle.al_yaml.specs.Flow as flow
-use Rattle.al_yaml.specs.Content as content
 use Rattle.al_yaml_reader.specs.Private.Frames as frames
-use Rattle.al_yaml.specs.Content.{anchor_name, behind_name}
-use Rattle.al_yaml_reader.specs.Private.Frames.{Answer, answered, noting, open_rest, waiting_rest}
-use Rattle.al_yaml_reader.specs.Private.Reads.{State, run, anchor_at, Stops, IsBehind, IsKeyInside, part_of, flow_key_of}
+use Rattle.al_yaml_reader.specs.Private.Frames.{open_rest, waiting_rest}
+use Rattle.al_yaml_parts.specs.Private.Answers.{Answer, answered, noting}
+use Rattle.al_yaml_parts.specs.Private.Reads.{State, run, Stops}
 use Rattle.al_yaml.specs.View.{view, entry_view, nodes_of, entries_of}
-use Rattle.al_yaml_reader.specs.declared.faults.ReadError.{ReadError}
-use Rattle.al_yaml_reader.specs.declared.flow_nodes.Found.{Found}
-use Rattle.al_yaml_reader.specs.declared.flow_nodes.Found.TheVariants as found
-use Rattle.al_yaml_reader.specs.declared.flow_nodes.FoundKey.{FoundKey}
-use Rattle.al_yaml_reader.specs.declared.flow_nodes.FoundKey.TheVariants as found_key
-use Rattle.al_yaml_reader.specs.declared.flow.Open.{Open}
-use Rattle.al_yaml_reader.specs.declared.flow.Open.TheVariants as open_code
-use Rattle.al_yaml_reader.specs.declared.flow.FlowFrame.{FlowFrame}
+use Rattle.al_yaml_parts.specs.Private.FlowReads.{IsBracket}
+use Rattle.al_yaml_parts.specs.Private.Answers.{mark_of}
+use Rattle.al_yaml_parts.specs.declared.faults.ReadError.{ReadError}
+use Rattle.al_yaml_parts.specs.declared.frames.Open.{Open}
+use Rattle.al_yaml_parts.specs.declared.frames.Open.TheVariants as open_code
+use Rattle.al_yaml_parts.specs.declared.frames.FlowFrame.{FlowFrame}
 use Rattle.al_yaml_reader.specs.declared.flow.After.{After}
 use Rattle.al_yaml_reader.specs.declared.flow.After.TheVariants as after
 use Rattle.al_yaml_reader.specs.declared.flow.FlowStep.{FlowStep}
@@ -43,13 +39,6 @@ abbrev pub waiting_of : List ℕ → ℕ → Open → frames.Waiting
 waiting_of bytes at (open_code.Items v) = frames.item (nodes_of (map view v.items))
 waiting_of bytes at (open_code.Entries m) = mapping_waiting bytes at (entries_of (map entry_view m.entries.items)) m.waits
 
--- the anchor whose indicator stands at an offset
-abbrev pub mark_at : List ℕ → ℕ → frames.Mark
-mark_at bytes at = record { name = anchor_name (lines_at bytes at); at = at }
-
-abbrev pub mark_of : List ℕ → Option ℕ → Option frames.Mark
-mark_of bytes anchor = option_map (mark_at bytes) anchor
-
 abbrev pub frame_of : List ℕ → FlowFrame → frames.Frame
 frame_of bytes f = record { opening = f.opening; mark = mark_of bytes f.inner.anchor; waiting = waiting_of bytes f.inner.at f.has }
 
@@ -58,44 +47,15 @@ abbrev pub closed_of : ℕ → frames.Open → ℕ → tree.Node
 closed_of opening (frames.items ns) end = tree.sequence ns (span opening end)
 closed_of opening (frames.entries es) end = tree.mapping es (span opening end)
 
--- ---- what stands at an offset, whatever reads collections
-
--- a node that was read whole, or the bracket of a collection
-abbrev pub Finds : List ℕ → (CollectionReader → Reading (Part tree.Node)) → ℕ → State → Result Found ReadError → State → Type 0
-Finds bytes reading depth before (Ok (found.Node p)) after =
-    (c : CollectionReader) → run before (reading c) ≡ Ok (part_of bytes p, after)
-Finds bytes reading depth before (Ok (found.Opens b)) after =
-    (c : CollectionReader) → run before (reading c) ≡ noting (mark_of bytes b.anchor) (run after (c depth (lines_at bytes b.at)))
-Finds bytes reading depth before (Err e) after = (c : CollectionReader) → Stops (reading c) before e
-
-abbrev pub FindsKey : List ℕ → ℕ → (CollectionReader → Reading flow.FlowKey) → ℕ → State → Result FoundKey ReadError → State → Type 0
-FindsKey bytes at reading depth before (Ok (found_key.Key k)) after =
-    (c : CollectionReader) → run before (reading c) ≡ Ok (flow_key_of bytes k, after)
-FindsKey bytes at reading depth before (Ok found_key.Opens) after =
-    (c : CollectionReader) → run before (reading c)
-    ≡ run after (c depth (lines_at bytes at) >>= (λ _. fails yaml.WrongKey at))
-FindsKey bytes at reading depth before (Err e) after = (c : CollectionReader) → Stops (reading c) before e
-
--- where it stands: a bracket in the file
-pub record IsBracket (bytes : List ℕ) (low at : ℕ) : Type 0 where
-  pub from : low ≤ at
-  pub inside : at < length bytes
-  pub bracket : content.is_flow_start (text_at bytes at) ≡ true
-
-abbrev pub IsFound : List ℕ → ℕ → Found → Type 0
-IsFound bytes from (found.Node p) = IsBehind bytes from p
-IsFound bytes from (found.Opens b) = IsBracket bytes from b.at
-
--- a collection that was found has no anchor
-abbrev pub IsBare : Found → Type 0
-IsBare (found.Node p) = Unit {0}
-IsBare (found.Opens b) = b.anchor ≡ None
-
-abbrev pub IsFoundKey : List ℕ → ℕ → FoundKey → Type 0
-IsFoundKey bytes at (found_key.Key k) = IsKeyInside bytes at k
-IsFoundKey bytes at found_key.Opens = IsBracket bytes at at
-
 -- ---- a step of an open collection, and what comes behind a node in it
+
+abbrev pub after_of : List ℕ → After → flow.After
+after_of bytes (after.GoesOn next) = flow.goes_on (lines_at bytes next)
+after_of bytes (after.Closes next) = flow.closes next (lines_at bytes next)
+
+abbrev pub IsAfter : ℕ → ℕ → After → Type 0
+IsAfter at size (after.GoesOn next) = (at < next) × (next ≤ size)
+IsAfter at size (after.Closes next) = (at < next) × (next ≤ size)
 
 -- reading goes on in a collection behind a comma, or ends with its closer
 abbrev pub GoesOn : List ℕ → ℕ → ℕ → (CollectionReader → ℕ → Answer (Part tree.Node)) → frames.Open → After → State → Type 0
@@ -152,17 +112,3 @@ IsStep bytes at (step.Opens b) = IsBracket bytes at b.at
 abbrev pub AreOpen : ℕ → List FlowFrame → Type 0
 AreOpen size [] = Unit {0}
 AreOpen size (f ∷ fs) = (f.opening < size) × (f.inner.at < size) × AreOpen size fs
-
--- ---- aliases, and where an empty node would stand
-
-abbrev pub flow_slot : ℕ → Option ℕ → flow.FlowSlot
-flow_slot opening empty = record { opening = opening; empty = empty }
-
--- what an alias that begins the lines stands for, and where it ends
-abbrev pub alias_part : ℕ → List Line → Reading (Part tree.Node)
-alias_part depth ls = alias (anchor_name ls) (start ls) depth >>= (λ n. gives (part n (start (behind_name ls)) (behind_name ls)))
-
--- a node that is read, and then is complete with the anchor whose indicator stands at an offset, if there is one
-abbrev pub completing : List ℕ → Option ℕ → Reading (Part tree.Node) → Reading (Part tree.Node)
-completing bytes None r = r
-completing bytes (Some at) r = r >>= (λ x. anchored (anchor_at bytes at x.value) x)

@@ -1,22 +1,12 @@
 -- What a stack of open collections stands for: what is still to be read behind the node that is read now.
-use Rattle.std.specs.Prelude.{ℕ, List, Option, Some, None, Result, Ok, Err}
+use Rattle.std.specs.Prelude.{ℕ, List, Option}
 use Rattle.al_base.specs.declared.codes.YamlCode.TheVariants as yaml
 use Rattle.al_scalar.specs.Line.{Line}
 use Rattle.al_scalar.specs.Scalar.{ScalarRead}
-use Rattle.al_scalar.specs.Taken.{Fault}
 use Rattle.al_yaml.specs.Node.{Node, Nodes, Entries, sequence, mapping, with_item, with_entry, scalar_node}
-use Rattle.al_yaml.specs.Reading.{Anchor, Reading, fails, Part, spanned}
+use Rattle.al_yaml.specs.Reading.{Reading, fails, Part, spanned}
 use Rattle.al_yaml.specs.Flow.{CollectionReader, flow_items, flow_items_rest, flow_entries, flow_entries_rest, flow_node_over}
-use Rattle.al_yaml_reader.specs.Private.Reads.{State, noted, run}
-
--- what reading a node ends with, under the limits
-abbrev pub Answer : Type 0 → Type 0
-Answer A = Result (A × State) Fault
-
--- what is read behind it, if there was no fault
-abbrev pub answered : {A B : Type 0} → Answer A → (A → Reading B) → Answer B
-answered (Err e) f = Err e
-answered (Ok p) f = run p.1 (f p.0)
+use Rattle.al_yaml_parts.specs.Private.Answers.{Mark}
 
 -- What was read of an open flow collection, up to an item, an entry or the closer.
 pub data Open : Type 0 where
@@ -29,20 +19,6 @@ pub data Waiting : Type 0 where
   item : Nodes → Waiting
   value : Entries → ScalarRead → Waiting
   key : ℕ → Waiting
-
--- An anchor that was read, before its node.
-pub record Mark : Type 0 where
-  pub name : List ℕ
-  pub at : ℕ
-
-abbrev pub anchor_with : Mark → Node → Anchor
-anchor_with m n = record { name = m.name; at = m.at; node = n }
-
--- a node that was read is complete with its anchor, if it has one
-abbrev pub noting : Option Mark → Answer (Part Node) → Answer (Part Node)
-noting None o = o
-noting (Some m) (Err e) = Err e
-noting (Some m) (Ok p) = Ok (p.0, noted (anchor_with m p.0.value) p.1)
 
 -- With its bracket's place, and the anchor of the node that it waits for.
 pub record Frame : Type 0 where

@@ -3,11 +3,11 @@ use Rattle.std.proofs.lemmas.Result.{err_from_is_err_and}
 use Rattle.al_scalar.specs.Private.Contract.{read_of}
 use Rattle.al_scalar.specs.Private.Places.{lines_at}
 use Rattle.al_yaml.specs.Blocks.{block_node}
-use Rattle.al_yaml_reader.specs.Private.BlockReads.{key_seen}
+use Rattle.al_yaml_parts.specs.Private.BlockReads.{key_seen}
 use Rattle.al_yaml_reader.specs.Private.BlockFrames.{block_rest, block_waits, items, entries, item, value}
 use Rattle.al_yaml.specs.View.{view, entry_view, nodes_of, entries_of}
-use Rattle.al_yaml_reader.specs.declared.block.BlockWaiting.TheVariants as waiting
-use Rattle.al_yaml_reader.specs.Private.Reads.{state_of}
+use Rattle.al_yaml_parts.specs.declared.frames.BlockWaiting.TheVariants as waiting
+use Rattle.al_yaml_parts.specs.Private.Reads.{state_of}
 use Rattle.al_yaml_reader.proofs.BlockNodeLemmas.{dash-solid, same_line-next}
 use Rattle.al_yaml_reader.proofs.BlockStepLemmas.{item_rest, value_rest, dash-answer, key-answer, enters-with, enters-stops, found-wider}
 use Rattle.al_yaml_reader.proofs.block.enter.Goals as goal

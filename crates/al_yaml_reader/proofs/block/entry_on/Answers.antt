@@ -1,7 +1,7 @@
 use Rattle.std.proofs.Common.{ap, ◌∙◌}
 use Rattle.al_yaml.specs.Blocks.{next_found}
-use Rattle.al_yaml_reader.specs.Private.Places.{next_of}
-use Rattle.al_yaml_reader.proofs.ContentLemmas.{next_found-fault}
+use Rattle.al_yaml_parts.specs.Private.Places.{next_of}
+use Rattle.al_yaml_parts.proofs.ContentLemmas.{next_found-fault}
 use Rattle.al_yaml_reader.proofs.block.entry_on.Goals as goal
 
 pub returns-clause-is : goal.returns-clause-is

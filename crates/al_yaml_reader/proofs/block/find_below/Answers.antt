@@ -3,14 +3,14 @@ use Rattle.std.proofs.lemmas.Result.{err_from_is_err_and}
 use Rattle.al_scalar.specs.Private.Places.{lines_at}
 use Rattle.al_yaml.specs.Flow.{empty_node}
 use Rattle.al_yaml.specs.Blocks.{node_below}
-use Rattle.al_yaml_reader.specs.Private.FlowFrames.{mark_of}
-use Rattle.al_yaml_reader.specs.Private.Frames.{noting}
-use Rattle.al_yaml_reader.specs.Private.BlockReads.{slot_of}
-use Rattle.al_yaml_reader.specs.Private.Places.{fault_of, next_of}
-use Rattle.al_yaml_reader.specs.Private.Reads.{state_of}
-use Rattle.al_yaml_reader.proofs.ReadLemmas.{stops-from}
+use Rattle.al_yaml_parts.specs.Private.Answers.{mark_of}
+use Rattle.al_yaml_parts.specs.Private.Answers.{noting}
+use Rattle.al_yaml_parts.specs.Private.BlockReads.{slot_of}
+use Rattle.al_yaml_parts.specs.Private.Places.{fault_of, next_of}
+use Rattle.al_yaml_parts.specs.Private.Reads.{state_of}
+use Rattle.al_yaml_parts.proofs.ReadLemmas.{stops-from}
 use Rattle.al_yaml_reader.proofs.BlockNodeLemmas.{below-fault, below-ended, below-empty}
-use Rattle.al_yaml_reader.proofs.NoteLemmas.{noted-part}
+use Rattle.al_yaml_parts.proofs.NoteLemmas.{noted-part}
 use Rattle.al_yaml_reader.proofs.block.find_below.Goals as goal
 
 pub returns-in_err-found-clause-is : goal.returns-in_err-found-clause-is

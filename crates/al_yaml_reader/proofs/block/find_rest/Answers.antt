@@ -1,6 +1,6 @@
 use Rattle.std.proofs.Common.{ap, refl}
-use Rattle.al_yaml_reader.specs.Private.BlockReads.{slot_of, spot_of}
-use Rattle.al_yaml_reader.specs.Private.Reads.{run, state_of}
+use Rattle.al_yaml_parts.specs.Private.BlockReads.{slot_of, spot_of}
+use Rattle.al_yaml_parts.specs.Private.Reads.{run, state_of}
 use Rattle.al_yaml_reader.proofs.BlockNodeLemmas.{rest-here}
 use Rattle.al_yaml_reader.proofs.block.find_rest.Goals as goal
 

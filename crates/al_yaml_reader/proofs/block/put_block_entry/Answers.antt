@@ -4,16 +4,16 @@ use Rattle.al_scalar.specs.Private.Contract.{read_of}
 use Rattle.al_scalar.specs.Private.Places.{lines_at}
 use Rattle.al_scalar.specs.Scalar.{span}
 use Rattle.al_yaml.specs.Node as tree
-use Rattle.al_yaml_reader.specs.Private.FlowFrames.{mark_of}
-use Rattle.al_yaml_reader.specs.Private.Frames.{noting}
-use Rattle.al_yaml_reader.proofs.NoteLemmas.{noted-part}
+use Rattle.al_yaml_parts.specs.Private.Answers.{mark_of}
+use Rattle.al_yaml_parts.specs.Private.Answers.{noting}
+use Rattle.al_yaml_parts.proofs.NoteLemmas.{noted-part}
 use Rattle.al_yaml_reader.specs.Private.BlockFrames.{block_rest, entries}
-use Rattle.al_yaml_reader.specs.Private.BlockReads.{key_seen}
-use Rattle.al_yaml_reader.specs.Private.Places.{fault_of, next_of, option_lines}
-use Rattle.al_yaml_reader.specs.Private.Reads.{run, part_of, state_of}
+use Rattle.al_yaml_parts.specs.Private.BlockReads.{key_seen}
+use Rattle.al_yaml_parts.specs.Private.Places.{fault_of, next_of, option_lines}
+use Rattle.al_yaml_parts.specs.Private.Reads.{run, part_of, state_of}
 use Rattle.al_yaml.specs.View.{view, entry_view, entries_of}
-use Rattle.al_yaml_reader.specs.Stacks.{depth_in}
-use Rattle.al_yaml_reader.proofs.ReadLemmas.{entries_of-more, same_part}
+use Rattle.al_yaml_parts.specs.Stacks.{depth_in}
+use Rattle.al_yaml_parts.proofs.ReadLemmas.{entries_of-more, same_part}
 use Rattle.al_yaml_reader.proofs.BlockStepLemmas.{entries-wrong, entries-ended, entries-stop, entries-more, next-from}
 use Rattle.al_yaml_reader.proofs.block.put_block_entry.Goals as goal
 

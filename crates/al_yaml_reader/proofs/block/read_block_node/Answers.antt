@@ -2,12 +2,12 @@ use Rattle.std.proofs.Common.{◌≡◌, suc, ◌+◌, ◌<◌, length, map, ref
 use Rattle.std.proofs.lemmas.Result.{err_from_is_err_and}
 use Rattle.al_scalar.specs.Private.Places.{lines_at}
 use Rattle.al_yaml.specs.Blocks.{block_node}
-use Rattle.al_yaml_reader.specs.Private.BlockReads.{slot_of}
+use Rattle.al_yaml_parts.specs.Private.BlockReads.{slot_of}
 use Rattle.al_yaml_reader.specs.Private.BlockFrames.{block_frame_of, block_waiting_of, block_open_of}
-use Rattle.al_yaml_reader.specs.Private.FlowFrames.{mark_of}
-use Rattle.al_yaml_reader.specs.Private.Places.{fault_of}
-use Rattle.al_yaml_reader.specs.Private.Reads.{run, state_of}
-use Rattle.al_yaml_reader.specs.Stacks.{depth_in}
+use Rattle.al_yaml_parts.specs.Private.Answers.{mark_of}
+use Rattle.al_yaml_parts.specs.Private.Places.{fault_of}
+use Rattle.al_yaml_parts.specs.Private.Reads.{run, state_of}
+use Rattle.al_yaml_parts.specs.Stacks.{depth_in}
 use Rattle.al_yaml_reader.proofs.FrameLemmas.{whole-stops}
 use Rattle.al_yaml_reader.proofs.BlockFrameLemmas.{BehindNode, node-stops, block-stops, node-pops, node-ends, block_waits-stops}
 use Rattle.al_yaml_reader.proofs.BlockLoop.{BlockKeeps, IsBlockTask, AreAround, blocks-length, begins-keeps, begins-nested, enters-keeps}

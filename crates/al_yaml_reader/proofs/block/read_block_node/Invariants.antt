@@ -1,8 +1,8 @@
 use Rattle.std.proofs.Common.{◌+◌, ◌-◌, ◌*◌, ◌≡◌, [], length}
-use Rattle.al_yaml_reader.specs.Private.Frames.{Answer}
+use Rattle.al_yaml_parts.specs.Private.Answers.{Answer}
 use Rattle.al_yaml.specs.Node.{Node}
 use Rattle.al_yaml.specs.Reading.{Part}
-use Rattle.al_yaml_reader.specs.Private.Reads.{state_of}
+use Rattle.al_yaml_parts.specs.Private.Reads.{state_of}
 use Rattle.al_yaml_reader.proofs.BlockLoop.{BlockKeeps, IsBlockTask, block_at, weight}
 use Rattle.al_yaml_reader.proofs.block.read_block_node.Given as goal
 

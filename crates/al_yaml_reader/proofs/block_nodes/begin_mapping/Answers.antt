@@ -3,13 +3,13 @@ use Rattle.std.proofs.lemmas.Result.{err_from_is_err_and}
 use Rattle.al_scalar.specs.Private.Places.{lines_at}
 use Rattle.al_yaml.specs.Flow.{flow_collection}
 use Rattle.al_yaml.specs.Blocks.{block_node}
-use Rattle.al_yaml_reader.specs.Private.BlockReads.{spot_of, key_seen}
+use Rattle.al_yaml_parts.specs.Private.BlockReads.{spot_of, key_seen}
 use Rattle.al_yaml_reader.specs.Private.BlockFrames.{block_rest, entries}
-use Rattle.al_yaml_reader.specs.Private.Places.{fault_of}
-use Rattle.al_yaml_reader.specs.Private.Reads.{run, state_of}
+use Rattle.al_yaml_parts.specs.Private.Places.{fault_of}
+use Rattle.al_yaml_parts.specs.Private.Reads.{run, state_of}
 use Rattle.al_yaml.specs.View.{entry_view, entries_of}
-use Rattle.al_yaml_reader.specs.Stacks.{depth_in}
-use Rattle.al_yaml_reader.proofs.NoteLemmas.{completing-err, completing-runs}
+use Rattle.al_yaml_parts.specs.Stacks.{depth_in}
+use Rattle.al_yaml_parts.proofs.NoteLemmas.{completing-err, completing-runs}
 use Rattle.al_yaml_reader.proofs.BlockNodeLemmas.{mapping-lines, mapping-tab, mapping-long, mapping-broken, mapping-starts}
 use Rattle.al_yaml_reader.proofs.block_nodes.begin_mapping.Goals as goal
 

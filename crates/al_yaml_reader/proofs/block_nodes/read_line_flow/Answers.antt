@@ -2,10 +2,10 @@ use Rattle.std.proofs.Common.{arith}
 use Rattle.std.proofs.lemmas.Result.{err_from_is_err_and}
 use Rattle.al_scalar.specs.Private.Places.{lines_at}
 use Rattle.al_yaml.specs.Flow.{flow_collection}
-use Rattle.al_yaml_reader.specs.Private.BlockReads.{spot_of}
-use Rattle.al_yaml_reader.specs.Private.Places.{fault_of}
-use Rattle.al_yaml_reader.specs.Private.Reads.{part_of, state_of}
-use Rattle.al_yaml_reader.specs.Stacks.{depth_in}
+use Rattle.al_yaml_parts.specs.Private.BlockReads.{spot_of}
+use Rattle.al_yaml_parts.specs.Private.Places.{fault_of}
+use Rattle.al_yaml_parts.specs.Private.Reads.{part_of, state_of}
+use Rattle.al_yaml_parts.specs.Stacks.{depth_in}
 use Rattle.al_yaml_reader.proofs.BlockNodeLemmas.{flow-stop, flow-key, flow-wrong, flow-ok}
 use Rattle.al_yaml_reader.proofs.block_nodes.read_line_flow.Goals as goal
 

@@ -4,12 +4,12 @@ use Rattle.al_scalar.specs.Private.Places.{lines_at}
 use Rattle.al_yaml.specs.Flow.{flow_collection}
 use Rattle.al_yaml.specs.Blocks.{block_node, block_sequence, block_mapping, flow_at, scalar_node_at}
 use Rattle.al_yaml_reader.specs.Private.BlockFrames.{node_reader}
-use Rattle.al_yaml_reader.specs.Private.BlockReads.{slot_of, key_seen, option_key}
-use Rattle.al_yaml_reader.specs.Private.FlowFrames.{completing}
-use Rattle.al_yaml_reader.specs.Private.Reads.{run, state_of}
-use Rattle.al_yaml_reader.specs.Stacks.{depth_in}
-use Rattle.al_yaml_reader.proofs.ReadLemmas.{stops-same, stops-from}
-use Rattle.al_yaml_reader.proofs.NoteLemmas.{completing-err, completing-part, completing-same, completing-stops}
+use Rattle.al_yaml_parts.specs.Private.BlockReads.{slot_of, key_seen, option_key}
+use Rattle.al_yaml_parts.specs.Private.Answers.{completing}
+use Rattle.al_yaml_parts.specs.Private.Reads.{run, state_of}
+use Rattle.al_yaml_parts.specs.Stacks.{depth_in}
+use Rattle.al_yaml_parts.proofs.ReadLemmas.{stops-same, stops-from}
+use Rattle.al_yaml_parts.proofs.NoteLemmas.{completing-err, completing-part, completing-same, completing-stops}
 use Rattle.al_yaml_reader.proofs.BlockNodeLemmas.{block-dash, block-fault, block-flow, block-scalar, block-unread, block-alone, block-key}
 use Rattle.al_yaml_reader.proofs.BlockStepLemmas.{begins-from}
 use Rattle.al_yaml_reader.proofs.block_nodes.read_node.Goals as goal

@@ -3,13 +3,13 @@ use Rattle.std.proofs.lemmas.Result.{err_from_is_err_and}
 use Rattle.al_scalar.specs.Private.Places.{lines_at}
 use Rattle.al_yaml.specs.Blocks.{block_node, is_behind_key, rest_node}
 use Rattle.al_yaml_reader.specs.Private.BlockFrames.{node_reader}
-use Rattle.al_yaml_reader.specs.Private.BlockReads.{slot_of}
-use Rattle.al_yaml_reader.specs.Private.FlowFrames.{completing}
+use Rattle.al_yaml_parts.specs.Private.BlockReads.{slot_of}
+use Rattle.al_yaml_parts.specs.Private.Answers.{completing}
 use Rattle.al_yaml.specs.Keys.{is_on_key}
-use Rattle.al_yaml_reader.specs.Private.Places.{fault_of}
-use Rattle.al_yaml_reader.specs.Private.Reads.{run, part_of, state_of}
-use Rattle.al_yaml_reader.specs.Stacks.{depth_in}
-use Rattle.al_yaml_reader.proofs.ReadLemmas.{stops-from}
+use Rattle.al_yaml_parts.specs.Private.Places.{fault_of}
+use Rattle.al_yaml_parts.specs.Private.Reads.{run, part_of, state_of}
+use Rattle.al_yaml_parts.specs.Stacks.{depth_in}
+use Rattle.al_yaml_parts.proofs.ReadLemmas.{stops-from}
 use Rattle.al_yaml_reader.proofs.BlockNodeLemmas.{alias-ok, alias-stops, alias-wrong, block-anchor, block-on_key, block-unnamed, content_reader, no-anchor, off-key, off-line, on-key, second-stops}
 use Rattle.al_yaml_reader.proofs.BlockStepLemmas.{begins-from, property-begins}
 use Rattle.al_yaml_reader.proofs.block_nodes.read_property.Goals.{else-not-is_behind_key-via-then-not-is_behind_key+in_ok-is_on_key+else-branch, else-not-is_behind_key-via-else-not-is_behind_key}

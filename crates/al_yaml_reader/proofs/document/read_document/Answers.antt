@@ -2,8 +2,8 @@ use Rattle.std.proofs.Common.{◌≡◌, length, subst, Ok}
 use Rattle.al_yaml.specs.Document.{root}
 use Rattle.std.proofs.lemmas.Result.{err_from_is_err_and}
 use Rattle.al_scalar.specs.Private.Places.{lines_at}
-use Rattle.al_yaml_reader.specs.Private.Places.{fault_of}
-use Rattle.al_yaml_reader.specs.Private.Reads.{run, Stops, part_of, state_of}
+use Rattle.al_yaml_parts.specs.Private.Places.{fault_of}
+use Rattle.al_yaml_parts.specs.Private.Reads.{run, Stops, part_of, state_of}
 use Rattle.al_yaml_reader.proofs.RootLemmas.{document-stop, document-wrong, document-read}
 use Rattle.al_yaml_reader.proofs.document.read_document.Goals as goal
 

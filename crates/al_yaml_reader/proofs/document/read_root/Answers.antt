@@ -3,9 +3,9 @@ use Rattle.std.proofs.lemmas.Result.{err_from_is_err_and}
 use Rattle.al_scalar.specs.Private.Places.{lines_at}
 use Rattle.al_yaml.specs.Blocks.{block_node}
 use Rattle.al_yaml.specs.Document.{root, root_slot}
-use Rattle.al_yaml_reader.specs.Private.Places.{fault_of, next_of}
-use Rattle.al_yaml_reader.specs.Private.Reads.{part_of, state_of}
-use Rattle.al_yaml_reader.proofs.ReadLemmas.{read-from}
+use Rattle.al_yaml_parts.specs.Private.Places.{fault_of, next_of}
+use Rattle.al_yaml_parts.specs.Private.Reads.{part_of, state_of}
+use Rattle.al_yaml_parts.proofs.ReadLemmas.{read-from}
 use Rattle.al_yaml_reader.proofs.RootLemmas.{root-wrong, root-node}
 use Rattle.al_yaml_reader.proofs.document.read_root.Goals as goal
 

@@ -1,10 +1,10 @@
-use Rattle.al_yaml_reader.specs.Private.BlockReads.{key_seen, option_key}
-use Rattle.al_yaml_reader.specs.Private.Places.{fault_of}
+use Rattle.al_yaml_parts.specs.Private.BlockReads.{key_seen, option_key}
+use Rattle.al_yaml_parts.specs.Private.Places.{fault_of}
 use Rattle.std.proofs.Common.{◌+◌, ◌∙◌, Ok, ap}
 use Rattle.std.proofs.lemmas.Result.{err_from_is_err_and}
 use Rattle.al_yaml.specs.Flow.{flow_collection}
-use Rattle.al_yaml_reader.specs.Private.Reads.{part_of, state_of}
-use Rattle.al_yaml_reader.specs.Stacks.{depth_in}
+use Rattle.al_yaml_parts.specs.Private.Reads.{part_of, state_of}
+use Rattle.al_yaml_parts.specs.Stacks.{depth_in}
 use Rattle.al_yaml_reader.proofs.BlockLemmas.{further-fault, further-property, further-dash, further-stop, further-flow, further-unread, further-none, further-wrong, further-broken, further-ok}
 use Rattle.al_yaml_reader.proofs.entries.entry_key.Goals as goal
 

@@ -2,8 +2,8 @@ use Rattle.std.proofs.Common.{◌+◌}
 use Rattle.std.proofs.lemmas.Result.{err_from_is_err_and}
 use Rattle.al_scalar.specs.Private.Contract.{read_of}
 use Rattle.al_yaml.specs.Flow.{flow_collection}
-use Rattle.al_yaml_reader.specs.Private.Reads.{part_of, state_of}
-use Rattle.al_yaml_reader.specs.Stacks.{depth_in}
+use Rattle.al_yaml_parts.specs.Private.Reads.{part_of, state_of}
+use Rattle.al_yaml_parts.specs.Stacks.{depth_in}
 use Rattle.al_yaml_reader.proofs.BlockLemmas.{entry-fault, entry-property, entry-stop, entry-flow, entry-unread, entry-quoted, entry-other}
 use Rattle.al_yaml_reader.proofs.entries.no_entry.Goals as goal
 

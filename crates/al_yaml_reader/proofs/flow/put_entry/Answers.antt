@@ -3,10 +3,10 @@ use Rattle.std.proofs.lemmas.Result.{err_from_is_err_and}
 use Rattle.al_scalar.specs.Private.Contract.{read_of}
 use Rattle.al_yaml.specs.Node as tree
 use Rattle.al_yaml.specs.Flow.{after_item}
-use Rattle.al_yaml_reader.specs.Private.Reads.{part_of}
+use Rattle.al_yaml_parts.specs.Private.Reads.{part_of}
 use Rattle.al_yaml.specs.View.{view, entry_view, entries_of}
-use Rattle.al_yaml_reader.specs.declared.faults.ReadError.TheVariants as stop
-use Rattle.al_yaml_reader.proofs.ReadLemmas.{entries_of-more}
+use Rattle.al_yaml_parts.specs.declared.faults.ReadError.TheVariants as stop
+use Rattle.al_yaml_parts.proofs.ReadLemmas.{entries_of-more}
 use Rattle.al_yaml_reader.proofs.FlowLoop.{after-inside}
 use Rattle.al_yaml_reader.proofs.FlowStepLemmas.{entry-refused, entry-put}
 use Rattle.al_yaml_reader.proofs.flow.put_entry.Goals as goal

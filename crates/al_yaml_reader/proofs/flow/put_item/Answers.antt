@@ -1,10 +1,10 @@
 use Rattle.std.proofs.Common.{length, map, ap, ◌∙◌, arith}
 use Rattle.std.proofs.lemmas.Result.{err_from_is_err_and}
 use Rattle.al_yaml.specs.Flow.{after_item}
-use Rattle.al_yaml_reader.specs.Private.Reads.{part_of}
+use Rattle.al_yaml_parts.specs.Private.Reads.{part_of}
 use Rattle.al_yaml.specs.View.{view, nodes_of}
-use Rattle.al_yaml_reader.specs.declared.faults.ReadError.TheVariants as stop
-use Rattle.al_yaml_reader.proofs.ReadLemmas.{nodes_of-more}
+use Rattle.al_yaml_parts.specs.declared.faults.ReadError.TheVariants as stop
+use Rattle.al_yaml_parts.proofs.ReadLemmas.{nodes_of-more}
 use Rattle.al_yaml_reader.proofs.FlowLoop.{after-inside}
 use Rattle.al_yaml_reader.proofs.FlowStepLemmas.{item-refused, item-put}
 use Rattle.al_yaml_reader.proofs.flow.put_item.Goals as goal

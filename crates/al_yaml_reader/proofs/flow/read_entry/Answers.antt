@@ -1,12 +1,14 @@
 use Rattle.std.proofs.Common.{◌∙◌, suc, ap, arith, map}
 use Rattle.std.proofs.lemmas.Result.{err_from_is_err_and}
 use Rattle.al_scalar.specs.Private.Contract.{read_of}
-use Rattle.al_yaml_reader.specs.Private.Files.{left_at}
-use Rattle.al_yaml_reader.specs.Private.Frames.{answered, open_rest, waiting_rest, value, entries}
-use Rattle.al_yaml_reader.specs.Private.Reads.{part_of, flow_key_of, state_of}
+use Rattle.al_yaml_parts.specs.Private.Files.{left_at}
+use Rattle.al_yaml_reader.specs.Private.Frames.{open_rest, waiting_rest, value, entries}
+use Rattle.al_yaml_parts.specs.Private.Answers.{answered}
+use Rattle.al_yaml_parts.specs.Private.Reads.{part_of, state_of}
+use Rattle.al_yaml_parts.specs.Private.FlowReads.{flow_key_of}
 use Rattle.al_yaml.specs.View.{entry_view, entries_of}
 use Rattle.al_yaml_reader.proofs.FlowStepLemmas.{entry-open, entry-closed, entry-stop, entry-key_opens, value-answer, value-stop, put-behind}
-use Rattle.al_yaml_reader.proofs.ReadLemmas.{stops-from}
+use Rattle.al_yaml_parts.proofs.ReadLemmas.{stops-from}
 use Rattle.al_yaml_reader.proofs.flow.read_entry.Goals as goal
 
 pub returns-then-is_text_end-clause-is : goal.returns-then-is_text_end-clause-is

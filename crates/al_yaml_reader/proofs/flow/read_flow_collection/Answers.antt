@@ -2,13 +2,14 @@ use Rattle.std.proofs.Common.{◌≡◌, ◌+◌, ◌-◌, length, map, sym, ap,
 use Rattle.std.proofs.lemmas.Result.{err_from_is_err_and}
 use Rattle.al_scalar.specs.Private.Places.{lines_at}
 use Rattle.al_yaml.specs.Flow.{flow_collection}
-use Rattle.al_yaml_reader.specs.Private.FlowFrames.{mark_of, open_of, waiting_of, frame_of, AreOpen}
-use Rattle.al_yaml_reader.specs.Private.Places.{fault_of}
-use Rattle.al_yaml_reader.specs.Private.Reads.{run, state_of}
+use Rattle.al_yaml_reader.specs.Private.FlowFrames.{open_of, waiting_of, frame_of, AreOpen}
+use Rattle.al_yaml_parts.specs.Private.Answers.{mark_of}
+use Rattle.al_yaml_parts.specs.Private.Places.{fault_of}
+use Rattle.al_yaml_parts.specs.Private.Reads.{run, state_of}
 use Rattle.al_yaml_reader.proofs.FlowLemmas.{collection-broken}
 use Rattle.al_yaml_reader.proofs.FlowLoop.{frames-length, none-open, first-keeps, closed-part, step-keeps, resumed-keeps}
 use Rattle.al_yaml_reader.proofs.FrameLemmas.{Inside, Behind, broken-first, whole-stops, inside-stops, inside-broken, inside-empty, inside-opens, waits-stops, behind-pops, behind-ends}
-use Rattle.al_yaml_reader.proofs.NoteLemmas.{noted-part}
+use Rattle.al_yaml_parts.proofs.NoteLemmas.{noted-part}
 use Rattle.al_yaml_reader.proofs.flow.read_flow_collection.Goals as goal
 
 pub returns-in_err-start-clause-is : goal.returns-in_err-start-clause-is

@@ -1,9 +1,9 @@
 use Rattle.std.proofs.Common.{◌+◌, ◌-◌, ◌*◌, ◌≡◌, ◌<◌, ◌≤◌, length}
-use Rattle.al_yaml_reader.specs.Private.Frames.{Answer}
+use Rattle.al_yaml_parts.specs.Private.Answers.{Answer}
 use Rattle.al_yaml_reader.specs.Private.FlowFrames.{AreOpen, after_at, open_of}
 use Rattle.al_yaml.specs.Node.{Node}
 use Rattle.al_yaml.specs.Reading.{Part}
-use Rattle.al_yaml_reader.specs.Private.Reads.{state_of}
+use Rattle.al_yaml_parts.specs.Private.Reads.{state_of}
 use Rattle.al_yaml_reader.proofs.FlowLoop.{Keeps}
 use Rattle.al_yaml_reader.proofs.flow.read_flow_collection.Given as goal
 

@@ -2,14 +2,15 @@ use Rattle.std.proofs.Common.{◌∙◌, None, suc, ap, arith, map}
 use Rattle.std.proofs.lemmas.Result.{err_from_is_err_and}
 use Rattle.al_scalar.specs.Private.Places.{text_at}
 use Rattle.al_yaml.specs.Flow.{flow_content, flow_node_over}
-use Rattle.al_yaml_reader.specs.Private.Files.{left_at}
-use Rattle.al_yaml_reader.specs.Private.FlowFrames.{flow_slot}
-use Rattle.al_yaml_reader.specs.Private.Frames.{answered, open_rest, waiting_rest, item, items}
-use Rattle.al_yaml_reader.specs.Private.Reads.{part_of, run, state_of}
+use Rattle.al_yaml_parts.specs.Private.Files.{left_at}
+use Rattle.al_yaml_parts.specs.Private.FlowReads.{flow_slot}
+use Rattle.al_yaml_reader.specs.Private.Frames.{open_rest, waiting_rest, item, items}
+use Rattle.al_yaml_parts.specs.Private.Answers.{answered}
+use Rattle.al_yaml_parts.specs.Private.Reads.{part_of, run, state_of}
 use Rattle.al_yaml.specs.View.{view, nodes_of}
-use Rattle.al_yaml_reader.proofs.FlowLemmas.{bare-bracket, right-bracket, node-content, content-collection}
+use Rattle.al_yaml_parts.proofs.FlowNodeLemmas.{bare-bracket, right-bracket, node-content, content-collection}
 use Rattle.al_yaml_reader.proofs.FlowStepLemmas.{item-open, item-closed, item-stop, item-answer, put-behind}
-use Rattle.al_yaml_reader.proofs.ReadLemmas.{stops-from, stops-same}
+use Rattle.al_yaml_parts.proofs.ReadLemmas.{stops-from, stops-same}
 use Rattle.al_yaml_reader.proofs.flow.read_item.Goals as goal
 
 pub returns-then-is_text_end-clause-is : goal.returns-then-is_text_end-clause-is

@@ -1,14 +1,15 @@
 use Rattle.std.proofs.Common.{◌∙◌, None, suc, sym, ap, map}
 use Rattle.std.proofs.lemmas.Result.{err_from_is_err_and}
 use Rattle.al_yaml.specs.Flow.{flow_node_over, flow_property}
-use Rattle.al_yaml_reader.specs.Private.Files.{left_at}
-use Rattle.al_yaml_reader.specs.Private.FlowFrames.{flow_slot}
-use Rattle.al_yaml_reader.specs.Private.Frames.{answered, open_rest, waiting_rest, item, items}
-use Rattle.al_yaml_reader.specs.Private.Reads.{part_of, run, state_of}
+use Rattle.al_yaml_parts.specs.Private.Files.{left_at}
+use Rattle.al_yaml_parts.specs.Private.FlowReads.{flow_slot}
+use Rattle.al_yaml_reader.specs.Private.Frames.{open_rest, waiting_rest, item, items}
+use Rattle.al_yaml_parts.specs.Private.Answers.{answered}
+use Rattle.al_yaml_parts.specs.Private.Reads.{part_of, run, state_of}
 use Rattle.al_yaml.specs.View.{view, nodes_of}
-use Rattle.al_yaml_reader.proofs.FlowLemmas.{node-property}
+use Rattle.al_yaml_parts.proofs.FlowNodeLemmas.{node-property}
 use Rattle.al_yaml_reader.proofs.FlowStepLemmas.{item-stop, item-answer, put-behind}
-use Rattle.al_yaml_reader.proofs.ReadLemmas.{stops-from, stops-same}
+use Rattle.al_yaml_parts.proofs.ReadLemmas.{stops-from, stops-same}
 use Rattle.al_yaml_reader.proofs.flow.read_property_item.Goals as goal
 
 pub returns-in_err-part-clause-is : goal.returns-in_err-part-clause-is

@@ -1,6 +1,6 @@
 use Rattle.std.proofs.Common.{sym, ◌∙◌}
 use Rattle.al_base.specs.declared.codes.YamlCode.TheVariants as yaml
-use Rattle.al_yaml_reader.proofs.RunLemmas.{run-fails}
+use Rattle.al_yaml_parts.proofs.RunLemmas.{run-fails}
 use Rattle.al_yaml_reader.proofs.flow.resume.Goals as goal
 
 pub returns-in-Items-clause-is : goal.returns-in-Items-clause-is

@@ -1,0 +1,68 @@
+-- What is known of anchors, as one more is added.
+use Rattle.std.proofs.Common.{◌≡◌, ℕ, List, refl, sym, ap, ◌∙◌, Bool, true, false, cond, Option, Some, option_map}
+use Rattle.std.specs.BTreeMap.{UpdatesBy, is_at}
+use Rattle.std.specs.Cmp.{eq_by_cmp_equiv}
+use Rattle.std.specs.Cmp.Lexicographic.{bytes_decides, slice_cmp, nat_list_cmp_total, nat_list_eq_equiv}
+use Rattle.std.specs.Global.{Vec}
+use Rattle.std.specs.Map.{AreApart, IsKeyTest, KeepsOthers, lookup}
+use Rattle.std.specs.Ordering.{is_eq, nat_cmp}
+use Rattle.std.specs.Str.{bytes_eq}
+use Rattle.std.proofs.lemmas.Map.Text.{is_eq-slice_cmp}
+use Rattle.al_yaml.specs.Reading.{is_later, later_of, with_anchor}
+use Rattle.al_yaml_parts.specs.Private.Reads.{anchor_seen, found_in, known_of}
+use Rattle.al_yaml_parts.specs.declared.anchors.Anchored.{Anchored}
+use Rattle.al_yaml_parts.specs.declared.anchors.Anchors.{Anchors}
+
+abbrev at_text : List ℕ → Vec ℕ → Bool
+at_text text = is_at (λ k. slice_cmp nat_cmp text k.items)
+
+other_entries : (eq : Vec ℕ → Vec ℕ → Bool) (test : Vec ℕ → Bool) (old new : List (Vec ℕ × Anchored)) → KeepsOthers eq test old new →
+    (other : Vec ℕ → Bool) → IsKeyTest eq other → AreApart test other → lookup other new ≡ lookup other old
+unfolding KeepsOthers
+other_entries eq test old new h = h
+
+apart : (bs cs ks : List ℕ) → bytes_eq bs cs ≡ false → is_eq (slice_cmp nat_cmp bs ks) ≡ true → is_eq (slice_cmp nat_cmp cs ks) ≡ false
+apart bs cs ks n y =
+    is_eq-slice_cmp cs ks ∙ nat_list_eq_equiv.symm cs ks ∙ sym (nat_list_eq_equiv.congr bs ks cs (sym (is_eq-slice_cmp bs ks) ∙ y)) ∙ n
+
+here_or_before : {A : Type 0} (here : Bool) (old new put : Option A) → (here ≡ true → new ≡ put) → (here ≡ false → new ≡ old) → new ≡ cond here put old
+here_or_before true old new put there apart = there refl
+here_or_before false old new put there apart = apart refl
+
+-- an anchor that is put, where none of its name stands behind it
+module _ (old new : Anchors) (key : Vec ℕ) (a : Anchored)
+    (u : UpdatesBy (λ a b. slice_cmp nat_cmp a.items b.items) (λ k. slice_cmp nat_cmp key.items k.items) old.latest new.latest (Some a))
+    (last : is_later a.at (known_of old key.items) ≡ false) where
+  found-put : (name : List ℕ) → bytes_eq key.items name ≡ true → found_in new name ≡ Some a
+  unfolding found_in
+  found-put name y = ap (found_in new) (sym ((bytes_decides key.items name).0 y)) ∙ u.1
+
+  found-other : (name : List ℕ) → bytes_eq key.items name ≡ false → found_in new name ≡ found_in old name
+  unfolding found_in
+  found-other name n =
+      other_entries _ _ _ _ u.3 (at_text name) (λ x y. (eq_by_cmp_equiv nat_list_cmp_total).congr name x.items y.items) (λ k. apart key.items name k.items n)
+
+  put-is : later_of (anchor_seen key.items a) (known_of old key.items) ≡ Some (anchor_seen key.items a)
+  put-is = ap (λ b. cond b (known_of old key.items) (Some (anchor_seen key.items a))) last
+
+  seen-put : (name : List ℕ) → bytes_eq key.items name ≡ true → known_of new name ≡ later_of (anchor_seen key.items a) (known_of old name)
+  seen-put name y =
+      let same = (bytes_decides key.items name).0 y in
+      ap (option_map (anchor_seen name)) (found-put name y) ∙ ap (λ n. Some (anchor_seen n a)) (sym same)
+      ∙ sym put-is ∙ ap (λ n. later_of (anchor_seen key.items a) (known_of old n)) same
+
+  pub known-put : known_of new ≡ with_anchor (anchor_seen key.items a) (known_of old)
+  known-put = λ i name.
+      here_or_before (bytes_eq key.items name) (known_of old name) (known_of new name) (later_of (anchor_seen key.items a) (known_of old name))
+      (seen-put name) (λ n. ap (option_map (anchor_seen name)) (found-other name n)) i
+
+-- an anchor behind which one of its name stands changes nothing
+module _ (old : Anchors) (key : List ℕ) (a : Anchored) (later : is_later a.at (known_of old key) ≡ true) where
+  stays : (name : List ℕ) → bytes_eq key name ≡ true → known_of old name ≡ later_of (anchor_seen key a) (known_of old name)
+  stays name y =
+      let same = (bytes_decides key name).0 y in
+      ap (λ b. cond b (known_of old name) (Some (anchor_seen key a))) (sym (ap (λ n. is_later a.at (known_of old n)) (sym same) ∙ later))
+
+  pub known-stays : known_of old ≡ with_anchor (anchor_seen key a) (known_of old)
+  known-stays = λ i name.
+      here_or_before (bytes_eq key name) (known_of old name) (known_of old name) (later_of (anchor_seen key a) (known_of old name)) (stays name) (λ n. refl) i

@@ -1,0 +1,17 @@
+pub mod Choices
+pub mod LineLemmas
+pub mod NameLemmas
+pub mod SumLemmas
+pub mod AnchorLemmas
+pub mod AliasLemmas
+pub mod ContentLemmas
+pub mod RunLemmas
+pub mod KeyLemmas
+pub mod LineReadLemmas
+pub mod ReadLemmas
+pub mod ByteLemmas
+pub mod DocumentLemmas
+pub mod CellLemmas
+pub mod StackLemmas
+pub mod FlowNodeLemmas
+pub mod NoteLemmas

@@ -1,0 +1,14 @@
+use Rattle.std.proofs.Common.{length, ◌-◌, ◌≡◌, ◌≤◌}
+use Rattle.al_scalar.specs.Private.Places.{lines_at}
+use Rattle.al_yaml.specs.Content.{content}
+use Rattle.al_yaml_parts.proofs.content.next_content.Given as goal
+
+abbrev pub invariant-lines : goal.invariant-lines
+invariant-lines l = record {
+  from : l.at ≤ l.line;
+  inside : l.line ≤ length l.bytes;
+  content : content (lines_at l.bytes l.at) ≡ content (lines_at l.bytes l.line);
+}
+
+abbrev pub decreases-lines : goal.decreases-lines
+decreases-lines l = length l.bytes - l.line

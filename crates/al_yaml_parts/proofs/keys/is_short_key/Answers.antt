@@ -1,0 +1,12 @@
+use Rattle.std.proofs.Common.{arith}
+use Rattle.al_yaml_parts.proofs.KeyLemmas.{same_line-before, short-few}
+use Rattle.al_yaml_parts.proofs.keys.is_short_key.Goals as goal
+
+pub characters-requires-clause-line : goal.characters-requires-clause-line
+characters-requires-clause-line c =
+    same_line-before c.args.bytes.now c.args.at c.args.read.now.span.end c.args.read.now.next c.requires.inside.from c.requires.inside.end c.requires.inside.inside c.requires.line
+
+pub returns-then-end-at-le-LONGEST_KEY : goal.returns-then-end-at-le-LONGEST_KEY
+returns-then-end-at-le-LONGEST_KEY c =
+    short-few c.args.bytes.now c.args.at c.args.read.now.span.end c.requires.inside.from
+    (omega (arith, c.requires.inside.end, c.requires.inside.inside)) (omega arith)

@@ -1,0 +1,43 @@
+-- What reading ends with, and nodes that are complete with their anchors.
+use Rattle.std.specs.Prelude.{ℕ, List, Option, Some, None, option_map, Result, Ok, Err}
+use Rattle.al_scalar.specs.Private.Places.{lines_at}
+use Rattle.al_scalar.specs.Taken.{Fault}
+use Rattle.al_yaml.specs.Content.{anchor_name}
+use Rattle.al_yaml.specs.Node.{Node}
+use Rattle.al_yaml.specs.Reading.{Anchor, Reading, Part, anchored, ◌>>=◌}
+use Rattle.al_yaml_parts.specs.Private.Reads.{State, anchor_at, noted, run}
+
+-- what reading ends with, under the limits
+abbrev pub Answer : Type 0 → Type 0
+Answer A = Result (A × State) Fault
+
+-- what is read behind it, if there was no fault
+abbrev pub answered : {A B : Type 0} → Answer A → (A → Reading B) → Answer B
+answered (Err e) f = Err e
+answered (Ok p) f = run p.1 (f p.0)
+
+-- An anchor that was read, before its node.
+pub record Mark : Type 0 where
+  pub name : List ℕ
+  pub at : ℕ
+
+abbrev pub anchor_with : Mark → Node → Anchor
+anchor_with m n = record { name = m.name; at = m.at; node = n }
+
+-- a node that was read is complete with its anchor, if it has one
+abbrev pub noting : Option Mark → Answer (Part Node) → Answer (Part Node)
+noting None o = o
+noting (Some m) (Err e) = Err e
+noting (Some m) (Ok p) = Ok (p.0, noted (anchor_with m p.0.value) p.1)
+
+-- the anchor whose indicator stands at an offset
+abbrev pub mark_at : List ℕ → ℕ → Mark
+mark_at bytes at = record { name = anchor_name (lines_at bytes at); at = at }
+
+abbrev pub mark_of : List ℕ → Option ℕ → Option Mark
+mark_of bytes anchor = option_map (mark_at bytes) anchor
+
+-- a node that is read, and then is complete with the anchor whose indicator stands at an offset, if there is one
+abbrev pub completing : List ℕ → Option ℕ → Reading (Part Node) → Reading (Part Node)
+completing bytes None r = r
+completing bytes (Some at) r = r >>= (λ x. anchored (anchor_at bytes at x.value) x)

@@ -1,0 +1,39 @@
+-- How contracts speak of keys and slots of block collections.
+use Rattle.std.specs.Prelude.{ℕ, ◌<◌, ◌≤◌, List, length, Option, Some, None, IfSome}
+use Rattle.al_scalar.specs.Private.Contract.{read_of}
+use Rattle.al_scalar.specs.Private.Places.{lines_at}
+use Rattle.al_yaml.specs.Keys as keys
+use Rattle.al_yaml_parts.specs.Private.Places.{IsReadInside}
+use Rattle.al_yaml.specs.Blocks as block
+use Rattle.al_yaml_parts.specs.declared.slots.Slot.{Slot}
+use Rattle.al_yaml_parts.specs.declared.slots.Spot.{Spot}
+use Rattle.al_yaml_parts.specs.declared.slots.Spot.TheVariants as spot
+use Rattle.al_yaml_parts.specs.declared.keys.Key.{Key}
+
+abbrev pub key_seen : List ℕ → Key → keys.Key
+key_seen bytes key = record { scalar = read_of bytes key.read; behind = lines_at bytes key.behind }
+
+abbrev pub option_key : List ℕ → Option Key → Option keys.Key
+option_key bytes None = None
+option_key bytes (Some key) = Some (key_seen bytes key)
+
+pub record IsKeyBehind (bytes : List ℕ) (at : ℕ) (key : Key) : Type 0 where
+  pub read : IsReadInside bytes at key.read
+  pub from : key.read.next < key.behind
+  pub inside : key.behind ≤ length bytes
+
+abbrev pub IsOptionKey : List ℕ → ℕ → Option Key → Type 0
+IsOptionKey bytes at None = Unit {0}
+IsOptionKey bytes at (Some key) = IsKeyBehind bytes at key
+
+abbrev pub spot_of : Spot → block.Spot
+spot_of spot.OwnLine = block.own_line
+spot_of (spot.Compact tab) = block.compact tab
+spot_of spot.BehindKey = block.behind_key
+
+abbrev pub slot_of : Slot → block.Slot
+slot_of s = record { spot = spot_of s.spot; within = s.within; in_mapping = s.in_mapping; empty = s.empty }
+
+-- the tab before a compact collection stands in the file
+abbrev pub IsTabInside : ℕ → Spot → Type 0
+IsTabInside size s = IfSome (block.tab_before (spot_of s)) (λ tab. tab ≤ size)

@@ -1,0 +1,11 @@
+-- How contracts speak of a file: how long it is, and the lines that are left from an offset on.
+use Rattle.std.specs.Prelude.{ℕ, List, length}
+use Rattle.al_scalar.specs.Line.{Line}
+use Rattle.al_scalar.specs.Private.Places.{lines_at}
+use Rattle.al_yaml_parts.specs.declared.file.File.{File}
+
+abbrev pub size : File → ℕ
+size file = length file.bytes.now
+
+abbrev pub left_at : File → ℕ → List Line
+left_at file at = lines_at file.bytes.now at

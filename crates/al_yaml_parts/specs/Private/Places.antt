@@ -1,0 +1,50 @@
+-- How contracts speak of offsets: what is left from one on, and faults by their place.
+use Rattle.std.specs.Prelude.{◌≡◌, ℕ, ◌<◌, ◌≤◌, List, length, Option, Some, None, Result, Ok, Err}
+use Rattle.al_scalar.specs.Line.{Line}
+use Rattle.al_scalar.specs.Offsets.{IsPlaced}
+use Rattle.al_scalar.specs.Places.{first_end}
+use Rattle.al_scalar.specs.Private.Places.{IsLineEnd, lines_at}
+use Rattle.al_scalar.specs.Taken.{Fault}
+use Rattle.al_scalar.specs.declared.scalars.ScalarRead.{ScalarRead}
+use Rattle.al_yaml.specs.Content as content
+use Rattle.al_scalar.specs.declared.faults.FaultAt.{FaultAt}
+use Rattle.al_yaml_parts.specs.declared.content.Next.{Next}
+use Rattle.al_yaml_parts.specs.declared.content.Next.TheVariants as next
+
+abbrev pub fault_of : FaultAt → Fault
+fault_of f = record { code = f.code; at = f.at }
+
+-- what is asked of the lines is what was found in the bytes
+abbrev pub Shows : {A B : Type 0} → (A → B) → Result B Fault → Result A FaultAt → Type 0
+Shows seen asked (Ok x) = asked ≡ Ok (seen x)
+Shows seen asked (Err f) = asked ≡ Err (fault_of f)
+
+abbrev pub next_of : List ℕ → Next → content.Next
+next_of bytes next.Ended = content.ended
+next_of bytes (next.Line indent at) = content.at_line indent (lines_at bytes at)
+
+-- a line's first character stands behind its indent, in the file, and no earlier than where it was looked for
+abbrev pub IsLineFrom : ℕ → ℕ → Next → Type 0
+IsLineFrom from size next.Ended = Unit {0}
+IsLineFrom from size (next.Line indent at) = (from ≤ at) × (at ≤ size) × (indent ≤ at)
+
+abbrev pub option_lines : List ℕ → Option ℕ → Option (List Line)
+option_lines bytes None = None
+option_lines bytes (Some at) = Some (lines_at bytes at)
+
+-- the offset of what stands behind a colon
+abbrev pub IsColon : Option (List Line) → List ℕ → ℕ → Option ℕ → Type 0
+IsColon asked bytes at None = asked ≡ None
+IsColon asked bytes at (Some next) = (asked ≡ Some (lines_at bytes next)) × (at < next) × (next ≤ length bytes)
+
+-- the written form of a scalar begins at an offset and ends before what is left, which lies in the file; its text lies in it
+pub record IsReadInside (bytes : List ℕ) (at : ℕ) (r : ScalarRead) : Type 0 where
+  pub start : r.span.start ≡ at
+  pub from : at ≤ r.span.end
+  pub end : r.span.end ≤ r.next
+  pub inside : r.next ≤ length bytes
+  pub placed : IsPlaced (length bytes) r.scalar r.span
+
+-- the end of the line on which an offset stands
+abbrev pub IsLineTo : List ℕ → ℕ → ℕ → Type 0
+IsLineTo bytes at end = IsLineEnd bytes end × (first_end (lines_at bytes at) ≡ end)

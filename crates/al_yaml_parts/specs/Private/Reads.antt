@@ -1,0 +1,110 @@
+-- Reading with its limits, from one state to the next.
+use Rattle.std.specs.Prelude.{◌≡◌, ℕ, ◌+◌, ◌≤◌, List, length, Option, Some, None, option_map, Result, Ok, Err}
+use Rattle.std.specs.BTreeMap.{get_by}
+use Rattle.std.specs.Cmp.Lexicographic.{slice_cmp}
+use Rattle.std.specs.Ordering.{nat_cmp}
+use Rattle.al_scalar.specs.Private.Places.{lines_at}
+use Rattle.al_scalar.specs.Taken.{Fault}
+use Rattle.al_yaml.specs.Node as tree
+use Rattle.al_scalar.specs.Line.{Line, start}
+use Rattle.al_yaml.specs.Content.{anchor_name, behind_name}
+use Rattle.al_yaml.specs.Reading.{Anchor, Known, nothing_known, with_anchor, Outcome, Reading, Part, part, gives, alias, ◌>>=◌}
+use Rattle.al_yaml.specs.Limits.{limited_from, nodes_listed, text_listed}
+use Rattle.al_yaml.specs.View.{view}
+use Rattle.al_yaml_parts.specs.Private.Places.{fault_of}
+use Rattle.al_yaml_parts.specs.declared.anchors.Anchored.{Anchored}
+use Rattle.al_yaml_parts.specs.declared.anchors.Anchors.{Anchors}
+use Rattle.al_yaml_parts.specs.declared.faults.ReadError.{ReadError}
+use Rattle.al_yaml_parts.specs.declared.faults.ReadError.TheVariants as stop
+use Rattle.al_yaml_parts.specs.declared.limits.State as state
+use Rattle.al_yaml_parts.specs.declared.part.Part as code
+
+-- What came before: so many nodes, so many bytes of text behind aliases, and the anchors.
+pub record State : Type 0 where
+  pub nodes : ℕ
+  pub text : ℕ
+  pub known : Known
+
+abbrev pub finished : {A : Type 0} → State → Result A Fault → Result (A × State) Fault
+finished s (Err e) = Err e
+finished s (Ok x) = Ok (x, s)
+
+abbrev pub state_after : {A : Type 0} → State → Outcome A → State
+state_after s o = record { nodes = s.nodes + nodes_listed o.starts; text = s.text + text_listed o.starts; known = o.known }
+
+abbrev pub run_outcome : {A : Type 0} → State → Outcome A → Result (A × State) Fault
+run_outcome s o = finished (state_after s o) (limited_from s.nodes s.text o)
+
+-- What is read from a state on, with the state behind it, or the fault or broken limit that is met first.
+unfoldable pub run : {A : Type 0} → State → Reading A → Result (A × State) Fault
+run s r = run_outcome s (r s.known)
+
+-- at a file's start
+abbrev pub at_start : State
+at_start = record { nodes = 0; text = 0; known = nothing_known }
+
+-- with so many nodes more
+abbrev pub counted : ℕ → State → State
+counted more s = record { nodes = s.nodes + more; text = s.text; known = s.known }
+
+-- with one more anchor
+abbrev pub noted : Anchor → State → State
+noted a s = record { nodes = s.nodes; text = s.text; known = with_anchor a s.known }
+
+abbrev pub anchor_seen : List ℕ → Anchored → Anchor
+anchor_seen name a = record { name = name; at = a.at; node = view a.node.value }
+
+unfoldable pub found_in : Anchors → List ℕ → Option Anchored
+found_in anchors name = get_by (λ k. slice_cmp nat_cmp name k.items) anchors.latest
+
+-- what the code knows of anchors: of each name the one that stands last
+abbrev pub known_of : Anchors → Known
+known_of anchors name = option_map (anchor_seen name) (found_in anchors name)
+
+abbrev pub state_of : state.State → State
+state_of s = record { nodes = s.nodes; text = s.text; known = known_of s.anchors }
+
+-- the anchor whose indicator stands at an offset, before a node
+abbrev pub anchor_at : List ℕ → ℕ → tree.Node → Anchor
+anchor_at bytes at n = record { name = anchor_name (lines_at bytes at); at = at; node = n }
+
+abbrev pub noted_at : List ℕ → Option ℕ → tree.Node → State → State
+noted_at bytes None n s = s
+noted_at bytes (Some at) n s = noted (anchor_at bytes at n) s
+
+-- reading ends with a fault, if not for want of memory
+abbrev pub Stops : {B : Type 0} → Reading B → State → ReadError → Type 0
+Stops reading before (stop.Fault f) = run before reading ≡ Err (fault_of f)
+Stops reading before stop.Memory = Unit {0}
+
+-- what was read in the bytes, with the state before and after, is what the definition reads
+abbrev pub IsRead : {A B : Type 0} → (A → B) → Reading B → State → Result A ReadError → State → Type 0
+IsRead seen reading before (Ok x) after = run before reading ≡ Ok (seen x, after)
+IsRead seen reading before (Err e) after = Stops reading before e
+
+abbrev pub part_of : List ℕ → code.Part → Part tree.Node
+part_of bytes p = part (view p.node) p.end (lines_at bytes p.next)
+
+-- what is left lies behind an offset; it and the end of what was read lie in the file
+pub record IsBehind (bytes : List ℕ) (at : ℕ) (p : code.Part) : Type 0 where
+  pub from : at ≤ p.next
+  pub inside : p.next ≤ length bytes
+  pub end : p.end ≤ length bytes
+
+-- what an alias that begins the lines stands for, and where it ends
+abbrev pub alias_part : ℕ → List Line → Reading (Part tree.Node)
+alias_part depth ls = alias (anchor_name ls) (start ls) depth >>= (λ n. gives (part n (start (behind_name ls)) (behind_name ls)))
+
+-- what is asked ends with a fault, if not for want of memory
+abbrev pub Refuses : {B : Type 0} → Result B Fault → ReadError → Type 0
+Refuses asked (stop.Fault f) = asked ≡ Err (fault_of f)
+Refuses asked stop.Memory = Unit {0}
+
+abbrev pub Answers : {A B : Type 0} → (A → B) → Result B Fault → Result A ReadError → Type 0
+Answers seen asked (Ok x) = asked ≡ Ok (seen x)
+Answers seen asked (Err e) = Refuses asked e
+
+-- a fault stands in the file, or at its end
+abbrev pub IsStopInside : ℕ → ReadError → Type 0
+IsStopInside size (stop.Fault f) = f.at ≤ size
+IsStopInside size stop.Memory = Unit {0}

@@ -1,0 +1,49 @@
+-- What an alias counts of its node (YAML 1.2.2, 7.1), in counts that stay at their greatest value.
+use Rattle.std.specs.Prelude.{◌≡◌, ℕ, ◌+◌, List, [], ◌∷◌, length, map}
+use Rattle.al_yaml.specs.Access.{nodes, entries}
+use Rattle.al_yaml.specs.Limits.{most_counted}
+use Rattle.al_yaml.specs.Node.{Node, scalar, sequence, mapping, nodes_in, text_in, levels_in}
+use Rattle.al_yaml.specs.View.{view}
+use Rattle.al_yaml_parts.specs.declared.sums.Sums.{Sums}
+use Rattle.al_yaml_parts.specs.declared.sums.Uncounted.{Uncounted}
+
+pub record IsSums (n : Node) (s : Sums) : Type 0 where
+  pub nodes : s.nodes ≡ most_counted (nodes_in n)
+  pub text : s.text ≡ most_counted (text_in n)
+  pub levels : s.levels ≡ most_counted (levels_in n)
+
+-- the keys and values of entries
+abbrev pub members : List (Node × Node) → List Node
+members [] = []
+members (e ∷ es) = e.0 ∷ e.1 ∷ members es
+
+-- the nodes that stand in a node, not those inside them
+abbrev pub inside : Node → List Node
+inside (scalar s at) = []
+inside (sequence ns at) = nodes ns
+inside (mapping es at) = members (entries es)
+
+-- the bytes of a node's own text
+abbrev pub own_text : Node → ℕ
+own_text (scalar s at) = length s.cells
+own_text (sequence ns at) = 0
+own_text (mapping es at) = 0
+
+-- the level that a collection is
+abbrev pub own_level : Node → ℕ
+own_level (scalar s at) = 0
+own_level (sequence ns at) = 1
+own_level (mapping es at) = 1
+
+-- nodes that stand in so many collections
+abbrev pub within : ℕ → List Node → List (Node × ℕ)
+within levels ns = map (λ n. (n, levels)) ns
+
+abbrev pub uncounted_view : Uncounted → Node × ℕ
+uncounted_view u = (view u.node.now, u.levels)
+
+-- what is counted of a node itself, which stands in so many collections
+pub record IsOwn (n : Node × ℕ) (s : Sums) : Type 0 where
+  pub nodes : s.nodes ≡ 1
+  pub text : s.text ≡ most_counted (own_text n.0)
+  pub levels : s.levels ≡ most_counted (n.1 + own_level n.0)

@@ -1,0 +1,181 @@
+//! Anchors (YAML 1.2.2, 6.9.2), the nodes that they name, and the aliases that stand for them (7.1).
+
+ghost use Rattle.al_scalar.specs.Private.Places.{cells_between, lines_at, text_at, with_cells_before};
+ghost use Rattle.al_yaml.specs.Content as content;
+ghost use Rattle.al_yaml_parts.specs.Private.Files.{left_at, size};
+ghost use Rattle.al_yaml.specs.Reading as reading;
+ghost use Rattle.al_yaml.specs.Reading.{with_anchor, nothing_known};
+ghost use Rattle.al_yaml_parts.specs.Private.Reads.{IsRead, IsStopInside, anchor_at, anchor_seen, known_of, noted_at, state_of};
+ghost use Rattle.al_yaml.specs.View.{view};
+ghost use Rattle.std.specs.Prelude.{IfErr, IfOk, length, true, ◌+◌, ◌<◌, ◌≡◌, ◌≤◌};
+
+use crate::faults::ReadError;
+use crate::file::File;
+use crate::limits::State;
+use crate::lines::is_text_end;
+use crate::starts::begins_flow_indicator;
+use crate::sums::{deepest, sums_of};
+use al_base::YamlCode;
+use al_scalar::FaultAt;
+use al_scalar::lines::is_blank_or_end;
+use al_yaml::{Node, sharable, shared_node};
+use std::alloc::{AllocError, Global};
+use std::collections::BTreeMap;
+use std::rc::Rc;
+
+/// A node that an anchor names, and where the anchor stands.
+#[derive(Drop)]
+pub struct Anchored {
+    pub at: usize,
+    pub node: Rc<Node>,
+}
+
+/// The anchors whose nodes are complete, of each name the one that stands last. Adding one and looking one up take time
+/// that grows with the logarithm of their number, and with the name's length.
+#[derive(Drop)]
+pub struct Anchors {
+    pub latest: BTreeMap<Vec<u8>, Anchored>,
+}
+
+/// Whether a name ends at an offset: at a blank, the line's end or one of `,[]{}`.
+fn ends_name(bytes: &[u8], at: usize) -> bool
+    requires { at ≤ length bytes.now }
+    ensures { result ≡ content.ends_name (text_at bytes.now at) }
+{
+    is_blank_or_end(bytes, at) || begins_flow_indicator(bytes, at)
+}
+
+/// Where the name at an offset ends.
+pub fn name_end(bytes: &[u8], at: usize) -> usize
+    requires { at ≤ length bytes.now }
+    ensures from { at ≤ result }
+    ensures inside { result ≤ length bytes.now }
+    ensures cells { content.anchor_cells (text_at bytes.now at) ≡ cells_between bytes.now at result }
+    ensures lines { lines_at bytes.now at ≡ with_cells_before (cells_between bytes.now at result) (lines_at bytes.now result) }
+{
+    let mut i = at;
+    'name: while !ends_name(bytes, i) {
+        i += 1;
+    }
+    i
+}
+
+/// The name of the anchor or alias whose indicator stands at an offset.
+fn name_at(bytes: &[u8], at: usize) -> &[u8]
+    ensures { result.now ≡ content.anchor_name (lines_at bytes.now at) }
+{
+    if at >= bytes.len() {
+        return &bytes[..0];
+    }
+    if is_text_end(bytes, at) {
+        return &bytes[..0];
+    }
+    &bytes[at + 1..name_end(bytes, at + 1)]
+}
+
+/// Whether the indicator at an offset has no name behind it.
+pub fn has_no_name(bytes: &[u8], at: usize) -> bool
+    requires inside { at ≤ length bytes.now }
+    requires property { content.is_property (text_at bytes.now at) ≡ true }
+    ensures { result ≡ content.has_no_name (lines_at bytes.now at) }
+{
+    ends_name(bytes, at + 1)
+}
+
+/// Where the anchor or alias ends whose indicator stands at an offset.
+pub fn property_end(bytes: &[u8], at: usize) -> usize
+    requires inside { at ≤ length bytes.now }
+    requires property { content.is_property (text_at bytes.now at) ≡ true }
+    ensures from { at < result }
+    ensures inside { result ≤ length bytes.now }
+    ensures lines { content.behind_name (lines_at bytes.now at) ≡ lines_at bytes.now result }
+    ensures line { content.same_line (lines_at bytes.now at) (lines_at bytes.now result) ≡ true }
+{
+    name_end(bytes, at + 1)
+}
+
+impl Anchors {
+    /// No anchors. Takes no memory.
+    pub fn new(alloc: Global) -> Anchors
+        ensures { known_of result ≡ nothing_known }
+    {
+        Anchors {
+            latest: BTreeMap::new(alloc),
+        }
+    }
+
+    /// A node is complete with the anchor whose indicator stands at an offset. It is shared from here on.
+    ///
+    /// Fails with `AllocError` for want of memory.
+    #[inline(never)]
+    pub fn complete(&mut self, file: &File, at: usize, node: Node) -> Result<Node, AllocError>
+        ensures node { IfOk result (λ n. view n ≡ view node) }
+        ensures known { IfOk result (λ _. known_of self.new
+            ≡ with_anchor (anchor_at file.now.bytes.now at (view node)) (known_of self.old)) }
+    {
+        let node = sharable(file.alloc, node)?;
+        let result = shared_node(&node)?;
+        let name = Vec::from_slice(file.alloc, name_at(file.bytes, at))?;
+        self.note(name, Anchored { at, node })?;
+        Ok(result)
+    }
+
+    /// One more anchor.
+    fn note(&mut self, name: Vec<u8>, anchor: Anchored) -> Result<(), AllocError>
+        ensures { IfOk result (λ _. known_of self.new ≡ with_anchor (anchor_seen name.items anchor) (known_of self.old)) }
+    {
+        if self.has_later(name.as_slice(), anchor.at) {
+            return Ok(());
+        }
+        self.latest.insert(name, anchor)?;
+        Ok(())
+    }
+
+    /// Whether the anchor of a name stands behind an offset.
+    fn has_later(&self, name: &[u8], at: usize) -> bool
+        ensures { result ≡ reading.is_later at (known_of self.now name.now) }
+    {
+        match self.latest.get(name) {
+            Some(found) => at < found.at,
+            None => false,
+        }
+    }
+}
+
+impl State {
+    /// A node is complete; it has an anchor if there is one at an offset.
+    #[inline(always)]
+    pub fn complete(
+        &mut self,
+        file: &File,
+        anchor: Option<usize>,
+        node: Node,
+    ) -> Result<Node, AllocError>
+        ensures node { IfOk result (λ n. view n ≡ view node) }
+        ensures state { IfOk result (λ _. state_of self.new ≡ noted_at file.now.bytes.now anchor (view node) (state_of self.old)) }
+    {
+        match anchor {
+            None => Ok(node),
+            Some(at) => self.anchors.complete(file, at, node),
+        }
+    }
+
+    /// The node that the alias at an offset stands for. All nodes in it are counted.
+    pub fn alias(&mut self, file: &File, at: usize, depth: u32) -> Result<Node, ReadError>
+        requires { at ≤ size file.now }
+        ensures fault { IfErr result (IsStopInside (size file.now)) }
+        ensures is { IsRead view (reading.alias (content.anchor_name (left_at file.now at)) at depth)
+            (state_of self.old) result (state_of self.new) }
+    {
+        let Some(found) = self.anchors.latest.get(name_at(file.bytes, at)) else {
+            return Err(ReadError::Fault(FaultAt {
+                code: YamlCode::UnknownAlias,
+                at,
+            }));
+        };
+        let sums = sums_of(file.alloc, &found.node)?;
+        let node = shared_node(&found.node)?;
+        self.start_with(at, sums.nodes, sums.text, deepest(depth, sums.levels))?;
+        Ok(node)
+    }
+}

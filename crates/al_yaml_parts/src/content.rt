@@ -1,0 +1,182 @@
+//! Content lines, and the gaps between what stands in flow collections.
+
+ghost use Rattle.al_scalar.specs.Line as line;
+ghost use Rattle.al_scalar.specs.Private.Places.{lines_at, text_at};
+ghost use Rattle.al_yaml.specs.Content as content;
+ghost use Rattle.al_yaml.specs.Flow as flow;
+ghost use Rattle.al_yaml_parts.specs.Private.Places.{IsLineFrom, Shows, next_of};
+ghost use Rattle.std.specs.Prelude.{IfErr, IfOk, IfSome, IsTrue, false, length, slice_index, ◌<◌, ◌↔◌, ◌≡◌, ◌≤◌};
+
+use crate::lines::{is_text_end, next_line};
+use al_base::YamlCode;
+use al_scalar::FaultAt;
+use al_scalar::lines::{begins, blanks_end, indent, is_blank_or_end, is_document_marker};
+
+/// The next content line of the document, or its end.
+#[derive(Clone, Copy)]
+pub enum Next {
+    Ended,
+    /// Its indent, and the offset of its first character.
+    Line { indent: usize, at: usize },
+}
+
+/// Whether the line is blank or a comment from an offset on.
+pub fn is_skipped(bytes: &[u8], at: usize) -> bool
+    requires { at ≤ length bytes.now }
+    ensures { result ≡ content.is_skipped (text_at bytes.now at) }
+{
+    let solid = blanks_end(bytes, at);
+    if is_text_end(bytes, solid) {
+        return true;
+    }
+    begins(bytes, solid, b'#')
+}
+
+/// What a line that is no blank line and no comment begins.
+fn content_line(bytes: &[u8], at: usize) -> Result<Next, FaultAt>
+    requires { at ≤ length bytes.now }
+    ensures fault { IfErr result (λ f. f.at ≤ length bytes.now) }
+    ensures is { Shows (next_of bytes.now) (content.content_line (lines_at bytes.now at)) result }
+    ensures from { IfOk result (λ next. IsLineFrom at (length bytes.now) next) }
+{
+    if is_document_marker(bytes, at) {
+        return Ok(Next::Ended);
+    }
+    let indent = indent(bytes, at);
+    let solid = at + indent;
+    if begins(bytes, solid, b'\t') {
+        return Err(FaultAt {
+            code: YamlCode::TabInIndentation,
+            at: solid,
+        });
+    }
+    Ok(Next::Line { indent, at: solid })
+}
+
+/// The first content line from the start of a line on.
+pub fn next_content(bytes: &[u8], at: usize) -> Result<Next, FaultAt>
+    requires { at ≤ length bytes.now }
+    ensures fault { IfErr result (λ f. f.at ≤ length bytes.now) }
+    ensures is { Shows (next_of bytes.now) (content.content (lines_at bytes.now at)) result }
+    ensures from { IfOk result (λ next. IsLineFrom at (length bytes.now) next) }
+{
+    let mut line = at;
+    'lines: loop {
+        if !is_skipped(bytes, line) {
+            return content_line(bytes, line);
+        }
+        if line == bytes.len() {
+            return Ok(Next::Ended);
+        }
+        line = next_line(bytes, line);
+    }
+}
+
+/// Whether only blanks, and a comment after a blank, stand on the line from an offset on.
+fn ends_line(bytes: &[u8], at: usize) -> bool
+    requires { at ≤ length bytes.now }
+    ensures { result ≡ content.ends_line (text_at bytes.now at) }
+{
+    let solid = blanks_end(bytes, at);
+    if is_text_end(bytes, solid) {
+        return true;
+    }
+    if !is_blank_or_end(bytes, at) {
+        return false;
+    }
+    begins(bytes, solid, b'#')
+}
+
+/// The start of the line behind a node that ends its line.
+pub fn line_ended(bytes: &[u8], at: usize) -> Result<usize, FaultAt>
+    requires { at ≤ length bytes.now }
+    ensures fault { IfErr result (λ f. f.at ≤ length bytes.now) }
+    ensures is { Shows (lines_at bytes.now) (content.line_ended (lines_at bytes.now at)) result }
+    ensures inside { IfOk result (λ next. next ≤ length bytes.now) }
+    ensures from { IfOk result (λ next. at ≤ next) }
+{
+    if ends_line(bytes, at) {
+        return Ok(next_line(bytes, at));
+    }
+    Err(FaultAt {
+        code: YamlCode::UnexpectedCharacter,
+        at: blanks_end(bytes, at),
+    })
+}
+
+/// Whether the dash of a block sequence's entry stands at an offset.
+pub fn is_dash(bytes: &[u8], at: usize) -> bool
+    requires { at ≤ length bytes.now }
+    ensures value { result ≡ content.is_dash (text_at bytes.now at) }
+    ensures inside { IsTrue result → at < length bytes.now }
+{
+    if !begins(bytes, at, b'-') {
+        return false;
+    }
+    is_blank_or_end(bytes, at + 1)
+}
+
+/// The first tab among the blanks at an offset.
+pub fn first_tab(bytes: &[u8], at: usize) -> Option<usize>
+    requires { at ≤ length bytes.now }
+    ensures is { result ≡ content.tab_among (text_at bytes.now at) }
+    ensures inside { IfSome result (λ tab. tab ≤ length bytes.now) }
+{
+    let solid = at + indent(bytes, at);
+    if begins(bytes, solid, b'\t') {
+        return Some(solid);
+    }
+    None
+}
+
+/// Whether a gap goes on with the next line.
+fn is_gap_line(bytes: &[u8], at: usize, at_start: bool, solid: usize) -> bool
+    requires inside { at ≤ length bytes.now }
+    requires solid { line.blanks_dropped (lines_at bytes.now at) ≡ lines_at bytes.now solid }
+    requires solid_inside { solid ≤ length bytes.now }
+    ensures { result ≡ flow.is_gap_line at_start (text_at bytes.now at) }
+{
+    if is_text_end(bytes, solid) {
+        return true;
+    }
+    if !begins(bytes, solid, b'#') {
+        return false;
+    }
+    if at_start {
+        return true;
+    }
+    is_blank_or_end(bytes, at)
+}
+
+/// Whether a byte stands at an offset that is above blanks, breaks and `#`, so that no gap begins with it.
+fn is_solid(bytes: &[u8], at: usize) -> bool
+    ensures { IsTrue result ↔ ((at < length bytes.now) × (35 < slice_index bytes.now at)) }
+{
+    at < bytes.len() && bytes[at] > b'#'
+}
+
+/// The offset behind the blanks, breaks and comments at an offset in a flow collection.
+#[inline(always)]
+pub fn gap(bytes: &[u8], at: usize) -> usize
+    requires { at ≤ length bytes.now }
+    ensures from { at ≤ result }
+    ensures inside { result ≤ length bytes.now }
+    ensures lines { flow.gap false (lines_at bytes.now at) ≡ lines_at bytes.now result }
+{
+    if is_solid(bytes, at) {
+        return at;
+    }
+    let mut line = at;
+    let mut at_start = false;
+    'lines: loop {
+        let solid = blanks_end(bytes, line);
+        if !is_gap_line(bytes, line, at_start, solid) {
+            return solid;
+        }
+        if line == bytes.len() {
+            return line;
+        }
+        line = next_line(bytes, line);
+        at_start = true;
+    }
+}

@@ -1,0 +1,138 @@
+//! What stands round a document's root.
+
+ghost use Rattle.al_scalar.specs.Private.Places.{lines_at, text_at};
+ghost use Rattle.al_yaml.specs.Content as content;
+ghost use Rattle.al_yaml.specs.Document as document;
+ghost use Rattle.al_yaml_parts.specs.Private.DocumentLines.{IsBehindMarker, text_line};
+ghost use Rattle.al_yaml_parts.specs.Private.Places.{Shows};
+ghost use Rattle.std.specs.Prelude.{◌<◌, ◌≡◌, ◌≤◌, IfErr, IfOk, false, length};
+
+use crate::content::{is_skipped, line_ended};
+use crate::lines::next_line;
+use al_base::YamlCode;
+use al_scalar::FaultAt;
+use al_scalar::lines::{begins, blanks_end, indent, is_marker};
+
+/// The first line from a line's start on that is no blank line and no comment, or else the file's end.
+fn next_text_line(bytes: &[u8], at: usize) -> usize
+    requires { at ≤ length bytes.now }
+    ensures from { at ≤ result }
+    ensures inside { result ≤ length bytes.now }
+    ensures lines { text_line (lines_at bytes.now at) ≡ lines_at bytes.now result }
+    ensures text { result < length bytes.now → false ≡ content.is_skipped (text_at bytes.now result) }
+{
+    let mut line = at;
+    'lines: while line < bytes.len() {
+        if !is_skipped(bytes, line) {
+            return line;
+        }
+        line = next_line(bytes, line);
+    }
+    line
+}
+
+/// The start of the root's lines: the first content line from a line's start on, or the line behind a first `---`;
+/// the file's end if there is none (YAML 1.2.2, 9.1). Fails at a directive, and at a character behind `---` that
+/// begins no comment.
+pub fn document_start(bytes: &[u8], at: usize) -> Result<usize, FaultAt>
+    requires { at ≤ length bytes.now }
+    ensures fault { IfErr result (λ f. f.at ≤ length bytes.now) }
+    ensures is { Shows (lines_at bytes.now) (document.document_start (lines_at bytes.now at)) result }
+    ensures inside { IfOk result (λ next. next ≤ length bytes.now) }
+    ensures from { IfOk result (λ next. at ≤ next) }
+{
+    let line = next_text_line(bytes, at);
+    if line == bytes.len() {
+        return Ok(line);
+    }
+    first_line(bytes, line)
+}
+
+/// The start of the root's lines on the first content line or behind it.
+fn first_line(bytes: &[u8], at: usize) -> Result<usize, FaultAt>
+    requires { at ≤ length bytes.now }
+    ensures fault { IfErr result (λ f. f.at ≤ length bytes.now) }
+    ensures is { Shows (lines_at bytes.now) (document.first_line (lines_at bytes.now at)) result }
+    ensures inside { IfOk result (λ next. next ≤ length bytes.now) }
+    ensures from { IfOk result (λ next. at ≤ next) }
+{
+    if begins(bytes, at, b'%') {
+        return Err(FaultAt {
+            code: YamlCode::Directive,
+            at,
+        });
+    }
+    if let Some(next) = behind_marker(bytes, at, b'-') {
+        return line_ended(bytes, next);
+    }
+    Ok(at)
+}
+
+/// The offset behind a document marker of three bytes at a line's start, if it is one.
+fn behind_marker(bytes: &[u8], at: usize, byte: u8) -> Option<usize>
+    requires { at ≤ length bytes.now }
+    ensures { IsBehindMarker bytes.now at byte result }
+{
+    if is_marker(bytes, at, byte) {
+        return Some(at + 3);
+    }
+    None
+}
+
+/// What stands behind the root: nothing, or a `...` with nothing behind it. Else fails at the second document or at
+/// the content that belongs to no open collection.
+pub fn document_end(bytes: &[u8], at: usize) -> Result<(), FaultAt>
+    requires { at ≤ length bytes.now }
+    ensures fault { IfErr result (λ f. f.at ≤ length bytes.now) }
+    ensures is { Shows (λ _. tt) (document.document_end (lines_at bytes.now at)) result }
+{
+    let line = next_text_line(bytes, at);
+    if line == bytes.len() {
+        return Ok(());
+    }
+    last_line(bytes, line)
+}
+
+/// What a line behind the root is.
+fn last_line(bytes: &[u8], at: usize) -> Result<(), FaultAt>
+    requires { at ≤ length bytes.now }
+    ensures fault { IfErr result (λ f. f.at ≤ length bytes.now) }
+    ensures is { Shows (λ _. tt) (document.last_line (lines_at bytes.now at)) result }
+{
+    if is_marker(bytes, at, b'-') {
+        return Err(FaultAt {
+            code: YamlCode::SecondDocument,
+            at,
+        });
+    }
+    if let Some(next) = behind_marker(bytes, at, b'.') {
+        return ended_behind(bytes, next);
+    }
+    let solid = at + indent(bytes, at);
+    if begins(bytes, solid, b'\t') {
+        return Err(FaultAt {
+            code: YamlCode::TabInIndentation,
+            at: solid,
+        });
+    }
+    Err(FaultAt {
+        code: YamlCode::WrongIndentation,
+        at: solid,
+    })
+}
+
+/// Behind `...` no content stands, neither on its line nor on a later one.
+fn ended_behind(bytes: &[u8], at: usize) -> Result<(), FaultAt>
+    requires { at ≤ length bytes.now }
+    ensures fault { IfErr result (λ f. f.at ≤ length bytes.now) }
+    ensures is { Shows (λ _. tt) (document.ended_behind (lines_at bytes.now at)) result }
+{
+    let line = next_text_line(bytes, at);
+    if line == bytes.len() {
+        return Ok(());
+    }
+    Err(FaultAt {
+        code: YamlCode::SecondDocument,
+        at: blanks_end(bytes, line),
+    })
+}

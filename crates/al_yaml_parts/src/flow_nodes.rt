@@ -1,0 +1,354 @@
+//! Nodes and keys in flow collections that are read whole, and brackets that stand where one is due.
+
+ghost use Rattle.al_scalar.specs.Private.Contract.{read_of};
+ghost use Rattle.al_scalar.specs.Line as line;
+ghost use Rattle.al_scalar.specs.Private.Places.{lines_at, text_at};
+ghost use Rattle.al_yaml_parts.specs.Private.Files.{left_at, size};
+ghost use Rattle.al_yaml.specs.Flow as flow;
+ghost use Rattle.al_base.specs.declared.codes.YamlCode.TheVariants as yaml;
+ghost use Rattle.al_yaml.specs.Content as content;
+ghost use Rattle.al_yaml_parts.specs.Private.FlowReads.{Finds, FindsKey, IsBare, IsFound, IsFoundKey, flow_slot};
+ghost use Rattle.al_yaml_parts.specs.Private.Reads.{alias_part};
+ghost use Rattle.al_yaml_parts.specs.Private.Places.{IsReadInside, Shows, option_lines};
+ghost use Rattle.al_yaml_parts.specs.Private.Reads.{IsBehind, IsRead, IsStopInside};
+ghost use Rattle.al_yaml_parts.specs.Private.FlowReads.{IsColonInside, IsKeyInside};
+ghost use Rattle.al_yaml_parts.specs.Private.Reads.{noted_at, part_of, state_of};
+ghost use Rattle.al_yaml_parts.specs.Private.FlowReads.{flow_key_of};
+ghost use Rattle.al_yaml.specs.View.{view};
+ghost use Rattle.std.specs.Prelude.{IfErr, IfOk, IfSome, false, if◌then◌else◌, length, true, ℕ, ◌<◌, ◌||◌, ◌≡◌, ◌≤◌};
+
+use crate::anchors::{has_no_name, property_end};
+use crate::content::gap;
+use crate::faults::ReadError;
+use crate::file::File;
+use crate::keys::{behind_flow_colon, is_late_colon, is_simple_key};
+use crate::limits::State;
+use crate::lines::is_text_end;
+use crate::part::Part;
+use crate::scalars::{empty_part, scalar_at, scalar_part};
+use crate::starts::{flow_fault, is_flow_start, is_property, is_quote};
+use al_base::YamlCode;
+use al_scalar::lines::begins;
+use al_scalar::{FaultAt, ScalarContext, ScalarRead};
+use std::alloc::AllocError;
+
+/// The key of a flow mapping's entry, and the offset behind its colon if it has one.
+#[derive(Drop)]
+pub struct FlowKey {
+    pub read: ScalarRead,
+    pub colon: Option<usize>,
+}
+
+/// A collection that begins: its bracket's place, and that of its anchor if it has one.
+#[derive(Clone, Copy)]
+pub struct Bracket {
+    pub at: usize,
+    pub anchor: Option<usize>,
+}
+
+/// What stands where a node is due in a flow collection: an alias, a scalar or an empty node, which was read, or the bracket
+/// of a collection.
+#[derive(Drop)]
+pub enum Found {
+    Node(Part),
+    Opens(Bracket),
+}
+
+/// What stands where a key is due in a flow mapping: a scalar, which was read, or the bracket of a collection.
+#[derive(Drop)]
+pub enum FoundKey {
+    Key(FlowKey),
+    Opens,
+}
+
+/// The offset behind the colon of the key that a scalar in a flow mapping is, if it has one.
+fn key_colon(bytes: &[u8], at: usize, read: &ScalarRead) -> Result<Option<usize>, FaultAt>
+    requires at { at ≤ length bytes.now }
+    requires inside { IsReadInside bytes.now at read.now }
+    ensures fault { IfErr result (λ f. f.at ≤ length bytes.now) }
+    ensures is { Shows (option_lines bytes.now) (flow.key_colon (lines_at bytes.now at) (read_of bytes.now read.now)) result }
+    ensures inside { IfOk result (λ colon. IsColonInside read.now.next (length bytes.now) colon) }
+{
+    let wrong = FaultAt {
+        code: YamlCode::WrongKey,
+        at,
+    };
+    if !is_simple_key(bytes, at, read) {
+        return Err(wrong);
+    }
+    if let Some(next) = behind_flow_colon(bytes, read.next, is_quote(bytes, at)) {
+        return Ok(Some(next));
+    }
+    if is_late_colon(bytes, read.next) {
+        return Err(wrong);
+    }
+    Ok(None)
+}
+
+/// The fault of an anchor or alias on a key.
+fn property_on_key(bytes: &[u8], at: usize) -> YamlCode
+    requires inside { at ≤ length bytes.now }
+    requires property { content.is_property (text_at bytes.now at) ≡ true }
+    ensures { result ≡ (if content.has_no_name (lines_at bytes.now at) then yaml.UnexpectedCharacter else yaml.AnchorOrAlias) }
+{
+    if has_no_name(bytes, at) {
+        return YamlCode::UnexpectedCharacter;
+    }
+    YamlCode::AnchorOrAlias
+}
+
+/// Reads the key of a flow mapping's entry, if no collection stands there.
+pub fn read_flow_key(file: &File, state: &mut State, at: usize) -> Result<FoundKey, ReadError>
+    requires inside { at ≤ size file.now }
+    ensures fault { IfErr result (IsStopInside (size file.now)) }
+    ensures is { (depth : ℕ) →
+        FindsKey file.now.bytes.now at
+        (λ collection. flow.flow_key collection depth (left_at file.now at)) depth (state_of state.old) result (state_of state.new) }
+    ensures within { IfOk result (λ key. IsFoundKey file.now.bytes.now at key) }
+{
+    if let Some(code) = flow_fault(file.bytes, at) {
+        return Err(ReadError::Fault(FaultAt { code, at }));
+    }
+    if is_property(file.bytes, at) {
+        return Err(ReadError::Fault(FaultAt {
+            code: property_on_key(file.bytes, at),
+            at,
+        }));
+    }
+    if is_flow_start(file.bytes, at) {
+        return Ok(FoundKey::Opens);
+    }
+    let read = scalar_at(file.alloc, file.bytes, at, ScalarContext::Flow)?;
+    let colon = key_colon(file.bytes, at, &read)?;
+    state.start(at, 1, 0)?;
+    Ok(FoundKey::Key(FlowKey { read, colon }))
+}
+
+/// Whether a comma or a closing brace stands at an offset.
+fn ends_value(bytes: &[u8], at: usize) -> bool
+    requires { at ≤ length bytes.now }
+    ensures { result ≡ (line.begins 44 (text_at bytes.now at) || line.begins 125 (text_at bytes.now at)) }
+{
+    begins(bytes, at, b',') || begins(bytes, at, b'}')
+}
+
+/// Reads a scalar without anchor in a flow collection.
+#[inline(always)]
+pub fn read_flow_scalar(file: &File, state: &mut State, at: usize) -> Result<Part, ReadError>
+    requires inside { at ≤ size file.now }
+    requires plain { false ≡ content.is_property (text_at file.now.bytes.now at) }
+    requires scalar { false ≡ content.is_flow_start (text_at file.now.bytes.now at) }
+    ensures fault { IfErr result (IsStopInside (size file.now)) }
+    ensures is { (collection : flow.CollectionReader) (slot : flow.FlowSlot) (depth : ℕ) → IsRead (part_of file.now.bytes.now)
+        (flow.flow_content collection slot depth (left_at file.now at)) (state_of state.old) result (state_of state.new) }
+    ensures within { IfOk result (λ part. IsBehind file.now.bytes.now at part) }
+{
+    if let Some(code) = flow_fault(file.bytes, at) {
+        return Err(ReadError::Fault(FaultAt { code, at }));
+    }
+    state.start(at, 1, 0)?;
+    let read = scalar_at(file.alloc, file.bytes, at, ScalarContext::Flow)?;
+    let next = read.next;
+    Ok(scalar_part(read, next))
+}
+
+/// Reads a node without anchor in a flow collection, if it is no collection.
+#[inline(always)]
+fn read_flow_content(file: &File, state: &mut State, at: usize) -> Result<Found, ReadError>
+    requires inside { at ≤ size file.now }
+    requires plain { false ≡ content.is_property (text_at file.now.bytes.now at) }
+    ensures fault { IfErr result (IsStopInside (size file.now)) }
+    ensures is { (depth : ℕ) (slot : flow.FlowSlot) → Finds file.now.bytes.now (λ collection. flow.flow_content collection slot depth
+        (left_at file.now at)) depth (state_of state.old) result (state_of state.new) }
+    ensures within { IfOk result (λ found. IsFound file.now.bytes.now at found) }
+    ensures bare { IfOk result IsBare }
+{
+    // a bracket has no fault
+    if is_flow_start(file.bytes, at) {
+        return Ok(Found::Opens(Bracket { at, anchor: None }));
+    }
+    Ok(Found::Node(read_flow_scalar(file, state, at)?))
+}
+
+/// Reads an alias.
+pub fn read_alias(file: &File, state: &mut State, at: usize, depth: u32) -> Result<Part, ReadError>
+    requires inside { at ≤ size file.now }
+    requires property { content.is_property (text_at file.now.bytes.now at) ≡ true }
+    ensures fault { IfErr result (IsStopInside (size file.now)) }
+    ensures is { IsRead (part_of file.now.bytes.now) (alias_part depth (left_at file.now at))
+        (state_of state.old) result (state_of state.new) }
+    ensures within { IfOk result (λ part. IsBehind file.now.bytes.now at part) }
+{
+    let node = state.alias(file, at, depth)?;
+    let end = property_end(file.bytes, at);
+    Ok(Part {
+        node,
+        end,
+        next: end,
+    })
+}
+
+/// Reads an alias, or an anchor and its node if that is no collection. empty is where an empty node would stand.
+pub fn read_flow_property(
+    file: &File,
+    state: &mut State,
+    opening: usize,
+    empty: Option<usize>,
+    at: usize,
+    depth: u32,
+) -> Result<Found, ReadError>
+    requires inside { at ≤ size file.now }
+    requires property { content.is_property (text_at file.now.bytes.now at) ≡ true }
+    requires opening { opening ≤ size file.now }
+    requires empty { IfSome empty (λ i. i ≤ at) }
+    ensures fault { IfErr result (IsStopInside (size file.now)) }
+    ensures is { Finds file.now.bytes.now (λ collection. flow.flow_property collection (flow_slot opening empty) depth
+        (left_at file.now at)) depth (state_of state.old) result (state_of state.new) }
+    ensures within { IfOk result (λ found. IsFound file.now.bytes.now at found) }
+{
+    if has_no_name(file.bytes, at) {
+        return Err(ReadError::Fault(FaultAt {
+            code: YamlCode::UnexpectedCharacter,
+            at,
+        }));
+    }
+    if begins(file.bytes, at, b'*') {
+        return Ok(Found::Node(read_alias(file, state, at, depth)?));
+    }
+    let found = read_anchored(
+        file,
+        state,
+        opening,
+        empty,
+        gap(file.bytes, property_end(file.bytes, at)),
+    )?;
+    match found {
+        Found::Node(part) => Ok(Found::Node(completed(file, state, Some(at), part)?)),
+        Found::Opens(bracket) => Ok(Found::Opens(Bracket {
+            at: bracket.at,
+            anchor: Some(at),
+        })),
+    }
+}
+
+/// A node that was read, with its anchor if it has one.
+#[inline(always)]
+pub fn completed(
+    file: &File,
+    state: &mut State,
+    anchor: Option<usize>,
+    part: Part,
+) -> Result<Part, AllocError>
+    ensures part { IfOk result (λ p. part_of file.now.bytes.now p ≡ part_of file.now.bytes.now part) }
+    ensures end { IfOk result (λ p. p.end ≡ part.end) }
+    ensures next { IfOk result (λ p. p.next ≡ part.next) }
+    ensures state { IfOk result (λ _. state_of state.new ≡ noted_at file.now.bytes.now anchor (view part.node) (state_of state.old)) }
+{
+    Ok(Part {
+        node: state.complete(file, anchor, part.node)?,
+        end: part.end,
+        next: part.next,
+    })
+}
+
+/// Reads the node behind an anchor in a flow collection, if it is no collection.
+fn read_anchored(
+    file: &File,
+    state: &mut State,
+    opening: usize,
+    empty: Option<usize>,
+    at: usize,
+) -> Result<Found, ReadError>
+    requires inside { at ≤ size file.now }
+    requires opening { opening ≤ size file.now }
+    requires empty { IfSome empty (λ i. i ≤ at) }
+    ensures fault { IfErr result (IsStopInside (size file.now)) }
+    ensures is { (depth : ℕ) → Finds file.now.bytes.now (λ collection. flow.flow_value (flow.flow_content collection)
+        (flow_slot opening empty) depth (left_at file.now at)) depth (state_of state.old) result (state_of state.new) }
+    ensures within { IfOk result (λ found. IsFound file.now.bytes.now at found) }
+    ensures bare { IfOk result IsBare }
+{
+    if is_text_end(file.bytes, at) {
+        return Err(ReadError::Fault(FaultAt {
+            code: YamlCode::UnclosedFlow,
+            at: opening,
+        }));
+    }
+    if ends_value(file.bytes, at) {
+        let Some(empty) = empty else {
+            return Err(ReadError::Fault(FaultAt {
+                code: YamlCode::UnexpectedCharacter,
+                at,
+            }));
+        };
+        let part = empty_part(file, state, empty, at)?;
+        return Ok(Found::Node(part));
+    }
+    if let Some(code) = flow_fault(file.bytes, at) {
+        return Err(ReadError::Fault(FaultAt { code, at }));
+    }
+    if is_property(file.bytes, at) {
+        return Err(ReadError::Fault(FaultAt {
+            code: YamlCode::UnexpectedCharacter,
+            at,
+        }));
+    }
+    read_flow_content(file, state, at)
+}
+
+/// Reads a node in a flow collection, if it is no collection. empty is where an empty node would stand.
+#[inline(always)]
+pub fn read_flow_node(
+    file: &File,
+    state: &mut State,
+    opening: usize,
+    empty: Option<usize>,
+    at: usize,
+    depth: u32,
+) -> Result<Found, ReadError>
+    requires inside { at ≤ size file.now }
+    requires opening { opening ≤ size file.now }
+    requires empty { IfSome empty (λ i. i ≤ at) }
+    ensures fault { IfErr result (IsStopInside (size file.now)) }
+    ensures is { Finds file.now.bytes.now (λ collection. flow.flow_node_over collection (flow_slot opening empty) depth
+        (left_at file.now at)) depth (state_of state.old) result (state_of state.new) }
+    ensures within { IfOk result (λ found. IsFound file.now.bytes.now at found) }
+{
+    if is_property(file.bytes, at) {
+        return read_flow_property(file, state, opening, empty, at, depth);
+    }
+    read_flow_content(file, state, at)
+}
+
+/// Reads the value of a flow mapping's entry, which may be empty, if it is no collection.
+pub fn read_flow_value(
+    file: &File,
+    state: &mut State,
+    opening: usize,
+    key: &FlowKey,
+    depth: u32,
+) -> Result<Found, ReadError>
+    requires inside { IsKeyInside file.now.bytes.now key.now.read.span.start key.now }
+    requires opening { opening ≤ size file.now }
+    ensures fault { IfErr result (IsStopInside (size file.now)) }
+    ensures is { Finds file.now.bytes.now (λ collection. flow.flow_entry_value (flow.flow_node_over collection) opening depth
+        (flow_key_of file.now.bytes.now key.now)) depth (state_of state.old) result (state_of state.new) }
+    ensures within { IfOk result (λ found. IsFound file.now.bytes.now key.now.read.span.start found) }
+{
+    let Some(colon) = key.colon else {
+        let part = empty_part(file, state, key.read.span.end as usize, key.read.next)?;
+        return Ok(Found::Node(part));
+    };
+    let at = gap(file.bytes, colon);
+    if is_text_end(file.bytes, at) {
+        return Err(ReadError::Fault(FaultAt {
+            code: YamlCode::UnclosedFlow,
+            at: opening,
+        }));
+    }
+    if ends_value(file.bytes, at) {
+        let part = empty_part(file, state, colon, at)?;
+        return Ok(Found::Node(part));
+    }
+    read_flow_node(file, state, opening, Some(colon), at, depth)
+}

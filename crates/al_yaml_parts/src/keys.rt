@@ -1,0 +1,261 @@
+//! Keys: what may be one, and the colon behind it.
+
+ghost use Rattle.al_scalar.specs.Private.Contract.{read_of};
+ghost use Rattle.al_scalar.specs.Line as line;
+ghost use Rattle.al_scalar.specs.Private.Places.{lines_at, text_at};
+ghost use Rattle.al_scalar.specs.Plain as plain;
+ghost use Rattle.al_yaml_parts.specs.Private.BlockReads.{IsOptionKey, option_key};
+ghost use Rattle.al_yaml.specs.Content as content;
+ghost use Rattle.al_yaml_parts.specs.Private.Files.{left_at, size};
+ghost use Rattle.al_yaml.specs.Flow as flow;
+ghost use Rattle.al_yaml.specs.Keys as keys;
+ghost use Rattle.al_yaml_parts.specs.Private.Places.{IsColon, IsLineTo, IsReadInside};
+ghost use Rattle.al_yaml_parts.specs.Private.Reads.{Answers, IsStopInside};
+ghost use Rattle.std.specs.Prelude.{IfErr, IfOk, IsTrue, length, true, ◌&&◌, ◌<◌, ◌≡◌, ◌≤◌};
+ghost use Rattle.al_base.specs.Limits.{largest_file};
+
+use crate::anchors::{has_no_name, property_end};
+use crate::content::{gap, is_dash, is_skipped};
+use crate::faults::ReadError;
+use crate::file::File;
+use crate::lines::{characters, same_line};
+use crate::scalars::scalar_at;
+use crate::starts::{
+    begins_flow_indicator, block_fault, is_block_start, is_flow_start, is_property, is_quote,
+};
+use al_base::YamlCode;
+use al_base::limits::LONGEST_KEY;
+use al_scalar::lines::{begins, blanks_end, is_blank_or_end, line_end};
+use al_scalar::{ScalarContext, ScalarRead};
+use std::alloc::{AllocError, Global};
+
+/// Whether a scalar that was read from an offset on may be a key: on one line, with at most 1,024 characters.
+pub fn is_simple_key(bytes: &[u8], at: usize, read: &ScalarRead) -> bool
+    requires { IsReadInside bytes.now at read.now }
+    ensures { result ≡ content.is_simple_key (lines_at bytes.now at) (read_of bytes.now read.now) }
+{
+    same_line(bytes, at, read.next) && is_short_key(bytes, at, read)
+}
+
+/// Whether a scalar on one line that was read from an offset on has at most 1,024 characters.
+pub fn is_short_key(bytes: &[u8], at: usize, read: &ScalarRead) -> bool
+    requires inside { IsReadInside bytes.now at read.now }
+    requires line { content.same_line (lines_at bytes.now at) (lines_at bytes.now read.now.next) ≡ true }
+    ensures { result ≡ content.is_short_key (lines_at bytes.now at) (read_of bytes.now read.now) }
+{
+    let end = read.span.end as usize;
+    // no more characters than bytes
+    if end - at <= LONGEST_KEY {
+        return true;
+    }
+    characters(bytes, at, end) <= LONGEST_KEY
+}
+
+/// Whether a colon that parts a key from its value in block context stands at an offset.
+fn is_block_colon(bytes: &[u8], at: usize) -> bool
+    requires { at ≤ length bytes.now }
+    ensures value { result ≡ plain.is_value_colon (plain.block 0) (text_at bytes.now at) }
+    ensures begins { IsTrue result → line.begins 58 (text_at bytes.now at) ≡ true }
+{
+    if !begins(bytes, at, b':') {
+        return false;
+    }
+    is_blank_or_end(bytes, at + 1)
+}
+
+/// The offset behind the colon that parts a block mapping's key from its value, if one follows.
+pub fn behind_colon(bytes: &[u8], at: usize) -> Option<usize>
+    requires { at ≤ length bytes.now }
+    ensures { IsColon (keys.behind_colon (lines_at bytes.now at)) bytes.now at result }
+{
+    let solid = blanks_end(bytes, at);
+    if !is_block_colon(bytes, solid) {
+        return None;
+    }
+    Some(solid + 1)
+}
+
+/// Whether a colon follows that parts a block mapping's key from its value.
+pub fn has_colon(bytes: &[u8], at: usize) -> bool
+    requires { at ≤ length bytes.now }
+    ensures { result ≡ keys.has_colon (lines_at bytes.now at) }
+{
+    match behind_colon(bytes, at) {
+        Some(_) => true,
+        None => false,
+    }
+}
+
+/// Whether a colon that parts a key from its value in a flow mapping stands at an offset.
+fn is_flow_colon(bytes: &[u8], at: usize) -> bool
+    requires { at ≤ length bytes.now }
+    ensures value { result ≡ plain.is_value_colon plain.flow (text_at bytes.now at) }
+    ensures begins { IsTrue result → line.begins 58 (text_at bytes.now at) ≡ true }
+{
+    if !begins(bytes, at, b':') {
+        return false;
+    }
+    if is_blank_or_end(bytes, at + 1) {
+        return true;
+    }
+    begins_flow_indicator(bytes, at + 1)
+}
+
+/// Whether a colon touches a quoted key.
+fn is_quoted_colon(bytes: &[u8], at: usize, after_quote: bool) -> bool
+    requires { at ≤ length bytes.now }
+    ensures { result ≡ (after_quote && line.begins 58 (text_at bytes.now at)) }
+{
+    if !after_quote {
+        return false;
+    }
+    begins(bytes, at, b':')
+}
+
+/// The offset behind the colon that parts a flow mapping's key from its value, if one follows on the line.
+pub fn behind_flow_colon(bytes: &[u8], at: usize, after_quote: bool) -> Option<usize>
+    requires { at ≤ length bytes.now }
+    ensures { IsColon (flow.behind_colon after_quote (lines_at bytes.now at)) bytes.now at result }
+{
+    if is_quoted_colon(bytes, at, after_quote) {
+        return Some(at + 1);
+    }
+    let solid = blanks_end(bytes, at);
+    if !is_flow_colon(bytes, solid) {
+        return None;
+    }
+    Some(solid + 1)
+}
+
+/// Whether the next character in a flow mapping is a colon on a later line.
+pub fn is_late_colon(bytes: &[u8], at: usize) -> bool
+    requires { at ≤ length bytes.now }
+    ensures { result ≡ flow.is_late_colon (lines_at bytes.now at) }
+{
+    let next = gap(bytes, at);
+    if !begins(bytes, next, b':') {
+        return false;
+    }
+    !same_line(bytes, at, next)
+}
+
+/// A key of a block mapping, and the offset behind its colon.
+#[derive(Drop)]
+pub struct Key {
+    pub read: ScalarRead,
+    pub behind: usize,
+}
+
+/// Reads the plain scalar at an offset as far as it stands on its line, which ends at `end`.
+fn plain_on_line(
+    alloc: Global,
+    bytes: &[u8],
+    at: usize,
+    end: usize,
+) -> Result<ScalarRead, ReadError>
+    requires order { at ≤ end }
+    requires inside { end ≤ length bytes.now }
+    requires size { length bytes.now ≤ largest_file }
+    requires line { IsLineTo bytes.now at end }
+    ensures fault { IfErr result (IsStopInside (length bytes.now)) }
+    ensures is { Answers (read_of bytes.now) (keys.plain_on_line (lines_at bytes.now at)) result }
+    ensures inside { IfOk result (λ read. IsReadInside bytes.now at read) }
+{
+    scalar_at(alloc, &bytes[..end], at, ScalarContext::Block(0))
+}
+
+/// Reads a scalar as far as it tells whether a key begins here: a quoted one whole, a plain one on its line.
+fn key_scalar(file: &File, at: usize) -> Result<ScalarRead, ReadError>
+    requires inside { at ≤ size file.now }
+    ensures fault { IfErr result (IsStopInside (size file.now)) }
+    ensures is { Answers (read_of file.now.bytes.now) (keys.key_scalar (left_at file.now at)) result }
+    ensures inside { IfOk result (λ read. IsReadInside file.now.bytes.now at read) }
+{
+    if is_quote(file.bytes, at) {
+        return scalar_at(file.alloc, file.bytes, at, ScalarContext::Block(0));
+    }
+    plain_on_line(file.alloc, file.bytes, at, line_end(file.bytes, at))
+}
+
+/// The key that begins at an offset, if one does; it may be too long or span lines yet.
+#[inline(always)]
+pub fn key_at(file: &File, at: usize) -> Result<Option<Key>, ReadError>
+    requires inside { at ≤ size file.now }
+    ensures fault { IfErr result (IsStopInside (size file.now)) }
+    ensures is { Answers (option_key file.now.bytes.now) (keys.key_at (left_at file.now at)) result }
+    ensures inside { IfOk result (λ found. IsOptionKey file.now.bytes.now at found) }
+{
+    let read = key_scalar(file, at)?;
+    match behind_colon(file.bytes, read.next) {
+        Some(behind) => Ok(Some(Key { read, behind })),
+        None => Ok(None),
+    }
+}
+
+/// Whether what begins at an offset may be a key by its first character.
+fn is_key_start(bytes: &[u8], at: usize) -> bool
+    requires { at ≤ length bytes.now }
+    ensures { result ≡ keys.is_key_start (text_at bytes.now at) }
+{
+    !(is_skipped(bytes, at)
+        || is_dash(bytes, at)
+        || is_property(bytes, at)
+        || is_block_start(bytes, at)
+        || is_flow_start(bytes, at)
+        || has_fault(block_fault(bytes, at)))
+}
+
+/// Whether there is a fault.
+fn has_fault(fault: Option<YamlCode>) -> bool
+    ensures { result ≡ keys.has_fault fault }
+{
+    match fault {
+        Some(_) => true,
+        None => false,
+    }
+}
+
+/// Whether a scalar on one line begins at an offset and a colon follows it.
+fn is_key(file: &File, at: usize) -> Result<bool, AllocError>
+    requires { at ≤ size file.now }
+    ensures { IfOk result (λ b. b ≡ keys.is_key (left_at file.now at)) }
+{
+    match key_at(file, at) {
+        Ok(Some(key)) => Ok(same_line(file.bytes, at, key.read.next)),
+        Ok(None) => Ok(false),
+        Err(ReadError::Fault(_)) => Ok(false),
+        Err(ReadError::Memory) => Err(AllocError),
+    }
+}
+
+/// Whether the anchor or alias at an offset stands on a key: the alias itself, or what follows the anchor on its line.
+pub fn is_on_key(file: &File, at: usize) -> Result<bool, AllocError>
+    requires inside { at ≤ size file.now }
+    requires property { content.is_property (text_at file.now.bytes.now at) ≡ true }
+    ensures { IfOk result (λ b. b ≡ keys.is_on_key (left_at file.now at)) }
+{
+    let rest = property_end(file.bytes, at);
+    if begins(file.bytes, at, b'*') {
+        return Ok(has_colon(file.bytes, rest));
+    }
+    let solid = blanks_end(file.bytes, rest);
+    if !is_key_start(file.bytes, solid) {
+        return Ok(false);
+    }
+    is_key(file, solid)
+}
+
+/// The fault of an anchor or alias where an entry of an open mapping is due.
+pub fn property_fault(file: &File, at: usize) -> Result<YamlCode, AllocError>
+    requires inside { at ≤ size file.now }
+    requires property { content.is_property (text_at file.now.bytes.now at) ≡ true }
+    ensures { IfOk result (λ code. code ≡ keys.property_fault (left_at file.now at)) }
+{
+    if has_no_name(file.bytes, at) {
+        return Ok(YamlCode::UnexpectedCharacter);
+    }
+    if is_on_key(file, at)? {
+        return Ok(YamlCode::AnchorOrAlias);
+    }
+    Ok(YamlCode::UnexpectedCharacter)
+}

@@ -1,0 +1,71 @@
+//! The limits on nodes, on text behind aliases and on nesting.
+
+ghost use Rattle.al_yaml.specs.Limits.{broken_limit};
+ghost use Rattle.al_yaml_parts.specs.Private.Places.{fault_of};
+ghost use Rattle.al_yaml_parts.specs.Private.Reads.{counted, state_of};
+ghost use Rattle.al_yaml.specs.Reading.{start_with, start_of};
+ghost use Rattle.std.specs.Prelude.{◌+◌, ◌≡◌, ◌≤◌, ◌∷◌, [], IfErr, IfOk, MatchResult};
+
+use crate::anchors::Anchors;
+use al_base::YamlCode;
+use al_base::limits::{DEEPEST_COLLECTION, MOST_ALIAS_TEXT, MOST_NODES};
+use al_scalar::FaultAt;
+
+/// What came before: the nodes that have started, those behind aliases too; the bytes of their texts behind aliases; and
+/// the anchors.
+#[derive(Drop)]
+pub struct State {
+    pub nodes: u32,
+    pub text: u32,
+    pub anchors: Anchors,
+}
+
+impl State {
+    /// Counts nodes that start at an offset. The depth is that of a collection that starts there, and 0 for a scalar.
+    #[inline(always)]
+    pub fn start(&mut self, at: usize, more: u32, depth: u32) -> Result<(), FaultAt>
+        ensures fault { IfErr result (λ f. f.at ≡ at) }
+        ensures limits { MatchResult result (λ _. broken_limit self.old.nodes self.old.text (start_of at more depth ∷ []) ≡ None)
+            (λ f. broken_limit self.old.nodes self.old.text (start_of at more depth ∷ []) ≡ Some (fault_of f)) }
+        ensures depth { IfOk result (λ _. depth ≤ 64) }
+        ensures state { IfOk result (λ _. state_of self.new ≡ counted more (state_of self.old)) }
+    {
+        self.start_with(at, more, 0, depth)
+    }
+
+    /// Counts nodes that start at an offset, with so many bytes of text behind an alias, down to a depth.
+    #[inline(always)]
+    pub fn start_with(&mut self, at: usize, more: u32, text: u32, depth: u32) -> Result<(), FaultAt>
+        ensures fault { IfErr result (λ f. f.at ≡ at) }
+        ensures limits { MatchResult result (λ _. broken_limit self.old.nodes self.old.text (start_with at more text depth ∷ []) ≡ None)
+            (λ f. broken_limit self.old.nodes self.old.text (start_with at more text depth ∷ []) ≡ Some (fault_of f)) }
+        ensures depth { IfOk result (λ _. depth ≤ 64) }
+        ensures nodes { IfOk result (λ _. self.new.nodes ≡ self.old.nodes + more) }
+        ensures text { IfOk result (λ _. self.new.text ≡ self.old.text + text) }
+        ensures anchors { self.new.anchors ≡ self.old.anchors }
+    {
+        let nodes = self.nodes.saturating_add(more);
+        let text = self.text.saturating_add(text);
+        if nodes > MOST_NODES {
+            return Err(FaultAt {
+                code: YamlCode::TooManyNodes,
+                at,
+            });
+        }
+        if text > MOST_ALIAS_TEXT {
+            return Err(FaultAt {
+                code: YamlCode::TooManyNodes,
+                at,
+            });
+        }
+        if depth > DEEPEST_COLLECTION {
+            return Err(FaultAt {
+                code: YamlCode::NestingTooDeep,
+                at,
+            });
+        }
+        self.nodes = nodes;
+        self.text = text;
+        Ok(())
+    }
+}

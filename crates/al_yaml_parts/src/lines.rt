@@ -1,0 +1,82 @@
+//! Lines at an offset, as the definitions of reading speak of them.
+
+ghost use Rattle.al_scalar.specs.Line as line;
+ghost use Rattle.al_scalar.specs.Private.Places.{IsBreakByte, lines_at, text_at};
+ghost use Rattle.al_yaml.specs.Content as content;
+ghost use Rattle.std.specs.Prelude.{IsTrue, false, length, nat_le, nat_lt, true, ◌&&◌, ◌+◌, ◌<◌, ◌↔◌, ◌≡◌, ◌≤◌};
+
+use al_scalar::lines::{after_break, is_line_end, line_end};
+
+/// Whether the line's text is empty from an offset on.
+pub fn is_text_end(bytes: &[u8], at: usize) -> bool
+    requires { at ≤ length bytes.now }
+    ensures text { result ≡ line.is_empty (text_at bytes.now at) }
+    ensures inside { result ≡ false → at < length bytes.now }
+{
+    is_line_end(bytes, at)
+}
+
+/// The start of the next line, and the file's end behind the last line.
+#[tactic(auto, using(crate::proofs::LineLemmas::whole_lines_further))]
+pub fn next_line(bytes: &[u8], at: usize) -> usize
+    requires { at ≤ length bytes.now }
+    ensures inside { result ≤ length bytes.now }
+    ensures from { at ≤ result }
+    ensures after { at < length bytes.now → at < result }
+    ensures lines { content.whole_lines (lines_at bytes.now at) ≡ lines_at bytes.now result }
+{
+    let end = line_end(bytes, at);
+    if end == bytes.len() {
+        return end;
+    }
+    after_break(bytes, end)
+}
+
+/// Whether a byte is a break or part of one.
+fn is_break(byte: u8) -> bool
+    ensures { IsTrue result ↔ IsBreakByte byte }
+{
+    byte == b'\n' || byte == b'\r'
+}
+
+/// Whether no break stands between two offsets.
+pub fn same_line(bytes: &[u8], from: usize, to: usize) -> bool
+    requires order { from ≤ to }
+    requires inside { to ≤ length bytes.now }
+    ensures { result ≡ content.same_line (lines_at bytes.now from) (lines_at bytes.now to) }
+{
+    let mut i = from;
+    'text: while i < to {
+        if is_break(bytes[i]) {
+            return false;
+        }
+        i += 1;
+    }
+    true
+}
+
+/// Whether a byte goes on with a character that began before it.
+fn is_continuation(byte: u8) -> bool
+    ensures { result ≡ (nat_le 128 byte && nat_lt byte 192) }
+{
+    byte >= 128 && byte < 192
+}
+
+/// The characters between two offsets of a line.
+pub fn characters(bytes: &[u8], from: usize, to: usize) -> usize
+    requires order { from ≤ to }
+    requires inside { to ≤ length bytes.now }
+    requires line { content.same_line (lines_at bytes.now from) (lines_at bytes.now to) ≡ true }
+    ensures is { result ≡ content.characters to (text_at bytes.now from) }
+    ensures few { from + result ≤ to }
+{
+    let mut count = 0;
+    let mut i = from;
+    'text: while i < to {
+        if !is_continuation(bytes[i]) {
+            count += 1;
+        }
+        i += 1;
+    }
+    count
+}

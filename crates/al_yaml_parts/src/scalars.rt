@@ -1,0 +1,114 @@
+//! Scalars and empty nodes, and where they end.
+
+ghost use Rattle.al_scalar.specs.Private.Contract.{read_of, reading_at};
+ghost use Rattle.al_scalar.specs.Private.Places.{lines_at};
+ghost use Rattle.al_yaml.specs.Blocks as block;
+ghost use Rattle.al_yaml_parts.specs.Private.Files.{left_at, size};
+ghost use Rattle.al_yaml.specs.Flow as flow;
+ghost use Rattle.al_yaml.specs.Node as tree;
+ghost use Rattle.al_yaml_parts.specs.Private.Places.{IsReadInside, Shows};
+ghost use Rattle.al_yaml_parts.specs.Private.Reads.{Answers, IsBehind, IsRead, IsStopInside, part_of, state_of};
+ghost use Rattle.al_yaml.specs.View.{view};
+ghost use Rattle.std.specs.Prelude.{IfErr, IfOk, length, ◌+◌, ◌≡◌, ◌≤◌};
+ghost use Rattle.al_base.specs.Limits.{largest_file};
+
+use crate::content::line_ended;
+use crate::faults::ReadError;
+use crate::file::File;
+use crate::limits::State;
+use crate::part::Part;
+use crate::starts::is_block_start;
+use al_scalar::{FaultAt, ScalarContext, ScalarRead, read_scalar};
+use al_yaml::scalar_node;
+use std::alloc::Global;
+
+/// Reads the scalar at an offset.
+#[inline(always)]
+pub fn scalar_at(
+    alloc: Global,
+    bytes: &[u8],
+    at: usize,
+    place: ScalarContext,
+) -> Result<ScalarRead, ReadError>
+    requires inside { at ≤ length bytes.now }
+    requires size { length bytes.now ≤ largest_file }
+    ensures fault { IfErr result (IsStopInside (length bytes.now)) }
+    ensures is { Answers (read_of bytes.now) (reading_at place (lines_at bytes.now at)) result }
+    ensures inside { IfOk result (λ read. IsReadInside bytes.now at read) }
+{
+    match read_scalar(alloc, bytes, at, place)? {
+        Ok(read) => Ok(read),
+        Err(fault) => Err(ReadError::Fault(FaultAt {
+            code: fault.code,
+            at: fault.span.start as usize,
+        })),
+    }
+}
+
+/// The node that a scalar is, with the offset behind it.
+pub fn scalar_part(read: ScalarRead, next: usize) -> Part
+    ensures node { view result.node ≡ tree.scalar read.scalar read.span }
+    ensures end { result.end ≡ read.span.end }
+    ensures next { result.next ≡ next }
+{
+    let end = read.span.end as usize;
+    Part {
+        node: scalar_node(read.scalar, read.span),
+        end,
+        next,
+    }
+}
+
+/// The empty node at an offset (7.2), which counts as a node; what is left begins at `next`.
+pub fn empty_part(file: &File, state: &mut State, at: usize, next: usize) -> Result<Part, ReadError>
+    requires inside { at ≤ size file.now }
+    ensures fault { IfErr result (IsStopInside (size file.now)) }
+    ensures is { IsRead (part_of file.now.bytes.now) (flow.empty_node at (left_at file.now next))
+        (state_of state.old) result (state_of state.new) }
+    ensures end { IfOk result (λ part. part.end ≡ at) }
+    ensures next { IfOk result (λ part. part.next ≡ next) }
+{
+    state.start(at, 1, 0)?;
+    let read = scalar_at(file.alloc, file.bytes, at, ScalarContext::Empty)?;
+    Ok(scalar_part(read, next))
+}
+
+/// The start of the line behind a scalar; a block scalar ends with its last line.
+fn scalar_left(bytes: &[u8], at: usize, next: usize) -> Result<usize, FaultAt>
+    requires at { at ≤ length bytes.now }
+    requires inside { next ≤ length bytes.now }
+    ensures fault { IfErr result (λ f. f.at ≤ length bytes.now) }
+    ensures is { Shows (lines_at bytes.now) (block.scalar_left (lines_at bytes.now at) (lines_at bytes.now next)) result }
+    ensures inside { IfOk result (λ left. left ≤ length bytes.now) }
+    ensures from { IfOk result (λ left. next ≤ left) }
+{
+    if is_block_start(bytes, at) {
+        return Ok(next);
+    }
+    line_ended(bytes, next)
+}
+
+/// Reads a scalar in block context with the rest of its line.
+pub fn read_line_scalar(
+    file: &File,
+    state: &mut State,
+    within: usize,
+    at: usize,
+) -> Result<Part, ReadError>
+    requires inside { at ≤ size file.now }
+    requires within { within ≤ largest_file + 1 }
+    ensures fault { IfErr result (IsStopInside (size file.now)) }
+    ensures is { IsRead (part_of file.now.bytes.now) (block.scalar_node_at within (left_at file.now at))
+        (state_of state.old) result (state_of state.new) }
+    ensures within { IfOk result (λ part. IsBehind file.now.bytes.now at part) }
+{
+    state.start(at, 1, 0)?;
+    let read = scalar_at(
+        file.alloc,
+        file.bytes,
+        at,
+        ScalarContext::Block(within as u32),
+    )?;
+    let next = scalar_left(file.bytes, at, read.next)?;
+    Ok(scalar_part(read, next))
+}

@@ -1,0 +1,82 @@
+//! Where a node in block context stands.
+
+ghost use Rattle.al_scalar.specs.Private.Places.{lines_at, text_at};
+ghost use Rattle.al_yaml_parts.specs.Private.BlockReads.{IsTabInside, slot_of, spot_of};
+ghost use Rattle.al_yaml.specs.Blocks as block;
+ghost use Rattle.std.specs.Prelude.{length, ◌≡◌, ◌≤◌};
+
+use crate::content::{first_tab, is_dash};
+
+/// Where a node begins: on a line of its own; behind a dash, with the first tab before it; behind a key on its line.
+#[derive(Clone, Copy)]
+pub enum Spot {
+    OwnLine,
+    Compact(Option<usize>),
+    BehindKey,
+}
+
+/// A place of the file with its column: that of a node's or a collection's first character, or one behind a dash or a colon.
+#[derive(Clone, Copy)]
+pub struct Cursor {
+    pub at: usize,
+    pub column: usize,
+}
+
+/// What surrounds a node: its spot; the least indent of its further lines; whether it is the value of a mapping's
+/// entry; and the offset at which an empty node would stand in its place.
+#[derive(Clone, Copy)]
+pub struct Slot {
+    pub spot: Spot,
+    pub within: usize,
+    pub in_mapping: bool,
+    pub empty: usize,
+}
+
+/// The spot behind the blanks at an offset.
+pub fn spot_behind(bytes: &[u8], at: usize, spot: Spot) -> Spot
+    requires inside { at ≤ length bytes.now }
+    requires tab { IsTabInside (length bytes.now) spot }
+    ensures is { spot_of result ≡ block.spot_behind (text_at bytes.now at) (spot_of spot) }
+    ensures tab { IsTabInside (length bytes.now) result }
+{
+    match spot {
+        Spot::OwnLine => Spot::Compact(first_tab(bytes, at)),
+        Spot::Compact(None) => Spot::Compact(first_tab(bytes, at)),
+        Spot::Compact(Some(tab)) => Spot::Compact(Some(tab)),
+        Spot::BehindKey => Spot::BehindKey,
+    }
+}
+
+/// The tab before a compact collection.
+pub fn tab_before(spot: Spot) -> Option<usize>
+    ensures { result ≡ block.tab_before (spot_of spot) }
+{
+    match spot {
+        Spot::Compact(tab) => tab,
+        Spot::OwnLine | Spot::BehindKey => None,
+    }
+}
+
+/// Whether a node is a value on its key's line.
+pub fn is_behind_key(spot: Spot) -> bool
+    ensures { result ≡ block.is_behind_key (spot_of spot) }
+{
+    match spot {
+        Spot::BehindKey => true,
+        Spot::OwnLine | Spot::Compact(_) => false,
+    }
+}
+
+/// Whether a content line holds the node: one deeper than what encloses it, or a sequence at the indent of its key.
+pub fn is_deeper(bytes: &[u8], slot: Slot, indent: usize, at: usize) -> bool
+    requires { at ≤ length bytes.now }
+    ensures { result ≡ block.is_deeper (slot_of slot) indent (lines_at bytes.now at) }
+{
+    if slot.within <= indent {
+        return true;
+    }
+    if !slot.in_mapping || slot.within != indent + 1 {
+        return false;
+    }
+    is_dash(bytes, at)
+}

@@ -1,0 +1,170 @@
+//! What an alias counts of its node (YAML 1.2.2, 7.1): a loop over the nodes in it, with a stack of its own.
+
+ghost use Rattle.al_yaml.specs.Limits.{most_counted};
+ghost use Rattle.al_yaml.specs.Node as tree;
+ghost use Rattle.al_yaml.specs.Reading as reading;
+ghost use Rattle.al_yaml_parts.specs.Private.Sums.{IsOwn, IsSums, inside, members, uncounted_view, within};
+ghost use Rattle.al_yaml.specs.View.{entry_view, view};
+ghost use Rattle.std.specs.Prelude.{IfOk, map, ◌++◌, ◌+◌, ◌≡◌};
+
+use al_yaml::{Entry, Kind, Node};
+use std::alloc::{AllocError, Global};
+
+/// What an alias counts of its node: the nodes in it, the bytes of their texts, and how deep collections stand in it; each
+/// up to the greatest value.
+#[derive(Clone, Copy)]
+pub struct Sums {
+    pub nodes: u32,
+    pub text: u32,
+    pub levels: u32,
+}
+
+impl Sums {
+    /// Of no node.
+    fn none() -> Sums
+        ensures { result ≡ record { nodes = 0; text = 0; levels = 0 } }
+    {
+        Sums {
+            nodes: 0,
+            text: 0,
+            levels: 0,
+        }
+    }
+
+    /// Of a collection itself, which stands in so many others.
+    fn of_collection(levels: u32) -> Sums
+        ensures nodes { result.nodes ≡ 1 }
+        ensures text { result.text ≡ 0 }
+        ensures levels { result.levels ≡ most_counted (levels + 1) }
+    {
+        Sums {
+            nodes: 1,
+            text: 0,
+            levels: levels.saturating_add(1),
+        }
+    }
+
+    /// Of what is counted, and a node behind it.
+    fn and(self, more: Sums) -> Sums
+        ensures nodes { result.nodes ≡ most_counted (self.nodes + more.nodes) }
+        ensures text { result.text ≡ most_counted (self.text + more.text) }
+        ensures levels { result.levels ≡ tree.greater_of self.levels more.levels }
+    {
+        let levels = if self.levels <= more.levels {
+            more.levels
+        } else {
+            self.levels
+        };
+        Sums {
+            nodes: self.nodes.saturating_add(more.nodes),
+            text: self.text.saturating_add(more.text),
+            levels,
+        }
+    }
+}
+
+/// A length as a count.
+fn count_of(len: usize) -> u32
+    ensures { result ≡ most_counted len }
+{
+    if len < 4_294_967_295 {
+        return len as u32;
+    }
+    4_294_967_295
+}
+
+/// A node that is still to be counted, and in how many of the collections that are counted it stands.
+#[derive(Clone, Copy)]
+pub struct Uncounted<'a> {
+    pub node: &'a Node,
+    pub levels: u32,
+}
+
+/// What an alias counts of a node. It takes time in proportion to the nodes in it, and memory for those that are left.
+///
+/// Fails with `AllocError` for want of memory.
+pub fn sums_of(alloc: Global, node: &Node) -> Result<Sums, AllocError>
+    ensures { IfOk result (IsSums (view node.now)) }
+{
+    let mut sums = Sums::none();
+    let mut left = Vec::new(alloc);
+    left.push(Uncounted { node, levels: 0 })?;
+    'nodes: while let Some(next) = left.pop() {
+        sums = sums.and(count(next.node, next.levels, &mut left)?);
+    }
+    Ok(sums)
+}
+
+/// Counts a node itself, which stands in so many collections, and leaves those in it to be counted. A node is
+/// shared at most once, as an alias has no anchor of its own (7.1), so no call of this goes further than into one more.
+fn count<'a>(node: &'a Node, levels: u32, left: &mut Vec<Uncounted<'a>>) -> Result<Sums, AllocError>
+    ensures own { IfOk result (IsOwn (view node.now, levels)) }
+    ensures left { IfOk result (λ sums. map uncounted_view left.new.items
+        ≡ map uncounted_view left.old.items ++ within sums.levels (inside (view node.now))) }
+{
+    match &node.kind {
+        Kind::Scalar(scalar) => Ok(Sums {
+            nodes: 1,
+            text: count_of(scalar.text().len()),
+            levels,
+        }),
+        Kind::Sequence(items) => {
+            let own = Sums::of_collection(levels);
+            leave_items(items.as_slice(), own.levels, left)?;
+            Ok(own)
+        }
+        Kind::Mapping(entries) => {
+            let own = Sums::of_collection(levels);
+            leave_entries(entries.as_slice(), own.levels, left)?;
+            Ok(own)
+        }
+        Kind::Shared(shared) => count(shared, levels, left),
+    }
+}
+
+/// Leaves the items of a sequence to be counted.
+fn leave_items<'a>(
+    items: &'a [Node],
+    levels: u32,
+    left: &mut Vec<Uncounted<'a>>,
+) -> Result<(), AllocError>
+    ensures { IfOk result (λ _. map uncounted_view left.new.items
+        ≡ map uncounted_view left.old.items ++ within levels (map view items.now)) }
+{
+    'items: for node in items {
+        left.push(Uncounted { node, levels })?;
+    }
+    Ok(())
+}
+
+/// Leaves the keys and values of a mapping to be counted.
+fn leave_entries<'a>(
+    entries: &'a [Entry],
+    levels: u32,
+    left: &mut Vec<Uncounted<'a>>,
+) -> Result<(), AllocError>
+    ensures { IfOk result (λ _. map uncounted_view left.new.items
+        ≡ map uncounted_view left.old.items ++ within levels (members (map entry_view entries.now))) }
+{
+    'entries: for entry in entries {
+        left.push(Uncounted {
+            node: &entry.key,
+            levels,
+        })?;
+        left.push(Uncounted {
+            node: &entry.value,
+            levels,
+        })?;
+    }
+    Ok(())
+}
+
+/// The depth of the deepest collection in a node of so many levels whose own depth is this, up to the greatest value.
+pub fn deepest(depth: u32, levels: u32) -> u32
+    ensures { result ≡ most_counted (reading.deepest depth levels) }
+{
+    if levels == 0 {
+        return 0;
+    }
+    depth.saturating_add(levels - 1)
+}

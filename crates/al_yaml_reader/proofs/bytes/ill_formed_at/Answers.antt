@@ -1,9 +1,0 @@
-use Rattle.std.proofs.Common.{refl}
-use Rattle.al_yaml_reader.proofs.ByteLemmas.{ill_formed-more, sequence-inside}
-use Rattle.al_yaml_reader.proofs.bytes.ill_formed_at.Goals as goal
-
-pub sequences-preserved : goal.sequences-preserved
-sequences-preserved c = record {
-  inside = sequence-inside c.args.bytes.now c.sequences.at c.following.result _ c.sequences-test.true (c.if-not-is_well_formed.ensures.inside refl) c.following.ensures refl;
-  left = ill_formed-more c.args.bytes.now c.sequences.at c.sequences-test.true c.following.result _ c.following.ensures refl c.sequences.invariant.left c.if-not-is_well_formed.ensures.value;
-}

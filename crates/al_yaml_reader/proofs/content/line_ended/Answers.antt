@@ -1,5 +1,0 @@
-use Rattle.al_yaml_reader.proofs.ContentLemmas.{line_ended-fault}
-use Rattle.al_yaml_reader.proofs.content.line_ended.Goals as goal
-
-pub returns-clause-is : goal.returns-clause-is
-returns-clause-is c = line_ended-fault c.args.bytes.now c.args.at c.blanks_end.result c.blanks_end.ensures.inside c.if-ends_line.ensures c.blanks_end.ensures.dropped

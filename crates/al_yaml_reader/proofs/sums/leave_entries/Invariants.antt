@@ -1,9 +1,0 @@
-use Rattle.std.proofs.Common.{◌≡◌, ◌++◌, drop, map}
-use Rattle.al_yaml_reader.specs.Private.Sums.{members, uncounted_view, within}
-use Rattle.al_yaml.specs.View.{entry_view}
-use Rattle.al_yaml_reader.proofs.sums.leave_entries.Given as goal
-
-abbrev pub invariant-entries : goal.invariant-entries
-invariant-entries l =
-    map uncounted_view l.left.items ++ within l.levels (members (map entry_view (drop l.entry-index l.entries)))
-    ≡ map uncounted_view l.fn.left.items ++ within l.levels (members (map entry_view l.entries))
