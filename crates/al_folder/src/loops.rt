@@ -277,58 +277,56 @@ fn add_if<'a>(
     Ok(())
 }
 
-/// The faults of the calls of a file with this number that lead back to it, in the order of the calls.
-fn faults_of_calls<'a, L: Lint>(
-    alloc: Global,
+/// Adds the faults of the calls of a file with this number that lead back to it, in the order of the calls.
+fn add_faults_of_calls<'a, L: Lint>(
     files: &Files<L::Unit, L::Iface>,
     labels: &[Option<usize>],
     row: &[usize],
     index: usize,
     file: &'a KeptFile<L::Unit, L::Iface>,
-) -> Result<Vec<&'a Fault>, AllocError>
+    faults: &mut Vec<&'a Fault>,
+) -> Result<(), AllocError>
     requires kept { AreKept L.meaning L.is_unit files.now.entries }
     requires labels { TellLoops (loops.calls_graph L.meaning (folder_of files.now.entries)) labels.now }
     requires row { IsRow (folder_of files.now.entries) row.now file.now.calls.items }
     requires there { (p : List ℕ) × IsKept L.meaning L.is_unit p file.now
         × (slice_get (folder_of files.now.entries) index ≡ Some (p, file.now.bytes.items)) }
-    ensures { (p : List ℕ) → IsKept L.meaning L.is_unit p file.now → IfOk result (λ faults. referred faults.items
-        ≡ loops.loop_faults L.meaning (folder_of files.now.entries) index p file.now.bytes.items) }
+    ensures { (p : List ℕ) → IsKept L.meaning L.is_unit p file.now → OnOk result (referred faults.new.items
+        ≡ referred faults.old.items ++ loops.loop_faults L.meaning (folder_of files.now.entries) index p file.now.bytes.items) }
 {
-    let mut faults = Vec::new(alloc);
     for (call, target) in file.calls.iter().enumerate() {
         let to = called_again(files, row, &file.calls, call, target);
         add_if(
             leads_back(labels, index, to),
             &file.call_faults[call],
-            &mut faults,
+            faults,
         )?;
     }
-    Ok(faults)
+    Ok(())
 }
 
-/// The faults of the calls of the file with this number that lead back to it, in the order of the calls. No candidate is looked up of a
-/// file that no call of its own leads back to, nor of one each of whose calls leads to a file.
+/// Adds the faults of the calls of the file with this number that lead back to it, in the order of the calls. No candidate is looked up
+/// of a file that no call of its own leads back to, nor of one each of whose calls leads to a file.
 ///
 /// # Errors
 ///
 /// [`AllocError`] where memory ran out.
-pub fn loop_faults<'a, L: Lint>(
-    alloc: Global,
+pub fn add_loop_faults<'a, L: Lint>(
     files: &'a Files<L::Unit, L::Iface>,
     calls: &CallGraph,
     index: usize,
-) -> Result<Vec<&'a Fault>, AllocError>
+    faults: &mut Vec<&'a Fault>,
+) -> Result<(), AllocError>
     requires kept { AreKept L.meaning L.is_unit files.now.entries }
     requires calls { IsCallGraph L.meaning (folder_of files.now.entries) calls.now.graph.items calls.now.labels.items }
     requires index { index < length files.now.entries }
-    ensures { (p b : List ℕ) → slice_get (folder_of files.now.entries) index ≡ Some (p, b) → IfOk result (λ faults.
-        referred faults.items ≡ loops.loop_faults L.meaning (folder_of files.now.entries) index p b) }
+    ensures { (p b : List ℕ) → slice_get (folder_of files.now.entries) index ≡ Some (p, b) → OnOk result (referred faults.new.items
+        ≡ referred faults.old.items ++ loops.loop_faults L.meaning (folder_of files.now.entries) index p b) }
 {
     let row = calls.graph[index].as_slice();
     if !has_label_of(row, &calls.labels, index) {
-        return Ok(Vec::new(alloc));
+        return Ok(());
     }
     let (_, file) = file_number(files, index);
-    let faults = faults_of_calls::<L>(alloc, files, &calls.labels, row, index, file)?;
-    Ok(faults)
+    add_faults_of_calls::<L>(files, &calls.labels, row, index, file, faults)
 }

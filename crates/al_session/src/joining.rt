@@ -10,7 +10,7 @@ ghost use Rattle.al_session.specs.Session.{AllChecked};
 ghost use Rattle.al_session.specs.Private.Lists.{AreJoined, IsJoined};
 
 use al_base::Fault;
-use al_folder::{CallGraph, Files, Lint, call_graph, file_number, loop_faults};
+use al_folder::{CallGraph, Files, Lint, add_loop_faults, call_graph, file_number};
 use std::alloc::{AllocError, Global};
 
 /// The faults that a report lists of the files that have a call which leads back to them.
@@ -32,23 +32,21 @@ fn add_references<'a>(faults: &'a [Fault], out: &mut Vec<&'a Fault>) -> Result<(
     Ok(())
 }
 
-// The faults that are referred to, in the order of reports, each once.
-fn in_order<'a>(faults: Vec<&'a Fault>) -> Vec<&'a Fault>
-    ensures { referred result.items ≡ fault_list (referred faults.entry.items) }
+// Puts the faults that are referred to in the order of reports, each once.
+fn put_in_order(faults: &mut Vec<&Fault>)
+    ensures { referred faults.new.items ≡ fault_list (referred faults.old.items) }
 {
-    let mut list = faults;
-    list.sort_unstable();
-    list.dedup();
-    list
+    faults.sort_unstable();
+    faults.dedup();
 }
 
 // Adds the faults of the file with this number, joined with those of its calls that lead back to it, where there are any. Answers where
-// they stand then.
+// they stand then. They are gathered in `own`, whatever it held.
 fn join_file<'a, L: Lint>(
-    alloc: Global,
     files: &'a Files<L::Unit, L::Iface>,
     calls: &CallGraph,
     index: usize,
+    own: &mut Vec<&'a Fault>,
     all: &mut Vec<&'a Fault>,
 ) -> Result<Option<(usize, usize)>, AllocError>
     requires kept { AreKept L.meaning L.is_unit files.now.entries }
@@ -57,15 +55,16 @@ fn join_file<'a, L: Lint>(
     requires index { index < length files.now.entries }
     ensures { IfOk result (λ span. IsJoined L.meaning files.now.entries index all.old.items all.new.items span) }
 {
-    let mut faults = loop_faults::<L>(alloc, files, calls, index)?;
-    if faults.is_empty() {
+    own.clear();
+    add_loop_faults::<L>(files, calls, index, own)?;
+    if own.is_empty() {
         return Ok(None);
     }
     let (_, file) = file_number(files, index);
-    add_references(&file.faults, &mut faults)?;
-    let list = in_order(faults);
+    add_references(&file.faults, own)?;
+    put_in_order(own);
     let start = all.len();
-    all.extend_from_slice(list.as_slice())?;
+    all.extend_from_slice(own.as_slice())?;
     Ok(Some((start, all.len())))
 }
 
@@ -84,10 +83,11 @@ pub(crate) fn join_all<'a, L: Lint>(
         AreJoined L.meaning files.now.entries joined.faults.items joined.spans.items (length files.now.entries)) }
 {
     let calls = call_graph::<L>(alloc, files)?;
+    let mut own = Vec::new(alloc);
     let mut faults = Vec::new(alloc);
     let mut spans = Vec::with_capacity(alloc, files.len())?;
     for index in 0..files.len() {
-        spans.push(join_file::<L>(alloc, files, &calls, index, &mut faults)?)?;
+        spans.push(join_file::<L>(files, &calls, index, &mut own, &mut faults)?)?;
     }
     Ok(JoinedFaults { faults, spans })
 }
@@ -107,8 +107,9 @@ pub(crate) fn has_loops<L: Lint>(
         (enumerate_from 0 (folder_of files.now.entries))) }
 {
     let calls = call_graph::<L>(alloc, files)?;
+    let mut faults = Vec::new(alloc);
     for index in 0..files.len() {
-        let faults = loop_faults::<L>(alloc, files, &calls, index)?;
+        add_loop_faults::<L>(files, &calls, index, &mut faults)?;
         if !faults.is_empty() {
             return Ok(true);
         }

@@ -5,7 +5,7 @@ use Rattle.al_folder.specs.Kept.{folder_of, referred}
 use Rattle.al_folder.specs.Loops.{called, calls_graph, leads_back, loop_fault}
 use Rattle.al_folder.specs.Private.CallGraphs.{IsCalledBy}
 use Rattle.al_folder.proofs.Looping.{below_length, call_edge, entry_there, if_called, kept_fault, looping_next}
-use Rattle.al_folder.proofs.loops.faults_of_calls.Goals as goal
+use Rattle.al_folder.proofs.loops.add_faults_of_calls.Goals as goal
 
 pub leads_back-requires-clause-index : goal.leads_back-requires-clause-index
 leads_back-requires-clause-index g c =
