@@ -2,9 +2,12 @@
 use Rattle.std.proofs.Common.{◌≡◌, ℕ, zero, suc, ◌+◌, ◌-◌, ◌≤◌, ◌<◌, Bool, true, false, List, [], ◌∷◌, ◌++◌, length, get_or, refl, sym, ap}
 use Rattle.std.proofs.Common.{subst, ◌∙◌, arith, add-one, add-zero, add-suc, length-append, append-nil, ◌⊎◌, inl, inr}
 use Rattle.std.proofs.Math.Nat.{eq-or-lt_of_le}
+use Rattle.std.proofs.Common.{◌||◌, ◌&&◌, ◌==◌, not, append_assoc, if◌then◌else◌}
+use Rattle.std.specs.List.{flat_map}
 use Rattle.std.specs.List.Sorted.{IsNonDecreasingBy}
 use Rattle.std.proofs.lemmas.List.{get_or_append_left, get_or_at, get_or_default}
 use Rattle.std.proofs.lemmas.List.Sorted.{IsNonDecreasingBy-push, IsNonDecreasingBy-short}
+use Rattle.memchr.specs.Find.{is_byte2, places, places_from}
 use Rattle.al_base.specs.Positions.{ends_break, line_at, column_at}
 use Rattle.al_base.specs.LineStarts.{starts_to, line_starts}
 use Rattle.al_base.proofs.Counting.{line_at-break, line_at-same, column_at-break}
@@ -64,6 +67,63 @@ starts_to-break bytes n e = rw e refl
 
 starts_to-same : (bytes : List ℕ) (n : ℕ) → ends_break bytes n ≡ false → starts_to bytes (suc n) ≡ starts_to bytes n
 starts_to-same bytes n e = rw e (append-nil (starts_to bytes n))
+
+-- ---- the starts behind the breaks among some places
+
+abbrev pub start_behind_break : List ℕ → ℕ → List ℕ
+start_behind_break bytes k = if ends_break bytes k then (k + 1) ∷ [] else []
+
+-- the line feeds and carriage returns of a file, as a search gives them
+abbrev pub break_bytes : ℕ → Bool
+break_bytes = is_byte2 10 13
+
+-- no break ends at another byte
+other_byte : (a b c : Bool) → (a || b) ≡ false → (a || (b && c)) ≡ false
+other_byte true b c h = absurd cc
+other_byte false true c h = absurd cc
+other_byte false false c h = refl
+
+place_more : (here ends : Bool) (own before more : List ℕ) (k : ℕ) (f : ℕ → List ℕ) (rest : List ℕ) → f k ≡ (if ends then own else []) → more ≡ flat_map f rest →
+    (here ≡ false → ends ≡ false) → (before ++ (if ends then own else [])) ++ more ≡ before ++ flat_map f (if here then k ∷ rest else rest)
+place_more true ends own before more k f rest e m h =
+    append_assoc before (if ends then own else []) more ∙ ap (λ l. before ++ l) (ap (λ l. l ++ more) (sym e) ∙ ap (λ l. f k ++ l) m)
+place_more false ends own before more k f rest e m h =
+    append_assoc before (if ends then own else []) more ∙ ap (λ l. before ++ l) (ap (λ b. (if b then own else []) ++ more) (h refl) ∙ m)
+
+starts_from : (bytes : List ℕ) (i n : ℕ) → starts_to bytes (i + n) ≡ starts_to bytes i ++ flat_map (start_behind_break bytes) (places_from break_bytes bytes i n)
+unfolding places_from
+starts_from bytes i zero = ap (starts_to bytes) (add-zero i) ∙ sym (append-nil (starts_to bytes i))
+starts_from bytes i (suc n) =
+    let x = get_or bytes i 0 in
+    let next : i + suc n ≡ suc i + n = omega arith in
+    let later : starts_to bytes (suc i + n) ≡ starts_to bytes (suc i) ++ flat_map (start_behind_break bytes) (places_from break_bytes bytes (i + 1) n) =
+    subst (λ m. starts_to bytes (m + n) ≡ starts_to bytes m ++ flat_map (start_behind_break bytes) (places_from break_bytes bytes (i + 1) n)) (add-one i)
+    (starts_from bytes (i + 1) n) in
+    ap (starts_to bytes) next ∙ later
+    ∙ place_more (break_bytes x) (ends_break bytes i) ((i + 1) ∷ []) (starts_to bytes i) _ i (start_behind_break bytes) (places_from break_bytes bytes (i + 1) n) refl refl
+    (other_byte (x == 10) (x == 13) (not (get_or bytes (i + 1) 0 == 10)))
+
+-- all starts of a file, by the places of those bytes
+pub starts_by_places : (bytes : List ℕ) → 0 ∷ flat_map (start_behind_break bytes) (places break_bytes bytes) ≡ line_starts bytes
+starts_by_places bytes =
+    let none : length bytes - 0 ≡ length bytes = omega arith in
+    let all : 0 + length bytes ≡ length bytes = omega arith in
+    ap (λ n. 0 ∷ flat_map (start_behind_break bytes) (places_from break_bytes bytes 0 n)) none ∙ sym (starts_from bytes 0 (length bytes)) ∙ ap (starts_to bytes) all
+
+-- the search gives one more of those bytes
+module _ (bytes starts : List ℕ) (k : ℕ) (all rest : List ℕ) (is : all ≡ k ∷ rest) where
+  after_place : (b : Bool) → ends_break bytes k ≡ b →
+      (starts ++ (if b then (k + 1) ∷ [] else [])) ++ flat_map (start_behind_break bytes) rest ≡ starts ++ flat_map (start_behind_break bytes) all
+  after_place b e =
+      let more = flat_map (start_behind_break bytes) rest in
+      append_assoc starts (if b then (k + 1) ∷ [] else []) more ∙ ap (λ a. starts ++ ((if a then (k + 1) ∷ [] else []) ++ more)) (sym e)
+      ∙ ap (λ ks. starts ++ flat_map (start_behind_break bytes) ks) (sym is)
+
+  pub after_break : ends_break bytes k ≡ true → (starts ++ (k + 1) ∷ []) ++ flat_map (start_behind_break bytes) rest ≡ starts ++ flat_map (start_behind_break bytes) all
+  after_break e = after_place true e
+
+  pub after_no_break : ends_break bytes k ≡ false → starts ++ flat_map (start_behind_break bytes) rest ≡ starts ++ flat_map (start_behind_break bytes) all
+  after_no_break e = ap (λ xs. xs ++ flat_map (start_behind_break bytes) rest) (sym (append-nil starts)) ∙ after_place false e
 
 pub starts_to-length : (bytes : List ℕ) (n : ℕ) → length (starts_to bytes n) ≡ line_at bytes n
 starts_to-length bytes zero = refl

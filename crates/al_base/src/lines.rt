@@ -6,6 +6,7 @@ ghost use Rattle.al_base.specs.Positions.{line_at, column_at, BeginsLine};
 ghost use Rattle.al_base.specs.LineStarts.{line_starts};
 
 use super::positions::{Location, is_break_end, is_char_start};
+use memchr::memchr2_iter;
 use std::alloc::{AllocError, Global};
 use std::marker::Model;
 
@@ -37,7 +38,8 @@ impl Lines {
     {
         let mut starts = Vec::new(alloc);
         starts.push(0)?;
-        for at in 0..bytes.len() {
+        // A break ends at one of these two bytes, and most bytes are neither.
+        for at in memchr2_iter(b'\n', b'\r', bytes) {
             if is_break_end(bytes, at) {
                 starts.push(at as u32 + 1)?;
             }
