@@ -1,12 +1,12 @@
 -- The parts of a plain scalar's lines against offsets.
 use Rattle.std.proofs.Common.{◌≡◌, ◌≢◌, ℕ, zero, suc, ◌+◌, ◌-◌, ◌<◌, ◌≤◌, List, [], ◌∷◌, ◌++◌, length, slice_index, refl, sym, ap, ◌∙◌}
 use Rattle.std.proofs.Common.{arith, append_assoc, append-nil, Bool, true, false, ◌&&◌, ◌||◌, ◌==◌, nat_lt, cond, inl, inr, ◌⊎◌, ◌↔◌}
-use Rattle.std.proofs.Common.{IsTrue, eq-or-lt_of_le}
+use Rattle.std.proofs.Common.{IsTrue, eq-or-lt_of_le, subst}
 use Rattle.std.proofs.lemmas.Grind.{common_steps}
 use Rattle.al_scalar.specs.Line.{Cell, is_blank, is_blank_or_end, is_empty}
 use Rattle.al_scalar.specs.Plain.{Context, is_flow, is_flow_indicator, begins_flow_indicator, ends_key, is_value_colon, ends_plain, plain_part}
-use Rattle.al_scalar.specs.Private.Places.{lines_at, cells_at, cells_between, AreBlank, IsBlankByte, IsLineEnd, text_at}
-use Rattle.al_scalar.specs.Private.PlainLines.{PartTo}
+use Rattle.al_scalar.specs.Private.Places.{lines_at, cells_at, cells_between, AreBlank, IsBlankByte, IsLineEnd, SameLine, text_at}
+use Rattle.al_scalar.specs.Private.PlainLines.{IsWordAt, IsWordByte, PartTo}
 use Rattle.al_scalar.proofs.LineLemmas.{cells_between-none, cells_between-front, cells_between-more}
 use Rattle.al_scalar.proofs.SingleLemmas.{RunBefore, cell_at, text-line_end, is_blank-yes, is_blank-no, is_inside, never}
 
@@ -153,6 +153,61 @@ part_more p first f bytes at i j e r b o h l k n s =
     ++ (run ++ c ∷ []) = cells_between-two bytes at i (j + 1) o (omega arith)
     ∙ ap (λ t. cells_between bytes at i ++ t) (cells_between-more bytes i j h) in
     e ∙ ap (in_front (cells_between bytes at i)) own ∙ ap (λ t. (t, more.1)) (sym (append_assoc (cells_between bytes at i) (run ++ c ∷ []) more.0) ∙ ap (λ t. t ++ more.0) (sym cells))
+
+-- ---- bytes of words
+
+not_a_word : (n : ℕ) → ((97 ≤ n) × (n ≤ 122) → ⊥) → ((45 ≤ n) × (n ≤ 57) → ⊥) → ((65 ≤ n) × (n ≤ 90) → ⊥) → (b : ℕ) → IsWordByte b → b ≢ n
+not_a_word n f g h b (inl w) e = f (omega (arith, e, w.0), omega (arith, e, w.1))
+not_a_word n f g h b (inr (inl w)) e = g (omega (arith, e, w.0), omega (arith, e, w.1))
+not_a_word n f g h b (inr (inr w)) e = h (omega (arith, e, w.0), omega (arith, e, w.1))
+
+no_indicator : (b : ℕ) → b ≢ 44 → b ≢ 91 → b ≢ 93 → b ≢ 123 → b ≢ 125 → is_flow_indicator b ≡ false
+no_indicator b h i j k l = grind (arith, common_steps, h, i, j, k, l)
+
+module _ (b : ℕ) (w : IsWordByte b) where
+  apart : (n : ℕ) → ((97 ≤ n) × (n ≤ 122) → ⊥) → ((45 ≤ n) × (n ≤ 57) → ⊥) → ((65 ≤ n) × (n ≤ 90) → ⊥) → b ≢ n
+  apart n f g h = not_a_word n f g h b w
+
+  word-feed : b ≢ 10
+  word-feed = apart 10 (λ h. omega (arith, h.0)) (λ h. omega (arith, h.0)) (λ h. omega (arith, h.0))
+
+  word-return : b ≢ 13
+  word-return = apart 13 (λ h. omega (arith, h.0)) (λ h. omega (arith, h.0)) (λ h. omega (arith, h.0))
+
+  word-blank : IsBlankByte b → ⊥
+  word-blank (inl e) = apart 32 (λ h. omega (arith, h.0)) (λ h. omega (arith, h.0)) (λ h. omega (arith, h.0)) e
+  word-blank (inr e) = apart 9 (λ h. omega (arith, h.0)) (λ h. omega (arith, h.0)) (λ h. omega (arith, h.0)) e
+
+  word-ends : (p : Context) (f : Bool) (i : ℕ) (cs : List Cell) → ends_plain p f ((b, i) ∷ cs) ≡ false
+  word-ends p f i cs =
+      ends-other p f (b, i) cs (apart 58 (λ h. omega (arith, h.0)) (λ h. omega (arith, h.1)) (λ h. omega (arith, h.0)))
+      (apart 35 (λ h. omega (arith, h.0)) (λ h. omega (arith, h.0)) (λ h. omega (arith, h.0)))
+      ∙ ap (λ x. is_flow p && x)
+      (no_indicator b (apart 44 (λ h. omega (arith, h.0)) (λ h. omega (arith, h.0)) (λ h. omega (arith, h.0)))
+      (apart 91 (λ h. omega (arith, h.0)) (λ h. omega (arith, h.1)) (λ h. omega (arith, h.1)))
+      (apart 93 (λ h. omega (arith, h.0)) (λ h. omega (arith, h.1)) (λ h. omega (arith, h.1)))
+      (apart 123 (λ h. omega (arith, h.1)) (λ h. omega (arith, h.1)) (λ h. omega (arith, h.1)))
+      (apart 125 (λ h. omega (arith, h.1)) (λ h. omega (arith, h.1)) (λ h. omega (arith, h.1))))
+      ∙ and-false (is_flow p)
+
+no_run : (bytes : List ℕ) (i : ℕ) → RunBefore (cells_between bytes i i) (lines_at bytes i) (lines_at bytes i)
+no_run bytes i = record { text = ap (λ r. r ++ text_at bytes i) (sym (cells_between-none bytes i)); same = record { end = refl; last = refl; later = refl } }
+
+module _ (bytes : List ℕ) (i : ℕ) (w : IsWordAt bytes i) where
+  word-no_end : IsLineEnd bytes i → ⊥
+  word-no_end h = elim (h w.0) [ inl e ↦ word-feed (slice_index bytes i) w.1 e | inr e ↦ word-return (slice_index bytes i) w.1 e ]
+
+  -- the part goes on behind one of them
+  pub part_word : (p : Context) (first f : Bool) (at : ℕ) → plain_part p first (text_at bytes at) ≡ in_front (cells_between bytes at i) (plain_part p f (text_at bytes i)) → at ≤ i
+      → plain_part p first (text_at bytes at) ≡ in_front (cells_between bytes at (i + 1)) (plain_part p false (text_at bytes (i + 1)))
+  part_word p first f at e o =
+      let within : i ≤ length bytes = omega (arith, w.0) in
+      part_more p first f bytes at i i e (no_run bytes i) (subst AreBlank (sym (cells_between-none bytes i)) tt) o (omega arith) within word-no_end
+      (word-blank (slice_index bytes i) w.1)
+      (sym (ap (ends_plain p (f || nat_lt i i)) (text_at-cell bytes i within word-no_end) ∙ word-ends (slice_index bytes i) w.1 p (f || nat_lt i i) i (text_at bytes (i + 1))))
+
+  pub same_word : SameLine (lines_at bytes i) (lines_at bytes (i + 1))
+  same_word = (cell_at bytes i w.0 (word-feed (slice_index bytes i) w.1) (word-return (slice_index bytes i) w.1)).same
 
 pub part_none : (p : Context) (f : Bool) (bytes : List ℕ) (at : ℕ) → plain_part p f (text_at bytes at) ≡ in_front (cells_between bytes at at) (plain_part p f (text_at bytes at))
 part_none p f bytes at = ap (λ t. in_front t (plain_part p f (text_at bytes at))) (sym (cells_between-none bytes at))

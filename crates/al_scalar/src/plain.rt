@@ -1,10 +1,10 @@
 //! Plain scalars (YAML 1.2.2, 7.3.3).
 
-ghost use Rattle.std.specs.Prelude.{◌≡◌, ◌<◌, ◌≤◌, ◌^◌, ◌++◌, false, not, ◌&&◌, ◌||◌, nat_lt, length, IfOk};
+ghost use Rattle.std.specs.Prelude.{◌≡◌, ◌<◌, ◌≤◌, ◌^◌, ◌++◌, false, not, ◌&&◌, ◌||◌, nat_lt, length, IfOk, IsTrue};
 ghost use Rattle.al_scalar.specs.Line as line;
 ghost use Rattle.al_scalar.specs.Private.Places.{lines_at, text_at, SameLine};
 ghost use Rattle.al_scalar.specs.Plain as plain;
-ghost use Rattle.al_scalar.specs.Private.PlainLines.{context_of, begins_blank_line, text_lines, empty_ends, PartTo};
+ghost use Rattle.al_scalar.specs.Private.PlainLines.{context_of, begins_blank_line, text_lines, empty_ends, IsWordAt, IsWordByte, PartTo};
 ghost use Rattle.al_scalar.specs.Private.Reads.{Gives, StaysWithin};
 ghost use Rattle.al_scalar.specs.Taken.{folded_break};
 
@@ -93,6 +93,20 @@ fn is_behind_blank(before: bool, from: usize, to: usize) -> bool
     before || from < to
 }
 
+/// Whether a byte is a letter or a digit of ASCII, or one of `-`, `.` and `/`.
+fn is_word(byte: u8) -> bool
+    ensures { IsTrue result → IsWordByte byte }
+{
+    byte >= b'a' && byte <= b'z' || byte >= b'-' && byte <= b'9' || byte >= b'A' && byte <= b'Z'
+}
+
+/// Whether a byte of words stands at an offset. Most bytes of plain scalars are such, which are no blanks and end no scalar.
+fn is_word_at(bytes: &[u8], at: usize) -> bool
+    ensures { IsTrue result → IsWordAt bytes.now at }
+{
+    at < bytes.len() && is_word(bytes[at])
+}
+
 /// The offset behind the part of a plain scalar on one line, without trailing blanks.
 fn plain_end(bytes: &[u8], at: usize, context: PlainContext, after_blank: bool) -> usize
     requires { at ≤ length bytes.now }
@@ -104,6 +118,11 @@ fn plain_end(bytes: &[u8], at: usize, context: PlainContext, after_blank: bool) 
     let mut end = at;
     let mut behind_blank = after_blank;
     'words: loop {
+        if is_word_at(bytes, end) {
+            end += 1;
+            behind_blank = false;
+            continue 'words;
+        }
         let solid = blanks_end(bytes, end);
         let flag = is_behind_blank(behind_blank, end, solid);
         if ends_plain(bytes, solid, context, flag) {

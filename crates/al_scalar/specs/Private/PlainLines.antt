@@ -1,5 +1,6 @@
 -- What the reader of plain scalars answers, in terms of offsets.
-use Rattle.std.specs.Prelude.{◌≡◌, ℕ, List, [], ◌∷◌, Bool, true, false, not, ◌&&◌, if◌then◌else◌, Result, Ok}
+use Rattle.std.specs.Prelude.{◌≡◌, ◌<◌, ◌≤◌, ◌⊎◌, length, slice_index}
+use Rattle.std.specs.Prelude.{ℕ, List, [], ◌∷◌, Bool, true, false, not, ◌&&◌, if◌then◌else◌, Result, Ok}
 use Rattle.al_scalar.specs.Line.{Cell, Line, after_blanks, is_empty, is_all_blank}
 use Rattle.al_scalar.specs.Taken.{Fault, Taken, feeds, folded_break}
 use Rattle.al_scalar.specs.Plain.{Context, flow, block, plain_part, plain_lines}
@@ -53,3 +54,10 @@ after_part p bytes end =
 -- a part of a line from an offset to another one
 abbrev pub PartTo : Context → Bool → List ℕ → ℕ → ℕ → Type 0
 PartTo p after_blank bytes at end = plain_part p after_blank (text_at bytes at) ≡ (cells_between bytes at end, text_at bytes end)
+
+-- a letter or a digit, or one of - . /
+abbrev pub IsWordByte : ℕ → Type 0
+IsWordByte b = ((97 ≤ b) × (b ≤ 122)) ⊎ ((45 ≤ b) × (b ≤ 57)) ⊎ ((65 ≤ b) × (b ≤ 90))
+
+abbrev pub IsWordAt : List ℕ → ℕ → Type 0
+IsWordAt bytes at = (at < length bytes) × IsWordByte (slice_index bytes at)

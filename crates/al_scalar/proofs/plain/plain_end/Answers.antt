@@ -3,7 +3,7 @@ use Rattle.al_scalar.specs.Plain.{ends_plain}
 use Rattle.al_scalar.specs.Private.Places.{cells_between, IsLineEnd, text_at}
 use Rattle.al_scalar.specs.Private.PlainLines.{context_of}
 use Rattle.al_scalar.proofs.SingleLemmas.{run_at, cell_at, same_then, is_inside, never}
-use Rattle.al_scalar.proofs.PlainLemmas.{part_done, part_more, ends-end}
+use Rattle.al_scalar.proofs.PlainLemmas.{part_done, part_more, part_word, same_word, ends-end}
 use Rattle.al_scalar.proofs.plain.plain_end.Goals as goal
 
 pub returns-then-ends_plain-clause-part : goal.returns-then-ends_plain-clause-part
@@ -15,6 +15,18 @@ returns-then-ends_plain-clause-part c =
     part_done p c.args.after_blank c.words.behind_blank bytes c.args.at end found.result c.words.invariant.part
     (run_at bytes end found.result (cells_between bytes end found.result) found.ensures.lines)
     found.ensures.blanks found.ensures.from (c.if-ends_plain.ensures ∙ ap (λ f. ends_plain p f (text_at bytes found.result)) c.is_behind_blank-flag.ensures)
+
+pub words-preserved-then-is_word_at : goal.words-preserved-then-is_word_at
+words-preserved-then-is_word_at c =
+    let bytes = c.args.bytes.now in
+    let end = c.words.end in
+    let word = c.is_word_at.ensures c.if-is_word_at.true in
+    record {
+      from = omega (arith, c.words.invariant.from);
+      inside = omega (arith, word.0);
+      part = part_word bytes end word (context_of c.args.context) c.args.after_blank c.words.behind_blank c.args.at c.words.invariant.part c.words.invariant.from;
+      same = same_then c.words.invariant.same (same_word bytes end word);
+    }
 
 pub words-preserved : goal.words-preserved
 words-preserved c =
