@@ -1,8 +1,9 @@
 -- The last key of a way to a condition is one of three.
-use Rattle.std.proofs.Common.{◌≡◌, ℕ, zero, suc, List, [], ◌∷◌, ◌++◌, length, map, ap, arith, refl, sym, Bool, true, false, cond, not, ◌&&◌, ◌||◌, ◌==◌, ◌-◌, ◌∙◌, Option, Some, None}
+use Rattle.std.proofs.Common.{◌+◌, ◌<◌, ◌≤◌, get_or, take}
+use Rattle.std.proofs.lemmas.List.{take_more}
+use Rattle.std.proofs.Common.{◌≡◌, ℕ, suc, List, [], ◌∷◌, ◌++◌, length, map, ap, arith, refl, sym, Bool, true, false, cond, not, ◌&&◌, ◌||◌, ◌==◌, ◌-◌, ◌∙◌, Option, Some, None}
 use Rattle.std.proofs.lemmas.Bool.{eqb-true}
 use Rattle.std.specs.Prelude.{codes}
-use Rattle.std.specs.List.{slice_get}
 use Rattle.std.specs.Str.{bytes_eq}
 use Rattle.al_places.specs.Availability.{any, begins, fits, key}
 use Rattle.al_places.specs.Places.{fits as fits_rule, has_expression, place_at, scalar_places, takes_scalars_only}
@@ -35,13 +36,23 @@ front : (s : rust.WayStep) (way : List rust.WayStep) (l : List ℕ) → last_key
 front (Under k) way l h = behind k.now (keys_of (map step_of way)) l h
 front (Nth i) way l h = h
 
-at_end : (way : List rust.WayStep) (n : ℕ) (s : rust.WayStep) → slice_get way n ≡ Some s → length way ≡ suc n → (k : List ℕ) →
-    last_key (keys_of (step_of s ∷ [])) ≡ Some k → last_key (keys_of (map step_of way)) ≡ Some k
-at_end [] n s h e k is = absurd cc
-at_end (t ∷ []) zero s h e k is = ap (λ u. last_key (keys_of (step_of u ∷ []))) (same t s h) ∙ is
-at_end (t ∷ []) (suc n) s h e k is = absurd cc
-at_end (t ∷ u ∷ way) zero s h e k is = absurd cc
-at_end (t ∷ u ∷ way) (suc n) s h e k is = front t (u ∷ way) k (at_end (u ∷ way) n s h (less (length (u ∷ way)) (suc n) e) k is)
+-- the first steps of a way, one more of them
+pub one_step_more : (way : List rust.WayStep) (n : ℕ) (d s : rust.WayStep) → 0 < n → n ≤ length way → get_or way (n - 1) d ≡ s →
+    keys_of (map step_of (take n way)) ≡ keys_of (map step_of (take (n - 1) way ++ s ∷ []))
+one_step_more way n d s some within e =
+    let count : n ≡ n - 1 + 1 = omega (arith, some) in
+    ap (λ k. keys_of (map step_of (take k way))) count
+    ∙ ap (λ l. keys_of (map step_of l)) (take_more way (n - 1) d (omega (arith, some, within)) ∙ ap (λ t. take (n - 1) way ++ t ∷ []) e)
+
+-- positions at the end of a way have no keys
+pub keys_before_nth : (way : List rust.WayStep) (i : ℕ) → keys_of (map step_of (way ++ Nth i ∷ [])) ≡ keys_of (map step_of way)
+keys_before_nth [] i = refl
+keys_before_nth (Under k ∷ way) i = ap (λ ks. k.now ∷ ks) (keys_before_nth way i)
+keys_before_nth (Nth j ∷ way) i = keys_before_nth way i
+
+last_under : (way : List rust.WayStep) (s : rust.WayStep) (k : List ℕ) → step_of s ≡ under k → last_key (keys_of (map step_of (way ++ s ∷ []))) ≡ Some k
+last_under [] s k e = ap (λ u. last_key (keys_of (u ∷ []))) e
+last_under (t ∷ way) s k e = front t (way ++ s ∷ []) k (last_under way s k e)
 
 both : (a b : Bool) → (a && b) ≡ true → (a ≡ true) × (b ≡ true)
 both true b h = (refl, h)
@@ -100,17 +111,10 @@ last_of_condition ks k is h =
     either d (f || false) all h4 (λ e. before (along (key (codes "runs") ∷ []) (codes "pre-if") ks e k is)) (λ h5.
     either f false all h5 (λ e. after (along (key (codes "runs") ∷ []) (codes "post-if") ks e k is)) (λ h6. absurd (false_is_true h6))))))
 
-one_less : (n : ℕ) → suc n - 1 ≡ n
-one_less n = omega arith
-
--- what is said of the last step of a way
-pub last_is_under : (way : List rust.WayStep) (s : rust.WayStep) (k : List ℕ) → Some s ≡ slice_get way (length way - 1) →
+-- what is said of the last key of a way
+pub last_is_under : (way before : List rust.WayStep) (s : rust.WayStep) (k : List ℕ) → keys_of (map step_of way) ≡ keys_of (map step_of (before ++ s ∷ [])) →
     step_of s ≡ under k → is_one conditions (keys_of (map step_of way)) ≡ true → is_condition_key k ≡ true
-last_is_under [] s k h e is = absurd cc
-last_is_under (t ∷ way) s k h e is =
-    last_of_condition (keys_of (map step_of (t ∷ way))) k
-    (at_end (t ∷ way) (length way) s (ap (slice_get (t ∷ way)) (sym (one_less (length way))) ∙ sym h) refl k
-    (ap (λ u. last_key (keys_of (u ∷ []))) e)) is
+last_is_under way before s k h e is = last_of_condition (keys_of (map step_of way)) k (ap last_key h ∙ last_under before s k e) is
 
 -- ---- scalars without an expression
 
