@@ -5,5 +5,6 @@ pub mod DocumentLines
 pub mod Files
 pub mod FlowReads
 pub mod Places
+pub mod PlainBytes
 pub mod Reads
 pub mod Sums
