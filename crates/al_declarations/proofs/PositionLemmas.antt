@@ -65,6 +65,10 @@ pub on_err : {T E P : Type 0} (r : Result T E) → P → OnErr r P
 on_err (Ok x) p = tt
 on_err (Err e) p = p
 
+pub none_there : (o : Option ℕ) → true ≡ is_none o → o ≡ None
+none_there None h = refl
+none_there (Some i) h = absurd cc
+
 was_there : (here : Bool) (o : Option ℕ) (i : ℕ) → (here ≡ true → is_none o ≡ false) → option_or o (if here then Some i else None) ≡ o
 was_there here (Some j) i h = refl
 was_there true None i h = absurd (cc (h refl))

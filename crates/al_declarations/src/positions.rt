@@ -5,6 +5,7 @@ ghost use Rattle.al_declarations.specs.Private.Positions.{and_name_at, and_text_
 use crate::name_sets::in_lower_case;
 use std::alloc::{AllocError, Global};
 use std::collections::BTreeMap;
+use std::collections::btree_map::Entry;
 
 /// Where each text first stands. Adding one and looking one up take time that grows with the logarithm of their number, and with the
 /// text's length.
@@ -31,11 +32,13 @@ impl TextPositions {
         ensures is_new { IfOk result (λ b. b ≡ is_none (text_position self.old text.items)) }
         ensures as_before { OnErr result (text_position self.new ≡ text_position self.old) }
     {
-        if self.get(text.as_slice()).is_some() {
-            return Ok(false);
+        match self.positions.entry(text)? {
+            Entry::Occupied(_) => Ok(false),
+            Entry::Vacant(entry) => {
+                entry.insert(position);
+                Ok(true)
+            }
         }
-        self.positions.insert(text, position)?;
-        Ok(true)
     }
 
     /// Where a text first stands.

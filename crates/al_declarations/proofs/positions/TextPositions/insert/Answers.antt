@@ -1,13 +1,30 @@
-use Rattle.std.proofs.Common.{◌≡◌, None, rules}
+use Rattle.std.proofs.Common.{rules, sym, ◌∙◌}
+use Rattle.std.specs.BTreeMap.Entry.{map_with_value}
 use Rattle.al_declarations.specs.Private.Positions.{text_position}
-use Rattle.al_declarations.proofs.PositionLemmas.{added, on_err, same_texts}
+use Rattle.al_declarations.proofs.PositionLemmas.{added, on_err, none_there, same_texts, text_kept}
 use Rattle.al_declarations.proofs.positions.TextPositions.insert.Goals as goal
 
-pub returns-clause-positions : goal.returns-clause-positions
-returns-clause-positions c =
-    let absent : text_position c.args.self.now c.args.text.items ≡ None = search rules in
-    added c.args.self.now (record { positions = c.insert.new.self }) c.args.text c.args.position absent c.in_ok-insert.ensures.updates
+pub returns-in_err-self-clause-as_before : goal.returns-in_err-self-clause-as_before
+returns-in_err-self-clause-as_before c =
+    on_err c.from_residual.result (same_texts c.args.self.now (record { positions = c.entry.follows.lender-at-none }) (search rules))
 
-pub returns-in_err-insert-clause-as_before : goal.returns-in_err-insert-clause-as_before
-returns-in_err-insert-clause-as_before c =
-    on_err c.from_residual.result (same_texts c.args.self.now (record { positions = c.insert.new.self }) c.in_err-insert.ensures.err)
+pub returns-in-Occupied-clause-is_new : goal.returns-in-Occupied-clause-is_new
+unfolding text_position
+returns-in-Occupied-clause-is_new c = search rules
+
+pub returns-in-Occupied-clause-positions : goal.returns-in-Occupied-clause-positions
+returns-in-Occupied-clause-positions c =
+    same_texts c.args.self.now (record { positions = _ }) (search rules)
+    ∙ sym (text_kept c.args.self.now c.args.text.items c.args.position (sym (returns-in-Occupied-clause-is_new c)))
+
+pub returns-in-Vacant-clause-is_new : goal.returns-in-Vacant-clause-is_new
+unfolding text_position
+returns-in-Vacant-clause-is_new c = search rules
+
+pub returns-in-Vacant-clause-positions : goal.returns-in-Vacant-clause-positions
+returns-in-Vacant-clause-positions c =
+    let old = c.args.self.now in
+    let entry = c.in_ok-self.field-0 in
+    let i = c.args.position in
+    same_texts (record { positions = map_with_value entry i }) (record { positions = _ }) (search rules)
+    ∙ added old (record { positions = map_with_value entry i }) c.args.text i (none_there _ (returns-in-Vacant-clause-is_new c)) (c.in_ok-self.ensures.update.0 i)
