@@ -1,11 +1,13 @@
 -- Where a needle occurs in a script; the faults of commands lie in the file.
 use Rattle.std.specs.Prelude.{◌≡◌, ℕ, zero, suc, ◌+◌, ◌-◌, ◌<◌, ◌≤◌, ◌^◌, All, Bool, true, false, List, [], ◌∷◌, map, length, nat_lt, get_or}
-use Rattle.std.proofs.Common.{cond, arith, sym, ap, ◌∙◌}
-use Rattle.std.specs.List.{AllByRecursion}
+use Rattle.std.proofs.Common.{cond, arith, sym, ap, ◌∙◌, ◌++◌, eq-eqb, refl, subst, Option, Some, None}
+use Rattle.std.specs.Prelude.{is_none}
+use Rattle.std.specs.List.{AllByRecursion, flat_map}
 use Rattle.std.proofs.lemmas.List.{length-map}
 use Rattle.std.proofs.lemmas.List.Elements.{recursion_from_All}
-use Rattle.memchr.specs.Find.{OccursAt, matches}
+use Rattle.memchr.specs.Find.{IsFirstByte, Nowhere, OccursAt, Passes, is_byte, matches}
 use Rattle.memchr.proofs.lemmas.CallerLemmas.{All-matches}
+use Rattle.memchr.proofs.lemmas.MatchLemmas.{matches-none}
 use Rattle.al_base.specs.Spans.{LiesIn}
 use Rattle.al_base.specs.declared.faults.Span.{Span}
 use Rattle.al_scalar.specs.Line.{Cell}
@@ -17,6 +19,39 @@ use Rattle.al_reports.proofs.Inside.{Lies, Text}
 
 pub places_occur : (hay needle : List ℕ) → All (OccursAt hay needle) (matches hay needle 0)
 places_occur hay needle = All-matches hay needle 0
+
+-- ---- a script without colons
+
+-- a needle that begins with a colon
+abbrev BeginsWithColon : List ℕ → Type 0
+BeginsWithColon [] = ⊥
+BeginsWithColon (b ∷ bs) = b ≡ 58
+
+module _ (s : Scalar) (none : Nowhere (Passes (is_byte 58) (text_of s)) 0 (length (text_of s))) where
+  nowhere : (needle : List ℕ) → BeginsWithColon needle → (k : ℕ) → OccursAt (text_of s) needle k → ⊥
+  nowhere [] b k o = b
+  nowhere (c ∷ cs) b k o =
+      let reads : get_or (text_of s) (k + 0) 0 ≡ c = o.reads 0 (omega arith) in
+      let same : k + 0 ≡ k = omega arith in
+      let colon : get_or (text_of s) k 0 ≡ 58 = ap (λ i. get_or (text_of s) i 0) (sym same) ∙ reads ∙ b in
+      let fits : k + length (c ∷ cs) ≤ length (text_of s) = o.fits in
+      none k (omega arith) (omega (arith, fits)) (eq-eqb _ _ colon)
+
+  no_command : (c : List ℕ × List ℕ) → BeginsWithColon c.0 → one_command s c ≡ []
+  no_command c b = ap (map (command_fault s c.0 c.1)) (matches-none (text_of s) c.0 0 (λ k low high. nowhere c.0 b k))
+
+  no_commands : (cs : List (List ℕ × List ℕ)) → AllByRecursion (λ (c : List ℕ × List ℕ). BeginsWithColon c.0) cs → flat_map (one_command s) cs ≡ []
+  no_commands [] h = refl
+  no_commands (c ∷ cs) h = ap (λ fs. fs ++ flat_map (one_command s) cs) (no_command c h.0) ∙ no_commands cs h.1
+
+  -- each command begins with one, so the script has none of them
+  without_colons : command_faults s ≡ []
+  without_colons = no_commands commands (refl, (refl, (refl, (refl, tt))))
+
+-- where a search finds no colon
+pub no_colon_found : (s : Scalar) (hay : List ℕ) (found : Option ℕ) → hay ≡ text_of s → is_none found ≡ true → IsFirstByte (is_byte 58) hay found → command_faults s ≡ []
+no_colon_found s hay None same h first = without_colons s (subst (λ (t : List ℕ). Nowhere (Passes (is_byte 58) t) 0 (length t)) same first)
+no_colon_found s hay (Some k) same h first = absurd cc
 
 module _ (size : ℕ) where
   rising_from : (low high end : ℕ) (cs : List Cell) (i : ℕ) → AreRising low high cs → i < length cs → low ≤ offset_or cs end i
