@@ -1,10 +1,13 @@
 -- What is seen of jobs in a section.
-use Rattle.std.proofs.Common.{◌≡◌, List, Bool, true, false, Option, Some, None, refl, sym, ap, ◌∙◌, codes}
+use Rattle.std.proofs.Common.{◌≡◌, List, Bool, true, false, Option, Some, None, refl, sym, ap, ◌∙◌, codes, inl, inr, subst}
 use Rattle.al_types.specs.Scopes.{type_of_context}
 use Rattle.al_types.specs.declared.names.Context.{Context}
 use Rattle.al_types.specs.declared.names.Context.TheVariants as context
 use Rattle.al_types.specs.declared.scope.ContextTypes.{ContextTypes}
 use Rattle.al_types.specs.TypeViews.{ty_of}
+use Rattle.al_types.specs.declared.types.Ty.{Ty}
+use Rattle.al_types.specs.declared.types.Ty.TheBlock as code
+use Rattle.al_types.specs.declared.types.Object.{Object'}
 use Rattle.al_yaml.specs.View.{view}
 use Rattle.al_shape.specs.Keys.{key_of}
 use Rattle.al_shape.specs.Values.{items_at}
@@ -22,13 +25,39 @@ use Rattle.al_yaml.specs.Node.{Node}
 use Rattle.al_places.specs.Positions.{Position, Section, Seen, apart, in_on, in_job}
 use Rattle.al_contexts.specs.Contexts.{Known, job_among, job_in, jobs_seen, jobs_type_of, needs_type_of, steps_type, type_at, type_in_job}
 use Rattle.al_declarations.specs.Declarations.{action_steps, is_composite}
-use Rattle.al_contexts.specs.Private.Environment.{Fixed, OfSection, inputs_in, jobs_in, matrix_in, needs_in, owned, owner_in, owner_of, strategy_in}
+use Rattle.al_contexts.specs.Private.Environment.{Fixed, IsStrategy, OfSection, inputs_in, jobs_in, matrix_in, needs_in, owned, owner_in, owner_of, strategy_in}
 use Rattle.al_contexts.specs.Private.Environment as environment
 
 pub jobs_shown : (k : Known) (js : List (Node × Node)) (s : Section) → environment.jobs_shown k js s ≡ (if environment.shows_jobs s then jobs_type_of k js else Any)
 jobs_shown k js apart = refl
 jobs_shown k js in_on = refl
 jobs_shown k js (in_job key) = refl
+
+-- ---- the type of `strategy` from one section to the next
+
+any_alone : (t : Ty) → ty_of t ≡ Any → (t ≡ code.Any → ⊥) → ⊥
+any_alone code.Any e n = n refl
+any_alone code.Null e n = cc
+any_alone code.Number e n = cc
+any_alone code.Bool e n = cc
+any_alone code.String e n = cc
+any_alone (code.Array' p t) e n = cc
+any_alone (code.Object (Object' s f r)) e n = cc
+
+pub kept_strategy : (t : Ty) → IsStrategy (ty_of t) → (t ≡ code.Any → ⊥) → ty_of t ≡ strategy_type
+kept_strategy t (inl e) n = absurd (any_alone t e n)
+kept_strategy t (inr e) n = e
+
+strategy_of_job : (job : Option (Node × Node)) → IsStrategy (type_in_job (λ j. strategy_type) job)
+strategy_of_job None = inl refl
+strategy_of_job (Some j) = inr refl
+
+strategy_in_section : (k : FileKind) (root : Node) (s : Section) → IsStrategy (strategy_in k root s)
+strategy_in_section kind.Workflow root s = strategy_of_job (job_in root s)
+strategy_in_section kind.Action root s = inl refl
+
+pub some_strategy : (k : FileKind) (root : Node) (s : Section) (t : Ty) → ty_of t ≡ strategy_in k root s → IsStrategy (ty_of t)
+some_strategy k root s t e = subst IsStrategy (sym e) (strategy_in_section k root s)
 
 -- of a workflow's section
 pub of_workflow : (f : File) (ts : ContextTypes) (s : Section) (js : List (Node × Node)) (job : Option (Node × Node)) →

@@ -125,12 +125,17 @@ fn shows_jobs(section: Section<'_>) -> bool
     }
 }
 
-fn strategy_at(alloc: Global, job: Option<Member<'_>>) -> Result<Ty, AllocError>
+/// The type of `strategy` in a job or outside of jobs, from that in another section. It is the same in all jobs, so the next job keeps it.
+fn strategy_at(alloc: Global, old: Ty, job: Option<Member<'_>>) -> Result<Ty, AllocError>
+    requires { environment.IsStrategy (ty_of old) }
     ensures { IfOk result (λ t. ty_of t ≡ type_in_job (λ j. strategy_type) (option_map member_of job.entry)) }
 {
     match job {
         None => Ok(Ty::Any),
-        Some(_) => strategy(alloc),
+        Some(_) => match old {
+            Ty::Any => strategy(alloc),
+            kept => Ok(kept),
+        },
     }
 }
 
@@ -221,7 +226,8 @@ fn enter_workflow<'a>(
     ensures same { OnOk result (section_view (env.new).section ≡ section_view section.entry) }
 {
     let job = env.jobs.job_of(section);
-    let strategy = strategy_at(alloc, job)?;
+    let kept = replace(&mut env.scope.types.strategy, Ty::Any);
+    let strategy = strategy_at(alloc, kept, job)?;
     let needed = replace(&mut env.scope.types.needs, Ty::Any);
     let fields = into_fields(alloc, needed);
     env.shown.put_back(alloc, &env.jobs, fields)?;

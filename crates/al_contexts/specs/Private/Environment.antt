@@ -1,5 +1,5 @@
 -- The types of contexts by what they change with: those that a file fixes, those of a section, and `steps`.
-use Rattle.std.specs.Prelude.{◌≡◌, ℕ, Bool, true, false, List, [], codes, map, Option, Some, None, option_map, if◌then◌else◌}
+use Rattle.std.specs.Prelude.{◌≡◌, ◌⊎◌, ℕ, Bool, true, false, List, [], codes, map, Option, Some, None, option_map, if◌then◌else◌}
 use Rattle.std.specs.Option.{option_copied}
 use Rattle.al_types.specs.Types.{Type', Any}
 use Rattle.al_types.specs.TypeViews.{ty_of}
@@ -55,6 +55,10 @@ owned_fields known (Some o) seen = steps_shown known o.0 o.1 seen
 abbrev pub strategy_in : FileKind → Node → Section → Type'
 strategy_in kind.Workflow root s = type_in_job (λ j. strategy_type) (job_in root s)
 strategy_in kind.Action root s = Any
+
+-- the type of `strategy` in some section
+abbrev pub IsStrategy : Type' → Type 0
+IsStrategy t = (t ≡ Any) ⊎ (t ≡ strategy_type)
 
 abbrev pub needs_in : FileKind → Known → Node → Section → Type'
 needs_in kind.Workflow known root s = type_in_job (λ j. needs_type known root j.1) (job_in root s)

@@ -4,13 +4,14 @@ use Rattle.al_types.specs.TypeViews.{ty_of}
 use Rattle.al_types.specs.Private.TypeParts.{fields_of_type}
 use Rattle.al_shape.specs.Values.{member_of}
 use Rattle.al_places.specs.Positions.{section_view}
+use Rattle.al_yaml.specs.View.{view}
 use Rattle.al_contexts.specs.Answered.{known_of}
 use Rattle.al_contexts.specs.Contexts.{needs_type_of, type_in_job}
 use Rattle.al_contexts.specs.Private.Environment.{jobs_shown, owner_view}
 use Rattle.al_contexts.specs.Private.Indexes.{name_at}
 use Rattle.al_contexts.specs.Private.Lookups.{known_by}
 use Rattle.al_contexts.proofs.Needed.{given_back_here}
-use Rattle.al_contexts.proofs.Sections.{of_workflow}
+use Rattle.al_contexts.proofs.Sections.{of_workflow, some_strategy}
 use Rattle.al_contexts.proofs.Seen.{none_shown}
 use Rattle.al_contexts.proofs.env.enter_workflow.Goals as goal
 
@@ -40,6 +41,12 @@ returns-clause-stands c =
           ∙ sym (ap name_at (none_shown (known_of c.args.file.known.now) (option_map owner_view c.owner_at-owner.result)));
       shown = c.in_ok-needs.ensures.keeps;
     }
+
+pub strategy_at-requires : goal.strategy_at-requires
+strategy_at-requires c =
+    let env = c.args.env.now in
+    some_strategy c.args.file.kind (view c.args.file.root.now) (section_view env.section) _
+    (ap ty_of c.replace-kept.ensures.value ∙ c.requires.stands.section.strategy)
 
 pub put_back-requires : goal.put_back-requires
 put_back-requires c = record { long = c.requires.stands.shown.long ∙ length-map c.args.env.now.jobs.members.items member_of }
