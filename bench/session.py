@@ -37,7 +37,7 @@ TABLE = {
 
 
 FILES = 4_096
-REPORTS = 30
+REPORTS = 200
 LOOP_LINE = 'call of "./.github/workflows/0000.yml" leads back to this file [workflow-call]'
 OWN_LINE = 'unexpected key "" [syntax-check]'
 
