@@ -279,8 +279,8 @@ kept_number m is_unit (x ∷ xs) (suc i) e kept at = kept_number m is_unit xs i 
 pub entry_number : {U I : Type 0} (files : Files U I) (i : ℕ) (e : String Global × KeptFile U I) → slice_get files i ≡ Some e → slice_get (folder_of files) i ≡ Some (string_bytes e.0, e.1.bytes.items)
 entry_number files i e at = slice_get-map entry_of files i ∙ ap (option_map entry_of) at
 
-pub same_entry : (f : Folder) (i : ℕ) (a b : List ℕ × List ℕ) → slice_get f i ≡ Some a → slice_get f i ≡ Some b → a ≡ b
-same_entry f i a b x y = ap (λ o. unwrap_or o a) (sym x ∙ y)
+pub one_entry : {X : Type 0} (xs : List X) (i : ℕ) (a b : X) → slice_get xs i ≡ Some a → slice_get xs i ≡ Some b → a ≡ b
+one_entry xs i a b x y = ap (λ o. unwrap_or o a) (sym x ∙ y)
 
 -- ---- the part of the graph that the program makes
 

@@ -1,6 +1,7 @@
 //! Calls that lead back to their own file.
 
-ghost use Rattle.std.specs.Prelude.{◌≡◌, ◌<◌, ◌++◌, ◌&&◌, ◌∷◌, [], ℕ, List, None, Some, Contains, cond, length};
+ghost use Rattle.std.specs.Prelude.{◌≡◌, ◌<◌, ◌≤◌, ◌+◌, ◌++◌, ◌&&◌, ◌∷◌, [], ℕ, List, None, Some, Contains, cond, false, length};
+ghost use Rattle.std.specs.Prelude.{vec_capacity, vec_len};
 ghost use Rattle.std.specs.Prelude.{map, nat_eq, nat_le, nat_lt, slice_get, slice_index_or};
 ghost use Rattle.std.specs.Prelude.{IfOk, IfSome, OnOk};
 ghost use Rattle.std.specs.List.{cons_option, filter_map, list_any};
@@ -8,7 +9,8 @@ ghost use Rattle.std.specs.Option.{option_eq};
 ghost use Rattle.al_graph.specs.Graphs.{edges_of};
 ghost use Rattle.al_folder.specs.Kept.{AreKept, IsKept, folder_of, referred};
 ghost use Rattle.al_folder.specs.Loops as loops;
-ghost use Rattle.al_folder.specs.Private.CallGraphs.{IsCallGraph, IsCalledBy, IsRow, NoneBackward, NoneForward, TellLoops, part_of};
+ghost use Rattle.al_folder.specs.Private.CallGraphs.{HasRoomForCalls, IsCallGraph, IsCalledBy, IsLonger, IsRow, NoneBackward, NoneForward};
+ghost use Rattle.al_folder.specs.Private.CallGraphs.{TellLoops, may_lead_back, part_of};
 ghost use Rattle.al_folder.specs.Sites.{site_of};
 
 use crate::kept::{Files, KeptFile};
@@ -263,21 +265,19 @@ pub fn call_faults<L: Lint>(
     Ok(faults)
 }
 
-/// Adds the fault of a call, if it leads back.
-fn add_if<'a>(
-    leads_back: bool,
-    fault: &'a Fault,
-    faults: &mut Vec<&'a Fault>,
-) -> Result<(), AllocError>
-    ensures { OnOk result (referred faults.new.items ≡ referred faults.old.items ++ cond leads_back (fault.entry.now ∷ []) []) }
+/// Adds the fault of a call, if it leads back. There is room for it.
+fn add_if<'a>(leads_back: bool, fault: &'a Fault, faults: &mut Vec<&'a Fault>)
+    requires { vec_len faults.old < vec_capacity faults.old }
+    ensures faults { referred faults.new.items ≡ referred faults.old.items ++ cond leads_back (fault.entry.now ∷ []) [] }
+    ensures len { vec_len faults.new ≤ vec_len faults.old + 1 }
+    ensures capacity { vec_capacity faults.new ≡ vec_capacity faults.old }
 {
     if leads_back {
-        faults.push(fault)?;
+        faults.push_reserved(fault);
     }
-    Ok(())
 }
 
-/// Adds the faults of the calls of a file with this number that lead back to it, in the order of the calls.
+/// Adds the faults of the calls of a file with this number that lead back to it, in the order of the calls. There is room for one of each.
 fn add_faults_of_calls<'a, L: Lint>(
     files: &Files<L::Unit, L::Iface>,
     labels: &[Option<usize>],
@@ -285,14 +285,17 @@ fn add_faults_of_calls<'a, L: Lint>(
     index: usize,
     file: &'a KeptFile<L::Unit, L::Iface>,
     faults: &mut Vec<&'a Fault>,
-) -> Result<(), AllocError>
+)
     requires kept { AreKept L.meaning L.is_unit files.now.entries }
     requires labels { TellLoops (loops.calls_graph L.meaning (folder_of files.now.entries)) labels.now }
     requires row { IsRow (folder_of files.now.entries) row.now file.now.calls.items }
     requires there { (p : List ℕ) × IsKept L.meaning L.is_unit p file.now
         × (slice_get (folder_of files.now.entries) index ≡ Some (p, file.now.bytes.items)) }
-    ensures { (p : List ℕ) → IsKept L.meaning L.is_unit p file.now → OnOk result (referred faults.new.items
-        ≡ referred faults.old.items ++ loops.loop_faults L.meaning (folder_of files.now.entries) index p file.now.bytes.items) }
+    requires room { vec_len faults.old + length file.now.calls.items ≤ vec_capacity faults.old }
+    ensures faults { (p : List ℕ) → IsKept L.meaning L.is_unit p file.now → referred faults.new.items
+        ≡ referred faults.old.items ++ loops.loop_faults L.meaning (folder_of files.now.entries) index p file.now.bytes.items }
+    ensures len { vec_len faults.new ≤ vec_len faults.old + length file.now.calls.items }
+    ensures capacity { vec_capacity faults.new ≡ vec_capacity faults.old }
 {
     for (call, target) in file.calls.iter().enumerate() {
         let to = called_again(files, row, &file.calls, call, target);
@@ -300,33 +303,45 @@ fn add_faults_of_calls<'a, L: Lint>(
             leads_back(labels, index, to),
             &file.call_faults[call],
             faults,
-        )?;
+        );
     }
-    Ok(())
 }
 
-/// Adds the faults of the calls of the file with this number that lead back to it, in the order of the calls. No candidate is looked up
-/// of a file that no call of its own leads back to, nor of one each of whose calls leads to a file.
-///
-/// # Errors
-///
-/// [`AllocError`] where memory ran out.
+/// Whether a call of the file with this number may lead back to it: whether one leads to a file in its strongly connected component. No
+/// file is looked at.
+pub fn may_lead_back<L: Lint>(
+    files: &Files<L::Unit, L::Iface>,
+    calls: &CallGraph,
+    index: usize,
+) -> bool
+    requires calls { IsCallGraph L.meaning (folder_of files.now.entries) calls.now.graph.items calls.now.labels.items }
+    requires index { index < length files.now.entries }
+    ensures is { result ≡ may_lead_back calls.now.graph.items calls.now.labels.items index }
+    ensures quiet { result ≡ false → (p b : List ℕ) → slice_get (folder_of files.now.entries) index ≡ Some (p, b)
+        → [] ≡ loops.loop_faults L.meaning (folder_of files.now.entries) index p b }
+{
+    let row = calls.graph[index].as_slice();
+    has_label_of(row, &calls.labels, index)
+}
+
+/// Adds the faults of the calls of the file with this number that lead back to it, in the order of the calls. There is room for one of
+/// each. No candidate is looked up of a file each of whose calls leads to a file.
 pub fn add_loop_faults<'a, L: Lint>(
     files: &'a Files<L::Unit, L::Iface>,
     calls: &CallGraph,
     index: usize,
     faults: &mut Vec<&'a Fault>,
-) -> Result<(), AllocError>
+)
     requires kept { AreKept L.meaning L.is_unit files.now.entries }
     requires calls { IsCallGraph L.meaning (folder_of files.now.entries) calls.now.graph.items calls.now.labels.items }
     requires index { index < length files.now.entries }
-    ensures { (p b : List ℕ) → slice_get (folder_of files.now.entries) index ≡ Some (p, b) → OnOk result (referred faults.new.items
-        ≡ referred faults.old.items ++ loops.loop_faults L.meaning (folder_of files.now.entries) index p b) }
+    requires room { HasRoomForCalls files.now.entries index (vec_len faults.old) (vec_capacity faults.old) }
+    ensures faults { (p b : List ℕ) → slice_get (folder_of files.now.entries) index ≡ Some (p, b) → referred faults.new.items
+        ≡ referred faults.old.items ++ loops.loop_faults L.meaning (folder_of files.now.entries) index p b }
+    ensures len { IsLonger files.now.entries index (vec_len faults.old) (vec_len faults.new) }
+    ensures capacity { vec_capacity faults.new ≡ vec_capacity faults.old }
 {
     let row = calls.graph[index].as_slice();
-    if !has_label_of(row, &calls.labels, index) {
-        return Ok(());
-    }
     let (_, file) = file_number(files, index);
-    add_faults_of_calls::<L>(files, &calls.labels, row, index, file, faults)
+    add_faults_of_calls::<L>(files, &calls.labels, row, index, file, faults);
 }

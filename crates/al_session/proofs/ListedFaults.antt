@@ -1,7 +1,7 @@
 -- The faults that a report lists: each file's own, and those of its calls that lead back to it.
-use Rattle.std.proofs.Common.{◌≤◌, ◌≡◌, ◌<◌, ℕ, zero, suc, ◌+◌, ◌-◌, Bool, true, false, cond, not, List, [], ◌∷◌, ◌++◌, drop, length, length-append, take}
-use Rattle.std.proofs.Common.{get_or, Option, Some, None, String, slice_get, refl, sym, ◌∙◌, ap, subst, ◌||◌, arith, ◌⊎◌, ⊎_elim}
-use Rattle.std.specs.Prelude.{slice_range, string_bytes}
+use Rattle.std.proofs.Common.{◌≤◌, ◌≡◌, ◌<◌, ℕ, zero, suc, ◌+◌, Bool, true, false, cond, not, List, [], ◌∷◌, ◌++◌, length}
+use Rattle.std.proofs.Common.{get_or, Option, Some, None, String, Vec, slice_get, refl, sym, ◌∙◌, ap, subst, ◌||◌, arith, ◌⊎◌, ⊎_elim}
+use Rattle.std.specs.Prelude.{string_bytes}
 use Rattle.std.specs.Bool.{◌==◌}
 use Rattle.std.specs.Borrow.{Bor}
 use Rattle.std.specs.Global.{Global}
@@ -12,8 +12,7 @@ use Rattle.std.specs.Ordering.{is_lt, match_ordering}
 use Rattle.std.specs.declared.cmp.Ordering.{Ordering}
 use Rattle.std.specs.declared.cmp.Ordering.TheVariants.{Less, Equal, Greater}
 use Rattle.std.proofs.lemmas.Bool.Decides.{nat_tests}
-use Rattle.std.proofs.lemmas.List.{drop-append-le, get_or-map, length-drop, length-map, take-append-le, take_all}
-use Rattle.std.proofs.Math.Seq.{drop-append_seam}
+use Rattle.std.proofs.lemmas.List.{get_or-map, length-map}
 use Rattle.std.proofs.lemmas.List.Sorted.{IsPermutation-map}
 use Rattle.al_base.proofs.FaultLists.{AllByRecursion-fault_list, derived_is, derived_ties, fault_cmp_same, fault_cmp_total, fault_list-sorted}
 use Rattle.al_base.proofs.InOrder.{dedup-in_order}
@@ -27,89 +26,17 @@ use Rattle.al_base.specs.declared.faults.Fault.{Fault}
 use Rattle.al_folder.specs.Meaning.{CallSite, Meaning}
 use Rattle.al_folder.specs.Folder.{Folder, answers, faults_in}
 use Rattle.al_folder.specs.Kept.{Files, folder_of, referred, AllKept}
+use Rattle.al_folder.specs.Private.CallGraphs.{may_lead_back}
 use Rattle.al_folder.specs.Loops.{calls_graph, called, leads_back, loop_fault_if, loop_faults, looping, reported}
 use Rattle.al_folder.specs.declared.kept.KeptFile.{KeptFile}
 use Rattle.al_folder.specs.declared.lint.Target.{Target}
-use Rattle.al_folder.proofs.Looping.{below_length, kept_number}
+use Rattle.al_folder.proofs.Looping.{kept_number}
 use Rattle.al_session.specs.Report.{status_of, report_of}
 use Rattle.al_session.specs.Session.{AllChecked}
-use Rattle.al_session.specs.Private.Lists.{AreJoined, ArePrintable, IsJoined, IsSpan, Span, in_span, joined_at, listed, numbered_lines}
+use Rattle.al_session.specs.Private.Lists.{ArePrintable, HasRoom, HasRoomFor, numbered_lines}
 use Rattle.al_session.proofs.Reports.{any_fault}
 
 -- ---- faults that are joined
-
--- a part of a list, where the list has more behind it, and the last part
-range_before : {X : Type 0} (xs ys : List X) (a b : ℕ) → a ≤ b → b ≤ length xs → slice_range (xs ++ ys) a b ≡ slice_range xs a b
-range_before xs ys a b ab bn =
-    let n : length (drop a xs) ≡ length xs - a = length-drop a xs in
-    ap (take (b - a)) (drop-append-le a xs ys (omega (arith, ab, bn))) ∙ take-append-le (b - a) (drop a xs) ys (omega (arith, n, bn))
-
-pub range_end : {X : Type 0} (old list new : List X) (a b : ℕ) → new ≡ old ++ list → a ≡ length old → b ≡ length new → slice_range new a b ≡ list
-range_end old list new a b is first last =
-    let n : length new ≡ length old + length list = ap length is ∙ length-append old list in
-    let size : b - a ≡ length list = omega (arith, n, first, last) in
-    ap (λ l. take (b - a) (drop a l)) is ∙ ap (λ k. take (b - a) (drop k (old ++ list))) first ∙ ap (take (b - a)) (drop-append_seam old list)
-    ∙ ap (λ k. take k list) size ∙ take_all (length list) list (omega arith)
-
-pub ordered_end : {X : Type 0} (old list new : List X) (a b : ℕ) → new ≡ old ++ list → a ≡ length old → b ≡ length new → a ≤ b
-ordered_end old list new a b is first last =
-    let n : length new ≡ length old + length list = ap length is ∙ length-append old list in
-    omega (arith, n, first, last)
-
-span_kept : (old new : List (Bor Fault)) (s : Span) → (more : List (Bor Fault)) × (new ≡ old ++ more) → IsSpan old s → IsSpan new s
-span_kept old new None k h = tt
-span_kept old new (Some s) k h =
-    let n : length new ≡ length old + length k.0 = ap length k.1 ∙ length-append old k.0 in
-    let end = h.1 in
-    (h.0, omega (arith, end, n))
-
-span_same : (old new : List (Bor Fault)) (s : Span) → (more : List (Bor Fault)) × (new ≡ old ++ more) → IsSpan old s → in_span new s ≡ in_span old s
-span_same old new None k h = refl
-span_same old new (Some s) k h = ap Some (ap (λ l. slice_range l s.0 s.1) k.1 ∙ range_before old k.0 s.0 s.1 h.0 h.1)
-
-abbrev Spans : Type 0
-Spans = List Span
-
-at_before : (ls : Spans) (o : Span) (i : ℕ) → i < length ls → get_or (ls ++ o ∷ []) i None ≡ get_or ls i None
-at_before [] o i h = absurd (omega (arith, h))
-at_before (l ∷ ls) o zero h = refl
-at_before (l ∷ ls) o (suc i) h = at_before ls o i (omega arith)
-
-at_end : (ls : Spans) (o : Span) → get_or (ls ++ o ∷ []) (length ls) None ≡ o
-at_end [] o = refl
-at_end (l ∷ ls) o = at_end ls o
-
-one_longer : (ls : Spans) (o : Span) → length (ls ++ o ∷ []) ≡ length ls + 1
-one_longer [] o = refl
-one_longer (l ∷ ls) o = let rest = one_longer ls o in omega (arith, rest)
-
-before_or_last : (i n : ℕ) → i < n + 1 → (i < n) ⊎ (i ≡ n)
-before_or_last i n h = grind arith
-
-module _ {U I : Type 0} (m : Meaning I) (files : Files U I) where
-  pub joined_none : (all : List (Bor Fault)) → AreJoined m files all [] 0
-  joined_none all = record { size = refl; within = λ i lt. absurd (omega (arith, lt)); each = λ i lt. absurd (omega (arith, lt)) }
-
-  pub joined_next : (all more : List (Bor Fault)) (old new : Spans) (o : Span) (n : ℕ) → new ≡ old ++ o ∷ [] → AreJoined m files all old n →
-      IsJoined m files n all more o → AreJoined m files more new (n + 1)
-  joined_next all more old new o n is j one =
-      let size : length old ≡ n = j.size in
-      let here : (i : ℕ) → i ≡ n → get_or (old ++ o ∷ []) i None ≡ o = λ i last. ap (λ k. get_or (old ++ o ∷ []) k None) (last ∙ sym size) ∙ at_end old o in
-      let whole : AreJoined m files more (old ++ o ∷ []) (n + 1) = record {
-        size = one_longer old o ∙ ap (λ k. k + 1) size;
-        within = λ i lt. ⊎_elim
-            (λ below. subst (λ (s : Span). IsSpan more s) (sym (at_before old o i (omega (arith, below, size))))
-            (span_kept all more (get_or old i None) one.kept (j.within i below)))
-            (λ last. subst (λ (s : Span). IsSpan more s) (sym (here i last)) one.within)
-            (before_or_last i n lt);
-        each = λ i lt e at. ⊎_elim
-            (λ below. ap (λ (s : Span). listed e.1 (in_span more s)) (at_before old o i (omega (arith, below, size)))
-            ∙ ap (listed e.1) (span_same all more (get_or old i None) one.kept (j.within i below)) ∙ j.each i below e at)
-            (λ last. let there : slice_get files n ≡ Some e = ap (slice_get files) (sym last) ∙ at in
-            ap (λ (s : Span). listed e.1 (in_span more s)) (here i last) ∙ one.listed e there ∙ ap (λ k. reported m (folder_of files) k (string_bytes e.0) e.1.bytes.items) (sym last))
-            (before_or_last i n lt);
-      } in
-      subst (λ (ls : Spans). AreJoined m files more ls (n + 1)) (sym is) whole
 
 -- the faults of a kept file with this number
 pub checked_number : {U I : Type 0} (m : Meaning I) (f : Folder) (files : Files U I) (i : ℕ) (e : String Global × KeptFile U I) → AllChecked m f files → slice_get files i ≡ Some e →
@@ -156,40 +83,24 @@ module _ {I : Type 0} (m : Meaning I)
       AllByRecursion-fault_list (λ (fault : Fault). LiesIn (length b) fault.span) (loop_faults m f i p b ++ m.faults p b (answers m f p b))
       (all_one _ (loop_faults m f i p b) (m.faults p b (answers m f p b)) (looping_inside m f i (length b) (m.calls p b) (m.sites p b) (sites p b small)) (inside p b (answers m f p b) small))
 
-  pub printable : {U : Type 0} (is_unit : U → List ℕ → List ℕ → Type 0) (files : Files U I) (all : List (Bor Fault)) (spans : Spans) → AllKept m is_unit files →
-      AreJoined m files all spans (length files) → ArePrintable files all spans
-  printable is_unit files all spans kept j = record {
-    size = j.size;
-    within = j.within;
-    each = λ i e at.
-        let one = kept_number m is_unit files i e kept at in
-        let P : List Fault → Type 0 = λ l. AllByRecursion (λ (fault : Fault). LiesIn (length e.1.bytes.items) fault.span) l in
-        record {
-          small = one.small;
-          lines = one.lines;
-          inside = subst P (sym (j.each i (below_length files i e at) e at)) (reported_inside (folder_of files) i (string_bytes e.0) e.1.bytes.items one.small);
-        };
-  }
+  pub printable : {U : Type 0} (is_unit : U → List ℕ → List ℕ → Type 0) (files : Files U I) → AllKept m is_unit files → ArePrintable m files
+  printable is_unit files kept i e at =
+      let one = kept_number m is_unit files i e kept at in
+      record { small = one.small; lines = one.lines; inside = reported_inside (folder_of files) i (string_bytes e.0) e.1.bytes.items one.small }
 
 -- ---- the report
 
-module _ {U I : Type 0} (m : Meaning I) (f : Folder) (oneline : Bool) (all : List (Bor Fault)) (spans : Spans) where
-  lines_from : (n : ℕ) (es : Files U I)
-      → ((i j : ℕ) (e : String Global × KeptFile U I) → j ≡ n + i → slice_get es i ≡ Some e → listed e.1 (joined_at all spans j) ≡ reported m f j (string_bytes e.0) e.1.bytes.items)
-      → flat_map (numbered_lines oneline all spans) (enumerate_from n es) ≡ flat_map (λ x. flat_map (fault_text oneline x.1.0 x.1.1) (reported m f x.0 x.1.0 x.1.1)) (enumerate_from n (folder_of es))
-  lines_from n [] h = refl
-  lines_from n (e ∷ es) h =
-      let first : listed e.1 (joined_at all spans n) ≡ reported m f n (string_bytes e.0) e.1.bytes.items = h 0 n e (omega arith) refl in
-      let rest = lines_from (n + 1) es (λ i j x is at. h (suc i) j x (omega (arith, is)) at) in
-      ap (λ l. flat_map (fault_text oneline (string_bytes e.0) e.1.bytes.items) l ++ flat_map (numbered_lines oneline all spans) (enumerate_from (n + 1) es)) first
-      ∙ ap (λ l. flat_map (fault_text oneline (string_bytes e.0) e.1.bytes.items) (reported m f n (string_bytes e.0) e.1.bytes.items) ++ l) rest
+lines_from : {U I : Type 0} (m : Meaning I) (f : Folder) (oneline : Bool) (n : ℕ) (es : Files U I) →
+    flat_map (numbered_lines oneline m f) (enumerate_from n es)
+    ≡ flat_map (λ x. flat_map (fault_text oneline x.1.0 x.1.1) (reported m f x.0 x.1.0 x.1.1)) (enumerate_from n (folder_of es))
+lines_from m f oneline n [] = refl
+lines_from m f oneline n (e ∷ es) =
+    ap (λ l. flat_map (fault_text oneline (string_bytes e.0) e.1.bytes.items) (reported m f n (string_bytes e.0) e.1.bytes.items) ++ l) (lines_from m f oneline (n + 1) es)
 
-pub report_is : {U I : Type 0} (m : Meaning I) (files : Files U I) (oneline : Bool) (all : List (Bor Fault)) (spans : Spans) → AreJoined m files all spans (length files) →
-    flat_map (numbered_lines oneline all spans) (enumerate_from 0 files) ≡ report_of oneline m (folder_of files)
+pub report_is : {U I : Type 0} (m : Meaning I) (files : Files U I) (oneline : Bool) →
+    flat_map (numbered_lines oneline m (folder_of files)) (enumerate_from 0 files) ≡ report_of oneline m (folder_of files)
 unfolding report_of
-report_is m files oneline all spans j =
-    lines_from m (folder_of files) oneline all spans 0 files (λ i k e is at. let same : k ≡ i = omega (arith, is) in
-    ap (λ n. listed e.1 (joined_at all spans n)) same ∙ j.each i (below_length files i e at) e at ∙ ap (λ n. reported m (folder_of files) n (string_bytes e.0) e.1.bytes.items) (sym same))
+report_is m files oneline = lines_from m (folder_of files) oneline 0 files
 
 -- ---- the status
 
@@ -269,13 +180,6 @@ module _ {U I : Type 0} (m : Meaning I) (files : Files U I) (checked : AllChecke
       or_false true = refl
       or_false false = refl
 
--- ---- what is read by numbers
-
-pub list_read : (spans : Spans) (i : ℕ) (o : Span) → i < length spans → o ≡ get_or spans i o → get_or spans i None ≡ o
-list_read [] i o h e = absurd (omega (arith, h))
-list_read (l ∷ ls) zero o h e = sym e
-list_read (l ∷ ls) (suc i) o h e = list_read ls i o (omega arith) e
-
 -- ---- faults in order by references to them
 
 module _ (E : Fault → Fault → Bool) where
@@ -325,11 +229,24 @@ all-referred P (x ∷ xs) (suc i) r all lt is = all-referred P xs i r all.1 (ome
 pub listed_both : {U I : Type 0} (m : Meaning I) (files : Files U I) (i : ℕ) (e : String Global × KeptFile U I) (loops all : List Fault)
     (list : List (Bor Fault)) → AllChecked m (folder_of files) files →
     slice_get files i ≡ Some e → loops ≡ loop_faults m (folder_of files) i (string_bytes e.0) e.1.bytes.items → all ≡ loops ++ e.1.faults.items → referred list ≡ fault_list all →
-    listed e.1 (Some list) ≡ reported m (folder_of files) i (string_bytes e.0) e.1.bytes.items
+    referred list ≡ reported m (folder_of files) i (string_bytes e.0) e.1.bytes.items
 unfolding reported
 listed_both m files i e loops all list checked at is a o =
     o ∙ ap fault_list (a ∙ ap (λ x. x ++ e.1.faults.items) is ∙ ap (λ x. loop_faults m (folder_of files) i (string_bytes e.0) e.1.bytes.items ++ x)
     (checked_number m (folder_of files) files i e checked at))
 
-pub one_entry : {X : Type 0} (xs : List X) (i : ℕ) (a b : X) → slice_get xs i ≡ Some a → slice_get xs i ≡ Some b → a ≡ b
-one_entry xs i a b x y = ap (λ o. unwrap_or o a) (sym x ∙ y)
+-- ---- room for what is joined
+
+module _ {U I : Type 0} (files : Files U I) (graph : List (Vec ℕ Global)) (labels : List (Option ℕ)) where
+  pub room_none : (capacity : ℕ) → HasRoomFor files graph labels 0 capacity
+  room_none capacity i below loops = absurd (omega (arith, below))
+
+  pub room_next : (first old new : ℕ) → HasRoomFor files graph labels first old → old ≤ new → (may_lead_back graph labels first ≡ true → HasRoom files first new) →
+      HasRoomFor files graph labels (first + 1) new
+  room_next first old new room more one i below loops = ⊎_elim
+      (λ lt. λ e at. let h = room i lt loops e at in omega (arith, h, more))
+      (λ last. subst (λ k. may_lead_back graph labels k ≡ true → HasRoom files k new) (sym last) one loops)
+      (before_or_last i first below)
+    where
+      before_or_last : (i n : ℕ) → i < n + 1 → (i < n) ⊎ (i ≡ n)
+      before_or_last i n h = grind arith

@@ -1,95 +1,165 @@
 //! The faults of calls that lead back to their own file, joined with the file's others.
 
-ghost use Rattle.std.specs.Prelude.{◌≡◌, ◌<◌, ◌++◌, not, length, ◌==◌, IfOk, OnOk};
+ghost use Rattle.std.specs.Prelude.{◌≡◌, ◌<◌, ◌≤◌, ◌+◌, ◌++◌, ◌==◌, ℕ, List, Some, IfOk, length, not, slice_get, true};
+ghost use Rattle.std.specs.Prelude.{vec_capacity, vec_len};
 ghost use Rattle.std.specs.List.{enumerate_from, list_any};
 ghost use Rattle.al_base.specs.FaultLists.{fault_list};
 ghost use Rattle.al_folder.specs.Kept.{AreKept, folder_of, referred};
 ghost use Rattle.al_folder.specs.Loops as loops;
-ghost use Rattle.al_folder.specs.Private.CallGraphs.{IsCallGraph};
+ghost use Rattle.al_folder.specs.Private.CallGraphs.{IsCallGraph, may_lead_back};
 ghost use Rattle.al_session.specs.Session.{AllChecked};
-ghost use Rattle.al_session.specs.Private.Lists.{AreJoined, IsJoined};
+ghost use Rattle.al_session.specs.Private.Lists.{HasRoom, HasRoomFor, IsListed};
 
 use al_base::Fault;
-use al_folder::{CallGraph, Files, Lint, add_loop_faults, call_graph, file_number};
+use al_folder::{
+    CallGraph, Files, KeptFile, Lint, add_loop_faults, call_graph, file_number, may_lead_back,
+};
 use std::alloc::{AllocError, Global};
 
-/// The faults that a report lists of the files that have a call which leads back to them.
+/// What a report needs to join faults, all of which is made before its first byte.
 #[derive(Drop)]
-pub(crate) struct JoinedFaults<'a> {
-    /// All of them, one file's behind another's: a vector for each file would be made and freed at each report.
-    pub(crate) faults: Vec<&'a Fault>,
-    /// Of each file where its own stand there, if it has such a call.
-    pub(crate) spans: Vec<Option<(usize, usize)>>,
+pub(crate) struct Joining<'a> {
+    /// The calls between the files.
+    pub(crate) calls: CallGraph,
+    /// A list with room for what `join_file` gathers of any file.
+    pub(crate) list: Vec<&'a Fault>,
 }
 
-// Adds references to faults.
-fn add_references<'a>(faults: &'a [Fault], out: &mut Vec<&'a Fault>) -> Result<(), AllocError>
-    ensures { OnOk result (referred out.new.items ≡ referred out.old.items ++ faults.now) }
+// Adds references to faults. There is room for them.
+fn add_references<'a>(faults: &'a [Fault], out: &mut Vec<&'a Fault>)
+    requires { vec_len out.old + length faults.now ≤ vec_capacity out.old }
+    ensures faults { referred out.new.items ≡ referred out.old.items ++ faults.now }
+    ensures capacity { vec_capacity out.new ≡ vec_capacity out.old }
 {
     for fault in faults {
-        out.push(fault)?;
+        out.push_reserved(fault);
     }
-    Ok(())
 }
 
 // Puts the faults that are referred to in the order of reports, each once.
 fn put_in_order(faults: &mut Vec<&Fault>)
-    ensures { referred faults.new.items ≡ fault_list (referred faults.old.items) }
+    ensures faults { referred faults.new.items ≡ fault_list (referred faults.old.items) }
+    ensures capacity { vec_capacity faults.new ≡ vec_capacity faults.old }
 {
     faults.sort_unstable();
     faults.dedup();
 }
 
-// Adds the faults of the file with this number, joined with those of its calls that lead back to it, where there are any. Answers where
-// they stand then. They are gathered in `own`, whatever it held.
-fn join_file<'a, L: Lint>(
+/// Gathers the faults that a report lists of the file with this number, in place of what the list held, where a call of the file may lead
+/// back to it. Answers whether one may: else the file's own faults are listed. There is room for them, so no memory is wanted.
+pub(crate) fn join_file<'a, L: Lint>(
     files: &'a Files<L::Unit, L::Iface>,
     calls: &CallGraph,
     index: usize,
-    own: &mut Vec<&'a Fault>,
-    all: &mut Vec<&'a Fault>,
-) -> Result<Option<(usize, usize)>, AllocError>
+    joined: &mut Vec<&'a Fault>,
+) -> bool
     requires kept { AreKept L.meaning L.is_unit files.now.entries }
     requires checked { AllChecked L.meaning (folder_of files.now.entries) files.now.entries }
     requires calls { IsCallGraph L.meaning (folder_of files.now.entries) calls.now.graph.items calls.now.labels.items }
     requires index { index < length files.now.entries }
-    ensures { IfOk result (λ span. IsJoined L.meaning files.now.entries index all.old.items all.new.items span) }
+    requires room { HasRoomFor files.now.entries calls.now.graph.items calls.now.labels.items (length files.now.entries)
+        (vec_capacity joined.old) }
+    ensures listed { IsListed L.meaning files.now.entries index result joined.new.items }
+    ensures capacity { vec_capacity joined.new ≡ vec_capacity joined.old }
 {
-    own.clear();
-    add_loop_faults::<L>(files, calls, index, own)?;
-    if own.is_empty() {
-        return Ok(None);
+    if !may_lead_back::<L>(files, calls, index) {
+        return false;
     }
+    joined.clear();
+    add_loop_faults::<L>(files, calls, index, joined);
     let (_, file) = file_number(files, index);
-    add_references(&file.faults, own)?;
-    put_in_order(own);
-    let start = all.len();
-    all.extend_from_slice(own.as_slice())?;
-    Ok(Some((start, all.len())))
+    add_references(&file.faults, joined);
+    put_in_order(joined);
+    true
 }
 
-/// Of each file the faults that a report lists, where they are not its own alone.
+// A number that is at least another, and at least what `join_file` gathers of a file.
+fn at_least<U, I>(least: usize, file: &KeptFile<U, I>) -> Result<usize, AllocError>
+    ensures { IfOk result (λ n. (least ≤ n) × (length file.now.calls.items + length file.now.faults.items ≤ n)) }
+{
+    match file.calls.len().checked_add(file.faults.len()) {
+        None => Err(AllocError),
+        Some(count) => Ok(if least < count { count } else { least }),
+    }
+}
+
+// A number that is at least another, and at least what `join_file` gathers of the file with this number.
+fn with_room<L: Lint>(
+    files: &Files<L::Unit, L::Iface>,
+    calls: &CallGraph,
+    index: usize,
+    least: usize,
+) -> Result<usize, AllocError>
+    requires calls { IsCallGraph L.meaning (folder_of files.now.entries) calls.now.graph.items calls.now.labels.items }
+    requires index { index < length files.now.entries }
+    ensures { IfOk result (λ n. (least ≤ n)
+        × (may_lead_back calls.now.graph.items calls.now.labels.items index ≡ true → HasRoom files.now.entries index n)) }
+{
+    if !may_lead_back::<L>(files, calls, index) {
+        return Ok(least);
+    }
+    let (_, file) = file_number(files, index);
+    at_least(least, file)
+}
+
+// An empty list, with room for what `join_file` gathers of any of the files.
+fn room_for<'a, L: Lint>(
+    alloc: Global,
+    files: &'a Files<L::Unit, L::Iface>,
+    calls: &CallGraph,
+) -> Result<Vec<&'a Fault>, AllocError>
+    requires { IsCallGraph L.meaning (folder_of files.now.entries) calls.now.graph.items calls.now.labels.items }
+    ensures { IfOk result (λ list. HasRoomFor files.now.entries calls.now.graph.items calls.now.labels.items (length files.now.entries)
+        (vec_capacity list)) }
+{
+    let mut most = 0;
+    for index in 0..files.len() {
+        most = with_room::<L>(files, calls, index, most)?;
+    }
+    Vec::with_capacity(alloc, most)
+}
+
+/// What is needed to join the faults of these files.
 ///
 /// # Errors
 ///
 /// [`AllocError`] where memory ran out.
-pub(crate) fn join_all<'a, L: Lint>(
+pub(crate) fn joining_of<'a, L: Lint>(
     alloc: Global,
     files: &'a Files<L::Unit, L::Iface>,
-) -> Result<JoinedFaults<'a>, AllocError>
-    requires kept { AreKept L.meaning L.is_unit files.now.entries }
-    requires checked { AllChecked L.meaning (folder_of files.now.entries) files.now.entries }
-    ensures { IfOk result (λ joined.
-        AreJoined L.meaning files.now.entries joined.faults.items joined.spans.items (length files.now.entries)) }
+) -> Result<Joining<'a>, AllocError>
+    requires { AreKept L.meaning L.is_unit files.now.entries }
+    ensures calls { IfOk result (λ j. IsCallGraph L.meaning (folder_of files.now.entries) j.calls.graph.items j.calls.labels.items) }
+    ensures room { IfOk result (λ j. HasRoomFor files.now.entries j.calls.graph.items j.calls.labels.items (length files.now.entries)
+        (vec_capacity j.list)) }
 {
     let calls = call_graph::<L>(alloc, files)?;
-    let mut own = Vec::new(alloc);
-    let mut faults = Vec::new(alloc);
-    let mut spans = Vec::with_capacity(alloc, files.len())?;
-    for index in 0..files.len() {
-        spans.push(join_file::<L>(files, &calls, index, &mut own, &mut faults)?)?;
+    let list = room_for::<L>(alloc, files, &calls)?;
+    Ok(Joining { calls, list })
+}
+
+// Whether a call of the file with this number leads back to it. The list is for the faults of such calls, whatever it held.
+fn leads_back<'a, L: Lint>(
+    files: &'a Files<L::Unit, L::Iface>,
+    calls: &CallGraph,
+    index: usize,
+    faults: &mut Vec<&'a Fault>,
+) -> bool
+    requires kept { AreKept L.meaning L.is_unit files.now.entries }
+    requires calls { IsCallGraph L.meaning (folder_of files.now.entries) calls.now.graph.items calls.now.labels.items }
+    requires index { index < length files.now.entries }
+    requires room { HasRoomFor files.now.entries calls.now.graph.items calls.now.labels.items (length files.now.entries)
+        (vec_capacity faults.old) }
+    ensures is { (p b : List ℕ) → slice_get (folder_of files.now.entries) index ≡ Some (p, b) → result
+        ≡ not (length (loops.loop_faults L.meaning (folder_of files.now.entries) index p b) == 0) }
+    ensures capacity { vec_capacity faults.new ≡ vec_capacity faults.old }
+{
+    if !may_lead_back::<L>(files, calls, index) {
+        return false;
     }
-    Ok(JoinedFaults { faults, spans })
+    faults.clear();
+    add_loop_faults::<L>(files, calls, index, faults);
+    !faults.is_empty()
 }
 
 /// Whether a call of a file leads back to it.
@@ -106,11 +176,11 @@ pub(crate) fn has_loops<L: Lint>(
         (loops.loop_faults L.meaning (folder_of files.now.entries) x.0 x.1.0 x.1.1) == 0))
         (enumerate_from 0 (folder_of files.now.entries))) }
 {
-    let calls = call_graph::<L>(alloc, files)?;
-    let mut faults = Vec::new(alloc);
+    let joining = joining_of::<L>(alloc, files)?;
+    let calls = joining.calls;
+    let mut list = joining.list;
     for index in 0..files.len() {
-        add_loop_faults::<L>(files, &calls, index, &mut faults)?;
-        if !faults.is_empty() {
+        if leads_back::<L>(files, &calls, index, &mut list) {
             return Ok(true);
         }
     }

@@ -1,6 +1,6 @@
 //! What a folder's files print.
 
-ghost use Rattle.std.specs.Prelude.{◌≡◌, ◌<◌, ◌≤◌, not, length, ◌==◌, OnOk, OnErr, IsOkUnless};
+ghost use Rattle.std.specs.Prelude.{◌≡◌, ◌<◌, ◌≤◌, not, length, vec_capacity, ◌==◌, OnOk, OnErr, IsOkUnless};
 ghost use Rattle.std.specs.List.{AllByRecursion, enumerate_from, flat_map, list_any};
 ghost use Rattle.std.specs.Io.KnownBytes.{Appends};
 ghost use Rattle.al_base.specs.Counted.{HasRisen, AppendsFront};
@@ -9,12 +9,14 @@ ghost use Rattle.al_base.specs.LineStarts.{line_starts};
 ghost use Rattle.al_base.specs.Spans.{LiesIn};
 ghost use Rattle.al_text.specs.Snippets.{fault_text};
 ghost use Rattle.al_base.specs.Streams.{bytes_written, write_failures};
-ghost use Rattle.al_folder.specs.Kept.{referred};
-ghost use Rattle.al_session.specs.Private.Lists.{ArePrintable, IsPrintable, IsSpan, in_span, lines_of, listed, numbered_lines};
+ghost use Rattle.al_folder.specs.Kept.{AreKept, folder_of, referred};
+ghost use Rattle.al_folder.specs.Private.CallGraphs.{IsCallGraph};
+ghost use Rattle.al_session.specs.Session.{AllChecked};
+ghost use Rattle.al_session.specs.Private.Lists.{ArePrintable, HasRoomFor, IsPrintable, lines_of, listed, numbered_lines};
 
-use crate::joining::JoinedFaults;
+use crate::joining::join_file;
 use al_base::{Fault, Lines, Location, Output, Stop};
-use al_folder::{Files, KeptFile, file_number};
+use al_folder::{CallGraph, Files, KeptFile, Lint, file_number};
 use al_text::{write_fault_at, write_faults};
 use std::io::Write;
 
@@ -38,67 +40,73 @@ fn is_clean<U, I>(file: &KeptFile<U, I>) -> bool
     file.faults.is_empty()
 }
 
-/// Writes the faults that are listed of all files, each as its line, and its snippet unless `oneline` is asked for.
-pub(crate) fn write_files<U, I, W: Write>(
+/// Writes the faults that a report lists of all files, each as its line, and its snippet unless `oneline` is asked for. The list has room
+/// for what is joined of any file, so no memory is wanted.
+pub(crate) fn write_files<'a, L: Lint, W: Write>(
     writer: &mut Output<W>,
-    files: &Files<U, I>,
-    joined: &JoinedFaults,
+    files: &'a Files<L::Unit, L::Iface>,
+    calls: &CallGraph,
+    joined: &mut Vec<&'a Fault>,
     oneline: bool,
 ) -> Result<(), Stop>
-    requires { ArePrintable files.now.entries joined.now.faults.items joined.now.spans.items }
+    requires kept { AreKept L.meaning L.is_unit files.now.entries }
+    requires checked { AllChecked L.meaning (folder_of files.now.entries) files.now.entries }
+    requires calls { IsCallGraph L.meaning (folder_of files.now.entries) calls.now.graph.items calls.now.labels.items }
+    requires room { HasRoomFor files.now.entries calls.now.graph.items calls.now.labels.items (length files.now.entries)
+        (vec_capacity joined.old) }
+    requires printable { ArePrintable L.meaning files.now.entries }
     ensures all { OnOk result (Appends (bytes_written W.contents writer.old) (bytes_written W.contents writer.new)
-        (flat_map (numbered_lines oneline joined.now.faults.items joined.now.spans.items) (enumerate_from 0 files.now.entries))) }
+        (flat_map (numbered_lines oneline L.meaning (folder_of files.now.entries)) (enumerate_from 0 files.now.entries))) }
     ensures front { OnErr result (AppendsFront (bytes_written W.contents writer.old) (bytes_written W.contents writer.new)
-        (flat_map (numbered_lines oneline joined.now.faults.items joined.now.spans.items) (enumerate_from 0 files.now.entries))) }
+        (flat_map (numbered_lines oneline L.meaning (folder_of files.now.entries)) (enumerate_from 0 files.now.entries))) }
     ensures failures { OnOk result (write_failures writer.new ≡ write_failures writer.old) }
     ensures failed { OnErr result (HasRisen (write_failures writer.old) (write_failures writer.new)) }
     ensures err { IsOkUnless result Stop.WriteFault }
 {
     for index in 0..files.len() {
         let (path, file) = file_number(files, index);
-        let span = joined.spans[index];
-        write_file(writer, path.as_str(), file, &joined.faults, span, oneline)?;
+        let is_joined = join_file::<L>(files, calls, index, joined);
+        write_file(
+            writer,
+            path.as_str(),
+            file,
+            is_joined,
+            joined.as_slice(),
+            oneline,
+        )?;
     }
     Ok(())
 }
 
-// Writes the listed faults of one file: those that stand in this span of the ones that were joined, or its own.
+// Writes the listed faults of one file: those that were joined, or its own.
 fn write_file<U, I, W: Write>(
     writer: &mut Output<W>,
     path: &str,
     file: &KeptFile<U, I>,
+    is_joined: bool,
     joined: &[&Fault],
-    span: Option<(usize, usize)>,
     oneline: bool,
 ) -> Result<(), Stop>
-    requires span { IsSpan joined.now span }
-    requires printable { IsPrintable file.now (listed file.now (in_span joined.now span)) }
+    requires { IsPrintable file.now (listed file.now is_joined joined.now) }
     ensures all { OnOk result (Appends (bytes_written W.contents writer.old) (bytes_written W.contents writer.new)
-        (lines_of oneline path.now file.now (listed file.now (in_span joined.now span)))) }
+        (lines_of oneline path.now file.now (listed file.now is_joined joined.now))) }
     ensures front { OnErr result (AppendsFront (bytes_written W.contents writer.old) (bytes_written W.contents writer.new)
-        (lines_of oneline path.now file.now (listed file.now (in_span joined.now span)))) }
+        (lines_of oneline path.now file.now (listed file.now is_joined joined.now))) }
     ensures failures { OnOk result (write_failures writer.new ≡ write_failures writer.old) }
     ensures failed { OnErr result (HasRisen (write_failures writer.old) (write_failures writer.new)) }
     ensures err { IsOkUnless result Stop.WriteFault }
 {
-    match span {
-        Some((start, end)) => write_referred(
-            writer,
-            &file.lines,
-            path,
-            &file.bytes,
-            &joined[start..end],
-            oneline,
-        ),
-        None => write_faults(
-            writer,
-            &file.lines,
-            path,
-            &file.bytes,
-            &file.faults,
-            oneline,
-        ),
+    if is_joined {
+        return write_referred(writer, &file.lines, path, &file.bytes, joined, oneline);
     }
+    write_faults(
+        writer,
+        &file.lines,
+        path,
+        &file.bytes,
+        &file.faults,
+        oneline,
+    )
 }
 
 // Writes faults of a file that are referred to, as `write_faults` writes those of one list.

@@ -23,7 +23,7 @@ ghost use Rattle.al_session.specs.Report.{status_of, report_of};
 ghost use Rattle.al_session.specs.Session.{AreLinted, ReadsForPut};
 
 use crate::edit::{put_file, remove_file};
-use crate::joining::{has_loops, join_all};
+use crate::joining::{has_loops, joining_of};
 use crate::refused::put_refused;
 use crate::report::{has_faults, write_files};
 use al_base::{Fault, Output, Path, Stop, path_fault};
@@ -293,10 +293,12 @@ impl<L: Lint> Session<L> {
         ensures failed { result ≡ Err Stop.WriteFault → HasRisen (write_failures writer.old) (write_failures writer.new) }
         ensures no_read { (result ≢ Err Stop.ReadFault) × (result ≢ Err Stop.TooManyTurns) }
     {
-        let Ok(joined) = join_all::<L>(self.alloc, &self.files) else {
+        let Ok(joining) = joining_of::<L>(self.alloc, &self.files) else {
             return Err(Stop::Memory);
         };
-        write_files(writer, &self.files, &joined, oneline)
+        let calls = joining.calls;
+        let mut list = joining.list;
+        write_files::<L, W>(writer, &self.files, &calls, &mut list, oneline)
     }
 
     /// The candidates of calls that are not in the folder, in order of path, each once.

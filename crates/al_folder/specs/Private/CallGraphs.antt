@@ -1,8 +1,9 @@
 -- The graph of calls, as far as calls can lead back, and labels that tell which ones do.
-use Rattle.std.specs.Prelude.{ℕ, ◌≤◌, ◌<◌, ◌≡◌, ◌↔◌, ◌⊎◌, ◌&&◌, false, List, [], Option, Some, None, String, Vec, length, map}
-use Rattle.std.specs.Prelude.{cond, nat_le, nat_lt, slice_get, slice_index_or}
+use Rattle.std.specs.Prelude.{ℕ, ◌+◌, ◌≤◌, ◌<◌, ◌≡◌, ◌↔◌, ◌⊎◌, ◌&&◌, Bool, false, List, [], Option, Some, None, String, Vec, length, map}
+use Rattle.std.specs.Prelude.{cond, nat_eq, nat_le, nat_lt, slice_get, slice_index_or}
 use Rattle.std.specs.Global.{Global}
-use Rattle.std.specs.List.{enumerate_from, filter_map}
+use Rattle.std.specs.List.{enumerate_from, filter_map, list_any}
+use Rattle.std.specs.Option.{option_eq}
 use Rattle.al_graph.specs.Graphs.{Edge, Walk, edges_of}
 use Rattle.al_folder.specs.Meaning.{Meaning}
 use Rattle.al_folder.specs.Folder.{Folder}
@@ -46,3 +47,17 @@ pub record IsCallGraph {I : Type 0} (m : Meaning I) (f : Folder) (graph : List (
   pub rows : (i : ℕ) (p b : List ℕ) → slice_get f i ≡ Some (p, b) → IsRow f (slice_index_or (edges_of graph) i []) (m.calls p b)
   pub kept : (j k : ℕ) → Edge (calls_graph m f) j k → Walk (calls_graph m f) k j → Edge (edges_of graph) j k
   pub tell : TellLoops (calls_graph m f) labels
+
+-- whether an edge leads from the file with this number to one with its label
+abbrev pub may_lead_back : List (Vec ℕ Global) → List (Option ℕ) → ℕ → Bool
+may_lead_back graph labels i =
+    list_any (λ k. option_eq nat_eq (slice_index_or labels k None) (slice_index_or labels i None)) (slice_index_or (edges_of graph) i [])
+
+-- what has this length and capacity has room for one more for each call of the file with this number
+abbrev pub HasRoomForCalls : {U I : Type 0} → Files U I → ℕ → ℕ → ℕ → Type 0
+HasRoomForCalls {U} {I} files i len capacity = (e : String Global × KeptFile U I) → slice_get files i ≡ Some e →
+    len + length e.1.calls.items ≤ capacity
+
+-- from the first of these lengths to the second there is at most one more for each such call
+abbrev pub IsLonger : {U I : Type 0} → Files U I → ℕ → ℕ → ℕ → Type 0
+IsLonger {U} {I} files i old new = (e : String Global × KeptFile U I) → slice_get files i ≡ Some e → new ≤ old + length e.1.calls.items
