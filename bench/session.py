@@ -1,15 +1,14 @@
 """What an edit of a session costs beside other files, and what a report does where files call one another: bench/session.py, after
-./test or a build of crates/toy_times and crates/actionlint.
+./test or a build of crates/actionlint.
 
-For edits the linter is the small one of crates/toy, so that the session's own work shows. Each time is the least of several runs,
-which take turns, so that all of them see the same load of the machine. A put of a file that is there finds it by hash, and
-looks at its callers alone: its time does not grow with the other files. A new path and a delete move what stands behind
-them in the order of paths: that is named here with its cost.
+All times are processor times of the program: of a script with more edits or reports less that of one with fewer, the least of several
+runs, which take turns, so that all of them see the same load of the machine. Files are of a line or two, so that the session's own work
+shows. A put of a file that is there finds it by hash, and looks at its callers alone: its time does not grow with the other files. A new
+path and a delete move what stands behind them in the order of paths: that is named here with its cost.
 
-Reports are those of the program, over 4,096 workflows that call one another: the processor time of a script with more reports less that
-of one with a single report. Each stands beside the report of as many workflows without calls, with as many faults whose lines are as long. Every workflow
-has a fault of its own, so that the status behind a report, which then looks for no loop, takes nothing; two folders without one show what
-both take.
+Reports are over 4,096 workflows that call one another. Each stands beside the report of as many workflows without calls, with as many
+faults whose lines are as long. Every workflow has a fault of its own, so that the status behind a report, which then looks for no loop,
+takes nothing; two folders without one show what both take.
 """
 
 import functools
@@ -17,23 +16,29 @@ import resource
 import subprocess
 import sys
 
-from common import SESSION, least_in_turns, program, put_commands, run_seconds
+from common import EMPTY, SESSION, least_in_turns, program, put_commands, run_seconds
 
 RUNS = 7
+EDITS = 2_000
 BESIDE = [0, 1, 16, 256, 1_024, 4_095]
 CALLERS = [1, 10, 100, 1_000]
 NEW = [1_024, 2_048, 4_096]
 
-# what is timed, and the numbers of other files
+EDITED = ".github/workflows/e.yml"
+FIRST = ".github/workflows/0.yml"
+CALLER = "on: push\njobs:\n  c:\n    uses: ./.github/workflows/e.yml\n"
+CALLED = "on: workflow_call\njobs: {}\n"
+OTHER_INTERFACE = "on:\n  workflow_call:\n    inputs: {a: {type: string}}\njobs: {}\n"
+
+# what is timed: the text of the files beside the one that is edited, the texts that are put in turn, and the numbers of files beside it
 TABLE = {
-    "put of other bytes, no file calls it": ("changed", BESIDE),
-    "put of the bytes that are there": ("same-bytes", BESIDE),
-    "put of other bytes, all others call it": ("same-interface", CALLERS),
-    "put of another interface, all others call it": ("other-interface", CALLERS),
-    "put of a new path in front, and its delete": ("front", BESIDE),
-    "puts of new paths, each behind the others": ("forward", NEW),
-    "puts of new paths, each in front of the others": ("backward", NEW),
+    "put of other bytes, no file calls it": (EMPTY, (EMPTY, f"{EMPTY}#\n"), BESIDE),
+    "put of the bytes that are there": (EMPTY, (EMPTY, EMPTY), BESIDE),
+    "put of other bytes, all others call it": (CALLER, (CALLED, f"{CALLED}#\n"), CALLERS),
+    "put of another interface, all others call it": (CALLER, (CALLED, OTHER_INTERFACE), CALLERS),
 }
+# whether new files are put each in front of the others
+ORDERS = {"puts of new paths, each behind the others": False, "puts of new paths, each in front of the others": True}
 
 
 FILES = 4_096
@@ -51,17 +56,6 @@ FOLDERS = {
     "a chain without faults": (1, False, 0),
     "a ring without others": (1, True, 0),
 }
-
-
-def nanoseconds(kind, count):
-    """What one edit takes, as one run tells it."""
-    run = subprocess.run([program("toy_times"), kind, str(count)], stdout=subprocess.PIPE, check=True)
-    return int(run.stdout)
-
-
-def edit_times(kind, counts):
-    """For each count the least time of some runs."""
-    return least_in_turns(RUNS, [functools.partial(nanoseconds, kind, count) for count in counts])
 
 
 def workflow(number, calls, is_round, faults):
@@ -84,11 +78,43 @@ def children_seconds():
     return used.ru_utime + used.ru_stime
 
 
-def script_seconds(puts, reports):
-    """The processor time of a script that puts files, with so many reports, whose lines nobody reads."""
+def script_seconds(script):
+    """The processor time of a script, whose output nobody reads."""
     before = children_seconds()
-    subprocess.run([program("actionlint"), *SESSION], input=puts + b"report\n" * reports, stdout=subprocess.DEVNULL, check=False)
+    subprocess.run([program("actionlint"), *SESSION], input=script, stdout=subprocess.DEVNULL, check=False)
     return children_seconds() - before
+
+
+def times_of_more(pairs, count):
+    """What one of so many edits or reports takes, of which the second script of each pair has that many more than the first."""
+    times = least_in_turns(RUNS, [functools.partial(script_seconds, script) for pair in pairs for script in pair])
+    return [(more - less) / count for less, more in zip(times[::2], times[1::2])]
+
+
+def beside(count, text):
+    """The commands that put so many files of this text, in order of path."""
+    return put_commands([(f".github/workflows/f{number:05}.yml", text) for number in range(count)])
+
+
+def edit_times(text, texts, counts):
+    """What a put of these texts in turn takes beside each count of files of the other text."""
+    starts = [beside(count, text) + put_commands([(EDITED, texts[1])]) for count in counts]
+    return times_of_more([(it, it + put_commands([(EDITED, one) for one in texts]) * (EDITS // 2)) for it in starts], EDITS)
+
+
+def new_times(is_backward, counts):
+    """What a put takes of so many new files after one another."""
+    found = []
+    for count in counts:
+        files = [(f".github/workflows/f{number:05}.yml", EMPTY) for number in range(count)]
+        found += times_of_more([(b"", put_commands(files[::-1] if is_backward else files))], count)
+    return found
+
+
+def front_times(counts):
+    """What a put of a new path in front of so many others takes, with its delete."""
+    both = put_commands([(FIRST, EMPTY)]) + b"delete %s\n" % FIRST.encode()
+    return times_of_more([(it, it + both * EDITS) for it in (beside(count, EMPTY) for count in counts)], EDITS)
 
 
 def count_faults(puts):
@@ -98,9 +124,7 @@ def count_faults(puts):
 
 def report_times(folders):
     """What a report of each folder takes, in seconds."""
-    measures = [functools.partial(script_seconds, puts, reports) for puts in folders for reports in (1, 1 + REPORTS)]
-    times = least_in_turns(RUNS, measures)
-    return [(more - one) / REPORTS for one, more in zip(times[::2], times[1::2])]
+    return times_of_more([(puts + b"report\n", puts + b"report\n" * (1 + REPORTS)) for puts in folders], REPORTS)
 
 
 def print_reports():
@@ -116,15 +140,20 @@ def print_reports():
         print(f"  {name:24} {counts[0]:6} faults {with_calls * 1000:10.2f} ms {with_calls / without:8.2f} times {without * 1000:.2f} ms")
 
 
+def print_edits(name, counts, times):
+    """Prints an edit's time at each count, and its ratio to the first."""
+    print(name)
+    for count, time in zip(counts, times):
+        print(f"  {count:6} files {time * 1e6:10.2f} µs {time / times[0]:8.2f} times the first", flush=True)
+
+
 def main():
-    """Prints a line for each kind: an edit's time at each count, and its ratio to the first; and the times of reports."""
-    for name, (kind, counts) in TABLE.items():
-        times = edit_times(kind, counts)
-        print(name)
-        for count, time in zip(counts, times):
-            print(f"  {count:6} files {time / 1000:10.2f} µs {time / times[0]:8.2f} times the first")
-    beside = edit_times("changed", [0, 4_095])
-    print(f"beside 4095 files a put of other bytes takes {beside[1] / beside[0]:.2f} times what it takes alone")
+    """Prints the times of edits and of reports."""
+    for name, (text, texts, counts) in TABLE.items():
+        print_edits(name, counts, edit_times(text, texts, counts))
+    print_edits("put of a new path in front, and its delete", BESIDE, front_times(BESIDE))
+    for name, is_backward in ORDERS.items():
+        print_edits(name, NEW, new_times(is_backward, NEW))
     print_reports()
 
 
