@@ -19,7 +19,8 @@ import sys
 from common import EMPTY, SESSION, least_in_turns, program, put_commands, run_seconds
 
 RUNS = 7
-EDITS = 2_000
+# how many edits are timed together: more where the difference of two scripts would be small beside what both take
+MANY, SOME, FEW = 20_000, 2_000, 200
 BESIDE = [0, 1, 16, 256, 1_024, 4_095]
 CALLERS = [1, 10, 100, 1_000]
 NEW = [1_024, 2_048, 4_096]
@@ -30,12 +31,13 @@ CALLER = "on: push\njobs:\n  c:\n    uses: ./.github/workflows/e.yml\n"
 CALLED = "on: workflow_call\njobs: {}\n"
 OTHER_INTERFACE = "on:\n  workflow_call:\n    inputs: {a: {type: string}}\njobs: {}\n"
 
-# what is timed: the text of the files beside the one that is edited, the texts that are put in turn, and the numbers of files beside it
+# what is timed: the text of the files beside the one that is edited, the texts that are put in turn, how many of them, and the numbers of
+# files beside it
 TABLE = {
-    "put of other bytes, no file calls it": (EMPTY, (EMPTY, f"{EMPTY}#\n"), BESIDE),
-    "put of the bytes that are there": (EMPTY, (EMPTY, EMPTY), BESIDE),
-    "put of other bytes, all others call it": (CALLER, (CALLED, f"{CALLED}#\n"), CALLERS),
-    "put of another interface, all others call it": (CALLER, (CALLED, OTHER_INTERFACE), CALLERS),
+    "put of other bytes, no file calls it": (EMPTY, (EMPTY, f"{EMPTY}#\n"), MANY, BESIDE),
+    "put of the bytes that are there": (EMPTY, (EMPTY, EMPTY), MANY, BESIDE),
+    "put of other bytes, all others call it": (CALLER, (CALLED, f"{CALLED}#\n"), MANY, CALLERS),
+    "put of another interface, all others call it": (CALLER, (CALLED, OTHER_INTERFACE), FEW, CALLERS),
 }
 # whether new files are put each in front of the others
 ORDERS = {"puts of new paths, each behind the others": False, "puts of new paths, each in front of the others": True}
@@ -96,10 +98,10 @@ def beside(count, text):
     return put_commands([(f".github/workflows/f{number:05}.yml", text) for number in range(count)])
 
 
-def edit_times(text, texts, counts):
+def edit_times(text, texts, edits, counts):
     """What a put of these texts in turn takes beside each count of files of the other text."""
     starts = [beside(count, text) + put_commands([(EDITED, texts[1])]) for count in counts]
-    return times_of_more([(it, it + put_commands([(EDITED, one) for one in texts]) * (EDITS // 2)) for it in starts], EDITS)
+    return times_of_more([(it, it + put_commands([(EDITED, one) for one in texts]) * (edits // 2)) for it in starts], edits)
 
 
 def new_times(is_backward, counts):
@@ -114,7 +116,7 @@ def new_times(is_backward, counts):
 def front_times(counts):
     """What a put of a new path in front of so many others takes, with its delete."""
     both = put_commands([(FIRST, EMPTY)]) + b"delete %s\n" % FIRST.encode()
-    return times_of_more([(it, it + both * EDITS) for it in (beside(count, EMPTY) for count in counts)], EDITS)
+    return times_of_more([(it, it + both * SOME) for it in (beside(count, EMPTY) for count in counts)], SOME)
 
 
 def count_faults(puts):
@@ -149,8 +151,8 @@ def print_edits(name, counts, times):
 
 def main():
     """Prints the times of edits and of reports."""
-    for name, (text, texts, counts) in TABLE.items():
-        print_edits(name, counts, edit_times(text, texts, counts))
+    for name, (text, texts, edits, counts) in TABLE.items():
+        print_edits(name, counts, edit_times(text, texts, edits, counts))
     print_edits("put of a new path in front, and its delete", BESIDE, front_times(BESIDE))
     for name, is_backward in ORDERS.items():
         print_edits(name, NEW, new_times(is_backward, NEW))
