@@ -87,36 +87,33 @@ def script_seconds(script):
     return children_seconds() - before
 
 
-def times_of_more(pairs, count):
-    """What one of so many edits or reports takes, of which the second script of each pair has that many more than the first."""
+def times_of_more(pairs, counts):
+    """What one edit or report takes, of which the second script of each pair has so many more than the first."""
     times = least_in_turns(RUNS, [functools.partial(script_seconds, script) for pair in pairs for script in pair])
-    return [(more - less) / count for less, more in zip(times[::2], times[1::2])]
+    return [(more - less) / count for less, more, count in zip(times[::2], times[1::2], counts)]
 
 
-def beside(count, text):
-    """The commands that put so many files of this text, in order of path."""
-    return put_commands([(f".github/workflows/f{number:05}.yml", text) for number in range(count)])
+def beside(count, text, is_backward=False):
+    """The commands that put so many files of this text, in order of path or the other way round."""
+    files = [(f".github/workflows/f{number:05}.yml", text) for number in range(count)]
+    return put_commands(files[::-1] if is_backward else files)
 
 
 def edit_times(text, texts, edits, counts):
     """What a put of these texts in turn takes beside each count of files of the other text."""
     starts = [beside(count, text) + put_commands([(EDITED, texts[1])]) for count in counts]
-    return times_of_more([(it, it + put_commands([(EDITED, one) for one in texts]) * (edits // 2)) for it in starts], edits)
+    return times_of_more([(it, it + put_commands([(EDITED, one) for one in texts]) * (edits // 2)) for it in starts], [edits] * len(counts))
 
 
 def new_times(is_backward, counts):
     """What a put takes of so many new files after one another."""
-    found = []
-    for count in counts:
-        files = [(f".github/workflows/f{number:05}.yml", EMPTY) for number in range(count)]
-        found += times_of_more([(b"", put_commands(files[::-1] if is_backward else files))], count)
-    return found
+    return times_of_more([(b"", beside(count, EMPTY, is_backward)) for count in counts], counts)
 
 
 def front_times(counts):
     """What a put of a new path in front of so many others takes, with its delete."""
     both = put_commands([(FIRST, EMPTY)]) + b"delete %s\n" % FIRST.encode()
-    return times_of_more([(it, it + both * SOME) for it in (beside(count, EMPTY) for count in counts)], SOME)
+    return times_of_more([(it, it + both * SOME) for it in (beside(count, EMPTY) for count in counts)], [SOME] * len(counts))
 
 
 def count_faults(puts):
@@ -126,7 +123,7 @@ def count_faults(puts):
 
 def report_times(folders):
     """What a report of each folder takes, in seconds."""
-    return times_of_more([(puts + b"report\n", puts + b"report\n" * (1 + REPORTS)) for puts in folders], REPORTS)
+    return times_of_more([(puts + b"report\n", puts + b"report\n" * (1 + REPORTS)) for puts in folders], [REPORTS] * len(folders))
 
 
 def print_reports():
