@@ -2,7 +2,7 @@
 
 Each crate of crates.txt that the program stands on, and `toy`, has a section; what a bullet of a section names before its first colon or
 full stop is a public item of that crate; a definition's file that a section names is there; and where the kit's `rt` is on the PATH, the
-version that is trusted is the kit's. Prints what isn't so.
+logic that is trusted is the one by which that kit proves, whichever kit of that logic it is. Prints what isn't so.
 """
 
 import pathlib
@@ -16,7 +16,7 @@ from architecture_page import PROGRAM, all_below, crates_in
 SECTION = re.compile(r"^### `(\w+)`\n(.*?)(?=^###? |\Z)", re.DOTALL | re.MULTILINE)
 BULLET = re.compile(r"^- (.*?)(?=^- |\Z)", re.DOTALL | re.MULTILINE)
 ITEM = re.compile(r"^\s*(?:pub )?(?:fn|struct|enum|trait|type) (\w+)", re.MULTILINE)
-VERSION = re.compile(r"`(rattle-kit[^`]*)`")
+LOGIC = re.compile(r"\blogic ([0-9a-f]{16})\b")
 
 
 def items_of(crate):
@@ -52,7 +52,7 @@ def differences(top):
         found += [f"{name}: there is no {it}" for it in paths if not (crate / it).exists()]
     if shutil.which("rt"):
         version = subprocess.run(["rt", "version"], capture_output=True, text=True, check=True).stdout.strip()
-        found += [] if VERSION.findall(page) == [version] else [f"what is trusted is {version}"]
+        found += [] if LOGIC.findall(page) == LOGIC.findall(version) != [] else [f"what is trusted is {version}"]
     return found
 
 
