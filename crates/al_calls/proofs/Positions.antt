@@ -4,9 +4,9 @@ use Rattle.std.proofs.lemmas.List.{length-take, take_more}
 use Rattle.std.specs.Prelude.{find, if◌then◌else◌}
 use Rattle.std.specs.Option.{option_or}
 use Rattle.al_base.specs.Names.{same_name}
-use Rattle.al_declarations.specs.Positions.{first_at}
-use Rattle.al_declarations.specs.Private.Positions.{and_name_at}
-use Rattle.al_declarations.proofs.PositionLemmas.{find_first, first_more, first_within}
+use Rattle.al_types.specs.Positions.{first_at}
+use Rattle.al_types.specs.Private.Positions.{and_name_at}
+use Rattle.al_types.proofs.PositionLemmas.{find_first, first_more, first_within}
 use Rattle.al_interfaces.specs.declared.interfaces.Input.{Input}
 use Rattle.al_calls.specs.CallFaults.{input_positions, is_input}
 

@@ -21,7 +21,7 @@ use Rattle.al_shape.specs.Keys.{key_of}
 use Rattle.al_shape.specs.Values.{entries_at, text_at}
 use Rattle.al_declarations.specs.Declarations.{named_among, names_of}
 use Rattle.al_declarations.specs.Inputs.{input_type}
-use Rattle.al_declarations.specs.Positions.{first_at}
+use Rattle.al_types.specs.Positions.{first_at}
 use Rattle.al_declarations.specs.declared.inputs.InputType.{InputType}
 use Rattle.al_declarations.specs.declared.inputs.InputType.TheVariants as input
 use Rattle.al_interfaces.specs.declared.interfaces.Interface.{Interface}

@@ -3,7 +3,7 @@
 
 ghost use Rattle.std.specs.Prelude.{◌≡◌, ◌++◌, find, map, IfOk, OnOk};
 ghost use Rattle.std.specs.Option.{option_copied};
-ghost use Rattle.al_declarations.specs.Private.Positions.{name_position};
+ghost use Rattle.al_types.specs.Private.Positions.{name_position};
 ghost use Rattle.al_shape.specs.Values.{member_of};
 ghost use Rattle.al_types.specs.TypeViews.{ty_of};
 ghost use Rattle.al_calls.specs.CallFaults as faults;
@@ -13,10 +13,10 @@ ghost use Rattle.al_base.specs.Growth.{BeginsWith};
 
 use crate::reports::report_two;
 use al_base::{CallCode, Fault};
-use al_declarations::{InputType, NamePositions, type_of};
+use al_declarations::{InputType, type_of};
 use al_interfaces::{Input, Signature};
 use al_shape::{Member, key_text};
-use al_types::{Ty, assignable};
+use al_types::{NamePositions, Ty, assignable};
 use al_uses::Call;
 use std::alloc::{AllocError, Global};
 

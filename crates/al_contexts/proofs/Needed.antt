@@ -15,8 +15,8 @@ use Rattle.al_shape.specs.Keys.{key_of}
 use Rattle.al_shape.specs.Values.{texts_at}
 use Rattle.std.proofs.Math.ListN.{get_or-map}
 use Rattle.std.proofs.lemmas.List.{drop_more, get_or-map as get_or-any, length-map}
-use Rattle.al_declarations.specs.Positions.{first_at}
-use Rattle.al_declarations.proofs.PositionLemmas.{find_first, first_within}
+use Rattle.al_types.specs.Positions.{first_at}
+use Rattle.al_types.proofs.PositionLemmas.{find_first, first_within}
 use Rattle.al_types.specs.TypeViews.{ty_of}
 use Rattle.al_types.specs.declared.scope.ContextTypes.{ContextTypes}
 use Rattle.al_yaml.specs.View.{view}

@@ -1,5 +1,5 @@
 -- The type of `steps`, where more steps are seen.
-use Rattle.std.proofs.Common.{◌≡◌, ◌≤◌, ◌+◌, ◌-◌, ℕ, List, [], ◌∷◌, ◌++◌, refl, sym, ap, ◌∙◌, take, drop, length, Option, None, Some, arith}
+use Rattle.std.proofs.Common.{◌≡◌, ◌≤◌, ◌+◌, ◌-◌, ℕ, List, [], ◌∷◌, ◌++◌, refl, sym, ap, ◌∙◌, take, drop, length, Option, arith}
 use Rattle.std.proofs.lemmas.Grind.{common_steps}
 use Rattle.std.proofs.Math.Seq.{take-add}
 use Rattle.std.proofs.lemmas.List.Elements.{filter_map-append}
@@ -10,7 +10,6 @@ use Rattle.al_types.specs.Private.TypeParts.{fields_of_type}
 use Rattle.al_yaml.specs.Node.{Node}
 use Rattle.al_places.specs.Positions.{Seen, before}
 use Rattle.al_contexts.specs.Contexts.{Known, step_field, steps_fields, steps_shown, steps_type}
-use Rattle.al_contexts.specs.Private.Environment.{Owner, owned_fields}
 use Rattle.al_contexts.specs.Objects.{Typed, firsts, put_all, put_new}
 
 pub put_all_more : (put : List Typed → Typed → List Typed) (ts ps qs : List Typed) → put_all put ts (ps ++ qs) ≡ put_all put (put_all put ts ps) qs
@@ -45,10 +44,6 @@ take_more n m xs h = let e : m ≡ n + (m - n) = omega (arith, h) in ap (λ k. t
 
 length_take : {A : Type 0} (n : ℕ) (xs : List A) → n ≤ length xs → 0 + length (take n xs) ≡ n
 length_take n xs h = grind (arith, common_steps)
-
-pub none_shown : (k : Known) (o : Option Owner) → owned_fields k o (before 0) ≡ []
-none_shown k None = refl
-none_shown k (Some o) = refl
 
 -- the fields of the type are the steps that are shown
 pub shown_fields : (k : Known) (job : Option (List ℕ)) (ss : List Node) (seen : Seen) (ts : List Typed) →

@@ -1,5 +1,6 @@
 //! The types of contexts, as the walk through a file goes on.
 ghost use Rattle.std.specs.Prelude.{◌≡◌, IfOk, OnOk, IsTrue, map, option_map};
+ghost use Rattle.al_types.specs.IndexedTypes.{indexed_type};
 ghost use Rattle.al_types.specs.Scopes.{type_of_context};
 ghost use Rattle.al_types.specs.TypeViews.{ty_of};
 ghost use Rattle.al_types.specs.declared.names.Context.{Context};
@@ -26,15 +27,14 @@ use crate::jobs::jobs_type;
 use crate::known::{Answer, Outputs};
 use crate::matrix::matrix_type;
 use crate::needs::{ShownJobs, needs_type};
-use crate::objects::{into_fields, strict_of};
+use crate::objects::into_fields;
 use crate::scopes::{context_set, function_set};
 use crate::start::{NO_CONTEXTS, NO_FUNCTIONS, first_owner, first_types};
-use crate::steps::{Shown, seen_count, seen_steps};
-use al_declarations::NamePositions;
+use crate::steps::{no_steps, seen_count, seen_steps};
 use al_places::{Place, Position, Section, Seen};
 use al_shape::{Member, items_under, key_text};
 use al_tree::FileKind;
-use al_types::{Scope, Ty};
+use al_types::{IndexedType, Scope, Ty};
 use al_yaml::Node;
 use std::alloc::{AllocError, Global};
 use std::mem::replace;
@@ -60,8 +60,6 @@ pub struct Env<'a> {
     section: Section<'a>,
     owner: Option<Owner<'a>>,
     seen: usize,
-    /// Where the ids of the steps that are seen stand among the fields of `steps`.
-    ids: NamePositions,
     jobs: JobList<'a>,
     /// What is known of the outputs behind calls.
     outputs: Outputs<'a>,
@@ -94,20 +92,16 @@ fn see<'a>(alloc: Global, file: File<'a>, env: &mut Env<'a>, seen: Seen) -> Resu
     requires { Stands file env.old }
     ensures stands { OnOk result (Stands file.entry env.new) }
     ensures same { OnOk result (section_view (env.new).section ≡ section_view (env.old).section) }
-    ensures seen { OnOk result (ty_of (env.new).scope.types.steps ≡ owned (known_of (file.entry).known.now) (option_map owner_view
+    ensures seen { OnOk result (indexed_type (env.new).scope.types.steps ≡ owned (known_of (file.entry).known.now) (option_map owner_view
         (env.new).owner) (seen_view seen)) }
 {
     match env.owner {
         None => Ok(()),
         Some(owner) => {
             let count = seen_count(seen, owner.steps);
-            let shown = Shown {
-                ty: replace(&mut env.scope.types.steps, Ty::Any),
-                ids: replace(&mut env.ids, NamePositions::new(alloc)),
-            };
-            let Shown { ty, ids } = seen_steps(alloc, &env.outputs, owner, shown, env.seen, count)?;
-            env.scope.types.steps = ty;
-            env.ids = ids;
+            let shown = replace(&mut env.scope.types.steps, IndexedType::any(alloc));
+            let steps = seen_steps(alloc, &env.outputs, owner, shown, env.seen, count)?;
+            env.scope.types.steps = steps;
             env.seen = count;
             Ok(())
         }
@@ -204,12 +198,12 @@ fn owner_at<'a>(job: Option<Member<'a>>) -> Option<Owner<'a>>
 }
 
 /// The type of `steps` where no step is seen.
-pub(crate) fn start_steps(alloc: Global, owner: Option<Owner<'_>>) -> Ty
-    ensures { (known : Known) → ty_of result ≡ owned known (option_map owner_view owner.entry) (before 0) }
+pub(crate) fn start_steps(alloc: Global, owner: Option<Owner<'_>>) -> IndexedType
+    ensures { (known : Known) → indexed_type result ≡ owned known (option_map owner_view owner.entry) (before 0) }
 {
     match owner {
-        None => Ty::Any,
-        Some(_) => strict_of(Vec::new(alloc)),
+        None => IndexedType::any(alloc),
+        Some(_) => no_steps(alloc),
     }
 }
 
@@ -241,7 +235,6 @@ fn enter_workflow<'a>(
     env.scope.types.matrix = matrix;
     env.scope.types.jobs = jobs;
     env.scope.types.steps = start_steps(alloc, owner);
-    env.ids = NamePositions::new(alloc);
     env.owner = owner;
     env.seen = 0;
     env.section = section;
@@ -304,7 +297,6 @@ impl<'a> Env<'a> {
             section: Section::Apart,
             owner,
             seen: 0,
-            ids: NamePositions::new(alloc),
             jobs,
             outputs,
             shown,

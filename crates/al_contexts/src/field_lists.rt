@@ -1,13 +1,13 @@
 //! Fields in order, found by their names.
 ghost use Rattle.std.specs.Prelude.{◌≡◌, [], IfOk, OnOk, is_none, map};
+ghost use Rattle.al_types.specs.IndexedTypes.{indexed_type};
 ghost use Rattle.al_types.specs.TypeViews.{ty_of};
 ghost use Rattle.al_types.specs.Private.TypeParts.{field_of};
 ghost use Rattle.al_contexts.specs.Objects.{put, put_all, put_new, strictly};
 ghost use Rattle.al_contexts.specs.Private.Indexes.{IsIndex, name_at};
 
 use crate::objects::strict_of;
-use al_declarations::NamePositions;
-use al_types::{Field, Ty, fuse};
+use al_types::{Field, IndexedType, NamePositions, Ty, fuse};
 use std::alloc::{AllocError, Global};
 
 /// Fields in order, and where each name first stands among them. Finding one by its name takes time that grows with the logarithm
@@ -46,14 +46,6 @@ impl FieldList {
         Ok(FieldList { fields, positions })
     }
 
-    /// The fields, and where each name first stands among them.
-    pub(crate) fn into_parts(self) -> (Vec<Field>, NamePositions)
-        ensures fields { map field_of result.0.items ≡ map field_of self.fields.items }
-        ensures positions { IsIndex result.1 (map field_of self.fields.items) }
-    {
-        (self.fields, self.positions)
-    }
-
     /// The fields.
     pub(crate) fn into_fields(self) -> Vec<Field>
         ensures { map field_of result.items ≡ map field_of self.fields.items }
@@ -66,6 +58,13 @@ impl FieldList {
         ensures { ty_of result ≡ strictly (map field_of self.fields.items) }
     {
         strict_of(self.fields)
+    }
+
+    /// The same, found by their names.
+    pub(crate) fn into_indexed(self) -> IndexedType
+        ensures { indexed_type result ≡ strictly (map field_of self.fields.items) }
+    {
+        IndexedType::strict(self.fields, self.positions)
     }
 
     /// Whether no field has a name.

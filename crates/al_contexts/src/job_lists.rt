@@ -1,6 +1,6 @@
 //! The jobs of a workflow, found by their keys.
 ghost use Rattle.std.specs.Prelude.{◌≡◌, IfOk, map, option_map};
-ghost use Rattle.al_declarations.specs.Private.Positions.{name_position, text_position};
+ghost use Rattle.al_types.specs.Private.Positions.{name_position, text_position};
 ghost use Rattle.al_places.specs.Positions.{section_view};
 ghost use Rattle.al_shape.specs.Values.{member_of};
 ghost use Rattle.al_tree.specs.Files.{jobs_of};
@@ -8,9 +8,9 @@ ghost use Rattle.al_yaml.specs.View.{view};
 ghost use Rattle.al_contexts.specs.Contexts.{job_among};
 ghost use Rattle.al_contexts.specs.Private.JobPositions.{key_at, named_at};
 
-use al_declarations::{NamePositions, TextPositions};
 use al_places::Section;
 use al_shape::{Member, key_text, members_under};
+use al_types::{NamePositions, TextPositions};
 use al_yaml::Node;
 use std::alloc::{AllocError, Global};
 

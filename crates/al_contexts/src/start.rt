@@ -3,7 +3,7 @@ ghost use Rattle.std.specs.Prelude.{◌≡◌, IfOk, OnOk, option_map};
 ghost use Rattle.al_contexts.specs.Answered.{known_of};
 ghost use Rattle.al_contexts.specs.Private.Environment.{Fixed, OfSection, owned, owner_in, owner_view};
 ghost use Rattle.al_places.specs.Positions.{apart, before};
-ghost use Rattle.al_types.specs.TypeViews.{ty_of};
+ghost use Rattle.al_types.specs.IndexedTypes.{indexed_type};
 ghost use Rattle.al_yaml.specs.View.{view};
 
 use crate::env::{File, Owner, start_steps};
@@ -12,7 +12,7 @@ use crate::inputs::inputs_type;
 use crate::objects::loose_strings;
 use al_declarations::{action_steps, is_composite};
 use al_tree::FileKind;
-use al_types::{ContextSet, ContextTypes, FunctionSet, Ty};
+use al_types::{ContextSet, ContextTypes, FunctionSet, IndexedType, Ty};
 use al_yaml::Node;
 use std::alloc::{AllocError, Global};
 
@@ -82,7 +82,7 @@ pub(crate) fn first_types(
 ) -> Result<ContextTypes, AllocError>
     ensures fixed { IfOk result (λ ts. Fixed file.entry ts) }
     ensures section { IfOk result (λ ts. OfSection file.entry ts apart) }
-    ensures steps { IfOk result (λ ts. ty_of ts.steps ≡ owned (known_of (file.entry).known.now) (option_map owner_view owner.entry)
+    ensures steps { IfOk result (λ ts. indexed_type ts.steps ≡ owned (known_of (file.entry).known.now) (option_map owner_view owner.entry)
         (before 0)) }
 {
     let mut types = ContextTypes {
@@ -97,7 +97,7 @@ pub(crate) fn first_types(
         jobs: Ty::Any,
         steps: start_steps(alloc, owner),
         matrix: Ty::Any,
-        inputs: Ty::Any,
+        inputs: IndexedType::any(alloc),
     };
     set_fixed(alloc, file, &mut types)?;
     Ok(types)

@@ -1,25 +1,25 @@
 //! The type of `steps`.
 ghost use Rattle.std.specs.Prelude.{◌≡◌, ◌+◌, ◌<◌, ◌≤◌, ◌^◌, [], IfOk, OnOk, length, map, take, Some};
 ghost use Rattle.std.specs.Option.{option_copied, option_to_list};
+ghost use Rattle.al_types.specs.IndexedTypes.{indexed_type};
 ghost use Rattle.al_types.specs.TypeViews.{ty_of};
 ghost use Rattle.al_types.specs.Private.TypeParts.{field_of};
 ghost use Rattle.al_yaml.specs.View.{view};
 ghost use Rattle.al_places.specs.Positions.{before, seen_view};
 ghost use Rattle.al_contexts.specs.Contexts as contexts;
 ghost use Rattle.al_contexts.specs.Contexts.{seen_of, step_field, steps_fields};
-ghost use Rattle.al_contexts.specs.Private.Environment.{owned, owned_fields, owner_view};
+ghost use Rattle.al_contexts.specs.Private.Environment.{owned, owner_view};
 ghost use Rattle.al_contexts.specs.Private.Lookups.{known_by};
 ghost use Rattle.al_contexts.specs.Objects.{put_all, put_new, strictly};
-ghost use Rattle.al_contexts.specs.Private.Indexes.{IsIndex};
 
 use crate::env::Owner;
 use crate::field_lists::FieldList;
 use crate::known::Outputs;
 use crate::objects::{add_field, field, into_fields, listed_strings, loose_strings, strict_of};
-use al_declarations::{NameList, NamePositions};
+use al_declarations::NameList;
 use al_places::Seen;
 use al_shape::text_under;
-use al_types::Ty;
+use al_types::{IndexedType, Ty};
 use al_yaml::Node;
 use std::alloc::{AllocError, Global};
 
@@ -85,30 +85,22 @@ fn add_steps<'a>(
     Ok(())
 }
 
-/// What is shown of steps: the type of `steps`, and where each id stands among its fields.
-#[derive(Drop)]
-pub(crate) struct Shown {
-    pub(crate) ty: Ty,
-    pub(crate) ids: NamePositions,
-}
-
-/// What is shown where a count of steps is seen, from what is shown where fewer of them are.
+/// The type of `steps` where a count of steps is seen, from that where fewer of them are.
 fn with_more<'a>(
     alloc: Global,
     known: &Outputs<'a>,
     owner: Owner<'a>,
-    shown: Shown,
+    shown: IndexedType,
     from: usize,
     count: usize,
-) -> Result<Shown, AllocError>
-    requires ty { ty_of shown.ty ≡ owned (known_by known.now) (Some (owner_view owner)) (before from) }
-    requires ids { IsIndex shown.ids (owned_fields (known_by known.now) (Some (owner_view owner)) (before from)) }
+) -> Result<IndexedType, AllocError>
+    requires shown { indexed_type shown ≡ owned (known_by known.now) (Some (owner_view owner)) (before from) }
     requires order { from ≤ count }
     requires inside { count ≤ length owner.steps.now }
-    ensures ty { IfOk result (λ s. ty_of s.ty ≡ owned (known_by known.now) (Some (owner_view owner.entry)) (before count)) }
-    ensures ids { IfOk result (λ s. IsIndex s.ids (owned_fields (known_by known.now) (Some (owner_view owner.entry)) (before count))) }
+    ensures { IfOk result (λ t. indexed_type t ≡ owned (known_by known.now) (Some (owner_view owner.entry)) (before count)) }
 {
-    let mut fields = FieldList::from_parts(into_fields(alloc, shown.ty), shown.ids);
+    let (ty, ids) = shown.into_parts();
+    let mut fields = FieldList::from_parts(into_fields(alloc, ty), ids);
     add_steps(
         alloc,
         known,
@@ -117,39 +109,29 @@ fn with_more<'a>(
         &owner.steps[from..count],
         &mut fields,
     )?;
-    let (fields, ids) = fields.into_parts();
-    Ok(Shown {
-        ty: strict_of(fields),
-        ids,
-    })
+    Ok(fields.into_indexed())
 }
 
-/// What is shown where no step is seen. Takes no memory.
-fn no_steps(alloc: Global) -> Shown
-    ensures ty { ty_of result.ty ≡ strictly [] }
-    ensures ids { IsIndex result.ids [] }
+/// The type of `steps` where no step is seen. Takes no memory.
+pub(crate) fn no_steps(alloc: Global) -> IndexedType
+    ensures { indexed_type result ≡ strictly [] }
 {
-    Shown {
-        ty: strict_of(Vec::new(alloc)),
-        ids: NamePositions::new(alloc),
-    }
+    FieldList::new(alloc).into_indexed()
 }
 
-/// What is shown where a count of steps is seen, from what is shown where another count is. Steps that were seen are copied in no
-/// case: where there are more they are added, and where there are fewer all are made anew.
+/// The type of `steps` where a count of steps is seen, from that where another count is. Steps that were seen are copied in no case:
+/// where there are more they are added, and where there are fewer all are made anew.
 pub(crate) fn seen_steps<'a>(
     alloc: Global,
     known: &Outputs<'a>,
     owner: Owner<'a>,
-    shown: Shown,
+    shown: IndexedType,
     from: usize,
     count: usize,
-) -> Result<Shown, AllocError>
-    requires ty { ty_of shown.ty ≡ owned (known_by known.now) (Some (owner_view owner)) (before from) }
-    requires ids { IsIndex shown.ids (owned_fields (known_by known.now) (Some (owner_view owner)) (before from)) }
+) -> Result<IndexedType, AllocError>
+    requires shown { indexed_type shown ≡ owned (known_by known.now) (Some (owner_view owner)) (before from) }
     requires inside { count ≤ length owner.steps.now }
-    ensures ty { IfOk result (λ s. ty_of s.ty ≡ owned (known_by known.now) (Some (owner_view owner.entry)) (before count)) }
-    ensures ids { IfOk result (λ s. IsIndex s.ids (owned_fields (known_by known.now) (Some (owner_view owner.entry)) (before count))) }
+    ensures { IfOk result (λ t. indexed_type t ≡ owned (known_by known.now) (Some (owner_view owner.entry)) (before count)) }
 {
     if from <= count {
         with_more(alloc, known, owner, shown, from, count)

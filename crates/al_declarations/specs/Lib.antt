@@ -1,4 +1,3 @@
 pub mod Declarations
 pub mod Inputs
-pub mod Positions
 pub mod Private

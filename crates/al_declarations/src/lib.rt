@@ -8,7 +8,6 @@ mod mappings;
 mod name_lists;
 mod name_sets;
 mod names;
-mod positions;
 
 pub use below::{action_steps, has_value, is_composite, value_below_three, value_below_two};
 pub use inputs::{InputType, input_of, type_of};
@@ -16,4 +15,3 @@ pub use mappings::{declared_at, declared_in};
 pub use name_lists::{Name, NameList};
 pub use name_sets::NameSet;
 pub use names::is_named_among;
-pub use positions::{NamePositions, TextPositions};

@@ -2,9 +2,9 @@
 
 ghost use Rattle.std.specs.Prelude.{◌≡◌, [], not, IfOk, OnErr, OnOk};
 ghost use Rattle.al_declarations.specs.Declarations.{named_among};
-ghost use Rattle.al_base.specs.Names.{folded};
 ghost use Rattle.al_declarations.specs.Private.NameSets.{and_name, holds};
 
+use al_types::in_lower_case;
 use std::alloc::{AllocError, Global};
 use std::collections::BTreeSet;
 
@@ -14,13 +14,6 @@ use std::collections::BTreeSet;
 pub struct NameSet {
     /// Each in lower case.
     names: BTreeSet<Vec<u8>>,
-}
-
-/// A name in lower case.
-pub(crate) fn in_lower_case(alloc: Global, name: &[u8]) -> Result<Vec<u8>, AllocError>
-    ensures { IfOk result (λ v. v.items ≡ folded name.now) }
-{
-    name.to_ascii_lowercase(alloc)
 }
 
 impl NameSet {

@@ -1,8 +1,8 @@
 //! Tests of types and of the faults of meaning, by worked rows.
 
 use crate::{
-    ContextSet, ContextTypes, Field, Form, FunctionSet, Object, Scope, Ty, assignable, fuse,
-    parse_expr, signature_of, type_of,
+    ContextSet, ContextTypes, Field, Form, FunctionSet, IndexedType, Object, Scope, Ty, assignable,
+    fuse, parse_expr, signature_of, type_of,
 };
 use al_base::{Code, ExpressionCode, Fault};
 use std::alloc::{AllocError, Global};
@@ -32,9 +32,9 @@ fn step_run(alloc: Global) -> Result<Scope, AllocError> {
             strategy: Ty::Any,
             needs: Ty::Any,
             jobs: Ty::Any,
-            steps: Ty::Any,
+            steps: IndexedType::any(alloc),
             matrix: Ty::Any,
-            inputs: Ty::Any,
+            inputs: IndexedType::any(alloc),
         },
         contexts: ContextSet {
             github: true,

@@ -5,7 +5,7 @@ use Rattle.al_base.specs.declared.faults.Span.{Span}
 use Rattle.al_base.specs.declared.codes.ExpressionCode.TheVariants as code
 use Rattle.al_types.specs.declared.types.Object.{Object, Object'}
 use Rattle.al_grammar.specs.Refusal.{fault}
-use Rattle.al_types.specs.Types.{Type', Any, ArrayOf, Fields, NoField, FieldThen, Rest, Loose, field_at, field_or_rest}
+use Rattle.al_types.specs.Types.{Type', Any, Null, Number, Bool', String, ArrayOf, ObjectOf, Fields, NoField, FieldThen, Rest, Loose, field_at, field_or_rest, property_in}
 use Rattle.al_types.specs.TypeViews.{object_of}
 use Rattle.al_types.specs.Private.TypeParts.{fields_of_type, rest_of_type}
 use Rattle.al_meaning.specs.Meaning.{Typed, typed, behind, before, and_then, array_of, or_fault, property_of, all_of, fuse_all, fuse_next, index_of, element_at, not_indexable}
@@ -41,6 +41,21 @@ pub property_of_object : (n : List ℕ) (at whole : Span) (o : Object) → prope
     ≡ or_fault (fault code.UndefinedProperty at (n ∷ []))
     (field_or_rest (field_at n (fields_of_type (object_of o))) (rest_of_type (object_of o)))
 property_of_object n at whole (Object' s f r) = refl
+
+-- a property that was found, of an object therefore
+pub property_there : (n : List ℕ) (at whole : Span) (t u : Type') → Some u ≡ property_in n t → property_of n at whole t ≡ typed u []
+property_there n at whole (ObjectOf fs r) u h = ap (or_fault (fault code.UndefinedProperty at (n ∷ []))) (sym h)
+property_there n at whole (ArrayOf t) u h = absurd cc
+property_there n at whole Any u h = absurd cc
+property_there n at whole Null u h = absurd cc
+property_there n at whole Number u h = absurd cc
+property_there n at whole Bool' u h = absurd cc
+property_there n at whole String u h = absurd cc
+
+-- an object without it
+pub property_absent : (n : List ℕ) (at whole : Span) (o : Object) → None ≡ property_in n (object_of o) →
+    property_of n at whole (object_of o) ≡ typed Any (fault code.UndefinedProperty at (n ∷ []) ∷ [])
+property_absent n at whole (Object' s f r) h = ap (or_fault (fault code.UndefinedProperty at (n ∷ []))) (sym h)
 
 pub all_of_object : (whole : Span) (o : Object) → all_of whole (object_of o) ≡ typed (ArrayOf (fuse_all None (fields_of_type (object_of o)) (rest_of_type (object_of o)))) []
 all_of_object whole (Object' s f r) = refl

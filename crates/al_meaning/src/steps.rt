@@ -3,7 +3,7 @@
 ghost use Rattle.std.specs.Prelude.{◌≡◌, IfOk, None, option_map};
 ghost use Rattle.al_base.specs.Growth.{BeginsWith};
 ghost use Rattle.al_meaning.specs.Meaning.{typed, behind, property_of, all_of, index_of, element_at, not_indexable, fuse_all, fuse_next};
-ghost use Rattle.al_types.specs.Types.{NoField};
+ghost use Rattle.al_types.specs.Types.{NoField, property_in};
 ghost use Rattle.al_types.specs.TypeViews.{ty_of, object_of};
 ghost use Rattle.al_types.specs.Private.TypeParts.{fields_of_type, rest_of, rest_of_type};
 
@@ -42,6 +42,29 @@ pub(crate) fn property(
         Ty::Number => not_indexable(alloc, whole, out),
         Ty::Bool => not_indexable(alloc, whole, out),
         Ty::String => not_indexable(alloc, whole, out),
+    }
+}
+
+/// The same where an object is known not to have the property, so that its fields are not looked through again.
+#[tactic(auto, using(al_base::proofs::Growing::growth, crate::proofs::TypedSteps::typing, crate::proofs::TypedSteps::object_steps))]
+pub(crate) fn absent_property(
+    alloc: Global,
+    ty: &Ty,
+    name: &str,
+    at: Span,
+    whole: Span,
+    out: &mut Vec<Fault>,
+) -> Result<Ty, AllocError>
+    requires { None ≡ property_in name.now (ty_of ty.now) }
+    ensures ok { IfOk result (λ t. typed (ty_of t) out.new.items ≡ behind out.old.items (property_of name.now at whole (ty_of ty.now))) }
+    ensures begins { BeginsWith out.new.items out.old.items }
+{
+    match ty {
+        Ty::Object(_) => {
+            report_text(alloc, out, ExpressionCode::UndefinedProperty, at, name)?;
+            Ok(Ty::Any)
+        }
+        _ => property(alloc, ty, name, at, whole, out),
     }
 }
 

@@ -9,7 +9,8 @@ ghost use Rattle.al_meaning.specs.Meaning.{begins_logic, untrusted, all_typed, a
 ghost use Rattle.al_meaning.specs.Meaning as meaning;
 ghost use Rattle.al_meaning.specs.Literals.{literal_text};
 ghost use Rattle.al_types.specs.Names.{context_of, function_of};
-ghost use Rattle.al_types.specs.Scopes.{scope_of};
+ghost use Rattle.al_types.specs.Scopes.{scope_of, type_of_context};
+ghost use Rattle.al_types.specs.Types.{property_in};
 ghost use Rattle.al_grammar.specs.Tree.{steps_of, operands_of, arguments_of};
 ghost use Rattle.al_types.specs.TypeViews.{ty_of};
 ghost use Rattle.al_grammar.specs.View.{tree_of, step_of, operand_of};
@@ -18,11 +19,11 @@ use crate::calls::{Argument, Callee, called, is_test};
 use crate::comparison::comparable;
 use crate::literals::{literal_text, type_of_keyword};
 use crate::reports::{report_plain, report_text};
-use crate::steps::{all, element, property};
+use crate::steps::{absent_property, all, element, property};
 use crate::untrusted::untrusted_chain;
 use al_base::{ExpressionCode, Fault, Span};
 use al_grammar::{Expr, Operand, Operator, PathStep, Word, across, extent, path_extent};
-use al_types::{Context, Function, Scope, Ty, copy, fuse};
+use al_types::{Context, ContextTypes, Function, Scope, Ty, copy, fuse};
 use std::alloc::{AllocError, Global};
 
 /// The type of an expression under a scope, with the faults in it added to `out` in the order in which it is read:
@@ -167,6 +168,8 @@ fn named(alloc: Global, scope: &Scope, word: &Word, out: &mut Vec<Fault>) -> Res
 // A type, which may be a context's and large, so that it is better read where it stands.
 #[derive(Drop)]
 enum Found<'s> {
+    // That of a context, which is asked for its properties by their names.
+    Context(&'s ContextTypes, Context),
     Lent(&'s Ty),
     Owned(Ty),
 }
@@ -176,6 +179,7 @@ impl<'s> Found<'s> {
         ensures { ty_of result.now ≡ found_type self.now }
     {
         match self {
+            Found::Context(types, context) => types.get(*context),
             Found::Lent(ty) => ty,
             Found::Owned(ty) => ty,
         }
@@ -185,6 +189,7 @@ impl<'s> Found<'s> {
         ensures { IfOk result (λ t. ty_of t ≡ found_type self.entry) }
     {
         match self {
+            Found::Context(types, context) => copy(alloc, types.get(context)),
             Found::Lent(ty) => copy(alloc, ty),
             Found::Owned(ty) => Ok(ty),
         }
@@ -205,7 +210,7 @@ fn base_type<'s>(
     ensures begins { BeginsWith out.new.items out.old.items }
 {
     match available_context(around.scope, base) {
-        Some(ty) => Ok(Found::Lent(ty)),
+        Some(context) => Ok(Found::Context(&around.scope.types, context)),
         None => {
             let ty = expression(alloc, around, base, out)?;
             Ok(Found::Owned(ty))
@@ -213,10 +218,10 @@ fn base_type<'s>(
     }
 }
 
-// The type of the context that an expression names, where it is available.
-fn available_context<'s>(scope: &'s Scope, expr: &Expr) -> Option<&'s Ty>
-    ensures { MatchOption result (Unit {0})
-        (λ t. (safe : Bool) → meaning.meaning (scope_of scope.now) safe (tree_of expr.now) ≡ typed (ty_of t.now) []) }
+// The context that an expression names, where it is available.
+fn available_context(scope: &Scope, expr: &Expr) -> Option<Context>
+    ensures { MatchOption result (Unit {0}) (λ k. (safe : Bool)
+        → meaning.meaning (scope_of scope.now) safe (tree_of expr.now) ≡ typed (type_of_context scope.now.types k) []) }
 {
     let Expr::Name(word) = expr else {
         return None;
@@ -229,27 +234,36 @@ fn available_context<'s>(scope: &'s Scope, expr: &Expr) -> Option<&'s Ty>
     if !scope.contexts.contains(context) {
         return None;
     }
-    let ty = scope.types.get(context);
-    Some(ty)
+    Some(context)
 }
 
-// The type of a property of a lent object, lent as well.
-#[tactic(auto, using(crate::proofs::TypedSteps::object_steps))]
-fn lent_property<'s>(here: &Found<'s>, name: &str) -> Option<&'s Ty>
-    ensures { MatchOption result (Unit {0}) (λ t. (at whole : Span)
-        → meaning.property_of name.now at whole (found_type here.now) ≡ typed (ty_of t.now) []) }
+// The type of a property of a type, from what was found there under its name: what is lent stays lent, so what a context holds is not
+// copied on the way to what is asked of it.
+#[tactic(auto, using(al_base::proofs::Growing::growth, crate::proofs::TypedSteps::typing))]
+fn property_found<'s>(
+    alloc: Global,
+    found: Option<&'s Ty>,
+    of: &Ty,
+    name: &str,
+    at: Span,
+    whole: Span,
+    out: &mut Vec<Fault>,
+) -> Result<Found<'s>, AllocError>
+    requires { option_map (λ t. ty_of t.now) found ≡ property_in name.now (ty_of of.now) }
+    ensures ok { IfOk result (λ f. typed (found_type f) out.new.items ≡ behind out.old.items
+        (meaning.property_of name.now at whole (ty_of of.now))) }
+    ensures begins { BeginsWith out.new.items out.old.items }
 {
-    let Found::Lent(ty) = here else {
-        return None;
-    };
-    let Ty::Object(object) = *ty else {
-        return None;
-    };
-    object.property(name)
+    match found {
+        Some(ty) => Ok(Found::Lent(ty)),
+        None => {
+            let ty = absent_property(alloc, of, name, at, whole, out)?;
+            Ok(Found::Owned(ty))
+        }
+    }
 }
 
-// The type of a property, whose name stands at `at`. One of a lent object is lent: what a context holds is not copied on the way to what
-// is asked of it.
+// The type of a property, whose name stands at `at`.
 #[tactic(auto, using(al_base::proofs::Growing::growth, crate::proofs::TypedSteps::typing))]
 fn property_from<'s>(
     alloc: Global,
@@ -263,11 +277,15 @@ fn property_from<'s>(
         (meaning.property_of name.now at whole (found_type here.now))) }
     ensures begins { BeginsWith out.new.items out.old.items }
 {
-    match lent_property(here, name) {
-        Some(ty) => Ok(Found::Lent(ty)),
-        None => {
-            let ty = property(alloc, here.get(), name, at, whole, out)?;
-            Ok(Found::Owned(ty))
+    match here {
+        Found::Context(types, context) => {
+            let found = types.property(alloc, *context, name)?;
+            property_found(alloc, found, types.get(*context), name, at, whole, out)
+        }
+        Found::Lent(ty) => property_found(alloc, ty.property(name), ty, name, at, whole, out),
+        Found::Owned(ty) => {
+            let of = property(alloc, ty, name, at, whole, out)?;
+            Ok(Found::Owned(of))
         }
     }
 }

@@ -6,7 +6,7 @@ use Rattle.al_base.specs.declared.faults.Fault.{Fault}
 use Rattle.al_yaml.specs.Node.{Node}
 use Rattle.al_shape.specs.Values.{texts_at}
 use Rattle.al_base.specs.Names.{same_name}
-use Rattle.al_declarations.specs.Positions.{first_at}
+use Rattle.al_types.specs.Positions.{first_at}
 use Rattle.al_graph.specs.Graphs.{Walk}
 use Rattle.al_reports.specs.Words.{Named, about, fault, of_key, of_scalar}
 

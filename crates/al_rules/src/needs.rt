@@ -1,6 +1,6 @@
 //! What jobs need.
 
-ghost use Rattle.al_declarations.specs.Private.Positions.{name_position};
+ghost use Rattle.al_types.specs.Private.Positions.{name_position};
 ghost use Rattle.al_graph.specs.Graphs.{edges_of};
 ghost use Rattle.al_rules.specs.Needs.{AddsAllNeeds, all_needs, keys_of as keys_of_all, named_by, needs_in, needs_lists};
 ghost use Rattle.al_rules.specs.Needs.{position_in};
@@ -15,10 +15,10 @@ ghost use Rattle.std.specs.List.{filter_map};
 ghost use Rattle.std.specs.Prelude.{◌≡◌, ◌++◌, map, slice_index_or, IfOk, OnOk, None};
 
 use al_base::{Fault, RuleCode};
-use al_declarations::NamePositions;
 use al_graph::strongly_connected_components;
 use al_reports::{Named, named_key, named_text, report, report_two};
 use al_tree::{Member, ScalarNode, key_text, texts_under};
+use al_types::NamePositions;
 use std::alloc::{AllocError, Global};
 
 /// An entry of `needs`: its text, and the position and the key of its job.

@@ -1,3 +1,5 @@
 pub mod TypeForms
 pub mod TypeFields
 pub mod Fused
+pub mod PositionLemmas
+pub mod FieldPositions

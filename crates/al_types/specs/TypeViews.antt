@@ -1,5 +1,5 @@
 -- What clauses see of the code's types: the type alone, without where it lies in memory.
-use Rattle.std.specs.Prelude.{ℕ, List, Bool, string_bytes, [], ◌∷◌}
+use Rattle.std.specs.Prelude.{ℕ, List, string_bytes, [], ◌∷◌}
 use Rattle.al_types.specs.declared.types.Ty.{Ty}
 use Rattle.al_types.specs.declared.types.Object.{Object, Object'}
 use Rattle.al_types.specs.declared.types.Ty.TheBlock as code

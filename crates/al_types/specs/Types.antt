@@ -36,6 +36,11 @@ field_or_rest (Some t) r = Some t
 field_or_rest None Strict = None
 field_or_rest None (Loose t) = Some t
 
+-- the type of an object's property; another type has none
+abbrev pub property_in : List ℕ → Type' → Option Type'
+property_in n (ObjectOf fs r) = field_or_rest (field_at n fs) r
+property_in n _ = None
+
 -- Whether a value of the one type may stand where the other is wanted.
 abbrev pub assignable_type : Type' → Type' → Bool
 assignable_type Any to = true

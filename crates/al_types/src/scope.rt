@@ -1,11 +1,14 @@
 //! What an expression can name at its place.
 
-ghost use Rattle.std.specs.Prelude.{◌≡◌};
+ghost use Rattle.std.specs.Prelude.{◌≡◌, IfOk, option_map};
 ghost use Rattle.al_types.specs.Scopes.{type_of_context, is_available, is_allowed};
+ghost use Rattle.al_types.specs.Types.{property_in};
 ghost use Rattle.al_types.specs.TypeViews.{ty_of};
 
+use crate::indexed::IndexedType;
 use crate::names::{Context, Function};
 use crate::types::Ty;
+use std::alloc::{AllocError, Global};
 
 /// What an expression can refer to at its place in a workflow or an action.
 #[derive(Drop)]
@@ -17,7 +20,8 @@ pub struct Scope {
     pub in_run: bool,
 }
 
-/// The type of each context.
+/// The type of each context. Those of `steps` and `inputs` have a field for each step or input of a file, so they find them by their
+/// names.
 #[derive(Drop)]
 pub struct ContextTypes {
     pub github: Ty,
@@ -29,9 +33,9 @@ pub struct ContextTypes {
     pub strategy: Ty,
     pub needs: Ty,
     pub jobs: Ty,
-    pub steps: Ty,
+    pub steps: IndexedType,
     pub matrix: Ty,
-    pub inputs: Ty,
+    pub inputs: IndexedType,
 }
 
 impl ContextTypes {
@@ -49,9 +53,27 @@ impl ContextTypes {
             Context::Strategy => &self.strategy,
             Context::Needs => &self.needs,
             Context::Jobs => &self.jobs,
-            Context::Steps => &self.steps,
+            Context::Steps => self.steps.ty(),
             Context::Matrix => &self.matrix,
-            Context::Inputs => &self.inputs,
+            Context::Inputs => self.inputs.ty(),
+        }
+    }
+
+    /// The type of a context's property, where the context is an object that has it.
+    ///
+    /// Fails with `AllocError` for want of memory.
+    pub fn property(
+        &self,
+        alloc: Global,
+        context: Context,
+        name: &str,
+    ) -> Result<Option<&Ty>, AllocError>
+        ensures { IfOk result (λ found. option_map (λ t. ty_of t.now) found ≡ property_in name.now (type_of_context self.now context)) }
+    {
+        match context {
+            Context::Steps => self.steps.property(alloc, name),
+            Context::Inputs => self.inputs.property(alloc, name),
+            _ => Ok(self.get(context).property(name)),
         }
     }
 }

@@ -1,7 +1,7 @@
 //! Types of expressions.
 
-ghost use Rattle.std.specs.Prelude.{◌≡◌, IfOk, option_map};
-ghost use Rattle.al_types.specs.Types.{field_at, field_or_rest, has_field, is_collection, is_plain};
+ghost use Rattle.std.specs.Prelude.{◌≡◌, IfOk, None, option_map};
+ghost use Rattle.al_types.specs.Types.{field_at, field_or_rest, has_field, is_collection, is_plain, property_in};
 ghost use Rattle.al_types.specs.TypeViews.{ty_of, object_of};
 ghost use Rattle.al_types.specs.Private.TypeParts.{rest_of, form_of, fields_of_type, rest_of_type};
 
@@ -81,6 +81,17 @@ impl Ty {
     {
         matches!(self.form(), Form::Number | Form::Bool | Form::String)
     }
+
+    /// The type of a property, where it is an object that has it.
+    #[tactic(auto, using(crate::proofs::FieldPositions::property_of_parts))]
+    pub fn property(&self, name: &str) -> Option<&Ty>
+        ensures { option_map (λ t. ty_of t.now) result ≡ property_in name.now (ty_of self.now) }
+    {
+        match self {
+            Ty::Object(object) => object.property(name),
+            _ => None,
+        }
+    }
 }
 
 impl Object {
@@ -97,18 +108,25 @@ impl Object {
         None
     }
 
-    /// The type of a property: of the first field of its name, else of other fields, where there may be others.
+    /// The type of the fields beside its own, where there may be others.
     #[tactic(auto, using(crate::proofs::TypeFields::rest_field))]
+    pub(crate) fn other(&self) -> Option<&Ty>
+        ensures { option_map (λ t. ty_of t.now) result ≡ field_or_rest None (rest_of_type (object_of self.now)) }
+    {
+        match &self.rest {
+            Some(ty) => Some(ty),
+            None => None,
+        }
+    }
+
+    /// The type of a property: of the first field of its name, else of other fields, where there may be others.
     pub fn property(&self, name: &str) -> Option<&Ty>
         ensures { option_map (λ t. ty_of t.now) result
             ≡ field_or_rest (field_at name.now (fields_of_type (object_of self.now))) (rest_of_type (object_of self.now)) }
     {
         match self.field(name) {
             Some(ty) => Some(ty),
-            None => match &self.rest {
-                Some(ty) => Some(ty),
-                None => None,
-            },
+            None => self.other(),
         }
     }
 

@@ -1,7 +1,8 @@
 -- The types of contexts by what they change with: those that a file fixes, those of a section, and `steps`.
-use Rattle.std.specs.Prelude.{◌≡◌, ◌⊎◌, ℕ, Bool, true, false, List, [], codes, map, Option, Some, None, option_map, if◌then◌else◌}
+use Rattle.std.specs.Prelude.{◌≡◌, ◌⊎◌, ℕ, Bool, true, false, List, codes, map, Option, Some, None, option_map, if◌then◌else◌}
 use Rattle.std.specs.Option.{option_copied}
 use Rattle.al_types.specs.Types.{Type', Any}
+use Rattle.al_types.specs.IndexedTypes.{indexed_type}
 use Rattle.al_types.specs.TypeViews.{ty_of}
 use Rattle.al_types.specs.declared.scope.ContextTypes.{ContextTypes}
 use Rattle.al_yaml.specs.Node.{Node}
@@ -13,12 +14,12 @@ use Rattle.al_tree.specs.declared.files.FileKind.{FileKind}
 use Rattle.al_tree.specs.declared.files.FileKind.TheVariants as kind
 use Rattle.al_places.specs.Positions.{Section, apart, in_on, in_job, Seen}
 use Rattle.al_contexts.specs.Answered.{known_of}
-use Rattle.al_contexts.specs.Contexts.{Known, job_in, jobs_type_of, needs_type, steps_shown, steps_type, type_in_job}
+use Rattle.al_contexts.specs.Contexts.{Known, job_in, jobs_type_of, needs_type, steps_type, type_in_job}
 use Rattle.al_declarations.specs.Declarations.{action_steps, is_composite}
 use Rattle.al_contexts.specs.Fixed.{github_type, runner_type, job_type, strategy_type}
 use Rattle.al_contexts.specs.Inputs.{workflow_inputs, action_inputs}
 use Rattle.al_contexts.specs.Matrix.{matrix_type}
-use Rattle.al_contexts.specs.Objects.{Typed, loose_strings}
+use Rattle.al_contexts.specs.Objects.{loose_strings}
 use Rattle.al_contexts.specs.declared.env.File.{File}
 use Rattle.al_contexts.specs.declared.env.Owner as rust
 
@@ -46,11 +47,6 @@ owner_in kind.Action root s = if is_composite root then Some (None, action_steps
 abbrev pub owned : Known → Option Owner → Seen → Type'
 owned known None seen = Any
 owned known (Some o) seen = steps_type known o.0 o.1 seen
-
--- the fields of that type
-abbrev pub owned_fields : Known → Option Owner → Seen → List Typed
-owned_fields known None seen = []
-owned_fields known (Some o) seen = steps_shown known o.0 o.1 seen
 
 abbrev pub strategy_in : FileKind → Node → Section → Type'
 strategy_in kind.Workflow root s = type_in_job (λ j. strategy_type) (job_in root s)
@@ -84,7 +80,7 @@ pub record Fixed (f : File) (ts : ContextTypes) : Type 0 where
   pub secrets : ty_of ts.secrets ≡ loose_strings
   pub runner : ty_of ts.runner ≡ runner_type
   pub job : ty_of ts.job ≡ job_type
-  pub inputs : ty_of ts.inputs ≡ inputs_in f.kind (view f.root.now)
+  pub inputs : indexed_type ts.inputs ≡ inputs_in f.kind (view f.root.now)
 
 -- those that a section fixes
 pub record OfSection (f : File) (ts : ContextTypes) (s : Section) : Type 0 where

@@ -1,14 +1,13 @@
 -- What holds of an environment that stands at a position of a file.
 use Rattle.std.specs.Prelude.{◌≡◌, map, option_map}
-use Rattle.al_types.specs.TypeViews.{ty_of}
+use Rattle.al_types.specs.IndexedTypes.{indexed_type}
 use Rattle.al_yaml.specs.View.{view}
 use Rattle.al_shape.specs.Values.{member_of}
 use Rattle.al_tree.specs.Files.{jobs_of}
 use Rattle.al_places.specs.Positions.{before, section_view}
 use Rattle.al_contexts.specs.Answered.{known_of}
-use Rattle.al_contexts.specs.Private.Environment.{Fixed, OfSection, owned, owned_fields, owner_in, owner_view}
+use Rattle.al_contexts.specs.Private.Environment.{Fixed, OfSection, owned, owner_in, owner_view}
 use Rattle.al_contexts.specs.Private.Lookups.{known_by}
-use Rattle.al_contexts.specs.Private.Indexes.{IsIndex}
 use Rattle.al_contexts.specs.Private.ShownJobs.{Keeps}
 use Rattle.al_contexts.specs.declared.env.Env.{Env}
 use Rattle.al_contexts.specs.declared.env.File.{File}
@@ -20,6 +19,5 @@ pub record Stands (f : File) (e : Env) : Type 0 where
   pub fixed : Fixed f e.scope.types
   pub section : OfSection f e.scope.types (section_view e.section)
   pub owner : option_map owner_view e.owner ≡ owner_in f.kind (view f.root.now) (section_view e.section)
-  pub steps : ty_of e.scope.types.steps ≡ owned (known_of f.known.now) (option_map owner_view e.owner) (before e.seen)
-  pub ids : IsIndex e.ids (owned_fields (known_of f.known.now) (option_map owner_view e.owner) (before e.seen))
+  pub steps : indexed_type e.scope.types.steps ≡ owned (known_of f.known.now) (option_map owner_view e.owner) (before e.seen)
   pub shown : Keeps (known_by e.outputs) (map member_of e.jobs.members.items) e.shown

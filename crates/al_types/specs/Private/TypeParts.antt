@@ -3,7 +3,6 @@ use Rattle.std.specs.Prelude.{ℕ, List, Bool, true, false, Option, Some, None, 
 use Rattle.std.specs.Global.{Global}
 use Rattle.al_types.specs.declared.types.Ty.{Ty}
 use Rattle.al_types.specs.declared.types.Field.{Field}
-use Rattle.al_types.specs.declared.types.Object.{Object}
 use Rattle.al_types.specs.declared.types.Form.{Form}
 use Rattle.al_types.specs.declared.types.Form.TheVariants as form
 use Rattle.al_types.specs.Types.{Type', Any, Null, Number, Bool', String, ArrayOf, ObjectOf, Fields, NoField, FieldThen, Rest, Strict}

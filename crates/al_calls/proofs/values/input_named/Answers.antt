@@ -1,5 +1,5 @@
 use Rattle.std.proofs.Common.{◌<◌, Some, ap, length, rules, sym, ◌∙◌}
-use Rattle.al_declarations.specs.Private.Positions.{name_position}
+use Rattle.al_types.specs.Private.Positions.{name_position}
 use Rattle.al_calls.proofs.Positions.{named_at, not_named, position_within}
 use Rattle.al_calls.proofs.values.input_named.Goals as goal
 

@@ -1,5 +1,5 @@
 use Rattle.std.proofs.Common.{ap, ◌∙◌}
-use Rattle.al_declarations.specs.Private.Positions.{and_name_at, name_position}
+use Rattle.al_types.specs.Private.Positions.{and_name_at, name_position}
 use Rattle.al_calls.proofs.Positions.{positions_more}
 use Rattle.al_calls.proofs.values.input_positions.Goals as goal
 

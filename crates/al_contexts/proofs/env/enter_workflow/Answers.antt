@@ -5,14 +5,11 @@ use Rattle.al_types.specs.Private.TypeParts.{fields_of_type}
 use Rattle.al_shape.specs.Values.{member_of}
 use Rattle.al_places.specs.Positions.{section_view}
 use Rattle.al_yaml.specs.View.{view}
-use Rattle.al_contexts.specs.Answered.{known_of}
 use Rattle.al_contexts.specs.Contexts.{needs_type_of, type_in_job}
-use Rattle.al_contexts.specs.Private.Environment.{jobs_shown, owner_view}
-use Rattle.al_contexts.specs.Private.Indexes.{name_at}
+use Rattle.al_contexts.specs.Private.Environment.{jobs_shown}
 use Rattle.al_contexts.specs.Private.Lookups.{known_by}
 use Rattle.al_contexts.proofs.Needed.{given_back_here}
 use Rattle.al_contexts.proofs.Sections.{of_workflow, some_strategy}
-use Rattle.al_contexts.proofs.Seen.{none_shown}
 use Rattle.al_contexts.proofs.env.enter_workflow.Goals as goal
 
 pub returns-clause-stands : goal.returns-clause-stands
@@ -37,8 +34,6 @@ returns-clause-stands c =
           (c.in_ok-jobs.ensures ∙ ap (λ k. jobs_shown k js s) c.requires.stands.known) c.in_ok-matrix.ensures;
       owner = search rules;
       steps = search rules;
-      ids = c.new.ensures
-          ∙ sym (ap name_at (none_shown (known_of c.args.file.known.now) (option_map owner_view c.owner_at-owner.result)));
       shown = c.in_ok-needs.ensures.keeps;
     }
 

@@ -1,6 +1,6 @@
 use Rattle.std.proofs.Common.{◌∙◌, ap}
-use Rattle.al_declarations.specs.Private.Positions.{and_name_at, name_position}
-use Rattle.al_declarations.proofs.PositionLemmas.{position_next}
+use Rattle.al_types.specs.Private.Positions.{and_name_at, name_position}
+use Rattle.al_types.proofs.PositionLemmas.{position_next}
 use Rattle.al_base.specs.Names.{same_name}
 use Rattle.al_types.specs.Private.TypeParts.{field_of}
 use Rattle.al_contexts.specs.Objects.{Typed}

@@ -1,5 +1,5 @@
 use Rattle.std.proofs.Common.{◌≡◌, sym, ◌∙◌, map, Some}
-use Rattle.al_declarations.proofs.PositionLemmas.{found_within}
+use Rattle.al_types.proofs.PositionLemmas.{found_within}
 use Rattle.al_shape.specs.Keys.{key_of}
 use Rattle.al_shape.specs.Values.{member_of}
 use Rattle.al_base.specs.Names.{same_name}

@@ -8,7 +8,6 @@ returns-clause-stands c = record {
   section = c.in_ok-go.ensures.stands.section;
   owner = c.in_ok-go.ensures.stands.owner;
   steps = c.in_ok-go.ensures.stands.steps;
-  ids = c.in_ok-go.ensures.stands.ids;
   shown = c.in_ok-go.ensures.stands.shown;
 }
 

@@ -3,8 +3,8 @@ use Rattle.std.proofs.lemmas.List.{map-set}
 use Rattle.std.proofs.lemmas.List.{get_or-map as get_or-any}
 use Rattle.std.proofs.Math.ListN.{get_or-map}
 use Rattle.std.specs.Prelude.{OnOk}
-use Rattle.al_declarations.specs.Private.Positions.{name_position}
-use Rattle.al_declarations.proofs.PositionLemmas.{found_within}
+use Rattle.al_types.specs.Private.Positions.{name_position}
+use Rattle.al_types.proofs.PositionLemmas.{found_within}
 use Rattle.al_types.specs.Types.{fuse_type}
 use Rattle.al_types.specs.TypeViews.{ty_of}
 use Rattle.al_types.specs.Private.TypeParts.{field_of}

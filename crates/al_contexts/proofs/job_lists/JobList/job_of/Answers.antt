@@ -1,6 +1,6 @@
 use Rattle.std.proofs.Common.{◌≡◌, ap, sym, ◌∙◌, map, Some, None, arith}
 use Rattle.std.specs.Str.{bytes_eq}
-use Rattle.al_declarations.proofs.PositionLemmas.{found_nowhere, found_there, found_within}
+use Rattle.al_types.proofs.PositionLemmas.{found_nowhere, found_there, found_within}
 use Rattle.al_places.specs.Positions.{section_view}
 use Rattle.al_shape.specs.Keys.{key_of}
 use Rattle.al_shape.specs.Values.{member_of}

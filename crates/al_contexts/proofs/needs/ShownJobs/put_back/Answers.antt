@@ -1,6 +1,6 @@
 use Rattle.std.proofs.Common.{◌≡◌, ap, sym, ◌∙◌, map, length, Some, arith}
 use Rattle.std.proofs.lemmas.List.{length-set}
-use Rattle.al_declarations.proofs.PositionLemmas.{found_within}
+use Rattle.al_types.proofs.PositionLemmas.{found_within}
 use Rattle.al_shape.specs.Keys.{key_of}
 use Rattle.al_shape.specs.Values.{member_of}
 use Rattle.al_base.specs.Names.{same_name}

@@ -1,11 +1,18 @@
 //! Where texts and names first stand in a list.
 ghost use Rattle.std.specs.Prelude.{◌≡◌, None, is_none, IfOk, OnErr, OnOk};
-ghost use Rattle.al_declarations.specs.Private.Positions.{and_name_at, and_text_at, name_position, text_position};
+ghost use Rattle.al_base.specs.Names.{folded};
+ghost use Rattle.al_types.specs.Private.Positions.{and_name_at, and_text_at, name_position, text_position};
 
-use crate::name_sets::in_lower_case;
 use std::alloc::{AllocError, Global};
 use std::collections::BTreeMap;
 use std::collections::btree_map::Entry;
+
+/// A name in lower case, by which names that are the same but for ASCII case are found. Fails with `AllocError` for want of memory.
+pub fn in_lower_case(alloc: Global, name: &[u8]) -> Result<Vec<u8>, AllocError>
+    ensures { IfOk result (λ v. v.items ≡ folded name.now) }
+{
+    name.to_ascii_lowercase(alloc)
+}
 
 /// Where each text first stands. Adding one and looking one up take time that grows with the logarithm of their number, and with the
 /// text's length.

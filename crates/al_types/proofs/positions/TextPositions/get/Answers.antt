@@ -1,6 +1,6 @@
 use Rattle.std.proofs.Common.{◌∙◌}
-use Rattle.al_declarations.specs.Private.Positions.{text_position}
-use Rattle.al_declarations.proofs.positions.TextPositions.get.Goals as goal
+use Rattle.al_types.specs.Private.Positions.{text_position}
+use Rattle.al_types.proofs.positions.TextPositions.get.Goals as goal
 
 pub returns : goal.returns
 unfolding text_position

@@ -1,0 +1,95 @@
+-- Where names stand among fields: among the same fields as a list, and which property a name finds by it.
+use Rattle.std.proofs.Common.{◌≡◌, ◌+◌, ◌<◌, ℕ, List, [], ◌∷◌, map, length, get_or, suc, arith, refl, sym, ap, ◌∙◌, Bool, true, false, Option, Some, None, option_map}
+use Rattle.std.specs.Prelude.{if◌then◌else◌}
+use Rattle.std.proofs.Math.ListN.{get_or-map}
+use Rattle.al_base.specs.Names.{same_name}
+use Rattle.al_types.specs.declared.types.Ty.{Ty}
+use Rattle.al_types.specs.declared.types.Ty as code
+use Rattle.al_types.specs.declared.types.Field.{Field}
+use Rattle.al_types.specs.declared.types.Object.{Object, Object', out-Object}
+use Rattle.al_types.specs.Positions.{field_position, first_at}
+use Rattle.al_types.specs.Types.{Type', Fields, NoField, FieldThen, field_at, field_or_rest, property_in}
+use Rattle.al_types.specs.TypeViews.{ty_of, object_of, fields_of}
+use Rattle.al_types.specs.Private.TypeParts.{field_of, fields_of_type, rest_of_type}
+use Rattle.al_types.proofs.PositionLemmas.{found_within}
+use Rattle.al_types.proofs.TypeFields.{object_fields}
+
+abbrev is_named : List ℕ → List ℕ × Type' → Bool
+is_named n f = same_name f.0 n
+
+position_listed : (fs : List (List ℕ × Type')) (n : List ℕ) → field_position (fields_of fs) n ≡ first_at (is_named n) fs
+position_listed [] n = refl
+position_listed (f ∷ fs) n = ap (λ o. if same_name f.0 n then Some 0 else option_map (λ i. i + 1) o) (position_listed fs n)
+
+-- among fields as a list
+pub positions_listed : (fs : List (List ℕ × Type')) → field_position (fields_of fs) ≡ (λ n. first_at (λ f. same_name f.0 n) fs)
+positions_listed fs = λ d n. position_listed fs n d
+
+there_step : (b : Bool) (o : Option ℕ) (f : List ℕ × Type') (fs : List (List ℕ × Type')) (found : Option Type') (i : ℕ) (d : List ℕ × Type') →
+    ((j : ℕ) → o ≡ Some j → found ≡ Some (get_or fs j d).1) → (if b then Some 0 else option_map (λ k. k + 1) o) ≡ Some i →
+    (if b then Some f.1 else found) ≡ Some (get_or (f ∷ fs) i d).1
+there_step true o f fs found i d h e = let z : 0 ≡ i = cc in ap (λ k. Some (get_or (f ∷ fs) k d).1) z
+there_step false None f fs found i d h e = absurd cc
+there_step false (Some j) f fs found i d h e =
+    let y : j + 1 ≡ i = cc in
+    let z : suc j ≡ i = omega (arith, y) in
+    h j refl ∙ ap (λ k. Some (get_or (f ∷ fs) k d).1) z
+
+-- the field at its position has the type that the name finds
+field_there : (fs : List (List ℕ × Type')) (n : List ℕ) (i : ℕ) (d : List ℕ × Type') → field_position (fields_of fs) n ≡ Some i →
+    field_at n (fields_of fs) ≡ Some (get_or fs i d).1
+field_there [] n i d e = absurd cc
+field_there (f ∷ fs) n i d e =
+    there_step (same_name f.0 n) (field_position (fields_of fs) n) f fs (field_at n (fields_of fs)) i d (λ j h. field_there fs n j d h) e
+
+nowhere_step : (b : Bool) (o : Option ℕ) (t : Type') (found : Option Type') → (o ≡ None → found ≡ None) →
+    (if b then Some 0 else option_map (λ k. k + 1) o) ≡ None → (if b then Some t else found) ≡ None
+nowhere_step true o t found h e = absurd cc
+nowhere_step false None t found h e = h refl
+nowhere_step false (Some j) t found h e = absurd cc
+
+field_nowhere : (fs : Fields) (n : List ℕ) → field_position fs n ≡ None → field_at n fs ≡ None
+field_nowhere NoField n e = refl
+field_nowhere (FieldThen m t fs) n e = nowhere_step (same_name m n) (field_position fs n) t (field_at n fs) (λ h. field_nowhere fs n h) e
+
+-- ---- the property of an object
+
+pub property_of_parts : (n : List ℕ) (o : Object) → property_in n (object_of o) ≡ field_or_rest (field_at n (fields_of_type (object_of o))) (rest_of_type (object_of o))
+property_of_parts n (Object' s f r) = refl
+
+fields_listed : (o : Object) → fields_of_type (object_of o) ≡ fields_of (map field_of (out-Object o).fields.items)
+fields_listed o = ap fields_of_type (object_fields o)
+
+-- a position is one of its fields
+pub position_inside : (o : Object) (n : List ℕ) (i : ℕ) → field_position (fields_of_type (object_of o)) n ≡ Some i → i < length (out-Object o).fields.items
+position_inside o n i e =
+    found_within field_of (is_named n) (out-Object o).fields.items i
+    (sym (position_listed (map field_of (out-Object o).fields.items) n) ∙ ap (λ fs. field_position fs n) (sym (fields_listed o)) ∙ e)
+
+-- and the field there has its property
+pub property_there : (o : Object) (n : List ℕ) (i : ℕ) (f : Field) → field_position (fields_of_type (object_of o)) n ≡ Some i →
+    f ≡ get_or (out-Object o).fields.items i f → Some (ty_of f.ty) ≡ property_in n (object_of o)
+property_there o n i f e h =
+    let items = (out-Object o).fields.items in
+    let fs : List (List ℕ × Type') = map field_of items in
+    let here : field_position (fields_of fs) n ≡ Some i = ap (λ gs. field_position gs n) (sym (fields_listed o)) ∙ e in
+    let got : get_or fs i (field_of f) ≡ field_of f = get_or-map field_of items i f ∙ ap field_of (sym h) in
+    let found : field_at n (fields_of_type (object_of o)) ≡ Some (ty_of f.ty) =
+    ap (field_at n) (fields_listed o) ∙ field_there fs n i (field_of f) here ∙ ap (λ (g : List ℕ × Type'). Some g.1) got in
+    sym (property_of_parts n o ∙ ap (λ x. field_or_rest x (rest_of_type (object_of o))) found)
+
+-- one without a position has the property that all other fields have
+pub property_beside : (o : Object) (n : List ℕ) → field_position (fields_of_type (object_of o)) n ≡ None →
+    field_or_rest None (rest_of_type (object_of o)) ≡ property_in n (object_of o)
+property_beside o n e =
+    sym (property_of_parts n o ∙ ap (λ x. field_or_rest x (rest_of_type (object_of o))) (field_nowhere (fields_of_type (object_of o)) n e))
+
+-- a type that is no object has none
+pub no_property : (t : Ty) (n : List ℕ) → ((x : Object) → t ≡ code.Object x → ⊥) → None ≡ property_in n (ty_of t)
+no_property (code.Object o) n h = absurd (h o refl)
+no_property (code.Array' p t) n h = refl
+no_property code.Any n h = refl
+no_property code.Null n h = refl
+no_property code.Number n h = refl
+no_property code.Bool n h = refl
+no_property code.String n h = refl

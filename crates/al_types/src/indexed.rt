@@ -1,0 +1,96 @@
+//! Types that find their fields by their names.
+
+ghost use Rattle.std.specs.Prelude.{◌≡◌, IfOk, map, option_map};
+ghost use Rattle.al_types.specs.Types.{Any, ObjectOf, Strict, property_in};
+ghost use Rattle.al_types.specs.TypeViews.{ty_of, object_of, fields_of};
+ghost use Rattle.al_types.specs.Private.Positions.{IsFieldIndex};
+ghost use Rattle.al_types.specs.Private.TypeParts.{field_of, fields_of_type};
+
+use crate::positions::NamePositions;
+use crate::types::{Field, Object, Ty};
+use std::alloc::{AllocError, Global};
+
+/// So many fields are looked through one by one, which takes no memory and less time.
+const FEW: usize = 8;
+
+/// A type, and where it is an object, where each name first stands among its fields. Finding a property takes time that grows with the
+/// logarithm of their number.
+#[derive(Drop)]
+pub struct IndexedType {
+    ty: Ty,
+    positions: NamePositions,
+    ghost indexed: { IsFieldIndex positions (fields_of_type (ty_of ty)) },
+}
+
+impl IndexedType {
+    ghost use Rattle.al_types.specs.IndexedTypes.{indexed_type};
+
+    /// The type of a value of which nothing is known. Takes no memory.
+    pub fn any(alloc: Global) -> IndexedType
+        ensures { indexed_type result ≡ Any }
+    {
+        IndexedType {
+            ty: Ty::Any,
+            positions: NamePositions::new(alloc),
+        }
+    }
+
+    /// An object that has these fields, whose names stand at these positions, and no others.
+    #[tactic(auto, using(crate::proofs::TypeFields::object_made))]
+    pub fn strict(fields: Vec<Field>, positions: NamePositions) -> IndexedType
+        requires { IsFieldIndex positions (fields_of (map field_of fields.items)) }
+        ensures { indexed_type result ≡ ObjectOf (fields_of (map field_of fields.items)) Strict }
+    {
+        IndexedType {
+            ty: Ty::Object(Object { fields, rest: None }),
+            positions,
+        }
+    }
+
+    /// The type, and where each name first stands among its fields.
+    pub fn into_parts(self) -> (Ty, NamePositions)
+        ensures ty { ty_of result.0 ≡ indexed_type self }
+        ensures positions { IsFieldIndex result.1 (fields_of_type (indexed_type self)) }
+    {
+        (self.ty, self.positions)
+    }
+
+    /// The type.
+    pub fn ty(&self) -> &Ty
+        ensures { ty_of result.now ≡ indexed_type self.now }
+    {
+        &self.ty
+    }
+
+    /// The type of an object's property: of the first field of its name, else of other fields, where there may be others. Another type
+    /// has none.
+    ///
+    /// Fails with `AllocError` for want of memory.
+    pub fn property(&self, alloc: Global, name: &str) -> Result<Option<&Ty>, AllocError>
+        ensures { IfOk result (λ found. option_map (λ t. ty_of t.now) found ≡ property_in name.now (indexed_type self.now)) }
+    {
+        match &self.ty {
+            Ty::Object(object) => property_by(alloc, object, &self.positions, name),
+            _ => Ok(None),
+        }
+    }
+}
+
+/// The type of a property of an object whose names stand at these positions.
+fn property_by<'a>(
+    alloc: Global,
+    object: &'a Object,
+    positions: &NamePositions,
+    name: &str,
+) -> Result<Option<&'a Ty>, AllocError>
+    requires { IsFieldIndex positions.now (fields_of_type (object_of object.now)) }
+    ensures { IfOk result (λ found. option_map (λ t. ty_of t.now) found ≡ property_in name.now (object_of object.now)) }
+{
+    if object.fields.len() <= FEW {
+        return Ok(object.property(name));
+    }
+    match positions.get(alloc, name.as_bytes())? {
+        Some(i) => Ok(Some(&object.fields[i].ty)),
+        None => Ok(object.other()),
+    }
+}
