@@ -25,7 +25,8 @@ use Rattle.al_folder.proofs.Places.{gap, length-folder_of}
 use Rattle.al_folder.proofs.Views.{after_same, all_in, bytes_kept, bytes_self, kept_at}
 use Rattle.al_folder.proofs.Affecting.{changed_sorted}
 use Rattle.al_session.specs.Builder.{AreLoaded}
-use Rattle.al_session.specs.Session.{AllChecked, AreLinted}
+use Rattle.al_listing.specs.Checked.{AllChecked}
+use Rattle.al_session.specs.Session.{AreLinted}
 use Rattle.al_session.specs.Private.Lists.{with_lists}
 use Rattle.al_session.proofs.Giving.{all_checked, folder_of-with_lists, kept-with_lists}
 use Rattle.al_session.proofs.Puts.{all_insert, all_set, insert_is, set_is}

@@ -1,21 +1,16 @@
--- What a session is, what is true of what it keeps, and what it prints.
+-- What a session is, what is true of what it keeps, and what a put reads.
 use Rattle.std.specs.Prelude.{◌≡◌, ◌≢◌, ℕ, ◌≤◌, ◌^◌, ◌-◌, List, None, Some}
-use Rattle.std.specs.Prelude.{string_bytes}
-use Rattle.std.specs.List.{AllByRecursion}
 use Rattle.al_base.specs.Counted.{raised}
 use Rattle.al_folder.specs.Meaning.{IsUpTo, Meaning}
-use Rattle.al_folder.specs.Folder.{Folder, bytes_at, faults_in, put_refusal}
+use Rattle.al_folder.specs.Folder.{Folder, bytes_at, put_refusal}
 use Rattle.al_folder.specs.Kept.{Files, folder_of, Callers, IsIndex, AreKept}
+use Rattle.al_listing.specs.Checked.{AllChecked}
 
 -- What contracts see of a session: its folder, and its linter's two counts.
 pub record SessionState : Type 0 where
   pub folder : Folder
   pub checks : ℕ
   pub reads : ℕ
-
--- each file has the faults that it has in this folder
-abbrev pub AllChecked : {U I : Type 0} → Meaning I → Folder → Files U I → Type 0
-AllChecked m f files = AllByRecursion (λ e. e.1.faults.items ≡ faults_in m f (string_bytes e.0) e.1.bytes.items) files
 
 -- What is true of what a session keeps: the faults are those of its folder, and so is the index.
 pub record AreLinted {U I S R : Type 0} (m : Meaning I) (is_unit : U → List ℕ → List ℕ → Type 0) (files : Files U I)

@@ -19,15 +19,14 @@ ghost use Rattle.al_folder.specs.Meaning.{IsUpTo};
 ghost use Rattle.al_base.specs.Counted.{raised};
 ghost use Rattle.al_folder.specs.Kept.{folder_of};
 ghost use Rattle.al_folder.specs.Missing.{missing_in};
-ghost use Rattle.al_session.specs.Report.{status_of, report_of};
+ghost use Rattle.al_listing.specs.Report.{status_of, report_of};
 ghost use Rattle.al_session.specs.Session.{AreLinted, ReadsForPut};
 
 use crate::edit::{put_file, remove_file};
-use crate::joining::{has_loops, joining_of};
 use crate::refused::put_refused;
-use crate::report::{has_faults, write_files};
 use al_base::{Fault, Output, Path, Stop, path_fault};
 use al_folder::{Callers, Files, Lint, Paths, Refused, missing_paths};
+use al_listing::{has_faults, has_loops, joining_of, write_files};
 use indexmap::IndexMap;
 use std::alloc::{AllocError, Global};
 use std::io::Write;

@@ -1,23 +1,8 @@
--- Faults that are given to files, joined for a report, and printed.
-use Rattle.std.specs.Prelude.{◌≡◌, ℕ, ◌≤◌, ◌+◌, Bool, true, List, [], ◌∷◌}
-use Rattle.std.specs.Prelude.{length, ◌<◌, Option, Some, String, Vec, slice_get}
-use Rattle.std.specs.Prelude.{string_bytes, bytes_eq, cond}
-use Rattle.std.specs.Borrow.{Bor}
+-- Faults that are given to files.
+use Rattle.std.specs.Prelude.{ℕ, List, [], ◌∷◌, Vec, string_bytes, bytes_eq, cond}
 use Rattle.std.specs.Global.{Global}
-use Rattle.std.specs.List.{AllByRecursion, flat_map}
 use Rattle.al_base.specs.declared.faults.Fault.{Fault}
-use Rattle.al_base.specs.LineStarts.{line_starts}
-use Rattle.al_text.specs.Snippets.{fault_text}
-use Rattle.al_base.specs.Spans.{LiesIn}
-use Rattle.al_base.specs.Limits.{largest_file}
-use Rattle.al_folder.specs.Meaning.{Meaning}
-use Rattle.al_folder.specs.Folder.{Folder}
-use Rattle.al_folder.specs.Loops.{reported}
-use Rattle.al_folder.specs.declared.kept.KeptFile.{KeptFile}
-use Rattle.al_folder.specs.Kept.{Files, folder_of, referred}
-use Rattle.al_folder.specs.Private.CallGraphs.{may_lead_back}
-
--- Faults that are given
+use Rattle.al_folder.specs.Kept.{Files}
 
 -- the file at a path with other faults
 abbrev pub with_faults : {U I : Type 0} → Files U I → List ℕ → Vec Fault Global → Files U I
@@ -29,42 +14,3 @@ abbrev pub with_lists : {U I : Type 0} → Files U I → List (List ℕ) → Lis
 with_lists files [] lists = files
 with_lists files (p ∷ ps) [] = files
 with_lists files (p ∷ ps) (list ∷ lists) = with_faults (with_lists files ps lists) p list
-
--- Printing
-
--- the faults that are listed of a kept file: those that were joined, or else its own
-abbrev pub listed : {U I : Type 0} → KeptFile U I → Bool → List (Bor Fault) → List Fault
-listed file is_joined joined = cond is_joined (referred joined) file.faults.items
-
--- what a report prints of these faults of a kept file
-abbrev pub lines_of : {U I : Type 0} → Bool → List ℕ → KeptFile U I → List Fault → List ℕ
-lines_of oneline path file faults = flat_map (fault_text oneline path file.bytes.items) faults
-
--- what it prints of the file with this number
-abbrev pub numbered_lines : {U I : Type 0} → Bool → Meaning I → Folder → ℕ × (String Global × KeptFile U I) → List ℕ
-numbered_lines oneline m f x = lines_of oneline (string_bytes x.1.0) x.1.1 (reported m f x.0 (string_bytes x.1.0) x.1.1.bytes.items)
-
--- A kept file of which these faults can be printed: they lie in it.
-pub record IsPrintable {U I : Type 0} (file : KeptFile U I) (faults : List Fault) : Type 0 where
-  pub small : length file.bytes.items ≤ largest_file
-  pub lines : file.lines ≡ line_starts file.bytes.items
-  pub inside : AllByRecursion (λ fault. LiesIn (length file.bytes.items) fault.span) faults
-
--- what a report lists of each file can be printed
-abbrev pub ArePrintable : {U I : Type 0} → Meaning I → Files U I → Type 0
-ArePrintable {U} {I} m files = (i : ℕ) (e : String Global × KeptFile U I) → slice_get files i ≡ Some e →
-    IsPrintable e.1 (reported m (folder_of files) i (string_bytes e.0) e.1.bytes.items)
-
--- the listed faults of the file with this number are those that a report lists
-abbrev pub IsListed : {U I : Type 0} → Meaning I → Files U I → ℕ → Bool → List (Bor Fault) → Type 0
-IsListed {U} {I} m files i is_joined joined = (e : String Global × KeptFile U I) → slice_get files i ≡ Some e →
-    listed e.1 is_joined joined ≡ reported m (folder_of files) i (string_bytes e.0) e.1.bytes.items
-
--- a list of this capacity has room for a fault of each call of the file with this number, and for the file's own
-abbrev pub HasRoom : {U I : Type 0} → Files U I → ℕ → ℕ → Type 0
-HasRoom {U} {I} files i capacity = (e : String Global × KeptFile U I) → slice_get files i ≡ Some e →
-    length e.1.calls.items + length e.1.faults.items ≤ capacity
-
--- it has room for each of the first files that may have a call which leads back
-abbrev pub HasRoomFor : {U I : Type 0} → Files U I → List (Vec ℕ Global) → List (Option ℕ) → ℕ → ℕ → Type 0
-HasRoomFor files graph labels first capacity = (i : ℕ) → i < first → may_lead_back graph labels i ≡ true → HasRoom files i capacity

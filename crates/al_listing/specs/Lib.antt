@@ -1,0 +1,3 @@
+pub mod Checked
+pub mod Report
+pub mod Private

@@ -1,0 +1,149 @@
+//! What is printed of a folder's files.
+
+ghost use Rattle.std.specs.Prelude.{◌≡◌, ◌<◌, ◌≤◌, not, length, vec_capacity, ◌==◌, OnOk, OnErr, IsOkUnless};
+ghost use Rattle.std.specs.List.{AllByRecursion, enumerate_from, flat_map, list_any};
+ghost use Rattle.std.specs.Io.KnownBytes.{Appends};
+ghost use Rattle.al_base.specs.Counted.{HasRisen, AppendsFront};
+ghost use Rattle.al_base.specs.Limits.{largest_file};
+ghost use Rattle.al_base.specs.LineStarts.{line_starts};
+ghost use Rattle.al_base.specs.Spans.{LiesIn};
+ghost use Rattle.al_text.specs.Snippets.{fault_text};
+ghost use Rattle.al_base.specs.Streams.{bytes_written, write_failures};
+ghost use Rattle.al_folder.specs.Kept.{AreKept, folder_of, referred};
+ghost use Rattle.al_folder.specs.Private.CallGraphs.{IsCallGraph};
+ghost use Rattle.al_listing.specs.Checked.{AllChecked};
+ghost use Rattle.al_listing.specs.Private.Printing.{ArePrintable, HasRoomFor, IsPrintable, lines_of, listed, numbered_lines};
+
+use crate::joining::join_file;
+use al_base::{Fault, Lines, Location, Output, Stop};
+use al_folder::{CallGraph, Files, KeptFile, Lint, file_number};
+use al_text::{write_fault_at, write_faults};
+use std::io::Write;
+
+/// Whether a file has a fault of its own. Takes no memory.
+pub fn has_faults<U, I>(files: &Files<U, I>) -> bool
+    ensures { result ≡ list_any (λ e. not (length e.1.faults.items == 0)) files.now.entries }
+{
+    for index in 0..files.len() {
+        let (_, file) = file_number(files, index);
+        if !is_clean(file) {
+            return true;
+        }
+    }
+    false
+}
+
+// Whether a file has no fault.
+fn is_clean<U, I>(file: &KeptFile<U, I>) -> bool
+    ensures { result ≡ (length file.now.faults.items == 0) }
+{
+    file.faults.is_empty()
+}
+
+/// Writes the faults that a report lists of all files, file by file in order of path: each as its line, and its snippet unless `oneline` is
+/// asked for. The calls and the list are those of a [`Joining`](crate::Joining) of these files: the list has room for what is joined of
+/// any file, so no memory is wanted. What it holds is replaced.
+///
+/// # Errors
+///
+/// [`Stop::WriteFault`] where the writer failed, which then holds a front of what was to be written. No other stop is answered.
+pub fn write_files<'a, L: Lint, W: Write>(
+    writer: &mut Output<W>,
+    files: &'a Files<L::Unit, L::Iface>,
+    calls: &CallGraph,
+    joined: &mut Vec<&'a Fault>,
+    oneline: bool,
+) -> Result<(), Stop>
+    requires kept { AreKept L.meaning L.is_unit files.now.entries }
+    requires checked { AllChecked L.meaning (folder_of files.now.entries) files.now.entries }
+    requires calls { IsCallGraph L.meaning (folder_of files.now.entries) calls.now.graph.items calls.now.labels.items }
+    requires room { HasRoomFor files.now.entries calls.now.graph.items calls.now.labels.items (length files.now.entries)
+        (vec_capacity joined.old) }
+    requires printable { ArePrintable L.meaning files.now.entries }
+    ensures all { OnOk result (Appends (bytes_written W.contents writer.old) (bytes_written W.contents writer.new)
+        (flat_map (numbered_lines oneline L.meaning (folder_of files.now.entries)) (enumerate_from 0 files.now.entries))) }
+    ensures front { OnErr result (AppendsFront (bytes_written W.contents writer.old) (bytes_written W.contents writer.new)
+        (flat_map (numbered_lines oneline L.meaning (folder_of files.now.entries)) (enumerate_from 0 files.now.entries))) }
+    ensures failures { OnOk result (write_failures writer.new ≡ write_failures writer.old) }
+    ensures failed { OnErr result (HasRisen (write_failures writer.old) (write_failures writer.new)) }
+    ensures err { IsOkUnless result Stop.WriteFault }
+{
+    for index in 0..files.len() {
+        let (path, file) = file_number(files, index);
+        let is_joined = join_file::<L>(files, calls, index, joined);
+        write_file(
+            writer,
+            path.as_str(),
+            file,
+            is_joined,
+            joined.as_slice(),
+            oneline,
+        )?;
+    }
+    Ok(())
+}
+
+// Writes the listed faults of one file: those that were joined, or its own.
+fn write_file<U, I, W: Write>(
+    writer: &mut Output<W>,
+    path: &str,
+    file: &KeptFile<U, I>,
+    is_joined: bool,
+    joined: &[&Fault],
+    oneline: bool,
+) -> Result<(), Stop>
+    requires { IsPrintable file.now (listed file.now is_joined joined.now) }
+    ensures all { OnOk result (Appends (bytes_written W.contents writer.old) (bytes_written W.contents writer.new)
+        (lines_of oneline path.now file.now (listed file.now is_joined joined.now))) }
+    ensures front { OnErr result (AppendsFront (bytes_written W.contents writer.old) (bytes_written W.contents writer.new)
+        (lines_of oneline path.now file.now (listed file.now is_joined joined.now))) }
+    ensures failures { OnOk result (write_failures writer.new ≡ write_failures writer.old) }
+    ensures failed { OnErr result (HasRisen (write_failures writer.old) (write_failures writer.new)) }
+    ensures err { IsOkUnless result Stop.WriteFault }
+{
+    if is_joined {
+        return write_referred(writer, &file.lines, path, &file.bytes, joined, oneline);
+    }
+    write_faults(
+        writer,
+        &file.lines,
+        path,
+        &file.bytes,
+        &file.faults,
+        oneline,
+    )
+}
+
+// Writes faults of a file that are referred to, as `write_faults` writes those of one list.
+fn write_referred<W: Write>(
+    writer: &mut Output<W>,
+    lines: &Lines,
+    path: &str,
+    bytes: &[u8],
+    faults: &[&Fault],
+    oneline: bool,
+) -> Result<(), Stop>
+    requires made { lines.now ≡ line_starts bytes.now }
+    requires within { AllByRecursion (λ fault. LiesIn (length bytes.now) fault.span) (referred faults.now) }
+    requires small { length bytes.now ≤ largest_file }
+    ensures all { OnOk result (Appends (bytes_written W.contents writer.old) (bytes_written W.contents writer.new)
+        (flat_map (fault_text oneline path.now bytes.now) (referred faults.now))) }
+    ensures front { OnErr result (AppendsFront (bytes_written W.contents writer.old) (bytes_written W.contents writer.new)
+        (flat_map (fault_text oneline path.now bytes.now) (referred faults.now))) }
+    ensures failures { OnOk result (write_failures writer.new ≡ write_failures writer.old) }
+    ensures failed { OnErr result (HasRisen (write_failures writer.old) (write_failures writer.new)) }
+    ensures err { IsOkUnless result Stop.WriteFault }
+{
+    let mut at = 0;
+    let mut location = Location {
+        line: 1,
+        column: 1,
+        start: 0,
+    };
+    for fault in faults {
+        location = lines.location_after(bytes, at, location, fault.span.start);
+        at = fault.span.start;
+        write_fault_at(writer, path, bytes, *fault, location, oneline)?;
+    }
+    Ok(())
+}

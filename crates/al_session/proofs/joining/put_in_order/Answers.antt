@@ -1,8 +1,0 @@
-use Rattle.std.proofs.lemmas.List.Filters.{dedup_is}
-use Rattle.al_session.proofs.ListedFaults.{ordered_referred}
-use Rattle.al_session.proofs.joining.put_in_order.Goals as goal
-
-pub returns-clause-faults : goal.returns-clause-faults
-returns-clause-faults c =
-    ordered_referred c.args.faults.now.items c.sort_unstable.new.self.items c.dedup.new.self.items c.sort_unstable.ensures.permutation c.sort_unstable.ensures.sorted
-    (dedup_is _ _ _ c.dedup.ensures.filtered)
