@@ -16,6 +16,15 @@ pub struct Part {
     pub next: usize,
 }
 
+/// The same elements in as much memory as they take: a list that grows has room for more, and mappings of one entry or two are many.
+fn fitted<T>(elements: Vec<T>) -> Vec<T>
+    ensures { result.items ≡ elements.items }
+{
+    let mut fitted = elements;
+    fitted.shrink_to_fit();
+    fitted
+}
+
 /// A sequence that was read from an offset to another one.
 pub fn sequence_part(items: Vec<Node>, start: usize, end: usize, next: usize) -> Part
     requires start { start < 2 ^ 32 }
@@ -29,7 +38,7 @@ pub fn sequence_part(items: Vec<Node>, start: usize, end: usize, next: usize) ->
         end: end as u32,
     };
     Part {
-        node: sequence_node(items, span),
+        node: sequence_node(fitted(items), span),
         end,
         next,
     }
@@ -48,7 +57,7 @@ pub fn mapping_part(entries: Vec<Entry>, start: usize, end: usize, next: usize) 
         end: end as u32,
     };
     Part {
-        node: mapping_node(entries, span),
+        node: mapping_node(fitted(entries), span),
         end,
         next,
     }
