@@ -7,8 +7,8 @@ shows. A put of a file that is there finds it by hash, and looks at its callers 
 path and a delete move what stands behind them in the order of paths: that is named here with its cost.
 
 Reports are over 4,096 workflows that call one another. Each stands beside the report of as many workflows without calls, with as many
-faults whose lines are as long. Every workflow has a fault of its own, so that the status behind a report, which then looks for no loop,
-takes nothing; two folders without one show what both take.
+faults, each as far into its line, whose printed lines are as long. Every workflow has a fault of its own, so that the status behind a
+report, which then looks for no loop, takes nothing; two folders without one show what both take.
 """
 
 import functools
@@ -64,9 +64,10 @@ def workflow(number, calls, is_round, faults):
     """A workflow that calls those behind it: its path and its text."""
     called = [number + step for step in range(1, calls + 1) if is_round or number + step < FILES]
     jobs = "".join(f"  c{it}:\n    uses: ./.github/workflows/{it % FILES:04}.yml\n" for it in called)
-    # a key that isn't known, so long that its line is as long as that of a call in a loop
-    keys = "".join("x" * (len(LOOP_LINE) - len(OWN_LINE) - 2) + f"{it:02}: 1\n" for it in range(faults))
-    return f".github/workflows/{number:04}.yml", f"{keys}on: workflow_call\njobs:" + (f"\n{jobs}" if jobs else " {}\n")
+    # keys that aren't known, whose faults stand as far into their lines as those of calls in a loop and print lines as long
+    keys = "".join(" " * 10 + "x" * (len(LOOP_LINE) - len(OWN_LINE) - 2) + f"{it:02}: 1\n" for it in range(faults))
+    unknown = f"defaults:\n{keys}" if faults else ""
+    return f".github/workflows/{number:04}.yml", f"{unknown}on: workflow_call\njobs:" + (f"\n{jobs}" if jobs else " {}\n")
 
 
 def put_folder(calls, is_round, faults):

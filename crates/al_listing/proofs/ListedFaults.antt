@@ -13,8 +13,8 @@ use Rattle.std.specs.declared.cmp.Ordering.{Ordering}
 use Rattle.std.specs.declared.cmp.Ordering.TheVariants.{Less, Equal, Greater}
 use Rattle.std.proofs.lemmas.Bool.Decides.{nat_tests}
 use Rattle.std.proofs.lemmas.List.{get_or-map, length-map}
-use Rattle.std.proofs.lemmas.List.Sorted.{IsPermutation-map}
-use Rattle.al_base.proofs.FaultLists.{AllByRecursion-fault_list, derived_is, derived_ties, fault_cmp_same, fault_cmp_total, fault_list-sorted}
+use Rattle.std.proofs.lemmas.List.Sorted.{IsPermutation-append_comm, IsPermutation-map}
+use Rattle.al_base.proofs.FaultLists.{AllByRecursion-fault_list, derived_is, derived_ties, fault_cmp_same, fault_cmp_total, fault_list-permutation, fault_list-sorted}
 use Rattle.al_base.proofs.InOrder.{dedup-in_order}
 use Rattle.al_base.specs.contracts.faults.FaultOrd.TheImpl as derived
 use Rattle.al_base.specs.contracts.faults.FaultPartialEq.TheImpl as derived_eq
@@ -226,14 +226,16 @@ all-referred P (x ∷ xs) zero r all lt is = subst (λ (y : Bor Fault). P y.now)
 all-referred P (x ∷ xs) (suc i) r all lt is = all-referred P xs i r all.1 (omega (arith, lt)) is
 
 -- a list of the program joins the file's own faults to those of its loops
-pub listed_both : {U I : Type 0} (m : Meaning I) (files : Files U I) (i : ℕ) (e : String Global × KeptFile U I) (loops all : List Fault)
-    (list : List (Bor Fault)) → AllChecked m (folder_of files) files →
-    slice_get files i ≡ Some e → loops ≡ loop_faults m (folder_of files) i (string_bytes e.0) e.1.bytes.items → all ≡ loops ++ e.1.faults.items → referred list ≡ fault_list all →
+pub listed_both : {U I : Type 0} (m : Meaning I) (files : Files U I) (i : ℕ) (e : String Global × KeptFile U I) (all : List Fault)
+    (list : List (Bor Fault)) → AllChecked m (folder_of files) files → slice_get files i ≡ Some e →
+    all ≡ e.1.faults.items ++ loop_faults m (folder_of files) i (string_bytes e.0) e.1.bytes.items → referred list ≡ fault_list all →
     referred list ≡ reported m (folder_of files) i (string_bytes e.0) e.1.bytes.items
 unfolding reported
-listed_both m files i e loops all list checked at is a o =
-    o ∙ ap fault_list (a ∙ ap (λ x. x ++ e.1.faults.items) is ∙ ap (λ x. loop_faults m (folder_of files) i (string_bytes e.0) e.1.bytes.items ++ x)
-    (checked_number m (folder_of files) files i e checked at))
+listed_both m files i e all list checked at a o =
+    let own = faults_in m (folder_of files) (string_bytes e.0) e.1.bytes.items in
+    let looping = loop_faults m (folder_of files) i (string_bytes e.0) e.1.bytes.items in
+    o ∙ ap fault_list (a ∙ ap (λ x. x ++ looping) (checked_number m (folder_of files) files i e checked at))
+    ∙ fault_list-permutation (own ++ looping) (looping ++ own) (IsPermutation-append_comm own looping)
 
 -- ---- room for what is joined
 

@@ -65,10 +65,11 @@ pub(crate) fn join_file<'a, L: Lint>(
     if !may_lead_back::<L>(files, calls, index) {
         return false;
     }
-    joined.clear();
-    add_loop_faults::<L>(files, calls, index, joined);
     let (_, file) = file_number(files, index);
+    joined.clear();
+    // The file's own faults are in order, and few stand behind its first call: so they are put in order fastest from the front.
     add_references(&file.faults, joined);
+    add_loop_faults::<L>(files, calls, index, joined);
     put_in_order(joined);
     true
 }
