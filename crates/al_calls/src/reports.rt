@@ -43,7 +43,7 @@ pub(crate) fn report_one(
     ensures ok { OnOk result (out.new.items ≡ out.old.items ++ faults.fault code (call_of call.now) at (text.now ∷ []) ∷ []) }
     ensures begins { BeginsWith out.new.items out.old.items }
 {
-    let mut texts = Vec::new(alloc);
+    let mut texts = Vec::with_capacity(alloc, 1)?;
     texts.push(String::from_utf8_lossy(alloc, text)?)?;
     out.push(Fault {
         span: at,
@@ -66,7 +66,7 @@ pub(crate) fn report_two(
         ++ faults.fault code (call_of call.now) at ((named.entry).0.now ∷ (named.entry).1.now ∷ []) ∷ []) }
     ensures begins { BeginsWith out.new.items out.old.items }
 {
-    let mut texts = Vec::new(alloc);
+    let mut texts = Vec::with_capacity(alloc, 2)?;
     texts.push(String::from_utf8_lossy(alloc, named.0)?)?;
     texts.push(String::from_utf8_lossy(alloc, named.1)?)?;
     out.push(Fault {

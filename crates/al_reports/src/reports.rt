@@ -65,7 +65,7 @@ pub fn report_at(
     ensures ok { OnOk result (out.new.items ≡ out.old.items ++ fault rule span (text.now ∷ []) ∷ []) }
     ensures begins { BeginsWith out.new.items out.old.items }
 {
-    let mut texts = Vec::new(alloc);
+    let mut texts = Vec::with_capacity(alloc, 1)?;
     texts.push(String::from_utf8_lossy(alloc, text)?)?;
     out.push(rule_fault(rule, span, texts))?;
     Ok(())
@@ -86,7 +86,7 @@ pub fn report_two(
     ensures ok { OnOk result (out.new.items ≡ out.old.items ++ fault rule span (first.now ∷ second.now ∷ []) ∷ []) }
     ensures begins { BeginsWith out.new.items out.old.items }
 {
-    let mut texts = Vec::new(alloc);
+    let mut texts = Vec::with_capacity(alloc, 2)?;
     texts.push(String::from_utf8_lossy(alloc, first)?)?;
     texts.push(String::from_utf8_lossy(alloc, second)?)?;
     out.push(rule_fault(rule, span, texts))?;

@@ -17,7 +17,7 @@ pub(crate) fn report(
     ensures ok { OnOk result (out.new.items ≡ out.old.items ++ fault key span (text.now ∷ []) ∷ []) }
     ensures err { OnErr result (out.new.items ≡ out.old.items) }
 {
-    let mut texts = Vec::new(alloc);
+    let mut texts = Vec::with_capacity(alloc, 1)?;
     texts.push(String::from_utf8_lossy(alloc, text)?)?;
     out.push(Fault {
         span,
@@ -39,7 +39,7 @@ pub(crate) fn report_two(
     ensures ok { OnOk result (out.new.items ≡ out.old.items ++ fault key span (first.now ∷ second.now ∷ []) ∷ []) }
     ensures err { OnErr result (out.new.items ≡ out.old.items) }
 {
-    let mut texts = Vec::new(alloc);
+    let mut texts = Vec::with_capacity(alloc, 2)?;
     texts.push(String::from_utf8_lossy(alloc, first)?)?;
     texts.push(String::from_utf8_lossy(alloc, second)?)?;
     out.push(Fault {

@@ -1,4 +1,4 @@
-use Rattle.std.proofs.Common.{◌≡◌, ◌+◌, ◌∙◌, ◌++◌, ap, arith, sym, String, length}
+use Rattle.std.proofs.Common.{◌+◌, ◌∙◌, ◌++◌, ap, arith, sym, String, length}
 use Rattle.std.specs.Prelude.{string_bytes}
 use Rattle.std.specs.Global.{Global}
 use Rattle.al_folder.specs.Kept.{folder_of, referred}
