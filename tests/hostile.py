@@ -262,6 +262,9 @@ def many_of_both(place):
     for name, expression in zip(("4000-jobs-that-need-4000-outputs", "4000-jobs-that-read-one-of-4000-outputs"), expressions):
         jobs = b"".join(b"  b%04d: {needs: [a, A], runs-on: u, steps: [{run: '%s'}]}\n" % (number, expression) for number in range(4_000))
         reported(place, name, first % outputs + jobs, limits=held_back)
+    outputs = b", ".join(b"o%04d: x" % number for number in range(10_000))
+    jobs = b"".join(b"  b%05d: {needs: a, uses: o/r/.github/workflows/w.yml@v}\n" % number for number in range(13_000))
+    reported(place, "13000-jobs-that-need-10000-outputs", first % outputs + jobs, limits=held_back)
     before = lambda number: b" ".join(b"${{ steps.s%04d.outcome }}" % it for it in range(max(number - 4, 0), number)) or b"x"
     steps = b"".join(b"      - {id: s%04d, run: '%s'}\n" % (number, before(number)) for number in range(3_000))
     reported(place, "3000-steps-that-read-the-4-before", CLEAN[: CLEAN.index(b"      - ")] + steps, limits=held_back)
