@@ -5,13 +5,43 @@ ghost use Rattle.std.specs.Prelude.{◌≡◌, ℕ, ◌<◌, ◌∷◌, [], leng
 
 use std::alloc::{AllocError, Global};
 
-/// A graph without edges.
-fn without_edges(alloc: Global, len: usize) -> Result<Vec<Vec<usize>>, AllocError>
-    ensures { IfOk result (λ v. edges_of v.items ≡ replicate len []) }
+/// Counts an edge that leads to a node.
+fn count_edge_to(node: usize, counts: &mut [usize])
+    requires { node < length counts.old }
+    ensures { length counts.new ≡ length counts.old }
 {
-    let mut graph = Vec::new(alloc);
-    for _node in 0..len {
-        graph.push(Vec::new(alloc))?;
+    counts[node] = counts[node].saturating_add(1);
+}
+
+/// Counts an edge to each of some nodes.
+fn count_edges_to(nodes: &[usize], counts: &mut [usize])
+    requires { (k : ℕ) → Contains nodes.now k → k < length counts.old }
+    ensures { length counts.new ≡ length counts.old }
+{
+    for node in nodes {
+        count_edge_to(*node, counts);
+    }
+}
+
+/// How many edges lead to each node: the room that its list in the turned graph takes. Nothing but that room depends on these numbers.
+fn edge_counts(alloc: Global, graph: &[Vec<usize>]) -> Result<Vec<usize>, AllocError>
+    requires { (j k : ℕ) → Edge (edges_of graph.now) j k → k < length graph.now }
+    ensures { IfOk result (λ counts. vec_len counts ≡ length graph.now) }
+{
+    let mut counts = vec![in alloc; 0; graph.len()]?;
+    for nodes in graph {
+        count_edges_to(nodes.as_slice(), counts.as_mut_slice());
+    }
+    Ok(counts)
+}
+
+/// A graph without edges, with room for so many from each node.
+fn without_edges(alloc: Global, counts: &[usize]) -> Result<Vec<Vec<usize>>, AllocError>
+    ensures { IfOk result (λ v. edges_of v.items ≡ replicate (length counts.now) []) }
+{
+    let mut graph = Vec::with_capacity(alloc, counts.len())?;
+    for count in counts {
+        graph.push(Vec::with_capacity(alloc, *count)?)?;
     }
     Ok(graph)
 }
@@ -44,7 +74,8 @@ pub fn turned(alloc: Global, graph: &[Vec<usize>]) -> Result<Vec<Vec<usize>>, Al
     ensures len { IfOk result (λ v. vec_len v ≡ length graph.now) }
     ensures turned { IfOk result (λ v. IsTurned (edges_of graph.now) (edges_of v.items)) }
 {
-    let mut turned = without_edges(alloc, graph.len())?;
+    let counts = edge_counts(alloc, graph)?;
+    let mut turned = without_edges(alloc, counts.as_slice())?;
     for (node, nodes) in graph.iter().enumerate() {
         add_edges(nodes.as_slice(), node, turned.as_mut_slice())?;
     }

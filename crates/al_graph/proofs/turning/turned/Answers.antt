@@ -7,15 +7,15 @@ use Rattle.al_graph.proofs.turning.turned.Goals as goal
 
 pub add_edges-requires : goal.add_edges-requires
 add_edges-requires c k h =
-    let same : get_or (edges_of c.args.graph.now) c.loop-node.node [] ≡ c.as_slice.result.now = edges_at c.args.graph.now c.loop-node.node
-    c.index-graph-node.result c.loop-node-test.true c.index-graph-node.is ∙ sym c.as_slice.ensures.value in
+    let same : get_or (edges_of c.args.graph.now) c.loop-node.node [] ≡ c.as_slice-in-loop-node.result.now = edges_at c.args.graph.now c.loop-node.node
+    c.index-graph-node.result c.loop-node-test.true c.index-graph-node.is ∙ sym c.as_slice-in-loop-node.ensures.value in
     let P : List ℕ → Type 0 = λ ns. Contains ns k in
     let below : k < length c.args.graph.now = c.requires c.loop-node.node k (subst P (sym same) h) in
     omega (arith, below, c.loop-node.invariant.len)
 
 pub loop-node-preserved : goal.loop-node-preserved
 loop-node-preserved c =
-    let same : c.as_slice.result.now ≡ get_or (edges_of c.args.graph.now) c.loop-node.node [] = c.as_slice.ensures.value
+    let same : c.as_slice-in-loop-node.result.now ≡ get_or (edges_of c.args.graph.now) c.loop-node.node [] = c.as_slice-in-loop-node.ensures.value
     ∙ sym (edges_at c.args.graph.now c.loop-node.node c.index-graph-node.result c.loop-node-test.true c.index-graph-node.is) in
     let len : c.loop-node.turned.len ≡ length c.loop-node.turned.items = omega arith in
     record {
