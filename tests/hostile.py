@@ -15,12 +15,11 @@ import sys
 import termios
 import threading
 
+from products import ACTION, ACTION_FILE, AT, FOLDERS, INPUTS, STEPS, WORKFLOW, lacking
 from running import (CALLED, CALLER, CLEAN, MISSING_INPUT, REPORT, SCRIPT, WORKFLOWS, delete, differences_of, each, edits_and_reports, line,
                      put, report, run_parts, show, wrong_line)
 
 NO = b""
-WORKFLOW = f"{WORKFLOWS}/a.yml"
-AT = WORKFLOW.encode() + b":"
 READS = 1_048_576
 LARGEST = 1_048_576
 FILES = 4_096
@@ -28,6 +27,8 @@ PIPE_ROOM = 1 << 20
 # what a file of aliases may take: bytes of memory, and seconds of a processor
 MEMORY = 300_000_000
 SECONDS = 10
+# what a report may take beside what its lines take, in bytes of memory
+BESIDE_A_REPORT = 200_000_000
 # what 120,000 edits of a small folder may take, in bytes of memory
 EDIT_MEMORY = 8_000_000
 
@@ -161,38 +162,28 @@ def shared_nodes(place):
     reported(place, "text-behind-two-aliases", text, b"3:4: too many nodes [syntax-check]", limits=held_back)
 
 
-# what a called file asks of its callers, and the files that ask it
-INPUTS = [b"i%03d" % number for number in range(1_000)]
-ACTION_FILE = b"name: A\ndescription: d\ninputs:\n%sruns:\n  using: node20\n  main: m.js\n" % b"".join(
-    b"  %s:\n    required: true\n" % name for name in INPUTS)
+# a called workflow that asks its callers for as many inputs
 REUSABLE = f"{WORKFLOWS}/r.yml".encode()
 REUSABLE_FILE = CLEAN.replace(b"on: push\n", b"on:\n  workflow_call:\n    inputs:\n%s" % b"".join(
     b"      %s:\n        type: string\n        required: true\n" % name for name in INPUTS))
 
 
-def lacking(position, called, kind):
-    """What is reported of a call at this line and column that gives nothing."""
-    return b"".join(b'%s%s: required input "%s" of "%s" is missing [%s]\n' % (AT, position, name, called, kind) for name in INPUTS)
-
-
 def same_faults(place, name, data, wanted):
     """A workflow whose calls lack the same again and again, under a limit of memory and of time."""
-    place.fresh({WORKFLOW: data, "a/action.yml": ACTION_FILE, REUSABLE.decode(): REUSABLE_FILE})
+    place.fresh({WORKFLOW: data, ACTION: ACTION_FILE, REUSABLE.decode(): REUSABLE_FILE})
     place.case(name, 1, wanted, NO, ["--oneline"], limits=held_back)
 
 
 def equal_faults(place):
     """Many calls behind few texts: each fault is reported once, and takes the memory of few."""
-    steps = CLEAN[: CLEAN.index(b"      - ")]
     first = lacking(b"7:15", b"A", b"action")
     one = b"      - &s\n        uses: ./a\n"
-    same_faults(place, "aliases-of-a-step", steps + one + b"      - *s\n" * 30_000, first)
     two = one + b"      - &t\n        uses: ./a\n"
     both = first + lacking(b"9:15", b"A", b"action")
-    same_faults(place, "aliases-of-two-steps-in-turn", steps + two + b"      - *s\n      - *t\n" * 15_000, both)
+    same_faults(place, "aliases-of-two-steps-in-turn", STEPS + two + b"      - *s\n      - *t\n" * 15_000, both)
     # each gives another of the inputs, so that no two lack the same
     given = b"".join(b"      - {uses: *u, with: {%s: 1}}\n" % name for name in INPUTS[:500])
-    same_faults(place, "aliases-of-a-text", steps + b"      - uses: &u ./a\n" + given, lacking(b"6:18", b"A", b"action"))
+    same_faults(place, "aliases-of-a-text", STEPS + b"      - uses: &u ./a\n" + given, lacking(b"6:18", b"A", b"action"))
     jobs = b"on: push\njobs:\n  a: &j\n    uses: ./%s\n" % REUSABLE + b"".join(b"  a%d: *j\n" % number for number in range(20_000))
     same_faults(place, "aliases-of-a-job", jobs, lacking(b"4:11", b"./" + REUSABLE, b"workflow-call"))
 
@@ -248,33 +239,33 @@ def calls_of_one_file(place):
 # ---- one count times another
 
 
+def held_to(told):
+    """The memory that a report may take: 200 MB, and twice its bytes. No more time than files of aliases may take."""
+
+    def limits():
+        memory = BESIDE_A_REPORT + 2 * len(told)
+        resource.setrlimit(resource.RLIMIT_AS, (memory, memory))
+        resource.setrlimit(resource.RLIMIT_CPU, (SECONDS, SECONDS))
+
+    return limits
+
+
 def many_of_both(place):
-    """Files in which one count times another would be taken in time or in memory: expressions that read the last of many outputs, jobs that
-    need one with many outputs, steps that read those before them, each of many inputs read, and jobs that need one another in a chain, or
-    in a ring of which each tells its need."""
+    """Folders in which one count times another would be taken in time or in memory; and steps that read those before them, many inputs of
+    which each is read, and jobs in a ring of which each tells its need."""
+    for name, make in FOLDERS.items():
+        files, told = make()
+        place.fresh(files)
+        place.case(name, 1 if told else 0, told, NO, ["--oneline"], limits=held_to(told))
     place.fresh()
-    first = b"on: push\njobs:\n  a: {runs-on: u, outputs: {%s}, steps: [{run: x}]}\n"
-    outputs = b", ".join(b"o%04d: x" % number for number in range(10_000))
-    last = b"  b:\n    needs: a\n    runs-on: u\n    steps:\n" + b"      - run: ${{ needs.a.outputs.o9999 }}\n" * 12_000
-    reported(place, "last-of-10000-outputs-12000-times", first % outputs + last, limits=held_back)
-    outputs = b", ".join(b"o%04d: x" % number for number in range(4_000))
-    expressions = [b"${{ github.ref }}", b"${{ needs.a.outputs.o0000 }}"]
-    for name, expression in zip(("4000-jobs-that-need-4000-outputs", "4000-jobs-that-read-one-of-4000-outputs"), expressions):
-        jobs = b"".join(b"  b%04d: {needs: [a, A], runs-on: u, steps: [{run: '%s'}]}\n" % (number, expression) for number in range(4_000))
-        reported(place, name, first % outputs + jobs, limits=held_back)
-    outputs = b", ".join(b"o%04d: x" % number for number in range(10_000))
-    jobs = b"".join(b"  b%05d: {needs: a, uses: o/r/.github/workflows/w.yml@v}\n" % number for number in range(13_000))
-    reported(place, "13000-jobs-that-need-10000-outputs", first % outputs + jobs, limits=held_back)
     before = lambda number: b" ".join(b"${{ steps.s%04d.outcome }}" % it for it in range(max(number - 4, 0), number)) or b"x"
     steps = b"".join(b"      - {id: s%04d, run: '%s'}\n" % (number, before(number)) for number in range(3_000))
-    reported(place, "3000-steps-that-read-the-4-before", CLEAN[: CLEAN.index(b"      - ")] + steps, limits=held_back)
+    reported(place, "3000-steps-that-read-the-4-before", STEPS + steps, limits=held_back)
     inputs = b"".join(b"      i%04d: {type: string}\n" % number for number in range(8_000))
     steps = b"".join(b"      - run: ${{ inputs.i%04d }}\n" % number for number in range(8_000))
     called = b"on:\n  workflow_call:\n    inputs:\n" + inputs + b"jobs:\n  a:\n    runs-on: u\n    steps:\n" + steps
     reported(place, "8000-inputs-each-read", called, limits=held_back)
     job = b"  j%05d: {needs: j%05d, uses: o/r/.github/workflows/w.yml@v}\n"
-    chain = b"on: push\njobs:\n" + (job % (0, 0)).replace(b"needs: j00000, ", b"") + b"".join(job % (it, it - 1) for it in range(1, 16_000))
-    reported(place, "chain-of-16000-needs", chain, limits=held_back)
     place.fresh({WORKFLOW: b"on: push\njobs:\n" + b"".join(job % (it, (it - 1) % 16_000) for it in range(16_000))})
     told = b"".join(b'%s%d:19: "j%05d" needs "j%05d" in a cycle [job-needs]\n' % (AT, 3 + it, it, (it - 1) % 16_000) for it in range(16_000))
     place.case("ring-of-16000-needs", 1, told, NO, ["--oneline"], limits=held_back)

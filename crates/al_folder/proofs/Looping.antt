@@ -5,7 +5,8 @@ use Rattle.std.proofs.Common.{⊎_elim, inl, inr}
 use Rattle.std.specs.Prelude.{string_bytes, bytes_eq, Contains, IfSome, ◌↔◌, ◌&&◌, nat_le}
 use Rattle.std.specs.Borrow.{Bor}
 use Rattle.std.specs.Global.{Global}
-use Rattle.std.specs.List.{cons_option, enumerate_from, filter_map, list_any, position, prefix_len}
+use Rattle.std.specs.Bool.{◌==◌}
+use Rattle.std.specs.List.{AllByRecursion, cons_option, enumerate_from, filter_map, list_any, position, prefix_len}
 use Rattle.std.specs.Option.{unwrap_or, option_map, option_eq}
 use Rattle.std.proofs.lemmas.Bool.{cases_lt}
 use Rattle.std.proofs.lemmas.Bool.Decides.{nat_tests}
@@ -16,7 +17,7 @@ use Rattle.al_base.specs.declared.faults.Fault.{Fault}
 use Rattle.al_graph.specs.Graphs.{Edge, StronglyConnected, Walk, edges_of}
 use Rattle.al_graph.specs.Within.{leads}
 use Rattle.al_graph.proofs.BoundedWalks.{leads_tells}
-use Rattle.al_graph.proofs.FilterMaps.{all_in_filter_map, in_filter_map, put_behind, put_first}
+use Rattle.al_graph.proofs.FilterMaps.{all_in_filter_map, each_in_filter_map, in_filter_map, put_behind, put_first}
 use Rattle.al_graph.proofs.Labels.{labels_same}
 use Rattle.al_graph.proofs.Edges.{edges_at}
 use Rattle.al_graph.proofs.Lists.{none_in}
@@ -25,7 +26,7 @@ use Rattle.al_folder.specs.Meaning.{CallSite, Meaning, candidates}
 use Rattle.al_folder.specs.Folder.{Folder, or_else, paths_of}
 use Rattle.al_folder.specs.Kept.{Files, folder_of, entry_of, AllKept, AreKept, IsKept, referred}
 use Rattle.al_folder.specs.Loops.{called, calls_graph, leads_back, loop_fault, loop_fault_if, loop_faults, looping, number_among, number_of}
-use Rattle.al_folder.specs.Private.CallGraphs.{IsCallGraph, IsCalledBy, IsRow, NoneBackward, NoneForward, TellLoops, part_of}
+use Rattle.al_folder.specs.Private.CallGraphs.{HasRoomBetween, HasRoomFor, IsCallGraph, IsCalledBy, IsRow, NoneBackward, NoneForward, TellLoops, part_of}
 use Rattle.al_folder.specs.declared.kept.KeptFile.{KeptFile}
 use Rattle.al_folder.specs.declared.lint.Target.{Target}
 use Rattle.al_folder.proofs.Ways.{leads_before, leads_behind}
@@ -328,6 +329,17 @@ module _ (first end : ℕ) where
       by true e = inr (e ∙ at_file m f i p b at)
       by false e = inl e
 
+  -- what is asked of each label is true of a row's node only where the row is in the part
+  pub inside_where : (T : ℕ → Bool) (g items : List (List ℕ)) (i : ℕ) → items ≡ part_of first end g → list_any T (get_or items i []) ≡ true → Inside i ≡ true
+  inside_where T g items i is some = by (Inside i) refl
+    where
+      wrong : false ≡ true → ⊥
+      wrong h = cc
+
+      by : (b : Bool) → Inside i ≡ b → Inside i ≡ true
+      by true a = a
+      by false a = absurd (wrong (sym (ap (λ l. list_any T (get_or l i [])) is ∙ ap (list_any T) (part_row g i ∙ ap (λ b. cond b (get_or g i []) []) a)) ∙ some))
+
   -- made file after file
   pub part_of_kept : {U I : Type 0} (m : Meaning I) (is_unit : U → List ℕ → List ℕ → Type 0) (h : Target → Option ℕ) (n : ℕ) (files : Files U I) → AllKept m is_unit files →
       map (λ (x : ℕ × (String Global × KeptFile U I)). filter_map h (cond (Inside x.0) x.1.1.calls.items [])) (enumerate_from n files)
@@ -465,11 +477,39 @@ module _ (graph : List (List ℕ)) (f : Folder) (i : ℕ) where
           ∙ ap (λ b. loop_fault_if b s ++ looping graph f i ts ss) (h k (put_first (called f) (called f t) k (filter_map (called f) ts) a))
           ∙ more (λ j c. h j (put_behind (called f) (called f t) j (filter_map (called f) ts) c))
 
+-- ---- files with a call that leads back
+
+none_any : {X : Type 0} (T : X → Bool) (xs : List X) → ((x : X) → Contains xs x → T x ≡ false) → list_any T xs ≡ false
+none_any T [] h = refl
+none_any T (y ∷ ys) h =
+    ap (λ b. b || list_any T ys) (h y (0, omega arith, refl)) ∙ none_any T ys (λ x c. let lt = c.1 in h x (suc c.0, omega (arith, lt), c.2))
+
 not_true : (b : Bool) → (b ≡ true → ⊥) → b ≡ false
 not_true true f = absurd (f refl)
 not_true false f = refl
 
--- a file whose calls lead to none with its label, by its row of the program's graph
+module _ (graph : List (List ℕ)) (f : Folder) (i : ℕ) where
+  last_none : (a b : List Fault) → a ++ b ≡ [] → b ≡ []
+  last_none [] b e = e
+  last_none (x ∷ a) b e = absurd (wrong e)
+    where
+      wrong : x ∷ a ++ b ≡ [] → ⊥
+      wrong h = cc
+
+  -- where no call leads back, none of the files that these calls lead to does
+  none_of_calls : (ts : List Target) (ss : List CallSite) → length ss ≡ length ts → looping graph f i ts ss ≡ [] → AllByRecursion (λ t. (k : ℕ) → called f t ≡ Some k → leads graph k i ≡ false) ts
+  none_of_calls [] ss n e = tt
+  none_of_calls (t ∷ ts) [] n e = absurd (let wrong : 0 ≡ length (t ∷ ts) = n in omega (arith, wrong))
+  none_of_calls (t ∷ ts) (s ∷ ss) n e = (
+    λ k is. not_true (leads graph k i)
+        (λ yes. wrong (sym (ap (λ o. loop_fault_if (leads_back graph i o) s ++ looping graph f i ts ss) is ∙ ap (λ b. loop_fault_if b s ++ looping graph f i ts ss) yes) ∙ e)),
+    none_of_calls ts ss (omega (arith, n)) (last_none (loop_fault_if (leads_back graph i (called f t)) s) (looping graph f i ts ss) e),
+  )
+    where
+      wrong : loop_fault s ∷ looping graph f i ts ss ≡ [] → ⊥
+      wrong h = cc
+
+-- a file by its row of the program's graph: whether one of its calls leads to a file with its label of the program's graph
 module _ {I : Type 0} (m : Meaning I) (f : Folder) (edges : List (Vec ℕ Global)) (labels seen : List (Option ℕ)) (row : List ℕ) (v : Vec ℕ Global) (i : ℕ)
     (calls : IsCallGraph m f edges labels) (below : i < length f) (read : v ≡ get_or edges i v) (is : row ≡ v.items) (same : seen ≡ labels) where
   row_is : get_or (edges_of edges) i [] ≡ row
@@ -486,7 +526,7 @@ module _ {I : Type 0} (m : Meaning I) (f : Folder) (edges : List (Vec ℕ Global
       let l : length (calls_graph m f) ≡ length f = length-map f _ in
       omega (arith, inside, size, all, l)
 
-  pub row_quiet : list_any (λ k. option_eq nat_eq (get_or seen k None) (get_or seen i None)) row ≡ false → (p b : List ℕ) → slice_get f i ≡ Some (p, b) → [] ≡ loop_faults m f i p b
+  row_quiet : list_any (λ k. option_eq nat_eq (get_or seen k None) (get_or seen i None)) row ≡ false → (p b : List ℕ) → slice_get f i ≡ Some (p, b) → [] ≡ loop_faults m f i p b
   row_quiet none p b at =
       sym (no_loops (calls_graph m f) f i (m.calls p b) (m.sites p b) (λ k there. apart k (subst (λ (ns : List ℕ). Contains ns k) (sym (at_file m f i p b at)) there)))
     where
@@ -502,3 +542,60 @@ module _ {I : Type 0} (m : Meaning I) (f : Folder) (edges : List (Vec ℕ Global
 
       apart : (k : ℕ) → Edge (calls_graph m f) i k → leads (calls_graph m f) k i ≡ false
       apart k edge = not_true (leads (calls_graph m f) k i) (has_it k edge)
+
+  -- such a call is there just where a fault of it is told
+  row_told : (p b : List ℕ) → slice_get f i ≡ Some (p, b) → length (m.sites p b) ≡ length (m.calls p b) → loop_faults m f i p b ≡ [] →
+      list_any (λ k. option_eq nat_eq (get_or seen k None) (get_or seen i None)) row ≡ false
+  row_told p b at sited none = none_any (λ k. option_eq nat_eq (get_or seen k None) (get_or seen i None)) row apart
+    where
+      G : List (List ℕ)
+      G = calls_graph m f
+
+      to : (k : ℕ) → Contains row k → Contains (filter_map (called f) (m.calls p b)) k
+      to k there = ⊎_elim (λ e. absurd (none_in k (subst (λ (ns : List ℕ). Contains ns k) e there))) (λ e. subst (λ (ns : List ℕ). Contains ns k) e there) (row_of p b (m.calls p b) at refl)
+
+      has_it : (k : ℕ) → Contains row k → option_eq nat_eq (get_or seen k None) (get_or seen i None) ≡ true → ⊥
+      has_it k there t =
+          let edge : Edge G i k = subst (λ (ns : List ℕ). Contains ns k) (sym (at_file m f i p b at)) (to k there) in
+          let equal : get_or seen k None ≡ get_or seen i None =
+          (labels_same (get_or seen k None) (get_or seen i None) (option_eq nat_eq (get_or seen k None) (get_or seen i None)) refl).0 t in
+          let walk : Walk G k i = (calls.tell.1 i k edge).0 (subst (λ (ls : List (Option ℕ)). get_or ls k None ≡ get_or ls i None) same equal) in
+          let yes : leads G k i ≡ true = (leads_tells G k i).1 walk in
+          let no : leads G k i ≡ false = each_in_filter_map (called f) (λ j. leads G j i ≡ false) (m.calls p b) (none_of_calls G f i (m.calls p b) (m.sites p b) sited none) k (to k there) in
+          let wrong : true ≡ false = sym yes ∙ no in
+          cc
+
+      apart : (k : ℕ) → Contains row k → option_eq nat_eq (get_or seen k None) (get_or seen i None) ≡ false
+      apart k there = not_true (option_eq nat_eq (get_or seen k None) (get_or seen i None)) (has_it k there)
+
+  pub row_tells : (r : Bool) → r ≡ list_any (λ k. option_eq nat_eq (get_or seen k None) (get_or seen i None)) row → (p b : List ℕ) → slice_get f i ≡ Some (p, b) →
+      length (m.sites p b) ≡ length (m.calls p b) → r ≡ not (length (loop_faults m f i p b) == 0)
+  row_tells true is p b at sited = sym (some (loop_faults m f i p b) refl)
+    where
+      apart : (n : ℕ) → not (suc n == 0) ≡ true
+      apart n = grind (arith, nat_tests)
+
+      some : (l : List Fault) → loop_faults m f i p b ≡ l → not (length l == 0) ≡ true
+      some [] e = absurd (let wrong : true ≡ false = is ∙ row_told p b at sited e in cc)
+      some (x ∷ xs) e = apart (length xs)
+  row_tells false is p b at sited = ap (λ l. not (length l == 0)) (row_quiet (sym is) p b at)
+
+-- ---- room for what is joined of a file
+
+module _ {U I : Type 0} (files : Files U I) (first end : ℕ) where
+  pub room_none : (room : ℕ) → HasRoomBetween files first end 0 room
+  room_none room i below between = absurd (omega (arith, below))
+
+  pub room_next : (n old new : ℕ) (x : String Global × KeptFile U I) (wanted : Bool) → slice_get files n ≡ Some x → wanted ≡ Inside first end n → HasRoomBetween files first end n old →
+      old ≤ new → (wanted ≡ true → length x.1.calls.items + length x.1.faults.items ≤ new) → HasRoomBetween files first end (n + 1) new
+  room_next n old new x wanted there is room more one i below between e at = ⊎_elim
+      (λ lt. let h = room i lt between e at in omega (arith, h, more))
+      (λ past. let last : i ≡ n = omega (arith, past, below) in
+      let same : x ≡ e = one_entry files n x e there (ap (slice_get files) (sym last) ∙ at) in
+      subst (λ (y : String Global × KeptFile U I). length y.1.calls.items + length y.1.faults.items ≤ new) same (one (is ∙ ap (Inside first end) (sym last) ∙ between)))
+      (cases_lt i n)
+
+  pub room_for : (graph : List (Vec ℕ Global)) (labels : List (Option ℕ)) (g : List (List ℕ)) (room : ℕ) → edges_of graph ≡ part_of first end g →
+      HasRoomBetween files first end (length files) room → HasRoomFor files graph labels room
+  room_for graph labels g room is has i below on =
+      has i below (inside_where first end (λ k. option_eq nat_eq (get_or labels k None) (get_or labels i None)) g (edges_of graph) i is on)

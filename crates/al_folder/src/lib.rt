@@ -19,7 +19,7 @@ pub use check::{check_path, check_paths};
 pub use directions::{has_backward, has_forward};
 pub use kept::{Callers, Files, KeptFile};
 pub use lint::{Lint, Refused, Site, Target};
-pub use loops::{CallGraph, add_loop_faults, call_faults, call_graph, may_lead_back};
+pub use loops::{CallGraph, add_loop_faults, call_faults, call_graph, is_on_loop};
 pub use missing::missing_paths;
 pub use paths::Paths;
 pub use place::{file_number, place_in};

@@ -1,6 +1,6 @@
 //! Calls that lead back to their own file.
 
-ghost use Rattle.std.specs.Prelude.{◌≡◌, ◌<◌, ◌≤◌, ◌+◌, ◌++◌, ◌&&◌, ◌∷◌, [], ℕ, List, None, Some, Contains, cond, false, length};
+ghost use Rattle.std.specs.Prelude.{◌≡◌, ◌<◌, ◌≤◌, ◌+◌, ◌++◌, ◌&&◌, ◌∷◌, ◌==◌, [], ℕ, List, None, Some, Contains, cond, length, not, true};
 ghost use Rattle.std.specs.Prelude.{vec_capacity, vec_len};
 ghost use Rattle.std.specs.Prelude.{map, nat_eq, nat_le, nat_lt, slice_get, slice_index_or};
 ghost use Rattle.std.specs.Prelude.{IfOk, IfSome, OnOk};
@@ -9,8 +9,8 @@ ghost use Rattle.std.specs.Option.{option_eq};
 ghost use Rattle.al_graph.specs.Graphs.{edges_of};
 ghost use Rattle.al_folder.specs.Kept.{AreKept, IsKept, folder_of, referred};
 ghost use Rattle.al_folder.specs.Loops as loops;
-ghost use Rattle.al_folder.specs.Private.CallGraphs.{HasRoomForCalls, IsCallGraph, IsCalledBy, IsLonger, IsRow, NoneBackward, NoneForward};
-ghost use Rattle.al_folder.specs.Private.CallGraphs.{TellLoops, may_lead_back, part_of};
+ghost use Rattle.al_folder.specs.Private.CallGraphs.{HasRoomBetween, HasRoomFor, HasRoomForCalls, IsCallGraph, IsCalledBy, IsLonger, IsRow};
+ghost use Rattle.al_folder.specs.Private.CallGraphs.{NoneBackward, NoneForward, TellLoops, is_on_loop, part_of};
 ghost use Rattle.al_folder.specs.Sites.{site_of};
 
 use crate::kept::{Files, KeptFile};
@@ -27,6 +27,17 @@ pub struct CallGraph {
     graph: Vec<Vec<usize>>,
     // Of each file a label, the same for two files that these calls lead between just where they lead from each to the other.
     labels: Vec<Option<usize>>,
+    // At least how many calls and faults a file has one of whose calls leads back to it.
+    room: usize,
+}
+
+impl CallGraph {
+    /// At least how many calls and faults a file has one of whose calls leads back to it. Takes no memory.
+    pub fn room(&self) -> usize
+        ensures { result ≡ self.now.room }
+    {
+        self.room
+    }
 }
 
 /// The number of the file at a path, if it is there.
@@ -132,23 +143,46 @@ fn calls_if<U, I>(is_wanted: bool, file: &KeptFile<U, I>) -> &[Target]
     }
 }
 
-/// For each file from one number on and before another the numbers of the files that its calls lead to, and for the others none.
+/// A number that is at least another and, where it is asked for, at least how many calls and faults a file has.
+fn with_room<U, I>(
+    is_wanted: bool,
+    least: usize,
+    file: &KeptFile<U, I>,
+) -> Result<usize, AllocError>
+    ensures { IfOk result (λ n. (least ≤ n)
+        × (is_wanted ≡ true → length file.now.calls.items + length file.now.faults.items ≤ n)) }
+{
+    if !is_wanted {
+        return Ok(least);
+    }
+    match file.calls.len().checked_add(file.faults.len()) {
+        None => Err(AllocError),
+        Some(count) => Ok(if least < count { count } else { least }),
+    }
+}
+
+/// For each file from one number on and before another the numbers of the files that its calls lead to, and for the others none; and a
+/// number that is at least how many calls and faults each of these files has.
 fn calls_graph<L: Lint>(
     alloc: Global,
     files: &Files<L::Unit, L::Iface>,
     first: usize,
     end: usize,
-) -> Result<Vec<Vec<usize>>, AllocError>
+) -> Result<(Vec<Vec<usize>>, usize), AllocError>
     requires { AreKept L.meaning L.is_unit files.now.entries }
-    ensures { IfOk result (λ graph. edges_of graph.items ≡ part_of first end (loops.calls_graph L.meaning (folder_of files.now.entries))) }
+    ensures graph { IfOk result (λ r. edges_of r.0.items ≡ part_of first end (loops.calls_graph L.meaning (folder_of files.now.entries))) }
+    ensures room { IfOk result (λ r. HasRoomBetween files.now.entries first end (length files.now.entries) r.1) }
 {
     let mut graph = Vec::with_capacity(alloc, files.len())?;
+    let mut room = 0;
     for index in 0..files.len() {
         let (_, file) = file_number(files, index);
-        let calls = calls_if(is_between(first, index, end), file);
+        let is_wanted = is_between(first, index, end);
+        let calls = calls_if(is_wanted, file);
         graph.push(all_called(alloc, files, calls)?)?;
+        room = with_room(is_wanted, room, file)?;
     }
-    Ok(graph)
+    Ok((graph, room))
 }
 
 /// The calls between the files, as far as they can lead back, with the strongly connected components of their graph.
@@ -164,13 +198,18 @@ pub fn call_graph<L: Lint>(
     files: &Files<L::Unit, L::Iface>,
 ) -> Result<CallGraph, AllocError>
     requires { AreKept L.meaning L.is_unit files.now.entries }
-    ensures { IfOk result (λ calls. IsCallGraph L.meaning (folder_of files.now.entries) calls.graph.items calls.labels.items) }
+    ensures calls { IfOk result (λ calls. IsCallGraph L.meaning (folder_of files.now.entries) calls.graph.items calls.labels.items) }
+    ensures room { IfOk result (λ calls. HasRoomFor files.now.entries calls.graph.items calls.labels.items calls.room) }
 {
     let first = first_forward(files);
     let end = end_backward(files);
-    let graph = calls_graph::<L>(alloc, files, first, end)?;
+    let (graph, room) = calls_graph::<L>(alloc, files, first, end)?;
     let labels = strongly_connected_components(alloc, graph.as_slice())?;
-    Ok(CallGraph { graph, labels })
+    Ok(CallGraph {
+        graph,
+        labels,
+        room,
+    })
 }
 
 /// Whether a node has a label.
@@ -307,18 +346,18 @@ fn add_faults_of_calls<'a, L: Lint>(
     }
 }
 
-/// Whether a call of the file with this number may lead back to it: whether one leads to a file in its strongly connected component. No
-/// file is looked at.
-pub fn may_lead_back<L: Lint>(
+/// Whether a call of the file with this number leads back to it: whether one leads to a file in its strongly connected component. No file
+/// is looked at.
+pub fn is_on_loop<L: Lint>(
     files: &Files<L::Unit, L::Iface>,
     calls: &CallGraph,
     index: usize,
 ) -> bool
     requires calls { IsCallGraph L.meaning (folder_of files.now.entries) calls.now.graph.items calls.now.labels.items }
     requires index { index < length files.now.entries }
-    ensures is { result ≡ may_lead_back calls.now.graph.items calls.now.labels.items index }
-    ensures quiet { result ≡ false → (p b : List ℕ) → slice_get (folder_of files.now.entries) index ≡ Some (p, b)
-        → [] ≡ loops.loop_faults L.meaning (folder_of files.now.entries) index p b }
+    ensures is { result ≡ is_on_loop calls.now.graph.items calls.now.labels.items index }
+    ensures faults { (p b : List ℕ) → slice_get (folder_of files.now.entries) index ≡ Some (p, b) → result
+        ≡ not (length (loops.loop_faults L.meaning (folder_of files.now.entries) index p b) == 0) }
 {
     let row = calls.graph[index].as_slice();
     has_label_of(row, &calls.labels, index)

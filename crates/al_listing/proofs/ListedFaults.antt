@@ -1,6 +1,6 @@
 -- The faults that a report lists: each file's own, and those of its calls that lead back to it.
 use Rattle.std.proofs.Common.{◌≤◌, ◌≡◌, ◌<◌, ℕ, zero, suc, ◌+◌, Bool, true, false, cond, not, List, [], ◌∷◌, ◌++◌, length}
-use Rattle.std.proofs.Common.{get_or, Option, Some, None, String, Vec, slice_get, refl, sym, ◌∙◌, ap, subst, ◌||◌, arith, ◌⊎◌, ⊎_elim}
+use Rattle.std.proofs.Common.{get_or, Option, Some, None, String, slice_get, refl, sym, ◌∙◌, ap, subst, ◌||◌, arith}
 use Rattle.std.specs.Prelude.{string_bytes}
 use Rattle.std.specs.Bool.{◌==◌}
 use Rattle.std.specs.Borrow.{Bor}
@@ -26,14 +26,13 @@ use Rattle.al_base.specs.declared.faults.Fault.{Fault}
 use Rattle.al_folder.specs.Meaning.{CallSite, Meaning}
 use Rattle.al_folder.specs.Folder.{Folder, answers, faults_in}
 use Rattle.al_folder.specs.Kept.{Files, folder_of, referred, AllKept}
-use Rattle.al_folder.specs.Private.CallGraphs.{may_lead_back}
 use Rattle.al_folder.specs.Loops.{calls_graph, called, leads_back, loop_fault_if, loop_faults, looping, reported}
 use Rattle.al_folder.specs.declared.kept.KeptFile.{KeptFile}
 use Rattle.al_folder.specs.declared.lint.Target.{Target}
 use Rattle.al_folder.proofs.Looping.{kept_number}
 use Rattle.al_listing.specs.Report.{status_of, report_of}
 use Rattle.al_listing.specs.Checked.{AllChecked}
-use Rattle.al_listing.specs.Private.Printing.{ArePrintable, HasRoom, HasRoomFor, numbered_lines}
+use Rattle.al_listing.specs.Private.Printing.{ArePrintable, numbered_lines}
 use Rattle.al_listing.proofs.Reports.{any_fault}
 
 -- ---- faults that are joined
@@ -116,6 +115,14 @@ none_of (x ∷ xs) e = absurd (apart (length xs) e)
   where
     apart : (n : ℕ) → (suc n == 0) ≡ true → ⊥
     apart n h = grind (arith, nat_tests)
+
+-- a list whose length isn't told to be some has none
+pub none_told : (xs : List Fault) (told : Bool) → told ≡ not (length xs == 0) → told ≡ false → xs ≡ []
+none_told xs told is none = none_of xs (other (length xs == 0) (sym is ∙ none))
+  where
+    other : (b : Bool) → not b ≡ false → b ≡ true
+    other true e = refl
+    other false e = sym e
 
 put_some : (x : Fault) (ys : List Fault) → not (length (with_one fault_cmp x ys) == 0) ≡ true
 put_some x [] = some_list x []
@@ -236,19 +243,3 @@ listed_both m files i e all list checked at a o =
     let looping = loop_faults m (folder_of files) i (string_bytes e.0) e.1.bytes.items in
     o ∙ ap fault_list (a ∙ ap (λ x. x ++ looping) (checked_number m (folder_of files) files i e checked at))
     ∙ fault_list-permutation (own ++ looping) (looping ++ own) (IsPermutation-append_comm own looping)
-
--- ---- room for what is joined
-
-module _ {U I : Type 0} (files : Files U I) (graph : List (Vec ℕ Global)) (labels : List (Option ℕ)) where
-  pub room_none : (capacity : ℕ) → HasRoomFor files graph labels 0 capacity
-  room_none capacity i below loops = absurd (omega (arith, below))
-
-  pub room_next : (first old new : ℕ) → HasRoomFor files graph labels first old → old ≤ new → (may_lead_back graph labels first ≡ true → HasRoom files first new) →
-      HasRoomFor files graph labels (first + 1) new
-  room_next first old new room more one i below loops = ⊎_elim
-      (λ lt. λ e at. let h = room i lt loops e at in omega (arith, h, more))
-      (λ last. subst (λ k. may_lead_back graph labels k ≡ true → HasRoom files k new) (sym last) one loops)
-      (before_or_last i first below)
-    where
-      before_or_last : (i n : ℕ) → i < n + 1 → (i < n) ⊎ (i ≡ n)
-      before_or_last i n h = grind arith

@@ -1,19 +1,17 @@
 //! The faults of calls that lead back to their own file, joined with the file's others.
 
-ghost use Rattle.std.specs.Prelude.{◌≡◌, ◌<◌, ◌≤◌, ◌+◌, ◌++◌, ◌==◌, ℕ, List, Some, IfOk, length, not, slice_get, true};
+ghost use Rattle.std.specs.Prelude.{◌≡◌, ◌<◌, ◌≤◌, ◌+◌, ◌++◌, ◌==◌, IfOk, length, not};
 ghost use Rattle.std.specs.Prelude.{vec_capacity, vec_len};
 ghost use Rattle.std.specs.List.{enumerate_from, list_any};
 ghost use Rattle.al_base.specs.FaultLists.{fault_list};
 ghost use Rattle.al_folder.specs.Kept.{AreKept, folder_of, referred};
 ghost use Rattle.al_folder.specs.Loops as loops;
-ghost use Rattle.al_folder.specs.Private.CallGraphs.{IsCallGraph, may_lead_back};
+ghost use Rattle.al_folder.specs.Private.CallGraphs.{HasRoomFor, IsCallGraph};
 ghost use Rattle.al_listing.specs.Checked.{AllChecked};
-ghost use Rattle.al_listing.specs.Private.Printing.{HasRoom, HasRoomFor, IsListed};
+ghost use Rattle.al_listing.specs.Private.Printing.{IsListed};
 
 use al_base::Fault;
-use al_folder::{
-    CallGraph, Files, KeptFile, Lint, add_loop_faults, call_graph, file_number, may_lead_back,
-};
+use al_folder::{CallGraph, Files, Lint, add_loop_faults, call_graph, file_number, is_on_loop};
 use std::alloc::{AllocError, Global};
 
 /// What a report needs to join faults, all of which is made before its first byte.
@@ -45,8 +43,8 @@ fn put_in_order(faults: &mut Vec<&Fault>)
     faults.dedup();
 }
 
-/// Gathers the faults that a report lists of the file with this number, in place of what the list held, where a call of the file may lead
-/// back to it. Answers whether one may: else the file's own faults are listed. There is room for them, so no memory is wanted.
+/// Gathers the faults that a report lists of the file with this number, in place of what the list held, where a call of the file leads back
+/// to it. Answers whether one does: else the file's own faults are listed. There is room for them, so no memory is wanted.
 pub(crate) fn join_file<'a, L: Lint>(
     files: &'a Files<L::Unit, L::Iface>,
     calls: &CallGraph,
@@ -57,12 +55,11 @@ pub(crate) fn join_file<'a, L: Lint>(
     requires checked { AllChecked L.meaning (folder_of files.now.entries) files.now.entries }
     requires calls { IsCallGraph L.meaning (folder_of files.now.entries) calls.now.graph.items calls.now.labels.items }
     requires index { index < length files.now.entries }
-    requires room { HasRoomFor files.now.entries calls.now.graph.items calls.now.labels.items (length files.now.entries)
-        (vec_capacity joined.old) }
+    requires room { HasRoomFor files.now.entries calls.now.graph.items calls.now.labels.items (vec_capacity joined.old) }
     ensures listed { IsListed L.meaning files.now.entries index result joined.new.items }
     ensures capacity { vec_capacity joined.new ≡ vec_capacity joined.old }
 {
-    if !may_lead_back::<L>(files, calls, index) {
+    if !is_on_loop::<L>(files, calls, index) {
         return false;
     }
     let (_, file) = file_number(files, index);
@@ -72,52 +69,6 @@ pub(crate) fn join_file<'a, L: Lint>(
     add_loop_faults::<L>(files, calls, index, joined);
     put_in_order(joined);
     true
-}
-
-// A number that is at least another, and at least what `join_file` gathers of a file.
-fn at_least<U, I>(least: usize, file: &KeptFile<U, I>) -> Result<usize, AllocError>
-    ensures { IfOk result (λ n. (least ≤ n) × (length file.now.calls.items + length file.now.faults.items ≤ n)) }
-{
-    match file.calls.len().checked_add(file.faults.len()) {
-        None => Err(AllocError),
-        Some(count) => Ok(if least < count { count } else { least }),
-    }
-}
-
-// A number that is at least another, and at least what `join_file` gathers of the file with this number.
-fn with_room<L: Lint>(
-    files: &Files<L::Unit, L::Iface>,
-    calls: &CallGraph,
-    index: usize,
-    least: usize,
-) -> Result<usize, AllocError>
-    requires calls { IsCallGraph L.meaning (folder_of files.now.entries) calls.now.graph.items calls.now.labels.items }
-    requires index { index < length files.now.entries }
-    ensures { IfOk result (λ n. (least ≤ n)
-        × (may_lead_back calls.now.graph.items calls.now.labels.items index ≡ true → HasRoom files.now.entries index n)) }
-{
-    if !may_lead_back::<L>(files, calls, index) {
-        return Ok(least);
-    }
-    let (_, file) = file_number(files, index);
-    at_least(least, file)
-}
-
-// An empty list, with room for what `join_file` gathers of any of the files.
-fn room_for<'a, L: Lint>(
-    alloc: Global,
-    files: &'a Files<L::Unit, L::Iface>,
-    calls: &CallGraph,
-) -> Result<Vec<&'a Fault>, AllocError>
-    requires { IsCallGraph L.meaning (folder_of files.now.entries) calls.now.graph.items calls.now.labels.items }
-    ensures { IfOk result (λ list. HasRoomFor files.now.entries calls.now.graph.items calls.now.labels.items (length files.now.entries)
-        (vec_capacity list)) }
-{
-    let mut most = 0;
-    for index in 0..files.len() {
-        most = with_room::<L>(files, calls, index, most)?;
-    }
-    Vec::with_capacity(alloc, most)
 }
 
 /// What is needed to join the faults of these files, so that [`write_files`](crate::write_files) wants no memory.
@@ -131,36 +82,11 @@ pub fn joining_of<'a, L: Lint>(
 ) -> Result<Joining<'a>, AllocError>
     requires { AreKept L.meaning L.is_unit files.now.entries }
     ensures calls { IfOk result (λ j. IsCallGraph L.meaning (folder_of files.now.entries) j.calls.graph.items j.calls.labels.items) }
-    ensures room { IfOk result (λ j. HasRoomFor files.now.entries j.calls.graph.items j.calls.labels.items (length files.now.entries)
-        (vec_capacity j.list)) }
+    ensures room { IfOk result (λ j. HasRoomFor files.now.entries j.calls.graph.items j.calls.labels.items (vec_capacity j.list)) }
 {
     let calls = call_graph::<L>(alloc, files)?;
-    let list = room_for::<L>(alloc, files, &calls)?;
+    let list = Vec::with_capacity(alloc, calls.room())?;
     Ok(Joining { calls, list })
-}
-
-// Whether a call of the file with this number leads back to it. The list is for the faults of such calls, whatever it held.
-fn leads_back<'a, L: Lint>(
-    files: &'a Files<L::Unit, L::Iface>,
-    calls: &CallGraph,
-    index: usize,
-    faults: &mut Vec<&'a Fault>,
-) -> bool
-    requires kept { AreKept L.meaning L.is_unit files.now.entries }
-    requires calls { IsCallGraph L.meaning (folder_of files.now.entries) calls.now.graph.items calls.now.labels.items }
-    requires index { index < length files.now.entries }
-    requires room { HasRoomFor files.now.entries calls.now.graph.items calls.now.labels.items (length files.now.entries)
-        (vec_capacity faults.old) }
-    ensures is { (p b : List ℕ) → slice_get (folder_of files.now.entries) index ≡ Some (p, b) → result
-        ≡ not (length (loops.loop_faults L.meaning (folder_of files.now.entries) index p b) == 0) }
-    ensures capacity { vec_capacity faults.new ≡ vec_capacity faults.old }
-{
-    if !may_lead_back::<L>(files, calls, index) {
-        return false;
-    }
-    faults.clear();
-    add_loop_faults::<L>(files, calls, index, faults);
-    !faults.is_empty()
 }
 
 /// Whether a call of a file leads back to it.
@@ -177,11 +103,9 @@ pub fn has_loops<L: Lint>(
         (loops.loop_faults L.meaning (folder_of files.now.entries) x.0 x.1.0 x.1.1) == 0))
         (enumerate_from 0 (folder_of files.now.entries))) }
 {
-    let joining = joining_of::<L>(alloc, files)?;
-    let calls = joining.calls;
-    let mut list = joining.list;
+    let calls = call_graph::<L>(alloc, files)?;
     for index in 0..files.len() {
-        if leads_back::<L>(files, &calls, index, &mut list) {
+        if is_on_loop::<L>(files, &calls, index) {
             return Ok(true);
         }
     }

@@ -10,9 +10,9 @@ ghost use Rattle.al_base.specs.Spans.{LiesIn};
 ghost use Rattle.al_text.specs.Snippets.{fault_text};
 ghost use Rattle.al_base.specs.Streams.{bytes_written, write_failures};
 ghost use Rattle.al_folder.specs.Kept.{AreKept, folder_of, referred};
-ghost use Rattle.al_folder.specs.Private.CallGraphs.{IsCallGraph};
+ghost use Rattle.al_folder.specs.Private.CallGraphs.{HasRoomFor, IsCallGraph};
 ghost use Rattle.al_listing.specs.Checked.{AllChecked};
-ghost use Rattle.al_listing.specs.Private.Printing.{ArePrintable, HasRoomFor, IsPrintable, lines_of, listed, numbered_lines};
+ghost use Rattle.al_listing.specs.Private.Printing.{ArePrintable, IsPrintable, lines_of, listed, numbered_lines};
 
 use crate::joining::join_file;
 use al_base::{Fault, Lines, Location, Output, Stop};
@@ -57,8 +57,7 @@ pub fn write_files<'a, L: Lint, W: Write>(
     requires kept { AreKept L.meaning L.is_unit files.now.entries }
     requires checked { AllChecked L.meaning (folder_of files.now.entries) files.now.entries }
     requires calls { IsCallGraph L.meaning (folder_of files.now.entries) calls.now.graph.items calls.now.labels.items }
-    requires room { HasRoomFor files.now.entries calls.now.graph.items calls.now.labels.items (length files.now.entries)
-        (vec_capacity joined.old) }
+    requires room { HasRoomFor files.now.entries calls.now.graph.items calls.now.labels.items (vec_capacity joined.old) }
     requires printable { ArePrintable L.meaning files.now.entries }
     ensures all { OnOk result (Appends (bytes_written W.contents writer.old) (bytes_written W.contents writer.new)
         (flat_map (numbered_lines oneline L.meaning (folder_of files.now.entries)) (enumerate_from 0 files.now.entries))) }

@@ -1,5 +1,5 @@
 -- The graph of calls, as far as calls can lead back, and labels that tell which ones do.
-use Rattle.std.specs.Prelude.{ℕ, ◌+◌, ◌≤◌, ◌<◌, ◌≡◌, ◌↔◌, ◌⊎◌, ◌&&◌, Bool, false, List, [], Option, Some, None, String, Vec, length, map}
+use Rattle.std.specs.Prelude.{ℕ, ◌+◌, ◌≤◌, ◌<◌, ◌≡◌, ◌↔◌, ◌⊎◌, ◌&&◌, Bool, false, true, List, [], Option, Some, None, String, Vec, length, map}
 use Rattle.std.specs.Prelude.{cond, nat_eq, nat_le, nat_lt, slice_get, slice_index_or}
 use Rattle.std.specs.Global.{Global}
 use Rattle.std.specs.List.{enumerate_from, filter_map, list_any}
@@ -49,9 +49,22 @@ pub record IsCallGraph {I : Type 0} (m : Meaning I) (f : Folder) (graph : List (
   pub tell : TellLoops (calls_graph m f) labels
 
 -- whether an edge leads from the file with this number to one with its label
-abbrev pub may_lead_back : List (Vec ℕ Global) → List (Option ℕ) → ℕ → Bool
-may_lead_back graph labels i =
+abbrev pub is_on_loop : List (Vec ℕ Global) → List (Option ℕ) → ℕ → Bool
+is_on_loop graph labels i =
     list_any (λ k. option_eq nat_eq (slice_index_or labels k None) (slice_index_or labels i None)) (slice_index_or (edges_of graph) i [])
+
+-- this number is at least how many calls and faults the file with that one has
+abbrev pub HasRoom : {U I : Type 0} → Files U I → ℕ → ℕ → Type 0
+HasRoom {U} {I} files i room = (e : String Global × KeptFile U I) → slice_get files i ≡ Some e →
+    length e.1.calls.items + length e.1.faults.items ≤ room
+
+-- it is so for each of the first files that isn't before one number and is before the other
+abbrev pub HasRoomBetween : {U I : Type 0} → Files U I → ℕ → ℕ → ℕ → ℕ → Type 0
+HasRoomBetween files first end count room = (i : ℕ) → i < count → (nat_le first i && nat_lt i end) ≡ true → HasRoom files i room
+
+-- it is so for each file with a call that leads back to it
+abbrev pub HasRoomFor : {U I : Type 0} → Files U I → List (Vec ℕ Global) → List (Option ℕ) → ℕ → Type 0
+HasRoomFor files graph labels room = (i : ℕ) → i < length files → is_on_loop graph labels i ≡ true → HasRoom files i room
 
 -- what has this length and capacity has room for one more for each call of the file with this number
 abbrev pub HasRoomForCalls : {U I : Type 0} → Files U I → ℕ → ℕ → ℕ → Type 0

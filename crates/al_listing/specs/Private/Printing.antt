@@ -1,6 +1,6 @@
 -- Faults that are joined for a report, and printed.
-use Rattle.std.specs.Prelude.{◌≡◌, ℕ, ◌<◌, ◌≤◌, ◌+◌, Bool, true, cond, List, length, slice_get}
-use Rattle.std.specs.Prelude.{Option, Some, String, Vec, string_bytes}
+use Rattle.std.specs.Prelude.{◌≡◌, ℕ, ◌≤◌, Bool, cond, List, length, slice_get}
+use Rattle.std.specs.Prelude.{Some, String, string_bytes}
 use Rattle.std.specs.Borrow.{Bor}
 use Rattle.std.specs.Global.{Global}
 use Rattle.std.specs.List.{AllByRecursion, flat_map}
@@ -14,7 +14,6 @@ use Rattle.al_folder.specs.Folder.{Folder}
 use Rattle.al_folder.specs.Loops.{reported}
 use Rattle.al_folder.specs.declared.kept.KeptFile.{KeptFile}
 use Rattle.al_folder.specs.Kept.{Files, folder_of, referred}
-use Rattle.al_folder.specs.Private.CallGraphs.{may_lead_back}
 
 -- the faults that are listed of a kept file: those that were joined, or else its own
 abbrev pub listed : {U I : Type 0} → KeptFile U I → Bool → List (Bor Fault) → List Fault
@@ -43,12 +42,3 @@ ArePrintable {U} {I} m files = (i : ℕ) (e : String Global × KeptFile U I) →
 abbrev pub IsListed : {U I : Type 0} → Meaning I → Files U I → ℕ → Bool → List (Bor Fault) → Type 0
 IsListed {U} {I} m files i is_joined joined = (e : String Global × KeptFile U I) → slice_get files i ≡ Some e →
     listed e.1 is_joined joined ≡ reported m (folder_of files) i (string_bytes e.0) e.1.bytes.items
-
--- a list of this capacity has room for a fault of each call of the file with this number, and for the file's own
-abbrev pub HasRoom : {U I : Type 0} → Files U I → ℕ → ℕ → Type 0
-HasRoom {U} {I} files i capacity = (e : String Global × KeptFile U I) → slice_get files i ≡ Some e →
-    length e.1.calls.items + length e.1.faults.items ≤ capacity
-
--- it has room for each of the first files that may have a call which leads back
-abbrev pub HasRoomFor : {U I : Type 0} → Files U I → List (Vec ℕ Global) → List (Option ℕ) → ℕ → ℕ → Type 0
-HasRoomFor files graph labels first capacity = (i : ℕ) → i < first → may_lead_back graph labels i ≡ true → HasRoom files i capacity

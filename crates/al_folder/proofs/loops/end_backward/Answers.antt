@@ -1,4 +1,4 @@
-use Rattle.std.proofs.Common.{rules, false, subst, arith, ℕ}
+use Rattle.std.proofs.Common.{rules, subst, arith, ℕ}
 use Rattle.al_folder.specs.Private.CallGraphs.{NoneBackward}
 use Rattle.al_folder.proofs.Looping.{next_backward, none_left}
 use Rattle.al_folder.proofs.loops.end_backward.Goals as goal

@@ -1,4 +1,4 @@
-use Rattle.std.proofs.Common.{rules, false, refl, subst, arith, ℕ}
+use Rattle.std.proofs.Common.{rules, refl, subst, arith, ℕ}
 use Rattle.al_folder.specs.Private.CallGraphs.{NoneForward}
 use Rattle.al_folder.proofs.Looping.{next_forward, none_yet}
 use Rattle.al_folder.proofs.loops.first_forward.Goals as goal

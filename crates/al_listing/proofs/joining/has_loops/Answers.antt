@@ -9,14 +9,14 @@ use Rattle.al_folder.proofs.Looping.{entry_there, numbered}
 use Rattle.al_listing.proofs.Reports.{any_found, any_none}
 use Rattle.al_listing.proofs.joining.has_loops.Goals as goal
 
-pub returns-then-leads_back : goal.returns-then-leads_back
-returns-then-leads_back g c =
+pub returns-then-is_on_loop : goal.returns-then-is_on_loop
+returns-then-is_on_loop g c =
     let F = folder_of c.args.files.now.entries in
     let T : ℕ × (List ℕ × List ℕ) → Bool = λ x. not (length (loop_faults g.L.Lint.meaning F x.0 x.1.0 x.1.1) == 0) in
     let n : length F ≡ length c.args.files.now.entries = length-map c.args.files.now.entries _ in
     let x = entry_there F c.loop-index.index (omega (arith, n, c.len-index-end.ensures.len, c.loop-index-test.true)) in
     sym (any_found T (enumerate_from 0 F) c.loop-index.index (c.loop-index.index, x.0) (numbered F c.loop-index.index x.0 x.1)
-    (sym (c.leads_back.ensures.is x.0.0 x.0.1 x.1) ∙ c.if-leads_back.true))
+    (sym (c.is_on_loop.ensures.faults x.0.0 x.0.1 x.1) ∙ c.if-is_on_loop.true))
 
 pub loop-index-preserved : goal.loop-index-preserved
 loop-index-preserved g c =
@@ -25,11 +25,8 @@ loop-index-preserved g c =
     let n : length F ≡ length c.args.files.now.entries = length-map c.args.files.now.entries _ in
     let x = entry_there F c.loop-index.index (omega (arith, n, c.len-index-end.ensures.len, c.loop-index-test.true)) in
     let e : c.loop-index.index + 1 ≡ suc c.loop-index.index = omega arith in
-    record {
-      room = rw c.leads_back.ensures.capacity c.loop-index.invariant.room;
-      none = ap (λ j. list_any T (take j (enumerate_from 0 F))) e ∙ any_none T (enumerate_from 0 F) c.loop-index.index (c.loop-index.index, x.0)
-          (numbered F c.loop-index.index x.0 x.1) (sym (c.leads_back.ensures.is x.0.0 x.0.1 x.1) ∙ c.if-leads_back.false) c.loop-index.invariant.none;
-    }
+    ap (λ j. list_any T (take j (enumerate_from 0 F))) e ∙ any_none T (enumerate_from 0 F) c.loop-index.index (c.loop-index.index, x.0)
+    (numbered F c.loop-index.index x.0 x.1) (sym (c.is_on_loop.ensures.faults x.0.0 x.0.1 x.1) ∙ c.if-is_on_loop.false) c.loop-index.invariant
 
 pub returns : goal.returns
 returns g c =
@@ -37,4 +34,4 @@ returns g c =
     let T : ℕ × (List ℕ × List ℕ) → Bool = λ x. not (length (loop_faults g.L.Lint.meaning F x.0 x.1.0 x.1.1) == 0) in
     let n : length F ≡ length c.args.files.now.entries = length-map c.args.files.now.entries _ in
     let whole = take_all c.loop-index.index (enumerate_from 0 F) (omega (arith, n, length-enumerate_from 0 F, c.len-index-end.ensures.len, c.loop-index-test.false)) in
-    sym (sym (ap (list_any T) whole) ∙ c.loop-index.invariant.none)
+    sym (sym (ap (list_any T) whole) ∙ c.loop-index.invariant)

@@ -1,15 +1,10 @@
 use Rattle.std.proofs.Common.{◌≡◌, false, not, length, take}
-use Rattle.std.specs.Prelude.{vec_capacity}
 use Rattle.std.specs.Bool.{◌==◌}
 use Rattle.std.specs.List.{enumerate_from, list_any}
 use Rattle.al_folder.specs.Kept.{folder_of}
 use Rattle.al_folder.specs.Loops.{loop_faults}
-use Rattle.al_listing.specs.Private.Printing.{HasRoomFor}
 use Rattle.al_listing.proofs.joining.has_loops.Given as goal
 
 abbrev pub invariant-loop-index : goal.invariant-loop-index
-invariant-loop-index g l = record {
-  room : HasRoomFor l.files.entries l.calls.graph.items l.calls.labels.items (length l.files.entries) (vec_capacity l.list);
-  none : list_any (λ x. not (length (loop_faults g.L.Lint.meaning (folder_of l.files.entries) x.0 x.1.0 x.1.1) == 0))
-      (take l.index (enumerate_from 0 (folder_of l.files.entries))) ≡ false;
-}
+invariant-loop-index g l = list_any (λ x. not (length (loop_faults g.L.Lint.meaning (folder_of l.files.entries) x.0 x.1.0 x.1.1) == 0))
+    (take l.index (enumerate_from 0 (folder_of l.files.entries))) ≡ false

@@ -10,7 +10,7 @@ use Rattle.al_folder.specs.Kept.{folder_of}
 use Rattle.al_folder.specs.declared.kept.KeptFile.{KeptFile}
 use Rattle.al_folder.proofs.Looping.{numbered}
 use Rattle.al_folder.proofs.Missings.{read_is}
-use Rattle.al_listing.specs.Private.Printing.{listed, numbered_lines}
+use Rattle.al_listing.specs.Private.Printing.{numbered_lines}
 use Rattle.al_listing.proofs.report.write_files.Goals as goal
 
 pub join_file-is_joined-requires-clause-room : goal.join_file-is_joined-requires-clause-room

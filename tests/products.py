@@ -1,0 +1,76 @@
+"""Folders in which one count times another would be taken, in time or in memory, and what is reported of each: for tests/hostile.py, which
+compares the reports under a limit of memory, and bench/products.py, which measures them.
+"""
+
+from running import CLEAN, WORKFLOWS
+
+WORKFLOW = f"{WORKFLOWS}/a.yml"
+AT = WORKFLOW.encode() + b":"
+
+# an action that asks its callers for a thousand inputs
+INPUTS = [b"i%03d" % number for number in range(1_000)]
+ACTION = "a/action.yml"
+ACTION_FILE = b"name: A\ndescription: d\ninputs:\n%sruns:\n  using: node20\n  main: m.js\n" % b"".join(
+    b"  %s:\n    required: true\n" % name for name in INPUTS)
+STEPS = CLEAN[: CLEAN.index(b"      - ")]
+CALLED_ELSEWHERE = b"uses: o/r/.github/workflows/w.yml@v"
+
+
+def lacking(position, called, kind):
+    """What is reported of a call at this line and column that gives nothing."""
+    return b"".join(b'%s%s: required input "%s" of "%s" is missing [%s]\n' % (AT, position, name, called, kind) for name in INPUTS)
+
+
+def with_outputs(count, jobs):
+    """A workflow whose first job has so many outputs, with further jobs."""
+    outputs = b", ".join(b"o%04d: x" % number for number in range(count))
+    return {WORKFLOW: b"on: push\njobs:\n  a: {runs-on: u, outputs: {%s}, steps: [{run: x}]}\n" % outputs + jobs}
+
+
+def last_of_many_outputs():
+    """Expressions that read the last of many outputs."""
+    steps = b"      - run: ${{ needs.a.outputs.o9999 }}\n" * 12_000
+    return with_outputs(10_000, b"  b:\n    needs: a\n    runs-on: u\n    steps:\n" + steps), b""
+
+
+def jobs_with_an_expression(expression):
+    """Jobs that need one with many outputs, each with an expression."""
+    job = b"  b%04d: {needs: [a, A], runs-on: u, steps: [{run: '%s'}]}\n"
+    return with_outputs(4_000, b"".join(job % (number, expression) for number in range(4_000))), b""
+
+
+def jobs_that_call():
+    """Jobs that need one with many outputs and call a workflow of another repository."""
+    return with_outputs(10_000, b"".join(b"  b%05d: {needs: a, %s}\n" % (number, CALLED_ELSEWHERE) for number in range(13_000))), b""
+
+
+def chain_of_needs():
+    """Jobs each of which needs the one before."""
+    first = b"on: push\njobs:\n  j00000: {%s}\n" % CALLED_ELSEWHERE
+    others = b"".join(b"  j%05d: {needs: j%05d, %s}\n" % (number, number - 1, CALLED_ELSEWHERE) for number in range(1, 16_000))
+    return {WORKFLOW: first + others}, b""
+
+
+def calls_that_lack():
+    """Calls each of which lacks a thousand inputs: the report has a line for each."""
+    count = 2_400
+    told = b"".join(lacking(b"%d:15" % (6 + number), b"A", b"action") for number in range(count))
+    return {WORKFLOW: STEPS + b"      - uses: ./a\n" * count, ACTION: ACTION_FILE}, told
+
+
+def aliases_of_a_call():
+    """Aliases of a step that lacks a thousand inputs: the report has a line for each input."""
+    steps = STEPS + b"      - &s\n        uses: ./a\n" + b"      - *s\n" * 30_000
+    return {WORKFLOW: steps, ACTION: ACTION_FILE}, lacking(b"7:15", b"A", b"action")
+
+
+# by name what makes a folder's files, each a path with its bytes, and the lines of its report
+FOLDERS = {
+    "last-of-10000-outputs-12000-times": last_of_many_outputs,
+    "4000-jobs-that-need-4000-outputs": lambda: jobs_with_an_expression(b"${{ github.ref }}"),
+    "4000-jobs-that-read-one-of-4000-outputs": lambda: jobs_with_an_expression(b"${{ needs.a.outputs.o0000 }}"),
+    "13000-jobs-that-need-10000-outputs": jobs_that_call,
+    "chain-of-16000-needs": chain_of_needs,
+    "2400-calls-that-lack-1000-inputs": calls_that_lack,
+    "30000-aliases-of-a-step-that-lacks-1000-inputs": aliases_of_a_call,
+}
