@@ -1,6 +1,6 @@
 -- The graph of calls, as far as calls can lead back, and labels that tell which ones do.
-use Rattle.std.specs.Prelude.{ℕ, ◌+◌, ◌≤◌, ◌<◌, ◌≡◌, ◌↔◌, ◌⊎◌, ◌&&◌, Bool, false, true, List, [], Option, Some, None, String, Vec, length, map}
-use Rattle.std.specs.Prelude.{cond, nat_eq, nat_le, nat_lt, slice_get, slice_index_or}
+use Rattle.std.specs.Prelude.{ℕ, ◌+◌, ◌≤◌, ◌<◌, ◌≡◌, ◌↔◌, ◌⊎◌, ◌&&◌, Bool, false, true, List, [], Option, Some, None, String, Vec}
+use Rattle.std.specs.Prelude.{cond, length, map, nat_eq, nat_le, nat_lt, slice_get, slice_index_or}
 use Rattle.std.specs.Global.{Global}
 use Rattle.std.specs.List.{enumerate_from, filter_map, list_any}
 use Rattle.std.specs.Option.{option_eq}
