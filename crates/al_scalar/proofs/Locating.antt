@@ -29,3 +29,10 @@ pub offset_or-small : (cs : List Cell) (end i : ℕ) → AreInRange cs → i < l
 offset_or-small [] end i h l = absurd (omega (arith, l))
 offset_or-small (c ∷ cs) end zero h l = h.0
 offset_or-small (c ∷ cs) end (suc i) h l = offset_or-small cs end i h.1 (omega (arith, l))
+
+-- the offset that the last run gives is that of the cell
+pub located : (bs : List ℕ) (ss : List Segment) (cells : List Cell) (found i end : ℕ) → cells_from 0 bs ss ≡ cells → i < length cells → found ≡ offset_at ss i → found ≡ offset_or cells end i
+located bs ss cells found i end v h f =
+    let long : length cells ≡ length bs = ap length (sym v) ∙ length-cells_from 0 bs ss in
+    let index : i ≡ 0 + i = omega arith in
+    f ∙ ap (offset_at ss) index ∙ sym (offset_or-cells_from 0 bs ss end i (omega (arith, h, long))) ∙ ap (λ cs. offset_or cs end i) v

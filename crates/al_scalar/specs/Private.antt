@@ -1,10 +1,11 @@
 -- Words that only contracts of private functions need: no definition of what the product means stands on them.
 pub mod BlockRead
+pub mod Contract
 pub mod Double
 pub mod Folding
+pub mod Forms
+pub mod Places
 pub mod PlainLines
 pub mod Reads
 pub mod Segments
 pub mod Single
-pub mod Places
-pub mod Contract

@@ -4,7 +4,10 @@ ghost use Rattle.std.specs.Prelude.{◌≡◌, ℕ, ◌+◌, ◌<◌, ◌≤◌,
 ghost use Rattle.al_scalar.specs.Line.{Cell};
 ghost use Rattle.al_scalar.specs.Private.Places.{cells_between};
 ghost use Rattle.al_scalar.specs.Scalar.{offset_or};
-ghost use Rattle.al_scalar.specs.Private.Segments.{first_run, offset_in, offset_at, cells_from, AreBehind, IsRising, IsOrdered, GoesOn};
+ghost use Rattle.al_scalar.specs.Private.Segments.{first_run, offset_in, offset_at, cells_from, AreBehind, AreInRange, IsRising};
+ghost use Rattle.al_scalar.specs.Private.Segments.{IsOrdered, GoesOn};
+ghost use Rattle.al_scalar.specs.Private.Forms.{short_cells, IsSound};
+ghost use Rattle.al_scalar.specs.declared.texts.Form.TheVariants.{Short};
 
 use std::alloc::{AllocError, Global};
 use std::marker::Model;
@@ -62,12 +65,12 @@ impl Model for Runs {
 }
 
 impl Runs {
-    /// A first run alone. Takes no memory.
-    fn new(alloc: Global) -> Self
-        ensures { result ≡ first_run 0 ∷ [] }
+    /// A first run alone, from an offset on. Takes no memory.
+    fn one(alloc: Global, first: u32) -> Self
+        ensures { result ≡ first_run first ∷ [] }
     {
         Runs {
-            first: 0,
+            first,
             rest: Vec::new(alloc),
         }
     }
@@ -155,14 +158,14 @@ impl Runs {
     }
 }
 
-/// Decoded bytes, each with the offset that gave it.
+/// Decoded bytes of several runs, or more than a text has room for in itself.
 #[derive(Drop)]
-pub struct Text {
+struct LongText {
     bytes: Vec<u8>,
     runs: Runs,
 }
 
-impl Model for Text {
+impl Model for LongText {
     ghost use Rattle.std.specs.Prelude.{List, length};
     ghost use Rattle.al_scalar.specs.Line.{Cell};
     ghost use Rattle.al_scalar.specs.Private.Segments.{cells_from, IsOrdered, AreInRange};
@@ -174,19 +177,22 @@ impl Model for Text {
     ghost invariant = { λ t. IsOrdered (length t.bytes.items) t.runs × AreInRange (cells_from 0 t.bytes.items t.runs) };
 }
 
-impl Text {
-    /// No text. Takes no memory.
-    pub fn new(alloc: Global) -> Self
-        ensures { result ≡ [] }
+impl LongText {
+    /// The text of one run, whose first byte an offset gave.
+    fn of_run(alloc: Global, run: &[u8], first: u32) -> Result<Self, AllocError>
+        requires { AreInRange (cells_from 0 run.now (first_run first ∷ [])) }
+        ensures { IfOk result (λ text. text ≡ cells_from 0 run.now (first_run first ∷ [])) }
     {
-        Text {
-            bytes: Vec::new(alloc),
-            runs: Runs::new(alloc),
-        }
+        let mut bytes = Vec::new(alloc);
+        bytes.extend_from_slice(run)?;
+        Ok(LongText {
+            bytes,
+            runs: Runs::one(alloc, first),
+        })
     }
 
     /// Adds a byte that an offset gave.
-    pub fn push(&mut self, byte: u8, at: usize) -> Result<(), AllocError>
+    fn push(&mut self, byte: u8, at: usize) -> Result<(), AllocError>
         requires { at < 2 ^ 32 }
         ensures added { IfOk result (λ _. self.new ≡ self.old ++ (byte, at) ∷ []) }
         ensures stays { OnErr result (self.new ≡ self.old) }
@@ -197,7 +203,7 @@ impl Text {
     }
 
     /// Adds the bytes of a file from an offset up to another one.
-    pub fn push_run(&mut self, file: &[u8], from: usize, to: usize) -> Result<(), AllocError>
+    fn push_run(&mut self, file: &[u8], from: usize, to: usize) -> Result<(), AllocError>
         requires order { from ≤ to }
         requires inside { to ≤ length file.now }
         requires size { length file.now < 2 ^ 32 }
@@ -210,7 +216,7 @@ impl Text {
     }
 
     /// Adds the bytes that an escape at an offset stands for.
-    pub fn push_escape(&mut self, decoded: &[u8], at: usize) -> Result<(), AllocError>
+    fn push_escape(&mut self, decoded: &[u8], at: usize) -> Result<(), AllocError>
         requires { at < 2 ^ 32 }
         ensures added { IfOk result (λ _. self.new ≡ self.old ++ map (λ b. (b, at)) decoded.now) }
         ensures stays { OnErr result (self.new ≡ self.old) }
@@ -225,10 +231,154 @@ impl Text {
     }
 
     /// The decoded bytes.
-    pub fn as_bytes(&self) -> &[u8]
+    fn as_bytes(&self) -> &[u8]
         ensures { result.now ≡ map (λ (c : Cell). c.0) self.now }
     {
         self.bytes.as_slice()
+    }
+
+    /// The offset that gave the byte at an index.
+    fn locate(&self, i: usize) -> u32
+        requires { i < length self.now }
+        ensures { (end : ℕ) → result ≡ offset_or self.now end i }
+    {
+        self.runs.run_of(i).locate(i)
+    }
+}
+
+/// How many bytes a text has in itself: most keys and values have no more, and take no memory of their own.
+const SHORT: usize = 26;
+
+/// The bytes of a text of one run, which moves.
+#[derive(Clone, Copy)]
+pub struct ShortText {
+    count: u8,
+    bytes: [u8; SHORT],
+    first: u32,
+}
+
+impl ShortText {
+    /// The same text, in the form that takes any bytes. Fails with `AllocError` for want of memory.
+    fn lengthened(&self, alloc: Global) -> Result<LongText, AllocError>
+        requires { IsSound (Short self.now) }
+        ensures { IfOk result (λ text. text ≡ short_cells self.now) }
+    {
+        LongText::of_run(alloc, &self.bytes[..self.count as usize], self.first)
+    }
+}
+
+/// How a text is kept: most are short, and a node with one is then as small as one with a collection.
+#[derive(Drop)]
+enum Form {
+    Short(ShortText),
+    Long(Box<LongText>),
+}
+
+/// Decoded bytes, each with the offset that gave it.
+#[derive(Drop)]
+pub struct Text {
+    alloc: Global,
+    form: Form,
+}
+
+impl Model for Text {
+    ghost use Rattle.std.specs.Prelude.{List};
+    ghost use Rattle.al_scalar.specs.Line.{Cell};
+    ghost use Rattle.al_scalar.specs.Private.Forms.{cells_of, IsSound};
+
+    ghost Value = { List Cell };
+
+    ghost view = { λ t. cells_of t.form };
+
+    ghost invariant = { λ t. IsSound t.form };
+}
+
+impl Text {
+    /// No text. Takes no memory.
+    pub fn new(alloc: Global) -> Self
+        ensures { result ≡ [] }
+    {
+        let none = ShortText {
+            count: 0,
+            bytes: [0; SHORT],
+            first: 0,
+        };
+        Text {
+            alloc,
+            form: Form::Short(none),
+        }
+    }
+
+    /// Adds a byte that an offset gave.
+    pub fn push(&mut self, byte: u8, at: usize) -> Result<(), AllocError>
+        requires { at < 2 ^ 32 }
+        ensures added { IfOk result (λ _. self.new ≡ self.old ++ (byte, at) ∷ []) }
+        ensures stays { OnErr result (self.new ≡ self.old) }
+    {
+        match &mut self.form {
+            Form::Long(text) => text.push(byte, at),
+            Form::Short(short) => {
+                let mut text = short.lengthened(self.alloc)?;
+                text.push(byte, at)?;
+                self.form = Form::Long(Box::new(self.alloc, text)?);
+                Ok(())
+            }
+        }
+    }
+
+    /// Adds the bytes of a file from an offset up to another one.
+    pub fn push_run(&mut self, file: &[u8], from: usize, to: usize) -> Result<(), AllocError>
+        requires order { from ≤ to }
+        requires inside { to ≤ length file.now }
+        requires size { length file.now < 2 ^ 32 }
+        ensures added { IfOk result (λ _. self.new ≡ self.old ++ cells_between file.now from to) }
+        ensures stays { OnErr result (self.new ≡ self.old) }
+    {
+        let count = to - from;
+        if let Form::Short(short) = &mut self.form {
+            if short.count == 0 && count <= SHORT {
+                short.first = from as u32;
+                short.count = count as u8;
+                short.bytes[..count].copy_from_slice(&file[from..to]);
+                return Ok(());
+            }
+        }
+        match &mut self.form {
+            Form::Long(text) => text.push_run(file, from, to),
+            Form::Short(short) => {
+                let mut text = short.lengthened(self.alloc)?;
+                text.push_run(file, from, to)?;
+                self.form = Form::Long(Box::new(self.alloc, text)?);
+                Ok(())
+            }
+        }
+    }
+
+    /// Adds the bytes that an escape at an offset stands for.
+    pub fn push_escape(&mut self, decoded: &[u8], at: usize) -> Result<(), AllocError>
+        requires { at < 2 ^ 32 }
+        ensures added { IfOk result (λ _. self.new ≡ self.old ++ map (λ b. (b, at)) decoded.now) }
+        ensures stays { OnErr result (self.new ≡ self.old) }
+    {
+        match &mut self.form {
+            Form::Long(text) => text.push_escape(decoded, at),
+            Form::Short(short) => {
+                let mut text = short.lengthened(self.alloc)?;
+                text.push_escape(decoded, at)?;
+                self.form = Form::Long(Box::new(self.alloc, text)?);
+                Ok(())
+            }
+        }
+    }
+
+    /// The decoded bytes.
+    pub fn as_bytes(&self) -> &[u8]
+        ensures { result.now ≡ map (λ (c : Cell). c.0) self.now }
+    {
+        match &self.form {
+            Form::Short(short) => &short.bytes[..short.count as usize],
+            Form::Long(text) => text.as_bytes(),
+        }
     }
 
     /// The offset that gave the byte at an index.
@@ -236,6 +386,9 @@ impl Text {
         requires { i < length self.now }
         ensures { (end : ℕ) → result ≡ offset_or self.now end i }
     {
-        self.runs.run_of(i).locate(i)
+        match &self.form {
+            Form::Short(short) => Segment::first(short.first).locate(i),
+            Form::Long(text) => text.locate(i),
+        }
     }
 }

@@ -1,27 +1,33 @@
-use Rattle.std.proofs.Common.{◌≡◌, ◌^◌, ◌<◌, length, slice_range, arith}
+use Rattle.std.proofs.Common.{◌≡◌, ◌∙◌, ◌++◌, ◌∷◌, [], ◌-◌, ◌≤◌, ◌<◌, ◌^◌, ℕ, List, length, length-drop, take, drop, slice_range, refl, ap, sym, subst, arith}
+use Rattle.std.proofs.Math.Seq.{take-append_seam}
+use Rattle.std.proofs.lemmas.List.{length-take-le}
+use Rattle.al_scalar.specs.Private.Forms.{short_cells}
 use Rattle.al_scalar.specs.Private.Places.{cells_between}
-use Rattle.al_scalar.proofs.RunLemmas.{run-between, pushed-text, pushed-kept, AreInRange-between}
+use Rattle.al_scalar.specs.Private.Segments.{first_run, cells_from, AreInRange}
+use Rattle.al_scalar.proofs.RunLemmas.{run-between, first-goes-on, AreInRange-between}
 use Rattle.al_scalar.proofs.texts.Text.push_run.Goals as goal
 
-pub returns-clause-added : goal.returns-clause-added
-returns-clause-added c =
-    let was = c.self.inside in
-    let file = c.args.file.now in
-    let cells = cells_between file c.args.from c.args.to in
-    let n : c.len.result ≡ length was.bytes.items = omega (arith, c.len.ensures, was.bytes.ok.0) in
-    let run = run-between file c.begin.new.self c.len.result c.args.from c.args.to c.in_ok-begin.ensures.next c.requires.order c.requires.inside in
-    pushed-text c.args.self.now cells was.bytes.items (slice_range file c.args.from c.args.to) c.extend_from_slice.new.self.items was.runs c.begin.new.self c.len.result
-    n c.in_ok-extend_from_slice.ensures.items c.self.view_is c.in_ok-begin.ensures.cells run
+-- the bytes of a file that were written over the first of others are the cells between
+short-run : (file new rest : List ℕ) (from to : ℕ) → from ≤ to → to ≤ length file → new ≡ slice_range file from to
+    → cells_from 0 (take (to - from) (new ++ rest)) (first_run from ∷ []) ≡ cells_between file from to
+short-run file new rest from to order inside same =
+    let room : to - from ≤ length (drop from file) = omega (arith, length-drop from file, inside, order) in
+    let count : to - from ≡ length new = sym (ap length same ∙ length-take-le (to - from) (drop from file) room) in
+    let taken : take (to - from) (new ++ rest) ≡ slice_range file from to = ap (λ n. take n (new ++ rest)) count ∙ take-append_seam new rest ∙ same in
+    ap (λ bs. cells_from 0 bs (first_run from ∷ [])) taken ∙ run-between file (first_run from ∷ []) 0 from to (first-goes-on [] from refl) order inside
 
-pub invariant_of-self-2 : goal.invariant_of-self-2
-invariant_of-self-2 c =
-    let was = c.self.inside in
+pub invariant_of-self : goal.invariant_of-self
+invariant_of-self c =
     let file = c.args.file.now in
-    let cells = cells_between file c.args.from c.args.to in
-    let n : c.len.result ≡ length was.bytes.items = omega (arith, c.len.ensures, was.bytes.ok.0) in
-    let run = run-between file c.begin.new.self c.len.result c.args.from c.args.to c.in_ok-begin.ensures.next c.requires.order c.requires.inside in
-    let text = pushed-text c.args.self.now cells was.bytes.items (slice_range file c.args.from c.args.to) c.extend_from_slice.new.self.items was.runs c.begin.new.self c.len.result
-    n c.in_ok-extend_from_slice.ensures.items c.self.view_is c.in_ok-begin.ensures.cells run in
+    let cells = short-run file c.copy_from_slice.new.self _ c.args.from c.args.to c.requires.order c.requires.inside c.copy_from_slice.ensures.after in
     let small : c.args.to < 2 ^ 32 = omega (arith, c.requires.inside, c.requires.size) in
-    pushed-kept c.args.self.now cells was.bytes.items (slice_range file c.args.from c.args.to) c.extend_from_slice.new.self.items was.runs c.begin.new.self c.len.result
-    n c.in_ok-extend_from_slice.ensures.items c.self.view_is c.self.invariant.1 (AreInRange-between file c.args.from c.args.to c.requires.order small) c.in_ok-begin.ensures.order text
+    (c.if-count-le-SHORT.true, subst AreInRange (sym cells) (AreInRange-between file c.args.from c.args.to c.requires.order small))
+
+pub returns-then-count-le-SHORT-clause-added : goal.returns-then-count-le-SHORT-clause-added
+returns-then-count-le-SHORT-clause-added c =
+    let s = c.in-Short.short in
+    let file = c.args.file.now in
+    let view : short_cells s ≡ c.args.self.now = rw c.in-Short.is at c.self.view_is in
+    let none : c.args.self.now ≡ [] = sym view ∙ ap (λ n. cells_from 0 (take n s.bytes) (first_run s.first ∷ [])) c.if-short-eq0.true in
+    short-run file c.copy_from_slice.new.self _ c.args.from c.args.to c.requires.order c.requires.inside c.copy_from_slice.ensures.after
+    ∙ ap (λ cs. cs ++ cells_between file c.args.from c.args.to) (sym none)
