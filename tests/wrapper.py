@@ -24,7 +24,7 @@ build() {
   mkdir -p "$1/out"; printf '#!/bin/sh\necho "built $*"\n' > "$1/out/actionlint"; chmod +x "$1/out/actionlint"
 }
 case $1 in
-  version) echo "kit ${KIT:-1}" ;;
+  version) echo "kit-${KIT:-1} logic ${LOGIC:-1}" ;;
   ci) for crate in low middle actionlint; do echo "rt: $crate proved"; done; [ -z "${SLOW-}" ] || { echo $$ > "$SLOW"; sleep 60; }
     build crates/actionlint ;;
   run) build . ;;
@@ -185,7 +185,10 @@ def test_prebuilt(copy):
     expect("carried-is-run-at-once", copy.run("x"), status=0, out="carried x\n", calls=[], err="")
     os.utime(copy.source())
     expect("same-bytes-still-fit", copy.run("x"), out="carried x\n", calls=["version"])
-    expect("other-kit-builds", copy.run("x", KIT="2", by=touched(copy)), out="built x\n", calls=["version", *BUILDS])
+    expect("other-kit-of-the-logic", copy.run("x", KIT="2", by=touched(copy)), out="carried x\n", calls=["version"])
+    ran = copy.called("python3", str(copy.top / "tools/prebuilt.py"), "--compare", KIT="2")
+    report("compare-with-another-kit", ran.returncode, [] if ran.stdout == "older\n" else [ran.stdout])
+    expect("other-logic-builds", copy.run("x", LOGIC="2", by=touched(copy)), out="built x\n", calls=["version", *BUILDS])
     copy.forget()
     copy.run()
     expect("build-anew-beside-carried", copy.run("--build-anew", "x"), out="built x\n", calls=BUILDS)
@@ -196,7 +199,7 @@ def test_prebuilt(copy):
     expect("newly-built-goes-before-carried", copy.run("x"), out="built x\n", calls=[])
     copy.forget()
     copy.source().write_text("// two\n")
-    expect("other-sources-build", copy.run("x"), out="built x\n", calls=["version", *BUILDS])
+    expect("other-sources-build", copy.run("x"), out="built x\n", calls=BUILDS)
     ran = copy.called("python3", str(copy.top / "tools/prebuilt.py"), "--compare")
     report("compare-older", ran.returncode, [] if ran.stdout == "older\n" else [ran.stdout])
     copy.source().write_text("// one\n")

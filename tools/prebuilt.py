@@ -1,8 +1,8 @@
 """Renews or compares the program that the repository carries: prebuilt.py --renew | --compare.
 
 --renew copies crates/actionlint/out/actionlint to prebuilt/, with the hash of the sources that it was built from: no source may be newer.
---compare says `fits` where prebuilt/ was built from these sources and is byte for byte the program that is built, and `older` where it was
-built from others. The status is 1 where it should be the same and isn't; `none` is said where there is no prebuilt/.
+--compare says `fits` where prebuilt/ was built from these sources by this kit and is byte for byte the program that is built, and `older`
+where it was built from others, or by another kit. The status is 1 where it should be the same and isn't; `none` is said where there is no prebuilt/.
 """
 
 import shutil
@@ -26,7 +26,7 @@ def renew():
 def compare():
     if not program.PREBUILT.is_file():
         print("none")
-    elif not program.prebuilt_fits():
+    elif program.kit_of_prebuilt() != program.kit():
         print("older")
     elif program.PREBUILT.read_bytes() == program.BUILT.read_bytes():
         print("fits")

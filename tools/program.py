@@ -73,13 +73,27 @@ def hash_of_sources(version):
     return f"{total.hexdigest()}  {version}\n"
 
 
-def prebuilt_fits():
-    """Whether the carried program was built from these sources, and by this kit where there is one."""
+def kit_of_prebuilt():
+    """The identity of the kit that built the carried program, where there is one that was built from these sources; or nothing."""
     if not (os.access(PREBUILT, os.X_OK) and HASH.is_file()):
-        return False
+        return None
     said = HASH.read_text()
-    version = kit()
-    return said == hash_of_sources(said.partition("  ")[2].strip() if version is None else version)
+    version = said.partition("  ")[2].strip()
+    return version if said == hash_of_sources(version) else None
+
+
+def prebuilt_fits():
+    """Whether the carried program was built from these sources, and proved in the logic of the kit that is there, if one is."""
+    built_by = kit_of_prebuilt()
+    if built_by is None:
+        return False
+    here = kit()
+    return here is None or logic_of(here) == logic_of(built_by)
+
+
+def logic_of(version):
+    """What names the logic of a kit in its identity: the words behind the first one."""
+    return version.split()[1:]
 
 
 def is_newest(program):
