@@ -240,7 +240,8 @@ def calls_of_one_file(place):
 
 
 def held_to(told):
-    """The memory that a report may take: 200 MB, and twice its bytes. No more time than files of aliases may take."""
+    """The memory that a report may take: 200 MB, and twice its bytes, since its faults stand in memory with their texts before they are
+    printed. No more time than files of aliases may take."""
 
     def limits():
         memory = BESIDE_A_REPORT + 2 * len(told)

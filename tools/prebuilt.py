@@ -2,7 +2,8 @@
 
 --renew copies crates/actionlint/out/actionlint to prebuilt/, with the hash of the sources that it was built from: no source may be newer.
 --compare says `fits` where prebuilt/ was built from these sources by this kit and is byte for byte the program that is built, and `older`
-where it was built from others, or by another kit. The status is 1 where it should be the same and isn't; `none` is said where there is no prebuilt/.
+where it was built from others, or by another kit. The status is 1 where it should be the same and isn't; `none` is said where there is no
+prebuilt/.
 """
 
 import shutil
