@@ -7,4 +7,5 @@ pub mod FaultLists
 pub mod Growing
 pub mod Elements
 pub mod ShownTexts
+pub mod TwoTexts
 pub mod SameName

@@ -15,5 +15,6 @@ pub mod Growth
 pub mod FirstBytes
 pub mod Digits
 pub mod Shown
+pub mod Private
 pub mod Rows
 pub mod Proofs

@@ -1,30 +1,18 @@
 //! Copies of faults.
-ghost use Rattle.std.specs.Prelude.{◌≡◌, ◌++◌, map, string_bytes, IfOk, OnOk};
+ghost use Rattle.std.specs.Prelude.{◌≡◌, ◌++◌, IfOk, OnOk};
 ghost use Rattle.al_base.specs.Growth.{BeginsWith};
 
-use super::faults::{Args, Fault};
+use super::faults::Fault;
 use std::alloc::{AllocError, Global};
-
-// Copies of texts.
-fn copied_texts(alloc: Global, texts: &[String]) -> Result<Vec<String>, AllocError>
-    ensures { IfOk result (λ copies. map string_bytes copies.items ≡ map string_bytes texts.now) }
-{
-    let mut copies = Vec::with_capacity(alloc, texts.len())?;
-    for text in texts {
-        copies.push(String::from_str(alloc, text.as_str())?)?;
-    }
-    Ok(copies)
-}
 
 // A copy of a fault.
 fn copied(alloc: Global, fault: &Fault) -> Result<Fault, AllocError>
     ensures { IfOk result (λ copy. copy ≡ fault.now) }
 {
-    let texts = copied_texts(alloc, fault.args.texts())?;
     Ok(Fault {
         span: fault.span,
         code: fault.code,
-        args: Args::new(texts),
+        args: fault.args.copy(alloc)?,
     })
 }
 

@@ -1,6 +1,7 @@
 //! What all other crates stand on. Six jobs, each with its modules:
 //!
-//! - faults, in `codes`, `faults`, `lists` and `copies`: a span, a code and the texts of a message; their order, and a file's list of them
+//! - faults, in `codes`, `args`, `faults`, `lists` and `copies`: a span, a code and the texts of a message; their order, and a file's
+//!   list of them
 //! - names in which case does not count, in `names`
 //! - paths, in `paths`: which texts name a file of a folder
 //! - control bytes of texts that are printed, in `controls`
@@ -11,6 +12,7 @@
 //! How a fault is worded and printed is `al_text`'s.
 #![tactic(auto)]
 
+mod args;
 mod codes;
 mod controls;
 mod copies;
@@ -27,11 +29,12 @@ mod streams;
 // Worked rows:
 mod examples;
 
+pub use args::Args;
 pub use codes::{CallCode, Caller, Code, ExpressionCode, KeyCode, RuleCode, YamlCode};
 pub use controls::{first_control, shown};
 pub use copies::add_copies;
 pub use examples::rows;
-pub use faults::{Args, Fault, Span};
+pub use faults::{Fault, Span};
 pub use lines::Lines;
 pub use lists::{fault_lists, ordered};
 pub use names::is_same_name;

@@ -272,13 +272,21 @@ fn faults(
     Ok(found)
 }
 
+// Whether a text is the one that is told at this index, or there is none where none is told.
+fn is_text(found: Option<&str>, told: &[&str], index: usize) -> bool {
+    match told.get(index) {
+        Some(text) => match found {
+            Some(found) => found == *text,
+            None => false,
+        },
+        None => found.is_none(),
+    }
+}
+
 fn has_args(fault: &Fault, wanted: &[&str]) -> bool {
-    let found = fault.args.texts();
-    found.len() == wanted.len()
-        && found
-            .iter()
-            .zip(wanted)
-            .all(|(found, wanted)| found.as_str() == *wanted)
+    wanted.len() <= 2
+        && is_text(fault.args.first(), wanted, 0)
+        && is_text(fault.args.second(), wanted, 1)
 }
 
 fn is_at(text: &[u8], start: u32, line: u32, column: u32) -> bool {

@@ -43,12 +43,10 @@ pub(crate) fn report_one(
     ensures ok { OnOk result (out.new.items ≡ out.old.items ++ faults.fault code (call_of call.now) at (text.now ∷ []) ∷ []) }
     ensures begins { BeginsWith out.new.items out.old.items }
 {
-    let mut texts = Vec::with_capacity(alloc, 1)?;
-    texts.push(String::from_utf8_lossy(alloc, text)?)?;
     out.push(Fault {
         span: at,
         code: Code::Call(code, caller_of(call)),
-        args: Args::new(texts),
+        args: Args::one_lossy(alloc, text)?,
     })?;
     Ok(())
 }
@@ -66,13 +64,10 @@ pub(crate) fn report_two(
         ++ faults.fault code (call_of call.now) at ((named.entry).0.now ∷ (named.entry).1.now ∷ []) ∷ []) }
     ensures begins { BeginsWith out.new.items out.old.items }
 {
-    let mut texts = Vec::with_capacity(alloc, 2)?;
-    texts.push(String::from_utf8_lossy(alloc, named.0)?)?;
-    texts.push(String::from_utf8_lossy(alloc, named.1)?)?;
     out.push(Fault {
         span: at,
         code: Code::Call(code, caller_of(call)),
-        args: Args::new(texts),
+        args: Args::two_lossy(alloc, named.0, named.1)?,
     })?;
     Ok(())
 }

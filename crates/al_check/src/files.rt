@@ -240,7 +240,7 @@ fn yaml_fault(alloc: Global, fault: YamlFault) -> Result<Vec<Fault>, AllocError>
     faults.push(Fault {
         span: fault.span,
         code: Code::Yaml(fault.code),
-        args: Args::new(Vec::new(alloc)),
+        args: Args::none(),
     })?;
     Ok(faults)
 }

@@ -69,7 +69,7 @@ fn check_tree(
         out.push(Fault {
             span: extent(expr),
             code: Code::Expression(ExpressionCode::NotText),
-            args: Args::new(Vec::new(alloc)),
+            args: Args::none(),
         })?;
     }
     Ok(())

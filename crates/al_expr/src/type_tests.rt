@@ -181,13 +181,24 @@ const ROWS: [Row; 20] = [
     },
 ];
 
+// Whether a text is the one that is told at this index, or there is none where none is told.
+fn is_text(found: Option<&str>, told: &[&str], index: usize) -> bool {
+    match told.get(index) {
+        Some(text) => match found {
+            Some(found) => found == *text,
+            None => false,
+        },
+        None => found.is_none(),
+    }
+}
+
 fn is_fault(found: &Fault, code: ExpressionCode, start: u32, end: u32, texts: &[&str]) -> bool {
-    let given = found.args.texts();
     found.code == Code::Expression(code)
         && found.span.start == start
         && found.span.end == end
-        && given.len() == texts.len()
-        && given.iter().zip(texts).all(|(a, b)| a.as_str() == *b)
+        && texts.len() <= 2
+        && is_text(found.args.first(), texts, 0)
+        && is_text(found.args.second(), texts, 1)
 }
 
 fn are_faults(found: &[Fault], row: &Row) -> bool {

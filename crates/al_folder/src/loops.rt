@@ -240,12 +240,10 @@ fn has_label_of(nodes: &[usize], labels: &[Option<usize>], node: usize) -> bool
 fn loop_fault(alloc: Global, site: Site<'_>) -> Result<Fault, AllocError>
     ensures { IfOk result (λ fault. fault ≡ loops.loop_fault (site_of site.entry)) }
 {
-    let mut texts = Vec::with_capacity(alloc, 1)?;
-    texts.push(String::from_str(alloc, site.text)?)?;
     Ok(Fault {
         span: site.span,
         code: site.code,
-        args: Args::new(texts),
+        args: Args::one(String::from_str(alloc, site.text)?),
     })
 }
 

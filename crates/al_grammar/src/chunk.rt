@@ -69,7 +69,7 @@ fn next(state: ChunkState, at: usize, bytes: &[u8]) -> Move
 }
 
 /// What is wrong where a text ends with the reader in this state.
-fn end_fault(alloc: Global, state: ChunkState) -> Option<Fault>
+fn end_fault(state: ChunkState) -> Option<Fault>
     requires { EndFits state }
     ensures { result ≡ fault_at_end state }
 {
@@ -80,14 +80,14 @@ fn end_fault(alloc: Global, state: ChunkState) -> Option<Fault>
                 start: start as u32 - 3,
                 end: start as u32,
             };
-            Some(plain_fault(alloc, ExpressionCode::UnclosedChunk, span))
+            Some(plain_fault(ExpressionCode::UnclosedChunk, span))
         }
         ChunkState::Quoted(_, quote) => {
             let span = Span {
                 start: quote as u32,
                 end: quote as u32 + 1,
             };
-            Some(plain_fault(alloc, ExpressionCode::UnclosedText, span))
+            Some(plain_fault(ExpressionCode::UnclosedText, span))
         }
     }
 }
@@ -139,5 +139,5 @@ pub fn chunks(alloc: Global, text: &str) -> Result<(Vec<Chunk>, Option<Fault>), 
             }
         }
     }
-    Ok((found, end_fault(alloc, state)))
+    Ok((found, end_fault(state)))
 }

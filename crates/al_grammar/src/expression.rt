@@ -39,7 +39,6 @@ fn parse_fault(
     match error {
         ParseError::Memory => Err(AllocError),
         ParseError::Early => Ok(plain_fault(
-            alloc,
             ExpressionCode::EndsEarly,
             Span {
                 start: length,
@@ -57,7 +56,7 @@ fn parse_fault(
         }
         ParseError::TooDeep(left) => {
             let token = token_at(tokens, left);
-            Ok(plain_fault(alloc, ExpressionCode::TooDeep, token.span))
+            Ok(plain_fault(ExpressionCode::TooDeep, token.span))
         }
     }
 }
@@ -74,7 +73,7 @@ pub fn parse_expr(alloc: Global, content: &str) -> Result<Result<Expr, Fault>, A
 {
     if content.len() > LONGEST_EXPRESSION {
         let first = Span { start: 0, end: 1 };
-        return Ok(Err(plain_fault(alloc, ExpressionCode::TooLong, first)));
+        return Ok(Err(plain_fault(ExpressionCode::TooLong, first)));
     }
     let tokens = match lex(alloc, content)? {
         Ok(tokens) => tokens,

@@ -7,13 +7,13 @@ use al_base::{Args, Code, ExpressionCode, Fault, Span};
 use std::alloc::{AllocError, Global};
 
 /// A fault whose message names nothing.
-pub fn plain_fault(alloc: Global, code: ExpressionCode, span: Span) -> Fault
+pub fn plain_fault(code: ExpressionCode, span: Span) -> Fault
     ensures { result ≡ fault code span [] }
 {
     Fault {
         span,
         code: Code::Expression(code),
-        args: Args::new(Vec::new(alloc)),
+        args: Args::none(),
     }
 }
 
@@ -26,11 +26,9 @@ pub fn named_fault(
 ) -> Result<Fault, AllocError>
     ensures { IfOk result (λ f. f ≡ fault code span (name.now ∷ [])) }
 {
-    let mut texts = Vec::new(alloc);
-    texts.push(String::from_str(alloc, name)?)?;
     Ok(Fault {
         span,
         code: Code::Expression(code),
-        args: Args::new(texts),
+        args: Args::one(String::from_str(alloc, name)?),
     })
 }

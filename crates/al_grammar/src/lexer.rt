@@ -303,11 +303,7 @@ pub fn lex(alloc: Global, content: &str) -> Result<Result<Vec<Token>, Fault>, Al
 {
     match tokens(alloc, content)? {
         Ok(read) => Ok(Ok(read)),
-        Err(LexError::BadCharacter(span)) => Ok(Err(plain_fault(
-            alloc,
-            ExpressionCode::BadCharacter,
-            span,
-        ))),
+        Err(LexError::BadCharacter(span)) => Ok(Err(plain_fault(ExpressionCode::BadCharacter, span))),
         Err(LexError::OpenText) => {
             let Some(quote) = last_quote(content.as_bytes()) else {
                 unreachable!()
@@ -316,7 +312,7 @@ pub fn lex(alloc: Global, content: &str) -> Result<Result<Vec<Token>, Fault>, Al
                 start: quote as u32,
                 end: quote as u32 + 1,
             };
-            Ok(Err(plain_fault(alloc, ExpressionCode::UnclosedText, span)))
+            Ok(Err(plain_fault(ExpressionCode::UnclosedText, span)))
         }
     }
 }

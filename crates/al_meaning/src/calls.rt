@@ -19,7 +19,7 @@ ghost use Rattle.al_base.specs.declared.codes.ExpressionCode.TheVariants as code
 use crate::literals::{Literal, literal_text};
 use crate::placeholders::used_arguments;
 use crate::reports::{report, report_plain, report_text};
-use al_base::{ExpressionCode, Fault, Span};
+use al_base::{Args, ExpressionCode, Fault, Span};
 use al_grammar::{Expr, Word};
 use al_types::{Function, Parameters, Scope, Ty};
 use std::alloc::{AllocError, Global};
@@ -176,10 +176,9 @@ fn check_type(
     ensures begins { BeginsWith out.new.items out.old.items }
 {
     if !parameters.wanted(index).accepts(&argument.ty) {
-        let mut texts = Vec::new(alloc);
-        texts.push((index + 1).to_string(alloc)?)?;
-        texts.push(name.text.clone()?)?;
-        report(out, ExpressionCode::ArgumentType, argument.span, texts)?;
+        let number = (index + 1).to_string(alloc)?;
+        let args = Args::two(alloc, number.as_str(), name.text.as_str())?;
+        report(out, ExpressionCode::ArgumentType, argument.span, args)?;
     }
     Ok(())
 }
@@ -231,7 +230,7 @@ fn check_placeholders(
 {
     match used_arguments(alloc, literal.value.as_str(), arguments.len())? {
         Some(used) => check_used(alloc, &used, arguments, out),
-        None => report_plain(alloc, out, ExpressionCode::WrongPlaceholder, literal.span),
+        None => report_plain(out, ExpressionCode::WrongPlaceholder, literal.span),
     }
 }
 

@@ -38,10 +38,10 @@ pub(crate) fn property(
             let of = property(alloc, element, name, at, whole, out)?;
             Ok(Ty::Array(Box::new(alloc, of)?))
         }
-        Ty::Null => not_indexable(alloc, whole, out),
-        Ty::Number => not_indexable(alloc, whole, out),
-        Ty::Bool => not_indexable(alloc, whole, out),
-        Ty::String => not_indexable(alloc, whole, out),
+        Ty::Null => not_indexable(whole, out),
+        Ty::Number => not_indexable(whole, out),
+        Ty::Bool => not_indexable(whole, out),
+        Ty::String => not_indexable(whole, out),
     }
 }
 
@@ -84,10 +84,10 @@ pub(crate) fn element(
         Ty::Any => Ok(Ty::Any),
         Ty::Object(_) => Ok(Ty::Any),
         Ty::Array(of) => element_of(alloc, of, by, whole, out),
-        Ty::Null => not_indexable(alloc, whole, out),
-        Ty::Number => not_indexable(alloc, whole, out),
-        Ty::Bool => not_indexable(alloc, whole, out),
-        Ty::String => not_indexable(alloc, whole, out),
+        Ty::Null => not_indexable(whole, out),
+        Ty::Number => not_indexable(whole, out),
+        Ty::Bool => not_indexable(whole, out),
+        Ty::String => not_indexable(whole, out),
     }
 }
 
@@ -105,20 +105,20 @@ fn element_of(
     match by {
         Ty::Any => copy(alloc, of),
         Ty::Number => copy(alloc, of),
-        Ty::Null => not_indexable(alloc, whole, out),
-        Ty::Bool => not_indexable(alloc, whole, out),
-        Ty::String => not_indexable(alloc, whole, out),
-        Ty::Array(_) => not_indexable(alloc, whole, out),
-        Ty::Object(_) => not_indexable(alloc, whole, out),
+        Ty::Null => not_indexable(whole, out),
+        Ty::Bool => not_indexable(whole, out),
+        Ty::String => not_indexable(whole, out),
+        Ty::Array(_) => not_indexable(whole, out),
+        Ty::Object(_) => not_indexable(whole, out),
     }
 }
 
 #[tactic(auto, using(al_base::proofs::Growing::growth))]
-fn not_indexable(alloc: Global, whole: Span, out: &mut Vec<Fault>) -> Result<Ty, AllocError>
+fn not_indexable(whole: Span, out: &mut Vec<Fault>) -> Result<Ty, AllocError>
     ensures ok { IfOk result (λ t. typed (ty_of t) out.new.items ≡ behind out.old.items (not_indexable whole)) }
     ensures begins { BeginsWith out.new.items out.old.items }
 {
-    report_plain(alloc, out, ExpressionCode::NotIndexable, whole)?;
+    report_plain(out, ExpressionCode::NotIndexable, whole)?;
     Ok(Ty::Any)
 }
 
@@ -140,10 +140,10 @@ pub(crate) fn all(
             let of = fuse_all(alloc, object)?;
             Ok(Ty::Array(Box::new(alloc, of)?))
         }
-        Ty::Null => not_indexable(alloc, whole, out),
-        Ty::Number => not_indexable(alloc, whole, out),
-        Ty::Bool => not_indexable(alloc, whole, out),
-        Ty::String => not_indexable(alloc, whole, out),
+        Ty::Null => not_indexable(whole, out),
+        Ty::Number => not_indexable(whole, out),
+        Ty::Bool => not_indexable(whole, out),
+        Ty::String => not_indexable(whole, out),
     }
 }
 

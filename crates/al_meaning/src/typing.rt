@@ -437,7 +437,7 @@ fn operation(
         return Ok(ty);
     }
     if !comparable(operator, a, b) {
-        report_plain(alloc, out, ExpressionCode::NotComparable, at)?;
+        report_plain(out, ExpressionCode::NotComparable, at)?;
     }
     Ok(Ty::Bool)
 }

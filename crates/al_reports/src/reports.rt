@@ -4,7 +4,7 @@ ghost use Rattle.al_reports.specs.Private.Views.{named_of, named_scalar, naming}
 ghost use Rattle.al_reports.specs.Words.{about, fault, of_key, unless, unless_among};
 ghost use Rattle.al_base.specs.Growth.{BeginsWith};
 ghost use Rattle.al_yaml.specs.View.{view};
-ghost use Rattle.std.specs.Prelude.{◌≡◌, [], ◌∷◌, ◌++◌, map, string_bytes, OnOk};
+ghost use Rattle.std.specs.Prelude.{◌≡◌, [], ◌∷◌, ◌++◌, map, OnOk};
 
 use al_base::{Args, Code, Fault, RuleCode, Span};
 use al_tree::{ScalarNode, is_among, key_text};
@@ -41,13 +41,13 @@ pub fn named_text(scalar: ScalarNode<'_>) -> Named<'_>
 }
 
 /// The fault of a rule that names these texts as they are.
-fn rule_fault(rule: RuleCode, span: Span, texts: Vec<String>) -> Fault
-    ensures { result ≡ naming rule span (map string_bytes texts.items) }
+fn rule_fault(rule: RuleCode, span: Span, args: Args) -> Fault
+    ensures { result ≡ naming rule span args }
 {
     Fault {
         span,
         code: Code::Rule(rule),
-        args: Args::new(texts),
+        args,
     }
 }
 
@@ -65,9 +65,8 @@ pub fn report_at(
     ensures ok { OnOk result (out.new.items ≡ out.old.items ++ fault rule span (text.now ∷ []) ∷ []) }
     ensures begins { BeginsWith out.new.items out.old.items }
 {
-    let mut texts = Vec::with_capacity(alloc, 1)?;
-    texts.push(String::from_utf8_lossy(alloc, text)?)?;
-    out.push(rule_fault(rule, span, texts))?;
+    let args = Args::one_lossy(alloc, text)?;
+    out.push(rule_fault(rule, span, args))?;
     Ok(())
 }
 
@@ -86,10 +85,8 @@ pub fn report_two(
     ensures ok { OnOk result (out.new.items ≡ out.old.items ++ fault rule span (first.now ∷ second.now ∷ []) ∷ []) }
     ensures begins { BeginsWith out.new.items out.old.items }
 {
-    let mut texts = Vec::with_capacity(alloc, 2)?;
-    texts.push(String::from_utf8_lossy(alloc, first)?)?;
-    texts.push(String::from_utf8_lossy(alloc, second)?)?;
-    out.push(rule_fault(rule, span, texts))?;
+    let args = Args::two_lossy(alloc, first, second)?;
+    out.push(rule_fault(rule, span, args))?;
     Ok(())
 }
 
@@ -98,7 +95,6 @@ pub fn report_two(
 /// Fails with `AllocError` for want of memory; the list then begins with what it held.
 #[tactic(auto, using(al_base::proofs::Growing::growth))]
 pub fn report_plain(
-    alloc: Global,
     rule: RuleCode,
     span: Span,
     out: &mut Vec<Fault>,
@@ -106,7 +102,7 @@ pub fn report_plain(
     ensures ok { OnOk result (out.new.items ≡ out.old.items ++ fault rule span [] ∷ []) }
     ensures begins { BeginsWith out.new.items out.old.items }
 {
-    out.push(rule_fault(rule, span, Vec::new(alloc)))?;
+    out.push(rule_fault(rule, span, Args::none()))?;
     Ok(())
 }
 

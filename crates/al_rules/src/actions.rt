@@ -22,7 +22,7 @@ const NODE_USINGS: &[&str] = &["node12", "node16", "node20", "node24"];
 
 /// Adds the fault of a step of a composite action that runs a script and names no shell.
 #[tactic(auto, using(al_base::proofs::Growing::growth))]
-fn check_no_shell(alloc: Global, step: &Node, out: &mut Vec<Fault>) -> Result<(), AllocError>
+fn check_no_shell(step: &Node, out: &mut Vec<Fault>) -> Result<(), AllocError>
     ensures ok { OnOk result (out.new.items ≡ out.old.items ++ no_shell_faults (view step.now)) }
     ensures begins { BeginsWith out.new.items out.old.items }
 {
@@ -31,18 +31,18 @@ fn check_no_shell(alloc: Global, step: &Node, out: &mut Vec<Fault>) -> Result<()
     }
     match key(step, "run") {
         None => Ok(()),
-        Some(key) => report_plain(alloc, RuleCode::MissingShell, key.span(), out),
+        Some(key) => report_plain(RuleCode::MissingShell, key.span(), out),
     }
 }
 
 /// Adds the faults of such steps.
 #[tactic(auto, using(al_base::proofs::Growing::growth))]
-fn check_no_shells(alloc: Global, steps: &[Node], out: &mut Vec<Fault>) -> Result<(), AllocError>
+fn check_no_shells(steps: &[Node], out: &mut Vec<Fault>) -> Result<(), AllocError>
     ensures ok { OnOk result (out.new.items ≡ out.old.items ++ flat_map no_shell_faults (map view steps.now)) }
     ensures begins { BeginsWith out.new.items out.old.items }
 {
     for step in steps {
-        check_no_shell(alloc, step, out)?;
+        check_no_shell(step, out)?;
     }
     Ok(())
 }
@@ -108,7 +108,7 @@ fn check_composite(
 {
     let steps = items_under(runs, "steps");
     check_steps(alloc, steps, out)?;
-    check_no_shells(alloc, steps, out)?;
+    check_no_shells(steps, out)?;
     check_outputs(alloc, root, out)
 }
 

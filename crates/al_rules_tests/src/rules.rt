@@ -113,14 +113,22 @@ fn tree_of(alloc: Global, kind: FileKind, doc: Doc) -> Result<Tree, AllocError> 
     }
 }
 
+// Whether a text is the one that is told at this index, or there is none where none is told.
+fn is_text(found: Option<&str>, told: &[&str], index: usize) -> bool {
+    match told.get(index) {
+        Some(text) => match found {
+            Some(found) => found == *text,
+            None => false,
+        },
+        None => found.is_none(),
+    }
+}
+
 // Whether a fault has these arguments.
 fn has_args(fault: &Fault, args: &[&str]) -> bool {
-    let found = fault.args.texts();
-    found.len() == args.len()
-        && found
-            .iter()
-            .zip(args)
-            .all(|(found, told)| found.as_str() == *told)
+    args.len() <= 2
+        && is_text(fault.args.first(), args, 0)
+        && is_text(fault.args.second(), args, 1)
 }
 
 fn is_at(text: &[u8], start: u32, line: u32, column: u32) -> bool {

@@ -228,7 +228,7 @@ fn check_password(alloc: Global, node: &Node, out: &mut Vec<Fault>) -> Result<()
     if is_password(alloc, node)? {
         return Ok(());
     }
-    report_plain(alloc, RuleCode::PasswordNotExpression, node.span(), out)
+    report_plain(RuleCode::PasswordNotExpression, node.span(), out)
 }
 
 /// The password of a container or a service, as a node.
@@ -300,7 +300,7 @@ pub fn check_condition(
         None => Ok(()),
         Some(condition) => {
             if is_always_true(alloc, condition.scalar.text())? {
-                report_plain(alloc, RuleCode::AlwaysTrue, condition.span, out)
+                report_plain(RuleCode::AlwaysTrue, condition.span, out)
             } else {
                 Ok(())
             }

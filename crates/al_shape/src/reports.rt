@@ -17,12 +17,10 @@ pub(crate) fn report(
     ensures ok { OnOk result (out.new.items ≡ out.old.items ++ fault key span (text.now ∷ []) ∷ []) }
     ensures err { OnErr result (out.new.items ≡ out.old.items) }
 {
-    let mut texts = Vec::with_capacity(alloc, 1)?;
-    texts.push(String::from_utf8_lossy(alloc, text)?)?;
     out.push(Fault {
         span,
         code: Code::Key(key),
-        args: Args::new(texts),
+        args: Args::one_lossy(alloc, text)?,
     })?;
     Ok(())
 }
@@ -39,20 +37,16 @@ pub(crate) fn report_two(
     ensures ok { OnOk result (out.new.items ≡ out.old.items ++ fault key span (first.now ∷ second.now ∷ []) ∷ []) }
     ensures err { OnErr result (out.new.items ≡ out.old.items) }
 {
-    let mut texts = Vec::with_capacity(alloc, 2)?;
-    texts.push(String::from_utf8_lossy(alloc, first)?)?;
-    texts.push(String::from_utf8_lossy(alloc, second)?)?;
     out.push(Fault {
         span,
         code: Code::Key(key),
-        args: Args::new(texts),
+        args: Args::two_lossy(alloc, first, second)?,
     })?;
     Ok(())
 }
 
 /// Adds a fault that names no text.
 pub(crate) fn report_plain(
-    alloc: Global,
     out: &mut Vec<Fault>,
     key: KeyCode,
     span: Span,
@@ -63,7 +57,7 @@ pub(crate) fn report_plain(
     out.push(Fault {
         span,
         code: Code::Key(key),
-        args: Args::new(Vec::new(alloc)),
+        args: Args::none(),
     })?;
     Ok(())
 }

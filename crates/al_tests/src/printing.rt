@@ -5,9 +5,7 @@ use al_text::write_fault;
 use std::alloc::{AllocError, Global};
 
 fn args_of(alloc: Global, text: &str) -> Result<Args, AllocError> {
-    let mut texts = Vec::new(alloc);
-    texts.push(String::from_str(alloc, text)?)?;
-    Ok(Args::new(texts))
+    Ok(Args::one(String::from_str(alloc, text)?))
 }
 
 fn printed(alloc: Global, args: Args) -> Result<Vec<u8>, Stop> {

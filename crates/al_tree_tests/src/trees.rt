@@ -56,8 +56,8 @@ fn is_at(text: &[u8], start: u32, line: u32, column: u32) -> bool {
 }
 
 fn has_first(fault: &Fault, text: &str) -> bool {
-    match fault.args.texts().first() {
-        Some(first) => first.as_str() == text,
+    match fault.args.first() {
+        Some(first) => first == text,
         None => false,
     }
 }

@@ -1,0 +1,56 @@
+-- Two texts that stand in one, and the order of texts of which there are at most two.
+use Rattle.std.proofs.Common.{◌≡◌, ◌≢◌, ◌∙◌, ℕ, List, [], ◌∷◌, ◌++◌, length, map, take, drop, ap, refl, sym, Ordering, Less, Equal, Greater}
+use Rattle.std.proofs.Common.{IsCharBoundary, IsUtf8, Option, None, nat_cmp, slice_get, take_at, drop_at}
+use Rattle.std.proofs.lemmas.List.{drop-map, take-map}
+use Rattle.std.proofs.lemmas.Str.{IsCharBoundary-at_seam}
+use Rattle.std.specs.Cmp.Lexicographic.{slice_cmp}
+use Rattle.std.specs.Option.{option_cmp}
+use Rattle.std.specs.Ordering.{ordering_then}
+use Rattle.al_base.specs.Orders.{args_cmp}
+use Rattle.al_base.specs.Shown.{shown, shown_byte}
+
+-- a text behind another begins where a character does
+pub cut_between : (text first second : List ℕ) → text ≡ first ++ second → IsUtf8 second → IsCharBoundary text (length first)
+cut_between text first second is valid = IsCharBoundary-at_seam text first second is valid
+
+-- what stands before that place, and from there on
+pub parts_of : (text first second : List ℕ) → text ≡ first ++ second
+    → take (length first) text ∷ drop (length first) text ∷ [] ≡ first ∷ second ∷ []
+parts_of text first second is =
+    rw (ap (take (length first)) is ∙ take_at first second (length first) refl, ap (drop (length first)) is ∙ drop_at first second (length first) refl) refl
+
+-- the parts of a text that is printed as it is are printed as they are
+pub parts_shown : (at : ℕ) (text : List ℕ) → shown text ≡ text → map shown (take at text ∷ drop at text ∷ []) ≡ take at text ∷ drop at text ∷ []
+parts_shown at text plain =
+    rw (sym (take-map shown_byte at text) ∙ ap (take at) plain, sym (drop-map shown_byte at text) ∙ ap (drop at) plain) refl
+
+-- ---- the order of at most two texts is that of the first, and then that of the second
+
+abbrev compare : Option (List ℕ) → Option (List ℕ) → Ordering
+compare a b = option_cmp (slice_cmp nat_cmp) a b
+
+then_equal : (r : Ordering) → r ≡ ordering_then r Equal
+then_equal Less = refl
+then_equal Equal = refl
+then_equal Greater = refl
+
+pub then_unequal : (r o : Ordering) → (r ≢ Equal) → ordering_then r o ≡ r
+then_unequal Less o other = refl
+then_unequal Equal o other = absurd (other refl)
+then_unequal Greater o other = refl
+
+-- the order of at most one text
+one_cmp : (a b : List (List ℕ)) → slice_get a 1 ≡ None → slice_get b 1 ≡ None → compare (slice_get a 0) (slice_get b 0) ≡ args_cmp a b
+one_cmp [] [] p q = refl
+one_cmp [] (y ∷ ys) p q = refl
+one_cmp (x ∷ xs) [] p q = refl
+one_cmp (x ∷ []) (y ∷ []) p q = then_equal (slice_cmp nat_cmp x y)
+one_cmp (x ∷ []) (y ∷ z ∷ ys) p q = absurd cc
+one_cmp (x ∷ z ∷ xs) (y ∷ ys) p q = absurd cc
+
+pub two_cmp : (a b : List (List ℕ)) → slice_get a 2 ≡ None → slice_get b 2 ≡ None
+    → ordering_then (compare (slice_get a 0) (slice_get b 0)) (compare (slice_get a 1) (slice_get b 1)) ≡ args_cmp a b
+two_cmp [] [] p q = refl
+two_cmp [] (y ∷ ys) p q = refl
+two_cmp (x ∷ xs) [] p q = refl
+two_cmp (x ∷ xs) (y ∷ ys) p q = ap (ordering_then (slice_cmp nat_cmp x y)) (one_cmp xs ys p q)

@@ -1,0 +1,270 @@
+//! The texts that a fault's message names.
+ghost use Rattle.std.specs.Prelude.{◌≡◌, [], ◌∷◌, None, map, slice_get, string_bytes, IfOk, IsTrue};
+ghost use Rattle.std.specs.Cmp.Lexicographic.{slice_cmp};
+ghost use Rattle.std.specs.Option.{option_cmp, option_copied};
+ghost use Rattle.std.specs.Ordering.{nat_cmp};
+ghost use Rattle.std.specs.Str.Lossy.{utf8_lossy};
+ghost use Rattle.al_base.specs.Shown.{shown};
+
+use crate::controls::{first_control, shown};
+use std::alloc::{AllocError, Global};
+use std::cmp::Ordering;
+use std::marker::Model;
+
+/// The texts that a fault's message names, at most two, each in UTF-8. Contracts see a list of byte lists.
+///
+/// They take one allocation, and none where there is no text: a report can have millions of faults.
+#[derive(Drop)]
+pub struct Args {
+    texts: Texts,
+}
+
+/// The texts as they are kept. Two stand in one string, and the second begins at that byte of it.
+#[derive(Drop)]
+enum Texts {
+    None,
+    One(String),
+    Two(String, usize),
+}
+
+impl Model for Args {
+    ghost use Rattle.std.specs.Prelude.{ℕ, List};
+    ghost use Rattle.al_base.specs.Private.JoinedTexts.{texts_of, IsCut};
+
+    ghost Value = { List (List ℕ) };
+
+    ghost view = { λ a. texts_of a.texts };
+
+    ghost invariant = { λ a. IsCut a.texts };
+}
+
+impl Args {
+    /// No text. Takes no memory.
+    pub fn none() -> Args
+        ensures { result ≡ [] }
+    {
+        Args { texts: Texts::None }
+    }
+
+    /// One text. Takes no memory but the text's own.
+    pub fn one(text: String) -> Args
+        ensures { result ≡ string_bytes text ∷ [] }
+    {
+        Args {
+            texts: Texts::One(text),
+        }
+    }
+
+    /// Copies of two texts, in the order in which the message names them.
+    ///
+    /// # Errors
+    ///
+    /// [`AllocError`] where memory ran out.
+    pub fn two(alloc: Global, first: &str, second: &str) -> Result<Args, AllocError>
+        ensures { IfOk result (λ args. args ≡ first.now ∷ second.now ∷ []) }
+    {
+        let mut text = String::with_capacity(alloc, first.len().saturating_add(second.len()))?;
+        text.push_str(first)?;
+        text.push_str(second)?;
+        Ok(Args {
+            texts: Texts::Two(text, first.len()),
+        })
+    }
+
+    /// A copy of one text. Bytes of it that aren't UTF-8 become U+FFFD.
+    ///
+    /// # Errors
+    ///
+    /// [`AllocError`] where memory ran out.
+    pub fn one_lossy(alloc: Global, text: &[u8]) -> Result<Args, AllocError>
+        ensures { IfOk result (λ args. args ≡ utf8_lossy text.now ∷ []) }
+    {
+        Ok(Args::one(String::from_utf8_lossy(alloc, text)?))
+    }
+
+    /// Copies of two texts, in the order in which the message names them. Bytes of them that aren't UTF-8 become U+FFFD.
+    ///
+    /// # Errors
+    ///
+    /// [`AllocError`] where memory ran out.
+    pub fn two_lossy(alloc: Global, first: &[u8], second: &[u8]) -> Result<Args, AllocError>
+        ensures { IfOk result (λ args. args ≡ utf8_lossy first.now ∷ utf8_lossy second.now ∷ []) }
+    {
+        let Ok(first_text) = str::from_utf8(first) else {
+            return two_replaced(alloc, first, second);
+        };
+        let Ok(second_text) = str::from_utf8(second) else {
+            return two_replaced(alloc, first, second);
+        };
+        Args::two(alloc, first_text, second_text)
+    }
+
+    /// The first text, if there is one, of at most two. Takes no memory.
+    pub fn first(&self) -> Option<&str>
+        ensures is { option_copied result ≡ slice_get self.now 0 }
+        ensures few { slice_get self.now 2 ≡ None }
+    {
+        match &self.texts {
+            Texts::None => None,
+            Texts::One(text) => Some(text.as_str()),
+            Texts::Two(text, at) => Some(text.as_str().split_at(*at).0),
+        }
+    }
+
+    /// The second text, if there is one. Takes no memory.
+    pub fn second(&self) -> Option<&str>
+        ensures { option_copied result ≡ slice_get self.now 1 }
+    {
+        match &self.texts {
+            Texts::None => None,
+            Texts::One(_) => None,
+            Texts::Two(text, at) => Some(text.as_str().split_at(*at).1),
+        }
+    }
+
+    /// A copy, with memory of its own.
+    ///
+    /// # Errors
+    ///
+    /// [`AllocError`] where memory ran out.
+    pub fn copy(&self, alloc: Global) -> Result<Args, AllocError>
+        ensures { IfOk result (λ args. args ≡ self.now) }
+    {
+        match &self.texts {
+            Texts::None => Ok(Args::none()),
+            Texts::One(text) => Ok(Args::one(String::from_str(alloc, text.as_str())?)),
+            Texts::Two(text, at) => Ok(Args {
+                texts: Texts::Two(String::from_str(alloc, text.as_str())?, *at),
+            }),
+        }
+    }
+
+    /// Whether each text is printed as it is. Where one isn't, nothing is said. Takes no memory.
+    pub fn is_plain(&self) -> bool
+        ensures { IsTrue result → map shown self.now ≡ self.now }
+    {
+        match &self.texts {
+            Texts::None => true,
+            Texts::One(text) => is_plain(text.as_str()),
+            Texts::Two(text, _) => is_plain(text.as_str()),
+        }
+    }
+
+    /// The texts as they are printed, with a `?` for each control byte.
+    ///
+    /// # Errors
+    ///
+    /// [`AllocError`] where memory ran out.
+    pub fn shown(&self, alloc: Global) -> Result<Args, AllocError>
+        ensures { IfOk result (λ args. args ≡ map shown self.now) }
+    {
+        match &self.texts {
+            Texts::None => Ok(Args::none()),
+            Texts::One(text) => Ok(Args::one(shown(alloc, text.as_str())?)),
+            Texts::Two(text, at) => {
+                let (first, second) = text.as_str().split_at(*at);
+                two_shown(alloc, first, second)
+            }
+        }
+    }
+}
+
+// Two texts of which bytes may not be UTF-8.
+fn two_replaced(alloc: Global, first: &[u8], second: &[u8]) -> Result<Args, AllocError>
+    ensures { IfOk result (λ args. args ≡ utf8_lossy first.now ∷ utf8_lossy second.now ∷ []) }
+{
+    let first = String::from_utf8_lossy(alloc, first)?;
+    let second = String::from_utf8_lossy(alloc, second)?;
+    Args::two(alloc, first.as_str(), second.as_str())
+}
+
+// Two texts as they are printed.
+fn two_shown(alloc: Global, first: &str, second: &str) -> Result<Args, AllocError>
+    ensures { IfOk result (λ args. args ≡ shown first.now ∷ shown second.now ∷ []) }
+{
+    let first = shown(alloc, first)?;
+    let second = shown(alloc, second)?;
+    Args::two(alloc, first.as_str(), second.as_str())
+}
+
+// Whether a text is printed as it is. Where it isn't, nothing is said.
+#[tactic(auto, using(crate::proofs::ShownTexts::shown_plain))]
+fn is_plain(text: &str) -> bool
+    ensures { IsTrue result → shown text.now ≡ text.now }
+{
+    first_control(text.as_bytes()).is_none()
+}
+
+// The order of two texts, of which one that isn't there comes first.
+fn compared(one: Option<&str>, other: Option<&str>) -> Ordering
+    ensures { result ≡ option_cmp (slice_cmp nat_cmp) (option_copied one.entry) (option_copied other.entry) }
+{
+    match one {
+        None => match other {
+            None => Ordering::Equal,
+            Some(_) => Ordering::Less,
+        },
+        Some(one) => match other {
+            None => Ordering::Greater,
+            Some(other) => one.cmp(other),
+        },
+    }
+}
+
+impl PartialEq for Args {
+    ghost use Rattle.std.proofs.Common.{rules};
+    ghost use Rattle.std.specs.Cmp.Rules.{comparing};
+    ghost use Rattle.al_base.specs.Orders.{args_eq};
+
+    ghost eq = { args_eq };
+
+    ghost laws = { Prim.search (comparing, rules) };
+
+    fn eq(&self, other: &Args) -> bool {
+        self.cmp(other).is_eq()
+    }
+}
+
+impl Eq for Args {
+    ghost use Rattle.std.proofs.Common.{rules};
+    ghost use Rattle.std.specs.Cmp.Rules.{comparing};
+
+    ghost laws = { Prim.search (comparing, rules) };
+}
+
+impl PartialOrd for Args {
+    ghost use Rattle.std.proofs.Common.{rules};
+    ghost use Rattle.std.specs.Cmp.Rules.{comparing};
+    ghost use Rattle.std.specs.Cmp.{partial_order_from_own_ties};
+    ghost use Rattle.al_base.specs.Orders.{args_partial_cmp};
+
+    ghost partial_cmp = { args_partial_cmp };
+
+    ghost laws = { partial_order_from_own_ties (Prim.search (comparing, rules)) (Prim.search (comparing, rules)) };
+
+    fn partial_cmp(&self, other: &Args) -> Option<Ordering> {
+        Some(self.cmp(other))
+    }
+}
+
+impl Ord for Args {
+    ghost use Rattle.std.proofs.Common.{rules};
+    ghost use Rattle.std.specs.Cmp.Rules.{comparing};
+    ghost use Rattle.al_base.specs.Orders.{args_cmp};
+    ghost use Rattle.al_base.specs.Proofs.Orders.{args_total};
+
+    ghost cmp = { args_cmp };
+
+    ghost total = { args_total };
+
+    ghost matches_partial_cmp = { Prim.search (comparing, rules) };
+
+    ghost matches_eq = { Prim.search (comparing, rules) };
+
+    fn cmp(&self, other: &Args) -> Ordering {
+        match compared(self.first(), other.first()) {
+            Ordering::Equal => compared(self.second(), other.second()),
+            unequal => unequal,
+        }
+    }
+}
