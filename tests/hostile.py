@@ -240,11 +240,10 @@ def calls_of_one_file(place):
 
 
 def held_to(told):
-    """The memory that a report may take: 200 MB, and twice its bytes, since its faults stand in memory with their texts before they are
-    printed. No more time than files of aliases may take."""
+    """The memory that a report may take: 200 MB beside its bytes. No more time than files of aliases may take."""
 
     def limits():
-        memory = BESIDE_A_REPORT + 2 * len(told)
+        memory = BESIDE_A_REPORT + len(told)
         resource.setrlimit(resource.RLIMIT_AS, (memory, memory))
         resource.setrlimit(resource.RLIMIT_CPU, (SECONDS, SECONDS))
 

@@ -1,7 +1,7 @@
 -- Lists of faults that are one set, and one call more of those whose faults are there.
-use Rattle.std.proofs.Common.{◌≡◌, ◌<◌, ◌≤◌, ◌+◌, ℕ, zero, suc, cond, Option, Some, None, Result, Ok, Err, OnOk, OnErr, List, [], ◌∷◌, ◌++◌}
+use Rattle.std.proofs.Common.{◌≡◌, ◌<◌, ◌≤◌, ◌+◌, ℕ, zero, suc, Option, Some, None, List, [], ◌∷◌, ◌++◌}
 use Rattle.std.proofs.Common.{append_assoc, append-nil, length, take, get_or, map, ap, ◌∙◌, sym, subst, ⊎_elim, arith}
-use Rattle.std.specs.Prelude.{All, Contains, IfSome, is_ok}
+use Rattle.std.specs.Prelude.{All, Contains, IfSome}
 use Rattle.std.specs.List.{flat_map}
 use Rattle.std.proofs.lemmas.Grind.{flat_map-append}
 use Rattle.std.proofs.lemmas.List.{map-append, take_all, take_more}
@@ -36,14 +36,12 @@ set_behind xs ys zs s x = (
   λ h. ⊎_elim (λ a. Contains-append_left xs ys x a) (λ b. Contains-append_right xs ys x ((s x).1 b)) (Contains-append_cases xs zs x h),
 )
 
--- what was appended, where there was memory
-pub appended : {X A E : Type 0} (r : Result A E) (old found whole new : List X) → new ≡ cond (is_ok r) (old ++ found) old → SameSet found whole → OnOk r (SameSet new (old ++ whole))
-appended (Ok v) old found whole new e s = set_trans new (old ++ found) (old ++ whole) (same_set new (old ++ found) e) (set_behind old found whole s)
-appended (Err v) old found whole new e s = tt
-
-pub not_appended : {X A E : Type 0} (r : Result A E) (old found new : List X) → new ≡ cond (is_ok r) (old ++ found) old → OnErr r (new ≡ old)
-not_appended (Ok v) old found new e = tt
-not_appended (Err v) old found new e = e
+-- what was there, moved behind what was found
+pub moved_behind : {X : Type 0} (old found whole new : List X) → new ≡ found ++ old → SameSet found whole → SameSet new (old ++ whole)
+moved_behind old found whole new e s = set_trans new (found ++ old) (old ++ whole) (same_set new (found ++ old) e) (λ x. (
+  λ h. ⊎_elim (λ a. Contains-append_right old whole x ((s x).0 a)) (λ b. Contains-append_left old whole x b) (Contains-append_cases found old x h),
+  λ h. ⊎_elim (λ a. Contains-append_right found old x a) (λ b. Contains-append_left found old x ((s x).1 b)) (Contains-append_cases old whole x h),
+))
 
 -- as a list of a file's faults
 pub set_listed : (xs ys : List Fault) → ys ≡ fault_list xs → SameSet ys xs
