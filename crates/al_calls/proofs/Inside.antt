@@ -16,6 +16,7 @@ use Rattle.al_yaml.specs.Node.{Node, scalar, sequence, mapping, span_of}
 use Rattle.al_yaml.specs.Spans.{IsInside}
 use Rattle.al_shape.specs.Keys.{key_of}
 use Rattle.al_shape.specs.Values.{entries_at}
+use Rattle.al_interfaces.specs.Names.{is_input}
 use Rattle.al_interfaces.specs.declared.interfaces.Interface.{Interface}
 use Rattle.al_interfaces.specs.declared.interfaces.Interface.TheVariants.{Readable, Unreadable}
 use Rattle.al_interfaces.specs.declared.interfaces.Input.{Input}
@@ -30,7 +31,7 @@ use Rattle.al_uses.proofs.Parts.{entries_kept}
 use Rattle.al_calls.specs.Answers.{Answered, Typing, answered, answered_faults}
 use Rattle.al_calls.specs.CallFaults.{Given, Names, absent_faults, against, answer_faults, at_uses, call_faults, called, caller_of}
 use Rattle.al_calls.specs.CallFaults.{extra_input, extra_inputs, extra_secret, extra_secrets, fault, form_faults, given_names}
-use Rattle.al_calls.specs.CallFaults.{given_secrets, input_faults, input_names, is_callable, is_inherit, is_input, is_missing}
+use Rattle.al_calls.specs.CallFaults.{given_secrets, input_faults, input_names, is_callable, is_inherit, is_missing}
 use Rattle.al_calls.specs.CallFaults.{is_missing_secret, is_right, is_taken, missing_input, missing_inputs, missing_secret, missing_secrets}
 use Rattle.al_calls.specs.CallFaults.{secret_faults, secret_names, that_uses, type_faults, values_of, wrong_input, wrong_inputs}
 use Rattle.al_calls.specs.Laws.{CallFaultsLie}

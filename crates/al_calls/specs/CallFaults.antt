@@ -13,7 +13,6 @@ use Rattle.al_base.specs.declared.codes.Code.TheVariants as kind_of_code
 use Rattle.al_base.specs.declared.faults.Fault.{Fault}
 use Rattle.al_base.specs.declared.faults.Span.{Span}
 use Rattle.al_scalar.specs.Scalar.{Scalar, text_of}
-use Rattle.al_base.specs.Names.{same_name}
 use Rattle.al_types.specs.Types.{Type', Any, assignable_type}
 use Rattle.al_yaml.specs.Access.{scalar_in}
 use Rattle.al_yaml.specs.Node.{Node, span_of}
@@ -21,9 +20,9 @@ use Rattle.al_shape.specs.Keys.{key_of}
 use Rattle.al_shape.specs.Values.{entries_at, text_at}
 use Rattle.al_declarations.specs.Declarations.{named_among, names_of}
 use Rattle.al_declarations.specs.Inputs.{input_type}
-use Rattle.al_types.specs.Positions.{first_at}
 use Rattle.al_declarations.specs.declared.inputs.InputType.{InputType}
 use Rattle.al_declarations.specs.declared.inputs.InputType.TheVariants as input
+use Rattle.al_interfaces.specs.Names.{has_input, has_secret, is_input}
 use Rattle.al_interfaces.specs.declared.interfaces.Interface.{Interface}
 use Rattle.al_interfaces.specs.declared.interfaces.Interface.TheVariants.{Readable, Unreadable}
 use Rattle.al_interfaces.specs.declared.interfaces.Input.{Input}
@@ -86,10 +85,10 @@ abbrev pub given_names : List (Node × Node) → Names
 given_names given = named_among (names_of given)
 
 abbrev pub input_names : Signature → Names
-input_names s = named_among (map (λ i. i.name) s.inputs)
+input_names s = has_input s.inputs
 
 abbrev pub secret_names : Signature → Names
-secret_names s = named_among (map (λ x. x.name) s.secrets)
+secret_names s = has_secret s.secrets
 
 abbrev pub is_free_for : Caller → List ℕ → Bool
 is_free_for caller.Step name = named_among (codes "args" ∷ codes "entrypoint" ∷ []) name
@@ -143,13 +142,6 @@ abbrev pub values_of : (Node → Scalar → Type') → List (Node × Node) → L
 values_of type_of = map (λ e. (e, given_type type_of e))
 
 -- C4: a value of a wrong type
-abbrev pub is_input : List ℕ → Input → Bool
-is_input name i = same_name i.name name
-
--- where the first input with each name stands
-abbrev pub input_positions : List Input → List ℕ → Option ℕ
-input_positions inputs name = first_at (is_input name) inputs
-
 abbrev pub wrong_input : Call → List Input → Given → List Fault
 wrong_input c inputs v = option_map_or (type_faults c v.0 v.1) (find (is_input (key_of v.0)) inputs) []
 

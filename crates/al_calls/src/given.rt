@@ -8,7 +8,7 @@ ghost use Rattle.al_shape.specs.Values.{member_of};
 ghost use Rattle.al_uses.specs.Private.CallViews.{call_of};
 ghost use Rattle.al_base.specs.Growth.{BeginsWith};
 
-use crate::names::{given_names, input_names};
+use crate::names::given_names;
 use crate::reports::{called, caller_of, report_two};
 use al_base::{CallCode, Caller, Fault};
 use al_declarations::{NameSet, is_named_among};
@@ -30,12 +30,12 @@ fn is_free_for(caller: Caller, name: &[u8]) -> bool
 fn is_taken(
     alloc: Global,
     call: &Call<'_>,
-    shown: &NameSet,
+    signature: &Signature,
     name: &[u8],
 ) -> Result<bool, AllocError>
-    ensures { IfOk result (λ b. b ≡ faults.is_taken (call_of call.now) (holds shown.now) name.now) }
+    ensures { IfOk result (λ b. b ≡ faults.is_taken (call_of call.now) (faults.input_names signature.now) name.now) }
 {
-    if shown.contains(alloc, name)? {
+    if signature.inputs.has(alloc, name)? {
         return Ok(true);
     }
     Ok(is_free_for(caller_of(call), name))
@@ -46,16 +46,15 @@ fn check_extra_input(
     alloc: Global,
     call: &Call<'_>,
     signature: &Signature,
-    shown: &NameSet,
     member: Member<'_>,
     out: &mut Vec<Fault>,
 ) -> Result<(), AllocError>
     ensures ok { OnOk result (out.new.items ≡ out.old.items
-        ++ faults.extra_input (call_of call.now) signature.now (holds shown.now) (member_of member.entry)) }
+        ++ faults.extra_input (call_of call.now) signature.now (faults.input_names signature.now) (member_of member.entry)) }
     ensures begins { BeginsWith out.new.items out.old.items }
 {
     let name = key_text(member.key);
-    if is_taken(alloc, call, shown, name)? {
+    if is_taken(alloc, call, signature, name)? {
         return Ok(());
     }
     report_two(
@@ -72,17 +71,16 @@ fn check_extra_input(
 fn check_extra_inputs(
     alloc: Global,
     call: &Call<'_>,
-    shown: &NameSet,
     given: &[Member<'_>],
     signature: &Signature,
     out: &mut Vec<Fault>,
 ) -> Result<(), AllocError>
     ensures ok { OnOk result (out.new.items ≡ out.old.items
-        ++ faults.extra_inputs (call_of call.now) (holds shown.now) (map member_of given.now) signature.now) }
+        ++ faults.extra_inputs (call_of call.now) (faults.input_names signature.now) (map member_of given.now) signature.now) }
     ensures begins { BeginsWith out.new.items out.old.items }
 {
     for member in given {
-        check_extra_input(alloc, call, signature, shown, *member, out)?;
+        check_extra_input(alloc, call, signature, *member, out)?;
     }
     Ok(())
 }
@@ -155,8 +153,7 @@ pub(crate) fn check_inputs(
         ++ faults.input_faults (call_of call.now) (map member_of given.now) signature.now) }
     ensures begins { BeginsWith out.new.items out.old.items }
 {
-    let shown = input_names(alloc, signature)?;
-    check_extra_inputs(alloc, call, &shown, given, signature, out)?;
+    check_extra_inputs(alloc, call, given, signature, out)?;
     let names = given_names(alloc, given)?;
     check_missing_inputs(alloc, call, &names, signature, out)
 }

@@ -9,7 +9,7 @@ ghost use Rattle.al_uses.specs.Private.CallViews.{call_of};
 ghost use Rattle.al_yaml.specs.View.{view};
 ghost use Rattle.al_base.specs.Growth.{BeginsWith};
 
-use crate::names::{given_names, secret_names};
+use crate::names::given_names;
 use crate::reports::{called, report_two};
 use al_base::{CallCode, Fault};
 use al_declarations::NameSet;
@@ -24,16 +24,15 @@ fn check_extra_secret(
     alloc: Global,
     call: &Call<'_>,
     signature: &Signature,
-    shown: &NameSet,
     member: Member<'_>,
     out: &mut Vec<Fault>,
 ) -> Result<(), AllocError>
     ensures ok { OnOk result (out.new.items ≡ out.old.items
-        ++ faults.extra_secret (call_of call.now) signature.now (holds shown.now) (member_of member.entry)) }
+        ++ faults.extra_secret (call_of call.now) signature.now (faults.secret_names signature.now) (member_of member.entry)) }
     ensures begins { BeginsWith out.new.items out.old.items }
 {
     let name = key_text(member.key);
-    if shown.contains(alloc, name)? {
+    if signature.secrets.has(alloc, name)? {
         return Ok(());
     }
     report_two(
@@ -50,17 +49,16 @@ fn check_extra_secret(
 fn check_extra_secrets(
     alloc: Global,
     call: &Call<'_>,
-    shown: &NameSet,
     given: &[Member<'_>],
     signature: &Signature,
     out: &mut Vec<Fault>,
 ) -> Result<(), AllocError>
     ensures ok { OnOk result (out.new.items ≡ out.old.items
-        ++ faults.extra_secrets (call_of call.now) (holds shown.now) (map member_of given.now) signature.now) }
+        ++ faults.extra_secrets (call_of call.now) (faults.secret_names signature.now) (map member_of given.now) signature.now) }
     ensures begins { BeginsWith out.new.items out.old.items }
 {
     for member in given {
-        check_extra_secret(alloc, call, signature, shown, *member, out)?;
+        check_extra_secret(alloc, call, signature, *member, out)?;
     }
     Ok(())
 }
@@ -139,8 +137,7 @@ fn check_given_secrets(
         ++ faults.given_secrets (call_of call.now) (map member_of given.now) signature.now) }
     ensures begins { BeginsWith out.new.items out.old.items }
 {
-    let shown = secret_names(alloc, signature)?;
-    check_extra_secrets(alloc, call, &shown, given, signature, out)?;
+    check_extra_secrets(alloc, call, given, signature, out)?;
     let names = given_names(alloc, given)?;
     check_missing_secrets(alloc, call, &names, signature, out)
 }

@@ -1,5 +1,5 @@
 -- Sets of names as tests of names.
-use Rattle.std.proofs.Common.{◌≡◌, ℕ, Bool, true, false, List, [], ◌∷◌, ◌++◌, refl, sym, ap, ◌∙◌, ◌||◌}
+use Rattle.std.proofs.Common.{◌≡◌, ℕ, Bool, true, false, List, [], ◌∷◌, ◌++◌, length, refl, sym, ap, ◌∙◌, ◌||◌}
 use Rattle.std.specs.BTreeSet.{insert_key}
 use Rattle.std.specs.List.{list_any}
 use Rattle.std.specs.Cmp.Lexicographic.{slice_cmp}
@@ -8,6 +8,7 @@ use Rattle.std.specs.declared.cmp.Ordering.{Ordering}
 use Rattle.std.specs.declared.cmp.Ordering.TheVariants.{Less, Equal, Greater}
 use Rattle.std.specs.Global.{Vec}
 use Rattle.std.proofs.lemmas.Bool.Decides.{Decides-like, same_from_decides}
+use Rattle.std.proofs.lemmas.List.{nil_from_length}
 use Rattle.std.proofs.lemmas.Map.Text.{is_eq-slice_cmp}
 use Rattle.std.proofs.lemmas.Slice.Eq.{bytes_eq-Decides}
 use Rattle.al_shape.proofs.KeyLemmas.{or_comm}
@@ -75,6 +76,11 @@ same_comm : (a b : List ℕ) → same_name a b ≡ same_name b a
 same_comm a b =
     let back = bytes_eq-Decides (folded b) (folded a) in
     same_from_decides (same_name a b) (same_name b a) (bytes_eq-Decides (folded a) (folded b)) (Decides-like (same_name b a) sym sym back)
+
+-- a set without names holds none
+pub holds_none : (s : NameSet) (name : List ℕ) → length s.names.keys ≡ 0 → false ≡ holds s name
+unfolding holds
+holds_none s name e = ap (list_any (λ x. is_text (folded name) x.items)) (sym (nil_from_length s.names.keys e))
 
 -- what inserting a folded name makes of a set
 inserted_at : (old new : NameSet) (key : Vec ℕ) (name q : List ℕ) → key.items ≡ folded name → new.names.keys ≡ insert_key (λ a b. slice_cmp nat_cmp a.items b.items) old.names.keys key →

@@ -38,10 +38,13 @@ impl NameSet {
         Ok(added)
     }
 
-    /// Whether a name is in the set. Fails with `AllocError` for want of memory.
+    /// Whether a name is in the set. Fails with `AllocError` for want of memory; of a set without names it takes none.
     pub fn contains(&self, alloc: Global, name: &[u8]) -> Result<bool, AllocError>
         ensures { IfOk result (λ b. b ≡ holds self.now name.now) }
     {
+        if self.names.is_empty() {
+            return Ok(false);
+        }
         let lower = in_lower_case(alloc, name)?;
         Ok(self.names.contains(lower.as_slice()))
     }

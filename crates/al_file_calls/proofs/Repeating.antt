@@ -28,6 +28,7 @@ use Rattle.al_shape.specs.Values.{entries_at, text_at}
 use Rattle.al_declarations.specs.Declarations.{named_among, names_of}
 use Rattle.al_declarations.specs.declared.inputs.InputType.{InputType}
 use Rattle.al_declarations.specs.declared.inputs.InputType.TheVariants as takes
+use Rattle.al_interfaces.specs.Names.{is_input}
 use Rattle.al_interfaces.specs.declared.interfaces.Interface.{Interface}
 use Rattle.al_interfaces.specs.declared.interfaces.Interface.TheVariants.{Readable, Unreadable}
 use Rattle.al_interfaces.specs.declared.interfaces.Input.{Input}
@@ -45,7 +46,7 @@ use Rattle.al_calls.specs.Private.AnswerViews.{answered_of}
 use Rattle.al_calls.specs.Answers.{Answered, Typing, answered_faults}
 use Rattle.al_calls.specs.CallFaults.{Given, Names, absent_faults, against, answer_faults, called, caller_of, extra_input, extra_secret}
 use Rattle.al_calls.specs.CallFaults.{fault, form_faults, given_names, given_secrets, given_type, input_faults, input_names, is_callable, is_free_for}
-use Rattle.al_calls.specs.CallFaults.{is_inherit, is_input, is_missing, is_missing_secret, job_against, missing_input, missing_inputs, missing_secret, missing_secrets}
+use Rattle.al_calls.specs.CallFaults.{is_inherit, is_missing, is_missing_secret, job_against, missing_input, missing_inputs, missing_secret, missing_secrets}
 use Rattle.al_calls.specs.CallFaults.{is_right, secret_faults, secret_names, type_faults, type_name, wrong_input}
 use Rattle.al_file_calls.specs.Private.Repeats.{is_local, repeats, same_entries, same_entry, same_given, same_in_jobs, same_in_steps, same_secrets}
 use Rattle.al_file_calls.specs.Private.Repeats.{same_uses, same_value, same_values, secrets_text, values_in}

@@ -1,2 +1,4 @@
 pub mod Interfaces
+pub mod Names
 pub mod Equality
+pub mod Private

@@ -3,9 +3,11 @@
 
 mod equality;
 mod interfaces;
+mod lists;
 mod signatures;
 
 pub use al_declarations::{Name, NameList};
 pub use equality::equal_interfaces;
-pub use interfaces::{Input, InputList, Interface, Role, Secret, SecretList, Signature};
+pub use interfaces::{Input, Interface, Role, Secret, Signature};
+pub use lists::{InputList, SecretList};
 pub use signatures::interface_of;

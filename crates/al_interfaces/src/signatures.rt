@@ -10,7 +10,8 @@ ghost use Rattle.al_interfaces.specs.Interfaces as interfaces;
 ghost use Rattle.al_interfaces.specs.Interfaces.{input_shown, secret_shown};
 ghost use Rattle.al_declarations.specs.declared.inputs.InputType.TheVariants as type_variant;
 
-use crate::interfaces::{Input, InputList, Interface, Role, Secret, SecretList, Signature};
+use crate::interfaces::{Input, Interface, Role, Secret, Signature};
+use crate::lists::{InputList, SecretList};
 use al_base::is_same_name;
 use al_declarations::{
     InputType, Name, NameList, declared_at, has_value, input_of, is_composite, value_below_three,
@@ -70,7 +71,8 @@ fn typed_inputs(alloc: Global, members: &[Member<'_>]) -> Result<InputList, Allo
     for member in members {
         inputs.push(input(alloc, input_of(member.value), *member)?)?;
     }
-    Ok(InputList::new(inputs))
+    let list = InputList::new(alloc, inputs)?;
+    Ok(list)
 }
 
 /// The inputs that members declare, all strings.
@@ -81,7 +83,8 @@ fn string_inputs(alloc: Global, members: &[Member<'_>]) -> Result<InputList, All
     for member in members {
         inputs.push(input(alloc, InputType::String, *member)?)?;
     }
-    Ok(InputList::new(inputs))
+    let list = InputList::new(alloc, inputs)?;
+    Ok(list)
 }
 
 /// The secrets that members declare.
@@ -92,7 +95,8 @@ fn secrets(alloc: Global, members: &[Member<'_>]) -> Result<SecretList, AllocErr
     for member in members {
         secrets.push(secret(alloc, *member)?)?;
     }
-    Ok(SecretList::new(secrets))
+    let list = SecretList::new(alloc, secrets)?;
+    Ok(list)
 }
 
 /// The names of members.
@@ -215,7 +219,7 @@ fn action_signature(alloc: Global, root: &Node) -> Result<Signature, AllocError>
         name,
         role: action_role(root),
         inputs: string_inputs(alloc, inputs.as_slice())?,
-        secrets: SecretList::new(Vec::new(alloc)),
+        secrets: SecretList::new(alloc, Vec::new(alloc))?,
         outputs: names(alloc, outputs.as_slice())?,
     })
 }

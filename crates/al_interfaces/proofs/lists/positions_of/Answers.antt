@@ -1,7 +1,7 @@
 use Rattle.std.proofs.Common.{ap, ◌∙◌}
 use Rattle.al_types.specs.Private.Positions.{and_name_at, name_position}
-use Rattle.al_calls.proofs.Positions.{positions_more}
-use Rattle.al_calls.proofs.values.input_positions.Goals as goal
+use Rattle.al_interfaces.proofs.Positions.{positions_more}
+use Rattle.al_interfaces.proofs.lists.positions_of.Goals as goal
 
 pub loop-i-preserved : goal.loop-i-preserved
 loop-i-preserved c =

@@ -1,0 +1,182 @@
+//! The inputs and the secrets of an interface, found by their names, which are made ready once for all calls.
+ghost use Rattle.std.specs.Prelude.{◌≡◌, find, IfOk};
+ghost use Rattle.std.specs.Option.{option_copied};
+ghost use Rattle.al_types.specs.Private.Positions.{name_position};
+ghost use Rattle.al_declarations.specs.Private.NameSets.{holds};
+ghost use Rattle.al_interfaces.specs.Names.{has_input, has_secret, is_input};
+ghost use Rattle.al_interfaces.specs.Private.InputPositions.{input_positions};
+
+use crate::interfaces::{Input, Secret};
+use al_declarations::NameSet;
+use al_types::NamePositions;
+use std::alloc::{AllocError, Global};
+use std::marker::Model;
+
+/// Inputs in order, and where each name first stands among them. Contracts see their list. Finding one by its name takes time that
+/// grows with the logarithm of their number, and with the name's length.
+#[derive(Drop)]
+pub struct InputList {
+    inputs: Vec<Input>,
+    positions: NamePositions,
+}
+
+impl Model for InputList {
+    ghost use Rattle.std.specs.Prelude.{◌≡◌, List};
+    ghost use Rattle.al_types.specs.Private.Positions.{name_position};
+    ghost use Rattle.al_interfaces.specs.declared.interfaces.Input.{Input};
+    ghost use Rattle.al_interfaces.specs.Private.InputPositions.{input_positions};
+
+    ghost Value = { List Input };
+
+    ghost view = { λ a. a.inputs.items };
+
+    ghost invariant = { λ a. name_position a.positions ≡ input_positions a.inputs.items };
+}
+
+/// Where the first input with each name stands.
+fn positions_of(alloc: Global, inputs: &[Input]) -> Result<NamePositions, AllocError>
+    ensures { IfOk result (λ p. name_position p ≡ input_positions inputs.now) }
+{
+    let mut positions = NamePositions::new(alloc);
+    for (i, input) in inputs.iter().enumerate() {
+        let _ = positions.insert(alloc, input.name.as_bytes(), i)?;
+    }
+    Ok(positions)
+}
+
+impl InputList {
+    /// The list of these inputs. Fails with `AllocError` for want of memory.
+    pub(crate) fn new(alloc: Global, inputs: Vec<Input>) -> Result<InputList, AllocError>
+        ensures { IfOk result (λ l. l ≡ inputs.items) }
+    {
+        let positions = positions_of(alloc, inputs.as_slice())?;
+        Ok(InputList { inputs, positions })
+    }
+
+    /// The inputs.
+    pub fn as_slice(&self) -> &[Input]
+        ensures { result.now ≡ self.now }
+    {
+        self.inputs.as_slice()
+    }
+
+    /// The first input with a name, in any ASCII case. Fails with `AllocError` for want of memory.
+    pub fn named(&self, alloc: Global, name: &[u8]) -> Result<Option<&Input>, AllocError>
+        ensures { IfOk result (λ i. option_copied i ≡ find (is_input name.now) self.now) }
+    {
+        match self.positions.get(alloc, name)? {
+            Some(i) => Ok(Some(&self.inputs[i])),
+            None => Ok(None),
+        }
+    }
+
+    /// Whether an input has a name, in any ASCII case. Fails with `AllocError` for want of memory.
+    pub fn has(&self, alloc: Global, name: &[u8]) -> Result<bool, AllocError>
+        ensures { IfOk result (λ b. b ≡ has_input self.now name.now) }
+    {
+        let position = self.positions.get(alloc, name)?;
+        Ok(position.is_some())
+    }
+}
+
+impl PartialEq for InputList {
+    ghost use Rattle.std.specs.Cmp.{partial_equiv_from_equiv};
+    ghost use Rattle.std.specs.Cmp.Lexicographic.{pointwise, lists_equiv};
+    ghost use Rattle.al_interfaces.specs.contracts.interfaces.InputPartialEq.TheImpl as input;
+    ghost use Rattle.al_interfaces.specs.contracts.interfaces.InputEq.TheImpl.Laws as input_laws;
+
+    ghost eq = { pointwise input.ghosts.eq };
+
+    ghost laws = { partial_equiv_from_equiv (lists_equiv input_laws.laws-law) };
+
+    fn eq(&self, other: &InputList) -> bool {
+        self.inputs.as_slice() == other.inputs.as_slice()
+    }
+}
+
+impl Eq for InputList {
+    ghost use Rattle.std.specs.Cmp.Lexicographic.{lists_equiv};
+    ghost use Rattle.al_interfaces.specs.contracts.interfaces.InputEq.TheImpl.Laws as input_laws;
+
+    ghost laws = { lists_equiv input_laws.laws-law };
+}
+
+/// Secrets in order, and the set of their names. Contracts see their list. Looking a name up takes time that grows with the logarithm
+/// of their number, and with the name's length.
+#[derive(Drop)]
+pub struct SecretList {
+    secrets: Vec<Secret>,
+    names: NameSet,
+}
+
+impl Model for SecretList {
+    ghost use Rattle.std.specs.Prelude.{◌≡◌, List};
+    ghost use Rattle.al_declarations.specs.Private.NameSets.{holds};
+    ghost use Rattle.al_interfaces.specs.declared.interfaces.Secret.{Secret};
+    ghost use Rattle.al_interfaces.specs.Names.{has_secret};
+
+    ghost Value = { List Secret };
+
+    ghost view = { λ a. a.secrets.items };
+
+    ghost invariant = { λ a. holds a.names ≡ has_secret a.secrets.items };
+}
+
+/// The names of some secrets.
+#[tactic(auto, using(al_declarations::proofs::NameLemmas::named_more))]
+fn names_of(alloc: Global, secrets: &[Secret]) -> Result<NameSet, AllocError>
+    ensures { IfOk result (λ s. holds s ≡ has_secret secrets.now) }
+{
+    let mut names = NameSet::new(alloc);
+    for secret in secrets {
+        let _ = names.insert(alloc, secret.name.as_bytes())?;
+    }
+    Ok(names)
+}
+
+impl SecretList {
+    /// The list of these secrets. Fails with `AllocError` for want of memory.
+    pub(crate) fn new(alloc: Global, secrets: Vec<Secret>) -> Result<SecretList, AllocError>
+        ensures { IfOk result (λ l. l ≡ secrets.items) }
+    {
+        let names = names_of(alloc, secrets.as_slice())?;
+        Ok(SecretList { secrets, names })
+    }
+
+    /// The secrets.
+    pub fn as_slice(&self) -> &[Secret]
+        ensures { result.now ≡ self.now }
+    {
+        self.secrets.as_slice()
+    }
+
+    /// Whether a secret has a name, in any ASCII case. Fails with `AllocError` for want of memory.
+    pub fn has(&self, alloc: Global, name: &[u8]) -> Result<bool, AllocError>
+        ensures { IfOk result (λ b. b ≡ has_secret self.now name.now) }
+    {
+        let found = self.names.contains(alloc, name)?;
+        Ok(found)
+    }
+}
+
+impl PartialEq for SecretList {
+    ghost use Rattle.std.specs.Cmp.{partial_equiv_from_equiv};
+    ghost use Rattle.std.specs.Cmp.Lexicographic.{pointwise, lists_equiv};
+    ghost use Rattle.al_interfaces.specs.contracts.interfaces.SecretPartialEq.TheImpl as secret;
+    ghost use Rattle.al_interfaces.specs.contracts.interfaces.SecretEq.TheImpl.Laws as secret_laws;
+
+    ghost eq = { pointwise secret.ghosts.eq };
+
+    ghost laws = { partial_equiv_from_equiv (lists_equiv secret_laws.laws-law) };
+
+    fn eq(&self, other: &SecretList) -> bool {
+        self.secrets.as_slice() == other.secrets.as_slice()
+    }
+}
+
+impl Eq for SecretList {
+    ghost use Rattle.std.specs.Cmp.Lexicographic.{lists_equiv};
+    ghost use Rattle.al_interfaces.specs.contracts.interfaces.SecretEq.TheImpl.Laws as secret_laws;
+
+    ghost laws = { lists_equiv secret_laws.laws-law };
+}
