@@ -8,7 +8,9 @@ path and a delete move what stands behind them in the order of paths: that is na
 
 Reports are over 4,096 workflows that call one another. Each stands beside the report of as many workflows without calls, with as many
 faults, each as far into its line, whose printed lines are as long. Every workflow has a fault of its own, so that the status behind a
-report, which then looks for no loop, takes nothing; two folders without one show what both take.
+report, which then looks for no loop, takes nothing; two folders without one show what both take. The session keeps the graph of calls from
+one report to the next, so reports are timed with nothing between them, behind a put of a workflow that calls what it called, and behind one
+with a call more or less; what the puts take is taken off.
 """
 
 import functools
@@ -59,6 +61,11 @@ FOLDERS = {
     "a ring without others": (1, True, 0),
 }
 
+# the workflow that is put before each report, in turn otherwise and as it was, and in which ways
+MIDDLE = FILES // 2
+SAME_CALLS, OTHER_CALLS = "behind a put with the same calls", "behind a put with other calls"
+BETWEEN = ["one after another", SAME_CALLS, OTHER_CALLS]
+
 
 def workflow(number, calls, is_round, faults):
     """A workflow that calls those behind it: its path and its text."""
@@ -73,6 +80,13 @@ def workflow(number, calls, is_round, faults):
 def put_folder(calls, is_round, faults):
     """The commands that put such workflows, each behind those that it calls."""
     return put_commands([workflow(number, calls, is_round, faults) for number in reversed(range(FILES))])
+
+
+def edits_between(way, calls, is_round, faults):
+    """The commands that are given before each report, in turn."""
+    path, text = workflow(MIDDLE, calls, is_round, faults)
+    others = {SAME_CALLS: f"{text}#\n", OTHER_CALLS: workflow(MIDDLE, calls + 1, is_round, faults)[1]}
+    return [put_commands([(path, it)]) for it in (others[way], text)] if way in others else [b"", b""]
 
 
 def children_seconds():
@@ -123,20 +137,23 @@ def count_faults(puts):
 
 
 def report_times(folders):
-    """What a report of each folder takes, in seconds."""
-    return times_of_more([(puts + b"report\n", puts + b"report\n" * (1 + REPORTS)) for puts in folders], [REPORTS] * len(folders))
+    """What a report of each folder takes behind its edits, in seconds."""
+    starts = [(puts + b"report\n", edits) for puts, edits in folders]
+    pairs = [(it + b"".join(edits) * (REPORTS // 2), it + b"".join(edit + b"report\n" for edit in edits) * (REPORTS // 2)) for it, edits in starts]
+    return times_of_more(pairs, [REPORTS] * len(folders))
 
 
-def print_reports():
+def print_reports(way):
     """Prints a line for each folder: the time of its report, and its ratio to that without calls."""
-    print(f"reports of {FILES} workflows, beside those of as many without calls, with as many faults")
+    print(f"reports of {FILES} workflows, {way}, beside those of as many without calls, with as many faults")
     for name, (calls, is_round, faults) in FOLDERS.items():
         loops = calls if is_round else 0
-        folders = [put_folder(calls, is_round, faults), put_folder(0, False, faults + loops)]
-        counts = [count_faults(puts) for puts in folders]
+        folders = [(calls, is_round, faults), (0, False, faults + loops)]
+        puts = [put_folder(*it) for it in folders]
+        counts = [count_faults(it) for it in puts]
         if counts != [FILES * (faults + loops)] * 2:
             sys.exit(f"{name}: the reports have {counts} lines")
-        with_calls, without = report_times(folders)
+        with_calls, without = report_times([(it, edits_between(way, *folder)) for it, folder in zip(puts, folders)])
         print(f"  {name:24} {counts[0]:6} faults {with_calls * 1000:10.2f} ms {with_calls / without:8.2f} times {without * 1000:.2f} ms")
 
 
@@ -154,7 +171,8 @@ def main():
     print_edits("put of a new path in front, and its delete", BESIDE, front_times(BESIDE))
     for name, is_backward in ORDERS.items():
         print_edits(name, NEW, new_times(is_backward, NEW))
-    print_reports()
+    for way in BETWEEN:
+        print_reports(way)
 
 
 if __name__ == "__main__":

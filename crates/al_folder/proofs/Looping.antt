@@ -26,7 +26,7 @@ use Rattle.al_folder.specs.Meaning.{CallSite, Meaning, candidates}
 use Rattle.al_folder.specs.Folder.{Folder, or_else, paths_of}
 use Rattle.al_folder.specs.Kept.{Files, folder_of, entry_of, AllKept, AreKept, IsKept, referred}
 use Rattle.al_folder.specs.Loops.{called, calls_graph, leads_back, loop_fault, loop_fault_if, loop_faults, looping, number_among, number_of}
-use Rattle.al_folder.specs.Private.CallGraphs.{HasRoomBetween, HasRoomFor, IsCallGraph, IsCalledBy, IsRow, NoneBackward, NoneForward, TellLoops, part_of}
+use Rattle.al_folder.specs.Private.CallGraphs.{HasRoomUpTo, IsCallGraph, IsCalledBy, IsRow, NoneBackward, NoneForward, TellLoops, is_on_loop, part_of}
 use Rattle.al_folder.specs.declared.kept.KeptFile.{KeptFile}
 use Rattle.al_folder.specs.declared.lint.Target.{Target}
 use Rattle.al_folder.proofs.Ways.{leads_before, leads_behind}
@@ -329,17 +329,6 @@ module _ (first end : ℕ) where
       by true e = inr (e ∙ at_file m f i p b at)
       by false e = inl e
 
-  -- what is asked of each label is true of a row's node only where the row is in the part
-  pub inside_where : (T : ℕ → Bool) (g items : List (List ℕ)) (i : ℕ) → items ≡ part_of first end g → list_any T (get_or items i []) ≡ true → Inside i ≡ true
-  inside_where T g items i is some = by (Inside i) refl
-    where
-      wrong : false ≡ true → ⊥
-      wrong h = cc
-
-      by : (b : Bool) → Inside i ≡ b → Inside i ≡ true
-      by true a = a
-      by false a = absurd (wrong (sym (ap (λ l. list_any T (get_or l i [])) is ∙ ap (list_any T) (part_row g i ∙ ap (λ b. cond b (get_or g i []) []) a)) ∙ some))
-
   -- made file after file
   pub part_of_kept : {U I : Type 0} (m : Meaning I) (is_unit : U → List ℕ → List ℕ → Type 0) (h : Target → Option ℕ) (n : ℕ) (files : Files U I) → AllKept m is_unit files →
       map (λ (x : ℕ × (String Global × KeptFile U I)). filter_map h (cond (Inside x.0) x.1.1.calls.items [])) (enumerate_from n files)
@@ -582,20 +571,15 @@ module _ {I : Type 0} (m : Meaning I) (f : Folder) (edges : List (Vec ℕ Global
 
 -- ---- room for what is joined of a file
 
-module _ {U I : Type 0} (files : Files U I) (first end : ℕ) where
-  pub room_none : (room : ℕ) → HasRoomBetween files first end 0 room
-  room_none room i below between = absurd (omega (arith, below))
+module _ {U I : Type 0} (files : Files U I) (graph : List (Vec ℕ Global)) (labels : List (Option ℕ)) where
+  pub room_none : (room : ℕ) → HasRoomUpTo files graph labels 0 room
+  room_none room i below on = absurd (omega (arith, below))
 
-  pub room_next : (n old new : ℕ) (x : String Global × KeptFile U I) (wanted : Bool) → slice_get files n ≡ Some x → wanted ≡ Inside first end n → HasRoomBetween files first end n old →
-      old ≤ new → (wanted ≡ true → length x.1.calls.items + length x.1.faults.items ≤ new) → HasRoomBetween files first end (n + 1) new
-  room_next n old new x wanted there is room more one i below between e at = ⊎_elim
-      (λ lt. let h = room i lt between e at in omega (arith, h, more))
+  pub room_next : (n old new : ℕ) (x : String Global × KeptFile U I) (wanted : Bool) → slice_get files n ≡ Some x → wanted ≡ is_on_loop graph labels n →
+      HasRoomUpTo files graph labels n old → old ≤ new → (wanted ≡ true → length x.1.calls.items + length x.1.faults.items ≤ new) → HasRoomUpTo files graph labels (n + 1) new
+  room_next n old new x wanted there is room more one i below on e at = ⊎_elim
+      (λ lt. let h = room i lt on e at in omega (arith, h, more))
       (λ past. let last : i ≡ n = omega (arith, past, below) in
       let same : x ≡ e = one_entry files n x e there (ap (slice_get files) (sym last) ∙ at) in
-      subst (λ (y : String Global × KeptFile U I). length y.1.calls.items + length y.1.faults.items ≤ new) same (one (is ∙ ap (Inside first end) (sym last) ∙ between)))
+      subst (λ (y : String Global × KeptFile U I). length y.1.calls.items + length y.1.faults.items ≤ new) same (one (is ∙ ap (is_on_loop graph labels) (sym last) ∙ on)))
       (cases_lt i n)
-
-  pub room_for : (graph : List (Vec ℕ Global)) (labels : List (Option ℕ)) (g : List (List ℕ)) (room : ℕ) → edges_of graph ≡ part_of first end g →
-      HasRoomBetween files first end (length files) room → HasRoomFor files graph labels room
-  room_for graph labels g room is has i below on =
-      has i below (inside_where first end (λ k. option_eq nat_eq (get_or labels k None) (get_or labels i None)) g (edges_of graph) i is on)

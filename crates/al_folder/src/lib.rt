@@ -12,6 +12,7 @@ mod loops;
 mod missing;
 mod paths;
 mod place;
+mod same_calls;
 
 pub use affected::affected_paths;
 pub use callers::{candidates_of, drop_callers, index_calls, reindex};
@@ -19,7 +20,8 @@ pub use check::{check_path, check_paths};
 pub use directions::{has_backward, has_forward};
 pub use kept::{Callers, Files, KeptFile};
 pub use lint::{Lint, Refused, Site, Target};
-pub use loops::{CallGraph, add_loop_faults, call_faults, call_graph, is_on_loop};
+pub use loops::{CallGraph, add_loop_faults, call_faults, call_graph, is_on_loop, room_for};
 pub use missing::missing_paths;
 pub use paths::Paths;
 pub use place::{file_number, place_in};
+pub use same_calls::has_same_calls;

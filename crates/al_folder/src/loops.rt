@@ -9,7 +9,7 @@ ghost use Rattle.std.specs.Option.{option_eq};
 ghost use Rattle.al_graph.specs.Graphs.{edges_of};
 ghost use Rattle.al_folder.specs.Kept.{AreKept, IsKept, folder_of, referred};
 ghost use Rattle.al_folder.specs.Loops as loops;
-ghost use Rattle.al_folder.specs.Private.CallGraphs.{HasRoomBetween, HasRoomFor, HasRoomForCalls, IsCallGraph, IsCalledBy, IsLonger, IsRow};
+ghost use Rattle.al_folder.specs.Private.CallGraphs.{HasRoomFor, HasRoomForCalls, IsCallGraph, IsCalledBy, IsLonger, IsRow};
 ghost use Rattle.al_folder.specs.Private.CallGraphs.{NoneBackward, NoneForward, TellLoops, is_on_loop, part_of};
 ghost use Rattle.al_folder.specs.Sites.{site_of};
 
@@ -20,24 +20,14 @@ use al_base::{Args, Fault, Path};
 use al_graph::strongly_connected_components;
 use std::alloc::{AllocError, Global};
 
-/// The calls between the files of a folder, which are known by their numbers in order of path, as far as they can lead back.
+/// The calls between the files of a folder, which are known by their numbers in order of path, as far as they can lead back. It depends on
+/// the paths of the files and on their calls, and on nothing else of them.
 #[derive(Drop)]
 pub struct CallGraph {
     // For each file the numbers of the files that its calls lead to, or none where no call of the file can lead back.
     graph: Vec<Vec<usize>>,
     // Of each file a label, the same for two files that these calls lead between just where they lead from each to the other.
     labels: Vec<Option<usize>>,
-    // At least how many calls and faults a file has one of whose calls leads back to it.
-    room: usize,
-}
-
-impl CallGraph {
-    /// At least how many calls and faults a file has one of whose calls leads back to it. Takes no memory.
-    pub fn room(&self) -> usize
-        ensures { result ≡ self.now.room }
-    {
-        self.room
-    }
 }
 
 /// The number of the file at a path, if it is there.
@@ -143,46 +133,24 @@ fn calls_if<U, I>(is_wanted: bool, file: &KeptFile<U, I>) -> &[Target]
     }
 }
 
-/// A number that is at least another and, where it is asked for, at least how many calls and faults a file has.
-fn with_room<U, I>(
-    is_wanted: bool,
-    least: usize,
-    file: &KeptFile<U, I>,
-) -> Result<usize, AllocError>
-    ensures { IfOk result (λ n. (least ≤ n)
-        × (is_wanted ≡ true → length file.now.calls.items + length file.now.faults.items ≤ n)) }
-{
-    if !is_wanted {
-        return Ok(least);
-    }
-    match file.calls.len().checked_add(file.faults.len()) {
-        None => Err(AllocError),
-        Some(count) => Ok(if least < count { count } else { least }),
-    }
-}
-
-/// For each file from one number on and before another the numbers of the files that its calls lead to, and for the others none; and a
-/// number that is at least how many calls and faults each of these files has.
+/// For each file from one number on and before another the numbers of the files that its calls lead to, and for the others none.
 fn calls_graph<L: Lint>(
     alloc: Global,
     files: &Files<L::Unit, L::Iface>,
     first: usize,
     end: usize,
-) -> Result<(Vec<Vec<usize>>, usize), AllocError>
+) -> Result<Vec<Vec<usize>>, AllocError>
     requires { AreKept L.meaning L.is_unit files.now.entries }
-    ensures graph { IfOk result (λ r. edges_of r.0.items ≡ part_of first end (loops.calls_graph L.meaning (folder_of files.now.entries))) }
-    ensures room { IfOk result (λ r. HasRoomBetween files.now.entries first end (length files.now.entries) r.1) }
+    ensures { IfOk result (λ graph. edges_of graph.items ≡ part_of first end (loops.calls_graph L.meaning (folder_of files.now.entries))) }
 {
     let mut graph = Vec::with_capacity(alloc, files.len())?;
-    let mut room = 0;
     for index in 0..files.len() {
         let (_, file) = file_number(files, index);
         let is_wanted = is_between(first, index, end);
         let calls = calls_if(is_wanted, file);
         graph.push(all_called(alloc, files, calls)?)?;
-        room = with_room(is_wanted, room, file)?;
     }
-    Ok((graph, room))
+    Ok(graph)
 }
 
 /// The calls between the files, as far as they can lead back, with the strongly connected components of their graph.
@@ -198,18 +166,13 @@ pub fn call_graph<L: Lint>(
     files: &Files<L::Unit, L::Iface>,
 ) -> Result<CallGraph, AllocError>
     requires { AreKept L.meaning L.is_unit files.now.entries }
-    ensures calls { IfOk result (λ calls. IsCallGraph L.meaning (folder_of files.now.entries) calls.graph.items calls.labels.items) }
-    ensures room { IfOk result (λ calls. HasRoomFor files.now.entries calls.graph.items calls.labels.items calls.room) }
+    ensures { IfOk result (λ calls. IsCallGraph L.meaning (folder_of files.now.entries) calls.graph.items calls.labels.items) }
 {
     let first = first_forward(files);
     let end = end_backward(files);
-    let (graph, room) = calls_graph::<L>(alloc, files, first, end)?;
+    let graph = calls_graph::<L>(alloc, files, first, end)?;
     let labels = strongly_connected_components(alloc, graph.as_slice())?;
-    Ok(CallGraph {
-        graph,
-        labels,
-        room,
-    })
+    Ok(CallGraph { graph, labels })
 }
 
 /// Whether a node has a label.
@@ -359,6 +322,46 @@ pub fn is_on_loop<L: Lint>(
 {
     let row = calls.graph[index].as_slice();
     has_label_of(row, &calls.labels, index)
+}
+
+/// A number that is at least another and, where it is asked for, at least how many calls and faults a file has.
+fn with_room<U, I>(
+    is_wanted: bool,
+    least: usize,
+    file: &KeptFile<U, I>,
+) -> Result<usize, AllocError>
+    ensures { IfOk result (λ n. (least ≤ n)
+        × (is_wanted ≡ true → length file.now.calls.items + length file.now.faults.items ≤ n)) }
+{
+    if !is_wanted {
+        return Ok(least);
+    }
+    match file.calls.len().checked_add(file.faults.len()) {
+        None => Err(AllocError),
+        Some(count) => Ok(if least < count { count } else { least }),
+    }
+}
+
+/// A number that is at least how many calls and faults a file has one of whose calls leads back to it, for each such file; 0 where there is
+/// none. No other file is looked at, and no candidate is looked up. Takes no memory.
+///
+/// # Errors
+///
+/// [`AllocError`] where a file has more calls and faults than can be counted.
+pub fn room_for<L: Lint>(
+    files: &Files<L::Unit, L::Iface>,
+    calls: &CallGraph,
+) -> Result<usize, AllocError>
+    requires { IsCallGraph L.meaning (folder_of files.now.entries) calls.now.graph.items calls.now.labels.items }
+    ensures { IfOk result (λ room. HasRoomFor files.now.entries calls.now.graph.items calls.now.labels.items room) }
+{
+    let mut room = 0;
+    for index in 0..files.len() {
+        let (_, file) = file_number(files, index);
+        let is_wanted = is_on_loop::<L>(files, calls, index);
+        room = with_room(is_wanted, room, file)?;
+    }
+    Ok(room)
 }
 
 /// Adds the faults of the calls of the file with this number that lead back to it, in the order of the calls. There is room for one of

@@ -11,17 +11,8 @@ ghost use Rattle.al_listing.specs.Checked.{AllChecked};
 ghost use Rattle.al_listing.specs.Private.Printing.{IsListed};
 
 use al_base::Fault;
-use al_folder::{CallGraph, Files, Lint, add_loop_faults, call_graph, file_number, is_on_loop};
+use al_folder::{CallGraph, Files, Lint, add_loop_faults, file_number, is_on_loop, room_for};
 use std::alloc::{AllocError, Global};
-
-/// What a report needs to join faults, all of which is made before its first byte.
-#[derive(Drop)]
-pub struct Joining<'a> {
-    /// The calls between the files.
-    pub calls: CallGraph,
-    /// An empty list, with room for what a report joins of any file.
-    pub list: Vec<&'a Fault>,
-}
 
 // Adds references to faults. There is room for them.
 fn add_references<'a>(faults: &'a [Fault], out: &mut Vec<&'a Fault>)
@@ -71,7 +62,7 @@ pub(crate) fn join_file<'a, L: Lint>(
     true
 }
 
-/// What is needed to join the faults of these files, so that [`write_files`](crate::write_files) wants no memory.
+/// An empty list with room for what is joined of any of these files, so that [`write_files`](crate::write_files) wants no memory.
 ///
 /// # Errors
 ///
@@ -79,35 +70,27 @@ pub(crate) fn join_file<'a, L: Lint>(
 pub fn joining_of<'a, L: Lint>(
     alloc: Global,
     files: &'a Files<L::Unit, L::Iface>,
-) -> Result<Joining<'a>, AllocError>
-    requires { AreKept L.meaning L.is_unit files.now.entries }
-    ensures calls { IfOk result (λ j. IsCallGraph L.meaning (folder_of files.now.entries) j.calls.graph.items j.calls.labels.items) }
-    ensures room { IfOk result (λ j. HasRoomFor files.now.entries j.calls.graph.items j.calls.labels.items (vec_capacity j.list)) }
+    calls: &CallGraph,
+) -> Result<Vec<&'a Fault>, AllocError>
+    requires { IsCallGraph L.meaning (folder_of files.now.entries) calls.now.graph.items calls.now.labels.items }
+    ensures { IfOk result (λ list. HasRoomFor files.now.entries calls.now.graph.items calls.now.labels.items (vec_capacity list)) }
 {
-    let calls = call_graph::<L>(alloc, files)?;
-    let list = Vec::with_capacity(alloc, calls.room())?;
-    Ok(Joining { calls, list })
+    let room = room_for::<L>(files, calls)?;
+    let list = Vec::with_capacity(alloc, room)?;
+    Ok(list)
 }
 
-/// Whether a call of a file leads back to it.
-///
-/// # Errors
-///
-/// [`AllocError`] where memory ran out.
-pub fn has_loops<L: Lint>(
-    alloc: Global,
-    files: &Files<L::Unit, L::Iface>,
-) -> Result<bool, AllocError>
-    requires { AreKept L.meaning L.is_unit files.now.entries }
-    ensures { IfOk result (λ some. some ≡ list_any (λ x. not (length
+/// Whether a call of a file leads back to it. Takes no memory.
+pub fn has_loops<L: Lint>(files: &Files<L::Unit, L::Iface>, calls: &CallGraph) -> bool
+    requires { IsCallGraph L.meaning (folder_of files.now.entries) calls.now.graph.items calls.now.labels.items }
+    ensures { result ≡ list_any (λ x. not (length
         (loops.loop_faults L.meaning (folder_of files.now.entries) x.0 x.1.0 x.1.1) == 0))
-        (enumerate_from 0 (folder_of files.now.entries))) }
+        (enumerate_from 0 (folder_of files.now.entries)) }
 {
-    let calls = call_graph::<L>(alloc, files)?;
     for index in 0..files.len() {
-        if is_on_loop::<L>(files, &calls, index) {
-            return Ok(true);
+        if is_on_loop::<L>(files, calls, index) {
+            return true;
         }
     }
-    Ok(false)
+    false
 }

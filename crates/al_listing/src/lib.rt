@@ -5,5 +5,5 @@
 mod joining;
 mod report;
 
-pub use joining::{Joining, has_loops, joining_of};
+pub use joining::{has_loops, joining_of};
 pub use report::{has_faults, write_files};

@@ -41,8 +41,8 @@ fn is_clean<U, I>(file: &KeptFile<U, I>) -> bool
 }
 
 /// Writes the faults that a report lists of all files, file by file in order of path: each as its line, and its snippet unless `oneline` is
-/// asked for. The calls and the list are those of a [`Joining`](crate::Joining) of these files: the list has room for what is joined of
-/// any file, so no memory is wanted. What it holds is replaced.
+/// asked for. The calls are those of these files, and the list has room for what is joined of any of them, as
+/// [`joining_of`](crate::joining_of) makes it, so no memory is wanted. What it holds is replaced.
 ///
 /// # Errors
 ///

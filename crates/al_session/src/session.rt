@@ -22,10 +22,11 @@ ghost use Rattle.al_folder.specs.Missing.{missing_in};
 ghost use Rattle.al_listing.specs.Report.{status_of, report_of};
 ghost use Rattle.al_session.specs.Session.{AreLinted, ReadsForPut};
 
+use crate::calls::{find_graph, found_graph};
 use crate::edit::{put_file, remove_file};
 use crate::refused::put_refused;
 use al_base::{Fault, Output, Path, Stop, path_fault};
-use al_folder::{Callers, Files, Lint, Paths, Refused, missing_paths};
+use al_folder::{CallGraph, Callers, Files, Lint, Paths, Refused, missing_paths};
 use al_listing::{has_faults, has_loops, joining_of, write_files};
 use indexmap::IndexMap;
 use std::alloc::{AllocError, Global};
@@ -52,19 +53,23 @@ pub struct Session<L: Lint> {
     lint: L,
     files: Files<L::Unit, L::Iface>,
     callers: Callers,
+    // The graph of calls of these files, where it was found since calls or paths last changed.
+    calls: Option<CallGraph>,
 }
 
 impl<L: Lint> Model for Session<L> {
     ghost use Rattle.std.specs.Prelude.{◌≤◌, ◌^◌, ◌-◌};
     ghost use Rattle.al_folder.specs.Kept.{folder_of};
     ghost use Rattle.al_session.specs.Session.{SessionState, AreLinted};
+    ghost use Rattle.al_session.specs.Private.Graphs.{IsGraphIf};
 
     ghost Value = { SessionState };
 
     ghost view = { λ s. record { folder = folder_of s.files.entries; checks = L.checks_of s.lint; reads = L.reads_of s.lint } };
 
     ghost invariant = { λ s. AreLinted L.meaning L.is_unit s.files.entries s.callers (L.checks_of s.lint)
-        × (L.reads_of s.lint ≤ 2 ^ 64 - 1) };
+        × (L.reads_of s.lint ≤ 2 ^ 64 - 1)
+        × IsGraphIf L.meaning (folder_of s.files.entries) s.calls };
 }
 
 impl<L: Lint> Session<L> {
@@ -82,6 +87,7 @@ impl<L: Lint> Session<L> {
             lint,
             files: IndexMap::new(alloc),
             callers: IndexMap::new(alloc),
+            calls: None,
         }
     }
 
@@ -104,6 +110,7 @@ impl<L: Lint> Session<L> {
             lint,
             files,
             callers,
+            calls: None,
         }
     }
 
@@ -194,6 +201,7 @@ impl<L: Lint> Session<L> {
             self.alloc,
             &mut self.files,
             &mut self.callers,
+            &mut self.calls,
             path,
             bytes,
         ) {
@@ -243,6 +251,8 @@ impl<L: Lint> Session<L> {
         if let Some(refused) = self.delete_refused(path) {
             return Err(refused);
         }
+        // Without the file those behind it have other numbers.
+        self.calls = None;
         match remove_file(
             &mut self.lint,
             self.alloc,
@@ -255,18 +265,21 @@ impl<L: Lint> Session<L> {
         }
     }
 
-    /// 0 where no file has a fault and no call leads back to its own file, and else 1. Takes memory only where no file has a fault.
+    /// 0 where no file has a fault and no call leads back to its own file, and else 1. Takes memory only where no file has a fault and the
+    /// graph of calls isn't known, and then keeps that graph.
     ///
     /// # Errors
     ///
     /// [`AllocError`] where memory ran out.
-    pub fn status(&self) -> Result<u8, AllocError>
-        ensures { IfOk result (λ status. status ≡ status_of L.meaning self.now.folder) }
+    pub fn status(&mut self) -> Result<u8, AllocError>
+        ensures status { IfOk result (λ status. status ≡ status_of L.meaning self.old.folder) }
+        ensures unchanged { self.new ≡ self.old }
     {
         if has_faults(&self.files) {
             return Ok(1);
         }
-        let some = has_loops::<L>(self.alloc, &self.files)?;
+        find_graph::<L>(self.alloc, &self.files, &mut self.calls)?;
+        let some = has_loops::<L>(&self.files, found_graph(&self.calls));
         if some {
             return Ok(1);
         }
@@ -274,30 +287,30 @@ impl<L: Lint> Session<L> {
     }
 
     /// Writes the faults of all files, and those of calls that lead back to their own file, file by file in order of path: each as its
-    /// line, and the line of the file at which it starts, with marks under its span, unless `oneline` is asked for.
+    /// line, and the line of the file at which it starts, with marks under its span, unless `oneline` is asked for. The graph of calls is
+    /// found if it isn't known, and kept for the next report.
     ///
     /// # Errors
     ///
     /// [`Stop::WriteFault`] where the writer failed, which then holds a front of the report, and [`Stop::Memory`]
     /// where memory ran out, which happens only before the first byte. No other stop is answered.
-    pub fn report<W: Write>(&self, writer: &mut Output<W>, oneline: bool) -> Result<(), Stop>
+    pub fn report<W: Write>(&mut self, writer: &mut Output<W>, oneline: bool) -> Result<(), Stop>
         ensures all { OnOk result (Appends (bytes_written W.contents writer.old) (bytes_written W.contents writer.new)
-            (report_of oneline L.meaning self.now.folder)) }
+            (report_of oneline L.meaning self.old.folder)) }
         ensures front { OnErr result (AppendsFront (bytes_written W.contents writer.old) (bytes_written W.contents writer.new)
-            (report_of oneline L.meaning self.now.folder)) }
-        ensures in_order { IsStrictlySortedBy (slice_cmp nat_cmp) (paths_of self.now.folder) }
+            (report_of oneline L.meaning self.old.folder)) }
+        ensures in_order { IsStrictlySortedBy (slice_cmp nat_cmp) (paths_of self.old.folder) }
         ensures memory { result ≡ Err Stop.Memory
             → Keeps (bytes_written W.contents writer.old) (bytes_written W.contents writer.new) }
         ensures failures { result ≢ Err Stop.WriteFault → write_failures writer.new ≡ write_failures writer.old }
         ensures failed { result ≡ Err Stop.WriteFault → HasRisen (write_failures writer.old) (write_failures writer.new) }
         ensures no_read { (result ≢ Err Stop.ReadFault) × (result ≢ Err Stop.TooManyTurns) }
+        ensures unchanged { self.new ≡ self.old }
     {
-        let Ok(joining) = joining_of::<L>(self.alloc, &self.files) else {
-            return Err(Stop::Memory);
-        };
-        let calls = joining.calls;
-        let mut list = joining.list;
-        write_files::<L, W>(writer, &self.files, &calls, &mut list, oneline)
+        find_graph::<L>(self.alloc, &self.files, &mut self.calls)?;
+        let calls = found_graph(&self.calls);
+        let mut list = joining_of::<L>(self.alloc, &self.files, calls)?;
+        write_files::<L, W>(writer, &self.files, calls, &mut list, oneline)
     }
 
     /// The candidates of calls that are not in the folder, in order of path, each once.

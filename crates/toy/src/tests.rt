@@ -15,17 +15,17 @@ fn open(alloc: Global) -> Session<Toy> {
     Session::open(alloc, Toy::new())
 }
 
-fn report(alloc: Global, session: &Session<Toy>) -> Result<Vec<u8>, Stop> {
+fn report(alloc: Global, session: &mut Session<Toy>) -> Result<Vec<u8>, Stop> {
     let mut bytes = Vec::new(alloc);
     session.report(&mut Output::new(&mut bytes), true)?;
     Ok(bytes)
 }
 
-fn reports(alloc: Global, session: &Session<Toy>, wanted: &[u8]) -> Result<bool, Stop> {
+fn reports(alloc: Global, session: &mut Session<Toy>, wanted: &[u8]) -> Result<bool, Stop> {
     Ok(report(alloc, session)?.as_slice() == wanted)
 }
 
-fn status(session: &Session<Toy>) -> Result<u8, AllocError> {
+fn status(session: &mut Session<Toy>) -> Result<u8, AllocError> {
     session.status()
 }
 
@@ -85,7 +85,7 @@ fn follows_both(
 // Whether a new session takes these steps and those behind them, and has this status then.
 fn ends(alloc: Global, first: &[Step], then: &[Step], wanted: u8) -> Result<bool, Stop> {
     let mut session = open(alloc);
-    Ok(follows_both(alloc, &mut session, first, then)? && status(&session)? == wanted)
+    Ok(follows_both(alloc, &mut session, first, then)? && status(&mut session)? == wanted)
 }
 
 const NEED: &[u8] = b"need b.toy c.toy";
@@ -155,8 +155,13 @@ static RING: [Step; 1] = [(
     LOOP,
 )];
 
-// A call into the loop, and a file of the loop that goes.
-static BESIDE_THE_RING: [Step; 2] = [
+// A file of the loop that calls what it called, a call into the loop, and a file of the loop that goes.
+static BESIDE_THE_RING: [Step; 3] = [
+    (
+        Change::Put("c.toy", b"need a.toy\nhave x\n# e"),
+        &["c.toy"],
+        LOOP,
+    ),
     (Change::Put("d/a.toy", b"need a.toy"), &["d/a.toy"], LOOP),
     (Change::Delete("b.toy"), &["a.toy"], ABSENT),
 ];
@@ -224,7 +229,7 @@ fn refuses_all(session: &mut Session<Toy>, large: &[u8]) -> bool {
 
 fn refuses_all_anew(alloc: Global, large: &[u8]) -> Result<bool, AllocError> {
     let mut session = open(alloc);
-    Ok(refuses_all(&mut session, large) && status(&session)? == 0)
+    Ok(refuses_all(&mut session, large) && status(&mut session)? == 0)
 }
 
 #[test]
@@ -476,7 +481,11 @@ fn misses_the_same(one: &Session<Toy>, other: &Session<Toy>) -> Result<bool, All
 }
 
 // Whether both have the same report and status, and name the same paths as missing.
-fn are_alike(alloc: Global, one: &Session<Toy>, other: &Session<Toy>) -> Result<bool, Stop> {
+fn are_alike(
+    alloc: Global,
+    one: &mut Session<Toy>,
+    other: &mut Session<Toy>,
+) -> Result<bool, Stop> {
     let wanted = report(alloc, other)?;
     Ok(
         reports(alloc, one, &wanted)?
@@ -485,9 +494,9 @@ fn are_alike(alloc: Global, one: &Session<Toy>, other: &Session<Toy>) -> Result<
     )
 }
 
-fn is_as_anew(alloc: Global, session: &Session<Toy>) -> Result<bool, Stop> {
-    let other = anew(alloc, session);
-    are_alike(alloc, session, &other)
+fn is_as_anew(alloc: Global, session: &mut Session<Toy>) -> Result<bool, Stop> {
+    let mut other = anew(alloc, session);
+    are_alike(alloc, session, &mut other)
 }
 
 // Whether a session is as a new one after each of so many edits.

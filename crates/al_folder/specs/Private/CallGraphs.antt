@@ -1,16 +1,17 @@
--- The graph of calls, as far as calls can lead back, and labels that tell which ones do.
+-- The graph of calls, as far as calls can lead back, labels that tell which ones do, and what it depends on.
 use Rattle.std.specs.Prelude.{ℕ, ◌+◌, ◌≤◌, ◌<◌, ◌≡◌, ◌↔◌, ◌⊎◌, ◌&&◌, Bool, false, true, List, [], Option, Some, None, String, Vec}
-use Rattle.std.specs.Prelude.{cond, length, map, nat_eq, nat_le, nat_lt, slice_get, slice_index_or}
+use Rattle.std.specs.Prelude.{bytes_eq, cond, length, map, nat_eq, nat_le, nat_lt, slice_get, slice_index_or}
 use Rattle.std.specs.Global.{Global}
 use Rattle.std.specs.List.{enumerate_from, filter_map, list_any}
 use Rattle.std.specs.Option.{option_eq}
 use Rattle.al_graph.specs.Graphs.{Edge, Walk, edges_of}
 use Rattle.al_folder.specs.Meaning.{Meaning}
-use Rattle.al_folder.specs.Folder.{Folder}
+use Rattle.al_folder.specs.Folder.{Folder, paths_of}
 use Rattle.al_folder.specs.Kept.{Files}
 use Rattle.al_folder.specs.Loops.{called, calls_graph}
 use Rattle.al_folder.specs.declared.kept.KeptFile.{KeptFile}
 use Rattle.al_folder.specs.declared.lint.Target.{Target}
+use Rattle.al_folder.specs.declared.lint.Target.TheVariants.{FirstOf, Only}
 
 -- no file before this number calls its own path or one behind it
 abbrev pub NoneForward : {U I : Type 0} → Files U I → ℕ → Type 0
@@ -48,6 +49,18 @@ pub record IsCallGraph {I : Type 0} (m : Meaning I) (f : Folder) (graph : List (
   pub kept : (j k : ℕ) → Edge (calls_graph m f) j k → Walk (calls_graph m f) k j → Edge (edges_of graph) j k
   pub tell : TellLoops (calls_graph m f) labels
 
+-- The second folder has the files of the first, by their paths, and each calls the same: so they have one graph.
+pub record HasSameCalls {I : Type 0} (m : Meaning I) (f g : Folder) : Type 0 where
+  pub paths : paths_of g ≡ paths_of f
+  pub calls : map (λ e. m.calls e.0 e.1) g ≡ map (λ e. m.calls e.0 e.1) f
+
+-- whether two calls have the same candidates, in the same order
+abbrev pub is_same_target : Target → Target → Bool
+is_same_target (Only p) (Only q) = bytes_eq p q
+is_same_target (Only p) (FirstOf q r) = false
+is_same_target (FirstOf p q) (Only r) = false
+is_same_target (FirstOf p q) (FirstOf r s) = bytes_eq p r && bytes_eq q s
+
 -- whether an edge leads from the file with this number to one with its label
 abbrev pub is_on_loop : List (Vec ℕ Global) → List (Option ℕ) → ℕ → Bool
 is_on_loop graph labels i =
@@ -58,13 +71,13 @@ abbrev pub HasRoom : {U I : Type 0} → Files U I → ℕ → ℕ → Type 0
 HasRoom {U} {I} files i room = (e : String Global × KeptFile U I) → slice_get files i ≡ Some e →
     length e.1.calls.items + length e.1.faults.items ≤ room
 
--- it is so for each of the first files that isn't before one number and is before the other
-abbrev pub HasRoomBetween : {U I : Type 0} → Files U I → ℕ → ℕ → ℕ → ℕ → Type 0
-HasRoomBetween files first end count room = (i : ℕ) → i < count → (nat_le first i && nat_lt i end) ≡ true → HasRoom files i room
+-- it is so for each of the first files with a call that leads back to it
+abbrev pub HasRoomUpTo : {U I : Type 0} → Files U I → List (Vec ℕ Global) → List (Option ℕ) → ℕ → ℕ → Type 0
+HasRoomUpTo files graph labels count room = (i : ℕ) → i < count → is_on_loop graph labels i ≡ true → HasRoom files i room
 
--- it is so for each file with a call that leads back to it
+-- it is so for each file with such a call
 abbrev pub HasRoomFor : {U I : Type 0} → Files U I → List (Vec ℕ Global) → List (Option ℕ) → ℕ → Type 0
-HasRoomFor files graph labels room = (i : ℕ) → i < length files → is_on_loop graph labels i ≡ true → HasRoom files i room
+HasRoomFor files graph labels room = HasRoomUpTo files graph labels (length files) room
 
 -- what has this length and capacity has room for one more for each call of the file with this number
 abbrev pub HasRoomForCalls : {U I : Type 0} → Files U I → ℕ → ℕ → ℕ → Type 0

@@ -1,22 +1,14 @@
 use Rattle.std.proofs.Common.{arith}
-use Rattle.al_folder.specs.Kept.{folder_of}
-use Rattle.al_folder.specs.Loops.{calls_graph}
-use Rattle.al_folder.proofs.Looping.{program_inside, program_graph, room_for}
+use Rattle.al_folder.proofs.Looping.{program_inside, program_graph}
 use Rattle.al_folder.proofs.loops.call_graph.Goals as goal
 
 pub strongly_connected_components-requires : goal.strongly_connected_components-requires
 strongly_connected_components-requires g c =
     program_inside g.L.Lint.meaning g.L.Lint.is_unit c.args.files.now.entries c.requires c.first_forward-first.result c.end_backward-end.result
-    c.in_ok-graph.graph.items c.as_slice.result.now c.in_ok-graph.ensures.graph c.as_slice.ensures.value
+    c.in_ok-graph.graph.items c.as_slice.result.now c.in_ok-graph.ensures c.as_slice.ensures.value
 
-pub returns-clause-calls : goal.returns-clause-calls
-returns-clause-calls g c =
+pub returns : goal.returns
+returns g c =
     program_graph g.L.Lint.meaning g.L.Lint.is_unit c.args.files.now.entries c.requires c.first_forward-first.result c.end_backward-end.result
-    c.in_ok-graph.graph.items c.as_slice.result.now c.in_ok-graph.ensures.graph c.as_slice.ensures.value c.in_ok-labels.labels.items
+    c.in_ok-graph.graph.items c.as_slice.result.now c.in_ok-graph.ensures c.as_slice.ensures.value c.in_ok-labels.labels.items
     c.first_forward-first.ensures c.end_backward-end.ensures (omega (arith, c.in_ok-labels.ensures.len)) c.in_ok-labels.ensures.exact
-
-pub returns-clause-room : goal.returns-clause-room
-returns-clause-room g c =
-    let files = c.args.files.now.entries in
-    room_for files c.first_forward-first.result c.end_backward-end.result c.in_ok-graph.graph.items c.in_ok-labels.labels.items
-    (calls_graph g.L.Lint.meaning (folder_of files)) c.in_ok-graph.room c.in_ok-graph.ensures.graph c.in_ok-graph.ensures.room

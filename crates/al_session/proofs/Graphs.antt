@@ -1,0 +1,36 @@
+-- The graph of calls that a session keeps, where a file is put.
+use Rattle.std.proofs.Common.{◌≡◌, ℕ, Bool, List, Option, Some, None, Result, Ok, Err, IfOk, OnErr, sym, subst}
+use Rattle.std.specs.Option.{option_map}
+use Rattle.al_folder.specs.Meaning.{Meaning}
+use Rattle.al_folder.specs.Folder.{Folder, with_file}
+use Rattle.al_folder.specs.Kept.{AreKept, Callers, Files, IsKept, file_at, folder_of}
+use Rattle.al_folder.specs.Private.CallGraphs.{HasSameCalls, IsCallGraph}
+use Rattle.al_folder.specs.declared.kept.KeptFile.{KeptFile}
+use Rattle.al_folder.specs.declared.loops.CallGraph.{CallGraph}
+use Rattle.al_folder.proofs.SameCalls.{graph_still, put_same_calls}
+use Rattle.al_session.specs.Private.Edits.{IsEdited, IsUndone}
+use Rattle.al_session.specs.Private.Graphs.{IsGraphIf}
+
+graph_by : {I : Type 0} (m : Meaning I) (f g : Folder) → HasSameCalls m f g → (calls : Option CallGraph) → IsGraphIf m f calls → IsGraphIf m g calls
+graph_by m f g same None is = tt
+graph_by m f g same (Some calls) is = graph_still m f g same calls.graph.items calls.labels.items is
+
+-- where the file that is there calls what the new one calls, the graph stays
+pub graph_put : {U I : Type 0} (m : Meaning I) (is_unit : U → List ℕ → List ℕ → Type 0) (files : Files U I) (p : List ℕ) (file : KeptFile U I) (calls : Option CallGraph) →
+    AreKept m is_unit files → IsKept m is_unit p file → option_map (λ (kept : KeptFile U I). kept.calls.items) (file_at files p) ≡ Some file.calls.items →
+    IsGraphIf m (folder_of files) calls → IsGraphIf m (with_file (folder_of files) p file.bytes.items) calls
+graph_put m is_unit files p file calls kept one same is =
+    graph_by m (folder_of files) (with_file (folder_of files) p file.bytes.items) (put_same_calls m is_unit files p file kept one same) calls is
+
+-- the graph that was found
+pub graph_found : {I : Type 0} (m : Meaning I) (f : Folder) (calls : Option CallGraph) (found : CallGraph) → calls ≡ Some found → IsGraphIf m f calls →
+    IsCallGraph m f found.graph.items found.labels.items
+graph_found m f calls found is graph = subst (IsGraphIf m f) is graph
+
+-- whether the edit stands or is undone
+pub graph_after : {U I S R E : Type 0} (eq : I → I → Bool) (m : Meaning I) (is_unit : U → List ℕ → List ℕ → Type 0) (r : Result (List (List ℕ)) E) (before now : Files U I) (wanted : Folder)
+    (callers : Callers S R) (k n : ℕ) (calls : Option CallGraph) → IfOk r (λ paths. IsEdited eq m is_unit (folder_of before) wanted k paths now callers n) →
+    OnErr r (IsUndone eq m is_unit before wanted k now callers n) → IsGraphIf m (folder_of before) calls → IsGraphIf m wanted calls → IsGraphIf m (folder_of now) calls
+graph_after eq m is_unit (Ok paths) before now wanted callers k n calls edited undone old new = subst (λ (f : Folder). IsGraphIf m f calls) (sym edited.folder) new
+graph_after {U} {I} eq m is_unit (Err e) before now wanted callers k n calls edited undone old new =
+    subst (λ (files : Files U I). IsGraphIf m (folder_of files) calls) (sym undone.as_before) old

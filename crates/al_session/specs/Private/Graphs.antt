@@ -1,0 +1,11 @@
+-- The graph of calls that is kept beside the files.
+use Rattle.std.specs.Prelude.{Option, Some, None}
+use Rattle.al_folder.specs.Meaning.{Meaning}
+use Rattle.al_folder.specs.Folder.{Folder}
+use Rattle.al_folder.specs.Private.CallGraphs.{IsCallGraph}
+use Rattle.al_folder.specs.declared.loops.CallGraph.{CallGraph}
+
+-- what is kept of a folder's calls, if anything is, is their graph
+abbrev pub IsGraphIf : {I : Type 0} → Meaning I → Folder → Option CallGraph → Type 0
+IsGraphIf m f None = Unit {0}
+IsGraphIf m f (Some calls) = IsCallGraph m f calls.graph.items calls.labels.items

@@ -1,0 +1,71 @@
+//! The graph of calls that a session keeps beside its files.
+
+ghost use Rattle.std.specs.Prelude.{◌≡◌, Some, IsSome, OnOk, OnErr};
+ghost use Rattle.std.specs.Bool.{Decides};
+ghost use Rattle.std.specs.Option.{option_map};
+ghost use Rattle.al_folder.specs.Folder.{with_file};
+ghost use Rattle.al_folder.specs.Kept.{AreKept, IsKept, file_at, folder_of};
+ghost use Rattle.al_session.specs.Private.Graphs.{IsGraphIf};
+
+use al_folder::{CallGraph, Files, KeptFile, Lint, call_graph, has_same_calls};
+use std::alloc::{AllocError, Global};
+
+/// Finds the graph of calls of these files, if it isn't known. On failure nothing changes.
+pub(crate) fn find_graph<L: Lint>(
+    alloc: Global,
+    files: &Files<L::Unit, L::Iface>,
+    calls: &mut Option<CallGraph>,
+) -> Result<(), AllocError>
+    requires kept { AreKept L.meaning L.is_unit files.now.entries }
+    requires graph { IsGraphIf L.meaning (folder_of files.now.entries) calls.old }
+    ensures graph { IsGraphIf L.meaning (folder_of files.now.entries) calls.new }
+    ensures found { OnOk result (IsSome calls.new) }
+    ensures as_before { OnErr result (calls.new ≡ calls.old) }
+{
+    if calls.is_some() {
+        return Ok(());
+    }
+    let found = call_graph::<L>(alloc, files)?;
+    *calls = Some(found);
+    Ok(())
+}
+
+/// The graph of calls, which was found.
+pub(crate) fn found_graph(calls: &Option<CallGraph>) -> &CallGraph
+    requires { IsSome calls.now }
+    ensures { calls.now ≡ Some result.now }
+{
+    match calls {
+        Some(found) => found,
+        None => unreachable!(),
+    }
+}
+
+/// Forgets the graph of calls where a file is to be put, unless one with its path is there that calls the same.
+pub(crate) fn forget_unless_same<L: Lint>(
+    files: &Files<L::Unit, L::Iface>,
+    path: &str,
+    file: &KeptFile<L::Unit, L::Iface>,
+    calls: &mut Option<CallGraph>,
+)
+    requires kept { AreKept L.meaning L.is_unit files.now.entries }
+    requires file { IsKept L.meaning L.is_unit path.now file.now }
+    requires graph { IsGraphIf L.meaning (folder_of files.now.entries) calls.old }
+    ensures before { IsGraphIf L.meaning (folder_of files.now.entries) calls.new }
+    ensures after { IsGraphIf L.meaning (with_file (folder_of files.now.entries) path.now file.now.bytes.items) calls.new }
+{
+    if calls_the_same(files, path, file) {
+        return;
+    }
+    *calls = None;
+}
+
+// Whether a file with this path is there that calls what this file calls.
+fn calls_the_same<U, I>(files: &Files<U, I>, path: &str, file: &KeptFile<U, I>) -> bool
+    ensures { Decides result (option_map (λ kept. kept.calls.items) (file_at files.now.entries path.now) ≡ Some file.now.calls.items) }
+{
+    match files.get(path) {
+        Some(old) => has_same_calls(&old.calls, &file.calls),
+        None => false,
+    }
+}
