@@ -150,7 +150,7 @@ def contract(source, opening):
 
 
 def roots_of(top, modules, crate, file, openings):
-    """The definitions that the contracts name, and what clauses see of the crate's own types."""
+    """The definitions that the contracts name, and what clauses see of the crate's own types: their values, and not what holds of each."""
     source = (top / "crates" / crate / "src" / file).read_text()
     words = set().union(*(words_of(line) for it in openings for line in contract(source, it).splitlines()))
     yield from uses(words, *imports(source.splitlines()), modules)
@@ -158,7 +158,8 @@ def roots_of(top, modules, crate, file, openings):
         text = path.read_text()
         for match in re.finditer(r"^impl.* Model for .*?^\}", text, re.MULTILINE | re.DOTALL):
             inner, outer = imports(match[0].splitlines()), imports(text.splitlines())
-            words = set().union(*map(words_of, match[0].splitlines()))
+            block = re.sub(r"ghost invariant = \{.*?\};", "", match[0], flags=re.DOTALL)
+            words = set().union(*(words_of(line) for line in block.splitlines() if not USE.search(line)))
             yield from uses(words, {**outer[0], **inner[0]}, {**outer[1], **inner[1]}, modules)
 
 
