@@ -303,7 +303,10 @@ pub fn lex(alloc: Global, content: &str) -> Result<Result<Vec<Token>, Fault>, Al
 {
     match tokens(alloc, content)? {
         Ok(read) => Ok(Ok(read)),
-        Err(LexError::BadCharacter(span)) => Ok(Err(plain_fault(ExpressionCode::BadCharacter, span))),
+        Err(LexError::BadCharacter(span)) => Ok(Err(plain_fault(
+            ExpressionCode::BadCharacter,
+            span,
+        ))),
         Err(LexError::OpenText) => {
             let Some(quote) = last_quote(content.as_bytes()) else {
                 unreachable!()

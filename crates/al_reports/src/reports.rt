@@ -94,11 +94,7 @@ pub fn report_two(
 ///
 /// Fails with `AllocError` for want of memory; the list then begins with what it held.
 #[tactic(auto, using(al_base::proofs::Growing::growth))]
-pub fn report_plain(
-    rule: RuleCode,
-    span: Span,
-    out: &mut Vec<Fault>,
-) -> Result<(), AllocError>
+pub fn report_plain(rule: RuleCode, span: Span, out: &mut Vec<Fault>) -> Result<(), AllocError>
     ensures ok { OnOk result (out.new.items ≡ out.old.items ++ fault rule span [] ∷ []) }
     ensures begins { BeginsWith out.new.items out.old.items }
 {

@@ -126,9 +126,7 @@ fn is_text(found: Option<&str>, told: &[&str], index: usize) -> bool {
 
 // Whether a fault has these arguments.
 fn has_args(fault: &Fault, args: &[&str]) -> bool {
-    args.len() <= 2
-        && is_text(fault.args.first(), args, 0)
-        && is_text(fault.args.second(), args, 1)
+    args.len() <= 2 && is_text(fault.args.first(), args, 0) && is_text(fault.args.second(), args, 1)
 }
 
 fn is_at(text: &[u8], start: u32, line: u32, column: u32) -> bool {

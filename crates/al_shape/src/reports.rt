@@ -46,11 +46,7 @@ pub(crate) fn report_two(
 }
 
 /// Adds a fault that names no text.
-pub(crate) fn report_plain(
-    out: &mut Vec<Fault>,
-    key: KeyCode,
-    span: Span,
-) -> Result<(), AllocError>
+pub(crate) fn report_plain(out: &mut Vec<Fault>, key: KeyCode, span: Span) -> Result<(), AllocError>
     ensures ok { OnOk result (out.new.items ≡ out.old.items ++ fault key span [] ∷ []) }
     ensures err { OnErr result (out.new.items ≡ out.old.items) }
 {
