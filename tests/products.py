@@ -33,6 +33,12 @@ def last_of_many_outputs():
     return with_outputs(10_000, b"  b:\n    needs: a\n    runs-on: u\n    steps:\n" + steps), b""
 
 
+def branches_with_many_outputs():
+    """Expressions that read the last of the outputs that two branches have in common."""
+    steps = b"      - run: ${{ (needs.a.outputs || needs.a.outputs).o9999 }}\n" * 200
+    return with_outputs(10_000, b"  b:\n    needs: a\n    runs-on: u\n    steps:\n" + steps), b""
+
+
 def jobs_with_an_expression(expression):
     """Jobs that need one with many outputs, each with an expression."""
     job = b"  b%04d: {needs: [a, A], runs-on: u, steps: [{run: '%s'}]}\n"
@@ -67,6 +73,7 @@ def aliases_of_a_call():
 # by name what makes a folder's files, each a path with its bytes, and the lines of its report
 FOLDERS = {
     "last-of-10000-outputs-12000-times": last_of_many_outputs,
+    "200-branches-with-10000-outputs": branches_with_many_outputs,
     "4000-jobs-that-need-4000-outputs": lambda: jobs_with_an_expression(b"${{ github.ref }}"),
     "4000-jobs-that-read-one-of-4000-outputs": lambda: jobs_with_an_expression(b"${{ needs.a.outputs.o0000 }}"),
     "13000-jobs-that-need-10000-outputs": jobs_that_call,

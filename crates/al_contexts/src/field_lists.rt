@@ -7,7 +7,7 @@ ghost use Rattle.al_contexts.specs.Objects.{put, put_all, put_new, strictly};
 ghost use Rattle.al_contexts.specs.Private.Indexes.{IsIndex, name_at};
 
 use crate::objects::strict_of;
-use al_types::{Field, IndexedType, NamePositions, Ty, fuse};
+use al_types::{Field, IndexedType, NamePositions, Ty, field_positions, fuse};
 use std::alloc::{AllocError, Global};
 
 /// Fields in order, and where each name first stands among them. Finding one by its name takes time that grows with the logarithm
@@ -42,7 +42,7 @@ impl FieldList {
     pub(crate) fn of(alloc: Global, fields: Vec<Field>) -> Result<FieldList, AllocError>
         ensures { IfOk result (λ l. map field_of l.fields.items ≡ map field_of fields.items) }
     {
-        let positions = positions_of(alloc, fields.as_slice())?;
+        let positions = field_positions(alloc, fields.as_slice())?;
         Ok(FieldList { fields, positions })
     }
 
@@ -116,15 +116,4 @@ impl FieldList {
         }
         Ok(())
     }
-}
-
-/// Where each name first stands among some fields.
-fn positions_of(alloc: Global, fields: &[Field]) -> Result<NamePositions, AllocError>
-    ensures { IfOk result (λ p. IsIndex p (map field_of fields.now)) }
-{
-    let mut positions = NamePositions::new(alloc);
-    for (i, field) in fields.iter().enumerate() {
-        let _ = positions.insert(alloc, field.name.as_bytes(), i)?;
-    }
-    Ok(positions)
 }

@@ -1,5 +1,6 @@
 -- Where names stand among fields: among the same fields as a list, and which property a name finds by it.
-use Rattle.std.proofs.Common.{◌≡◌, ◌+◌, ◌<◌, ℕ, List, [], ◌∷◌, map, length, get_or, suc, arith, refl, sym, ap, ◌∙◌, Bool, true, false, Option, Some, None, option_map}
+use Rattle.std.proofs.Common.{◌≡◌, ◌+◌, ◌<◌, ℕ, List, [], ◌∷◌, map, take, length, get_or, suc, arith, refl, sym, ap, ◌∙◌, Bool, true, false, Option, Some, None, option_map}
+use Rattle.std.specs.Option.{option_or}
 use Rattle.std.specs.Prelude.{if◌then◌else◌}
 use Rattle.std.proofs.Math.ListN.{get_or-map}
 use Rattle.al_base.specs.Names.{same_name}
@@ -11,7 +12,7 @@ use Rattle.al_types.specs.Positions.{field_position, first_at}
 use Rattle.al_types.specs.Types.{Type', Fields, NoField, FieldThen, field_at, field_or_rest, property_in}
 use Rattle.al_types.specs.TypeViews.{ty_of, object_of, fields_of}
 use Rattle.al_types.specs.Private.TypeParts.{field_of, fields_of_type, rest_of_type}
-use Rattle.al_types.proofs.PositionLemmas.{found_within}
+use Rattle.al_types.proofs.PositionLemmas.{found_within, position_next}
 use Rattle.al_types.proofs.TypeFields.{object_fields}
 
 abbrev is_named : List ℕ → List ℕ × Type' → Bool
@@ -24,6 +25,14 @@ position_listed (f ∷ fs) n = ap (λ o. if same_name f.0 n then Some 0 else opt
 -- among fields as a list
 pub positions_listed : (fs : List (List ℕ × Type')) → field_position (fields_of fs) ≡ (λ n. first_at (λ f. same_name f.0 n) fs)
 positions_listed fs = λ d n. position_listed fs n d
+
+-- with the field at an index
+pub fields_next : (fs : List Field) (i : ℕ) (f : Field) (old new : List ℕ → Option ℕ) → i < length fs → f ≡ get_or fs i f →
+    old ≡ field_position (fields_of (map field_of (take i fs))) → new ≡ (λ n. option_or (old n) (if same_name (field_of f).0 n then Some i else None)) →
+    new ≡ field_position (fields_of (map field_of (take (i + 1) fs)))
+fields_next fs i f old new h e o n =
+    position_next field_of (λ (g : List ℕ × Type'). g.0) same_name fs i f old new h e (o ∙ positions_listed (map field_of (take i fs))) n
+    ∙ sym (positions_listed (map field_of (take (i + 1) fs)))
 
 there_step : (b : Bool) (o : Option ℕ) (f : List ℕ × Type') (fs : List (List ℕ × Type')) (found : Option Type') (i : ℕ) (d : List ℕ × Type') →
     ((j : ℕ) → o ≡ Some j → found ≡ Some (get_or fs j d).1) → (if b then Some 0 else option_map (λ k. k + 1) o) ≡ Some i →
@@ -42,13 +51,13 @@ field_there [] n i d e = absurd cc
 field_there (f ∷ fs) n i d e =
     there_step (same_name f.0 n) (field_position (fields_of fs) n) f fs (field_at n (fields_of fs)) i d (λ j h. field_there fs n j d h) e
 
-nowhere_step : (b : Bool) (o : Option ℕ) (t : Type') (found : Option Type') → (o ≡ None → found ≡ None) →
-    (if b then Some 0 else option_map (λ k. k + 1) o) ≡ None → (if b then Some t else found) ≡ None
+nowhere_step : (b : Bool) (o : Option ℕ) (t : Type') (found : Option Type') → (o ≡ None → None ≡ found) →
+    (if b then Some 0 else option_map (λ k. k + 1) o) ≡ None → None ≡ (if b then Some t else found)
 nowhere_step true o t found h e = absurd cc
 nowhere_step false None t found h e = h refl
 nowhere_step false (Some j) t found h e = absurd cc
 
-field_nowhere : (fs : Fields) (n : List ℕ) → field_position fs n ≡ None → field_at n fs ≡ None
+pub field_nowhere : (fs : Fields) (n : List ℕ) → field_position fs n ≡ None → None ≡ field_at n fs
 field_nowhere NoField n e = refl
 field_nowhere (FieldThen m t fs) n e = nowhere_step (same_name m n) (field_position fs n) t (field_at n fs) (λ h. field_nowhere fs n h) e
 
@@ -57,7 +66,7 @@ field_nowhere (FieldThen m t fs) n e = nowhere_step (same_name m n) (field_posit
 pub property_of_parts : (n : List ℕ) (o : Object) → property_in n (object_of o) ≡ field_or_rest (field_at n (fields_of_type (object_of o))) (rest_of_type (object_of o))
 property_of_parts n (Object' s f r) = refl
 
-fields_listed : (o : Object) → fields_of_type (object_of o) ≡ fields_of (map field_of (out-Object o).fields.items)
+pub fields_listed : (o : Object) → fields_of_type (object_of o) ≡ fields_of (map field_of (out-Object o).fields.items)
 fields_listed o = ap fields_of_type (object_fields o)
 
 -- a position is one of its fields
@@ -66,23 +75,15 @@ position_inside o n i e =
     found_within field_of (is_named n) (out-Object o).fields.items i
     (sym (position_listed (map field_of (out-Object o).fields.items) n) ∙ ap (λ fs. field_position fs n) (sym (fields_listed o)) ∙ e)
 
--- and the field there has its property
-pub property_there : (o : Object) (n : List ℕ) (i : ℕ) (f : Field) → field_position (fields_of_type (object_of o)) n ≡ Some i →
-    f ≡ get_or (out-Object o).fields.items i f → Some (ty_of f.ty) ≡ property_in n (object_of o)
-property_there o n i f e h =
+-- and the field there has the type that the name finds
+pub type_there : (o : Object) (n : List ℕ) (i : ℕ) (f : Field) → field_position (fields_of_type (object_of o)) n ≡ Some i →
+    f ≡ get_or (out-Object o).fields.items i f → Some (ty_of f.ty) ≡ field_at n (fields_of_type (object_of o))
+type_there o n i f e h =
     let items = (out-Object o).fields.items in
     let fs : List (List ℕ × Type') = map field_of items in
     let here : field_position (fields_of fs) n ≡ Some i = ap (λ gs. field_position gs n) (sym (fields_listed o)) ∙ e in
     let got : get_or fs i (field_of f) ≡ field_of f = get_or-map field_of items i f ∙ ap field_of (sym h) in
-    let found : field_at n (fields_of_type (object_of o)) ≡ Some (ty_of f.ty) =
-    ap (field_at n) (fields_listed o) ∙ field_there fs n i (field_of f) here ∙ ap (λ (g : List ℕ × Type'). Some g.1) got in
-    sym (property_of_parts n o ∙ ap (λ x. field_or_rest x (rest_of_type (object_of o))) found)
-
--- one without a position has the property that all other fields have
-pub property_beside : (o : Object) (n : List ℕ) → field_position (fields_of_type (object_of o)) n ≡ None →
-    field_or_rest None (rest_of_type (object_of o)) ≡ property_in n (object_of o)
-property_beside o n e =
-    sym (property_of_parts n o ∙ ap (λ x. field_or_rest x (rest_of_type (object_of o))) (field_nowhere (fields_of_type (object_of o)) n e))
+    sym (ap (field_at n) (fields_listed o) ∙ field_there fs n i (field_of f) here ∙ ap (λ (g : List ℕ × Type'). Some g.1) got)
 
 -- a type that is no object has none
 pub no_property : (t : Ty) (n : List ℕ) → ((x : Object) → t ≡ code.Object x → ⊥) → None ≡ property_in n (ty_of t)

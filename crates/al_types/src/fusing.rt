@@ -6,6 +6,7 @@ ghost use Rattle.al_types.specs.Types as types;
 ghost use Rattle.al_types.specs.TypeViews.{ty_of, object_of, fields_of};
 ghost use Rattle.al_types.specs.Private.TypeParts.{rest_of, field_of, fields_of_type, missing_list, fuse_with_form};
 
+use crate::finding::FieldFinder;
 use crate::types::{Field, Form, Object, Ty, copy, copy_rest};
 use std::alloc::{AllocError, Global};
 
@@ -60,8 +61,8 @@ fn fuse_object(alloc: Global, x: &Object, b: &Ty) -> Result<Ty, AllocError>
 {
     match b {
         Ty::Object(y) => {
-            let mut fields = fuse_fields(alloc, x, y)?;
-            add_missing(alloc, x, y, &mut fields)?;
+            let mut fields = fuse_fields(alloc, x, &FieldFinder::of(alloc, y)?)?;
+            add_missing(alloc, &FieldFinder::of(alloc, x)?, y, &mut fields)?;
             let rest = fuse_rest(alloc, &x.rest, &y.rest)?;
             Ok(Ty::Object(Object { fields, rest }))
         }
@@ -71,14 +72,14 @@ fn fuse_object(alloc: Global, x: &Object, b: &Ty) -> Result<Ty, AllocError>
 
 // The fields of the first object, each fused with the second's of its name.
 #[cycle(fusing)]
-fn fuse_fields(alloc: Global, x: &Object, y: &Object) -> Result<Vec<Field>, AllocError>
+fn fuse_fields(alloc: Global, x: &Object, y: &FieldFinder<'_>) -> Result<Vec<Field>, AllocError>
     ensures { IfOk result (λ v. fields_of (map field_of v.items)
-        ≡ types.fuse_fields (fields_of_type (object_of x.now)) (fields_of_type (object_of y.now))) }
+        ≡ types.fuse_fields (fields_of_type (object_of x.now)) (fields_of_type (object_of y.now.object.now))) }
 {
     let mut fields = Vec::new(alloc);
     for field in &x.fields {
         let name = field.name.clone()?;
-        let ty = match y.field(field.name.as_str()) {
+        let ty = match y.field(alloc, field.name.as_str())? {
             Some(other) => fuse(alloc, &field.ty, other)?,
             None => copy(alloc, &field.ty)?,
         };
@@ -90,15 +91,15 @@ fn fuse_fields(alloc: Global, x: &Object, y: &Object) -> Result<Vec<Field>, Allo
 // The fields of the second object that the first has not.
 fn add_missing(
     alloc: Global,
-    x: &Object,
+    x: &FieldFinder<'_>,
     y: &Object,
     fields: &mut Vec<Field>,
 ) -> Result<(), AllocError>
     ensures { OnOk result (map field_of fields.new.items ≡ map field_of fields.old.items
-        ++ missing_list (fields_of_type (object_of x.now)) (fields_of_type (object_of y.now))) }
+        ++ missing_list (fields_of_type (object_of x.now.object.now)) (fields_of_type (object_of y.now))) }
 {
     for field in &y.fields {
-        if !x.has_field(field.name.as_str()) {
+        if !x.has_field(alloc, field.name.as_str())? {
             let name = field.name.clone()?;
             let ty = copy(alloc, &field.ty)?;
             fields.push(Field { name, ty })?;

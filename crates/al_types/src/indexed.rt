@@ -6,12 +6,10 @@ ghost use Rattle.al_types.specs.TypeViews.{ty_of, object_of, fields_of};
 ghost use Rattle.al_types.specs.Private.Positions.{IsFieldIndex};
 ghost use Rattle.al_types.specs.Private.TypeParts.{field_of, fields_of_type};
 
+use crate::finding::{FEW, field_by};
 use crate::positions::NamePositions;
 use crate::types::{Field, Object, Ty};
 use std::alloc::{AllocError, Global};
-
-/// So many fields are looked through one by one, which takes no memory and less time.
-const FEW: usize = 8;
 
 /// A type, and where it is an object, where each name first stands among its fields. Finding a property takes time that grows with the
 /// logarithm of their number.
@@ -77,6 +75,7 @@ impl IndexedType {
 }
 
 /// The type of a property of an object whose names stand at these positions.
+#[tactic(auto, using(crate::proofs::FieldPositions::property_of_parts))]
 fn property_by<'a>(
     alloc: Global,
     object: &'a Object,
@@ -89,8 +88,8 @@ fn property_by<'a>(
     if object.fields.len() <= FEW {
         return Ok(object.property(name));
     }
-    match positions.get(alloc, name.as_bytes())? {
-        Some(i) => Ok(Some(&object.fields[i].ty)),
+    match field_by(alloc, object, positions, name)? {
+        Some(ty) => Ok(Some(ty)),
         None => Ok(object.other()),
     }
 }

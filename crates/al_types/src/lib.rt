@@ -2,6 +2,7 @@
 //! where names stand in a list.
 #![tactic(auto)]
 
+mod finding;
 mod fusing;
 mod indexed;
 mod names;
@@ -11,6 +12,7 @@ mod scope;
 mod signatures;
 mod types;
 
+pub use finding::field_positions;
 pub use fusing::fuse;
 pub use indexed::IndexedType;
 pub use names::{Context, Function};

@@ -1,7 +1,7 @@
 //! Types of expressions.
 
 ghost use Rattle.std.specs.Prelude.{◌≡◌, IfOk, None, option_map};
-ghost use Rattle.al_types.specs.Types.{field_at, field_or_rest, has_field, is_collection, is_plain, property_in};
+ghost use Rattle.al_types.specs.Types.{field_at, field_or_rest, is_collection, is_plain, property_in};
 ghost use Rattle.al_types.specs.TypeViews.{ty_of, object_of};
 ghost use Rattle.al_types.specs.Private.TypeParts.{rest_of, form_of, fields_of_type, rest_of_type};
 
@@ -128,14 +128,6 @@ impl Object {
             Some(ty) => Some(ty),
             None => self.other(),
         }
-    }
-
-    /// Whether there is a field of this name, in any ASCII case.
-    #[tactic(auto, using(crate::proofs::Fused::has_field_at))]
-    pub fn has_field(&self, name: &str) -> bool
-        ensures { result ≡ has_field name.now (fields_of_type (object_of self.now)) }
-    {
-        self.field(name).is_some()
     }
 }
 

@@ -5,4 +5,4 @@ use Rattle.al_types.proofs.Fused.{fused_field}
 use Rattle.al_types.proofs.fusing.+fusing.Given as goal
 
 abbrev pub invariant-fuse_fields-loop-field : goal.invariant-fuse_fields-loop-field
-invariant-fuse_fields-loop-field l = map field_of l.fields.items ≡ map (fused_field (fields_of_type (object_of l.y))) (map field_of (take l.field-index l.field-items))
+invariant-fuse_fields-loop-field l = map field_of l.fields.items ≡ map (fused_field (fields_of_type (object_of l.y.object.now))) (map field_of (take l.field-index l.field-items))

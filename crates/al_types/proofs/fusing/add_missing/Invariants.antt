@@ -4,6 +4,6 @@ use Rattle.al_types.specs.Private.TypeParts.{field_of, fields_of_type, missing_l
 use Rattle.al_types.proofs.fusing.add_missing.Given as goal
 
 abbrev pub invariant-loop-field : goal.invariant-loop-field
-invariant-loop-field l = map field_of l.fields.items ++ missing_list (fields_of_type (object_of l.x))
+invariant-loop-field l = map field_of l.fields.items ++ missing_list (fields_of_type (object_of l.x.object.now))
     (fields_of (map field_of (drop l.field-index l.field-items))) ≡ map field_of l.initial.fields.items
-    ++ missing_list (fields_of_type (object_of l.x)) (fields_of_type (object_of l.y))
+    ++ missing_list (fields_of_type (object_of l.x.object.now)) (fields_of_type (object_of l.y))

@@ -3,8 +3,8 @@ use Rattle.al_types.specs.declared.types.Object.{out-Object}
 use Rattle.al_types.specs.Positions.{field_position}
 use Rattle.al_types.specs.TypeViews.{object_of}
 use Rattle.al_types.specs.Private.TypeParts.{fields_of_type}
-use Rattle.al_types.proofs.FieldPositions.{position_inside, property_beside, property_of_parts, property_there}
-use Rattle.al_types.proofs.indexed.property_by.Goals as goal
+use Rattle.al_types.proofs.FieldPositions.{field_nowhere, position_inside, type_there}
+use Rattle.al_types.proofs.finding.field_by.Goals as goal
 
 pub index-requires : goal.index-requires
 index-requires c =
@@ -19,14 +19,11 @@ returns-in-Some c =
     let o = c.args.object.now in
     let name = c.as_bytes.result.now in
     let at : field_position (fields_of_type (object_of o)) name ≡ Some c.in-Some.i = ap (λ f. f name) (sym c.requires) ∙ sym c.in_ok-i.ensures ∙ c.in-Some.is in
-    rw (← c.as_bytes.ensures.value) (property_there o name c.in-Some.i c.index.result.now at c.index.ensures)
+    rw (← c.as_bytes.ensures.value) (type_there o name c.in-Some.i c.index.result.now at c.index.ensures)
 
 pub returns-in-None : goal.returns-in-None
 returns-in-None c =
     let o = c.args.object.now in
     let name = c.as_bytes.result.now in
     let at : field_position (fields_of_type (object_of o)) name ≡ None = ap (λ f. f name) (sym c.requires) ∙ sym c.in_ok-i.ensures ∙ c.in-None.is in
-    rw (← c.as_bytes.ensures.value) (c.other.ensures ∙ property_beside o name at)
-
-pub returns-then-len-le-FEW : goal.returns-then-len-le-FEW
-returns-then-len-le-FEW c = c.property.ensures ∙ sym (property_of_parts c.args.name.now c.args.object.now)
+    rw (← c.as_bytes.ensures.value) (field_nowhere (fields_of_type (object_of o)) name at)

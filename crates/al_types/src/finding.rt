@@ -1,0 +1,89 @@
+//! Fields of an object, found by their names.
+
+ghost use Rattle.std.specs.Prelude.{◌≡◌, IfOk, map, option_map};
+ghost use Rattle.std.specs.Option.{ForSome};
+ghost use Rattle.al_types.specs.Types.{field_at, has_field};
+ghost use Rattle.al_types.specs.TypeViews.{ty_of, object_of, fields_of};
+ghost use Rattle.al_types.specs.Private.Positions.{IsFieldIndex};
+ghost use Rattle.al_types.specs.Private.TypeParts.{field_of, fields_of_type};
+
+use crate::positions::NamePositions;
+use crate::types::{Field, Object, Ty};
+use std::alloc::{AllocError, Global};
+
+/// So many fields, and nearly all objects have no more, are looked through one by one, which takes no memory and less time.
+pub(crate) const FEW: usize = 8;
+
+/// Where each name first stands among some fields. Fails with `AllocError` for want of memory.
+pub fn field_positions(alloc: Global, fields: &[Field]) -> Result<NamePositions, AllocError>
+    ensures { IfOk result (λ p. IsFieldIndex p (fields_of (map field_of fields.now))) }
+{
+    let mut positions = NamePositions::new(alloc);
+    for (i, field) in fields.iter().enumerate() {
+        let _ = positions.insert(alloc, field.name.as_bytes(), i)?;
+    }
+    Ok(positions)
+}
+
+/// The type of the first field of a name, in an object whose names stand at these positions.
+pub(crate) fn field_by<'a>(
+    alloc: Global,
+    object: &'a Object,
+    positions: &NamePositions,
+    name: &str,
+) -> Result<Option<&'a Ty>, AllocError>
+    requires { IsFieldIndex positions.now (fields_of_type (object_of object.now)) }
+    ensures { IfOk result (λ found. option_map (λ t. ty_of t.now) found ≡ field_at name.now (fields_of_type (object_of object.now))) }
+{
+    match positions.get(alloc, name.as_bytes())? {
+        Some(i) => Ok(Some(&object.fields[i].ty)),
+        None => Ok(None),
+    }
+}
+
+/// An object's fields, found by their names. Finding one takes time that grows with the logarithm of their number.
+#[derive(Drop)]
+pub(crate) struct FieldFinder<'a> {
+    object: &'a Object,
+    /// Where each name first stands, unless the fields are few.
+    positions: Option<NamePositions>,
+    ghost indexed: { ForSome positions (λ p. IsFieldIndex p (fields_of_type (object_of object.now))) },
+}
+
+impl<'a> FieldFinder<'a> {
+    /// The fields of an object. Fails with `AllocError` for want of memory, as all below.
+    pub(crate) fn of(alloc: Global, object: &'a Object) -> Result<FieldFinder<'a>, AllocError>
+        ensures { IfOk result (λ f. object_of f.object.now ≡ object_of object.now) }
+    {
+        if object.fields.len() <= FEW {
+            return Ok(FieldFinder {
+                object,
+                positions: None,
+            });
+        }
+        let positions = field_positions(alloc, object.fields.as_slice())?;
+        Ok(FieldFinder {
+            object,
+            positions: Some(positions),
+        })
+    }
+
+    /// The type of the first field of a name, in any ASCII case: none where no field has it. The type of other fields is not looked at.
+    pub(crate) fn field(&self, alloc: Global, name: &str) -> Result<Option<&Ty>, AllocError>
+        ensures { IfOk result (λ found. option_map (λ t. ty_of t.now) found
+            ≡ field_at name.now (fields_of_type (object_of self.now.object.now))) }
+    {
+        match &self.positions {
+            Some(positions) => field_by(alloc, self.object, positions, name),
+            None => Ok(self.object.field(name)),
+        }
+    }
+
+    /// Whether there is a field of this name, in any ASCII case.
+    pub(crate) fn has_field(&self, alloc: Global, name: &str) -> Result<bool, AllocError>
+        ensures { IfOk result (λ b. b ≡ has_field name.now (fields_of_type (object_of self.now.object.now))) }
+    {
+        let found = self.field(alloc, name)?;
+        Ok(found.is_some())
+    }
+}
