@@ -11,8 +11,9 @@ use crate::positions::NamePositions;
 use crate::types::{Field, Object, Ty};
 use std::alloc::{AllocError, Global};
 
-/// So many fields, and nearly all objects have no more, are looked through one by one, which takes no memory and less time.
-pub(crate) const FEW: usize = 8;
+/// So many fields, and nearly all objects have no more, are looked through one by one for each name: that takes no memory, and less time
+/// than to find out where their names stand.
+const FEW: usize = 32;
 
 /// Where each name first stands among some fields. Fails with `AllocError` for want of memory.
 pub fn field_positions(alloc: Global, fields: &[Field]) -> Result<NamePositions, AllocError>

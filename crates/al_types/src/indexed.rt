@@ -6,10 +6,13 @@ ghost use Rattle.al_types.specs.TypeViews.{ty_of, object_of, fields_of};
 ghost use Rattle.al_types.specs.Private.Positions.{IsFieldIndex};
 ghost use Rattle.al_types.specs.Private.TypeParts.{field_of, fields_of_type};
 
-use crate::finding::{FEW, field_by};
+use crate::finding::field_by;
 use crate::positions::NamePositions;
 use crate::types::{Field, Object, Ty};
 use std::alloc::{AllocError, Global};
+
+/// So many fields are looked through one by one, which takes no memory and less time.
+const FEW: usize = 8;
 
 /// A type, and where it is an object, where each name first stands among its fields. Finding a property takes time that grows with the
 /// logarithm of their number.

@@ -10,5 +10,6 @@ pub invariant_of-result-2 : goal.invariant_of-result-2
 invariant_of-result-2 c =
     let o = c.args.object.now in
     let positions = c.in_ok-positions.positions in
-    let index : IsFieldIndex positions (fields_of_type (object_of o)) = c.in_ok-positions.ensures ∙ ap (λ fs. field_position (fields_of (map field_of fs))) c.as_slice.ensures.value ∙ ap field_position (sym (fields_listed o)) in
+    let index : IsFieldIndex positions (fields_of_type (object_of o)) =
+    c.in_ok-positions.ensures ∙ ap (λ fs. field_position (fields_of (map field_of fs))) c.as_slice.ensures.value ∙ ap field_position (sym (fields_listed o)) in
     record { indexed = λ x e. let same : positions ≡ x = cc in subst (λ p. IsFieldIndex p (fields_of_type (object_of o))) same index }
