@@ -64,6 +64,14 @@ def calls_that_lack():
     return {WORKFLOW: STEPS + b"      - uses: ./a\n" * count, ACTION: ACTION_FILE}, told
 
 
+def calls_of_many_optional_inputs():
+    """Calls of an action with many inputs that needn't be given, in about as many nodes as a file may have."""
+    inputs = b",".join(b"i%d:" % number for number in range(40_000))
+    action = b"name: A\ndescription: d\ninputs: {%s}\nruns: {using: node20, main: m.js}\n" % inputs
+    steps = b",".join([b"{uses: ./a}"] * 30_000)
+    return {WORKFLOW: b"on: push\njobs: {a: {runs-on: u, steps: [%s]}}\n" % steps, ACTION: action}, b""
+
+
 def aliases_of_a_call():
     """Aliases of a step that lacks a thousand inputs: the report has a line for each input."""
     steps = STEPS + b"      - &s\n        uses: ./a\n" + b"      - *s\n" * 30_000
@@ -79,5 +87,6 @@ FOLDERS = {
     "13000-jobs-that-need-10000-outputs": jobs_that_call,
     "chain-of-16000-needs": chain_of_needs,
     "2400-calls-that-lack-1000-inputs": calls_that_lack,
+    "30000-calls-of-40000-optional-inputs": calls_of_many_optional_inputs,
     "30000-aliases-of-a-step-that-lacks-1000-inputs": aliases_of_a_call,
 }

@@ -22,6 +22,7 @@ use Rattle.al_declarations.specs.Declarations.{named_among, names_of}
 use Rattle.al_declarations.specs.Inputs.{input_type}
 use Rattle.al_declarations.specs.declared.inputs.InputType.{InputType}
 use Rattle.al_declarations.specs.declared.inputs.InputType.TheVariants as input
+use Rattle.al_interfaces.specs.Mandatory.{is_mandatory}
 use Rattle.al_interfaces.specs.Names.{has_input, has_secret, is_input}
 use Rattle.al_interfaces.specs.declared.interfaces.Interface.{Interface}
 use Rattle.al_interfaces.specs.declared.interfaces.Interface.TheVariants.{Readable, Unreadable}
@@ -104,7 +105,7 @@ extra_input c s shown e =
     else fault code.UndefinedInput c (span_of e.0) (key_of e ∷ called c s ∷ []) ∷ []
 
 abbrev pub is_missing : Names → Input → Bool
-is_missing given i = i.required && not i.has_default && not (given i.name)
+is_missing given i = is_mandatory i && not (given i.name)
 
 -- C3: a required input that isn't given
 abbrev pub missing_input : Call → Signature → Names → Input → List Fault

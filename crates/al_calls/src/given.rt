@@ -3,6 +3,7 @@
 
 ghost use Rattle.std.specs.Prelude.{◌≡◌, ◌++◌, map, IfOk, OnOk};
 ghost use Rattle.al_calls.specs.CallFaults as faults;
+ghost use Rattle.al_calls.specs.Private.Ungiven.{ungiven_input};
 ghost use Rattle.al_declarations.specs.Private.NameSets.{holds};
 ghost use Rattle.al_shape.specs.Values.{member_of};
 ghost use Rattle.al_uses.specs.Private.CallViews.{call_of};
@@ -85,20 +86,8 @@ fn check_extra_inputs(
     Ok(())
 }
 
-fn is_missing(alloc: Global, given: &NameSet, input: &Input) -> Result<bool, AllocError>
-    ensures { IfOk result (λ b. b ≡ faults.is_missing (holds given.now) input.now) }
-{
-    if !input.required {
-        return Ok(false);
-    }
-    if input.has_default {
-        return Ok(false);
-    }
-    Ok(!given.contains(alloc, input.name.as_bytes())?)
-}
-
-/// C3.
-fn check_missing_input(
+/// C3 of an input that each call has to give.
+fn check_mandatory_input(
     alloc: Global,
     call: &Call<'_>,
     signature: &Signature,
@@ -107,10 +96,10 @@ fn check_missing_input(
     out: &mut Vec<Fault>,
 ) -> Result<(), AllocError>
     ensures ok { OnOk result (out.new.items ≡ out.old.items
-        ++ faults.missing_input (call_of call.now) signature.now (holds given.now) input.now) }
+        ++ ungiven_input (call_of call.now) signature.now (holds given.now) input.now) }
     ensures begins { BeginsWith out.new.items out.old.items }
 {
-    if !is_missing(alloc, given, input)? {
+    if given.contains(alloc, input.name.as_bytes())? {
         return Ok(());
     }
     report_two(
@@ -135,8 +124,9 @@ fn check_missing_inputs(
         ++ faults.missing_inputs (call_of call.now) (holds given.now) signature.now) }
     ensures begins { BeginsWith out.new.items out.old.items }
 {
-    for input in signature.inputs.as_slice() {
-        check_missing_input(alloc, call, signature, given, input, out)?;
+    for i in 0..signature.inputs.mandatory_len() {
+        let input = signature.inputs.mandatory(i);
+        check_mandatory_input(alloc, call, signature, given, input, out)?;
     }
     Ok(())
 }

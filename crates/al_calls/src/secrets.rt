@@ -1,8 +1,9 @@
 //! Secrets that a job gives, against those that the called workflow shows: C5 and C6.
 #![tactic(auto, using(al_base::proofs::Growing::growth))]
 
-ghost use Rattle.std.specs.Prelude.{◌≡◌, ◌++◌, map, IfOk, OnOk};
+ghost use Rattle.std.specs.Prelude.{◌≡◌, ◌++◌, map, OnOk};
 ghost use Rattle.al_calls.specs.CallFaults as faults;
+ghost use Rattle.al_calls.specs.Private.Ungiven.{ungiven_secret};
 ghost use Rattle.al_declarations.specs.Private.NameSets.{holds};
 ghost use Rattle.al_shape.specs.Values.{member_of};
 ghost use Rattle.al_uses.specs.Private.CallViews.{call_of};
@@ -63,17 +64,8 @@ fn check_extra_secrets(
     Ok(())
 }
 
-fn is_missing_secret(alloc: Global, given: &NameSet, secret: &Secret) -> Result<bool, AllocError>
-    ensures { IfOk result (λ b. b ≡ faults.is_missing_secret (holds given.now) secret.now) }
-{
-    if !secret.required {
-        return Ok(false);
-    }
-    Ok(!given.contains(alloc, secret.name.as_bytes())?)
-}
-
-/// C6.
-fn check_missing_secret(
+/// C6 of a secret that each call has to give.
+fn check_mandatory_secret(
     alloc: Global,
     call: &Call<'_>,
     signature: &Signature,
@@ -82,10 +74,10 @@ fn check_missing_secret(
     out: &mut Vec<Fault>,
 ) -> Result<(), AllocError>
     ensures ok { OnOk result (out.new.items ≡ out.old.items
-        ++ faults.missing_secret (call_of call.now) signature.now (holds given.now) secret.now) }
+        ++ ungiven_secret (call_of call.now) signature.now (holds given.now) secret.now) }
     ensures begins { BeginsWith out.new.items out.old.items }
 {
-    if !is_missing_secret(alloc, given, secret)? {
+    if given.contains(alloc, secret.name.as_bytes())? {
         return Ok(());
     }
     report_two(
@@ -110,8 +102,9 @@ fn check_missing_secrets(
         ++ faults.missing_secrets (call_of call.now) (holds given.now) signature.now) }
     ensures begins { BeginsWith out.new.items out.old.items }
 {
-    for secret in signature.secrets.as_slice() {
-        check_missing_secret(alloc, call, signature, given, secret, out)?;
+    for i in 0..signature.secrets.mandatory_len() {
+        let secret = signature.secrets.mandatory(i);
+        check_mandatory_secret(alloc, call, signature, given, secret, out)?;
     }
     Ok(())
 }

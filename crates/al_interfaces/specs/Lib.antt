@@ -1,4 +1,5 @@
 pub mod Interfaces
 pub mod Names
+pub mod Mandatory
 pub mod Equality
 pub mod Private

@@ -1,10 +1,12 @@
-//! The inputs and the secrets of an interface, found by their names, which are made ready once for all calls.
-ghost use Rattle.std.specs.Prelude.{◌≡◌, find, IfOk};
+//! The inputs and the secrets of an interface. Their names, and which of them each call has to give, are made ready once for all calls.
+ghost use Rattle.std.specs.Prelude.{◌≡◌, ◌<◌, find, length, slice_index_or, IfOk};
 ghost use Rattle.std.specs.Option.{option_copied};
 ghost use Rattle.al_types.specs.Private.Positions.{name_position};
 ghost use Rattle.al_declarations.specs.Private.NameSets.{holds};
+ghost use Rattle.al_interfaces.specs.Mandatory.{is_mandatory, mandatory_inputs, mandatory_secrets};
 ghost use Rattle.al_interfaces.specs.Names.{has_input, has_secret, is_input};
 ghost use Rattle.al_interfaces.specs.Private.InputPositions.{input_positions};
+ghost use Rattle.al_interfaces.specs.Private.Places.{StandAt};
 
 use crate::interfaces::{Input, Secret};
 use al_declarations::NameSet;
@@ -12,25 +14,29 @@ use al_types::NamePositions;
 use std::alloc::{AllocError, Global};
 use std::marker::Model;
 
-/// Inputs in order, and where each name first stands among them. Contracts see their list. Finding one by its name takes time that
-/// grows with the logarithm of their number, and with the name's length.
+/// Inputs in order, where each name first stands among them, and where those stand that each call has to give. Contracts see their list.
+/// Finding one by its name takes time that grows with the logarithm of their number, and with the name's length.
 #[derive(Drop)]
 pub struct InputList {
     inputs: Vec<Input>,
     positions: NamePositions,
+    mandatory: Vec<usize>,
 }
 
 impl Model for InputList {
     ghost use Rattle.std.specs.Prelude.{◌≡◌, List};
     ghost use Rattle.al_types.specs.Private.Positions.{name_position};
     ghost use Rattle.al_interfaces.specs.declared.interfaces.Input.{Input};
+    ghost use Rattle.al_interfaces.specs.Mandatory.{mandatory_inputs};
     ghost use Rattle.al_interfaces.specs.Private.InputPositions.{input_positions};
+    ghost use Rattle.al_interfaces.specs.Private.Places.{StandAt};
 
     ghost Value = { List Input };
 
     ghost view = { λ a. a.inputs.items };
 
-    ghost invariant = { λ a. name_position a.positions ≡ input_positions a.inputs.items };
+    ghost invariant = { λ a. (name_position a.positions ≡ input_positions a.inputs.items)
+        × StandAt a.mandatory.items (mandatory_inputs a.inputs.items) a.inputs.items };
 }
 
 /// Where the first input with each name stands.
@@ -44,13 +50,38 @@ fn positions_of(alloc: Global, inputs: &[Input]) -> Result<NamePositions, AllocE
     Ok(positions)
 }
 
+/// Whether each call has to give an input.
+fn is_mandatory(input: &Input) -> bool
+    ensures { result ≡ is_mandatory input.now }
+{
+    input.required && !input.has_default
+}
+
+/// Where the inputs stand that each call has to give.
+fn mandatory_inputs(alloc: Global, inputs: &[Input]) -> Result<Vec<usize>, AllocError>
+    ensures { IfOk result (λ places. StandAt places.items (mandatory_inputs inputs.now) inputs.now) }
+{
+    let mut places = Vec::new(alloc);
+    for (i, input) in inputs.iter().enumerate() {
+        if is_mandatory(input) {
+            places.push(i)?;
+        }
+    }
+    Ok(places)
+}
+
 impl InputList {
     /// The list of these inputs. Fails with `AllocError` for want of memory.
     pub(crate) fn new(alloc: Global, inputs: Vec<Input>) -> Result<InputList, AllocError>
         ensures { IfOk result (λ l. l ≡ inputs.items) }
     {
         let positions = positions_of(alloc, inputs.as_slice())?;
-        Ok(InputList { inputs, positions })
+        let mandatory = mandatory_inputs(alloc, inputs.as_slice())?;
+        Ok(InputList {
+            inputs,
+            positions,
+            mandatory,
+        })
     }
 
     /// The inputs.
@@ -58,6 +89,22 @@ impl InputList {
         ensures { result.now ≡ self.now }
     {
         self.inputs.as_slice()
+    }
+
+    /// How many of the inputs each call has to give.
+    pub fn mandatory_len(&self) -> usize
+        ensures { result ≡ length (mandatory_inputs self.now) }
+    {
+        self.mandatory.len()
+    }
+
+    /// The input with an index among those that each call has to give.
+    pub fn mandatory(&self, index: usize) -> &Input
+        requires { index < length (mandatory_inputs self.now) }
+        ensures { result.now ≡ slice_index_or (mandatory_inputs self.now) index result.now }
+    {
+        let place = self.mandatory[index];
+        &self.inputs[place]
     }
 
     /// The first input with a name, in any ASCII case. Fails with `AllocError` for want of memory.
@@ -101,25 +148,29 @@ impl Eq for InputList {
     ghost laws = { lists_equiv input_laws.laws-law };
 }
 
-/// Secrets in order, and the set of their names. Contracts see their list. Looking a name up takes time that grows with the logarithm
-/// of their number, and with the name's length.
+/// Secrets in order, the set of their names, and where those stand that each call has to give. Contracts see their list. Looking a name
+/// up takes time that grows with the logarithm of their number, and with the name's length.
 #[derive(Drop)]
 pub struct SecretList {
     secrets: Vec<Secret>,
     names: NameSet,
+    mandatory: Vec<usize>,
 }
 
 impl Model for SecretList {
     ghost use Rattle.std.specs.Prelude.{◌≡◌, List};
     ghost use Rattle.al_declarations.specs.Private.NameSets.{holds};
     ghost use Rattle.al_interfaces.specs.declared.interfaces.Secret.{Secret};
+    ghost use Rattle.al_interfaces.specs.Mandatory.{mandatory_secrets};
     ghost use Rattle.al_interfaces.specs.Names.{has_secret};
+    ghost use Rattle.al_interfaces.specs.Private.Places.{StandAt};
 
     ghost Value = { List Secret };
 
     ghost view = { λ a. a.secrets.items };
 
-    ghost invariant = { λ a. holds a.names ≡ has_secret a.secrets.items };
+    ghost invariant = { λ a. (holds a.names ≡ has_secret a.secrets.items)
+        × StandAt a.mandatory.items (mandatory_secrets a.secrets.items) a.secrets.items };
 }
 
 /// The names of some secrets.
@@ -134,13 +185,31 @@ fn names_of(alloc: Global, secrets: &[Secret]) -> Result<NameSet, AllocError>
     Ok(names)
 }
 
+/// Where the secrets stand that each call has to give.
+fn mandatory_secrets(alloc: Global, secrets: &[Secret]) -> Result<Vec<usize>, AllocError>
+    ensures { IfOk result (λ places. StandAt places.items (mandatory_secrets secrets.now) secrets.now) }
+{
+    let mut places = Vec::new(alloc);
+    for (i, secret) in secrets.iter().enumerate() {
+        if secret.required {
+            places.push(i)?;
+        }
+    }
+    Ok(places)
+}
+
 impl SecretList {
     /// The list of these secrets. Fails with `AllocError` for want of memory.
     pub(crate) fn new(alloc: Global, secrets: Vec<Secret>) -> Result<SecretList, AllocError>
         ensures { IfOk result (λ l. l ≡ secrets.items) }
     {
         let names = names_of(alloc, secrets.as_slice())?;
-        Ok(SecretList { secrets, names })
+        let mandatory = mandatory_secrets(alloc, secrets.as_slice())?;
+        Ok(SecretList {
+            secrets,
+            names,
+            mandatory,
+        })
     }
 
     /// The secrets.
@@ -148,6 +217,22 @@ impl SecretList {
         ensures { result.now ≡ self.now }
     {
         self.secrets.as_slice()
+    }
+
+    /// How many of the secrets each call has to give.
+    pub fn mandatory_len(&self) -> usize
+        ensures { result ≡ length (mandatory_secrets self.now) }
+    {
+        self.mandatory.len()
+    }
+
+    /// The secret with an index among those that each call has to give.
+    pub fn mandatory(&self, index: usize) -> &Secret
+        requires { index < length (mandatory_secrets self.now) }
+        ensures { result.now ≡ slice_index_or (mandatory_secrets self.now) index result.now }
+    {
+        let place = self.mandatory[index];
+        &self.secrets[place]
     }
 
     /// Whether a secret has a name, in any ASCII case. Fails with `AllocError` for want of memory.

@@ -6,4 +6,4 @@ use Rattle.al_interfaces.proofs.lists.SecretList.has.Goals as goal
 pub returns : goal.returns
 returns c =
     let name = c.args.name.now in
-    c.in_ok-found.ensures ∙ ap (λ f. f name) c.self.invariant ∙ ap (λ (l : List Secret). has_secret l name) c.self.view_is
+    c.in_ok-found.ensures ∙ ap (λ f. f name) c.self.invariant.0 ∙ ap (λ (l : List Secret). has_secret l name) c.self.view_is
