@@ -84,13 +84,6 @@ impl InputList {
         })
     }
 
-    /// The inputs.
-    pub fn as_slice(&self) -> &[Input]
-        ensures { result.now ≡ self.now }
-    {
-        self.inputs.as_slice()
-    }
-
     /// How many of the inputs each call has to give.
     pub fn mandatory_len(&self) -> usize
         ensures { result ≡ length (mandatory_inputs self.now) }
@@ -210,13 +203,6 @@ impl SecretList {
             names,
             mandatory,
         })
-    }
-
-    /// The secrets.
-    pub fn as_slice(&self) -> &[Secret]
-        ensures { result.now ≡ self.now }
-    {
-        self.secrets.as_slice()
     }
 
     /// How many of the secrets each call has to give.
