@@ -78,9 +78,35 @@ def aliases_of_a_call():
     return {WORKFLOW: steps, ACTION: ACTION_FILE}, lacking(b"7:15", b"A", b"action")
 
 
+def all_of_many_outputs():
+    """Expressions that are all of many outputs."""
+    steps = b"      - run: ${{ toJSON(needs.a.outputs) }}\n" * 12_000
+    return with_outputs(10_000, b"  b:\n    needs: a\n    runs-on: u\n    steps:\n" + steps), b""
+
+
+def values(count):
+    """So many outputs of a file that is called."""
+    return b", ".join(b"o%04d: {value: x}" % number for number in range(count))
+
+
+def jobs_that_call_one_with_many_outputs():
+    """Jobs that call a workflow with many outputs, each with an expression."""
+    called = b"on: {workflow_call: {outputs: {%s}}}\njobs: {a: {runs-on: u, steps: [{run: x}]}}\n" % values(10_000)
+    jobs = b"".join(b"  b%04d: {uses: ./%s/b.yml, if: github.ref}\n" % (number, WORKFLOWS.encode()) for number in range(4_000))
+    return {WORKFLOW: b"on: push\njobs:\n" + jobs, f"{WORKFLOWS}/b.yml": called}, b""
+
+
+def steps_that_call_one_with_many_outputs():
+    """Steps that call a composite action with many outputs, each with an expression."""
+    called = b"name: A\ndescription: d\noutputs: {%s}\nruns: {using: composite, steps: []}\n" % values(10_000)
+    steps = b"".join(b"      - {id: s%04d, uses: ./a, if: github.ref}\n" % number for number in range(4_000))
+    return {WORKFLOW: STEPS + steps, ACTION: called}, b""
+
+
 # by name what makes a folder's files, each a path with its bytes, and the lines of its report
 FOLDERS = {
     "last-of-10000-outputs-12000-times": last_of_many_outputs,
+    "all-of-10000-outputs-12000-times": all_of_many_outputs,
     "200-branches-with-10000-outputs": branches_with_many_outputs,
     "4000-jobs-that-need-4000-outputs": lambda: jobs_with_an_expression(b"${{ github.ref }}"),
     "4000-jobs-that-read-one-of-4000-outputs": lambda: jobs_with_an_expression(b"${{ needs.a.outputs.o0000 }}"),
@@ -88,5 +114,7 @@ FOLDERS = {
     "chain-of-16000-needs": chain_of_needs,
     "2400-calls-that-lack-1000-inputs": calls_that_lack,
     "30000-calls-of-40000-optional-inputs": calls_of_many_optional_inputs,
+    "4000-jobs-that-call-one-with-10000-outputs": jobs_that_call_one_with_many_outputs,
+    "4000-steps-that-call-one-with-10000-outputs": steps_that_call_one_with_many_outputs,
     "30000-aliases-of-a-step-that-lacks-1000-inputs": aliases_of_a_call,
 }

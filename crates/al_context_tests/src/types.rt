@@ -199,7 +199,7 @@ fn name_list(alloc: Global, names: &[&[u8]]) -> Result<NameList, AllocError> {
     for name in names {
         kept.push(Name::new(alloc, name)?)?;
     }
-    Ok(NameList::new(kept))
+    NameList::new(alloc, kept)
 }
 
 fn has_types_of_steps(alloc: Global, told: &[Told]) -> Result<bool, AllocError> {

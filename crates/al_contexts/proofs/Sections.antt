@@ -43,7 +43,7 @@ any_alone code.Number e n = cc
 any_alone code.Bool e n = cc
 any_alone code.String e n = cc
 any_alone (code.Array' p t) e n = cc
-any_alone (code.Object (Object' s f r)) e n = cc
+any_alone (code.Object' p (Object' s f r)) e n = cc
 
 pub kept_strategy : (t : Ty) → IsStrategy (ty_of t) → (t ≡ code.Any → ⊥) → ty_of t ≡ strategy_type
 kept_strategy t (inl e) n = absurd (any_alone t e n)

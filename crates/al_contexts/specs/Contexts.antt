@@ -20,7 +20,8 @@ use Rattle.al_declarations.specs.Declarations.{action_steps, has_value, is_compo
 use Rattle.al_contexts.specs.Fixed.{github_type, runner_type, job_type, strategy_type}
 use Rattle.al_contexts.specs.Inputs.{workflow_inputs, action_inputs}
 use Rattle.al_contexts.specs.Matrix.{matrix_type}
-use Rattle.al_contexts.specs.Objects.{Typed, firsts, strictly, loose_strings, loose_any, named_strings}
+use Rattle.al_types.specs.Strings.{named_strings}
+use Rattle.al_contexts.specs.Objects.{Typed, firsts, strictly, loose_strings, loose_any}
 
 -- What is known of the outputs behind calls: of the nth step of a job or, without a key, of an action, and of a job; None where nothing is.
 pub record Known : Type 0 where

@@ -27,14 +27,13 @@ use crate::jobs::jobs_type;
 use crate::known::{Answer, Outputs};
 use crate::matrix::matrix_type;
 use crate::needs::{ShownJobs, needs_type};
-use crate::objects::into_fields;
 use crate::scopes::{context_set, function_set};
 use crate::start::{NO_CONTEXTS, NO_FUNCTIONS, first_owner, first_types};
 use crate::steps::{no_steps, seen_count, seen_steps};
 use al_places::{Place, Position, Section, Seen};
 use al_shape::{Member, items_under, key_text};
 use al_tree::FileKind;
-use al_types::{IndexedType, Scope, Ty};
+use al_types::{IndexedType, Scope, Ty, into_fields};
 use al_yaml::Node;
 use std::alloc::{AllocError, Global};
 use std::mem::replace;
@@ -197,12 +196,15 @@ fn owner_at<'a>(job: Option<Member<'a>>) -> Option<Owner<'a>>
     })
 }
 
-/// The type of `steps` where no step is seen.
-pub(crate) fn start_steps(alloc: Global, owner: Option<Owner<'_>>) -> IndexedType
-    ensures { (known : Known) → indexed_type result ≡ owned known (option_map owner_view owner.entry) (before 0) }
+/// The type of `steps` where no step is seen. Fails with `AllocError` for want of memory.
+pub(crate) fn start_steps(
+    alloc: Global,
+    owner: Option<Owner<'_>>,
+) -> Result<IndexedType, AllocError>
+    ensures { IfOk result (λ t. (known : Known) → indexed_type t ≡ owned known (option_map owner_view owner.entry) (before 0)) }
 {
     match owner {
-        None => IndexedType::any(alloc),
+        None => Ok(IndexedType::any(alloc)),
         Some(_) => no_steps(alloc),
     }
 }
@@ -223,18 +225,19 @@ fn enter_workflow<'a>(
     let kept = replace(&mut env.scope.types.strategy, Ty::Any);
     let strategy = strategy_at(alloc, kept, job)?;
     let needed = replace(&mut env.scope.types.needs, Ty::Any);
-    let fields = into_fields(alloc, needed);
+    let fields = into_fields(alloc, needed)?;
     env.shown.put_back(alloc, &env.jobs, fields)?;
     let needs = needs_at(alloc, &env.outputs, &env.jobs, &mut env.shown, job)?;
     let matrix = matrix_at(alloc, job)?;
     let old = replace(&mut env.scope.types.jobs, Ty::Any);
     let jobs = jobs_at(alloc, &env.outputs, &env.jobs, old, env.section, section)?;
     let owner = owner_at(job);
+    let steps = start_steps(alloc, owner)?;
     env.scope.types.strategy = strategy;
     env.scope.types.needs = needs;
     env.scope.types.matrix = matrix;
     env.scope.types.jobs = jobs;
-    env.scope.types.steps = start_steps(alloc, owner);
+    env.scope.types.steps = steps;
     env.owner = owner;
     env.seen = 0;
     env.section = section;

@@ -54,17 +54,17 @@ impl FieldList {
     }
 
     /// An object that has these fields and no others.
-    pub(crate) fn into_strict(self) -> Ty
-        ensures { ty_of result ≡ strictly (map field_of self.fields.items) }
+    pub(crate) fn into_strict(self, alloc: Global) -> Result<Ty, AllocError>
+        ensures { IfOk result (λ t. ty_of t ≡ strictly (map field_of self.fields.items)) }
     {
-        strict_of(self.fields)
+        strict_of(alloc, self.fields)
     }
 
     /// The same, found by their names.
-    pub(crate) fn into_indexed(self) -> IndexedType
-        ensures { indexed_type result ≡ strictly (map field_of self.fields.items) }
+    pub(crate) fn into_indexed(self, alloc: Global) -> Result<IndexedType, AllocError>
+        ensures { IfOk result (λ t. indexed_type t ≡ strictly (map field_of self.fields.items)) }
     {
-        IndexedType::strict(self.fields, self.positions)
+        IndexedType::strict(alloc, self.fields, self.positions)
     }
 
     /// Whether no field has a name.

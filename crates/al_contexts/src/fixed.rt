@@ -83,7 +83,7 @@ pub(crate) fn github(alloc: Global) -> Result<Ty, AllocError>
     add_field(alloc, &mut fields, b"event", Ty::Any)?;
     add_field(alloc, &mut fields, b"ref_protected", Ty::Bool)?;
     add_strings(alloc, &mut fields, github_names())?;
-    Ok(strict_of(fields))
+    strict_of(alloc, fields)
 }
 
 pub(crate) fn runner(alloc: Global) -> Result<Ty, AllocError>
@@ -110,5 +110,5 @@ pub(crate) fn strategy(alloc: Global) -> Result<Ty, AllocError>
     add_field(alloc, &mut fields, b"job-index", Ty::Number)?;
     add_field(alloc, &mut fields, b"job-total", Ty::Number)?;
     add_field(alloc, &mut fields, b"max-parallel", Ty::Number)?;
-    Ok(strict_of(fields))
+    strict_of(alloc, fields)
 }

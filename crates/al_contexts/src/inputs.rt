@@ -8,7 +8,7 @@ ghost use Rattle.al_types.specs.Private.TypeParts.{field_of};
 ghost use Rattle.al_yaml.specs.View.{view};
 
 use crate::field_lists::FieldList;
-use crate::objects::{add_strings, field, key_texts};
+use crate::objects::{add_strings, key_texts};
 use al_declarations::{declared_at, input_of, type_of, value_below_three};
 use al_shape::{Member, key_text, value};
 use al_tree::FileKind;
@@ -20,7 +20,7 @@ use std::alloc::{AllocError, Global};
 fn input_field(alloc: Global, input: Member<'_>) -> Result<Field, AllocError>
     ensures { IfOk result (λ f. field_of f ≡ inputs.input_field (member_of input.entry)) }
 {
-    field(alloc, key_text(input.key), type_of(input_of(input.value)))
+    Field::new(alloc, key_text(input.key), type_of(input_of(input.value)))
 }
 
 /// The fields that inputs are.
@@ -48,7 +48,7 @@ fn workflow_inputs(alloc: Global, root: &Node) -> Result<IndexedType, AllocError
 {
     let mut fields = FieldList::of(alloc, event_inputs(alloc, root, "workflow_call")?)?;
     fields.fuse_all(alloc, event_inputs(alloc, root, "workflow_dispatch")?)?;
-    Ok(fields.into_indexed())
+    fields.into_indexed(alloc)
 }
 
 /// The type of `inputs` in an action.
@@ -59,7 +59,7 @@ fn action_inputs(alloc: Global, root: &Node) -> Result<IndexedType, AllocError>
     let names = key_texts(alloc, declared.as_slice())?;
     let mut fields = Vec::new(alloc);
     add_strings(alloc, &mut fields, names.as_slice())?;
-    Ok(FieldList::of(alloc, fields)?.into_indexed())
+    FieldList::of(alloc, fields)?.into_indexed(alloc)
 }
 
 /// The type of `inputs` in a file.

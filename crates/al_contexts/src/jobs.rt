@@ -13,12 +13,10 @@ ghost use Rattle.al_declarations.specs.Declarations as declarations;
 use crate::field_lists::FieldList;
 use crate::job_lists::JobList;
 use crate::known::Outputs;
-use crate::objects::{
-    add_field, field, key_texts, listed_strings, loose_any, named_strings, strict_of,
-};
+use crate::objects::{add_field, key_texts, loose_any, named_strings, strict_of};
 use al_declarations::NameList;
 use al_shape::{Member, key_text, members, value};
-use al_types::{Field, Ty};
+use al_types::{Field, Ty, copy};
 use al_yaml::Node;
 use std::alloc::{AllocError, Global};
 
@@ -41,7 +39,7 @@ fn call_outputs_type(alloc: Global, outputs: Option<&NameList>) -> Result<Ty, Al
 {
     match outputs {
         None => loose_any(alloc),
-        Some(names) => listed_strings(alloc, names),
+        Some(names) => copy(alloc, names.strings()),
     }
 }
 
@@ -69,7 +67,7 @@ pub(crate) fn job_field<'a>(
     let mut fields = Vec::new(alloc);
     add_field(alloc, &mut fields, b"result", Ty::String)?;
     add_field(alloc, &mut fields, b"outputs", outputs)?;
-    field(alloc, key_text(job.key), strict_of(fields))
+    Field::new(alloc, key_text(job.key), strict_of(alloc, fields)?)
 }
 
 /// The type of `jobs`.
@@ -84,5 +82,5 @@ pub(crate) fn jobs_type<'a>(
     for job in jobs.as_slice() {
         fields.add(alloc, job_field(alloc, known, *job)?)?;
     }
-    Ok(fields.into_strict())
+    fields.into_strict(alloc)
 }

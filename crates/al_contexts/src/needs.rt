@@ -166,5 +166,5 @@ pub(crate) fn needs_type<'a>(
     for name in names.as_slice() {
         add_need_by(alloc, known, jobs, shown, *name, &mut fields)?;
     }
-    Ok(fields.into_strict())
+    Ok(fields.into_strict(alloc)?)
 }

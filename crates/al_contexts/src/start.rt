@@ -85,6 +85,7 @@ pub(crate) fn first_types(
     ensures steps { IfOk result (λ ts. indexed_type ts.steps ≡ owned (known_of (file.entry).known.now) (option_map owner_view owner.entry)
         (before 0)) }
 {
+    let steps = start_steps(alloc, owner)?;
     let mut types = ContextTypes {
         github: Ty::Any,
         env: Ty::Any,
@@ -95,7 +96,7 @@ pub(crate) fn first_types(
         strategy: Ty::Any,
         needs: Ty::Any,
         jobs: Ty::Any,
-        steps: start_steps(alloc, owner),
+        steps,
         matrix: Ty::Any,
         inputs: IndexedType::any(alloc),
     };

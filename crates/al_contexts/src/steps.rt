@@ -15,11 +15,11 @@ ghost use Rattle.al_contexts.specs.Objects.{put_all, put_new, strictly};
 use crate::env::Owner;
 use crate::field_lists::FieldList;
 use crate::known::Outputs;
-use crate::objects::{add_field, field, into_fields, listed_strings, loose_strings, strict_of};
+use crate::objects::{add_field, loose_strings, strict_of};
 use al_declarations::NameList;
 use al_places::Seen;
 use al_shape::text_under;
-use al_types::{IndexedType, Ty};
+use al_types::{Field, IndexedType, Ty, copy, into_fields};
 use al_yaml::Node;
 use std::alloc::{AllocError, Global};
 
@@ -29,7 +29,7 @@ fn outputs_type(alloc: Global, outputs: Option<&NameList>) -> Result<Ty, AllocEr
 {
     match outputs {
         None => loose_strings(alloc),
-        Some(names) => listed_strings(alloc, names),
+        Some(names) => copy(alloc, names.strings()),
     }
 }
 
@@ -42,7 +42,7 @@ fn step_type(alloc: Global, outputs: Option<&NameList>) -> Result<Ty, AllocError
     add_field(alloc, &mut fields, b"conclusion", Ty::String)?;
     add_field(alloc, &mut fields, b"outcome", Ty::String)?;
     add_field(alloc, &mut fields, b"outputs", outputs)?;
-    Ok(strict_of(fields))
+    strict_of(alloc, fields)
 }
 
 /// Adds a step, where it has an id that no field has.
@@ -59,7 +59,7 @@ fn add_step<'a>(
 {
     if let Some(id) = text_under(step, "id") {
         let ty = step_type(alloc, known.of_step(job, i))?;
-        fields.add(alloc, field(alloc, id.scalar.text(), ty)?)?;
+        fields.add(alloc, Field::new(alloc, id.scalar.text(), ty)?)?;
     }
     Ok(())
 }
@@ -100,7 +100,8 @@ fn with_more<'a>(
     ensures { IfOk result (λ t. indexed_type t ≡ owned (known_by known.now) (Some (owner_view owner.entry)) (before count)) }
 {
     let (ty, ids) = shown.into_parts();
-    let mut fields = FieldList::from_parts(into_fields(alloc, ty), ids);
+    let shown = into_fields(alloc, ty)?;
+    let mut fields = FieldList::from_parts(shown, ids);
     add_steps(
         alloc,
         known,
@@ -109,14 +110,15 @@ fn with_more<'a>(
         &owner.steps[from..count],
         &mut fields,
     )?;
-    Ok(fields.into_indexed())
+    let ty = fields.into_indexed(alloc)?;
+    Ok(ty)
 }
 
-/// The type of `steps` where no step is seen. Takes no memory.
-pub(crate) fn no_steps(alloc: Global) -> IndexedType
-    ensures { indexed_type result ≡ strictly [] }
+/// The type of `steps` where no step is seen. Fails with `AllocError` for want of memory.
+pub(crate) fn no_steps(alloc: Global) -> Result<IndexedType, AllocError>
+    ensures { IfOk result (λ t. indexed_type t ≡ strictly []) }
 {
-    FieldList::new(alloc).into_indexed()
+    FieldList::new(alloc).into_indexed(alloc)
 }
 
 /// The type of `steps` where a count of steps is seen, from that where another count is. Steps that were seen are copied in no case:
@@ -136,7 +138,7 @@ pub(crate) fn seen_steps<'a>(
     if from <= count {
         with_more(alloc, known, owner, shown, from, count)
     } else {
-        with_more(alloc, known, owner, no_steps(alloc), 0, count)
+        with_more(alloc, known, owner, no_steps(alloc)?, 0, count)
     }
 }
 

@@ -1,6 +1,10 @@
 //! Names that are kept: texts that compare equal exactly where their bytes are the same, ASCII case and all.
-ghost use Rattle.std.specs.Prelude.{◌≡◌, IfOk};
+ghost use Rattle.std.specs.Prelude.{◌≡◌, IfOk, map};
+ghost use Rattle.al_types.specs.Private.TypeParts.{field_of};
+ghost use Rattle.al_types.specs.Strings.{named_strings, strings};
+ghost use Rattle.al_types.specs.TypeViews.{ty_of};
 
+use al_types::{Field, Ty, object_of_fields};
 use std::alloc::{AllocError, Global};
 use std::marker::Model;
 
@@ -56,26 +60,52 @@ impl Eq for Name {
     ghost laws = { nat_list_eq_equiv };
 }
 
-/// Names in order. Contracts see the list of their bytes.
+/// Names in order, and the type of an object whose fields are strings of these names, which all that have it share. Contracts see the
+/// list of their bytes.
 #[derive(Drop)]
 pub struct NameList {
     names: Vec<Name>,
+    strings: Ty,
 }
 
 impl Model for NameList {
-    ghost use Rattle.std.specs.Prelude.{List, ℕ};
+    ghost use Rattle.std.specs.Prelude.{◌≡◌, List, ℕ};
+    ghost use Rattle.al_types.specs.Strings.{named_strings};
+    ghost use Rattle.al_types.specs.TypeViews.{ty_of};
 
     ghost Value = { List (List ℕ) };
 
     ghost view = { λ a. a.names.items };
+
+    ghost invariant = { λ a. ty_of a.strings ≡ named_strings a.names.items };
+}
+
+/// Fields that are strings of these names.
+fn string_fields(alloc: Global, names: &[Name]) -> Result<Vec<Field>, AllocError>
+    ensures { IfOk result (λ v. map field_of v.items ≡ strings names.now) }
+{
+    let mut fields = Vec::with_capacity(alloc, names.len())?;
+    for name in names {
+        fields.push(Field::new(alloc, name.as_bytes(), Ty::String)?)?;
+    }
+    Ok(fields)
 }
 
 impl NameList {
-    /// The list of these names.
-    pub fn new(names: Vec<Name>) -> NameList
-        ensures { result ≡ names.items }
+    /// The list of these names. Fails with `AllocError` for want of memory.
+    pub fn new(alloc: Global, names: Vec<Name>) -> Result<NameList, AllocError>
+        ensures { IfOk result (λ l. l ≡ names.items) }
     {
-        NameList { names }
+        let fields = string_fields(alloc, names.as_slice())?;
+        let strings = object_of_fields(alloc, fields, None)?;
+        Ok(NameList { names, strings })
+    }
+
+    /// The type of an object whose fields are strings of these names, and no others.
+    pub fn strings(&self) -> &Ty
+        ensures { ty_of result.now ≡ named_strings self.now }
+    {
+        &self.strings
     }
 
     /// The names.

@@ -11,7 +11,7 @@ pub use al_meaning::{comparable, type_of};
 pub use al_types::{
     Context, ContextSet, ContextTypes, Field, Form, Function, FunctionSet, IndexedType,
     NamePositions, Object, Parameters, Returned, Scope, Signature, Ty, Wanted, assignable, copy,
-    fuse, signature_of,
+    fuse, object_of_fields, signature_of,
 };
 
 #[cfg(test)]

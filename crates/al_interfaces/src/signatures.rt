@@ -1,7 +1,8 @@
 //! The interface of a file, from its root.
-ghost use Rattle.std.specs.Prelude.{◌≡◌, map, option_map, IfOk};
+ghost use Rattle.std.specs.Prelude.{◌≡◌, [], map, option_map, IfOk};
 ghost use Rattle.std.specs.List.{list_any};
-ghost use Rattle.al_declarations.specs.Declarations.{names_of};
+ghost use Rattle.std.specs.Option.{option_map_or};
+ghost use Rattle.al_declarations.specs.Declarations.{declared_in, names_of};
 ghost use Rattle.al_declarations.specs.Inputs.{input_of as type_declared};
 ghost use Rattle.al_scalar.specs.Scalar.{text_of};
 ghost use Rattle.al_shape.specs.Values.{member_of, scalar_node_of};
@@ -107,7 +108,16 @@ fn names(alloc: Global, members: &[Member<'_>]) -> Result<NameList, AllocError>
     for member in members {
         names.push(Name::new(alloc, key_text(member.key))?)?;
     }
-    Ok(NameList::new(names))
+    let list = NameList::new(alloc, names)?;
+    Ok(list)
+}
+
+/// The names of what a mapping declares, where there is one.
+fn declared_names(alloc: Global, node: Option<&Node>) -> Result<NameList, AllocError>
+    ensures { IfOk result (λ ns. ns ≡ names_of (option_map_or declared_in (option_map (λ n. view n.now) node.entry) [])) }
+{
+    let declared = declared_at(alloc, node)?;
+    names(alloc, declared.as_slice())
 }
 
 /// The text of a scalar as a name, where there is one.
@@ -184,7 +194,7 @@ fn workflow_signature(alloc: Global, root: &Node) -> Result<Signature, AllocErro
         alloc,
         value_below_three(root, "on", "workflow_call", "secrets"),
     )?;
-    let outputs = declared_at(
+    let outputs = declared_names(
         alloc,
         value_below_three(root, "on", "workflow_call", "outputs"),
     )?;
@@ -193,7 +203,7 @@ fn workflow_signature(alloc: Global, root: &Node) -> Result<Signature, AllocErro
         role,
         inputs: typed_inputs(alloc, inputs.as_slice())?,
         secrets: secrets(alloc, secret_members.as_slice())?,
-        outputs: names(alloc, outputs.as_slice())?,
+        outputs,
     })
 }
 
@@ -214,13 +224,13 @@ fn action_signature(alloc: Global, root: &Node) -> Result<Signature, AllocError>
 {
     let name = name_of(alloc, root)?;
     let inputs = declared_at(alloc, value(root, "inputs"))?;
-    let outputs = declared_at(alloc, value(root, "outputs"))?;
+    let outputs = declared_names(alloc, value(root, "outputs"))?;
     Ok(Signature {
         name,
         role: action_role(root),
         inputs: string_inputs(alloc, inputs.as_slice())?,
         secrets: SecretList::new(alloc, Vec::new(alloc))?,
-        outputs: names(alloc, outputs.as_slice())?,
+        outputs,
     })
 }
 

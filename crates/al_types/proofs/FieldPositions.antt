@@ -1,7 +1,9 @@
 -- Where names stand among fields: among the same fields as a list, and which property a name finds by it.
 use Rattle.std.proofs.Common.{◌≡◌, ◌+◌, ◌<◌, ℕ, List, [], ◌∷◌, map, take, length, get_or, suc, arith, refl, sym, ap, ◌∙◌, Bool, true, false, Option, Some, None, option_map}
+use Rattle.std.specs.Global.{Global}
 use Rattle.std.specs.Option.{option_or}
 use Rattle.std.specs.Prelude.{if◌then◌else◌}
+use Rattle.std.specs.declared.rc.Rc.{Rc}
 use Rattle.std.proofs.Math.ListN.{get_or-map}
 use Rattle.al_base.specs.Names.{same_name}
 use Rattle.al_types.specs.declared.types.Ty.{Ty}
@@ -86,8 +88,8 @@ type_there o n i f e h =
     sym (ap (field_at n) (fields_listed o) ∙ field_there fs n i (field_of f) here ∙ ap (λ (g : List ℕ × Type'). Some g.1) got)
 
 -- a type that is no object has none
-pub no_property : (t : Ty) (n : List ℕ) → ((x : Object) → t ≡ code.Object x → ⊥) → None ≡ property_in n (ty_of t)
-no_property (code.Object o) n h = absurd (h o refl)
+pub no_property : (t : Ty) (n : List ℕ) → ((x : Rc Object Global) → t ≡ code.Object x → ⊥) → None ≡ property_in n (ty_of t)
+no_property (code.Object' p o) n h = absurd (h (record { ptr = p.ptr; value = o }) refl)
 no_property (code.Array' p t) n h = refl
 no_property code.Any n h = refl
 no_property code.Null n h = refl

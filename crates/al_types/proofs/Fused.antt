@@ -3,6 +3,7 @@ use Rattle.std.proofs.Common.{◌≡◌, ℕ, List, [], ◌∷◌, ◌++◌, map
 use Rattle.std.specs.Prelude.{option_map, is_some, if◌then◌else◌}
 use Rattle.std.specs.Global.{Global}
 use Rattle.std.specs.Prelude.{Box}
+use Rattle.std.specs.declared.rc.Rc.{Rc}
 use Rattle.al_types.specs.declared.types.Ty.{Ty}
 use Rattle.al_types.specs.declared.types.Ty as code
 use Rattle.al_types.specs.declared.types.Object.{Object, Object', out-Object}
@@ -85,15 +86,15 @@ array_with_object a (Object' s f r) = refl
 
 pub array_with_other : (a : Type') (t : Ty) → ((x : Box Ty Global) → t ≡ code.Array x → ⊥) → fuse_type (ArrayOf a) (ty_of t) ≡ Any
 array_with_other a (code.Array' p t) h = absurd (h (record { ptr = p.ptr; alloc = p.alloc; value = t }) refl)
-array_with_other a (code.Object o) h = array_with_object a o
+array_with_other a (code.Object' p o) h = array_with_object a o
 array_with_other a code.Any h = refl
 array_with_other a code.Null h = refl
 array_with_other a code.Number h = refl
 array_with_other a code.Bool h = refl
 array_with_other a code.String h = refl
 
-pub object_with_other : (o : Object) (t : Ty) → ((x : Object) → t ≡ code.Object x → ⊥) → fuse_type (object_of o) (ty_of t) ≡ Any
-object_with_other o (code.Object x) h = absurd (h x refl)
+pub object_with_other : (o : Object) (t : Ty) → ((x : Rc Object Global) → t ≡ code.Object x → ⊥) → fuse_type (object_of o) (ty_of t) ≡ Any
+object_with_other o (code.Object' p x) h = absurd (h (record { ptr = p.ptr; value = x }) refl)
 object_with_other (Object' s f r) (code.Array' p t) h = refl
 object_with_other (Object' s f r) code.Any h = refl
 object_with_other (Object' s f r) code.Null h = refl

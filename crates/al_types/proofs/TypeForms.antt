@@ -33,7 +33,7 @@ by_form_to a _ h = refl
 
 pub not_array : (t : Ty) → ((x : Box Ty Global) → t ≡ code.Array x → ⊥) → form_of (ty_of t) ≢ form.Array
 not_array (code.Array' p t) h = absurd (h (record { ptr = p.ptr; alloc = p.alloc; value = t }) refl)
-not_array (code.Object o) h = λ e. let g = form_object o in cc
+not_array (code.Object' p o) h = λ e. let g = form_object o in cc
 not_array code.Any h = λ e. cc
 not_array code.Null h = λ e. cc
 not_array code.Number h = λ e. cc

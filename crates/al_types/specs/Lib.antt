@@ -4,5 +4,6 @@ pub mod TypeViews
 pub mod Positions
 pub mod IndexedTypes
 pub mod Signatures
+pub mod Strings
 pub mod Scopes
 pub mod Private

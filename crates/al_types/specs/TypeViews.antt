@@ -15,7 +15,7 @@ abbrev mutual
   ty_of code.Bool = Bool'
   ty_of code.String = String
   ty_of (code.Array' p t) = ArrayOf (ty_of t)
-  ty_of (code.Object o) = object_of o
+  ty_of (code.Object' p o) = object_of o
 
   pub object_of : Object → Type'
   object_of (Object' shape fs rest) = ObjectOf (fields_in fs) (rest_in rest)

@@ -7,7 +7,7 @@ ghost use Rattle.al_types.specs.TypeViews.{ty_of, object_of, fields_of};
 ghost use Rattle.al_types.specs.Private.TypeParts.{rest_of, field_of, fields_of_type, missing_list, fuse_with_form};
 
 use crate::finding::FieldFinder;
-use crate::types::{Field, Form, Object, Ty, copy, copy_rest};
+use crate::types::{Field, Form, Object, Ty, copy, copy_rest, object_of_fields};
 use std::alloc::{AllocError, Global};
 
 /// What two types have in common: any with any or null, itself with itself, a string for two other scalars, an array
@@ -60,14 +60,20 @@ fn fuse_object(alloc: Global, x: &Object, b: &Ty) -> Result<Ty, AllocError>
     ensures { IfOk result (λ t. ty_of t ≡ fuse_type (object_of x.now) (ty_of b.now)) }
 {
     match b {
-        Ty::Object(y) => {
-            let mut fields = fuse_fields(alloc, x, &FieldFinder::of(alloc, y)?)?;
-            add_missing(alloc, &FieldFinder::of(alloc, x)?, y, &mut fields)?;
-            let rest = fuse_rest(alloc, &x.rest, &y.rest)?;
-            Ok(Ty::Object(Object { fields, rest }))
-        }
+        Ty::Object(y) => fuse_objects(alloc, x, y),
         _ => Ok(Ty::Any),
     }
+}
+
+#[cycle(fusing)]
+fn fuse_objects(alloc: Global, x: &Object, y: &Object) -> Result<Ty, AllocError>
+    ensures { IfOk result (λ t. ty_of t ≡ fuse_type (object_of x.now) (object_of y.now)) }
+{
+    let mut fields = fuse_fields(alloc, x, &FieldFinder::of(alloc, y)?)?;
+    add_missing(alloc, &FieldFinder::of(alloc, x)?, y, &mut fields)?;
+    let rest = fuse_rest(alloc, &x.rest, &y.rest)?;
+    let ty = object_of_fields(alloc, fields, rest)?;
+    Ok(ty)
 }
 
 // The fields of the first object, each fused with the second's of its name.

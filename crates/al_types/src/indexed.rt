@@ -8,7 +8,7 @@ ghost use Rattle.al_types.specs.Private.TypeParts.{field_of, fields_of_type};
 
 use crate::finding::field_by;
 use crate::positions::NamePositions;
-use crate::types::{Field, Object, Ty};
+use crate::types::{Field, Object, Ty, object_of_fields};
 use std::alloc::{AllocError, Global};
 
 /// So many fields are looked through one by one, which takes no memory and less time.
@@ -37,15 +37,18 @@ impl IndexedType {
     }
 
     /// An object that has these fields, whose names stand at these positions, and no others.
-    #[tactic(auto, using(crate::proofs::TypeFields::object_made))]
-    pub fn strict(fields: Vec<Field>, positions: NamePositions) -> IndexedType
+    ///
+    /// Fails with `AllocError` for want of memory.
+    pub fn strict(
+        alloc: Global,
+        fields: Vec<Field>,
+        positions: NamePositions,
+    ) -> Result<IndexedType, AllocError>
         requires { IsFieldIndex positions (fields_of (map field_of fields.items)) }
-        ensures { indexed_type result ≡ ObjectOf (fields_of (map field_of fields.items)) Strict }
+        ensures { IfOk result (λ t. indexed_type t ≡ ObjectOf (fields_of (map field_of fields.items)) Strict) }
     {
-        IndexedType {
-            ty: Ty::Object(Object { fields, rest: None }),
-            positions,
-        }
+        let ty = object_of_fields(alloc, fields, None)?;
+        Ok(IndexedType { ty, positions })
     }
 
     /// The type, and where each name first stands among its fields.

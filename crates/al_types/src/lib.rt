@@ -20,4 +20,4 @@ pub use positions::{NamePositions, TextPositions, in_lower_case};
 pub use relations::assignable;
 pub use scope::{ContextSet, ContextTypes, FunctionSet, Scope};
 pub use signatures::{Parameters, Returned, Signature, Wanted, signature_of};
-pub use types::{Field, Form, Object, Ty, copy};
+pub use types::{Field, Form, Object, Ty, copy, into_fields, object_of_fields};

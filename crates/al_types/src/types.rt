@@ -1,14 +1,16 @@
 //! Types of expressions.
 
-ghost use Rattle.std.specs.Prelude.{◌≡◌, IfOk, None, option_map};
-ghost use Rattle.al_types.specs.Types.{field_at, field_or_rest, is_collection, is_plain, property_in};
-ghost use Rattle.al_types.specs.TypeViews.{ty_of, object_of};
-ghost use Rattle.al_types.specs.Private.TypeParts.{rest_of, form_of, fields_of_type, rest_of_type};
+ghost use Rattle.std.specs.Prelude.{◌≡◌, IfOk, None, map, option_map, string_bytes};
+ghost use Rattle.al_types.specs.Types.{ObjectOf, field_at, field_or_rest, is_collection, is_plain, property_in};
+ghost use Rattle.al_types.specs.TypeViews.{ty_of, object_of, fields_of};
+ghost use Rattle.al_types.specs.Private.TypeParts.{field_of, rest_of, form_of, fields_of_type, rest_of_type};
 
 use al_base::is_same_name;
 use std::alloc::{AllocError, Global};
+use std::rc::Rc;
 
-/// The type of a value, as far as it is known before a workflow runs.
+/// The type of a value, as far as it is known before a workflow runs. What an object has is shared by all copies of its type: an output of
+/// many names is one of many jobs, and many expressions name it.
 #[derive(Drop)]
 #[cycle(types)]
 pub enum Ty {
@@ -18,7 +20,7 @@ pub enum Ty {
     Bool,
     String,
     Array(Box<Ty>),
-    Object(Object),
+    Object(Rc<Object>),
 }
 
 /// An object's fields with their types, and the type of every field beside them: none in a strict object, which has
@@ -36,6 +38,26 @@ pub struct Object {
 pub struct Field {
     pub name: String,
     pub ty: Ty,
+}
+
+impl Field {
+    /// A field of a name and a type. Names of a file that was read are UTF-8: so this fails for want of memory alone.
+    pub fn new(alloc: Global, name: &[u8], ty: Ty) -> Result<Field, AllocError>
+        ensures { IfOk result (λ f. field_of f ≡ (name.now, ty_of ty)) }
+    {
+        let name = text_of(alloc, name)?;
+        Ok(Field { name, ty })
+    }
+}
+
+// A text in memory of its own. Fails where it is no UTF-8, and for want of memory.
+fn text_of(alloc: Global, name: &[u8]) -> Result<String, AllocError>
+    ensures { IfOk result (λ s. string_bytes s ≡ name.now) }
+{
+    match std::str::from_utf8(name) {
+        Ok(text) => String::from_str(alloc, text),
+        Err(_) => Err(AllocError),
+    }
 }
 
 /// The outermost form of a type.
@@ -131,8 +153,7 @@ impl Object {
     }
 }
 
-/// The same type once more, in memory of its own. Fails for want of memory alone.
-#[cycle(copying)]
+/// The same type once more. Objects are shared, so that their fields take neither time nor memory again. Fails for want of memory alone.
 pub fn copy(alloc: Global, ty: &Ty) -> Result<Ty, AllocError>
     ensures { IfOk result (λ t. ty_of t ≡ ty_of ty.now) }
 {
@@ -143,25 +164,10 @@ pub fn copy(alloc: Global, ty: &Ty) -> Result<Ty, AllocError>
         Ty::Bool => Ok(Ty::Bool),
         Ty::String => Ok(Ty::String),
         Ty::Array(of) => Ok(Ty::Array(Box::new(alloc, copy(alloc, of)?)?)),
-        Ty::Object(object) => Ok(Ty::Object(copy_object(alloc, object)?)),
+        Ty::Object(object) => Ok(Ty::Object(object.clone()?)),
     }
 }
 
-#[cycle(copying)]
-fn copy_object(alloc: Global, object: &Object) -> Result<Object, AllocError>
-    ensures { IfOk result (λ o. object_of o ≡ object_of object.now) }
-{
-    let mut fields = Vec::new(alloc);
-    for field in &object.fields {
-        let name = field.name.clone()?;
-        let ty = copy(alloc, &field.ty)?;
-        fields.push(Field { name, ty })?;
-    }
-    let rest = copy_rest(alloc, &object.rest)?;
-    Ok(Object { fields, rest })
-}
-
-#[cycle(copying)]
 pub(crate) fn copy_rest(
     alloc: Global,
     rest: &Option<Box<Ty>>,
@@ -171,5 +177,45 @@ pub(crate) fn copy_rest(
     match rest {
         None => Ok(None),
         Some(ty) => Ok(Some(Box::new(alloc, copy(alloc, ty)?)?)),
+    }
+}
+
+/// An object of fields, and of a type of every field beside them, if there may be others. Fails for want of memory alone.
+#[tactic(auto, using(crate::proofs::TypeFields::object_made))]
+pub fn object_of_fields(
+    alloc: Global,
+    fields: Vec<Field>,
+    rest: Option<Box<Ty>>,
+) -> Result<Ty, AllocError>
+    ensures { IfOk result (λ t. ty_of t ≡ ObjectOf (fields_of (map field_of fields.items)) (rest_of rest)) }
+{
+    Ok(Ty::Object(Rc::new(alloc, Object { fields, rest })?))
+}
+
+// Fields once more, with names of their own.
+fn copy_fields(alloc: Global, fields: &[Field]) -> Result<Vec<Field>, AllocError>
+    ensures { IfOk result (λ v. map field_of v.items ≡ map field_of fields.now) }
+{
+    let mut copies = Vec::with_capacity(alloc, fields.len())?;
+    for field in fields {
+        let name = field.name.clone()?;
+        let ty = copy(alloc, &field.ty)?;
+        copies.push(Field { name, ty })?;
+    }
+    Ok(copies)
+}
+
+/// The fields of an object; of another type none. They are moved out of an object that nothing else shares, and else copied. Fails for
+/// want of memory alone.
+#[tactic(auto, using(crate::proofs::TypeFields::object_fields, crate::proofs::TypeFields::object_made))]
+pub fn into_fields(alloc: Global, ty: Ty) -> Result<Vec<Field>, AllocError>
+    ensures { IfOk result (λ v. fields_of (map field_of v.items) ≡ fields_of_type (ty_of ty)) }
+{
+    match ty {
+        Ty::Object(object) => match Rc::try_unwrap(object) {
+            Ok(object) => Ok(object.fields),
+            Err(shared) => copy_fields(alloc, shared.fields.as_slice()),
+        },
+        _ => Ok(Vec::new(alloc)),
     }
 }

@@ -56,6 +56,6 @@ needs_at-requires c =
         long = c.in_ok-put_back.ensures.long ∙ sym (length-map env.jobs.members.items member_of);
         shown = c.in_ok-put_back.ensures.shown k c.requires.stands.shown.shown
             (given_back_here c.args.file env.scope.types (section_view env.section) k js _ c.requires.kind c.requires.stands.known c.requires.stands.members
-            c.requires.stands.section.needs (c.into_fields-fields.ensures ∙ ap fields_of_type (ap ty_of c.replace-needed.ensures.value)));
+            c.requires.stands.section.needs (c.in_ok-fields.ensures ∙ ap fields_of_type (ap ty_of c.replace-needed.ensures.value)));
       };
     }

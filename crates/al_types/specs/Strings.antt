@@ -1,0 +1,10 @@
+-- Object types whose fields are strings.
+use Rattle.std.specs.Prelude.{ℕ, List, map}
+use Rattle.al_types.specs.Types.{Type', String, ObjectOf, Strict}
+use Rattle.al_types.specs.TypeViews.{fields_of}
+
+abbrev pub strings : List (List ℕ) → List (List ℕ × Type')
+strings = map (λ k. (k, String))
+
+abbrev pub named_strings : List (List ℕ) → Type'
+named_strings ns = ObjectOf (fields_of (strings ns)) Strict
