@@ -11,8 +11,8 @@ use crate::positions::NamePositions;
 use crate::types::{Field, Object, Ty};
 use std::alloc::{AllocError, Global};
 
-/// So many fields, and nearly all objects have no more, are looked through one by one for each name: that takes no memory, and less time
-/// than to find out where their names stand.
+/// So many fields, and nearly all objects have no more, are looked through one by one for each name, and so are any fields for so few names:
+/// that takes no memory, and less time than to find out where their names stand.
 const FEW: usize = 32;
 
 /// Where each name first stands among some fields. Fails with `AllocError` for want of memory.
@@ -46,17 +46,21 @@ pub(crate) fn field_by<'a>(
 #[derive(Drop)]
 pub(crate) struct FieldFinder<'a> {
     object: &'a Object,
-    /// Where each name first stands, unless the fields are few.
+    /// Where each name first stands, unless the fields or the names that are looked up are few.
     positions: Option<NamePositions>,
     ghost indexed: { ForSome positions (λ p. IsFieldIndex p (fields_of_type (object_of object.now))) },
 }
 
 impl<'a> FieldFinder<'a> {
-    /// The fields of an object. Fails with `AllocError` for want of memory, as all below.
-    pub(crate) fn of(alloc: Global, object: &'a Object) -> Result<FieldFinder<'a>, AllocError>
+    /// The fields of an object, in which about so many names are looked up. Fails with `AllocError` for want of memory, as all below.
+    pub(crate) fn of(
+        alloc: Global,
+        object: &'a Object,
+        names: usize,
+    ) -> Result<FieldFinder<'a>, AllocError>
         ensures { IfOk result (λ f. object_of f.object.now ≡ object_of object.now) }
     {
-        if object.fields.len() <= FEW {
+        if object.fields.len() <= FEW || names <= FEW {
             return Ok(FieldFinder {
                 object,
                 positions: None,

@@ -69,8 +69,10 @@ fn fuse_object(alloc: Global, x: &Object, b: &Ty) -> Result<Ty, AllocError>
 fn fuse_objects(alloc: Global, x: &Object, y: &Object) -> Result<Ty, AllocError>
     ensures { IfOk result (λ t. ty_of t ≡ fuse_type (object_of x.now) (object_of y.now)) }
 {
-    let mut fields = fuse_fields(alloc, x, &FieldFinder::of(alloc, y)?)?;
-    add_missing(alloc, &FieldFinder::of(alloc, x)?, y, &mut fields)?;
+    let of_second = FieldFinder::of(alloc, y, x.fields.len())?;
+    let mut fields = fuse_fields(alloc, x, &of_second)?;
+    let of_first = FieldFinder::of(alloc, x, y.fields.len())?;
+    add_missing(alloc, &of_first, y, &mut fields)?;
     let rest = fuse_rest(alloc, &x.rest, &y.rest)?;
     let ty = object_of_fields(alloc, fields, rest)?;
     Ok(ty)

@@ -25,8 +25,8 @@ fuse_fields-returns t c =
 
 pub fuse_objects-returns : goal.fuse_objects-returns
 fuse_objects-returns t c =
-    let y : object_of c.in_ok-of.field-0.object.now ≡ object_of c.args.y.now = c.in_ok-of.ensures in
-    let x : object_of c.in_ok-of-2.field-0.object.now ≡ object_of c.args.x.now = c.in_ok-of-2.ensures in
+    let y : object_of c.in_ok-of_second.of_second.object.now ≡ object_of c.args.y.now = c.in_ok-of_second.ensures in
+    let x : object_of c.in_ok-of_first.of_first.object.now ≡ object_of c.args.x.now = c.in_ok-of_first.ensures in
     let m = c.in_ok-add_missing.ensures in
     let f = c.in_ok-fields.ensures in
     let r = c.in_ok-rest.ensures in
