@@ -11,7 +11,7 @@ use crate::positions::NamePositions;
 use crate::types::{Field, Object, Ty};
 use std::alloc::{AllocError, Global};
 
-/// So many fields, and nearly all objects have no more, are looked through one by one for each name, and so are any fields for so few names:
+/// So many fields, and nearly all objects have no more, are looked through one by one for each name, as are any for so few names:
 /// that takes no memory, and less time than to find out where their names stand.
 const FEW: usize = 32;
 
