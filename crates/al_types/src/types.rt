@@ -9,8 +9,8 @@ use al_base::is_same_name;
 use std::alloc::{AllocError, Global};
 use std::rc::Rc;
 
-/// The type of a value, as far as it is known before a workflow runs. What an object has is shared by all copies of its type: an output of
-/// many names is one of many jobs, and many expressions name it.
+/// The type of a value, as far as it is known before a workflow runs. Copies of a type share its objects: many jobs can call one file
+/// with many outputs, and many expressions can name all of these.
 #[derive(Drop)]
 #[cycle(types)]
 pub enum Ty {
