@@ -1,6 +1,6 @@
 //! Types as texts, such as `{a: string, *: any}`, where `*` stands for every other field.
 
-use al_types::{Object, Ty};
+use al_types::{Object, Ty, copy, joined};
 use std::alloc::{AllocError, Global};
 
 #[cycle(shown)]
@@ -17,6 +17,7 @@ fn show(alloc: Global, ty: &Ty, out: &mut String) -> Result<(), AllocError> {
             out.push_str("]")
         }
         Ty::Object(object) => show_object(alloc, object, out),
+        Ty::Fused(_) => out.push_str("{not joined}"),
     }
 }
 
@@ -43,9 +44,10 @@ fn show_object(alloc: Global, object: &Object, out: &mut String) -> Result<(), A
     out.push_str("}")
 }
 
-/// A type as a text.
+/// A type as a text: of objects that are fused as the one that they are. Below that a context's type has none that aren't joined.
 pub(crate) fn shown(alloc: Global, ty: &Ty) -> Result<String, AllocError> {
     let mut out = String::new(alloc);
-    show(alloc, ty, &mut out)?;
+    let ty = joined(alloc, copy(alloc, ty)?)?;
+    show(alloc, &ty, &mut out)?;
     Ok(out)
 }

@@ -8,6 +8,7 @@ use Rattle.al_types.specs.IndexedTypes.{indexed_type}
 use Rattle.al_types.specs.TypeViews.{ty_of}
 use Rattle.al_types.specs.declared.types.Ty.{Ty}
 use Rattle.al_types.specs.declared.types.Ty.TheBlock as code
+use Rattle.al_types.specs.declared.types.Fused.{Fused'}
 use Rattle.al_types.specs.declared.types.Object.{Object'}
 use Rattle.al_yaml.specs.View.{view}
 use Rattle.al_shape.specs.Keys.{key_of}
@@ -44,6 +45,7 @@ any_alone code.Bool e n = cc
 any_alone code.String e n = cc
 any_alone (code.Array' p t) e n = cc
 any_alone (code.Object' p (Object' s f r)) e n = cc
+any_alone (code.Fused' p (Fused' s os)) e n = cc
 
 pub kept_strategy : (t : Ty) → IsStrategy (ty_of t) → (t ≡ code.Any → ⊥) → ty_of t ≡ strategy_type
 kept_strategy t (inl e) n = absurd (any_alone t e n)

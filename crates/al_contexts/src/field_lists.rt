@@ -1,6 +1,7 @@
 //! Fields in order, found by their names.
 ghost use Rattle.std.specs.Prelude.{◌≡◌, [], IfOk, OnOk, is_none, map};
 ghost use Rattle.al_types.specs.IndexedTypes.{indexed_type};
+ghost use Rattle.al_types.specs.Types.{fuse_type};
 ghost use Rattle.al_types.specs.TypeViews.{ty_of};
 ghost use Rattle.al_types.specs.Private.TypeParts.{field_of};
 ghost use Rattle.al_contexts.specs.Objects.{put, put_all, put_new, strictly};
@@ -9,6 +10,7 @@ ghost use Rattle.al_contexts.specs.Private.Indexes.{IsIndex, name_at};
 use crate::objects::strict_of;
 use al_types::{Field, IndexedType, NamePositions, Ty, field_positions, fuse};
 use std::alloc::{AllocError, Global};
+use std::mem::replace;
 
 /// Fields in order, and where each name first stands among them. Finding one by its name takes time that grows with the logarithm
 /// of their number.
@@ -17,6 +19,17 @@ pub(crate) struct FieldList {
     fields: Vec<Field>,
     positions: NamePositions,
     ghost indexed: { IsIndex positions (map field_of fields.items) },
+}
+
+/// Fuses the type of a field with another. The type is moved out for that, so that what it has grown to isn't copied; where memory is
+/// wanting it is lost, and the name stays.
+fn fuse_into(alloc: Global, field: &mut Field, more: Ty) -> Result<(), AllocError>
+    ensures name { (field_of field.new).0 ≡ (field_of field.old).0 }
+    ensures ty { OnOk result (ty_of (field.new).ty ≡ fuse_type (ty_of (field.old).ty) (ty_of more)) }
+{
+    let old = replace(&mut field.ty, Ty::Any);
+    field.ty = fuse(alloc, old, more)?;
+    Ok(())
 }
 
 impl FieldList {
@@ -98,11 +111,7 @@ impl FieldList {
     {
         match self.positions.get(alloc, field.name.as_bytes())? {
             None => self.add(alloc, field),
-            Some(i) => {
-                let ty = fuse(alloc, &self.fields[i].ty, &field.ty)?;
-                self.fields[i].ty = ty;
-                Ok(())
-            }
+            Some(i) => fuse_into(alloc, &mut self.fields[i], field.ty),
         }
     }
 

@@ -68,7 +68,7 @@ struct Row {
     fault: Option<(ExpressionCode, u32, u32, &'static [&'static str])>,
 }
 
-const ROWS: [Row; 20] = [
+const ROWS: [Row; 24] = [
     Row {
         content: "format('{0} {2}', 'a', 'b')",
         form: Form::String,
@@ -179,6 +179,26 @@ const ROWS: [Row; 20] = [
         form: Form::Bool,
         fault: None,
     },
+    Row {
+        content: "(github || github).head_ref",
+        form: Form::String,
+        fault: None,
+    },
+    Row {
+        content: "(github && github).nope",
+        form: Form::Any,
+        fault: Some((ExpressionCode::UndefinedProperty, 19, 23, &["nope"])),
+    },
+    Row {
+        content: "(github || github || github).*",
+        form: Form::Array,
+        fault: None,
+    },
+    Row {
+        content: "(github || 'a').nope",
+        form: Form::Any,
+        fault: None,
+    },
 ];
 
 // Whether a text is the one that is told at this index, or there is none where none is told.
@@ -244,9 +264,9 @@ fn rows(rt: HostRuntime) -> Result<(), Fail> {
 
 #[test]
 fn types(rt: HostRuntime) -> Result<(), Fail> {
-    let both = fuse(rt.alloc(), &Ty::Number, &Ty::String)?;
+    let both = fuse(rt.alloc(), Ty::Number, Ty::String)?;
     assert!(rt; both.form() == Form::String);
-    let unknown = fuse(rt.alloc(), &Ty::Null, &Ty::Number)?;
+    let unknown = fuse(rt.alloc(), Ty::Null, Ty::Number)?;
     assert!(rt; unknown.form() == Form::Any);
     assert!(rt; assignable(&Ty::Bool, &Ty::String) && !assignable(&Ty::String, &Ty::Number));
     assert!(rt; signature_of("TOJSON").is_some() && signature_of("toXML").is_none());

@@ -3,10 +3,11 @@ use Rattle.std.proofs.Common.{◌≡◌, ℕ, List, [], ◌∷◌, ◌++◌, ref
 use Rattle.al_base.specs.declared.faults.Fault.{Fault}
 use Rattle.al_base.specs.declared.faults.Span.{Span}
 use Rattle.al_base.specs.declared.codes.ExpressionCode.TheVariants as code
+use Rattle.al_types.specs.declared.types.Fused.{Fused, Fused'}
 use Rattle.al_types.specs.declared.types.Object.{Object, Object'}
 use Rattle.al_grammar.specs.Refusal.{fault}
-use Rattle.al_types.specs.Types.{Type', Any, Null, Number, Bool', String, ArrayOf, ObjectOf, Fields, NoField, FieldThen, Rest, Loose, field_at, field_or_rest, property_in}
-use Rattle.al_types.specs.TypeViews.{object_of}
+use Rattle.al_types.specs.Types.{Type', Any, ArrayOf, Fields, NoField, FieldThen, Rest, Loose, property_in}
+use Rattle.al_types.specs.TypeViews.{object_of, fused_of}
 use Rattle.al_types.specs.Private.TypeParts.{fields_of_type, rest_of_type}
 use Rattle.al_meaning.specs.Meaning.{Typed, typed, behind, before, and_then, array_of, or_fault, property_of, all_of, fuse_all, fuse_next, index_of, element_at, not_indexable}
 
@@ -37,25 +38,19 @@ element_at_object whole t (Object' s f r) = refl
 pub index_of_object : (whole : Span) (o : Object) (i : Type') → index_of whole (object_of o) i ≡ typed Any []
 index_of_object whole (Object' s f r) i = refl
 
+pub element_at_fused : (whole : Span) (t : Type') (f : Fused) → element_at whole t (fused_of f) ≡ not_indexable whole
+element_at_fused whole t (Fused' s os) = refl
+
+pub index_of_fused : (whole : Span) (f : Fused) (i : Type') → index_of whole (fused_of f) i ≡ typed Any []
+index_of_fused whole (Fused' s os) i = refl
+
 pub property_of_object : (n : List ℕ) (at whole : Span) (o : Object) → property_of n at whole (object_of o)
-    ≡ or_fault (fault code.UndefinedProperty at (n ∷ []))
-    (field_or_rest (field_at n (fields_of_type (object_of o))) (rest_of_type (object_of o)))
+    ≡ or_fault (fault code.UndefinedProperty at (n ∷ [])) (property_in n (object_of o))
 property_of_object n at whole (Object' s f r) = refl
 
--- a property that was found, of an object therefore
-pub property_there : (n : List ℕ) (at whole : Span) (t u : Type') → Some u ≡ property_in n t → property_of n at whole t ≡ typed u []
-property_there n at whole (ObjectOf fs r) u h = ap (or_fault (fault code.UndefinedProperty at (n ∷ []))) (sym h)
-property_there n at whole (ArrayOf t) u h = absurd cc
-property_there n at whole Any u h = absurd cc
-property_there n at whole Null u h = absurd cc
-property_there n at whole Number u h = absurd cc
-property_there n at whole Bool' u h = absurd cc
-property_there n at whole String u h = absurd cc
-
--- an object without it
-pub property_absent : (n : List ℕ) (at whole : Span) (o : Object) → None ≡ property_in n (object_of o) →
-    property_of n at whole (object_of o) ≡ typed Any (fault code.UndefinedProperty at (n ∷ []) ∷ [])
-property_absent n at whole (Object' s f r) h = ap (or_fault (fault code.UndefinedProperty at (n ∷ []))) (sym h)
+pub property_of_fused : (n : List ℕ) (at whole : Span) (f : Fused) → property_of n at whole (fused_of f)
+    ≡ or_fault (fault code.UndefinedProperty at (n ∷ [])) (property_in n (fused_of f))
+property_of_fused n at whole (Fused' s os) = refl
 
 pub all_of_object : (whole : Span) (o : Object) → all_of whole (object_of o) ≡ typed (ArrayOf (fuse_all None (fields_of_type (object_of o)) (rest_of_type (object_of o)))) []
 all_of_object whole (Object' s f r) = refl
@@ -68,6 +63,6 @@ pub fuse_all-loose : (o : Option Type') (t : Type') → fuse_all o NoField (Loos
 fuse_all-loose None t = refl
 fuse_all-loose (Some u) t = refl
 
-pub ruleset object_steps = (element_at_object, index_of_object, property_of_object, all_of_object)
+pub ruleset object_steps = (element_at_object, element_at_fused, index_of_object, index_of_fused, property_of_object, property_of_fused, all_of_object)
 
 pub ruleset fused_beside = (fuse_all-loose)

@@ -3,6 +3,7 @@
 
 mod calls;
 mod comparison;
+mod found;
 mod law;
 mod literals;
 mod placeholders;

@@ -1,15 +1,18 @@
 //! The types that property, index and `.*` steps lead to.
 
-ghost use Rattle.std.specs.Prelude.{◌≡◌, IfOk, None, option_map};
+ghost use Rattle.std.specs.Prelude.{◌≡◌, ◌∷◌, [], IfOk, None, option_map};
 ghost use Rattle.al_base.specs.Growth.{BeginsWith};
-ghost use Rattle.al_meaning.specs.Meaning.{typed, behind, property_of, all_of, index_of, element_at, not_indexable, fuse_all, fuse_next};
+ghost use Rattle.al_base.specs.declared.codes.ExpressionCode.TheVariants as code;
+ghost use Rattle.al_grammar.specs.Refusal.{fault};
+ghost use Rattle.al_meaning.specs.Meaning.{typed, behind, or_fault, property_of, all_of, index_of, element_at};
+ghost use Rattle.al_meaning.specs.Meaning.{not_indexable, fuse_all, fuse_next};
 ghost use Rattle.al_types.specs.Types.{NoField, property_in};
 ghost use Rattle.al_types.specs.TypeViews.{ty_of, object_of};
 ghost use Rattle.al_types.specs.Private.TypeParts.{fields_of_type, rest_of, rest_of_type};
 
 use crate::reports::{report_plain, report_text};
 use al_base::{ExpressionCode, Fault, Span};
-use al_types::{Object, Ty, copy, fuse};
+use al_types::{Object, Property, Ty, copy, fuse, joined_object};
 use std::alloc::{AllocError, Global};
 
 /// The type of a property, whose name stands at `at`, of a value of this type.
@@ -27,13 +30,8 @@ pub(crate) fn property(
 {
     match ty {
         Ty::Any => Ok(Ty::Any),
-        Ty::Object(object) => match object.property(name) {
-            Some(found) => copy(alloc, found),
-            None => {
-                report_text(alloc, out, ExpressionCode::UndefinedProperty, at, name)?;
-                Ok(Ty::Any)
-            }
-        },
+        Ty::Object(_) => object_property(alloc, ty, name, at, out),
+        Ty::Fused(_) => object_property(alloc, ty, name, at, out),
         Ty::Array(element) => {
             let of = property(alloc, element, name, at, whole, out)?;
             Ok(Ty::Array(Box::new(alloc, of)?))
@@ -43,6 +41,43 @@ pub(crate) fn property(
         Ty::Bool => not_indexable(whole, out),
         Ty::String => not_indexable(whole, out),
     }
+}
+
+// The same of an object: what it has by this name, else any with a fault.
+#[tactic(auto, using(al_base::proofs::Growing::growth, crate::proofs::TypedSteps::typing))]
+fn object_property(
+    alloc: Global,
+    ty: &Ty,
+    name: &str,
+    at: Span,
+    out: &mut Vec<Fault>,
+) -> Result<Ty, AllocError>
+    ensures ok { IfOk result (λ t. typed (ty_of t) out.new.items ≡ behind out.old.items
+        (or_fault (fault code.UndefinedProperty at (name.now ∷ [])) (property_in name.now (ty_of ty.now)))) }
+    ensures begins { BeginsWith out.new.items out.old.items }
+{
+    let found = ty.property(alloc, name)?;
+    match found {
+        Some(Property::Lent(found)) => copy(alloc, found),
+        Some(Property::Made(found)) => Ok(found),
+        None => undefined_property(alloc, name, at, out),
+    }
+}
+
+// The same where an object has no such property.
+#[tactic(auto, using(al_base::proofs::Growing::growth))]
+fn undefined_property(
+    alloc: Global,
+    name: &str,
+    at: Span,
+    out: &mut Vec<Fault>,
+) -> Result<Ty, AllocError>
+    ensures ok { IfOk result (λ t. typed (ty_of t) out.new.items ≡ behind out.old.items
+        (or_fault (fault code.UndefinedProperty at (name.now ∷ [])) None)) }
+    ensures begins { BeginsWith out.new.items out.old.items }
+{
+    report_text(alloc, out, ExpressionCode::UndefinedProperty, at, name)?;
+    Ok(Ty::Any)
 }
 
 /// The same where an object is known not to have the property, so that its fields are not looked through again.
@@ -60,10 +95,8 @@ pub(crate) fn absent_property(
     ensures begins { BeginsWith out.new.items out.old.items }
 {
     match ty {
-        Ty::Object(_) => {
-            report_text(alloc, out, ExpressionCode::UndefinedProperty, at, name)?;
-            Ok(Ty::Any)
-        }
+        Ty::Object(_) => undefined_property(alloc, name, at, out),
+        Ty::Fused(_) => undefined_property(alloc, name, at, out),
         _ => property(alloc, ty, name, at, whole, out),
     }
 }
@@ -83,6 +116,7 @@ pub(crate) fn element(
     match ty {
         Ty::Any => Ok(Ty::Any),
         Ty::Object(_) => Ok(Ty::Any),
+        Ty::Fused(_) => Ok(Ty::Any),
         Ty::Array(of) => element_of(alloc, of, by, whole, out),
         Ty::Null => not_indexable(whole, out),
         Ty::Number => not_indexable(whole, out),
@@ -110,6 +144,7 @@ fn element_of(
         Ty::String => not_indexable(whole, out),
         Ty::Array(_) => not_indexable(whole, out),
         Ty::Object(_) => not_indexable(whole, out),
+        Ty::Fused(_) => not_indexable(whole, out),
     }
 }
 
@@ -138,6 +173,11 @@ pub(crate) fn all(
         Ty::Array(_) => copy(alloc, ty),
         Ty::Object(object) => {
             let of = fuse_all(alloc, object)?;
+            Ok(Ty::Array(Box::new(alloc, of)?))
+        }
+        Ty::Fused(fused) => {
+            let object = joined_object(alloc, fused)?;
+            let of = fuse_all(alloc, &object)?;
             Ok(Ty::Array(Box::new(alloc, of)?))
         }
         Ty::Null => not_indexable(whole, out),
@@ -176,8 +216,9 @@ fn fuse_beside(alloc: Global, common: Option<Ty>, rest: &Option<Box<Ty>>) -> Res
 fn fuse_next(alloc: Global, common: Option<Ty>, ty: &Ty) -> Result<Ty, AllocError>
     ensures { IfOk result (λ t. ty_of t ≡ fuse_next (option_map ty_of common) (ty_of ty.now)) }
 {
+    let next = copy(alloc, ty)?;
     match common {
-        Some(common) => fuse(alloc, &common, ty),
-        None => copy(alloc, ty),
+        Some(common) => fuse(alloc, common, next),
+        None => Ok(next),
     }
 }

@@ -10,20 +10,20 @@ ghost use Rattle.al_meaning.specs.Meaning as meaning;
 ghost use Rattle.al_meaning.specs.Literals.{literal_text};
 ghost use Rattle.al_types.specs.Names.{context_of, function_of};
 ghost use Rattle.al_types.specs.Scopes.{scope_of, type_of_context};
-ghost use Rattle.al_types.specs.Types.{property_in};
 ghost use Rattle.al_grammar.specs.Tree.{steps_of, operands_of, arguments_of};
 ghost use Rattle.al_types.specs.TypeViews.{ty_of};
 ghost use Rattle.al_grammar.specs.View.{tree_of, step_of, operand_of};
 
 use crate::calls::{Argument, Callee, called, is_test};
 use crate::comparison::comparable;
+use crate::found::{Found, all_from, property_from};
 use crate::literals::{literal_text, type_of_keyword};
 use crate::reports::{report_plain, report_text};
-use crate::steps::{absent_property, all, element, property};
+use crate::steps::element;
 use crate::untrusted::untrusted_chain;
 use al_base::{ExpressionCode, Fault, Span};
 use al_grammar::{Expr, Operand, Operator, PathStep, Word, across, extent, path_extent};
-use al_types::{Context, ContextTypes, Function, Scope, Ty, copy, fuse};
+use al_types::{Context, Function, Scope, Ty, copy, fuse};
 use std::alloc::{AllocError, Global};
 
 /// The type of an expression under a scope, with the faults in it added to `out` in the order in which it is read:
@@ -165,37 +165,6 @@ fn named(alloc: Global, scope: &Scope, word: &Word, out: &mut Vec<Fault>) -> Res
     Ok(Ty::Any)
 }
 
-// A type, which may be a context's and large, so that it is better read where it stands.
-#[derive(Drop)]
-enum Found<'s> {
-    // That of a context, which is asked for its properties by their names.
-    Context(&'s ContextTypes, Context),
-    Lent(&'s Ty),
-    Owned(Ty),
-}
-
-impl<'s> Found<'s> {
-    fn get(&self) -> &Ty
-        ensures { ty_of result.now ≡ found_type self.now }
-    {
-        match self {
-            Found::Context(types, context) => types.get(*context),
-            Found::Lent(ty) => ty,
-            Found::Owned(ty) => ty,
-        }
-    }
-
-    fn into_ty(self, alloc: Global) -> Result<Ty, AllocError>
-        ensures { IfOk result (λ t. ty_of t ≡ found_type self.entry) }
-    {
-        match self {
-            Found::Context(types, context) => copy(alloc, types.get(context)),
-            Found::Lent(ty) => copy(alloc, ty),
-            Found::Owned(ty) => Ok(ty),
-        }
-    }
-}
-
 // The type of a path's base.
 #[tactic(auto, using(al_base::proofs::Growing::growth))]
 #[cycle(typing)]
@@ -237,59 +206,6 @@ fn available_context(scope: &Scope, expr: &Expr) -> Option<Context>
     Some(context)
 }
 
-// The type of a property of a type, from what was found there under its name: what is lent stays lent, so what a context holds is not
-// copied on the way to what is asked of it.
-#[tactic(auto, using(al_base::proofs::Growing::growth, crate::proofs::TypedSteps::typing))]
-fn property_found<'s>(
-    alloc: Global,
-    found: Option<&'s Ty>,
-    of: &Ty,
-    name: &str,
-    at: Span,
-    whole: Span,
-    out: &mut Vec<Fault>,
-) -> Result<Found<'s>, AllocError>
-    requires { option_map (λ t. ty_of t.now) found ≡ property_in name.now (ty_of of.now) }
-    ensures ok { IfOk result (λ f. typed (found_type f) out.new.items ≡ behind out.old.items
-        (meaning.property_of name.now at whole (ty_of of.now))) }
-    ensures begins { BeginsWith out.new.items out.old.items }
-{
-    match found {
-        Some(ty) => Ok(Found::Lent(ty)),
-        None => {
-            let ty = absent_property(alloc, of, name, at, whole, out)?;
-            Ok(Found::Owned(ty))
-        }
-    }
-}
-
-// The type of a property, whose name stands at `at`.
-#[tactic(auto, using(al_base::proofs::Growing::growth, crate::proofs::TypedSteps::typing))]
-fn property_from<'s>(
-    alloc: Global,
-    here: &Found<'s>,
-    name: &str,
-    at: Span,
-    whole: Span,
-    out: &mut Vec<Fault>,
-) -> Result<Found<'s>, AllocError>
-    ensures ok { IfOk result (λ f. typed (found_type f) out.new.items ≡ behind out.old.items
-        (meaning.property_of name.now at whole (found_type here.now))) }
-    ensures begins { BeginsWith out.new.items out.old.items }
-{
-    match here {
-        Found::Context(types, context) => {
-            let found = types.property(alloc, *context, name)?;
-            property_found(alloc, found, types.get(*context), name, at, whole, out)
-        }
-        Found::Lent(ty) => property_found(alloc, ty.property(name), ty, name, at, whole, out),
-        Found::Owned(ty) => {
-            let of = property(alloc, ty, name, at, whole, out)?;
-            Ok(Found::Owned(of))
-        }
-    }
-}
-
 // The type behind the steps of a path, from the type before them.
 #[tactic(auto, using(al_base::proofs::Growing::growth))]
 #[cycle(typing)]
@@ -306,7 +222,7 @@ fn walk<'s>(
 {
     let mut here = start;
     for step in steps {
-        let next = step_from(alloc, around, step, &here, out)?;
+        let next = step_from(alloc, around, step, here, out)?;
         here = next;
     }
     let ty = here.into_ty(alloc)?;
@@ -320,32 +236,29 @@ fn step_from<'s>(
     alloc: Global,
     around: Surroundings<'_>,
     step: &PathStep,
-    here: &Found<'s>,
+    here: Found<'s>,
     out: &mut Vec<Fault>,
 ) -> Result<Found<'s>, AllocError>
     ensures ok { IfOk result (λ f. typed (found_type f) out.new.items ≡ behind out.old.items
-        (stepped (scope_of (around.entry).scope.now) (around.entry).safe (step_of step.now) (found_type here.now))) }
+        (stepped (scope_of (around.entry).scope.now) (around.entry).safe (step_of step.now) (found_type here.entry))) }
     ensures begins { BeginsWith out.new.items out.old.items }
 {
     match step {
         PathStep::Property(dot, name) => property_from(
             alloc,
-            here,
+            &here,
             name.text.as_str(),
             name.span,
             across(*dot, name.span),
             out,
         ),
-        PathStep::All(first, last) => {
-            let of = all(alloc, here.get(), across(*first, *last), out)?;
-            Ok(Found::Owned(of))
-        }
+        PathStep::All(first, last) => all_from(alloc, here, across(*first, *last), out),
         PathStep::Index(open, index, close) => index_from(
             alloc,
             around,
             index,
             across(*open, *close),
-            here,
+            &here,
             out,
         ),
     }
@@ -414,7 +327,7 @@ fn operations(
     let mut ty = start;
     for operand in operands {
         let other = expression(alloc, around, &operand.expr, out)?;
-        ty = operation(alloc, operand.operator, operand.at, &ty, &other, out)?;
+        ty = operation(alloc, operand.operator, operand.at, ty, other, out)?;
     }
     Ok(ty)
 }
@@ -424,19 +337,19 @@ fn operation(
     alloc: Global,
     operator: Operator,
     at: Span,
-    a: &Ty,
-    b: &Ty,
+    a: Ty,
+    b: Ty,
     out: &mut Vec<Fault>,
 ) -> Result<Ty, AllocError>
     ensures ok { IfOk result (λ t. typed (ty_of t) out.new.items ≡ behind out.old.items
-        (operated operator at (ty_of a.now) (ty_of b.now))) }
+        (operated operator at (ty_of a) (ty_of b))) }
     ensures begins { BeginsWith out.new.items out.old.items }
 {
     if is_logic(operator) {
         let ty = fuse(alloc, a, b)?;
         return Ok(ty);
     }
-    if !comparable(operator, a, b) {
+    if !comparable(operator, &a, &b) {
         report_plain(out, ExpressionCode::NotComparable, at)?;
     }
     Ok(Ty::Bool)

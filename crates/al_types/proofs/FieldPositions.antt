@@ -1,13 +1,9 @@
 -- Where names stand among fields: among the same fields as a list, and which property a name finds by it.
 use Rattle.std.proofs.Common.{◌≡◌, ◌+◌, ◌<◌, ℕ, List, [], ◌∷◌, map, take, length, get_or, suc, arith, refl, sym, ap, ◌∙◌, Bool, true, false, Option, Some, None, option_map}
-use Rattle.std.specs.Global.{Global}
 use Rattle.std.specs.Option.{option_or}
 use Rattle.std.specs.Prelude.{if◌then◌else◌}
-use Rattle.std.specs.declared.rc.Rc.{Rc}
 use Rattle.std.proofs.Math.ListN.{get_or-map}
 use Rattle.al_base.specs.Names.{same_name}
-use Rattle.al_types.specs.declared.types.Ty.{Ty}
-use Rattle.al_types.specs.declared.types.Ty as code
 use Rattle.al_types.specs.declared.types.Field.{Field}
 use Rattle.al_types.specs.declared.types.Object.{Object, Object', out-Object}
 use Rattle.al_types.specs.Positions.{field_position, first_at}
@@ -86,13 +82,3 @@ type_there o n i f e h =
     let here : field_position (fields_of fs) n ≡ Some i = ap (λ gs. field_position gs n) (sym (fields_listed o)) ∙ e in
     let got : get_or fs i (field_of f) ≡ field_of f = get_or-map field_of items i f ∙ ap field_of (sym h) in
     sym (ap (field_at n) (fields_listed o) ∙ field_there fs n i (field_of f) here ∙ ap (λ (g : List ℕ × Type'). Some g.1) got)
-
--- a type that is no object has none
-pub no_property : (t : Ty) (n : List ℕ) → ((x : Rc Object Global) → t ≡ code.Object x → ⊥) → None ≡ property_in n (ty_of t)
-no_property (code.Object' p o) n h = absurd (h (record { ptr = p.ptr; value = o }) refl)
-no_property (code.Array' p t) n h = refl
-no_property code.Any n h = refl
-no_property code.Null n h = refl
-no_property code.Number n h = refl
-no_property code.Bool n h = refl
-no_property code.String n h = refl

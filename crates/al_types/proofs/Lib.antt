@@ -1,5 +1,7 @@
 pub mod TypeForms
 pub mod TypeFields
-pub mod Fused
+pub mod FuseLaws
+pub mod FusedLists
+pub mod FusedObjects
 pub mod PositionLemmas
 pub mod FieldPositions

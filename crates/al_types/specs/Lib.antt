@@ -7,3 +7,4 @@ pub mod Signatures
 pub mod Strings
 pub mod Scopes
 pub mod Private
+pub mod Properties

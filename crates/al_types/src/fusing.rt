@@ -1,22 +1,23 @@
 //! The one type of two branches.
 
-ghost use Rattle.std.specs.Prelude.{◌≡◌, ◌++◌, map, IfOk, OnOk};
+ghost use Rattle.std.specs.Prelude.{◌≡◌, IfOk, map};
 ghost use Rattle.al_types.specs.Types.{ArrayOf, fuse_type};
-ghost use Rattle.al_types.specs.Types as types;
-ghost use Rattle.al_types.specs.TypeViews.{ty_of, object_of, fields_of};
-ghost use Rattle.al_types.specs.Private.TypeParts.{rest_of, field_of, fields_of_type, missing_list, fuse_with_form};
+ghost use Rattle.al_types.specs.TypeViews.{ty_of, object_of, fields_of, fused_of};
+ghost use Rattle.al_types.specs.Private.TypeParts.{field_of, fields_of_type, fuse_with_form};
 
-use crate::finding::FieldFinder;
-use crate::types::{Field, Form, Object, Ty, copy, copy_rest, object_of_fields};
+use crate::joining::join;
+use crate::types::{Field, Form, Fused, Object, Ty, fields_of_object};
 use std::alloc::{AllocError, Global};
+use std::rc::Rc;
 
 /// What two types have in common: any with any or null, itself with itself, a string for two other scalars, an array
 /// of what the elements have in common, and an object with all fields of both, those of one name fused, as are the
-/// types of other fields where both have one. Everything else is any. Fails for want of memory alone.
-#[tactic(auto, using(crate::proofs::Fused::by_form))]
+/// types of other fields where both have one. Everything else is any. The fields of objects are not looked at before they are asked for.
+/// Fails for want of memory alone.
+#[tactic(auto, using(crate::proofs::FusedLists::by_form))]
 #[cycle(fusing)]
-pub fn fuse(alloc: Global, a: &Ty, b: &Ty) -> Result<Ty, AllocError>
-    ensures { IfOk result (λ t. ty_of t ≡ fuse_type (ty_of a.now) (ty_of b.now)) }
+pub fn fuse(alloc: Global, a: Ty, b: Ty) -> Result<Ty, AllocError>
+    ensures { IfOk result (λ t. ty_of t ≡ fuse_type (ty_of a) (ty_of b)) }
 {
     match a {
         Ty::Any => Ok(Ty::Any),
@@ -24,8 +25,9 @@ pub fn fuse(alloc: Global, a: &Ty, b: &Ty) -> Result<Ty, AllocError>
         Ty::Number => Ok(fuse_scalar(Form::Number, b.form())),
         Ty::Bool => Ok(fuse_scalar(Form::Bool, b.form())),
         Ty::String => Ok(fuse_scalar(Form::String, b.form())),
-        Ty::Array(x) => fuse_array(alloc, x, b),
+        Ty::Array(x) => fuse_array(alloc, Box::into_inner(x), b),
         Ty::Object(x) => fuse_object(alloc, x, b),
+        Ty::Fused(x) => fuse_fused(x, b),
     }
 }
 
@@ -46,89 +48,82 @@ fn fuse_scalar(a: Form, b: Form) -> Ty
 }
 
 #[cycle(fusing)]
-fn fuse_array(alloc: Global, element: &Ty, b: &Ty) -> Result<Ty, AllocError>
-    ensures { IfOk result (λ t. ty_of t ≡ fuse_type (ArrayOf (ty_of element.now)) (ty_of b.now)) }
+fn fuse_array(alloc: Global, element: Ty, b: Ty) -> Result<Ty, AllocError>
+    ensures { IfOk result (λ t. ty_of t ≡ fuse_type (ArrayOf (ty_of element)) (ty_of b)) }
 {
     match b {
-        Ty::Array(y) => Ok(Ty::Array(Box::new(alloc, fuse(alloc, element, y)?)?)),
+        Ty::Array(y) => Ok(Ty::Array(Box::new(alloc, fuse(alloc, element, Box::into_inner(y))?)?)),
         _ => Ok(Ty::Any),
     }
 }
 
-#[cycle(fusing)]
-fn fuse_object(alloc: Global, x: &Object, b: &Ty) -> Result<Ty, AllocError>
-    ensures { IfOk result (λ t. ty_of t ≡ fuse_type (object_of x.now) (ty_of b.now)) }
+fn fuse_object(alloc: Global, x: Rc<Object>, b: Ty) -> Result<Ty, AllocError>
+    ensures { IfOk result (λ t. ty_of t ≡ fuse_type (object_of x.value) (ty_of b)) }
 {
-    match b {
-        Ty::Object(y) => fuse_objects(alloc, x, y),
+    match b.form() {
+        Form::Object => fuse_fused(fused_alone(alloc, x)?, b),
         _ => Ok(Ty::Any),
     }
 }
 
-#[cycle(fusing)]
-fn fuse_objects(alloc: Global, x: &Object, y: &Object) -> Result<Ty, AllocError>
-    ensures { IfOk result (λ t. ty_of t ≡ fuse_type (object_of x.now) (object_of y.now)) }
+// An object as the only one of several.
+fn fused_alone(alloc: Global, object: Rc<Object>) -> Result<Box<Fused>, AllocError>
+    ensures { IfOk result (λ f. fused_of f.value ≡ object_of object.value) }
 {
-    let of_second = FieldFinder::of(alloc, y, x.fields.len())?;
-    let mut fields = fuse_fields(alloc, x, &of_second)?;
-    let of_first = FieldFinder::of(alloc, x, y.fields.len())?;
-    add_missing(alloc, &of_first, y, &mut fields)?;
-    let rest = fuse_rest(alloc, &x.rest, &y.rest)?;
-    let ty = object_of_fields(alloc, fields, rest)?;
-    Ok(ty)
+    let mut objects = Vec::new(alloc);
+    objects.push(object)?;
+    Ok(Box::new(alloc, Fused { objects })?)
 }
 
-// The fields of the first object, each fused with the second's of its name.
-#[cycle(fusing)]
-fn fuse_fields(alloc: Global, x: &Object, y: &FieldFinder<'_>) -> Result<Vec<Field>, AllocError>
-    ensures { IfOk result (λ v. fields_of (map field_of v.items)
-        ≡ types.fuse_fields (fields_of_type (object_of x.now)) (fields_of_type (object_of y.now.object.now))) }
+fn fuse_fused(x: Box<Fused>, b: Ty) -> Result<Ty, AllocError>
+    ensures { IfOk result (λ t. ty_of t ≡ fuse_type (fused_of x.value) (ty_of b)) }
 {
-    let mut fields = Vec::new(alloc);
-    for field in &x.fields {
-        let name = field.name.clone()?;
-        let ty = match y.field(alloc, field.name.as_str())? {
-            Some(other) => fuse(alloc, &field.ty, other)?,
-            None => copy(alloc, &field.ty)?,
-        };
-        fields.push(Field { name, ty })?;
-    }
-    Ok(fields)
-}
-
-// The fields of the second object that the first has not.
-fn add_missing(
-    alloc: Global,
-    x: &FieldFinder<'_>,
-    y: &Object,
-    fields: &mut Vec<Field>,
-) -> Result<(), AllocError>
-    ensures { OnOk result (map field_of fields.new.items ≡ map field_of fields.old.items
-        ++ missing_list (fields_of_type (object_of x.now.object.now)) (fields_of_type (object_of y.now))) }
-{
-    for field in &y.fields {
-        if !x.has_field(alloc, field.name.as_str())? {
-            let name = field.name.clone()?;
-            let ty = copy(alloc, &field.ty)?;
-            fields.push(Field { name, ty })?;
+    let mut all = x;
+    match b {
+        Ty::Object(y) => {
+            all.objects.push(y)?;
+            Ok(Ty::Fused(all))
         }
+        Ty::Fused(y) => {
+            let mut more = Box::into_inner(y).objects;
+            all.objects.append(&mut more)?;
+            Ok(Ty::Fused(all))
+        }
+        _ => Ok(Ty::Any),
     }
-    Ok(())
 }
 
-#[cycle(fusing)]
-fn fuse_rest(
-    alloc: Global,
-    x: &Option<Box<Ty>>,
-    y: &Option<Box<Ty>>,
-) -> Result<Option<Box<Ty>>, AllocError>
-    ensures { IfOk result (λ r. rest_of r ≡ types.fuse_rest (rest_of x.now) (rest_of y.now)) }
+/// The same type, whose fields stand in one object where it is one, or where arrays hold one: so a property is found in one look. Takes
+/// the time and memory of all fields of those that were fused. Fails for want of memory alone.
+pub fn joined(alloc: Global, ty: Ty) -> Result<Ty, AllocError>
+    ensures { IfOk result (λ t. ty_of t ≡ ty_of ty) }
 {
-    match x {
-        None => copy_rest(alloc, y),
-        Some(a) => match y {
-            None => copy_rest(alloc, x),
-            Some(b) => Ok(Some(Box::new(alloc, fuse(alloc, a, b)?)?)),
-        },
+    match ty {
+        Ty::Array(of) => {
+            let of = joined(alloc, Box::into_inner(of))?;
+            Ok(Ty::Array(Box::new(alloc, of)?))
+        }
+        Ty::Fused(fused) => Ok(Ty::Object(joined_object(alloc, &fused)?)),
+        other => Ok(other),
+    }
+}
+
+/// Objects that are fused as one object, with the fields of all. Takes time and memory as `joined`, and fails as it does.
+pub fn joined_object(alloc: Global, fused: &Fused) -> Result<Rc<Object>, AllocError>
+    ensures { IfOk result (λ o. object_of o.value ≡ fused_of fused.now) }
+{
+    let object = join(alloc, fused.objects.as_slice())?;
+    Ok(object)
+}
+
+/// The fields of an object; of another type none. They are moved out of an object that nothing else shares, and else copied. Fails for
+/// want of memory alone.
+pub fn into_fields(alloc: Global, ty: Ty) -> Result<Vec<Field>, AllocError>
+    ensures { IfOk result (λ v. fields_of (map field_of v.items) ≡ fields_of_type (ty_of ty)) }
+{
+    match ty {
+        Ty::Object(object) => fields_of_object(alloc, object),
+        Ty::Fused(fused) => fields_of_object(alloc, joined_object(alloc, &fused)?),
+        _ => Ok(Vec::new(alloc)),
     }
 }

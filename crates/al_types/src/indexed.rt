@@ -1,6 +1,7 @@
 //! Types that find their fields by their names.
 
 ghost use Rattle.std.specs.Prelude.{◌≡◌, IfOk, map, option_map};
+ghost use Rattle.al_types.specs.Properties.{property_type};
 ghost use Rattle.al_types.specs.Types.{Any, ObjectOf, Strict, property_in};
 ghost use Rattle.al_types.specs.TypeViews.{ty_of, object_of, fields_of};
 ghost use Rattle.al_types.specs.Private.Positions.{IsFieldIndex};
@@ -8,6 +9,7 @@ ghost use Rattle.al_types.specs.Private.TypeParts.{field_of, fields_of_type};
 
 use crate::finding::field_by;
 use crate::positions::NamePositions;
+use crate::properties::{Property, lent};
 use crate::types::{Field, Object, Ty, object_of_fields};
 use std::alloc::{AllocError, Global};
 
@@ -70,12 +72,12 @@ impl IndexedType {
     /// has none.
     ///
     /// Fails with `AllocError` for want of memory.
-    pub fn property(&self, alloc: Global, name: &str) -> Result<Option<&Ty>, AllocError>
-        ensures { IfOk result (λ found. option_map (λ t. ty_of t.now) found ≡ property_in name.now (indexed_type self.now)) }
+    pub fn property(&self, alloc: Global, name: &str) -> Result<Option<Property<'_>>, AllocError>
+        ensures { IfOk result (λ found. option_map property_type found ≡ property_in name.now (indexed_type self.now)) }
     {
         match &self.ty {
-            Ty::Object(object) => property_by(alloc, object, &self.positions, name),
-            _ => Ok(None),
+            Ty::Object(object) => Ok(lent(property_by(alloc, object, &self.positions, name)?)),
+            _ => self.ty.property(alloc, name),
         }
     }
 }

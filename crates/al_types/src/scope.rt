@@ -2,11 +2,13 @@
 
 ghost use Rattle.std.specs.Prelude.{◌≡◌, IfOk, option_map};
 ghost use Rattle.al_types.specs.Scopes.{type_of_context, is_available, is_allowed};
+ghost use Rattle.al_types.specs.Properties.{property_type};
 ghost use Rattle.al_types.specs.Types.{property_in};
 ghost use Rattle.al_types.specs.TypeViews.{ty_of};
 
 use crate::indexed::IndexedType;
 use crate::names::{Context, Function};
+use crate::properties::Property;
 use crate::types::Ty;
 use std::alloc::{AllocError, Global};
 
@@ -67,13 +69,13 @@ impl ContextTypes {
         alloc: Global,
         context: Context,
         name: &str,
-    ) -> Result<Option<&Ty>, AllocError>
-        ensures { IfOk result (λ found. option_map (λ t. ty_of t.now) found ≡ property_in name.now (type_of_context self.now context)) }
+    ) -> Result<Option<Property<'_>>, AllocError>
+        ensures { IfOk result (λ found. option_map property_type found ≡ property_in name.now (type_of_context self.now context)) }
     {
         match context {
             Context::Steps => self.steps.property(alloc, name),
             Context::Inputs => self.inputs.property(alloc, name),
-            _ => Ok(self.get(context).property(name)),
+            _ => self.get(context).property(alloc, name),
         }
     }
 }

@@ -1,8 +1,8 @@
 //! Types of expressions.
 
 ghost use Rattle.std.specs.Prelude.{◌≡◌, IfOk, None, map, option_map, string_bytes};
-ghost use Rattle.al_types.specs.Types.{ObjectOf, field_at, field_or_rest, is_collection, is_plain, property_in};
-ghost use Rattle.al_types.specs.TypeViews.{ty_of, object_of, fields_of};
+ghost use Rattle.al_types.specs.Types.{ObjectOf, field_at, field_or_rest, is_collection, is_plain};
+ghost use Rattle.al_types.specs.TypeViews.{ty_of, object_of, fields_of, fused_of};
 ghost use Rattle.al_types.specs.Private.TypeParts.{field_of, rest_of, form_of, fields_of_type, rest_of_type};
 
 use al_base::is_same_name;
@@ -21,6 +21,16 @@ pub enum Ty {
     String,
     Array(Box<Ty>),
     Object(Rc<Object>),
+    /// What objects have in common, whose fields are not fused yet.
+    Fused(Box<Fused>),
+}
+
+/// Objects that are fused in turn: of none an object without fields. What two large objects have in common takes neither time nor
+/// memory for their fields so, and a property of it is looked for in both.
+#[derive(Drop)]
+#[cycle(types)]
+pub struct Fused {
+    pub(crate) objects: Vec<Rc<Object>>,
 }
 
 /// An object's fields with their types, and the type of every field beside them: none in a strict object, which has
@@ -85,6 +95,7 @@ impl Ty {
             Ty::String => Form::String,
             Ty::Array(_) => Form::Array,
             Ty::Object(_) => Form::Object,
+            Ty::Fused(_) => Form::Object,
         }
     }
 
@@ -102,17 +113,6 @@ impl Ty {
         ensures { result ≡ is_plain (ty_of self.now) }
     {
         matches!(self.form(), Form::Number | Form::Bool | Form::String)
-    }
-
-    /// The type of a property, where it is an object that has it.
-    #[tactic(auto, using(crate::proofs::FieldPositions::property_of_parts))]
-    pub fn property(&self, name: &str) -> Option<&Ty>
-        ensures { option_map (λ t. ty_of t.now) result ≡ property_in name.now (ty_of self.now) }
-    {
-        match self {
-            Ty::Object(object) => object.property(name),
-            _ => None,
-        }
     }
 }
 
@@ -165,7 +165,19 @@ pub fn copy(alloc: Global, ty: &Ty) -> Result<Ty, AllocError>
         Ty::String => Ok(Ty::String),
         Ty::Array(of) => Ok(Ty::Array(Box::new(alloc, copy(alloc, of)?)?)),
         Ty::Object(object) => Ok(Ty::Object(object.clone()?)),
+        Ty::Fused(fused) => Ok(Ty::Fused(Box::new(alloc, copy_fused(alloc, fused)?)?)),
     }
+}
+
+// The same objects once more, which are shared.
+fn copy_fused(alloc: Global, fused: &Fused) -> Result<Fused, AllocError>
+    ensures { IfOk result (λ f. fused_of f ≡ fused_of fused.now) }
+{
+    let mut objects = Vec::with_capacity(alloc, fused.objects.len())?;
+    for object in &fused.objects {
+        objects.push(object.clone()?)?;
+    }
+    Ok(Fused { objects })
 }
 
 pub(crate) fn copy_rest(
@@ -181,7 +193,6 @@ pub(crate) fn copy_rest(
 }
 
 /// An object of fields, and of a type of every field beside them, if there may be others. Fails for want of memory alone.
-#[tactic(auto, using(crate::proofs::TypeFields::object_made))]
 pub fn object_of_fields(
     alloc: Global,
     fields: Vec<Field>,
@@ -189,7 +200,19 @@ pub fn object_of_fields(
 ) -> Result<Ty, AllocError>
     ensures { IfOk result (λ t. ty_of t ≡ ObjectOf (fields_of (map field_of fields.items)) (rest_of rest)) }
 {
-    Ok(Ty::Object(Rc::new(alloc, Object { fields, rest })?))
+    Ok(Ty::Object(shared_object(alloc, fields, rest)?))
+}
+
+/// The same, to be shared. Fails for want of memory alone.
+#[tactic(auto, using(crate::proofs::TypeFields::object_made))]
+pub(crate) fn shared_object(
+    alloc: Global,
+    fields: Vec<Field>,
+    rest: Option<Box<Ty>>,
+) -> Result<Rc<Object>, AllocError>
+    ensures { IfOk result (λ o. object_of o.value ≡ ObjectOf (fields_of (map field_of fields.items)) (rest_of rest)) }
+{
+    Ok(Rc::new(alloc, Object { fields, rest })?)
 }
 
 // Fields once more, with names of their own.
@@ -205,17 +228,13 @@ fn copy_fields(alloc: Global, fields: &[Field]) -> Result<Vec<Field>, AllocError
     Ok(copies)
 }
 
-/// The fields of an object; of another type none. They are moved out of an object that nothing else shares, and else copied. Fails for
-/// want of memory alone.
+/// The fields of an object, moved out of one that nothing else shares, and else copied.
 #[tactic(auto, using(crate::proofs::TypeFields::object_fields, crate::proofs::TypeFields::object_made))]
-pub fn into_fields(alloc: Global, ty: Ty) -> Result<Vec<Field>, AllocError>
-    ensures { IfOk result (λ v. fields_of (map field_of v.items) ≡ fields_of_type (ty_of ty)) }
+pub(crate) fn fields_of_object(alloc: Global, object: Rc<Object>) -> Result<Vec<Field>, AllocError>
+    ensures { IfOk result (λ v. fields_of (map field_of v.items) ≡ fields_of_type (object_of object.value)) }
 {
-    match ty {
-        Ty::Object(object) => match Rc::try_unwrap(object) {
-            Ok(object) => Ok(object.fields),
-            Err(shared) => copy_fields(alloc, shared.fields.as_slice()),
-        },
-        _ => Ok(Vec::new(alloc)),
+    match Rc::try_unwrap(object) {
+        Ok(object) => Ok(object.fields),
+        Err(shared) => copy_fields(alloc, shared.fields.as_slice()),
     }
 }

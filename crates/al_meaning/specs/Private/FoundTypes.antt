@@ -1,6 +1,6 @@
 -- What clauses see of a type that is a context's, lent or owned.
-use Rattle.al_meaning.specs.declared.typing.Found.{Found}
-use Rattle.al_meaning.specs.declared.typing.Found.TheVariants as found
+use Rattle.al_meaning.specs.declared.found.Found.{Found}
+use Rattle.al_meaning.specs.declared.found.Found.TheVariants as found
 use Rattle.al_types.specs.Scopes.{type_of_context}
 use Rattle.al_types.specs.Types.{Type'}
 use Rattle.al_types.specs.TypeViews.{ty_of}

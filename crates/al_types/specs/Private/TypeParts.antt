@@ -2,12 +2,14 @@
 use Rattle.std.specs.Prelude.{ℕ, List, Bool, true, false, Option, Some, None, string_bytes, Box, [], ◌∷◌, if◌then◌else◌}
 use Rattle.std.specs.Global.{Global}
 use Rattle.al_types.specs.declared.types.Ty.{Ty}
+use Rattle.std.specs.declared.rc.Rc.{Rc}
 use Rattle.al_types.specs.declared.types.Field.{Field}
+use Rattle.al_types.specs.declared.types.Object.{Object}
 use Rattle.al_types.specs.declared.types.Form.{Form}
 use Rattle.al_types.specs.declared.types.Form.TheVariants as form
 use Rattle.al_types.specs.Types.{Type', Any, Null, Number, Bool', String, ArrayOf, ObjectOf, Fields, NoField, FieldThen, Rest, Strict}
-use Rattle.al_types.specs.Types.{Loose, has_field}
-use Rattle.al_types.specs.TypeViews.{ty_of}
+use Rattle.al_types.specs.Types.{Loose, fuse_type, has_field}
+use Rattle.al_types.specs.TypeViews.{Parts, parts_of, ty_of}
 
 abbrev pub rest_of : Option (Box Ty Global) → Rest
 rest_of None = Strict
@@ -47,6 +49,10 @@ is_plain_form form.Bool = true
 is_plain_form form.String = true
 is_plain_form _ = false
 
+-- a shared object by its fields and the type of others
+abbrev pub shared_parts : Rc Object Global → Parts
+shared_parts o = parts_of o.value
+
 -- fields as a list
 abbrev pub field_of : Field → (List ℕ × Type')
 field_of f = (string_bytes f.name, ty_of f.ty)
@@ -77,3 +83,9 @@ fuse_with_form form.String form.String = String
 fuse_with_form form.String form.Number = String
 fuse_with_form form.String form.Bool = String
 fuse_with_form _ _ = Any
+
+-- what two types have in common, where both are there
+abbrev pub common_type : Option Type' → Option Type' → Option Type'
+common_type None o = o
+common_type (Some t) None = Some t
+common_type (Some t) (Some u) = Some (fuse_type t u)

@@ -132,14 +132,14 @@ step_from-returns-in-Property-clause-ok t c =
     let f = rw (c.as_str.ensures.value, c.across.ensures) at c.property_from.ensures.ok in
     rw e f
 
-pub step_from-returns-in_ok-of-in-All-clause-ok : goal.step_from-returns-in_ok-of-in-All-clause-ok
-step_from-returns-in_ok-of-in-All-clause-ok t c =
+pub step_from-returns-in-All-clause-ok : goal.step_from-returns-in-All-clause-ok
+step_from-returns-in-All-clause-ok t c =
     let e = ap step_of c.in-All.is ∙ step_of-All c.in-All.first c.in-All.last in
-    let f = rw (c.get.ensures, c.across-in-All.ensures) at c.in_ok-of-in-All.ensures.ok in
+    let f = rw c.across-in-All.ensures at c.all_from.ensures.ok in
     rw e f
 
-pub step_from-returns-in-Index-clause-ok : goal.step_from-returns-in-Index-clause-ok
-step_from-returns-in-Index-clause-ok t c =
+pub step_from-returns-clause-ok : goal.step_from-returns-clause-ok
+step_from-returns-clause-ok t c =
     let e = ap step_of c.in-Index.is ∙ step_of-Index c.in-Index.open c.in-Index.index c.in-Index.close in
     let f = rw c.across-in-Index.ensures at c.index_from.ensures.ok in
     rw e f

@@ -1,24 +1,14 @@
-use Rattle.std.proofs.Common.{◌≡◌, ◌<◌, ap, sym, subst, ◌∙◌, map, length, List, Some, None, get_or, set, arith}
+use Rattle.std.proofs.Common.{◌≡◌, ap, sym, subst, ◌∙◌, map, List, Some, None, get_or, arith}
 use Rattle.std.proofs.lemmas.List.{map-set}
-use Rattle.std.proofs.lemmas.List.{get_or-map as get_or-any}
 use Rattle.std.proofs.Math.ListN.{get_or-map}
 use Rattle.std.specs.Prelude.{OnOk}
 use Rattle.al_types.specs.Private.Positions.{name_position}
 use Rattle.al_types.proofs.PositionLemmas.{found_within}
-use Rattle.al_types.specs.Types.{fuse_type}
-use Rattle.al_types.specs.TypeViews.{ty_of}
 use Rattle.al_types.specs.Private.TypeParts.{field_of}
 use Rattle.al_contexts.specs.Objects.{Typed}
 use Rattle.al_contexts.specs.Private.Indexes.{name_at, named_as}
-use Rattle.al_contexts.proofs.Puts.{named_same, put_at, put_behind}
+use Rattle.al_contexts.proofs.Puts.{named_over, on_ok, put_behind, put_over}
 use Rattle.al_contexts.proofs.field_lists.FieldList.fuse.Goals as goal
-
-pub index-requires : goal.index-requires
-index-requires c =
-    let items = c.args.self.now.fields.items in
-    let at : name_at (map field_of items) c.as_bytes.result.now ≡ Some c.in-Some.i = ap (λ f. f c.as_bytes.result.now) (sym c.args.self.now.indexed) ∙ sym c.in_ok-get.ensures ∙ c.in-Some.is in
-    let few = found_within field_of (named_as c.as_bytes.result.now) items c.in-Some.i at in
-    omega (arith, few, c.args.self.now.fields.ok.0)
 
 pub index_mut-requires : goal.index_mut-requires
 index_mut-requires c =
@@ -30,12 +20,10 @@ index_mut-requires c =
 pub invariant_of-self : goal.invariant_of-self
 invariant_of-self c =
     let items = c.args.self.now.fields.items in
-    let ts : List Typed = map field_of items in
     let i = c.in-Some.i in
     let r = c.index_mut.result.now in
-    let t = ty_of c.in_ok-ty-in-Some.ty in
-    let got : get_or ts i (field_of r) ≡ field_of r = get_or-map field_of items i r ∙ ap field_of (sym c.index_mut.ensures.value) in
-    let same : name_at (set ts i ((field_of r).0, t)) ≡ name_at ts = ap (λ (q : Typed). name_at (set ts i (q.0, t))) (sym got) ∙ λ d n. named_same ts i (field_of r) t n d in
+    let got : get_or (map field_of items) i (field_of r) ≡ field_of r = get_or-map field_of items i r ∙ ap field_of (sym c.index_mut.ensures.value) in
+    let same = named_over (map field_of items) (field_of c.fuse_into.new.field) (field_of r) i got c.fuse_into.ensures.name in
     record { indexed = c.args.self.now.indexed ∙ sym (ap name_at (map-set field_of items i _) ∙ same) }
 
 pub returns-in-None : goal.returns-in-None
@@ -45,19 +33,13 @@ returns-in-None c =
     ap (λ f. f (field_of c.args.field).0) (sym c.args.self.now.indexed) ∙ ap (name_position c.args.self.now.positions) (sym c.as_bytes.ensures.value) ∙ sym c.in_ok-get.ensures ∙ c.in-None.is in
     subst (λ (us : List Typed). OnOk c.add.result (map field_of c.add.new.self.fields.items ≡ us)) (sym (put_behind ts (field_of c.args.field) none)) c.add.ensures
 
-pub returns-in_ok-ty-in-Some : goal.returns-in_ok-ty-in-Some
-returns-in_ok-ty-in-Some c =
+pub returns-in-Some : goal.returns-in-Some
+returns-in-Some c =
     let items = c.args.self.now.fields.items in
     let ts : List Typed = map field_of items in
     let i = c.in-Some.i in
     let f = field_of c.args.field in
     let r = c.index_mut.result.now in
     let at : name_at ts f.0 ≡ Some i = ap (name_at ts) (sym c.as_bytes.ensures.value) ∙ ap (λ g. g c.as_bytes.result.now) (sym c.args.self.now.indexed) ∙ sym c.in_ok-get.ensures ∙ c.in-Some.is in
-    let put = put_at ts f i (field_of r) at in
     let got : get_or ts i (field_of r) ≡ field_of r = get_or-map field_of items i r ∙ ap field_of (sym c.index_mut.ensures.value) in
-    let fused = c.in_ok-ty-in-Some.ensures in
-    let old = c.index.ensures in
-    let inside : i < length items = found_within field_of (named_as f.0) items i at in
-    let same : field_of c.index.result.now ≡ field_of r = sym (get_or-any field_of items i c.index.result.now (field_of r) inside ∙ ap field_of (sym old)) ∙ got in
-    map-set field_of items i _
-    ∙ rw (put, got) (ap (λ t. set ts i ((field_of r).0, t)) (fused ∙ ap (λ q. fuse_type q.1 (ty_of c.args.field.ty)) same))
+    on_ok c.fuse_into.result (λ ty. map-set field_of items i _ ∙ put_over ts f (field_of c.fuse_into.new.field) (field_of r) i at got c.fuse_into.ensures.name ty) c.fuse_into.ensures.ty

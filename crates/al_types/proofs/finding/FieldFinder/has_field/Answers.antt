@@ -2,7 +2,7 @@ use Rattle.std.proofs.Common.{sym, ap, ◌∙◌}
 use Rattle.std.specs.Prelude.{is_some}
 use Rattle.al_types.specs.TypeViews.{object_of}
 use Rattle.al_types.specs.Private.TypeParts.{fields_of_type}
-use Rattle.al_types.proofs.Fused.{has_field_at, some_mapped}
+use Rattle.al_types.proofs.FusedLists.{has_field_at, some_mapped}
 use Rattle.al_types.proofs.finding.FieldFinder.has_field.Goals as goal
 
 pub returns : goal.returns

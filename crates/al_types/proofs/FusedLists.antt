@@ -1,17 +1,18 @@
 -- Fused types by their forms, and fused fields as lists.
-use Rattle.std.proofs.Common.{◌≡◌, ℕ, List, [], ◌∷◌, ◌++◌, map, refl, ap, ◌∙◌, Bool, true, false, ◌||◌, Option, Some, None}
+use Rattle.std.proofs.Common.{◌≡◌, ◌≢◌, ℕ, List, [], ◌∷◌, ◌++◌, map, refl, ap, ◌∙◌, Bool, true, false, ◌||◌, Option, Some, None}
 use Rattle.std.specs.Prelude.{option_map, is_some, if◌then◌else◌}
 use Rattle.std.specs.Global.{Global}
 use Rattle.std.specs.Prelude.{Box}
 use Rattle.std.specs.declared.rc.Rc.{Rc}
 use Rattle.al_types.specs.declared.types.Ty.{Ty}
 use Rattle.al_types.specs.declared.types.Ty as code
+use Rattle.al_types.specs.declared.types.Fused.{Fused, Fused'}
 use Rattle.al_types.specs.declared.types.Object.{Object, Object', out-Object}
 use Rattle.al_types.specs.declared.types.Form.TheVariants as form
 use Rattle.al_base.specs.Names.{same_name}
 use Rattle.al_types.specs.Types.{Type', Any, Null, Number, Bool', String, ArrayOf, ObjectOf, Fields, NoField, FieldThen, field_at}
 use Rattle.al_types.specs.Types.{has_field, fuse_type, fuse_fields, missing_fields, join_fields, with_other, fuse_rest}
-use Rattle.al_types.specs.TypeViews.{ty_of, object_of, fields_of}
+use Rattle.al_types.specs.TypeViews.{ty_of, object_of, fields_of, fused_of}
 use Rattle.al_types.specs.Private.TypeParts.{rest_of, form_of, fields_of_type, missing_list, fuse_with_form}
 use Rattle.al_types.proofs.TypeFields.{object_fields}
 
@@ -84,23 +85,38 @@ fused_lists (f ∷ fs) gs = ap (FieldThen f.0 (with_other f.1 (field_at f.0 gs) 
 array_with_object : (a : Type') (o : Object) → fuse_type (ArrayOf a) (object_of o) ≡ Any
 array_with_object a (Object' s f r) = refl
 
+array_with_fused : (a : Type') (f : Fused) → fuse_type (ArrayOf a) (fused_of f) ≡ Any
+array_with_fused a (Fused' s os) = refl
+
 pub array_with_other : (a : Type') (t : Ty) → ((x : Box Ty Global) → t ≡ code.Array x → ⊥) → fuse_type (ArrayOf a) (ty_of t) ≡ Any
 array_with_other a (code.Array' p t) h = absurd (h (record { ptr = p.ptr; alloc = p.alloc; value = t }) refl)
 array_with_other a (code.Object' p o) h = array_with_object a o
+array_with_other a (code.Fused' p f) h = array_with_fused a f
 array_with_other a code.Any h = refl
 array_with_other a code.Null h = refl
 array_with_other a code.Number h = refl
 array_with_other a code.Bool h = refl
 array_with_other a code.String h = refl
 
-pub object_with_other : (o : Object) (t : Ty) → ((x : Rc Object Global) → t ≡ code.Object x → ⊥) → fuse_type (object_of o) (ty_of t) ≡ Any
-object_with_other o (code.Object' p x) h = absurd (h (record { ptr = p.ptr; value = x }) refl)
-object_with_other (Object' s f r) (code.Array' p t) h = refl
-object_with_other (Object' s f r) code.Any h = refl
-object_with_other (Object' s f r) code.Null h = refl
-object_with_other (Object' s f r) code.Number h = refl
-object_with_other (Object' s f r) code.Bool h = refl
-object_with_other (Object' s f r) code.String h = refl
+pub object_with_other : (o : Object) (t : Type') → form_of t ≢ form.Object → fuse_type (object_of o) t ≡ Any
+object_with_other o (ObjectOf fs r) h = absurd (h refl)
+object_with_other (Object' s f r) (ArrayOf a) h = refl
+object_with_other (Object' s f r) Any h = refl
+object_with_other (Object' s f r) Null h = refl
+object_with_other (Object' s f r) Number h = refl
+object_with_other (Object' s f r) Bool' h = refl
+object_with_other (Object' s f r) String h = refl
+
+pub fused_with_other : (f : Fused) (t : Ty) → ((x : Rc Object Global) → t ≡ code.Object x → ⊥) → ((x : Box Fused Global) → t ≡ code.Fused x → ⊥) →
+    fuse_type (fused_of f) (ty_of t) ≡ Any
+fused_with_other f (code.Object' p o) h i = absurd (h (record { ptr = p.ptr; value = o }) refl)
+fused_with_other f (code.Fused' p g) h i = absurd (i (record { ptr = p.ptr; alloc = p.alloc; value = g }) refl)
+fused_with_other (Fused' s os) (code.Array' p t) h i = refl
+fused_with_other (Fused' s os) code.Any h i = refl
+fused_with_other (Fused' s os) code.Null h i = refl
+fused_with_other (Fused' s os) code.Number h i = refl
+fused_with_other (Fused' s os) code.Bool h i = refl
+fused_with_other (Fused' s os) code.String h i = refl
 
 -- two objects by their fields as lists
 pub fuse_objects : (x y : Object) → fuse_type (object_of x) (object_of y)

@@ -1,7 +1,7 @@
 use Rattle.std.proofs.Common.{◌≡◌, ◌++◌, map, drop}
 use Rattle.al_types.specs.TypeViews.{fields_of, object_of}
 use Rattle.al_types.specs.Private.TypeParts.{field_of, fields_of_type, missing_list}
-use Rattle.al_types.proofs.fusing.add_missing.Given as goal
+use Rattle.al_types.proofs.joining.add_missing.Given as goal
 
 abbrev pub invariant-loop-field : goal.invariant-loop-field
 invariant-loop-field l = map field_of l.fields.items ++ missing_list (fields_of_type (object_of l.x.object.now))

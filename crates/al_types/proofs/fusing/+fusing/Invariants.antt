@@ -1,8 +1,0 @@
-use Rattle.std.proofs.Common.{◌≡◌, map, take}
-use Rattle.al_types.specs.TypeViews.{object_of}
-use Rattle.al_types.specs.Private.TypeParts.{field_of, fields_of_type}
-use Rattle.al_types.proofs.Fused.{fused_field}
-use Rattle.al_types.proofs.fusing.+fusing.Given as goal
-
-abbrev pub invariant-fuse_fields-loop-field : goal.invariant-fuse_fields-loop-field
-invariant-fuse_fields-loop-field l = map field_of l.fields.items ≡ map (fused_field (fields_of_type (object_of l.y.object.now))) (map field_of (take l.field-index l.field-items))
