@@ -35,8 +35,51 @@ def last_of_many_outputs():
 
 def branches_with_many_outputs():
     """Expressions that read the last of the outputs that two branches have in common."""
-    steps = b"      - run: ${{ (needs.a.outputs || needs.a.outputs).o9999 }}\n" * 200
+    steps = b"      - run: ${{ (needs.a.outputs || needs.a.outputs).o9999 }}\n" * 12_000
     return with_outputs(10_000, b"  b:\n    needs: a\n    runs-on: u\n    steps:\n" + steps), b""
+
+
+def operands_with_many_outputs():
+    """Expressions of so many operands that are all of many outputs, each of which reads the last of them."""
+    operands = b" || ".join([b"needs.a.outputs"] * 1_000)
+    steps = b"      - run: ${{ (%s).o9999 }}\n" % operands * 40
+    return with_outputs(10_000, b"  b:\n    needs: a\n    runs-on: u\n    steps:\n" + steps), b""
+
+
+def matrix_of(values):
+    """A workflow with a matrix of these values of one row, which reads a field of the first and of the last of them."""
+    read = b"      - run: ${{ matrix.r.k00000 }} ${{ matrix.r.a.k09999 }}\n"
+    start = b"on: push\njobs:\n  a:\n    strategy: {matrix: {%s}}\n    runs-on: u\n    steps:\n"
+    return {WORKFLOW: start % values + read}, b""
+
+
+def mappings_of_a_row():
+    """A row of a matrix whose values are mappings, each with a key of its own, and with a mapping of such a key."""
+    values = b", ".join(b"{k%05d: 1, a: {k%05d: 1}}" % (number, number) for number in range(10_000))
+    return matrix_of(b"r: [%s]" % values)
+
+
+def mappings_of_includes():
+    """A row of a matrix to which each of many combinations adds a mapping."""
+    combinations = b", ".join(b"{r: {k%05d: 1, a: {k%05d: 1}}}" % (number, number) for number in range(10_000))
+    return matrix_of(b"r: [{k: 1}], include: [%s]" % combinations)
+
+
+def all_steps_with_many_outputs():
+    """What all steps have in common, each of which calls an action with many outputs."""
+    called = b"name: A\ndescription: d\noutputs: {%s}\nruns: {using: composite, steps: []}\n" % values(10_000)
+    steps = b"".join(b"      - {id: s%04d, uses: ./a}\n" % number for number in range(4_000))
+    read = b"      - run: ${{ contains(steps.*.outputs.o9999, 'x') }}\n"
+    return {WORKFLOW: STEPS + steps + read, ACTION: called}, b""
+
+
+def all_needs_in_each_expression():
+    """Expressions on what all of many needed jobs have in common."""
+    names = [b"j%04d" % number for number in range(2_000)]
+    jobs = b"".join(b"  %s: {runs-on: u, steps: [{run: x}]}\n" % name for name in names)
+    steps = b"      - run: ${{ contains(needs.*.result, 'failure') }}\n" * 2_000
+    last = b"  z:\n    needs: [%s]\n    runs-on: u\n    steps:\n" % b", ".join(names) + steps
+    return {WORKFLOW: b"on: push\njobs:\n" + jobs + last}, b""
 
 
 def jobs_with_an_expression(expression):
@@ -107,7 +150,12 @@ def steps_that_call_one_with_many_outputs():
 FOLDERS = {
     "last-of-10000-outputs-12000-times": last_of_many_outputs,
     "all-of-10000-outputs-12000-times": all_of_many_outputs,
-    "200-branches-with-10000-outputs": branches_with_many_outputs,
+    "12000-branches-with-10000-outputs": branches_with_many_outputs,
+    "40000-operands-with-10000-outputs": operands_with_many_outputs,
+    "10000-mappings-of-a-matrix-row": mappings_of_a_row,
+    "10000-includes-of-a-mapping": mappings_of_includes,
+    "all-of-4000-steps-with-10000-outputs": all_steps_with_many_outputs,
+    "all-of-2000-needs-2000-times": all_needs_in_each_expression,
     "4000-jobs-that-need-4000-outputs": lambda: jobs_with_an_expression(b"${{ github.ref }}"),
     "4000-jobs-that-read-one-of-4000-outputs": lambda: jobs_with_an_expression(b"${{ needs.a.outputs.o0000 }}"),
     "13000-jobs-that-need-10000-outputs": jobs_that_call,
