@@ -7,7 +7,7 @@ use Rattle.al_scalar.specs.Scalar.{Scalar}
 use Rattle.al_base.specs.declared.faults.Span.{Span}
 use Rattle.std.proofs.lemmas.Slice.Eq.{bytes_eq-Decides}
 use Rattle.al_base.specs.Names.{folded, same_name}
-use Rattle.al_types.specs.TypeViews.{fields_of}
+use Rattle.al_types.specs.Types.{fields_of}
 use Rattle.al_types.specs.Private.TypeParts.{field_of, fields_of_type}
 use Rattle.al_types.specs.declared.types.Field.{Field}
 use Rattle.al_yaml.specs.Node.{Node}

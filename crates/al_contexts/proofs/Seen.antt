@@ -4,8 +4,7 @@ use Rattle.std.proofs.lemmas.Grind.{common_steps}
 use Rattle.std.proofs.Math.Seq.{take-add}
 use Rattle.std.proofs.lemmas.List.Elements.{filter_map-append}
 use Rattle.std.specs.List.{filter_map, enumerate_from}
-use Rattle.al_types.specs.Types.{Fields, FieldThen, NoField}
-use Rattle.al_types.specs.TypeViews.{fields_of}
+use Rattle.al_types.specs.Types.{Fields, FieldThen, NoField, fields_of}
 use Rattle.al_types.specs.Private.TypeParts.{fields_of_type}
 use Rattle.al_yaml.specs.Node.{Node}
 use Rattle.al_places.specs.Positions.{Seen, before}

@@ -5,3 +5,4 @@ pub mod LiteralViews
 pub mod PlaceholderStates
 pub mod PlaceholderViews
 pub mod QuotingStates
+pub mod FusedFields

@@ -5,13 +5,14 @@ use Rattle.std.specs.Prelude.{if◌then◌else◌}
 use Rattle.std.proofs.Math.ListN.{get_or-map}
 use Rattle.al_base.specs.Names.{same_name}
 use Rattle.al_types.specs.declared.types.Field.{Field}
-use Rattle.al_types.specs.declared.types.Object.{Object, Object', out-Object}
+use Rattle.al_types.specs.declared.types.Listing.{Listing, Listing', out-Listing}
+use Rattle.al_types.specs.declared.types.Object.{Object, Listed, Strings}
 use Rattle.al_types.specs.Positions.{field_position, first_at}
-use Rattle.al_types.specs.Types.{Type', Fields, NoField, FieldThen, field_at, field_or_rest, property_in}
-use Rattle.al_types.specs.TypeViews.{ty_of, object_of, fields_of}
+use Rattle.al_types.specs.Types.{Type', Fields, NoField, FieldThen, field_at, field_or_rest, property_in, fields_of}
+use Rattle.al_types.specs.TypeViews.{ty_of, listing_of, object_of}
 use Rattle.al_types.specs.Private.TypeParts.{field_of, fields_of_type, rest_of_type}
 use Rattle.al_types.proofs.PositionLemmas.{found_within, position_next}
-use Rattle.al_types.proofs.TypeFields.{object_fields}
+use Rattle.al_types.proofs.TypeFields.{listing_fields}
 
 abbrev is_named : List ℕ → List ℕ × Type' → Bool
 is_named n f = same_name f.0 n
@@ -61,23 +62,29 @@ field_nowhere (FieldThen m t fs) n e = nowhere_step (same_name m n) (field_posit
 
 -- ---- the property of an object
 
-pub property_of_parts : (n : List ℕ) (o : Object) → property_in n (object_of o) ≡ field_or_rest (field_at n (fields_of_type (object_of o))) (rest_of_type (object_of o))
-property_of_parts n (Object' s f r) = refl
+pub property_of_listing : (n : List ℕ) (l : Listing) →
+    property_in n (listing_of l) ≡ field_or_rest (field_at n (fields_of_type (listing_of l))) (rest_of_type (listing_of l))
+property_of_listing n (Listing' s f r) = refl
 
-pub fields_listed : (o : Object) → fields_of_type (object_of o) ≡ fields_of (map field_of (out-Object o).fields.items)
-fields_listed o = ap fields_of_type (object_fields o)
+pub property_of_parts : (n : List ℕ) (o : Object) →
+    property_in n (object_of o) ≡ field_or_rest (field_at n (fields_of_type (object_of o))) (rest_of_type (object_of o))
+property_of_parts n (Listed l) = property_of_listing n l
+property_of_parts n (Strings ns) = refl
+
+pub fields_listed : (o : Listing) → fields_of_type (listing_of o) ≡ fields_of (map field_of (out-Listing o).fields.items)
+fields_listed o = ap fields_of_type (listing_fields o)
 
 -- a position is one of its fields
-pub position_inside : (o : Object) (n : List ℕ) (i : ℕ) → field_position (fields_of_type (object_of o)) n ≡ Some i → i < length (out-Object o).fields.items
+pub position_inside : (o : Listing) (n : List ℕ) (i : ℕ) → field_position (fields_of_type (listing_of o)) n ≡ Some i → i < length (out-Listing o).fields.items
 position_inside o n i e =
-    found_within field_of (is_named n) (out-Object o).fields.items i
-    (sym (position_listed (map field_of (out-Object o).fields.items) n) ∙ ap (λ fs. field_position fs n) (sym (fields_listed o)) ∙ e)
+    found_within field_of (is_named n) (out-Listing o).fields.items i
+    (sym (position_listed (map field_of (out-Listing o).fields.items) n) ∙ ap (λ fs. field_position fs n) (sym (fields_listed o)) ∙ e)
 
 -- and the field there has the type that the name finds
-pub type_there : (o : Object) (n : List ℕ) (i : ℕ) (f : Field) → field_position (fields_of_type (object_of o)) n ≡ Some i →
-    f ≡ get_or (out-Object o).fields.items i f → Some (ty_of f.ty) ≡ field_at n (fields_of_type (object_of o))
+pub type_there : (o : Listing) (n : List ℕ) (i : ℕ) (f : Field) → field_position (fields_of_type (listing_of o)) n ≡ Some i →
+    f ≡ get_or (out-Listing o).fields.items i f → Some (ty_of f.ty) ≡ field_at n (fields_of_type (listing_of o))
 type_there o n i f e h =
-    let items = (out-Object o).fields.items in
+    let items = (out-Listing o).fields.items in
     let fs : List (List ℕ × Type') = map field_of items in
     let here : field_position (fields_of fs) n ≡ Some i = ap (λ gs. field_position gs n) (sym (fields_listed o)) ∙ e in
     let got : get_or fs i (field_of f) ≡ field_of f = get_or-map field_of items i f ∙ ap field_of (sym h) in

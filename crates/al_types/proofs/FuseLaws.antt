@@ -9,6 +9,7 @@ use Rattle.al_types.specs.Types.{Type', Any, ArrayOf, ObjectOf, Fields, NoField,
 use Rattle.al_types.specs.Types.{field_at, has_field, field_or_rest, missing_fields, join_fields, with_other, fuse_type, fuse_fields, fuse_rest}
 use Rattle.al_types.specs.TypeViews.{Parts, fuse_parts, fused_with, fused}
 use Rattle.al_types.specs.Private.TypeParts.{common_type}
+use Rattle.al_types.proofs.FusedLists.{has_field_at}
 
 -- the fields of what two objects have in common
 abbrev both : Fields → Fields → Fields
@@ -20,14 +21,6 @@ with_fused t o = with_other t o (λ u. fuse_type t u)
 
 -- ---- names that are the same
 
-found_step : (b : Bool) (t : Type') (o : Option Type') (has : Bool) → is_some o ≡ has → is_some (if b then Some t else o) ≡ b || has
-found_step true t o has e = refl
-found_step false t o has e = e
-
-has_found : (n : List ℕ) (fs : Fields) → is_some (field_at n fs) ≡ has_field n fs
-has_found n NoField = refl
-has_found n (FieldThen m t fs) = found_step (same_name m n) t (field_at n fs) (has_field n fs) (has_found n fs)
-
 same_at : (m n : List ℕ) (fs : Fields) → folded m ≡ folded n → field_at m fs ≡ field_at n fs
 same_at m n NoField e = refl
 same_at m n (FieldThen k u fs) e =
@@ -35,7 +28,7 @@ same_at m n (FieldThen k u fs) e =
     ∙ ap (λ o. if same_name k n then Some u else o) (same_at m n fs e)
 
 has_same : (m n : List ℕ) (fs : Fields) → folded m ≡ folded n → has_field m fs ≡ has_field n fs
-has_same m n fs e = sym (has_found m fs) ∙ ap is_some (same_at m n fs e) ∙ has_found n fs
+has_same m n fs e = sym (has_field_at m fs) ∙ ap is_some (same_at m n fs e) ∙ has_field_at n fs
 
 -- ---- the type of a field of both
 
@@ -90,7 +83,7 @@ at_both : (n : List ℕ) (fs gs : Fields) → field_at n (both fs gs) ≡ common
 at_both n fs gs =
     at_joined n (fuse_fields fs gs) (missing_fields fs gs)
     ∙ ap (λ o. option_or o (field_at n (missing_fields fs gs))) (at_fused n fs gs)
-    ∙ both_step (field_at n fs) (field_at n (missing_fields fs gs)) (field_at n gs) (λ h. at_missing n fs gs (sym (has_found n fs) ∙ h))
+    ∙ both_step (field_at n fs) (field_at n (missing_fields fs gs)) (field_at n gs) (λ h. at_missing n fs gs (sym (has_field_at n fs) ∙ h))
 
 -- the type of a field of what two objects have in common
 pub field_of_both : (n : List ℕ) (p q : Parts) → field_at n (fuse_parts p q).0 ≡ common_type (field_at n p.0) (field_at n q.0)
@@ -172,7 +165,7 @@ common_some (Some t) (Some u) = refl
 -- both have the fields of either
 has_both : (n : List ℕ) (fs gs : Fields) → has_field n (both fs gs) ≡ has_field n fs || has_field n gs
 has_both n fs gs =
-    cc (has_found n (both fs gs), at_both n fs gs, common_some (field_at n fs) (field_at n gs), has_found n fs, has_found n gs)
+    cc (has_field_at n (both fs gs), at_both n fs gs, common_some (field_at n fs) (field_at n gs), has_field_at n fs, has_field_at n gs)
 
 if_or : (a b : Bool) (fs gs : Fields) → (if a || b then fs else gs) ≡ (if b then fs else (if a then fs else gs))
 if_or true true fs gs = refl

@@ -3,18 +3,17 @@ use Rattle.std.proofs.Common.{◌≡◌, ◌≢◌, ℕ, List, [], ◌∷◌, �
 use Rattle.std.specs.Prelude.{option_map, is_some, if◌then◌else◌}
 use Rattle.std.specs.Global.{Global}
 use Rattle.std.specs.Prelude.{Box}
-use Rattle.std.specs.declared.rc.Rc.{Rc}
 use Rattle.al_types.specs.declared.types.Ty.{Ty}
 use Rattle.al_types.specs.declared.types.Ty as code
-use Rattle.al_types.specs.declared.types.Fused.{Fused, Fused'}
-use Rattle.al_types.specs.declared.types.Object.{Object, Object', out-Object}
+use Rattle.al_types.specs.declared.types.Listing.{Listing, Listing', out-Listing}
+use Rattle.al_types.specs.declared.types.Object.{Object, Listed, Strings}
 use Rattle.al_types.specs.declared.types.Form.TheVariants as form
 use Rattle.al_base.specs.Names.{same_name}
-use Rattle.al_types.specs.Types.{Type', Any, Null, Number, Bool', String, ArrayOf, ObjectOf, Fields, NoField, FieldThen, field_at}
-use Rattle.al_types.specs.Types.{has_field, fuse_type, fuse_fields, missing_fields, join_fields, with_other, fuse_rest}
-use Rattle.al_types.specs.TypeViews.{ty_of, object_of, fields_of, fused_of}
+use Rattle.al_types.specs.Types.{Type', Any, Null, Number, Bool', String, ArrayOf, ObjectOf, Fields, NoField, FieldThen, Rest, Strict, field_at}
+use Rattle.al_types.specs.Types.{has_field, fuse_type, fuse_fields, missing_fields, join_fields, with_other, fuse_rest, fields_of}
+use Rattle.al_types.specs.TypeViews.{ty_of, listing_of, object_of}
 use Rattle.al_types.specs.Private.TypeParts.{rest_of, form_of, fields_of_type, missing_list, fuse_with_form}
-use Rattle.al_types.proofs.TypeFields.{object_fields}
+use Rattle.al_types.proofs.TypeFields.{listing_fields}
 
 pub fuse_null : (t : Type') → fuse_type Null t ≡ fuse_with_form form.Null (form_of t)
 fuse_null Null = refl
@@ -82,48 +81,45 @@ pub fused_lists : (fs : List (List ℕ × Type')) (gs : Fields) → fuse_fields 
 fused_lists [] gs = refl
 fused_lists (f ∷ fs) gs = ap (FieldThen f.0 (with_other f.1 (field_at f.0 gs) (λ u. fuse_type f.1 u))) (fused_lists fs gs)
 
-array_with_object : (a : Type') (o : Object) → fuse_type (ArrayOf a) (object_of o) ≡ Any
-array_with_object a (Object' s f r) = refl
+array_with_listing : (a : Type') (l : Listing) → fuse_type (ArrayOf a) (listing_of l) ≡ Any
+array_with_listing a (Listing' s f r) = refl
 
-array_with_fused : (a : Type') (f : Fused) → fuse_type (ArrayOf a) (fused_of f) ≡ Any
-array_with_fused a (Fused' s os) = refl
+array_with_object : (a : Type') (o : Object) → fuse_type (ArrayOf a) (object_of o) ≡ Any
+array_with_object a (Listed l) = array_with_listing a l
+array_with_object a (Strings ns) = refl
 
 pub array_with_other : (a : Type') (t : Ty) → ((x : Box Ty Global) → t ≡ code.Array x → ⊥) → fuse_type (ArrayOf a) (ty_of t) ≡ Any
 array_with_other a (code.Array' p t) h = absurd (h (record { ptr = p.ptr; alloc = p.alloc; value = t }) refl)
 array_with_other a (code.Object' p o) h = array_with_object a o
-array_with_other a (code.Fused' p f) h = array_with_fused a f
+array_with_other a (code.Fused' p s os) h = refl
 array_with_other a code.Any h = refl
 array_with_other a code.Null h = refl
 array_with_other a code.Number h = refl
 array_with_other a code.Bool h = refl
 array_with_other a code.String h = refl
 
-pub object_with_other : (o : Object) (t : Type') → form_of t ≢ form.Object → fuse_type (object_of o) t ≡ Any
-object_with_other o (ObjectOf fs r) h = absurd (h refl)
-object_with_other (Object' s f r) (ArrayOf a) h = refl
-object_with_other (Object' s f r) Any h = refl
-object_with_other (Object' s f r) Null h = refl
-object_with_other (Object' s f r) Number h = refl
-object_with_other (Object' s f r) Bool' h = refl
-object_with_other (Object' s f r) String h = refl
+object_with : (fs : Fields) (r : Rest) (t : Type') → form_of t ≢ form.Object → fuse_type (ObjectOf fs r) t ≡ Any
+object_with fs r (ObjectOf gs s) h = absurd (h refl)
+object_with fs r (ArrayOf a) h = refl
+object_with fs r Any h = refl
+object_with fs r Null h = refl
+object_with fs r Number h = refl
+object_with fs r Bool' h = refl
+object_with fs r String h = refl
 
-pub fused_with_other : (f : Fused) (t : Ty) → ((x : Rc Object Global) → t ≡ code.Object x → ⊥) → ((x : Box Fused Global) → t ≡ code.Fused x → ⊥) →
-    fuse_type (fused_of f) (ty_of t) ≡ Any
-fused_with_other f (code.Object' p o) h i = absurd (h (record { ptr = p.ptr; value = o }) refl)
-fused_with_other f (code.Fused' p g) h i = absurd (i (record { ptr = p.ptr; alloc = p.alloc; value = g }) refl)
-fused_with_other (Fused' s os) (code.Array' p t) h i = refl
-fused_with_other (Fused' s os) code.Any h i = refl
-fused_with_other (Fused' s os) code.Null h i = refl
-fused_with_other (Fused' s os) code.Number h i = refl
-fused_with_other (Fused' s os) code.Bool h i = refl
-fused_with_other (Fused' s os) code.String h i = refl
+object_of_listing : (l : Listing) (t : Type') → form_of t ≢ form.Object → fuse_type (listing_of l) t ≡ Any
+object_of_listing (Listing' s fs r) t h = object_with _ _ t h
+
+pub object_with_other : (o : Object) (t : Type') → form_of t ≢ form.Object → fuse_type (object_of o) t ≡ Any
+object_with_other (Listed l) t h = object_of_listing l t h
+object_with_other (Strings ns) t h = object_with _ Strict t h
 
 -- two objects by their fields as lists
-pub fuse_objects : (x y : Object) → fuse_type (object_of x) (object_of y)
-    ≡ ObjectOf (join_fields (fuse_fields (fields_of_type (object_of x)) (fields_of_type (object_of y)))
-    (missing_fields (fields_of_type (object_of x)) (fields_of_type (object_of y))))
-    (fuse_rest (rest_of (out-Object x).rest) (rest_of (out-Object y).rest))
-fuse_objects x y = rw (object_fields x, object_fields y) refl
+pub fuse_listings : (x y : Listing) → fuse_type (listing_of x) (listing_of y)
+    ≡ ObjectOf (join_fields (fuse_fields (fields_of_type (listing_of x)) (fields_of_type (listing_of y)))
+    (missing_fields (fields_of_type (listing_of x)) (fields_of_type (listing_of y))))
+    (fuse_rest (rest_of (out-Listing x).rest) (rest_of (out-Listing y).rest))
+fuse_listings x y = rw (listing_fields x, listing_fields y) refl
 
 pub some_mapped : {X Y : Type 0} (f : X → Y) (o : Option X) → is_some (option_map f o) ≡ is_some o
 some_mapped f None = refl

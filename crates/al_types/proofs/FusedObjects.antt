@@ -3,51 +3,50 @@ use Rattle.std.proofs.Common.{◌≡◌, ◌≤◌, ◌<◌, ◌+◌, ℕ, arith
 use Rattle.std.proofs.lemmas.List.{map-append, take-append-drop, take_more}
 use Rattle.std.specs.Global.{Global}
 use Rattle.std.specs.declared.rc.Rc.{Rc}
-use Rattle.al_types.specs.declared.types.Ty.{Ty}
-use Rattle.al_types.specs.declared.types.Field.{Field}
-use Rattle.al_types.specs.declared.types.Fused.{Fused, Fused', Fused-F, out-Fused, roll-Fused}
-use Rattle.al_types.specs.declared.types.Object.{Object, Object'}
+use Rattle.al_types.specs.declared.types.Fused.{Fused}
+use Rattle.al_types.specs.declared.types.Listing.{Listing'}
+use Rattle.al_types.specs.declared.types.Object.{Object, Listed, Strings}
 use Rattle.al_types.specs.Types.{Type', field_at, field_or_rest, fuse_type, property_in}
-use Rattle.al_types.specs.TypeViews.{Parts, fused, fused_of, fuse_parts, object_of, object_type, parts_of}
-use Rattle.al_types.specs.Private.TypeParts.{common_type, fields_of_type, rest_of_type, shared_parts}
+use Rattle.al_types.specs.TypeViews.{Parts, fused, fused_of, fuse_parts, object_of, object_type, parts_of, shared_parts}
+use Rattle.al_types.specs.Private.TypeParts.{common_type, fields_of_type, rest_of_type}
 use Rattle.al_types.proofs.FuseLaws.{empty_first, field_of_both, fused_both, fused_one_more, rest_of_both}
-use Rattle.al_types.proofs.TypeFields.{fused_made, fused_objects}
 
 pub by_parts : (o : Object) → object_of o ≡ object_type (parts_of o)
-by_parts (Object' s f r) = refl
+by_parts (Listed (Listing' s f r)) = refl
+by_parts (Strings ns) = refl
 
 parts_of_list : List (Rc Object Global) → Parts
 parts_of_list os = fused (map shared_parts os)
 
 -- objects with one more
-pub with_one_more : (x : Fused) (y : Fused-F Ty Field Fused Object) (o : Rc Object Global) →
-    y.objects.items ≡ (out-Fused x).objects.items ++ o ∷ [] → fused_of (roll-Fused y) ≡ fuse_type (fused_of x) (object_of o.value)
+pub with_one_more : (x y : Fused) (o : Rc Object Global) →
+    y.objects.items ≡ x.objects.items ++ o ∷ [] → fused_of y ≡ fuse_type (fused_of x) (object_of o.value)
 with_one_more x y o e =
-    let os = (out-Fused x).objects.items in
+    let os = x.objects.items in
     let listed : fused (map shared_parts y.objects.items) ≡ fuse_parts (fused (map shared_parts os)) (parts_of o.value) =
     ap (λ l. fused (map shared_parts l)) e ∙ ap fused (map-append shared_parts os (o ∷ [])) ∙ fused_one_more (map shared_parts os) (parts_of o.value) in
-    rw (fused_made y, listed, fused_objects x, by_parts o.value) refl
+    rw (listed, by_parts o.value) refl
 
 -- and with others behind them
-pub with_others : (x z : Fused) (y : Fused-F Ty Field Fused Object) →
-    y.objects.items ≡ (out-Fused x).objects.items ++ (out-Fused z).objects.items → fused_of (roll-Fused y) ≡ fuse_type (fused_of x) (fused_of z)
+pub with_others : (x z y : Fused) →
+    y.objects.items ≡ x.objects.items ++ z.objects.items → fused_of y ≡ fuse_type (fused_of x) (fused_of z)
 with_others x z y e =
-    let os = (out-Fused x).objects.items in
-    let us = (out-Fused z).objects.items in
+    let os = x.objects.items in
+    let us = z.objects.items in
     let listed : fused (map shared_parts y.objects.items) ≡ fuse_parts (fused (map shared_parts os)) (fused (map shared_parts us)) =
     ap (λ l. fused (map shared_parts l)) e ∙ ap fused (map-append shared_parts os us) ∙ fused_both (map shared_parts os) (map shared_parts us) in
-    rw (fused_made y, listed, fused_objects x, fused_objects z) refl
+    rw listed refl
 
 -- one alone
-pub alone : (y : Fused-F Ty Field Fused Object) (o : Rc Object Global) → y.objects.items ≡ o ∷ [] → fused_of (roll-Fused y) ≡ object_of o.value
+pub alone : (y : Fused) (o : Rc Object Global) → y.objects.items ≡ o ∷ [] → fused_of y ≡ object_of o.value
 alone y o e =
     let listed : fused (map shared_parts y.objects.items) ≡ parts_of o.value = ap (λ l. fused (map shared_parts l)) e ∙ empty_first (parts_of o.value) in
-    rw (fused_made y, listed, by_parts o.value) refl
+    rw (listed, by_parts o.value) refl
 
 -- ---- a property, object after object
 
 -- objects with the one at an index
-next_object : (os : List (Rc Object Global)) (i : ℕ) (o : Rc Object Global) → i < length os → o ≡ get_or os i o →
+pub next_object : (os : List (Rc Object Global)) (i : ℕ) (o : Rc Object Global) → i < length os → o ≡ get_or os i o →
     fused (map shared_parts (take (i + 1) os)) ≡ fuse_parts (fused (map shared_parts (take i os))) (parts_of o.value)
 next_object os i o h e =
     ap (λ l. fused (map shared_parts l)) (take_more os i o h) ∙ ap fused (map-append shared_parts (take i os) (get_or os i o ∷ []))
@@ -74,7 +73,7 @@ other_next os i o old found new h e old_is found_is new_is =
 -- a property of all
 pub property_of_fused : (n : List ℕ) (f : Fused) →
     property_in n (fused_of f) ≡ field_or_rest (field_at n (fields_of_type (fused_of f))) (rest_of_type (fused_of f))
-property_of_fused n (Fused' s os) = refl
+property_of_fused n f = refl
 
 -- ---- several as one
 

@@ -4,4 +4,5 @@ pub mod FuseLaws
 pub mod FusedLists
 pub mod FusedObjects
 pub mod PositionLemmas
+pub mod StringFields
 pub mod FieldPositions

@@ -12,3 +12,7 @@ first_at test (x ∷ xs) = if test x then Some 0 else option_map (λ i. i + 1) (
 abbrev pub field_position : Fields → List ℕ → Option ℕ
 field_position NoField n = None
 field_position (FieldThen m t fs) n = if same_name m n then Some 0 else option_map (λ i. i + 1) (field_position fs n)
+
+-- where a name first is among names
+abbrev pub name_place : List (List ℕ) → List ℕ → Option ℕ
+name_place ns n = first_at (λ m. same_name m n) ns

@@ -1,7 +1,6 @@
 -- Object types whose fields are strings.
 use Rattle.std.specs.Prelude.{ℕ, List, map}
-use Rattle.al_types.specs.Types.{Type', String, ObjectOf, Strict}
-use Rattle.al_types.specs.TypeViews.{fields_of}
+use Rattle.al_types.specs.Types.{Type', String, ObjectOf, Strict, fields_of}
 
 abbrev pub strings : List (List ℕ) → List (List ℕ × Type')
 strings = map (λ k. (k, String))

@@ -1,13 +1,18 @@
 -- What clauses see of the code's types: the type alone, without where it lies in memory.
-use Rattle.std.specs.Prelude.{ℕ, List, string_bytes, [], ◌∷◌}
+use Rattle.std.specs.Prelude.{ℕ, List, map, string_bytes, [], ◌∷◌}
+use Rattle.std.specs.Global.{Global}
+use Rattle.std.specs.declared.rc.Rc.{Rc}
 use Rattle.al_types.specs.declared.types.Ty.{Ty}
-use Rattle.al_types.specs.declared.types.Object.{Object, Object'}
-use Rattle.al_types.specs.declared.types.Fused.{Fused, Fused'}
-use Rattle.al_types.specs.declared.types.Ty.TheBlock as code
-use Rattle.al_types.specs.declared.types.Ty.TheBlock.{Row_of-Fused-objects-1, end_of-Fused-objects-1, more_of-Fused-objects-1}
-use Rattle.al_types.specs.declared.types.Ty.TheBlock.{Row_of-Field, end_of-Field, more_of-Field, Held-Object-rest, None', Some'}
+use Rattle.al_types.specs.declared.field_names.FieldNames.{FieldNames}
+use Rattle.al_types.specs.declared.types.Listing.{Listing, Listing'}
+use Rattle.al_types.specs.declared.types.Object.{Object}
+use Rattle.al_types.specs.declared.types.Fused.{Fused}
+use Rattle.al_types.specs.declared.types.Object.TheBlock as code
+use Rattle.al_types.specs.declared.types.Object.TheBlock.{Row_of-Fused-objects-1, end_of-Fused-objects-1, more_of-Fused-objects-1}
+use Rattle.al_types.specs.declared.types.Object.TheBlock.{Row_of-Field, end_of-Field, more_of-Field, Held-Listing-rest, None', Some'}
 use Rattle.al_types.specs.Types.{Type', Any, Null, Number, Bool', String, ArrayOf, ObjectOf, Fields, NoField, FieldThen, Rest, Strict}
-use Rattle.al_types.specs.Types.{Loose, fuse_fields, fuse_rest, join_fields, missing_fields}
+use Rattle.al_types.specs.Strings.{strings}
+use Rattle.al_types.specs.Types.{Loose, fields_of, fuse_fields, fuse_rest, join_fields, missing_fields}
 
 -- an object by its fields and the type of others
 abbrev pub Parts : Type 0
@@ -28,6 +33,9 @@ fused_with p (q ∷ qs) = fused_with (fuse_parts p q) qs
 abbrev pub fused : List Parts → Parts
 fused qs = fused_with (NoField, Strict) qs
 
+abbrev pub names_in : FieldNames → List (List ℕ)
+names_in ns = map string_bytes ns.names.items
+
 abbrev mutual
   pub ty_of : Ty → Type'
   ty_of code.Any = Any
@@ -37,29 +45,37 @@ abbrev mutual
   ty_of code.String = String
   ty_of (code.Array' p t) = ArrayOf (ty_of t)
   ty_of (code.Object' p o) = object_of o
-  ty_of (code.Fused' p f) = fused_of f
-
-  pub fused_of : Fused → Type'
-  fused_of (Fused' shape os) = object_type (fused (objects_in os))
+  ty_of (code.Fused' p shape os) = object_type (fused (objects_in os))
 
   pub objects_in : {n : _} → Row_of-Fused-objects-1 n → List Parts
   objects_in end_of-Fused-objects-1 = []
   objects_in (more_of-Fused-objects-1 p o os) = parts_of o ∷ objects_in os
 
   pub parts_of : Object → Parts
-  parts_of (Object' shape fs rest) = (fields_in fs, rest_in rest)
+  parts_of (code.Listed l) = listing_parts l
+  parts_of (code.Strings ns) = (fields_of (strings (names_in ns)), Strict)
 
   pub object_of : Object → Type'
-  object_of (Object' shape fs rest) = ObjectOf (fields_in fs) (rest_in rest)
+  object_of (code.Listed l) = listing_of l
+  object_of (code.Strings ns) = ObjectOf (fields_of (strings (names_in ns))) Strict
+
+  pub listing_parts : Listing → Parts
+  listing_parts (Listing' shape fs rest) = (fields_in fs, rest_in rest)
+
+  pub listing_of : Listing → Type'
+  listing_of (Listing' shape fs rest) = ObjectOf (fields_in fs) (rest_in rest)
 
   pub fields_in : {n : _} → Row_of-Field n → Fields
   fields_in end_of-Field = NoField
   fields_in (more_of-Field name t fs) = FieldThen (string_bytes name) (ty_of t) (fields_in fs)
 
-  pub rest_in : Held-Object-rest → Rest
+  pub rest_in : Held-Listing-rest → Rest
   rest_in None' = Strict
   rest_in (Some' p t) = Loose (ty_of t)
 
-abbrev pub fields_of : List (List ℕ × Type') → Fields
-fields_of [] = NoField
-fields_of (f ∷ fs) = FieldThen f.0 f.1 (fields_of fs)
+-- a shared object by its fields and the type of others
+abbrev pub shared_parts : Rc Object Global → Parts
+shared_parts o = parts_of o.value
+
+abbrev pub fused_of : Fused → Type'
+fused_of f = object_type (fused (map shared_parts f.objects.items))

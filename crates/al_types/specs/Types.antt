@@ -1,5 +1,5 @@
 -- The types of expressions: which may stand where another is wanted, and what two have in common.
-use Rattle.std.specs.Prelude.{ℕ, List, Bool, true, false, ◌||◌, if◌then◌else◌, Option, Some, None}
+use Rattle.std.specs.Prelude.{ℕ, List, [], ◌∷◌, Bool, true, false, ◌||◌, if◌then◌else◌, Option, Some, None}
 use Rattle.al_base.specs.Names.{same_name}
 
 mutual
@@ -20,6 +20,11 @@ mutual
   pub data Rest : Type 0 where
     Strict : Rest
     Loose : Type' → Rest
+
+-- fields as a list
+abbrev pub fields_of : List (List ℕ × Type') → Fields
+fields_of [] = NoField
+fields_of (f ∷ fs) = FieldThen f.0 f.1 (fields_of fs)
 
 -- the type of the first field of a name
 abbrev pub field_at : List ℕ → Fields → Option Type'

@@ -2,13 +2,13 @@
 
 ghost use Rattle.std.specs.Prelude.{◌≡◌, IfOk, map, option_map};
 ghost use Rattle.std.specs.Option.{ForSome};
-ghost use Rattle.al_types.specs.Types.{field_at, has_field};
-ghost use Rattle.al_types.specs.TypeViews.{ty_of, object_of, fields_of};
+ghost use Rattle.al_types.specs.Types.{field_at, has_field, fields_of};
+ghost use Rattle.al_types.specs.TypeViews.{ty_of, listing_of};
 ghost use Rattle.al_types.specs.Private.Positions.{IsFieldIndex};
 ghost use Rattle.al_types.specs.Private.TypeParts.{field_of, fields_of_type};
 
 use crate::positions::NamePositions;
-use crate::types::{Field, Object, Ty};
+use crate::types::{Field, Listing, Ty};
 use std::alloc::{AllocError, Global};
 
 /// So many fields, and nearly all objects have no more, are looked through one by one for each name, as are any for so few names:
@@ -29,15 +29,15 @@ pub fn field_positions(alloc: Global, fields: &[Field]) -> Result<NamePositions,
 /// The type of the first field of a name, in an object whose names stand at these positions.
 pub(crate) fn field_by<'a>(
     alloc: Global,
-    object: &'a Object,
+    listing: &'a Listing,
     positions: &NamePositions,
     name: &str,
 ) -> Result<Option<&'a Ty>, AllocError>
-    requires { IsFieldIndex positions.now (fields_of_type (object_of object.now)) }
-    ensures { IfOk result (λ found. option_map (λ t. ty_of t.now) found ≡ field_at name.now (fields_of_type (object_of object.now))) }
+    requires { IsFieldIndex positions.now (fields_of_type (listing_of listing.now)) }
+    ensures { IfOk result (λ found. option_map (λ t. ty_of t.now) found ≡ field_at name.now (fields_of_type (listing_of listing.now))) }
 {
     match positions.get(alloc, name.as_bytes())? {
-        Some(i) => Ok(Some(&object.fields[i].ty)),
+        Some(i) => Ok(Some(&listing.fields[i].ty)),
         None => Ok(None),
     }
 }
@@ -45,30 +45,30 @@ pub(crate) fn field_by<'a>(
 /// An object's fields, found by their names. Finding one takes time that grows with the logarithm of their number.
 #[derive(Drop)]
 pub(crate) struct FieldFinder<'a> {
-    object: &'a Object,
+    listing: &'a Listing,
     /// Where each name first stands, unless the fields or the names that are looked up are few.
     positions: Option<NamePositions>,
-    ghost indexed: { ForSome positions (λ p. IsFieldIndex p (fields_of_type (object_of object.now))) },
+    ghost indexed: { ForSome positions (λ p. IsFieldIndex p (fields_of_type (listing_of listing.now))) },
 }
 
 impl<'a> FieldFinder<'a> {
     /// The fields of an object, in which about so many names are looked up. Fails with `AllocError` for want of memory, as all below.
     pub(crate) fn of(
         alloc: Global,
-        object: &'a Object,
+        listing: &'a Listing,
         names: usize,
     ) -> Result<FieldFinder<'a>, AllocError>
-        ensures { IfOk result (λ f. object_of f.object.now ≡ object_of object.now) }
+        ensures { IfOk result (λ f. listing_of f.listing.now ≡ listing_of listing.now) }
     {
-        if object.fields.len() <= FEW || names <= FEW {
+        if listing.fields.len() <= FEW || names <= FEW {
             return Ok(FieldFinder {
-                object,
+                listing,
                 positions: None,
             });
         }
-        let positions = field_positions(alloc, object.fields.as_slice())?;
+        let positions = field_positions(alloc, listing.fields.as_slice())?;
         Ok(FieldFinder {
-            object,
+            listing,
             positions: Some(positions),
         })
     }
@@ -76,17 +76,17 @@ impl<'a> FieldFinder<'a> {
     /// The type of the first field of a name, in any ASCII case: none where no field has it. The type of other fields is not looked at.
     pub(crate) fn field(&self, alloc: Global, name: &str) -> Result<Option<&Ty>, AllocError>
         ensures { IfOk result (λ found. option_map (λ t. ty_of t.now) found
-            ≡ field_at name.now (fields_of_type (object_of self.now.object.now))) }
+            ≡ field_at name.now (fields_of_type (listing_of self.now.listing.now))) }
     {
         match &self.positions {
-            Some(positions) => field_by(alloc, self.object, positions, name),
-            None => Ok(self.object.field(name)),
+            Some(positions) => field_by(alloc, self.listing, positions, name),
+            None => Ok(self.listing.field(name)),
         }
     }
 
     /// Whether there is a field of this name, in any ASCII case.
     pub(crate) fn has_field(&self, alloc: Global, name: &str) -> Result<bool, AllocError>
-        ensures { IfOk result (λ b. b ≡ has_field name.now (fields_of_type (object_of self.now.object.now))) }
+        ensures { IfOk result (λ b. b ≡ has_field name.now (fields_of_type (listing_of self.now.listing.now))) }
     {
         let found = self.field(alloc, name)?;
         Ok(found.is_some())

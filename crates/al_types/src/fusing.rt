@@ -1,12 +1,13 @@
 //! The one type of two branches.
 
 ghost use Rattle.std.specs.Prelude.{◌≡◌, IfOk, map};
-ghost use Rattle.al_types.specs.Types.{ArrayOf, fuse_type};
-ghost use Rattle.al_types.specs.TypeViews.{ty_of, object_of, fields_of, fused_of};
+ghost use Rattle.al_types.specs.Types.{ArrayOf, fuse_type, fields_of};
+ghost use Rattle.al_types.specs.TypeViews.{ty_of, object_of, fused_of};
 ghost use Rattle.al_types.specs.Private.TypeParts.{field_of, fields_of_type, fuse_with_form};
 
 use crate::joining::join;
-use crate::types::{Field, Form, Fused, Object, Ty, fields_of_object};
+use crate::objects::fields_of_object;
+use crate::types::{Field, Form, Fused, Object, Ty};
 use std::alloc::{AllocError, Global};
 use std::rc::Rc;
 
@@ -14,7 +15,7 @@ use std::rc::Rc;
 /// of what the elements have in common, and an object with all fields of both, those of one name fused, as are the
 /// types of other fields where both have one. Everything else is any. The fields of objects are not looked at before they are asked for.
 /// Fails for want of memory alone.
-#[tactic(auto, using(crate::proofs::FusedLists::by_form))]
+#[tactic(auto, using(crate::proofs::FusedLists::by_form, crate::proofs::TypeFields::fused_type))]
 #[cycle(fusing)]
 pub fn fuse(alloc: Global, a: Ty, b: Ty) -> Result<Ty, AllocError>
     ensures { IfOk result (λ t. ty_of t ≡ fuse_type (ty_of a) (ty_of b)) }
@@ -89,12 +90,13 @@ fn fuse_fused(x: Box<Fused>, b: Ty) -> Result<Ty, AllocError>
             all.objects.append(&mut more)?;
             Ok(Ty::Fused(all))
         }
-        _ => Ok(Ty::Any),
+        Ty::Any | Ty::Null | Ty::Number | Ty::Bool | Ty::String | Ty::Array(_) => Ok(Ty::Any),
     }
 }
 
 /// The same type, whose fields stand in one object where it is one, or where arrays hold one: so a property is found in one look. Takes
 /// the time and memory of all fields of those that were fused. Fails for want of memory alone.
+#[tactic(auto, using(crate::proofs::TypeFields::fused_type))]
 pub fn joined(alloc: Global, ty: Ty) -> Result<Ty, AllocError>
     ensures { IfOk result (λ t. ty_of t ≡ ty_of ty) }
 {
@@ -118,6 +120,7 @@ pub fn joined_object(alloc: Global, fused: &Fused) -> Result<Rc<Object>, AllocEr
 
 /// The fields of an object; of another type none. They are moved out of an object that nothing else shares, and else copied. Fails for
 /// want of memory alone.
+#[tactic(auto, using(crate::proofs::TypeFields::fused_type))]
 pub fn into_fields(alloc: Global, ty: Ty) -> Result<Vec<Field>, AllocError>
     ensures { IfOk result (λ v. fields_of (map field_of v.items) ≡ fields_of_type (ty_of ty)) }
 {

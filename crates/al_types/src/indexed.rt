@@ -2,15 +2,16 @@
 
 ghost use Rattle.std.specs.Prelude.{◌≡◌, IfOk, map, option_map};
 ghost use Rattle.al_types.specs.Properties.{property_type};
-ghost use Rattle.al_types.specs.Types.{Any, ObjectOf, Strict, property_in};
-ghost use Rattle.al_types.specs.TypeViews.{ty_of, object_of, fields_of};
+ghost use Rattle.al_types.specs.Types.{Any, ObjectOf, Strict, property_in, fields_of};
+ghost use Rattle.al_types.specs.TypeViews.{ty_of, object_of, listing_of};
 ghost use Rattle.al_types.specs.Private.Positions.{IsFieldIndex};
 ghost use Rattle.al_types.specs.Private.TypeParts.{field_of, fields_of_type};
 
 use crate::finding::field_by;
+use crate::objects::shared_object;
 use crate::positions::NamePositions;
 use crate::properties::{Property, lent};
-use crate::types::{Field, Object, Ty, object_of_fields};
+use crate::types::{Field, Listing, Object, Ty};
 use std::alloc::{AllocError, Global};
 
 /// So many fields are looked through one by one, which takes no memory and less time.
@@ -49,7 +50,7 @@ impl IndexedType {
         requires { IsFieldIndex positions (fields_of (map field_of fields.items)) }
         ensures { IfOk result (λ t. indexed_type t ≡ ObjectOf (fields_of (map field_of fields.items)) Strict) }
     {
-        let ty = object_of_fields(alloc, fields, None)?;
+        let ty = Ty::Object(shared_object(alloc, fields, None)?);
         Ok(IndexedType { ty, positions })
     }
 
@@ -76,7 +77,7 @@ impl IndexedType {
         ensures { IfOk result (λ found. option_map property_type found ≡ property_in name.now (indexed_type self.now)) }
     {
         match &self.ty {
-            Ty::Object(object) => Ok(lent(property_by(alloc, object, &self.positions, name)?)),
+            Ty::Object(object) => property_at(alloc, object, &self.positions, name),
             _ => self.ty.property(alloc, name),
         }
     }
@@ -84,20 +85,37 @@ impl IndexedType {
 
 /// The type of a property of an object whose names stand at these positions.
 #[tactic(auto, using(crate::proofs::FieldPositions::property_of_parts))]
-fn property_by<'a>(
+fn property_at<'a>(
     alloc: Global,
     object: &'a Object,
     positions: &NamePositions,
     name: &str,
-) -> Result<Option<&'a Ty>, AllocError>
+) -> Result<Option<Property<'a>>, AllocError>
     requires { IsFieldIndex positions.now (fields_of_type (object_of object.now)) }
-    ensures { IfOk result (λ found. option_map (λ t. ty_of t.now) found ≡ property_in name.now (object_of object.now)) }
+    ensures { IfOk result (λ found. option_map property_type found ≡ property_in name.now (object_of object.now)) }
 {
-    if object.fields.len() <= FEW {
-        return Ok(object.property(name));
+    match object {
+        Object::Listed(listing) => Ok(lent(property_by(alloc, listing, positions, name)?)),
+        Object::Strings(_) => object.property(alloc, name),
     }
-    match field_by(alloc, object, positions, name)? {
+}
+
+/// The same of one whose fields are looked through where they are few.
+#[tactic(auto, using(crate::proofs::FieldPositions::property_of_listing))]
+fn property_by<'a>(
+    alloc: Global,
+    listing: &'a Listing,
+    positions: &NamePositions,
+    name: &str,
+) -> Result<Option<&'a Ty>, AllocError>
+    requires { IsFieldIndex positions.now (fields_of_type (listing_of listing.now)) }
+    ensures { IfOk result (λ found. option_map (λ t. ty_of t.now) found ≡ property_in name.now (listing_of listing.now)) }
+{
+    if listing.fields.len() <= FEW {
+        return Ok(listing.property(name));
+    }
+    match field_by(alloc, listing, positions, name)? {
         Some(ty) => Ok(Some(ty)),
-        None => Ok(object.other()),
+        None => Ok(listing.other()),
     }
 }

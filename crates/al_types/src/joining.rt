@@ -1,14 +1,15 @@
 //! Objects joined into one that has the fields of all.
 
 ghost use Rattle.std.specs.Prelude.{◌≡◌, ◌++◌, map, IfOk, OnOk};
-ghost use Rattle.al_types.specs.Types.{ArrayOf, fuse_type};
+ghost use Rattle.al_types.specs.Types.{ArrayOf, fuse_type, fields_of};
 ghost use Rattle.al_types.specs.Types as types;
-ghost use Rattle.al_types.specs.TypeViews.{ty_of, object_of, fields_of, fused, object_type};
-ghost use Rattle.al_types.specs.Private.TypeParts.{rest_of, field_of, fields_of_type, missing_list, shared_parts};
+ghost use Rattle.al_types.specs.TypeViews.{ty_of, object_of, fused, listing_of, object_type, shared_parts};
+ghost use Rattle.al_types.specs.Private.TypeParts.{rest_of, field_of, fields_of_type, missing_list};
 
 use crate::finding::FieldFinder;
 use crate::fusing::fuse;
-use crate::types::{Field, Object, Ty, copy, copy_rest, shared_object};
+use crate::objects::{listed, shared_object};
+use crate::types::{Field, Listing, Object, Ty, copy, copy_rest};
 use std::alloc::{AllocError, Global};
 use std::rc::Rc;
 
@@ -58,14 +59,39 @@ fn join_object(alloc: Global, x: &Rc<Object>, b: &Ty) -> Result<Ty, AllocError>
     ensures { IfOk result (λ t. ty_of t ≡ fuse_type (object_of x.now.value) (ty_of b.now)) }
 {
     match b {
-        Ty::Object(y) => Ok(Ty::Object(join_two(alloc, x, y)?)),
+        Ty::Object(y) => join_objects(alloc, x, y),
         _ => fuse(alloc, Ty::Object(x.clone()?), copy(alloc, b)?),
     }
 }
 
+// Two objects. Strings that are found by their names stay so.
 #[cycle(joining)]
+fn join_objects(alloc: Global, x: &Rc<Object>, y: &Rc<Object>) -> Result<Ty, AllocError>
+    ensures { IfOk result (λ t. ty_of t ≡ fuse_type (object_of x.now.value) (object_of y.now.value)) }
+{
+    match (&**x, &**y) {
+        (Object::Listed(a), Object::Listed(b)) => Ok(Ty::Object(join_listings(alloc, a, b)?)),
+        _ => fuse(alloc, Ty::Object(x.clone()?), Ty::Object(y.clone()?)),
+    }
+}
+
 fn join_two(alloc: Global, x: &Object, y: &Object) -> Result<Rc<Object>, AllocError>
     ensures { IfOk result (λ o. object_of o.value ≡ fuse_type (object_of x.now) (object_of y.now)) }
+{
+    match (x, y) {
+        (Object::Listed(a), Object::Listed(b)) => join_listings(alloc, a, b),
+        _ => {
+            let a = listed(alloc, x)?;
+            let b = listed(alloc, y)?;
+            let object = join_listings(alloc, &a, &b)?;
+            Ok(object)
+        }
+    }
+}
+
+#[cycle(joining)]
+fn join_listings(alloc: Global, x: &Listing, y: &Listing) -> Result<Rc<Object>, AllocError>
+    ensures { IfOk result (λ o. object_of o.value ≡ fuse_type (listing_of x.now) (listing_of y.now)) }
 {
     let of_second = FieldFinder::of(alloc, y, x.fields.len())?;
     let mut fields = join_fields(alloc, x, &of_second)?;
@@ -78,9 +104,9 @@ fn join_two(alloc: Global, x: &Object, y: &Object) -> Result<Rc<Object>, AllocEr
 
 // The fields of the first object, each fused with the second's of its name.
 #[cycle(joining)]
-fn join_fields(alloc: Global, x: &Object, y: &FieldFinder<'_>) -> Result<Vec<Field>, AllocError>
+fn join_fields(alloc: Global, x: &Listing, y: &FieldFinder<'_>) -> Result<Vec<Field>, AllocError>
     ensures { IfOk result (λ v. fields_of (map field_of v.items)
-        ≡ types.fuse_fields (fields_of_type (object_of x.now)) (fields_of_type (object_of y.now.object.now))) }
+        ≡ types.fuse_fields (fields_of_type (listing_of x.now)) (fields_of_type (listing_of y.now.listing.now))) }
 {
     let mut fields = Vec::new(alloc);
     for field in &x.fields {
@@ -98,11 +124,11 @@ fn join_fields(alloc: Global, x: &Object, y: &FieldFinder<'_>) -> Result<Vec<Fie
 fn add_missing(
     alloc: Global,
     x: &FieldFinder<'_>,
-    y: &Object,
+    y: &Listing,
     fields: &mut Vec<Field>,
 ) -> Result<(), AllocError>
     ensures { OnOk result (map field_of fields.new.items ≡ map field_of fields.old.items
-        ++ missing_list (fields_of_type (object_of x.now.object.now)) (fields_of_type (object_of y.now))) }
+        ++ missing_list (fields_of_type (listing_of x.now.listing.now)) (fields_of_type (listing_of y.now))) }
 {
     for field in &y.fields {
         if !x.has_field(alloc, field.name.as_str())? {

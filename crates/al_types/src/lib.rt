@@ -2,11 +2,13 @@
 //! where names stand in a list.
 #![tactic(auto)]
 
+mod field_names;
 mod finding;
 mod fusing;
 mod indexed;
 mod joining;
 mod names;
+mod objects;
 mod positions;
 mod properties;
 mod relations;
@@ -14,13 +16,15 @@ mod scope;
 mod signatures;
 mod types;
 
+pub use field_names::FieldNames;
 pub use finding::field_positions;
 pub use fusing::{fuse, into_fields, joined, joined_object};
 pub use indexed::IndexedType;
 pub use names::{Context, Function};
+pub use objects::{object_of_fields, object_of_strings};
 pub use positions::{NamePositions, TextPositions, in_lower_case};
 pub use properties::Property;
 pub use relations::assignable;
 pub use scope::{ContextSet, ContextTypes, FunctionSet, Scope};
 pub use signatures::{Parameters, Returned, Signature, Wanted, signature_of};
-pub use types::{Field, Form, Fused, Object, Ty, copy, object_of_fields};
+pub use types::{Field, Form, Fused, Listing, Object, Ty, copy, name_text};

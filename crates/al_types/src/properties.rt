@@ -1,11 +1,11 @@
 //! The types of properties.
 
-ghost use Rattle.std.specs.Prelude.{◌≡◌, IfOk, None, option_map};
+ghost use Rattle.std.specs.Prelude.{◌≡◌, IfOk, IsTrue, None, option_map, true};
 ghost use Rattle.al_types.specs.Properties.{property_type};
 ghost use Rattle.al_types.specs.Types.{field_at, field_or_rest, property_in};
 ghost use Rattle.al_types.specs.TypeViews.{ty_of, fused_of};
 ghost use Rattle.al_types.specs.Private.TypeParts as parts;
-ghost use Rattle.al_types.specs.Private.TypeParts.{fields_of_type, rest_of_type};
+ghost use Rattle.al_types.specs.Private.TypeParts.{fields_of_type, no_fields, only_strings, rest_of_type};
 
 use crate::fusing::fuse;
 use crate::types::{Fused, Ty, copy};
@@ -22,14 +22,14 @@ impl Ty {
     /// The type of a property, where it is an object that has it.
     ///
     /// Fails with `AllocError` for want of memory.
-    #[tactic(auto, using(crate::proofs::FieldPositions::property_of_parts))]
+    #[tactic(auto, using(crate::proofs::FieldPositions::property_of_parts, crate::proofs::TypeFields::fused_type))]
     pub fn property(&self, alloc: Global, name: &str) -> Result<Option<Property<'_>>, AllocError>
         ensures { IfOk result (λ found. option_map property_type found ≡ property_in name.now (ty_of self.now)) }
     {
         match self {
-            Ty::Object(object) => Ok(lent(object.property(name))),
+            Ty::Object(object) => object.property(alloc, name),
             Ty::Fused(fused) => Ok(made(fused.property(alloc, name)?)),
-            _ => Ok(None),
+            Ty::Any | Ty::Null | Ty::Number | Ty::Bool | Ty::String | Ty::Array(_) => Ok(None),
         }
     }
 }
@@ -70,13 +70,13 @@ impl Fused {
     {
         let mut common = None;
         for object in &self.objects {
-            common = common_type(alloc, common, object.field(name))?;
+            common = common_property(alloc, common, object.field(alloc, name)?)?;
         }
         Ok(common)
     }
 
-    // What the types of other fields have in common.
-    fn other(&self, alloc: Global) -> Result<Option<Ty>, AllocError>
+    /// What the types of other fields have in common.
+    pub fn other(&self, alloc: Global) -> Result<Option<Ty>, AllocError>
         ensures { IfOk result (λ found. option_map ty_of found ≡ field_or_rest None (rest_of_type (fused_of self.now))) }
     {
         let mut common = None;
@@ -84,6 +84,44 @@ impl Fused {
             common = common_type(alloc, common, object.other())?;
         }
         Ok(common)
+    }
+
+    /// Whether each object's fields are strings, so that all their fields are.
+    pub fn has_only_strings(&self) -> bool
+        ensures { IsTrue result → only_strings (fields_of_type (fused_of self.now)) ≡ true }
+    {
+        for object in &self.objects {
+            if !object.has_only_strings() {
+                return false;
+            }
+        }
+        true
+    }
+
+    /// Whether no object has a field.
+    pub fn has_no_fields(&self) -> bool
+        ensures { result ≡ no_fields (fields_of_type (fused_of self.now)) }
+    {
+        let mut none = true;
+        for object in &self.objects {
+            none = none && object.has_no_fields();
+        }
+        none
+    }
+}
+
+// What a type has in common with that of a property, where both are there.
+fn common_property(
+    alloc: Global,
+    sofar: Option<Ty>,
+    found: Option<Property<'_>>,
+) -> Result<Option<Ty>, AllocError>
+    ensures { IfOk result (λ t. option_map ty_of t ≡ parts.common_type (option_map ty_of sofar) (option_map property_type found.entry)) }
+{
+    match found {
+        Some(Property::Lent(ty)) => common_type(alloc, sofar, Some(ty)),
+        Some(Property::Made(ty)) => common_type(alloc, sofar, Some(&ty)),
+        None => Ok(sofar),
     }
 }
 

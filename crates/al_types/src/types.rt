@@ -1,10 +1,11 @@
 //! Types of expressions.
 
 ghost use Rattle.std.specs.Prelude.{◌≡◌, IfOk, None, map, option_map, string_bytes};
-ghost use Rattle.al_types.specs.Types.{ObjectOf, field_at, field_or_rest, is_collection, is_plain};
-ghost use Rattle.al_types.specs.TypeViews.{ty_of, object_of, fields_of, fused_of};
-ghost use Rattle.al_types.specs.Private.TypeParts.{field_of, rest_of, form_of, fields_of_type, rest_of_type};
+ghost use Rattle.al_types.specs.Types.{field_at, field_or_rest, is_collection, is_plain, fields_of};
+ghost use Rattle.al_types.specs.TypeViews.{ty_of, fused_of, listing_of};
+ghost use Rattle.al_types.specs.Private.TypeParts.{field_of, rest_of, form_of, fields_of_type, rest_of_type, is_string};
 
+use crate::field_names::FieldNames;
 use al_base::is_same_name;
 use std::alloc::{AllocError, Global};
 use std::rc::Rc;
@@ -33,11 +34,20 @@ pub struct Fused {
     pub(crate) objects: Vec<Rc<Object>>,
 }
 
-/// An object's fields with their types, and the type of every field beside them: none in a strict object, which has
-/// no others. Of fields whose names differ in ASCII case alone, a name means the first.
+/// An object. Of fields whose names differ in ASCII case alone, a name means the first.
 #[derive(Drop)]
 #[cycle(types)]
-pub struct Object {
+pub enum Object {
+    Listed(Listing),
+    /// Many fields that are strings, and no others.
+    Strings(FieldNames),
+}
+
+/// An object's fields with their types, and the type of every field beside them: none in a strict object, which has
+/// no others.
+#[derive(Drop)]
+#[cycle(types)]
+pub struct Listing {
     pub fields: Vec<Field>,
     pub rest: Option<Box<Ty>>,
 }
@@ -51,17 +61,17 @@ pub struct Field {
 }
 
 impl Field {
-    /// A field of a name and a type. Names of a file that was read are UTF-8: so this fails for want of memory alone.
+    /// A field of a name and a type. Fails as `name_text` does.
     pub fn new(alloc: Global, name: &[u8], ty: Ty) -> Result<Field, AllocError>
         ensures { IfOk result (λ f. field_of f ≡ (name.now, ty_of ty)) }
     {
-        let name = text_of(alloc, name)?;
+        let name = name_text(alloc, name)?;
         Ok(Field { name, ty })
     }
 }
 
-// A text in memory of its own. Fails where it is no UTF-8, and for want of memory.
-fn text_of(alloc: Global, name: &[u8]) -> Result<String, AllocError>
+/// A name as a text. Names of a file that was read are UTF-8: so this fails for want of memory alone.
+pub fn name_text(alloc: Global, name: &[u8]) -> Result<String, AllocError>
     ensures { IfOk result (λ s. string_bytes s ≡ name.now) }
 {
     match std::str::from_utf8(name) {
@@ -107,6 +117,14 @@ impl Ty {
         matches!(self.form(), Form::Array | Form::Object)
     }
 
+    /// Whether it is a string.
+    #[tactic(auto, using(crate::proofs::TypeForms::by_outermost))]
+    pub(crate) fn is_string(&self) -> bool
+        ensures { result ≡ is_string (ty_of self.now) }
+    {
+        matches!(self.form(), Form::String)
+    }
+
     /// Whether it is a number, a bool or a string.
     #[tactic(auto, using(crate::proofs::TypeForms::by_outermost))]
     pub fn is_plain(&self) -> bool
@@ -116,11 +134,11 @@ impl Ty {
     }
 }
 
-impl Object {
+impl Listing {
     /// The type of the first field of a name, in any ASCII case: none where no field has it. The type of other fields
     /// is not looked at.
-    pub fn field(&self, name: &str) -> Option<&Ty>
-        ensures { option_map (λ t. ty_of t.now) result ≡ field_at name.now (fields_of_type (object_of self.now)) }
+    pub(crate) fn field(&self, name: &str) -> Option<&Ty>
+        ensures { option_map (λ t. ty_of t.now) result ≡ field_at name.now (fields_of_type (listing_of self.now)) }
     {
         for field in &self.fields {
             if is_same_name(field.name.as_bytes(), name.as_bytes()) {
@@ -133,7 +151,7 @@ impl Object {
     /// The type of the fields beside its own, where there may be others.
     #[tactic(auto, using(crate::proofs::TypeFields::rest_field))]
     pub(crate) fn other(&self) -> Option<&Ty>
-        ensures { option_map (λ t. ty_of t.now) result ≡ field_or_rest None (rest_of_type (object_of self.now)) }
+        ensures { option_map (λ t. ty_of t.now) result ≡ field_or_rest None (rest_of_type (listing_of self.now)) }
     {
         match &self.rest {
             Some(ty) => Some(ty),
@@ -142,9 +160,9 @@ impl Object {
     }
 
     /// The type of a property: of the first field of its name, else of other fields, where there may be others.
-    pub fn property(&self, name: &str) -> Option<&Ty>
+    pub(crate) fn property(&self, name: &str) -> Option<&Ty>
         ensures { option_map (λ t. ty_of t.now) result
-            ≡ field_or_rest (field_at name.now (fields_of_type (object_of self.now))) (rest_of_type (object_of self.now)) }
+            ≡ field_or_rest (field_at name.now (fields_of_type (listing_of self.now))) (rest_of_type (listing_of self.now)) }
     {
         match self.field(name) {
             Some(ty) => Some(ty),
@@ -154,6 +172,7 @@ impl Object {
 }
 
 /// The same type once more. Objects are shared, so that their fields take neither time nor memory again. Fails for want of memory alone.
+#[tactic(auto, using(crate::proofs::TypeFields::fused_type))]
 pub fn copy(alloc: Global, ty: &Ty) -> Result<Ty, AllocError>
     ensures { IfOk result (λ t. ty_of t ≡ ty_of ty.now) }
 {
@@ -189,52 +208,5 @@ pub(crate) fn copy_rest(
     match rest {
         None => Ok(None),
         Some(ty) => Ok(Some(Box::new(alloc, copy(alloc, ty)?)?)),
-    }
-}
-
-/// An object of fields, and of a type of every field beside them, if there may be others. Fails for want of memory alone.
-pub fn object_of_fields(
-    alloc: Global,
-    fields: Vec<Field>,
-    rest: Option<Box<Ty>>,
-) -> Result<Ty, AllocError>
-    ensures { IfOk result (λ t. ty_of t ≡ ObjectOf (fields_of (map field_of fields.items)) (rest_of rest)) }
-{
-    Ok(Ty::Object(shared_object(alloc, fields, rest)?))
-}
-
-/// The same, to be shared. Fails for want of memory alone.
-#[tactic(auto, using(crate::proofs::TypeFields::object_made))]
-pub(crate) fn shared_object(
-    alloc: Global,
-    fields: Vec<Field>,
-    rest: Option<Box<Ty>>,
-) -> Result<Rc<Object>, AllocError>
-    ensures { IfOk result (λ o. object_of o.value ≡ ObjectOf (fields_of (map field_of fields.items)) (rest_of rest)) }
-{
-    Ok(Rc::new(alloc, Object { fields, rest })?)
-}
-
-// Fields once more, with names of their own.
-fn copy_fields(alloc: Global, fields: &[Field]) -> Result<Vec<Field>, AllocError>
-    ensures { IfOk result (λ v. map field_of v.items ≡ map field_of fields.now) }
-{
-    let mut copies = Vec::with_capacity(alloc, fields.len())?;
-    for field in fields {
-        let name = field.name.clone()?;
-        let ty = copy(alloc, &field.ty)?;
-        copies.push(Field { name, ty })?;
-    }
-    Ok(copies)
-}
-
-/// The fields of an object, moved out of one that nothing else shares, and else copied.
-#[tactic(auto, using(crate::proofs::TypeFields::object_fields, crate::proofs::TypeFields::object_made))]
-pub(crate) fn fields_of_object(alloc: Global, object: Rc<Object>) -> Result<Vec<Field>, AllocError>
-    ensures { IfOk result (λ v. fields_of (map field_of v.items) ≡ fields_of_type (object_of object.value)) }
-{
-    match Rc::try_unwrap(object) {
-        Ok(object) => Ok(object.fields),
-        Err(shared) => copy_fields(alloc, shared.fields.as_slice()),
     }
 }

@@ -6,7 +6,7 @@ use Rattle.std.specs.Ordering.{nat_cmp}
 use Rattle.std.specs.Option.{option_or}
 use Rattle.std.specs.Str.{bytes_eq}
 use Rattle.al_base.specs.Names.{folded, same_name}
-use Rattle.al_types.specs.Positions.{field_position}
+use Rattle.al_types.specs.Positions.{field_position, name_place}
 use Rattle.al_types.specs.Types.{Fields}
 use Rattle.al_types.specs.declared.positions.NamePositions.{NamePositions}
 use Rattle.al_types.specs.declared.positions.TextPositions.{TextPositions}
@@ -30,3 +30,7 @@ and_name_at position more i name = option_or (position name) (if same_name more 
 -- positions that tell of each name where it first stands among fields
 abbrev pub IsFieldIndex : NamePositions → Fields → Type 0
 IsFieldIndex p fs = name_position p ≡ field_position fs
+
+-- positions that tell of each name where it first stands among names
+abbrev pub IsNameIndex : NamePositions → List (List ℕ) → Type 0
+IsNameIndex p ns = name_position p ≡ name_place ns

@@ -1,15 +1,13 @@
 -- Types by their outermost form and their parts.
-use Rattle.std.specs.Prelude.{ℕ, List, Bool, true, false, Option, Some, None, string_bytes, Box, [], ◌∷◌, if◌then◌else◌}
+use Rattle.std.specs.Prelude.{ℕ, List, Bool, true, false, ◌&&◌, Option, Some, None, string_bytes, Box, [], ◌∷◌, if◌then◌else◌}
 use Rattle.std.specs.Global.{Global}
 use Rattle.al_types.specs.declared.types.Ty.{Ty}
-use Rattle.std.specs.declared.rc.Rc.{Rc}
 use Rattle.al_types.specs.declared.types.Field.{Field}
-use Rattle.al_types.specs.declared.types.Object.{Object}
 use Rattle.al_types.specs.declared.types.Form.{Form}
 use Rattle.al_types.specs.declared.types.Form.TheVariants as form
 use Rattle.al_types.specs.Types.{Type', Any, Null, Number, Bool', String, ArrayOf, ObjectOf, Fields, NoField, FieldThen, Rest, Strict}
 use Rattle.al_types.specs.Types.{Loose, fuse_type, has_field}
-use Rattle.al_types.specs.TypeViews.{Parts, parts_of, ty_of}
+use Rattle.al_types.specs.TypeViews.{ty_of}
 
 abbrev pub rest_of : Option (Box Ty Global) → Rest
 rest_of None = Strict
@@ -49,10 +47,6 @@ is_plain_form form.Bool = true
 is_plain_form form.String = true
 is_plain_form _ = false
 
--- a shared object by its fields and the type of others
-abbrev pub shared_parts : Rc Object Global → Parts
-shared_parts o = parts_of o.value
-
 -- fields as a list
 abbrev pub field_of : Field → (List ℕ × Type')
 field_of f = (string_bytes f.name, ty_of f.ty)
@@ -89,3 +83,21 @@ abbrev pub common_type : Option Type' → Option Type' → Option Type'
 common_type None o = o
 common_type (Some t) None = Some t
 common_type (Some t) (Some u) = Some (fuse_type t u)
+
+abbrev pub is_string : Type' → Bool
+is_string String = true
+is_string _ = false
+
+abbrev pub is_string_form : Form → Bool
+is_string_form form.String = true
+is_string_form _ = false
+
+-- whether all fields are strings
+abbrev pub only_strings : Fields → Bool
+only_strings NoField = true
+only_strings (FieldThen n t fs) = is_string t && only_strings fs
+
+-- whether there is no field
+abbrev pub no_fields : Fields → Bool
+no_fields NoField = true
+no_fields (FieldThen n t fs) = false

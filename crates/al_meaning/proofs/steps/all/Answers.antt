@@ -1,4 +1,7 @@
-use Rattle.std.proofs.Common.{sym}
+use Rattle.std.proofs.Common.{◌∙◌, ap}
+use Rattle.al_types.specs.TypeViews.{ty_of}
+use Rattle.al_types.proofs.TypeFields.{fused_type}
+use Rattle.al_meaning.specs.Meaning.{all_of}
 use Rattle.al_meaning.proofs.TypedSteps.{all_of_object, unchanged}
 use Rattle.al_meaning.proofs.steps.all.Goals as goal
 
@@ -14,12 +17,10 @@ returns-in_ok-new-in-Object-clause-ok c =
 
 pub returns-in_ok-new-in-Fused-clause-ok : goal.returns-in_ok-new-in-Fused-clause-ok
 returns-in_ok-new-in-Fused-clause-ok c =
-    let joined = rw c.deref-in-Fused.ensures at c.in_ok-object-in-Fused.ensures in
+    let all = ap (all_of c.args.whole) (ap ty_of c.in-Fused.is ∙ fused_type c.in-Fused.fused) in
     rw (
       c.in_ok-new-in-Fused.ensures.ok,
-      c.in-Fused.is,
-      sym joined,
-      all_of_object c.args.whole c.in_ok-object-in-Fused.object.value,
+      all,
       c.in_ok-of-in-Fused.ensures,
-      c.deref-in-Fused-2.ensures,
+      c.deref-in-Fused.ensures,
     ) (unchanged _ _)

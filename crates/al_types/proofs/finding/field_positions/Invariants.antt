@@ -1,5 +1,5 @@
 use Rattle.std.proofs.Common.{map, take}
-use Rattle.al_types.specs.TypeViews.{fields_of}
+use Rattle.al_types.specs.Types.{fields_of}
 use Rattle.al_types.specs.Private.Positions.{IsFieldIndex}
 use Rattle.al_types.specs.Private.TypeParts.{field_of}
 use Rattle.al_types.proofs.finding.field_positions.Given as goal

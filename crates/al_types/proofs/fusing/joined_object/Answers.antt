@@ -1,9 +1,7 @@
-use Rattle.std.proofs.Common.{map, sym, ap, ◌∙◌}
-use Rattle.al_types.specs.TypeViews.{fused, object_type}
-use Rattle.al_types.specs.Private.TypeParts.{shared_parts}
-use Rattle.al_types.proofs.TypeFields.{fused_objects}
+use Rattle.std.proofs.Common.{map, ap, ◌∙◌}
+use Rattle.al_types.specs.TypeViews.{fused, object_type, shared_parts}
 use Rattle.al_types.proofs.fusing.joined_object.Goals as goal
 
 pub returns : goal.returns
 returns c =
-    c.in_ok-object.ensures ∙ ap (λ os. object_type (fused (map shared_parts os))) c.as_slice.ensures.value ∙ sym (fused_objects c.args.fused.now)
+    c.in_ok-object.ensures ∙ ap (λ os. object_type (fused (map shared_parts os))) c.as_slice.ensures.value

@@ -1,5 +1,5 @@
 use Rattle.std.proofs.Common.{◌≡◌, map, take}
-use Rattle.al_types.specs.Private.TypeParts.{shared_parts}
+use Rattle.al_types.specs.TypeViews.{shared_parts}
 use Rattle.al_types.proofs.types.copy_fused.Given as goal
 
 abbrev pub invariant-loop-object : goal.invariant-loop-object

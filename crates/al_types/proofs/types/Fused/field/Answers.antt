@@ -1,9 +1,9 @@
-use Rattle.std.proofs.Common.{map, arith, sym, ap, ◌∙◌}
+use Rattle.std.proofs.Common.{map, arith, ap, ◌∙◌}
 use Rattle.al_types.specs.Types.{field_at}
-use Rattle.al_types.specs.TypeViews.{fused, object_of}
-use Rattle.al_types.specs.Private.TypeParts.{fields_of_type, shared_parts}
+use Rattle.al_types.specs.TypeViews.{fused, object_of, shared_parts}
+use Rattle.al_types.specs.Private.TypeParts.{fields_of_type}
 use Rattle.al_types.proofs.FusedObjects.{field_next}
-use Rattle.al_types.proofs.TypeFields.{fused_objects, take_all}
+use Rattle.al_types.proofs.TypeFields.{take_all}
 use Rattle.al_types.proofs.types.Fused.field.Goals as goal
 
 pub loop-object-preserved : goal.loop-object-preserved
@@ -12,7 +12,7 @@ loop-object-preserved c =
     let os = c.deref-object-items.result.now in
     let i = c.loop-object.object-index in
     let o = c.object-item.result in
-    let here = c.field.ensures ∙ ap (λ x. field_at n (fields_of_type (object_of x))) c.deref.ensures in
+    let here = c.in_ok-field.ensures ∙ ap (λ x. field_at n (fields_of_type (object_of x))) c.deref.ensures in
     field_next n os i o _ _ _ c.loop-object-test.true c.object-item.is c.loop-object.invariant here c.in_ok-common.ensures
 
 pub returns : goal.returns
@@ -20,4 +20,3 @@ returns c =
     let n = c.args.name.now in
     let all = take_all c.loop-object.object-index c.deref-object-items.result.now (omega arith) in
     c.loop-object.invariant ∙ ap (λ xs. field_at n (fused (map shared_parts xs)).0) (all ∙ c.deref-object-items.ensures.value)
-    ∙ sym (ap (λ t. field_at n (fields_of_type t)) (fused_objects c.args.self.now))

@@ -1,7 +1,6 @@
 use Rattle.std.proofs.Common.{◌≡◌, map, take, option_map}
 use Rattle.al_types.specs.Types.{field_at}
-use Rattle.al_types.specs.TypeViews.{fused, ty_of}
-use Rattle.al_types.specs.Private.TypeParts.{shared_parts}
+use Rattle.al_types.specs.TypeViews.{fused, ty_of, shared_parts}
 use Rattle.al_types.proofs.types.Fused.field.Given as goal
 
 abbrev pub invariant-loop-object : goal.invariant-loop-object

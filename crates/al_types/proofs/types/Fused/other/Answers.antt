@@ -1,9 +1,9 @@
-use Rattle.std.proofs.Common.{map, arith, None, sym, ap, ◌∙◌}
+use Rattle.std.proofs.Common.{map, arith, None, ap, ◌∙◌}
 use Rattle.al_types.specs.Types.{field_or_rest}
-use Rattle.al_types.specs.TypeViews.{fused, object_of}
-use Rattle.al_types.specs.Private.TypeParts.{rest_of_type, shared_parts}
+use Rattle.al_types.specs.TypeViews.{fused, object_of, shared_parts}
+use Rattle.al_types.specs.Private.TypeParts.{rest_of_type}
 use Rattle.al_types.proofs.FusedObjects.{other_next}
-use Rattle.al_types.proofs.TypeFields.{fused_objects, take_all}
+use Rattle.al_types.proofs.TypeFields.{take_all}
 use Rattle.al_types.proofs.types.Fused.other.Goals as goal
 
 pub loop-object-preserved : goal.loop-object-preserved
@@ -18,4 +18,3 @@ pub returns : goal.returns
 returns c =
     let all = take_all c.loop-object.object-index c.deref-object-items.result.now (omega arith) in
     c.loop-object.invariant ∙ ap (λ xs. field_or_rest None (fused (map shared_parts xs)).1) (all ∙ c.deref-object-items.ensures.value)
-    ∙ sym (ap (λ t. field_or_rest None (rest_of_type t)) (fused_objects c.args.self.now))

@@ -6,4 +6,4 @@ pub returns-in-Object : goal.returns-in-Object
 returns-in-Object c = rw c.in-Object.is (sym (form_object c.in-Object.field-0.value))
 
 pub returns-in-Fused : goal.returns-in-Fused
-returns-in-Fused c = rw c.in-Fused.is (sym (form_fused c.in-Fused.field-0.value))
+returns-in-Fused c = rw c.in-Fused.is (sym (form_fused c.in-Fused.field-0))

@@ -1,0 +1,6 @@
+use Rattle.std.proofs.Common.{refl}
+use Rattle.al_types.proofs.TypeFields.{listing_fields}
+use Rattle.al_types.proofs.types.Listing.field.Goals as goal
+
+pub loop-field-init : goal.loop-field-init
+loop-field-init c = let h = listing_fields c.args.self.now in let v = c.deref-field-items.ensures.value in rw (h, v) refl

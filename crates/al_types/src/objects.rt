@@ -1,0 +1,234 @@
+//! Objects, made of their fields: many strings are found by their names, other fields are looked through.
+
+ghost use Rattle.std.specs.Prelude.{◌≡◌, None, IfOk, map, option_map, string_bytes};
+ghost use Rattle.al_types.specs.Properties.{property_type};
+ghost use Rattle.al_types.specs.Strings.{named_strings, strings};
+ghost use Rattle.al_types.specs.Types.{ObjectOf, field_at, field_or_rest, fields_of};
+ghost use Rattle.al_types.specs.TypeViews.{ty_of, object_of, listing_of, names_in};
+ghost use Rattle.al_types.specs.Private.Positions.{IsNameIndex};
+ghost use Rattle.al_types.specs.Private.TypeParts.{field_of, rest_of, fields_of_type, no_fields, only_strings, rest_of_type};
+
+use crate::field_names::FieldNames;
+use crate::positions::NamePositions;
+use crate::properties::{Property, lent};
+use crate::types::{Field, Listing, Object, Ty, copy, copy_rest};
+use std::alloc::{AllocError, Global};
+use std::rc::Rc;
+
+/// So many strings are looked through one by one, and nearly all objects have no more: that takes less memory, and little time.
+const FEW: usize = 32;
+
+/// An object of fields, and of a type of every field beside them, if there may be others. Fails for want of memory alone.
+pub fn object_of_fields(
+    alloc: Global,
+    fields: Vec<Field>,
+    rest: Option<Box<Ty>>,
+) -> Result<Ty, AllocError>
+    ensures { IfOk result (λ t. ty_of t ≡ ObjectOf (fields_of (map field_of fields.items)) (rest_of rest)) }
+{
+    Ok(Ty::Object(shared_object(alloc, fields, rest)?))
+}
+
+/// The same, to be shared. Fails for want of memory alone.
+#[tactic(auto, using(crate::proofs::TypeFields::listing_made))]
+pub(crate) fn shared_object(
+    alloc: Global,
+    fields: Vec<Field>,
+    rest: Option<Box<Ty>>,
+) -> Result<Rc<Object>, AllocError>
+    ensures { IfOk result (λ o. object_of o.value ≡ ObjectOf (fields_of (map field_of fields.items)) (rest_of rest)) }
+{
+    Ok(Rc::new(alloc, Object::Listed(Listing { fields, rest }))?)
+}
+
+/// An object whose fields are strings of these names, and no others. Many are found by their names, in time that grows with the
+/// logarithm of their number. Fails for want of memory alone.
+pub fn object_of_strings(alloc: Global, names: Vec<String>) -> Result<Ty, AllocError>
+    ensures { IfOk result (λ t. ty_of t ≡ named_strings (map string_bytes names.items)) }
+{
+    if names.len() <= FEW {
+        let fields = string_fields(alloc, names.as_slice())?;
+        return object_of_fields(alloc, fields, None);
+    }
+    let positions = places_of(alloc, names.as_slice())?;
+    let found = FieldNames { names, positions };
+    Ok(Ty::Object(Rc::new(alloc, Object::Strings(found))?))
+}
+
+// Where each name first stands among names.
+fn places_of(alloc: Global, names: &[String]) -> Result<NamePositions, AllocError>
+    ensures { IfOk result (λ p. IsNameIndex p (map string_bytes names.now)) }
+{
+    let mut positions = NamePositions::new(alloc);
+    for (i, name) in names.iter().enumerate() {
+        let _ = positions.insert(alloc, name.as_bytes(), i)?;
+    }
+    Ok(positions)
+}
+
+// Whether all fields are strings.
+pub(crate) fn are_strings(fields: &[Field]) -> bool
+    ensures { result ≡ only_strings (fields_of (map field_of fields.now)) }
+{
+    for field in fields {
+        if !field.ty.is_string() {
+            return false;
+        }
+    }
+    true
+}
+
+// Fields that are strings of these names.
+fn string_fields(alloc: Global, names: &[String]) -> Result<Vec<Field>, AllocError>
+    ensures { IfOk result (λ v. map field_of v.items ≡ strings (map string_bytes names.now)) }
+{
+    let mut fields = Vec::with_capacity(alloc, names.len())?;
+    for name in names {
+        fields.push(Field {
+            name: name.clone()?,
+            ty: Ty::String,
+        })?;
+    }
+    Ok(fields)
+}
+
+// Fields once more, with names of their own.
+fn copy_fields(alloc: Global, fields: &[Field]) -> Result<Vec<Field>, AllocError>
+    ensures { IfOk result (λ v. map field_of v.items ≡ map field_of fields.now) }
+{
+    let mut copies = Vec::with_capacity(alloc, fields.len())?;
+    for field in fields {
+        let name = field.name.clone()?;
+        let ty = copy(alloc, &field.ty)?;
+        copies.push(Field { name, ty })?;
+    }
+    Ok(copies)
+}
+
+/// An object once more, with fields of its own that are looked through. Fails for want of memory alone.
+#[tactic(auto, using(crate::proofs::TypeFields::listing_made, crate::proofs::TypeFields::listing_fields))]
+pub(crate) fn listed(alloc: Global, object: &Object) -> Result<Listing, AllocError>
+    ensures { IfOk result (λ l. listing_of l ≡ object_of object.now) }
+{
+    match object {
+        Object::Listed(listing) => {
+            let fields = copy_fields(alloc, listing.fields.as_slice())?;
+            let rest = copy_rest(alloc, &listing.rest)?;
+            Ok(Listing { fields, rest })
+        }
+        Object::Strings(names) => {
+            let fields = string_fields(alloc, names.names.as_slice())?;
+            Ok(Listing { fields, rest: None })
+        }
+    }
+}
+
+// The fields of an object that nothing else shares.
+#[tactic(auto, using(crate::proofs::TypeFields::listing_fields))]
+fn own_fields(alloc: Global, object: Object) -> Result<Vec<Field>, AllocError>
+    ensures { IfOk result (λ v. fields_of (map field_of v.items) ≡ fields_of_type (object_of object)) }
+{
+    match object {
+        Object::Listed(listing) => Ok(listing.fields),
+        Object::Strings(names) => string_fields(alloc, names.names.as_slice()),
+    }
+}
+
+/// The fields of an object, moved out of one that nothing else shares, and else copied.
+pub(crate) fn fields_of_object(alloc: Global, object: Rc<Object>) -> Result<Vec<Field>, AllocError>
+    ensures { IfOk result (λ v. fields_of (map field_of v.items) ≡ fields_of_type (object_of object.value)) }
+{
+    match Rc::try_unwrap(object) {
+        Ok(object) => own_fields(alloc, object),
+        Err(shared) => shared_fields(alloc, &shared),
+    }
+}
+
+// The fields of an object once more.
+#[tactic(auto, using(crate::proofs::TypeFields::listing_fields))]
+fn shared_fields(alloc: Global, object: &Object) -> Result<Vec<Field>, AllocError>
+    ensures { IfOk result (λ v. fields_of (map field_of v.items) ≡ fields_of_type (object_of object.now)) }
+{
+    match object {
+        Object::Listed(listing) => copy_fields(alloc, listing.fields.as_slice()),
+        Object::Strings(names) => string_fields(alloc, names.names.as_slice()),
+    }
+}
+
+impl Object {
+    /// The type of the first field of a name, in any ASCII case: none where no field has it. The type of other fields
+    /// is not looked at. Fails with `AllocError` for want of memory, as all below.
+    pub(crate) fn field(
+        &self,
+        alloc: Global,
+        name: &str,
+    ) -> Result<Option<Property<'_>>, AllocError>
+        ensures { IfOk result (λ found. option_map property_type found ≡ field_at name.now (fields_of_type (object_of self.now))) }
+    {
+        match self {
+            Object::Listed(listing) => Ok(lent(listing.field(name))),
+            Object::Strings(names) => string_among(alloc, names, name),
+        }
+    }
+
+    /// The type of the fields beside its own, where there may be others.
+    pub fn other(&self) -> Option<&Ty>
+        ensures { option_map (λ t. ty_of t.now) result ≡ field_or_rest None (rest_of_type (object_of self.now)) }
+    {
+        match self {
+            Object::Listed(listing) => listing.other(),
+            Object::Strings(_) => None,
+        }
+    }
+
+    /// The type of a property: of the first field of its name, else of other fields, where there may be others.
+    pub(crate) fn property(
+        &self,
+        alloc: Global,
+        name: &str,
+    ) -> Result<Option<Property<'_>>, AllocError>
+        ensures { IfOk result (λ found. option_map property_type found
+            ≡ field_or_rest (field_at name.now (fields_of_type (object_of self.now))) (rest_of_type (object_of self.now))) }
+    {
+        match self {
+            Object::Listed(listing) => Ok(lent(listing.property(name))),
+            Object::Strings(names) => string_among(alloc, names, name),
+        }
+    }
+
+    /// Whether all its fields are strings.
+    #[tactic(auto, using(crate::proofs::TypeFields::listing_fields))]
+    pub(crate) fn has_only_strings(&self) -> bool
+        ensures { result ≡ only_strings (fields_of_type (object_of self.now)) }
+    {
+        match self {
+            Object::Listed(listing) => are_strings(listing.fields.as_slice()),
+            Object::Strings(_) => true,
+        }
+    }
+
+    /// Whether it has no field.
+    #[tactic(auto, using(crate::proofs::TypeFields::listing_fields))]
+    pub fn has_no_fields(&self) -> bool
+        ensures { result ≡ no_fields (fields_of_type (object_of self.now)) }
+    {
+        match self {
+            Object::Listed(listing) => listing.fields.is_empty(),
+            Object::Strings(names) => names.names.is_empty(),
+        }
+    }
+}
+
+// A string, where a field has this name.
+fn string_among<'t>(
+    alloc: Global,
+    names: &FieldNames,
+    name: &str,
+) -> Result<Option<Property<'t>>, AllocError>
+    ensures { IfOk result (λ found. option_map property_type found ≡ field_at name.now (fields_of (strings (names_in names.now)))) }
+{
+    match names.positions.get(alloc, name.as_bytes())? {
+        Some(_) => Ok(Some(Property::Made(Ty::String))),
+        None => Ok(None),
+    }
+}
