@@ -7,9 +7,8 @@ use Rattle.al_types.specs.declared.scope.ContextTypes.{ContextTypes}
 use Rattle.al_types.specs.IndexedTypes.{indexed_type}
 use Rattle.al_types.specs.TypeViews.{ty_of}
 use Rattle.al_types.specs.declared.types.Ty.{Ty}
-use Rattle.al_types.specs.declared.types.Ty.TheBlock as code
-use Rattle.al_types.specs.declared.types.Fused.{Fused'}
-use Rattle.al_types.specs.declared.types.Object.{Object'}
+use Rattle.al_types.specs.declared.types.Object.TheBlock as code
+use Rattle.al_types.specs.declared.types.Listing.{Listing'}
 use Rattle.al_yaml.specs.View.{view}
 use Rattle.al_shape.specs.Keys.{key_of}
 use Rattle.al_shape.specs.Values.{items_at}
@@ -44,8 +43,9 @@ any_alone code.Number e n = cc
 any_alone code.Bool e n = cc
 any_alone code.String e n = cc
 any_alone (code.Array' p t) e n = cc
-any_alone (code.Object' p (Object' s f r)) e n = cc
-any_alone (code.Fused' p (Fused' s os)) e n = cc
+any_alone (code.Object' p (code.Listed (Listing' s f r))) e n = cc
+any_alone (code.Object' p (code.Strings ns)) e n = cc
+any_alone (code.Fused' p s os) e n = cc
 
 pub kept_strategy : (t : Ty) → IsStrategy (ty_of t) → (t ≡ code.Any → ⊥) → ty_of t ≡ strategy_type
 kept_strategy t (inl e) n = absurd (any_alone t e n)
@@ -65,8 +65,8 @@ some_strategy k root s t e = subst IsStrategy (sym e) (strategy_in_section k roo
 -- of a workflow's section
 pub of_workflow : (f : File) (ts : ContextTypes) (s : Section) (js : List (Node × Node)) (job : Option (Node × Node)) →
     f.kind ≡ kind.Workflow → js ≡ jobs_of (view f.root.now) → job ≡ job_among js s →
-    ty_of ts.strategy ≡ type_in_job (λ j. strategy_type) job → ty_of ts.needs ≡ type_in_job (λ j. needs_type_of (known_of f.known.now) js j.1) job →
-    ty_of ts.jobs ≡ environment.jobs_shown (known_of f.known.now) js s → ty_of ts.matrix ≡ type_in_job (λ j. matrix_type j.1) job → OfSection f ts s
+    ty_of ts.strategy ≡ type_in_job (λ j. strategy_type) job → indexed_type ts.needs ≡ type_in_job (λ j. needs_type_of (known_of f.known.now) js j.1) job →
+    indexed_type ts.jobs ≡ environment.jobs_shown (known_of f.known.now) js s → indexed_type ts.matrix ≡ type_in_job (λ j. matrix_type j.1) job → OfSection f ts s
 of_workflow f ts s js job k e h a b c d =
     let root = view f.root.now in
     let known = known_of f.known.now in

@@ -33,7 +33,7 @@ use crate::steps::{no_steps, seen_count, seen_steps};
 use al_places::{Place, Position, Section, Seen};
 use al_shape::{Member, items_under, key_text};
 use al_tree::FileKind;
-use al_types::{IndexedType, Scope, Ty, into_fields};
+use al_types::{IndexedType, Scope, Ty};
 use al_yaml::Node;
 use std::alloc::{AllocError, Global};
 use std::mem::replace;
@@ -132,11 +132,11 @@ fn strategy_at(alloc: Global, old: Ty, job: Option<Member<'_>>) -> Result<Ty, Al
     }
 }
 
-fn matrix_at(alloc: Global, job: Option<Member<'_>>) -> Result<Ty, AllocError>
-    ensures { IfOk result (λ t. ty_of t ≡ type_in_job (λ j. specs.matrix_type j.1) (option_map member_of job.entry)) }
+fn matrix_at(alloc: Global, job: Option<Member<'_>>) -> Result<IndexedType, AllocError>
+    ensures { IfOk result (λ t. indexed_type t ≡ type_in_job (λ j. specs.matrix_type j.1) (option_map member_of job.entry)) }
 {
     match job {
-        None => Ok(Ty::Any),
+        None => Ok(IndexedType::any(alloc)),
         Some(job) => matrix_type(alloc, job.value),
     }
 }
@@ -147,14 +147,14 @@ fn needs_at<'a>(
     jobs: &JobList<'a>,
     shown: &mut ShownJobs,
     job: Option<Member<'_>>,
-) -> Result<Ty, AllocError>
+) -> Result<IndexedType, AllocError>
     requires keeps { Keeps (known_by known.now) (map member_of jobs.now.members.items) shown.old }
-    ensures ty { IfOk result (λ t. ty_of t ≡ type_in_job (λ j. needs_type_of (known_by known.now)
+    ensures ty { IfOk result (λ t. indexed_type t ≡ type_in_job (λ j. needs_type_of (known_by known.now)
         (map member_of jobs.now.members.items) j.1) (option_map member_of job.entry)) }
     ensures keeps { OnOk result (Keeps (known_by known.now) (map member_of jobs.now.members.items) shown.new) }
 {
     match job {
-        None => Ok(Ty::Any),
+        None => Ok(IndexedType::any(alloc)),
         Some(job) => {
             let ty = needs_type(alloc, known, jobs, shown, job.value)?;
             Ok(ty)
@@ -168,16 +168,16 @@ fn jobs_at<'a>(
     alloc: Global,
     known: &Outputs<'a>,
     jobs: &JobList<'a>,
-    old: Ty,
+    old: IndexedType,
     was: Section<'_>,
     now: Section<'_>,
-) -> Result<Ty, AllocError>
-    requires { ty_of old ≡ environment.jobs_shown (known_by known.now) (map member_of jobs.now.members.items) (section_view was) }
-    ensures { IfOk result (λ t. ty_of t ≡ environment.jobs_shown (known_by known.now) (map member_of jobs.now.members.items)
+) -> Result<IndexedType, AllocError>
+    requires { indexed_type old ≡ environment.jobs_shown (known_by known.now) (map member_of jobs.now.members.items) (section_view was) }
+    ensures { IfOk result (λ t. indexed_type t ≡ environment.jobs_shown (known_by known.now) (map member_of jobs.now.members.items)
         (section_view now.entry)) }
 {
     if !shows_jobs(now) {
-        return Ok(Ty::Any);
+        return Ok(IndexedType::any(alloc));
     }
     if shows_jobs(was) {
         return Ok(old);
@@ -224,12 +224,9 @@ fn enter_workflow<'a>(
     let job = env.jobs.job_of(section);
     let kept = replace(&mut env.scope.types.strategy, Ty::Any);
     let strategy = strategy_at(alloc, kept, job)?;
-    let needed = replace(&mut env.scope.types.needs, Ty::Any);
-    let fields = into_fields(alloc, needed)?;
-    env.shown.put_back(alloc, &env.jobs, fields)?;
     let needs = needs_at(alloc, &env.outputs, &env.jobs, &mut env.shown, job)?;
     let matrix = matrix_at(alloc, job)?;
-    let old = replace(&mut env.scope.types.jobs, Ty::Any);
+    let old = replace(&mut env.scope.types.jobs, IndexedType::any(alloc));
     let jobs = jobs_at(alloc, &env.outputs, &env.jobs, old, env.section, section)?;
     let owner = owner_at(job);
     let steps = start_steps(alloc, owner)?;

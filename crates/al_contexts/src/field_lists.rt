@@ -7,7 +7,6 @@ ghost use Rattle.al_types.specs.Private.TypeParts.{field_of};
 ghost use Rattle.al_contexts.specs.Objects.{put, put_all, put_new, strictly};
 ghost use Rattle.al_contexts.specs.Private.Indexes.{IsIndex, name_at};
 
-use crate::objects::strict_of;
 use al_types::{Field, IndexedType, NamePositions, Ty, field_positions, fuse};
 use std::alloc::{AllocError, Global};
 use std::mem::replace;
@@ -66,14 +65,15 @@ impl FieldList {
         self.fields
     }
 
-    /// An object that has these fields and no others.
-    pub(crate) fn into_strict(self, alloc: Global) -> Result<Ty, AllocError>
-        ensures { IfOk result (λ t. ty_of t ≡ strictly (map field_of self.fields.items)) }
+    /// The fields, and where their names stand.
+    pub(crate) fn into_parts(self) -> (Vec<Field>, NamePositions)
+        ensures fields { result.0 ≡ self.fields }
+        ensures positions { IsIndex result.1 (map field_of self.fields.items) }
     {
-        strict_of(alloc, self.fields)
+        (self.fields, self.positions)
     }
 
-    /// The same, found by their names.
+    /// An object that has these fields, found by their names, and no others.
     pub(crate) fn into_indexed(self, alloc: Global) -> Result<IndexedType, AllocError>
         ensures { IfOk result (λ t. indexed_type t ≡ strictly (map field_of self.fields.items)) }
     {

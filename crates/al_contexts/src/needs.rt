@@ -1,29 +1,39 @@
-//! The type of `needs`. What a job shows to others is made once for a file: it goes from the jobs that need it to the next ones.
-ghost use Rattle.std.specs.Prelude.{◌≡◌, ◌<◌, IfOk, OnOk, Some, length, map, set};
+//! The type of `needs`. What a job shows to others is made once for a file, and shared by the jobs that need it.
+ghost use Rattle.std.specs.Prelude.{◌≡◌, ◌<◌, IfOk, OnOk, length, map};
 ghost use Rattle.std.specs.Option.{option_to_list};
-ghost use Rattle.al_types.specs.TypeViews.{ty_of};
+ghost use Rattle.al_types.specs.IndexedTypes.{indexed_type};
 ghost use Rattle.al_types.specs.Private.TypeParts.{field_of};
 ghost use Rattle.al_shape.specs.Values.{member_of, scalar_node_of};
 ghost use Rattle.al_yaml.specs.View.{view};
-ghost use Rattle.al_contexts.specs.Contexts.{Known, job_field, needed, needed_by, needs_type_of};
+ghost use Rattle.al_contexts.specs.Contexts.{Known, needed, needed_by, needs_type_of};
 ghost use Rattle.al_contexts.specs.Objects.{Typed, put_all, put_new};
 ghost use Rattle.al_contexts.specs.Private.Lookups.{known_by};
-ghost use Rattle.al_contexts.specs.Private.ShownJobs.{AreNeeded, AreShown, IsJobAt, Keeps};
+ghost use Rattle.al_contexts.specs.Private.ShownJobs.{IsJobAt, Keeps};
 
 use crate::field_lists::FieldList;
 use crate::job_lists::JobList;
 use crate::jobs::job_field;
 use crate::known::Outputs;
 use al_shape::{ScalarNode, key_text, texts_under};
-use al_types::{Field, Ty};
+use al_types::{Field, IndexedType, copy};
 use al_yaml::Node;
 use std::alloc::{AllocError, Global};
 
-/// What jobs show to others, as far as it was made and isn't in a type of `needs`.
+/// What jobs show to others, as far as it was asked for: who asks again shares the type.
 #[derive(Drop)]
 pub(crate) struct ShownJobs {
     /// By the job's position.
     made: Vec<Option<Field>>,
+}
+
+/// The same field once more, which shares the type.
+fn copy_field(alloc: Global, field: &Field) -> Result<Field, AllocError>
+    ensures { IfOk result (λ f. field_of f ≡ field_of field.now) }
+{
+    Ok(Field {
+        name: field.name.clone()?,
+        ty: copy(alloc, &field.ty)?,
+    })
 }
 
 impl ShownJobs {
@@ -38,8 +48,8 @@ impl ShownJobs {
         Ok(ShownJobs { made })
     }
 
-    /// Takes what the job at a position shows, which is made where it isn't here.
-    fn take<'a>(
+    /// What the job at a position shows.
+    fn field<'a>(
         &mut self,
         alloc: Global,
         known: &Outputs<'a>,
@@ -51,42 +61,14 @@ impl ShownJobs {
         ensures field { IfOk result (λ f. IsJobAt (known_by known.now) (map member_of jobs.now.members.items) i (field_of f)) }
         ensures keeps { OnOk result (Keeps (known_by known.now) (map member_of jobs.now.members.items) self.new) }
     {
-        match self.made[i].take() {
-            Some(field) => Ok(field),
+        match &self.made[i] {
+            Some(field) => copy_field(alloc, field),
             None => {
                 let field = job_field(alloc, known, jobs.as_slice()[i])?;
+                self.made[i] = Some(copy_field(alloc, &field)?);
                 Ok(field)
             }
         }
-    }
-
-    /// Puts back what the job at a position shows.
-    fn put(&mut self, i: usize, field: Field)
-        requires { i < length self.old.made.items }
-        ensures { self.new.made.items ≡ set self.old.made.items i (Some field) }
-    {
-        self.made[i] = Some(field);
-    }
-
-    /// Puts back what jobs show.
-    pub(crate) fn put_back(
-        &mut self,
-        alloc: Global,
-        jobs: &JobList<'_>,
-        fields: Vec<Field>,
-    ) -> Result<(), AllocError>
-        requires long { length self.old.made.items ≡ length jobs.now.members.items }
-        ensures long { OnOk result (length self.new.made.items ≡ length jobs.now.members.items) }
-        ensures shown { OnOk result ((known : Known) → AreShown (map (job_field known) (map member_of jobs.now.members.items))
-            self.old.made.items → AreNeeded known (map member_of jobs.now.members.items) (map field_of fields.items)
-            → AreShown (map (job_field known) (map member_of jobs.now.members.items)) self.new.made.items) }
-    {
-        for field in fields {
-            if let Some(i) = jobs.position_of(alloc, field.name.as_bytes())? {
-                self.put(i, field);
-            }
-        }
-        Ok(())
     }
 }
 
@@ -107,7 +89,7 @@ fn add_job<'a>(
 {
     let job = jobs.as_slice()[i];
     if fields.lacks(alloc, key_text(job.key))? {
-        fields.add(alloc, shown.take(alloc, known, jobs, i)?)?;
+        fields.add(alloc, shown.field(alloc, known, jobs, i)?)?;
     }
     Ok(())
 }
@@ -156,9 +138,9 @@ pub(crate) fn needs_type<'a>(
     jobs: &JobList<'a>,
     shown: &mut ShownJobs,
     job: &Node,
-) -> Result<Ty, AllocError>
+) -> Result<IndexedType, AllocError>
     requires keeps { Keeps (known_by known.now) (map member_of jobs.now.members.items) shown.old }
-    ensures ty { IfOk result (λ t. ty_of t ≡ needs_type_of (known_by known.now) (map member_of jobs.now.members.items) (view job.now)) }
+    ensures ty { IfOk result (λ t. indexed_type t ≡ needs_type_of (known_by known.now) (map member_of jobs.now.members.items) (view job.now)) }
     ensures keeps { OnOk result (Keeps (known_by known.now) (map member_of jobs.now.members.items) shown.new) }
 {
     let mut fields = FieldList::new(alloc);
@@ -166,5 +148,6 @@ pub(crate) fn needs_type<'a>(
     for name in names.as_slice() {
         add_need_by(alloc, known, jobs, shown, *name, &mut fields)?;
     }
-    Ok(fields.into_strict(alloc)?)
+    let ty = fields.into_indexed(alloc)?;
+    Ok(ty)
 }

@@ -94,10 +94,10 @@ pub(crate) fn first_types(
         runner: Ty::Any,
         job: Ty::Any,
         strategy: Ty::Any,
-        needs: Ty::Any,
-        jobs: Ty::Any,
+        needs: IndexedType::any(alloc),
+        jobs: IndexedType::any(alloc),
         steps,
-        matrix: Ty::Any,
+        matrix: IndexedType::any(alloc),
         inputs: IndexedType::any(alloc),
     };
     set_fixed(alloc, file, &mut types)?;

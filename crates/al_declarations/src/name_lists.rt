@@ -1,10 +1,9 @@
 //! Names that are kept: texts that compare equal exactly where their bytes are the same, ASCII case and all.
-ghost use Rattle.std.specs.Prelude.{◌≡◌, IfOk, map};
-ghost use Rattle.al_types.specs.Private.TypeParts.{field_of};
-ghost use Rattle.al_types.specs.Strings.{named_strings, strings};
+ghost use Rattle.std.specs.Prelude.{◌≡◌, IfOk, map, string_bytes};
+ghost use Rattle.al_types.specs.Strings.{named_strings};
 ghost use Rattle.al_types.specs.TypeViews.{ty_of};
 
-use al_types::{Field, Ty, object_of_fields};
+use al_types::{Ty, name_text, object_of_strings};
 use std::alloc::{AllocError, Global};
 use std::marker::Model;
 
@@ -80,15 +79,15 @@ impl Model for NameList {
     ghost invariant = { λ a. ty_of a.strings ≡ named_strings a.names.items };
 }
 
-/// Fields that are strings of these names.
-fn string_fields(alloc: Global, names: &[Name]) -> Result<Vec<Field>, AllocError>
-    ensures { IfOk result (λ v. map field_of v.items ≡ strings names.now) }
+/// The texts of names.
+fn texts(alloc: Global, names: &[Name]) -> Result<Vec<String>, AllocError>
+    ensures { IfOk result (λ v. map string_bytes v.items ≡ names.now) }
 {
-    let mut fields = Vec::with_capacity(alloc, names.len())?;
+    let mut texts = Vec::with_capacity(alloc, names.len())?;
     for name in names {
-        fields.push(Field::new(alloc, name.as_bytes(), Ty::String)?)?;
+        texts.push(name_text(alloc, name.as_bytes())?)?;
     }
-    Ok(fields)
+    Ok(texts)
 }
 
 impl NameList {
@@ -96,8 +95,7 @@ impl NameList {
     pub fn new(alloc: Global, names: Vec<Name>) -> Result<NameList, AllocError>
         ensures { IfOk result (λ l. l ≡ names.items) }
     {
-        let fields = string_fields(alloc, names.as_slice())?;
-        let strings = object_of_fields(alloc, fields, None)?;
+        let strings = object_of_strings(alloc, texts(alloc, names.as_slice())?)?;
         Ok(NameList { names, strings })
     }
 

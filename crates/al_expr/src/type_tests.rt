@@ -30,10 +30,10 @@ fn step_run(alloc: Global) -> Result<Scope, AllocError> {
             runner: Ty::Any,
             job: Ty::Any,
             strategy: Ty::Any,
-            needs: Ty::Any,
-            jobs: Ty::Any,
+            needs: IndexedType::any(alloc),
+            jobs: IndexedType::any(alloc),
             steps: IndexedType::any(alloc),
-            matrix: Ty::Any,
+            matrix: IndexedType::any(alloc),
             inputs: IndexedType::any(alloc),
         },
         contexts: ContextSet {

@@ -1,23 +1,15 @@
 -- What is kept of what jobs show to others.
-use Rattle.std.specs.Prelude.{◌≡◌, ℕ, List, [], ◌∷◌, Option, Some, None, length, map, get_or}
+use Rattle.std.specs.Prelude.{◌≡◌, ℕ, List, Option, Some, None, length, map, get_or}
 use Rattle.al_types.specs.Private.TypeParts.{field_of}
 use Rattle.al_types.specs.declared.types.Field.{Field}
 use Rattle.al_yaml.specs.Node.{Node}
-use Rattle.al_contexts.specs.Contexts.{Known, job_field, needed}
+use Rattle.al_contexts.specs.Contexts.{Known, job_field}
 use Rattle.al_contexts.specs.Objects.{Typed}
 use Rattle.al_contexts.specs.declared.needs.ShownJobs.{ShownJobs}
 
 -- what the job at a position shows
 abbrev pub IsJobAt : Known → List (Node × Node) → ℕ → Typed → Type 0
 IsJobAt known jobs i t = get_or (map (job_field known) jobs) i t ≡ t
-
--- what a job shows that its own name finds
-abbrev pub IsNeeded : Known → List (Node × Node) → Typed → Type 0
-IsNeeded known jobs t = needed known jobs t.0 ≡ Some t
-
-abbrev pub AreNeeded : Known → List (Node × Node) → List Typed → Type 0
-AreNeeded known jobs [] = Unit {0}
-AreNeeded known jobs (t ∷ ts) = IsNeeded known jobs t × AreNeeded known jobs ts
 
 -- of each of some jobs nothing or what it shows
 abbrev pub AreShown : List Typed → List (Option Field) → Type 0

@@ -1,14 +1,10 @@
-use Rattle.std.proofs.Common.{ap, sym, ◌∙◌, map, option_map, rules}
-use Rattle.std.proofs.lemmas.List.{length-map}
+use Rattle.std.proofs.Common.{ap, ◌∙◌, map, option_map, rules}
 use Rattle.al_types.specs.TypeViews.{ty_of}
-use Rattle.al_types.specs.Private.TypeParts.{fields_of_type}
 use Rattle.al_shape.specs.Values.{member_of}
 use Rattle.al_places.specs.Positions.{section_view}
 use Rattle.al_yaml.specs.View.{view}
 use Rattle.al_contexts.specs.Contexts.{needs_type_of, type_in_job}
 use Rattle.al_contexts.specs.Private.Environment.{jobs_shown}
-use Rattle.al_contexts.specs.Private.Lookups.{known_by}
-use Rattle.al_contexts.proofs.Needed.{given_back_here}
 use Rattle.al_contexts.proofs.Sections.{of_workflow, some_strategy}
 use Rattle.al_contexts.proofs.env.enter_workflow.Goals as goal
 
@@ -43,19 +39,5 @@ strategy_at-requires c =
     some_strategy c.args.file.kind (view c.args.file.root.now) (section_view env.section) _
     (ap ty_of c.replace-kept.ensures.value ∙ c.requires.stands.section.strategy)
 
-pub put_back-requires : goal.put_back-requires
-put_back-requires c = record { long = c.requires.stands.shown.long ∙ length-map c.args.env.now.jobs.members.items member_of }
-
 pub needs_at-requires : goal.needs_at-requires
-needs_at-requires c =
-    let env = c.args.env.now in
-    let k = known_by env.outputs in
-    let js = map member_of env.jobs.members.items in
-    record {
-      keeps = record {
-        long = c.in_ok-put_back.ensures.long ∙ sym (length-map env.jobs.members.items member_of);
-        shown = c.in_ok-put_back.ensures.shown k c.requires.stands.shown.shown
-            (given_back_here c.args.file env.scope.types (section_view env.section) k js _ c.requires.kind c.requires.stands.known c.requires.stands.members
-            c.requires.stands.section.needs (c.in_ok-fields.ensures ∙ ap fields_of_type (ap ty_of c.replace-needed.ensures.value)));
-      };
-    }
+needs_at-requires c = record { keeps = c.requires.stands.shown }

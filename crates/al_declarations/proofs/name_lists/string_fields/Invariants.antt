@@ -1,7 +1,0 @@
-use Rattle.std.proofs.Common.{◌≡◌, map, take}
-use Rattle.al_types.specs.Private.TypeParts.{field_of}
-use Rattle.al_types.specs.Strings.{strings}
-use Rattle.al_declarations.proofs.name_lists.string_fields.Given as goal
-
-abbrev pub invariant-loop-name : goal.invariant-loop-name
-invariant-loop-name l = map field_of l.fields.items ≡ strings (take l.name-index l.names)
