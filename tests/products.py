@@ -46,6 +46,12 @@ def operands_with_many_outputs():
     return with_outputs(10_000, b"  b:\n    needs: a\n    runs-on: u\n    steps:\n" + steps), b""
 
 
+def fields_of_many_outputs(of):
+    """Expressions on what all outputs have in common, of a job or of two branches."""
+    steps = b"      - run: ${{ contains(%s.*, 'x') }}\n" % of * 12_000
+    return with_outputs(10_000, b"  b:\n    needs: a\n    runs-on: u\n    steps:\n" + steps), b""
+
+
 def matrix_of(values):
     """A workflow with a matrix of these values of one row, which reads a field of the first and of the last of them."""
     read = b"      - run: ${{ matrix.r.k00000 }} ${{ matrix.r.a.k09999 }}\n"
@@ -71,6 +77,23 @@ def all_steps_with_many_outputs():
     steps = b"".join(b"      - {id: s%04d, uses: ./a}\n" % number for number in range(4_000))
     read = b"      - run: ${{ contains(steps.*.outputs.o9999, 'x') }}\n"
     return {WORKFLOW: STEPS + steps + read, ACTION: called}, b""
+
+
+def outputs_of_all_steps():
+    """Expressions on the last output that all steps have, each of which calls an action with many outputs."""
+    called = b"name: A\ndescription: d\noutputs: {%s}\nruns: {using: composite, steps: []}\n" % values(10_000)
+    steps = b"".join(b"      - {id: s%03d, uses: ./a}\n" % number for number in range(500))
+    read = b"      - run: ${{ contains(steps.*.outputs.o9999, 'x') }}\n" * 2_000
+    return {WORKFLOW: STEPS + steps + read, ACTION: called}, b""
+
+
+def last_of_many_needs():
+    """Expressions that read the last of many needed jobs."""
+    names = [b"j%04d" % number for number in range(9_000)]
+    jobs = b"".join(b"  %s: {%s}\n" % (name, CALLED_ELSEWHERE) for name in names)
+    steps = b"      - run: ${{ needs.j8999.result }}\n" * 9_000
+    last = b"  z:\n    needs: [%s]\n    runs-on: u\n    steps:\n" % b", ".join(names) + steps
+    return {WORKFLOW: b"on: push\njobs:\n" + jobs + last}, b""
 
 
 def all_needs_in_each_expression():
@@ -121,6 +144,18 @@ def aliases_of_a_call():
     return {WORKFLOW: steps, ACTION: ACTION_FILE}, lacking(b"7:15", b"A", b"action")
 
 
+def calls_at_one_place():
+    """Calls that share the text of their `uses` by an alias, each of which gives another one of many inputs: the report has a line for each
+    input, since no call gives all of them.
+    """
+    names = [b"i%05d" % number for number in range(24_900)]
+    inputs = b", ".join(b"%s: {required: true}" % name for name in names)
+    action = b"name: A\ndescription: d\ninputs: {%s}\nruns: {using: node20, main: m.js}\n" % inputs
+    steps = b"".join(b"      - {uses: *u, with: {%s: 1}}\n" % name for name in names[:14_000])
+    told = b"".join(b'%s6:18: required input "%s" of "A" is missing [action]\n' % (AT, name) for name in names)
+    return {WORKFLOW: STEPS + b"      - uses: &u ./a\n" + steps, ACTION: action}, told
+
+
 def all_of_many_outputs():
     """Expressions that are all of many outputs."""
     steps = b"      - run: ${{ toJSON(needs.a.outputs) }}\n" * 12_000
@@ -152,9 +187,13 @@ FOLDERS = {
     "all-of-10000-outputs-12000-times": all_of_many_outputs,
     "12000-branches-with-10000-outputs": branches_with_many_outputs,
     "40000-operands-with-10000-outputs": operands_with_many_outputs,
+    "fields-of-10000-outputs-12000-times": lambda: fields_of_many_outputs(b"needs.a.outputs"),
+    "fields-of-12000-branches-with-10000-outputs": lambda: fields_of_many_outputs(b"(needs.a.outputs || needs.a.outputs)"),
     "10000-mappings-of-a-matrix-row": mappings_of_a_row,
     "10000-includes-of-a-mapping": mappings_of_includes,
     "all-of-4000-steps-with-10000-outputs": all_steps_with_many_outputs,
+    "outputs-of-500-steps-with-10000-outputs-2000-times": outputs_of_all_steps,
+    "last-of-9000-needs-9000-times": last_of_many_needs,
     "all-of-2000-needs-2000-times": all_needs_in_each_expression,
     "4000-jobs-that-need-4000-outputs": lambda: jobs_with_an_expression(b"${{ github.ref }}"),
     "4000-jobs-that-read-one-of-4000-outputs": lambda: jobs_with_an_expression(b"${{ needs.a.outputs.o0000 }}"),
@@ -165,4 +204,5 @@ FOLDERS = {
     "4000-jobs-that-call-one-with-10000-outputs": jobs_that_call_one_with_many_outputs,
     "4000-steps-that-call-one-with-10000-outputs": steps_that_call_one_with_many_outputs,
     "30000-aliases-of-a-step-that-lacks-1000-inputs": aliases_of_a_call,
+    "14000-calls-at-one-place-of-24900-inputs": calls_at_one_place,
 }

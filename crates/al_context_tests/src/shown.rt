@@ -1,6 +1,6 @@
 //! Types as texts, such as `{a: string, *: any}`, where `*` stands for every other field.
 
-use al_types::{Object, Ty, copy, joined};
+use al_types::{Listing, Object, Ty, copy, joined};
 use std::alloc::{AllocError, Global};
 
 #[cycle(shown)]
@@ -23,6 +23,14 @@ fn show(alloc: Global, ty: &Ty, out: &mut String) -> Result<(), AllocError> {
 
 #[cycle(shown)]
 fn show_object(alloc: Global, object: &Object, out: &mut String) -> Result<(), AllocError> {
+    match object {
+        Object::Listed(listing) => show_listing(alloc, listing, out),
+        Object::Strings(_) => out.push_str("{many strings}"),
+    }
+}
+
+#[cycle(shown)]
+fn show_listing(alloc: Global, object: &Listing, out: &mut String) -> Result<(), AllocError> {
     out.push_str("{")?;
     let mut is_first = true;
     for field in &object.fields {

@@ -140,7 +140,8 @@ pub(crate) fn needs_type<'a>(
     job: &Node,
 ) -> Result<IndexedType, AllocError>
     requires keeps { Keeps (known_by known.now) (map member_of jobs.now.members.items) shown.old }
-    ensures ty { IfOk result (λ t. indexed_type t ≡ needs_type_of (known_by known.now) (map member_of jobs.now.members.items) (view job.now)) }
+    ensures ty { IfOk result
+        (λ t. indexed_type t ≡ needs_type_of (known_by known.now) (map member_of jobs.now.members.items) (view job.now)) }
     ensures keeps { OnOk result (Keeps (known_by known.now) (map member_of jobs.now.members.items) shown.new) }
 {
     let mut fields = FieldList::new(alloc);

@@ -249,7 +249,8 @@ fn fuse_strings(alloc: Global, fused: &Fused) -> Result<Ty, AllocError>
 // The same with the type of other fields, where all named ones are fused.
 #[tactic(auto, using(crate::proofs::TypedSteps::fused_beside))]
 fn fuse_beside(alloc: Global, common: Option<Ty>, other: Option<&Ty>) -> Result<Ty, AllocError>
-    ensures { IfOk result (λ t. ty_of t ≡ fuse_all (option_map ty_of common) NoField (rest_by (option_map (λ u. ty_of u.now) other.entry))) }
+    ensures { IfOk result
+        (λ t. ty_of t ≡ fuse_all (option_map ty_of common) NoField (rest_by (option_map (λ u. ty_of u.now) other.entry))) }
 {
     match other {
         Some(ty) => fuse_next(alloc, common, ty),

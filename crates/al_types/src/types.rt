@@ -1,7 +1,7 @@
 //! Types of expressions.
 
-ghost use Rattle.std.specs.Prelude.{◌≡◌, IfOk, None, map, option_map, string_bytes};
-ghost use Rattle.al_types.specs.Types.{field_at, field_or_rest, is_collection, is_plain, fields_of};
+ghost use Rattle.std.specs.Prelude.{◌≡◌, IfOk, None, option_map, string_bytes};
+ghost use Rattle.al_types.specs.Types.{field_at, field_or_rest, is_collection, is_plain};
 ghost use Rattle.al_types.specs.TypeViews.{ty_of, fused_of, listing_of};
 ghost use Rattle.al_types.specs.Private.TypeParts.{field_of, rest_of, form_of, fields_of_type, rest_of_type, is_string};
 
