@@ -3,6 +3,7 @@
 
 ghost use Rattle.std.specs.Prelude.{◌≡◌, ◌++◌, map, IfOk, OnOk};
 ghost use Rattle.al_calls.specs.CallFaults as faults;
+ghost use Rattle.al_calls.specs.Private.Later as later;
 ghost use Rattle.al_calls.specs.Private.Ungiven.{ungiven_input};
 ghost use Rattle.al_declarations.specs.Private.NameSets.{holds};
 ghost use Rattle.al_shape.specs.Values.{member_of};
@@ -13,7 +14,7 @@ use crate::names::given_names;
 use crate::reports::{called, caller_of, report_two};
 use al_base::{CallCode, Caller, Fault};
 use al_declarations::{NameSet, is_named_among};
-use al_interfaces::{Input, Signature};
+use al_interfaces::{Input, Signature, is_mandatory};
 use al_shape::{Member, key_text};
 use al_uses::Call;
 use std::alloc::{AllocError, Global};
@@ -146,4 +147,98 @@ pub(crate) fn check_inputs(
     check_extra_inputs(alloc, call, given, signature, out)?;
     let names = given_names(alloc, given)?;
     check_missing_inputs(alloc, call, &names, signature, out)
+}
+
+/// Whether each call has to give an input that isn't among these.
+fn is_missing(alloc: Global, given: &NameSet, input: &Input) -> Result<bool, AllocError>
+    ensures { IfOk result (λ b. b ≡ faults.is_missing (holds given.now) input.now) }
+{
+    if !is_mandatory(input) {
+        return Ok(false);
+    }
+    let is_given = given.contains(alloc, input.name.as_bytes())?;
+    Ok(!is_given)
+}
+
+/// C3.
+fn check_missing_input(
+    alloc: Global,
+    call: &Call<'_>,
+    signature: &Signature,
+    given: &NameSet,
+    input: &Input,
+    out: &mut Vec<Fault>,
+) -> Result<(), AllocError>
+    ensures ok { OnOk result (out.new.items ≡ out.old.items
+        ++ faults.missing_input (call_of call.now) signature.now (holds given.now) input.now) }
+    ensures begins { BeginsWith out.new.items out.old.items }
+{
+    if !is_missing(alloc, given, input)? {
+        return Ok(());
+    }
+    report_two(
+        alloc,
+        CallCode::MissingInput,
+        call,
+        call.uses.span,
+        (input.name.as_bytes(), called(call, signature)),
+        out,
+    )
+}
+
+/// C3 of the input that the earlier call gives by this member.
+fn check_input_left_out(
+    alloc: Global,
+    call: &Call<'_>,
+    signature: &Signature,
+    given: &NameSet,
+    member: Member<'_>,
+    out: &mut Vec<Fault>,
+) -> Result<(), AllocError>
+    ensures ok { OnOk result (out.new.items ≡ out.old.items
+        ++ later.input_left_out (call_of call.now) signature.now (holds given.now) (member_of member.entry)) }
+    ensures begins { BeginsWith out.new.items out.old.items }
+{
+    let name = key_text(member.key);
+    match signature.inputs.named(alloc, name)? {
+        Some(input) => check_missing_input(alloc, call, signature, given, input, out),
+        None => Ok(()),
+    }
+}
+
+/// C3 of all inputs that the earlier call gives.
+fn check_inputs_left_out(
+    alloc: Global,
+    call: &Call<'_>,
+    given: &NameSet,
+    earlier: &[Member<'_>],
+    signature: &Signature,
+    out: &mut Vec<Fault>,
+) -> Result<(), AllocError>
+    ensures ok { OnOk result (out.new.items ≡ out.old.items
+        ++ later.inputs_left_out (call_of call.now) (holds given.now) (map member_of earlier.now) signature.now) }
+    ensures begins { BeginsWith out.new.items out.old.items }
+{
+    for member in earlier {
+        check_input_left_out(alloc, call, signature, given, *member, out)?;
+    }
+    Ok(())
+}
+
+/// C2, and C3 of what the earlier call gives.
+pub(crate) fn check_later_inputs(
+    alloc: Global,
+    call: &Call<'_>,
+    earlier: &[Member<'_>],
+    given: &[Member<'_>],
+    signature: &Signature,
+    out: &mut Vec<Fault>,
+) -> Result<(), AllocError>
+    ensures ok { OnOk result (out.new.items ≡ out.old.items
+        ++ later.later_inputs (call_of call.now) (map member_of earlier.now) (map member_of given.now) signature.now) }
+    ensures begins { BeginsWith out.new.items out.old.items }
+{
+    check_extra_inputs(alloc, call, given, signature, out)?;
+    let names = given_names(alloc, given)?;
+    check_inputs_left_out(alloc, call, &names, earlier, signature, out)
 }

@@ -1,8 +1,9 @@
 //! Secrets that a job gives, against those that the called workflow shows: C5 and C6.
 #![tactic(auto, using(al_base::proofs::Growing::growth))]
 
-ghost use Rattle.std.specs.Prelude.{◌≡◌, ◌++◌, map, OnOk};
+ghost use Rattle.std.specs.Prelude.{◌≡◌, ◌++◌, map, IfOk, OnOk};
 ghost use Rattle.al_calls.specs.CallFaults as faults;
+ghost use Rattle.al_calls.specs.Private.Later as later;
 ghost use Rattle.al_calls.specs.Private.Ungiven.{ungiven_secret};
 ghost use Rattle.al_declarations.specs.Private.NameSets.{holds};
 ghost use Rattle.al_shape.specs.Values.{member_of};
@@ -109,7 +110,8 @@ fn check_missing_secrets(
     Ok(())
 }
 
-fn is_inherit(job: &Node) -> bool
+/// Whether a job gives the called workflow all its secrets, by `secrets: inherit`.
+pub fn is_inherit(job: &Node) -> bool
     ensures { result ≡ faults.is_inherit (view job.now) }
 {
     match text_under(job, "secrets") {
@@ -151,4 +153,144 @@ pub(crate) fn check_secrets(
     }
     let given = members_under(alloc, call.node, "secrets")?;
     check_given_secrets(alloc, call, given.as_slice(), signature, out)
+}
+
+/// Whether each call has to give a secret that isn't among these.
+fn is_missing(alloc: Global, given: &NameSet, secret: &Secret) -> Result<bool, AllocError>
+    ensures { IfOk result (λ b. b ≡ faults.is_missing_secret (holds given.now) secret.now) }
+{
+    if !secret.required {
+        return Ok(false);
+    }
+    let is_given = given.contains(alloc, secret.name.as_bytes())?;
+    Ok(!is_given)
+}
+
+/// C6.
+fn check_missing_secret(
+    alloc: Global,
+    call: &Call<'_>,
+    signature: &Signature,
+    given: &NameSet,
+    secret: &Secret,
+    out: &mut Vec<Fault>,
+) -> Result<(), AllocError>
+    ensures ok { OnOk result (out.new.items ≡ out.old.items
+        ++ faults.missing_secret (call_of call.now) signature.now (holds given.now) secret.now) }
+    ensures begins { BeginsWith out.new.items out.old.items }
+{
+    if !is_missing(alloc, given, secret)? {
+        return Ok(());
+    }
+    report_two(
+        alloc,
+        CallCode::MissingSecret,
+        call,
+        call.uses.span,
+        (secret.name.as_bytes(), called(call, signature)),
+        out,
+    )
+}
+
+/// C6 of the secret that the earlier call gives by this member.
+fn check_secret_left_out(
+    alloc: Global,
+    call: &Call<'_>,
+    signature: &Signature,
+    given: &NameSet,
+    member: Member<'_>,
+    out: &mut Vec<Fault>,
+) -> Result<(), AllocError>
+    ensures ok { OnOk result (out.new.items ≡ out.old.items
+        ++ later.secret_left_out (call_of call.now) signature.now (holds given.now) (member_of member.entry)) }
+    ensures begins { BeginsWith out.new.items out.old.items }
+{
+    let name = key_text(member.key);
+    match signature.secrets.named(alloc, name)? {
+        Some(secret) => check_missing_secret(alloc, call, signature, given, secret, out),
+        None => Ok(()),
+    }
+}
+
+/// C6 of all secrets that the earlier call gives.
+fn check_secrets_left_out(
+    alloc: Global,
+    call: &Call<'_>,
+    given: &NameSet,
+    earlier: &[Member<'_>],
+    signature: &Signature,
+    out: &mut Vec<Fault>,
+) -> Result<(), AllocError>
+    ensures ok { OnOk result (out.new.items ≡ out.old.items
+        ++ later.secrets_left_out (call_of call.now) (holds given.now) (map member_of earlier.now) signature.now) }
+    ensures begins { BeginsWith out.new.items out.old.items }
+{
+    for member in earlier {
+        check_secret_left_out(alloc, call, signature, given, *member, out)?;
+    }
+    Ok(())
+}
+
+/// C5, and C6 of what the earlier call gives.
+fn check_given_later(
+    alloc: Global,
+    call: &Call<'_>,
+    earlier: &[Member<'_>],
+    given: &[Member<'_>],
+    signature: &Signature,
+    out: &mut Vec<Fault>,
+) -> Result<(), AllocError>
+    ensures ok { OnOk result (out.new.items ≡ out.old.items
+        ++ later.given_later (call_of call.now) (map member_of earlier.now) (map member_of given.now) signature.now) }
+    ensures begins { BeginsWith out.new.items out.old.items }
+{
+    check_extra_secrets(alloc, call, given, signature, out)?;
+    let names = given_names(alloc, given)?;
+    check_secrets_left_out(alloc, call, &names, earlier, signature, out)
+}
+
+/// The same of a job that may inherit its secrets, behind one that doesn't.
+fn check_later_given(
+    alloc: Global,
+    call: &Call<'_>,
+    earlier: &Node,
+    signature: &Signature,
+    out: &mut Vec<Fault>,
+) -> Result<(), AllocError>
+    ensures ok { OnOk result (out.new.items ≡ out.old.items
+        ++ later.later_given (call_of call.now) (view earlier.now) (call_of call.now).node signature.now) }
+    ensures begins { BeginsWith out.new.items out.old.items }
+{
+    let job = call.node;
+    if is_inherit(job) {
+        return Ok(());
+    }
+    let before = members_under(alloc, earlier, "secrets")?;
+    let given = members_under(alloc, job, "secrets")?;
+    check_given_later(
+        alloc,
+        call,
+        before.as_slice(),
+        given.as_slice(),
+        signature,
+        out,
+    )
+}
+
+/// C5 and C6 of a job's call behind an earlier one.
+pub(crate) fn check_later_secrets(
+    alloc: Global,
+    call: &Call<'_>,
+    earlier: &Node,
+    signature: &Signature,
+    out: &mut Vec<Fault>,
+) -> Result<(), AllocError>
+    ensures ok { OnOk result (out.new.items ≡ out.old.items
+        ++ later.later_secrets (call_of call.now) (view earlier.now) (call_of call.now).node signature.now) }
+    ensures begins { BeginsWith out.new.items out.old.items }
+{
+    if is_inherit(earlier) {
+        return check_secrets(alloc, call, signature, out);
+    }
+    check_later_given(alloc, call, earlier, signature, out)
 }

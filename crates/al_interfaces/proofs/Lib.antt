@@ -1,3 +1,4 @@
 pub mod Exact
 pub mod Places
 pub mod Positions
+pub mod Apart

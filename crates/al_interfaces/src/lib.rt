@@ -9,5 +9,5 @@ mod signatures;
 pub use al_declarations::{Name, NameList};
 pub use equality::equal_interfaces;
 pub use interfaces::{Input, Interface, Role, Secret, Signature};
-pub use lists::{InputList, SecretList};
+pub use lists::{InputList, SecretList, is_mandatory};
 pub use signatures::interface_of;

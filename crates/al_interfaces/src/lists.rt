@@ -1,21 +1,20 @@
-//! The inputs and the secrets of an interface. Their names, and which of them each call has to give, are made ready once for all calls.
+//! The inputs and the secrets of an interface. Where their names stand, and which of them each call has to give, is made ready once for
+//! all calls.
 ghost use Rattle.std.specs.Prelude.{◌≡◌, ◌<◌, find, length, slice_index_or, IfOk};
 ghost use Rattle.std.specs.Option.{option_copied};
 ghost use Rattle.al_types.specs.Private.Positions.{name_position};
-ghost use Rattle.al_declarations.specs.Private.NameSets.{holds};
 ghost use Rattle.al_interfaces.specs.Mandatory.{is_mandatory, mandatory_inputs, mandatory_secrets};
-ghost use Rattle.al_interfaces.specs.Names.{has_input, has_secret, is_input};
-ghost use Rattle.al_interfaces.specs.Private.InputPositions.{input_positions};
+ghost use Rattle.al_interfaces.specs.Names.{has_input, has_secret, is_input, is_secret, FindsEachInput, FindsEachSecret};
+ghost use Rattle.al_interfaces.specs.Private.Names.{positions_by};
 ghost use Rattle.al_interfaces.specs.Private.Places.{StandAt};
 
 use crate::interfaces::{Input, Secret};
-use al_declarations::NameSet;
 use al_types::NamePositions;
 use std::alloc::{AllocError, Global};
 use std::marker::Model;
 
-/// Inputs in order, where each name first stands among them, and where those stand that each call has to give. Contracts see their list.
-/// Finding one by its name takes time that grows with the logarithm of their number, and with the name's length.
+/// Inputs in order whose names differ, where each name stands among them, and where those stand that each call has to give. Contracts see
+/// their list. Finding one by its name takes time that grows with the logarithm of their number, and with the name's length.
 #[derive(Drop)]
 pub struct InputList {
     inputs: Vec<Input>,
@@ -28,20 +27,22 @@ impl Model for InputList {
     ghost use Rattle.al_types.specs.Private.Positions.{name_position};
     ghost use Rattle.al_interfaces.specs.declared.interfaces.Input.{Input};
     ghost use Rattle.al_interfaces.specs.Mandatory.{mandatory_inputs};
-    ghost use Rattle.al_interfaces.specs.Private.InputPositions.{input_positions};
+    ghost use Rattle.al_interfaces.specs.Names.{FindsEachInput};
+    ghost use Rattle.al_interfaces.specs.Private.Names.{positions_by};
     ghost use Rattle.al_interfaces.specs.Private.Places.{StandAt};
 
     ghost Value = { List Input };
 
     ghost view = { λ a. a.inputs.items };
 
-    ghost invariant = { λ a. (name_position a.positions ≡ input_positions a.inputs.items)
-        × StandAt a.mandatory.items (mandatory_inputs a.inputs.items) a.inputs.items };
+    ghost invariant = { λ a. (name_position a.positions ≡ positions_by (λ i. i.name) a.inputs.items)
+        × StandAt a.mandatory.items (mandatory_inputs a.inputs.items) a.inputs.items
+        × FindsEachInput a.inputs.items };
 }
 
 /// Where the first input with each name stands.
-fn positions_of(alloc: Global, inputs: &[Input]) -> Result<NamePositions, AllocError>
-    ensures { IfOk result (λ p. name_position p ≡ input_positions inputs.now) }
+fn input_positions(alloc: Global, inputs: &[Input]) -> Result<NamePositions, AllocError>
+    ensures { IfOk result (λ p. name_position p ≡ positions_by (λ i. i.name) inputs.now) }
 {
     let mut positions = NamePositions::new(alloc);
     for (i, input) in inputs.iter().enumerate() {
@@ -51,7 +52,7 @@ fn positions_of(alloc: Global, inputs: &[Input]) -> Result<NamePositions, AllocE
 }
 
 /// Whether each call has to give an input.
-fn is_mandatory(input: &Input) -> bool
+pub fn is_mandatory(input: &Input) -> bool
     ensures { result ≡ is_mandatory input.now }
 {
     input.required && !input.has_default
@@ -73,9 +74,10 @@ fn mandatory_inputs(alloc: Global, inputs: &[Input]) -> Result<Vec<usize>, Alloc
 impl InputList {
     /// The list of these inputs. Fails with `AllocError` for want of memory.
     pub(crate) fn new(alloc: Global, inputs: Vec<Input>) -> Result<InputList, AllocError>
+        requires { FindsEachInput inputs.items }
         ensures { IfOk result (λ l. l ≡ inputs.items) }
     {
-        let positions = positions_of(alloc, inputs.as_slice())?;
+        let positions = input_positions(alloc, inputs.as_slice())?;
         let mandatory = mandatory_inputs(alloc, inputs.as_slice())?;
         Ok(InputList {
             inputs,
@@ -117,6 +119,15 @@ impl InputList {
         let position = self.positions.get(alloc, name)?;
         Ok(position.is_some())
     }
+
+    /// The law of the list. Does nothing.
+    ///
+    /// Each input is the first that has its name, in any ASCII case.
+    pub fn finds_each(&self)
+        ensures { FindsEachInput self.now }
+    {
+        let _opened = self.inputs.len();
+    }
 }
 
 impl PartialEq for InputList {
@@ -141,41 +152,42 @@ impl Eq for InputList {
     ghost laws = { lists_equiv input_laws.laws-law };
 }
 
-/// Secrets in order, the set of their names, and where those stand that each call has to give. Contracts see their list. Looking a name
-/// up takes time that grows with the logarithm of their number, and with the name's length.
+/// Secrets in order whose names differ, where each name stands among them, and where those stand that each call has to give. Contracts see
+/// their list. Finding one by its name takes time that grows with the logarithm of their number, and with the name's length.
 #[derive(Drop)]
 pub struct SecretList {
     secrets: Vec<Secret>,
-    names: NameSet,
+    positions: NamePositions,
     mandatory: Vec<usize>,
 }
 
 impl Model for SecretList {
     ghost use Rattle.std.specs.Prelude.{◌≡◌, List};
-    ghost use Rattle.al_declarations.specs.Private.NameSets.{holds};
+    ghost use Rattle.al_types.specs.Private.Positions.{name_position};
     ghost use Rattle.al_interfaces.specs.declared.interfaces.Secret.{Secret};
     ghost use Rattle.al_interfaces.specs.Mandatory.{mandatory_secrets};
-    ghost use Rattle.al_interfaces.specs.Names.{has_secret};
+    ghost use Rattle.al_interfaces.specs.Names.{FindsEachSecret};
+    ghost use Rattle.al_interfaces.specs.Private.Names.{positions_by};
     ghost use Rattle.al_interfaces.specs.Private.Places.{StandAt};
 
     ghost Value = { List Secret };
 
     ghost view = { λ a. a.secrets.items };
 
-    ghost invariant = { λ a. (holds a.names ≡ has_secret a.secrets.items)
-        × StandAt a.mandatory.items (mandatory_secrets a.secrets.items) a.secrets.items };
+    ghost invariant = { λ a. (name_position a.positions ≡ positions_by (λ x. x.name) a.secrets.items)
+        × StandAt a.mandatory.items (mandatory_secrets a.secrets.items) a.secrets.items
+        × FindsEachSecret a.secrets.items };
 }
 
-/// The names of some secrets.
-#[tactic(auto, using(al_declarations::proofs::NameLemmas::named_more))]
-fn names_of(alloc: Global, secrets: &[Secret]) -> Result<NameSet, AllocError>
-    ensures { IfOk result (λ s. holds s ≡ has_secret secrets.now) }
+/// Where the first secret with each name stands.
+fn secret_positions(alloc: Global, secrets: &[Secret]) -> Result<NamePositions, AllocError>
+    ensures { IfOk result (λ p. name_position p ≡ positions_by (λ x. x.name) secrets.now) }
 {
-    let mut names = NameSet::new(alloc);
-    for secret in secrets {
-        let _ = names.insert(alloc, secret.name.as_bytes())?;
+    let mut positions = NamePositions::new(alloc);
+    for (i, secret) in secrets.iter().enumerate() {
+        let _ = positions.insert(alloc, secret.name.as_bytes(), i)?;
     }
-    Ok(names)
+    Ok(positions)
 }
 
 /// Where the secrets stand that each call has to give.
@@ -194,13 +206,14 @@ fn mandatory_secrets(alloc: Global, secrets: &[Secret]) -> Result<Vec<usize>, Al
 impl SecretList {
     /// The list of these secrets. Fails with `AllocError` for want of memory.
     pub(crate) fn new(alloc: Global, secrets: Vec<Secret>) -> Result<SecretList, AllocError>
+        requires { FindsEachSecret secrets.items }
         ensures { IfOk result (λ l. l ≡ secrets.items) }
     {
-        let names = names_of(alloc, secrets.as_slice())?;
+        let positions = secret_positions(alloc, secrets.as_slice())?;
         let mandatory = mandatory_secrets(alloc, secrets.as_slice())?;
         Ok(SecretList {
             secrets,
-            names,
+            positions,
             mandatory,
         })
     }
@@ -221,12 +234,31 @@ impl SecretList {
         &self.secrets[place]
     }
 
+    /// The first secret with a name, in any ASCII case. Fails with `AllocError` for want of memory.
+    pub fn named(&self, alloc: Global, name: &[u8]) -> Result<Option<&Secret>, AllocError>
+        ensures { IfOk result (λ x. option_copied x ≡ find (is_secret name.now) self.now) }
+    {
+        match self.positions.get(alloc, name)? {
+            Some(i) => Ok(Some(&self.secrets[i])),
+            None => Ok(None),
+        }
+    }
+
     /// Whether a secret has a name, in any ASCII case. Fails with `AllocError` for want of memory.
     pub fn has(&self, alloc: Global, name: &[u8]) -> Result<bool, AllocError>
         ensures { IfOk result (λ b. b ≡ has_secret self.now name.now) }
     {
-        let found = self.names.contains(alloc, name)?;
-        Ok(found)
+        let position = self.positions.get(alloc, name)?;
+        Ok(position.is_some())
+    }
+
+    /// The law of the list. Does nothing.
+    ///
+    /// Each secret is the first that has its name, in any ASCII case.
+    pub fn finds_each(&self)
+        ensures { FindsEachSecret self.now }
+    {
+        let _opened = self.secrets.len();
     }
 }
 

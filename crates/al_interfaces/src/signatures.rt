@@ -5,10 +5,12 @@ ghost use Rattle.std.specs.Option.{option_map_or};
 ghost use Rattle.al_declarations.specs.Declarations.{declared_in, names_of};
 ghost use Rattle.al_declarations.specs.Inputs.{input_of as type_declared};
 ghost use Rattle.al_scalar.specs.Scalar.{text_of};
+ghost use Rattle.al_shape.specs.Keys.{key_of};
 ghost use Rattle.al_shape.specs.Values.{member_of, scalar_node_of};
 ghost use Rattle.al_yaml.specs.View.{view};
 ghost use Rattle.al_interfaces.specs.Interfaces as interfaces;
 ghost use Rattle.al_interfaces.specs.Interfaces.{input_shown, secret_shown};
+ghost use Rattle.al_interfaces.specs.Private.Names.{AreApart};
 ghost use Rattle.al_declarations.specs.declared.inputs.InputType.TheVariants as type_variant;
 
 use crate::interfaces::{Input, Interface, Role, Secret, Signature};
@@ -66,6 +68,7 @@ fn secret(alloc: Global, member: Member<'_>) -> Result<Secret, AllocError>
 
 /// The inputs that members declare, each of its type.
 fn typed_inputs(alloc: Global, members: &[Member<'_>]) -> Result<InputList, AllocError>
+    requires { AreApart key_of (map member_of members.now) }
     ensures { IfOk result (λ is. is ≡ map (λ e. input_shown (type_declared e.1) e) (map member_of members.now)) }
 {
     let mut inputs = Vec::new(alloc);
@@ -78,6 +81,7 @@ fn typed_inputs(alloc: Global, members: &[Member<'_>]) -> Result<InputList, Allo
 
 /// The inputs that members declare, all strings.
 fn string_inputs(alloc: Global, members: &[Member<'_>]) -> Result<InputList, AllocError>
+    requires { AreApart key_of (map member_of members.now) }
     ensures { IfOk result (λ is. is ≡ map (input_shown type_variant.String) (map member_of members.now)) }
 {
     let mut inputs = Vec::new(alloc);
@@ -90,6 +94,7 @@ fn string_inputs(alloc: Global, members: &[Member<'_>]) -> Result<InputList, All
 
 /// The secrets that members declare.
 fn secrets(alloc: Global, members: &[Member<'_>]) -> Result<SecretList, AllocError>
+    requires { AreApart key_of (map member_of members.now) }
     ensures { IfOk result (λ ss. ss ≡ map secret_shown (map member_of members.now)) }
 {
     let mut secrets = Vec::new(alloc);

@@ -8,5 +8,6 @@ use Rattle.al_interfaces.proofs.lists.InputList.has.Goals as goal
 pub returns : goal.returns
 returns c =
     let name = c.args.name.now in
-    c.is_some.ensures ∙ ap is_some c.in_ok-position.ensures ∙ is_named c.self.inside.inputs.items (name_position c.self.inside.positions) name c.self.invariant.0
+    c.is_some.ensures ∙ ap is_some c.in_ok-position.ensures
+    ∙ is_named (λ (i : Input). i.name) c.self.inside.inputs.items (name_position c.self.inside.positions) name c.self.invariant.0
     ∙ ap (λ (l : List Input). has_input l name) c.self.view_is

@@ -1,9 +1,13 @@
-use Rattle.std.proofs.Common.{List, ap, ◌∙◌}
+use Rattle.std.proofs.Common.{List, ap, is_some, ◌∙◌}
+use Rattle.al_types.specs.Private.Positions.{name_position}
 use Rattle.al_interfaces.specs.declared.interfaces.Secret.{Secret}
 use Rattle.al_interfaces.specs.Names.{has_secret}
+use Rattle.al_interfaces.proofs.Positions.{is_named}
 use Rattle.al_interfaces.proofs.lists.SecretList.has.Goals as goal
 
 pub returns : goal.returns
 returns c =
     let name = c.args.name.now in
-    c.in_ok-found.ensures ∙ ap (λ f. f name) c.self.invariant.0 ∙ ap (λ (l : List Secret). has_secret l name) c.self.view_is
+    c.is_some.ensures ∙ ap is_some c.in_ok-position.ensures
+    ∙ is_named (λ (x : Secret). x.name) c.self.inside.secrets.items (name_position c.self.inside.positions) name c.self.invariant.0
+    ∙ ap (λ (l : List Secret). has_secret l name) c.self.view_is
