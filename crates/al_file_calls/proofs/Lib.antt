@@ -3,3 +3,4 @@ pub mod Short
 pub mod Steps
 pub mod Repeating
 pub mod Sets
+pub mod LaterCalls

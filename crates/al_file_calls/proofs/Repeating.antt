@@ -1,18 +1,15 @@
 -- Calls that say the same have the same faults.
 use Rattle.std.proofs.Common.{◌≡◌, ℕ, List, [], ◌∷◌, ◌++◌, map, refl, sym, subst, ap, ◌∙◌, Option, Some, None, Bool, true, false, cond, find}
-use Rattle.std.specs.Prelude.{Contains, IfSome, ◌&&◌, ◌||◌, bytes_eq, codes, is_some, option_map}
+use Rattle.std.specs.Prelude.{◌&&◌, ◌||◌, bytes_eq, codes, option_map}
 use Rattle.std.specs.Cmp.Lexicographic.{pointwise}
 use Rattle.std.specs.List.{flat_map}
 use Rattle.std.specs.Option.{option_eq, option_map_or}
-use Rattle.std.specs.Str.Lossy.{utf8_lossy}
 use Rattle.std.proofs.lemmas.Bool.{and_parts, eqb-true}
 use Rattle.std.proofs.Math.Dec.{eqb}
 use Rattle.std.proofs.lemmas.Slice.Eq.{bytes_eq-Decides}
-use Rattle.al_base.specs.declared.codes.CallCode.{CallCode}
 use Rattle.al_base.specs.declared.codes.CallCode.TheVariants as code
 use Rattle.al_base.specs.declared.codes.Caller.{Caller}
 use Rattle.al_base.specs.declared.codes.Caller.TheVariants as caller
-use Rattle.al_base.specs.declared.codes.Code.TheVariants as kind_of_code
 use Rattle.al_base.specs.declared.faults.Fault.{Fault}
 use Rattle.al_base.specs.declared.faults.Span.{Span}
 use Rattle.al_base.specs.contracts.faults.SpanPartialEq.TheImpl as span
@@ -32,23 +29,18 @@ use Rattle.al_interfaces.specs.Names.{is_input}
 use Rattle.al_interfaces.specs.declared.interfaces.Interface.{Interface}
 use Rattle.al_interfaces.specs.declared.interfaces.Interface.TheVariants.{Readable, Unreadable}
 use Rattle.al_interfaces.specs.declared.interfaces.Input.{Input}
-use Rattle.al_interfaces.specs.declared.interfaces.Secret.{Secret}
 use Rattle.al_interfaces.specs.declared.interfaces.Signature.{Signature}
 use Rattle.al_interfaces.specs.contracts.interfaces.InterfacePartialEq.TheImpl as interface
 use Rattle.al_interfaces.proofs.Exact.{exact}
 use Rattle.al_uses.specs.Uses.{Call}
-use Rattle.al_uses.specs.declared.forms.Form.{Form}
-use Rattle.al_uses.specs.declared.forms.Form.TheVariants.{Local, Other, Wrong}
-use Rattle.al_base.specs.Growth.{SameSet}
-use Rattle.al_file_calls.proofs.Sets.{set_there}
-use Rattle.al_calls.specs.declared.answers.Answered as code_answers
-use Rattle.al_calls.specs.Private.AnswerViews.{answered_of}
 use Rattle.al_calls.specs.Answers.{Answered, Typing, answered_faults}
-use Rattle.al_calls.specs.CallFaults.{Given, Names, absent_faults, against, answer_faults, called, caller_of, extra_input, extra_secret}
-use Rattle.al_calls.specs.CallFaults.{fault, form_faults, given_names, given_secrets, given_type, input_faults, input_names, is_callable, is_free_for}
-use Rattle.al_calls.specs.CallFaults.{is_inherit, is_missing, is_missing_secret, job_against, missing_input, missing_inputs, missing_secret, missing_secrets}
+use Rattle.al_calls.specs.CallFaults.{Given, Names, absent_faults, against, answer_faults, call_faults, caller_of, extra_input, extra_secret}
+use Rattle.al_calls.specs.CallFaults.{given_names, given_secrets, given_type, input_faults, input_names, is_callable, is_free_for}
+use Rattle.al_calls.specs.CallFaults.{is_inherit, job_against, missing_input, missing_inputs, missing_secret, missing_secrets}
 use Rattle.al_calls.specs.CallFaults.{is_right, secret_faults, secret_names, type_faults, type_name, wrong_input}
-use Rattle.al_file_calls.specs.Private.Repeats.{is_local, repeats, same_entries, same_entry, same_given, same_in_jobs, same_in_steps, same_secrets}
+use Rattle.al_calls.specs.Private.Later.{AreThere, IsAlike, is_local}
+use Rattle.al_calls.proofs.LeftOut.{fault_same, local_faults, missing_same, missing_secret_same, names_same}
+use Rattle.al_file_calls.specs.Private.Repeats.{same_entries, same_entry, same_in_jobs, same_in_steps, same_secrets}
 use Rattle.al_file_calls.specs.Private.Repeats.{same_uses, same_value, same_values, secrets_text, values_in}
 
 text_exact : (a b : List ℕ) → bytes_eq a b ≡ true → a ≡ b
@@ -166,33 +158,18 @@ inherit_same a b e =
 -- ---- calls whose `uses` is the same
 
 module _ (c d : Call) (by : caller_of c ≡ caller_of d) (at : c.at ≡ d.at) (text : text_of c.uses ≡ text_of d.uses) where
-  fault_same : (f : CallCode) (p q : Span) → p ≡ q → (ts us : List (List ℕ)) → ts ≡ us → fault f c p ts ≡ fault f d q us
-  fault_same f p q e ts us h = λ i. record { span = e i; code = kind_of_code.Call f (by i); args = map utf8_lossy (h i) }
-
-  called_same : (s : Signature) → called c s ≡ called d s
-  called_same s = ap (λ t. option_map_or (λ n. n) s.name t) text
-
-  -- a name and how the called file is named
-  names_same : (s : Signature) (m n : List ℕ) → m ≡ n → (m ∷ called c s ∷ []) ≡ (n ∷ called d s ∷ [])
-  names_same s m n e = λ i. e i ∷ called_same s i ∷ []
-
   extra_same : (s : Signature) (shown : Names) (a b : Node × Node) → same_entry a b ≡ true → extra_input c s shown a ≡ extra_input d s shown b
   extra_same s shown a b h =
       let name = key_same a b h in
-      let found = fault_same code.UndefinedInput (span_of a.0) (span_of b.0) (keys_at a b h) _ _ (names_same s (key_of a) (key_of b) name) in
+      let found = fault_same c d by at text code.UndefinedInput (span_of a.0) (span_of b.0) (keys_at a b h) _ _ (names_same c d by at text s (key_of a) (key_of b) name) in
       λ i. cond (shown (name i) || is_free_for (by i) (name i)) [] (found i ∷ [])
-
-  missing_same : (s : Signature) (given : Names) (input : Input) → missing_input c s given input ≡ missing_input d s given input
-  missing_same s given input =
-      let found = fault_same code.MissingInput c.at d.at at _ _ (names_same s input.name input.name refl) in
-      λ i. cond (is_missing given input) (found i ∷ []) []
 
   inputs_same : (s : Signature) (xs ys : List (Node × Node)) → same_entries xs ys ≡ true → input_faults c xs s ≡ input_faults d ys s
   inputs_same s xs ys h =
       let extra = each_same same_entry (extra_input c s (input_names s)) (extra_input d s (input_names s)) (extra_same s (input_names s)) xs ys h in
       let names : names_of xs ≡ names_of ys = maps_same same_entry key_of key_same xs ys h in
       let missing = ap (λ given. flat_map (missing_input c s given) s.inputs) (ap (λ l. named_among l) names) in
-      let missing_then : missing_inputs c (given_names ys) s ≡ missing_inputs d (given_names ys) s = λ i. flat_map (λ input. missing_same s (given_names ys) input i) s.inputs in
+      let missing_then : missing_inputs c (given_names ys) s ≡ missing_inputs d (given_names ys) s = λ i. flat_map (λ input. missing_same c d by at text s (given_names ys) input i) s.inputs in
       let both = missing ∙ missing_then in
       λ i. extra i ++ both i
 
@@ -202,27 +179,22 @@ module _ (c d : Call) (by : caller_of c ≡ caller_of d) (at : c.at ≡ d.at) (t
       let name = key_same v.0 w.0 entry in
       let types : (input : Input) → type_faults c v.0 v.1 input ≡ type_faults d w.0 w.1 input = λ input.
       (let right = right_same v.1 w.1 (forms_same v w h) input.takes in
-      let found = fault_same code.WrongInput (span_of (v.0).1) (span_of (w.0).1) (values_at v.0 w.0 entry) (input.name ∷ type_name input.takes ∷ []) _ refl in
+      let found = fault_same c d by at text code.WrongInput (span_of (v.0).1) (span_of (w.0).1) (values_at v.0 w.0 entry) (input.name ∷ type_name input.takes ∷ []) _ refl in
       λ i. cond (right i) [] (found i ∷ [])) in
       λ i. option_map_or (λ input. types input i) (find (is_input (name i)) inputs) []
 
   extra_secret_same : (s : Signature) (shown : Names) (a b : Node × Node) → same_entry a b ≡ true → extra_secret c s shown a ≡ extra_secret d s shown b
   extra_secret_same s shown a b h =
       let name = key_same a b h in
-      let found = fault_same code.UndefinedSecret (span_of a.0) (span_of b.0) (keys_at a b h) _ _ (names_same s (key_of a) (key_of b) name) in
+      let found = fault_same c d by at text code.UndefinedSecret (span_of a.0) (span_of b.0) (keys_at a b h) _ _ (names_same c d by at text s (key_of a) (key_of b) name) in
       λ i. cond (shown (name i)) [] (found i ∷ [])
-
-  missing_secret_same : (s : Signature) (given : Names) (x : Secret) → missing_secret c s given x ≡ missing_secret d s given x
-  missing_secret_same s given x =
-      let found = fault_same code.MissingSecret c.at d.at at _ _ (names_same s x.name x.name refl) in
-      λ i. cond (is_missing_secret given x) (found i ∷ []) []
 
   given_secrets_same : (s : Signature) (xs ys : List (Node × Node)) → same_entries xs ys ≡ true → given_secrets c xs s ≡ given_secrets d ys s
   given_secrets_same s xs ys h =
       let extra = each_same same_entry (extra_secret c s (secret_names s)) (extra_secret d s (secret_names s)) (extra_secret_same s (secret_names s)) xs ys h in
       let names : names_of xs ≡ names_of ys = maps_same same_entry key_of key_same xs ys h in
       let missing = ap (λ given. flat_map (missing_secret c s given) s.secrets) (ap (λ l. named_among l) names) in
-      let missing_then : missing_secrets c (given_names ys) s ≡ missing_secrets d (given_names ys) s = λ i. flat_map (λ x. missing_secret_same s (given_names ys) x i) s.secrets in
+      let missing_then : missing_secrets c (given_names ys) s ≡ missing_secrets d (given_names ys) s = λ i. flat_map (λ x. missing_secret_same c d by at text s (given_names ys) x i) s.secrets in
       let both = missing ∙ missing_then in
       λ i. extra i ++ both i
 
@@ -235,13 +207,13 @@ module _ (c d : Call) (by : caller_of c ≡ caller_of d) (at : c.at ≡ d.at) (t
 
   absent_same : (k : Caller) → absent_faults c k ≡ absent_faults d k
   absent_same caller.Step = refl
-  absent_same caller.Job = let found = fault_same code.NoWorkflow c.at d.at at (text_of c.uses ∷ []) (text_of d.uses ∷ []) (ap (λ t. t ∷ []) text) in λ i. found i ∷ []
+  absent_same caller.Job = let found = fault_same c d by at text code.NoWorkflow c.at d.at at (text_of c.uses ∷ []) (text_of d.uses ∷ []) (ap (λ t. t ∷ []) text) in λ i. found i ∷ []
 
   answer_same : (answer : Option Interface) (f g : Signature → List Fault) → ((s : Signature) → f s ≡ g s) → answer_faults c answer f ≡ answer_faults d answer g
   answer_same None f g h = absent_same (caller_of c) ∙ ap (absent_faults d) by
   answer_same (Some Unreadable) f g h = refl
   answer_same (Some (Readable s)) f g h =
-      let found = fault_same code.NotCallable c.at d.at at (text_of c.uses ∷ []) (text_of d.uses ∷ []) (ap (λ t. t ∷ []) text) in
+      let found = fault_same c d by at text code.NotCallable c.at d.at at (text_of c.uses ∷ []) (text_of d.uses ∷ []) (ap (λ t. t ∷ []) text) in
       let each = h s in
       λ i. cond (is_callable (by i) s.role) (each i) (found i ∷ [])
 
@@ -261,17 +233,6 @@ entries_same (v ∷ vs) (w ∷ ws) h =
     let first = entry_same v w p.0 in
     let rest = entries_same vs ws p.1 in
     ap (λ b. b && same_entries (map (λ (x : Given). x.0) vs) (map (λ (x : Given). x.0) ws)) first ∙ rest
-
-by_step : (o : Option ℕ) (n : ℕ) → o ≡ Some n → cond (is_some o) caller.Step caller.Job ≡ caller.Step
-by_step o n e = ap (λ x. cond (is_some x) caller.Step caller.Job) e
-
-by_job : (o : Option ℕ) → o ≡ None → cond (is_some o) caller.Step caller.Job ≡ caller.Job
-by_job o e = ap (λ x. cond (is_some x) caller.Step caller.Job) e
-
-local_faults : (f : Form) (c : Call) (answer : Option Interface) (g : Signature → List Fault) → is_local f ≡ true → form_faults f c answer g ≡ answer_faults c answer g
-local_faults (Local t) c answer g h = refl
-local_faults Other c answer g h = absurd cc
-local_faults Wrong c answer g h = absurd cc
 
 module _ (typing : Typing) (a b : Answered) (uses : same_uses a b ≡ true) where
   abbrev named : Bool
@@ -308,28 +269,31 @@ module _ (typing : Typing) (a b : Answered) (uses : same_uses a b ≡ true) wher
   given_by c = values_in typing c
 
   -- calls of one kind, against any file the same
-  alike : (by : caller_of a.call ≡ caller_of b.call) → ((s : Signature) → against (caller_of a.call) a.call (given_by a.call) s ≡ against (caller_of b.call) b.call (given_by b.call) s) →
+  against_alike : (by : caller_of a.call ≡ caller_of b.call) → ((s : Signature) → against (caller_of a.call) a.call (given_by a.call) s ≡ against (caller_of b.call) b.call (given_by b.call) s) →
       answered_faults typing a ≡ answered_faults typing b
-  alike by h =
+  against_alike by h =
       local_faults a.call.form a.call a.answer _ first
       ∙ answer_same a.call b.call by at_same text_same a.answer _ _ h
       ∙ ap (λ answer. answer_faults b.call answer (against (caller_of b.call) b.call (given_by b.call))) answers_same
       ∙ sym (local_faults b.call.form b.call b.answer _ second)
 
-  steps_same : (m n : ℕ) → a.call.site.step ≡ Some m → b.call.site.step ≡ Some n → same_in_steps a.call.node b.call.node ≡ true → answered_faults typing a ≡ answered_faults typing b
-  steps_same m n ea eb h =
-      let bya : caller_of a.call ≡ caller.Step = by_step a.call.site.step m ea in
-      let byb : caller_of b.call ≡ caller.Step = by_step b.call.site.step n eb in
+  -- what the earlier call's faults tell of calls of one kind
+  pub alike : caller_of a.call ≡ caller_of b.call → IsAlike a.call b.call
+  alike by = record { earlier_local = first; local = second; by = by; at = at_same; text = text_same }
+
+  pub earlier_there : (out : List Fault) → AreThere (answered_faults typing a) out → AreThere (call_faults a.call (given_by a.call) b.answer) out
+  earlier_there out there = subst (λ answer. AreThere (call_faults a.call (given_by a.call) answer) out) answers_same there
+
+  pub steps_same : caller_of a.call ≡ caller.Step → caller_of b.call ≡ caller.Step → same_in_steps a.call.node b.call.node ≡ true → answered_faults typing a ≡ answered_faults typing b
+  steps_same bya byb h =
       let by : caller_of a.call ≡ caller_of b.call = bya ∙ sym byb in
-      alike by (λ s.
+      against_alike by (λ s.
       ap (λ k. against k a.call (given_by a.call) s) bya
       ∙ inputs_same a.call b.call by at_same text_same s _ _ h
       ∙ sym (ap (λ k. against k b.call (given_by b.call) s) byb))
 
-  jobs_same : a.call.site.step ≡ None → b.call.site.step ≡ None → same_in_jobs typing a.call b.call ≡ true → answered_faults typing a ≡ answered_faults typing b
-  jobs_same ea eb h =
-      let bya : caller_of a.call ≡ caller.Job = by_job a.call.site.step ea in
-      let byb : caller_of b.call ≡ caller.Job = by_job b.call.site.step eb in
+  pub jobs_same : caller_of a.call ≡ caller.Job → caller_of b.call ≡ caller.Job → same_in_jobs typing a.call b.call ≡ true → answered_faults typing a ≡ answered_faults typing b
+  jobs_same bya byb h =
       let by : caller_of a.call ≡ caller_of b.call = bya ∙ sym byb in
       let p = and_parts (same_secrets a.call.node b.call.node) (same_values (given_by a.call) (given_by b.call)) h in
       let va = entries_of (given_type (typing a.call.site)) (entries_at (codes "with") a.call.node) in
@@ -337,29 +301,9 @@ module _ (typing : Typing) (a b : Answered) (uses : same_uses a b ≡ true) wher
       let moved : same_entries (map (λ (v : Given). v.0) (given_by a.call)) (map (λ (v : Given). v.0) (given_by b.call))
       ≡ same_entries (entries_at (codes "with") a.call.node) (entries_at (codes "with") b.call.node) = λ i. same_entries (va i) (vb i) in
       let entries = sym moved ∙ entries_same (given_by a.call) (given_by b.call) p.1 in
-      alike by (λ s.
+      against_alike by (λ s.
       let inputs = inputs_same a.call b.call by at_same text_same s _ _ entries in
       let wrong = each_same same_value (wrong_input a.call s.inputs) (wrong_input b.call s.inputs) (wrong_same a.call b.call by at_same text_same s.inputs) _ _ p.1 in
       let secret = secrets_same a.call b.call by at_same text_same s a.call.node b.call.node p.0 in
       let all : job_against a.call (given_by a.call) s ≡ job_against b.call (given_by b.call) s = λ i. inputs i ++ wrong i ++ secret i in
       ap (λ k. against k a.call (given_by a.call) s) bya ∙ all ∙ sym (ap (λ k. against k b.call (given_by b.call) s) byb))
-
-  given_same : (o p : Option ℕ) → a.call.site.step ≡ o → b.call.site.step ≡ p → same_given typing a.call b.call o p ≡ true → answered_faults typing a ≡ answered_faults typing b
-  given_same (Some m) (Some n) ea eb h = steps_same m n ea eb h
-  given_same None None ea eb h = jobs_same ea eb h
-  given_same (Some m) None ea eb h = absurd cc
-  given_same None (Some n) ea eb h = absurd cc
-
-pub same_faults : (typing : Typing) (a b : Answered) → repeats typing a b ≡ true → answered_faults typing a ≡ answered_faults typing b
-same_faults typing a b h =
-    let p = and_parts (same_uses a b) (same_given typing a.call b.call a.call.site.step b.call.site.step) h in
-    given_same typing a b p.0 a.call.site.step b.call.site.step refl refl p.1
-
--- what a call says again is there, where the faults of the earlier one are
-pub repeated_there : (typing : Typing) (o : Option code_answers.Answered) (b : Answered) (out : List Fault) →
-    option_map_or (λ a. repeats typing (answered_of a) b) o false ≡ true →
-    IfSome o (λ a. (f : Fault) → Contains (answered_faults typing (answered_of a)) f → Contains out f) →
-    SameSet out (out ++ answered_faults typing b)
-repeated_there typing None b out h there = absurd cc
-repeated_there typing (Some a) b out h there =
-    set_there out (answered_faults typing b) (λ f c. there f (subst (λ l. Contains l f) (sym (same_faults typing (answered_of a) b h)) c))

@@ -1,7 +1,7 @@
 //! The faults of the calls of a file.
-ghost use Rattle.std.specs.Prelude.{◌≡◌, ◌++◌, map, false, All, Contains, IfOk, IfSome, OnOk, Some};
-ghost use Rattle.std.specs.Option.{option_map_or};
+ghost use Rattle.std.specs.Prelude.{◌≡◌, ◌++◌, map, false, true, is_some, All, Contains, IfSome, OnOk, Some};
 ghost use Rattle.al_calls.specs.Private.AnswerViews.{answered_of};
+ghost use Rattle.al_calls.specs.Private.Later.{AreThere};
 ghost use Rattle.al_calls.specs.Answers.{answered_faults};
 ghost use Rattle.al_contexts.specs.Answered.{known_of};
 ghost use Rattle.al_contexts.specs.Private.Standing.{Stands};
@@ -11,11 +11,12 @@ ghost use Rattle.al_base.specs.Growth.{SameSet};
 ghost use Rattle.al_base.specs.declared.faults.Fault.{Fault};
 ghost use Rattle.al_yaml.specs.View.{view};
 
-use crate::repeats::repeats;
+use crate::repeats::{same_in_jobs, same_in_steps, same_uses};
 use crate::values::job_values;
 use al_base::{Fault, ordered};
-use al_calls::{Answered, check_call};
+use al_calls::{Answered, check_call, check_later_call, is_inherit};
 use al_contexts::{Env, File};
+use al_uses::Call;
 use std::alloc::{AllocError, Global};
 use std::collections::BTreeMap;
 use std::mem::replace;
@@ -93,29 +94,100 @@ fn once_each(alloc: Global, room: usize, out: &mut Vec<Fault>) -> usize
     out.len().saturating_mul(2).saturating_add(ROOM)
 }
 
-/// Whether a call says again what this earlier one says, if there is one.
-fn is_repeated<'a>(
+/// Adds the faults of a step's call behind an earlier one by the same `uses`, whose faults are there.
+fn check_later_step<'a>(
+    alloc: Global,
+    file: File<'a>,
+    earlier: Answered<'a>,
+    answered: Answered<'a>,
+    out: &mut Vec<Fault>,
+) -> Result<(), AllocError>
+    requires uses { repeating.same_uses (answered_of earlier) (answered_of answered) ≡ true }
+    requires earlier_step { is_some earlier.call.now.site.step ≡ true }
+    requires step { is_some answered.call.now.site.step ≡ true }
+    requires there { AreThere (answered_faults (typing file.kind (known_of file.known.now) (view file.root.now)) (answered_of earlier)) out.old.items }
+    ensures { OnOk result (SameSet out.new.items (out.old.items
+        ++ answered_faults (typing (file.entry).kind (known_of (file.entry).known.now) (view (file.entry).root.now))
+        (answered_of answered.entry))) }
+{
+    if same_in_steps(alloc, earlier.call.node, answered.call.node)? {
+        return Ok(());
+    }
+    check_later_call(
+        alloc,
+        earlier.call,
+        answered.call,
+        &[],
+        answered.answer,
+        out,
+    )
+}
+
+/// Adds the faults of a job's call behind an earlier one by the same `uses`, whose faults are there.
+fn check_later_job<'a>(
     alloc: Global,
     file: File<'a>,
     env: &mut Env<'a>,
-    earlier: Option<Answered<'a>>,
+    earlier: Answered<'a>,
     answered: Answered<'a>,
-) -> Result<bool, AllocError>
+    out: &mut Vec<Fault>,
+) -> Result<(), AllocError>
     requires stands { Stands file env.old }
     requires short { AreShort (view answered.call.now.node.now) }
-    requires earlier_short { IfSome earlier (λ a. AreShort (view a.call.now.node.now)) }
+    requires earlier_short { AreShort (view earlier.call.now.node.now) }
+    requires uses { repeating.same_uses (answered_of earlier) (answered_of answered) ≡ true }
+    requires earlier_job { is_some earlier.call.now.site.step ≡ false }
+    requires job { is_some answered.call.now.site.step ≡ false }
+    requires there { AreThere (answered_faults (typing file.kind (known_of file.known.now) (view file.root.now)) (answered_of earlier)) out.old.items }
     ensures stands { OnOk result (Stands file.entry env.new) }
-    ensures same { IfOk result (λ same. same ≡ option_map_or
-        (λ a. repeating.repeats (typing (file.entry).kind (known_of (file.entry).known.now) (view (file.entry).root.now))
-        (answered_of a) (answered_of answered.entry)) earlier.entry false) }
+    ensures faults { OnOk result (SameSet out.new.items (out.old.items
+        ++ answered_faults (typing (file.entry).kind (known_of (file.entry).known.now) (view (file.entry).root.now))
+        (answered_of answered.entry))) }
 {
-    match earlier {
-        None => Ok(false),
-        Some(earlier) => repeats(alloc, file, env, earlier, answered),
+    if same_in_jobs(alloc, file, env, earlier.call, answered.call)? {
+        return Ok(());
+    }
+    let values = job_values(alloc, file, env, answered.call)?;
+    check_later_call(
+        alloc,
+        earlier.call,
+        answered.call,
+        values.as_slice(),
+        answered.answer,
+        out,
+    )
+}
+
+/// Adds the faults of a call behind an earlier one, whose faults are there.
+fn check_later<'a>(
+    alloc: Global,
+    file: File<'a>,
+    env: &mut Env<'a>,
+    earlier: Answered<'a>,
+    answered: Answered<'a>,
+    out: &mut Vec<Fault>,
+) -> Result<(), AllocError>
+    requires stands { Stands file env.old }
+    requires short { AreShort (view answered.call.now.node.now) }
+    requires earlier_short { AreShort (view earlier.call.now.node.now) }
+    requires there { AreThere (answered_faults (typing file.kind (known_of file.known.now) (view file.root.now)) (answered_of earlier)) out.old.items }
+    ensures stands { OnOk result (Stands file.entry env.new) }
+    ensures faults { OnOk result (SameSet out.new.items (out.old.items
+        ++ answered_faults (typing (file.entry).kind (known_of (file.entry).known.now) (view (file.entry).root.now))
+        (answered_of answered.entry))) }
+{
+    if !same_uses(earlier, answered) {
+        return check_answered(alloc, file, env, answered, out);
+    }
+    match (earlier.call.site.step, answered.call.site.step) {
+        (Some(_), Some(_)) => check_later_step(alloc, file, earlier, answered, out),
+        (None, None) => check_later_job(alloc, file, env, earlier, answered, out),
+        _ => check_answered(alloc, file, env, answered, out),
     }
 }
 
-/// Adds the faults of a call, unless it says again what an earlier one says, whose faults are there.
+/// Adds the faults of a call. Where an earlier one by the same `uses` is known, whose faults are there, those that are equal to them are
+/// mostly left out.
 fn check_unrepeated<'a>(
     alloc: Global,
     file: File<'a>,
@@ -134,21 +206,40 @@ fn check_unrepeated<'a>(
         ++ answered_faults (typing (file.entry).kind (known_of (file.entry).known.now) (view (file.entry).root.now))
         (answered_of answered.entry))) }
 {
-    if is_repeated(alloc, file, env, earlier, answered)? {
-        return Ok(());
+    match earlier {
+        None => check_answered(alloc, file, env, answered, out),
+        Some(earlier) => check_later(alloc, file, env, earlier, answered, out),
     }
-    check_answered(alloc, file, env, answered, out)
 }
 
-/// Of these calls the latest one whose `uses` begins at a place, if there is one.
+/// Calls whose `uses` begins at one place are compared with those alone that lack the same of what a file shows: steps with steps, jobs
+/// with jobs, and apart from these the jobs that inherit their secrets, which lack none.
+#[derive(Clone, Copy, PartialEq, Eq, PartialOrd, Ord)]
+enum Giver {
+    Step,
+    Job,
+    Heir,
+}
+
+fn giver_of(call: &Call<'_>) -> Giver {
+    if call.site.step.is_some() {
+        Giver::Step
+    } else if is_inherit(call.node) {
+        Giver::Heir
+    } else {
+        Giver::Job
+    }
+}
+
+/// Of these calls the latest one of those that give alike whose `uses` begins at a place, if there is one.
 fn earlier_at<'a>(
-    latest: &BTreeMap<u32, usize>,
+    latest: &BTreeMap<(u32, Giver), usize>,
     calls: &[Answered<'a>],
-    start: u32,
+    place: (u32, Giver),
 ) -> Option<Answered<'a>>
     ensures { IfSome result (λ a. Contains calls.now a) }
 {
-    let position = latest.get(&start).copied()?;
+    let position = latest.get(&place).copied()?;
     calls.get(position).copied()
 }
 
@@ -170,10 +261,10 @@ pub(crate) fn check_calls<'a>(
     for i in 0..answered.len() {
         let (before, _) = answered.split_at(i);
         let one = answered[i];
-        let start = one.call.uses.span.start;
-        let earlier = earlier_at(&latest, before, start);
+        let place = (one.call.uses.span.start, giver_of(one.call));
+        let earlier = earlier_at(&latest, before, place);
         check_unrepeated(alloc, file, env, earlier, one, out)?;
-        latest.insert(start, i)?;
+        latest.insert(place, i)?;
         room = once_each(alloc, room, out);
     }
     Ok(())

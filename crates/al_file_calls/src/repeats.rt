@@ -2,6 +2,7 @@
 ghost use Rattle.std.specs.Prelude.{◌≡◌, map, IfOk, OnOk};
 ghost use Rattle.std.specs.Option.{option_copied, option_eq};
 ghost use Rattle.al_calls.specs.Private.AnswerViews.{answered_of, given_of};
+ghost use Rattle.al_calls.specs.Private.Later.{is_local};
 ghost use Rattle.al_contexts.specs.Answered.{known_of};
 ghost use Rattle.al_contexts.specs.Private.Standing.{Stands};
 ghost use Rattle.al_file_calls.specs.FileCalls.{AreShort, typing};
@@ -83,7 +84,7 @@ fn same_secrets(alloc: Global, a: &Node, b: &Node) -> Result<bool, AllocError>
 }
 
 fn is_local(form: &Form) -> bool
-    ensures { result ≡ repeats.is_local form.now }
+    ensures { result ≡ is_local form.now }
 {
     match form {
         Form::Local(_) => true,
@@ -102,7 +103,8 @@ fn same_answer(a: Option<&Interface>, b: Option<&Interface>) -> bool
     }
 }
 
-fn same_uses(a: Answered<'_>, b: Answered<'_>) -> bool
+/// Whether two calls name the same file of the folder at the same place, and are answered the same.
+pub(crate) fn same_uses(a: Answered<'_>, b: Answered<'_>) -> bool
     ensures { result ≡ repeats.same_uses (answered_of a.entry) (answered_of b.entry) }
 {
     let first = a.call;
@@ -114,7 +116,8 @@ fn same_uses(a: Answered<'_>, b: Answered<'_>) -> bool
         && same_answer(a.answer, b.answer)
 }
 
-fn same_in_steps(alloc: Global, a: &Node, b: &Node) -> Result<bool, AllocError>
+/// Whether two steps give the same.
+pub(crate) fn same_in_steps(alloc: Global, a: &Node, b: &Node) -> Result<bool, AllocError>
     ensures { IfOk result (λ same. same ≡ repeats.same_in_steps (view a.now) (view b.now)) }
 {
     let first = members_under(alloc, a, "with")?;
@@ -123,7 +126,7 @@ fn same_in_steps(alloc: Global, a: &Node, b: &Node) -> Result<bool, AllocError>
 }
 
 /// Whether two jobs give the same; the environment goes to where the values stand.
-fn same_in_jobs<'a>(
+pub(crate) fn same_in_jobs<'a>(
     alloc: Global,
     file: File<'a>,
     env: &mut Env<'a>,
@@ -144,31 +147,4 @@ fn same_in_jobs<'a>(
     let first = job_values(alloc, file, env, a)?;
     let second = job_values(alloc, file, env, b)?;
     Ok(same_values(first.as_slice(), second.as_slice()))
-}
-
-/// Whether a call says again what another one says: it names the same file at the same place, is answered the same, and gives the
-/// same. Then it has the same faults. The environment goes to where the values stand.
-pub(crate) fn repeats<'a>(
-    alloc: Global,
-    file: File<'a>,
-    env: &mut Env<'a>,
-    a: Answered<'a>,
-    b: Answered<'a>,
-) -> Result<bool, AllocError>
-    requires stands { Stands file env.old }
-    requires first_short { AreShort (view a.call.now.node.now) }
-    requires second_short { AreShort (view b.call.now.node.now) }
-    ensures stands { OnOk result (Stands file.entry env.new) }
-    ensures same { IfOk result (λ same. same
-        ≡ repeats.repeats (typing (file.entry).kind (known_of (file.entry).known.now) (view (file.entry).root.now))
-        (answered_of a.entry) (answered_of b.entry)) }
-{
-    if !same_uses(a, b) {
-        return Ok(false);
-    }
-    match (a.call.site.step, b.call.site.step) {
-        (Some(_), Some(_)) => same_in_steps(alloc, a.call.node, b.call.node),
-        (None, None) => same_in_jobs(alloc, file, env, a.call, b.call),
-        _ => Ok(false),
-    }
 }

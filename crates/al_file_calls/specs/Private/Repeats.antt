@@ -1,5 +1,5 @@
 -- Calls that say again what an earlier one says, as those behind aliases do: all that the faults of a call are told by is equal.
-use Rattle.std.specs.Prelude.{ℕ, List, Bool, true, false, ◌&&◌, codes, Option, Some, None, option_map}
+use Rattle.std.specs.Prelude.{ℕ, List, Bool, ◌&&◌, codes, Option, option_map}
 use Rattle.std.specs.Cmp.Lexicographic.{pointwise}
 use Rattle.std.specs.Option.{option_eq}
 use Rattle.std.specs.Str.{bytes_eq}
@@ -12,10 +12,9 @@ use Rattle.al_shape.specs.Keys.{key_of}
 use Rattle.al_shape.specs.Values.{entries_at, text_at}
 use Rattle.al_interfaces.specs.contracts.interfaces.InterfacePartialEq.TheImpl as interface
 use Rattle.al_uses.specs.Uses.{Call}
-use Rattle.al_uses.specs.declared.forms.Form.{Form}
-use Rattle.al_uses.specs.declared.forms.Form.TheVariants.{Local, Other, Wrong}
 use Rattle.al_calls.specs.Answers.{Answered, Typing}
 use Rattle.al_calls.specs.CallFaults.{Given, values_of}
+use Rattle.al_calls.specs.Private.Later.{is_local}
 
 -- Of an entry the text of its key, and where key and value stand.
 abbrev pub same_entry : Node × Node → Node × Node → Bool
@@ -41,11 +40,6 @@ abbrev pub same_secrets : Node → Node → Bool
 same_secrets a b =
     option_eq bytes_eq (secrets_text a) (secrets_text b) && same_entries (entries_at (codes "secrets") a) (entries_at (codes "secrets") b)
 
-abbrev pub is_local : Form → Bool
-is_local (Local t) = true
-is_local Other = false
-is_local Wrong = false
-
 -- Of two calls of files of the folder the place and the text of `uses`, and what answers.
 abbrev pub same_uses : Answered → Answered → Bool
 same_uses a b =
@@ -61,12 +55,3 @@ values_in typing c = values_of (typing c.site) (entries_at (codes "with") c.node
 
 abbrev pub same_in_jobs : Typing → Call → Call → Bool
 same_in_jobs typing a b = same_secrets a.node b.node && same_values (values_in typing a) (values_in typing b)
-
--- steps beside steps and jobs beside jobs
-abbrev pub same_given : Typing → Call → Call → Option ℕ → Option ℕ → Bool
-same_given typing a b (Some m) (Some n) = same_in_steps a.node b.node
-same_given typing a b None None = same_in_jobs typing a b
-same_given typing a b _ _ = false
-
-abbrev pub repeats : Typing → Answered → Answered → Bool
-repeats typing a b = same_uses a b && same_given typing a.call b.call a.call.site.step b.call.site.step
