@@ -36,8 +36,8 @@ use Rattle.al_uses.specs.declared.forms.Form.TheVariants.{Local, Other, Wrong}
 use Rattle.al_calls.specs.CallFaults.{Given, Names, against, answer_faults, at_uses, call_faults, called, caller_of, extra_inputs, extra_secrets}
 use Rattle.al_calls.specs.CallFaults.{fault, form_faults, given_names, given_secrets, input_faults, input_names, is_callable, is_inherit, is_missing}
 use Rattle.al_calls.specs.CallFaults.{is_missing_secret, missing_input, missing_inputs, missing_secret, missing_secrets, secret_faults, secret_names, that_uses, wrong_inputs}
-use Rattle.al_calls.specs.Private.Later.{AreThere, IsAlike, given_later, inputs_left_out, is_local, later_against, later_inputs}
-use Rattle.al_calls.specs.Private.Later.{later_secrets, secrets_left_out}
+use Rattle.al_calls.specs.Private.Later.{AreThere, IsAlike, inputs_left_out, is_local, later_against, later_inputs}
+use Rattle.al_calls.specs.Private.Later.{later_secrets, secrets_given_later, secrets_left_out}
 
 -- ---- elements of lists that are made element by element
 
@@ -176,7 +176,7 @@ module _ (c d : Call) (by : caller_of c ≡ caller_of d) (at : c.at ≡ d.at) (t
         (left_out_suffice (λ (i : Input). i.name) is_mandatory (λ (i : Input). at_uses code.MissingInput d (i.name ∷ called d s ∷ [])) s.inputs finds old xs (given_names ys)
         (subst (λ fs. AreThere fs old) same (there_right (extra_inputs c (input_names s) xs s) (missing_inputs c (given_names xs) s) old there)))
 
-    given_suffice : FindsEachSecret s.secrets → (xs ys : List (Node × Node)) → AreThere (given_secrets c xs s) old → Suffice old (given_later d xs ys s) (given_secrets d ys s)
+    given_suffice : FindsEachSecret s.secrets → (xs ys : List (Node × Node)) → AreThere (given_secrets c xs s) old → Suffice old (secrets_given_later d xs ys s) (given_secrets d ys s)
     given_suffice finds xs ys there =
         let same : missing_secrets c (given_names xs) s ≡ missing_secrets d (given_names xs) s = λ i. flat_map (λ x. missing_secret_same s (given_names xs) x i) s.secrets in
         both_suffice old (extra_secrets d (secret_names s) ys s) (extra_secrets d (secret_names s) ys s) (secrets_left_out d (given_names ys) xs s) (missing_secrets d (given_names ys) s)
@@ -194,7 +194,7 @@ module _ (c d : Call) (by : caller_of c ≡ caller_of d) (at : c.at ≡ d.at) (t
     secrets_suffice finds there =
         let xs = entries_at (codes "secrets") c.node in
         let ys = entries_at (codes "secrets") d.node in
-        unless_inherited (is_inherit c.node) (is_inherit d.node) (given_later d xs ys s) (given_secrets d ys s) (given_secrets c xs s) there (given_suffice finds xs ys)
+        unless_inherited (is_inherit c.node) (is_inherit d.node) (secrets_given_later d xs ys s) (given_secrets d ys s) (given_secrets c xs s) there (given_suffice finds xs ys)
 
     against_suffice : (k : Caller) (before values : List Given) → FindsEachInput s.inputs → FindsEachSecret s.secrets → AreThere (against k c before s) old →
         Suffice old (later_against k c d values s) (against k d values s)

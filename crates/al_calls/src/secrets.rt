@@ -232,7 +232,7 @@ fn check_secrets_left_out(
 }
 
 /// C5, and C6 of what the earlier call gives.
-fn check_given_later(
+fn check_secrets_given_later(
     alloc: Global,
     call: &Call<'_>,
     earlier: &[Member<'_>],
@@ -241,7 +241,7 @@ fn check_given_later(
     out: &mut Vec<Fault>,
 ) -> Result<(), AllocError>
     ensures ok { OnOk result (out.new.items ≡ out.old.items
-        ++ later.given_later (call_of call.now) (map member_of earlier.now) (map member_of given.now) signature.now) }
+        ++ later.secrets_given_later (call_of call.now) (map member_of earlier.now) (map member_of given.now) signature.now) }
     ensures begins { BeginsWith out.new.items out.old.items }
 {
     check_extra_secrets(alloc, call, given, signature, out)?;
@@ -250,7 +250,7 @@ fn check_given_later(
 }
 
 /// The same of a job that may inherit its secrets, behind one that doesn't.
-fn check_later_given(
+fn check_secrets_unless_inherited(
     alloc: Global,
     call: &Call<'_>,
     earlier: &Node,
@@ -258,7 +258,7 @@ fn check_later_given(
     out: &mut Vec<Fault>,
 ) -> Result<(), AllocError>
     ensures ok { OnOk result (out.new.items ≡ out.old.items
-        ++ later.later_given (call_of call.now) (view earlier.now) (call_of call.now).node signature.now) }
+        ++ later.secrets_unless_inherited (call_of call.now) (view earlier.now) (call_of call.now).node signature.now) }
     ensures begins { BeginsWith out.new.items out.old.items }
 {
     let job = call.node;
@@ -267,7 +267,7 @@ fn check_later_given(
     }
     let before = members_under(alloc, earlier, "secrets")?;
     let given = members_under(alloc, job, "secrets")?;
-    check_given_later(
+    check_secrets_given_later(
         alloc,
         call,
         before.as_slice(),
@@ -292,5 +292,5 @@ pub(crate) fn check_later_secrets(
     if is_inherit(earlier) {
         return check_secrets(alloc, call, signature, out);
     }
-    check_later_given(alloc, call, earlier, signature, out)
+    check_secrets_unless_inherited(alloc, call, earlier, signature, out)
 }

@@ -105,7 +105,8 @@ fn check_later_step<'a>(
     requires uses { repeating.same_uses (answered_of earlier) (answered_of answered) ≡ true }
     requires earlier_step { is_some earlier.call.now.site.step ≡ true }
     requires step { is_some answered.call.now.site.step ≡ true }
-    requires there { AreThere (answered_faults (typing file.kind (known_of file.known.now) (view file.root.now)) (answered_of earlier)) out.old.items }
+    requires there { AreThere (answered_faults (typing file.kind (known_of file.known.now) (view file.root.now))
+        (answered_of earlier)) out.old.items }
     ensures { OnOk result (SameSet out.new.items (out.old.items
         ++ answered_faults (typing (file.entry).kind (known_of (file.entry).known.now) (view (file.entry).root.now))
         (answered_of answered.entry))) }
@@ -138,7 +139,8 @@ fn check_later_job<'a>(
     requires uses { repeating.same_uses (answered_of earlier) (answered_of answered) ≡ true }
     requires earlier_job { is_some earlier.call.now.site.step ≡ false }
     requires job { is_some answered.call.now.site.step ≡ false }
-    requires there { AreThere (answered_faults (typing file.kind (known_of file.known.now) (view file.root.now)) (answered_of earlier)) out.old.items }
+    requires there { AreThere (answered_faults (typing file.kind (known_of file.known.now) (view file.root.now))
+        (answered_of earlier)) out.old.items }
     ensures stands { OnOk result (Stands file.entry env.new) }
     ensures faults { OnOk result (SameSet out.new.items (out.old.items
         ++ answered_faults (typing (file.entry).kind (known_of (file.entry).known.now) (view (file.entry).root.now))
@@ -170,7 +172,8 @@ fn check_later<'a>(
     requires stands { Stands file env.old }
     requires short { AreShort (view answered.call.now.node.now) }
     requires earlier_short { AreShort (view earlier.call.now.node.now) }
-    requires there { AreThere (answered_faults (typing file.kind (known_of file.known.now) (view file.root.now)) (answered_of earlier)) out.old.items }
+    requires there { AreThere (answered_faults (typing file.kind (known_of file.known.now) (view file.root.now))
+        (answered_of earlier)) out.old.items }
     ensures stands { OnOk result (Stands file.entry env.new) }
     ensures faults { OnOk result (SameSet out.new.items (out.old.items
         ++ answered_faults (typing (file.entry).kind (known_of (file.entry).known.now) (view (file.entry).root.now))

@@ -1,5 +1,6 @@
 -- Of names that are equal but for ASCII case the first alone is declared: so each element is the one that its name finds.
-use Rattle.std.proofs.Common.{◌≡◌, ◌<◌, ◌≤◌, ◌∙◌, ℕ, zero, suc, List, [], ◌∷◌, ◌++◌, Bool, true, false, Some, cond, find, length, get_or, drop, map, None, Option, ap, append-nil, arith, refl, subst, sym}
+use Rattle.std.proofs.Common.{◌≡◌, ◌<◌, ◌≤◌, ◌∙◌, ℕ, zero, suc, List, [], ◌∷◌, ◌++◌, Bool, true, false}
+use Rattle.std.proofs.Common.{Some, cond, find, length, get_or, drop, map, None, Option, ap, append-nil, arith, refl, subst, sym}
 use Rattle.std.proofs.lemmas.List.{drop_all}
 use Rattle.std.specs.List.{All, AllByRecursion}
 use Rattle.std.specs.Option.{option_map_or}

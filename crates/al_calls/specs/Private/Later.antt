@@ -51,22 +51,23 @@ secrets_left_out d given earlier s = flat_map (secret_left_out d s given) earlie
 abbrev pub later_inputs : Call → List (Node × Node) → List (Node × Node) → Signature → List Fault
 later_inputs d earlier given s = extra_inputs d (input_names s) given s ++ inputs_left_out d (given_names given) earlier s
 
-abbrev pub given_later : Call → List (Node × Node) → List (Node × Node) → Signature → List Fault
-given_later d earlier given s = extra_secrets d (secret_names s) given s ++ secrets_left_out d (given_names given) earlier s
+-- of two jobs that give their secrets; then of a job that may inherit them, behind one that gives them
+abbrev pub secrets_given_later : Call → List (Node × Node) → List (Node × Node) → Signature → List Fault
+secrets_given_later d earlier given s = extra_secrets d (secret_names s) given s ++ secrets_left_out d (given_names given) earlier s
 
-abbrev pub later_given : Call → Node → Node → Signature → List Fault
-later_given d earlier job s = if is_inherit job then [] else given_later d (entries_at (codes "secrets") earlier) (entries_at (codes "secrets") job) s
+abbrev pub secrets_unless_inherited : Call → Node → Node → Signature → List Fault
+secrets_unless_inherited d earlier job s =
+    if is_inherit job then [] else secrets_given_later d (entries_at (codes "secrets") earlier) (entries_at (codes "secrets") job) s
 
 -- a job that inherits its secrets lacks none, which tells nothing of the others
 abbrev pub later_secrets : Call → Node → Node → Signature → List Fault
-later_secrets d earlier job s = if is_inherit earlier then secret_faults d job s else later_given d earlier job s
+later_secrets d earlier job s = if is_inherit earlier then secret_faults d job s else secrets_unless_inherited d earlier job s
 
 abbrev pub later_step : Call → Call → Signature → List Fault
 later_step c d s = later_inputs d (entries_at (codes "with") c.node) (entries_at (codes "with") d.node) s
 
 abbrev pub later_job : Call → Call → List Given → Signature → List Fault
-later_job c d values s =
-    later_inputs d (entries_at (codes "with") c.node) (entries_at (codes "with") d.node) s ++ wrong_inputs d values s ++ later_secrets d c.node d.node s
+later_job c d values s = later_step c d s ++ wrong_inputs d values s ++ later_secrets d c.node d.node s
 
 abbrev pub later_against : Caller → Call → Call → List Given → Signature → List Fault
 later_against caller.Step c d values = later_step c d

@@ -7,14 +7,16 @@ use Rattle.al_interfaces.proofs.lists.InputList.named.Goals as goal
 
 pub index-requires : goal.index-requires
 index-requires c =
-    let within = position_within (λ (i : Input). i.name) c.self.inside.inputs.items (name_position c.self.inside.positions) c.args.name.now c.in-Some.i c.self.invariant.0 (sym c.in-Some.is ∙ c.in_ok-i.ensures) in
+    let within = position_within (λ (i : Input). i.name) c.self.inside.inputs.items (name_position c.self.inside.positions) c.args.name.now c.in-Some.i
+    c.self.invariant.0 (sym c.in-Some.is ∙ c.in_ok-i.ensures) in
     omega (arith, within, c.self.inside.inputs.ok.0)
 
 pub returns-in-Some : goal.returns-in-Some
 returns-in-Some c =
     let name = c.args.name.now in
     ap Some c.index.ensures
-    ∙ named_at (λ (i : Input). i.name) c.self.inside.inputs.items (name_position c.self.inside.positions) name c.in-Some.i c.index.result.now c.self.invariant.0 (sym c.in-Some.is ∙ c.in_ok-i.ensures)
+    ∙ named_at (λ (i : Input). i.name) c.self.inside.inputs.items (name_position c.self.inside.positions) name c.in-Some.i c.index.result.now
+    c.self.invariant.0 (sym c.in-Some.is ∙ c.in_ok-i.ensures)
     ∙ ap (λ (l : List Input). find (is_input name) l) c.self.view_is
 
 pub returns-in-None : goal.returns-in-None
