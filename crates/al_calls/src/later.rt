@@ -107,9 +107,8 @@ fn check_later_callable(
     check_later_against(alloc, earlier, call, values, signature, out)
 }
 
-/// Adds the faults of a call, given an earlier call by the same `uses` that is answered the same, whose faults are there: then those are
-/// left out that the two share since both lack the same. So a call takes the time that goes over what the two give, and not over all that
-/// each call has to give.
+/// Adds the faults of a call, given an earlier call by the same `uses` that is answered the same, whose faults are there. What both lack is
+/// said there already, and isn't looked at: so a call takes time by what the two give, and not by all that each call has to give.
 ///
 /// Fails with `AllocError` for want of memory; the list then begins with what it held.
 pub fn check_later_call(
