@@ -1,7 +1,6 @@
 -- The types of contexts outside the jobs of a file.
 use Rattle.std.proofs.Common.{◌≡◌, refl, sym, ◌∙◌}
 use Rattle.al_types.specs.Types.{Any}
-use Rattle.al_types.specs.IndexedTypes.{indexed_type}
 use Rattle.al_types.specs.TypeViews.{ty_of}
 use Rattle.al_types.specs.declared.scope.ContextTypes.{ContextTypes}
 use Rattle.al_yaml.specs.Node.{Node}
@@ -30,7 +29,7 @@ matrix_apart : (k : FileKind) (root : Node) → matrix_in k root apart ≡ Any
 matrix_apart kind.Workflow root = refl
 matrix_apart kind.Action root = refl
 
-pub of_start : (f : File) (ts : ContextTypes) → ty_of ts.strategy ≡ Any → indexed_type ts.needs ≡ Any → indexed_type ts.jobs ≡ Any → indexed_type ts.matrix ≡ Any → OfSection f ts apart
+pub of_start : (f : File) (ts : ContextTypes) → ty_of ts.strategy ≡ Any → ty_of ts.needs ≡ Any → ty_of ts.jobs ≡ Any → ty_of ts.matrix ≡ Any → OfSection f ts apart
 of_start f ts a b c d = record {
   strategy = a ∙ sym (strategy_apart f.kind (view f.root.now));
   needs = b ∙ sym (needs_apart f.kind (known_of f.known.now) (view f.root.now));

@@ -44,6 +44,7 @@ any_alone code.Bool e n = cc
 any_alone code.String e n = cc
 any_alone (code.Array' p t) e n = cc
 any_alone (code.Object' p (code.Listed (Listing' s f r))) e n = cc
+any_alone (code.Object' p (code.Named' ns s ts)) e n = cc
 any_alone (code.Object' p (code.Strings ns)) e n = cc
 any_alone (code.Fused' p s os) e n = cc
 
@@ -65,8 +66,8 @@ some_strategy k root s t e = subst IsStrategy (sym e) (strategy_in_section k roo
 -- of a workflow's section
 pub of_workflow : (f : File) (ts : ContextTypes) (s : Section) (js : List (Node × Node)) (job : Option (Node × Node)) →
     f.kind ≡ kind.Workflow → js ≡ jobs_of (view f.root.now) → job ≡ job_among js s →
-    ty_of ts.strategy ≡ type_in_job (λ j. strategy_type) job → indexed_type ts.needs ≡ type_in_job (λ j. needs_type_of (known_of f.known.now) js j.1) job →
-    indexed_type ts.jobs ≡ environment.jobs_shown (known_of f.known.now) js s → indexed_type ts.matrix ≡ type_in_job (λ j. matrix_type j.1) job → OfSection f ts s
+    ty_of ts.strategy ≡ type_in_job (λ j. strategy_type) job → ty_of ts.needs ≡ type_in_job (λ j. needs_type_of (known_of f.known.now) js j.1) job →
+    ty_of ts.jobs ≡ environment.jobs_shown (known_of f.known.now) js s → ty_of ts.matrix ≡ type_in_job (λ j. matrix_type j.1) job → OfSection f ts s
 of_workflow f ts s js job k e h a b c d =
     let root = view f.root.now in
     let known = known_of f.known.now in

@@ -132,11 +132,11 @@ fn strategy_at(alloc: Global, old: Ty, job: Option<Member<'_>>) -> Result<Ty, Al
     }
 }
 
-fn matrix_at(alloc: Global, job: Option<Member<'_>>) -> Result<IndexedType, AllocError>
-    ensures { IfOk result (λ t. indexed_type t ≡ type_in_job (λ j. specs.matrix_type j.1) (option_map member_of job.entry)) }
+fn matrix_at(alloc: Global, job: Option<Member<'_>>) -> Result<Ty, AllocError>
+    ensures { IfOk result (λ t. ty_of t ≡ type_in_job (λ j. specs.matrix_type j.1) (option_map member_of job.entry)) }
 {
     match job {
-        None => Ok(IndexedType::any(alloc)),
+        None => Ok(Ty::Any),
         Some(job) => matrix_type(alloc, job.value),
     }
 }
@@ -147,14 +147,14 @@ fn needs_at<'a>(
     jobs: &JobList<'a>,
     shown: &mut ShownJobs,
     job: Option<Member<'_>>,
-) -> Result<IndexedType, AllocError>
+) -> Result<Ty, AllocError>
     requires keeps { Keeps (known_by known.now) (map member_of jobs.now.members.items) shown.old }
-    ensures ty { IfOk result (λ t. indexed_type t ≡ type_in_job (λ j. needs_type_of (known_by known.now)
+    ensures ty { IfOk result (λ t. ty_of t ≡ type_in_job (λ j. needs_type_of (known_by known.now)
         (map member_of jobs.now.members.items) j.1) (option_map member_of job.entry)) }
     ensures keeps { OnOk result (Keeps (known_by known.now) (map member_of jobs.now.members.items) shown.new) }
 {
     match job {
-        None => Ok(IndexedType::any(alloc)),
+        None => Ok(Ty::Any),
         Some(job) => {
             let ty = needs_type(alloc, known, jobs, shown, job.value)?;
             Ok(ty)
@@ -168,16 +168,16 @@ fn jobs_at<'a>(
     alloc: Global,
     known: &Outputs<'a>,
     jobs: &JobList<'a>,
-    old: IndexedType,
+    old: Ty,
     was: Section<'_>,
     now: Section<'_>,
-) -> Result<IndexedType, AllocError>
-    requires { indexed_type old ≡ environment.jobs_shown (known_by known.now) (map member_of jobs.now.members.items) (section_view was) }
-    ensures { IfOk result (λ t. indexed_type t ≡ environment.jobs_shown (known_by known.now) (map member_of jobs.now.members.items)
+) -> Result<Ty, AllocError>
+    requires { ty_of old ≡ environment.jobs_shown (known_by known.now) (map member_of jobs.now.members.items) (section_view was) }
+    ensures { IfOk result (λ t. ty_of t ≡ environment.jobs_shown (known_by known.now) (map member_of jobs.now.members.items)
         (section_view now.entry)) }
 {
     if !shows_jobs(now) {
-        return Ok(IndexedType::any(alloc));
+        return Ok(Ty::Any);
     }
     if shows_jobs(was) {
         return Ok(old);
@@ -226,7 +226,7 @@ fn enter_workflow<'a>(
     let strategy = strategy_at(alloc, kept, job)?;
     let needs = needs_at(alloc, &env.outputs, &env.jobs, &mut env.shown, job)?;
     let matrix = matrix_at(alloc, job)?;
-    let old = replace(&mut env.scope.types.jobs, IndexedType::any(alloc));
+    let old = replace(&mut env.scope.types.jobs, Ty::Any);
     let jobs = jobs_at(alloc, &env.outputs, &env.jobs, old, env.section, section)?;
     let owner = owner_at(job);
     let steps = start_steps(alloc, owner)?;

@@ -7,7 +7,7 @@ ghost use Rattle.al_types.specs.Private.TypeParts.{field_of};
 ghost use Rattle.al_contexts.specs.Objects.{put, put_all, put_new, strictly};
 ghost use Rattle.al_contexts.specs.Private.Indexes.{IsIndex, name_at};
 
-use al_types::{Field, IndexedType, NamePositions, Ty, field_positions, fuse};
+use al_types::{Field, IndexedType, NamePositions, Ty, field_positions, fuse, object_by_names};
 use std::alloc::{AllocError, Global};
 use std::mem::replace;
 
@@ -73,7 +73,14 @@ impl FieldList {
         (self.fields, self.positions)
     }
 
-    /// An object that has these fields, found by their names, and no others.
+    /// An object that has these fields and no others. Many are found by their names.
+    pub(crate) fn into_ty(self, alloc: Global) -> Result<Ty, AllocError>
+        ensures { IfOk result (λ t. ty_of t ≡ strictly (map field_of self.fields.items)) }
+    {
+        object_by_names(alloc, self.fields, self.positions)
+    }
+
+    /// The same for an object that grows.
     pub(crate) fn into_indexed(self, alloc: Global) -> Result<IndexedType, AllocError>
         ensures { IfOk result (λ t. indexed_type t ≡ strictly (map field_of self.fields.items)) }
     {

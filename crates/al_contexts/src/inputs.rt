@@ -3,16 +3,16 @@ ghost use Rattle.std.specs.Prelude.{◌≡◌, IfOk, map};
 ghost use Rattle.al_contexts.specs.Private.Environment.{inputs_in};
 ghost use Rattle.al_contexts.specs.Inputs as inputs;
 ghost use Rattle.al_shape.specs.Values.{member_of};
-ghost use Rattle.al_types.specs.IndexedTypes.{indexed_type};
+ghost use Rattle.al_types.specs.TypeViews.{ty_of};
 ghost use Rattle.al_types.specs.Private.TypeParts.{field_of};
 ghost use Rattle.al_yaml.specs.View.{view};
 
 use crate::field_lists::FieldList;
-use crate::objects::{add_strings, key_texts};
+use crate::objects::{key_texts, named_strings};
 use al_declarations::{declared_at, input_of, type_of, value_below_three};
 use al_shape::{Member, key_text, value};
 use al_tree::FileKind;
-use al_types::{Field, IndexedType};
+use al_types::{Field, Ty};
 use al_yaml::Node;
 use std::alloc::{AllocError, Global};
 
@@ -43,23 +43,21 @@ fn event_inputs(alloc: Global, root: &Node, event: &str) -> Result<Vec<Field>, A
 }
 
 /// The type of `inputs` in a workflow.
-fn workflow_inputs(alloc: Global, root: &Node) -> Result<IndexedType, AllocError>
-    ensures { IfOk result (λ t. indexed_type t ≡ inputs.workflow_inputs (view root.now)) }
+fn workflow_inputs(alloc: Global, root: &Node) -> Result<Ty, AllocError>
+    ensures { IfOk result (λ t. ty_of t ≡ inputs.workflow_inputs (view root.now)) }
 {
     let mut fields = FieldList::of(alloc, event_inputs(alloc, root, "workflow_call")?)?;
     fields.fuse_all(alloc, event_inputs(alloc, root, "workflow_dispatch")?)?;
-    fields.into_indexed(alloc)
+    fields.into_ty(alloc)
 }
 
 /// The type of `inputs` in an action.
-fn action_inputs(alloc: Global, root: &Node) -> Result<IndexedType, AllocError>
-    ensures { IfOk result (λ t. indexed_type t ≡ inputs.action_inputs (view root.now)) }
+fn action_inputs(alloc: Global, root: &Node) -> Result<Ty, AllocError>
+    ensures { IfOk result (λ t. ty_of t ≡ inputs.action_inputs (view root.now)) }
 {
     let declared = declared_at(alloc, value(root, "inputs"))?;
     let names = key_texts(alloc, declared.as_slice())?;
-    let mut fields = Vec::new(alloc);
-    add_strings(alloc, &mut fields, names.as_slice())?;
-    FieldList::of(alloc, fields)?.into_indexed(alloc)
+    named_strings(alloc, names.as_slice())
 }
 
 /// The type of `inputs` in a file.
@@ -67,8 +65,8 @@ pub(crate) fn inputs_type(
     alloc: Global,
     kind: FileKind,
     root: &Node,
-) -> Result<IndexedType, AllocError>
-    ensures { IfOk result (λ t. indexed_type t ≡ inputs_in kind (view root.now)) }
+) -> Result<Ty, AllocError>
+    ensures { IfOk result (λ t. ty_of t ≡ inputs_in kind (view root.now)) }
 {
     match kind {
         FileKind::Workflow => workflow_inputs(alloc, root),

@@ -1,7 +1,6 @@
 //! What a job shows to others, and the type of `jobs`.
 ghost use Rattle.std.specs.Prelude.{◌≡◌, IfOk, map};
 ghost use Rattle.std.specs.Option.{option_copied};
-ghost use Rattle.al_types.specs.IndexedTypes.{indexed_type};
 ghost use Rattle.al_types.specs.TypeViews.{ty_of};
 ghost use Rattle.al_types.specs.Private.TypeParts.{field_of};
 ghost use Rattle.al_shape.specs.Values.{entries_at, member_of};
@@ -17,7 +16,7 @@ use crate::known::Outputs;
 use crate::objects::{add_field, key_texts, loose_any, named_strings, strict_of};
 use al_declarations::NameList;
 use al_shape::{Member, key_text, members, value};
-use al_types::{Field, IndexedType, Ty, copy};
+use al_types::{Field, Ty, copy};
 use al_yaml::Node;
 use std::alloc::{AllocError, Global};
 
@@ -76,12 +75,12 @@ pub(crate) fn jobs_type<'a>(
     alloc: Global,
     known: &Outputs<'a>,
     jobs: &JobList<'a>,
-) -> Result<IndexedType, AllocError>
-    ensures { IfOk result (λ t. indexed_type t ≡ jobs_type_of (known_by known.now) (map member_of jobs.now.members.items)) }
+) -> Result<Ty, AllocError>
+    ensures { IfOk result (λ t. ty_of t ≡ jobs_type_of (known_by known.now) (map member_of jobs.now.members.items)) }
 {
     let mut fields = FieldList::new(alloc);
     for job in jobs.as_slice() {
         fields.add(alloc, job_field(alloc, known, *job)?)?;
     }
-    fields.into_indexed(alloc)
+    fields.into_ty(alloc)
 }

@@ -1,7 +1,7 @@
 //! The type of `needs`. What a job shows to others is made once for a file, and shared by the jobs that need it.
 ghost use Rattle.std.specs.Prelude.{◌≡◌, ◌<◌, IfOk, OnOk, length, map};
 ghost use Rattle.std.specs.Option.{option_to_list};
-ghost use Rattle.al_types.specs.IndexedTypes.{indexed_type};
+ghost use Rattle.al_types.specs.TypeViews.{ty_of};
 ghost use Rattle.al_types.specs.Private.TypeParts.{field_of};
 ghost use Rattle.al_shape.specs.Values.{member_of, scalar_node_of};
 ghost use Rattle.al_yaml.specs.View.{view};
@@ -15,7 +15,7 @@ use crate::job_lists::JobList;
 use crate::jobs::job_field;
 use crate::known::Outputs;
 use al_shape::{ScalarNode, key_text, texts_under};
-use al_types::{Field, IndexedType, copy};
+use al_types::{Field, Ty, copy};
 use al_yaml::Node;
 use std::alloc::{AllocError, Global};
 
@@ -138,10 +138,10 @@ pub(crate) fn needs_type<'a>(
     jobs: &JobList<'a>,
     shown: &mut ShownJobs,
     job: &Node,
-) -> Result<IndexedType, AllocError>
+) -> Result<Ty, AllocError>
     requires keeps { Keeps (known_by known.now) (map member_of jobs.now.members.items) shown.old }
     ensures ty { IfOk result
-        (λ t. indexed_type t ≡ needs_type_of (known_by known.now) (map member_of jobs.now.members.items) (view job.now)) }
+        (λ t. ty_of t ≡ needs_type_of (known_by known.now) (map member_of jobs.now.members.items) (view job.now)) }
     ensures keeps { OnOk result (Keeps (known_by known.now) (map member_of jobs.now.members.items) shown.new) }
 {
     let mut fields = FieldList::new(alloc);
@@ -149,6 +149,6 @@ pub(crate) fn needs_type<'a>(
     for name in names.as_slice() {
         add_need_by(alloc, known, jobs, shown, *name, &mut fields)?;
     }
-    let ty = fields.into_indexed(alloc)?;
+    let ty = fields.into_ty(alloc)?;
     Ok(ty)
 }

@@ -12,7 +12,7 @@ use crate::inputs::inputs_type;
 use crate::objects::loose_strings;
 use al_declarations::{action_steps, is_composite};
 use al_tree::FileKind;
-use al_types::{ContextSet, ContextTypes, FunctionSet, IndexedType, Ty};
+use al_types::{ContextSet, ContextTypes, FunctionSet, Ty};
 use al_yaml::Node;
 use std::alloc::{AllocError, Global};
 
@@ -94,11 +94,11 @@ pub(crate) fn first_types(
         runner: Ty::Any,
         job: Ty::Any,
         strategy: Ty::Any,
-        needs: IndexedType::any(alloc),
-        jobs: IndexedType::any(alloc),
+        needs: Ty::Any,
+        jobs: Ty::Any,
         steps,
-        matrix: IndexedType::any(alloc),
-        inputs: IndexedType::any(alloc),
+        matrix: Ty::Any,
+        inputs: Ty::Any,
     };
     set_fixed(alloc, file, &mut types)?;
     Ok(types)

@@ -11,10 +11,10 @@ use Rattle.al_types.specs.declared.types.Ty as rust
 use Rattle.al_grammar.specs.Refusal.{fault}
 use Rattle.al_types.specs.Types.{Type', Any, String, ArrayOf, Fields, NoField, FieldThen, Rest, Strict, Loose, field_or_rest, property_in}
 use Rattle.al_types.specs.TypeViews.{ty_of, object_of}
-use Rattle.al_types.specs.Private.TypeParts.{fields_of_type, no_fields, only_strings, rest_of_type}
+use Rattle.al_types.specs.Private.TypeParts.{fields_of_type, named_types, no_fields, only_strings, rest_of_type}
 use Rattle.al_types.proofs.StringFields.{first_of, others_of}
 use Rattle.al_types.proofs.TypeFields.{by_fields}
-use Rattle.al_meaning.specs.Private.FusedFields.{rest_by, string_unless}
+use Rattle.al_meaning.specs.Private.FusedFields.{common_of, rest_by, string_unless}
 use Rattle.al_meaning.specs.Meaning.{Typed, typed, behind, before, and_then, array_of, or_fault, property_of, all_of, fuse_all, fuse_next, index_of, element_at, not_indexable}
 
 pub unchanged : (t : Type') (old : List Fault) → typed t old ≡ behind old (typed t [])
@@ -96,3 +96,10 @@ pub strings_beside : (fs : Fields) (r : Rest) (common other : Option Type') → 
 strings_beside fs r common other h c o =
     ap (λ k. fuse_all k NoField (rest_by other)) c ∙ ap (λ u. fuse_all (string_unless (no_fields fs)) NoField (rest_by u)) o
     ∙ ap (fuse_all (string_unless (no_fields fs)) NoField) (rest_back r) ∙ sym (strings_have fs r h)
+
+-- ---- fields that are found by their names
+
+-- only their types count
+pub common_by_types : (o : Option Type') (fs : Fields) (r : Rest) → fuse_all o fs r ≡ fuse_all (common_of o (named_types fs)) NoField r
+common_by_types o NoField r = refl
+common_by_types o (FieldThen n t fs) r = fuse_all-cons o n t fs r ∙ common_by_types (Some (fuse_next o t)) fs r

@@ -6,7 +6,7 @@ ghost use Rattle.al_base.specs.declared.codes.ExpressionCode.TheVariants as code
 ghost use Rattle.al_grammar.specs.Refusal.{fault};
 ghost use Rattle.al_meaning.specs.Meaning.{typed, behind, or_fault, property_of, all_of, index_of, element_at};
 ghost use Rattle.al_meaning.specs.Meaning.{not_indexable, fuse_all, fuse_next};
-ghost use Rattle.al_meaning.specs.Private.FusedFields.{FusesTo, rest_by, string_unless};
+ghost use Rattle.al_meaning.specs.Private.FusedFields.{FusesTo, common_of, rest_by, string_unless};
 ghost use Rattle.al_types.specs.Types.{NoField, fields_of, property_in};
 ghost use Rattle.al_types.specs.TypeViews.{ty_of, fused_of, object_of};
 ghost use Rattle.al_types.specs.Private.TypeParts.{field_of, fields_of_type, only_strings, rest_of_type};
@@ -202,6 +202,10 @@ fn fuse_fields(alloc: Global, object: &Object) -> Result<Option<Ty>, AllocError>
 {
     match object {
         Object::Listed(listing) => fuse_listed(alloc, listing.fields.as_slice()),
+        Object::Named(named) => {
+            let common = fuse_types(alloc, named.types())?;
+            Ok(common)
+        }
         Object::Strings(_) => Ok(string_unless(object.has_no_fields())),
     }
 }
@@ -212,6 +216,17 @@ fn fuse_listed(alloc: Global, fields: &[Field]) -> Result<Option<Ty>, AllocError
     let mut common = None;
     for field in fields {
         common = Some(fuse_next(alloc, common, &field.ty)?);
+    }
+    Ok(common)
+}
+
+// What some types have in common, where there are some.
+fn fuse_types(alloc: Global, types: &[Ty]) -> Result<Option<Ty>, AllocError>
+    ensures { IfOk result (λ common. option_map ty_of common ≡ common_of None (map ty_of types.now)) }
+{
+    let mut common = None;
+    for ty in types {
+        common = Some(fuse_next(alloc, common, ty)?);
     }
     Ok(common)
 }

@@ -7,8 +7,9 @@ use Rattle.al_base.specs.Names.{same_name}
 use Rattle.al_types.specs.declared.types.Field.{Field}
 use Rattle.al_types.specs.declared.types.Listing.{Listing, Listing', out-Listing}
 use Rattle.al_types.specs.declared.types.Object.{Object, Listed, Strings}
+use Rattle.al_types.specs.declared.types.Object.TheBlock.{Named'}
 use Rattle.al_types.specs.Positions.{field_position, first_at}
-use Rattle.al_types.specs.Types.{Type', Fields, NoField, FieldThen, field_at, field_or_rest, property_in, fields_of}
+use Rattle.al_types.specs.Types.{Type', Fields, NoField, FieldThen, Strict, field_at, field_or_rest, property_in, fields_of}
 use Rattle.al_types.specs.TypeViews.{ty_of, listing_of, object_of}
 use Rattle.al_types.specs.Private.TypeParts.{field_of, fields_of_type, rest_of_type}
 use Rattle.al_types.proofs.PositionLemmas.{found_within, position_next}
@@ -62,6 +63,11 @@ field_nowhere (FieldThen m t fs) n e = nowhere_step (same_name m n) (field_posit
 
 -- ---- the property of an object
 
+-- where there are no other fields
+pub strict_field : (o : Option Type') → o ≡ field_or_rest o Strict
+strict_field None = refl
+strict_field (Some t) = refl
+
 pub property_of_listing : (n : List ℕ) (l : Listing) →
     property_in n (listing_of l) ≡ field_or_rest (field_at n (fields_of_type (listing_of l))) (rest_of_type (listing_of l))
 property_of_listing n (Listing' s f r) = refl
@@ -69,6 +75,7 @@ property_of_listing n (Listing' s f r) = refl
 pub property_of_parts : (n : List ℕ) (o : Object) →
     property_in n (object_of o) ≡ field_or_rest (field_at n (fields_of_type (object_of o))) (rest_of_type (object_of o))
 property_of_parts n (Listed l) = property_of_listing n l
+property_of_parts n (Named' ns s ts) = refl
 property_of_parts n (Strings ns) = refl
 
 pub fields_listed : (o : Listing) → fields_of_type (listing_of o) ≡ fields_of (map field_of (out-Listing o).fields.items)

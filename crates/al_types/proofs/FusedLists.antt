@@ -7,6 +7,7 @@ use Rattle.al_types.specs.declared.types.Ty.{Ty}
 use Rattle.al_types.specs.declared.types.Ty as code
 use Rattle.al_types.specs.declared.types.Listing.{Listing, Listing', out-Listing}
 use Rattle.al_types.specs.declared.types.Object.{Object, Listed, Strings}
+use Rattle.al_types.specs.declared.types.Object.TheBlock.{Named'}
 use Rattle.al_types.specs.declared.types.Form.TheVariants as form
 use Rattle.al_base.specs.Names.{same_name}
 use Rattle.al_types.specs.Types.{Type', Any, Null, Number, Bool', String, ArrayOf, ObjectOf, Fields, NoField, FieldThen, Rest, Strict, field_at}
@@ -86,6 +87,7 @@ array_with_listing a (Listing' s f r) = refl
 
 array_with_object : (a : Type') (o : Object) → fuse_type (ArrayOf a) (object_of o) ≡ Any
 array_with_object a (Listed l) = array_with_listing a l
+array_with_object a (Named' ns s ts) = refl
 array_with_object a (Strings ns) = refl
 
 pub array_with_other : (a : Type') (t : Ty) → ((x : Box Ty Global) → t ≡ code.Array x → ⊥) → fuse_type (ArrayOf a) (ty_of t) ≡ Any
@@ -112,6 +114,7 @@ object_of_listing (Listing' s fs r) t h = object_with _ _ t h
 
 pub object_with_other : (o : Object) (t : Type') → form_of t ≢ form.Object → fuse_type (object_of o) t ≡ Any
 object_with_other (Listed l) t h = object_of_listing l t h
+object_with_other (Named' ns s ts) t h = object_with _ Strict t h
 object_with_other (Strings ns) t h = object_with _ Strict t h
 
 -- two objects by their fields as lists

@@ -6,6 +6,7 @@ use Rattle.std.specs.declared.rc.Rc.{Rc}
 use Rattle.al_types.specs.declared.types.Fused.{Fused}
 use Rattle.al_types.specs.declared.types.Listing.{Listing'}
 use Rattle.al_types.specs.declared.types.Object.{Object, Listed, Strings}
+use Rattle.al_types.specs.declared.types.Object.TheBlock.{Named'}
 use Rattle.al_types.specs.Types.{Type', field_at, field_or_rest, fuse_type, property_in}
 use Rattle.al_types.specs.TypeViews.{Parts, fused, fused_of, fuse_parts, object_of, object_type, parts_of, shared_parts}
 use Rattle.al_types.specs.Private.TypeParts.{common_type, fields_of_type, rest_of_type}
@@ -13,6 +14,7 @@ use Rattle.al_types.proofs.FuseLaws.{empty_first, field_of_both, fused_both, fus
 
 pub by_parts : (o : Object) → object_of o ≡ object_type (parts_of o)
 by_parts (Listed (Listing' s f r)) = refl
+by_parts (Named' ns s ts) = refl
 by_parts (Strings ns) = refl
 
 parts_of_list : List (Rc Object Global) → Parts

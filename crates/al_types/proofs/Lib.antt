@@ -6,3 +6,4 @@ pub mod FusedObjects
 pub mod PositionLemmas
 pub mod StringFields
 pub mod FieldPositions
+pub mod FieldsByName

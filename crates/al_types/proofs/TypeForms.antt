@@ -7,6 +7,7 @@ use Rattle.al_types.specs.declared.types.Ty as code
 use Rattle.al_types.specs.declared.types.Fused.{Fused}
 use Rattle.al_types.specs.declared.types.Listing.{Listing, Listing'}
 use Rattle.al_types.specs.declared.types.Object.{Object, Listed, Strings}
+use Rattle.al_types.specs.declared.types.Object.TheBlock.{Named'}
 use Rattle.al_types.specs.declared.types.Form.TheVariants as form
 use Rattle.al_types.specs.Types.{Type', Any, Null, Number, Bool', String, ArrayOf, ObjectOf, assignable_type, is_collection, is_plain}
 use Rattle.al_types.specs.TypeViews.{ty_of, listing_of, object_of}
@@ -17,6 +18,7 @@ form_listing (Listing' s f r) = refl
 
 pub form_object : (o : Object) → form_of (object_of o) ≡ form.Object
 form_object (Listed l) = form_listing l
+form_object (Named' ns s ts) = refl
 form_object (Strings ns) = refl
 
 pub form_fused : (b : Box Fused Global) → form_of (ty_of (code.Fused b)) ≡ form.Object

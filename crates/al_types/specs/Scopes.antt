@@ -28,11 +28,11 @@ type_of_context ts context.Secrets = ty_of ts.secrets
 type_of_context ts context.Runner = ty_of ts.runner
 type_of_context ts context.Job = ty_of ts.job
 type_of_context ts context.Strategy = ty_of ts.strategy
-type_of_context ts context.Needs = indexed_type ts.needs
-type_of_context ts context.Jobs = indexed_type ts.jobs
+type_of_context ts context.Needs = ty_of ts.needs
+type_of_context ts context.Jobs = ty_of ts.jobs
 type_of_context ts context.Steps = indexed_type ts.steps
-type_of_context ts context.Matrix = indexed_type ts.matrix
-type_of_context ts context.Inputs = indexed_type ts.inputs
+type_of_context ts context.Matrix = ty_of ts.matrix
+type_of_context ts context.Inputs = ty_of ts.inputs
 
 abbrev pub is_available : ContextSet → Context → Bool
 is_available s context.Github = s.github

@@ -1,14 +1,16 @@
 -- What clauses see of the code's types: the type alone, without where it lies in memory.
-use Rattle.std.specs.Prelude.{ℕ, List, map, string_bytes, [], ◌∷◌}
+use Rattle.std.specs.Prelude.{ℕ, List, map, string_bytes, zip, [], ◌∷◌}
 use Rattle.std.specs.Global.{Global}
 use Rattle.std.specs.declared.rc.Rc.{Rc}
 use Rattle.al_types.specs.declared.types.Ty.{Ty}
 use Rattle.al_types.specs.declared.field_names.FieldNames.{FieldNames}
 use Rattle.al_types.specs.declared.types.Listing.{Listing, Listing'}
+use Rattle.al_types.specs.declared.types.NamedFields.{NamedFields}
 use Rattle.al_types.specs.declared.types.Object.{Object}
 use Rattle.al_types.specs.declared.types.Fused.{Fused}
 use Rattle.al_types.specs.declared.types.Object.TheBlock as code
 use Rattle.al_types.specs.declared.types.Object.TheBlock.{Row_of-Fused-objects-1, end_of-Fused-objects-1, more_of-Fused-objects-1}
+use Rattle.al_types.specs.declared.types.Object.TheBlock.{Row_of-Ty, end_of-Ty, more_of-Ty}
 use Rattle.al_types.specs.declared.types.Object.TheBlock.{Row_of-Field, end_of-Field, more_of-Field, Held-Listing-rest, None', Some'}
 use Rattle.al_types.specs.Types.{Type', Any, Null, Number, Bool', String, ArrayOf, ObjectOf, Fields, NoField, FieldThen, Rest, Strict}
 use Rattle.al_types.specs.Strings.{strings}
@@ -53,10 +55,12 @@ abbrev mutual
 
   pub parts_of : Object → Parts
   parts_of (code.Listed l) = listing_parts l
+  parts_of (code.Named' ns shape ts) = (fields_of (zip (names_in ns) (types_in ts)), Strict)
   parts_of (code.Strings ns) = (fields_of (strings (names_in ns)), Strict)
 
   pub object_of : Object → Type'
   object_of (code.Listed l) = listing_of l
+  object_of (code.Named' ns shape ts) = ObjectOf (fields_of (zip (names_in ns) (types_in ts))) Strict
   object_of (code.Strings ns) = ObjectOf (fields_of (strings (names_in ns))) Strict
 
   pub listing_parts : Listing → Parts
@@ -64,6 +68,10 @@ abbrev mutual
 
   pub listing_of : Listing → Type'
   listing_of (Listing' shape fs rest) = ObjectOf (fields_in fs) (rest_in rest)
+
+  pub types_in : {n : _} → Row_of-Ty n → List Type'
+  types_in end_of-Ty = []
+  types_in (more_of-Ty t ts) = ty_of t ∷ types_in ts
 
   pub fields_in : {n : _} → Row_of-Field n → Fields
   fields_in end_of-Field = NoField
@@ -79,3 +87,7 @@ shared_parts o = parts_of o.value
 
 abbrev pub fused_of : Fused → Type'
 fused_of f = object_type (fused (map shared_parts f.objects.items))
+
+-- fields found by their names: as many as there are of names and of types
+abbrev pub named_of : NamedFields → Fields
+named_of f = fields_of (zip (names_in f.names) (map ty_of f.types.items))

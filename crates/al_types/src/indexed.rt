@@ -104,7 +104,7 @@ fn property_at<'a>(
 {
     match object {
         Object::Listed(listing) => Ok(lent(property_by(alloc, listing, positions, name)?)),
-        Object::Strings(_) => object.property(alloc, name),
+        Object::Named(_) | Object::Strings(_) => object.property(alloc, name),
     }
 }
 

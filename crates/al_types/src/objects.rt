@@ -15,8 +15,8 @@ use crate::types::{Field, Listing, Object, Ty, copy, copy_rest};
 use std::alloc::{AllocError, Global};
 use std::rc::Rc;
 
-/// So many strings are looked through one by one, and nearly all objects have no more: that takes less memory, and little time.
-const FEW: usize = 32;
+/// So many fields are looked through one by one, and nearly all objects have no more: that takes less memory, and little time.
+pub(crate) const FEW: usize = 32;
 
 /// An object of fields, and of a type of every field beside them, if there may be others. Fails for want of memory alone.
 pub fn object_of_fields(
@@ -106,7 +106,7 @@ fn copy_fields(alloc: Global, fields: &[Field]) -> Result<Vec<Field>, AllocError
 }
 
 /// An object once more, with fields of its own that are looked through. Fails for want of memory alone.
-#[tactic(auto, using(crate::proofs::TypeFields::listing_made, crate::proofs::TypeFields::listing_fields))]
+#[tactic(auto, using(crate::proofs::TypeFields::listing_made, crate::proofs::TypeFields::listing_fields, crate::proofs::TypeFields::named_type))]
 pub(crate) fn listed(alloc: Global, object: &Object) -> Result<Listing, AllocError>
     ensures { IfOk result (λ l. listing_of l ≡ object_of object.now) }
 {
@@ -115,6 +115,10 @@ pub(crate) fn listed(alloc: Global, object: &Object) -> Result<Listing, AllocErr
             let fields = copy_fields(alloc, listing.fields.as_slice())?;
             let rest = copy_rest(alloc, &listing.rest)?;
             Ok(Listing { fields, rest })
+        }
+        Object::Named(named) => {
+            let fields = named.copied(alloc)?;
+            Ok(Listing { fields, rest: None })
         }
         Object::Strings(names) => {
             let fields = string_fields(alloc, names.names.as_slice())?;
@@ -130,6 +134,7 @@ fn own_fields(alloc: Global, object: Object) -> Result<Vec<Field>, AllocError>
 {
     match object {
         Object::Listed(listing) => Ok(listing.fields),
+        Object::Named(named) => named.copied(alloc),
         Object::Strings(names) => string_fields(alloc, names.names.as_slice()),
     }
 }
@@ -151,6 +156,7 @@ fn shared_fields(alloc: Global, object: &Object) -> Result<Vec<Field>, AllocErro
 {
     match object {
         Object::Listed(listing) => copy_fields(alloc, listing.fields.as_slice()),
+        Object::Named(named) => named.copied(alloc),
         Object::Strings(names) => string_fields(alloc, names.names.as_slice()),
     }
 }
@@ -167,6 +173,7 @@ impl Object {
     {
         match self {
             Object::Listed(listing) => Ok(lent(listing.field(name))),
+            Object::Named(named) => Ok(lent(named.field(alloc, name)?)),
             Object::Strings(names) => string_among(alloc, names, name),
         }
     }
@@ -177,7 +184,7 @@ impl Object {
     {
         match self {
             Object::Listed(listing) => listing.other(),
-            Object::Strings(_) => None,
+            Object::Named(_) | Object::Strings(_) => None,
         }
     }
 
@@ -192,6 +199,7 @@ impl Object {
     {
         match self {
             Object::Listed(listing) => Ok(lent(listing.property(name))),
+            Object::Named(named) => Ok(lent(named.field(alloc, name)?)),
             Object::Strings(names) => string_among(alloc, names, name),
         }
     }
@@ -203,6 +211,7 @@ impl Object {
     {
         match self {
             Object::Listed(listing) => are_strings(listing.fields.as_slice()),
+            Object::Named(named) => named.has_only_strings(),
             Object::Strings(_) => true,
         }
     }
@@ -214,6 +223,7 @@ impl Object {
     {
         match self {
             Object::Listed(listing) => listing.fields.is_empty(),
+            Object::Named(named) => named.is_empty(),
             Object::Strings(names) => names.names.is_empty(),
         }
     }

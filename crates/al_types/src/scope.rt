@@ -22,7 +22,7 @@ pub struct Scope {
     pub in_run: bool,
 }
 
-/// The type of each context. Those that have a field for each job, step, row or input of a file find them by their names.
+/// The type of each context.
 #[derive(Drop)]
 pub struct ContextTypes {
     pub github: Ty,
@@ -32,11 +32,12 @@ pub struct ContextTypes {
     pub runner: Ty,
     pub job: Ty,
     pub strategy: Ty,
-    pub needs: IndexedType,
-    pub jobs: IndexedType,
+    pub needs: Ty,
+    pub jobs: Ty,
+    /// It grows from step to step.
     pub steps: IndexedType,
-    pub matrix: IndexedType,
-    pub inputs: IndexedType,
+    pub matrix: Ty,
+    pub inputs: Ty,
 }
 
 impl ContextTypes {
@@ -52,11 +53,11 @@ impl ContextTypes {
             Context::Runner => &self.runner,
             Context::Job => &self.job,
             Context::Strategy => &self.strategy,
-            Context::Needs => self.needs.ty(),
-            Context::Jobs => self.jobs.ty(),
+            Context::Needs => &self.needs,
+            Context::Jobs => &self.jobs,
             Context::Steps => self.steps.ty(),
-            Context::Matrix => self.matrix.ty(),
-            Context::Inputs => self.inputs.ty(),
+            Context::Matrix => &self.matrix,
+            Context::Inputs => &self.inputs,
         }
     }
 
@@ -72,11 +73,7 @@ impl ContextTypes {
         ensures { IfOk result (λ found. option_map property_type found ≡ property_in name.now (type_of_context self.now context)) }
     {
         match context {
-            Context::Needs => self.needs.property(alloc, name),
-            Context::Jobs => self.jobs.property(alloc, name),
             Context::Steps => self.steps.property(alloc, name),
-            Context::Matrix => self.matrix.property(alloc, name),
-            Context::Inputs => self.inputs.property(alloc, name),
             _ => self.get(context).property(alloc, name),
         }
     }

@@ -39,8 +39,18 @@ pub struct Fused {
 #[cycle(types)]
 pub enum Object {
     Listed(Listing),
+    /// Many fields, and no others.
+    Named(NamedFields),
     /// Many fields that are strings, and no others.
     Strings(FieldNames),
+}
+
+/// Fields that are found by their names: the types stand in the order of the names.
+#[derive(Drop)]
+#[cycle(types)]
+pub struct NamedFields {
+    pub(crate) names: FieldNames,
+    pub(crate) types: Vec<Ty>,
 }
 
 /// An object's fields with their types, and the type of every field beside them: none in a strict object, which has

@@ -80,14 +80,14 @@ pub record Fixed (f : File) (ts : ContextTypes) : Type 0 where
   pub secrets : ty_of ts.secrets ≡ loose_strings
   pub runner : ty_of ts.runner ≡ runner_type
   pub job : ty_of ts.job ≡ job_type
-  pub inputs : indexed_type ts.inputs ≡ inputs_in f.kind (view f.root.now)
+  pub inputs : ty_of ts.inputs ≡ inputs_in f.kind (view f.root.now)
 
 -- those that a section fixes
 pub record OfSection (f : File) (ts : ContextTypes) (s : Section) : Type 0 where
   pub strategy : ty_of ts.strategy ≡ strategy_in f.kind (view f.root.now) s
-  pub needs : indexed_type ts.needs ≡ needs_in f.kind (known_of f.known.now) (view f.root.now) s
-  pub jobs : indexed_type ts.jobs ≡ jobs_in f.kind (known_of f.known.now) (view f.root.now) s
-  pub matrix : indexed_type ts.matrix ≡ matrix_in f.kind (view f.root.now) s
+  pub needs : ty_of ts.needs ≡ needs_in f.kind (known_of f.known.now) (view f.root.now) s
+  pub jobs : ty_of ts.jobs ≡ jobs_in f.kind (known_of f.known.now) (view f.root.now) s
+  pub matrix : ty_of ts.matrix ≡ matrix_in f.kind (view f.root.now) s
 
 abbrev pub owner_view : rust.Owner → Owner
 owner_view o = (option_copied o.job, map view o.steps.now)

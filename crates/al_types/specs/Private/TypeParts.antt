@@ -97,6 +97,11 @@ abbrev pub only_strings : Fields → Bool
 only_strings NoField = true
 only_strings (FieldThen n t fs) = is_string t && only_strings fs
 
+-- the types of fields
+abbrev pub named_types : Fields → List Type'
+named_types NoField = []
+named_types (FieldThen n t fs) = t ∷ named_types fs
+
 -- whether there is no field
 abbrev pub no_fields : Fields → Bool
 no_fields NoField = true

@@ -5,7 +5,7 @@ use Rattle.al_contexts.proofs.Outside.{of_start}
 use Rattle.al_contexts.proofs.start.first_types.Goals as goal
 
 pub returns-clause-section : goal.returns-clause-section
-returns-clause-section c = c.in_ok-set_fixed.ensures.section (of_start c.args.file _ refl c.any.ensures c.any-2.ensures c.any-3.ensures)
+returns-clause-section c = c.in_ok-set_fixed.ensures.section (of_start c.args.file _ refl refl refl refl)
 
 pub returns-clause-steps : goal.returns-clause-steps
 returns-clause-steps c = ap indexed_type c.in_ok-set_fixed.ensures.steps ∙ c.in_ok-steps.ensures (known_of c.args.file.known.now)

@@ -7,6 +7,7 @@ use Rattle.al_types.specs.TypeViews.{object_of}
 use Rattle.al_types.specs.Private.TypeParts.{field_of, fields_of_type, no_fields}
 use Rattle.al_types.proofs.FieldPositions.{fields_listed}
 use Rattle.al_types.proofs.StringFields.{none_listed}
+use Rattle.al_types.proofs.TypeFields.{named_listed}
 use Rattle.al_types.proofs.types.Object.has_no_fields.Goals as goal
 
 pub returns-in-Listed : goal.returns-in-Listed
@@ -21,3 +22,8 @@ returns-in-Strings c =
     c.is_empty-in-Strings.ensures ∙ none_listed (λ n. (string_bytes n, String)) names.items names.len names.ok.0
     ∙ ap (λ fs. no_fields (fields_of fs)) (sym (map-map (λ k. (k, String)) string_bytes names.items))
     ∙ sym (ap (λ o. no_fields (fields_of_type (object_of o))) c.in-Strings.is)
+
+pub returns-in-Named : goal.returns-in-Named
+returns-in-Named c =
+    c.is_empty-in-Named.ensures
+    ∙ sym (ap (λ o. no_fields (fields_of_type (object_of o))) c.in-Named.is ∙ ap no_fields (named_listed c.in-Named.named))
