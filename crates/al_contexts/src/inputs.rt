@@ -61,11 +61,7 @@ fn action_inputs(alloc: Global, root: &Node) -> Result<Ty, AllocError>
 }
 
 /// The type of `inputs` in a file.
-pub(crate) fn inputs_type(
-    alloc: Global,
-    kind: FileKind,
-    root: &Node,
-) -> Result<Ty, AllocError>
+pub(crate) fn inputs_type(alloc: Global, kind: FileKind, root: &Node) -> Result<Ty, AllocError>
     ensures { IfOk result (λ t. ty_of t ≡ inputs_in kind (view root.now)) }
 {
     match kind {
