@@ -16,6 +16,7 @@ ghost use Rattle.al_uses.specs.Uses as uses;
 ghost use Rattle.al_uses.specs.Private.CallViews.{call_of};
 ghost use Rattle.al_calls.specs.CallFaults as call_faults;
 ghost use Rattle.al_scalar.specs.Scalar.{text_of};
+ghost use Rattle.al_folder.specs.Meaning.{AreAnswers};
 ghost use Rattle.al_folder.specs.declared.lint.Target.{Target};
 ghost use Rattle.al_check.specs.Sites as sites;
 ghost use Rattle.al_file_calls.specs.FileCalls as calls;
@@ -200,6 +201,8 @@ fn add_behind(
 ) -> Result<(), AllocError>
     requires laid { IsLaid largest_file (root_of tree.now) }
     requires texts { HasTexts (root_of tree.now) }
+    requires answers { AreAnswers (uses.targets_of (uses.calls_in (kind_in tree.now) (root_of tree.now)))
+        (map (λ a. option_copied a) answers.now) }
     ensures { OnOk result (SameSet out.new.items (out.old.items
         ++ calls.behind_faults (kind_in tree.now) (root_of tree.now) (map (λ a. option_copied a) answers.now))) }
 {
@@ -223,6 +226,8 @@ fn document_faults(
     requires laid { IsLaid largest_file (root_of tree.now) }
     requires texts { HasTexts (root_of tree.now) }
     requires own { SameSet own.now (own_faults (kind_in tree.now) (root_of tree.now)) }
+    requires answers { AreAnswers (uses.targets_of (uses.calls_in (kind_in tree.now) (root_of tree.now)))
+        (map (λ a. option_copied a) answers.now) }
     ensures { IfOk result (λ list. list.items
         ≡ faults.document_faults (kind_in tree.now) (root_of tree.now) (map (λ a. option_copied a) answers.now)) }
 {
@@ -254,7 +259,8 @@ pub(crate) fn file_faults(
     file: &ReadFile,
     answers: &[Option<&Interface>],
 ) -> Result<Vec<Fault>, AllocError>
-    requires { IsRead file.now kind bytes.now }
+    requires read { IsRead file.now kind bytes.now }
+    requires answers { AreAnswers (calling.file_targets kind bytes.now) (map (λ a. option_copied a) answers.now) }
     ensures { IfOk result (λ found. found.items ≡ faults.file_faults kind bytes.now (map (λ a. option_copied a) answers.now)) }
 {
     match &file.tree {

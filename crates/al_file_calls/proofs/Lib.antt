@@ -1,5 +1,6 @@
 pub mod Lone
 pub mod Short
+pub mod Told
 pub mod Steps
 pub mod Repeating
 pub mod Sets

@@ -30,17 +30,15 @@ use Rattle.al_interfaces.specs.declared.interfaces.Interface.{Interface}
 use Rattle.al_interfaces.specs.declared.interfaces.Interface.TheVariants.{Readable, Unreadable}
 use Rattle.al_interfaces.specs.declared.interfaces.Input.{Input}
 use Rattle.al_interfaces.specs.declared.interfaces.Signature.{Signature}
-use Rattle.al_interfaces.specs.contracts.interfaces.InterfacePartialEq.TheImpl as interface
-use Rattle.al_interfaces.proofs.Exact.{exact}
 use Rattle.al_uses.specs.Uses.{Call}
 use Rattle.al_calls.specs.Answers.{Answered, Typing, answered_faults}
 use Rattle.al_calls.specs.CallFaults.{Given, Names, absent_faults, against, answer_faults, call_faults, caller_of, extra_input, extra_secret}
 use Rattle.al_calls.specs.CallFaults.{given_names, given_secrets, given_type, input_faults, input_names, is_callable, is_free_for}
 use Rattle.al_calls.specs.CallFaults.{is_inherit, job_against, missing_input, missing_inputs, missing_secret, missing_secrets}
 use Rattle.al_calls.specs.CallFaults.{is_right, secret_faults, secret_names, type_faults, type_name, wrong_input}
-use Rattle.al_calls.specs.Private.Later.{AreThere, IsAlike, is_local}
+use Rattle.al_calls.specs.Private.Later.{AreThere, is_local}
 use Rattle.al_calls.proofs.LeftOut.{fault_same, local_faults, missing_same, missing_secret_same, names_same}
-use Rattle.al_file_calls.specs.Private.Repeats.{same_entries, same_entry, same_in_jobs, same_in_steps, same_secrets}
+use Rattle.al_file_calls.specs.Private.Repeats.{IsAnsweredAlike, same_entries, same_entry, same_in_jobs, same_in_steps, same_secrets}
 use Rattle.al_file_calls.specs.Private.Repeats.{same_uses, same_value, same_values, secrets_text, values_in}
 
 text_exact : (a b : List ℕ) → bytes_eq a b ≡ true → a ≡ b
@@ -234,9 +232,9 @@ entries_same (v ∷ vs) (w ∷ ws) h =
     let rest = entries_same vs ws p.1 in
     ap (λ b. b && same_entries (map (λ (x : Given). x.0) vs) (map (λ (x : Given). x.0) ws)) first ∙ rest
 
-module _ (typing : Typing) (a b : Answered) (uses : same_uses a b ≡ true) where
+module _ (typing : Typing) (a b : Answered) (uses : same_uses a.call b.call ≡ true) (told : IsAnsweredAlike a b) where
   abbrev named : Bool
-  named = bytes_eq (text_of a.call.uses) (text_of b.call.uses) && option_eq interface.ghosts.eq a.answer b.answer
+  named = bytes_eq (text_of a.call.uses) (text_of b.call.uses)
 
   abbrev placed : Bool
   placed = span.ghosts.eq a.call.at b.call.at && named
@@ -256,14 +254,8 @@ module _ (typing : Typing) (a b : Answered) (uses : same_uses a b ≡ true) wher
   at_same : a.call.at ≡ b.call.at
   at_same = span_exact a.call.at b.call.at (and_parts (span.ghosts.eq a.call.at b.call.at) named both_placed).0
 
-  both_named : named ≡ true
-  both_named = (and_parts (span.ghosts.eq a.call.at b.call.at) named both_placed).1
-
   text_same : text_of a.call.uses ≡ text_of b.call.uses
-  text_same = text_exact (text_of a.call.uses) (text_of b.call.uses) (and_parts _ (option_eq interface.ghosts.eq a.answer b.answer) both_named).0
-
-  answers_same : a.answer ≡ b.answer
-  answers_same = option_exact interface.ghosts.eq exact a.answer b.answer (and_parts (bytes_eq (text_of a.call.uses) (text_of b.call.uses)) _ both_named).1
+  text_same = text_exact (text_of a.call.uses) (text_of b.call.uses) (and_parts (span.ghosts.eq a.call.at b.call.at) named both_placed).1
 
   abbrev given_by : Call → List Given
   given_by c = values_in typing c
@@ -274,15 +266,12 @@ module _ (typing : Typing) (a b : Answered) (uses : same_uses a b ≡ true) wher
   against_alike by h =
       local_faults a.call.form a.call a.answer _ first
       ∙ answer_same a.call b.call by at_same text_same a.answer _ _ h
-      ∙ ap (λ answer. answer_faults b.call answer (against (caller_of b.call) b.call (given_by b.call))) answers_same
+      ∙ ap (λ answer. answer_faults b.call answer (against (caller_of b.call) b.call (given_by b.call))) (told by text_same)
       ∙ sym (local_faults b.call.form b.call b.answer _ second)
 
   -- what the earlier call's faults tell of calls of one kind
-  pub alike : caller_of a.call ≡ caller_of b.call → IsAlike a.call b.call
-  alike by = record { earlier_local = first; local = second; by = by; at = at_same; text = text_same }
-
-  pub earlier_there : (out : List Fault) → AreThere (answered_faults typing a) out → AreThere (call_faults a.call (given_by a.call) b.answer) out
-  earlier_there out there = subst (λ answer. AreThere (call_faults a.call (given_by a.call) answer) out) answers_same there
+  pub earlier_there : caller_of a.call ≡ caller_of b.call → (out : List Fault) → AreThere (answered_faults typing a) out → AreThere (call_faults a.call (given_by a.call) b.answer) out
+  earlier_there by out there = subst (λ answer. AreThere (call_faults a.call (given_by a.call) answer) out) (told by text_same) there
 
   pub steps_same : caller_of a.call ≡ caller.Step → caller_of b.call ≡ caller.Step → same_in_steps a.call.node b.call.node ≡ true → answered_faults typing a ≡ answered_faults typing b
   steps_same bya byb h =

@@ -9,6 +9,7 @@ ghost use Rattle.al_file_calls.specs.Private.Repeats as repeating;
 ghost use Rattle.al_file_calls.specs.FileCalls.{AreShort, call_faults, typing};
 ghost use Rattle.al_base.specs.Growth.{SameSet};
 ghost use Rattle.al_base.specs.declared.faults.Fault.{Fault};
+ghost use Rattle.al_uses.specs.Private.CallViews.{call_of};
 ghost use Rattle.al_yaml.specs.View.{view};
 
 use crate::repeats::{same_in_jobs, same_in_steps, same_uses};
@@ -102,7 +103,8 @@ fn check_later_step<'a>(
     answered: Answered<'a>,
     out: &mut Vec<Fault>,
 ) -> Result<(), AllocError>
-    requires uses { repeating.same_uses (answered_of earlier) (answered_of answered) ≡ true }
+    requires uses { repeating.same_uses (call_of earlier.call.now) (call_of answered.call.now) ≡ true }
+    requires answers { repeating.IsAnsweredAlike (answered_of earlier) (answered_of answered) }
     requires earlier_step { is_some earlier.call.now.site.step ≡ true }
     requires step { is_some answered.call.now.site.step ≡ true }
     requires there { AreThere (answered_faults (typing file.kind (known_of file.known.now) (view file.root.now))
@@ -136,7 +138,8 @@ fn check_later_job<'a>(
     requires stands { Stands file env.old }
     requires short { AreShort (view answered.call.now.node.now) }
     requires earlier_short { AreShort (view earlier.call.now.node.now) }
-    requires uses { repeating.same_uses (answered_of earlier) (answered_of answered) ≡ true }
+    requires uses { repeating.same_uses (call_of earlier.call.now) (call_of answered.call.now) ≡ true }
+    requires answers { repeating.IsAnsweredAlike (answered_of earlier) (answered_of answered) }
     requires earlier_job { is_some earlier.call.now.site.step ≡ false }
     requires job { is_some answered.call.now.site.step ≡ false }
     requires there { AreThere (answered_faults (typing file.kind (known_of file.known.now) (view file.root.now))
@@ -172,6 +175,7 @@ fn check_later<'a>(
     requires stands { Stands file env.old }
     requires short { AreShort (view answered.call.now.node.now) }
     requires earlier_short { AreShort (view earlier.call.now.node.now) }
+    requires answers { repeating.IsAnsweredAlike (answered_of earlier) (answered_of answered) }
     requires there { AreThere (answered_faults (typing file.kind (known_of file.known.now) (view file.root.now))
         (answered_of earlier)) out.old.items }
     ensures stands { OnOk result (Stands file.entry env.new) }
@@ -179,7 +183,7 @@ fn check_later<'a>(
         ++ answered_faults (typing (file.entry).kind (known_of (file.entry).known.now) (view (file.entry).root.now))
         (answered_of answered.entry))) }
 {
-    if !same_uses(earlier, answered) {
+    if !same_uses(earlier.call, answered.call) {
         return check_answered(alloc, file, env, answered, out);
     }
     match (earlier.call.site.step, answered.call.site.step) {
@@ -202,6 +206,7 @@ fn check_unrepeated<'a>(
     requires stands { Stands file env.old }
     requires short { AreShort (view answered.call.now.node.now) }
     requires earlier_short { IfSome earlier (λ a. AreShort (view a.call.now.node.now)) }
+    requires answers { IfSome earlier (λ a. repeating.IsAnsweredAlike (answered_of a) (answered_of answered)) }
     requires there { IfSome earlier (λ a. (f : Fault) → Contains
         (answered_faults (typing file.kind (known_of file.known.now) (view file.root.now)) (answered_of a)) f → Contains out.old.items f) }
     ensures stands { OnOk result (Stands file.entry env.new) }
@@ -256,6 +261,7 @@ pub(crate) fn check_calls<'a>(
 ) -> Result<(), AllocError>
     requires stands { Stands file env.old }
     requires short { All (λ a. AreShort (view a.call.now.node.now)) answered.now }
+    requires answers { repeating.AreToldByUses (map answered_of answered.now) }
     ensures { OnOk result (SameSet out.new.items (out.old.items
         ++ call_faults (file.entry).kind (known_of (file.entry).known.now) (view (file.entry).root.now) (map answered_of answered.now))) }
 {

@@ -1,21 +1,19 @@
 //! Calls that say again what an earlier one says, as those behind aliases do: their faults are the same.
 ghost use Rattle.std.specs.Prelude.{◌≡◌, map, IfOk, OnOk};
-ghost use Rattle.std.specs.Option.{option_copied, option_eq};
-ghost use Rattle.al_calls.specs.Private.AnswerViews.{answered_of, given_of};
+ghost use Rattle.std.specs.Option.{option_copied};
+ghost use Rattle.al_calls.specs.Private.AnswerViews.{given_of};
 ghost use Rattle.al_calls.specs.Private.Later.{is_local};
 ghost use Rattle.al_contexts.specs.Answered.{known_of};
 ghost use Rattle.al_contexts.specs.Private.Standing.{Stands};
 ghost use Rattle.al_file_calls.specs.FileCalls.{AreShort, typing};
 ghost use Rattle.al_file_calls.specs.Private.Repeats as repeats;
-ghost use Rattle.al_interfaces.specs.contracts.interfaces.InterfacePartialEq.TheImpl as interface;
 ghost use Rattle.al_shape.specs.Values.{member_of};
 ghost use Rattle.al_uses.specs.Private.CallViews.{call_of};
 ghost use Rattle.al_yaml.specs.View.{view};
 
 use crate::values::job_values;
-use al_calls::{Answered, Value, members_under};
+use al_calls::{Value, members_under};
 use al_contexts::{Env, File};
-use al_interfaces::Interface;
 use al_shape::{Member, key_text, text_under};
 use al_uses::{Call, Form};
 use al_yaml::Node;
@@ -93,27 +91,14 @@ fn is_local(form: &Form) -> bool
     }
 }
 
-fn same_answer(a: Option<&Interface>, b: Option<&Interface>) -> bool
-    ensures { result ≡ option_eq interface.ghosts.eq (option_copied a.entry) (option_copied b.entry) }
+/// Whether two calls name the same file of the folder at the same place.
+pub(crate) fn same_uses(a: &Call<'_>, b: &Call<'_>) -> bool
+    ensures { result ≡ repeats.same_uses (call_of a.now) (call_of b.now) }
 {
-    match (a, b) {
-        (Some(a), Some(b)) => a == b,
-        (None, None) => true,
-        _ => false,
-    }
-}
-
-/// Whether two calls name the same file of the folder at the same place, and are answered the same.
-pub(crate) fn same_uses(a: Answered<'_>, b: Answered<'_>) -> bool
-    ensures { result ≡ repeats.same_uses (answered_of a.entry) (answered_of b.entry) }
-{
-    let first = a.call;
-    let second = b.call;
-    is_local(&first.form)
-        && is_local(&second.form)
-        && first.uses.span == second.uses.span
-        && first.uses.scalar.text() == second.uses.scalar.text()
-        && same_answer(a.answer, b.answer)
+    is_local(&a.form)
+        && is_local(&b.form)
+        && a.uses.span == b.uses.span
+        && a.uses.scalar.text() == b.uses.scalar.text()
 }
 
 /// Whether two steps give the same.

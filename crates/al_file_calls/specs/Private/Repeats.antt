@@ -1,8 +1,10 @@
 -- Calls that say again what an earlier one says, as those behind aliases do: all that the faults of a call are told by is equal.
-use Rattle.std.specs.Prelude.{ℕ, List, Bool, ◌&&◌, codes, Option, option_map}
+use Rattle.std.specs.Prelude.{◌≡◌, ℕ, List, Bool, ◌&&◌, codes, Option, option_map}
 use Rattle.std.specs.Cmp.Lexicographic.{pointwise}
+use Rattle.std.specs.List.{AllByRecursion}
 use Rattle.std.specs.Option.{option_eq}
 use Rattle.std.specs.Str.{bytes_eq}
+use Rattle.al_base.specs.declared.codes.Caller.{Caller}
 use Rattle.al_base.specs.contracts.faults.SpanPartialEq.TheImpl as span
 use Rattle.al_scalar.specs.Scalar.{text_of}
 use Rattle.al_types.specs.Private.TypeParts.{form_of}
@@ -10,10 +12,10 @@ use Rattle.al_types.specs.contracts.types.FormPartialEq.TheImpl as outermost
 use Rattle.al_yaml.specs.Node.{Node, span_of}
 use Rattle.al_shape.specs.Keys.{key_of}
 use Rattle.al_shape.specs.Values.{entries_at, text_at}
-use Rattle.al_interfaces.specs.contracts.interfaces.InterfacePartialEq.TheImpl as interface
+use Rattle.al_interfaces.specs.declared.interfaces.Interface.{Interface}
 use Rattle.al_uses.specs.Uses.{Call}
 use Rattle.al_calls.specs.Answers.{Answered, Typing}
-use Rattle.al_calls.specs.CallFaults.{Given, values_of}
+use Rattle.al_calls.specs.CallFaults.{Given, caller_of, values_of}
 use Rattle.al_calls.specs.Private.Later.{is_local}
 
 -- Of an entry the text of its key, and where key and value stand.
@@ -40,11 +42,18 @@ abbrev pub same_secrets : Node → Node → Bool
 same_secrets a b =
     option_eq bytes_eq (secrets_text a) (secrets_text b) && same_entries (entries_at (codes "secrets") a) (entries_at (codes "secrets") b)
 
--- Of two calls of files of the folder the place and the text of `uses`, and what answers.
-abbrev pub same_uses : Answered → Answered → Bool
-same_uses a b =
-    is_local a.call.form && (is_local b.call.form && (span.ghosts.eq a.call.at b.call.at
-    && (bytes_eq (text_of a.call.uses) (text_of b.call.uses) && option_eq interface.ghosts.eq a.answer b.answer)))
+-- Of two calls of files of the folder the place and the text of `uses`.
+abbrev pub same_uses : Call → Call → Bool
+same_uses c d = is_local c.form && (is_local d.form && (span.ghosts.eq c.at d.at && bytes_eq (text_of c.uses) (text_of d.uses)))
+
+-- Two steps, or two jobs, that call by one text have one answer.
+abbrev pub IsAnsweredAlike : Answered → Answered → Type 0
+IsAnsweredAlike a b = caller_of a.call ≡ caller_of b.call → text_of a.call.uses ≡ text_of b.call.uses → a.answer ≡ b.answer
+
+-- Calls whose answers are told by who calls, and by which text.
+pub record AreToldByUses (found : List Answered) : Type 0 where
+  pub answer : Caller → List ℕ → Option Interface
+  pub told : AllByRecursion (λ a. a.answer ≡ answer (caller_of a.call) (text_of a.call.uses)) found
 
 -- what steps give, and what jobs give
 abbrev pub same_in_steps : Node → Node → Bool

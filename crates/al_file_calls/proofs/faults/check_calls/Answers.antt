@@ -6,12 +6,19 @@ use Rattle.al_contexts.specs.Answered.{known_of}
 use Rattle.al_yaml.specs.View.{view}
 use Rattle.al_file_calls.specs.FileCalls.{AreShort, typing}
 use Rattle.al_file_calls.proofs.Sets.{earlier_holds, earlier_there, step_last, step_more}
+use Rattle.al_file_calls.proofs.Told.{answered_alike}
 use Rattle.al_file_calls.proofs.faults.check_calls.Goals as goal
 
 pub check_unrepeated-requires-clause-earlier_short : goal.check_unrepeated-requires-clause-earlier_short
 check_unrepeated-requires-clause-earlier_short c =
     let before = subst (λ l. IfSome c.earlier_at-earlier.result (λ a. Contains l a)) c.split_at.ensures.front c.earlier_at-earlier.ensures in
     earlier_holds (λ a. AreShort (view a.call.now.node.now)) c.args.answered.now c.loop-i.i c.earlier_at-earlier.result c.requires.short before
+
+pub check_unrepeated-requires-clause-answers : goal.check_unrepeated-requires-clause-answers
+check_unrepeated-requires-clause-answers c =
+    let before = subst (λ l. IfSome c.earlier_at-earlier.result (λ a. Contains l a)) c.split_at.ensures.front c.earlier_at-earlier.ensures in
+    answered_alike c.args.answered.now c.requires.answers c.loop-i.i c.index-answered-i.result (omega (arith, c.loop-i-test.true)) c.index-answered-i.is
+    c.earlier_at-earlier.result before
 
 pub check_unrepeated-requires-clause-there : goal.check_unrepeated-requires-clause-there
 check_unrepeated-requires-clause-there c =
