@@ -116,6 +116,23 @@ def jobs_that_call():
     return with_outputs(10_000, b"".join(b"  b%05d: {needs: a, %s}\n" % (number, CALLED_ELSEWHERE) for number in range(13_000))), b""
 
 
+def needs_in_branches():
+    """Expressions that read the last of the needed jobs that two branches have in common."""
+    names = [b"j%04d" % number for number in range(6_000)]
+    jobs = b"".join(b"  %s: {%s}\n" % (name, CALLED_ELSEWHERE) for name in names)
+    steps = b"      - run: ${{ (needs || needs).j5999.result }}\n" * 6_000
+    last = b"  z:\n    needs: [%s]\n    runs-on: u\n    steps:\n" % b", ".join(names) + steps
+    return {WORKFLOW: b"on: push\njobs:\n" + jobs + last}, b""
+
+
+def last_key_of_a_mapping():
+    """Expressions that read the last key of a mapping of a matrix."""
+    keys = b", ".join(b"k%05d: 1" % number for number in range(20_000))
+    steps = b"      - run: ${{ matrix.a.k19999 }}\n" * 12_000
+    start = b"on: push\njobs:\n  b:\n    strategy: {matrix: {a: [{%s}]}}\n    runs-on: u\n    steps:\n" % keys
+    return {WORKFLOW: start + steps}, b""
+
+
 def chain_of_needs():
     """Jobs each of which needs the one before."""
     first = b"on: push\njobs:\n  j00000: {%s}\n" % CALLED_ELSEWHERE
@@ -195,6 +212,8 @@ FOLDERS = {
     "outputs-of-500-steps-with-10000-outputs-2000-times": outputs_of_all_steps,
     "last-of-9000-needs-9000-times": last_of_many_needs,
     "all-of-2000-needs-2000-times": all_needs_in_each_expression,
+    "last-of-6000-needs-in-6000-branches": needs_in_branches,
+    "last-of-20000-keys-12000-times": last_key_of_a_mapping,
     "4000-jobs-that-need-4000-outputs": lambda: jobs_with_an_expression(b"${{ github.ref }}"),
     "4000-jobs-that-read-one-of-4000-outputs": lambda: jobs_with_an_expression(b"${{ needs.a.outputs.o0000 }}"),
     "13000-jobs-that-need-10000-outputs": jobs_that_call,

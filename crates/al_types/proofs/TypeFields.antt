@@ -72,3 +72,5 @@ named_type f =
 
 pub named_listed : (f : NamedFields) → fields_of_type (object_of (Named f)) ≡ named_of f
 named_listed f = ap fields_of_type (named_type f)
+
+pub ruleset as_listed = (listing_made, listing_fields, named_type)

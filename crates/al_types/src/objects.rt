@@ -106,7 +106,7 @@ fn copy_fields(alloc: Global, fields: &[Field]) -> Result<Vec<Field>, AllocError
 }
 
 /// An object once more, with fields of its own that are looked through. Fails for want of memory alone.
-#[tactic(auto, using(crate::proofs::TypeFields::listing_made, crate::proofs::TypeFields::listing_fields, crate::proofs::TypeFields::named_type))]
+#[tactic(auto, using(crate::proofs::TypeFields::as_listed))]
 pub(crate) fn listed(alloc: Global, object: &Object) -> Result<Listing, AllocError>
     ensures { IfOk result (λ l. listing_of l ≡ object_of object.now) }
 {

@@ -2,7 +2,6 @@
 use Rattle.std.specs.Prelude.{◌≡◌, ◌⊎◌, ℕ, Bool, true, false, List, codes, map, Option, Some, None, option_map, if◌then◌else◌}
 use Rattle.std.specs.Option.{option_copied}
 use Rattle.al_types.specs.Types.{Type', Any}
-use Rattle.al_types.specs.IndexedTypes.{indexed_type}
 use Rattle.al_types.specs.TypeViews.{ty_of}
 use Rattle.al_types.specs.declared.scope.ContextTypes.{ContextTypes}
 use Rattle.al_yaml.specs.Node.{Node}
