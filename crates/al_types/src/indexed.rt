@@ -2,7 +2,7 @@
 
 ghost use Rattle.std.specs.Prelude.{◌≡◌, IfOk, map, option_map};
 ghost use Rattle.al_types.specs.Properties.{property_type};
-ghost use Rattle.al_types.specs.Types.{Any, NoField, ObjectOf, Strict, property_in, fields_of};
+ghost use Rattle.al_types.specs.Types.{Any, ObjectOf, Strict, property_in, fields_of};
 ghost use Rattle.al_types.specs.TypeViews.{ty_of, object_of, listing_of};
 ghost use Rattle.al_types.specs.Private.Positions.{IsFieldIndex};
 ghost use Rattle.al_types.specs.Private.TypeParts.{field_of, fields_of_type};
@@ -33,16 +33,8 @@ impl IndexedType {
     pub fn any(alloc: Global) -> IndexedType
         ensures { indexed_type result ≡ Any }
     {
-        IndexedType::without_fields(alloc, Ty::Any)
-    }
-
-    /// A type that has no fields of its own. Takes no memory.
-    pub fn without_fields(alloc: Global, ty: Ty) -> IndexedType
-        requires { fields_of_type (ty_of ty) ≡ NoField }
-        ensures { indexed_type result ≡ ty_of ty }
-    {
         IndexedType {
-            ty,
+            ty: Ty::Any,
             positions: NamePositions::new(alloc),
         }
     }
