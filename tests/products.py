@@ -147,12 +147,11 @@ def calls_that_lack():
     return {WORKFLOW: STEPS + b"      - uses: ./a\n" * count, ACTION: ACTION_FILE}, told
 
 
-def calls_of_many_optional_inputs():
+def calls_of_many_optional_inputs(steps):
     """Calls of an action with many inputs that needn't be given, in about as many nodes as a file may have."""
     inputs = b",".join(b"i%d:" % number for number in range(40_000))
     action = b"name: A\ndescription: d\ninputs: {%s}\nruns: {using: node20, main: m.js}\n" % inputs
-    steps = b",".join([b"{uses: ./a}"] * 30_000)
-    return {WORKFLOW: b"on: push\njobs: {a: {runs-on: u, steps: [%s]}}\n" % steps, ACTION: action}, b""
+    return {WORKFLOW: b"on: push\njobs: {a: {runs-on: u, steps: [%s]}}\n" % b",".join(steps), ACTION: action}, b""
 
 
 def aliases_of_a_call():
@@ -219,7 +218,8 @@ FOLDERS = {
     "13000-jobs-that-need-10000-outputs": jobs_that_call,
     "chain-of-16000-needs": chain_of_needs,
     "2400-calls-that-lack-1000-inputs": calls_that_lack,
-    "30000-calls-of-40000-optional-inputs": calls_of_many_optional_inputs,
+    "30000-calls-of-40000-optional-inputs": lambda: calls_of_many_optional_inputs([b"{uses: ./a}"] * 30_000),
+    "30000-aliases-of-a-call-of-40000-optional-inputs": lambda: calls_of_many_optional_inputs([b"&s {uses: ./a}"] + [b"*s"] * 30_000),
     "4000-jobs-that-call-one-with-10000-outputs": jobs_that_call_one_with_many_outputs,
     "4000-steps-that-call-one-with-10000-outputs": steps_that_call_one_with_many_outputs,
     "30000-aliases-of-a-step-that-lacks-1000-inputs": aliases_of_a_call,
