@@ -25,6 +25,7 @@ fn show(alloc: Global, ty: &Ty, out: &mut String) -> Result<(), AllocError> {
 fn show_object(alloc: Global, object: &Object, out: &mut String) -> Result<(), AllocError> {
     match object {
         Object::Listed(listing) => show_listing(alloc, listing, out),
+        Object::Named(_) => out.push_str("{many fields}"),
         Object::Strings(_) => out.push_str("{many strings}"),
     }
 }
