@@ -87,20 +87,11 @@ def outputs_of_all_steps():
     return {WORKFLOW: STEPS + steps + read, ACTION: called}, b""
 
 
-def last_of_many_needs():
-    """Expressions that read the last of many needed jobs."""
-    names = [b"j%04d" % number for number in range(9_000)]
-    jobs = b"".join(b"  %s: {%s}\n" % (name, CALLED_ELSEWHERE) for name in names)
-    steps = b"      - run: ${{ needs.j8999.result }}\n" * 9_000
-    last = b"  z:\n    needs: [%s]\n    runs-on: u\n    steps:\n" % b", ".join(names) + steps
-    return {WORKFLOW: b"on: push\njobs:\n" + jobs + last}, b""
-
-
-def all_needs_in_each_expression():
-    """Expressions on what all of many needed jobs have in common."""
-    names = [b"j%04d" % number for number in range(2_000)]
-    jobs = b"".join(b"  %s: {runs-on: u, steps: [{run: x}]}\n" % name for name in names)
-    steps = b"      - run: ${{ contains(needs.*.result, 'failure') }}\n" * 2_000
+def needed_jobs(count, job, expression):
+    """As many expressions as there are jobs of this kind, in a job that needs all of them."""
+    names = [b"j%04d" % number for number in range(count)]
+    jobs = b"".join(b"  %s: {%s}\n" % (name, job) for name in names)
+    steps = b"      - run: ${{ %s }}\n" % expression * count
     last = b"  z:\n    needs: [%s]\n    runs-on: u\n    steps:\n" % b", ".join(names) + steps
     return {WORKFLOW: b"on: push\njobs:\n" + jobs + last}, b""
 
@@ -114,15 +105,6 @@ def jobs_with_an_expression(expression):
 def jobs_that_call():
     """Jobs that need one with many outputs and call a workflow of another repository."""
     return with_outputs(10_000, b"".join(b"  b%05d: {needs: a, %s}\n" % (number, CALLED_ELSEWHERE) for number in range(13_000))), b""
-
-
-def needs_in_branches():
-    """Expressions that read the last of the needed jobs that two branches have in common."""
-    names = [b"j%04d" % number for number in range(6_000)]
-    jobs = b"".join(b"  %s: {%s}\n" % (name, CALLED_ELSEWHERE) for name in names)
-    steps = b"      - run: ${{ (needs || needs).j5999.result }}\n" * 6_000
-    last = b"  z:\n    needs: [%s]\n    runs-on: u\n    steps:\n" % b", ".join(names) + steps
-    return {WORKFLOW: b"on: push\njobs:\n" + jobs + last}, b""
 
 
 def last_key_of_a_mapping():
@@ -209,9 +191,9 @@ FOLDERS = {
     "10000-includes-of-a-mapping": mappings_of_includes,
     "all-of-4000-steps-with-10000-outputs": all_steps_with_many_outputs,
     "outputs-of-500-steps-with-10000-outputs-2000-times": outputs_of_all_steps,
-    "last-of-9000-needs-9000-times": last_of_many_needs,
-    "all-of-2000-needs-2000-times": all_needs_in_each_expression,
-    "last-of-6000-needs-in-6000-branches": needs_in_branches,
+    "last-of-9000-needs-9000-times": lambda: needed_jobs(9_000, CALLED_ELSEWHERE, b"needs.j8999.result"),
+    "all-of-2000-needs-2000-times": lambda: needed_jobs(2_000, b"runs-on: u, steps: [{run: x}]", b"contains(needs.*.result, 'failure')"),
+    "last-of-6000-needs-in-6000-branches": lambda: needed_jobs(6_000, CALLED_ELSEWHERE, b"(needs || needs).j5999.result"),
     "last-of-20000-keys-12000-times": last_key_of_a_mapping,
     "4000-jobs-that-need-4000-outputs": lambda: jobs_with_an_expression(b"${{ github.ref }}"),
     "4000-jobs-that-read-one-of-4000-outputs": lambda: jobs_with_an_expression(b"${{ needs.a.outputs.o0000 }}"),
