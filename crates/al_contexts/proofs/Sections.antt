@@ -4,7 +4,6 @@ use Rattle.al_types.specs.Scopes.{type_of_context}
 use Rattle.al_types.specs.declared.names.Context.{Context}
 use Rattle.al_types.specs.declared.names.Context.TheVariants as context
 use Rattle.al_types.specs.declared.scope.ContextTypes.{ContextTypes}
-use Rattle.al_types.specs.IndexedTypes.{indexed_type}
 use Rattle.al_types.specs.TypeViews.{ty_of}
 use Rattle.al_types.specs.declared.types.Ty.{Ty}
 use Rattle.al_types.specs.declared.types.Object.TheBlock as code
@@ -156,7 +155,7 @@ table_right kind.Workflow known root p c = in_workflow known root p c
 table_right kind.Action known root p c = in_action known root p c
 
 in_table : (f : File) (ts : ContextTypes) (p : Position) → Fixed f ts → OfSection f ts p.section →
-    indexed_type ts.steps ≡ owned (known_of f.known.now) (owner_in f.kind (view f.root.now) p.section) p.seen →
+    ty_of ts.steps ≡ owned (known_of f.known.now) (owner_in f.kind (view f.root.now) p.section) p.seen →
     (c : Context) → type_of_context ts c ≡ table f.kind (known_of f.known.now) (view f.root.now) p c
 in_table f ts p h s e context.Github = h.github
 in_table f ts p h s e context.Env = h.env
@@ -173,6 +172,6 @@ in_table f ts p h s e context.Inputs = h.inputs
 
 -- the types that a file fixes, those of the section, and that of `steps` are all
 pub all_types : (f : File) (ts : ContextTypes) (p : Position) → Fixed f ts → OfSection f ts p.section →
-    indexed_type ts.steps ≡ owned (known_of f.known.now) (owner_in f.kind (view f.root.now) p.section) p.seen →
+    ty_of ts.steps ≡ owned (known_of f.known.now) (owner_in f.kind (view f.root.now) p.section) p.seen →
     (c : Context) → type_of_context ts c ≡ type_at f.kind (known_of f.known.now) (view f.root.now) p c
 all_types f ts p h s e c = in_table f ts p h s e c ∙ table_right f.kind (known_of f.known.now) (view f.root.now) p c

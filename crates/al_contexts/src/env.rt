@@ -1,6 +1,5 @@
 //! The types of contexts, as the walk through a file goes on.
 ghost use Rattle.std.specs.Prelude.{◌≡◌, IfOk, OnOk, IsTrue, map, option_map};
-ghost use Rattle.al_types.specs.IndexedTypes.{indexed_type};
 ghost use Rattle.al_types.specs.Scopes.{type_of_context};
 ghost use Rattle.al_types.specs.TypeViews.{ty_of};
 ghost use Rattle.al_types.specs.declared.names.Context.{Context};
@@ -33,7 +32,7 @@ use crate::steps::{no_steps, seen_count, seen_steps};
 use al_places::{Place, Position, Section, Seen};
 use al_shape::{Member, items_under, key_text};
 use al_tree::FileKind;
-use al_types::{IndexedType, Scope, Ty};
+use al_types::{Scope, Ty};
 use al_yaml::Node;
 use std::alloc::{AllocError, Global};
 use std::mem::replace;
@@ -91,14 +90,14 @@ fn see<'a>(alloc: Global, file: File<'a>, env: &mut Env<'a>, seen: Seen) -> Resu
     requires { Stands file env.old }
     ensures stands { OnOk result (Stands file.entry env.new) }
     ensures same { OnOk result (section_view (env.new).section ≡ section_view (env.old).section) }
-    ensures seen { OnOk result (indexed_type (env.new).scope.types.steps ≡ owned (known_of (file.entry).known.now) (option_map owner_view
+    ensures seen { OnOk result (ty_of (env.new).scope.types.steps ≡ owned (known_of (file.entry).known.now) (option_map owner_view
         (env.new).owner) (seen_view seen)) }
 {
     match env.owner {
         None => Ok(()),
         Some(owner) => {
             let count = seen_count(seen, owner.steps);
-            let shown = replace(&mut env.scope.types.steps, IndexedType::any(alloc));
+            let shown = replace(&mut env.scope.types.steps, Ty::Any);
             let steps = seen_steps(alloc, &env.outputs, owner, shown, env.seen, count)?;
             env.scope.types.steps = steps;
             env.seen = count;
@@ -197,14 +196,11 @@ fn owner_at<'a>(job: Option<Member<'a>>) -> Option<Owner<'a>>
 }
 
 /// The type of `steps` where no step is seen. Fails with `AllocError` for want of memory.
-pub(crate) fn start_steps(
-    alloc: Global,
-    owner: Option<Owner<'_>>,
-) -> Result<IndexedType, AllocError>
-    ensures { IfOk result (λ t. (known : Known) → indexed_type t ≡ owned known (option_map owner_view owner.entry) (before 0)) }
+pub(crate) fn start_steps(alloc: Global, owner: Option<Owner<'_>>) -> Result<Ty, AllocError>
+    ensures { IfOk result (λ t. (known : Known) → ty_of t ≡ owned known (option_map owner_view owner.entry) (before 0)) }
 {
     match owner {
-        None => Ok(IndexedType::any(alloc)),
+        None => Ok(Ty::Any),
         Some(_) => no_steps(alloc),
     }
 }

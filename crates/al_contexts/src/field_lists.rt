@@ -1,13 +1,12 @@
 //! Fields in order, found by their names.
 ghost use Rattle.std.specs.Prelude.{◌≡◌, [], IfOk, OnOk, is_none, map};
-ghost use Rattle.al_types.specs.IndexedTypes.{indexed_type};
 ghost use Rattle.al_types.specs.Types.{fuse_type};
 ghost use Rattle.al_types.specs.TypeViews.{ty_of};
 ghost use Rattle.al_types.specs.Private.TypeParts.{field_of};
 ghost use Rattle.al_contexts.specs.Objects.{put, put_all, put_new, strictly};
 ghost use Rattle.al_contexts.specs.Private.Indexes.{IsIndex, name_at};
 
-use al_types::{Field, IndexedType, NamePositions, Ty, field_positions, fuse, object_by_names};
+use al_types::{Field, NamePositions, Ty, field_positions, fuse, object_by_names};
 use std::alloc::{AllocError, Global};
 use std::mem::replace;
 
@@ -78,13 +77,6 @@ impl FieldList {
         ensures { IfOk result (λ t. ty_of t ≡ strictly (map field_of self.fields.items)) }
     {
         object_by_names(alloc, self.fields, self.positions)
-    }
-
-    /// The same for an object that grows.
-    pub(crate) fn into_indexed(self, alloc: Global) -> Result<IndexedType, AllocError>
-        ensures { IfOk result (λ t. indexed_type t ≡ strictly (map field_of self.fields.items)) }
-    {
-        IndexedType::strict(alloc, self.fields, self.positions)
     }
 
     /// Whether no field has a name.

@@ -3,7 +3,7 @@ ghost use Rattle.std.specs.Prelude.{◌≡◌, IfOk, OnOk, option_map};
 ghost use Rattle.al_contexts.specs.Answered.{known_of};
 ghost use Rattle.al_contexts.specs.Private.Environment.{Fixed, OfSection, owned, owner_in, owner_view};
 ghost use Rattle.al_places.specs.Positions.{apart, before};
-ghost use Rattle.al_types.specs.IndexedTypes.{indexed_type};
+ghost use Rattle.al_types.specs.TypeViews.{ty_of};
 ghost use Rattle.al_yaml.specs.View.{view};
 
 use crate::env::{File, Owner, start_steps};
@@ -82,7 +82,7 @@ pub(crate) fn first_types(
 ) -> Result<ContextTypes, AllocError>
     ensures fixed { IfOk result (λ ts. Fixed file.entry ts) }
     ensures section { IfOk result (λ ts. OfSection file.entry ts apart) }
-    ensures steps { IfOk result (λ ts. indexed_type ts.steps ≡ owned (known_of (file.entry).known.now) (option_map owner_view owner.entry)
+    ensures steps { IfOk result (λ ts. ty_of ts.steps ≡ owned (known_of (file.entry).known.now) (option_map owner_view owner.entry)
         (before 0)) }
 {
     let steps = start_steps(alloc, owner)?;

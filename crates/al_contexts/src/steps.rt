@@ -1,25 +1,23 @@
 //! The type of `steps`.
-ghost use Rattle.std.specs.Prelude.{◌≡◌, ◌+◌, ◌<◌, ◌≤◌, ◌^◌, [], IfOk, OnOk, length, map, take, Some};
+ghost use Rattle.std.specs.Prelude.{◌≡◌, ◌+◌, ◌<◌, ◌≤◌, ◌^◌, [], IfOk, length, map, take, Some};
 ghost use Rattle.std.specs.Option.{option_copied, option_to_list};
-ghost use Rattle.al_types.specs.IndexedTypes.{indexed_type};
 ghost use Rattle.al_types.specs.TypeViews.{ty_of};
-ghost use Rattle.al_types.specs.Private.TypeParts.{field_of};
 ghost use Rattle.al_yaml.specs.View.{view};
 ghost use Rattle.al_places.specs.Positions.{before, seen_view};
 ghost use Rattle.al_contexts.specs.Contexts as contexts;
 ghost use Rattle.al_contexts.specs.Contexts.{seen_of, step_field, steps_fields};
 ghost use Rattle.al_contexts.specs.Private.Environment.{owned, owner_view};
 ghost use Rattle.al_contexts.specs.Private.Lookups.{known_by};
-ghost use Rattle.al_contexts.specs.Objects.{put_all, put_new, strictly};
+ghost use Rattle.al_contexts.specs.Private.Grown.{with_fields};
+ghost use Rattle.al_contexts.specs.Objects.{strictly};
 
 use crate::env::Owner;
-use crate::field_lists::FieldList;
 use crate::known::Outputs;
 use crate::objects::{add_field, loose_strings, strict_of};
 use al_declarations::NameList;
 use al_places::Seen;
 use al_shape::text_under;
-use al_types::{Field, IndexedType, Ty, copy, into_fields};
+use al_types::{Field, Ty, copy, with_field};
 use al_yaml::Node;
 use std::alloc::{AllocError, Global};
 
@@ -45,44 +43,48 @@ fn step_type(alloc: Global, outputs: Option<&NameList>) -> Result<Ty, AllocError
     strict_of(alloc, fields)
 }
 
-/// Adds a step, where it has an id that no field has.
-fn add_step<'a>(
+/// The type of `steps` with a step more, where it has an id that no field has.
+fn with_step<'a>(
     alloc: Global,
     known: &Outputs<'a>,
     job: Option<&'a [u8]>,
     i: usize,
     step: &Node,
-    fields: &mut FieldList,
-) -> Result<(), AllocError>
-    ensures { OnOk result (map field_of fields.new.fields.items ≡ put_all put_new (map field_of fields.old.fields.items) (option_to_list
+    shown: Ty,
+) -> Result<Ty, AllocError>
+    ensures { IfOk result (λ t. ty_of t ≡ with_fields (ty_of shown) (option_to_list
         (step_field (known_by known.now) (option_copied job.entry) (i, view step.now)))) }
 {
-    if let Some(id) = text_under(step, "id") {
-        let ty = step_type(alloc, known.of_step(job, i))?;
-        fields.add(alloc, Field::new(alloc, id.scalar.text(), ty)?)?;
+    match text_under(step, "id") {
+        None => Ok(shown),
+        Some(id) => {
+            let ty = step_type(alloc, known.of_step(job, i))?;
+            let field = Field::new(alloc, id.scalar.text(), ty)?;
+            with_field(alloc, shown, field)
+        }
     }
-    Ok(())
 }
 
-/// Adds steps, the first of which has an index.
-fn add_steps<'a>(
+/// The same with steps, the first of which has an index.
+fn with_steps<'a>(
     alloc: Global,
     known: &Outputs<'a>,
     job: Option<&'a [u8]>,
     from: usize,
     steps: &[Node],
-    fields: &mut FieldList,
-) -> Result<(), AllocError>
+    shown: Ty,
+) -> Result<Ty, AllocError>
     requires { from + length steps.now < 2 ^ 64 }
-    ensures { OnOk result (map field_of fields.new.fields.items ≡ put_all put_new (map field_of fields.old.fields.items)
+    ensures { IfOk result (λ t. ty_of t ≡ with_fields (ty_of shown)
         (steps_fields (known_by known.now) (option_copied job.entry) from (map view steps.now))) }
 {
+    let mut all = shown;
     let mut i = from;
     for step in steps {
-        add_step(alloc, known, job, i, step, fields)?;
+        all = with_step(alloc, known, job, i, step, all)?;
         i += 1;
     }
-    Ok(())
+    Ok(all)
 }
 
 /// The type of `steps` where a count of steps is seen, from that where fewer of them are.
@@ -90,35 +92,25 @@ fn with_more<'a>(
     alloc: Global,
     known: &Outputs<'a>,
     owner: Owner<'a>,
-    shown: IndexedType,
+    shown: Ty,
     from: usize,
     count: usize,
-) -> Result<IndexedType, AllocError>
-    requires shown { indexed_type shown ≡ owned (known_by known.now) (Some (owner_view owner)) (before from) }
+) -> Result<Ty, AllocError>
+    requires shown { ty_of shown ≡ owned (known_by known.now) (Some (owner_view owner)) (before from) }
     requires order { from ≤ count }
     requires inside { count ≤ length owner.steps.now }
-    ensures { IfOk result (λ t. indexed_type t ≡ owned (known_by known.now) (Some (owner_view owner.entry)) (before count)) }
+    ensures { IfOk result (λ t. ty_of t ≡ owned (known_by known.now) (Some (owner_view owner.entry)) (before count)) }
 {
-    let (ty, ids) = shown.into_parts();
-    let shown = into_fields(alloc, ty)?;
-    let mut fields = FieldList::from_parts(shown, ids);
-    add_steps(
-        alloc,
-        known,
-        owner.job,
-        from,
-        &owner.steps[from..count],
-        &mut fields,
-    )?;
-    let ty = fields.into_indexed(alloc)?;
+    let more = &owner.steps[from..count];
+    let ty = with_steps(alloc, known, owner.job, from, more, shown)?;
     Ok(ty)
 }
 
 /// The type of `steps` where no step is seen. Fails with `AllocError` for want of memory.
-pub(crate) fn no_steps(alloc: Global) -> Result<IndexedType, AllocError>
-    ensures { IfOk result (λ t. indexed_type t ≡ strictly []) }
+pub(crate) fn no_steps(alloc: Global) -> Result<Ty, AllocError>
+    ensures { IfOk result (λ t. ty_of t ≡ strictly []) }
 {
-    FieldList::new(alloc).into_indexed(alloc)
+    strict_of(alloc, Vec::new(alloc))
 }
 
 /// The type of `steps` where a count of steps is seen, from that where another count is. Steps that were seen are copied in no case:
@@ -127,13 +119,13 @@ pub(crate) fn seen_steps<'a>(
     alloc: Global,
     known: &Outputs<'a>,
     owner: Owner<'a>,
-    shown: IndexedType,
+    shown: Ty,
     from: usize,
     count: usize,
-) -> Result<IndexedType, AllocError>
-    requires shown { indexed_type shown ≡ owned (known_by known.now) (Some (owner_view owner)) (before from) }
+) -> Result<Ty, AllocError>
+    requires shown { ty_of shown ≡ owned (known_by known.now) (Some (owner_view owner)) (before from) }
     requires inside { count ≤ length owner.steps.now }
-    ensures { IfOk result (λ t. indexed_type t ≡ owned (known_by known.now) (Some (owner_view owner.entry)) (before count)) }
+    ensures { IfOk result (λ t. ty_of t ≡ owned (known_by known.now) (Some (owner_view owner.entry)) (before count)) }
 {
     if from <= count {
         with_more(alloc, known, owner, shown, from, count)

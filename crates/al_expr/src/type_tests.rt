@@ -1,7 +1,7 @@
 //! Tests of types and of the faults of meaning, by worked rows.
 
 use crate::{
-    ContextSet, ContextTypes, Field, Form, FunctionSet, IndexedType, Scope, Ty, assignable, fuse,
+    ContextSet, ContextTypes, Field, Form, FunctionSet, Scope, Ty, assignable, fuse,
     object_of_fields, parse_expr, signature_of, type_of,
 };
 use al_base::{Code, ExpressionCode, Fault};
@@ -32,7 +32,7 @@ fn step_run(alloc: Global) -> Result<Scope, AllocError> {
             strategy: Ty::Any,
             needs: Ty::Any,
             jobs: Ty::Any,
-            steps: IndexedType::any(alloc),
+            steps: Ty::Any,
             matrix: Ty::Any,
             inputs: Ty::Any,
         },

@@ -11,14 +11,12 @@ ghost use Rattle.al_types.specs.TypeViews.{ty_of};
 
 use crate::steps::{absent_property, all, property};
 use al_base::{Fault, Span};
-use al_types::{Context, ContextTypes, Property, Ty, copy};
+use al_types::{Property, Ty, copy};
 use std::alloc::{AllocError, Global};
 
 /// A type, which may be a context's and large, so that it is better read where it stands.
 #[derive(Drop)]
 pub(crate) enum Found<'s> {
-    /// That of a context, which is asked for its properties by their names.
-    Context(&'s ContextTypes, Context),
     Lent(&'s Ty),
     Owned(Ty),
 }
@@ -28,7 +26,6 @@ impl<'s> Found<'s> {
         ensures { ty_of result.now ≡ found_type self.now }
     {
         match self {
-            Found::Context(types, context) => types.get(*context),
             Found::Lent(ty) => ty,
             Found::Owned(ty) => ty,
         }
@@ -38,7 +35,6 @@ impl<'s> Found<'s> {
         ensures { IfOk result (λ t. ty_of t ≡ found_type self.entry) }
     {
         match self {
-            Found::Context(types, context) => copy(alloc, types.get(context)),
             Found::Lent(ty) => copy(alloc, ty),
             Found::Owned(ty) => Ok(ty),
         }
@@ -87,10 +83,6 @@ pub(crate) fn property_from<'s>(
     ensures begins { BeginsWith out.new.items out.old.items }
 {
     match here {
-        Found::Context(types, context) => {
-            let found = types.property(alloc, *context, name)?;
-            property_found(alloc, found, types.get(*context), name, at, whole, out)
-        }
         Found::Lent(ty) => {
             let found = ty.property(alloc, name)?;
             property_found(alloc, found, ty, name, at, whole, out)

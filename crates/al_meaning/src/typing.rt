@@ -179,7 +179,7 @@ fn base_type<'s>(
     ensures begins { BeginsWith out.new.items out.old.items }
 {
     match available_context(around.scope, base) {
-        Some(context) => Ok(Found::Context(&around.scope.types, context)),
+        Some(context) => Ok(Found::Lent(around.scope.types.get(context))),
         None => {
             let ty = expression(alloc, around, base, out)?;
             Ok(Found::Owned(ty))

@@ -7,3 +7,4 @@ pub mod PositionLemmas
 pub mod StringFields
 pub mod FieldPositions
 pub mod FieldsByName
+pub mod AddedFields

@@ -2,7 +2,7 @@ pub mod Names
 pub mod Types
 pub mod TypeViews
 pub mod Positions
-pub mod IndexedTypes
+pub mod MoreFields
 pub mod Signatures
 pub mod Strings
 pub mod Scopes

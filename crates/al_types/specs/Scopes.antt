@@ -10,7 +10,6 @@ use Rattle.al_types.specs.declared.scope.ContextSet.{ContextSet}
 use Rattle.al_types.specs.declared.scope.FunctionSet.{FunctionSet}
 use Rattle.al_types.specs.Types.{Type'}
 use Rattle.al_types.specs.TypeViews.{ty_of}
-use Rattle.al_types.specs.IndexedTypes.{indexed_type}
 
 -- the types of the contexts, those that are available, the functions that can be called, and whether the place is a
 -- step's `run`
@@ -30,7 +29,7 @@ type_of_context ts context.Job = ty_of ts.job
 type_of_context ts context.Strategy = ty_of ts.strategy
 type_of_context ts context.Needs = ty_of ts.needs
 type_of_context ts context.Jobs = ty_of ts.jobs
-type_of_context ts context.Steps = indexed_type ts.steps
+type_of_context ts context.Steps = ty_of ts.steps
 type_of_context ts context.Matrix = ty_of ts.matrix
 type_of_context ts context.Inputs = ty_of ts.inputs
 

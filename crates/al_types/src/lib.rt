@@ -5,7 +5,7 @@
 mod field_names;
 mod finding;
 mod fusing;
-mod indexed;
+mod growing;
 mod joining;
 mod named_fields;
 mod names;
@@ -20,7 +20,7 @@ mod types;
 pub use field_names::FieldNames;
 pub use finding::field_positions;
 pub use fusing::{fuse, into_fields, joined, joined_object};
-pub use indexed::IndexedType;
+pub use growing::with_field;
 pub use named_fields::object_by_names;
 pub use names::{Context, Function};
 pub use objects::{object_of_fields, object_of_strings};

@@ -2,6 +2,7 @@
 
 ghost use Rattle.std.specs.Prelude.{◌≡◌, ◌≤◌, ◌⊎◌, IfOk, length, map, option_map, slice_get, string_bytes};
 ghost use Rattle.std.specs.List.{list_all};
+ghost use Rattle.al_types.specs.MoreFields.{and_field};
 ghost use Rattle.al_types.specs.Types.{ObjectOf, Strict, field_at, fields_of};
 ghost use Rattle.al_types.specs.TypeViews.{ty_of, named_of, names_in};
 ghost use Rattle.al_types.specs.Private.Positions.{IsFieldIndex};
@@ -33,7 +34,7 @@ pub fn object_by_names(
 }
 
 #[tactic(auto, using(crate::proofs::TypeFields::named_type))]
-fn object_of_named(alloc: Global, named: NamedFields) -> Result<Ty, AllocError>
+pub(crate) fn object_of_named(alloc: Global, named: NamedFields) -> Result<Ty, AllocError>
     ensures { IfOk result (λ t. ty_of t ≡ ObjectOf (named_of named) Strict) }
 {
     Ok(Ty::Object(Rc::new(alloc, Object::Named(named))?))
@@ -114,6 +115,20 @@ impl NamedFields {
         ensures { result ≡ no_fields (named_of self.now) }
     {
         self.types().is_empty()
+    }
+
+    /// The fields, and one more behind them, unless one has its name.
+    pub(crate) fn and_field(self, alloc: Global, field: Field) -> Result<NamedFields, AllocError>
+        requires { length (names_in self.names) ≡ length self.types.items }
+        ensures { IfOk result (λ f. named_of f ≡ and_field (named_of self) (field_of field)) }
+    {
+        let mut types = self.types;
+        let (names, is_new) = self.names.and_name(alloc, field.name)?;
+        if is_new {
+            types.push(field.ty)?;
+            return Ok(NamedFields { names, types });
+        }
+        Ok(NamedFields { names, types })
     }
 
     /// The fields once more, with names of their own.

@@ -1,16 +1,11 @@
 //! What an expression can name at its place.
 
-ghost use Rattle.std.specs.Prelude.{◌≡◌, IfOk, option_map};
+ghost use Rattle.std.specs.Prelude.{◌≡◌};
 ghost use Rattle.al_types.specs.Scopes.{type_of_context, is_available, is_allowed};
-ghost use Rattle.al_types.specs.Properties.{property_type};
-ghost use Rattle.al_types.specs.Types.{property_in};
 ghost use Rattle.al_types.specs.TypeViews.{ty_of};
 
-use crate::indexed::IndexedType;
 use crate::names::{Context, Function};
-use crate::properties::Property;
 use crate::types::Ty;
-use std::alloc::{AllocError, Global};
 
 /// What an expression can refer to at its place in a workflow or an action.
 #[derive(Drop)]
@@ -34,8 +29,7 @@ pub struct ContextTypes {
     pub strategy: Ty,
     pub needs: Ty,
     pub jobs: Ty,
-    /// It grows from step to step.
-    pub steps: IndexedType,
+    pub steps: Ty,
     pub matrix: Ty,
     pub inputs: Ty,
 }
@@ -55,26 +49,9 @@ impl ContextTypes {
             Context::Strategy => &self.strategy,
             Context::Needs => &self.needs,
             Context::Jobs => &self.jobs,
-            Context::Steps => self.steps.ty(),
+            Context::Steps => &self.steps,
             Context::Matrix => &self.matrix,
             Context::Inputs => &self.inputs,
-        }
-    }
-
-    /// The type of a context's property, where the context is an object that has it.
-    ///
-    /// Fails with `AllocError` for want of memory.
-    pub fn property(
-        &self,
-        alloc: Global,
-        context: Context,
-        name: &str,
-    ) -> Result<Option<Property<'_>>, AllocError>
-        ensures { IfOk result (λ found. option_map property_type found ≡ property_in name.now (type_of_context self.now context)) }
-    {
-        match context {
-            Context::Steps => self.steps.property(alloc, name),
-            _ => self.get(context).property(alloc, name),
         }
     }
 }

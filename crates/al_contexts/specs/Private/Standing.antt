@@ -1,6 +1,6 @@
 -- What holds of an environment that stands at a position of a file.
 use Rattle.std.specs.Prelude.{◌≡◌, map, option_map}
-use Rattle.al_types.specs.IndexedTypes.{indexed_type}
+use Rattle.al_types.specs.TypeViews.{ty_of}
 use Rattle.al_yaml.specs.View.{view}
 use Rattle.al_shape.specs.Values.{member_of}
 use Rattle.al_tree.specs.Files.{jobs_of}
@@ -19,5 +19,5 @@ pub record Stands (f : File) (e : Env) : Type 0 where
   pub fixed : Fixed f e.scope.types
   pub section : OfSection f e.scope.types (section_view e.section)
   pub owner : option_map owner_view e.owner ≡ owner_in f.kind (view f.root.now) (section_view e.section)
-  pub steps : indexed_type e.scope.types.steps ≡ owned (known_of f.known.now) (option_map owner_view e.owner) (before e.seen)
+  pub steps : ty_of e.scope.types.steps ≡ owned (known_of f.known.now) (option_map owner_view e.owner) (before e.seen)
   pub shown : Keeps (known_by e.outputs) (map member_of e.jobs.members.items) e.shown

@@ -1,5 +1,5 @@
 use Rattle.std.proofs.Common.{refl, ap, ◌∙◌}
-use Rattle.al_types.specs.IndexedTypes.{indexed_type}
+use Rattle.al_types.specs.TypeViews.{ty_of}
 use Rattle.al_contexts.specs.Answered.{known_of}
 use Rattle.al_contexts.proofs.Outside.{of_start}
 use Rattle.al_contexts.proofs.start.first_types.Goals as goal
@@ -8,4 +8,4 @@ pub returns-clause-section : goal.returns-clause-section
 returns-clause-section c = c.in_ok-set_fixed.ensures.section (of_start c.args.file _ refl refl refl refl)
 
 pub returns-clause-steps : goal.returns-clause-steps
-returns-clause-steps c = ap indexed_type c.in_ok-set_fixed.ensures.steps ∙ c.in_ok-steps.ensures (known_of c.args.file.known.now)
+returns-clause-steps c = ap ty_of c.in_ok-set_fixed.ensures.steps ∙ c.in_ok-steps.ensures (known_of c.args.file.known.now)

@@ -106,7 +106,8 @@ pub call-returns-in_err-ty-clause-begins : goal.call-returns-in_err-ty-clause-be
 call-returns-in_err-ty-clause-begins t c = begins_trans _ _ _ c.in_ok-given.ensures.begins c.called.ensures.begins
 
 pub base_type-returns-in-Some-clause-ok : goal.base_type-returns-in-Some-clause-ok
-base_type-returns-in-Some-clause-ok t c = rw (c.in-Some.ensures c.args.around.safe) (unchanged _ _)
+base_type-returns-in-Some-clause-ok t c =
+    ap (λ ty. typed ty c.args.out.now.items) c.get.ensures ∙ rw (c.in-Some.ensures c.args.around.safe) (unchanged _ _)
 
 pub operations-loop-operand-preserved : goal.operations-loop-operand-preserved
 operations-loop-operand-preserved t c =
