@@ -87,6 +87,23 @@ def outputs_of_all_steps():
     return {WORKFLOW: STEPS + steps + read, ACTION: called}, b""
 
 
+def many_steps(count):
+    """So many steps, each with an id."""
+    return STEPS + b"".join(b"      - {id: s%04d, run: x}\n" % number for number in range(count))
+
+
+def branches_of_many_steps():
+    """Expressions that read an output of the last of many steps, in two branches that are all of them."""
+    steps = b"      - run: ${{ (steps || steps).s5999.outputs.x }}\n" * 10_000
+    return {WORKFLOW: many_steps(6_000) + steps}, b""
+
+
+def steps_between_branches():
+    """Steps each of which reads an output of the first one, in two branches that are all steps before it."""
+    steps = b"".join(b"      - {id: t%04d, run: '${{ (steps || steps).s0000.outputs.x }}'}\n" % number for number in range(8_000))
+    return {WORKFLOW: many_steps(1) + steps}, b""
+
+
 def needed_jobs(count, job, expression):
     """As many expressions as there are jobs of this kind, in a job that needs all of them."""
     names = [b"j%04d" % number for number in range(count)]
@@ -194,6 +211,8 @@ FOLDERS = {
     "last-of-9000-needs-9000-times": lambda: needed_jobs(9_000, CALLED_ELSEWHERE, b"needs.j8999.result"),
     "all-of-2000-needs-2000-times": lambda: needed_jobs(2_000, b"runs-on: u, steps: [{run: x}]", b"contains(needs.*.result, 'failure')"),
     "last-of-6000-needs-in-6000-branches": lambda: needed_jobs(6_000, CALLED_ELSEWHERE, b"(needs || needs).j5999.result"),
+    "last-of-6000-steps-in-10000-branches": branches_of_many_steps,
+    "8000-steps-with-branches-of-those-before": steps_between_branches,
     "last-of-20000-keys-12000-times": last_key_of_a_mapping,
     "4000-jobs-that-need-4000-outputs": lambda: jobs_with_an_expression(b"${{ github.ref }}"),
     "4000-jobs-that-read-one-of-4000-outputs": lambda: jobs_with_an_expression(b"${{ needs.a.outputs.o0000 }}"),
