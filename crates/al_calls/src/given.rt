@@ -149,18 +149,7 @@ pub(crate) fn check_inputs(
     check_missing_inputs(alloc, call, &names, signature, out)
 }
 
-/// Whether each call has to give an input that isn't among these.
-fn is_missing(alloc: Global, given: &NameSet, input: &Input) -> Result<bool, AllocError>
-    ensures { IfOk result (λ b. b ≡ faults.is_missing (holds given.now) input.now) }
-{
-    if !is_mandatory(input) {
-        return Ok(false);
-    }
-    let is_given = given.contains(alloc, input.name.as_bytes())?;
-    Ok(!is_given)
-}
-
-/// C3.
+/// C3 of an input that a call may have to give.
 fn check_missing_input(
     alloc: Global,
     call: &Call<'_>,
@@ -173,17 +162,10 @@ fn check_missing_input(
         ++ faults.missing_input (call_of call.now) signature.now (holds given.now) input.now) }
     ensures begins { BeginsWith out.new.items out.old.items }
 {
-    if !is_missing(alloc, given, input)? {
+    if !is_mandatory(input) {
         return Ok(());
     }
-    report_two(
-        alloc,
-        CallCode::MissingInput,
-        call,
-        call.uses.span,
-        (input.name.as_bytes(), called(call, signature)),
-        out,
-    )
+    check_mandatory_input(alloc, call, signature, given, input, out)
 }
 
 /// C3 of the input that the earlier call gives by this member.

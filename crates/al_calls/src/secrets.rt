@@ -1,7 +1,7 @@
 //! Secrets that a job gives, against those that the called workflow shows: C5 and C6.
 #![tactic(auto, using(al_base::proofs::Growing::growth))]
 
-ghost use Rattle.std.specs.Prelude.{◌≡◌, ◌++◌, map, IfOk, OnOk};
+ghost use Rattle.std.specs.Prelude.{◌≡◌, ◌++◌, map, OnOk};
 ghost use Rattle.al_calls.specs.CallFaults as faults;
 ghost use Rattle.al_calls.specs.Private.Later as later;
 ghost use Rattle.al_calls.specs.Private.Ungiven.{ungiven_secret};
@@ -155,18 +155,7 @@ pub(crate) fn check_secrets(
     check_given_secrets(alloc, call, given.as_slice(), signature, out)
 }
 
-/// Whether each call has to give a secret that isn't among these.
-fn is_missing(alloc: Global, given: &NameSet, secret: &Secret) -> Result<bool, AllocError>
-    ensures { IfOk result (λ b. b ≡ faults.is_missing_secret (holds given.now) secret.now) }
-{
-    if !secret.required {
-        return Ok(false);
-    }
-    let is_given = given.contains(alloc, secret.name.as_bytes())?;
-    Ok(!is_given)
-}
-
-/// C6.
+/// C6 of a secret that a call may have to give.
 fn check_missing_secret(
     alloc: Global,
     call: &Call<'_>,
@@ -179,17 +168,10 @@ fn check_missing_secret(
         ++ faults.missing_secret (call_of call.now) signature.now (holds given.now) secret.now) }
     ensures begins { BeginsWith out.new.items out.old.items }
 {
-    if !is_missing(alloc, given, secret)? {
+    if !secret.required {
         return Ok(());
     }
-    report_two(
-        alloc,
-        CallCode::MissingSecret,
-        call,
-        call.uses.span,
-        (secret.name.as_bytes(), called(call, signature)),
-        out,
-    )
+    check_mandatory_secret(alloc, call, signature, given, secret, out)
 }
 
 /// C6 of the secret that the earlier call gives by this member.
