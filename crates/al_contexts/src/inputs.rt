@@ -8,8 +8,8 @@ ghost use Rattle.al_types.specs.Private.TypeParts.{field_of};
 ghost use Rattle.al_yaml.specs.View.{view};
 
 use crate::field_lists::FieldList;
-use crate::objects::{key_texts, named_strings};
-use al_declarations::{declared_at, input_of, type_of, value_below_three};
+use crate::objects::key_texts;
+use al_declarations::{declared_at, input_of, object_of_names, type_of, value_below_three};
 use al_shape::{Member, key_text, value};
 use al_tree::FileKind;
 use al_types::{Field, Ty};
@@ -57,7 +57,7 @@ fn action_inputs(alloc: Global, root: &Node) -> Result<Ty, AllocError>
 {
     let declared = declared_at(alloc, value(root, "inputs"))?;
     let names = key_texts(alloc, declared.as_slice())?;
-    named_strings(alloc, names.as_slice())
+    object_of_names(alloc, names.as_slice())
 }
 
 /// The type of `inputs` in a file.

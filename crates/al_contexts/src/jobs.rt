@@ -13,8 +13,8 @@ ghost use Rattle.al_declarations.specs.Declarations as declarations;
 use crate::field_lists::FieldList;
 use crate::job_lists::JobList;
 use crate::known::Outputs;
-use crate::objects::{add_field, key_texts, loose_any, named_strings, strict_of};
-use al_declarations::NameList;
+use crate::objects::{add_field, key_texts, loose_any, strict_of};
+use al_declarations::{NameList, object_of_names};
 use al_shape::{Member, key_text, members, value};
 use al_types::{Field, Ty, copy};
 use al_yaml::Node;
@@ -51,7 +51,7 @@ fn outputs_type<'a>(alloc: Global, known: &Outputs<'a>, job: Member<'a>) -> Resu
         call_outputs_type(alloc, known.of_job(key_text(job.key)))
     } else {
         let names = declared_names(alloc, job.value, "outputs")?;
-        named_strings(alloc, names.as_slice())
+        object_of_names(alloc, names.as_slice())
     }
 }
 

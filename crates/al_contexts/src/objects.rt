@@ -1,8 +1,7 @@
 //! Object types, made of names with their types.
-ghost use Rattle.std.specs.Prelude.{◌≡◌, ◌++◌, ◌∷◌, [], IfOk, OnOk, map, string_bytes};
+ghost use Rattle.std.specs.Prelude.{◌≡◌, ◌++◌, ◌∷◌, [], IfOk, OnOk, map};
 ghost use Rattle.al_declarations.specs.Declarations.{names_of};
 ghost use Rattle.al_shape.specs.Values.{member_of};
-ghost use Rattle.al_types.specs.Strings as types;
 ghost use Rattle.al_types.specs.Strings.{strings};
 ghost use Rattle.al_types.specs.TypeViews.{ty_of};
 ghost use Rattle.al_types.specs.Private.TypeParts.{field_of};
@@ -10,7 +9,7 @@ ghost use Rattle.al_contexts.specs.Objects as objects;
 ghost use Rattle.al_contexts.specs.Objects.{loosely, strictly};
 
 use al_shape::{Member, key_text};
-use al_types::{Field, Ty, name_text, object_of_fields, object_of_strings};
+use al_types::{Field, Ty, object_of_fields};
 use std::alloc::{AllocError, Global};
 
 /// An object that has no other fields. Fails with `AllocError` for want of memory.
@@ -67,24 +66,6 @@ pub(crate) fn key_texts<'a>(
         keys.push(key_text(entry.key))?;
     }
     Ok(keys)
-}
-
-/// Names as texts of their own. Fails with `AllocError` for want of memory.
-fn texts(alloc: Global, names: &[&[u8]]) -> Result<Vec<String>, AllocError>
-    ensures { IfOk result (λ v. map string_bytes v.items ≡ map (λ n. n.now) names.now) }
-{
-    let mut texts = Vec::with_capacity(alloc, names.len())?;
-    for name in names {
-        texts.push(name_text(alloc, name)?)?;
-    }
-    Ok(texts)
-}
-
-/// An object whose fields are strings of these names, and no others. Fails with `AllocError` for want of memory.
-pub(crate) fn named_strings(alloc: Global, names: &[&[u8]]) -> Result<Ty, AllocError>
-    ensures { IfOk result (λ t. ty_of t ≡ types.named_strings (map (λ n. n.now) names.now)) }
-{
-    object_of_strings(alloc, texts(alloc, names)?)
 }
 
 /// An object whose fields all are strings. Fails with `AllocError` for want of memory.

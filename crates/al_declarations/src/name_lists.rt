@@ -5,6 +5,7 @@ ghost use Rattle.al_types.specs.TypeViews.{ty_of};
 
 use al_types::{Ty, name_text, object_of_strings};
 use std::alloc::{AllocError, Global};
+use std::convert::AsSlice;
 use std::marker::Model;
 
 /// A name. Contracts see its bytes.
@@ -36,6 +37,14 @@ impl Name {
         ensures { result.now ≡ self.now }
     {
         self.bytes.as_slice()
+    }
+}
+
+impl AsSlice<u8> for Name {
+    ghost items = { λ a. a };
+
+    fn as_slice(&self) -> &[u8] {
+        self.as_bytes()
     }
 }
 
@@ -79,15 +88,22 @@ impl Model for NameList {
     ghost invariant = { λ a. ty_of a.strings ≡ named_strings a.names.items };
 }
 
-/// The texts of names.
-fn texts(alloc: Global, names: &[Name]) -> Result<Vec<String>, AllocError>
-    ensures { IfOk result (λ v. map string_bytes v.items ≡ names.now) }
+/// Names as texts of their own.
+fn texts<N: AsSlice<u8>>(alloc: Global, names: &[N]) -> Result<Vec<String>, AllocError>
+    ensures { IfOk result (λ v. map string_bytes v.items ≡ map N.items names.now) }
 {
     let mut texts = Vec::with_capacity(alloc, names.len())?;
     for name in names {
-        texts.push(name_text(alloc, name.as_bytes())?)?;
+        texts.push(name_text(alloc, name.as_slice())?)?;
     }
     Ok(texts)
+}
+
+/// An object whose fields are strings of these names, and no others. Fails as `name_text` does.
+pub fn object_of_names<N: AsSlice<u8>>(alloc: Global, names: &[N]) -> Result<Ty, AllocError>
+    ensures { IfOk result (λ t. ty_of t ≡ named_strings (map N.items names.now)) }
+{
+    object_of_strings(alloc, texts(alloc, names)?)
 }
 
 impl NameList {
@@ -95,7 +111,7 @@ impl NameList {
     pub fn new(alloc: Global, names: Vec<Name>) -> Result<NameList, AllocError>
         ensures { IfOk result (λ l. l ≡ names.items) }
     {
-        let strings = object_of_strings(alloc, texts(alloc, names.as_slice())?)?;
+        let strings = object_of_names(alloc, names.as_slice())?;
         Ok(NameList { names, strings })
     }
 
