@@ -6,8 +6,10 @@ use Rattle.std.proofs.lemmas.List.Elements.{filter_map-append}
 use Rattle.std.specs.List.{filter_map, enumerate_from}
 use Rattle.std.specs.Prelude.{if◌then◌else◌}
 use Rattle.al_base.specs.Names.{same_name}
-use Rattle.al_types.specs.MoreFields.{and_field}
-use Rattle.al_types.specs.Types.{FieldThen, ObjectOf, Strict, fields_of}
+use Rattle.al_types.specs.MoreFields.{with_field}
+use Rattle.al_types.specs.Types.{Absent, FieldThen, fields_of, object_with}
+use Rattle.al_types.specs.Private.Joined.{and_field}
+use Rattle.al_types.proofs.AddedFields.{object_grown}
 use Rattle.al_yaml.specs.Node.{Node}
 use Rattle.al_places.specs.Positions.{before}
 use Rattle.al_contexts.specs.Contexts.{Known, step_field, steps_fields, steps_shown, steps_type}
@@ -61,7 +63,10 @@ put_one (q ∷ qs) p =
 -- and several are several more
 pub put_several : (ts ps : List Typed) → with_fields (strictly ts) ps ≡ strictly (put_all put_new ts ps)
 put_several ts [] = refl
-put_several ts (p ∷ ps) = ap (λ fs. with_fields (ObjectOf fs Strict) ps) (sym (put_one ts p)) ∙ put_several (put_new ts p) ps
+put_several ts (p ∷ ps) =
+    let one : with_field (strictly ts) p ≡ strictly (put_new ts p) =
+    sym (object_grown (fields_of ts) Absent p) ∙ ap (λ fs. object_with fs Absent) (sym (put_one ts p)) in
+    ap (λ t. with_fields t ps) one ∙ put_several (put_new ts p) ps
 
 -- what is shown as steps behind those that are shown are added
 pub shown_more : (k : Known) (job : Option (List ℕ)) (ss part : List Node) (from count : ℕ) → from ≤ count → count ≤ length ss →

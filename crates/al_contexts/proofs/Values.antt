@@ -3,13 +3,13 @@ use Rattle.std.proofs.Common.{◌≡◌, [], ap, sym, map, ◌∙◌, None, Vec}
 use Rattle.std.specs.Prelude.{codes}
 use Rattle.std.specs.declared.alloc.Global.{Global}
 use Rattle.al_shape.specs.Values.{value_at}
-use Rattle.al_types.specs.Types.{ArrayOf, Any}
+use Rattle.al_types.specs.Types.{ArrayOf, Any, or_any}
 use Rattle.al_yaml.specs.View.{entries_of, entry_view, nodes_of, view}
 use Rattle.al_yaml.specs.declared.node.Entry.{Entry}
 use Rattle.al_yaml.specs.declared.node.Kind.TheVariants.{Mapping, Sequence}
 use Rattle.al_yaml.specs.declared.node.Node.{Node}
 use Rattle.al_yaml.proofs.ViewLemmas.{view_mapping, view_sequence}
-use Rattle.al_contexts.specs.Matrix.{combination, entries_types, included, items_type, matrix_of, node_type, or_any, row_type, rows_of}
+use Rattle.al_contexts.specs.Matrix.{combination, entries_types, included, items_type, matrix_of, node_type, row_type, rows_of}
 use Rattle.al_contexts.specs.Objects.{strictly}
 
 pub type_of_sequence : (n : Node) (v : Vec Node Global) → n.kind ≡ Sequence v → node_type (view n) ≡ ArrayOf (or_any (items_type None (nodes_of (map view v.items))))

@@ -7,7 +7,7 @@ use Rattle.al_scalar.specs.declared.styles.Class.{Class}
 use Rattle.al_scalar.specs.declared.styles.Class.TheVariants as class
 use Rattle.al_formats.specs.Chunks.{is_lone_chunk}
 use Rattle.al_formats.specs.declared.chunks.Around.TheVariants.{Nothing}
-use Rattle.al_types.specs.Types.{Type', Any, Null, Number, Bool', String, ArrayOf, fuse_type}
+use Rattle.al_types.specs.Types.{Type', Any, Null, Number, Bool', String, ArrayOf, fuse_type, or_any}
 use Rattle.al_yaml.specs.Node.{Node, Nodes, Entries, scalar, sequence, mapping, no_nodes, item, no_entries, entry}
 use Rattle.al_shape.specs.Faults.{has_chunk}
 use Rattle.al_shape.specs.Keys.{key_of, key_text}
@@ -29,10 +29,6 @@ scalar_type s = if has_chunk (text_of s) then (if is_lone_chunk Nothing (text_of
 abbrev pub fused_with : Option Type' → Type' → Type'
 fused_with None t = t
 fused_with (Some u) t = fuse_type u t
-
-abbrev pub or_any : Option Type' → Type'
-or_any None = Any
-or_any (Some t) = t
 
 -- The type of a value: of a list an array of what its items have in common, of a mapping a strict object, of equal names the first.
 abbrev mutual

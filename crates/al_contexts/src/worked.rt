@@ -4,7 +4,7 @@ ghost use Rattle.al_contexts.specs.Rows.Matrices as matrices;
 ghost use Rattle.al_contexts.specs.Rows.Words.{holds};
 ghost use Rattle.al_contexts.specs.Rows.Workflows as workflows;
 ghost use Rattle.al_tree.specs.declared.files.FileKind.TheVariants as kind;
-ghost use Rattle.al_types.specs.Types.{Any, ArrayOf, Bool', FieldThen, Loose, NoField, Number, ObjectOf, Strict, String};
+ghost use Rattle.al_contexts.specs.Rows.Words.{Any, ArrayOf, Bool', FieldThen, Loose, NoField, Number, ObjectOf, Strict, String};
 ghost use Rattle.std.specs.Prelude.{◌≡◌, [], ◌∷◌, codes, true};
 
 /// The types of contexts at places of small files: where the place starts, the context, and its type. Does nothing.

@@ -136,9 +136,9 @@ taken_is String takes.String = refl
 taken_is (ArrayOf t) takes.Boolean = refl
 taken_is (ArrayOf t) takes.Number = refl
 taken_is (ArrayOf t) takes.String = refl
-taken_is (ObjectOf fs r) takes.Boolean = refl
-taken_is (ObjectOf fs r) takes.Number = refl
-taken_is (ObjectOf fs r) takes.String = refl
+taken_is (ObjectOf fields rest all) takes.Boolean = refl
+taken_is (ObjectOf fields rest all) takes.Number = refl
+taken_is (ObjectOf fields rest all) takes.String = refl
 
 right_same : (t u : Type') → form_of t ≡ form_of u → (i : InputType) → is_right t i ≡ is_right u i
 right_same t u e i = taken_is t i ∙ ap (λ f. taken f i) e ∙ sym (taken_is u i)

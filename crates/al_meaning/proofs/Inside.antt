@@ -17,7 +17,7 @@ use Rattle.al_grammar.proofs.Inside.{TreeLies, StepsLie, OperandsLie, ArgumentsL
 use Rattle.al_types.specs.Names.{context_of, function_of}
 use Rattle.al_types.specs.Scopes.{Scope}
 use Rattle.al_types.specs.Signatures.{accepts, signature, takes, wanted}
-use Rattle.al_types.specs.Types.{Type', Any, Number, Bool', ArrayOf, ObjectOf, field_at, field_or_rest}
+use Rattle.al_types.specs.Types.{Type', Any, Number, Bool', ArrayOf, ObjectOf, option_of, or_else}
 use Rattle.al_types.specs.declared.names.Context.{Context}
 use Rattle.al_types.specs.declared.names.Function.{Function}
 use Rattle.al_types.specs.declared.names.Function.TheVariants.{Format}
@@ -84,14 +84,14 @@ module _ (size : ℕ) where
 
   property_lies : (n : List ℕ) (at whole : Span) (u : Type') → LiesIn size at → LiesIn size whole → TypedLies (property_of n at whole u)
   property_lies n at whole Any i j = tt
-  property_lies n at whole (ObjectOf fs r) i j = or_lies (fault code.UndefinedProperty at (n ∷ [])) (field_or_rest (field_at n fs) r) i
+  property_lies n at whole (ObjectOf fields rest all) i j = or_lies (fault code.UndefinedProperty at (n ∷ [])) (option_of (or_else (fields n) rest)) i
   property_lies n at whole (ArrayOf t) i j = array_lies (property_of n at whole t) (property_lies n at whole t i j)
   property_lies n at whole _ i j = (j, tt)
 
   all_lies : (whole : Span) (u : Type') → LiesIn size whole → TypedLies (all_of whole u)
   all_lies whole Any j = tt
   all_lies whole (ArrayOf t) j = tt
-  all_lies whole (ObjectOf fs r) j = tt
+  all_lies whole (ObjectOf fields rest all) j = tt
   all_lies whole _ j = (j, tt)
 
   element_lies : (whole : Span) (t i : Type') → LiesIn size whole → TypedLies (element_at whole t i)
@@ -101,7 +101,7 @@ module _ (size : ℕ) where
 
   index_lies : (whole : Span) (u i : Type') → LiesIn size whole → TypedLies (index_of whole u i)
   index_lies whole Any i j = tt
-  index_lies whole (ObjectOf fs r) i j = tt
+  index_lies whole (ObjectOf fields rest all) i j = tt
   index_lies whole (ArrayOf t) i j = element_lies whole t i j
   index_lies whole _ i j = (j, tt)
 

@@ -14,8 +14,7 @@ use Rattle.al_types.specs.declared.signatures.Parameters.{Parameters}
 use Rattle.al_grammar.specs.Refusal.{fault}
 use Rattle.al_types.specs.Names.{context_of, function_of}
 use Rattle.al_meaning.specs.Placeholders.{used_arguments}
-use Rattle.al_types.specs.Types.{Type', Any, Number, Bool', String, ArrayOf, ObjectOf, Fields, NoField, FieldThen, Rest, Strict}
-use Rattle.al_types.specs.Types.{Loose, field_at, field_or_rest, fuse_type}
+use Rattle.al_types.specs.Types.{Type', Any, Number, Bool', String, ArrayOf, ObjectOf, fuse_type, option_of, or_any, or_else}
 use Rattle.al_meaning.specs.Comparison.{comparable_types}
 use Rattle.al_types.specs.Signatures.{signature, takes, wanted, accepts, returned_type}
 use Rattle.al_types.specs.Scopes.{Scope}
@@ -71,26 +70,16 @@ not_indexable whole = typed Any (fault code.NotIndexable whole [] ∷ [])
 -- scalar has none: X14.
 abbrev pub property_of : List ℕ → Span → Span → Type' → Typed
 property_of n at whole Any = typed Any []
-property_of n at whole (ObjectOf fs r) = or_fault (fault code.UndefinedProperty at (n ∷ [])) (field_or_rest (field_at n fs) r)
+property_of n at whole (ObjectOf fields rest all) =
+    or_fault (fault code.UndefinedProperty at (n ∷ [])) (option_of (or_else (fields n) rest))
 property_of n at whole (ArrayOf t) = array_of (property_of n at whole t)
 property_of n at whole _ = not_indexable whole
 
-abbrev pub fuse_next : Option Type' → Type' → Type'
-fuse_next None t = t
-fuse_next (Some u) t = fuse_type u t
-
--- what all fields, and those beside them, have in common, with what was met before
-abbrev pub fuse_all : Option Type' → Fields → Rest → Type'
-fuse_all None NoField Strict = Any
-fuse_all (Some t) NoField Strict = t
-fuse_all o NoField (Loose t) = fuse_next o t
-fuse_all o (FieldThen n t fs) r = fuse_all (Some (fuse_next o t)) fs r
-
--- `.*` and `[*]`
+-- `.*` and `[*]`: of an object, an array of what all its fields and the type of others have in common, of any where there is neither
 abbrev pub all_of : Span → Type' → Typed
 all_of whole Any = typed Any []
 all_of whole (ArrayOf t) = typed (ArrayOf t) []
-all_of whole (ObjectOf fs r) = typed (ArrayOf (fuse_all None fs r)) []
+all_of whole (ObjectOf fields rest all) = typed (ArrayOf (or_any (option_of all))) []
 all_of whole _ = not_indexable whole
 
 -- the element of an array, by an index of this type
@@ -101,7 +90,7 @@ element_at whole t _ = not_indexable whole
 
 abbrev pub index_of : Span → Type' → Type' → Typed
 index_of whole Any i = typed Any []
-index_of whole (ObjectOf fs r) i = typed Any []
+index_of whole (ObjectOf fields rest all) i = typed Any []
 index_of whole (ArrayOf t) i = element_at whole t i
 index_of whole _ i = not_indexable whole
 

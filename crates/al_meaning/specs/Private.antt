@@ -5,4 +5,3 @@ pub mod LiteralViews
 pub mod PlaceholderStates
 pub mod PlaceholderViews
 pub mod QuotingStates
-pub mod FusedFields

@@ -1,19 +1,17 @@
 //! The types that property, index and `.*` steps lead to.
 
-ghost use Rattle.std.specs.Prelude.{◌≡◌, ◌∷◌, [], IfOk, None, map, option_map, true};
+ghost use Rattle.std.specs.Prelude.{◌≡◌, ◌∷◌, [], IfOk, None, option_map};
 ghost use Rattle.al_base.specs.Growth.{BeginsWith};
 ghost use Rattle.al_base.specs.declared.codes.ExpressionCode.TheVariants as code;
 ghost use Rattle.al_grammar.specs.Refusal.{fault};
 ghost use Rattle.al_meaning.specs.Meaning.{typed, behind, or_fault, property_of, all_of, index_of, element_at};
-ghost use Rattle.al_meaning.specs.Meaning.{not_indexable, fuse_all, fuse_next};
-ghost use Rattle.al_meaning.specs.Private.FusedFields.{FusesTo, common_of, rest_by, string_unless};
-ghost use Rattle.al_types.specs.Types.{NoField, fields_of, property_in};
-ghost use Rattle.al_types.specs.TypeViews.{ty_of, fused_of, object_of};
-ghost use Rattle.al_types.specs.Private.TypeParts.{field_of, fields_of_type, only_strings, rest_of_type};
+ghost use Rattle.al_meaning.specs.Meaning.{not_indexable};
+ghost use Rattle.al_types.specs.Types.{ArrayOf, or_any, property_in};
+ghost use Rattle.al_types.specs.TypeViews.{ty_of};
 
 use crate::reports::{report_plain, report_text};
 use al_base::{ExpressionCode, Fault, Span};
-use al_types::{Field, Fused, Object, Property, Ty, copy, fuse, joined_object};
+use al_types::{Property, Ty, any_if_none, copy};
 use std::alloc::{AllocError, Global};
 
 /// The type of a property, whose name stands at `at`, of a value of this type.
@@ -172,14 +170,8 @@ pub(crate) fn all(
     match ty {
         Ty::Any => Ok(Ty::Any),
         Ty::Array(_) => copy(alloc, ty),
-        Ty::Object(object) => {
-            let of = fuse_all(alloc, object)?;
-            Ok(Ty::Array(Box::new(alloc, of)?))
-        }
-        Ty::Fused(fused) => {
-            let of = fuse_all_of_fused(alloc, fused)?;
-            Ok(Ty::Array(Box::new(alloc, of)?))
-        }
+        Ty::Object(object) => array_of(alloc, object.common(alloc)?),
+        Ty::Fused(fused) => array_of(alloc, fused.common(alloc)?),
         Ty::Null => not_indexable(whole, out),
         Ty::Number => not_indexable(whole, out),
         Ty::Bool => not_indexable(whole, out),
@@ -187,101 +179,9 @@ pub(crate) fn all(
     }
 }
 
-// What all fields of an object, and those beside them, have in common: any where there are none.
-fn fuse_all(alloc: Global, object: &Object) -> Result<Ty, AllocError>
-    ensures { IfOk result (λ t. ty_of t ≡ fuse_all None (fields_of_type (object_of object.now)) (rest_of_type (object_of object.now))) }
+// An array of elements of a type, of any where there is none.
+fn array_of(alloc: Global, element: Option<Ty>) -> Result<Ty, AllocError>
+    ensures { IfOk result (λ t. ty_of t ≡ ArrayOf (or_any (option_map ty_of element))) }
 {
-    let common = fuse_fields(alloc, object)?;
-    let all = fuse_beside(alloc, common, object.other())?;
-    Ok(all)
-}
-
-// What the fields of an object have in common, where there are some.
-fn fuse_fields(alloc: Global, object: &Object) -> Result<Option<Ty>, AllocError>
-    ensures { IfOk result (λ common. FusesTo (fields_of_type (object_of object.now)) (option_map ty_of common)) }
-{
-    match object {
-        Object::Listed(listing) => fuse_listed(alloc, listing.fields.as_slice()),
-        Object::Named(named) => {
-            let common = fuse_types(alloc, named.types())?;
-            Ok(common)
-        }
-        Object::Strings(_) => Ok(string_unless(object.has_no_fields())),
-    }
-}
-
-fn fuse_listed(alloc: Global, fields: &[Field]) -> Result<Option<Ty>, AllocError>
-    ensures { IfOk result (λ common. FusesTo (fields_of (map field_of fields.now)) (option_map ty_of common)) }
-{
-    let mut common = None;
-    for field in fields {
-        common = Some(fuse_next(alloc, common, &field.ty)?);
-    }
-    Ok(common)
-}
-
-// What some types have in common, where there are some.
-fn fuse_types(alloc: Global, types: &[Ty]) -> Result<Option<Ty>, AllocError>
-    ensures { IfOk result (λ common. option_map ty_of common ≡ common_of None (map ty_of types.now)) }
-{
-    let mut common = None;
-    for ty in types {
-        common = Some(fuse_next(alloc, common, ty)?);
-    }
-    Ok(common)
-}
-
-// What strings have in common, unless there are none.
-fn string_unless(none: bool) -> Option<Ty>
-    ensures { option_map ty_of result ≡ string_unless none }
-{
-    if none { None } else { Some(Ty::String) }
-}
-
-// The same of objects that are fused. Where all their fields are strings, they aren't made one object first.
-fn fuse_all_of_fused(alloc: Global, fused: &Fused) -> Result<Ty, AllocError>
-    ensures { IfOk result (λ t. ty_of t ≡ fuse_all None (fields_of_type (fused_of fused.now)) (rest_of_type (fused_of fused.now))) }
-{
-    if fused.has_only_strings() {
-        return fuse_strings(alloc, fused);
-    }
-    let object = joined_object(alloc, fused)?;
-    fuse_all(alloc, &object)
-}
-
-fn fuse_strings(alloc: Global, fused: &Fused) -> Result<Ty, AllocError>
-    requires { only_strings (fields_of_type (fused_of fused.now)) ≡ true }
-    ensures { IfOk result (λ t. ty_of t ≡ fuse_all None (fields_of_type (fused_of fused.now)) (rest_of_type (fused_of fused.now))) }
-{
-    let other = fused.other(alloc)?;
-    let common = string_unless(fused.has_no_fields());
-    match &other {
-        Some(ty) => fuse_beside(alloc, common, Some(ty)),
-        None => fuse_beside(alloc, common, None),
-    }
-}
-
-// The same with the type of other fields, where all named ones are fused.
-#[tactic(auto, using(crate::proofs::TypedSteps::fused_beside))]
-fn fuse_beside(alloc: Global, common: Option<Ty>, other: Option<&Ty>) -> Result<Ty, AllocError>
-    ensures { IfOk result
-        (λ t. ty_of t ≡ fuse_all (option_map ty_of common) NoField (rest_by (option_map (λ u. ty_of u.now) other.entry))) }
-{
-    match other {
-        Some(ty) => fuse_next(alloc, common, ty),
-        None => match common {
-            Some(common) => Ok(common),
-            None => Ok(Ty::Any),
-        },
-    }
-}
-
-fn fuse_next(alloc: Global, common: Option<Ty>, ty: &Ty) -> Result<Ty, AllocError>
-    ensures { IfOk result (λ t. ty_of t ≡ fuse_next (option_map ty_of common) (ty_of ty.now)) }
-{
-    let next = copy(alloc, ty)?;
-    match common {
-        Some(common) => fuse(alloc, common, next),
-        None => Ok(next),
-    }
+    Ok(Ty::Array(Box::new(alloc, any_if_none(element))?))
 }

@@ -1,24 +1,18 @@
 -- A field added to others: behind them, or not at all; and the names of fields, with one more.
 use Rattle.std.proofs.Common.{◌≡◌, ◌+◌, ℕ, List, [], ◌∷◌, ◌++◌, length, refl, sym, ap, ◌∙◌, Bool, true, false, ◌||◌, Option, Some, None, option_map, arith}
-use Rattle.std.specs.Prelude.{if◌then◌else◌, is_none, zip}
+use Rattle.std.specs.Prelude.{if◌then◌else◌, is_none, is_some, zip}
 use Rattle.al_base.specs.Names.{same_name}
-use Rattle.al_types.specs.MoreFields.{and_field, with_field}
+use Rattle.al_types.specs.MoreFields.{is_present, with_field}
 use Rattle.al_types.specs.Positions.{name_place}
-use Rattle.al_types.specs.Types.{Type', Any, Null, Number, Bool', String, ArrayOf, ObjectOf, Fields, NoField, FieldThen, Strict, fields_of, has_field}
+use Rattle.al_types.specs.Types.{Type', Optional, Absent, Present, Fields, NoField, FieldThen, field_at, fields_of, fuse_type, has_field, object_type}
+use Rattle.al_types.specs.Types.{object_with, option_of, optional}
+use Rattle.al_types.specs.FusedFields.{both, fuse_fields, join_fields, with_other}
+use Rattle.al_types.specs.Private.Joined.{and_field}
 use Rattle.al_types.specs.Private.Positions.{IsNameIndex, and_name_at, name_position}
-use Rattle.al_types.specs.Private.TypeParts.{fields_of_type}
 use Rattle.al_types.specs.declared.positions.NamePositions.{NamePositions}
+use Rattle.al_types.proofs.FuseLaws.{nothing_last}
+use Rattle.al_types.proofs.JoinedFields.{has_field_at, joined_parts, same_turned}
 use Rattle.al_types.proofs.PositionLemmas.{first_more}
-
--- of any type it is its fields that count
-pub by_fields_of : (t : Type') (f : List ℕ × Type') → with_field t f ≡ ObjectOf (and_field (fields_of_type t) f) Strict
-by_fields_of Any f = refl
-by_fields_of Null f = refl
-by_fields_of Number f = refl
-by_fields_of Bool' f = refl
-by_fields_of String f = refl
-by_fields_of (ArrayOf a) f = refl
-by_fields_of (ObjectOf fs r) f = refl
 
 -- ---- fields that are looked through
 
@@ -32,6 +26,24 @@ pub added_old : (fs : Fields) (f : List ℕ × Type') → has_field f.0 fs ≡ t
 added_old NoField f e = absurd cc
 added_old (FieldThen n t fs) f e = old_step (same_name n f.0) (has_field f.0 fs) n t fs (and_field fs f) (λ h. added_old fs f h) e
 
+neither_first : (a b : Bool) → a || b ≡ false → a ≡ false
+neither_first true b e = absurd cc
+neither_first false b e = refl
+
+neither_last : (a b : Bool) → a || b ≡ false → b ≡ false
+neither_last true b e = absurd cc
+neither_last false b e = e
+
+last_step : (b had : Bool) (n : List ℕ) (t : Type') (fs more all : Fields) → (had ≡ false → more ≡ all) → (b || had) ≡ false →
+    (if b then FieldThen n t fs else FieldThen n t more) ≡ FieldThen n t all
+last_step true had n t fs more all h e = absurd cc
+last_step false had n t fs more all h e = ap (FieldThen n t) (h e)
+
+added_last : (fs : Fields) (f : List ℕ × Type') → has_field f.0 fs ≡ false → and_field fs f ≡ join_fields fs (FieldThen f.0 f.1 NoField)
+added_last NoField f e = refl
+added_last (FieldThen n t fs) f e =
+    last_step (same_name n f.0) (has_field f.0 fs) n t fs (and_field fs f) (join_fields fs (FieldThen f.0 f.1 NoField)) (λ h. added_last fs f h) e
+
 new_step : (b had : Bool) (n : List ℕ) (t : Type') (fs more all : Fields) → (had ≡ false → all ≡ more) → (b || had) ≡ false →
     FieldThen n t all ≡ (if b then FieldThen n t fs else FieldThen n t more)
 new_step true had n t fs more all h e = absurd cc
@@ -44,6 +56,52 @@ added_new [] f e = refl
 added_new (g ∷ fs) f e =
     new_step (same_name g.0 f.0) (has_field f.0 (fields_of fs)) g.0 g.1 (fields_of fs) (and_field (fields_of fs) f) (fields_of (fs ++ f ∷ []))
     (λ h. added_new fs f h) e
+
+-- ---- the object that has them
+
+alone_step : (same : Bool) (t u : Type') → same ≡ false → with_other t (if same then Some u else None) ≡ t
+alone_step true t u e = absurd cc
+alone_step false t u e = refl
+
+-- fields without a name take nothing of a field of that name
+fused_alone : (fs : Fields) (n : List ℕ) (u : Type') → has_field n fs ≡ false → fuse_fields fs (FieldThen n u NoField) ≡ fs
+fused_alone NoField n u h = refl
+fused_alone (FieldThen m t fs) n u h =
+    ap (λ s. FieldThen m s (fuse_fields fs (FieldThen n u NoField))) (alone_step (same_name n m) t u (same_turned n m ∙ neither_first (same_name m n) (has_field n fs) h))
+    ∙ ap (FieldThen m t) (fused_alone fs n u (neither_last (same_name m n) (has_field n fs) h))
+
+missing_alone : (has : Bool) (n : List ℕ) (u : Type') → has ≡ false → (if has then NoField else FieldThen n u NoField) ≡ FieldThen n u NoField
+missing_alone true n u e = absurd cc
+missing_alone false n u e = refl
+
+behind : (fs : Fields) (f : List ℕ × Type') → has_field f.0 fs ≡ false → and_field fs f ≡ both fs (FieldThen f.0 f.1 NoField)
+behind fs f h =
+    added_last fs f h ∙ ap (λ gs. join_fields gs (FieldThen f.0 f.1 NoField)) (sym (fused_alone fs f.0 f.1 h))
+    ∙ ap (join_fields (fuse_fields fs (FieldThen f.0 f.1 NoField))) (sym (missing_alone (has_field f.0 fs) f.0 f.1 h))
+
+present_at : (o : Option Type') → is_present (optional o) ≡ is_some o
+present_at None = refl
+present_at (Some t) = refl
+
+-- a type that may be there is found where it is
+pub some_present : (o : Optional) → is_some (option_of o) ≡ is_present o
+some_present Absent = refl
+some_present (Present t) = refl
+
+grown_step : (has : Bool) (t grown new : Type') → (has ≡ true → grown ≡ t) → (has ≡ false → grown ≡ new) → grown ≡ (if has then t else new)
+grown_step true t grown new h k = h refl
+grown_step false t grown new h k = k refl
+
+-- it has the field where the object grows by it
+pub object_grown : (fs : Fields) (r : Optional) (f : List ℕ × Type') → object_with (and_field fs f) r ≡ with_field (object_with fs r) f
+object_grown fs r f =
+    let has : is_present (optional (field_at f.0 fs)) ≡ has_field f.0 fs = present_at (field_at f.0 fs) ∙ has_field_at f.0 fs in
+    grown_step (is_present (optional (field_at f.0 fs))) (object_with fs r) (object_with (and_field fs f) r)
+    (fuse_type (object_with fs r) (object_with (FieldThen f.0 f.1 NoField) Absent))
+    (λ y. ap (λ gs. object_with gs r) (added_old fs f (sym has ∙ y)))
+    (λ y. ap (λ gs. object_with gs r) (behind fs f (sym has ∙ y))
+    ∙ ap (object_with (both fs (FieldThen f.0 f.1 NoField))) (sym (nothing_last r))
+    ∙ ap object_type (joined_parts fs (FieldThen f.0 f.1 NoField) r Absent refl))
 
 -- ---- fields that are found by their names
 

@@ -5,15 +5,13 @@ use Rattle.std.specs.Prelude.{if◌then◌else◌}
 use Rattle.std.proofs.Math.ListN.{get_or-map}
 use Rattle.al_base.specs.Names.{same_name}
 use Rattle.al_types.specs.declared.types.Field.{Field}
-use Rattle.al_types.specs.declared.types.Listing.{Listing, Listing', out-Listing}
-use Rattle.al_types.specs.declared.types.Object.{Object, Listed, Strings}
-use Rattle.al_types.specs.declared.types.Object.TheBlock.{Named'}
+use Rattle.al_types.specs.declared.types.Listing.{Listing, out-Listing}
 use Rattle.al_types.specs.Positions.{field_position, first_at}
-use Rattle.al_types.specs.Types.{Type', Fields, NoField, FieldThen, Strict, field_at, field_or_rest, property_in, fields_of}
-use Rattle.al_types.specs.TypeViews.{ty_of, listing_of, object_of}
-use Rattle.al_types.specs.Private.TypeParts.{field_of, fields_of_type, rest_of_type}
+use Rattle.al_types.specs.Types.{Type', Absent, Fields, NoField, FieldThen, field_at, fields_of, option_of, optional, or_else}
+use Rattle.al_types.specs.TypeViews.{ty_of, listed_fields}
+use Rattle.al_types.specs.Private.TypeParts.{field_of}
 use Rattle.al_types.proofs.PositionLemmas.{found_within, position_next}
-use Rattle.al_types.proofs.TypeFields.{listing_fields}
+use Rattle.al_types.proofs.TypeFields.{fields_listed}
 
 abbrev is_named : List ℕ → List ℕ × Type' → Bool
 is_named n f = same_name f.0 n
@@ -64,32 +62,19 @@ field_nowhere (FieldThen m t fs) n e = nowhere_step (same_name m n) (field_posit
 -- ---- the property of an object
 
 -- where there are no other fields
-pub strict_field : (o : Option Type') → o ≡ field_or_rest o Strict
-strict_field None = refl
-strict_field (Some t) = refl
-
-pub property_of_listing : (n : List ℕ) (l : Listing) →
-    property_in n (listing_of l) ≡ field_or_rest (field_at n (fields_of_type (listing_of l))) (rest_of_type (listing_of l))
-property_of_listing n (Listing' s f r) = refl
-
-pub property_of_parts : (n : List ℕ) (o : Object) →
-    property_in n (object_of o) ≡ field_or_rest (field_at n (fields_of_type (object_of o))) (rest_of_type (object_of o))
-property_of_parts n (Listed l) = property_of_listing n l
-property_of_parts n (Named' ns s ts) = refl
-property_of_parts n (Strings ns) = refl
-
-pub fields_listed : (o : Listing) → fields_of_type (listing_of o) ≡ fields_of (map field_of (out-Listing o).fields.items)
-fields_listed o = ap fields_of_type (listing_fields o)
+pub strict_property : (o : Option Type') → o ≡ option_of (or_else (optional o) Absent)
+strict_property None = refl
+strict_property (Some t) = refl
 
 -- a position is one of its fields
-pub position_inside : (o : Listing) (n : List ℕ) (i : ℕ) → field_position (fields_of_type (listing_of o)) n ≡ Some i → i < length (out-Listing o).fields.items
+pub position_inside : (o : Listing) (n : List ℕ) (i : ℕ) → field_position (listed_fields o) n ≡ Some i → i < length (out-Listing o).fields.items
 position_inside o n i e =
     found_within field_of (is_named n) (out-Listing o).fields.items i
     (sym (position_listed (map field_of (out-Listing o).fields.items) n) ∙ ap (λ fs. field_position fs n) (sym (fields_listed o)) ∙ e)
 
 -- and the field there has the type that the name finds
-pub type_there : (o : Listing) (n : List ℕ) (i : ℕ) (f : Field) → field_position (fields_of_type (listing_of o)) n ≡ Some i →
-    f ≡ get_or (out-Listing o).fields.items i f → Some (ty_of f.ty) ≡ field_at n (fields_of_type (listing_of o))
+pub type_there : (o : Listing) (n : List ℕ) (i : ℕ) (f : Field) → field_position (listed_fields o) n ≡ Some i →
+    f ≡ get_or (out-Listing o).fields.items i f → Some (ty_of f.ty) ≡ field_at n (listed_fields o)
 type_there o n i f e h =
     let items = (out-Listing o).fields.items in
     let fs : List (List ℕ × Type') = map field_of items in

@@ -1,13 +1,12 @@
 -- Fields that are found by their names: where a name stands among them, and what only their types tell.
 use Rattle.std.proofs.Common.{◌≡◌, ◌⊎◌, inl, inr, ◌+◌, ◌<◌, ◌≤◌, ℕ, List, [], ◌∷◌, ◌++◌, map, take, length, get_or, zero, suc, arith, refl, sym, ap, ◌∙◌}
-use Rattle.std.proofs.Common.{Bool, true, false, ◌&&◌, Option, Some, None, option_map, nat_eq}
+use Rattle.std.proofs.Common.{Bool, true, false, Option, Some, None, option_map}
 use Rattle.std.proofs.lemmas.Grind.{common_steps}
-use Rattle.std.specs.List.{list_all}
 use Rattle.std.specs.Prelude.{if◌then◌else◌, option_and_then, slice_get, zip}
 use Rattle.al_base.specs.Names.{same_name}
 use Rattle.al_types.specs.Positions.{field_position, name_place}
-use Rattle.al_types.specs.Types.{Type', Fields, NoField, FieldThen, field_at, fields_of}
-use Rattle.al_types.specs.Private.TypeParts.{is_string, named_types, no_fields, only_strings}
+use Rattle.al_types.specs.Types.{Type', Present, Fields, NoField, FieldThen, common_in, field_at, fields_of, fuse_optional}
+use Rattle.al_types.specs.Private.TypeParts.{common_of, named_types}
 
 -- where a name stands among fields it stands among their names
 pub place_of_field : (fs : List (List ℕ × Type')) (n : List ℕ) → field_position (fields_of fs) n ≡ name_place (map (λ (f : List ℕ × Type'). f.0) fs) n
@@ -42,13 +41,9 @@ found_by_name (m ∷ ns) (t ∷ ts) n = found_step (same_name m n) t ts _ (name_
 
 -- ---- what only types tell
 
-pub only_by_types : (fs : Fields) → only_strings fs ≡ list_all is_string (named_types fs)
-only_by_types NoField = refl
-only_by_types (FieldThen n t fs) = ap (λ b. is_string t && b) (only_by_types fs)
-
-pub none_by_types : (fs : Fields) → no_fields fs ≡ nat_eq (length (named_types fs)) 0
-none_by_types NoField = refl
-none_by_types (FieldThen n t fs) = grind (arith, common_steps)
+pub common_by_types : (fs : Fields) → common_in fs ≡ common_of (named_types fs)
+common_by_types NoField = refl
+common_by_types (FieldThen n t fs) = ap (fuse_optional (Present t)) (common_by_types fs)
 
 -- the types of the first of some names with some types
 pub types_named : {X : Type 0} (g : X → Type') (ns : List (List ℕ)) (xs : List X) (n : ℕ) → n ≤ length ns → n ≤ length xs → (n ≡ length ns) ⊎ (n ≡ length xs) →

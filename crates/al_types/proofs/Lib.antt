@@ -1,10 +1,12 @@
 pub mod TypeForms
 pub mod TypeFields
 pub mod FuseLaws
-pub mod FusedLists
+pub mod FusedForms
+pub mod JoinedFields
 pub mod FusedObjects
 pub mod PositionLemmas
 pub mod StringFields
 pub mod FieldPositions
 pub mod FieldsByName
+pub mod Commons
 pub mod AddedFields

@@ -4,25 +4,10 @@ use Rattle.std.specs.Global.{Global}
 use Rattle.std.specs.Prelude.{Box}
 use Rattle.al_types.specs.declared.types.Ty.{Ty}
 use Rattle.al_types.specs.declared.types.Ty as code
-use Rattle.al_types.specs.declared.types.Fused.{Fused}
-use Rattle.al_types.specs.declared.types.Listing.{Listing, Listing'}
-use Rattle.al_types.specs.declared.types.Object.{Object, Listed, Strings}
-use Rattle.al_types.specs.declared.types.Object.TheBlock.{Named'}
 use Rattle.al_types.specs.declared.types.Form.TheVariants as form
 use Rattle.al_types.specs.Types.{Type', Any, Null, Number, Bool', String, ArrayOf, ObjectOf, assignable_type, is_collection, is_plain}
-use Rattle.al_types.specs.TypeViews.{ty_of, listing_of, object_of}
-use Rattle.al_types.specs.Private.TypeParts.{form_of, assignable_form, is_collection_form, is_plain_form, is_string, is_string_form}
-
-form_listing : (l : Listing) → form_of (listing_of l) ≡ form.Object
-form_listing (Listing' s f r) = refl
-
-pub form_object : (o : Object) → form_of (object_of o) ≡ form.Object
-form_object (Listed l) = form_listing l
-form_object (Named' ns s ts) = refl
-form_object (Strings ns) = refl
-
-pub form_fused : (b : Box Fused Global) → form_of (ty_of (code.Fused b)) ≡ form.Object
-form_fused b = refl
+use Rattle.al_types.specs.TypeViews.{ty_of}
+use Rattle.al_types.specs.Private.TypeParts.{form_of, assignable_form, is_collection_form, is_plain_form}
 
 pub by_form : (s t : Type') → form_of s ≢ form.Array → assignable_type s t ≡ assignable_form (form_of s) (form_of t)
 by_form (ArrayOf a) t h = absurd (h refl)
@@ -35,8 +20,8 @@ by_form Bool' Any h = refl
 by_form Bool' _ h = refl
 by_form String Any h = refl
 by_form String _ h = refl
-by_form (ObjectOf f r) Any h = refl
-by_form (ObjectOf f r) _ h = refl
+by_form (ObjectOf f r x) Any h = refl
+by_form (ObjectOf f r x) _ h = refl
 
 pub by_form_to : (a t : Type') → form_of t ≢ form.Array → assignable_type (ArrayOf a) t ≡ assignable_form form.Array (form_of t)
 by_form_to a (ArrayOf b) h = absurd (h refl)
@@ -44,7 +29,7 @@ by_form_to a _ h = refl
 
 pub not_array : (t : Ty) → ((x : Box Ty Global) → t ≡ code.Array x → ⊥) → form_of (ty_of t) ≢ form.Array
 not_array (code.Array' p t) h = absurd (h (record { ptr = p.ptr; alloc = p.alloc; value = t }) refl)
-not_array (code.Object' p o) h = λ e. let g = form_object o in cc
+not_array (code.Object' p o) h = λ e. cc
 not_array (code.Fused' p s os) h = λ e. cc
 not_array code.Any h = λ e. cc
 not_array code.Null h = λ e. cc
@@ -59,7 +44,7 @@ collection_form Number = refl
 collection_form Bool' = refl
 collection_form String = refl
 collection_form (ArrayOf t) = refl
-collection_form (ObjectOf fs r) = refl
+collection_form (ObjectOf f r x) = refl
 
 pub plain_form : (t : Type') → is_plain t ≡ is_plain_form (form_of t)
 plain_form Any = refl
@@ -68,15 +53,6 @@ plain_form Number = refl
 plain_form Bool' = refl
 plain_form String = refl
 plain_form (ArrayOf t) = refl
-plain_form (ObjectOf fs r) = refl
+plain_form (ObjectOf f r x) = refl
 
-pub string_form : (t : Type') → is_string t ≡ is_string_form (form_of t)
-string_form Any = refl
-string_form Null = refl
-string_form Number = refl
-string_form Bool' = refl
-string_form String = refl
-string_form (ArrayOf t) = refl
-string_form (ObjectOf fs r) = refl
-
-pub ruleset by_outermost = (collection_form, plain_form, string_form)
+pub ruleset by_outermost = (collection_form, plain_form)

@@ -3,6 +3,7 @@ pub mod Types
 pub mod TypeViews
 pub mod Positions
 pub mod MoreFields
+pub mod FusedFields
 pub mod Signatures
 pub mod Strings
 pub mod Scopes

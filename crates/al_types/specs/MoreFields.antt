@@ -1,14 +1,16 @@
 -- Objects that grow by a field.
-use Rattle.std.specs.Prelude.{ℕ, List, if◌then◌else◌}
-use Rattle.al_base.specs.Names.{same_name}
-use Rattle.al_types.specs.Types.{Type', ObjectOf, Fields, NoField, FieldThen, Strict}
+use Rattle.std.specs.Prelude.{ℕ, List, Bool, true, false, if◌then◌else◌}
+use Rattle.al_types.specs.Types.{Type', ObjectOf, Optional, Absent, Present, NoField, FieldThen, fuse_type, object_with}
 
--- fields, and one more behind them, unless one has its name
-abbrev pub and_field : Fields → List ℕ × Type' → Fields
-and_field NoField f = FieldThen f.0 f.1 NoField
-and_field (FieldThen n t fs) f = if same_name n f.0 then FieldThen n t fs else FieldThen n t (and_field fs f)
+abbrev pub is_present : Optional → Bool
+is_present Absent = false
+is_present (Present t) = true
 
--- an object of a type's fields and of one more, unless one has its name, and of no others
+-- whether a type is an object that has a field of this name
+abbrev pub has_in : List ℕ → Type' → Bool
+has_in n (ObjectOf at rest all) = is_present (at n)
+has_in n _ = false
+
+-- what a type has in common with an object of one field, unless it has one of its name: of an object, all its fields and this one
 abbrev pub with_field : Type' → List ℕ × Type' → Type'
-with_field (ObjectOf fs r) f = ObjectOf (and_field fs f) Strict
-with_field _ f = ObjectOf (and_field NoField f) Strict
+with_field t f = if has_in f.0 t then t else fuse_type t (object_with (FieldThen f.0 f.1 NoField) Absent)

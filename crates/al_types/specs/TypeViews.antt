@@ -12,20 +12,13 @@ use Rattle.al_types.specs.declared.types.Object.TheBlock as code
 use Rattle.al_types.specs.declared.types.Object.TheBlock.{Row_of-Fused-objects-1, end_of-Fused-objects-1, more_of-Fused-objects-1}
 use Rattle.al_types.specs.declared.types.Object.TheBlock.{Row_of-Ty, end_of-Ty, more_of-Ty}
 use Rattle.al_types.specs.declared.types.Object.TheBlock.{Row_of-Field, end_of-Field, more_of-Field, Held-Listing-rest, None', Some'}
-use Rattle.al_types.specs.Types.{Type', Any, Null, Number, Bool', String, ArrayOf, ObjectOf, Fields, NoField, FieldThen, Rest, Strict}
+use Rattle.al_types.specs.Types.{Type', Any, Null, Number, Bool', String, ArrayOf, Fields, NoField, FieldThen, Optional, Absent, Present}
+use Rattle.al_types.specs.Types.{Parts, fields_of, fuse_optional, object_type, object_with, parts_with}
 use Rattle.al_types.specs.Strings.{strings}
-use Rattle.al_types.specs.Types.{Loose, fields_of, fuse_fields, fuse_rest, join_fields, missing_fields}
-
--- an object by its fields and the type of others
-abbrev pub Parts : Type 0
-Parts = Fields × Rest
-
-abbrev pub object_type : Parts → Type'
-object_type p = ObjectOf p.0 p.1
 
 -- the parts of what two objects have in common
 abbrev pub fuse_parts : Parts → Parts → Parts
-fuse_parts p q = (join_fields (fuse_fields p.0 q.0) (missing_fields p.0 q.0), fuse_rest p.1 q.1)
+fuse_parts p q = (λ n. fuse_optional (p.0 n) (q.0 n), fuse_optional p.1 q.1, fuse_optional p.2 q.2)
 
 abbrev pub fused_with : Parts → List Parts → Parts
 fused_with p [] = p
@@ -33,7 +26,7 @@ fused_with p (q ∷ qs) = fused_with (fuse_parts p q) qs
 
 -- objects as one, fused in turn: of none an object without fields
 abbrev pub fused : List Parts → Parts
-fused qs = fused_with (NoField, Strict) qs
+fused qs = fused_with (parts_with NoField Absent) qs
 
 abbrev pub names_in : FieldNames → List (List ℕ)
 names_in ns = map string_bytes ns.names.items
@@ -46,7 +39,7 @@ abbrev mutual
   ty_of code.Bool = Bool'
   ty_of code.String = String
   ty_of (code.Array' p t) = ArrayOf (ty_of t)
-  ty_of (code.Object' p o) = object_of o
+  ty_of (code.Object' p o) = object_type (parts_of o)
   ty_of (code.Fused' p shape os) = object_type (fused (objects_in os))
 
   pub objects_in : {n : _} → Row_of-Fused-objects-1 n → List Parts
@@ -54,20 +47,17 @@ abbrev mutual
   objects_in (more_of-Fused-objects-1 p o os) = parts_of o ∷ objects_in os
 
   pub parts_of : Object → Parts
-  parts_of (code.Listed l) = listing_parts l
-  parts_of (code.Named' ns shape ts) = (fields_of (zip (names_in ns) (types_in ts)), Strict)
-  parts_of (code.Strings ns) = (fields_of (strings (names_in ns)), Strict)
+  parts_of (code.Listed l) = parts_with (listed_fields l) (listed_rest l)
+  parts_of (code.Named' ns shape ts) = parts_with (fields_of (zip (names_in ns) (types_in ts))) Absent
+  parts_of (code.Strings ns) = parts_with (fields_of (strings (names_in ns))) Absent
 
-  pub object_of : Object → Type'
-  object_of (code.Listed l) = listing_of l
-  object_of (code.Named' ns shape ts) = ObjectOf (fields_of (zip (names_in ns) (types_in ts))) Strict
-  object_of (code.Strings ns) = ObjectOf (fields_of (strings (names_in ns))) Strict
+  -- the fields of a listing ..
+  pub listed_fields : Listing → Fields
+  listed_fields (Listing' shape fs rest) = fields_in fs
 
-  pub listing_parts : Listing → Parts
-  listing_parts (Listing' shape fs rest) = (fields_in fs, rest_in rest)
-
-  pub listing_of : Listing → Type'
-  listing_of (Listing' shape fs rest) = ObjectOf (fields_in fs) (rest_in rest)
+  -- .. and the type of every other field
+  pub listed_rest : Listing → Optional
+  listed_rest (Listing' shape fs rest) = rest_in rest
 
   pub types_in : {n : _} → Row_of-Ty n → List Type'
   types_in end_of-Ty = []
@@ -77,16 +67,25 @@ abbrev mutual
   fields_in end_of-Field = NoField
   fields_in (more_of-Field name t fs) = FieldThen (string_bytes name) (ty_of t) (fields_in fs)
 
-  pub rest_in : Held-Listing-rest → Rest
-  rest_in None' = Strict
-  rest_in (Some' p t) = Loose (ty_of t)
+  pub rest_in : Held-Listing-rest → Optional
+  rest_in None' = Absent
+  rest_in (Some' p t) = Present (ty_of t)
 
--- a shared object by its fields and the type of others
+abbrev pub object_of : Object → Type'
+object_of o = object_type (parts_of o)
+
+abbrev pub listing_of : Listing → Type'
+listing_of l = object_with (listed_fields l) (listed_rest l)
+
+-- a shared object by its parts
 abbrev pub shared_parts : Rc Object Global → Parts
 shared_parts o = parts_of o.value
 
+abbrev pub parts_of_fused : Fused → Parts
+parts_of_fused f = fused (map shared_parts f.objects.items)
+
 abbrev pub fused_of : Fused → Type'
-fused_of f = object_type (fused (map shared_parts f.objects.items))
+fused_of f = object_type (parts_of_fused f)
 
 -- fields found by their names: as many as there are of names and of types
 abbrev pub named_of : NamedFields → Fields

@@ -10,41 +10,21 @@ mutual
     Bool' : Type'
     String : Type'
     ArrayOf : Type' → Type'
-    ObjectOf : Fields → Rest → Type'
+    -- by the type of the field of each name, that of every other field, and what all of them have in common
+    ObjectOf : (List ℕ → Optional) → Optional → Optional → Type'
 
-  pub data Fields : Type 0 where
-    NoField : Fields
-    FieldThen : List ℕ → Type' → Fields → Fields
+  -- a type, where there is one
+  pub data Optional : Type 0 where
+    Absent : Optional
+    Present : Type' → Optional
 
-  -- the type of every other field, where there may be others
-  pub data Rest : Type 0 where
-    Strict : Rest
-    Loose : Type' → Rest
+abbrev pub optional : Option Type' → Optional
+optional None = Absent
+optional (Some t) = Present t
 
--- fields as a list
-abbrev pub fields_of : List (List ℕ × Type') → Fields
-fields_of [] = NoField
-fields_of (f ∷ fs) = FieldThen f.0 f.1 (fields_of fs)
-
--- the type of the first field of a name
-abbrev pub field_at : List ℕ → Fields → Option Type'
-field_at n NoField = None
-field_at n (FieldThen m t fs) = if same_name m n then Some t else field_at n fs
-
-abbrev pub has_field : List ℕ → Fields → Bool
-has_field n NoField = false
-has_field n (FieldThen m t fs) = same_name m n || has_field n fs
-
--- the type of a field, else of every other field
-abbrev pub field_or_rest : Option Type' → Rest → Option Type'
-field_or_rest (Some t) r = Some t
-field_or_rest None Strict = None
-field_or_rest None (Loose t) = Some t
-
--- the type of an object's property; another type has none
-abbrev pub property_in : List ℕ → Type' → Option Type'
-property_in n (ObjectOf fs r) = field_or_rest (field_at n fs) r
-property_in n _ = None
+abbrev pub option_of : Optional → Option Type'
+option_of Absent = None
+option_of (Present t) = Some t
 
 -- Whether a value of the one type may stand where the other is wanted.
 abbrev pub assignable_type : Type' → Type' → Bool
@@ -58,21 +38,8 @@ assignable_type Bool' Bool' = true
 assignable_type Bool' String = true
 assignable_type String String = true
 assignable_type (ArrayOf a) (ArrayOf b) = assignable_type a b
-assignable_type (ObjectOf fs r) (ObjectOf gs s) = true
+assignable_type (ObjectOf at rest all) (ObjectOf bt other both) = true
 assignable_type from to = false
-
--- the fields of the second that the first has not
-abbrev pub missing_fields : Fields → Fields → Fields
-missing_fields fs NoField = NoField
-missing_fields fs (FieldThen n t gs) = let more = missing_fields fs gs in if has_field n fs then more else FieldThen n t more
-
-abbrev pub join_fields : Fields → Fields → Fields
-join_fields NoField gs = gs
-join_fields (FieldThen n t fs) gs = FieldThen n t (join_fields fs gs)
-
-abbrev pub with_other : Type' → Option Type' → (Type' → Type') → Type'
-with_other t None go = t
-with_other t (Some u) go = go u
 
 -- What two types have in common: any with any or null, a string for two other scalars, the elements' for arrays, all
 -- fields of both for objects, those of one name fused.
@@ -95,25 +62,74 @@ abbrev mutual
   fuse_type String b = Any
   fuse_type (ArrayOf a) (ArrayOf b) = ArrayOf (fuse_type a b)
   fuse_type (ArrayOf a) b = Any
-  fuse_type (ObjectOf fs r) (ObjectOf gs s) = ObjectOf (join_fields (fuse_fields fs gs) (missing_fields fs gs)) (fuse_rest r s)
-  fuse_type (ObjectOf fs r) b = Any
+  fuse_type (ObjectOf at rest all) (ObjectOf bt other both) =
+      ObjectOf (λ n. fuse_optional (at n) (bt n)) (fuse_optional rest other) (fuse_optional all both)
+  fuse_type (ObjectOf at rest all) b = Any
 
-  -- each of the first fields, fused with the other of its name where there is one
-  pub fuse_fields : Fields → Fields → Fields
-  fuse_fields NoField gs = NoField
-  fuse_fields (FieldThen n t fs) gs = FieldThen n (with_other t (field_at n gs) (λ u. fuse_type t u)) (fuse_fields fs gs)
+  pub fuse_optional : Optional → Optional → Optional
+  fuse_optional Absent o = o
+  fuse_optional (Present t) Absent = Present t
+  fuse_optional (Present t) (Present u) = Present (fuse_type t u)
 
-  pub fuse_rest : Rest → Rest → Rest
-  fuse_rest Strict s = s
-  fuse_rest (Loose a) Strict = Loose a
-  fuse_rest (Loose a) (Loose b) = Loose (fuse_type a b)
+-- fields in order, each with its name
+pub data Fields : Type 0 where
+  NoField : Fields
+  FieldThen : List ℕ → Type' → Fields → Fields
+
+-- fields as a list
+abbrev pub fields_of : List (List ℕ × Type') → Fields
+fields_of [] = NoField
+fields_of (f ∷ fs) = FieldThen f.0 f.1 (fields_of fs)
+
+-- the type of the first field of a name
+abbrev pub field_at : List ℕ → Fields → Option Type'
+field_at n NoField = None
+field_at n (FieldThen m t fs) = if same_name m n then Some t else field_at n fs
+
+abbrev pub has_field : List ℕ → Fields → Bool
+has_field n NoField = false
+has_field n (FieldThen m t fs) = same_name m n || has_field n fs
+
+-- what all fields have in common
+abbrev pub common_in : Fields → Optional
+common_in NoField = Absent
+common_in (FieldThen n t fs) = fuse_optional (Present t) (common_in fs)
+
+-- an object by the type of the field of each name, that of every other field, and what all of them have in common
+abbrev pub Parts : Type 0
+Parts = (List ℕ → Optional) × Optional × Optional
+
+abbrev pub object_type : Parts → Type'
+object_type p = ObjectOf p.0 p.1 p.2
+
+-- an object that has these fields, and others of a type where there may be others
+abbrev pub parts_with : Fields → Optional → Parts
+parts_with fs rest = (λ n. optional (field_at n fs), rest, fuse_optional (common_in fs) rest)
+
+abbrev pub object_with : Fields → Optional → Type'
+object_with fs rest = object_type (parts_with fs rest)
+
+-- a type, else any
+abbrev pub or_any : Option Type' → Type'
+or_any None = Any
+or_any (Some t) = t
+
+-- the one type, else the other
+abbrev pub or_else : Optional → Optional → Optional
+or_else Absent o = o
+or_else (Present t) o = Present t
+
+-- the type of an object's property: of the field of its name, else of every other field; another type has none
+abbrev pub property_in : List ℕ → Type' → Option Type'
+property_in n (ObjectOf at rest all) = option_of (or_else (at n) rest)
+property_in n _ = None
 
 abbrev pub is_array : Type' → Bool
 is_array (ArrayOf a) = true
 is_array _ = false
 
 abbrev pub is_object : Type' → Bool
-is_object (ObjectOf fs r) = true
+is_object (ObjectOf at rest all) = true
 is_object _ = false
 
 abbrev pub is_collection : Type' → Bool

@@ -1,13 +1,14 @@
 //! The one type of two branches.
 
-ghost use Rattle.std.specs.Prelude.{◌≡◌, IfOk, map};
-ghost use Rattle.al_types.specs.Types.{ArrayOf, fuse_type, fields_of};
-ghost use Rattle.al_types.specs.TypeViews.{ty_of, object_of, fused_of};
-ghost use Rattle.al_types.specs.Private.TypeParts.{field_of, fields_of_type, fuse_with_form};
+ghost use Rattle.std.specs.Prelude.{◌≡◌, IfOk};
+ghost use Rattle.al_types.specs.Types.{ArrayOf, fuse_type};
+ghost use Rattle.al_types.specs.TypeViews.{ty_of, listing_of, object_of, fused_of};
+ghost use Rattle.al_types.specs.Private.TypeParts.{fuse_with_form};
 
 use crate::joining::join;
-use crate::objects::fields_of_object;
-use crate::types::{Field, Form, Fused, Object, Ty};
+use crate::named_fields::strict_object;
+use crate::objects::object_of_fields;
+use crate::types::{Form, Fused, Listing, Object, Ty};
 use std::alloc::{AllocError, Global};
 use std::rc::Rc;
 
@@ -15,7 +16,7 @@ use std::rc::Rc;
 /// of what the elements have in common, and an object with all fields of both, those of one name fused, as are the
 /// types of other fields where both have one. Everything else is any. The fields of objects are not looked at before they are asked for.
 /// Fails for want of memory alone.
-#[tactic(auto, using(crate::proofs::FusedLists::by_form, crate::proofs::TypeFields::fused_type))]
+#[tactic(auto, using(crate::proofs::FusedForms::by_form, crate::proofs::TypeFields::fused_type))]
 #[cycle(fusing)]
 pub fn fuse(alloc: Global, a: Ty, b: Ty) -> Result<Ty, AllocError>
     ensures { IfOk result (λ t. ty_of t ≡ fuse_type (ty_of a) (ty_of b)) }
@@ -105,28 +106,39 @@ pub fn joined(alloc: Global, ty: Ty) -> Result<Ty, AllocError>
             let of = joined(alloc, Box::into_inner(of))?;
             Ok(Ty::Array(Box::new(alloc, of)?))
         }
-        Ty::Fused(fused) => Ok(Ty::Object(joined_object(alloc, &fused)?)),
+        Ty::Fused(fused) => joined_objects(alloc, fused),
         other => Ok(other),
     }
 }
 
-/// Objects that are fused as one object, with the fields of all. Takes time and memory as `joined`, and fails as it does.
-pub fn joined_object(alloc: Global, fused: &Fused) -> Result<Rc<Object>, AllocError>
-    ensures { IfOk result (λ o. object_of o.value ≡ fused_of fused.now) }
+// Objects that are fused as one, unless one of them has a name twice.
+#[tactic(auto, using(crate::proofs::TypeFields::fused_type))]
+fn joined_objects(alloc: Global, fused: Box<Fused>) -> Result<Ty, AllocError>
+    ensures { IfOk result (λ t. ty_of t ≡ fused_of fused.value) }
 {
-    let object = join(alloc, fused.objects.as_slice())?;
-    Ok(object)
+    match join(alloc, fused.objects.as_slice())? {
+        Some(object) => found_by_name(alloc, object),
+        None => Ok(Ty::Fused(fused)),
+    }
 }
 
-/// The fields of an object; of another type none. They are moved out of an object that nothing else shares, and else copied. Fails for
-/// want of memory alone.
-#[tactic(auto, using(crate::proofs::TypeFields::fused_type))]
-pub fn into_fields(alloc: Global, ty: Ty) -> Result<Vec<Field>, AllocError>
-    ensures { IfOk result (λ v. fields_of (map field_of v.items) ≡ fields_of_type (ty_of ty)) }
+// An object whose fields are found by their names where they are many and nothing else shares it.
+fn found_by_name(alloc: Global, object: Rc<Object>) -> Result<Ty, AllocError>
+    ensures { IfOk result (λ t. ty_of t ≡ object_of object.value) }
 {
-    match ty {
-        Ty::Object(object) => fields_of_object(alloc, object),
-        Ty::Fused(fused) => fields_of_object(alloc, joined_object(alloc, &fused)?),
-        _ => Ok(Vec::new(alloc)),
+    match Rc::try_unwrap(object) {
+        Ok(Object::Listed(listing)) => listing_by_names(alloc, listing),
+        Ok(own) => Ok(Ty::Object(Rc::new(alloc, own)?)),
+        Err(shared) => Ok(Ty::Object(shared)),
+    }
+}
+
+#[tactic(auto, using(crate::proofs::TypeFields::listing_fields))]
+fn listing_by_names(alloc: Global, listing: Listing) -> Result<Ty, AllocError>
+    ensures { IfOk result (λ t. ty_of t ≡ listing_of listing) }
+{
+    match listing.rest {
+        None => strict_object(alloc, listing.fields),
+        rest => object_of_fields(alloc, listing.fields, rest),
     }
 }

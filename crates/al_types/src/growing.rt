@@ -2,81 +2,85 @@
 
 ghost use Rattle.std.specs.Prelude.{◌≡◌, IfOk, map};
 ghost use Rattle.al_types.specs.MoreFields as types;
-ghost use Rattle.al_types.specs.MoreFields.{and_field};
-ghost use Rattle.al_types.specs.Types.{ObjectOf, Strict, fields_of, has_field};
+ghost use Rattle.al_types.specs.Types.{Absent, fields_of, has_field, object_with};
 ghost use Rattle.al_types.specs.TypeViews.{ty_of, object_of, named_of};
-ghost use Rattle.al_types.specs.Private.TypeParts.{field_of, fields_of_type};
+ghost use Rattle.al_types.specs.Private.Joined.{and_field};
+ghost use Rattle.al_types.specs.Private.TypeParts.{field_of, rest_of};
 
-use crate::finding::field_positions;
-use crate::fusing::into_fields;
-use crate::named_fields::{object_by_names, object_of_named};
-use crate::objects::{FEW, fields_of_object, listed, object_of_fields};
-use crate::types::{Field, NamedFields, Object, Ty};
-use al_base::is_same_name;
+use crate::fusing::fuse;
+use crate::named_fields::{object_of_named, strict_object};
+use crate::objects::{listed, object_of_fields};
+use crate::types::{Field, NamedFields, Object, Ty, field_among};
 use std::alloc::{AllocError, Global};
 use std::rc::Rc;
 
-/// An object of a type's fields and of one more, unless one has its name, and of no others. The fields are moved out of an object that
-/// nothing else shares, and else copied: so one that grows field after field takes time that grows with the logarithm of their number for
-/// each. Fails with `AllocError` for want of memory alone, as all here.
-#[tactic(auto, using(crate::proofs::AddedFields::by_fields_of))]
+/// What a type has in common with an object of one field, unless it has one of its name: so an object grows by it. Its fields are moved
+/// out of an object that nothing else shares, and else copied: one that grows field after field takes time that grows with the logarithm
+/// of their number for each. Fails with `AllocError` for want of memory alone, as all here.
 pub fn with_field(alloc: Global, ty: Ty, field: Field) -> Result<Ty, AllocError>
     ensures { IfOk result (λ t. ty_of t ≡ types.with_field (ty_of ty) (field_of field)) }
 {
     match ty {
-        Ty::Object(object) => object_with(alloc, object, field),
-        other => {
-            let fields = into_fields(alloc, other)?;
-            fields_with(alloc, fields, field)
-        }
+        Ty::Object(object) => object_and_field(alloc, object, field),
+        other => type_and_field(alloc, other, field),
     }
 }
 
 // The same of an object that may be shared.
-fn object_with(alloc: Global, object: Rc<Object>, field: Field) -> Result<Ty, AllocError>
-    ensures { IfOk result (λ t. ty_of t ≡ ObjectOf (and_field (fields_of_type (object_of object.value)) (field_of field)) Strict) }
+fn object_and_field(alloc: Global, object: Rc<Object>, field: Field) -> Result<Ty, AllocError>
+    ensures { IfOk result (λ t. ty_of t ≡ types.with_field (object_of object.value) (field_of field)) }
 {
     match Rc::try_unwrap(object) {
-        Ok(own) => own_with(alloc, own, field),
-        Err(shared) => {
-            let fields = fields_of_object(alloc, shared)?;
-            fields_with(alloc, fields, field)
-        }
+        Ok(own) => own_and_field(alloc, own, field),
+        Err(shared) => shared_and_field(alloc, &shared, field),
     }
 }
 
+// The same of one that is shared.
+fn shared_and_field(alloc: Global, object: &Object, field: Field) -> Result<Ty, AllocError>
+    ensures { IfOk result (λ t. ty_of t ≡ types.with_field (object_of object.now) (field_of field)) }
+{
+    let listing = listed(alloc, object)?;
+    fields_and_field(alloc, listing.fields, listing.rest, field)
+}
+
 // The same of one that nothing else shares.
-fn own_with(alloc: Global, object: Object, field: Field) -> Result<Ty, AllocError>
-    ensures { IfOk result (λ t. ty_of t ≡ ObjectOf (and_field (fields_of_type (object_of object)) (field_of field)) Strict) }
+fn own_and_field(alloc: Global, object: Object, field: Field) -> Result<Ty, AllocError>
+    ensures { IfOk result (λ t. ty_of t ≡ types.with_field (object_of object) (field_of field)) }
 {
     match object {
-        Object::Named(named) => named_with(alloc, named, field),
-        Object::Listed(listing) => fields_with(alloc, listing.fields, field),
-        other => {
-            let listing = listed(alloc, &other)?;
-            fields_with(alloc, listing.fields, field)
-        }
+        Object::Named(named) => named_and_field(alloc, named, field),
+        Object::Listed(listing) => fields_and_field(alloc, listing.fields, listing.rest, field),
+        other => shared_and_field(alloc, &other, field),
     }
 }
 
 // The same of fields that are found by their names.
-fn named_with(alloc: Global, named: NamedFields, field: Field) -> Result<Ty, AllocError>
-    ensures { IfOk result (λ t. ty_of t ≡ ObjectOf (and_field (named_of named) (field_of field)) Strict) }
+fn named_and_field(alloc: Global, named: NamedFields, field: Field) -> Result<Ty, AllocError>
+    ensures { IfOk result (λ t. ty_of t ≡ object_with (and_field (named_of named) (field_of field)) Absent) }
 {
     if named.names.names.len() != named.types.len() {
         let fields = named.copied(alloc)?;
-        return fields_with(alloc, fields, field);
+        return fields_and_field(alloc, fields, None, field);
     }
     let grown = named.and_field(alloc, field)?;
     object_of_named(alloc, grown)
 }
 
-// The same of fields that are looked through.
-fn fields_with(alloc: Global, fields: Vec<Field>, field: Field) -> Result<Ty, AllocError>
-    ensures { IfOk result (λ t. ty_of t ≡ ObjectOf (and_field (fields_of (map field_of fields.items)) (field_of field)) Strict) }
+// The same of fields that are looked through, and others of a type where there may be others.
+fn fields_and_field(
+    alloc: Global,
+    fields: Vec<Field>,
+    rest: Option<Box<Ty>>,
+    field: Field,
+) -> Result<Ty, AllocError>
+    ensures { IfOk result (λ t. ty_of t ≡ object_with (and_field (fields_of (map field_of fields.items)) (field_of field)) (rest_of rest)) }
 {
     let all = added(fields, field)?;
-    strict_object(alloc, all)
+    match rest {
+        None => strict_object(alloc, all),
+        Some(of) => object_of_fields(alloc, all, Some(of)),
+    }
 }
 
 // Fields, and one more behind them, unless one has its name.
@@ -95,21 +99,35 @@ fn added(fields: Vec<Field>, field: Field) -> Result<Vec<Field>, AllocError>
 fn is_named(fields: &[Field], name: &str) -> bool
     ensures { result ≡ has_field name.now (fields_of (map field_of fields.now)) }
 {
-    for field in fields {
-        if is_same_name(field.name.as_bytes(), name.as_bytes()) {
-            return true;
-        }
-    }
-    false
+    field_among(fields, name).is_some()
 }
 
-// An object of fields, and of no others: many are found by their names.
-fn strict_object(alloc: Global, fields: Vec<Field>) -> Result<Ty, AllocError>
-    ensures { IfOk result (λ t. ty_of t ≡ ObjectOf (fields_of (map field_of fields.items)) Strict) }
+// The same of a type that isn't one object: what it has in common with an object of the field.
+fn type_and_field(alloc: Global, ty: Ty, field: Field) -> Result<Ty, AllocError>
+    ensures { IfOk result (λ t. ty_of t ≡ types.with_field (ty_of ty) (field_of field)) }
 {
-    if fields.len() <= FEW {
-        return object_of_fields(alloc, fields, None);
+    if has_field_in(alloc, &ty, field.name.as_str())? {
+        return Ok(ty);
     }
-    let positions = field_positions(alloc, fields.as_slice())?;
-    object_by_names(alloc, fields, positions)
+    let mut fields = Vec::new(alloc);
+    fields.push(field)?;
+    fuse(alloc, ty, object_of_fields(alloc, fields, None)?)
+}
+
+// Whether a type is an object that has a field of this name.
+#[tactic(auto, using(crate::proofs::TypeFields::fused_type))]
+fn has_field_in(alloc: Global, ty: &Ty, name: &str) -> Result<bool, AllocError>
+    ensures { IfOk result (λ b. b ≡ types.has_in name.now (ty_of ty.now)) }
+{
+    match ty {
+        Ty::Object(object) => {
+            let found = object.field(alloc, name)?;
+            Ok(found.is_some())
+        }
+        Ty::Fused(fused) => {
+            let found = fused.field(alloc, name)?;
+            Ok(found.is_some())
+        }
+        Ty::Any | Ty::Null | Ty::Number | Ty::Bool | Ty::String | Ty::Array(_) => Ok(false),
+    }
 }

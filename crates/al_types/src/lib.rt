@@ -2,11 +2,13 @@
 //! where names stand in a list.
 #![tactic(auto)]
 
+mod common;
 mod field_names;
 mod finding;
 mod fusing;
 mod growing;
 mod joining;
+mod law;
 mod named_fields;
 mod names;
 mod objects;
@@ -17,10 +19,12 @@ mod scope;
 mod signatures;
 mod types;
 
+pub use common::any_if_none;
 pub use field_names::FieldNames;
 pub use finding::field_positions;
-pub use fusing::{fuse, into_fields, joined, joined_object};
+pub use fusing::{fuse, joined};
 pub use growing::with_field;
+pub use law::objects_fuse;
 pub use named_fields::object_by_names;
 pub use names::{Context, Function};
 pub use objects::{object_of_fields, object_of_strings};

@@ -1,14 +1,14 @@
 //! Fields that are found by their names.
 
 ghost use Rattle.std.specs.Prelude.{◌≡◌, ◌≤◌, ◌⊎◌, IfOk, length, map, option_map, slice_get, string_bytes};
-ghost use Rattle.std.specs.List.{list_all};
-ghost use Rattle.al_types.specs.MoreFields.{and_field};
-ghost use Rattle.al_types.specs.Types.{ObjectOf, Strict, field_at, fields_of};
+ghost use Rattle.al_types.specs.Types.{Absent, field_at, fields_of, object_with};
 ghost use Rattle.al_types.specs.TypeViews.{ty_of, named_of, names_in};
+ghost use Rattle.al_types.specs.Private.Joined.{and_field};
 ghost use Rattle.al_types.specs.Private.Positions.{IsFieldIndex};
-ghost use Rattle.al_types.specs.Private.TypeParts.{field_of, is_string, named_types, no_fields, only_strings};
+ghost use Rattle.al_types.specs.Private.TypeParts.{field_of, named_types};
 
 use crate::field_names::FieldNames;
+use crate::finding::field_positions;
 use crate::objects::{FEW, object_of_fields};
 use crate::positions::NamePositions;
 use crate::types::{Field, NamedFields, Object, Ty, copy};
@@ -23,7 +23,7 @@ pub fn object_by_names(
     positions: NamePositions,
 ) -> Result<Ty, AllocError>
     requires { IsFieldIndex positions (fields_of (map field_of fields.items)) }
-    ensures { IfOk result (λ t. ty_of t ≡ ObjectOf (fields_of (map field_of fields.items)) Strict) }
+    ensures { IfOk result (λ t. ty_of t ≡ object_with (fields_of (map field_of fields.items)) Absent) }
 {
     if fields.len() <= FEW {
         return object_of_fields(alloc, fields, None);
@@ -33,13 +33,26 @@ pub fn object_by_names(
     object_of_named(alloc, NamedFields { names, types })
 }
 
+/// An object of fields and no others. Many are found by their names.
+pub(crate) fn strict_object(alloc: Global, fields: Vec<Field>) -> Result<Ty, AllocError>
+    ensures { IfOk result (λ t. ty_of t ≡ object_with (fields_of (map field_of fields.items)) Absent) }
+{
+    if fields.len() <= FEW {
+        return object_of_fields(alloc, fields, None);
+    }
+    let positions = field_positions(alloc, fields.as_slice())?;
+    object_by_names(alloc, fields, positions)
+}
+
+/// An object of fields that are found by their names, and no others.
 #[tactic(auto, using(crate::proofs::TypeFields::named_type))]
 pub(crate) fn object_of_named(alloc: Global, named: NamedFields) -> Result<Ty, AllocError>
-    ensures { IfOk result (λ t. ty_of t ≡ ObjectOf (named_of named) Strict) }
+    ensures { IfOk result (λ t. ty_of t ≡ object_with (named_of named) Absent) }
 {
     Ok(Ty::Object(Rc::new(alloc, Object::Named(named))?))
 }
 
+// The names of fields and their types, apart.
 fn names_and_types(alloc: Global, fields: Vec<Field>) -> Result<(Vec<String>, Vec<Ty>), AllocError>
     ensures names { IfOk result (λ r. map string_bytes r.0.items ≡ map (λ f. (field_of f).0) fields.items) }
     ensures types { IfOk result (λ r. map ty_of r.1.items ≡ map (λ f. (field_of f).1) fields.items) }
@@ -53,18 +66,6 @@ fn names_and_types(alloc: Global, fields: Vec<Field>) -> Result<(Vec<String>, Ve
     Ok((names, types))
 }
 
-// Whether all these types are strings.
-fn are_string_types(types: &[Ty]) -> bool
-    ensures { result ≡ list_all is_string (map ty_of types.now) }
-{
-    for ty in types {
-        if !ty.is_string() {
-            return false;
-        }
-    }
-    true
-}
-
 impl NamedFields {
     // How many fields there are: as many as there are of names and of types.
     fn len(&self) -> usize
@@ -76,7 +77,7 @@ impl NamedFields {
     }
 
     /// The types of the fields, in their order.
-    pub fn types(&self) -> &[Ty]
+    pub(crate) fn types(&self) -> &[Ty]
         ensures { map ty_of result.now ≡ named_types (named_of self.now) }
     {
         &self.types[..self.len()]
@@ -101,20 +102,6 @@ impl NamedFields {
             Some(i) => Ok(self.type_at(i)),
             None => Ok(None),
         }
-    }
-
-    /// Whether all fields are strings.
-    pub(crate) fn has_only_strings(&self) -> bool
-        ensures { result ≡ only_strings (named_of self.now) }
-    {
-        are_string_types(self.types())
-    }
-
-    /// Whether there is no field.
-    pub(crate) fn is_empty(&self) -> bool
-        ensures { result ≡ no_fields (named_of self.now) }
-    {
-        self.types().is_empty()
     }
 
     /// The fields, and one more behind them, unless one has its name.

@@ -1,12 +1,12 @@
 //! Objects, made of their fields: many strings are found by their names, other fields are looked through.
 
-ghost use Rattle.std.specs.Prelude.{◌≡◌, None, IfOk, map, option_map, string_bytes};
+ghost use Rattle.std.specs.Prelude.{◌≡◌, IfOk, map, option_map, string_bytes};
 ghost use Rattle.al_types.specs.Properties.{property_type};
 ghost use Rattle.al_types.specs.Strings.{named_strings, strings};
-ghost use Rattle.al_types.specs.Types.{ObjectOf, field_at, field_or_rest, fields_of};
-ghost use Rattle.al_types.specs.TypeViews.{ty_of, object_of, listing_of, names_in};
+ghost use Rattle.al_types.specs.Types.{field_at, fields_of, object_with, option_of, property_in};
+ghost use Rattle.al_types.specs.TypeViews.{ty_of, object_of, listing_of, names_in, parts_of};
 ghost use Rattle.al_types.specs.Private.Positions.{IsNameIndex};
-ghost use Rattle.al_types.specs.Private.TypeParts.{field_of, rest_of, fields_of_type, no_fields, only_strings, rest_of_type};
+ghost use Rattle.al_types.specs.Private.TypeParts.{field_of, rest_of};
 
 use crate::field_names::FieldNames;
 use crate::positions::NamePositions;
@@ -24,7 +24,7 @@ pub fn object_of_fields(
     fields: Vec<Field>,
     rest: Option<Box<Ty>>,
 ) -> Result<Ty, AllocError>
-    ensures { IfOk result (λ t. ty_of t ≡ ObjectOf (fields_of (map field_of fields.items)) (rest_of rest)) }
+    ensures { IfOk result (λ t. ty_of t ≡ object_with (fields_of (map field_of fields.items)) (rest_of rest)) }
 {
     Ok(Ty::Object(shared_object(alloc, fields, rest)?))
 }
@@ -36,7 +36,7 @@ pub(crate) fn shared_object(
     fields: Vec<Field>,
     rest: Option<Box<Ty>>,
 ) -> Result<Rc<Object>, AllocError>
-    ensures { IfOk result (λ o. object_of o.value ≡ ObjectOf (fields_of (map field_of fields.items)) (rest_of rest)) }
+    ensures { IfOk result (λ o. object_of o.value ≡ object_with (fields_of (map field_of fields.items)) (rest_of rest)) }
 {
     Ok(Rc::new(alloc, Object::Listed(Listing { fields, rest }))?)
 }
@@ -64,18 +64,6 @@ fn places_of(alloc: Global, names: &[String]) -> Result<NamePositions, AllocErro
         let _ = positions.insert(alloc, name.as_bytes(), i)?;
     }
     Ok(positions)
-}
-
-// Whether all fields are strings.
-pub(crate) fn are_strings(fields: &[Field]) -> bool
-    ensures { result ≡ only_strings (fields_of (map field_of fields.now)) }
-{
-    for field in fields {
-        if !field.ty.is_string() {
-            return false;
-        }
-    }
-    true
 }
 
 // Fields that are strings of these names.
@@ -127,40 +115,6 @@ pub(crate) fn listed(alloc: Global, object: &Object) -> Result<Listing, AllocErr
     }
 }
 
-// The fields of an object that nothing else shares.
-#[tactic(auto, using(crate::proofs::TypeFields::listing_fields))]
-fn own_fields(alloc: Global, object: Object) -> Result<Vec<Field>, AllocError>
-    ensures { IfOk result (λ v. fields_of (map field_of v.items) ≡ fields_of_type (object_of object)) }
-{
-    match object {
-        Object::Listed(listing) => Ok(listing.fields),
-        Object::Named(named) => named.copied(alloc),
-        Object::Strings(names) => string_fields(alloc, names.names.as_slice()),
-    }
-}
-
-/// The fields of an object, moved out of one that nothing else shares, and else copied.
-pub(crate) fn fields_of_object(alloc: Global, object: Rc<Object>) -> Result<Vec<Field>, AllocError>
-    ensures { IfOk result (λ v. fields_of (map field_of v.items) ≡ fields_of_type (object_of object.value)) }
-{
-    match Rc::try_unwrap(object) {
-        Ok(object) => own_fields(alloc, object),
-        Err(shared) => shared_fields(alloc, &shared),
-    }
-}
-
-// The fields of an object once more.
-#[tactic(auto, using(crate::proofs::TypeFields::listing_fields))]
-fn shared_fields(alloc: Global, object: &Object) -> Result<Vec<Field>, AllocError>
-    ensures { IfOk result (λ v. fields_of (map field_of v.items) ≡ fields_of_type (object_of object.now)) }
-{
-    match object {
-        Object::Listed(listing) => copy_fields(alloc, listing.fields.as_slice()),
-        Object::Named(named) => named.copied(alloc),
-        Object::Strings(names) => string_fields(alloc, names.names.as_slice()),
-    }
-}
-
 impl Object {
     /// The type of the first field of a name, in any ASCII case: none where no field has it. The type of other fields
     /// is not looked at. Fails with `AllocError` for want of memory, as all below.
@@ -169,7 +123,7 @@ impl Object {
         alloc: Global,
         name: &str,
     ) -> Result<Option<Property<'_>>, AllocError>
-        ensures { IfOk result (λ found. option_map property_type found ≡ field_at name.now (fields_of_type (object_of self.now))) }
+        ensures { IfOk result (λ found. option_map property_type found ≡ option_of ((parts_of self.now).0 name.now)) }
     {
         match self {
             Object::Listed(listing) => Ok(lent(listing.field(name))),
@@ -179,8 +133,8 @@ impl Object {
     }
 
     /// The type of the fields beside its own, where there may be others.
-    pub fn other(&self) -> Option<&Ty>
-        ensures { option_map (λ t. ty_of t.now) result ≡ field_or_rest None (rest_of_type (object_of self.now)) }
+    pub(crate) fn other(&self) -> Option<&Ty>
+        ensures { option_map (λ t. ty_of t.now) result ≡ option_of (parts_of self.now).1 }
     {
         match self {
             Object::Listed(listing) => listing.other(),
@@ -194,37 +148,12 @@ impl Object {
         alloc: Global,
         name: &str,
     ) -> Result<Option<Property<'_>>, AllocError>
-        ensures { IfOk result (λ found. option_map property_type found
-            ≡ field_or_rest (field_at name.now (fields_of_type (object_of self.now))) (rest_of_type (object_of self.now))) }
+        ensures { IfOk result (λ found. option_map property_type found ≡ property_in name.now (object_of self.now)) }
     {
         match self {
             Object::Listed(listing) => Ok(lent(listing.property(name))),
             Object::Named(named) => Ok(lent(named.field(alloc, name)?)),
             Object::Strings(names) => string_among(alloc, names, name),
-        }
-    }
-
-    /// Whether all its fields are strings.
-    #[tactic(auto, using(crate::proofs::TypeFields::listing_fields))]
-    pub(crate) fn has_only_strings(&self) -> bool
-        ensures { result ≡ only_strings (fields_of_type (object_of self.now)) }
-    {
-        match self {
-            Object::Listed(listing) => are_strings(listing.fields.as_slice()),
-            Object::Named(named) => named.has_only_strings(),
-            Object::Strings(_) => true,
-        }
-    }
-
-    /// Whether it has no field.
-    #[tactic(auto, using(crate::proofs::TypeFields::listing_fields))]
-    pub fn has_no_fields(&self) -> bool
-        ensures { result ≡ no_fields (fields_of_type (object_of self.now)) }
-    {
-        match self {
-            Object::Listed(listing) => listing.fields.is_empty(),
-            Object::Named(named) => named.is_empty(),
-            Object::Strings(names) => names.names.is_empty(),
         }
     }
 }

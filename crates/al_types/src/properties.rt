@@ -1,11 +1,10 @@
 //! The types of properties.
 
-ghost use Rattle.std.specs.Prelude.{◌≡◌, IfOk, IsTrue, None, option_map, true};
+ghost use Rattle.std.specs.Prelude.{◌≡◌, IfOk, option_map};
 ghost use Rattle.al_types.specs.Properties.{property_type};
-ghost use Rattle.al_types.specs.Types.{field_at, field_or_rest, property_in};
-ghost use Rattle.al_types.specs.TypeViews.{ty_of, fused_of};
+ghost use Rattle.al_types.specs.Types.{option_of, property_in};
+ghost use Rattle.al_types.specs.TypeViews.{ty_of, fused_of, parts_of_fused};
 ghost use Rattle.al_types.specs.Private.TypeParts as parts;
-ghost use Rattle.al_types.specs.Private.TypeParts.{fields_of_type, no_fields, only_strings, rest_of_type};
 
 use crate::fusing::fuse;
 use crate::types::{Fused, Ty, copy};
@@ -22,7 +21,7 @@ impl Ty {
     /// The type of a property, where it is an object that has it.
     ///
     /// Fails with `AllocError` for want of memory.
-    #[tactic(auto, using(crate::proofs::FieldPositions::property_of_parts, crate::proofs::TypeFields::fused_type))]
+    #[tactic(auto, using(crate::proofs::TypeFields::fused_type))]
     pub fn property(&self, alloc: Global, name: &str) -> Result<Option<Property<'_>>, AllocError>
         ensures { IfOk result (λ found. option_map property_type found ≡ property_in name.now (ty_of self.now)) }
     {
@@ -64,9 +63,9 @@ impl Fused {
         }
     }
 
-    // What the first fields of a name have in common.
-    fn field(&self, alloc: Global, name: &str) -> Result<Option<Ty>, AllocError>
-        ensures { IfOk result (λ found. option_map ty_of found ≡ field_at name.now (fields_of_type (fused_of self.now))) }
+    /// What the first fields of a name have in common.
+    pub(crate) fn field(&self, alloc: Global, name: &str) -> Result<Option<Ty>, AllocError>
+        ensures { IfOk result (λ found. option_map ty_of found ≡ option_of ((parts_of_fused self.now).0 name.now)) }
     {
         let mut common = None;
         for object in &self.objects {
@@ -75,9 +74,9 @@ impl Fused {
         Ok(common)
     }
 
-    /// What the types of other fields have in common.
-    pub fn other(&self, alloc: Global) -> Result<Option<Ty>, AllocError>
-        ensures { IfOk result (λ found. option_map ty_of found ≡ field_or_rest None (rest_of_type (fused_of self.now))) }
+    // What the types of other fields have in common.
+    fn other(&self, alloc: Global) -> Result<Option<Ty>, AllocError>
+        ensures { IfOk result (λ found. option_map ty_of found ≡ option_of (parts_of_fused self.now).1) }
     {
         let mut common = None;
         for object in &self.objects {
@@ -85,33 +84,10 @@ impl Fused {
         }
         Ok(common)
     }
-
-    /// Whether each object's fields are strings, so that all their fields are.
-    pub fn has_only_strings(&self) -> bool
-        ensures { IsTrue result → only_strings (fields_of_type (fused_of self.now)) ≡ true }
-    {
-        for object in &self.objects {
-            if !object.has_only_strings() {
-                return false;
-            }
-        }
-        true
-    }
-
-    /// Whether no object has a field.
-    pub fn has_no_fields(&self) -> bool
-        ensures { result ≡ no_fields (fields_of_type (fused_of self.now)) }
-    {
-        let mut none = true;
-        for object in &self.objects {
-            none = none && object.has_no_fields();
-        }
-        none
-    }
 }
 
-// What a type has in common with that of a property, where both are there.
-fn common_property(
+/// What a type has in common with that of a property, where both are there. Fails with `AllocError` for want of memory.
+pub(crate) fn common_property(
     alloc: Global,
     sofar: Option<Ty>,
     found: Option<Property<'_>>,
@@ -125,8 +101,8 @@ fn common_property(
     }
 }
 
-// What a type has in common with another, where both are there.
-fn common_type(
+/// What a type has in common with another, where both are there. Fails with `AllocError` for want of memory.
+pub(crate) fn common_type(
     alloc: Global,
     sofar: Option<Ty>,
     found: Option<&Ty>,

@@ -1,9 +1,9 @@
 //! Types of expressions.
 
-ghost use Rattle.std.specs.Prelude.{◌≡◌, IfOk, None, option_map, string_bytes};
-ghost use Rattle.al_types.specs.Types.{field_at, field_or_rest, is_collection, is_plain};
-ghost use Rattle.al_types.specs.TypeViews.{ty_of, fused_of, listing_of};
-ghost use Rattle.al_types.specs.Private.TypeParts.{field_of, rest_of, form_of, fields_of_type, rest_of_type, is_string};
+ghost use Rattle.std.specs.Prelude.{◌≡◌, IfOk, map, option_map, string_bytes};
+ghost use Rattle.al_types.specs.Types.{field_at, fields_of, is_collection, is_plain, option_of, property_in};
+ghost use Rattle.al_types.specs.TypeViews.{ty_of, fused_of, listed_fields, listed_rest, listing_of};
+ghost use Rattle.al_types.specs.Private.TypeParts.{field_of, rest_of, form_of};
 
 use crate::field_names::FieldNames;
 use al_base::is_same_name;
@@ -127,14 +127,6 @@ impl Ty {
         matches!(self.form(), Form::Array | Form::Object)
     }
 
-    /// Whether it is a string.
-    #[tactic(auto, using(crate::proofs::TypeForms::by_outermost))]
-    pub(crate) fn is_string(&self) -> bool
-        ensures { result ≡ is_string (ty_of self.now) }
-    {
-        matches!(self.form(), Form::String)
-    }
-
     /// Whether it is a number, a bool or a string.
     #[tactic(auto, using(crate::proofs::TypeForms::by_outermost))]
     pub fn is_plain(&self) -> bool
@@ -144,24 +136,31 @@ impl Ty {
     }
 }
 
+/// The type of the first of some fields that has a name, in any ASCII case.
+pub(crate) fn field_among<'t>(fields: &'t [Field], name: &str) -> Option<&'t Ty>
+    ensures { option_map (λ t. ty_of t.now) result ≡ field_at name.now (fields_of (map field_of fields.now)) }
+{
+    for field in fields {
+        if is_same_name(field.name.as_bytes(), name.as_bytes()) {
+            return Some(&field.ty);
+        }
+    }
+    None
+}
+
 impl Listing {
     /// The type of the first field of a name, in any ASCII case: none where no field has it. The type of other fields
     /// is not looked at.
     pub(crate) fn field(&self, name: &str) -> Option<&Ty>
-        ensures { option_map (λ t. ty_of t.now) result ≡ field_at name.now (fields_of_type (listing_of self.now)) }
+        ensures { option_map (λ t. ty_of t.now) result ≡ field_at name.now (listed_fields self.now) }
     {
-        for field in &self.fields {
-            if is_same_name(field.name.as_bytes(), name.as_bytes()) {
-                return Some(&field.ty);
-            }
-        }
-        None
+        field_among(self.fields.as_slice(), name)
     }
 
     /// The type of the fields beside its own, where there may be others.
-    #[tactic(auto, using(crate::proofs::TypeFields::rest_field))]
+    #[tactic(auto, using(crate::proofs::TypeFields::rest_listed))]
     pub(crate) fn other(&self) -> Option<&Ty>
-        ensures { option_map (λ t. ty_of t.now) result ≡ field_or_rest None (rest_of_type (listing_of self.now)) }
+        ensures { option_map (λ t. ty_of t.now) result ≡ option_of (listed_rest self.now) }
     {
         match &self.rest {
             Some(ty) => Some(ty),
@@ -171,8 +170,7 @@ impl Listing {
 
     /// The type of a property: of the first field of its name, else of other fields, where there may be others.
     pub(crate) fn property(&self, name: &str) -> Option<&Ty>
-        ensures { option_map (λ t. ty_of t.now) result
-            ≡ field_or_rest (field_at name.now (fields_of_type (listing_of self.now))) (rest_of_type (listing_of self.now)) }
+        ensures { option_map (λ t. ty_of t.now) result ≡ property_in name.now (listing_of self.now) }
     {
         match self.field(name) {
             Some(ty) => Some(ty),

@@ -1,5 +1,5 @@
 use Rattle.std.proofs.Common.{sym}
-use Rattle.al_types.proofs.FusedLists.{array_with_other}
+use Rattle.al_types.proofs.FusedForms.{array_with_other}
 use Rattle.al_types.proofs.fusing.+fusing.Goals as goal
 
 pub fuse_array-returns-in_default : goal.fuse_array-returns-in_default

@@ -1,5 +1,6 @@
 use Rattle.std.proofs.Common.{map, arith, ap, ◌∙◌}
-use Rattle.al_types.specs.TypeViews.{fused, object_type, shared_parts}
+use Rattle.al_types.specs.Types.{object_type}
+use Rattle.al_types.specs.TypeViews.{fused, shared_parts}
 use Rattle.al_types.proofs.TypeFields.{take_all}
 use Rattle.al_types.proofs.types.copy_fused.Goals as goal
 

@@ -1,8 +1,0 @@
-use Rattle.std.proofs.Common.{◌≡◌, map, drop}
-use Rattle.al_types.specs.Types.{field_at, fields_of}
-use Rattle.al_types.specs.TypeViews.{listing_of}
-use Rattle.al_types.specs.Private.TypeParts.{field_of, fields_of_type}
-use Rattle.al_types.proofs.types.Listing.field.Given as goal
-
-abbrev pub invariant-loop-field : goal.invariant-loop-field
-invariant-loop-field l = field_at l.name (fields_of (map field_of (drop l.field-index l.field-items))) ≡ field_at l.name (fields_of_type (listing_of l.self))

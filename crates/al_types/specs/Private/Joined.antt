@@ -1,0 +1,14 @@
+-- Fields of objects that are joined, or that grow.
+use Rattle.std.specs.Prelude.{ℕ, List, [], ◌∷◌, if◌then◌else◌}
+use Rattle.al_base.specs.Names.{same_name}
+use Rattle.al_types.specs.Types.{Type', Fields, NoField, FieldThen, has_field}
+
+-- `missing_fields` as a list
+abbrev pub missing_list : Fields → Fields → List (List ℕ × Type')
+missing_list fs NoField = []
+missing_list fs (FieldThen n t gs) = let more = missing_list fs gs in if has_field n fs then more else (n, t) ∷ more
+
+-- fields, and one more behind them, unless one has its name
+abbrev pub and_field : Fields → List ℕ × Type' → Fields
+and_field NoField f = FieldThen f.0 f.1 NoField
+and_field (FieldThen n t fs) f = if same_name n f.0 then FieldThen n t fs else FieldThen n t (and_field fs f)
