@@ -52,9 +52,8 @@ def fields_of_many_outputs(of):
     return with_outputs(10_000, b"  b:\n    needs: a\n    runs-on: u\n    steps:\n" + steps), b""
 
 
-def matrix_of(values):
+def matrix_of(values, read=b"      - run: ${{ matrix.r.k00000 }} ${{ matrix.r.a.k09999 }}\n"):
     """A workflow with a matrix of these values of one row, which reads a field of the first and of the last of them."""
-    read = b"      - run: ${{ matrix.r.k00000 }} ${{ matrix.r.a.k09999 }}\n"
     start = b"on: push\njobs:\n  a:\n    strategy: {matrix: {%s}}\n    runs-on: u\n    steps:\n"
     return {WORKFLOW: start % values + read}, b""
 
@@ -63,6 +62,12 @@ def mappings_of_a_row():
     """A row of a matrix whose values are mappings, each with a key of its own, and with a mapping of such a key."""
     values = b", ".join(b"{k%05d: 1, a: {k%05d: 1}}" % (number, number) for number in range(10_000))
     return matrix_of(b"r: [%s]" % values)
+
+
+def last_of_mappings_of_a_row():
+    """Expressions that read the key which the last of a row's mappings has."""
+    values = b", ".join(b"{k%05d: 1}" % number for number in range(10_000))
+    return matrix_of(b"r: [%s]" % values, b"      - run: ${{ matrix.r.k09999 }}\n" * 12_000)
 
 
 def mappings_of_includes():
@@ -205,11 +210,14 @@ FOLDERS = {
     "fields-of-10000-outputs-12000-times": lambda: fields_of_many_outputs(b"needs.a.outputs"),
     "fields-of-12000-branches-with-10000-outputs": lambda: fields_of_many_outputs(b"(needs.a.outputs || needs.a.outputs)"),
     "10000-mappings-of-a-matrix-row": mappings_of_a_row,
+    "last-of-10000-mappings-of-a-matrix-row-12000-times": last_of_mappings_of_a_row,
     "10000-includes-of-a-mapping": mappings_of_includes,
     "all-of-4000-steps-with-10000-outputs": all_steps_with_many_outputs,
     "outputs-of-500-steps-with-10000-outputs-2000-times": outputs_of_all_steps,
     "last-of-9000-needs-9000-times": lambda: needed_jobs(9_000, CALLED_ELSEWHERE, b"needs.j8999.result"),
     "all-of-2000-needs-2000-times": lambda: needed_jobs(2_000, b"runs-on: u, steps: [{run: x}]", b"contains(needs.*.result, 'failure')"),
+    "all-of-2000-needs-in-2000-branches": lambda: needed_jobs(
+        2_000, b"runs-on: u, steps: [{run: x}]", b"contains((needs || needs).*.result, 'failure')"),
     "last-of-6000-needs-in-6000-branches": lambda: needed_jobs(6_000, CALLED_ELSEWHERE, b"(needs || needs).j5999.result"),
     "last-of-6000-steps-in-10000-branches": branches_of_many_steps,
     "8000-steps-with-branches-of-those-before": steps_between_branches,
