@@ -53,7 +53,8 @@ def fields_of_many_outputs(of):
 
 
 def matrix_of(values, read=b"      - run: ${{ matrix.r.k00000 }} ${{ matrix.r.a.k09999 }}\n"):
-    """A workflow with a matrix of these values of one row, which reads a field of the first and of the last of them."""
+    """A workflow with a matrix of these values of one row, and steps: unless others are given, one that reads a field of the first value and
+    one of the last."""
     start = b"on: push\njobs:\n  a:\n    strategy: {matrix: {%s}}\n    runs-on: u\n    steps:\n"
     return {WORKFLOW: start % values + read}, b""
 
