@@ -1,6 +1,6 @@
 //! Types as texts, such as `{a: string, *: any}`, where `*` stands for every other field.
 
-use al_types::{Listing, Object, Ty, copy, joined};
+use al_types::{Listing, NamedFields, Object, Ty, copy, joined};
 use std::alloc::{AllocError, Global};
 
 #[cycle(shown)]
@@ -25,7 +25,7 @@ fn show(alloc: Global, ty: &Ty, out: &mut String) -> Result<(), AllocError> {
 fn show_object(alloc: Global, object: &Object, out: &mut String) -> Result<(), AllocError> {
     match object {
         Object::Listed(listing) => show_listing(alloc, listing, out),
-        Object::Named(_) => out.push_str("{many fields}"),
+        Object::Named(named) => show_named(alloc, named, out),
         Object::Strings(_) => out.push_str("{many strings}"),
     }
 }
@@ -43,7 +43,34 @@ fn show_listing(alloc: Global, object: &Listing, out: &mut String) -> Result<(),
         out.push_str(": ")?;
         show(alloc, &field.ty, out)?;
     }
-    if let Some(rest) = &object.rest {
+    show_rest(alloc, &object.rest, is_first, out)
+}
+
+#[cycle(shown)]
+fn show_named(alloc: Global, object: &NamedFields, out: &mut String) -> Result<(), AllocError> {
+    out.push_str("{")?;
+    let names = object.names.as_slice();
+    for i in 0..object.types.len() {
+        if i > 0 {
+            out.push_str(", ")?;
+        }
+        if i < names.len() {
+            out.push_str(names[i].as_str())?;
+        }
+        out.push_str(": ")?;
+        show(alloc, &object.types[i], out)?;
+    }
+    show_rest(alloc, &object.rest, object.types.is_empty(), out)
+}
+
+#[cycle(shown)]
+fn show_rest(
+    alloc: Global,
+    rest: &Option<Box<Ty>>,
+    is_first: bool,
+    out: &mut String,
+) -> Result<(), AllocError> {
+    if let Some(rest) = rest {
         if !is_first {
             out.push_str(", ")?;
         }

@@ -1,4 +1,3 @@
-pub mod Puts
 pub mod Seen
 pub mod Sections
 pub mod Values
@@ -6,3 +5,4 @@ pub mod Sets
 pub mod Outside
 pub mod Found
 pub mod Needed
+pub mod Summaries

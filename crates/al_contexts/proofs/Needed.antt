@@ -14,7 +14,7 @@ use Rattle.std.proofs.lemmas.List.{drop_more, get_or-map as get_or-any, length-m
 use Rattle.al_types.specs.Positions.{first_at}
 use Rattle.al_types.proofs.PositionLemmas.{find_first, first_within}
 use Rattle.al_contexts.specs.Contexts.{Known, job_field, needed}
-use Rattle.al_contexts.specs.Objects.{Typed, put_all, put_new}
+use Rattle.al_types.specs.Puts.{Typed, put_all, put_new}
 use Rattle.al_contexts.specs.Private.ShownJobs.{AreShown}
 
 -- ---- of each job nothing or what it shows

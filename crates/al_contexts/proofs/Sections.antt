@@ -43,7 +43,7 @@ any_alone code.Bool e n = cc
 any_alone code.String e n = cc
 any_alone (code.Array' p t) e n = cc
 any_alone (code.Object' p (code.Listed (Listing' s f r))) e n = cc
-any_alone (code.Object' p (code.Named' ns s ts)) e n = cc
+any_alone (code.Object' p (code.Named' ns s ts r c)) e n = cc
 any_alone (code.Object' p (code.Strings ns)) e n = cc
 any_alone (code.Fused' p s os) e n = cc
 

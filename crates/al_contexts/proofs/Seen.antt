@@ -13,7 +13,8 @@ use Rattle.al_types.proofs.AddedFields.{object_grown}
 use Rattle.al_yaml.specs.Node.{Node}
 use Rattle.al_places.specs.Positions.{before}
 use Rattle.al_contexts.specs.Contexts.{Known, step_field, steps_fields, steps_shown, steps_type}
-use Rattle.al_contexts.specs.Objects.{Typed, firsts, put_all, put_new, strictly}
+use Rattle.al_contexts.specs.Objects.{strictly}
+use Rattle.al_types.specs.Puts.{Typed, firsts, put_all, put_new}
 use Rattle.al_contexts.specs.Private.Grown.{with_fields}
 
 pub put_all_more : (put : List Typed → Typed → List Typed) (ts ps qs : List Typed) → put_all put ts (ps ++ qs) ≡ put_all put (put_all put ts ps) qs

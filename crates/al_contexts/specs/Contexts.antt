@@ -21,7 +21,8 @@ use Rattle.al_contexts.specs.Fixed.{github_type, runner_type, job_type, strategy
 use Rattle.al_contexts.specs.Inputs.{workflow_inputs, action_inputs}
 use Rattle.al_contexts.specs.Matrix.{matrix_type}
 use Rattle.al_types.specs.Strings.{named_strings}
-use Rattle.al_contexts.specs.Objects.{Typed, firsts, strictly, loose_strings, loose_any}
+use Rattle.al_contexts.specs.Objects.{strictly, loose_strings, loose_any}
+use Rattle.al_types.specs.Puts.{Typed, firsts}
 
 -- What is known of the outputs behind calls: of the nth step of a job or, without a key, of an action, and of a job; None where nothing is.
 pub record Known : Type 0 where

@@ -6,7 +6,8 @@ use Rattle.al_shape.specs.Keys.{key_of}
 use Rattle.al_declarations.specs.Declarations.{declared_below, names_of}
 use Rattle.al_declarations.specs.Inputs.{input_of, input_type}
 use Rattle.al_types.specs.Strings.{named_strings}
-use Rattle.al_contexts.specs.Objects.{Typed, put, put_all, strictly}
+use Rattle.al_contexts.specs.Objects.{strictly}
+use Rattle.al_types.specs.Puts.{Typed, put, put_all}
 
 abbrev pub input_field : Node × Node → Typed
 input_field e = (key_of e, input_type (input_of e.1))

@@ -13,7 +13,8 @@ use Rattle.al_shape.specs.Faults.{has_chunk}
 use Rattle.al_shape.specs.Keys.{key_of, key_text}
 use Rattle.al_shape.specs.Names.{is_combination_key}
 use Rattle.al_shape.specs.Values.{entries_in, items_in, value_at, value_below}
-use Rattle.al_contexts.specs.Objects.{Typed, firsts, loose_any, put, put_all, put_new, strictly}
+use Rattle.al_contexts.specs.Objects.{loose_any, strictly}
+use Rattle.al_types.specs.Puts.{Typed, firsts, put, put_all, put_new}
 
 -- a scalar by its class; one with `${{` is any where it is one expression, else a string
 abbrev pub class_type : Class → Type'

@@ -4,5 +4,4 @@ pub mod Grown
 pub mod JobPositions
 pub mod Lookups
 pub mod Standing
-pub mod Indexes
 pub mod ShownJobs

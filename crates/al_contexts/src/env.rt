@@ -17,6 +17,7 @@ ghost use Rattle.al_contexts.specs.Private.Lookups.{known_by};
 ghost use Rattle.al_contexts.specs.Scopes.{scope_at};
 ghost use Rattle.al_contexts.specs.Private.ShownJobs.{Keeps};
 ghost use Rattle.al_contexts.specs.Private.Standing.{Stands};
+ghost use Rattle.al_contexts.specs.declared.env.File as declared;
 ghost use Rattle.al_places.specs.Places.{place_of};
 ghost use Rattle.al_types.specs.Scopes.{scope_of};
 
@@ -26,6 +27,7 @@ use crate::jobs::jobs_type;
 use crate::known::{Answer, Outputs};
 use crate::matrix::matrix_type;
 use crate::needs::{ShownJobs, needs_type};
+use crate::passes::{NO_PASSES, Passes, passes_in};
 use crate::scopes::{context_set, function_set};
 use crate::start::{NO_CONTEXTS, NO_FUNCTIONS, first_owner, first_types};
 use crate::steps::{no_steps, seen_count, seen_steps};
@@ -62,6 +64,7 @@ pub struct Env<'a> {
     /// What is known of the outputs behind calls.
     outputs: Outputs<'a>,
     shown: ShownJobs,
+    passes: Passes,
     pub scope: Scope,
 }
 
@@ -234,6 +237,7 @@ fn enter_workflow<'a>(
     env.owner = owner;
     env.seen = 0;
     env.section = section;
+    env.passes = NO_PASSES;
     Ok(())
 }
 
@@ -277,6 +281,19 @@ fn go<'a>(
     Ok(())
 }
 
+/// Counts the passes of a text's expressions over the fields of contexts, whose types stay the same.
+fn count_passes(alloc: Global, env: &mut Env<'_>, text: &[u8]) -> Result<(), AllocError>
+    ensures stands { OnOk result ((f : declared.File) → Stands f env.old → Stands f env.new) }
+    ensures types { OnOk result ((c : Context) → type_of_context (env.new).scope.types c ≡ type_of_context (env.old).scope.types c) }
+{
+    let passes = passes_in(text);
+    if passes == 0 {
+        return Ok(());
+    }
+    env.passes.count(alloc, &mut env.scope.types, passes)?;
+    Ok(())
+}
+
 impl<'a> Env<'a> {
     /// The environment at the start of a file: outside its jobs, where no step is seen and nothing is available.
     ///
@@ -296,6 +313,7 @@ impl<'a> Env<'a> {
             jobs,
             outputs,
             shown,
+            passes: NO_PASSES,
             scope: Scope {
                 types,
                 contexts: NO_CONTEXTS,
@@ -321,6 +339,7 @@ impl<'a> Env<'a> {
             (view (file.entry).root.now) (place_of place.entry)) }
     {
         go(alloc, file, self, place.position)?;
+        count_passes(alloc, self, place.scalar.text())?;
         self.scope.contexts = context_set(file.kind, place.available);
         self.scope.functions = function_set(file.kind, place.available, place.is_condition);
         self.scope.in_run = place.is_script;

@@ -7,12 +7,11 @@ ghost use Rattle.al_types.specs.TypeViews.{ty_of};
 ghost use Rattle.al_types.specs.Private.TypeParts.{field_of};
 ghost use Rattle.al_yaml.specs.View.{view};
 
-use crate::field_lists::FieldList;
 use crate::objects::key_texts;
 use al_declarations::{declared_at, input_of, object_of_names, type_of, value_below_three};
 use al_shape::{Member, key_text, value};
 use al_tree::FileKind;
-use al_types::{Field, Ty};
+use al_types::{Field, FieldList, Ty};
 use al_yaml::Node;
 use std::alloc::{AllocError, Global};
 

@@ -10,13 +10,12 @@ ghost use Rattle.al_contexts.specs.Contexts as contexts;
 ghost use Rattle.al_contexts.specs.Contexts.{call_outputs, jobs_type_of};
 ghost use Rattle.al_declarations.specs.Declarations as declarations;
 
-use crate::field_lists::FieldList;
 use crate::job_lists::JobList;
 use crate::known::Outputs;
 use crate::objects::{add_field, key_texts, loose_any, strict_of};
 use al_declarations::{NameList, object_of_names};
 use al_shape::{Member, key_text, members, value};
-use al_types::{Field, Ty, copy};
+use al_types::{Field, FieldList, Ty, copy};
 use al_yaml::Node;
 use std::alloc::{AllocError, Global};
 

@@ -3,7 +3,6 @@
 #![tactic(auto)]
 
 mod env;
-mod field_lists;
 mod fixed;
 mod inputs;
 mod job_lists;
@@ -12,6 +11,7 @@ mod known;
 mod matrix;
 mod needs;
 mod objects;
+mod passes;
 mod scopes;
 mod start;
 mod steps;

@@ -6,16 +6,15 @@ ghost use Rattle.al_types.specs.Private.TypeParts.{field_of};
 ghost use Rattle.al_shape.specs.Values.{member_of, scalar_node_of};
 ghost use Rattle.al_yaml.specs.View.{view};
 ghost use Rattle.al_contexts.specs.Contexts.{Known, needed, needed_by, needs_type_of};
-ghost use Rattle.al_contexts.specs.Objects.{Typed, put_all, put_new};
+ghost use Rattle.al_types.specs.Puts.{Typed, put_all, put_new};
 ghost use Rattle.al_contexts.specs.Private.Lookups.{known_by};
 ghost use Rattle.al_contexts.specs.Private.ShownJobs.{IsJobAt, Keeps};
 
-use crate::field_lists::FieldList;
 use crate::job_lists::JobList;
 use crate::jobs::job_field;
 use crate::known::Outputs;
 use al_shape::{ScalarNode, key_text, texts_under};
-use al_types::{Field, Ty, copy};
+use al_types::{Field, FieldList, Ty, copy};
 use al_yaml::Node;
 use std::alloc::{AllocError, Global};
 

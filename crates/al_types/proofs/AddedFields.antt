@@ -5,13 +5,14 @@ use Rattle.al_base.specs.Names.{same_name}
 use Rattle.al_types.specs.MoreFields.{is_present, with_field}
 use Rattle.al_types.specs.Positions.{name_place}
 use Rattle.al_types.specs.Types.{Type', Optional, Absent, Present, Fields, NoField, FieldThen, field_at, fields_of, fuse_type, has_field, object_type}
-use Rattle.al_types.specs.Types.{object_with, option_of, optional}
+use Rattle.al_types.specs.Types.{ObjectOf, fuse_optional, object_with, option_of, optional}
+use Rattle.al_types.specs.TypeViews.{parts_by_names}
 use Rattle.al_types.specs.FusedFields.{both, fuse_fields, join_fields, with_other}
 use Rattle.al_types.specs.Private.Joined.{and_field}
 use Rattle.al_types.specs.Private.Positions.{IsNameIndex, and_name_at, name_position}
 use Rattle.al_types.specs.declared.positions.NamePositions.{NamePositions}
-use Rattle.al_types.proofs.FuseLaws.{nothing_last}
-use Rattle.al_types.proofs.JoinedFields.{has_field_at, joined_parts, same_turned}
+use Rattle.al_types.proofs.FuseLaws.{common_optional, nothing_last}
+use Rattle.al_types.proofs.JoinedFields.{at_both, has_field_at, joined_parts, same_turned}
 use Rattle.al_types.proofs.PositionLemmas.{first_more}
 
 -- ---- fields that are looked through
@@ -103,6 +104,33 @@ object_grown fs r f =
     ∙ ap (object_with (both fs (FieldThen f.0 f.1 NoField))) (sym (nothing_last r))
     ∙ ap object_type (joined_parts fs (FieldThen f.0 f.1 NoField) r Absent refl))
 
+-- ---- an object of which it is kept what all fields have in common
+
+present_has : (fs : Fields) (n : List ℕ) → is_present (optional (field_at n fs)) ≡ has_field n fs
+present_has fs n = present_at (field_at n fs) ∙ has_field_at n fs
+
+if_had : (b : Bool) (t u : Type') → b ≡ true → t ≡ (if b then t else u)
+if_had true t u e = refl
+if_had false t u e = absurd cc
+
+if_lacked : (b : Bool) (t u : Type') → b ≡ false → u ≡ (if b then t else u)
+if_lacked true t u e = absurd cc
+if_lacked false t u e = refl
+
+-- it stays where the field's name is there
+kept_old : (fs : Fields) (r all : Optional) (f : List ℕ × Type') → has_field f.0 fs ≡ true →
+    object_type (parts_by_names fs r all) ≡ with_field (object_type (parts_by_names fs r all)) f
+kept_old fs r all f h = if_had _ _ _ (present_has fs f.0 ∙ h)
+
+-- and else has the field, whose type is fused with what was in common
+kept_new : (fs : Fields) (r all : Optional) (f : List ℕ × Type') → has_field f.0 fs ≡ false →
+    object_type (parts_by_names (and_field fs f) r (fuse_optional all (Present f.1))) ≡ with_field (object_type (parts_by_names fs r all)) f
+kept_new fs r all f h =
+    let one = FieldThen f.0 f.1 NoField in
+    let at : (n : List ℕ) → optional (field_at n (and_field fs f)) ≡ fuse_optional (optional (field_at n fs)) (optional (field_at n one)) =
+    λ n. ap (λ gs. optional (field_at n gs)) (behind fs f h) ∙ ap optional (at_both n fs one) ∙ common_optional (field_at n fs) (field_at n one) in
+    (λ d. ObjectOf (λ n. at n d) (sym (nothing_last r) d) (fuse_optional all (Present f.1))) ∙ if_lacked _ _ _ (present_has fs f.0 ∙ h)
+
 -- ---- fields that are found by their names
 
 place_step : (b had : Bool) (o : Option ℕ) → had ≡ (if is_none o then false else true) →
@@ -126,17 +154,23 @@ zip_behind [] (u ∷ ts) n t e = absurd (omega (arith, e))
 zip_behind (m ∷ ns) [] n t e = absurd (omega (arith, e))
 zip_behind (m ∷ ns) (u ∷ ts) n t e = ap (λ ps. (m, u) ∷ ps) (zip_behind ns ts n t (omega (arith, e)))
 
-pub named_new : (ns : List (List ℕ)) (ts : List Type') (n : List ℕ) (t : Type') (b : Bool) → length ns ≡ length ts →
-    b ≡ is_none (name_place ns n) → b ≡ true → fields_of (zip (ns ++ n ∷ []) (ts ++ t ∷ [])) ≡ and_field (fields_of (zip ns ts)) (n, t)
-named_new ns ts n t b e is y =
+-- a name that is new, with its type
+pub named_new : (ns : List (List ℕ)) (ts : List Type') (r all : Optional) (n : List ℕ) (t : Type') (b : Bool) → length ns ≡ length ts →
+    b ≡ is_none (name_place ns n) → b ≡ true →
+    object_type (parts_by_names (fields_of (zip (ns ++ n ∷ []) (ts ++ t ∷ []))) r (fuse_optional all (Present t)))
+    ≡ with_field (object_type (parts_by_names (fields_of (zip ns ts)) r all)) (n, t)
+named_new ns ts r all n t b e is y =
     let none : has_field n (fields_of (zip ns ts)) ≡ false = has_by_place ns ts n e ∙ ap (λ c. if c then false else true) (sym is ∙ y) in
-    ap fields_of (zip_behind ns ts n t e) ∙ added_new (zip ns ts) (n, t) none
+    ap (λ fs. object_type (parts_by_names fs r (fuse_optional all (Present t)))) (ap fields_of (zip_behind ns ts n t e) ∙ added_new (zip ns ts) (n, t) none)
+    ∙ kept_new (fields_of (zip ns ts)) r all (n, t) none
 
-pub named_old : (ns : List (List ℕ)) (ts : List Type') (n : List ℕ) (t : Type') (b : Bool) → length ns ≡ length ts →
-    b ≡ is_none (name_place ns n) → b ≡ false → fields_of (zip ns ts) ≡ and_field (fields_of (zip ns ts)) (n, t)
-named_old ns ts n t b e is y =
+-- and one that is there
+pub named_old : (ns : List (List ℕ)) (ts : List Type') (r all : Optional) (n : List ℕ) (t : Type') (b : Bool) → length ns ≡ length ts →
+    b ≡ is_none (name_place ns n) → b ≡ false →
+    object_type (parts_by_names (fields_of (zip ns ts)) r all) ≡ with_field (object_type (parts_by_names (fields_of (zip ns ts)) r all)) (n, t)
+named_old ns ts r all n t b e is y =
     let some : has_field n (fields_of (zip ns ts)) ≡ true = has_by_place ns ts n e ∙ ap (λ c. if c then false else true) (sym is ∙ y) in
-    sym (added_old (fields_of (zip ns ts)) (n, t) some)
+    kept_old (fields_of (zip ns ts)) r all (n, t) some
 
 -- where names stand, with one more behind them
 pub placed_new : (old new : NamePositions) (ns : List (List ℕ)) (n : List ℕ) (i : ℕ) → IsNameIndex old ns → i ≡ length ns →

@@ -89,6 +89,16 @@ common_optional None b = refl
 common_optional (Some t) None = refl
 common_optional (Some t) (Some u) = refl
 
+-- a part of what is in common to what may be there
+pub common_part : (t : Option Type') (a b : Optional) → t ≡ common_type (option_of a) (option_of b) → optional t ≡ fuse_optional a b
+common_part t a b e =
+    ap optional e ∙ common_optional (option_of a) (option_of b) ∙ (λ d. fuse_optional (option_back a d) (option_back b d))
+
+-- likewise of what the code has in hand
+pub common_more : (t o u : Option Type') (b : Optional) → t ≡ common_type o u → u ≡ option_of b → optional t ≡ fuse_optional (optional o) b
+common_more t o u b e is =
+    ap optional e ∙ common_optional o u ∙ ap (λ x. fuse_optional (optional o) (optional x)) is ∙ ap (fuse_optional (optional o)) (option_back b)
+
 -- ---- objects
 
 -- an object without fields adds nothing to another, before it ..

@@ -1,6 +1,6 @@
 -- Objects that the code fuses: one more, others behind them, one alone, and several as one.
-use Rattle.std.proofs.Common.{◌≡◌, ◌≤◌, ◌<◌, ◌+◌, ℕ, arith, length, get_or, take, drop, List, [], ◌∷◌, ◌++◌, map, Option, Some, None, sym, ap, ◌∙◌}
-use Rattle.std.proofs.lemmas.List.{map-append, take-append-drop, take_more}
+use Rattle.std.proofs.Common.{◌≡◌, ◌<◌, ◌+◌, ℕ, length, get_or, take, List, [], ◌∷◌, ◌++◌, map, Option, Some, None, sym, ap, ◌∙◌}
+use Rattle.std.proofs.lemmas.List.{map-append, take_more}
 use Rattle.std.specs.Global.{Global}
 use Rattle.std.specs.declared.rc.Rc.{Rc}
 use Rattle.al_types.specs.declared.types.Fused.{Fused}
@@ -58,23 +58,3 @@ field_first (Present u) b o found t s f e = e ∙ sym s ∙ f
 pub other_last : (a b : Optional) (o found : Option Type') → found ≡ None → found ≡ option_of a → o ≡ option_of b → o ≡ option_of (or_else a b)
 other_last Absent b o found s f e = e
 other_last (Present u) b o found s f e = absurd cc
-
--- ---- several as one
-
--- one alone is what one is
-pub only_one : (os : List (Rc Object Global)) (o : Rc Object Global) (x : Object) → 1 ≤ length os → length os < 2 → o ≡ get_or os 0 o →
-    x ≡ o.value → object_of x ≡ object_type (fused (map shared_parts os))
-only_one [] o x few less is copy = absurd (omega (arith, few))
-only_one (u ∷ []) o x few less is copy =
-    ap object_of (copy ∙ ap (λ (r : Rc Object Global). r.value) is) ∙ ap object_type (sym (empty_first (parts_of u.value)))
-only_one (u ∷ v ∷ us) o x few less is copy = absurd (omega (arith, less))
-
--- two halves that are fused
-pub of_halves : (os firsts lasts : List (Rc Object Global)) (n : ℕ) (x y : Object) → firsts ≡ take n os → lasts ≡ drop n os →
-    object_of x ≡ object_type (fused (map shared_parts firsts)) → object_of y ≡ object_type (fused (map shared_parts lasts)) →
-    fuse_type (object_of x) (object_of y) ≡ object_type (fused (map shared_parts os))
-of_halves os firsts lasts n x y f l first second =
-    let all : firsts ++ lasts ≡ os = ap (λ us. us ++ lasts) f ∙ ap (λ us. take n os ++ us) l ∙ take-append-drop n os in
-    ap (λ t. fuse_type t (object_of y)) first ∙ ap (fuse_type (object_type (fused (map shared_parts firsts)))) second
-    ∙ ap object_type (sym (fused_both (map shared_parts firsts) (map shared_parts lasts)))
-    ∙ ap (λ ps. object_type (fused ps)) (sym (map-append shared_parts firsts lasts)) ∙ ap (λ us. object_type (fused (map shared_parts us))) all

@@ -1,5 +1,5 @@
 -- The fields of two objects as those of one: of each name, and what all have in common.
-use Rattle.std.proofs.Common.{◌≡◌, ℕ, List, [], ◌∷◌, ◌++◌, map, refl, sym, ap, ◌∙◌, Bool, true, false, ◌||◌, Option, Some, None}
+use Rattle.std.proofs.Common.{◌≡◌, ℕ, List, [], ◌∷◌, ◌++◌, refl, sym, ap, ◌∙◌, Bool, true, false, ◌||◌, Option, Some, None}
 use Rattle.std.proofs.lemmas.Bool.Decides.{Decides-like, same_from_decides}
 use Rattle.std.proofs.lemmas.Slice.Eq.{bytes_eq-Decides}
 use Rattle.std.specs.Prelude.{if◌then◌else◌, is_some, not, ◌&&◌, option_map}
@@ -11,7 +11,6 @@ use Rattle.al_types.specs.Types.{Type', Fields, NoField, FieldThen, Optional, Ab
 use Rattle.al_types.specs.Types.{fuse_type, has_field, optional, parts_with}
 use Rattle.al_types.specs.TypeViews.{fuse_parts}
 use Rattle.al_types.specs.FusedFields.{are_distinct, both, fuse_fields, join_fields, missing_fields, with_other}
-use Rattle.al_types.specs.Private.Joined.{missing_list}
 use Rattle.al_types.specs.Private.TypeParts.{common_type}
 use Rattle.al_types.proofs.FuseLaws.{common_optional, last_turned, middle_turned, optional_assoc, optional_same}
 
@@ -36,7 +35,7 @@ pub has_field_at : (n : List ℕ) (fs : Fields) → is_some (field_at n fs) ≡ 
 has_field_at n NoField = refl
 has_field_at n (FieldThen m t fs) = some_if (same_name m n) t (field_at n fs) ∙ ap (λ b. same_name m n || b) (has_field_at n fs)
 
-has_same : (m n : List ℕ) (fs : Fields) → folded m ≡ folded n → has_field m fs ≡ has_field n fs
+pub has_same : (m n : List ℕ) (fs : Fields) → folded m ≡ folded n → has_field m fs ≡ has_field n fs
 has_same m n fs e = sym (has_field_at m fs) ∙ ap is_some (same_at m n fs e) ∙ has_field_at n fs
 
 none_at : (o : Option Type') → is_some o ≡ false → o ≡ None
@@ -44,7 +43,7 @@ none_at None e = refl
 none_at (Some t) e = absurd cc
 
 -- a name that no field has finds none
-nothing_at : (n : List ℕ) (fs : Fields) → has_field n fs ≡ false → field_at n fs ≡ None
+pub nothing_at : (n : List ℕ) (fs : Fields) → has_field n fs ≡ false → field_at n fs ≡ None
 nothing_at n fs h = none_at (field_at n fs) (has_field_at n fs ∙ h)
 
 -- ---- the type of a field of both
@@ -96,7 +95,7 @@ both_step None more other h = h refl
 both_step (Some t) more None h = refl
 both_step (Some t) more (Some u) h = refl
 
-at_both : (n : List ℕ) (fs gs : Fields) → field_at n (both fs gs) ≡ common_type (field_at n fs) (field_at n gs)
+pub at_both : (n : List ℕ) (fs gs : Fields) → field_at n (both fs gs) ≡ common_type (field_at n fs) (field_at n gs)
 at_both n fs gs =
     at_joined n (fuse_fields fs gs) (missing_fields fs gs)
     ∙ ap (λ o. option_or o (field_at n (missing_fields fs gs))) (at_fused n fs gs)
@@ -155,11 +154,11 @@ missing_taken false o m u more whole e =
     ∙ ap (λ x. fuse_optional x (Present u)) e
 
 -- of distinct fields the first is none of the others, and these are distinct
-first_apart : (has rest : Bool) → not has && rest ≡ true → has ≡ false
+pub first_apart : (has rest : Bool) → not has && rest ≡ true → has ≡ false
 first_apart true rest e = absurd cc
 first_apart false rest e = refl
 
-others_apart : (has rest : Bool) → not has && rest ≡ true → rest ≡ true
+pub others_apart : (has rest : Bool) → not has && rest ≡ true → rest ≡ true
 others_apart true rest e = absurd cc
 others_apart false rest e = e
 
@@ -189,25 +188,6 @@ joined_parts fs gs r s d =
 pub join_lists : (fs gs : List (List ℕ × Type')) → join_fields (fields_of fs) (fields_of gs) ≡ fields_of (fs ++ gs)
 join_lists [] gs = refl
 join_lists (f ∷ fs) gs = ap (FieldThen f.0 f.1) (join_lists fs gs)
-
-listed_step : (b : Bool) (n : List ℕ) (t : Type') (more : List (List ℕ × Type')) →
-    (if b then fields_of more else FieldThen n t (fields_of more)) ≡ fields_of (if b then more else (n, t) ∷ more)
-listed_step true n t more = refl
-listed_step false n t more = refl
-
-pub missing_lists : (fs gs : Fields) → missing_fields fs gs ≡ fields_of (missing_list fs gs)
-missing_lists fs NoField = refl
-missing_lists fs (FieldThen n t gs) =
-    ap (λ more. if has_field n fs then more else FieldThen n t more) (missing_lists fs gs)
-    ∙ listed_step (has_field n fs) n t (missing_list fs gs)
-
--- each field fused with the other of its name
-abbrev pub fused_field : Fields → (List ℕ × Type') → (List ℕ × Type')
-fused_field gs f = (f.0, with_other f.1 (field_at f.0 gs))
-
-pub fused_lists : (fs : List (List ℕ × Type')) (gs : Fields) → fuse_fields (fields_of fs) gs ≡ fields_of (map (fused_field gs) fs)
-fused_lists [] gs = refl
-fused_lists (f ∷ fs) gs = ap (FieldThen f.0 (with_other f.1 (field_at f.0 gs))) (fused_lists fs gs)
 
 -- ---- whether names are distinct, one after the other
 

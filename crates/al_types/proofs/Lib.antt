@@ -10,3 +10,5 @@ pub mod FieldPositions
 pub mod FieldsByName
 pub mod Commons
 pub mod AddedFields
+pub mod Puts
+pub mod GatheredFields

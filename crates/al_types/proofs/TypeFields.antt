@@ -1,5 +1,5 @@
 -- The fields of an object as a list.
-use Rattle.std.proofs.Common.{◌≡◌, ◌≤◌, length, take, arith, ℕ, List, ◌∷◌, map, refl, sym, ap, ◌∙◌}
+use Rattle.std.proofs.Common.{◌≡◌, ◌≤◌, length, take, arith, ℕ, List, ◌∷◌, map, refl, sym, ap, ◌∙◌, Option, Some, None}
 use Rattle.std.proofs.lemmas.Grind.{common_steps}
 use Rattle.std.specs.Prelude.{string_bytes, zip}
 use Rattle.al_types.specs.declared.types.Ty.{Ty}
@@ -14,11 +14,11 @@ use Rattle.al_types.specs.declared.types.Object.{Object, Named}
 use Rattle.al_types.specs.declared.types.Object.TheBlock.{Row_of-Fused-objects-1, end_of-Fused-objects-1, more_of-Fused-objects-1, hidden-the_row-Fused-objects-1-1}
 use Rattle.al_types.specs.declared.types.Object.TheBlock.{items-the_row-Fused-objects-1, items_hidden-the_row-Fused-objects-1-1}
 use Rattle.al_types.specs.declared.types.Object.TheBlock.{Row_of-Field, end_of-Field, more_of-Field, None', Some', items-the_row-Field, items_shown-the_row-Field-2}
-use Rattle.al_types.specs.declared.types.Object.TheBlock.{Row_of-Ty, end_of-Ty, more_of-Ty, items-the_row-Ty, hidden-the_row-Ty-0, items_hidden-the_row-Ty-0}
-use Rattle.al_types.specs.Types.{Absent, FieldThen, fields_of, object_type, object_with, parts_with}
-use Rattle.al_types.specs.TypeViews.{ty_of, fields_in, fused, fused_of, listed_fields, listed_rest, listing_of, named_of, names_in, object_of, objects_in}
+use Rattle.al_types.specs.declared.types.Object.TheBlock.{Row_of-Ty, end_of-Ty, more_of-Ty, items-the_row-Ty, hidden-the_row-Ty-0, items_hidden-the_row-Ty-0, back-Listing-rest}
+use Rattle.al_types.specs.Types.{FieldThen, fields_of, object_type, object_with}
+use Rattle.al_types.specs.TypeViews.{ty_of, fields_in, fused, fused_of, listed_fields, listed_rest, listing_of, names_in, object_of, objects_in, parts_by_names, rest_in}
 use Rattle.al_types.specs.TypeViews.{parts_of, shared_parts, types_in}
-use Rattle.al_types.specs.Private.TypeParts.{rest_of, field_of}
+use Rattle.al_types.specs.Private.TypeParts.{rest_of, field_of, named_object, named_parts}
 
 rows : (n : _) (k : Row_of-Field n) → fields_in k ≡ fields_of (map field_of (items-the_row-Field n k))
 rows _ end_of-Field = refl
@@ -62,12 +62,14 @@ types_listed : (n : _) (k : Row_of-Ty n) → types_in k ≡ map ty_of (items-the
 types_listed _ end_of-Ty = refl
 types_listed _ (more_of-Ty t rest) = ap (λ ts. ty_of t ∷ ts) (types_listed _ rest)
 
-pub named_parts : (f : NamedFields) → parts_of (Named f) ≡ parts_with (named_of f) Absent
-named_parts f =
-    ap (λ ts. parts_with (fields_of (zip (names_in f.names) ts)) Absent) (types_listed _ (hidden-the_row-Ty-0 f.types)
-    ∙ ap (map ty_of) (items_hidden-the_row-Ty-0 f.types))
+held_back : (r : Option (Box Ty Global)) → rest_in (back-Listing-rest r) ≡ rest_of r
+held_back None = refl
+held_back (Some b) = refl
 
-pub named_type : (f : NamedFields) → object_of (Named f) ≡ object_with (named_of f) Absent
-named_type f = ap object_type (named_parts f)
+pub named_parts_kept : (f : NamedFields) → parts_of (Named f) ≡ named_parts f
+named_parts_kept f =
+    let types = types_listed _ (hidden-the_row-Ty-0 f.types) ∙ ap (map ty_of) (items_hidden-the_row-Ty-0 f.types) in
+    λ d. parts_by_names (fields_of (zip (names_in f.names) (types d))) (held_back f.rest d) (held_back f.common d)
 
-pub ruleset as_listed = (listing_made, listing_fields, named_type)
+pub named_type : (f : NamedFields) → object_of (Named f) ≡ named_object f
+named_type f = ap object_type (named_parts_kept f)

@@ -4,6 +4,7 @@ pub mod TypeViews
 pub mod Positions
 pub mod MoreFields
 pub mod FusedFields
+pub mod Puts
 pub mod Signatures
 pub mod Strings
 pub mod Scopes

@@ -2,3 +2,5 @@
 pub mod TypeParts
 pub mod Positions
 pub mod Joined
+pub mod Indexes
+pub mod Gathered

@@ -13,8 +13,12 @@ use Rattle.al_types.specs.declared.types.Object.TheBlock.{Row_of-Fused-objects-1
 use Rattle.al_types.specs.declared.types.Object.TheBlock.{Row_of-Ty, end_of-Ty, more_of-Ty}
 use Rattle.al_types.specs.declared.types.Object.TheBlock.{Row_of-Field, end_of-Field, more_of-Field, Held-Listing-rest, None', Some'}
 use Rattle.al_types.specs.Types.{Type', Any, Null, Number, Bool', String, ArrayOf, Fields, NoField, FieldThen, Optional, Absent, Present}
-use Rattle.al_types.specs.Types.{Parts, fields_of, fuse_optional, object_type, object_with, parts_with}
+use Rattle.al_types.specs.Types.{Parts, field_at, fields_of, fuse_optional, object_type, object_with, optional, parts_with}
 use Rattle.al_types.specs.Strings.{strings}
+
+-- an object of these fields, others of a type where there may be others, and of what is said to be in common to all of them
+abbrev pub parts_by_names : Fields → Optional → Optional → Parts
+parts_by_names fs rest all = (λ n. optional (field_at n fs), rest, all)
 
 -- the parts of what two objects have in common
 abbrev pub fuse_parts : Parts → Parts → Parts
@@ -48,7 +52,8 @@ abbrev mutual
 
   pub parts_of : Object → Parts
   parts_of (code.Listed l) = parts_with (listed_fields l) (listed_rest l)
-  parts_of (code.Named' ns shape ts) = parts_with (fields_of (zip (names_in ns) (types_in ts))) Absent
+  parts_of (code.Named' ns shape ts rest common) =
+      parts_by_names (fields_of (zip (names_in ns) (types_in ts))) (rest_in rest) (rest_in common)
   parts_of (code.Strings ns) = parts_with (fields_of (strings (names_in ns))) Absent
 
   -- the fields of a listing ..

@@ -2,20 +2,21 @@
 
 ghost use Rattle.std.specs.Prelude.{◌≡◌, IfOk, map, option_map};
 ghost use Rattle.al_types.specs.Types.{common_in, fields_of, option_of, or_any};
-ghost use Rattle.al_types.specs.TypeViews.{ty_of, listing_of, named_of, parts_of, parts_of_fused};
-ghost use Rattle.al_types.specs.Private.TypeParts.{all_in, common_of, field_of, string_unless};
+ghost use Rattle.al_types.specs.TypeViews.{ty_of, listing_of, parts_of, parts_of_fused};
+ghost use Rattle.al_types.specs.Private.TypeParts.{all_in, field_of, rest_of, string_unless};
 
-use crate::fusing::joined;
+use crate::joining::joined_to;
+use crate::named_fields::other_of;
 use crate::properties::{common_property, common_type, made};
-use crate::types::{Field, Fused, Listing, NamedFields, Object, Ty};
+use crate::types::{Field, Fused, Listing, NamedFields, Object, Ty, copy};
 use std::alloc::{AllocError, Global};
 
 /// Of so many objects a list takes 8 MiB.
 const MANY: usize = 1 << 20;
 
 impl Object {
-    /// What its fields and the type of others have in common: none where it has neither. Takes time that grows with the number of its
-    /// fields, unless all are known to be strings. Fails with `AllocError` for want of memory, as all here.
+    /// What its fields and the type of others have in common: none where it has neither. Few fields are gone over for it, of many it is
+    /// known. Fails with `AllocError` for want of memory, as all here.
     pub fn common(&self, alloc: Global) -> Result<Option<Ty>, AllocError>
         ensures { IfOk result (λ t. option_map ty_of t ≡ option_of (parts_of self.now).2) }
     {
@@ -36,7 +37,8 @@ impl Listing {
     }
 }
 
-fn common_of_fields(alloc: Global, fields: &[Field]) -> Result<Option<Ty>, AllocError>
+/// What fields have in common: none where there are none.
+pub(crate) fn common_of_fields(alloc: Global, fields: &[Field]) -> Result<Option<Ty>, AllocError>
     ensures { IfOk result (λ t. option_map ty_of t ≡ option_of (common_in (fields_of (map field_of fields.now)))) }
 {
     let mut common = None;
@@ -48,21 +50,13 @@ fn common_of_fields(alloc: Global, fields: &[Field]) -> Result<Option<Ty>, Alloc
 
 impl NamedFields {
     fn common(&self, alloc: Global) -> Result<Option<Ty>, AllocError>
-        ensures { IfOk result (λ t. option_map ty_of t ≡ option_of (common_in (named_of self.now))) }
+        ensures { IfOk result (λ t. option_map ty_of t ≡ option_of (rest_of self.now.common)) }
     {
-        let common = common_of_types(alloc, self.types())?;
-        Ok(common)
+        match other_of(&self.common) {
+            None => Ok(None),
+            Some(ty) => Ok(Some(copy(alloc, ty)?)),
+        }
     }
-}
-
-fn common_of_types(alloc: Global, types: &[Ty]) -> Result<Option<Ty>, AllocError>
-    ensures { IfOk result (λ t. option_map ty_of t ≡ option_of (common_of (map ty_of types.now))) }
-{
-    let mut common = None;
-    for ty in types {
-        common = common_type(alloc, common, Some(ty))?;
-    }
-    Ok(common)
 }
 
 // What strings have in common, unless there are none.
@@ -87,21 +81,24 @@ impl Fused {
     }
 }
 
-// The same type. So many objects are made one that a list of them would take more memory than a file is worth.
+// The same type. A list of so many objects takes more memory than one object that has the fields of all.
 fn shortened(alloc: Global, ty: Option<Ty>) -> Result<Option<Ty>, AllocError>
     ensures { IfOk result (λ t. option_map ty_of t ≡ option_map ty_of ty) }
 {
     match ty {
         None => Ok(None),
-        Some(ty) if is_long(&ty) => Ok(Some(joined(alloc, ty)?)),
+        Some(ty) if ty.parts() > MANY => Ok(Some(joined_to(alloc, ty, 1)?)),
         Some(ty) => Ok(Some(ty)),
     }
 }
 
-fn is_long(ty: &Ty) -> bool {
-    match ty {
-        Ty::Fused(fused) => fused.objects.len() > MANY,
-        _ => false,
+impl Ty {
+    /// Of how many objects it is what they have in common, as far as these weren't made one. Only time and memory depend on it.
+    pub(crate) fn parts(&self) -> usize {
+        match self {
+            Ty::Fused(fused) => fused.objects.len(),
+            _ => 0,
+        }
     }
 }
 

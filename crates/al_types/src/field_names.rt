@@ -19,6 +19,13 @@ pub struct FieldNames {
 impl FieldNames {
     ghost use Rattle.al_types.specs.TypeViews.{names_in};
 
+    /// The names.
+    pub fn as_slice(&self) -> &[String]
+        ensures { map string_bytes result.now ≡ names_in self.now }
+    {
+        self.names.as_slice()
+    }
+
     /// The names, and one more behind them unless an equal one stands there, and whether it is new. Fails with `AllocError` for want of
     /// memory.
     pub(crate) fn and_name(

@@ -2,13 +2,10 @@
 
 ghost use Rattle.std.specs.Prelude.{◌≡◌, IfOk};
 ghost use Rattle.al_types.specs.Types.{ArrayOf, fuse_type};
-ghost use Rattle.al_types.specs.TypeViews.{ty_of, listing_of, object_of, fused_of};
+ghost use Rattle.al_types.specs.TypeViews.{ty_of, object_of, fused_of};
 ghost use Rattle.al_types.specs.Private.TypeParts.{fuse_with_form};
 
-use crate::joining::join;
-use crate::named_fields::strict_object;
-use crate::objects::object_of_fields;
-use crate::types::{Form, Fused, Listing, Object, Ty};
+use crate::types::{Form, Fused, Object, Ty};
 use std::alloc::{AllocError, Global};
 use std::rc::Rc;
 
@@ -92,53 +89,5 @@ fn fuse_fused(x: Box<Fused>, b: Ty) -> Result<Ty, AllocError>
             Ok(Ty::Fused(all))
         }
         Ty::Any | Ty::Null | Ty::Number | Ty::Bool | Ty::String | Ty::Array(_) => Ok(Ty::Any),
-    }
-}
-
-/// The same type, whose fields stand in one object where it is one, or where arrays hold one: so a property is found in one look. Takes
-/// the time and memory of all fields of those that were fused. Fails for want of memory alone.
-#[tactic(auto, using(crate::proofs::TypeFields::fused_type))]
-pub fn joined(alloc: Global, ty: Ty) -> Result<Ty, AllocError>
-    ensures { IfOk result (λ t. ty_of t ≡ ty_of ty) }
-{
-    match ty {
-        Ty::Array(of) => {
-            let of = joined(alloc, Box::into_inner(of))?;
-            Ok(Ty::Array(Box::new(alloc, of)?))
-        }
-        Ty::Fused(fused) => joined_objects(alloc, fused),
-        other => Ok(other),
-    }
-}
-
-// Objects that are fused as one, unless one of them has a name twice.
-#[tactic(auto, using(crate::proofs::TypeFields::fused_type))]
-fn joined_objects(alloc: Global, fused: Box<Fused>) -> Result<Ty, AllocError>
-    ensures { IfOk result (λ t. ty_of t ≡ fused_of fused.value) }
-{
-    match join(alloc, fused.objects.as_slice())? {
-        Some(object) => found_by_name(alloc, object),
-        None => Ok(Ty::Fused(fused)),
-    }
-}
-
-// An object whose fields are found by their names where they are many and nothing else shares it.
-fn found_by_name(alloc: Global, object: Rc<Object>) -> Result<Ty, AllocError>
-    ensures { IfOk result (λ t. ty_of t ≡ object_of object.value) }
-{
-    match Rc::try_unwrap(object) {
-        Ok(Object::Listed(listing)) => listing_by_names(alloc, listing),
-        Ok(own) => Ok(Ty::Object(Rc::new(alloc, own)?)),
-        Err(shared) => Ok(Ty::Object(shared)),
-    }
-}
-
-#[tactic(auto, using(crate::proofs::TypeFields::listing_fields))]
-fn listing_by_names(alloc: Global, listing: Listing) -> Result<Ty, AllocError>
-    ensures { IfOk result (λ t. ty_of t ≡ listing_of listing) }
-{
-    match listing.rest {
-        None => strict_object(alloc, listing.fields),
-        rest => object_of_fields(alloc, listing.fields, rest),
     }
 }

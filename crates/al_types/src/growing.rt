@@ -2,21 +2,21 @@
 
 ghost use Rattle.std.specs.Prelude.{◌≡◌, IfOk, map};
 ghost use Rattle.al_types.specs.MoreFields as types;
-ghost use Rattle.al_types.specs.Types.{Absent, fields_of, has_field, object_with};
-ghost use Rattle.al_types.specs.TypeViews.{ty_of, object_of, named_of};
+ghost use Rattle.al_types.specs.Types.{fields_of, has_field, object_with};
+ghost use Rattle.al_types.specs.TypeViews.{ty_of, object_of};
 ghost use Rattle.al_types.specs.Private.Joined.{and_field};
-ghost use Rattle.al_types.specs.Private.TypeParts.{field_of, rest_of};
+ghost use Rattle.al_types.specs.Private.TypeParts.{field_of, named_object, rest_of};
 
 use crate::fusing::fuse;
-use crate::named_fields::{object_of_named, strict_object};
-use crate::objects::{listed, object_of_fields};
+use crate::named_fields::{object_of_named, object_with_rest};
+use crate::objects::object_of_fields;
 use crate::types::{Field, NamedFields, Object, Ty, field_among};
 use std::alloc::{AllocError, Global};
 use std::rc::Rc;
 
 /// What a type has in common with an object of one field, unless it has one of its name: so an object grows by it. Its fields are moved
-/// out of an object that nothing else shares, and else copied: one that grows field after field takes time that grows with the logarithm
-/// of their number for each. Fails with `AllocError` for want of memory alone, as all here.
+/// out of an object that nothing else shares: one that grows field after field takes time that grows with the logarithm of their number for
+/// each. Fails with `AllocError` for want of memory alone, as all here.
 pub fn with_field(alloc: Global, ty: Ty, field: Field) -> Result<Ty, AllocError>
     ensures { IfOk result (λ t. ty_of t ≡ types.with_field (ty_of ty) (field_of field)) }
 {
@@ -32,16 +32,8 @@ fn object_and_field(alloc: Global, object: Rc<Object>, field: Field) -> Result<T
 {
     match Rc::try_unwrap(object) {
         Ok(own) => own_and_field(alloc, own, field),
-        Err(shared) => shared_and_field(alloc, &shared, field),
+        Err(shared) => type_and_field(alloc, Ty::Object(shared), field),
     }
-}
-
-// The same of one that is shared.
-fn shared_and_field(alloc: Global, object: &Object, field: Field) -> Result<Ty, AllocError>
-    ensures { IfOk result (λ t. ty_of t ≡ types.with_field (object_of object.now) (field_of field)) }
-{
-    let listing = listed(alloc, object)?;
-    fields_and_field(alloc, listing.fields, listing.rest, field)
 }
 
 // The same of one that nothing else shares.
@@ -51,17 +43,17 @@ fn own_and_field(alloc: Global, object: Object, field: Field) -> Result<Ty, Allo
     match object {
         Object::Named(named) => named_and_field(alloc, named, field),
         Object::Listed(listing) => fields_and_field(alloc, listing.fields, listing.rest, field),
-        other => shared_and_field(alloc, &other, field),
+        other => type_and_field(alloc, Ty::Object(Rc::new(alloc, other)?), field),
     }
 }
 
 // The same of fields that are found by their names.
 fn named_and_field(alloc: Global, named: NamedFields, field: Field) -> Result<Ty, AllocError>
-    ensures { IfOk result (λ t. ty_of t ≡ object_with (and_field (named_of named) (field_of field)) Absent) }
+    ensures { IfOk result (λ t. ty_of t ≡ types.with_field (named_object named) (field_of field)) }
 {
     if named.names.names.len() != named.types.len() {
-        let fields = named.copied(alloc)?;
-        return fields_and_field(alloc, fields, None, field);
+        let ty = object_of_named(alloc, named)?;
+        return type_and_field(alloc, ty, field);
     }
     let grown = named.and_field(alloc, field)?;
     object_of_named(alloc, grown)
@@ -77,10 +69,7 @@ fn fields_and_field(
     ensures { IfOk result (λ t. ty_of t ≡ object_with (and_field (fields_of (map field_of fields.items)) (field_of field)) (rest_of rest)) }
 {
     let all = added(fields, field)?;
-    match rest {
-        None => strict_object(alloc, all),
-        Some(of) => object_of_fields(alloc, all, Some(of)),
-    }
+    object_with_rest(alloc, all, rest)
 }
 
 // Fields, and one more behind them, unless one has its name.

@@ -1,168 +1,171 @@
-//! Objects joined into one that has the fields of all.
+//! Objects made one that has the fields of all.
 
-ghost use Rattle.std.specs.Prelude.{◌≡◌, ◌++◌, map, IfOk, OnOk};
-ghost use Rattle.std.specs.Option.{ForSome};
-ghost use Rattle.al_types.specs.Types.{ArrayOf, fuse_optional, fuse_type, fields_of, object_type};
-ghost use Rattle.al_types.specs.TypeViews.{ty_of, object_of, fused, listed_fields, listing_of, shared_parts};
-ghost use Rattle.al_types.specs.FusedFields as joined;
-ghost use Rattle.al_types.specs.Private.Joined.{missing_list};
-ghost use Rattle.al_types.specs.Private.TypeParts.{rest_of, field_of};
+ghost use Rattle.std.specs.Prelude.{◌≡◌, true, IfOk, map, option_map};
+ghost use Rattle.al_types.specs.FusedFields.{are_distinct};
+ghost use Rattle.al_types.specs.Puts.{firsts};
+ghost use Rattle.al_types.specs.Types.{Absent, NoField, field_at, fields_of, object_type, optional, parts_with};
+ghost use Rattle.al_types.specs.TypeViews.{ty_of, fuse_parts, fused, parts_of, shared_parts};
+ghost use Rattle.al_types.specs.Private.Gathered.{gathered_parts};
+ghost use Rattle.al_types.specs.Private.TypeParts.{field_of};
 
-use crate::finding::{FieldFinder, are_distinct};
-use crate::fusing::fuse;
-use crate::objects::{listed, shared_object};
-use crate::types::{Field, Listing, Object, Ty, copy, copy_rest};
+use crate::field_lists::FieldList;
+use crate::finding::are_distinct as have_distinct_names;
+use crate::named_fields::{boxed, named_fields, object_of_named};
+use crate::objects::{FEW, copied_fields};
+use crate::properties::{common_property, common_type, made};
+use crate::types::{Field, Object, Ty};
 use std::alloc::{AllocError, Global};
 use std::rc::Rc;
 
-/// Objects as one that has the fields of all, found by halves: so each field is copied as often as the number of objects can be halved.
-/// None where one of them has a name twice, of which a name means the first alone. Fails with `AllocError` for want of memory, as all
-/// here.
-pub(crate) fn join(alloc: Global, objects: &[Rc<Object>]) -> Result<Option<Rc<Object>>, AllocError>
-    ensures { IfOk result (λ found. ForSome found (λ o. object_of o.value ≡ object_type (fused (map shared_parts objects.now)))) }
+/// So deep objects are made one below another: collections of YAML aren't deeper in one another.
+pub(crate) const DEPTH: usize = 64;
+
+/// So deep is made one what the fields of such an object have in common. Each level takes the time of all fields below once more, so deeper
+/// ones are looked through.
+const COMMON_DEPTH: usize = 2;
+
+/// The same type, whose fields stand in one object where it is one, or where arrays hold one, and so the types of these fields: so a
+/// property is found in one look. Takes the time and memory of all fields of those that were fused. Fails with `AllocError` for want of
+/// memory alone, as all here.
+pub fn joined(alloc: Global, ty: Ty) -> Result<Ty, AllocError>
+    ensures { IfOk result (λ t. ty_of t ≡ ty_of ty) }
 {
-    match objects {
-        [] => Ok(Some(shared_object(alloc, Vec::new(alloc), None)?)),
-        [one] => Ok(Some(one.clone()?)),
-        _ => {
-            let (first, second) = objects.split_at(objects.len() / 2);
-            let x = join(alloc, first)?;
-            let y = join(alloc, second)?;
-            match (x, y) {
-                (Some(x), Some(y)) => join_two(alloc, &x, &y),
-                _ => Ok(None),
-            }
+    joined_to(alloc, ty, DEPTH)
+}
+
+/// The same type, where objects are made one so many levels deep.
+#[tactic(auto, using(crate::proofs::TypeFields::fused_type))]
+#[cycle(joining)]
+pub(crate) fn joined_to(alloc: Global, ty: Ty, depth: usize) -> Result<Ty, AllocError>
+    ensures { IfOk result (λ t. ty_of t ≡ ty_of ty) }
+{
+    if depth == 0 {
+        return Ok(ty);
+    }
+    match ty {
+        Ty::Array(of) => {
+            let of = joined_to(alloc, Box::into_inner(of), depth - 1)?;
+            Ok(Ty::Array(Box::new(alloc, of)?))
         }
-    }
-}
-
-// What two types have in common, with its fields where both are objects.
-#[tactic(auto, using(crate::proofs::FusedForms::by_form))]
-#[cycle(joining)]
-fn join_types(alloc: Global, a: &Ty, b: &Ty) -> Result<Ty, AllocError>
-    ensures { IfOk result (λ t. ty_of t ≡ fuse_type (ty_of a.now) (ty_of b.now)) }
-{
-    match a {
-        Ty::Array(x) => join_array(alloc, x, b),
-        Ty::Object(x) => join_object(alloc, x, b),
-        _ => fuse(alloc, copy(alloc, a)?, copy(alloc, b)?),
-    }
-}
-
-#[cycle(joining)]
-fn join_array(alloc: Global, element: &Ty, b: &Ty) -> Result<Ty, AllocError>
-    ensures { IfOk result (λ t. ty_of t ≡ fuse_type (ArrayOf (ty_of element.now)) (ty_of b.now)) }
-{
-    match b {
-        Ty::Array(y) => Ok(Ty::Array(Box::new(alloc, join_types(alloc, element, y)?)?)),
-        _ => Ok(Ty::Any),
-    }
-}
-
-#[cycle(joining)]
-fn join_object(alloc: Global, x: &Rc<Object>, b: &Ty) -> Result<Ty, AllocError>
-    ensures { IfOk result (λ t. ty_of t ≡ fuse_type (object_of x.now.value) (ty_of b.now)) }
-{
-    match b {
-        Ty::Object(y) => join_objects(alloc, x, y),
-        _ => fuse(alloc, Ty::Object(x.clone()?), copy(alloc, b)?),
-    }
-}
-
-// Two objects. Strings that are found by their names stay so.
-#[cycle(joining)]
-fn join_objects(alloc: Global, x: &Rc<Object>, y: &Rc<Object>) -> Result<Ty, AllocError>
-    ensures { IfOk result (λ t. ty_of t ≡ fuse_type (object_of x.now.value) (object_of y.now.value)) }
-{
-    if let (Object::Listed(a), Object::Listed(b)) = (&**x, &**y) {
-        if let Some(object) = join_listings(alloc, a, b)? {
-            return Ok(Ty::Object(object));
+        Ty::Fused(fused) => {
+            let all = gather(alloc, fused.objects.as_slice())?;
+            joined_object(alloc, all, depth - 1)
         }
-    }
-    fuse(alloc, Ty::Object(x.clone()?), Ty::Object(y.clone()?))
-}
-
-fn join_two(alloc: Global, x: &Object, y: &Object) -> Result<Option<Rc<Object>>, AllocError>
-    ensures { IfOk result (λ found. ForSome found (λ o. object_of o.value ≡ fuse_type (object_of x.now) (object_of y.now))) }
-{
-    match (x, y) {
-        (Object::Listed(a), Object::Listed(b)) => join_listings(alloc, a, b),
-        _ => {
-            let a = listed(alloc, x)?;
-            let b = listed(alloc, y)?;
-            join_listings(alloc, &a, &b)
-        }
+        other => Ok(other),
     }
 }
 
-// Two objects that are looked through: none where the second has a name twice.
+// The object that was gathered. The types of its fields are joined so many levels deep.
 #[cycle(joining)]
-fn join_listings(alloc: Global, x: &Listing, y: &Listing) -> Result<Option<Rc<Object>>, AllocError>
-    ensures { IfOk result (λ found. ForSome found (λ o. object_of o.value ≡ fuse_type (listing_of x.now) (listing_of y.now))) }
+fn joined_object(alloc: Global, all: Gathered, depth: usize) -> Result<Ty, AllocError>
+    ensures { IfOk result (λ t. ty_of t ≡ object_type (gathered_parts all)) }
 {
-    if !are_distinct(alloc, y.fields.as_slice())? {
-        return Ok(None);
-    }
-    let of_second = FieldFinder::of(alloc, y, x.fields.len())?;
-    let mut fields = join_fields(alloc, x, &of_second)?;
-    let of_first = FieldFinder::of(alloc, x, y.fields.len())?;
-    add_missing(alloc, &of_first, y, &mut fields)?;
-    let rest = join_rest(alloc, &x.rest, &y.rest)?;
-    let object = shared_object(alloc, fields, rest)?;
-    Ok(Some(object))
+    let (fields, positions) = all.fields.into_parts();
+    let fields = joined_fields(alloc, fields, depth)?;
+    let rest = boxed(alloc, all.rest)?;
+    let common = joined_common(alloc, all.common, depth.min(COMMON_DEPTH))?;
+    let named = named_fields(alloc, fields, positions, rest, common)?;
+    object_of_named(alloc, named)
 }
 
-// The fields of the first object, each fused with the second's of its name.
+/// The same fields, whose types are joined so many levels deep.
 #[cycle(joining)]
-fn join_fields(alloc: Global, x: &Listing, y: &FieldFinder<'_>) -> Result<Vec<Field>, AllocError>
-    ensures { IfOk result (λ v. fields_of (map field_of v.items)
-        ≡ joined.fuse_fields (listed_fields x.now) (listed_fields y.now.listing.now)) }
-{
-    let mut fields = Vec::new(alloc);
-    for field in &x.fields {
-        let name = field.name.clone()?;
-        let ty = match y.field(alloc, field.name.as_str())? {
-            Some(other) => join_types(alloc, &field.ty, other)?,
-            None => copy(alloc, &field.ty)?,
-        };
-        fields.push(Field { name, ty })?;
-    }
-    Ok(fields)
-}
-
-// The fields of the second object that the first has not.
-fn add_missing(
+pub(crate) fn joined_fields(
     alloc: Global,
-    x: &FieldFinder<'_>,
-    y: &Listing,
-    fields: &mut Vec<Field>,
-) -> Result<(), AllocError>
-    ensures { OnOk result (map field_of fields.new.items ≡ map field_of fields.old.items
-        ++ missing_list (listed_fields x.now.listing.now) (listed_fields y.now)) }
+    fields: Vec<Field>,
+    depth: usize,
+) -> Result<Vec<Field>, AllocError>
+    ensures { IfOk result (λ v. map field_of v.items ≡ map field_of fields.items) }
 {
-    for field in &y.fields {
-        if !x.has_field(alloc, field.name.as_str())? {
-            let name = field.name.clone()?;
-            let ty = copy(alloc, &field.ty)?;
-            fields.push(Field { name, ty })?;
-        }
+    let mut all = Vec::with_capacity(alloc, fields.len())?;
+    for field in fields {
+        let ty = joined_to(alloc, field.ty, depth)?;
+        all.push(Field {
+            name: field.name,
+            ty,
+        })?;
     }
-    Ok(())
+    Ok(all)
 }
 
+// The same type, made one so many levels deep where it is of many objects.
 #[cycle(joining)]
-fn join_rest(
-    alloc: Global,
-    x: &Option<Box<Ty>>,
-    y: &Option<Box<Ty>>,
-) -> Result<Option<Box<Ty>>, AllocError>
-    ensures { IfOk result (λ r. rest_of r ≡ fuse_optional (rest_of x.now) (rest_of y.now)) }
+fn joined_common(alloc: Global, common: Option<Ty>, depth: usize) -> Result<Option<Ty>, AllocError>
+    ensures { IfOk result (λ t. option_map ty_of t ≡ option_map ty_of common) }
 {
-    match x {
-        None => copy_rest(alloc, y),
-        Some(a) => match y {
-            None => copy_rest(alloc, x),
-            Some(b) => Ok(Some(Box::new(alloc, join_types(alloc, a, b)?)?)),
-        },
+    match common {
+        Some(ty) if ty.parts() > FEW => Ok(Some(joined_to(alloc, ty, depth)?)),
+        kept => Ok(kept),
     }
+}
+
+/// Objects that are made one, object after object: the fields of all, those of one name fused, the type of others where there may be
+/// others, and what all of them have in common.
+#[derive(Drop)]
+struct Gathered {
+    fields: FieldList,
+    rest: Option<Ty>,
+    common: Option<Ty>,
+}
+
+// What objects have in common. Takes the time of all their fields.
+fn gather(alloc: Global, objects: &[Rc<Object>]) -> Result<Gathered, AllocError>
+    ensures { IfOk result (λ g. gathered_parts g ≡ fused (map shared_parts objects.now)) }
+{
+    let mut all = Gathered::new(alloc);
+    for object in objects {
+        all = all.and_object(alloc, object)?;
+    }
+    Ok(all)
+}
+
+impl Gathered {
+    // An object without fields. Takes no memory.
+    fn new(alloc: Global) -> Gathered
+        ensures { gathered_parts result ≡ parts_with NoField Absent }
+    {
+        Gathered {
+            fields: FieldList::new(alloc),
+            rest: None,
+            common: None,
+        }
+    }
+
+    // What it has in common with one more.
+    fn and_object(self, alloc: Global, object: &Object) -> Result<Gathered, AllocError>
+        ensures { IfOk result (λ g. gathered_parts g ≡ fuse_parts (gathered_parts self) (parts_of object.now)) }
+    {
+        let mut fields = self.fields;
+        fields.fuse_all(alloc, first_fields(alloc, object)?)?;
+        let rest = common_type(alloc, self.rest, object.other())?;
+        let common = common_property(alloc, self.common, made(object.common(alloc)?))?;
+        Ok(Gathered {
+            fields,
+            rest,
+            common,
+        })
+    }
+}
+
+// The fields of an object that a name finds, once more.
+fn first_fields(alloc: Global, object: &Object) -> Result<Vec<Field>, AllocError>
+    ensures distinct { IfOk result (λ v. are_distinct (fields_of (map field_of v.items)) ≡ true) }
+    ensures found { IfOk result (λ v. (λ n. optional (field_at n (fields_of (map field_of v.items)))) ≡ (parts_of object.now).0) }
+{
+    let fields = copied_fields(alloc, object)?;
+    if have_distinct_names(alloc, fields.as_slice())? {
+        return Ok(fields);
+    }
+    without_repeated(alloc, fields)
+}
+
+// Of fields of one name the first.
+fn without_repeated(alloc: Global, fields: Vec<Field>) -> Result<Vec<Field>, AllocError>
+    ensures { IfOk result (λ v. map field_of v.items ≡ firsts (map field_of fields.items)) }
+{
+    let mut all = FieldList::new(alloc);
+    for field in fields {
+        all.add(alloc, field)?;
+    }
+    Ok(all.into_fields())
 }

@@ -3,6 +3,7 @@
 #![tactic(auto)]
 
 mod common;
+mod field_lists;
 mod field_names;
 mod finding;
 mod fusing;
@@ -17,13 +18,16 @@ mod properties;
 mod relations;
 mod scope;
 mod signatures;
+mod summaries;
 mod types;
 
 pub use common::any_if_none;
+pub use field_lists::FieldList;
 pub use field_names::FieldNames;
 pub use finding::field_positions;
-pub use fusing::{fuse, joined};
+pub use fusing::fuse;
 pub use growing::with_field;
+pub use joining::joined;
 pub use law::objects_fuse;
 pub use named_fields::object_by_names;
 pub use names::{Context, Function};
@@ -33,4 +37,5 @@ pub use properties::Property;
 pub use relations::assignable;
 pub use scope::{ContextSet, ContextTypes, FunctionSet, Scope};
 pub use signatures::{Parameters, Returned, Signature, Wanted, signature_of};
+pub use summaries::{passes_before_summary, summarized};
 pub use types::{Field, Form, Fused, Listing, NamedFields, Object, Ty, copy, name_text};

@@ -1,22 +1,27 @@
 //! Fields that are found by their names.
 
 ghost use Rattle.std.specs.Prelude.{◌≡◌, ◌≤◌, ◌⊎◌, IfOk, length, map, option_map, slice_get, string_bytes};
-ghost use Rattle.al_types.specs.Types.{Absent, field_at, fields_of, object_with};
-ghost use Rattle.al_types.specs.TypeViews.{ty_of, named_of, names_in};
-ghost use Rattle.al_types.specs.Private.Joined.{and_field};
+ghost use Rattle.al_types.specs.MoreFields as types;
+ghost use Rattle.al_types.specs.Types.{Absent, Present, common_in, field_at, fields_of, fuse_optional, object_type, object_with, option_of};
+ghost use Rattle.al_types.specs.Types.{optional, or_else};
+ghost use Rattle.al_types.specs.TypeViews.{ty_of, named_of, names_in, parts_by_names};
 ghost use Rattle.al_types.specs.Private.Positions.{IsFieldIndex};
-ghost use Rattle.al_types.specs.Private.TypeParts.{field_of, named_types};
+ghost use Rattle.al_types.specs.Private.TypeParts.{field_of, named_object, rest_of};
 
+use crate::common::common_of_fields;
 use crate::field_names::FieldNames;
 use crate::finding::field_positions;
+use crate::fusing::fuse;
 use crate::objects::{FEW, object_of_fields};
 use crate::positions::NamePositions;
+use crate::properties::common_type;
 use crate::types::{Field, NamedFields, Object, Ty, copy};
 use std::alloc::{AllocError, Global};
 use std::rc::Rc;
 
 /// An object of fields, whose names stand at these positions, and no others. Many are found by their names, in time that grows with the
-/// logarithm of their number. Fails with `AllocError` for want of memory alone, as all here.
+/// logarithm of their number, and what all have in common is kept beside them. Fails with `AllocError` for want of memory alone, as all
+/// here.
 pub fn object_by_names(
     alloc: Global,
     fields: Vec<Field>,
@@ -28,26 +33,99 @@ pub fn object_by_names(
     if fields.len() <= FEW {
         return object_of_fields(alloc, fields, None);
     }
-    let (names, types) = names_and_types(alloc, fields)?;
-    let names = FieldNames { names, positions };
-    object_of_named(alloc, NamedFields { names, types })
+    many_by_names(alloc, fields, positions, None)
 }
 
-/// An object of fields and no others. Many are found by their names.
-pub(crate) fn strict_object(alloc: Global, fields: Vec<Field>) -> Result<Ty, AllocError>
-    ensures { IfOk result (λ t. ty_of t ≡ object_with (fields_of (map field_of fields.items)) Absent) }
+/// An object of fields, and of a type of every field beside them, if there may be others. Many are found by their names, as above.
+pub(crate) fn object_with_rest(
+    alloc: Global,
+    fields: Vec<Field>,
+    rest: Option<Box<Ty>>,
+) -> Result<Ty, AllocError>
+    ensures { IfOk result (λ t. ty_of t ≡ object_with (fields_of (map field_of fields.items)) (rest_of rest)) }
 {
     if fields.len() <= FEW {
-        return object_of_fields(alloc, fields, None);
+        return object_of_fields(alloc, fields, rest);
     }
     let positions = field_positions(alloc, fields.as_slice())?;
-    object_by_names(alloc, fields, positions)
+    many_by_names(alloc, fields, positions, rest)
 }
 
-/// An object of fields that are found by their names, and no others.
+// An object of fields that are found by their names.
+fn many_by_names(
+    alloc: Global,
+    fields: Vec<Field>,
+    positions: NamePositions,
+    rest: Option<Box<Ty>>,
+) -> Result<Ty, AllocError>
+    requires { IsFieldIndex positions (fields_of (map field_of fields.items)) }
+    ensures { IfOk result (λ t. ty_of t ≡ object_with (fields_of (map field_of fields.items)) (rest_of rest)) }
+{
+    let common = common_of_all(alloc, fields.as_slice(), &rest)?;
+    let named = named_fields(alloc, fields, positions, rest, common)?;
+    object_of_named(alloc, named)
+}
+
+// What fields, and those beside them, have in common.
+fn common_of_all(
+    alloc: Global,
+    fields: &[Field],
+    rest: &Option<Box<Ty>>,
+) -> Result<Option<Ty>, AllocError>
+    ensures { IfOk result (λ t. optional (option_map ty_of t)
+        ≡ fuse_optional (common_in (fields_of (map field_of fields.now))) (rest_of rest.now)) }
+{
+    let common = common_of_fields(alloc, fields)?;
+    common_type(alloc, common, other_of(rest))
+}
+
+/// Fields that are found by their names, with the type of others and with what all of them have in common.
+pub(crate) fn named_fields(
+    alloc: Global,
+    fields: Vec<Field>,
+    positions: NamePositions,
+    rest: Option<Box<Ty>>,
+    common: Option<Ty>,
+) -> Result<NamedFields, AllocError>
+    requires { IsFieldIndex positions (fields_of (map field_of fields.items)) }
+    ensures { IfOk result (λ f. named_object f
+        ≡ object_type (parts_by_names (fields_of (map field_of fields.items)) (rest_of rest) (optional (option_map ty_of common)))) }
+{
+    let (names, types) = names_and_types(alloc, fields)?;
+    let names = FieldNames { names, positions };
+    let common = boxed(alloc, common)?;
+    Ok(NamedFields {
+        names,
+        types,
+        rest,
+        common,
+    })
+}
+
+/// A type where there is one, in a place of its own.
+pub(crate) fn boxed(alloc: Global, ty: Option<Ty>) -> Result<Option<Box<Ty>>, AllocError>
+    ensures { IfOk result (λ r. rest_of r ≡ optional (option_map ty_of ty)) }
+{
+    match ty {
+        None => Ok(None),
+        Some(ty) => Ok(Some(Box::new(alloc, ty)?)),
+    }
+}
+
+/// A type that has a place of its own, where there is one.
+pub(crate) fn other_of(ty: &Option<Box<Ty>>) -> Option<&Ty>
+    ensures { option_map (λ t. ty_of t.now) result ≡ option_of (rest_of ty.now) }
+{
+    match ty {
+        Some(ty) => Some(ty),
+        None => None,
+    }
+}
+
+/// An object of fields that are found by their names.
 #[tactic(auto, using(crate::proofs::TypeFields::named_type))]
 pub(crate) fn object_of_named(alloc: Global, named: NamedFields) -> Result<Ty, AllocError>
-    ensures { IfOk result (λ t. ty_of t ≡ object_with (named_of named) Absent) }
+    ensures { IfOk result (λ t. ty_of t ≡ named_object named) }
 {
     Ok(Ty::Object(Rc::new(alloc, Object::Named(named))?))
 }
@@ -68,19 +146,12 @@ fn names_and_types(alloc: Global, fields: Vec<Field>) -> Result<(Vec<String>, Ve
 
 impl NamedFields {
     // How many fields there are: as many as there are of names and of types.
-    fn len(&self) -> usize
+    pub(crate) fn len(&self) -> usize
         ensures names { result ≤ length (names_in self.now.names) }
         ensures types { result ≤ length self.now.types.items }
         ensures all { (result ≡ length (names_in self.now.names)) ⊎ (result ≡ length self.now.types.items) }
     {
         self.names.names.len().min(self.types.len())
-    }
-
-    /// The types of the fields, in their order.
-    pub(crate) fn types(&self) -> &[Ty]
-        ensures { map ty_of result.now ≡ named_types (named_of self.now) }
-    {
-        &self.types[..self.len()]
     }
 
     // The type at a position, where there is one.
@@ -104,18 +175,42 @@ impl NamedFields {
         }
     }
 
-    /// The fields, and one more behind them, unless one has its name.
+    /// The type of a property: of the first field of its name, else of other fields, where there may be others.
+    pub(crate) fn property(&self, alloc: Global, name: &str) -> Result<Option<&Ty>, AllocError>
+        ensures { IfOk result (λ found. option_map (λ t. ty_of t.now) found
+            ≡ option_of (or_else (optional (field_at name.now (named_of self.now))) (rest_of self.now.rest))) }
+    {
+        match self.field(alloc, name)? {
+            Some(ty) => Ok(Some(ty)),
+            None => Ok(other_of(&self.rest)),
+        }
+    }
+
+    /// The fields, and one more behind them, unless one has its name: so an object grows by it.
     pub(crate) fn and_field(self, alloc: Global, field: Field) -> Result<NamedFields, AllocError>
         requires { length (names_in self.names) ≡ length self.types.items }
-        ensures { IfOk result (λ f. named_of f ≡ and_field (named_of self) (field_of field)) }
+        ensures { IfOk result (λ f. named_object f ≡ types.with_field (named_object self) (field_of field)) }
     {
         let mut types = self.types;
+        let rest = self.rest;
         let (names, is_new) = self.names.and_name(alloc, field.name)?;
-        if is_new {
-            types.push(field.ty)?;
-            return Ok(NamedFields { names, types });
+        if !is_new {
+            let common = self.common;
+            return Ok(NamedFields {
+                names,
+                types,
+                rest,
+                common,
+            });
         }
-        Ok(NamedFields { names, types })
+        let common = common_with(alloc, self.common, &field.ty)?;
+        types.push(field.ty)?;
+        Ok(NamedFields {
+            names,
+            types,
+            rest,
+            common,
+        })
     }
 
     /// The fields once more, with names of their own.
@@ -129,5 +224,20 @@ impl NamedFields {
             fields.push(Field { name, ty })?;
         }
         Ok(fields)
+    }
+}
+
+// What a type, where there is one, has in common with another.
+fn common_with(
+    alloc: Global,
+    sofar: Option<Box<Ty>>,
+    ty: &Ty,
+) -> Result<Option<Box<Ty>>, AllocError>
+    ensures { IfOk result (λ r. rest_of r ≡ fuse_optional (rest_of sofar) (Present (ty_of ty.now))) }
+{
+    let more = copy(alloc, ty)?;
+    match sofar {
+        None => Ok(Some(Box::new(alloc, more)?)),
+        Some(old) => Ok(Some(Box::new(alloc, fuse(alloc, Box::into_inner(old), more)?)?)),
     }
 }

@@ -3,22 +3,25 @@
 ghost use Rattle.std.specs.Prelude.{◌≡◌, IfOk, map, option_map, string_bytes};
 ghost use Rattle.al_types.specs.Properties.{property_type};
 ghost use Rattle.al_types.specs.Strings.{named_strings, strings};
-ghost use Rattle.al_types.specs.Types.{field_at, fields_of, object_with, option_of, property_in};
-ghost use Rattle.al_types.specs.TypeViews.{ty_of, object_of, listing_of, names_in, parts_of};
+ghost use Rattle.al_types.specs.Types.{field_at, fields_of, object_with, option_of, optional, property_in};
+ghost use Rattle.al_types.specs.TypeViews.{ty_of, object_of, names_in, parts_of};
 ghost use Rattle.al_types.specs.Private.Positions.{IsNameIndex};
 ghost use Rattle.al_types.specs.Private.TypeParts.{field_of, rest_of};
 
 use crate::field_names::FieldNames;
+use crate::named_fields::other_of;
 use crate::positions::NamePositions;
 use crate::properties::{Property, lent};
-use crate::types::{Field, Listing, Object, Ty, copy, copy_rest};
+use crate::types::{Field, Listing, Object, Ty, copy};
 use std::alloc::{AllocError, Global};
 use std::rc::Rc;
 
 /// So many fields are looked through one by one, and nearly all objects have no more: that takes less memory, and little time.
 pub(crate) const FEW: usize = 32;
 
-/// An object of fields, and of a type of every field beside them, if there may be others. Fails for want of memory alone.
+/// An object of fields, and of a type of every field beside them, if there may be others. Fields are looked through one by one. Fails for
+/// want of memory alone.
+#[tactic(auto, using(crate::proofs::TypeFields::listing_made))]
 pub fn object_of_fields(
     alloc: Global,
     fields: Vec<Field>,
@@ -26,19 +29,8 @@ pub fn object_of_fields(
 ) -> Result<Ty, AllocError>
     ensures { IfOk result (λ t. ty_of t ≡ object_with (fields_of (map field_of fields.items)) (rest_of rest)) }
 {
-    Ok(Ty::Object(shared_object(alloc, fields, rest)?))
-}
-
-/// The same, to be shared. Fails for want of memory alone.
-#[tactic(auto, using(crate::proofs::TypeFields::listing_made))]
-pub(crate) fn shared_object(
-    alloc: Global,
-    fields: Vec<Field>,
-    rest: Option<Box<Ty>>,
-) -> Result<Rc<Object>, AllocError>
-    ensures { IfOk result (λ o. object_of o.value ≡ object_with (fields_of (map field_of fields.items)) (rest_of rest)) }
-{
-    Ok(Rc::new(alloc, Object::Listed(Listing { fields, rest }))?)
+    let object = Object::Listed(Listing { fields, rest });
+    Ok(Ty::Object(Rc::new(alloc, object)?))
 }
 
 /// An object whose fields are strings of these names, and no others. Many are found by their names, in time that grows with the
@@ -93,25 +85,14 @@ fn copy_fields(alloc: Global, fields: &[Field]) -> Result<Vec<Field>, AllocError
     Ok(copies)
 }
 
-/// An object once more, with fields of its own that are looked through. Fails for want of memory alone.
-#[tactic(auto, using(crate::proofs::TypeFields::as_listed))]
-pub(crate) fn listed(alloc: Global, object: &Object) -> Result<Listing, AllocError>
-    ensures { IfOk result (λ l. listing_of l ≡ object_of object.now) }
+/// The fields of an object once more, with names of their own. The type of others is not looked at. Fails for want of memory alone.
+pub(crate) fn copied_fields(alloc: Global, object: &Object) -> Result<Vec<Field>, AllocError>
+    ensures { IfOk result (λ v. (λ n. optional (field_at n (fields_of (map field_of v.items)))) ≡ (parts_of object.now).0) }
 {
     match object {
-        Object::Listed(listing) => {
-            let fields = copy_fields(alloc, listing.fields.as_slice())?;
-            let rest = copy_rest(alloc, &listing.rest)?;
-            Ok(Listing { fields, rest })
-        }
-        Object::Named(named) => {
-            let fields = named.copied(alloc)?;
-            Ok(Listing { fields, rest: None })
-        }
-        Object::Strings(names) => {
-            let fields = string_fields(alloc, names.names.as_slice())?;
-            Ok(Listing { fields, rest: None })
-        }
+        Object::Listed(listing) => copy_fields(alloc, listing.fields.as_slice()),
+        Object::Named(named) => named.copied(alloc),
+        Object::Strings(names) => string_fields(alloc, names.names.as_slice()),
     }
 }
 
@@ -138,7 +119,8 @@ impl Object {
     {
         match self {
             Object::Listed(listing) => listing.other(),
-            Object::Named(_) | Object::Strings(_) => None,
+            Object::Named(named) => other_of(&named.rest),
+            Object::Strings(_) => None,
         }
     }
 
@@ -152,7 +134,7 @@ impl Object {
     {
         match self {
             Object::Listed(listing) => Ok(lent(listing.property(name))),
-            Object::Named(named) => Ok(lent(named.field(alloc, name)?)),
+            Object::Named(named) => Ok(lent(named.property(alloc, name)?)),
             Object::Strings(names) => string_among(alloc, names, name),
         }
     }

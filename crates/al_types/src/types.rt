@@ -3,9 +3,10 @@
 ghost use Rattle.std.specs.Prelude.{◌≡◌, IfOk, map, option_map, string_bytes};
 ghost use Rattle.al_types.specs.Types.{field_at, fields_of, is_collection, is_plain, option_of, property_in};
 ghost use Rattle.al_types.specs.TypeViews.{ty_of, fused_of, listed_fields, listed_rest, listing_of};
-ghost use Rattle.al_types.specs.Private.TypeParts.{field_of, rest_of, form_of};
+ghost use Rattle.al_types.specs.Private.TypeParts.{field_of, form_of};
 
 use crate::field_names::FieldNames;
+use crate::named_fields::other_of;
 use al_base::is_same_name;
 use std::alloc::{AllocError, Global};
 use std::rc::Rc;
@@ -39,7 +40,7 @@ pub struct Fused {
 #[cycle(types)]
 pub enum Object {
     Listed(Listing),
-    /// Many fields, and no others.
+    /// Many fields.
     Named(NamedFields),
     /// Many fields that are strings, and no others.
     Strings(FieldNames),
@@ -49,8 +50,12 @@ pub enum Object {
 #[derive(Drop)]
 #[cycle(types)]
 pub struct NamedFields {
-    pub(crate) names: FieldNames,
-    pub(crate) types: Vec<Ty>,
+    pub names: FieldNames,
+    pub types: Vec<Ty>,
+    /// The type of every field beside these, where there may be others.
+    pub rest: Option<Box<Ty>>,
+    /// What all of them have in common, kept so that they aren't gone over for it: none where there are none.
+    pub common: Option<Box<Ty>>,
 }
 
 /// An object's fields with their types, and the type of every field beside them: none in a strict object, which has
@@ -162,10 +167,7 @@ impl Listing {
     pub(crate) fn other(&self) -> Option<&Ty>
         ensures { option_map (λ t. ty_of t.now) result ≡ option_of (listed_rest self.now) }
     {
-        match &self.rest {
-            Some(ty) => Some(ty),
-            None => None,
-        }
+        other_of(&self.rest)
     }
 
     /// The type of a property: of the first field of its name, else of other fields, where there may be others.
@@ -205,16 +207,4 @@ fn copy_fused(alloc: Global, fused: &Fused) -> Result<Fused, AllocError>
         objects.push(object.clone()?)?;
     }
     Ok(Fused { objects })
-}
-
-pub(crate) fn copy_rest(
-    alloc: Global,
-    rest: &Option<Box<Ty>>,
-) -> Result<Option<Box<Ty>>, AllocError>
-    ensures { IfOk result (λ r. rest_of r ≡ rest_of rest.now) }
-{
-    match rest {
-        None => Ok(None),
-        Some(ty) => Ok(Some(Box::new(alloc, copy(alloc, ty)?)?)),
-    }
 }

@@ -2,7 +2,7 @@
 use Rattle.std.specs.Prelude.{List, [], ◌∷◌}
 use Rattle.al_types.specs.MoreFields.{with_field}
 use Rattle.al_types.specs.Types.{Type'}
-use Rattle.al_contexts.specs.Objects.{Typed}
+use Rattle.al_types.specs.Puts.{Typed}
 
 -- one after another
 abbrev pub with_fields : Type' → List Typed → Type'

@@ -4,7 +4,7 @@ use Rattle.al_types.specs.Private.TypeParts.{field_of}
 use Rattle.al_types.specs.declared.types.Field.{Field}
 use Rattle.al_yaml.specs.Node.{Node}
 use Rattle.al_contexts.specs.Contexts.{Known, job_field}
-use Rattle.al_contexts.specs.Objects.{Typed}
+use Rattle.al_types.specs.Puts.{Typed}
 use Rattle.al_contexts.specs.declared.needs.ShownJobs.{ShownJobs}
 
 -- what the job at a position shows

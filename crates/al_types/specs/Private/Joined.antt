@@ -1,12 +1,7 @@
--- Fields of objects that are joined, or that grow.
-use Rattle.std.specs.Prelude.{ℕ, List, [], ◌∷◌, if◌then◌else◌}
+-- Fields of objects that grow.
+use Rattle.std.specs.Prelude.{ℕ, List, if◌then◌else◌}
 use Rattle.al_base.specs.Names.{same_name}
-use Rattle.al_types.specs.Types.{Type', Fields, NoField, FieldThen, has_field}
-
--- `missing_fields` as a list
-abbrev pub missing_list : Fields → Fields → List (List ℕ × Type')
-missing_list fs NoField = []
-missing_list fs (FieldThen n t gs) = let more = missing_list fs gs in if has_field n fs then more else (n, t) ∷ more
+use Rattle.al_types.specs.Types.{Type', Fields, NoField, FieldThen}
 
 -- fields, and one more behind them, unless one has its name
 abbrev pub and_field : Fields → List ℕ × Type' → Fields

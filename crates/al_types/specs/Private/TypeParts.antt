@@ -6,12 +6,20 @@ use Rattle.al_types.specs.declared.types.Field.{Field}
 use Rattle.al_types.specs.declared.types.Form.{Form}
 use Rattle.al_types.specs.declared.types.Form.TheVariants as form
 use Rattle.al_types.specs.Types.{Type', Any, Null, Number, Bool', String, ArrayOf, ObjectOf, Fields, NoField, FieldThen, Optional, Absent}
-use Rattle.al_types.specs.Types.{Present, fuse_optional, fuse_type, option_of}
-use Rattle.al_types.specs.TypeViews.{ty_of}
+use Rattle.al_types.specs.declared.types.NamedFields.{NamedFields}
+use Rattle.al_types.specs.Types.{Parts, Present, fuse_optional, fuse_type, object_type, option_of}
+use Rattle.al_types.specs.TypeViews.{ty_of, named_of, parts_by_names}
 
 abbrev pub rest_of : Option (Box Ty Global) → Optional
 rest_of None = Absent
 rest_of (Some b) = Present (ty_of b.value)
+
+-- the object that fields are, with others and with what all have in common as it is kept
+abbrev pub named_parts : NamedFields → Parts
+named_parts f = parts_by_names (named_of f) (rest_of f.rest) (rest_of f.common)
+
+abbrev pub named_object : NamedFields → Type'
+named_object f = object_type (named_parts f)
 
 abbrev pub form_of : Type' → Form
 form_of Any = form.Any

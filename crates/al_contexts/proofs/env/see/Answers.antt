@@ -5,7 +5,8 @@ use Rattle.al_places.specs.Positions.{before, seen_view}
 use Rattle.al_types.specs.TypeViews.{ty_of}
 use Rattle.al_contexts.specs.Answered.{known_of}
 use Rattle.al_contexts.specs.Contexts.{steps_fields}
-use Rattle.al_contexts.specs.Objects.{firsts, strictly}
+use Rattle.al_contexts.specs.Objects.{strictly}
+use Rattle.al_types.specs.Puts.{firsts}
 use Rattle.al_contexts.specs.Private.Environment.{owned, owner_view}
 use Rattle.al_contexts.specs.Private.Lookups.{known_by}
 use Rattle.al_contexts.proofs.env.see.Goals as goal

@@ -5,7 +5,8 @@ use Rattle.al_types.specs.Types.{Any, Bool'}
 use Rattle.al_types.specs.TypeViews.{ty_of}
 use Rattle.al_types.specs.Private.TypeParts.{field_of}
 use Rattle.al_contexts.specs.Fixed.{github_names}
-use Rattle.al_contexts.specs.Objects.{Typed, strictly}
+use Rattle.al_contexts.specs.Objects.{strictly}
+use Rattle.al_types.specs.Puts.{Typed}
 use Rattle.al_contexts.proofs.fixed.github.Goals as goal
 
 pub returns : goal.returns

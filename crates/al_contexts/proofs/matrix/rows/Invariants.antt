@@ -3,7 +3,7 @@ use Rattle.std.specs.List.{filter_map}
 use Rattle.al_shape.specs.Values.{member_of}
 use Rattle.al_types.specs.Private.TypeParts.{field_of}
 use Rattle.al_contexts.specs.Matrix.{row_field}
-use Rattle.al_contexts.specs.Objects.{put_all, put_new}
+use Rattle.al_types.specs.Puts.{put_all, put_new}
 use Rattle.al_contexts.proofs.matrix.rows.Given as goal
 
 abbrev pub invariant-loop-entry : goal.invariant-loop-entry

@@ -2,11 +2,11 @@ use Rattle.std.proofs.Common.{ap, sym, ◌∙◌, map}
 use Rattle.std.specs.Prelude.{is_none}
 use Rattle.al_shape.specs.Values.{member_of}
 use Rattle.al_types.specs.Private.TypeParts.{field_of}
-use Rattle.al_contexts.specs.Objects.{Typed}
-use Rattle.al_contexts.specs.Private.Indexes.{name_at}
+use Rattle.al_types.specs.Puts.{Typed}
+use Rattle.al_types.specs.Private.Indexes.{name_at}
 use Rattle.al_contexts.specs.Private.Lookups.{known_by}
 use Rattle.al_contexts.proofs.Needed.{job_there}
-use Rattle.al_contexts.proofs.Puts.{put_new_old}
+use Rattle.al_types.proofs.Puts.{put_new_old}
 use Rattle.al_contexts.proofs.needs.add_job.Goals as goal
 
 pub returns-else-branch-clause-fields : goal.returns-else-branch-clause-fields

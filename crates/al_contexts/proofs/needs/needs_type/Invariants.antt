@@ -5,7 +5,7 @@ use Rattle.al_types.specs.Private.TypeParts.{field_of}
 use Rattle.al_contexts.specs.Contexts.{needed_by}
 use Rattle.al_contexts.specs.Private.Lookups.{known_by}
 use Rattle.al_contexts.specs.Private.ShownJobs.{Keeps}
-use Rattle.al_contexts.specs.Objects.{put_all, put_new}
+use Rattle.al_types.specs.Puts.{put_all, put_new}
 use Rattle.al_contexts.proofs.needs.needs_type.Given as goal
 
 abbrev pub invariant-loop-name : goal.invariant-loop-name

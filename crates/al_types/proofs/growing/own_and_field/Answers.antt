@@ -1,7 +1,6 @@
 use Rattle.std.proofs.Common.{◌≡◌, ◌∙◌, ap, sym, subst, IfOk}
 use Rattle.al_types.specs.MoreFields.{with_field}
-use Rattle.al_types.specs.Types.{Absent}
-use Rattle.al_types.specs.TypeViews.{named_of, object_of, ty_of}
+use Rattle.al_types.specs.TypeViews.{object_of, ty_of}
 use Rattle.al_types.specs.Private.TypeParts.{field_of}
 use Rattle.al_types.proofs.AddedFields.{object_grown}
 use Rattle.al_types.proofs.TypeFields.{listing_fields, named_type}
@@ -10,9 +9,7 @@ use Rattle.al_types.proofs.growing.own_and_field.Goals as goal
 pub returns-in-Named : goal.returns-in-Named
 returns-in-Named c =
     let f = field_of c.args.field in
-    let named = c.in-Named.named in
-    let grown = object_grown (named_of named) Absent f
-    ∙ sym (ap (λ o. with_field (object_of o) f) c.in-Named.is ∙ ap (λ o. with_field o f) (named_type named)) in
+    let grown = sym (ap (λ o. with_field (object_of o) f) c.in-Named.is ∙ ap (λ o. with_field o f) (named_type c.in-Named.named)) in
     subst (λ o. IfOk c.named_and_field.result (λ t. ty_of t ≡ o)) grown c.named_and_field.ensures
 
 pub returns-in-Listed : goal.returns-in-Listed

@@ -1,8 +1,18 @@
-use Rattle.std.proofs.Common.{◌≡◌, map, take}
-use Rattle.al_types.specs.TypeViews.{listed_fields}
+use Rattle.std.proofs.Common.{◌≡◌, ◌++◌, ◌+◌, ◌*◌, map}
 use Rattle.al_types.specs.Private.TypeParts.{field_of}
-use Rattle.al_types.proofs.JoinedFields.{fused_field}
 use Rattle.al_types.proofs.joining.+joining.Given as goal
 
-abbrev pub invariant-join_fields-loop-field : goal.invariant-join_fields-loop-field
-invariant-join_fields-loop-field l = map field_of l.fields.items ≡ map (fused_field (listed_fields l.y.listing.now)) (map field_of (take l.field-index l.field-items))
+abbrev pub decreases-joined_to : goal.decreases-joined_to
+decreases-joined_to l = 3 * l.depth
+
+abbrev pub decreases-joined_object : goal.decreases-joined_object
+decreases-joined_object l = 3 * l.depth + 2
+
+abbrev pub decreases-joined_common : goal.decreases-joined_common
+decreases-joined_common l = 3 * l.depth + 1
+
+abbrev pub decreases-joined_fields : goal.decreases-joined_fields
+decreases-joined_fields l = 3 * l.depth + 1
+
+abbrev pub invariant-joined_fields-loop-field : goal.invariant-joined_fields-loop-field
+invariant-joined_fields-loop-field l = map field_of l.all.items ++ map field_of l.field-iterator.rest.items ≡ map field_of l.fn.fields.items

@@ -1,5 +1,5 @@
 use Rattle.std.proofs.Common.{◌≡◌, List, length}
-use Rattle.al_contexts.specs.Objects.{Typed}
+use Rattle.al_types.specs.Puts.{Typed}
 use Rattle.al_contexts.specs.Private.ShownJobs.{AreShown}
 use Rattle.al_contexts.proofs.needs.ShownJobs.new.Given as goal
 

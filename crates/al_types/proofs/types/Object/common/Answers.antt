@@ -1,18 +1,17 @@
 use Rattle.std.proofs.Common.{◌≡◌, ◌∙◌, IfOk, ap, map, nat_eq, subst, sym}
 use Rattle.std.proofs.lemmas.List.{length-map}
 use Rattle.std.specs.Prelude.{option_map, string_bytes}
-use Rattle.al_types.specs.Types.{common_in, option_of}
-use Rattle.al_types.specs.TypeViews.{ty_of, named_of, parts_of}
+use Rattle.al_types.specs.Types.{option_of}
+use Rattle.al_types.specs.TypeViews.{ty_of, parts_of}
 use Rattle.al_types.specs.Private.TypeParts.{string_unless}
 use Rattle.al_types.proofs.FuseLaws.{nothing_last}
 use Rattle.al_types.proofs.StringFields.{common_strings}
-use Rattle.al_types.proofs.TypeFields.{named_parts}
+use Rattle.al_types.proofs.TypeFields.{named_parts_kept}
 use Rattle.al_types.proofs.types.Object.common.Goals as goal
 
 pub returns-in-Named : goal.returns-in-Named
 returns-in-Named c =
-    let all = ap (λ o. option_of (parts_of o).2) c.in-Named.is ∙ ap (λ p. option_of p.2) (named_parts c.in-Named.named)
-    ∙ ap option_of (nothing_last (common_in (named_of c.in-Named.named))) in
+    let all = ap (λ o. option_of (parts_of o).2) c.in-Named.is ∙ ap (λ p. option_of p.2) (named_parts_kept c.in-Named.named) in
     subst (λ o. IfOk c.common-in-Named.result (λ t. option_map ty_of t ≡ o)) (sym all) c.common-in-Named.ensures
 
 pub returns-in-Strings : goal.returns-in-Strings

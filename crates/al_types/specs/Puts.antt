@@ -1,0 +1,25 @@
+-- Fields put to others, as lists of names with types.
+use Rattle.std.specs.Prelude.{ℕ, List, [], ◌∷◌, if◌then◌else◌}
+use Rattle.al_base.specs.Names.{same_name}
+use Rattle.al_types.specs.Types.{Type', fuse_type}
+
+abbrev pub Typed : Type 0
+Typed = List ℕ × Type'
+
+-- a name with a type put to those that are there, only where its name isn't
+abbrev pub put_new : List Typed → Typed → List Typed
+put_new [] p = p ∷ []
+put_new (q ∷ qs) p = if same_name q.0 p.0 then q ∷ qs else q ∷ put_new qs p
+
+-- a name with a type put to those that are there: fused with that of an equal one, else at the end
+abbrev pub put : List Typed → Typed → List Typed
+put [] p = p ∷ []
+put (q ∷ qs) p = if same_name q.0 p.0 then (q.0, fuse_type q.1 p.1) ∷ qs else q ∷ put qs p
+
+abbrev pub put_all : (List Typed → Typed → List Typed) → List Typed → List Typed → List Typed
+put_all put_one ts [] = ts
+put_all put_one ts (p ∷ ps) = put_all put_one (put_one ts p) ps
+
+-- of equal names the first
+abbrev pub firsts : List Typed → List Typed
+firsts ts = put_all put_new [] ts
