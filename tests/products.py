@@ -71,6 +71,18 @@ def last_of_mappings_of_a_row():
     return matrix_of(b"r: [%s]" % values, b"      - run: ${{ matrix.r.k09999 }}\n" * 12_000)
 
 
+def last_of_mappings_below_a_row():
+    """Expressions that read a key which the last of many mappings has, each a level below a value of a row."""
+    values = b", ".join(b"{a: {k%05d: 1}}" % number for number in range(10_000))
+    return matrix_of(b"r: [%s]" % values, b"      - run: ${{ matrix.r.a.k09999 }}\n" * 12_000)
+
+
+def all_of_a_mapping(read):
+    """Expressions on what all of many mappings have in common, which stand in one."""
+    values = b", ".join(b"k%05d: {x: 1}" % number for number in range(16_000))
+    return matrix_of(b"a: [{%s}]" % values, b"      - run: ${{ contains(%s, '1') }}\n" % read * 10_000)
+
+
 def mappings_of_includes():
     """A row of a matrix to which each of many combinations adds a mapping."""
     combinations = b", ".join(b"{r: {k%05d: 1, a: {k%05d: 1}}}" % (number, number) for number in range(10_000))
@@ -117,6 +129,33 @@ def needed_jobs(count, job, expression):
     steps = b"      - run: ${{ %s }}\n" % expression * count
     last = b"  z:\n    needs: [%s]\n    runs-on: u\n    steps:\n" % b", ".join(names) + steps
     return {WORKFLOW: b"on: push\njobs:\n" + jobs + last}, b""
+
+
+def outputs_of_needed_jobs(expression, first=b""):
+    """Expressions on an output of the last of many needed jobs, each of which has one of a name of its own, behind one of this kind."""
+    names = [b"j%04d" % number for number in range(5_000)]
+    jobs = b"".join(b"  %s: {runs-on: u, outputs: {o%s: x}, steps: [{run: x}]}\n" % (name, name) for name in names)
+    steps = b"      - run: ${{ contains(%s.outputs.oj4999, 'x') }}\n" % expression * 9_000
+    last = b"  z:\n    needs: [a, %s]\n    runs-on: u\n    steps:\n" % b", ".join(names) + steps
+    return {WORKFLOW: b"on: push\njobs:\n  a: {%s}\n" % (first or b"runs-on: u, steps: [{run: x}]") + jobs + last}, b""
+
+
+def outputs_of_many_steps():
+    """Expressions on an output of all of many steps."""
+    return {WORKFLOW: many_steps(10_000) + b"      - run: ${{ contains(steps.*.outputs.x, 'y') }}\n" * 10_000}, b""
+
+
+def steps_with_all_before():
+    """Steps each of which reads an output of all steps before it."""
+    steps = b"".join(b"      - {id: t%04d, run: \"${{ contains(steps.*.outputs.x, 'y') }}\"}\n" % number for number in range(8_000))
+    return {WORKFLOW: many_steps(1) + steps}, b""
+
+
+def all_of_many_inputs():
+    """Expressions on what all of many inputs have in common."""
+    inputs = b", ".join(b"i%05d: {type: string}" % number for number in range(16_000))
+    start = b"on: {workflow_call: {inputs: {%s}}}\n" % inputs
+    return {WORKFLOW: start + STEPS[STEPS.index(b"jobs:"):] + b"      - run: ${{ contains(inputs.*, 'x') }}\n" * 10_000}, b""
 
 
 def jobs_with_an_expression(expression):
@@ -219,6 +258,14 @@ FOLDERS = {
     "all-of-2000-needs-2000-times": lambda: needed_jobs(2_000, b"runs-on: u, steps: [{run: x}]", b"contains(needs.*.result, 'failure')"),
     "all-of-2000-needs-in-2000-branches": lambda: needed_jobs(
         2_000, b"runs-on: u, steps: [{run: x}]", b"contains((needs || needs).*.result, 'failure')"),
+    "outputs-of-5000-needs-9000-times": lambda: outputs_of_needed_jobs(b"needs.*"),
+    "outputs-of-5000-needs-in-9000-branches": lambda: outputs_of_needed_jobs(b"(needs || needs).*"),
+    "outputs-of-5000-needs-and-of-a-call": lambda: outputs_of_needed_jobs(b"needs.*", CALLED_ELSEWHERE),
+    "outputs-of-10000-steps-10000-times": outputs_of_many_steps,
+    "8000-steps-with-all-before": steps_with_all_before,
+    "all-of-16000-inputs-10000-times": all_of_many_inputs,
+    "all-of-16000-mappings-10000-times": lambda: all_of_a_mapping(b"matrix.a.*.x"),
+    "last-of-10000-mappings-below-a-row-12000-times": last_of_mappings_below_a_row,
     "last-of-6000-needs-in-6000-branches": lambda: needed_jobs(6_000, CALLED_ELSEWHERE, b"(needs || needs).j5999.result"),
     "last-of-6000-steps-in-10000-branches": branches_of_many_steps,
     "8000-steps-with-branches-of-those-before": steps_between_branches,
