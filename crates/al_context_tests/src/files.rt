@@ -1,10 +1,18 @@
 //! Files as their trees, and environments at places by their texts.
 
-use al_contexts::{Env, File};
+use al_contexts::{Answers, Env, File};
 use al_places::places;
 use al_yaml::Doc;
 use al_yaml_reader::read_yaml;
 use std::alloc::{AllocError, Global};
+
+/// Nothing is known of the outputs behind any call.
+pub(crate) fn nothing_known() -> Answers<'static> {
+    Answers {
+        answers: &[],
+        lists: &[],
+    }
+}
 
 /// The document that a text is; none where it has a fault.
 pub(crate) fn document(alloc: Global, text: &[u8]) -> Result<Option<Doc>, AllocError> {

@@ -1,6 +1,6 @@
 //! Which contexts and special functions stand at places.
 
-use crate::files::{document, env_at};
+use crate::files::{document, env_at, nothing_known};
 use al_contexts::File;
 use al_places::{available, placed_scalars, rows};
 use al_tree::FileKind;
@@ -109,7 +109,7 @@ fn has_sets(alloc: Global, kind: FileKind, text: &[u8], told: &[Told]) -> Result
             let file = File {
                 kind,
                 root: &doc.root,
-                known: &[],
+                known: nothing_known(),
             };
             have_sets(alloc, file, told)
         }

@@ -1,8 +1,8 @@
 //! The types of contexts at places of files.
 
-use crate::files::{document, env_at};
+use crate::files::{document, env_at, nothing_known};
 use crate::shown::shown;
-use al_contexts::{Answer, Env, File};
+use al_contexts::{Answer, Answers, Env, File};
 use al_declarations::{Name, NameList};
 use al_places::places;
 use al_tree::FileKind;
@@ -97,7 +97,7 @@ fn has_types(
     alloc: Global,
     kind: FileKind,
     text: &[u8],
-    known: &[Answer<'_>],
+    known: Answers<'_>,
     told: &[Told],
 ) -> Result<bool, AllocError> {
     match document(alloc, text)? {
@@ -164,7 +164,7 @@ fn told_of_a_workflow() -> &'static [Told] {
 #[test]
 fn of_a_workflow(rt: HostRuntime) -> Result<(), AllocError> {
     let told = told_of_a_workflow();
-    assert!(rt; has_types(rt.alloc(), FileKind::Workflow, BUILD, &[], told)?);
+    assert!(rt; has_types(rt.alloc(), FileKind::Workflow, BUILD, nothing_known(), told)?);
     Ok(())
 }
 
@@ -205,19 +205,24 @@ fn name_list(alloc: Global, names: &[&[u8]]) -> Result<NameList, AllocError> {
 fn has_types_of_steps(alloc: Global, told: &[Told]) -> Result<bool, AllocError> {
     let path = name_list(alloc, &[b"path"])?;
     let made = name_list(alloc, &[b"made"])?;
-    let known = [
+    let lists = [&path, &made];
+    let answers = [
         Answer {
             job: Some(b"first"),
             step: Some(2),
-            names: Some(&path),
+            names: Some(0),
         },
         Answer {
             job: Some(b"called"),
             step: None,
-            names: Some(&made),
+            names: Some(1),
         },
     ];
-    has_types(alloc, FileKind::Workflow, BUILD, &known, told)
+    let known = Answers {
+        answers: &answers,
+        lists: &lists,
+    };
+    has_types(alloc, FileKind::Workflow, BUILD, known, told)
 }
 
 #[test]
@@ -241,7 +246,7 @@ fn told_of_open_matrices() -> &'static [Told] {
 #[test]
 fn of_open_matrices(rt: HostRuntime) -> Result<(), AllocError> {
     let told = told_of_open_matrices();
-    assert!(rt; has_types(rt.alloc(), FileKind::Workflow, OPEN, &[], told)?);
+    assert!(rt; has_types(rt.alloc(), FileKind::Workflow, OPEN, nothing_known(), told)?);
     Ok(())
 }
 
@@ -273,14 +278,14 @@ fn told_of_a_container() -> &'static [Told] {
 #[test]
 fn of_an_action(rt: HostRuntime) -> Result<(), AllocError> {
     let told = told_of_an_action();
-    assert!(rt; has_types(rt.alloc(), FileKind::Action, ACTION, &[], told)?);
+    assert!(rt; has_types(rt.alloc(), FileKind::Action, ACTION, nothing_known(), told)?);
     Ok(())
 }
 
 #[test]
 fn of_a_container(rt: HostRuntime) -> Result<(), AllocError> {
     let told = told_of_a_container();
-    assert!(rt; has_types(rt.alloc(), FileKind::Action, DOCKER, &[], told)?);
+    assert!(rt; has_types(rt.alloc(), FileKind::Action, DOCKER, nothing_known(), told)?);
     Ok(())
 }
 
@@ -313,7 +318,7 @@ fn knows_github(alloc: Global, text: &[u8]) -> Result<bool, AllocError> {
             let file = File {
                 kind: FileKind::Action,
                 root: &doc.root,
-                known: &[],
+                known: nothing_known(),
             };
             is_one_with_github(alloc, file)
         }

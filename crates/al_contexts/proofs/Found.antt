@@ -1,18 +1,23 @@
 -- What is known of outputs, found by place: answers put one in front of another.
-use Rattle.std.proofs.Common.{◌≡◌, ℕ, List, [], refl, sym, ap, ◌∙◌, Bool, true, false, ◌&&◌, cond, Option, Some, None, option_map, Bor, arith}
+use Rattle.std.proofs.Common.{◌≡◌, ◌<◌, ◌≤◌, ◌+◌, ℕ, List, [], refl, sym, ap, ◌∙◌, Bool, true, false, ◌&&◌, cond, Option, Some, None, option_map, Bor, arith}
+use Rattle.std.proofs.Common.{drop, get_or, length, map}
 use Rattle.std.proofs.lemmas.Bool.Decides.{nat_tests}
+use Rattle.std.proofs.lemmas.List.{drop_more, length-map}
 use Rattle.std.proofs.lemmas.Map.Text.{is_eq-slice_cmp}
+use Rattle.std.proofs.lemmas.Option.{slice_get-map, slice_get_past, slice_get_read}
 use Rattle.std.specs.BTreeMap.{BTreeMap, Updates, get, get_by, is_at as is_at_key}
 use Rattle.std.specs.Cmp.Lexicographic.{slice_cmp}
 use Rattle.std.specs.Map.{lookup}
 use Rattle.std.specs.Option.{option_cmp, option_copied, option_eq}
 use Rattle.std.specs.Ordering.{is_eq, nat_cmp, ordering_then}
-use Rattle.std.specs.Prelude.{◌==◌, find, if◌then◌else◌, option_and_then}
+use Rattle.std.specs.Prelude.{◌==◌, find, if◌then◌else◌, option_and_then, slice_get}
+use Rattle.std.specs.Slice.{IsItemAt}
 use Rattle.std.specs.Str.{bytes_eq}
 use Rattle.std.specs.declared.cmp.Ordering.{Ordering}
 use Rattle.std.specs.declared.cmp.Ordering.TheVariants.{Less, Equal, Greater}
-use Rattle.al_contexts.specs.Answered.{Behind, is_at, known_in}
-use Rattle.al_contexts.specs.Private.Lookups.{Found, and_found, found_at, known_by, names_by}
+use Rattle.al_contexts.specs.Answered.{Behind, behind_of, is_at, known_in}
+use Rattle.al_contexts.specs.Private.Lookups.{Found, and_found, found_at, known_by, list_at, names_by}
+use Rattle.al_contexts.specs.declared.known.Answer.{Answer}
 use Rattle.al_contexts.specs.declared.known.Outputs.{Outputs}
 
 -- ---- keys of the map as places
@@ -89,12 +94,23 @@ at_place key names job step =
     (ap is_eq (jobs_compared key.0 (to_job job) ∙ ap (option_cmp (slice_cmp nat_cmp) (option_copied key.0)) (copied_job job)) ∙ same_job (option_copied key.0) job)
 
 -- what is found at a key is what is known there
-pub names_found : (o : Outputs) (job : Option (Bor (List ℕ))) (step : Option ℕ) (r : Option (Option (Bor (List (List ℕ))))) → r ≡ get_by (key_cmp (job, step)) o.names →
-    names_by o (option_copied job) step ≡ option_and_then (λ names. names) (option_map option_copied r)
+pub names_found : (o : Outputs) (job : Option (Bor (List ℕ))) (step : Option ℕ) (r : Option (Option ℕ)) → r ≡ get_by (key_cmp (job, step)) o.places →
+    names_by o (option_copied job) step ≡ option_and_then (λ names. names) (option_map (option_and_then (list_at o)) r)
 unfolding found_at
 names_found o job step r e =
-    ap (λ x. option_and_then (λ names. names) (option_map option_copied x))
-    (sym (λ d. get_by (λ k. ordering_then (jobs_compared job k.0 d) (option_cmp nat_cmp step k.1)) o.names) ∙ sym e)
+    ap (λ x. option_and_then (λ names. names) (option_map (option_and_then (list_at o)) x))
+    (sym (λ d. get_by (λ k. ordering_then (jobs_compared job k.0 d) (option_cmp nat_cmp step k.1)) o.places) ∙ sym e)
+
+-- ---- a list at a place
+
+pub list_found : (lists : List (Bor (List (List ℕ)))) (i : ℕ) (r : Option (Bor (Bor (List (List ℕ))))) → IsItemAt lists i r →
+    option_copied (option_map (λ x. x.now) r) ≡ slice_get (map (λ l. l.now) lists) i
+list_found lists i None item = sym (slice_get_past (map (λ l. l.now) lists) i (rw length-map item.3))
+list_found lists i (Some x) item =
+    sym (slice_get-map (λ l. l.now) lists i ∙ ap (option_map (λ l. l.now)) (slice_get_read lists (length lists) i x.now refl item.3.0 item.1))
+
+pub none_past : (lists : List (Bor (List (List ℕ)))) (i : ℕ) → length lists ≤ i → None ≡ slice_get (map (λ l. l.now) lists) i
+none_past lists i past = sym (slice_get_past (map (λ l. l.now) lists) i (rw length-map past))
 
 -- ---- an answer put in front
 
@@ -102,15 +118,17 @@ chosen : {V W : Type 0} (f : V → W) (b : Bool) (v : V) (o : Option V) → opti
 chosen f true v o = refl
 chosen f false v o = refl
 
-pub put_found : (old new : Outputs) (key : Key) (names : Option (Bor (List (List ℕ)))) → Updates key_cmp old.names new.names key (Some names) →
-    found_at new ≡ and_found (record { job = option_copied key.0; step = key.1; names = option_copied names }) (found_at old)
+pub put_found : (old : Outputs) (new : BTreeMap Key (Option ℕ)) (key : Key) (place : Option ℕ) → Updates key_cmp old.places new key (Some place) →
+    found_at (record old { places = new })
+    ≡ and_found (record { job = option_copied key.0; step = key.1; names = option_and_then (list_at old) place }) (found_at old)
 unfolding found_at
-put_found old new key names u =
+put_found old new key place u =
+    let names : Option ℕ → Option (List (List ℕ)) = option_and_then (list_at old) in
     λ d job step.
-    (ap (option_map option_copied) (sym (got new.names job step) ∙ u.0 (to_job job, step))
-    ∙ chosen option_copied (is_at_key (key_cmp key) (to_job job, step)) names (get key_cmp old.names (to_job job, step))
-    ∙ ap (λ o. if is_at_key (key_cmp key) (to_job job, step) then Some (option_copied names) else option_map option_copied o) (got old.names job step)
-    ∙ ap (λ b. if b then Some (option_copied names) else option_map option_copied (get_by (place_cmp job step) old.names)) (at_place key (option_copied names) job step)) d
+    (ap (option_map names) (sym (got new job step) ∙ u.0 (to_job job, step))
+    ∙ chosen names (is_at_key (key_cmp key) (to_job job, step)) place (get key_cmp old.places (to_job job, step))
+    ∙ ap (λ o. if is_at_key (key_cmp key) (to_job job, step) then Some (names place) else option_map names o) (got old.places job step)
+    ∙ ap (λ b. if b then Some (names place) else option_map names (get_by (place_cmp job step) old.places)) (at_place key (names place) job step)) d
 
 -- ---- all answers
 
@@ -126,7 +144,18 @@ known_found o bs e =
     ap (λ (f : Found). record { of_step = λ job i. option_and_then (λ names. names) (f job (Some i)); of_job = λ job. option_and_then (λ names. names) (f (Some job) None) }) e
     ∙ λ d. record { of_step = λ job i. flat (find (is_at job (Some i)) bs) d; of_job = λ job. flat (find (is_at (Some job) None) bs) d }
 
+-- one answer more, in front
+pub found_more : (lists : List (List (List ℕ))) (answers : List Answer) (i k : ℕ) (d : Answer) (old new : Found) → i < length answers → k ≡ i + 1 →
+    new ≡ and_found (behind_of lists (get_or answers i d)) old → old ≡ found_in (map (behind_of lists) (drop k answers)) →
+    new ≡ found_in (map (behind_of lists) (drop i answers))
+found_more lists answers i k d old new within next put so_far =
+    let b = behind_of lists (get_or answers i d) in
+    let rest = map (behind_of lists) (drop (i + 1) answers) in
+    put ∙ ap (and_found b) (so_far ∙ ap (λ n. found_in (map (behind_of lists) (drop n answers))) next)
+    ∙ (λ e job step. sym (chosen (λ (x : Behind). x.names) (is_at job step b) b (find (is_at job step) rest)) e)
+    ∙ ap (λ l. found_in (map (behind_of lists) l)) (sym (drop_more answers i d within))
+
 -- where nothing was put
-pub none_found : (o : Outputs) (bs : List Behind) → o.names.entries ≡ [] → bs ≡ [] → found_at o ≡ found_in bs
+pub none_found : (o : Outputs) (bs : List Behind) → o.places.entries ≡ [] → bs ≡ [] → found_at o ≡ found_in bs
 unfolding found_at
-none_found o bs e h = (λ d job step. option_map option_copied (lookup (is_at_key (place_cmp job step)) (e d))) ∙ ap found_in (sym h)
+none_found o bs e h = (λ d job step. option_map (option_and_then (list_at o)) (lookup (is_at_key (place_cmp job step)) (e d))) ∙ ap found_in (sym h)

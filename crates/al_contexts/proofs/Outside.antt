@@ -32,7 +32,7 @@ matrix_apart kind.Action root = refl
 pub of_start : (f : File) (ts : ContextTypes) → ty_of ts.strategy ≡ Any → ty_of ts.needs ≡ Any → ty_of ts.jobs ≡ Any → ty_of ts.matrix ≡ Any → OfSection f ts apart
 of_start f ts a b c d = record {
   strategy = a ∙ sym (strategy_apart f.kind (view f.root.now));
-  needs = b ∙ sym (needs_apart f.kind (known_of f.known.now) (view f.root.now));
-  jobs = c ∙ sym (jobs_apart f.kind (known_of f.known.now) (view f.root.now));
+  needs = b ∙ sym (needs_apart f.kind (known_of f.known) (view f.root.now));
+  jobs = c ∙ sym (jobs_apart f.kind (known_of f.known) (view f.root.now));
   matrix = d ∙ sym (matrix_apart f.kind (view f.root.now));
 }

@@ -65,11 +65,11 @@ some_strategy k root s t e = subst IsStrategy (sym e) (strategy_in_section k roo
 -- of a workflow's section
 pub of_workflow : (f : File) (ts : ContextTypes) (s : Section) (js : List (Node × Node)) (job : Option (Node × Node)) →
     f.kind ≡ kind.Workflow → js ≡ jobs_of (view f.root.now) → job ≡ job_among js s →
-    ty_of ts.strategy ≡ type_in_job (λ j. strategy_type) job → ty_of ts.needs ≡ type_in_job (λ j. needs_type_of (known_of f.known.now) js j.1) job →
-    ty_of ts.jobs ≡ environment.jobs_shown (known_of f.known.now) js s → ty_of ts.matrix ≡ type_in_job (λ j. matrix_type j.1) job → OfSection f ts s
+    ty_of ts.strategy ≡ type_in_job (λ j. strategy_type) job → ty_of ts.needs ≡ type_in_job (λ j. needs_type_of (known_of f.known) js j.1) job →
+    ty_of ts.jobs ≡ environment.jobs_shown (known_of f.known) js s → ty_of ts.matrix ≡ type_in_job (λ j. matrix_type j.1) job → OfSection f ts s
 of_workflow f ts s js job k e h a b c d =
     let root = view f.root.now in
-    let known = known_of f.known.now in
+    let known = known_of f.known in
     let here : job ≡ job_in root s = h ∙ ap (λ us. job_among us s) e in
     record {
       strategy = a ∙ ap (type_in_job (λ j. strategy_type)) here ∙ sym (ap (λ x. strategy_in x root s) k);
@@ -82,7 +82,7 @@ of_workflow f ts s js job k e h a b c d =
 pub of_action : (f : File) (ts : ContextTypes) (s t : Section) → f.kind ≡ kind.Action → OfSection f ts s → OfSection f ts t
 of_action f ts s t k h =
     let root = view f.root.now in
-    let known = known_of f.known.now in
+    let known = known_of f.known in
     record {
       strategy = h.strategy ∙ ap (λ x. strategy_in x root s) k ∙ sym (ap (λ x. strategy_in x root t) k);
       needs = h.needs ∙ ap (λ x. needs_in x known root s) k ∙ sym (ap (λ x. needs_in x known root t) k);
@@ -155,8 +155,8 @@ table_right kind.Workflow known root p c = in_workflow known root p c
 table_right kind.Action known root p c = in_action known root p c
 
 in_table : (f : File) (ts : ContextTypes) (p : Position) → Fixed f ts → OfSection f ts p.section →
-    ty_of ts.steps ≡ owned (known_of f.known.now) (owner_in f.kind (view f.root.now) p.section) p.seen →
-    (c : Context) → type_of_context ts c ≡ table f.kind (known_of f.known.now) (view f.root.now) p c
+    ty_of ts.steps ≡ owned (known_of f.known) (owner_in f.kind (view f.root.now) p.section) p.seen →
+    (c : Context) → type_of_context ts c ≡ table f.kind (known_of f.known) (view f.root.now) p c
 in_table f ts p h s e context.Github = h.github
 in_table f ts p h s e context.Env = h.env
 in_table f ts p h s e context.Vars = h.vars
@@ -172,6 +172,6 @@ in_table f ts p h s e context.Inputs = h.inputs
 
 -- the types that a file fixes, those of the section, and that of `steps` are all
 pub all_types : (f : File) (ts : ContextTypes) (p : Position) → Fixed f ts → OfSection f ts p.section →
-    ty_of ts.steps ≡ owned (known_of f.known.now) (owner_in f.kind (view f.root.now) p.section) p.seen →
-    (c : Context) → type_of_context ts c ≡ type_at f.kind (known_of f.known.now) (view f.root.now) p c
-all_types f ts p h s e c = in_table f ts p h s e c ∙ table_right f.kind (known_of f.known.now) (view f.root.now) p c
+    ty_of ts.steps ≡ owned (known_of f.known) (owner_in f.kind (view f.root.now) p.section) p.seen →
+    (c : Context) → type_of_context ts c ≡ type_at f.kind (known_of f.known) (view f.root.now) p c
+all_types f ts p h s e c = in_table f ts p h s e c ∙ table_right f.kind (known_of f.known) (view f.root.now) p c

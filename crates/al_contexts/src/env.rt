@@ -24,7 +24,7 @@ ghost use Rattle.al_types.specs.Scopes.{scope_of};
 use crate::fixed::strategy;
 use crate::job_lists::JobList;
 use crate::jobs::jobs_type;
-use crate::known::{Answer, Outputs};
+use crate::known::{Answers, Outputs};
 use crate::matrix::matrix_type;
 use crate::needs::{ShownJobs, needs_type};
 use crate::passes::{NO_PASSES, Passes, passes_in};
@@ -44,7 +44,7 @@ use std::mem::replace;
 pub struct File<'a> {
     pub kind: FileKind,
     pub root: &'a Node,
-    pub known: &'a [Answer<'a>],
+    pub known: Answers<'a>,
 }
 
 /// Steps, and the key of the job whose they are; none of an action's.
@@ -93,7 +93,7 @@ fn see<'a>(alloc: Global, file: File<'a>, env: &mut Env<'a>, seen: Seen) -> Resu
     requires { Stands file env.old }
     ensures stands { OnOk result (Stands file.entry env.new) }
     ensures same { OnOk result (section_view (env.new).section ≡ section_view (env.old).section) }
-    ensures seen { OnOk result (ty_of (env.new).scope.types.steps ≡ owned (known_of (file.entry).known.now) (option_map owner_view
+    ensures seen { OnOk result (ty_of (env.new).scope.types.steps ≡ owned (known_of (file.entry).known) (option_map owner_view
         (env.new).owner) (seen_view seen)) }
 {
     match env.owner {
@@ -274,7 +274,7 @@ fn go<'a>(
     requires { Stands file env.old }
     ensures stands { OnOk result (Stands file.entry env.new) }
     ensures types { OnOk result ((c : Context) → type_of_context (env.new).scope.types c
-        ≡ type_at (file.entry).kind (known_of (file.entry).known.now) (view (file.entry).root.now) (position_view position.entry) c) }
+        ≡ type_at (file.entry).kind (known_of (file.entry).known) (view (file.entry).root.now) (position_view position.entry) c) }
 {
     enter(alloc, file, env, position.section)?;
     see(alloc, file, env, position.seen)?;
@@ -335,7 +335,7 @@ impl<'a> Env<'a> {
     ) -> Result<(), AllocError>
         requires { Stands file self.old }
         ensures stands { OnOk result (Stands file.entry self.new) }
-        ensures scope { OnOk result (scope_of (self.new).scope ≡ scope_at (file.entry).kind (known_of (file.entry).known.now)
+        ensures scope { OnOk result (scope_of (self.new).scope ≡ scope_at (file.entry).kind (known_of (file.entry).known)
             (view (file.entry).root.now) (place_of place.entry)) }
     {
         go(alloc, file, self, place.position)?;

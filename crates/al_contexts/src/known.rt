@@ -1,9 +1,8 @@
 //! What is known of the outputs behind calls.
-ghost use Rattle.std.specs.Prelude.{◌≡◌, IfOk, OnOk};
+ghost use Rattle.std.specs.Prelude.{◌≡◌, ◌<◌, IfOk, IfSome, OnOk, length, option_and_then};
 ghost use Rattle.std.specs.Option.{option_copied};
 ghost use Rattle.al_contexts.specs.Answered.{behind_of, known_of};
-ghost use Rattle.al_contexts.specs.Private.Lookups as lookups;
-ghost use Rattle.al_contexts.specs.Private.Lookups.{and_found, found_at, known_by};
+ghost use Rattle.al_contexts.specs.Private.Lookups.{and_found, found_at, known_by, list_at, lists_of, names_by};
 
 use al_declarations::NameList;
 use std::alloc::{AllocError, Global};
@@ -17,46 +16,91 @@ pub struct Answer<'a> {
     pub job: Option<&'a [u8]>,
     /// The index of the step, counted from 0; none where the job itself calls.
     pub step: Option<usize>,
-    /// The names of the outputs; none where nothing is known of them.
-    pub names: Option<&'a NameList>,
+    /// The place of the names of the outputs among the lists, counted from 0; none where nothing is known of them. A place at which no
+    /// list stands says the same.
+    pub names: Option<usize>,
+}
+
+/// What is known of the outputs behind the calls of a file. Calls with one place have the same outputs, which is told without a look at
+/// the names.
+#[derive(Clone, Copy)]
+pub struct Answers<'a> {
+    /// The answers, in any order but for those at one place of a file.
+    pub answers: &'a [Answer<'a>],
+    /// The lists of names that answers have a place in.
+    pub lists: &'a [&'a NameList],
 }
 
 /// What answers make known, found by the place of the call.
 #[derive(Drop)]
 pub(crate) struct Outputs<'a> {
-    names: BTreeMap<(Option<&'a [u8]>, Option<usize>), Option<&'a NameList>>,
+    places: BTreeMap<(Option<&'a [u8]>, Option<usize>), Option<usize>>,
+    lists: &'a [&'a NameList],
 }
 
 impl<'a> Outputs<'a> {
     /// What these answers make known. Fails with `AllocError` for want of memory.
-    pub(crate) fn of(alloc: Global, known: &[Answer<'a>]) -> Result<Outputs<'a>, AllocError>
-        ensures { IfOk result (λ o. known_by o ≡ known_of known.now) }
+    pub(crate) fn of(alloc: Global, known: Answers<'a>) -> Result<Outputs<'a>, AllocError>
+        ensures { IfOk result (λ o. known_by o ≡ known_of known.entry) }
     {
         let mut outputs = Outputs {
-            names: BTreeMap::new(alloc),
+            places: BTreeMap::new(alloc),
+            lists: known.lists,
         };
-        let mut rest = known.len();
+        let mut rest = known.answers.len();
         while rest > 0 {
             rest -= 1;
-            outputs.put(known[rest])?;
+            outputs.put(known.answers[rest])?;
         }
         Ok(outputs)
     }
 
     /// Puts an answer in front of the others.
     fn put(&mut self, answer: Answer<'a>) -> Result<(), AllocError>
-        ensures { OnOk result (found_at self.new ≡ and_found (behind_of answer.entry) (found_at self.old)) }
+        ensures found { OnOk result (found_at self.new ≡ and_found (behind_of (lists_of self.old) answer.entry) (found_at self.old)) }
+        ensures lists { (self.new).lists ≡ (self.old).lists }
     {
-        self.names.insert((answer.job, answer.step), answer.names)?;
+        self.places.insert((answer.job, answer.step), answer.names)?;
         Ok(())
     }
 
-    /// What is known of the outputs at a place.
-    fn at(&self, job: Option<&'a [u8]>, step: Option<usize>) -> Option<&'a NameList>
-        ensures { option_copied result ≡ lookups.names_by self.now (option_copied job.entry) step }
+    /// This place, if a list stands there.
+    fn within(&self, place: Option<usize>) -> Option<usize>
+        ensures names { option_and_then (list_at self.now) result ≡ option_and_then (list_at self.now) place }
+        ensures there { IfSome result (λ i. i < length (lists_of self.now)) }
     {
-        match self.names.get(&(job, step)) {
-            Some(names) => *names,
+        match place {
+            Some(i) => if i < self.lists.len() { Some(i) } else { None },
+            None => None,
+        }
+    }
+
+    /// The place of the names of the outputs behind a call.
+    fn place(&self, job: Option<&'a [u8]>, step: Option<usize>) -> Option<usize>
+        ensures names { option_and_then (list_at self.now) result ≡ names_by self.now (option_copied job.entry) step }
+        ensures there { IfSome result (λ i. i < length (lists_of self.now)) }
+    {
+        match self.places.get(&(job, step)) {
+            Some(place) => self.within(*place),
+            None => None,
+        }
+    }
+
+    /// The place of the names of a step's outputs; none where nothing is known of them. A list stands at each place that is answered,
+    /// and steps with one place have the same outputs.
+    pub(crate) fn place_of_step(&self, job: Option<&'a [u8]>, i: usize) -> Option<usize>
+        ensures names { option_and_then (list_at self.now) result ≡ (known_by self.now).of_step (option_copied job.entry) i }
+        ensures there { IfSome result (λ i. i < length (lists_of self.now)) }
+    {
+        self.place(job, Some(i))
+    }
+
+    /// The names at a place.
+    pub(crate) fn list(&self, place: Option<usize>) -> Option<&'a NameList>
+        ensures { option_copied result ≡ option_and_then (list_at self.now) place }
+    {
+        match place {
+            Some(i) => self.lists.get(i).copied(),
             None => None,
         }
     }
@@ -65,13 +109,13 @@ impl<'a> Outputs<'a> {
     pub(crate) fn of_step(&self, job: Option<&'a [u8]>, i: usize) -> Option<&'a NameList>
         ensures { option_copied result ≡ (known_by self.now).of_step (option_copied job.entry) i }
     {
-        self.at(job, Some(i))
+        self.list(self.place_of_step(job, i))
     }
 
     /// What is known of the outputs of a job.
     pub(crate) fn of_job(&self, job: &'a [u8]) -> Option<&'a NameList>
         ensures { option_copied result ≡ (known_by self.now).of_job job.entry.now }
     {
-        self.at(Some(job), None)
+        self.list(self.place(Some(job), None))
     }
 }

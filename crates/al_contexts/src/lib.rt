@@ -18,6 +18,6 @@ mod steps;
 mod worked;
 
 pub use env::{Env, File, Owner};
-pub use known::Answer;
+pub use known::{Answer, Answers};
 pub use matrix::class_type_of;
 pub use worked::rows;

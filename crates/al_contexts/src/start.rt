@@ -82,7 +82,7 @@ pub(crate) fn first_types(
 ) -> Result<ContextTypes, AllocError>
     ensures fixed { IfOk result (λ ts. Fixed file.entry ts) }
     ensures section { IfOk result (λ ts. OfSection file.entry ts apart) }
-    ensures steps { IfOk result (λ ts. ty_of ts.steps ≡ owned (known_of (file.entry).known.now) (option_map owner_view owner.entry)
+    ensures steps { IfOk result (λ ts. ty_of ts.steps ≡ owned (known_of (file.entry).known) (option_map owner_view owner.entry)
         (before 0)) }
 {
     let steps = start_steps(alloc, owner)?;

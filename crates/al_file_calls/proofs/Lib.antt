@@ -5,3 +5,4 @@ pub mod Steps
 pub mod Repeating
 pub mod Sets
 pub mod LaterCalls
+pub mod KnownLists

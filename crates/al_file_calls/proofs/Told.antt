@@ -99,7 +99,7 @@ told_by_uses k root given answers = record {
 
 -- ---- of the calls that the code has found, with their answers
 
-told_back : (P : Answered → Type 0) (found : List code.Answered) → AllByRecursion P (map answered_of found) → AllByRecursion (λ (a : code.Answered). P (answered_of a)) found
+pub told_back : (P : Answered → Type 0) (found : List code.Answered) → AllByRecursion P (map answered_of found) → AllByRecursion (λ (a : code.Answered). P (answered_of a)) found
 told_back P [] h = tt
 told_back P (a ∷ found) h = (h.0, told_back P found h.1)
 

@@ -34,7 +34,7 @@ fn check_job<'a>(
     requires short { AreShort (view answered.call.now.node.now) }
     ensures stands { OnOk result (Stands file.entry env.new) }
     ensures faults { OnOk result (out.new.items ≡ out.old.items
-        ++ answered_faults (typing (file.entry).kind (known_of (file.entry).known.now) (view (file.entry).root.now))
+        ++ answered_faults (typing (file.entry).kind (known_of (file.entry).known) (view (file.entry).root.now))
         (answered_of answered.entry)) }
 {
     let call = answered.call;
@@ -52,7 +52,7 @@ fn check_step<'a>(
 ) -> Result<(), AllocError>
     requires step { answered.call.now.site.step ≡ Some number }
     ensures { OnOk result (out.new.items ≡ out.old.items
-        ++ answered_faults (typing (file.entry).kind (known_of (file.entry).known.now) (view (file.entry).root.now))
+        ++ answered_faults (typing (file.entry).kind (known_of (file.entry).known) (view (file.entry).root.now))
         (answered_of answered.entry)) }
 {
     check_call(alloc, answered.call, &[], answered.answer, out)
@@ -70,7 +70,7 @@ fn check_answered<'a>(
     requires short { AreShort (view answered.call.now.node.now) }
     ensures stands { OnOk result (Stands file.entry env.new) }
     ensures faults { OnOk result (out.new.items ≡ out.old.items
-        ++ answered_faults (typing (file.entry).kind (known_of (file.entry).known.now) (view (file.entry).root.now))
+        ++ answered_faults (typing (file.entry).kind (known_of (file.entry).known) (view (file.entry).root.now))
         (answered_of answered.entry)) }
 {
     match answered.call.site.step {
@@ -107,10 +107,10 @@ fn check_later_step<'a>(
     requires answers { repeating.IsAnsweredAlike (answered_of earlier) (answered_of answered) }
     requires earlier_step { is_some earlier.call.now.site.step ≡ true }
     requires step { is_some answered.call.now.site.step ≡ true }
-    requires there { AreThere (answered_faults (typing file.kind (known_of file.known.now) (view file.root.now))
+    requires there { AreThere (answered_faults (typing file.kind (known_of file.known) (view file.root.now))
         (answered_of earlier)) out.old.items }
     ensures { OnOk result (SameSet out.new.items (out.old.items
-        ++ answered_faults (typing (file.entry).kind (known_of (file.entry).known.now) (view (file.entry).root.now))
+        ++ answered_faults (typing (file.entry).kind (known_of (file.entry).known) (view (file.entry).root.now))
         (answered_of answered.entry))) }
 {
     if same_in_steps(alloc, earlier.call.node, answered.call.node)? {
@@ -142,11 +142,11 @@ fn check_later_job<'a>(
     requires answers { repeating.IsAnsweredAlike (answered_of earlier) (answered_of answered) }
     requires earlier_job { is_some earlier.call.now.site.step ≡ false }
     requires job { is_some answered.call.now.site.step ≡ false }
-    requires there { AreThere (answered_faults (typing file.kind (known_of file.known.now) (view file.root.now))
+    requires there { AreThere (answered_faults (typing file.kind (known_of file.known) (view file.root.now))
         (answered_of earlier)) out.old.items }
     ensures stands { OnOk result (Stands file.entry env.new) }
     ensures faults { OnOk result (SameSet out.new.items (out.old.items
-        ++ answered_faults (typing (file.entry).kind (known_of (file.entry).known.now) (view (file.entry).root.now))
+        ++ answered_faults (typing (file.entry).kind (known_of (file.entry).known) (view (file.entry).root.now))
         (answered_of answered.entry))) }
 {
     if same_in_jobs(alloc, file, env, earlier.call, answered.call)? {
@@ -176,11 +176,11 @@ fn check_later<'a>(
     requires short { AreShort (view answered.call.now.node.now) }
     requires earlier_short { AreShort (view earlier.call.now.node.now) }
     requires answers { repeating.IsAnsweredAlike (answered_of earlier) (answered_of answered) }
-    requires there { AreThere (answered_faults (typing file.kind (known_of file.known.now) (view file.root.now))
+    requires there { AreThere (answered_faults (typing file.kind (known_of file.known) (view file.root.now))
         (answered_of earlier)) out.old.items }
     ensures stands { OnOk result (Stands file.entry env.new) }
     ensures faults { OnOk result (SameSet out.new.items (out.old.items
-        ++ answered_faults (typing (file.entry).kind (known_of (file.entry).known.now) (view (file.entry).root.now))
+        ++ answered_faults (typing (file.entry).kind (known_of (file.entry).known) (view (file.entry).root.now))
         (answered_of answered.entry))) }
 {
     if !same_uses(earlier.call, answered.call) {
@@ -208,10 +208,10 @@ fn check_unrepeated<'a>(
     requires earlier_short { IfSome earlier (λ a. AreShort (view a.call.now.node.now)) }
     requires answers { IfSome earlier (λ a. repeating.IsAnsweredAlike (answered_of a) (answered_of answered)) }
     requires there { IfSome earlier (λ a. (f : Fault) → Contains
-        (answered_faults (typing file.kind (known_of file.known.now) (view file.root.now)) (answered_of a)) f → Contains out.old.items f) }
+        (answered_faults (typing file.kind (known_of file.known) (view file.root.now)) (answered_of a)) f → Contains out.old.items f) }
     ensures stands { OnOk result (Stands file.entry env.new) }
     ensures faults { OnOk result (SameSet out.new.items (out.old.items
-        ++ answered_faults (typing (file.entry).kind (known_of (file.entry).known.now) (view (file.entry).root.now))
+        ++ answered_faults (typing (file.entry).kind (known_of (file.entry).known) (view (file.entry).root.now))
         (answered_of answered.entry))) }
 {
     match earlier {
@@ -263,7 +263,7 @@ pub(crate) fn check_calls<'a>(
     requires short { All (λ a. AreShort (view a.call.now.node.now)) answered.now }
     requires answers { repeating.AreToldByUses (map answered_of answered.now) }
     ensures { OnOk result (SameSet out.new.items (out.old.items
-        ++ call_faults (file.entry).kind (known_of (file.entry).known.now) (view (file.entry).root.now) (map answered_of answered.now))) }
+        ++ call_faults (file.entry).kind (known_of (file.entry).known) (view (file.entry).root.now) (map answered_of answered.now))) }
 {
     let mut latest = BTreeMap::new(alloc);
     let mut room = ROOM;

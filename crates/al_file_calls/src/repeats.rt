@@ -123,7 +123,7 @@ pub(crate) fn same_in_jobs<'a>(
     requires second_short { AreShort (view b.now.node.now) }
     ensures stands { OnOk result (Stands file.entry env.new) }
     ensures same { IfOk result (λ same. same
-        ≡ repeats.same_in_jobs (typing (file.entry).kind (known_of (file.entry).known.now) (view (file.entry).root.now))
+        ≡ repeats.same_in_jobs (typing (file.entry).kind (known_of (file.entry).known) (view (file.entry).root.now))
         (call_of a.now) (call_of b.now)) }
 {
     if !same_secrets(alloc, a.node, b.node)? {

@@ -55,7 +55,7 @@ fn value_type<'a>(
     requires short { AreShort (member_of member).1 }
     ensures stands { OnOk result (Stands file.entry env.new) }
     ensures ty { IfOk result (λ t. ty_of t
-        ≡ given_type (type_in_job (file.entry).kind (known_of (file.entry).known.now) (view (file.entry).root.now) job.entry.now)
+        ≡ given_type (type_in_job (file.entry).kind (known_of (file.entry).known) (view (file.entry).root.now) job.entry.now)
         (member_of member.entry)) }
 {
     match member.value.scalar() {
@@ -79,7 +79,7 @@ fn values_given<'a>(
     requires short { All (λ m. AreShort (member_of m).1) given.now }
     ensures stands { OnOk result (Stands file.entry env.new) }
     ensures values { IfOk result (λ v. map given_of v.items
-        ≡ values_of (type_in_job (file.entry).kind (known_of (file.entry).known.now) (view (file.entry).root.now) job.entry.now)
+        ≡ values_of (type_in_job (file.entry).kind (known_of (file.entry).known) (view (file.entry).root.now) job.entry.now)
         (map member_of given.now)) }
 {
     let mut values = Vec::new(alloc);
@@ -114,7 +114,7 @@ pub(crate) fn job_values<'a>(
     requires short { AreShort (view call.now.node.now) }
     ensures stands { OnOk result (Stands file.entry env.new) }
     ensures values { IfOk result (λ v. map given_of v.items
-        ≡ values_in (typing (file.entry).kind (known_of (file.entry).known.now) (view (file.entry).root.now)) (call_of call.entry.now)) }
+        ≡ values_in (typing (file.entry).kind (known_of (file.entry).known) (view (file.entry).root.now)) (call_of call.entry.now)) }
 {
     let given = members_under(alloc, call.node, "with")?;
     let job = text_or_empty(call.site.job);

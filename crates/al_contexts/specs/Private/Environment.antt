@@ -84,8 +84,8 @@ pub record Fixed (f : File) (ts : ContextTypes) : Type 0 where
 -- those that a section fixes
 pub record OfSection (f : File) (ts : ContextTypes) (s : Section) : Type 0 where
   pub strategy : ty_of ts.strategy ≡ strategy_in f.kind (view f.root.now) s
-  pub needs : ty_of ts.needs ≡ needs_in f.kind (known_of f.known.now) (view f.root.now) s
-  pub jobs : ty_of ts.jobs ≡ jobs_in f.kind (known_of f.known.now) (view f.root.now) s
+  pub needs : ty_of ts.needs ≡ needs_in f.kind (known_of f.known) (view f.root.now) s
+  pub jobs : ty_of ts.jobs ≡ jobs_in f.kind (known_of f.known) (view f.root.now) s
   pub matrix : ty_of ts.matrix ≡ matrix_in f.kind (view f.root.now) s
 
 abbrev pub owner_view : rust.Owner → Owner

@@ -1,5 +1,5 @@
 -- What is found in maps that are made once for a file.
-use Rattle.std.specs.Prelude.{ℕ, List, Option, Some, None, option_map, option_and_then, if◌then◌else◌}
+use Rattle.std.specs.Prelude.{ℕ, List, Option, Some, None, map, option_map, option_and_then, slice_get, if◌then◌else◌}
 use Rattle.std.specs.BTreeMap.{get_by}
 use Rattle.std.specs.Cmp.Lexicographic.{slice_cmp}
 use Rattle.std.specs.Option.{option_cmp, option_copied}
@@ -12,10 +12,17 @@ use Rattle.al_contexts.specs.declared.known.Outputs.{Outputs}
 abbrev pub Found : Type 0
 Found = Option (List ℕ) → Option ℕ → Option (Option (List (List ℕ)))
 
+-- the lists of names, and the one at a place among them
+abbrev pub lists_of : Outputs → List (List (List ℕ))
+lists_of o = map (λ l. l.now) o.lists.now
+
+abbrev pub list_at : Outputs → ℕ → Option (List (List ℕ))
+list_at o = slice_get (lists_of o)
+
 unfoldable pub found_at : Outputs → Found
 found_at o job step =
-    option_map option_copied (get_by
-    (λ k. ordering_then (option_cmp (slice_cmp nat_cmp) job (option_copied k.0)) (option_cmp nat_cmp step k.1)) o.names)
+    option_map (option_and_then (list_at o)) (get_by
+    (λ k. ordering_then (option_cmp (slice_cmp nat_cmp) job (option_copied k.0)) (option_cmp nat_cmp step k.1)) o.places)
 
 -- with an answer in front
 abbrev pub and_found : Behind → Found → Found

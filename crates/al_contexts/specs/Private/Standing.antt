@@ -15,9 +15,9 @@ use Rattle.al_contexts.specs.declared.env.File.{File}
 -- its jobs are the file's, as is what is known, its types are those of its section, and `steps` shows as many steps as it has counted
 pub record Stands (f : File) (e : Env) : Type 0 where
   pub members : map member_of e.jobs.members.items ≡ jobs_of (view f.root.now)
-  pub known : known_by e.outputs ≡ known_of f.known.now
+  pub known : known_by e.outputs ≡ known_of f.known
   pub fixed : Fixed f e.scope.types
   pub section : OfSection f e.scope.types (section_view e.section)
   pub owner : option_map owner_view e.owner ≡ owner_in f.kind (view f.root.now) (section_view e.section)
-  pub steps : ty_of e.scope.types.steps ≡ owned (known_of f.known.now) (option_map owner_view e.owner) (before e.seen)
+  pub steps : ty_of e.scope.types.steps ≡ owned (known_of f.known) (option_map owner_view e.owner) (before e.seen)
   pub shown : Keeps (known_by e.outputs) (map member_of e.jobs.members.items) e.shown

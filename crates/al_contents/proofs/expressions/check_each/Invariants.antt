@@ -11,7 +11,7 @@ use Rattle.al_contents.proofs.expressions.check_each.Given as goal
 abbrev pub invariant-loop-place : goal.invariant-loop-place
 invariant-loop-place l = record {
   stands : Stands l.file l.env;
-  all : l.out.items ++ flat_map (faults_at l.file.kind (known_of l.file.known.now) (view l.file.root.now)) (map place_of (drop l.place-index l.places))
-      ≡ l.fn.out.items ++ flat_map (faults_at l.file.kind (known_of l.file.known.now) (view l.file.root.now)) (map place_of l.places);
+  all : l.out.items ++ flat_map (faults_at l.file.kind (known_of l.file.known) (view l.file.root.now)) (map place_of (drop l.place-index l.places))
+      ≡ l.fn.out.items ++ flat_map (faults_at l.file.kind (known_of l.file.known) (view l.file.root.now)) (map place_of l.places);
   begins : BeginsWith l.out.items l.fn.out.items;
 }

@@ -13,4 +13,4 @@ returns-clause-types c =
     let section = rw here at c.in_ok-see.ensures.stands.section in
     let owner = c.in_ok-see.ensures.stands.owner ∙ ap (owner_in f.kind (view f.root.now)) here in
     all_types f _ (position_view c.args.position) c.in_ok-see.ensures.stands.fixed section
-    (c.in_ok-see.ensures.seen ∙ ap (λ o. owned (known_of f.known.now) o (seen_view c.args.position.seen)) owner)
+    (c.in_ok-see.ensures.seen ∙ ap (λ o. owned (known_of f.known) o (seen_view c.args.position.seen)) owner)

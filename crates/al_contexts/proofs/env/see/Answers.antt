@@ -38,14 +38,14 @@ returns-in_ok-steps-in-Some-clause-stands c =
       section = record { strategy = r.section.strategy; needs = r.section.needs; jobs = r.section.jobs; matrix = r.section.matrix };
       owner = r.owner;
       steps = c.in_ok-steps-in-Some.ensures ∙ ap (λ k. owned k (Some (owner_view c.in-Some.owner)) (before count)) r.known
-          ∙ ap (λ o. owned (known_of c.args.file.known.now) (option_map owner_view o) (before count)) (sym c.in-Some.is);
+          ∙ ap (λ o. owned (known_of c.args.file.known) (option_map owner_view o) (before count)) (sym c.in-Some.is);
       shown = r.shown;
     }
 
 pub returns-in_ok-steps-in-Some-clause-seen : goal.returns-in_ok-steps-in-Some-clause-seen
 returns-in_ok-steps-in-Some-clause-seen c =
     let owner = c.in-Some.owner in
-    let known = known_of c.args.file.known.now in
+    let known = known_of c.args.file.known in
     c.in_ok-steps-in-Some.ensures ∙ ap (λ k. owned k (Some (owner_view owner)) (before c.seen_count-count.result)) c.requires.known
     ∙ ap (λ ss. strictly (firsts (steps_fields known (option_copied owner.job) 0 ss))) (sym c.seen_count-count.ensures.count)
     ∙ ap (λ o. owned known (option_map owner_view o) (seen_view c.args.seen)) (sym c.in-Some.is)

@@ -8,4 +8,4 @@ pub returns-clause-section : goal.returns-clause-section
 returns-clause-section c = c.in_ok-set_fixed.ensures.section (of_start c.args.file _ refl refl refl refl)
 
 pub returns-clause-steps : goal.returns-clause-steps
-returns-clause-steps c = ap ty_of c.in_ok-set_fixed.ensures.steps ∙ c.in_ok-steps.ensures (known_of c.args.file.known.now)
+returns-clause-steps c = ap ty_of c.in_ok-set_fixed.ensures.steps ∙ c.in_ok-steps.ensures (known_of c.args.file.known)

@@ -13,4 +13,4 @@ abbrev pub invariant-loop-i : goal.invariant-loop-i
 invariant-loop-i l =
     Stands l.file l.env
     × SameSet l.out.items (l.fn.out.items
-    ++ flat_map (answered_faults (typing l.file.kind (known_of l.file.known.now) (view l.file.root.now))) (map answered_of (take l.i l.answered)))
+    ++ flat_map (answered_faults (typing l.file.kind (known_of l.file.known) (view l.file.root.now))) (map answered_of (take l.i l.answered)))

@@ -1,23 +1,27 @@
-use Rattle.std.proofs.Common.{◌≡◌, ◌++◌, List, ap, ◌∙◌, subst, map}
+use Rattle.std.proofs.Common.{◌≡◌, ◌++◌, List, ap, ◌∙◌, sym, subst, map}
 use Rattle.al_calls.specs.Private.AnswerViews.{answered_of}
 use Rattle.al_base.specs.Growth.{SameSet}
+use Rattle.al_base.specs.Limits.{largest_file}
 use Rattle.al_base.specs.declared.faults.Fault.{Fault}
-use Rattle.al_contexts.specs.Answered.{behind_of, known_in, known_of}
+use Rattle.al_contexts.specs.Answered.{known_in, known_of}
 use Rattle.al_contexts.specs.Contexts.{Known}
 use Rattle.al_contents.specs.FileExpressions.{expression_faults}
-use Rattle.al_yaml.specs.View.{view}
-use Rattle.al_file_calls.specs.FileCalls.{call_faults, faults_by, known_by}
+use Rattle.al_tree.specs.declared.files.FileKind.{FileKind}
+use Rattle.al_yaml.specs.Node.{Node}
+use Rattle.al_yaml.specs.Spans.{IsLaid}
+use Rattle.al_yaml.specs.Texts.{HasTexts}
+use Rattle.al_file_calls.specs.FileCalls.{call_faults, known_by}
 use Rattle.al_file_calls.proofs.files.faults_by.Goals as goal
+
+pub known_faults-requires-clause-laid : goal.known_faults-requires-clause-laid
+known_faults-requires-clause-laid c = subst (IsLaid largest_file) (sym c.file.ensures.root) c.requires.laid
+
+pub known_faults-requires-clause-texts : goal.known_faults-requires-clause-texts
+known_faults-requires-clause-texts c = subst HasTexts (sym c.file.ensures.root) c.requires.texts
 
 pub returns : goal.returns
 returns c =
     let found = map answered_of c.args.answered.now in
-    let root = view c.args.root.now in
-    let shown : Known → List Fault = λ known. expression_faults c.args.kind known root in
-    let called : Known → List Fault = λ known. call_faults c.args.kind known root found in
-    let known = known_of c.as_slice-known.result.now in
-    let is : known ≡ known_by found = ap (λ l. known_in (map behind_of l)) c.as_slice-known.ensures.value ∙ ap known_in c.in_ok-known.ensures in
-    let same : c.expression_faults.new.out.items ++ called known ≡ faults_by c.args.kind root found =
-    ap (λ l. l ++ called known) (c.in_ok-expression_faults.ensures.ok ∙ ap (λ l. l ++ shown known) c.new-found.ensures.items)
-    ∙ ap (λ k. shown k ++ called k) is in
-    subst (SameSet c.check_calls.new.out.items) same c.in_ok-check_calls.ensures
+    let faults : FileKind → Known → Node → List Fault = λ kind known root. expression_faults kind known root ++ call_faults kind known root found in
+    let known : known_of c.file.result.known ≡ known_by found = c.file.ensures.known ∙ ap known_in c.in_ok-known.ensures in
+    subst (SameSet c.in_ok-found.found.items) (λ j. faults (c.file.ensures.kind j) (known j) (c.file.ensures.root j)) c.in_ok-found.ensures

@@ -15,7 +15,7 @@ values_given-requires-clause-short c = members_short _ _ _ (ap (map member_of) c
 pub returns-clause-values : goal.returns-clause-values
 returns-clause-values c =
     let root = view c.args.file.root.now in
-    let known = known_of c.args.file.known.now in
+    let known = known_of c.args.file.known in
     let given : map member_of c.as_slice.result.now ≡ entries_at (codes "with") (view c.args.call.now.node.now) =
     ap (map member_of) c.as_slice.ensures.value ∙ c.in_ok-given.ensures in
     let job = c.text_or_empty-job.ensures in

@@ -14,7 +14,7 @@ use Rattle.al_file_calls.proofs.values.value_type.Goals as goal
 pub returns-in_ok-go_to-in-Some-clause-ty : goal.returns-in_ok-go_to-in-Some-clause-ty
 returns-in_ok-go_to-in-Some-clause-ty c =
     let s = c.in-Some.scalar.now in
-    let known = known_of c.args.file.known.now in
+    let known = known_of c.args.file.known in
     let root = view c.args.file.root.now in
     let member = member_of c.args.member in
     let there = c.in_ok-go_to-in-Some.ensures.scope ∙ ap (λ p. scope_at c.args.file.kind known root p) c.place_of_value.ensures in

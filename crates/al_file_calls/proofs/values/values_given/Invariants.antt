@@ -11,5 +11,5 @@ use Rattle.al_file_calls.proofs.values.values_given.Given as goal
 abbrev pub invariant-loop-member : goal.invariant-loop-member
 invariant-loop-member l =
     Stands l.file l.env
-    × (map given_of l.values.items ++ values_of (type_in_job l.file.kind (known_of l.file.known.now) (view l.file.root.now) l.job) (map member_of (drop l.member-index l.given))
-    ≡ values_of (type_in_job l.file.kind (known_of l.file.known.now) (view l.file.root.now) l.job) (map member_of l.given))
+    × (map given_of l.values.items ++ values_of (type_in_job l.file.kind (known_of l.file.known) (view l.file.root.now) l.job) (map member_of (drop l.member-index l.given))
+    ≡ values_of (type_in_job l.file.kind (known_of l.file.known) (view l.file.root.now) l.job) (map member_of l.given))

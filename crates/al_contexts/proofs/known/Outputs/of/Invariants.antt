@@ -6,8 +6,9 @@ use Rattle.al_contexts.proofs.known.Outputs.of.Given as goal
 
 abbrev pub invariant-loop-rest : goal.invariant-loop-rest
 invariant-loop-rest l = record {
-  within : l.rest ≤ length l.known;
-  found : found_at l.outputs ≡ found_in (map behind_of (drop l.rest l.known));
+  within : l.rest ≤ length l.known.answers.now;
+  lists : l.outputs.lists ≡ l.known.lists;
+  found : found_at l.outputs ≡ found_in (map (behind_of (map (λ n. n.now) l.known.lists.now)) (drop l.rest l.known.answers.now));
 }
 
 abbrev pub decreases-loop-rest : goal.decreases-loop-rest
