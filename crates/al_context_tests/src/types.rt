@@ -231,6 +231,79 @@ fn of_steps(rt: HostRuntime) -> Result<(), AllocError> {
     Ok(())
 }
 
+const SHARED: &[u8] = b"on: push
+jobs:
+  first: {uses: o/r/.github/workflows/w.yml@v1}
+  second: {uses: o/r/.github/workflows/w.yml@v1}
+  third: {uses: o/r/.github/workflows/x.yml@v1}
+  own: {runs-on: x, outputs: {path: x}, steps: []}
+  last:
+    needs: [first, own, second, third, SECOND]
+    runs-on: '${{ in-last }}'
+    steps:
+      - {id: a, uses: o/r@v1}
+      - {id: b, uses: o/r@v1}
+      - {id: c, uses: o/r@v2}
+      - {id: B, uses: o/r@v3}
+      - {id: d, uses: o/r@v3}
+      - {run: '${{ step-last }}'}
+";
+
+const STEPS_OF_SHARED: &str = "{a: {conclusion: string, outcome: string, outputs: {path: string}}, \
+     b: {conclusion: string, outcome: string, outputs: {path: string}}, \
+     c: {conclusion: string, outcome: string, outputs: {*: string}}, \
+     d: {conclusion: string, outcome: string, outputs: {made: string}}}";
+
+const NEEDS_OF_SHARED: &str =
+    "{first: {result: string, outputs: {made: string}}, own: {result: string, outputs: {path: string}}, \
+     second: {result: string, outputs: {made: string}}, third: {result: string, outputs: {*: any}}}";
+
+static OF_SHARED: [Told; 2] = [
+    ("${{ step-last }}", Context::Steps, STEPS_OF_SHARED),
+    ("${{ in-last }}", Context::Needs, NEEDS_OF_SHARED),
+];
+
+fn told_of_shared() -> &'static [Told] {
+    &OF_SHARED
+}
+
+/// The answer of a step of the job `last`, or of another job.
+fn answer(job: &'static [u8], step: Option<usize>, names: Option<usize>) -> Answer<'static> {
+    Answer {
+        job: Some(job),
+        step,
+        names,
+    }
+}
+
+fn has_types_of_shared(alloc: Global, told: &[Told]) -> Result<bool, AllocError> {
+    let path = name_list(alloc, &[b"path"])?;
+    let made = name_list(alloc, &[b"made"])?;
+    let lists = [&path, &made];
+    let answers = [
+        answer(b"first", None, Some(1)),
+        answer(b"second", None, Some(1)),
+        answer(b"third", None, Some(2)),
+        answer(b"last", Some(0), Some(0)),
+        answer(b"last", Some(1), Some(0)),
+        answer(b"last", Some(2), None),
+        answer(b"last", Some(3), Some(1)),
+        answer(b"last", Some(4), Some(1)),
+    ];
+    let known = Answers {
+        answers: &answers,
+        lists: &lists,
+    };
+    has_types(alloc, FileKind::Workflow, SHARED, known, told)
+}
+
+/// Steps, and jobs, that call one file, one whose name was there, and one of which nothing is known.
+#[test]
+fn of_shared_lists(rt: HostRuntime) -> Result<(), AllocError> {
+    assert!(rt; has_types_of_shared(rt.alloc(), told_of_shared())?);
+    Ok(())
+}
+
 static OF_OPEN_MATRICES: [Told; 5] = [
     ("${{ open-include }}", Context::Matrix, "{*: any}"),
     ("${{ open-entry }}", Context::Matrix, "{*: any}"),

@@ -73,7 +73,7 @@ then_eq Greater Greater = refl
 same_number : (i k : ℕ) → is_eq (nat_cmp i k) ≡ (i == k)
 same_number i k = grind (arith, nat_tests)
 
-same_step : (a b : Option ℕ) → is_eq (option_cmp nat_cmp a b) ≡ option_eq (λ i k. i == k) a b
+pub same_step : (a b : Option ℕ) → is_eq (option_cmp nat_cmp a b) ≡ option_eq (λ i k. i == k) a b
 same_step None None = refl
 same_step None (Some k) = refl
 same_step (Some i) None = refl
@@ -94,14 +94,14 @@ at_place key names job step =
     (ap is_eq (jobs_compared key.0 (to_job job) ∙ ap (option_cmp (slice_cmp nat_cmp) (option_copied key.0)) (copied_job job)) ∙ same_job (option_copied key.0) job)
 
 -- what is found at a key is what is known there
-pub names_found : (o : Outputs) (job : Option (Bor (List ℕ))) (step : Option ℕ) (r : Option (Option ℕ)) → r ≡ get_by (key_cmp (job, step)) o.places →
+pub names_found : (o : Outputs) (job : Option (Bor (List ℕ))) (step : Option ℕ) (r : Option (Option ℕ)) → r ≡ get_by (key_cmp (job, step)) o.positions →
     names_by o (option_copied job) step ≡ option_and_then (λ names. names) (option_map (option_and_then (list_at o)) r)
 unfolding found_at
 names_found o job step r e =
     ap (λ x. option_and_then (λ names. names) (option_map (option_and_then (list_at o)) x))
-    (sym (λ d. get_by (λ k. ordering_then (jobs_compared job k.0 d) (option_cmp nat_cmp step k.1)) o.places) ∙ sym e)
+    (sym (λ d. get_by (λ k. ordering_then (jobs_compared job k.0 d) (option_cmp nat_cmp step k.1)) o.positions) ∙ sym e)
 
--- ---- a list at a place
+-- ---- a list at a position
 
 pub list_found : (lists : List (Bor (List (List ℕ)))) (i : ℕ) (r : Option (Bor (Bor (List (List ℕ))))) → IsItemAt lists i r →
     option_copied (option_map (λ x. x.now) r) ≡ slice_get (map (λ l. l.now) lists) i
@@ -118,17 +118,17 @@ chosen : {V W : Type 0} (f : V → W) (b : Bool) (v : V) (o : Option V) → opti
 chosen f true v o = refl
 chosen f false v o = refl
 
-pub put_found : (old : Outputs) (new : BTreeMap Key (Option ℕ)) (key : Key) (place : Option ℕ) → Updates key_cmp old.places new key (Some place) →
-    found_at (record old { places = new })
-    ≡ and_found (record { job = option_copied key.0; step = key.1; names = option_and_then (list_at old) place }) (found_at old)
+pub put_found : (old : Outputs) (new : BTreeMap Key (Option ℕ)) (key : Key) (position : Option ℕ) → Updates key_cmp old.positions new key (Some position) →
+    found_at (record old { positions = new })
+    ≡ and_found (record { job = option_copied key.0; step = key.1; names = option_and_then (list_at old) position }) (found_at old)
 unfolding found_at
-put_found old new key place u =
+put_found old new key position u =
     let names : Option ℕ → Option (List (List ℕ)) = option_and_then (list_at old) in
     λ d job step.
     (ap (option_map names) (sym (got new job step) ∙ u.0 (to_job job, step))
-    ∙ chosen names (is_at_key (key_cmp key) (to_job job, step)) place (get key_cmp old.places (to_job job, step))
-    ∙ ap (λ o. if is_at_key (key_cmp key) (to_job job, step) then Some (names place) else option_map names o) (got old.places job step)
-    ∙ ap (λ b. if b then Some (names place) else option_map names (get_by (place_cmp job step) old.places)) (at_place key (names place) job step)) d
+    ∙ chosen names (is_at_key (key_cmp key) (to_job job, step)) position (get key_cmp old.positions (to_job job, step))
+    ∙ ap (λ o. if is_at_key (key_cmp key) (to_job job, step) then Some (names position) else option_map names o) (got old.positions job step)
+    ∙ ap (λ b. if b then Some (names position) else option_map names (get_by (place_cmp job step) old.positions)) (at_place key (names position) job step)) d
 
 -- ---- all answers
 
@@ -156,6 +156,6 @@ found_more lists answers i k d old new within next put so_far =
     ∙ ap (λ l. found_in (map (behind_of lists) l)) (sym (drop_more answers i d within))
 
 -- where nothing was put
-pub none_found : (o : Outputs) (bs : List Behind) → o.places.entries ≡ [] → bs ≡ [] → found_at o ≡ found_in bs
+pub none_found : (o : Outputs) (bs : List Behind) → o.positions.entries ≡ [] → bs ≡ [] → found_at o ≡ found_in bs
 unfolding found_at
 none_found o bs e h = (λ d job step. option_map (option_and_then (list_at o)) (lookup (is_at_key (place_cmp job step)) (e d))) ∙ ap found_in (sym h)

@@ -4,5 +4,6 @@ pub mod Values
 pub mod Sets
 pub mod Outside
 pub mod Found
+pub mod LikeFields
 pub mod Needed
 pub mod Summaries

@@ -2,6 +2,7 @@
 pub mod Environment
 pub mod Grown
 pub mod JobPositions
+pub mod LikeFields
 pub mod Lookups
 pub mod Standing
 pub mod ShownJobs

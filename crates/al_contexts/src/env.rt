@@ -25,16 +25,18 @@ use crate::fixed::strategy;
 use crate::job_lists::JobList;
 use crate::jobs::jobs_type;
 use crate::known::{Answers, Outputs};
+use crate::like_fields::Included;
 use crate::matrix::matrix_type;
 use crate::needs::{ShownJobs, needs_type};
-use crate::passes::{NO_PASSES, Passes, passes_in};
+use crate::objects::no_fields;
+use crate::passes::{NOTHING, Spent};
 use crate::scopes::{context_set, function_set};
 use crate::start::{NO_CONTEXTS, NO_FUNCTIONS, first_owner, first_types};
-use crate::steps::{no_steps, seen_count, seen_steps};
+use crate::steps::{seen_count, seen_steps};
 use al_places::{Place, Position, Section, Seen};
 use al_shape::{Member, items_under, key_text};
 use al_tree::FileKind;
-use al_types::{Scope, Ty};
+use al_types::{Paths, Scope, Ty};
 use al_yaml::Node;
 use std::alloc::{AllocError, Global};
 use std::mem::replace;
@@ -64,7 +66,9 @@ pub struct Env<'a> {
     /// What is known of the outputs behind calls.
     outputs: Outputs<'a>,
     shown: ShownJobs,
-    passes: Passes,
+    /// Of the positions of the names of steps' outputs, those whose type `steps` has had a field of.
+    included: Included,
+    spent: Spent,
     pub scope: Scope,
 }
 
@@ -101,7 +105,15 @@ fn see<'a>(alloc: Global, file: File<'a>, env: &mut Env<'a>, seen: Seen) -> Resu
         Some(owner) => {
             let count = seen_count(seen, owner.steps);
             let shown = replace(&mut env.scope.types.steps, Ty::Any);
-            let steps = seen_steps(alloc, &env.outputs, owner, shown, env.seen, count)?;
+            let steps = seen_steps(
+                alloc,
+                &env.outputs,
+                owner,
+                shown,
+                &mut env.included,
+                env.seen,
+                count,
+            )?;
             env.scope.types.steps = steps;
             env.seen = count;
             Ok(())
@@ -150,10 +162,10 @@ fn needs_at<'a>(
     shown: &mut ShownJobs,
     job: Option<Member<'_>>,
 ) -> Result<Ty, AllocError>
-    requires keeps { Keeps (known_by known.now) (map member_of jobs.now.members.items) shown.old }
+    requires keeps { Keeps known.now (map member_of jobs.now.members.items) shown.old }
     ensures ty { IfOk result (λ t. ty_of t ≡ type_in_job (λ j. needs_type_of (known_by known.now)
         (map member_of jobs.now.members.items) j.1) (option_map member_of job.entry)) }
-    ensures keeps { OnOk result (Keeps (known_by known.now) (map member_of jobs.now.members.items) shown.new) }
+    ensures keeps { OnOk result (Keeps known.now (map member_of jobs.now.members.items) shown.new) }
 {
     match job {
         None => Ok(Ty::Any),
@@ -204,7 +216,7 @@ pub(crate) fn start_steps(alloc: Global, owner: Option<Owner<'_>>) -> Result<Ty,
 {
     match owner {
         None => Ok(Ty::Any),
-        Some(_) => no_steps(alloc),
+        Some(_) => no_fields(alloc),
     }
 }
 
@@ -234,10 +246,11 @@ fn enter_workflow<'a>(
     env.scope.types.matrix = matrix;
     env.scope.types.jobs = jobs;
     env.scope.types.steps = steps;
+    env.included = Included::new(alloc);
     env.owner = owner;
     env.seen = 0;
     env.section = section;
-    env.passes = NO_PASSES;
+    env.spent = NOTHING;
     Ok(())
 }
 
@@ -281,19 +294,6 @@ fn go<'a>(
     Ok(())
 }
 
-/// Counts the passes of a text's expressions over the fields of contexts, whose types stay the same.
-fn count_passes(alloc: Global, env: &mut Env<'_>, text: &[u8]) -> Result<(), AllocError>
-    ensures stands { OnOk result ((f : declared.File) → Stands f env.old → Stands f env.new) }
-    ensures types { OnOk result ((c : Context) → type_of_context (env.new).scope.types c ≡ type_of_context (env.old).scope.types c) }
-{
-    let passes = passes_in(text);
-    if passes == 0 {
-        return Ok(());
-    }
-    env.passes.count(alloc, &mut env.scope.types, passes)?;
-    Ok(())
-}
-
 impl<'a> Env<'a> {
     /// The environment at the start of a file: outside its jobs, where no step is seen and nothing is available.
     ///
@@ -313,7 +313,8 @@ impl<'a> Env<'a> {
             jobs,
             outputs,
             shown,
-            passes: NO_PASSES,
+            included: Included::new(alloc),
+            spent: NOTHING,
             scope: Scope {
                 types,
                 contexts: NO_CONTEXTS,
@@ -339,10 +340,19 @@ impl<'a> Env<'a> {
             (view (file.entry).root.now) (place_of place.entry)) }
     {
         go(alloc, file, self, place.position)?;
-        count_passes(alloc, self, place.scalar.text())?;
         self.scope.contexts = context_set(file.kind, place.available);
         self.scope.functions = function_set(file.kind, place.available, place.is_condition);
         self.scope.in_run = place.is_script;
+        Ok(())
+    }
+    /// Counts the paths that expressions at the place took from contexts, of which nothing but time depends: what all fields of a context
+    /// have in common is made one once they were gone over for as long as that takes.
+    ///
+    /// Fails with `AllocError` for want of memory; the environment isn't to be used any more then.
+    pub fn pass(&mut self, alloc: Global, paths: &Paths) -> Result<(), AllocError>
+        ensures { OnOk result ((f : declared.File) → Stands f self.old → Stands f self.new) }
+    {
+        self.spent.pass_all(alloc, &mut self.scope.types, paths)?;
         Ok(())
     }
 }

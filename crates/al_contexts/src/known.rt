@@ -16,25 +16,26 @@ pub struct Answer<'a> {
     pub job: Option<&'a [u8]>,
     /// The index of the step, counted from 0; none where the job itself calls.
     pub step: Option<usize>,
-    /// The place of the names of the outputs among the lists, counted from 0; none where nothing is known of them. A place at which no
-    /// list stands says the same.
+    /// The position of the names of the outputs in `Answers::lists`, counted from 0; none where nothing is known of them. A position at
+    /// which no list stands says the same.
     pub names: Option<usize>,
 }
 
-/// What is known of the outputs behind the calls of a file. Calls with one place have the same outputs, which is told without a look at
-/// the names.
+/// What is known of the outputs behind the calls of a file. Calls with one position in `lists` have the same outputs, which is told
+/// without a look at the names.
 #[derive(Clone, Copy)]
 pub struct Answers<'a> {
     /// The answers, in any order but for those at one place of a file.
     pub answers: &'a [Answer<'a>],
-    /// The lists of names that answers have a place in.
+    /// The lists of names that answers have positions in.
     pub lists: &'a [&'a NameList],
 }
 
 /// What answers make known, found by the place of the call.
 #[derive(Drop)]
 pub(crate) struct Outputs<'a> {
-    places: BTreeMap<(Option<&'a [u8]>, Option<usize>), Option<usize>>,
+    /// The positions of the names in `lists`.
+    positions: BTreeMap<(Option<&'a [u8]>, Option<usize>), Option<usize>>,
     lists: &'a [&'a NameList],
 }
 
@@ -44,7 +45,7 @@ impl<'a> Outputs<'a> {
         ensures { IfOk result (λ o. known_by o ≡ known_of known.entry) }
     {
         let mut outputs = Outputs {
-            places: BTreeMap::new(alloc),
+            positions: BTreeMap::new(alloc),
             lists: known.lists,
         };
         let mut rest = known.answers.len();
@@ -60,62 +61,56 @@ impl<'a> Outputs<'a> {
         ensures found { OnOk result (found_at self.new ≡ and_found (behind_of (lists_of self.old) answer.entry) (found_at self.old)) }
         ensures lists { (self.new).lists ≡ (self.old).lists }
     {
-        self.places.insert((answer.job, answer.step), answer.names)?;
+        self.positions
+            .insert((answer.job, answer.step), answer.names)?;
         Ok(())
     }
 
-    /// This place, if a list stands there.
-    fn within(&self, place: Option<usize>) -> Option<usize>
-        ensures names { option_and_then (list_at self.now) result ≡ option_and_then (list_at self.now) place }
+    /// This position, if a list stands there.
+    fn within(&self, position: Option<usize>) -> Option<usize>
+        ensures names { option_and_then (list_at self.now) result ≡ option_and_then (list_at self.now) position }
         ensures there { IfSome result (λ i. i < length (lists_of self.now)) }
     {
-        match place {
+        match position {
             Some(i) => if i < self.lists.len() { Some(i) } else { None },
             None => None,
         }
     }
 
-    /// The place of the names of the outputs behind a call.
-    fn place(&self, job: Option<&'a [u8]>, step: Option<usize>) -> Option<usize>
+    /// The position of the names of the outputs behind a call; none where nothing is known of them. A list stands at each position that is
+    /// answered, and calls with one position have the same outputs.
+    fn position(&self, job: Option<&'a [u8]>, step: Option<usize>) -> Option<usize>
         ensures names { option_and_then (list_at self.now) result ≡ names_by self.now (option_copied job.entry) step }
         ensures there { IfSome result (λ i. i < length (lists_of self.now)) }
     {
-        match self.places.get(&(job, step)) {
-            Some(place) => self.within(*place),
+        match self.positions.get(&(job, step)) {
+            Some(position) => self.within(*position),
             None => None,
         }
     }
 
-    /// The place of the names of a step's outputs; none where nothing is known of them. A list stands at each place that is answered,
-    /// and steps with one place have the same outputs.
-    pub(crate) fn place_of_step(&self, job: Option<&'a [u8]>, i: usize) -> Option<usize>
+    /// The position of the names of a step's outputs, likewise.
+    pub(crate) fn position_of_step(&self, job: Option<&'a [u8]>, i: usize) -> Option<usize>
         ensures names { option_and_then (list_at self.now) result ≡ (known_by self.now).of_step (option_copied job.entry) i }
         ensures there { IfSome result (λ i. i < length (lists_of self.now)) }
     {
-        self.place(job, Some(i))
+        self.position(job, Some(i))
     }
 
-    /// The names at a place.
-    pub(crate) fn list(&self, place: Option<usize>) -> Option<&'a NameList>
-        ensures { option_copied result ≡ option_and_then (list_at self.now) place }
+    /// The position of the names of a job's outputs, likewise.
+    pub(crate) fn position_of_job(&self, job: &'a [u8]) -> Option<usize>
+        ensures names { option_and_then (list_at self.now) result ≡ (known_by self.now).of_job job.entry.now }
     {
-        match place {
+        self.position(Some(job), None)
+    }
+
+    /// The names at a position.
+    pub(crate) fn list(&self, position: Option<usize>) -> Option<&'a NameList>
+        ensures { option_copied result ≡ option_and_then (list_at self.now) position }
+    {
+        match position {
             Some(i) => self.lists.get(i).copied(),
             None => None,
         }
-    }
-
-    /// What is known of the outputs of a step.
-    pub(crate) fn of_step(&self, job: Option<&'a [u8]>, i: usize) -> Option<&'a NameList>
-        ensures { option_copied result ≡ (known_by self.now).of_step (option_copied job.entry) i }
-    {
-        self.list(self.place_of_step(job, i))
-    }
-
-    /// What is known of the outputs of a job.
-    pub(crate) fn of_job(&self, job: &'a [u8]) -> Option<&'a NameList>
-        ensures { option_copied result ≡ (known_by self.now).of_job job.entry.now }
-    {
-        self.list(self.place(Some(job), None))
     }
 }

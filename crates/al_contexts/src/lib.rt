@@ -8,6 +8,7 @@ mod inputs;
 mod job_lists;
 mod jobs;
 mod known;
+mod like_fields;
 mod matrix;
 mod needs;
 mod objects;

@@ -5,16 +5,20 @@ ghost use Rattle.al_types.specs.TypeViews.{ty_of};
 ghost use Rattle.al_types.specs.Private.TypeParts.{field_of};
 ghost use Rattle.al_shape.specs.Values.{member_of, scalar_node_of};
 ghost use Rattle.al_yaml.specs.View.{view};
-ghost use Rattle.al_contexts.specs.Contexts.{Known, needed, needed_by, needs_type_of};
-ghost use Rattle.al_types.specs.Puts.{Typed, put_all, put_new};
+ghost use Rattle.al_contexts.specs.Contexts.{needed, needed_by, needs_type_of};
+ghost use Rattle.al_contexts.specs.Private.Grown.{with_fields};
+ghost use Rattle.al_contexts.specs.Private.LikeFields.{AreIncluded, called_at};
 ghost use Rattle.al_contexts.specs.Private.Lookups.{known_by};
-ghost use Rattle.al_contexts.specs.Private.ShownJobs.{IsJobAt, Keeps};
+ghost use Rattle.al_contexts.specs.Private.ShownJobs.{IsKept, Keeps};
+ghost use Rattle.al_contexts.specs.declared.known.Outputs as declared;
 
 use crate::job_lists::JobList;
-use crate::jobs::job_field;
+use crate::jobs::{ShownJob, shown_job, with_job};
 use crate::known::Outputs;
-use al_shape::{ScalarNode, key_text, texts_under};
-use al_types::{Field, FieldList, Ty, copy};
+use crate::like_fields::Included;
+use crate::objects::no_fields;
+use al_shape::{ScalarNode, texts_under};
+use al_types::{Field, Ty, copy};
 use al_yaml::Node;
 use std::alloc::{AllocError, Global};
 
@@ -22,7 +26,7 @@ use std::alloc::{AllocError, Global};
 #[derive(Drop)]
 pub(crate) struct ShownJobs {
     /// By the job's position.
-    made: Vec<Option<Field>>,
+    made: Vec<Option<ShownJob>>,
 }
 
 /// The same field once more, which shares the type.
@@ -35,10 +39,21 @@ fn copy_field(alloc: Global, field: &Field) -> Result<Field, AllocError>
     })
 }
 
+/// The same once more, which shares the type.
+fn copy_job(alloc: Global, job: &ShownJob) -> Result<ShownJob, AllocError>
+    ensures field { IfOk result (λ j. field_of j.field ≡ field_of (job.now).field) }
+    ensures outputs { IfOk result (λ j. j.outputs ≡ (job.now).outputs) }
+{
+    Ok(ShownJob {
+        field: copy_field(alloc, &job.field)?,
+        outputs: job.outputs,
+    })
+}
+
 impl ShownJobs {
     /// Nothing of these jobs. Fails with `AllocError` for want of memory, as all here.
     pub(crate) fn new(alloc: Global, jobs: &JobList<'_>) -> Result<ShownJobs, AllocError>
-        ensures { IfOk result (λ s. (known : Known) → Keeps known (map member_of jobs.now.members.items) s) }
+        ensures { IfOk result (λ s. (known : declared.Outputs) → Keeps known (map member_of jobs.now.members.items) s) }
     {
         let mut made = Vec::new(alloc);
         for _job in jobs.as_slice() {
@@ -48,86 +63,73 @@ impl ShownJobs {
     }
 
     /// What the job at a position shows.
-    fn field<'a>(
+    fn job<'a>(
         &mut self,
         alloc: Global,
         known: &Outputs<'a>,
         jobs: &JobList<'a>,
         i: usize,
-    ) -> Result<Field, AllocError>
-        requires keeps { Keeps (known_by known.now) (map member_of jobs.now.members.items) self.old }
+    ) -> Result<ShownJob, AllocError>
+        requires keeps { Keeps known.now (map member_of jobs.now.members.items) self.old }
         requires inside { i < length jobs.now.members.items }
-        ensures field { IfOk result (λ f. IsJobAt (known_by known.now) (map member_of jobs.now.members.items) i (field_of f)) }
-        ensures keeps { OnOk result (Keeps (known_by known.now) (map member_of jobs.now.members.items) self.new) }
+        ensures job { IfOk result (λ j. IsKept known.now (map member_of jobs.now.members.items) i j) }
+        ensures keeps { OnOk result (Keeps known.now (map member_of jobs.now.members.items) self.new) }
     {
         match &self.made[i] {
-            Some(field) => copy_field(alloc, field),
+            Some(kept) => copy_job(alloc, kept),
             None => {
-                let field = job_field(alloc, known, jobs.as_slice()[i])?;
-                self.made[i] = Some(copy_field(alloc, &field)?);
-                Ok(field)
+                let shown = shown_job(alloc, known, jobs.as_slice()[i])?;
+                self.made[i] = Some(copy_job(alloc, &shown)?);
+                Ok(shown)
             }
         }
     }
 }
 
-/// Adds what a job shows, unless it was added before.
-fn add_job<'a>(
-    alloc: Global,
-    known: &Outputs<'a>,
-    jobs: &JobList<'a>,
-    shown: &mut ShownJobs,
-    i: usize,
-    fields: &mut FieldList,
-) -> Result<(), AllocError>
-    requires keeps { Keeps (known_by known.now) (map member_of jobs.now.members.items) shown.old }
-    requires inside { i < length jobs.now.members.items }
-    ensures fields { OnOk result ((t : Typed) → IsJobAt (known_by known.now) (map member_of jobs.now.members.items) i t
-        → map field_of fields.new.fields.items ≡ put_new (map field_of fields.old.fields.items) t) }
-    ensures keeps { OnOk result (Keeps (known_by known.now) (map member_of jobs.now.members.items) shown.new) }
-{
-    let job = jobs.as_slice()[i];
-    if fields.lacks(alloc, key_text(job.key))? {
-        fields.add(alloc, shown.field(alloc, known, jobs, i)?)?;
-    }
-    Ok(())
-}
-
-/// Adds what a job needs by a name, where it is a job.
-fn add_need<'a>(
+/// An object of jobs, and what a job needs by a name more, where it is a job.
+fn with_need<'a>(
     alloc: Global,
     known: &Outputs<'a>,
     jobs: &JobList<'a>,
     shown: &mut ShownJobs,
     name: &[u8],
-    fields: &mut FieldList,
-) -> Result<(), AllocError>
-    requires keeps { Keeps (known_by known.now) (map member_of jobs.now.members.items) shown.old }
-    ensures fields { OnOk result (map field_of fields.new.fields.items ≡ put_all put_new (map field_of fields.old.fields.items)
+    ty: Ty,
+    included: &mut Included,
+) -> Result<Ty, AllocError>
+    requires keeps { Keeps known.now (map member_of jobs.now.members.items) shown.old }
+    requires included { AreIncluded (called_at known.now) included.old (ty_of ty) }
+    ensures ty { IfOk result (λ t. ty_of t ≡ with_fields (ty_of ty)
         (option_to_list (needed (known_by known.now) (map member_of jobs.now.members.items) name.now))) }
-    ensures keeps { OnOk result (Keeps (known_by known.now) (map member_of jobs.now.members.items) shown.new) }
+    ensures included { IfOk result (λ t. AreIncluded (called_at known.now) included.new (ty_of t)) }
+    ensures keeps { OnOk result (Keeps known.now (map member_of jobs.now.members.items) shown.new) }
 {
-    if let Some(i) = jobs.position_of(alloc, name)? {
-        add_job(alloc, known, jobs, shown, i, fields)?;
+    match jobs.position_of(alloc, name)? {
+        None => Ok(ty),
+        Some(i) => {
+            let job = shown.job(alloc, known, jobs, i)?;
+            with_job(alloc, ty, included, job)
+        }
     }
-    Ok(())
 }
 
-/// Adds what a job needs by this text.
-fn add_need_by<'a>(
+/// The same by a text.
+fn with_need_by<'a>(
     alloc: Global,
     known: &Outputs<'a>,
     jobs: &JobList<'a>,
     shown: &mut ShownJobs,
     text: ScalarNode<'_>,
-    fields: &mut FieldList,
-) -> Result<(), AllocError>
-    requires keeps { Keeps (known_by known.now) (map member_of jobs.now.members.items) shown.old }
-    ensures fields { OnOk result (map field_of fields.new.fields.items ≡ put_all put_new (map field_of fields.old.fields.items)
+    ty: Ty,
+    included: &mut Included,
+) -> Result<Ty, AllocError>
+    requires keeps { Keeps known.now (map member_of jobs.now.members.items) shown.old }
+    requires included { AreIncluded (called_at known.now) included.old (ty_of ty) }
+    ensures ty { IfOk result (λ t. ty_of t ≡ with_fields (ty_of ty)
         (option_to_list (needed_by (known_by known.now) (map member_of jobs.now.members.items) (scalar_node_of text.entry)))) }
-    ensures keeps { OnOk result (Keeps (known_by known.now) (map member_of jobs.now.members.items) shown.new) }
+    ensures included { IfOk result (λ t. AreIncluded (called_at known.now) included.new (ty_of t)) }
+    ensures keeps { OnOk result (Keeps known.now (map member_of jobs.now.members.items) shown.new) }
 {
-    add_need(alloc, known, jobs, shown, text.scalar.text(), fields)
+    with_need(alloc, known, jobs, shown, text.scalar.text(), ty, included)
 }
 
 /// The type of `needs` in a job.
@@ -138,16 +140,16 @@ pub(crate) fn needs_type<'a>(
     shown: &mut ShownJobs,
     job: &Node,
 ) -> Result<Ty, AllocError>
-    requires keeps { Keeps (known_by known.now) (map member_of jobs.now.members.items) shown.old }
+    requires keeps { Keeps known.now (map member_of jobs.now.members.items) shown.old }
     ensures ty { IfOk result
         (λ t. ty_of t ≡ needs_type_of (known_by known.now) (map member_of jobs.now.members.items) (view job.now)) }
-    ensures keeps { OnOk result (Keeps (known_by known.now) (map member_of jobs.now.members.items) shown.new) }
+    ensures keeps { OnOk result (Keeps known.now (map member_of jobs.now.members.items) shown.new) }
 {
-    let mut fields = FieldList::new(alloc);
+    let mut ty = no_fields(alloc)?;
+    let mut included = Included::new(alloc);
     let names = texts_under(alloc, job, "needs")?;
     for name in names.as_slice() {
-        add_need_by(alloc, known, jobs, shown, *name, &mut fields)?;
+        ty = with_need_by(alloc, known, jobs, shown, *name, ty, &mut included)?;
     }
-    let ty = fields.into_ty(alloc)?;
     Ok(ty)
 }

@@ -19,6 +19,13 @@ pub(crate) fn strict_of(alloc: Global, fields: Vec<Field>) -> Result<Ty, AllocEr
     object_of_fields(alloc, fields, None)
 }
 
+/// An object without fields. Fails with `AllocError` for want of memory.
+pub(crate) fn no_fields(alloc: Global) -> Result<Ty, AllocError>
+    ensures { IfOk result (λ t. ty_of t ≡ strictly []) }
+{
+    strict_of(alloc, Vec::new(alloc))
+}
+
 /// An object whose other fields have a type. Fails with `AllocError` for want of memory.
 pub(crate) fn loose_of(alloc: Global, fields: Vec<Field>, rest: Ty) -> Result<Ty, AllocError>
     ensures { IfOk result (λ t. ty_of t ≡ loosely (map field_of fields.items) (ty_of rest)) }

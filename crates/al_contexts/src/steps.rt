@@ -1,5 +1,5 @@
 //! The type of `steps`.
-ghost use Rattle.std.specs.Prelude.{◌≡◌, ◌+◌, ◌<◌, ◌≤◌, ◌^◌, [], IfOk, length, map, take, Some};
+ghost use Rattle.std.specs.Prelude.{◌≡◌, ◌+◌, ◌<◌, ◌≤◌, ◌^◌, IfOk, length, map, take, Some};
 ghost use Rattle.std.specs.Option.{option_copied, option_to_list};
 ghost use Rattle.al_types.specs.TypeViews.{ty_of};
 ghost use Rattle.al_yaml.specs.View.{view};
@@ -7,17 +7,18 @@ ghost use Rattle.al_places.specs.Positions.{before, seen_view};
 ghost use Rattle.al_contexts.specs.Contexts as contexts;
 ghost use Rattle.al_contexts.specs.Contexts.{seen_of, step_field, steps_fields};
 ghost use Rattle.al_contexts.specs.Private.Environment.{owned, owner_view};
+ghost use Rattle.al_contexts.specs.Private.LikeFields.{AreIncluded, step_at};
 ghost use Rattle.al_contexts.specs.Private.Lookups.{known_by};
 ghost use Rattle.al_contexts.specs.Private.Grown.{with_fields};
-ghost use Rattle.al_contexts.specs.Objects.{strictly};
 
 use crate::env::Owner;
 use crate::known::Outputs;
-use crate::objects::{add_field, loose_strings, strict_of};
+use crate::like_fields::{Included, with_field_at};
+use crate::objects::{add_field, loose_strings, no_fields, strict_of};
 use al_declarations::NameList;
 use al_places::Seen;
 use al_shape::text_under;
-use al_types::{Field, Ty, copy, with_field};
+use al_types::{Field, Ty, copy};
 use al_yaml::Node;
 use std::alloc::{AllocError, Global};
 
@@ -51,16 +52,20 @@ fn with_step<'a>(
     i: usize,
     step: &Node,
     shown: Ty,
+    included: &mut Included,
 ) -> Result<Ty, AllocError>
-    ensures { IfOk result (λ t. ty_of t ≡ with_fields (ty_of shown) (option_to_list
+    requires { AreIncluded (step_at known.now) included.old (ty_of shown) }
+    ensures ty { IfOk result (λ t. ty_of t ≡ with_fields (ty_of shown) (option_to_list
         (step_field (known_by known.now) (option_copied job.entry) (i, view step.now)))) }
+    ensures included { IfOk result (λ t. AreIncluded (step_at known.now) included.new (ty_of t)) }
 {
     match text_under(step, "id") {
         None => Ok(shown),
         Some(id) => {
-            let ty = step_type(alloc, known.of_step(job, i))?;
+            let position = known.position_of_step(job, i);
+            let ty = step_type(alloc, known.list(position))?;
             let field = Field::new(alloc, id.scalar.text(), ty)?;
-            with_field(alloc, shown, field)
+            with_field_at(alloc, shown, included, position, field)
         }
     }
 }
@@ -73,15 +78,18 @@ fn with_steps<'a>(
     from: usize,
     steps: &[Node],
     shown: Ty,
+    included: &mut Included,
 ) -> Result<Ty, AllocError>
-    requires { from + length steps.now < 2 ^ 64 }
-    ensures { IfOk result (λ t. ty_of t ≡ with_fields (ty_of shown)
+    requires bound { from + length steps.now < 2 ^ 64 }
+    requires included { AreIncluded (step_at known.now) included.old (ty_of shown) }
+    ensures ty { IfOk result (λ t. ty_of t ≡ with_fields (ty_of shown)
         (steps_fields (known_by known.now) (option_copied job.entry) from (map view steps.now))) }
+    ensures included { IfOk result (λ t. AreIncluded (step_at known.now) included.new (ty_of t)) }
 {
     let mut all = shown;
     let mut i = from;
     for step in steps {
-        all = with_step(alloc, known, job, i, step, all)?;
+        all = with_step(alloc, known, job, i, step, all, included)?;
         i += 1;
     }
     Ok(all)
@@ -93,44 +101,44 @@ fn with_more<'a>(
     known: &Outputs<'a>,
     owner: Owner<'a>,
     shown: Ty,
+    included: &mut Included,
     from: usize,
     count: usize,
 ) -> Result<Ty, AllocError>
     requires shown { ty_of shown ≡ owned (known_by known.now) (Some (owner_view owner)) (before from) }
+    requires included { AreIncluded (step_at known.now) included.old (ty_of shown) }
     requires order { from ≤ count }
     requires inside { count ≤ length owner.steps.now }
-    ensures { IfOk result (λ t. ty_of t ≡ owned (known_by known.now) (Some (owner_view owner.entry)) (before count)) }
+    ensures ty { IfOk result (λ t. ty_of t ≡ owned (known_by known.now) (Some (owner_view owner.entry)) (before count)) }
+    ensures included { IfOk result (λ t. AreIncluded (step_at known.now) included.new (ty_of t)) }
 {
     let more = &owner.steps[from..count];
-    let ty = with_steps(alloc, known, owner.job, from, more, shown)?;
+    let ty = with_steps(alloc, known, owner.job, from, more, shown, included)?;
     Ok(ty)
 }
 
-/// The type of `steps` where no step is seen. Fails with `AllocError` for want of memory.
-pub(crate) fn no_steps(alloc: Global) -> Result<Ty, AllocError>
-    ensures { IfOk result (λ t. ty_of t ≡ strictly []) }
-{
-    strict_of(alloc, Vec::new(alloc))
-}
-
 /// The type of `steps` where a count of steps is seen, from that where another count is. Steps that were seen are copied in no case:
-/// where there are more they are added, and where there are fewer all are made anew.
+/// where there are more they are added, and where there are fewer all are made anew. Fails with `AllocError` for want of memory.
 pub(crate) fn seen_steps<'a>(
     alloc: Global,
     known: &Outputs<'a>,
     owner: Owner<'a>,
     shown: Ty,
+    included: &mut Included,
     from: usize,
     count: usize,
 ) -> Result<Ty, AllocError>
     requires shown { ty_of shown ≡ owned (known_by known.now) (Some (owner_view owner)) (before from) }
+    requires included { AreIncluded (step_at known.now) included.old (ty_of shown) }
     requires inside { count ≤ length owner.steps.now }
-    ensures { IfOk result (λ t. ty_of t ≡ owned (known_by known.now) (Some (owner_view owner.entry)) (before count)) }
+    ensures ty { IfOk result (λ t. ty_of t ≡ owned (known_by known.now) (Some (owner_view owner.entry)) (before count)) }
+    ensures included { IfOk result (λ t. AreIncluded (step_at known.now) included.new (ty_of t)) }
 {
     if from <= count {
-        with_more(alloc, known, owner, shown, from, count)
+        with_more(alloc, known, owner, shown, included, from, count)
     } else {
-        with_more(alloc, known, owner, no_steps(alloc)?, 0, count)
+        *included = Included::new(alloc);
+        with_more(alloc, known, owner, no_fields(alloc)?, included, 0, count)
     }
 }
 

@@ -20,7 +20,7 @@ use al_contexts::{Env, File};
 use al_places::{Place, Position, Section, Seen, available};
 use al_scalar::Scalar;
 use al_shape::{Member, key_text};
-use al_types::Ty;
+use al_types::{Paths, Ty};
 use al_uses::Call;
 use al_yaml::Node;
 use std::alloc::{AllocError, Global};
@@ -62,7 +62,10 @@ fn value_type<'a>(
         None => Ok(Ty::Any),
         Some(scalar) => {
             env.go_to(alloc, file, place_of_value(job, member.key, scalar))?;
-            scalar_type(alloc, &env.scope, scalar)
+            let mut paths = Paths::new(alloc);
+            let ty = scalar_type(alloc, &env.scope, scalar, &mut paths)?;
+            env.pass(alloc, &paths)?;
+            Ok(ty)
         }
     }
 }

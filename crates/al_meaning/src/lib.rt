@@ -6,6 +6,7 @@ mod comparison;
 mod found;
 mod law;
 mod literals;
+mod passes;
 mod placeholders;
 mod reports;
 mod steps;
@@ -15,5 +16,6 @@ mod worked;
 
 pub use comparison::comparable;
 pub use law::all_lie_in_content;
+pub use passes::note_passes;
 pub use typing::type_of;
 pub use worked::{literal_rows, placeholder_rows};

@@ -49,7 +49,7 @@ pub(crate) fn common_of_fields(alloc: Global, fields: &[Field]) -> Result<Option
 }
 
 impl NamedFields {
-    fn common(&self, alloc: Global) -> Result<Option<Ty>, AllocError>
+    pub(crate) fn common(&self, alloc: Global) -> Result<Option<Ty>, AllocError>
         ensures { IfOk result (λ t. option_map ty_of t ≡ option_of (rest_of self.now.common)) }
     {
         match other_of(&self.common) {

@@ -2,9 +2,10 @@
 
 ghost use Rattle.std.specs.Prelude.{◌≡◌, IfOk, map};
 ghost use Rattle.al_types.specs.MoreFields as types;
-ghost use Rattle.al_types.specs.Types.{fields_of, has_field, object_with};
-ghost use Rattle.al_types.specs.TypeViews.{ty_of, object_of};
-ghost use Rattle.al_types.specs.Private.Joined.{and_field};
+ghost use Rattle.al_types.specs.MoreFields.{common_to_all};
+ghost use Rattle.al_types.specs.Types.{Present, fields_of, fuse_optional, has_field, object_with};
+ghost use Rattle.al_types.specs.TypeViews.{ty_of, object_of, parts_of};
+ghost use Rattle.al_types.specs.Private.Joined.{IsLike, and_field};
 ghost use Rattle.al_types.specs.Private.TypeParts.{field_of, named_object, rest_of};
 
 use crate::fusing::fuse;
@@ -21,41 +22,70 @@ pub fn with_field(alloc: Global, ty: Ty, field: Field) -> Result<Ty, AllocError>
     ensures { IfOk result (λ t. ty_of t ≡ types.with_field (ty_of ty) (field_of field)) }
 {
     match ty {
-        Ty::Object(object) => object_and_field(alloc, object, field),
+        Ty::Object(object) => object_and_field(alloc, object, field, false),
         other => type_and_field(alloc, other, field),
     }
 }
 
-// The same of an object that may be shared.
-fn object_and_field(alloc: Global, object: Rc<Object>, field: Field) -> Result<Ty, AllocError>
-    ensures { IfOk result (λ t. ty_of t ≡ types.with_field (object_of object.value) (field_of field)) }
+/// The same, where the type of the field is known to leave what all fields have in common as it is: so that isn't fused with it.
+pub fn with_like_field(alloc: Global, ty: Ty, field: Field) -> Result<Ty, AllocError>
+    ensures { IfOk result (λ t. fuse_optional (common_to_all (ty_of ty)) (Present (field_of field).1) ≡ common_to_all (ty_of ty)
+        → ty_of t ≡ types.with_field (ty_of ty) (field_of field)) }
+{
+    match ty {
+        Ty::Object(object) => object_and_field(alloc, object, field, true),
+        other => type_and_field(alloc, other, field),
+    }
+}
+
+// The same of an object that may be shared. Its field may be known to be like others.
+fn object_and_field(
+    alloc: Global,
+    object: Rc<Object>,
+    field: Field,
+    is_like: bool,
+) -> Result<Ty, AllocError>
+    ensures { IfOk result (λ t. IsLike is_like (parts_of object.value).2 (ty_of field.ty)
+        → ty_of t ≡ types.with_field (object_of object.value) (field_of field)) }
 {
     match Rc::try_unwrap(object) {
-        Ok(own) => own_and_field(alloc, own, field),
+        Ok(own) => own_and_field(alloc, own, field, is_like),
         Err(shared) => type_and_field(alloc, Ty::Object(shared), field),
     }
 }
 
 // The same of one that nothing else shares.
-fn own_and_field(alloc: Global, object: Object, field: Field) -> Result<Ty, AllocError>
-    ensures { IfOk result (λ t. ty_of t ≡ types.with_field (object_of object) (field_of field)) }
+fn own_and_field(
+    alloc: Global,
+    object: Object,
+    field: Field,
+    is_like: bool,
+) -> Result<Ty, AllocError>
+    ensures { IfOk result (λ t. IsLike is_like (parts_of object).2 (ty_of field.ty)
+        → ty_of t ≡ types.with_field (object_of object) (field_of field)) }
 {
     match object {
-        Object::Named(named) => named_and_field(alloc, named, field),
+        Object::Named(named) => named_and_field(alloc, named, field, is_like),
         Object::Listed(listing) => fields_and_field(alloc, listing.fields, listing.rest, field),
         other => type_and_field(alloc, Ty::Object(Rc::new(alloc, other)?), field),
     }
 }
 
 // The same of fields that are found by their names.
-fn named_and_field(alloc: Global, named: NamedFields, field: Field) -> Result<Ty, AllocError>
-    ensures { IfOk result (λ t. ty_of t ≡ types.with_field (named_object named) (field_of field)) }
+fn named_and_field(
+    alloc: Global,
+    named: NamedFields,
+    field: Field,
+    is_like: bool,
+) -> Result<Ty, AllocError>
+    ensures { IfOk result (λ t. IsLike is_like (rest_of named.common) (ty_of field.ty)
+        → ty_of t ≡ types.with_field (named_object named) (field_of field)) }
 {
     if named.names.names.len() != named.types.len() {
         let ty = object_of_named(alloc, named)?;
         return type_and_field(alloc, ty, field);
     }
-    let grown = named.and_field(alloc, field)?;
+    let grown = named.and_field(alloc, field, is_like)?;
     object_of_named(alloc, grown)
 }
 
@@ -103,9 +133,9 @@ fn type_and_field(alloc: Global, ty: Ty, field: Field) -> Result<Ty, AllocError>
     fuse(alloc, ty, object_of_fields(alloc, fields, None)?)
 }
 
-// Whether a type is an object that has a field of this name.
+/// Whether a type is an object that has a field of this name, in any ASCII case. Fails with `AllocError` for want of memory.
 #[tactic(auto, using(crate::proofs::TypeFields::fused_type))]
-fn has_field_in(alloc: Global, ty: &Ty, name: &str) -> Result<bool, AllocError>
+pub fn has_field_in(alloc: Global, ty: &Ty, name: &str) -> Result<bool, AllocError>
     ensures { IfOk result (λ b. b ≡ types.has_in name.now (ty_of ty.now)) }
 {
     match ty {

@@ -1,6 +1,6 @@
 //! Objects made one that has the fields of all.
 
-ghost use Rattle.std.specs.Prelude.{◌≡◌, true, IfOk, map, option_map};
+ghost use Rattle.std.specs.Prelude.{◌≡◌, true, IfOk, map};
 ghost use Rattle.al_types.specs.FusedFields.{are_distinct};
 ghost use Rattle.al_types.specs.Puts.{firsts};
 ghost use Rattle.al_types.specs.Types.{Absent, NoField, field_at, fields_of, object_type, optional, parts_with};
@@ -11,7 +11,7 @@ ghost use Rattle.al_types.specs.Private.TypeParts.{field_of};
 use crate::field_lists::FieldList;
 use crate::finding::are_distinct as have_distinct_names;
 use crate::named_fields::{boxed, named_fields, object_of_named};
-use crate::objects::{FEW, copied_fields};
+use crate::objects::copied_fields;
 use crate::properties::{common_property, common_type, made};
 use crate::types::{Field, Object, Ty};
 use std::alloc::{AllocError, Global};
@@ -19,10 +19,6 @@ use std::rc::Rc;
 
 /// So deep objects are made one below another: collections of YAML aren't deeper in one another.
 pub(crate) const DEPTH: usize = 64;
-
-/// So deep is made one what the fields of such an object have in common. Each level takes the time of all fields below once more, so deeper
-/// ones are looked through.
-const COMMON_DEPTH: usize = 2;
 
 /// The same type, whose fields stand in one object where it is one, or where arrays hold one, and so the types of these fields: so a
 /// property is found in one look. Takes the time and memory of all fields of those that were fused. Fails with `AllocError` for want of
@@ -63,8 +59,7 @@ fn joined_object(alloc: Global, all: Gathered, depth: usize) -> Result<Ty, Alloc
     let (fields, positions) = all.fields.into_parts();
     let fields = joined_fields(alloc, fields, depth)?;
     let rest = boxed(alloc, all.rest)?;
-    let common = joined_common(alloc, all.common, depth.min(COMMON_DEPTH))?;
-    let named = named_fields(alloc, fields, positions, rest, common)?;
+    let named = named_fields(alloc, fields, positions, rest, all.common)?;
     object_of_named(alloc, named)
 }
 
@@ -86,17 +81,6 @@ pub(crate) fn joined_fields(
         })?;
     }
     Ok(all)
-}
-
-// The same type, made one so many levels deep where it is of many objects.
-#[cycle(joining)]
-fn joined_common(alloc: Global, common: Option<Ty>, depth: usize) -> Result<Option<Ty>, AllocError>
-    ensures { IfOk result (λ t. option_map ty_of t ≡ option_map ty_of common) }
-{
-    match common {
-        Some(ty) if ty.parts() > FEW => Ok(Some(joined_to(alloc, ty, depth)?)),
-        kept => Ok(kept),
-    }
 }
 
 /// Objects that are made one, object after object: the fields of all, those of one name fused, the type of others where there may be

@@ -5,6 +5,7 @@ ghost use Rattle.al_types.specs.MoreFields as types;
 ghost use Rattle.al_types.specs.Types.{Absent, Present, common_in, field_at, fields_of, fuse_optional, object_type, object_with, option_of};
 ghost use Rattle.al_types.specs.Types.{optional, or_else};
 ghost use Rattle.al_types.specs.TypeViews.{ty_of, named_of, names_in, parts_by_names};
+ghost use Rattle.al_types.specs.Private.Joined.{IsLike};
 ghost use Rattle.al_types.specs.Private.Positions.{IsFieldIndex};
 ghost use Rattle.al_types.specs.Private.TypeParts.{field_of, named_object, rest_of};
 
@@ -47,6 +48,17 @@ pub(crate) fn object_with_rest(
     if fields.len() <= FEW {
         return object_of_fields(alloc, fields, rest);
     }
+    object_with_common(alloc, fields, rest)
+}
+
+/// The same, few or many, found by their names: what all have in common is kept beside them.
+pub(crate) fn object_with_common(
+    alloc: Global,
+    fields: Vec<Field>,
+    rest: Option<Box<Ty>>,
+) -> Result<Ty, AllocError>
+    ensures { IfOk result (λ t. ty_of t ≡ object_with (fields_of (map field_of fields.items)) (rest_of rest)) }
+{
     let positions = field_positions(alloc, fields.as_slice())?;
     many_by_names(alloc, fields, positions, rest)
 }
@@ -154,8 +166,8 @@ impl NamedFields {
         self.names.names.len().min(self.types.len())
     }
 
-    // The type at a position, where there is one.
-    fn type_at(&self, i: usize) -> Option<&Ty>
+    /// The type at a position, where there is one.
+    pub(crate) fn type_at(&self, i: usize) -> Option<&Ty>
         ensures { option_map (λ t. ty_of t.now) result ≡ option_map ty_of (slice_get self.now.types.items i) }
     {
         if i < self.types.len() {
@@ -186,10 +198,17 @@ impl NamedFields {
         }
     }
 
-    /// The fields, and one more behind them, unless one has its name: so an object grows by it.
-    pub(crate) fn and_field(self, alloc: Global, field: Field) -> Result<NamedFields, AllocError>
+    /// The fields, and one more behind them, unless one has its name: so an object grows by it. What all have in common is fused with its
+    /// type, unless that is known to leave it as it is.
+    pub(crate) fn and_field(
+        self,
+        alloc: Global,
+        field: Field,
+        is_like: bool,
+    ) -> Result<NamedFields, AllocError>
         requires { length (names_in self.names) ≡ length self.types.items }
-        ensures { IfOk result (λ f. named_object f ≡ types.with_field (named_object self) (field_of field)) }
+        ensures { IfOk result (λ f. IsLike is_like (rest_of self.common) (ty_of field.ty)
+            → named_object f ≡ types.with_field (named_object self) (field_of field)) }
     {
         let mut types = self.types;
         let rest = self.rest;
@@ -203,7 +222,7 @@ impl NamedFields {
                 common,
             });
         }
-        let common = common_with(alloc, self.common, &field.ty)?;
+        let common = common_and(alloc, self.common, &field.ty, is_like)?;
         types.push(field.ty)?;
         Ok(NamedFields {
             names,
@@ -225,6 +244,22 @@ impl NamedFields {
         }
         Ok(fields)
     }
+}
+
+// What fields have in common, with one more that may be known to be like them.
+fn common_and(
+    alloc: Global,
+    sofar: Option<Box<Ty>>,
+    ty: &Ty,
+    is_like: bool,
+) -> Result<Option<Box<Ty>>, AllocError>
+    ensures { IfOk result (λ r. IsLike is_like (rest_of sofar) (ty_of ty.now)
+        → rest_of r ≡ fuse_optional (rest_of sofar) (Present (ty_of ty.now))) }
+{
+    if is_like {
+        return Ok(sofar);
+    }
+    common_with(alloc, sofar, ty)
 }
 
 // What a type, where there is one, has in common with another.

@@ -58,8 +58,8 @@ fn places_of(alloc: Global, names: &[String]) -> Result<NamePositions, AllocErro
     Ok(positions)
 }
 
-// Fields that are strings of these names.
-fn string_fields(alloc: Global, names: &[String]) -> Result<Vec<Field>, AllocError>
+/// Fields that are strings of these names. Fails for want of memory alone.
+pub(crate) fn string_fields(alloc: Global, names: &[String]) -> Result<Vec<Field>, AllocError>
     ensures { IfOk result (λ v. map field_of v.items ≡ strings (map string_bytes names.now)) }
 {
     let mut fields = Vec::with_capacity(alloc, names.len())?;
@@ -72,8 +72,8 @@ fn string_fields(alloc: Global, names: &[String]) -> Result<Vec<Field>, AllocErr
     Ok(fields)
 }
 
-// Fields once more, with names of their own.
-fn copy_fields(alloc: Global, fields: &[Field]) -> Result<Vec<Field>, AllocError>
+/// Fields once more, with names of their own. Fails for want of memory alone.
+pub(crate) fn copy_fields(alloc: Global, fields: &[Field]) -> Result<Vec<Field>, AllocError>
     ensures { IfOk result (λ v. map field_of v.items ≡ map field_of fields.now) }
 {
     let mut copies = Vec::with_capacity(alloc, fields.len())?;

@@ -1,152 +1,196 @@
-//! When it pays to make what the fields of an object have in common one object.
+//! What paths go over often: objects are made one, and what fields have in common is kept.
 
-ghost use Rattle.std.specs.Prelude.{◌≡◌, IfOk};
+ghost use Rattle.std.specs.Prelude.{◌≡◌, IfOk, OnOk, map};
 ghost use Rattle.al_types.specs.TypeViews.{ty_of, object_of};
-ghost use Rattle.al_types.specs.Private.TypeParts.{named_object, rest_of};
+ghost use Rattle.al_types.specs.Private.TypeParts.{field_of, named_object, rest_of};
 
-use crate::joining::joined;
-use crate::named_fields::object_of_named;
-use crate::objects::FEW;
-use crate::types::{Fused, NamedFields, Object, Ty};
+use crate::joining::joined_to;
+use crate::named_fields::{object_of_named, object_with_common};
+use crate::objects::object_of_fields;
+use crate::owning::unshared;
+use crate::passing::{Move, first_crossing};
+use crate::paths::Paths;
+use crate::types::{Field, NamedFields, Object, Ty};
 use std::alloc::{AllocError, Global};
+use std::mem::replace;
 use std::rc::Rc;
 
-/// To put a field into the object that is made takes as long as to look it up so often.
-const FIELD: usize = 4;
-
-/// So often what an object's fields have in common has to be gone over, as each `.*` of the object does with the properties behind it,
-/// before it takes less time to make it one: never where it is one, or where it is of few.
-pub fn passes_before_summary(ty: &Ty) -> usize {
-    match kept_common(ty) {
-        Some(fused) if fused.objects.len() > FEW => FIELD
-            * (fused.weight() / fused.objects.len() + 1),
-        _ => usize::MAX,
-    }
-}
-
-// What an object's fields have in common, where that is kept and not one object.
-fn kept_common(ty: &Ty) -> Option<&Fused> {
-    let Ty::Object(object) = ty else {
-        return None;
-    };
-    let Object::Named(named) = &**object else {
-        return None;
-    };
-    match &named.common {
-        Some(common) => match &**common {
-            Ty::Fused(fused) => Some(fused),
-            _ => None,
-        },
-        None => None,
-    }
-}
-
-impl Fused {
-    // How many fields the objects have, those of their fields included.
-    fn weight(&self) -> usize {
-        let mut weight: usize = 0;
-        for object in &self.objects {
-            weight = weight.saturating_add(object.weight());
-        }
-        weight
-    }
-}
-
-impl Object {
-    fn weight(&self) -> usize {
-        match self {
-            Object::Listed(listing) => {
-                let mut weight: usize = 1;
-                for field in &listing.fields {
-                    weight = weight.saturating_add(field.ty.count()).saturating_add(1);
-                }
-                weight
-            }
-            Object::Named(named) => {
-                let mut weight: usize = 1;
-                for ty in &named.types {
-                    weight = weight.saturating_add(ty.count()).saturating_add(1);
-                }
-                weight
-            }
-            Object::Strings(names) => names.names.len(),
-        }
-    }
-
-    fn count(&self) -> usize {
-        match self {
-            Object::Listed(listing) => listing.fields.len(),
-            Object::Named(named) => named.types.len(),
-            Object::Strings(names) => names.names.len(),
-        }
-    }
-}
-
-impl Ty {
-    // How many fields it has.
-    fn count(&self) -> usize {
-        match self {
-            Ty::Object(object) => object.count(),
-            other => other.parts(),
-        }
-    }
-}
-
-/// The same type. What all fields of an object have in common is made one, if they are many and nothing else shares it: `.*` and what
-/// stands behind it take as long then as any other property. Takes the time and memory of all fields of these. Fails with `AllocError` for
-/// want of memory alone.
-pub fn summarized(alloc: Global, ty: Ty) -> Result<Ty, AllocError>
+/// The same type, from which an expression has taken a path. Where that first comes to what several objects have in common, or to fields of
+/// which that isn't kept, the looks that it took there are added to those that were spent. Once as many were spent as it takes to make the
+/// objects one, or to keep what the fields have in common, that is done, and nothing is spent any more. Fails with `AllocError` for want of
+/// memory alone.
+pub fn passed(
+    alloc: Global,
+    ty: Ty,
+    paths: &Paths,
+    first: usize,
+    spent: &mut usize,
+) -> Result<Ty, AllocError>
     ensures { IfOk result (λ t. ty_of t ≡ ty_of ty) }
 {
+    let Some(many) = first_crossing(alloc, &ty, paths, first)? else {
+        return Ok(ty);
+    };
+    *spent = spent.saturating_add(many.looks);
+    if *spent < many.worth {
+        return Ok(ty);
+    }
+    *spent = 0;
+    summarized(alloc, ty, many.moves.as_slice())
+}
+
+// The same type, in which that is done where moves lead to.
+#[cycle(summaries)]
+fn summarized(alloc: Global, ty: Ty, moves: &[Move]) -> Result<Ty, AllocError>
+    ensures { IfOk result (λ t. ty_of t ≡ ty_of ty) }
+{
+    let [first, rest @ ..] = moves else {
+        return made_one(alloc, ty);
+    };
     match ty {
-        Ty::Object(object) => summarized_object(alloc, object),
+        Ty::Array(of) => {
+            let of = summarized(alloc, Box::into_inner(of), rest)?;
+            Ok(Ty::Array(Box::new(alloc, of)?))
+        }
+        Ty::Object(object) => summarized_object(alloc, object, *first, rest),
         other => Ok(other),
     }
 }
 
-fn summarized_object(alloc: Global, object: Rc<Object>) -> Result<Ty, AllocError>
-    ensures { IfOk result (λ t. ty_of t ≡ object_of object.value) }
+// The same type: as one object where it is of several, and with what its fields have in common.
+fn made_one(alloc: Global, ty: Ty) -> Result<Ty, AllocError>
+    ensures { IfOk result (λ t. ty_of t ≡ ty_of ty) }
 {
-    match Rc::try_unwrap(object) {
-        Ok(own) => summarized_own(alloc, own),
-        Err(shared) => Ok(Ty::Object(shared)),
+    match ty {
+        Ty::Object(object) => with_kept_common(alloc, object),
+        other => joined_to(alloc, other, 1),
     }
 }
 
-#[tactic(auto, using(crate::proofs::TypeFields::named_type))]
-fn summarized_own(alloc: Global, object: Object) -> Result<Ty, AllocError>
-    ensures { IfOk result (λ t. ty_of t ≡ object_of object) }
+fn with_kept_common(alloc: Global, object: Rc<Object>) -> Result<Ty, AllocError>
+    ensures { IfOk result (λ t. ty_of t ≡ object_of object.value) }
 {
-    match object {
+    let own = unshared(alloc, object)?;
+    match own {
+        Object::Listed(listing) => object_with_common(alloc, listing.fields, listing.rest),
+        other => Ok(Ty::Object(Rc::new(alloc, other)?)),
+    }
+}
+
+// The same of a type that stays at its place.
+#[cycle(summaries)]
+fn summarize(alloc: Global, ty: &mut Ty, moves: &[Move]) -> Result<(), AllocError>
+    ensures { OnOk result (ty_of ty.new ≡ ty_of ty.old) }
+{
+    let old = replace(ty, Ty::Any);
+    *ty = summarized(alloc, old, moves)?;
+    Ok(())
+}
+
+// The same of an object that may be shared, by the first move and those behind it. One that is shared is copied for that, but for what its
+// fields share.
+#[cycle(summaries)]
+fn summarized_object(
+    alloc: Global,
+    object: Rc<Object>,
+    first: Move,
+    rest: &[Move],
+) -> Result<Ty, AllocError>
+    ensures { IfOk result (λ t. ty_of t ≡ object_of object.value) }
+{
+    let own = unshared(alloc, object)?;
+    match own {
         Object::Named(named) => {
-            let named = with_summary(alloc, named)?;
+            let named = summarized_named(alloc, named, first, rest)?;
             object_of_named(alloc, named)
+        }
+        Object::Listed(listing) => {
+            let fields = summarized_fields(alloc, listing.fields, first, rest)?;
+            object_of_fields(alloc, fields, listing.rest)
         }
         other => Ok(Ty::Object(Rc::new(alloc, other)?)),
     }
 }
 
-// The same fields. What they have in common is made one, if it is of many objects.
-fn with_summary(alloc: Global, named: NamedFields) -> Result<NamedFields, AllocError>
+#[cycle(summaries)]
+fn summarized_named(
+    alloc: Global,
+    named: NamedFields,
+    first: Move,
+    rest: &[Move],
+) -> Result<NamedFields, AllocError>
     ensures { IfOk result (λ f. named_object f ≡ named_object named) }
 {
-    let common = joined_common(alloc, named.common)?;
-    Ok(NamedFields {
-        names: named.names,
-        types: named.types,
-        rest: named.rest,
-        common,
-    })
+    match first {
+        Move::Element => Ok(named),
+        Move::Field(i) => {
+            let types = summarized_types(alloc, named.types, i, rest)?;
+            Ok(NamedFields {
+                names: named.names,
+                types,
+                rest: named.rest,
+                common: named.common,
+            })
+        }
+        Move::Common => {
+            let common = summarized_common(alloc, named.common, rest)?;
+            Ok(NamedFields {
+                names: named.names,
+                types: named.types,
+                rest: named.rest,
+                common,
+            })
+        }
+    }
 }
 
-fn joined_common(alloc: Global, common: Option<Box<Ty>>) -> Result<Option<Box<Ty>>, AllocError>
+#[cycle(summaries)]
+fn summarized_types(
+    alloc: Global,
+    types: Vec<Ty>,
+    i: usize,
+    rest: &[Move],
+) -> Result<Vec<Ty>, AllocError>
+    ensures { IfOk result (λ v. map ty_of v.items ≡ map ty_of types.items) }
+{
+    let mut all = types;
+    if i >= all.len() {
+        return Ok(all);
+    }
+    summarize(alloc, &mut all[i], rest)?;
+    Ok(all)
+}
+
+#[cycle(summaries)]
+fn summarized_common(
+    alloc: Global,
+    common: Option<Box<Ty>>,
+    rest: &[Move],
+) -> Result<Option<Box<Ty>>, AllocError>
     ensures { IfOk result (λ r. rest_of r ≡ rest_of common) }
 {
     match common {
-        Some(ty) if ty.parts() > FEW => Ok(Some(Box::new(
-            alloc,
-            joined(alloc, Box::into_inner(ty))?,
-        )?)),
-        kept => Ok(kept),
+        None => Ok(None),
+        Some(ty) => Ok(Some(Box::new(alloc, summarized(alloc, Box::into_inner(ty), rest)?)?)),
     }
+}
+
+#[cycle(summaries)]
+fn summarized_fields(
+    alloc: Global,
+    fields: Vec<Field>,
+    first: Move,
+    rest: &[Move],
+) -> Result<Vec<Field>, AllocError>
+    ensures { IfOk result (λ v. map field_of v.items ≡ map field_of fields.items) }
+{
+    let Move::Field(i) = first else {
+        return Ok(fields);
+    };
+    let mut all = fields;
+    if i >= all.len() {
+        return Ok(all);
+    }
+    summarize(alloc, &mut all[i].ty, rest)?;
+    Ok(all)
 }

@@ -12,7 +12,7 @@ use Rattle.al_contexts.specs.declared.known.Outputs.{Outputs}
 abbrev pub Found : Type 0
 Found = Option (List ℕ) → Option ℕ → Option (Option (List (List ℕ)))
 
--- the lists of names, and the one at a place among them
+-- the lists of names, and the one at a position among them
 abbrev pub lists_of : Outputs → List (List (List ℕ))
 lists_of o = map (λ l. l.now) o.lists.now
 
@@ -22,7 +22,7 @@ list_at o = slice_get (lists_of o)
 unfoldable pub found_at : Outputs → Found
 found_at o job step =
     option_map (option_and_then (list_at o)) (get_by
-    (λ k. ordering_then (option_cmp (slice_cmp nat_cmp) job (option_copied k.0)) (option_cmp nat_cmp step k.1)) o.places)
+    (λ k. ordering_then (option_cmp (slice_cmp nat_cmp) job (option_copied k.0)) (option_cmp nat_cmp step k.1)) o.positions)
 
 -- with an answer in front
 abbrev pub and_found : Behind → Found → Found

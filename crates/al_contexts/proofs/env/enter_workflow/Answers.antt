@@ -5,6 +5,7 @@ use Rattle.al_places.specs.Positions.{section_view}
 use Rattle.al_yaml.specs.View.{view}
 use Rattle.al_contexts.specs.Contexts.{needs_type_of, type_in_job}
 use Rattle.al_contexts.specs.Private.Environment.{jobs_shown}
+use Rattle.al_contexts.specs.Private.LikeFields.{step_at}
 use Rattle.al_contexts.proofs.Sections.{of_workflow, some_strategy}
 use Rattle.al_contexts.proofs.env.enter_workflow.Goals as goal
 
@@ -31,6 +32,7 @@ returns-clause-stands c =
       owner = search rules;
       steps = search rules;
       shown = c.in_ok-needs.ensures.keeps;
+      included = c.new.ensures (step_at c.args.env.now.outputs) (ty_of c.in_ok-steps.steps);
     }
 
 pub strategy_at-requires : goal.strategy_at-requires

@@ -1,4 +1,4 @@
-use Rattle.std.proofs.Common.{◌∙◌, ap, sym, Some}
+use Rattle.std.proofs.Common.{◌∙◌, ap, subst, sym, Some}
 use Rattle.std.specs.Prelude.{option_map}
 use Rattle.std.specs.Option.{option_copied}
 use Rattle.al_places.specs.Positions.{before, seen_view}
@@ -8,6 +8,7 @@ use Rattle.al_contexts.specs.Contexts.{steps_fields}
 use Rattle.al_contexts.specs.Objects.{strictly}
 use Rattle.al_types.specs.Puts.{firsts}
 use Rattle.al_contexts.specs.Private.Environment.{owned, owner_view}
+use Rattle.al_contexts.specs.Private.LikeFields.{AreIncluded, step_at}
 use Rattle.al_contexts.specs.Private.Lookups.{known_by}
 use Rattle.al_contexts.proofs.env.see.Goals as goal
 
@@ -17,6 +18,11 @@ seen_steps-requires-clause-shown c =
     ap ty_of c.replace-shown.ensures.value ∙ c.requires.steps
     ∙ ap (λ k. owned k (option_map owner_view env.owner) (before env.seen)) (sym c.requires.known)
     ∙ ap (λ o. owned (known_by env.outputs) (option_map owner_view o) (before env.seen)) c.in-Some.is
+
+pub seen_steps-requires-clause-included : goal.seen_steps-requires-clause-included
+seen_steps-requires-clause-included c =
+    let env = c.args.env.now in
+    subst (AreIncluded (step_at env.outputs) env.included) (sym (ap ty_of c.replace-shown.ensures.value)) c.requires.included
 
 pub returns-in_ok-steps-in-Some-clause-stands : goal.returns-in_ok-steps-in-Some-clause-stands
 returns-in_ok-steps-in-Some-clause-stands c =
@@ -37,15 +43,16 @@ returns-in_ok-steps-in-Some-clause-stands c =
       };
       section = record { strategy = r.section.strategy; needs = r.section.needs; jobs = r.section.jobs; matrix = r.section.matrix };
       owner = r.owner;
-      steps = c.in_ok-steps-in-Some.ensures ∙ ap (λ k. owned k (Some (owner_view c.in-Some.owner)) (before count)) r.known
+      steps = c.in_ok-steps-in-Some.ensures.ty ∙ ap (λ k. owned k (Some (owner_view c.in-Some.owner)) (before count)) r.known
           ∙ ap (λ o. owned (known_of c.args.file.known) (option_map owner_view o) (before count)) (sym c.in-Some.is);
       shown = r.shown;
+      included = c.in_ok-steps-in-Some.ensures.included;
     }
 
 pub returns-in_ok-steps-in-Some-clause-seen : goal.returns-in_ok-steps-in-Some-clause-seen
 returns-in_ok-steps-in-Some-clause-seen c =
     let owner = c.in-Some.owner in
     let known = known_of c.args.file.known in
-    c.in_ok-steps-in-Some.ensures ∙ ap (λ k. owned k (Some (owner_view owner)) (before c.seen_count-count.result)) c.requires.known
+    c.in_ok-steps-in-Some.ensures.ty ∙ ap (λ k. owned k (Some (owner_view owner)) (before c.seen_count-count.result)) c.requires.known
     ∙ ap (λ ss. strictly (firsts (steps_fields known (option_copied owner.job) 0 ss))) (sym c.seen_count-count.ensures.count)
     ∙ ap (λ o. owned known (option_map owner_view o) (seen_view c.args.seen)) (sym c.in-Some.is)

@@ -4,6 +4,7 @@ use Rattle.al_yaml.specs.View.{view}
 use Rattle.al_types.specs.TypeViews.{ty_of}
 use Rattle.al_contexts.specs.Contexts.{steps_fields}
 use Rattle.al_contexts.specs.Private.Grown.{with_fields}
+use Rattle.al_contexts.specs.Private.LikeFields.{AreIncluded, step_at}
 use Rattle.al_contexts.specs.Private.Lookups.{known_by}
 use Rattle.al_contexts.proofs.steps.with_steps.Given as goal
 
@@ -12,4 +13,5 @@ invariant-loop-step l = record {
   all : with_fields (ty_of l.all) (steps_fields (known_by l.known) (option_copied l.job) l.i (map view (drop l.step-index l.steps)))
       ≡ with_fields (ty_of l.fn.shown) (steps_fields (known_by l.known) (option_copied l.job) l.from (map view l.steps));
   index : l.i ≡ l.from + l.step-index;
+  included : AreIncluded (step_at l.known) l.included (ty_of l.all);
 }

@@ -1,4 +1,5 @@
-use Rattle.al_contexts.specs.Private.Lookups.{known_by}
+use Rattle.al_types.specs.TypeViews.{ty_of}
+use Rattle.al_contexts.specs.Private.LikeFields.{step_at}
 use Rattle.al_contexts.proofs.env.Env.new.Goals as goal
 
 pub returns : goal.returns
@@ -9,5 +10,6 @@ returns c = record {
   section = c.in_ok-types.ensures.section;
   owner = c.first_owner-owner.ensures;
   steps = c.in_ok-types.ensures.steps;
-  shown = c.in_ok-shown.ensures (known_by c.in_ok-outputs.outputs);
+  shown = c.in_ok-shown.ensures c.in_ok-outputs.outputs;
+  included = c.new-2.ensures (step_at c.in_ok-outputs.outputs) (ty_of c.in_ok-types.types.steps);
 }

@@ -13,7 +13,7 @@ loop-rest-init c =
     record {
       within = omega arith;
       lists = refl;
-      found = none_found (record { places = c.new.result; lists = c.args.known.lists }) (map (behind_of lists) (drop (length answers) answers))
+      found = none_found (record { positions = c.new.result; lists = c.args.known.lists }) (map (behind_of lists) (drop (length answers) answers))
           c.new.ensures.empty (ap (map (behind_of lists)) (drop-length answers));
     }
 

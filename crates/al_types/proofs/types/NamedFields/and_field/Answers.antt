@@ -15,7 +15,7 @@ returns-then-not-is_new c =
     let long : length ns ≡ length ts = omega (arith, c.requires, length-map c.args.self.types.items ty_of) in
     let names : names_in c.in_ok-names.names ≡ ns =
     c.in_ok-names.ensures.names ∙ ap (λ b. if b then ns ++ n ∷ [] else ns) c.if-not-is_new.true in
-    ap (λ xs. object_type (parts_by_names (fields_of (zip xs ts)) (rest_of c.args.self.rest) (rest_of c.args.self.common))) names
+    λ _. ap (λ xs. object_type (parts_by_names (fields_of (zip xs ts)) (rest_of c.args.self.rest) (rest_of c.args.self.common))) names
     ∙ named_old ns ts _ _ n (ty_of c.args.field.ty) c.in_ok-names.is_new long c.in_ok-names.ensures.is_new c.if-not-is_new.true
 
 pub returns : goal.returns
@@ -29,5 +29,5 @@ returns c =
     c.in_ok-names.ensures.names ∙ ap (λ b. if b then ns ++ n ∷ [] else ns) c.if-not-is_new.false in
     let types : map ty_of c.push.new.self.items ≡ ts ++ t ∷ [] =
     ap (map ty_of) c.in_ok-push.ensures.items ∙ map-append ty_of c.args.self.types.items (c.args.field.ty ∷ []) in
-    (λ d. object_type (parts_by_names (fields_of (zip (names d) (types d))) (rest_of c.args.self.rest) (c.in_ok-common.ensures d)))
+    λ like. (λ d. object_type (parts_by_names (fields_of (zip (names d) (types d))) (rest_of c.args.self.rest) (c.in_ok-common.ensures like d)))
     ∙ named_new ns ts _ _ n t c.in_ok-names.is_new long c.in_ok-names.ensures.is_new c.if-not-is_new.false

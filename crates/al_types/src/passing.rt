@@ -1,0 +1,258 @@
+//! Where a path goes over objects or their fields, and what that takes.
+
+use crate::named_fields::other_of;
+use crate::paths::{Paths, Step};
+use crate::types::{Fused, Listing, NamedFields, Object, Ty};
+use al_base::is_same_name;
+use std::alloc::{AllocError, Global};
+use std::rc::Rc;
+
+/// To put a field into an object that is made takes about as long as so many looks.
+const FIELD: usize = 10;
+
+/// A move from a type to a part that it keeps.
+#[derive(Clone, Copy)]
+pub(crate) enum Move {
+    /// To the elements of an array.
+    Element,
+    /// To the field at an index.
+    Field(usize),
+    /// To what all fields have in common.
+    Common,
+}
+
+/// Where a path goes over objects that aren't made one, or over fields whose common type isn't kept.
+#[derive(Drop)]
+pub(crate) struct Crossing {
+    /// The moves to it from the type that the path begins at.
+    pub(crate) moves: Vec<Move>,
+    /// At so many objects and fields the path looks.
+    pub(crate) looks: usize,
+    /// So many looks take as long as it takes to make the objects one, or to keep what the fields have in common.
+    pub(crate) worth: usize,
+}
+
+/// A type on a path, which is no array.
+#[derive(Clone, Copy)]
+struct Place<'t> {
+    ty: &'t Ty,
+    /// In so many arrays it stands: those of its type, and those that `.*` makes.
+    arrays: usize,
+    /// The objects on the way to it that are shared have so many fields: they would be copied for a change here.
+    shared: usize,
+}
+
+/// The first place of a path from a type where it goes over objects or fields, if it does. Objects are looked at even by a path that ends
+/// there, which copies their list. Fails with `AllocError` for want of memory alone, as all here.
+pub(crate) fn first_crossing(
+    alloc: Global,
+    ty: &Ty,
+    paths: &Paths,
+    first: usize,
+) -> Result<Option<Crossing>, AllocError> {
+    let mut moves = Vec::new(alloc);
+    let mut place = inside(ty, 0, 0, &mut moves)?;
+    let mut at = Some(first);
+    for _ in 0..paths.len() {
+        let Some(link) = paths.link(at) else {
+            return Ok(None);
+        };
+        if let Some(fields) = listed_fields(place, &link.step) {
+            return Ok(Some(crossed(moves, fields, fields, place.shared)));
+        }
+        let Some(there) = stepped(alloc, place, &link.step, &mut moves)? else {
+            return Ok(None);
+        };
+        place = there;
+        at = link.next;
+        if let Ty::Fused(fused) = place.ty {
+            let fields = fused.field_count();
+            let further = if has_all(paths, at, place.arrays) {
+                fields
+            } else {
+                0
+            };
+            let looks = further.saturating_add(fused.objects.len());
+            return Ok(Some(crossed(moves, looks, fields, place.shared)));
+        }
+    }
+    Ok(None)
+}
+
+fn crossed(moves: Vec<Move>, looks: usize, fields: usize, shared: usize) -> Crossing {
+    Crossing {
+        moves,
+        looks,
+        worth: fields.saturating_add(shared).saturating_mul(FIELD),
+    }
+}
+
+// The place of a type, or of what its arrays hold.
+fn inside<'t>(
+    ty: &'t Ty,
+    arrays: usize,
+    shared: usize,
+    moves: &mut Vec<Move>,
+) -> Result<Place<'t>, AllocError> {
+    match ty {
+        Ty::Array(of) => {
+            moves.push(Move::Element)?;
+            inside(of, arrays.saturating_add(1), shared, moves)
+        }
+        _ => Ok(Place { ty, arrays, shared }),
+    }
+}
+
+// How many fields a step goes over, where what they have in common isn't kept.
+fn listed_fields(place: Place<'_>, step: &Step) -> Option<usize> {
+    if place.arrays > 0 || !matches!(step, Step::All) {
+        return None;
+    }
+    let Ty::Object(object) = place.ty else {
+        return None;
+    };
+    match &**object {
+        Object::Listed(listing) if !listing.fields.is_empty() => Some(listing.fields.len()),
+        _ => None,
+    }
+}
+
+// The part that a step is to, where the type keeps it.
+fn stepped<'t>(
+    alloc: Global,
+    place: Place<'t>,
+    step: &Step,
+    moves: &mut Vec<Move>,
+) -> Result<Option<Place<'t>>, AllocError> {
+    match step {
+        Step::Property(name) => to_property(alloc, place, name.as_str(), moves),
+        Step::All => to_all(place, moves),
+        Step::Element if place.arrays > 0 => Ok(Some(Place {
+            arrays: place.arrays - 1,
+            ..place
+        })),
+        Step::Element => Ok(None),
+    }
+}
+
+// A property of an array is that of its elements.
+fn to_property<'t>(
+    alloc: Global,
+    place: Place<'t>,
+    name: &str,
+    moves: &mut Vec<Move>,
+) -> Result<Option<Place<'t>>, AllocError> {
+    let Ty::Object(object) = place.ty else {
+        return Ok(None);
+    };
+    let Some((index, ty)) = object.own_field(alloc, name)? else {
+        return Ok(None);
+    };
+    moves.push(Move::Field(index))?;
+    let shared = place.shared.saturating_add(shared_fields(object));
+    Ok(Some(inside(ty, place.arrays, shared, moves)?))
+}
+
+// `.*` of an array is the array.
+fn to_all<'t>(place: Place<'t>, moves: &mut Vec<Move>) -> Result<Option<Place<'t>>, AllocError> {
+    if place.arrays > 0 {
+        return Ok(Some(place));
+    }
+    let Ty::Object(object) = place.ty else {
+        return Ok(None);
+    };
+    let Some(ty) = object.kept_common() else {
+        return Ok(None);
+    };
+    moves.push(Move::Common)?;
+    let shared = place.shared.saturating_add(shared_fields(object));
+    Ok(Some(inside(ty, 1, shared, moves)?))
+}
+
+// How many fields are copied for a change of an object: none where nothing else shares it.
+fn shared_fields(object: &Rc<Object>) -> usize {
+    if Rc::strong_count(object) > 1 {
+        object.field_count()
+    } else {
+        0
+    }
+}
+
+// Whether steps from objects that stand in so many arrays go over all fields of each.
+fn has_all(paths: &Paths, first: Option<usize>, wrapped: usize) -> bool {
+    let mut arrays = wrapped;
+    let mut at = first;
+    for _ in 0..paths.len() {
+        let Some(link) = paths.link(at) else {
+            return false;
+        };
+        match link.step {
+            Step::All if arrays == 0 => return true,
+            Step::Element => arrays = arrays.saturating_sub(1),
+            Step::Property(_) | Step::All => {}
+        }
+        at = link.next;
+    }
+    false
+}
+
+impl Fused {
+    // How many fields the objects have.
+    fn field_count(&self) -> usize {
+        let mut count: usize = 0;
+        for object in &self.objects {
+            count = count.saturating_add(object.field_count());
+        }
+        count
+    }
+}
+
+impl Object {
+    fn field_count(&self) -> usize {
+        match self {
+            Object::Listed(listing) => listing.fields.len(),
+            Object::Named(named) => named.types.len(),
+            Object::Strings(names) => names.names.len(),
+        }
+    }
+
+    // The field that a name finds among those whose types are kept, with its index.
+    fn own_field(&self, alloc: Global, name: &str) -> Result<Option<(usize, &Ty)>, AllocError> {
+        match self {
+            Object::Listed(listing) => Ok(listing.own_field(name)),
+            Object::Named(named) => named.own_field(alloc, name),
+            Object::Strings(_) => Ok(None),
+        }
+    }
+
+    // What all fields have in common, where that is kept.
+    fn kept_common(&self) -> Option<&Ty> {
+        match self {
+            Object::Named(named) => other_of(&named.common),
+            Object::Listed(_) | Object::Strings(_) => None,
+        }
+    }
+}
+
+impl Listing {
+    fn own_field(&self, name: &str) -> Option<(usize, &Ty)> {
+        for (i, field) in self.fields.iter().enumerate() {
+            if is_same_name(field.name.as_bytes(), name.as_bytes()) {
+                return Some((i, &field.ty));
+            }
+        }
+        None
+    }
+}
+
+impl NamedFields {
+    fn own_field(&self, alloc: Global, name: &str) -> Result<Option<(usize, &Ty)>, AllocError> {
+        let Some(i) = self.names.positions.get(alloc, name.as_bytes())? else {
+            return Ok(None);
+        };
+        match self.type_at(i) {
+            Some(ty) => Ok(Some((i, ty))),
+            None => Ok(None),
+        }
+    }
+}
