@@ -83,6 +83,12 @@ def all_of_a_mapping(read):
     return matrix_of(b"a: [{%s}]" % values, b"      - run: ${{ contains(%s, '1') }}\n" % read * 10_000)
 
 
+def all_of_two_mappings():
+    """Expressions on what all of many mappings have in common, half of which stand in each of two rows."""
+    rows = b", ".join(b"%c: [{%s}]" % (row, b", ".join(b"%c%05d: {x: 1}" % (row, number) for number in range(8_000))) for row in b"ab")
+    return matrix_of(rows, b"      - run: ${{ contains(matrix.*[0].*.x, '1') }}\n" * 10_000)
+
+
 def mappings_of_includes():
     """A row of a matrix to which each of many combinations adds a mapping."""
     combinations = b", ".join(b"{r: {k%05d: 1, a: {k%05d: 1}}}" % (number, number) for number in range(10_000))
@@ -97,12 +103,40 @@ def all_steps_with_many_outputs():
     return {WORKFLOW: STEPS + steps + read, ACTION: called}, b""
 
 
-def outputs_of_all_steps():
-    """Expressions on the last output that all steps have, each of which calls an action with many outputs."""
+def outputs_of_all_steps(count, reads):
+    """Expressions on the last output that so many steps have, each of which calls an action with many outputs."""
     called = b"name: A\ndescription: d\noutputs: {%s}\nruns: {using: composite, steps: []}\n" % values(10_000)
-    steps = b"".join(b"      - {id: s%03d, uses: ./a}\n" % number for number in range(500))
-    read = b"      - run: ${{ contains(steps.*.outputs.o9999, 'x') }}\n" * 2_000
+    steps = b"".join(b"      - {id: s%04d, uses: ./a}\n" % number for number in range(count))
+    read = b"      - run: ${{ contains(steps.*.outputs.o9999, 'x') }}\n" * reads
     return {WORKFLOW: STEPS + steps + read, ACTION: called}, b""
+
+
+def outputs_of_called_jobs():
+    """Expressions on the last output that many needed jobs have, each of which calls a workflow with many outputs."""
+    call = b"uses: ./%s/b.yml" % WORKFLOWS.encode()
+    files, told = needed_jobs(4_000, call, b"contains(needs.*.outputs.o9999, 'x')")
+    return files | {f"{WORKFLOWS}/b.yml": workflow_with_outputs()}, told
+
+
+def scripts_full_of_stars():
+    """Jobs that all need the same jobs with many outputs, each with a script that has an expression and stars that go over no fields."""
+    needed = b"".join(b"  n%02d: {runs-on: u, outputs: {%s}, steps: [{run: x}]}\n" % (
+        job, b", ".join(b"o%02d-%03d: x" % (job, number) for number in range(400))) for job in range(60))
+    names = b", ".join(b"n%02d" % job for job in range(60))
+    first = b"  j000: {needs: &n [%s], runs-on: u, steps: [{run: x}]}\n" % names
+    script = b"          ${{ github.ref }} %s\n" % (b"*" * 1_700)
+    jobs = b"".join(b"  j%03d:\n    needs: *n\n    runs-on: u\n    steps:\n      - run: |\n%s" % (job, script) for job in range(1, 401))
+    return {WORKFLOW: b"on: push\njobs:\n" + needed + first + jobs}, b""
+
+
+def deep_in_common(read):
+    """Expressions on what mappings of a matrix have in common, which stand three deep in others."""
+    def mapping(depth, name):
+        if depth == 0:
+            return b"{x: 1}"
+        return b"{%s}" % b", ".join(b"%s%d: %s" % (name, number, mapping(depth - 1, b"%s%d_" % (name, number))) for number in range(7))
+    rows = b", ".join(b"r%02d: [%s]" % (row, mapping(3, b"k%02d_" % row)) for row in range(40))
+    return matrix_of(rows, b"      - run: ${{ contains(%s, '1') }}\n" % read * 9_000)
 
 
 def many_steps(count):
@@ -227,11 +261,15 @@ def values(count):
     return b", ".join(b"o%04d: {value: x}" % number for number in range(count))
 
 
+def workflow_with_outputs():
+    """A workflow that is called, with many outputs."""
+    return b"on: {workflow_call: {outputs: {%s}}}\njobs: {a: {runs-on: u, steps: [{run: x}]}}\n" % values(10_000)
+
+
 def jobs_that_call_one_with_many_outputs():
     """Jobs that call a workflow with many outputs, each with an expression."""
-    called = b"on: {workflow_call: {outputs: {%s}}}\njobs: {a: {runs-on: u, steps: [{run: x}]}}\n" % values(10_000)
     jobs = b"".join(b"  b%04d: {uses: ./%s/b.yml, if: github.ref}\n" % (number, WORKFLOWS.encode()) for number in range(4_000))
-    return {WORKFLOW: b"on: push\njobs:\n" + jobs, f"{WORKFLOWS}/b.yml": called}, b""
+    return {WORKFLOW: b"on: push\njobs:\n" + jobs, f"{WORKFLOWS}/b.yml": workflow_with_outputs()}, b""
 
 
 def steps_that_call_one_with_many_outputs():
@@ -253,7 +291,12 @@ FOLDERS = {
     "last-of-10000-mappings-of-a-matrix-row-12000-times": last_of_mappings_of_a_row,
     "10000-includes-of-a-mapping": mappings_of_includes,
     "all-of-4000-steps-with-10000-outputs": all_steps_with_many_outputs,
-    "outputs-of-500-steps-with-10000-outputs-2000-times": outputs_of_all_steps,
+    "outputs-of-500-steps-with-10000-outputs-2000-times": lambda: outputs_of_all_steps(500, 2_000),
+    "outputs-of-4000-steps-with-10000-outputs-4000-times": lambda: outputs_of_all_steps(4_000, 4_000),
+    "outputs-of-4000-needs-with-10000-outputs-4000-times": outputs_of_called_jobs,
+    "400-jobs-with-1700-stars-that-need-the-same-60": scripts_full_of_stars,
+    "deep-in-common-9000-times": lambda: deep_in_common(b"matrix.*[0].*[0].*[0].*.x"),
+    "deep-below-branches-in-common-9000-times": lambda: deep_in_common(b"(matrix || matrix).*[0].*[0].*[0].*.x"),
     "last-of-9000-needs-9000-times": lambda: needed_jobs(9_000, CALLED_ELSEWHERE, b"needs.j8999.result"),
     "all-of-2000-needs-2000-times": lambda: needed_jobs(2_000, b"runs-on: u, steps: [{run: x}]", b"contains(needs.*.result, 'failure')"),
     "all-of-2000-needs-in-2000-branches": lambda: needed_jobs(
@@ -265,6 +308,8 @@ FOLDERS = {
     "8000-steps-with-all-before": steps_with_all_before,
     "all-of-16000-inputs-10000-times": all_of_many_inputs,
     "all-of-16000-mappings-10000-times": lambda: all_of_a_mapping(b"matrix.a.*.x"),
+    "all-of-16000-mappings-of-all-rows-10000-times": lambda: all_of_a_mapping(b"matrix.*[0].*.x"),
+    "all-of-16000-mappings-of-two-rows-10000-times": all_of_two_mappings,
     "last-of-10000-mappings-below-a-row-12000-times": last_of_mappings_below_a_row,
     "last-of-6000-needs-in-6000-branches": lambda: needed_jobs(6_000, CALLED_ELSEWHERE, b"(needs || needs).j5999.result"),
     "last-of-6000-steps-in-10000-branches": branches_of_many_steps,
