@@ -16,11 +16,11 @@ ghost use Rattle.al_base.specs.Limits.{longest_text};
 
 use al_base::{Args, Code, ExpressionCode, Fault, Span};
 use al_grammar::{Chunk, Expr, chunks, extent, grammar, parse_expr};
-use al_meaning::{note_passes, type_of};
+use al_meaning::type_of;
 use al_places::Place;
 use al_scalar::Scalar;
 use al_tree::contains_chunk;
-use al_types::{Paths, Scope};
+use al_types::Scope;
 use std::alloc::{AllocError, Global};
 
 /// The offset in the file of a place in a scalar's text; behind the text the end of the scalar.
@@ -59,14 +59,12 @@ fn check_tree(
     is_scalar_only: bool,
     expr: &Expr,
     out: &mut Vec<Fault>,
-    paths: &mut Paths,
 ) -> Result<(), AllocError>
     ensures ok { OnOk result (out.new.items ≡ out.old.items
         ++ tree_faults (scope_of scope.now) is_alone is_scalar_only (tree_of expr.now)) }
     ensures begins { BeginsWith out.new.items out.old.items }
 {
     let ty = type_of(alloc, scope, expr, out)?;
-    note_passes(alloc, scope, expr, paths)?;
     if ty.is_collection() && (!is_alone || is_scalar_only) {
         out.push(Fault {
             span: extent(expr),
@@ -85,14 +83,13 @@ fn check_content(
     is_scalar_only: bool,
     content: &str,
     out: &mut Vec<Fault>,
-    paths: &mut Paths,
 ) -> Result<(), AllocError>
     ensures ok { OnOk result (out.new.items ≡ out.old.items ++ content_faults (scope_of scope.now) is_alone is_scalar_only content.now) }
     ensures begins { BeginsWith out.new.items out.old.items }
 {
     grammar();
     match parse_expr(alloc, content)? {
-        Ok(expr) => check_tree(alloc, scope, is_alone, is_scalar_only, &expr, out, paths),
+        Ok(expr) => check_tree(alloc, scope, is_alone, is_scalar_only, &expr, out),
         Err(fault) => {
             out.push(fault)?;
             Ok(())
@@ -153,7 +150,6 @@ fn check_chunk(
     place: &Place<'_>,
     chunk: &Chunk<'_>,
     out: &mut Vec<Fault>,
-    paths: &mut Paths,
 ) -> Result<(), AllocError>
     requires room { HasRoom place.now.scalar.now }
     requires cut { IsCutFrom (text_of place.now.scalar.now) chunk.now }
@@ -170,7 +166,6 @@ fn check_chunk(
         place.is_scalar_only,
         chunk.content,
         &mut faults,
-        paths,
     )?;
     move_faults(place.scalar, chunk.span.start as usize, faults, out)
 }
@@ -183,7 +178,6 @@ fn check_each(
     place: &Place<'_>,
     chunks: &[Chunk<'_>],
     out: &mut Vec<Fault>,
-    paths: &mut Paths,
 ) -> Result<(), AllocError>
     requires room { HasRoom place.now.scalar.now }
     requires cut { All (IsCutFrom (text_of place.now.scalar.now)) chunks.now }
@@ -194,7 +188,7 @@ fn check_each(
     ensures begins { BeginsWith out.new.items out.old.items }
 {
     for chunk in chunks {
-        check_chunk(alloc, scope, is_alone, place, chunk, out, paths)?;
+        check_chunk(alloc, scope, is_alone, place, chunk, out)?;
     }
     Ok(())
 }
@@ -206,7 +200,6 @@ fn check_chunks(
     place: &Place<'_>,
     text: &str,
     out: &mut Vec<Fault>,
-    paths: &mut Paths,
 ) -> Result<(), AllocError>
     requires text { text.now ≡ text_of place.now.scalar.now }
     requires small { length text.now ≤ longest_text }
@@ -218,7 +211,7 @@ fn check_chunks(
 {
     let (found, open) = chunks(alloc, text)?;
     let is_alone = is_one(text.len(), found.as_slice());
-    check_each(alloc, scope, is_alone, place, found.as_slice(), out, paths)?;
+    check_each(alloc, scope, is_alone, place, found.as_slice(), out)?;
     match open {
         Some(fault) => {
             out.push(move_fault(place.scalar, 0, fault))?;
@@ -235,7 +228,6 @@ fn check_whole(
     place: &Place<'_>,
     text: &str,
     out: &mut Vec<Fault>,
-    paths: &mut Paths,
 ) -> Result<(), AllocError>
     requires room { HasRoom place.now.scalar.now }
     ensures ok { OnOk result (out.new.items ≡ out.old.items
@@ -243,15 +235,7 @@ fn check_whole(
     ensures begins { BeginsWith out.new.items out.old.items }
 {
     let mut faults = Vec::new(alloc);
-    check_content(
-        alloc,
-        scope,
-        true,
-        place.is_scalar_only,
-        text,
-        &mut faults,
-        paths,
-    )?;
+    check_content(alloc, scope, true, place.is_scalar_only, text, &mut faults)?;
     move_faults(place.scalar, 0, faults, out)
 }
 
@@ -262,7 +246,6 @@ pub(crate) fn check_place(
     place: &Place<'_>,
     text: &str,
     out: &mut Vec<Fault>,
-    paths: &mut Paths,
 ) -> Result<(), AllocError>
     requires text { text.now ≡ text_of place.now.scalar.now }
     requires small { length text.now ≤ longest_text }
@@ -271,8 +254,8 @@ pub(crate) fn check_place(
     ensures begins { BeginsWith out.new.items out.old.items }
 {
     if place.is_condition && !contains_chunk(text.as_bytes()) {
-        check_whole(alloc, scope, place, text, out, paths)
+        check_whole(alloc, scope, place, text, out)
     } else {
-        check_chunks(alloc, scope, place, text, out, paths)
+        check_chunks(alloc, scope, place, text, out)
     }
 }

@@ -4,6 +4,7 @@
 mod contents;
 mod expressions;
 mod law;
+mod passes;
 
 pub use expressions::expression_faults;
 pub use law::{all_lie_in_file, plain_texts_are_right, trees_are_spelled};
