@@ -2,6 +2,8 @@
 compares the reports under a limit of memory, and bench/products.py, which measures them.
 """
 
+from itertools import islice, product
+
 from running import CLEAN, WORKFLOWS
 
 WORKFLOW = f"{WORKFLOWS}/a.yml"
@@ -137,6 +139,16 @@ def deep_in_common(read):
         return b"{%s}" % b", ".join(b"%s%d: %s" % (name, number, mapping(depth - 1, b"%s%d_" % (name, number))) for number in range(7))
     rows = b", ".join(b"r%02d: [%s]" % (row, mapping(3, b"k%02d_" % row)) for row in range(40))
     return matrix_of(rows, b"      - run: ${{ contains(%s, '1') }}\n" % read * 9_000)
+
+
+def paths_that_differ(value, behind):
+    """Expressions on what the values of a mapping have in common, by different paths: each of 13 steps by name or by `.*`."""
+    mapping = b"{%s}" % b", ".join(b"k%04d: %s" % (number, value) for number in range(10_000))
+    for _ in range(13):
+        mapping = b"{a: %s, b: {}}" % mapping
+    paths = islice(product((b".a", b".*[0]"), repeat=13), 5_000)
+    read = b"".join(b"      - run: ${{ contains(matrix.r%s%s, '1') }}\n" % (b"".join(path), behind) for path in paths)
+    return matrix_of(b"r: [%s]" % mapping, read)
 
 
 def many_steps(count):
@@ -297,6 +309,8 @@ FOLDERS = {
     "400-jobs-with-1700-stars-that-need-the-same-60": scripts_full_of_stars,
     "deep-in-common-9000-times": lambda: deep_in_common(b"matrix.*[0].*[0].*[0].*.x"),
     "deep-below-branches-in-common-9000-times": lambda: deep_in_common(b"(matrix || matrix).*[0].*[0].*[0].*.x"),
+    "in-common-by-5000-paths": lambda: paths_that_differ(b"{x: 1}", b".*.x"),
+    "deep-in-common-by-5000-paths": lambda: paths_that_differ(b"{y: {x: 1}}", b".*[0].*.x"),
     "last-of-9000-needs-9000-times": lambda: needed_jobs(9_000, CALLED_ELSEWHERE, b"needs.j8999.result"),
     "all-of-2000-needs-2000-times": lambda: needed_jobs(2_000, b"runs-on: u, steps: [{run: x}]", b"contains(needs.*.result, 'failure')"),
     "all-of-2000-needs-in-2000-branches": lambda: needed_jobs(

@@ -239,6 +239,13 @@ fn check_whole(
     move_faults(place.scalar, 0, faults, out)
 }
 
+/// Whether the text at a place is one expression as it stands: that of a condition without a chunk.
+pub(crate) fn is_whole(place: &Place<'_>) -> bool
+    ensures { result ≡ contents.is_whole (place_of place.now) }
+{
+    place.is_condition && !contains_chunk(place.scalar.text())
+}
+
 /// Adds the faults of the expressions at a place, whose scalar has this text.
 pub(crate) fn check_place(
     alloc: Global,
@@ -253,7 +260,7 @@ pub(crate) fn check_place(
     ensures ok { OnOk result (out.new.items ≡ out.old.items ++ place_faults (scope_of scope.now) (place_of place.now)) }
     ensures begins { BeginsWith out.new.items out.old.items }
 {
-    if place.is_condition && !contains_chunk(text.as_bytes()) {
+    if is_whole(place) {
         check_whole(alloc, scope, place, text, out)
     } else {
         check_chunks(alloc, scope, place, text, out)

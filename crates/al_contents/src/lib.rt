@@ -6,5 +6,5 @@ mod expressions;
 mod law;
 mod passes;
 
-pub use expressions::expression_faults;
+pub use expressions::{expression_faults, go_to};
 pub use law::{all_lie_in_file, plain_texts_are_right, trees_are_spelled};

@@ -3,10 +3,10 @@
 ghost use Rattle.std.specs.Prelude.{◌≤◌, length};
 ghost use Rattle.al_base.specs.Limits.{longest_text};
 
+use crate::contents::is_whole;
 use al_grammar::{chunks, parse_expr};
 use al_meaning::note_passes;
 use al_places::Place;
-use al_tree::contains_chunk;
 use al_types::{Paths, Scope};
 use std::alloc::{AllocError, Global};
 
@@ -21,7 +21,7 @@ pub(crate) fn note_paths(
 ) -> Result<(), AllocError>
     requires { length text.now ≤ longest_text }
 {
-    if place.is_condition && !contains_chunk(text.as_bytes()) {
+    if is_whole(place) {
         return note_content(alloc, scope, text, paths);
     }
     let (found, _) = chunks(alloc, text)?;

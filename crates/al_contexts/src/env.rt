@@ -29,7 +29,7 @@ use crate::like_fields::Included;
 use crate::matrix::matrix_type;
 use crate::needs::{ShownJobs, needs_type};
 use crate::objects::no_fields;
-use crate::passes::{NOTHING, Spent};
+use crate::passes::{NOTHING, Scanned};
 use crate::scopes::{context_set, function_set};
 use crate::start::{NO_CONTEXTS, NO_FUNCTIONS, first_owner, first_types};
 use crate::steps::{seen_count, seen_steps};
@@ -68,7 +68,7 @@ pub struct Env<'a> {
     shown: ShownJobs,
     /// Of the positions of the names of steps' outputs, those whose type `steps` has had a field of.
     included: Included,
-    spent: Spent,
+    scanned: Scanned,
     pub scope: Scope,
 }
 
@@ -250,7 +250,7 @@ fn enter_workflow<'a>(
     env.owner = owner;
     env.seen = 0;
     env.section = section;
-    env.spent = NOTHING;
+    env.scanned = NOTHING;
     Ok(())
 }
 
@@ -314,7 +314,7 @@ impl<'a> Env<'a> {
             outputs,
             shown,
             included: Included::new(alloc),
-            spent: NOTHING,
+            scanned: NOTHING,
             scope: Scope {
                 types,
                 contexts: NO_CONTEXTS,
@@ -345,14 +345,15 @@ impl<'a> Env<'a> {
         self.scope.in_run = place.is_script;
         Ok(())
     }
-    /// Counts the paths that expressions at the place took from contexts, of which nothing but time depends: what all fields of a context
-    /// have in common is made one once they were gone over for as long as that takes.
+
+    /// Prepares the contexts for paths that expressions at the place take from them, of which nothing but time depends: what all fields of
+    /// a context have in common is made one once paths have scanned as many fields as that takes.
     ///
     /// Fails with `AllocError` for want of memory; the environment isn't to be used any more then.
     pub fn pass(&mut self, alloc: Global, paths: &Paths) -> Result<(), AllocError>
         ensures { OnOk result ((f : declared.File) → Stands f self.old → Stands f self.new) }
     {
-        self.spent.pass_all(alloc, &mut self.scope.types, paths)?;
+        self.scanned.pass_all(alloc, &mut self.scope.types, paths)?;
         Ok(())
     }
 }

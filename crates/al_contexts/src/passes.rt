@@ -1,4 +1,4 @@
-//! What going over all fields of contexts takes: where that is much, what they have in common is made one.
+//! How many fields and objects of contexts the paths of expressions scan: where they are many, what they have in common is made one.
 ghost use Rattle.std.specs.Prelude.{◌≡◌, OnOk};
 ghost use Rattle.al_types.specs.Scopes.{type_of_context};
 ghost use Rattle.al_types.specs.TypeViews.{ty_of};
@@ -8,39 +8,40 @@ use al_types::{Context, ContextTypes, Paths, Ty, passed};
 use std::alloc::{AllocError, Global};
 use std::mem::replace;
 
-/// What was spent on going over the fields of each context, in looks, since it or a part of it was made one.
+/// How many fields and objects of each context were scanned since it or a part of it was made one.
 #[derive(Clone, Copy)]
-pub(crate) struct Spent {
+pub(crate) struct Scanned {
     needs: usize,
     jobs: usize,
     steps: usize,
     matrix: usize,
 }
 
-pub(crate) const NOTHING: Spent = Spent {
+pub(crate) const NOTHING: Scanned = Scanned {
     needs: 0,
     jobs: 0,
     steps: 0,
     matrix: 0,
 };
 
-/// Counts a path from a type, which stays the same.
+/// Prepares a type, which stays the same, for a path from it.
 fn pass(
     alloc: Global,
     ty: &mut Ty,
     paths: &Paths,
     first: usize,
-    spent: &mut usize,
+    scanned: &mut usize,
 ) -> Result<(), AllocError>
     ensures { OnOk result (ty_of ty.new ≡ ty_of ty.old) }
 {
     let old = replace(ty, Ty::Any);
-    *ty = passed(alloc, old, paths, first, spent)?;
+    *ty = passed(alloc, old, paths, first, scanned)?;
     Ok(())
 }
 
-impl Spent {
-    /// Counts a path from a context, whose type stays the same: those that aren't named here have few fields, or strings alone.
+impl Scanned {
+    /// Prepares contexts for a path from one of them. Their types stay the same: those that aren't named here have few fields, or strings
+    /// alone.
     fn pass(
         &mut self,
         alloc: Global,
@@ -60,7 +61,7 @@ impl Spent {
         }
     }
 
-    /// Counts paths from contexts, whose types stay the same. Fails with `AllocError` for want of memory.
+    /// Prepares contexts, whose types stay the same, for paths from them. Fails with `AllocError` for want of memory.
     pub(crate) fn pass_all(
         &mut self,
         alloc: Global,

@@ -9,28 +9,21 @@ ghost use Rattle.al_types.specs.TypeViews.{ty_of};
 
 use al_contexts::class_type_of;
 use al_grammar::{Chunk, chunks, grammar, parse_expr};
-use al_meaning::{note_passes, type_of};
+use al_meaning::type_of;
 use al_scalar::Scalar;
 use al_tree::contains_chunk;
-use al_types::{Paths, Scope, Ty};
+use al_types::{Scope, Ty};
 use std::alloc::{AllocError, Global};
 
 /// The type of the content of an expression: any where it has a fault of its own, which is told where the expression stands.
-fn content_type(
-    alloc: Global,
-    scope: &Scope,
-    content: &str,
-    paths: &mut Paths,
-) -> Result<Ty, AllocError>
+fn content_type(alloc: Global, scope: &Scope, content: &str) -> Result<Ty, AllocError>
     ensures { IfOk result (λ t. ty_of t ≡ types.content_type (scope_of scope.now) content.now) }
 {
     grammar();
     match parse_expr(alloc, content)? {
         Ok(expr) => {
             let mut faults = Vec::new(alloc);
-            let ty = type_of(alloc, scope, &expr, &mut faults)?;
-            note_passes(alloc, scope, &expr, paths)?;
-            Ok(ty)
+            type_of(alloc, scope, &expr, &mut faults)
         }
         Err(_) => Ok(Ty::Any),
     }
@@ -53,7 +46,6 @@ fn chunk_type(
     scope: &Scope,
     scalar: &Scalar,
     chunk: &Chunk<'_>,
-    paths: &mut Paths,
 ) -> Result<Ty, AllocError>
     requires cut { IsCutFrom (text_of scalar.now) chunk.now }
     requires only { (chunks_of (text_of scalar.now)).chunks ≡ span_of_chunk chunk.now ∷ [] }
@@ -61,7 +53,7 @@ fn chunk_type(
 {
     let len = scalar.text().len();
     if chunk.span.start == 3 && chunk.span.end as usize + 2 == len {
-        content_type(alloc, scope, chunk.content, paths)
+        content_type(alloc, scope, chunk.content)
     } else {
         Ok(text_type(scalar))
     }
@@ -74,30 +66,24 @@ fn type_by_chunks(
     scope: &Scope,
     scalar: &Scalar,
     chunks: &[Chunk<'_>],
-    paths: &mut Paths,
 ) -> Result<Ty, AllocError>
     requires cut { All (IsCutFrom (text_of scalar.now)) chunks.now }
     requires found { map span_of_chunk chunks.now ≡ (chunks_of (text_of scalar.now)).chunks }
     ensures { IfOk result (λ t. ty_of t ≡ types.scalar_type (scope_of scope.now) scalar.now) }
 {
     if chunks.len() == 1 {
-        chunk_type(alloc, scope, scalar, &chunks[0], paths)
+        chunk_type(alloc, scope, scalar, &chunks[0])
     } else {
         Ok(text_type(scalar))
     }
 }
 
-/// The type of a scalar that is given to an input. The paths of its expression that go over all fields of a context are noted.
-pub(crate) fn scalar_type(
-    alloc: Global,
-    scope: &Scope,
-    scalar: &Scalar,
-    paths: &mut Paths,
-) -> Result<Ty, AllocError>
+/// The type of a scalar that is given to an input.
+pub(crate) fn scalar_type(alloc: Global, scope: &Scope, scalar: &Scalar) -> Result<Ty, AllocError>
     requires utf8 { IsUtf8 (text_of scalar.now) }
     requires small { length (text_of scalar.now) ≤ longest_text }
     ensures { IfOk result (λ t. ty_of t ≡ types.scalar_type (scope_of scope.now) scalar.now) }
 {
     let (found, _) = chunks(alloc, scalar.as_str())?;
-    type_by_chunks(alloc, scope, scalar, found.as_slice(), paths)
+    type_by_chunks(alloc, scope, scalar, found.as_slice())
 }

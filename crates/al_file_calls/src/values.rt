@@ -16,11 +16,12 @@ ghost use Rattle.al_yaml.specs.View.{view};
 
 use crate::types::scalar_type;
 use al_calls::{Value, members_under};
+use al_contents::go_to;
 use al_contexts::{Env, File};
 use al_places::{Place, Position, Section, Seen, available};
 use al_scalar::Scalar;
 use al_shape::{Member, key_text};
-use al_types::{Paths, Ty};
+use al_types::Ty;
 use al_uses::Call;
 use al_yaml::Node;
 use std::alloc::{AllocError, Global};
@@ -61,11 +62,8 @@ fn value_type<'a>(
     match member.value.scalar() {
         None => Ok(Ty::Any),
         Some(scalar) => {
-            env.go_to(alloc, file, place_of_value(job, member.key, scalar))?;
-            let mut paths = Paths::new(alloc);
-            let ty = scalar_type(alloc, &env.scope, scalar, &mut paths)?;
-            env.pass(alloc, &paths)?;
-            Ok(ty)
+            go_to(alloc, file, env, place_of_value(job, member.key, scalar))?;
+            scalar_type(alloc, &env.scope, scalar)
         }
     }
 }

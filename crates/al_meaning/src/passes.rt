@@ -1,7 +1,8 @@
 //! The paths of an expression that go over all fields of a context, or of a part of it.
 
 use crate::literals::literal_text;
-use al_grammar::{Expr, Operand, Operator, PathStep, Word};
+use crate::typing::begins_logic;
+use al_grammar::{Expr, Operand, PathStep, Word};
 use al_types::{Context, ContextSet, Paths, Scope, Step};
 use std::alloc::{AllocError, Global};
 
@@ -39,7 +40,7 @@ fn note(
             note(alloc, available, base, behind, paths)
         }
         Expr::Chain(first, operands) => {
-            let behind = if are_branches(operands) { behind } else { None };
+            let behind = if begins_logic(operands) { behind } else { None };
             note(alloc, available, first, behind, paths)?;
             note_operands(alloc, available, operands, behind, paths)
         }
@@ -140,13 +141,5 @@ fn step_of(alloc: Global, step: &PathStep) -> Result<Step, AllocError> {
             Some(name) => Ok(Step::Property(name.value)),
             None => Ok(Step::Element),
         },
-    }
-}
-
-// Whether the type of operators and their operands is what the operands have in common: all operators of a level are of one kind.
-fn are_branches(operands: &[Operand]) -> bool {
-    match operands {
-        [first, ..] => matches!(first.operator, Operator::Or | Operator::And),
-        [] => false,
     }
 }

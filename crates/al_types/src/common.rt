@@ -87,15 +87,17 @@ fn shortened(alloc: Global, ty: Option<Ty>) -> Result<Option<Ty>, AllocError>
 {
     match ty {
         None => Ok(None),
-        Some(ty) if ty.parts() > MANY => Ok(Some(joined_to(alloc, ty, 1)?)),
+        Some(ty) if ty.objects() > MANY => Ok(Some(joined_to(alloc, ty, 1)?)),
         Some(ty) => Ok(Some(ty)),
     }
 }
 
 impl Ty {
-    /// Of how many objects it is what they have in common, as far as these weren't made one. Only time and memory depend on it.
-    pub(crate) fn parts(&self) -> usize {
+    /// Of how many objects it, or what its arrays hold, is what they have in common, as far as these weren't made one. Only time and memory
+    /// depend on it.
+    pub(crate) fn objects(&self) -> usize {
         match self {
+            Ty::Array(of) => of.objects(),
             Ty::Fused(fused) => fused.objects.len(),
             _ => 0,
         }

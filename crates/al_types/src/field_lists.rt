@@ -9,7 +9,7 @@ ghost use Rattle.al_types.specs.Private.Indexes.{IsIndex, name_at};
 use crate::finding::field_positions;
 use crate::fusing::fuse;
 use crate::joining::{DEPTH, joined_fields};
-use crate::named_fields::object_by_names;
+use crate::named_fields::{object_by_names, object_with_joined_common};
 use crate::positions::NamePositions;
 use crate::types::{Field, Ty};
 use std::alloc::{AllocError, Global};
@@ -91,6 +91,13 @@ impl FieldList {
         ensures { IfOk result (λ t. ty_of t ≡ object_with (fields_of (map field_of self.fields.items)) Absent) }
     {
         object_by_names(alloc, self.fields, self.positions)
+    }
+
+    /// The same, where what all fields have in common is joined a few levels deep: once for all paths that lead to it.
+    pub fn into_joined_ty(self, alloc: Global) -> Result<Ty, AllocError>
+        ensures { IfOk result (λ t. ty_of t ≡ object_with (fields_of (map field_of self.fields.items)) Absent) }
+    {
+        object_with_joined_common(alloc, self.fields, self.positions)
     }
 
     /// Whether no field has a name.

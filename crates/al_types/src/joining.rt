@@ -1,6 +1,6 @@
 //! Objects made one that has the fields of all.
 
-ghost use Rattle.std.specs.Prelude.{◌≡◌, true, IfOk, map};
+ghost use Rattle.std.specs.Prelude.{◌≡◌, true, IfOk, map, option_map};
 ghost use Rattle.al_types.specs.FusedFields.{are_distinct};
 ghost use Rattle.al_types.specs.Puts.{firsts};
 ghost use Rattle.al_types.specs.Types.{Absent, NoField, field_at, fields_of, object_type, optional, parts_with};
@@ -20,9 +20,12 @@ use std::rc::Rc;
 /// So deep objects are made one below another: collections of YAML aren't deeper in one another.
 pub(crate) const DEPTH: usize = 64;
 
+/// So deep what fields have in common is made one, by names and by `.*`: each field then stands in at most fifteen of these objects.
+pub(crate) const COMMON_DEPTH: usize = 4;
+
 /// The same type, whose fields stand in one object where it is one, or where arrays hold one, and so the types of these fields: so a
-/// property is found in one look. Takes the time and memory of all fields of those that were fused. Fails with `AllocError` for want of
-/// memory alone, as all here.
+/// property is found in one look. What all fields have in common is made one a few levels deep, once for all paths that lead there. Takes
+/// the time and memory of all fields of those that were fused. Fails with `AllocError` for want of memory alone, as all here.
 pub fn joined(alloc: Global, ty: Ty) -> Result<Ty, AllocError>
     ensures { IfOk result (λ t. ty_of t ≡ ty_of ty) }
 {
@@ -51,7 +54,7 @@ pub(crate) fn joined_to(alloc: Global, ty: Ty, depth: usize) -> Result<Ty, Alloc
     }
 }
 
-// The object that was gathered. The types of its fields are joined so many levels deep.
+// The object that was gathered. The types of its fields, and what these have in common, are joined so many levels deep.
 #[cycle(joining)]
 fn joined_object(alloc: Global, all: Gathered, depth: usize) -> Result<Ty, AllocError>
     ensures { IfOk result (λ t. ty_of t ≡ object_type (gathered_parts all)) }
@@ -59,8 +62,24 @@ fn joined_object(alloc: Global, all: Gathered, depth: usize) -> Result<Ty, Alloc
     let (fields, positions) = all.fields.into_parts();
     let fields = joined_fields(alloc, fields, depth)?;
     let rest = boxed(alloc, all.rest)?;
-    let named = named_fields(alloc, fields, positions, rest, all.common)?;
+    let common = joined_common(alloc, all.common, depth)?;
+    let named = named_fields(alloc, fields, positions, rest, common)?;
     object_of_named(alloc, named)
+}
+
+/// The same type of what fields have in common, where there is one, joined so many levels deep, but a few at most.
+#[cycle(joining)]
+pub(crate) fn joined_common(
+    alloc: Global,
+    common: Option<Ty>,
+    depth: usize,
+) -> Result<Option<Ty>, AllocError>
+    ensures { IfOk result (λ t. option_map ty_of t ≡ option_map ty_of common) }
+{
+    match common {
+        None => Ok(None),
+        Some(ty) => Ok(Some(joined_to(alloc, ty, depth.min(COMMON_DEPTH))?)),
+    }
 }
 
 /// The same fields, whose types are joined so many levels deep.

@@ -13,6 +13,7 @@ use crate::common::common_of_fields;
 use crate::field_names::FieldNames;
 use crate::finding::field_positions;
 use crate::fusing::fuse;
+use crate::joining::{COMMON_DEPTH, joined_common};
 use crate::objects::{FEW, object_of_fields};
 use crate::positions::NamePositions;
 use crate::properties::common_type;
@@ -34,7 +35,34 @@ pub fn object_by_names(
     if fields.len() <= FEW {
         return object_of_fields(alloc, fields, None);
     }
-    many_by_names(alloc, fields, positions, None)
+    let common = common_of_all(alloc, fields.as_slice(), &None)?;
+    many_by_names(alloc, fields, positions, None, common)
+}
+
+/// The same. Where fields are many, or objects are fused for what all have in common, that is made one a few levels deep and kept: once for
+/// all paths that lead to it.
+pub(crate) fn object_with_joined_common(
+    alloc: Global,
+    fields: Vec<Field>,
+    positions: NamePositions,
+) -> Result<Ty, AllocError>
+    requires { IsFieldIndex positions (fields_of (map field_of fields.items)) }
+    ensures { IfOk result (λ t. ty_of t ≡ object_with (fields_of (map field_of fields.items)) Absent) }
+{
+    let common = common_of_all(alloc, fields.as_slice(), &None)?;
+    if fields.len() <= FEW && !is_fused(&common) {
+        return object_of_fields(alloc, fields, None);
+    }
+    let common = joined_common(alloc, common, COMMON_DEPTH)?;
+    many_by_names(alloc, fields, positions, None, common)
+}
+
+// Whether it is what several objects have in common. Only time and memory depend on it.
+fn is_fused(ty: &Option<Ty>) -> bool {
+    match ty {
+        None => false,
+        Some(ty) => ty.objects() > 1,
+    }
 }
 
 /// An object of fields, and of a type of every field beside them, if there may be others. Many are found by their names, as above.
@@ -60,20 +88,23 @@ pub(crate) fn object_with_common(
     ensures { IfOk result (λ t. ty_of t ≡ object_with (fields_of (map field_of fields.items)) (rest_of rest)) }
 {
     let positions = field_positions(alloc, fields.as_slice())?;
-    many_by_names(alloc, fields, positions, rest)
+    let common = common_of_all(alloc, fields.as_slice(), &rest)?;
+    many_by_names(alloc, fields, positions, rest, common)
 }
 
-// An object of fields that are found by their names.
+// An object of fields that are found by their names, and of what all of them have in common.
 fn many_by_names(
     alloc: Global,
     fields: Vec<Field>,
     positions: NamePositions,
     rest: Option<Box<Ty>>,
+    common: Option<Ty>,
 ) -> Result<Ty, AllocError>
-    requires { IsFieldIndex positions (fields_of (map field_of fields.items)) }
+    requires index { IsFieldIndex positions (fields_of (map field_of fields.items)) }
+    requires common { optional (option_map ty_of common)
+        ≡ fuse_optional (common_in (fields_of (map field_of fields.items))) (rest_of rest) }
     ensures { IfOk result (λ t. ty_of t ≡ object_with (fields_of (map field_of fields.items)) (rest_of rest)) }
 {
-    let common = common_of_all(alloc, fields.as_slice(), &rest)?;
     let named = named_fields(alloc, fields, positions, rest, common)?;
     object_of_named(alloc, named)
 }

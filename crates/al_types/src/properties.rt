@@ -1,6 +1,6 @@
 //! The types of properties.
 
-ghost use Rattle.std.specs.Prelude.{◌≡◌, IfOk, option_map};
+ghost use Rattle.std.specs.Prelude.{◌≡◌, IfOk, Some, option_map};
 ghost use Rattle.al_types.specs.Properties.{property_type};
 ghost use Rattle.al_types.specs.Types.{option_of, property_in};
 ghost use Rattle.al_types.specs.TypeViews.{ty_of, fused_of, parts_of_fused};
@@ -96,12 +96,12 @@ pub(crate) fn common_property(
 {
     match found {
         Some(Property::Lent(ty)) => common_type(alloc, sofar, Some(ty)),
-        Some(Property::Made(ty)) => common_type(alloc, sofar, Some(&ty)),
+        Some(Property::Made(ty)) => and_type(alloc, sofar, ty),
         None => Ok(sofar),
     }
 }
 
-/// What a type has in common with another, where both are there. Fails with `AllocError` for want of memory.
+/// What a type has in common with another, where both are there. Fails with `AllocError` for want of memory, as below.
 pub(crate) fn common_type(
     alloc: Global,
     sofar: Option<Ty>,
@@ -110,10 +110,16 @@ pub(crate) fn common_type(
     ensures { IfOk result (λ t. option_map ty_of t
         ≡ parts.common_type (option_map ty_of sofar) (option_map (λ t. ty_of t.now) found.entry)) }
 {
-    let Some(ty) = found else {
-        return Ok(sofar);
-    };
-    let ty = copy(alloc, ty)?;
+    match found {
+        Some(ty) => and_type(alloc, sofar, copy(alloc, ty)?),
+        None => Ok(sofar),
+    }
+}
+
+// What a type, where there is one, has in common with one more.
+fn and_type(alloc: Global, sofar: Option<Ty>, ty: Ty) -> Result<Option<Ty>, AllocError>
+    ensures { IfOk result (λ t. option_map ty_of t ≡ parts.common_type (option_map ty_of sofar) (Some (ty_of ty))) }
+{
     match sofar {
         Some(old) => Ok(Some(fuse(alloc, old, ty)?)),
         None => Ok(Some(ty)),

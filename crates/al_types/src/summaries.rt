@@ -1,4 +1,4 @@
-//! What paths go over often: objects are made one, and what fields have in common is kept.
+//! What paths scan often: objects are made one, and what fields have in common is kept.
 
 ghost use Rattle.std.specs.Prelude.{◌≡◌, IfOk, OnOk, map};
 ghost use Rattle.al_types.specs.TypeViews.{ty_of, object_of};
@@ -8,35 +8,34 @@ use crate::joining::joined_to;
 use crate::named_fields::{object_of_named, object_with_common};
 use crate::objects::object_of_fields;
 use crate::owning::unshared;
-use crate::passing::{Move, first_crossing};
 use crate::paths::Paths;
+use crate::scans::{Move, first_scan};
 use crate::types::{Field, NamedFields, Object, Ty};
 use std::alloc::{AllocError, Global};
 use std::mem::replace;
 use std::rc::Rc;
 
-/// The same type, from which an expression has taken a path. Where that first comes to what several objects have in common, or to fields of
-/// which that isn't kept, the looks that it took there are added to those that were spent. Once as many were spent as it takes to make the
-/// objects one, or to keep what the fields have in common, that is done, and nothing is spent any more. Fails with `AllocError` for want of
-/// memory alone.
+/// The same type, from which an expression is to take a path. Where that scans objects or fields, as many as it scans are added to those
+/// that were scanned so far. Once they are so many that to make the objects one, or to keep what the fields have in common, takes no
+/// longer, that is done, and the count begins anew. Fails with `AllocError` for want of memory alone.
 pub fn passed(
     alloc: Global,
     ty: Ty,
     paths: &Paths,
     first: usize,
-    spent: &mut usize,
+    scanned: &mut usize,
 ) -> Result<Ty, AllocError>
     ensures { IfOk result (λ t. ty_of t ≡ ty_of ty) }
 {
-    let Some(many) = first_crossing(alloc, &ty, paths, first)? else {
+    let Some(scan) = first_scan(alloc, &ty, paths, first)? else {
         return Ok(ty);
     };
-    *spent = spent.saturating_add(many.looks);
-    if *spent < many.worth {
+    *scanned = scanned.saturating_add(scan.len);
+    if *scanned < scan.limit {
         return Ok(ty);
     }
-    *spent = 0;
-    summarized(alloc, ty, many.moves.as_slice())
+    *scanned = 0;
+    summarized(alloc, ty, scan.moves.as_slice())
 }
 
 // The same type, in which that is done where moves lead to.

@@ -145,9 +145,19 @@ impl Ty {
 pub(crate) fn field_among<'t>(fields: &'t [Field], name: &str) -> Option<&'t Ty>
     ensures { option_map (λ t. ty_of t.now) result ≡ field_at name.now (fields_of (map field_of fields.now)) }
 {
-    for field in fields {
+    match indexed_among(fields, name) {
+        Some((_, ty)) => Some(ty),
+        None => None,
+    }
+}
+
+/// The same, with its index.
+pub(crate) fn indexed_among<'t>(fields: &'t [Field], name: &str) -> Option<(usize, &'t Ty)>
+    ensures { option_map (λ f. ty_of f.1.now) result ≡ field_at name.now (fields_of (map field_of fields.now)) }
+{
+    for (i, field) in fields.iter().enumerate() {
         if is_same_name(field.name.as_bytes(), name.as_bytes()) {
-            return Some(&field.ty);
+            return Some((i, &field.ty));
         }
     }
     None

@@ -1,10 +1,11 @@
-use Rattle.std.proofs.Common.{◌≡◌, ap, sym, ◌∙◌, None}
+use Rattle.std.proofs.Common.{◌≡◌, ap, sym, ◌∙◌, subst, IfOk, None}
 use Rattle.std.specs.Option.{option_map_or}
 use Rattle.al_grammar.specs.Refusal.{Spells, fault_of_content}
 use Rattle.al_grammar.specs.View.{tree_of}
 use Rattle.al_meaning.specs.Meaning.{meaning_of, type_in}
 use Rattle.al_types.specs.Scopes.{scope_of}
 use Rattle.al_types.specs.Types.{Any}
+use Rattle.al_types.specs.TypeViews.{ty_of}
 use Rattle.al_contents.specs.Spelled.{tree_of_content}
 use Rattle.al_contents.proofs.Spelling.{spelled}
 use Rattle.al_file_calls.specs.Types.{content_type}
@@ -20,4 +21,4 @@ returns-in-Ok c =
     let same : content_type sc content ≡ type_in (meaning_of sc (tree_of c.in-Ok.expr)) =
     ap (λ f. option_map_or (λ g. Any) f (option_map_or (λ t. type_in (meaning_of sc t)) (tree_of_content content) Any)) none
     ∙ ap (λ t. option_map_or (λ u. type_in (meaning_of sc u)) t Any) tree in
-    c.in_ok-ty-in-Ok.ensures.ty ∙ sym same
+    subst (λ ty. IfOk c.type_of.result (λ t. ty_of t ≡ ty)) (sym same) c.type_of.ensures.ty

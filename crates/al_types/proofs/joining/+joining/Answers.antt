@@ -1,5 +1,4 @@
 use Rattle.std.proofs.Common.{◌≡◌, ◌∙◌, IfOk, ap, map, subst, sym}
-use Rattle.std.specs.Prelude.{option_map}
 use Rattle.al_types.specs.Positions.{field_position}
 use Rattle.al_types.specs.Types.{fields_of, object_type, optional}
 use Rattle.al_types.specs.TypeViews.{parts_by_names, ty_of}
@@ -17,5 +16,5 @@ pub joined_object-returns : goal.joined_object-returns
 joined_object-returns t c =
     let fields = c.in_ok-fields.ensures ∙ ap (λ v. map field_of v.items) c.into_parts-fields.ensures.fields in
     let all = c.in_ok-named.ensures
-    ∙ (λ d. object_type (parts_by_names (fields_of (fields d)) (c.in_ok-rest.ensures d) (optional (option_map ty_of c.args.all.common)))) in
+    ∙ (λ d. object_type (parts_by_names (fields_of (fields d)) (c.in_ok-rest.ensures d) (optional (c.in_ok-common.ensures d)))) in
     subst (λ o. IfOk c.object_of_named.result (λ t. ty_of t ≡ o)) all c.object_of_named.ensures

@@ -8,6 +8,9 @@ decreases-joined_to l = 3 * l.depth
 abbrev pub decreases-joined_object : goal.decreases-joined_object
 decreases-joined_object l = 3 * l.depth + 2
 
+abbrev pub decreases-joined_common : goal.decreases-joined_common
+decreases-joined_common l = 3 * l.depth + 1
+
 abbrev pub decreases-joined_fields : goal.decreases-joined_fields
 decreases-joined_fields l = 3 * l.depth + 1
 

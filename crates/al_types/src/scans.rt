@@ -1,13 +1,12 @@
-//! Where a path goes over objects or their fields, and what that takes.
+//! Where a path scans objects or their fields one after another, and how many.
 
 use crate::named_fields::other_of;
 use crate::paths::{Paths, Step};
-use crate::types::{Fused, Listing, NamedFields, Object, Ty};
-use al_base::is_same_name;
+use crate::types::{Fused, NamedFields, Object, Ty, indexed_among};
 use std::alloc::{AllocError, Global};
 use std::rc::Rc;
 
-/// To put a field into an object that is made takes about as long as so many looks.
+/// To put a field into an object that is made takes about as long as to scan so many.
 const FIELD: usize = 10;
 
 /// A move from a type to a part that it keeps.
@@ -21,15 +20,15 @@ pub(crate) enum Move {
     Common,
 }
 
-/// Where a path goes over objects that aren't made one, or over fields whose common type isn't kept.
+/// Where a path scans objects that aren't made one, or fields whose common type isn't kept.
 #[derive(Drop)]
-pub(crate) struct Crossing {
+pub(crate) struct Scan {
     /// The moves to it from the type that the path begins at.
     pub(crate) moves: Vec<Move>,
-    /// At so many objects and fields the path looks.
-    pub(crate) looks: usize,
-    /// So many looks take as long as it takes to make the objects one, or to keep what the fields have in common.
-    pub(crate) worth: usize,
+    /// The path scans so many objects and fields.
+    pub(crate) len: usize,
+    /// To scan so many takes as long as to make the objects one, or to keep what the fields have in common.
+    pub(crate) limit: usize,
 }
 
 /// A type on a path, which is no array.
@@ -42,14 +41,14 @@ struct Place<'t> {
     shared: usize,
 }
 
-/// The first place of a path from a type where it goes over objects or fields, if it does. Objects are looked at even by a path that ends
-/// there, which copies their list. Fails with `AllocError` for want of memory alone, as all here.
-pub(crate) fn first_crossing(
+/// The first scan of a path from a type, if it has one. Objects are scanned even by a path that ends there, which copies their list. Fails
+/// with `AllocError` for want of memory alone, as all here.
+pub(crate) fn first_scan(
     alloc: Global,
     ty: &Ty,
     paths: &Paths,
     first: usize,
-) -> Result<Option<Crossing>, AllocError> {
+) -> Result<Option<Scan>, AllocError> {
     let mut moves = Vec::new(alloc);
     let mut place = inside(ty, 0, 0, &mut moves)?;
     let mut at = Some(first);
@@ -58,7 +57,7 @@ pub(crate) fn first_crossing(
             return Ok(None);
         };
         if let Some(fields) = listed_fields(place, &link.step) {
-            return Ok(Some(crossed(moves, fields, fields, place.shared)));
+            return Ok(Some(scan_of(moves, fields, fields, place.shared)));
         }
         let Some(there) = stepped(alloc, place, &link.step, &mut moves)? else {
             return Ok(None);
@@ -72,18 +71,18 @@ pub(crate) fn first_crossing(
             } else {
                 0
             };
-            let looks = further.saturating_add(fused.objects.len());
-            return Ok(Some(crossed(moves, looks, fields, place.shared)));
+            let len = further.saturating_add(fused.objects.len());
+            return Ok(Some(scan_of(moves, len, fields, place.shared)));
         }
     }
     Ok(None)
 }
 
-fn crossed(moves: Vec<Move>, looks: usize, fields: usize, shared: usize) -> Crossing {
-    Crossing {
+fn scan_of(moves: Vec<Move>, len: usize, fields: usize, shared: usize) -> Scan {
+    Scan {
         moves,
-        looks,
-        worth: fields.saturating_add(shared).saturating_mul(FIELD),
+        len,
+        limit: fields.saturating_add(shared).saturating_mul(FIELD),
     }
 }
 
@@ -219,7 +218,7 @@ impl Object {
     // The field that a name finds among those whose types are kept, with its index.
     fn own_field(&self, alloc: Global, name: &str) -> Result<Option<(usize, &Ty)>, AllocError> {
         match self {
-            Object::Listed(listing) => Ok(listing.own_field(name)),
+            Object::Listed(listing) => Ok(indexed_among(listing.fields.as_slice(), name)),
             Object::Named(named) => named.own_field(alloc, name),
             Object::Strings(_) => Ok(None),
         }
@@ -231,17 +230,6 @@ impl Object {
             Object::Named(named) => other_of(&named.common),
             Object::Listed(_) | Object::Strings(_) => None,
         }
-    }
-}
-
-impl Listing {
-    fn own_field(&self, name: &str) -> Option<(usize, &Ty)> {
-        for (i, field) in self.fields.iter().enumerate() {
-            if is_same_name(field.name.as_bytes(), name.as_bytes()) {
-                return Some((i, &field.ty));
-            }
-        }
-        None
     }
 }
 
