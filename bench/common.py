@@ -4,6 +4,7 @@ import functools
 import pathlib
 import subprocess
 import sys
+import tempfile
 import time
 
 TOP = pathlib.Path(__file__).resolve().parent.parent
@@ -32,9 +33,24 @@ def least_in_turns(runs, measures):
     return least
 
 
+def measured(command, data=b"", folder=None):
+    """The processor seconds of a run whose output nobody reads, and its greatest memory in bytes, by GNU time (Debian's time): a program
+    counts as its own what the one that starts it holds, and that holds little."""
+    with tempfile.NamedTemporaryFile("r") as told:
+        subprocess.run(["time", "-q", "-f", "%U %S %M", "-o", told.name, *command], input=data, cwd=folder, stdout=subprocess.DEVNULL,
+                       stderr=subprocess.DEVNULL, check=False)
+        user, system, memory = told.read().split()
+    return float(user) + float(system), int(memory) * 1024
+
+
+def put_bytes(files):
+    """The commands of a script that put files, each a path with its bytes."""
+    return b"".join(b"put %s %d\n%s\n" % (path.encode(), len(data), data) for path, data in files.items())
+
+
 def put_commands(files):
     """The commands of a script that put files, each a path with its text."""
-    return b"".join(b"put %s %d\n%s\n" % (path.encode(), len(text.encode()), text.encode()) for path, text in files)
+    return b"".join(put_bytes({path: text.encode()}) for path, text in files)
 
 
 def put_seconds(files):

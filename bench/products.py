@@ -1,4 +1,5 @@
 """What folders take in which one count times another could be taken: bench/products.py, after ./test or a build of crates/actionlint.
+Needs GNU time (Debian's time).
 
 The folders are those of tests/products.py, which tests/hostile.py lints under a limit of memory. Each is linted several times, and the
 least processor time is told, with the greatest memory of a run and the bytes of the report.
@@ -9,18 +10,12 @@ import subprocess
 import sys
 import tempfile
 
-from common import TOP, program
+from common import TOP, measured, program
 
 sys.path.insert(0, str(TOP / "tests"))
 from products import FOLDERS
 
 RUNS = 3
-# Runs a program and tells what it took. In a process of its own, since a program counts as its own what the one that starts it holds.
-MEASURED = """
-import os, sys
-used = os.wait4(os.posix_spawn(sys.argv[1], sys.argv[1:], os.environ), 0)[2]
-print(used.ru_utime + used.ru_stime, used.ru_maxrss, file=sys.stderr)
-"""
 
 
 def fill(folder, files):
@@ -29,14 +24,6 @@ def fill(folder, files):
         whole = pathlib.Path(folder, path)
         whole.parent.mkdir(parents=True, exist_ok=True)
         whole.write_bytes(data)
-
-
-def measure(folder):
-    """The processor seconds of a run whose output nobody reads, and its greatest memory in bytes."""
-    command = [sys.executable, "-c", MEASURED, program("actionlint"), "--oneline"]
-    ran = subprocess.run(command, cwd=folder, stdout=subprocess.DEVNULL, stderr=subprocess.PIPE, check=True)
-    seconds, memory = ran.stderr.split()
-    return float(seconds), int(memory) * 1024
 
 
 def reported(folder):
@@ -53,7 +40,7 @@ def main():
             fill(folder, files)
             if reported(folder) != told:
                 sys.exit(f"{name}: the report isn't the one that is told")
-            seconds, memory = zip(*(measure(folder) for _ in range(RUNS)))
+            seconds, memory = zip(*(measured([program("actionlint"), "--oneline"], folder=folder) for _ in range(RUNS)))
         print(f"{name:50} {min(seconds):7.2f}s {max(memory) / 1e6:7.0f} MB {len(told) / 1e6:7.1f} MB", flush=True)
 
 
