@@ -6,8 +6,9 @@ ghost use Rattle.al_base.specs.Limits.{longest_text};
 use crate::contents::is_whole;
 use al_grammar::{chunks, parse_expr};
 use al_meaning::note_passes;
+use al_paths::Paths;
 use al_places::Place;
-use al_types::{Paths, Scope};
+use al_types::Scope;
 use std::alloc::{AllocError, Global};
 
 /// Notes the paths that go over all fields of a context or of a part of it, of the expressions at a place, whose scalar has this text.

@@ -4,7 +4,8 @@ ghost use Rattle.al_types.specs.Scopes.{type_of_context};
 ghost use Rattle.al_types.specs.TypeViews.{ty_of};
 ghost use Rattle.al_types.specs.declared.names.Context.{Context};
 
-use al_types::{Context, ContextTypes, Paths, Ty, passed};
+use al_paths::{Paths, passed};
+use al_types::{Context, ContextTypes, Ty};
 use std::alloc::{AllocError, Global};
 use std::mem::replace;
 

@@ -3,7 +3,8 @@
 use crate::literals::literal_text;
 use crate::typing::begins_logic;
 use al_grammar::{Expr, Operand, PathStep, Word};
-use al_types::{Context, ContextSet, Paths, Scope, Step};
+use al_paths::{Paths, Step};
+use al_types::{Context, ContextSet, Scope};
 use std::alloc::{AllocError, Global};
 
 /// Notes each path with a `.*` that typing an expression takes from a context that is available: of branches the path from each.

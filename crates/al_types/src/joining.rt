@@ -35,7 +35,7 @@ pub fn joined(alloc: Global, ty: Ty) -> Result<Ty, AllocError>
 /// The same type, where objects are made one so many levels deep.
 #[tactic(auto, using(crate::proofs::TypeFields::fused_type))]
 #[cycle(joining)]
-pub(crate) fn joined_to(alloc: Global, ty: Ty, depth: usize) -> Result<Ty, AllocError>
+pub fn joined_to(alloc: Global, ty: Ty, depth: usize) -> Result<Ty, AllocError>
     ensures { IfOk result (λ t. ty_of t ≡ ty_of ty) }
 {
     if depth == 0 {

@@ -14,14 +14,11 @@ mod named_fields;
 mod names;
 mod objects;
 mod owning;
-mod paths;
 mod positions;
 mod properties;
 mod relations;
-mod scans;
 mod scope;
 mod signatures;
-mod summaries;
 mod types;
 
 pub use common::any_if_none;
@@ -30,16 +27,17 @@ pub use field_names::FieldNames;
 pub use finding::field_positions;
 pub use fusing::fuse;
 pub use growing::{has_field_in, with_field, with_like_field};
-pub use joining::joined;
+pub use joining::{joined, joined_to};
 pub use law::objects_fuse;
-pub use named_fields::object_by_names;
+pub use named_fields::{object_by_names, object_of_named, object_with_common, other_of};
 pub use names::{Context, Function};
 pub use objects::{object_of_fields, object_of_strings};
-pub use paths::{Paths, Step};
+pub use owning::unshared;
 pub use positions::{NamePositions, TextPositions, in_lower_case};
 pub use properties::Property;
 pub use relations::assignable;
 pub use scope::{ContextSet, ContextTypes, FunctionSet, Scope};
 pub use signatures::{Parameters, Returned, Signature, Wanted, signature_of};
-pub use summaries::passed;
-pub use types::{Field, Form, Fused, Listing, NamedFields, Object, Ty, copy, name_text};
+pub use types::{
+    Field, Form, Fused, Listing, NamedFields, Object, Ty, copy, indexed_among, name_text,
+};

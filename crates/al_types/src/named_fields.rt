@@ -80,7 +80,7 @@ pub(crate) fn object_with_rest(
 }
 
 /// The same, few or many, found by their names: what all have in common is kept beside them.
-pub(crate) fn object_with_common(
+pub fn object_with_common(
     alloc: Global,
     fields: Vec<Field>,
     rest: Option<Box<Ty>>,
@@ -156,7 +156,7 @@ pub(crate) fn boxed(alloc: Global, ty: Option<Ty>) -> Result<Option<Box<Ty>>, Al
 }
 
 /// A type that has a place of its own, where there is one.
-pub(crate) fn other_of(ty: &Option<Box<Ty>>) -> Option<&Ty>
+pub fn other_of(ty: &Option<Box<Ty>>) -> Option<&Ty>
     ensures { option_map (λ t. ty_of t.now) result ≡ option_of (rest_of ty.now) }
 {
     match ty {
@@ -167,7 +167,7 @@ pub(crate) fn other_of(ty: &Option<Box<Ty>>) -> Option<&Ty>
 
 /// An object of fields that are found by their names.
 #[tactic(auto, using(crate::proofs::TypeFields::named_type))]
-pub(crate) fn object_of_named(alloc: Global, named: NamedFields) -> Result<Ty, AllocError>
+pub fn object_of_named(alloc: Global, named: NamedFields) -> Result<Ty, AllocError>
     ensures { IfOk result (λ t. ty_of t ≡ named_object named) }
 {
     Ok(Ty::Object(Rc::new(alloc, Object::Named(named))?))
@@ -185,6 +185,16 @@ fn names_and_types(alloc: Global, fields: Vec<Field>) -> Result<(Vec<String>, Ve
         types.push(field.ty)?;
     }
     Ok((names, types))
+}
+
+// A type where there is one, with an index.
+fn with_index<'t>(i: usize, found: Option<&'t Ty>) -> Option<(usize, &'t Ty)>
+    ensures { option_map (λ f. ty_of f.1.now) result ≡ option_map (λ t. ty_of t.now) found.entry }
+{
+    match found {
+        Some(ty) => Some((i, ty)),
+        None => None,
+    }
 }
 
 impl NamedFields {
@@ -208,12 +218,27 @@ impl NamedFields {
         }
     }
 
+    /// The type of the first field of a name, in any ASCII case, with its index: none where no field has it. Fails with `AllocError` for
+    /// want of memory, as below.
+    pub fn indexed_field(
+        &self,
+        alloc: Global,
+        name: &str,
+    ) -> Result<Option<(usize, &Ty)>, AllocError>
+        ensures { IfOk result (λ found. option_map (λ f. ty_of f.1.now) found ≡ field_at name.now (named_of self.now)) }
+    {
+        match self.names.positions.get(alloc, name.as_bytes())? {
+            Some(i) => Ok(with_index(i, self.type_at(i))),
+            None => Ok(None),
+        }
+    }
+
     /// The type of the first field of a name, in any ASCII case: none where no field has it.
     pub(crate) fn field(&self, alloc: Global, name: &str) -> Result<Option<&Ty>, AllocError>
         ensures { IfOk result (λ found. option_map (λ t. ty_of t.now) found ≡ field_at name.now (named_of self.now)) }
     {
-        match self.names.positions.get(alloc, name.as_bytes())? {
-            Some(i) => Ok(self.type_at(i)),
+        match self.indexed_field(alloc, name)? {
+            Some((_, ty)) => Ok(Some(ty)),
             None => Ok(None),
         }
     }

@@ -14,7 +14,7 @@ use std::rc::Rc;
 
 /// The same object, which nothing else shares: its fields once more where something does, whose types are shared. Fails with `AllocError`
 /// for want of memory alone, as all here.
-pub(crate) fn unshared(alloc: Global, object: Rc<Object>) -> Result<Object, AllocError>
+pub fn unshared(alloc: Global, object: Rc<Object>) -> Result<Object, AllocError>
     ensures { IfOk result (λ o. object_of o ≡ object_of object.value) }
 {
     match Rc::try_unwrap(object) {

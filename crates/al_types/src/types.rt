@@ -32,7 +32,7 @@ pub enum Ty {
 #[derive(Drop)]
 #[cycle(types)]
 pub struct Fused {
-    pub(crate) objects: Vec<Rc<Object>>,
+    pub objects: Vec<Rc<Object>>,
 }
 
 /// An object. Of fields whose names differ in ASCII case alone, a name means the first.
@@ -152,7 +152,7 @@ pub(crate) fn field_among<'t>(fields: &'t [Field], name: &str) -> Option<&'t Ty>
 }
 
 /// The same, with its index.
-pub(crate) fn indexed_among<'t>(fields: &'t [Field], name: &str) -> Option<(usize, &'t Ty)>
+pub fn indexed_among<'t>(fields: &'t [Field], name: &str) -> Option<(usize, &'t Ty)>
     ensures { option_map (λ f. ty_of f.1.now) result ≡ field_at name.now (fields_of (map field_of fields.now)) }
 {
     for (i, field) in fields.iter().enumerate() {

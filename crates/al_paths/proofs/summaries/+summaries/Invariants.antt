@@ -1,5 +1,5 @@
 use Rattle.std.proofs.Common.{◌+◌, ◌*◌, length}
-use Rattle.al_types.proofs.summaries.+summaries.Given as goal
+use Rattle.al_paths.proofs.summaries.+summaries.Given as goal
 
 abbrev pub decreases-summarized : goal.decreases-summarized
 decreases-summarized l = 6 * length l.moves.now

@@ -1,6 +1,6 @@
 //! Paths from contexts to parts of their types, as expressions take them.
 
-use crate::names::Context;
+use al_types::Context;
 use std::alloc::{AllocError, Global};
 
 /// A step from a type to a part of it.

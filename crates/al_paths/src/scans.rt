@@ -1,8 +1,7 @@
 //! Where a path scans objects or their fields one after another, and how many.
 
-use crate::named_fields::other_of;
 use crate::paths::{Paths, Step};
-use crate::types::{Fused, NamedFields, Object, Ty, indexed_among};
+use al_types::{Fused, Object, Ty, indexed_among, other_of};
 use std::alloc::{AllocError, Global};
 use std::rc::Rc;
 
@@ -65,7 +64,7 @@ pub(crate) fn first_scan(
         place = there;
         at = link.next;
         if let Ty::Fused(fused) = place.ty {
-            let fields = fused.field_count();
+            let fields = fused_fields(fused);
             let further = if has_all(paths, at, place.arrays) {
                 fields
             } else {
@@ -144,7 +143,7 @@ fn to_property<'t>(
     let Ty::Object(object) = place.ty else {
         return Ok(None);
     };
-    let Some((index, ty)) = object.own_field(alloc, name)? else {
+    let Some((index, ty)) = own_field(alloc, object, name)? else {
         return Ok(None);
     };
     moves.push(Move::Field(index))?;
@@ -160,7 +159,7 @@ fn to_all<'t>(place: Place<'t>, moves: &mut Vec<Move>) -> Result<Option<Place<'t
     let Ty::Object(object) = place.ty else {
         return Ok(None);
     };
-    let Some(ty) = object.kept_common() else {
+    let Some(ty) = kept_common(object) else {
         return Ok(None);
     };
     moves.push(Move::Common)?;
@@ -171,7 +170,7 @@ fn to_all<'t>(place: Place<'t>, moves: &mut Vec<Move>) -> Result<Option<Place<'t
 // How many fields are copied for a change of an object: none where nothing else shares it.
 fn shared_fields(object: &Rc<Object>) -> usize {
     if Rc::strong_count(object) > 1 {
-        object.field_count()
+        field_count(object)
     } else {
         0
     }
@@ -195,52 +194,40 @@ fn has_all(paths: &Paths, first: Option<usize>, wrapped: usize) -> bool {
     false
 }
 
-impl Fused {
-    // How many fields the objects have.
-    fn field_count(&self) -> usize {
-        let mut count: usize = 0;
-        for object in &self.objects {
-            count = count.saturating_add(object.field_count());
-        }
-        count
+// How many fields the objects have.
+fn fused_fields(fused: &Fused) -> usize {
+    let mut count: usize = 0;
+    for object in &fused.objects {
+        count = count.saturating_add(field_count(object));
+    }
+    count
+}
+
+fn field_count(object: &Object) -> usize {
+    match object {
+        Object::Listed(listing) => listing.fields.len(),
+        Object::Named(named) => named.types.len(),
+        Object::Strings(names) => names.as_slice().len(),
     }
 }
 
-impl Object {
-    fn field_count(&self) -> usize {
-        match self {
-            Object::Listed(listing) => listing.fields.len(),
-            Object::Named(named) => named.types.len(),
-            Object::Strings(names) => names.names.len(),
-        }
-    }
-
-    // The field that a name finds among those whose types are kept, with its index.
-    fn own_field(&self, alloc: Global, name: &str) -> Result<Option<(usize, &Ty)>, AllocError> {
-        match self {
-            Object::Listed(listing) => Ok(indexed_among(listing.fields.as_slice(), name)),
-            Object::Named(named) => named.own_field(alloc, name),
-            Object::Strings(_) => Ok(None),
-        }
-    }
-
-    // What all fields have in common, where that is kept.
-    fn kept_common(&self) -> Option<&Ty> {
-        match self {
-            Object::Named(named) => other_of(&named.common),
-            Object::Listed(_) | Object::Strings(_) => None,
-        }
+// The field that a name finds among those whose types are kept, with its index.
+fn own_field<'t>(
+    alloc: Global,
+    object: &'t Object,
+    name: &str,
+) -> Result<Option<(usize, &'t Ty)>, AllocError> {
+    match object {
+        Object::Listed(listing) => Ok(indexed_among(listing.fields.as_slice(), name)),
+        Object::Named(named) => named.indexed_field(alloc, name),
+        Object::Strings(_) => Ok(None),
     }
 }
 
-impl NamedFields {
-    fn own_field(&self, alloc: Global, name: &str) -> Result<Option<(usize, &Ty)>, AllocError> {
-        let Some(i) = self.names.positions.get(alloc, name.as_bytes())? else {
-            return Ok(None);
-        };
-        match self.type_at(i) {
-            Some(ty) => Ok(Some((i, ty))),
-            None => Ok(None),
-        }
+// What all fields have in common, where that is kept.
+fn kept_common(object: &Object) -> Option<&Ty> {
+    match object {
+        Object::Named(named) => other_of(&named.common),
+        Object::Listed(_) | Object::Strings(_) => None,
     }
 }

@@ -4,13 +4,12 @@ ghost use Rattle.std.specs.Prelude.{◌≡◌, IfOk, OnOk, map};
 ghost use Rattle.al_types.specs.TypeViews.{ty_of, object_of};
 ghost use Rattle.al_types.specs.Private.TypeParts.{field_of, named_object, rest_of};
 
-use crate::joining::joined_to;
-use crate::named_fields::{object_of_named, object_with_common};
-use crate::objects::object_of_fields;
-use crate::owning::unshared;
 use crate::paths::Paths;
 use crate::scans::{Move, first_scan};
-use crate::types::{Field, NamedFields, Object, Ty};
+use al_types::{
+    Field, NamedFields, Object, Ty, joined_to, object_of_fields, object_of_named,
+    object_with_common, unshared,
+};
 use std::alloc::{AllocError, Global};
 use std::mem::replace;
 use std::rc::Rc;

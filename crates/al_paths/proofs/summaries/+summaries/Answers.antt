@@ -6,7 +6,7 @@ use Rattle.al_types.specs.TypeViews.{object_of, ty_of}
 use Rattle.al_types.specs.Private.TypeParts.{field_of, rest_of}
 use Rattle.al_types.specs.declared.types.Listing.{out-Listing, out-roll-Listing}
 use Rattle.al_types.proofs.TypeFields.{listing_fields, named_type}
-use Rattle.al_types.proofs.summaries.+summaries.Goals as goal
+use Rattle.al_paths.proofs.summaries.+summaries.Goals as goal
 
 pub summarized_object-returns-in_ok-named-in-Named : goal.summarized_object-returns-in_ok-named-in-Named
 summarized_object-returns-in_ok-named-in-Named t c =

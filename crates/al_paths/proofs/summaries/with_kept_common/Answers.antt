@@ -1,7 +1,7 @@
 use Rattle.std.proofs.Common.{◌≡◌, ◌∙◌, IfOk, ap, subst, sym}
 use Rattle.al_types.specs.TypeViews.{object_of, ty_of}
 use Rattle.al_types.proofs.TypeFields.{listing_fields}
-use Rattle.al_types.proofs.summaries.with_kept_common.Goals as goal
+use Rattle.al_paths.proofs.summaries.with_kept_common.Goals as goal
 
 pub returns-in-Listed : goal.returns-in-Listed
 returns-in-Listed c =
