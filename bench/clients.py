@@ -1,8 +1,11 @@
-"""What an edit costs in an editor: bench/clients.py [PROGRAM], after ./test or a build of crates/actionlint. Needs pylsp_jsonrpc.
+"""What an edit costs in an editor: bench/clients.py [PROGRAM], after ./test or a build of crates/actionlint. Needs the
+libraries of the language server.
 
 From the change that the editor sends until the diagnostics of that version are there, through the language server and the linter: in a
-folder of 200 workflows with one fault each and with ten, beside 4,095 files, and of an action that all 200 workflows call. Then the memory
-of both programs over 20,000 edits, and the time of 1,000 folders with a file of SARIF each, as docs/CI.md does it.
+folder of 200 workflows with one fault each and with ten, beside 4,095 files without faults and with one each, and of an action that all 200
+workflows call. Then completion, hovering and definitions among 200 workflows, and what files of strangers cost, each shape twice, the
+second time twice as large, so that the ratio tells whether the work is linear; the memory of both programs over 20,000 edits; and the time
+of 1,000 folders with a file of SARIF each, as docs/CI.md does it.
 """
 
 import os
@@ -17,8 +20,7 @@ import time
 from common import TOP, program
 
 sys.path.insert(0, str(TOP / "clients/tests"))
-from editor import Editor, children
-from promises import memory
+from editor import Editor, children, memory
 from repositories import ACTION, FILES, WORKFLOWS, write
 
 REPORT = TOP / "clients/actionlint-report"
@@ -37,6 +39,9 @@ EDITS_OF_THE_ACTION = 100
 EDITS_OF_MEMORY = 20_000
 EDITS_BETWEEN = 1_000
 SMALL = "on: push\njobs: {}\n"
+FAULTY = "on: pussh\njobs: {}\n"
+HEAD = "on: push\njobs:\n  a:\n    runs-on: ubuntu-latest\n    steps:\n"
+EVERYWHERE = {"start": {"line": 0, "character": 0}, "end": {"line": 1_000_000, "character": 0}}
 WAIT_SECONDS = 60
 
 
@@ -123,10 +128,110 @@ def tell_edits(linter, count, faults):
     folder.close()
 
 
+def tell_requests(linter):
+    """Times of what is asked for while one types in a folder of 200 workflows, each behind an edit whose diagnostics are there."""
+    folder = Folder(linter, workflows(200, workflow(1)))
+    lines = folder.text.split("\n")
+    places = {word: {"line": number, "character": lines[number].index(word) + len(word)}
+              for word in ("runs-on", "github.ref", "./a") for number in [next(n for n, line in enumerate(lines) if word in line)]}
+    for what, method, word in (("keys", "completion", "runs-on"), ("properties", "completion", "github.ref"), ("actions", "completion", "./a"),
+                               ("a key", "hover", "runs-on"), ("a property", "hover", "github.ref"), ("a call", "definition", "./a")):
+        seconds, server = [], 0.0
+        for _ in range(EDITS // 10):
+            folder.edit()
+            server -= folder.processor_seconds()[0]
+            begun = time.monotonic()
+            folder.editor.request(f"textDocument/{method}", {"textDocument": {"uri": folder.editor.uri(folder.path)}, "position": places[word]})
+            seconds.append(time.monotonic() - begun)
+            server += folder.processor_seconds()[0]
+        tell(f"  {method} of {what}", seconds)
+        print(f"    of which processor time: server {1000 * server / len(seconds):.2f} ms")
+    folder.close()
+
+
 def tell_full_folder(linter):
     """Times of edits beside as many files as there can be."""
-    folder = Folder(linter, workflows(4_096, SMALL))
-    tell("an edit beside 4,095 small workflows", [folder.edit() for _ in range(EDITS // 5)])
+    for name, text in (("4,095 small workflows", SMALL), ("4,095 with a fault each", FAULTY)):
+        folder = Folder(linter, workflows(4_096, text))
+        before = folder.processor_seconds()
+        edits = EDITS // 5
+        tell(f"an edit beside {name}", [folder.edit() for _ in range(edits)])
+        server, child = ((after - first) / edits for first, after in zip(before, folder.processor_seconds()))
+        print(f"    of which processor time: server {1000 * server:.2f} ms, linter {1000 * child:.2f} ms")
+        folder.close()
+
+
+def looks_like_calls(pieces):
+    """A script of so many pieces, 4 bytes each, that begin as a call does."""
+    return HEAD + "      - run: |\n          uses " + "./a," * pieces + "\n"
+
+
+def calls(steps):
+    """So many calls of actions that aren't there."""
+    return HEAD + "".join(f"      - uses: ./d{step:06}\n" for step in range(steps))
+
+
+def wrong_keys(count):
+    """So many faults on one line."""
+    return "{" + ",".join(f"k{number:06}: 1" for number in range(count)) + "}\n"
+
+
+def undefined(count):
+    """So many faults that are nearly a name."""
+    return HEAD + "".join(f"      - run: echo ${{{{ github.acto{number:04} }}}}\n" for number in range(count))
+
+
+SHAPES = {
+    "a script of pieces that look like calls": (looks_like_calls, 46_000),
+    "calls of actions that aren't there": (calls, 8_000),
+    "faults on one line": (wrong_keys, 10_000),
+    "faults with near names": (undefined, 400),
+}
+
+
+def tell_shapes(linter):
+    """What a file costs from the start to its diagnostics, at an edit, when one hovers, and when one asks for quick fixes of all of it."""
+    for name, (shape, count) in SHAPES.items():
+        rows = []
+        for size in (count, 2 * count):
+            folder = Folder(linter, {f"{WORKFLOWS}a.yml": shape(size)})
+            seconds = {"start": folder.start_seconds, "edit": statistics.median(folder.edit() for _ in range(5))}
+            for what, ask in (("hover", lambda: folder.editor.hover(folder.path, 0, 1_000)),
+                              ("quick fixes", lambda: folder.editor.actions(folder.path, EVERYWHERE))):
+                begun = time.monotonic()
+                ask()
+                seconds[what] = time.monotonic() - begun
+            seconds["memory"] = memory(folder.processes[0], "VmHWM")
+            rows.append(seconds)
+            folder.close()
+        told = ", ".join(f"{what} {1000 * row:.0f} ms ({row / first:.1f})" for (what, row), first in zip(rows[1].items(), rows[0].values())
+                         if what != "memory")
+        print(f"{2 * count} {name}: {told}; server {rows[1]['memory']:,} KiB", flush=True)
+
+
+def tell_buffers(linter):
+    """How long it takes until all buffers are shown that an editor opens at once."""
+    took = []
+    for count in (1_000, 2_000):
+        files = workflows(count, FAULTY)
+        folder = Folder(linter, files)
+        begun = time.monotonic()
+        for path, text in list(files.items())[1:]:
+            folder.editor.open(path, text)
+        folder.editor.settle()
+        took.append(time.monotonic() - begun)
+        folder.close()
+    print(f"2,000 buffers opened: {took[1]:.2f} s ({took[1] / took[0]:.1f} times as long as 1,000)", flush=True)
+
+
+def tell_missing_inputs(linter):
+    """A folder with a caller of 600,000 faults."""
+    inputs = "".join(f"  i{number}: {{required: true}}\n" for number in range(1_000))
+    action = f"name: A\ndescription: d\ninputs:\n{inputs}runs: {{using: node20, main: m.js}}\n"
+    caller = HEAD + "".join(f"      - uses: ./b\n        with:\n          x{number}: 1\n" for number in range(600))
+    folder = Folder(linter, {f"{WORKFLOWS}a.yml": caller, "b/action.yml": action})
+    tell(f"600 calls that lack 1,000 inputs each: {folder.start_seconds:.1f} s; an edit", [folder.edit() for _ in range(5)])
+    print(f"    server {memory(folder.processes[0], 'VmHWM'):,} KiB", flush=True)
     folder.close()
 
 
@@ -151,7 +256,7 @@ def tell_folders(linter, count=1_000):
         write(name, {**FILES, **workflows(3, workflow(1))})
     processors = os.cpu_count()
     begun = time.monotonic()
-    command = f"{sys.executable} {REPORT} --program {linter} --out {{}}/actionlint.sarif -- --root {{}}"
+    command = f"{sys.executable} {REPORT} --program {linter} --out {{}}/actionlint.sarif --root {{}}"
     subprocess.run(["xargs", "-P", str(processors), "-I", "{}", *command.split()], input="\n".join(names).encode(), check=False)
     took = time.monotonic() - begun
     written = len(list(pathlib.Path(top).glob("*/actionlint.sarif")))
@@ -163,7 +268,11 @@ def main():
     linter = os.path.abspath(sys.argv[1]) if len(sys.argv) > 1 else str(program("actionlint"))
     tell_edits(linter, 200, 1)
     tell_edits(linter, 200, 10)
+    tell_requests(linter)
     tell_full_folder(linter)
+    tell_buffers(linter)
+    tell_shapes(linter)
+    tell_missing_inputs(linter)
     tell_memory(linter)
     tell_folders(linter)
 

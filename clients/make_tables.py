@@ -5,6 +5,7 @@
 
 `actionlint_client/faults.json` has the entries of docs/FAULTS*.md: of each fault its code, message and place, and what the page says of it.
 `actionlint_client/names.json` has the lists of names that the linter knows, out of the definitions that its code is proved equal to.
+`actionlint_client/syntax.json` has what may stand where, out of the same definitions, and of each name what docs/MEANINGS.md says.
 """
 from __future__ import annotations
 
@@ -15,11 +16,23 @@ from pathlib import Path
 
 TOP = Path(__file__).resolve().parent.parent
 sys.path.insert(0, str(TOP / "tests"))
+import contexts_page
 import fault_entries
+import lists_page
+import syntax_page
 
 OUT = Path(__file__).resolve().parent / "actionlint_client"
 LINK_IN_PAGE = re.compile(r"\]\((#[^)]*)\)")
 NAME = re.compile(r'codes "([^"]+)"')
+MEANINGS_SECTION = re.compile(r"^##+ (.+)\n((?:(?!#).*\n)*)", re.M)
+MEANINGS_ROW = re.compile(r"^\| `([^`]+)` \| (.+) \|$", re.M)
+FUNCTION_ROW = re.compile(r"^\| `(\w+)` \|(.*)\| (\w+) \|$", re.M)
+UNCHECKED = " (unchecked)"
+# Where the sections stand that the linter doesn't check: below which key of a shape, and whether names of one's own come between.
+UNCHECKED_PLACES = {("Job", "environment"): ("Environment", False), ("Job", "services"): ("Container", True),
+                    ("Container", "credentials"): ("Credentials", False), ("Strategy", "matrix"): ("Matrix", False),
+                    ("Action", "inputs"): ("ActionInput", True), ("Action", "outputs"): ("ActionOutput", True),
+                    ("Action", "branding"): ("Branding", False)}
 # A field of a section: of several names the last one is its key, and the others are those beside which it can't stand.
 FIELD = re.compile(r'\b(?:may|must|not_after|not_beside|must_unless_after|must_unless_beside)'
                    r'(?: \(codes "[^"]+"\))*? \(codes "([^"]+)"\) [A-Z]')
@@ -29,7 +42,7 @@ def main(words: list[str]) -> int:
     if words not in ([], ["--check"]):
         print("make_tables.py [--check]", file=sys.stderr)
         return 2
-    tables = {"faults.json": faults(TOP / "docs"), "names.json": names(TOP / "crates")}
+    tables = {"faults.json": faults(TOP / "docs"), "names.json": names(TOP / "crates"), "syntax.json": syntax(TOP)}
     differing = []
     for file, table in tables.items():
         text = json.dumps(table, indent=1, ensure_ascii=False) + "\n"
@@ -90,6 +103,82 @@ def names(crates: Path) -> dict[str, list[str]]:
     if empty:
         sys.exit(f"no names are found of {', '.join(empty)}")
     return {name: sorted(set(found)) for name, found in lists.items()}
+
+
+def syntax(top: Path) -> dict[str, dict | list]:
+    """What each shape of a value takes, the rows of the table of places, contexts, functions, activity types, and meanings by list."""
+    crates = top / "crates"
+    meanings = {heading.lower(): dict(MEANINGS_ROW.findall(body))
+                for heading, body in MEANINGS_SECTION.findall((top / "docs/MEANINGS.md").read_text(encoding="utf-8"))}
+    rows = contexts_page.availability_rows((crates / "al_places/specs/Availability.antt").read_text(encoding="utf-8"))
+    return {
+        "shapes": shapes((crates / "al_shape/specs/Table.antt").read_text(encoding="utf-8"), meanings),
+        "activity types": activity_types(crates),
+        "call input types": lists_page.names_of((crates / "al_events/specs/Names.antt").read_text(encoding="utf-8"), "call_types"),
+        "permission values": {name: lists_page.names_of((crates / "al_settings/specs/Names.antt").read_text(encoding="utf-8"), name)
+                              for name in ("scope_values", "whole_values")},
+        "places": {path: {"contexts": contexts, "functions": functions} for path, contexts, functions in rows},
+        "contexts": fixed_contexts(crates),
+        "functions": functions(crates),
+        "meanings": {heading.removesuffix(UNCHECKED): found for heading, found in meanings.items() if found},
+    }
+
+
+def shapes(text: str, meanings: dict[str, dict]) -> dict[str, dict]:
+    """Of each shape which scalars and items it takes, and its keys: those of a section, or free ones with values of a shape."""
+    found: dict[str, dict] = {}
+    for name, right in syntax_page.EQUATION.findall(text):
+        parts = {"scalars": "AnyScalar", "items": "Any", "keys": None} if right.strip() == "None" else syntax_page.parts_of(right.strip())
+        keys = parts["keys"] or ""
+        free = re.fullmatch(r"\(free (\w+)\)", keys)
+        shape = {"scalars": parts["scalars"], "items": parts["items"], "free": free[1] if free else None}
+        if keys and not free:
+            shape |= {"section": syntax_page.name_of(name), "others": syntax_page.OTHERS.search(keys)[3] or "wrong",
+                      "keys": {row.pop("key"): row for row in fields(keys, name)}}
+        found[name] = shape
+    for heading, rows in meanings.items():
+        if heading.endswith(UNCHECKED):
+            section = heading.removesuffix(UNCHECKED)
+            keys = {key: {"shape": "Any", "need": None, "clash": None} for key in rows}
+            found[section.title().replace(" ", "")] = {"scalars": "AnyScalar", "items": None, "free": None, "section": section,
+                                                       "others": "unchecked", "keys": keys}
+    for (shape_name, key), (below, is_named) in UNCHECKED_PLACES.items():
+        found[f"Named{below}"] = {"scalars": "NoScalar", "items": None, "free": below}
+        found[shape_name]["keys"][key]["shape"] = f"Named{below}" if is_named else below
+    return found
+
+
+def fields(keys: str, shape: str) -> list[dict]:
+    """The fields of a section: `need` is True, None, or the key that stands in its place; `clash` the key that it can't stand beside."""
+    rows = []
+    for form, names_of_field, value in syntax_page.FIELD.findall(keys):
+        *others, key = NAME.findall(names_of_field)
+        need = True if form == "must" else others[0] if form.startswith("must_unless") else None
+        rows.append({"key": key, "shape": value, "need": need, "clash": others[0] if others else None})
+    return rows
+
+
+def activity_types(crates: Path) -> dict[str, list[str]]:
+    """Of each event that has some its activity types, in the order of the table."""
+    cells = (row.split(" | ") for row in lists_page.ROW.findall(lists_page.events(crates, lists_sections(crates))))
+    return {cell[0].strip("`"): re.findall(r"`([^`]+)`", cell[1]) for cell in cells if len(cell) == 3 and "`" in cell[1]}
+
+
+def lists_sections(crates: Path) -> dict[str, str]:
+    return syntax_page.tables_of((crates / "al_shape/specs/Table.antt").read_text(encoding="utf-8"))
+
+
+def fixed_contexts(crates: Path) -> dict[str, dict]:
+    """The contexts that are the same in every file: the properties with their types, and whether there are others."""
+    table = contexts_page.fixed((crates / "al_contexts/specs/Fixed.antt").read_text(encoding="utf-8"))
+    return {cells[0].strip("`"): {"properties": dict(re.findall(r"`([^`]+)` (\w+)", cells[1])), "strict": cells[2] == "none"}
+            for cells in (row.split(" | ") for row in lists_page.ROW.findall(table)[1:])}
+
+
+def functions(crates: Path) -> dict[str, dict]:
+    """What each function takes and gives, in the words of docs/LISTS.md."""
+    rows = FUNCTION_ROW.findall(lists_page.functions(crates))
+    return {name: {"takes": takes.strip(), "gives": gives} for name, takes, gives in rows}
 
 
 def definitions(file: Path) -> dict[str, str]:

@@ -1,7 +1,8 @@
 #!/usr/bin/python3
-"""Draws docs/neovim.svg: a terminal with Neovim that shows the faults of a workflow, from what the editor really writes to the terminal.
+"""Draws docs/neovim*.svg: a terminal with Neovim that shows the faults of a workflow, what can stand at a cursor, and what a key means,
+from what the editor really writes to the terminal.
 
-    picture.py PROGRAM [OUT]        needs Neovim and a terminal emulator in Python (Debian: neovim, python3-pyte)
+    picture.py PROGRAM [NAME...]        needs Neovim and a terminal emulator in Python (Debian: neovim, python3-pyte)
 """
 from __future__ import annotations
 
@@ -55,19 +56,28 @@ INIT = """
 vim.opt.runtimepath:append(os.getenv('CLIENTS') .. '/neovim')
 require('actionlint').setup({ cmd = { os.getenv('CLIENTS') .. '/actionlint-lsp', '--program', os.getenv('PROGRAM') } })
 vim.opt.number, vim.opt.signcolumn, vim.opt.ruler, vim.opt.swapfile = true, 'yes', false, false
+vim.opt.pumheight = 8
 vim.opt.shortmess:append('F')
 vim.cmd('syntax on')
-vim.defer_fn(function() vim.cmd('redraw!') end, 3000)
-vim.defer_fn(function() vim.cmd('qall!') end, 4000)
+local keys = function(text) vim.api.nvim_feedkeys(vim.api.nvim_replace_termcodes(text, true, false, true), 'n', false) end
+vim.defer_fn(function() KEYS end, 4000)
+vim.defer_fn(function() vim.cmd('redraw!') end, 7000)
+vim.defer_fn(function() vim.cmd('qall!') end, 8000)
 """
+# By picture the text that it shows, and what is done there before it is taken.
+PICTURES = {
+    "neovim": ("faults of a workflow", ""),
+    "neovim-completion": ("what can stand at a cursor", "keys('11G$F.lC<C-x><C-o>')"),
+    "neovim-hover": ("what a key means", "vim.cmd('normal! 6G6|') vim.lsp.buf.hover()"),
+}
 LEAVES_SCREEN = b"\x1b[?1049l"
 SECONDS = 30
 
 
-def screen_of(program: str) -> pyte.Screen:
+def screen_of(program: str, keys: str) -> pyte.Screen:
     """The terminal as the editor had it before it ended."""
     top = tempfile.mkdtemp(prefix="actionlint-picture-")
-    write(top, {WORKFLOWS + "build.yml": WORKFLOW, "greet/action.yml": ACTION, "init.lua": INIT})
+    write(top, {WORKFLOWS + "build.yml": WORKFLOW, "greet/action.yml": ACTION, "init.lua": INIT.replace("KEYS", keys)})
     environment = {**os.environ, "CLIENTS": str(CLIENTS), "PROGRAM": os.path.abspath(program), "HOME": top, "LC_ALL": "C.UTF-8"}
     os.chdir(top)
     written = in_terminal(["nvim", "-i", "NONE", "-u", "init.lua", WORKFLOWS + "build.yml"], environment, SECONDS, ROWS, COLUMNS)
@@ -91,10 +101,10 @@ def runs_of(row: dict) -> list[tuple[int, str, str, bool]]:
     return [run for run in runs if run[1].strip()]
 
 
-def svg_of(screen: pyte.Screen) -> str:
+def svg_of(screen: pyte.Screen, title: str) -> str:
     width, height = COLUMNS * WIDTH + 2 * MARGIN, ROWS * HEIGHT + 2 * MARGIN
     lines = [f'<svg xmlns="http://www.w3.org/2000/svg" viewBox="0 0 {width:.0f} {height}" font-family="monospace" font-size="14">',
-             "<title>Neovim with the faults of a workflow</title>", f'<rect width="100%" height="100%" rx="6" fill="{BACKGROUND}"/>']
+             f"<title>Neovim with {title}</title>", f'<rect width="100%" height="100%" rx="6" fill="{BACKGROUND}"/>']
     for number in range(ROWS):
         for column, text, colour, bold in runs_of(screen.buffer[number]):
             shown = text.rstrip()
@@ -105,10 +115,11 @@ def svg_of(screen: pyte.Screen) -> str:
 
 
 def main(words: list[str]) -> int:
-    out = Path(words[1]).absolute() if len(words) > 1 else TOP / "docs/neovim.svg"
-    screen = screen_of(words[0])
-    print("\n".join(line.rstrip() for line in screen.display))
-    out.write_text(svg_of(screen), encoding="utf-8")
+    for name in words[1:] or PICTURES:
+        title, keys = PICTURES[name]
+        screen = screen_of(words[0], keys)
+        (TOP / f"docs/{name}.svg").write_text(svg_of(screen, title), encoding="utf-8")
+        print("\n".join(line.rstrip() for line in screen.display))
     return 0
 
 

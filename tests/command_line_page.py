@@ -43,9 +43,10 @@ def report(name, differences):
         print(f"  {line}")
 
 
-def block(language):
-    """The text of the page's block in a language."""
-    return re.search(rf"^```{language}\n(.*?)^```$", PAGE, re.M | re.S)[1]
+def block(language, heading=""):
+    """The text of the page's first block in a language, from a heading on, with the program's name where it has the path of a clone."""
+    text = re.search(rf"^```{language}\n(.*?)^```$", PAGE[PAGE.index(heading):], re.M | re.S)[1]
+    return text.replace("/opt/juzbrost/actionlint", "actionlint")
 
 
 def run(words, folder):
@@ -104,7 +105,7 @@ def errorformat(lines):
 
 def hook():
     """The hook's pattern takes the files that are linted, and its words lint them."""
-    text = block("yaml")
+    text = block("yaml", "## Before each commit")
     pattern = re.search(r"files: (.*)$", text, re.M)[1]
     words = re.search(r"entry: (.*)$", text, re.M)[1].split()
     taken = [".github/workflows/a.yml", ".github/workflows/a.b.yaml", "action.yml", "a/b/action.yaml", ".github/workflows/action.yml"]
@@ -230,7 +231,7 @@ def pre_commit_hook(name, text, deletions):
 
 def pre_commit_hooks():
     """The page's hook, which doesn't see what a commit only deletes, and the same with `always_run`, which does."""
-    text = block("yaml")
+    text = block("yaml", "## Before each commit")
     pre_commit_hook("pre-commit-in-a-repository", text, deletions=False)
     always, count = re.subn(r"files: .*", "always_run: true", text)
     report("pre-commit-hook-names-files-once", [] if count == 1 else [f"{count} lines with `files`"])

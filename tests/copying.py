@@ -1,10 +1,14 @@
 """A copy of this repository's files, as tests that run its scripts need one."""
 
+import os
 import pathlib
 import shutil
 import subprocess
 
 TOP = pathlib.Path(__file__).resolve().parent.parent
+COMMITTED = {"GIT_AUTHOR_DATE": "2026-01-02T03:04:05Z", "GIT_COMMITTER_DATE": "2026-01-02T03:04:05Z", "GIT_CONFIG_GLOBAL": "/dev/null"}
+AS = ["-c", "user.name=a", "-c", "user.email=a@example.com"]
+HASH = 'top=$0; . "$0/tools/find_program.sh"; sources=$(list_sources); hash_of_sources "$1"'
 
 
 def copy_files(folder, is_wanted=lambda name: True):
@@ -15,3 +19,25 @@ def copy_files(folder, is_wanted=lambda name: True):
         if is_wanted(name) and (TOP / name).is_file():
             (folder / name).parent.mkdir(parents=True, exist_ok=True)
             shutil.copy2(TOP / name, folder / name)
+
+
+def copy_few_sources(folder):
+    """A copy with the sources of one crate alone, and without tests: what fits them is found as in a whole one, and it is made quickly."""
+    copy_files(folder, lambda name: not name.startswith(("crates/", "tests/", "clients/tests/")) or name.startswith("crates/actionlint/"))
+
+
+def carry(folder, program):
+    """Has a copy of the repository carry a program as one that was built from its sources."""
+    carried = folder / "prebuilt/actionlint"
+    carried.parent.mkdir(exist_ok=True)
+    shutil.copyfile(program, carried)
+    carried.chmod(0o755)
+    version = subprocess.run(["rt", "version"], capture_output=True, text=True, check=False).stdout.strip() if shutil.which("rt") else "kit"
+    hashed = subprocess.run(["sh", "-c", HASH, folder, version], capture_output=True, text=True, check=True)
+    (folder / "prebuilt/sources.sha256").write_text(hashed.stdout)
+
+
+def commit(folder):
+    """Makes a folder a repository of git with its files in one commit, always the same."""
+    for words in (["init", "-q"], ["add", "-A"], [*AS, "commit", "-q", "-m", "all"]):
+        subprocess.run(["git", *words], cwd=folder, env=os.environ | COMMITTED, capture_output=True, check=True)

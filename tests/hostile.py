@@ -320,6 +320,29 @@ def many_called_files(place):
         place.case(f"2000-workflows-called-by-{name[0]}", 1, missing.encode(), NO, ["--oneline"], limits=held_in_memory)
 
 
+# ---- what many files of a folder take
+
+
+def calls_of_absent_files(place):
+    """A file of 759 KB whose steps call 33,000 actions, none of which is there."""
+    steps = b"".join(b"      - uses: ./a%05d\n" % number for number in range(33_000))
+    place.fresh({WORKFLOW: STEPS + steps})
+    place.case("33000-calls-of-absent-actions", 0, NO, NO, ["--oneline"], limits=held_to(NO))
+
+
+def folder_of_links(place):
+    """Links to one file of 300 KB, of whose 99,900 empty mappings each is a fault: the trees of all files stay until the report, so that
+    memory runs out where they are many, and then nothing is printed."""
+    steps = STEPS.replace(b"    steps:\n", b"    steps: [" + b",".join([b"{}"] * 99_900) + b"]\n")
+    place.fresh({"kept/a.yml": steps}, folders=[WORKFLOWS])
+    for number in range(100):
+        os.symlink("../../kept/a.yml", os.path.join(place.folder, WORKFLOWS, f"{number:03}.yml"))
+    few = [f"{WORKFLOWS}/{number:03}.yml" for number in range(4)]
+    counted = lambda out: out.count(b"\n") == 4 * 99_900
+    place.case("four-links-to-a-file-of-300-kilobytes", 1, counted, NO, ["--oneline", *few], limits=held_to(NO))
+    place.case("100-links-to-a-file-of-300-kilobytes", 3, NO, line(b"out of memory"), ["--oneline"], limits=held_to(NO))
+
+
 # ---- input
 
 
@@ -441,7 +464,7 @@ def held_differences(place, size, whole, words, stdin=NO):
 
 
 def narrow_output(place):
-    """Output that takes so many bytes and then fails, for each number below the whole, and one that takes none."""
+    """Output that takes so many bytes and then fails, for each number below the whole."""
     place.fresh()
     held = lambda whole, *given: ((size, held_differences(place, size, whole, *given)) for size in range(len(whole)))
     each("output-of-a-script-that-fails", held(TALK_OUTPUT, SCRIPT, TALK_SCRIPT))
@@ -449,17 +472,9 @@ def narrow_output(place):
     snippet = MISSING_INPUT + b"  |\n6 |       - uses: ./a\n  |               ^~~\n"
     place.case("output-of-a-folder", 1, snippet, NO)
     each("output-of-a-folder-that-fails", held(snippet, []))
-    reader, writer = os.pipe()
-    os.set_blocking(writer, False)
-    try:
-        while os.write(writer, bytes(1 << 16)):
-            pass
-    except BlockingIOError:
-        place.case("output-that-takes-nothing", 3, NO, line(b"write failed"), SCRIPT, stdin=REPORT, stdout=writer)
-    os.close(reader)
-    os.close(writer)
 
 
 if __name__ == "__main__":
     sys.exit(run_parts(fronts, limits, one_line, shared_nodes, equal_faults, folder_of_4096, ring_of_4096, calls_of_one_file,
-                       many_of_both, many_edits, many_called_files, pieces_of_a_script, lines_of_input, input_without_end, narrow_output))
+                       many_of_both, many_edits, many_called_files, calls_of_absent_files, folder_of_links, pieces_of_a_script, lines_of_input,
+                       input_without_end, narrow_output))

@@ -1,6 +1,6 @@
 """Lints this repository with its own program: own_repository.py PROGRAM.
 
-Its workflows, and each action that its clients bring, have no fault; and in a copy in which one key is misspelled the program finds that.
+Its workflows and its action have no fault; and in a copy in which one key is misspelled the program finds that.
 Prints one line for each case.
 """
 
@@ -45,9 +45,7 @@ def main():
         return 2
     program = pathlib.Path(sys.argv[1]).resolve()
     clean("workflows", program, ["--root", TOP])
-    actions = [str(it.relative_to(TOP)) for it in sorted((TOP / "clients").glob("**/action.y*ml"))]
-    if actions:
-        clean("actions-of-clients", program, ["--root", TOP, *actions])
+    clean("action", program, ["--root", TOP, "action.yml"])
     misspelled(program)
     return 1 if results["wrong"] else 0
 

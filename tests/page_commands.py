@@ -3,24 +3,22 @@
 Fenced blocks of a page (README.md and all of docs/ and the other pages at the top, unless pages are named) are marked in the line that
 opens them:
 
-    ```console run          each line `$ COMMAND` is run by bash in a copy of the repository that has the built program and nothing else
+    ```console run          each line `$ COMMAND` is run by bash in a copy of the repository that carries the program and has nothing
                             built; the lines below it are what it prints on both streams, where `...` stands for any lines
     ```console run empty    the same in an empty folder, with the program as `actionlint` on the PATH
     ```LANGUAGE file=PATH   the block is a file; where it is a workflow or an action, the program finds it clean
 
-A block's commands share one shell. Of the system they see /usr/bin and /bin, and the kit's `rt` where it is there. Prints one line for
-each block, and fails where there is none.
+A block's commands share one shell. Of the system they see /usr/bin and /bin. Prints one line for each block, and fails where there is none.
 """
 
 import os
 import pathlib
 import re
-import shutil
 import subprocess
 import sys
 import tempfile
 
-from copying import TOP, copy_files
+from copying import TOP, carry, copy_files
 from running import report, results, show
 
 BLOCK = re.compile(r"^```(\w+) (run|run empty|file=(\S+))\n(.*?)^```$", re.DOTALL | re.MULTILINE)
@@ -60,10 +58,8 @@ class Machine:
         self.room = pathlib.Path(room)
         self.copy = self.room / "juzbrost"
         copy_files(self.copy)
-        self.program = self.copy / "crates/actionlint/out/actionlint"
-        self.program.parent.mkdir(parents=True)
-        shutil.copyfile(program, self.program)
-        self.program.chmod(0o755)
+        carry(self.copy, program)
+        self.program = self.copy / "prebuilt/actionlint"
         (self.room / "bin").mkdir()
         (self.room / "bin/actionlint").symlink_to(self.program)
         # a first run may say what it runs, which no page shows
@@ -71,9 +67,7 @@ class Machine:
 
     def path(self, with_program):
         """The PATH of a block's commands."""
-        kit = shutil.which("rt")
-        folders = [str(self.room / "bin")] * with_program + ["/usr/bin", "/bin"] + ([os.path.dirname(kit)] if kit else [])
-        return ":".join(folders)
+        return ":".join([str(self.room / "bin")] * with_program + ["/usr/bin", "/bin"])
 
     def outputs(self, commands, empty):
         """What each command prints, and what went wrong."""

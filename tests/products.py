@@ -262,6 +262,28 @@ def calls_at_one_place():
     return {WORKFLOW: STEPS + b"      - uses: &u ./a\n" + steps, ACTION: action}, told
 
 
+def calls_of_a_long_name(first, others, places):
+    """Steps, and others after them, that give an input which an action with a long name doesn't have. The report has a line for each place
+    of the input, by line and column.
+    """
+    name = b"a" * 900_000
+    action = b"name: %s\ndescription: d\nruns: {using: node20, main: m.js}\n" % name
+    steps = b"".join(b"      - %s\n" % step for step in first + others)
+    told = b"".join(b'%s%s: input "x" is not defined in "%s" [action]\n' % (AT, place, name) for place in places)
+    return {WORKFLOW: STEPS + steps, ACTION: action}, told
+
+
+def aliases_of_two_steps():
+    """Aliases of two steps by one `uses` in turn."""
+    steps = [b"&s {uses: &u ./a, with: {x: 1}}", b"&t {uses: *u, with: {x: 1}}"]
+    return calls_of_a_long_name(steps, [b"*s", b"*t"] * 6_000, [b"6:34", b"7:30"])
+
+
+def steps_that_give_one_mapping():
+    """Steps each with a `uses` of its own that share what they give by an alias."""
+    return calls_of_a_long_name([b"{uses: ./a, with: &w {x: 1}}"], [b"{uses: ./a, with: *w}"] * 10_000, [b"6:31"])
+
+
 def all_of_many_outputs():
     """Expressions that are all of many outputs."""
     steps = b"      - run: ${{ toJSON(needs.a.outputs) }}\n" * 12_000
@@ -340,4 +362,6 @@ FOLDERS = {
     "4000-steps-that-call-one-with-10000-outputs": steps_that_call_one_with_many_outputs,
     "30000-aliases-of-a-step-that-lacks-1000-inputs": aliases_of_a_call,
     "14000-calls-at-one-place-of-24900-inputs": calls_at_one_place,
+    "6000-aliases-of-two-steps-that-call-a-long-name": aliases_of_two_steps,
+    "10000-steps-that-call-a-long-name-and-give-one-mapping": steps_that_give_one_mapping,
 }

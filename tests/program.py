@@ -14,6 +14,8 @@ import socket
 import stat
 import subprocess
 import sys
+import threading
+import time
 
 from running import (CALLED, CALLER, CLEAN, EMPTY_REPORT, MISSING_INPUT, REPORT, SCRIPT, WORKFLOWS, delete, differences_of, limit, line,
                      put, report, run_parts, show)
@@ -27,6 +29,10 @@ def cannot_read(path):
 
 def refused(path, number):
     return line(path.encode() + b": refused E" + str(number).encode())
+
+
+def passed_over(*paths):
+    return b"".join(line(b"passed over " + path.encode() + b", which leads out of the folder") for path in paths)
 
 
 # ---- words
@@ -173,6 +179,105 @@ def kinds(place):
     place.case("link-to-a-file-in-the-words", 1, EMPTY_REPORT, no, ["--oneline", f"{WORKFLOWS}/a.yml"])
 
 
+SECRET = b"a-secret-of-another-folder"
+
+
+def links_out(place):
+    """A listed or called file to which links lead out of the folder is passed over, and said; one that the words name can't be read. Of
+    what lies outside nothing is printed."""
+    no = b""
+    outside = place.fresh({"f.yml": SECRET, "action.yml": SECRET, "workflows/secret.yml": SECRET, "workflows/sub/secret.yml": SECRET})
+    path = f"{WORKFLOWS}/a.yml"
+    for name, target in {
+        "to-a-file-outside": os.path.join(outside, "f.yml"),
+        "that-goes-up": f"../../../{os.path.basename(outside)}/f.yml",
+        "to-the-environment": "/proc/self/environ",
+        "to-the-kernel's-log": "/proc/kmsg",
+        "over-a-link-inside": "../../kept",
+    }.items():
+        place.fresh({f"{WORKFLOWS}/c.yml": CLEAN.replace(b"run: echo", b"uses: ./a/b")}, folders=["a/b"])
+        os.symlink(os.path.join(outside, "f.yml"), os.path.join(place.folder, "kept"))
+        os.symlink(target, os.path.join(place.folder, path))
+        how = {"env": {"SECRET": SECRET.decode()}}
+        place.case(f"link-{name}-is-passed-over", 0, no, passed_over(path), **how)
+        place.case(f"link-{name}-in-the-words", 3, no, cannot_read(path), [path], **how)
+        os.symlink(target, os.path.join(place.folder, "a/b/action.yml"))
+        place.case(f"link-{name}-that-is-called", 0, no, passed_over(path, "a/b/action.yml"), **how)
+    place.fresh({f"{WORKFLOWS}/c.yml": CALLER})
+    os.symlink(outside, os.path.join(place.folder, "a"))
+    place.case("folder-outside-that-is-called", 0, no, passed_over("a/action.yml"))
+    place.case("folder-outside-in-the-words", 3, no, cannot_read("a/action.yml"), ["a/action.yml"])
+    place.fresh(folders=[".github"])
+    os.symlink(os.path.join(outside, "workflows"), os.path.join(place.folder, WORKFLOWS))
+    place.case("workflows-outside", 3, no, cannot_read(WORKFLOWS))
+    place.case("workflow-of-a-folder-outside", 3, no, cannot_read(f"{WORKFLOWS}/secret.yml"), [f"{WORKFLOWS}/secret.yml"])
+    calling = CLEAN.replace(b"    runs-on: ubuntu-latest\n    steps:\n      - run: echo\n", f"    uses: ./{WORKFLOWS}/b.yml\n".encode())
+    place.fresh({path: calling})
+    os.symlink(os.path.join(outside, "f.yml"), os.path.join(place.folder, WORKFLOWS, "b.yml"))
+    absent = f'{path}:4:11: workflow "./{WORKFLOWS}/b.yml" is not in the folder [workflow-call]\n'
+    place.case("listed-link-that-is-called-too", 1, absent.encode(), passed_over(f"{WORKFLOWS}/b.yml"), ["--oneline"])
+    # a folder beside this one, whose name goes on where this one's ends
+    folder = place.fresh({path: CLEAN})
+    beside = f"{folder}-beside"
+    os.mkdir(beside)
+    shutil.copyfile(os.path.join(outside, "f.yml"), os.path.join(beside, "f.yml"))
+    os.symlink(os.path.join(beside, "f.yml"), os.path.join(folder, WORKFLOWS, "b.yml"))
+    place.case("link-to-a-folder-of-a-longer-name", 0, no, passed_over(f"{WORKFLOWS}/b.yml"))
+    place.fresh({path: CLEAN})
+    os.symlink("/etc/passwd", os.path.join(place.folder, WORKFLOWS, "b\n.yml"))
+    place.case("path-that-is-refused-is-not-looked-at", 3, no, refused(f"{WORKFLOWS}/b?.yml", 1))
+
+
+def links_inside(place):
+    """Links that stay in the folder are followed, however the folder is named."""
+    no = b""
+    files = {f"{WORKFLOWS}/b.yml": CALLER, "kept/action.yml": CALLED, "kept/a.txt": b""}
+    both = EMPTY_REPORT + MISSING_INPUT.replace(b"c.yml", b"b.yml")
+
+    def linked(folder):
+        os.symlink(os.path.join(folder, "kept"), os.path.join(folder, "a"))
+        os.symlink("over", os.path.join(folder, WORKFLOWS, "a.yml"))
+        os.symlink("../../a/a.txt", os.path.join(folder, WORKFLOWS, "over"))
+
+    folder = place.fresh(files)
+    linked(folder)
+    number = os.path.basename(folder)
+    roots = {"here": ".", "by-no-name": "", "from-the-root": folder, "from-beside": f"../{number}/", "twice": f"../{number}/./."}
+    for name, root in roots.items():
+        place.case(f"links-inside-{name}", 1, both, no, ["--oneline", "--root", root])
+    place.fresh()
+    os.symlink(folder, os.path.join(place.folder, "link"))
+    place.case("links-inside-over-a-link", 1, both, no, ["--oneline", "--root", "link"])
+    place.case("links-inside-over-a-link-with-a-slash", 1, both, no, ["--oneline", "--root", "link/"])
+    # a folder whose own path isn't text: without links its files are linted, and where links lead isn't known
+    place.fresh({"\udcff/" + path: data for path, data in files.items()})
+    where = os.path.join(place.folder, "\udcff")
+    place.case("folder-whose-path-is-no-text", 0, no, no, ["--oneline"], cwd=where)
+    linked(where)
+    told = passed_over(f"{WORKFLOWS}/a.yml", "a/action.yml")
+    place.case("links-in-a-folder-whose-path-is-no-text", 0, no, told, ["--oneline"], cwd=where)
+
+
+def long_names(place):
+    """A name that the system doesn't take is no file's."""
+    no = b""
+    name = "x" * 300
+    calling = lambda path: CLEAN.replace(b"run: echo", b"uses: ./" + path.encode())
+    place.fresh({f"{WORKFLOWS}/a.yml": calling(name)})
+    place.case("called-action-of-a-name-of-300-bytes", 0, no, no)
+    place.case("name-of-300-bytes-in-the-words", 3, no, cannot_read(f"{name}/action.yml"), [f"{name}/action.yml"])
+    place.fresh({f"{WORKFLOWS}/a.yml": CLEAN.replace(b"    runs-on: ubuntu-latest\n    steps:\n      - run: echo\n",
+                                                     f"    uses: ./{WORKFLOWS}/{name}.yml\n".encode())})
+    absent = f'{WORKFLOWS}/a.yml:4:11: workflow "./{WORKFLOWS}/{name}.yml" is not in the folder [workflow-call]\n'
+    place.case("called-workflow-of-a-name-of-300-bytes", 1, absent.encode(), no, ["--oneline"])
+    # the longest path that a call can name, below a folder of a path that is nearly as long as the system takes
+    longest = "/".join(["y" * 200] * 5)
+    place.fresh({f"{WORKFLOWS}/a.yml": calling(longest)})
+    root = "./" * 2_000
+    place.case("called-action-of-a-path-that-is-too-long", 0, no, no, ["--root", root])
+    place.case("folder-of-a-path-that-is-too-long", 3, no, cannot_read(WORKFLOWS), ["--root", root * 2])
+
+
 # ---- calls between the files of a folder
 
 
@@ -292,6 +397,60 @@ def streams(place):
     place.case("input-is-not-read", 1, EMPTY_REPORT, no, ["--oneline"], stdin=subprocess.DEVNULL, limits=lambda: os.close(0))
 
 
+def full_pipe():
+    """A pipe that doesn't block and takes nothing more, with how many bytes are in it."""
+    reader, writer = os.pipe()
+    os.set_blocking(writer, False)
+    filled = 0
+    try:
+        while True:
+            filled += os.write(writer, bytes(1 << 12))
+    except BlockingIOError:
+        return reader, writer, filled
+
+
+def run_to_full_pipe(place, words, stdin, then):
+    """A run whose output is such a pipe, of which another thread does something after a while."""
+    reader, writer, filled = full_pipe()
+    answers = []
+
+    def later():
+        time.sleep(0.2)
+        answers.append(then(reader))
+        os.close(reader)
+
+    thread = threading.Thread(target=later)
+    thread.start()
+    ran = place.run(words, stdin, stdout=writer)
+    os.close(writer)
+    thread.join()
+    return ran, answers[0][filled:]
+
+
+def read_all(reader):
+    """What comes of a pipe until it ends."""
+    with open(reader, "rb", closefd=False) as pipe:
+        return pipe.read()
+
+
+def waiting_output(place):
+    """Output that doesn't block, as programs over Node hand it on, is waited for: nothing of a report is lost where it is full. Where its
+    reader goes meanwhile, the write has failed."""
+    no = b""
+    place.fresh({f"{WORKFLOWS}/a.yml": b"on: push\njobs: {}\n" + b"".join(b"k%05d: 1\n" % number for number in range(5_000))})
+    told = b"".join(b'.github/workflows/a.yml:%d:1: unexpected key "k%05d" [syntax-check]\n' % (3 + it, it) for it in range(5_000))
+    taught = lambda out: out.startswith(b"Checks the workflows") and out.endswith(b"for editors and logs\n")
+    for name, words, stdin, status, out in [
+        ("output", ["--oneline"], no, 1, told),
+        ("script-output", SCRIPT, REPORT * 10_000, 0, b"status 0\n" * 10_000),
+        ("help-output", ["--help"], no, 0, taught),
+    ]:
+        ran, ran.stdout = run_to_full_pipe(place, words, stdin, read_all)
+        report(f"{name}-that-does-not-block", ran.returncode, differences_of(ran, status, out, no))
+    ran, _ = run_to_full_pipe(place, ["--oneline"], no, lambda reader: no)
+    report("output-that-does-not-block-and-whose-reader-goes", ran.returncode, differences_of(ran, 3, no, line(b"write failed")))
+
+
 def memory(place):
     """Under each limit of memory the answer is the whole one, or status 3 with a front of the output."""
     place.fresh()
@@ -317,6 +476,22 @@ def memory(place):
     if stops == 0 or wholes == 0:
         wrong.append(f"memory ran out {stops} times, and sufficed {wholes} times")
     report("little-memory", whole.returncode, wrong)
+
+
+def memory_and_stack(place):
+    """Under each limit of memory a deep expression ends in the whole answer, in status 3, or, where the system refuses the stack its
+    growth, by its signal; in the two latter with nothing printed."""
+    content = b"run: echo ${{ " + b"1||1&&1==1<contains(" * 50 + b"github.reff" + b",1)" * 50 + b" }}"
+    place.fresh({f"{WORKFLOWS}/a.yml": CLEAN.replace(b"run: echo", content)})
+    whole = place.run(["--oneline"])
+    wrong = differences_of(whole, 1, lambda out: out.count(b"\n") == 1, b"")
+    for size in range(2 << 20, 8 << 20, 64 << 10):
+        ran = place.run(["--oneline"], limits=limit(resource.RLIMIT_AS, size))
+        answer = (ran.returncode, ran.stdout, ran.stderr)
+        ended = ran.returncode in (127, -signal.SIGSEGV, -signal.SIGKILL) and ran.stdout == b""
+        if not ended and answer != (3, b"", line(b"out of memory")) and answer != (whole.returncode, whole.stdout, whole.stderr):
+            wrong.append(f"at {size} bytes: status {ran.returncode}, stdout {show(ran.stdout)}, stderr {show(ran.stderr)}")
+    report("little-memory-for-the-stack", whole.returncode, wrong)
 
 
 def sizes(place):
@@ -350,5 +525,5 @@ def on_a_small_stack(place, name, data, kibibytes, status):
 
 
 if __name__ == "__main__":
-    sys.exit(run_parts(words, folders, refusals, control_characters, kinds, calls, order_of_calls, examples, scripts, streams, memory,
-                       sizes))
+    sys.exit(run_parts(words, folders, refusals, control_characters, kinds, links_out, links_inside, long_names, calls, order_of_calls,
+                       examples, scripts, streams, waiting_output, memory, memory_and_stack, sizes))

@@ -1,9 +1,10 @@
 """Makes docs/READING.md, or compares it: reading_page.py TOP [--write].
 
-The page names the definitions that the public theorems rest on, in the order to read them. They are found in the sources: the names that a
-function's contract uses, by the `use` lines of its file, and then the names that each of these definitions uses. None of them may stand in
-`specs/Private`, which holds words of private contracts. Where an `impl` names proofs of its trait's laws (`specs/Proofs`), what counts are
-the laws, which the trait states.
+The page names the definitions that the public theorems rest on, each module behind those that it uses. They are found in the sources: the
+names that a function's contract uses, by the `use` lines of its file, and then the names that each of these definitions uses
+(`definitions.py`). None of them may stand in `specs/Private`, which holds words of private contracts. Where an `impl` names proofs of its
+trait's laws (`specs/Proofs`), what counts are the laws, which the trait states. Modules that use one another stand side by side, and the
+page says so.
 """
 
 import pathlib
@@ -12,134 +13,33 @@ import sys
 
 sys.path.insert(0, str(pathlib.Path(__file__).resolve().parent.parent / "tools"))
 from crates import crates_of
+from definitions import USE, Definitions, imports, words_of
 
 PAGE = "docs/READING.md"
 MARK = "<!-- What follows is made by tests/reading_page.py. -->\n"
-# What is promised, the crate and the file that promise it, and the functions or blocks whose contracts say so.
+# What is promised, and the crate, the file and the functions or blocks whose contracts say so.
 THEOREMS = (
-    ("R", "the tree of a file's bytes, or its one fault", "al_yaml_reader", "document.rt", ("pub fn read_yaml",)),
-    ("T", "the type of an expression, and its faults", "al_meaning", "typing.rt", ("pub fn type_of",)),
-    ("U", "the faults by the rules of a tree", "al_rules", "files.rt", ("pub fn rules",)),
-    ("L", "what the linter finds in any file, and its laws", "al_check", "lint.rt", ("impl Lint for Actions",)),
-    ("E", "any edits, and then all as from scratch", "al_session", "session.rt",
-     ("pub fn put", "pub fn delete", "pub fn report", "pub fn status")),
-    ("S", "the output of a script", "al_scripts", "run.rt", ("pub fn run_session",)),
-    ("F", "the report and status of a folder", "al_cli", "linted.rt", ("pub fn lint_all",)),
+    ("R", "the tree of a file's bytes, or its one fault", (("al_yaml_reader", "document.rt", ("pub fn read_yaml",)),)),
+    ("P", "the chunks of a text, the tokens and the tree of an expression, or their fault", (
+        ("al_grammar", "chunk.rt", ("pub fn chunks",)),
+        ("al_grammar", "lexer.rt", ("pub fn lex",)),
+        ("al_grammar", "expression.rt", ("pub fn parse_expr",)),
+    )),
+    ("T", "the type of an expression, and its faults", (("al_meaning", "typing.rt", ("pub fn type_of",)),)),
+    ("U", "the faults by the rules of a tree", (("al_rules", "files.rt", ("pub fn rules",)),)),
+    ("L", "what the linter finds in any file, and its laws", (("al_check", "lint.rt", ("impl Lint for Actions",)),)),
+    ("E", "any edits, and then all as from scratch", (
+        ("al_session", "session.rt", (
+            "pub fn put", "pub fn delete", "pub fn missing", "pub fn faults", "pub fn bytes", "pub fn status", "pub fn report",
+        )),
+        ("al_session", "changes.rt", ("pub fn apply_changes",)),
+    )),
+    ("W", "the words of the command line", (("al_words", "words.rt", ("pub fn parse_words",)),)),
+    ("S", "the output of a script", (("al_scripts", "run.rt", ("pub fn run_session",)),)),
+    ("F", "the report and status of a folder", (("al_cli", "linted.rt", ("pub fn lint_all",)),)),
 )
 # the trait whose laws a theorem's `impl` proves: its crate, its file, and its opening
-LAWS = {"L": ("al_folder", "lint.rt", "pub trait Lint")}
-USE = re.compile(r"\buse Rattle\.([\w.]+?)(?:\.\{([^}]*)\}| as (\w+))?;?\s*$")
-HEAD = re.compile(r"^( {0,4})((?:(?:abbrev|unfoldable|pub|record|data|mutual) )+)?(\S+)(.*)$")
-WORD = re.compile(r"[^\s(){},;]+")
-
-
-class Module:
-    """A file of definitions: what each of its names stands for, with the words and the lines of it."""
-
-    def __init__(self, file, name):
-        self.file, self.name = file, name
-        self.lines = file.read_text().splitlines()
-        self.imports, self.aliases = imports(self.lines)
-        self.words, self.size, self.item_of = {}, {}, {}
-        self.read_items()
-
-    def read_items(self):
-        item = None
-        for line in self.lines:
-            if not line.strip() or line.lstrip().startswith("--") or USE.search(line):
-                continue
-            head = HEAD.match(line)
-            if head and (head[2] or head[4].startswith(" :")) and head[3] not in ("_", "module"):
-                is_part = item is not None and head[1] and not (head[2] or "").strip().startswith(("abbrev", "unfoldable"))
-                if is_part and self.indent < len(head[1]):
-                    self.item_of[head[3]] = item
-                else:
-                    item, self.indent = head[3], len(head[1])
-                    self.item_of.setdefault(item, item)
-            if item is not None:
-                self.words.setdefault(item, set()).update(words_of(line))
-                self.size[item] = self.size.get(item, 0) + 1
-
-    def sentence(self):
-        """The comment at the head of the file."""
-        head = []
-        for line in self.lines:
-            if not line.startswith("--"):
-                break
-            head.append(line[2:].strip())
-        return " ".join(head)
-
-
-def words_of(line):
-    return set(WORD.findall(line.partition(" -- ")[0]))
-
-
-def imports(lines):
-    """The modules that names come from, and those that go by another name."""
-    named, aliases = {}, {}
-    for line in lines:
-        match = USE.search(line)
-        if not match:
-            continue
-        for name in (match[2] or "").split(","):
-            named[name.strip()] = match[1]
-        if match[3]:
-            aliases[match[3]] = match[1]
-    return named, aliases
-
-
-def modules_of(top):
-    """The modules of definitions by the way that `use` names them, those that a crate passes on too."""
-    found, passed_on = {}, {}
-    for crate in crates_of(top):
-        for file in sorted((top / "crates" / crate / "specs").rglob("*.antt")):
-            way = ".".join((crate, "specs", *file.relative_to(top / "crates" / crate / "specs").with_suffix("").parts))
-            if ".specs.Proofs." in way:
-                continue
-            if file.stem != "Lib":
-                found[way] = Module(file, way)
-                continue
-            for line in file.read_text().splitlines():
-                match = USE.search(line)
-                if match:
-                    passed_on[f"{crate}.specs.{match[1].rpartition('.')[2]}"] = match[1]
-    for way, other in passed_on.items():
-        found[way] = found[other]
-    return found
-
-
-def uses(words, named, aliases, modules):
-    """The definitions of other modules that these words name."""
-    for name, way in named.items():
-        parts = [it for it in name.split("◌") if it]
-        if way in modules and parts and all(it in words for it in parts):
-            yield modules[way], name
-    for alias, way in aliases.items():
-        for word in words if way in modules else ():
-            if word.startswith(f"{alias}."):
-                yield modules[way], word.split(".")[1]
-
-
-def reached(roots, modules):
-    """The definitions that these rest on, each behind those that it uses, with the modules in that order."""
-    seen, order = set(), []
-
-    def visit(module, name):
-        item = module.item_of.get(name)
-        if item is None or (module.name, item) in seen:
-            return
-        seen.add((module.name, item))
-        words = module.words[item]
-        below = [*uses(words, module.imports, module.aliases, modules)]
-        below += [(module, it) for it in module.item_of if it in words and module.item_of[it] != item]
-        for one in below:
-            visit(*one)
-        if module not in order:
-            order.append(module)
-
-    for root in roots:
-        visit(*root)
-    return seen, order
+LAWS = {"L": ("al_folder", "lint.rt", ("pub trait Lint",))}
 
 
 def contract(source, opening):
@@ -149,48 +49,123 @@ def contract(source, opening):
     return source[match.start():end.search(source, match.end()).start()]
 
 
-def roots_of(top, modules, crate, file, openings):
+def roots_of(top, definitions, crate, file, openings):
     """The definitions that the contracts name, and what clauses see of the crate's own types: their values, and not what holds of each."""
     source = (top / "crates" / crate / "src" / file).read_text()
-    words = set().union(*(words_of(line) for it in openings for line in contract(source, it).splitlines()))
-    yield from uses(words, *imports(source.splitlines()), modules)
+    words = set().union(*(words_of(contract(source, it)) for it in openings))
+    yield from definitions.named(words, *imports(source.splitlines()))
     for path in sorted((top / "crates" / crate / "src").rglob("*.rt")):
         text = path.read_text()
         for match in re.finditer(r"^impl.* Model for .*?^\}", text, re.MULTILINE | re.DOTALL):
             inner, outer = imports(match[0].splitlines()), imports(text.splitlines())
             block = re.sub(r"ghost invariant = \{.*?\};", "", match[0], flags=re.DOTALL)
             words = set().union(*(words_of(line) for line in block.splitlines() if not USE.search(line)))
-            yield from uses(words, {**outer[0], **inner[0]}, {**outer[1], **inner[1]}, modules)
+            yield from definitions.named(words, {**outer[0], **inner[0]}, {**outer[1], **inner[1]})
 
 
-def tables(top):
+def in_order(modules, below):
+    """Groups of modules, each behind those that it uses; in a group of several each uses all others, by whatever way."""
+    groups, numbers, lows, stack = [], {}, {}, []
+
+    def visit(one):
+        numbers[one] = lows[one] = len(numbers)
+        stack.append(one)
+        for other in below[one]:
+            if other not in numbers:
+                visit(other)
+            if other in stack:
+                lows[one] = min(lows[one], lows[other])
+        if lows[one] == numbers[one]:
+            at = stack.index(one)
+            groups.append(stack[at:])
+            del stack[at:]
+
+    for one in modules:
+        if one not in numbers:
+            visit(one)
+    return groups
+
+
+class Page:
     """What follows the introduction: the theorems, and the modules that they rest on, crate by crate."""
-    modules, whose, needed, orders = modules_of(top), {}, {}, []
-    yield "| | Promise | Contract | Definitions | Their lines | Modules |"
-    yield "|---|---|---|--:|--:|--:|"
-    for letter, what, crate, file, openings in THEOREMS:
-        roots = [*roots_of(top, modules, crate, file, openings)]
+
+    def __init__(self, top):
+        self.top, self.definitions = top, Definitions(top)
+        self.found = {letter: self.rests_on(letter, contracts) for letter, _, contracts in THEOREMS}
+        self.items = {}
+        for found in self.found.values():
+            for module, item in found:
+                self.items.setdefault(module, set()).add(item)
+        self.below = {it: self.modules_below(it) for it in self.items}
+
+    def rests_on(self, letter, contracts):
+        roots = [it for one in contracts for it in roots_of(self.top, self.definitions, *one)]
         if letter in LAWS:
-            roots += [it for it in roots_of(top, modules, *LAWS[letter][:2], LAWS[letter][2:]) if it not in roots]
-        seen, order = reached(roots, modules)
-        if private := [it.name for it in order if ".Private." in it.name]:
-            sys.exit(f"{crate}: {what} rests on words of private contracts: {', '.join(private)}")
-        orders.append(order)
-        for module, item in seen:
-            whose.setdefault(module, set()).add(letter)
-            needed.setdefault(module, set()).add(item)
-        names = ", ".join(f"`{it.rpartition(' ')[2] if it.startswith('pub') else it}`" for it in openings)
-        lines = sum(modules[module].size[item] for module, item in seen)
-        yield f"| {letter} | {what} | {names} (`{crate}/src/{file}`) | {len(seen)} | {lines:,} | {len(order)} |"
-    for crate in crates_of(top):
-        of_crate = dict.fromkeys(it for order in orders for it in order if it.name.startswith(f"{crate}."))
-        if of_crate:
-            yield from ("", f"## `{crate}/specs`", "", "| Definitions | Lines | Of | For | What they say |", "|---|--:|--:|---|---|")
-        for module in of_crate:
-            some = sum(module.size[it] for it in needed[module.name])
-            letters = " ".join(it[0] for it in THEOREMS if it[0] in whose[module.name])
-            name = ".".join(module.name.split(".")[2:])
-            yield f"| `{name}` | {some} | {sum(module.size.values())} | {letters} | {module.sentence().replace('|', chr(92) + '|')} |"
+            roots += roots_of(self.top, self.definitions, *LAWS[letter])
+        found = self.definitions.below(roots)
+        if private := sorted({module.name for module, _ in found if ".Private." in module.name}):
+            sys.exit(f"the theorem {letter} rests on words of private contracts: {', '.join(private)}")
+        return found
+
+    def modules_below(self, module):
+        """The modules that what is needed of one uses, in the order of its `use` lines."""
+        used = {other for item in self.items[module] for other, _ in self.definitions.used_by(module, item)} - {module}
+        return sorted(used, key=lambda it: it.name)
+
+    def theorems(self):
+        yield "| | Promise | Contracts | Definitions | Their lines | Modules |"
+        yield "|---|---|---|--:|--:|--:|"
+        for letter, what, contracts in THEOREMS:
+            found = self.found[letter]
+            lines = sum(module.size([item]) for module, item in found)
+            modules = len({module for module, _ in found})
+            yield f"| {letter} | {what} | {'; '.join(map(place, contracts))} | {len(found)} | {lines:,} | {modules} |"
+
+    def crate(self, crate):
+        """The table of a crate's modules, each behind those that it uses."""
+        modules = [it for it in self.items if it.name.startswith(f"{crate}.")]
+        if not modules:
+            return
+        yield from ("", f"## `{crate}/specs`", "", "| Definitions | Lines | Of | For | What they say |", "|---|--:|--:|---|---|")
+        modules.sort(key=lambda it: it.name)
+        below = {it: [other for other in self.below[it] if other in modules] for it in modules}
+        for group in in_order(modules, below):
+            for module in group:
+                yield self.row(module, [short(it) for it in group if it != module])
+
+    def row(self, module, others):
+        lines, all_lines = module.size(self.items[module]), module.size(module.items)
+        letters = " ".join(letter for letter, found in self.found.items() if any(it == module for it, _ in found))
+        says = module.sentence().replace("|", "\\|")
+        if others:
+            says += f" Uses and is used by {', '.join(f'`{it}`' for it in others)}."
+        return f"| `{short(module)}` | {lines} | {all_lines} | {letters} | {says} |"
+
+    def library_words(self):
+        """The words of libraries that the definitions use, an operator without the places of its arguments."""
+        own = {it.partition(".")[0] for it in self.definitions.modules}
+        for module, items in self.items.items():
+            words = set().union(*(self.definitions.words(module, it) for it in items))
+            for name, way in module.imports.items():
+                parts = [it for it in name.split("◌") if it]
+                if way.partition(".")[0] not in own and ".declared." not in way and parts and all(it in words for it in parts):
+                    yield from parts
+
+    def tables(self):
+        yield from self.theorems()
+        for crate in crates_of(self.top):
+            yield from self.crate(crate)
+
+
+def short(module):
+    """A module's way below its crate's `specs`."""
+    return ".".join(module.name.split(".")[2:])
+
+
+def place(contracts):
+    crate, file, openings = contracts
+    names = ", ".join(f"`{it.rpartition(' ')[2] if it.startswith('pub') else it}`" for it in openings)
+    return f"{names} (`{crate}/src/{file}`)"
 
 
 def main(folder, option=None):
@@ -198,7 +173,11 @@ def main(folder, option=None):
     page = top / PAGE
     text = page.read_text()
     head, mark, _ = text.partition(MARK)
-    made = head + mark + "\n" + "\n".join(tables(top)) + "\n"
+    made_of = Page(top)
+    explained = set(re.split(r"[\s◌,]+", " ".join(re.findall(r"`([^`]+)`", head.replace("\\|", "|")))))
+    if missing := sorted(set(made_of.library_words()) - explained):
+        sys.exit(f"{PAGE} doesn't say what these words of libraries mean: {' '.join(missing)}")
+    made = head + mark + "\n" + "\n".join(made_of.tables()) + "\n"
     if option == "--write":
         page.write_text(made)
     elif made != text:

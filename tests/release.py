@@ -2,8 +2,9 @@
 
 The archive has the same bytes from two folders, names in order and no owner, and its checksum is right; what it holds is the program, the
 pages, whose links lead to what is there, and the clients; the executable starts in an empty root that has nothing but the libraries
-which it loads (as a user this takes `unshare`); `--install` puts the same files there, over older ones too; the steps that README.md
-shows for CI run; wrong words are refused. Prints one line for each case.
+which it loads (as a user this takes `unshare`); `--install` puts the same files there, over older ones too, which it names, and changes
+nothing where something else is in the way; a clone of another user is told as git tells it, and one that can't be written gives the program
+that it carries; the steps that docs/CI.md shows for an archive run; wrong words are refused. Prints one line for each case.
 """
 
 import os
@@ -14,13 +15,11 @@ import subprocess
 import sys
 import tarfile
 import tempfile
+import textwrap
 
-from copying import TOP, copy_files
+from copying import TOP, carry, commit, copy_files
 from links import broken_links
-from running import CLEAN, WORKFLOWS, report, results, show
-
-COMMITTED = {"GIT_AUTHOR_DATE": "2026-01-02T03:04:05Z", "GIT_COMMITTER_DATE": "2026-01-02T03:04:05Z", "GIT_CONFIG_GLOBAL": "/dev/null"}
-AS = ["-c", "user.name=a", "-c", "user.email=a@example.com"]
+from running import CLEAN, NOBODY, WORKFLOWS, report, results, show
 
 
 def run(words, **how):
@@ -33,12 +32,12 @@ def failed(ran, status=0):
     return [] if ran.returncode == status else [f"status {ran.returncode}: {show(ran.stdout + ran.stderr)}"]
 
 
-def clone(folder):
-    """A repository with the files of this tree in one commit, always the same."""
-    copy_files(folder, re.compile(r"(docs|clients)/|[^/]*$").match)
-    env = os.environ | COMMITTED
-    for words in (["init", "-q"], ["add", "-A"], [*AS, "commit", "-q", "-m", "all"]):
-        run(["git", *words], cwd=folder, env=env).check_returncode()
+def clone(folder, program=None):
+    """A repository with the files of this tree in one commit, always the same; with the sources too where it carries a program."""
+    copy_files(folder, re.compile(rf"(docs|clients|tools{'|crates|prebuilt' * bool(program)})/|[^/]*$").match)
+    if program:
+        carry(folder, program)
+    commit(folder)
     return folder
 
 
@@ -67,7 +66,7 @@ def contents(archive):
 
 
 def unpacked(archive, room):
-    """The archive's folder, unpacked as README.md's steps do."""
+    """The archive's folder, unpacked as the steps of docs/CI.md do."""
     run(["tar", "-xzf", archive], cwd=room).check_returncode()
     return next(it for it in room.iterdir() if it.is_dir())
 
@@ -98,19 +97,77 @@ def alone(program, room):
     return failed(run(given, env={"PATH": "/usr/sbin:/usr/bin:/sbin:/bin"}))
 
 
-def steps_of_readme(archive, room):
-    """The steps that README.md shows for CI, in a repository with the archive."""
-    text = (TOP / "README.md").read_text(encoding="utf-8")
-    block = re.search(r"^```yaml file=\.github/workflows/\w+\.yml\n(.*?)^```", text, re.DOTALL | re.MULTILINE)[1]
-    steps = re.findall(r"^ +- run: (.*)$", block, re.MULTILINE)
+def steps_of_the_page(archive, room):
+    """The steps that docs/CI.md shows for an archive, in a repository that has it."""
+    text = (TOP / "docs/CI.md").read_text(encoding="utf-8")
+    block = re.search(r"^<!-- run: archive -->\n```yaml\n(.*?)^```", text, re.DOTALL | re.MULTILINE)[1]
+    steps = [textwrap.dedent(lines) or line
+             for line, lines in re.findall(r"^ +- run: (?:([^|\n]+)|\|\n((?: {10}.*\n)+))", block, re.MULTILINE)]
     folder = room / "used"
     (folder / "tools").mkdir(parents=True)
     shutil.copy2(archive, folder / "tools")
     (folder / WORKFLOWS).mkdir(parents=True)
     (folder / WORKFLOWS / "actionlint.yml").write_text(block, encoding="utf-8")
-    wrong = [] if steps else ["README.md shows no steps"]
+    wrong = [] if steps else ["docs/CI.md shows no steps"]
     for step in steps:
         wrong += failed(run(["bash", "-e", "-c", step], cwd=folder))
+    return wrong
+
+
+def installed(folder, program, prefix, archived):
+    """Puts the release where an older one is, and something else beside it: it has the archive's files, and says which it took away."""
+    (prefix / "bin").mkdir(parents=True)
+    (prefix / "bin/actionlint").write_text("an older one")
+    (prefix / "bin/other").write_text("another's")
+    (prefix / "share/actionlint").mkdir(parents=True)
+    for name in ("NEEDS", "gone"):
+        (prefix / "share/actionlint" / name).write_text("an older one")
+    ran = run([folder / "release", "--program", program, "--install", prefix])
+    said = [f"release: overwrote {prefix}/bin/actionlint", f"release: overwrote {prefix}/share/actionlint, a whole folder"]
+    lines = ran.stdout.decode().splitlines()
+    found = files_of(prefix)
+    kept = found.pop("bin/other", None)
+    return failed(ran) + ([] if kept and found == files_of(archived) else ["other files than in the archive"]) + (
+        [] if lines[:-1] == said else [f"it said {lines}"])
+
+
+def in_the_way(folder, program, room):
+    """What isn't of a release where one is to be put: nothing changes."""
+    wrong = []
+    for name, file in (("bin/actionlint", "bin/actionlint/a"), ("share/actionlint", "share/actionlint/a")):
+        prefix = room / name.replace("/", "-")
+        (prefix / file).parent.mkdir(parents=True)
+        (prefix / file).write_text("another's")
+        before = files_of(prefix)
+        ran = run([folder / "release", "--program", program, "--install", prefix])
+        wrong += failed(ran, 1) + ([] if files_of(prefix) == before else [f"{name}: files changed"])
+        wrong += [] if f"{prefix}/{name}".encode() in ran.stderr else [f"{name}: it said {show(ran.stderr)}"]
+    return wrong
+
+
+def of_another(folder, room):
+    """A clone of another user: git's own words, which say what to do."""
+    pretended = {"GIT_TEST_ASSUME_DIFFERENT_OWNER": "1", "GIT_CONFIG_COUNT": "0"}
+    ran = run([folder / "release", "--install", room / "never"], env=os.environ | pretended)
+    return failed(ran, 1) + ([] if b"safe.directory" in ran.stderr and b"has none" not in ran.stderr else [show(ran.stderr)])
+
+
+def reading_alone(folder, room):
+    """A clone that can't be written, for another user where this is root: the program that it carries is put into a folder."""
+    room.chmod(0o755)
+    run(["chmod", "-R", "a=rX", folder]).check_returncode()
+    (room / "home").mkdir()
+    user = {}
+    if os.geteuid() == 0:
+        os.chown(room / "home", NOBODY, NOBODY)
+        user = {"user": NOBODY, "group": NOBODY, "extra_groups": []}
+    trusted = {"GIT_CONFIG_COUNT": "1", "GIT_CONFIG_KEY_0": "safe.directory", "GIT_CONFIG_VALUE_0": str(folder)}
+    env = {"PATH": "/usr/bin:/bin", "HOME": str(room / "home"), **trusted}
+    ran = run([folder / "release", "--install", room / "home/put"], env=env, cwd=room, **user)
+    wrong = failed(ran) or failed(run([room / "home/put/bin/actionlint", "--help"]))
+    ran = run([folder / "release"], env=env, cwd=room, **user)
+    wrong += failed(ran, 1) + ([] if b"--to names another folder" in ran.stderr else [show(ran.stderr)])
+    run(["chmod", "-R", "u+w", folder]).check_returncode()
     return wrong
 
 
@@ -140,15 +197,11 @@ def cases(program, room):
     folder = unpacked(archive, room / "here")
     yield "links-of-its-pages", broken_links(folder / "share/actionlint")
     yield "started-with-what-it-needs", alone(folder / "bin/actionlint", room)
-    prefix = room / "prefix"
-    (prefix / "bin").mkdir(parents=True)
-    (prefix / "bin/actionlint").write_text("an older one")
-    (prefix / "bin/other").write_text("another's")
-    ran = run([first / "release", "--program", program, "--install", prefix])
-    found = files_of(prefix)
-    kept = found.pop("bin/other", None)
-    yield "install", failed(ran) + ([] if kept and found == files_of(folder) else ["other files than in the archive"])
-    yield "steps-of-the-readme", steps_of_readme(archive, room)
+    yield "install", installed(first, program, room / "prefix", folder)
+    yield "install-where-something-is", in_the_way(first, program, room)
+    yield "clone-of-another-user", of_another(first, room)
+    yield "clone-that-is-read-alone", reading_alone(clone(room / "c", program), room)
+    yield "steps-of-the-page", steps_of_the_page(archive, room)
     yield "wrong-words", words(first, program, room)
 
 

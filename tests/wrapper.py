@@ -15,7 +15,7 @@ import sys
 import tempfile
 import time
 
-from running import report
+from running import NOBODY, report
 
 RT = """#!/usr/bin/env bash
 echo "$*" >> "$RT_CALLS"
@@ -31,7 +31,10 @@ case $1 in
 esac
 """
 CARRIED = '#!/bin/sh\necho "carried $*"\n'
-COPIED = ("actionlint", "tools/crates.py", "tools/program.py", "tools/prebuilt.py")
+COPIED = ("actionlint", "tools/build.py", "tools/crates.py", "tools/find_program.sh", "tools/prebuilt.py", "tools/schedule.py")
+# The commands of the system that the wrapper takes, beside python3.
+NEEDED = ("sh", "bash", "awk", "find", "sort", "xargs", "sha256sum", "readlink", "mkdir", "touch", "mv", "rm", "cat", "chmod")
+ROWS = "".join(f"| `{crate}` | 1,000 | {seconds} | 1,407 |\n" for crate, seconds in (("low", 100), ("middle", 200), ("actionlint", 700)))
 
 
 class Copy:
@@ -52,6 +55,7 @@ class Copy:
         (self.room / "bin/rt").write_text(RT)
         (self.room / "bin/rt").chmod(0o755)
         self.calls = self.room / "calls"
+        self.user = {}
         self.path = f"{self.room / 'bin'}:{os.environ['PATH']}"
 
     def source(self, crate="low"):
@@ -69,7 +73,7 @@ class Copy:
         """Runs the wrapper, and returns its status and output and which commands of the kit it called."""
         self.calls.write_text("")
         command = [str(by or self.top / "actionlint"), *words]
-        pipes = {"capture_output": True, "text": True, "timeout": 60, "check": False}
+        pipes = {"capture_output": True, "text": True, "timeout": 60, "check": False, **self.user}
         ran = subprocess.run(command, cwd=folder or self.room, env=self.environment(**more), **pipes)
         return ran.returncode, ran.stdout, ran.stderr, [line.split()[0] for line in self.calls.read_text().splitlines()]
 
@@ -78,6 +82,17 @@ class Copy:
         made = self.called("python3", str(self.top / "tools/prebuilt.py"), "--renew", **more)
         (self.top / "prebuilt/actionlint").write_text(CARRIED)
         return made.returncode
+
+    def without(self, *commands):
+        """A folder for the PATH with what the wrapper needs, but for some commands."""
+        tools = pathlib.Path(tempfile.mkdtemp(dir=self.room))
+        tools.chmod(0o755)
+        for name in (*NEEDED, "python3"):
+            if name not in commands:
+                (tools / name).symlink_to(shutil.which(name))
+        if "rt" not in commands:
+            (tools / "rt").symlink_to(self.room / "bin/rt")
+        return str(tools)
 
     def forget(self):
         """Removes what was built."""
@@ -210,11 +225,99 @@ def test_prebuilt(copy):
     report("compare-the-same", ran.returncode, [] if ran.stdout == "fits\n" else [ran.stdout + ran.stderr])
     (copy.top / "prebuilt/actionlint").write_text(CARRIED)
     copy.forget()
-    kit = os.path.dirname(shutil.which("rt") or "/none")
-    expect("carried-without-a-kit", copy.run("x", PATH=os.environ["PATH"].replace(kit, "/none")), out="carried x\n", calls=[])
+    no_kit = {"PATH": copy.without("rt")}
+    expect("carried-without-a-kit", copy.run("x", **no_kit), out="carried x\n", calls=[])
     shutil.rmtree(copy.top / "prebuilt")
     copy.forget()
-    expect("nothing-carried-and-no-kit", copy.run(PATH=os.environ["PATH"].replace(kit, "/none")), status=3, out="", calls=[])
+    expect("nothing-carried-and-no-kit", copy.run(**no_kit), status=3, out="", calls=[], err=is_a_line_with("a release's program runs"))
+
+
+def test_which(copy):
+    expect("which-builds-none", copy.run("--which"), status=3, out="", calls=[], err=is_a_line_with("no program was built"))
+    copy.run()
+    expect("which-is-built", copy.run("--which"), status=0, out=f"{copy.top}/crates/actionlint/out/actionlint\n", calls=[], err="")
+    copy.carry()
+    copy.forget()
+    expect("which-is-carried", copy.run("--which"), status=0, out=f"{copy.top}/prebuilt/actionlint\n", calls=["version"], err="")
+    copy.source().write_text("// two\n")
+    expect("which-of-other-sources", copy.run("--which"), status=3, out="", calls=[])
+
+
+def test_missing_commands(copy):
+    """Without python3 or rt a carried program that fits is run, and else one sentence says what is missing."""
+    copy.run()
+    copy.carry()
+    both = copy.without("python3", "rt")
+    for name, path in (("python3", copy.without("python3")), ("rt", copy.without("rt")), ("both", both)):
+        copy.forget()
+        expect(f"carried-without-{name}", copy.run("x", PATH=path), status=0, out="carried x\n", err=is_a_line_with("--build-anew"))
+    copy.forget()
+    for name in ("awk", "sha256sum"):
+        said = is_a_line_with(f"{name} is missing to tell whether")
+        expect(f"carried-without-{name}", copy.run("x", PATH=copy.without("rt", name)), status=3, out="", err=said)
+    (copy.top / "prebuilt/actionlint").write_text("#!/bin/sh\nexit 1\n")
+    expect("carried-that-does-not-run", copy.run("x", PATH=both), status=3, out="", err=is_a_line_with("glibc 2.34"))
+    expect("which-of-one-that-does-not-run", copy.run("--which", PATH=both), status=3, out="", err=is_a_line_with("glibc 2.34"))
+    (copy.top / "prebuilt/actionlint").write_text(CARRIED)
+    copy.source().write_text("// two\n")
+    for name, path in (("python3", copy.without("python3")), ("rt", copy.without("rt")), ("python3 or rt", both)):
+        said = is_a_line_with(f"would prove and build one, but there is no {name} on the PATH; prebuilt/actionlint can be run by its "
+                              "path, whatever it was built from, and a release's program runs as it is")
+        shown = name.replace(" ", "-")
+        expect(f"other-sources-without-{shown}", copy.run(PATH=path), status=3, out="", calls=[], err=said)
+        expect(f"build-anew-without-{shown}", copy.run("--build-anew", PATH=path), status=3, out="", calls=[], err=said)
+
+
+def test_reading_alone(copy):
+    """A user who can't write to the clone: what was found is kept in the folder of caches."""
+    copy.run()
+    copy.carry()
+    copy.forget()
+    cache, without_kit = copy.room / "cache", copy.without("rt")
+    cache.mkdir()
+    for path in (copy.room, *copy.room.rglob("*")):
+        if not path.is_symlink() and path != cache:
+            path.chmod(0o555 if path.is_dir() or os.access(path, os.X_OK) else 0o444)
+    copy.calls.chmod(0o666)
+    if os.geteuid() == 0:
+        copy.user = {"user": NOBODY, "group": NOBODY, "extra_groups": []}
+        os.chown(cache, NOBODY, NOBODY)
+    kept = {"XDG_CACHE_HOME": str(cache)}
+    expect("read-alone", copy.run("x", **kept), status=0, out="carried x\n", calls=["version"], err=is_a_line_with("--build-anew"))
+    expect("read-alone-at-once", copy.run("x", **kept), status=0, out="carried x\n", calls=[], err="")
+    own = {"XDG_CACHE_HOME": "", "HOME": str(copy.room / "home")}
+    expect("read-alone-and-no-cache", copy.run("x", **own), status=0, out="carried x\n", calls=["version"], err="")
+    relative = copy.run("x", folder=cache, XDG_CACHE_HOME="there")
+    expect("cache-by-a-relative-path", relative, status=0, out="carried x\n", calls=["version"], err="")
+    found = sorted(str(it.relative_to(cache)) for it in cache.rglob("*") if it.is_file())
+    report("only-the-stamp-is-kept", "-", [] if found == [f"actionlint{copy.top.resolve()}/fits"] else [str(found)])
+    copy.source().chmod(0o644)
+    copy.source().write_text("// two\n")
+    copy.source().chmod(0o444)
+    said = is_a_line_with("prebuilt/actionlint can be run by its path")
+    expect("read-alone-other-sources", copy.run("x", PATH=without_kit, **kept), status=3, out="", err=said)
+    copy.user = {}
+    for path in (copy.room, *copy.room.rglob("*")):
+        if path.is_dir() and not path.is_symlink():
+            path.chmod(0o755)
+
+
+def test_estimate(copy):
+    """What a build tells of its time: by the seconds of docs/PROVING.md and the processors that it has."""
+    (copy.top / "docs").mkdir()
+    (copy.top / "docs/PROVING.md").write_text(ROWS)
+    expect("time-of-a-build", copy.run(RT_JOBS="1"), status=0, calls=BUILDS, err=has("about 17 minutes of one processor"))
+    ask = "import sys; sys.path.insert(0, sys.argv[1]); import build; p = build.Progress(); p.start -= 600\n"
+    ask += "for crate in ('low', 'middle', 'actionlint'): p.heard(f'rt: {crate} proved\\n')"
+    ran = copy.called("python3", "-c", ask, str(copy.top / "tools"), RT_JOBS="1")
+    wanted = [f"actionlint: {crate} is proved: {number} of 3 crates, 10 minutes so far, about {left} to go"
+              for number, crate, left in ((1, "low", 90), (2, "middle", 23), (3, "actionlint", 0))]
+    report("time-to-go", ran.returncode, [] if ran.stderr.splitlines() == wanted else [ran.stderr])
+    (copy.top / "crates.txt").write_text("low:\nmiddle:\nactionlint: low middle\n")
+    ask = "import sys, pathlib; sys.path.insert(0, sys.argv[1]); import build; print(build.Progress().ends)"
+    for jobs, wanted in (("1", "{'middle': 200, 'low': 300, 'actionlint': 1000}"), ("2", "{'middle': 200, 'low': 100, 'actionlint': 900}")):
+        ran = copy.called("python3", "-c", ask, str(copy.top / "tools"), RT_JOBS=jobs)
+        report(f"schedule-of-{jobs}", ran.returncode, [] if ran.stdout.strip() == wanted else [ran.stdout + ran.stderr])
 
 
 def touched(copy):
@@ -223,8 +326,11 @@ def touched(copy):
     return copy.top / "actionlint"
 
 
+TESTS = (test_building, test_places, test_signals, test_prebuilt, test_which, test_missing_commands, test_reading_alone, test_estimate)
+
+
 def main(top):
-    for test in (test_building, test_places, test_signals, test_prebuilt):
+    for test in TESTS:
         copy = Copy(pathlib.Path(top).resolve())
         try:
             test(copy)

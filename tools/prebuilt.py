@@ -6,30 +6,50 @@ where it was built from others, or by another kit. The status is 1 where it shou
 prebuilt/.
 """
 
+import pathlib
 import shutil
+import subprocess
 import sys
 
-import program
+TOP = pathlib.Path(__file__).resolve().parent.parent
+BUILT = TOP / "crates/actionlint/out/actionlint"
+PREBUILT = TOP / "prebuilt/actionlint"
+HASH = TOP / "prebuilt/sources.sha256"
+# Runs a function of tools/find_program.sh for the sources of the repository at $0.
+ASK = 'top=$0; . "$0/tools/find_program.sh"; sources=$(list_sources); "$@"'
+
+
+def ask(*words):
+    """What a function of tools/find_program.sh answers; nothing where it fails."""
+    ran = subprocess.run(["sh", "-c", ASK, str(TOP), *words], stdout=subprocess.PIPE, text=True, check=False)
+    return ran.stdout.strip() if ran.returncode == 0 else None
+
+
+def kit():
+    """The kit's identity, or nothing where there is no kit."""
+    if not shutil.which("rt"):
+        return None
+    return subprocess.run(["rt", "version"], stdout=subprocess.PIPE, text=True, check=False).stdout.strip()
 
 
 def renew():
-    if not program.is_newest(program.BUILT):
+    if ask("built_fits") is None:
         sys.exit("crates/actionlint/out/actionlint isn't there, or a source is newer: ./actionlint --build-anew builds it")
-    version = program.kit()
+    version = kit()
     if version is None:
         sys.exit("the kit's command rt isn't on the PATH")
-    program.PREBUILT.parent.mkdir(exist_ok=True)
-    shutil.copyfile(program.BUILT, program.PREBUILT)
-    program.PREBUILT.chmod(0o755)
-    program.HASH.write_text(program.hash_of_sources(version))
+    PREBUILT.parent.mkdir(exist_ok=True)
+    shutil.copyfile(BUILT, PREBUILT)
+    PREBUILT.chmod(0o755)
+    HASH.write_text(ask("hash_of_sources", version) + "\n")
 
 
 def compare():
-    if not program.PREBUILT.is_file():
+    if not PREBUILT.is_file():
         print("none")
-    elif program.kit_of_prebuilt() != program.kit():
+    elif ask("kit_of_prebuilt") != kit():
         print("older")
-    elif program.PREBUILT.read_bytes() == program.BUILT.read_bytes():
+    elif PREBUILT.read_bytes() == BUILT.read_bytes():
         print("fits")
     else:
         sys.exit("prebuilt/actionlint isn't the program that these sources give, though its hash is theirs")

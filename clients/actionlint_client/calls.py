@@ -1,40 +1,89 @@
-"""Which actions a file may call. The session doesn't tell for which files its calls look, so the client finds them by their texts."""
+"""Which actions a file calls. The session doesn't tell for which files its calls look, so the client reads the calls itself."""
 from __future__ import annotations
 
-import re
+from typing import Iterator, Union
 
-from .positions import LINE_BREAK
+import yaml
 
-MAX_PATH_BYTES = 1_024
-MAX_ENDS = 16
+from .paths import ACTION_NAMES, is_path, is_workflow
 
-# What may be a call of a local action. A text that is none does no harm: there is no such action, or one more action is linted.
-CALL = re.compile(rb"(?<![\w.])\./")
-END = re.compile(rb"\s+#|['\"]|[,}\]]|\s+$")
-ACTION_NAMES = ("action.yml", "action.yaml")
-
-
-def callees(data: bytes) -> frozenset[str]:
-    """The paths at which the calls of a file may look for an action."""
-    found: set[str] = set()
-    for line in LINE_BREAK.split(data):
-        if b"./" not in line or line.lstrip().startswith(b"#"):
-            continue
-        for call in CALL.finditer(line):
-            text = line[call.end():call.end() + MAX_PATH_BYTES + 1]
-            ends = [end.start() for end in END.finditer(text)][:MAX_ENDS] + [len(text)]
-            for end in ends:
-                found.update(_action_paths(text[:end]))
-    return frozenset(found)
+Node = Union[str, list, dict]
+MAX_DEPTH = 64
+# libyaml reads some ten times as fast as Python alone.
+LOADER = getattr(yaml, "CSafeLoader", yaml.SafeLoader)
 
 
-def _action_paths(called: bytes) -> list[str]:
-    """The files that make a folder an action; none where the bytes can't be a folder's path."""
+class NotRead(Exception):
+    """YAML that the linter doesn't read: too deep, with a second document, a tag, an alias of nothing or a key that is no mere scalar."""
+
+
+def callees(path: str, data: bytes) -> frozenset[str] | None:
+    """The paths at which the calls of a file look for actions, or None where the file is no YAML."""
+    if b"uses" not in data and b"\\" not in data:
+        return frozenset()
     try:
-        name = called.decode("utf-8").removesuffix("/")
-    except UnicodeDecodeError:
+        events = yaml.parse(data.decode("utf-8"), Loader=LOADER)
+        root = _root(event for event in events if isinstance(event, (yaml.NodeEvent, yaml.CollectionEndEvent)))
+    except (yaml.YAMLError, UnicodeDecodeError, NotRead):
+        return None
+    steps = _steps_of_workflow(root) if is_workflow(path) else _steps_of_action(root)
+    uses = {text for step in steps if isinstance(text := _under(step, "uses"), str)}
+    return frozenset(file for text in uses for file in _action_files(text))
+
+
+def _root(events: Iterator[yaml.Event]) -> Node:
+    first = next(events, None)
+    root = "" if first is None else _node(first, events, {}, 1)
+    if next(events, None) is not None:
+        raise NotRead
+    return root
+
+
+def _node(event: yaml.Event, events: Iterator[yaml.Event], anchors: dict[str, Node], depth: int) -> Node:
+    """The node that begins with an event. What stands behind an alias is shared, and of equal keys the first counts, as for the linter."""
+    if isinstance(event, yaml.AliasEvent):
+        if event.anchor not in anchors:
+            raise NotRead
+        return anchors[event.anchor]
+    if event.tag is not None or depth > MAX_DEPTH:
+        raise NotRead
+    if isinstance(event, yaml.ScalarEvent):
+        node: Node = event.value
+    elif isinstance(event, yaml.SequenceStartEvent):
+        node = []
+        while not isinstance(item := next(events), yaml.CollectionEndEvent):
+            node.append(_node(item, events, anchors, depth + 1))
+    else:
+        node = {}
+        while not isinstance(key := next(events), yaml.CollectionEndEvent):
+            if not isinstance(key, yaml.ScalarEvent) or key.anchor is not None or key.tag is not None:
+                raise NotRead
+            node.setdefault(key.value, _node(next(events), events, anchors, depth + 1))
+    if event.anchor is not None:
+        anchors[event.anchor] = node
+    return node
+
+
+def _steps_of_workflow(root: Node) -> Iterator[Node]:
+    jobs = _under(root, "jobs")
+    # Jobs can share their steps by aliases.
+    lists = {id(steps): steps for job in jobs.values() if isinstance(steps := _under(job, "steps"), list)} if isinstance(jobs, dict) else {}
+    return (step for steps in lists.values() for step in steps)
+
+
+def _steps_of_action(root: Node) -> Iterator[Node]:
+    runs = _under(root, "runs")
+    steps = _under(runs, "steps") if _under(runs, "using") == "composite" else []
+    return iter(steps if isinstance(steps, list) else [])
+
+
+def _under(node: Node, key: str) -> Node:
+    return node.get(key, "") if isinstance(node, dict) else ""
+
+
+def _action_files(uses: str) -> list[str]:
+    """The files at which a call looks for an action: none where it is none of this folder."""
+    if not uses.startswith("./") or "${{" in uses:
         return []
-    parts = name.split("/") if name else []
-    if len(called) > MAX_PATH_BYTES or "\0" in name or any(part in ("", ".", "..") for part in parts):
-        return []
-    return ["/".join([*parts, file]) for file in ACTION_NAMES]
+    folder = uses[2:].removesuffix("/")
+    return [path for name in ACTION_NAMES if is_path(path := f"{folder}/{name}" if folder else name)]

@@ -1,157 +1,138 @@
-"""actionlint-report: runs the linter and writes its report as SARIF 2.1.0, as GitLab's Code Quality, or as lines of JSON.
+"""actionlint-report: runs the linter and writes its report in another form, for people or for programs.
 
-It runs the linter itself, so that a run that could not go on never passes for one without faults: the exit status is the linter's, and
-SARIF tells it too.
+It runs the linter itself, so that a run that could not go on never passes for one without faults: the exit status is the linter's, but for
+faults that are ignored and notes of shellcheck.
 """
 from __future__ import annotations
 
 import argparse
-import hashlib
-import json
-import subprocess
 import sys
-import tempfile
-from collections import Counter
-from dataclasses import dataclass
-from urllib.parse import quote
+from typing import BinaryIO
 
-from .entries import entry_of, link_of
-from .report import BadReport, Fault, parse_report
-from .session import default_program
+from . import shellcheck
+from .characters import terminal_text
+from .entries import entries, explained
+from .forms import Annotations, CodeQuality, Form, JsonLines, Outcome
+from .ignoring import Ignored, WrongRule, rules_in
+from .lint_run import CANNOT_GO_ON, CannotStart, LintRun, ReportTooLong
+from .output import report_output
+from .problems import Problem, problem_of
+from .program import WHICH, default_program
+from .report import BadReport
+from .sarif import Sarif, left_out_line
+from .terminal import Text, has_color
+from .version import version
 
-MAX_REPORT_BYTES = 64 * 1_048_576
-CANNOT_GO_ON = 3
-SCHEMA = "https://json.schemastore.org/sarif-2.1.0.json"
-
-
-@dataclass(frozen=True)
-class Run:
-    """A run of the linter: its status, its faults, and what it wrote on standard error."""
-
-    status: int
-    faults: list[Fault]
-    errors: str
+WRONG_WORDS = 2
+FORMS: dict[str, type[Form]] = {
+    "sarif": Sarif, "codequality": CodeQuality, "jsonl": JsonLines, "github": Annotations, "text": Text}
 
 
 def main(words: list[str] | None = None) -> int:
-    options = _options(words)
+    options = _options(sys.argv[1:] if words is None else words)
+    if options.explain is not None:
+        return explain(options.explain)
     try:
-        run = lint(options.program, options.words)
-    except OSError as error:
-        return _fail(f"cannot start {options.program}: {error.strerror}")
+        ignored = Ignored([*options.ignore, *(rule for file in options.ignore_file for rule in rules_in(file))])
+        with report_output(options.out) as out:
+            form, outcome = _report(options, ignored, out)
+    except WrongRule as error:
+        return _fail(str(error), WRONG_WORDS)
+    except (CannotStart, shellcheck.ShellcheckFailed) as error:
+        return _fail(str(error))
     except BadReport as error:
         return _fail(f"{options.program} is not the linter: {error}")
-    sys.stderr.write(run.errors)
-    try:
-        _write(FORMS[options.form](run, options.docs), options.out)
     except OSError as error:
         return _fail(f"write failed: {error.strerror}")
-    return run.status
+    _say(form, outcome)
+    return outcome.status
 
 
-def lint(program: str, words: list[str]) -> Run:
-    """A run with the lines of files, which tell how long each fault is, unless these would be too many bytes: a line is printed once for
-    each fault on it."""
-    return _lint_with(program, words, [], MAX_REPORT_BYTES) or _lint_with(program, words, ["--oneline"], None)
+def explain(code: str) -> int:
+    """Prints the entry of a code, in any case of letters."""
+    entry = next((entry for entry in entries() if entry.code == code.upper()), None)
+    if entry is None:
+        return _fail(f"{code!r} is no code of a fault", WRONG_WORDS)
+    print(explained(entry))
+    return 0
 
 
-def _lint_with(program: str, words: list[str], form: list[str], max_bytes: int | None) -> Run | None:
-    """The run, or None where its report has more bytes."""
-    with tempfile.TemporaryFile() as errors, subprocess.Popen(
-            [program, *form, *words], stdin=subprocess.DEVNULL, stdout=subprocess.PIPE, stderr=errors) as child:
-        assert child.stdout
-        printed = child.stdout.read() if max_bytes is None else child.stdout.read(max_bytes + 1)
-        if max_bytes is not None and len(printed) > max_bytes:
-            child.kill()
-            return None
-        status = child.wait()
-        errors.seek(0)
-        said = errors.read().decode("utf-8", "replace")
-    if status in (0, 1):
-        return Run(status, parse_report(printed.split(b"\n")[:-1], not form), said)
-    return Run(status if status > 0 else CANNOT_GO_ON, [], said or f"actionlint: ended by signal {-status}\n")
+def _report(options: argparse.Namespace, ignored: Ignored, out: BinaryIO) -> tuple[Form, Outcome]:
+    """Writes the report with the lines of files, which tell how long each fault is, unless these would be too many bytes."""
+    try:
+        return _write(options, ignored, out, True)
+    except ReportTooLong:
+        out.seek(0)
+        out.truncate()
+        return _write(options, ignored, out, False)
 
 
-def json_lines(run: Run, docs: str | None) -> str:
-    """A line of JSON for each fault: lines and columns count from 1, columns characters; `end_column` is the column behind the last one."""
-    lines = []
-    for fault in run.faults:
-        entry = entry_of(fault.message)
-        lines.append(json.dumps({
-            "path": fault.path, "line": fault.line, "column": fault.column,
-            "end_column": fault.column + fault.width if fault.width else None, "code": entry.code if entry else None,
-            "kind": fault.kind, "message": fault.message}, ensure_ascii=False) + "\n")
-    return "".join(lines)
+def _write(options: argparse.Namespace, ignored: Ignored, out: BinaryIO, snippets: bool) -> tuple[Form, Outcome]:
+    form, outcome = _form(options, out), Outcome()
+    form.begin()
+    unread: set[str] = set()
+    with LintRun(options.program, options.root, options.files, snippets) as run:
+        for reported in run:
+            problem = problem_of(reported.fault, reported.snippet)
+            if problem.code.startswith("Y"):
+                unread.add(problem.fault.path)
+            _tell(problem, form, ignored, outcome)
+    outcome.errors = run.errors
+    if options.shellcheck and run.status in (0, 1):
+        for note in shellcheck.notes(options.root or ".", options.files, unread, outcome.say):
+            _tell(note, form, ignored, outcome)
+    outcome.status = run.status if run.status not in (0, 1) else 1 if outcome.files else 0
+    form.end(outcome)
+    return form, outcome
 
 
-def code_quality(run: Run, docs: str | None) -> str:
-    """GitLab's list of problems. A fingerprint stays the same while a fault's line moves, and no two are the same."""
-    problems = []
-    seen: Counter = Counter()
-    for fault in run.faults:
-        entry = entry_of(fault.message)
-        name = entry.code if entry else fault.kind
-        known = fault.path, name, fault.message
-        seen[known] += 1
-        fingerprint = hashlib.sha256("\0".join([*known, str(seen[known])]).encode("utf-8", "surrogatepass")).hexdigest()
-        problems.append({"description": fault.message, "check_name": name, "fingerprint": fingerprint, "severity": "major",
-                         "location": {"path": fault.path, "lines": {"begin": fault.line}}})
-    return json.dumps(problems, indent=1, ensure_ascii=False) + "\n"
-
-
-def sarif(run: Run, docs: str | None) -> str:
-    """A log of one run (SARIF 2.1.0, 3.14). Columns are characters (3.14.27)."""
-    rules: dict[str, dict] = {}
-    results = [_result(fault, rules, docs) for fault in run.faults]
-    invocation: dict[str, object] = {"executionSuccessful": run.status in (0, 1), "exitCode": run.status}
-    if run.errors:
-        invocation["toolExecutionNotifications"] = [{"level": "error", "message": {"text": run.errors.strip()}}]
-    log = {"$schema": SCHEMA, "version": "2.1.0", "runs": [{
-        "tool": {"driver": {"name": "actionlint", "rules": list(rules.values())}},
-        "columnKind": "unicodeCodePoints", "invocations": [invocation], "results": results}]}
-    return json.dumps(log, indent=1, ensure_ascii=False) + "\n"
-
-
-def _result(fault: Fault, rules: dict[str, dict], docs: str | None) -> dict:
-    """A result, whose rule is added where it is new."""
-    entry = entry_of(fault.message)
-    name = entry.code if entry else fault.kind
-    if name not in rules:
-        rules[name] = {"id": name, "name": fault.kind, "shortDescription": {"text": entry.message if entry else fault.kind},
-                       "defaultConfiguration": {"level": "error"}}
-        if entry and docs:
-            rules[name]["helpUri"] = link_of(entry, docs.rstrip("/"))
-    region: dict[str, int] = {"startLine": fault.line, "startColumn": fault.column}
-    if fault.width:
-        region |= {"endLine": fault.line, "endColumn": fault.column + fault.width}
-    place = {"artifactLocation": {"uri": quote(fault.path), "uriBaseId": "%SRCROOT%"}, "region": region}
-    return {"ruleId": name, "ruleIndex": list(rules).index(name), "level": "error", "message": {"text": fault.message},
-            "locations": [{"physicalLocation": place}]}
-
-
-FORMS = {"sarif": sarif, "codequality": code_quality, "jsonl": json_lines}
-
-
-def _options(words: list[str] | None) -> argparse.Namespace:
-    parser = argparse.ArgumentParser(prog="actionlint-report", description=__doc__.split("\n")[0],
-                                     epilog="The words behind -- go to the linter: --root DIR, FILEs.")
-    parser.add_argument("--form", choices=tuple(FORMS), default="sarif", help="the form of the report (default: %(default)s)")
-    parser.add_argument("--program", default=default_program(), help="the linter (default: %(default)s)")
-    parser.add_argument("--docs", help="the address of the pages of faults, for links")
-    parser.add_argument("--out", help="the file to write (default: standard output)")
-    parser.add_argument("words", nargs="*", metavar="WORD", help=argparse.SUPPRESS)
-    return parser.parse_args(words)
-
-
-def _write(text: str, file: str | None) -> None:
-    if file:
-        with open(file, "w", encoding="utf-8") as opened:
-            opened.write(text)
+def _tell(problem: Problem, form: Form, ignored: Ignored, outcome: Outcome) -> None:
+    if ignored.has(problem):
+        outcome.ignored += 1
     else:
-        sys.stdout.buffer.write(text.encode("utf-8"))
-        sys.stdout.buffer.flush()
+        outcome.count(problem)
+        form.add(problem)
 
 
-def _fail(why: str) -> int:
+def _form(options: argparse.Namespace, out: BinaryIO) -> Form:
+    if options.form != "text":
+        return FORMS[options.form](out, options.docs)
+    return Text(out, options.docs, has_color(options.color, options.out is None and sys.stdout.isatty()))
+
+
+def _say(form: Form, outcome: Outcome) -> None:
+    """What of the outcome the report doesn't tell, on standard error."""
+    if not form.tells_errors:
+        sys.stderr.write("".join(terminal_text(line) + "\n" for line in outcome.errors.splitlines()))
+    if form.left_out:
+        print(f"actionlint-report: {left_out_line(form.left_out)}", file=sys.stderr)
+    if outcome.ignored and not form.tells_count:
+        print(f"actionlint-report: {outcome.count_line()}", file=sys.stderr)
+
+
+def _options(words: list[str]) -> argparse.Namespace:
+    parser = argparse.ArgumentParser(prog="actionlint-report", description=__doc__.split("\n")[0], allow_abbrev=False,
+                                     usage="%(prog)s [OPTION]... [--] [FILE]...")
+    parser.add_argument("--form", choices=tuple(FORMS), default="sarif", help="the form of the report (default: %(default)s)")
+    parser.add_argument("--root", metavar="DIR", help="the repository's folder (default: the current one)")
+    parser.add_argument("--program", default=default_program(), help=f"the linter (default: {WHICH})")
+    parser.add_argument("--docs", metavar="ADDRESS", help="the address of the pages of faults, for links")
+    parser.add_argument("--out", metavar="FILE", help="the file to write (default: standard output)")
+    parser.add_argument("--color", choices=("auto", "always", "never"), default="auto", help="of the text (default: %(default)s)")
+    parser.add_argument("--ignore", metavar="CODE[:PATH]", action="append", default=[],
+                        help="a fault that doesn't count, in all files or one")
+    parser.add_argument("--ignore-file", metavar="FILE", action="append", default=[], help="a file with such words, one a line")
+    parser.add_argument("--shellcheck", action="store_true", help="show notes of shellcheck over scripts too, which nothing proves")
+    parser.add_argument("--explain", metavar="CODE", help="print what the pages say of a fault, and lint nothing")
+    parser.add_argument("--version", action="version", version=f"%(prog)s {version() or 'without a version'}")
+    parser.add_argument("files", nargs="*", metavar="FILE",
+                        help="workflows and actions below DIR (default: all workflows, and what they call)")
+    end = words.index("--") if "--" in words else len(words)
+    options = parser.parse_intermixed_args(words[:end])
+    options.files += words[end + 1:]
+    return options
+
+
+def _fail(why: str, status: int = CANNOT_GO_ON) -> int:
     print(f"actionlint-report: {why}", file=sys.stderr)
-    return CANNOT_GO_ON
+    return status

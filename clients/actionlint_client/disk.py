@@ -6,41 +6,55 @@ import stat
 from dataclasses import dataclass
 from typing import Callable, Iterable
 
-WORKFLOWS = ".github/workflows"
-WORKFLOW_ENDINGS = (b".yml", b".yaml")
+from .paths import WORKFLOWS, is_below, is_workflow
+
 MAX_FILE_BYTES = 1_048_576
+READ_BYTES = 65_536
+MAX_TOLD = 10
+# A pipe, a device or a log of the kernel answers at once, and none becomes this program's terminal.
+OPENED = os.O_RDONLY | os.O_NONBLOCK | os.O_NOCTTY | os.O_CLOEXEC
+NOT_REGULAR = "cannot read this file: it is not a regular one"
 
 
 @dataclass
 class SavedFile:
-    """A file as it was read last: its bytes, at most one more than the linter takes, or None where it isn't there or can't be read."""
+    """A file as it was read last: its bytes, at most one more than the linter takes, or None where it isn't there, can't be read or lies
+    outside of the folder."""
 
     stamp: tuple
     data: bytes | None
     error: str | None = None
+    is_outside: bool = False
 
 
 class Disk:
     """Files are read when they are asked for, and again where their times, sizes or numbers changed."""
 
     def __init__(self, root: bytes, say: Callable[[str], None]):
-        self.workflows: list[str] = []
+        self.workflows: set[str] = set()
         self._root = root
+        self._real_root = os.path.realpath(root)
         self._say = say
         self._files: dict[str, SavedFile] = {}
-        self._passed_over: set[bytes] = set()
+        self._passed_over: set[str] = set()
 
-    def rescan(self, changed: Iterable[str] = ()) -> None:
-        """Looks at the disk again. The files of `changed` are read even where they look the same."""
-        for path in changed:
-            self._files.pop(path, None)
-        self.workflows = [path for entry in self._entries() if (path := self._workflow_path(entry)) is not None]
-        for path in list(self._files):
+    def rescan(self) -> bool:
+        """Looks at the disk again, and answers whether something is there, gone or another file than before."""
+        self._real_root = os.path.realpath(self._root)
+        workflows, files = self.workflows, dict(self._files)
+        self.workflows = {path for entry in self._entries() if (path := self._workflow_path(entry)) is not None}
+        for path in files:
             self._update(path)
+        return self.workflows != workflows or any(self._files[path] is not file for path, file in files.items())
 
     def file(self, path: str) -> SavedFile:
         """The file as it was at the last `rescan`, or now where it wasn't asked for before."""
         return self._files.get(path) or self._update(path)
+
+    def forget(self, paths: Iterable[str]) -> None:
+        """These files are read again, even where they look the same."""
+        for path in paths:
+            self._files.pop(path, None)
 
     def keep(self, paths: set[str]) -> None:
         """Forgets the files that aren't among these."""
@@ -49,50 +63,86 @@ class Disk:
     def _entries(self) -> list[os.DirEntry]:
         try:
             with os.scandir(os.path.join(self._root, WORKFLOWS.encode())) as entries:
-                return sorted(entries, key=lambda entry: entry.name)
+                return list(entries)
         except OSError:
             return []
 
     def _workflow_path(self, entry: os.DirEntry) -> str | None:
-        if not entry.name.endswith(WORKFLOW_ENDINGS) or _is_folder(entry):
+        """The path of an entry that is linted: a regular file behind its links, as the program takes it."""
+        path = f"{WORKFLOWS}/{entry.name.decode('utf-8', 'surrogateescape')}"
+        if not is_workflow(path) or not _is_file(entry):
             return None
         try:
-            return f"{WORKFLOWS}/{entry.name.decode('utf-8')}"
-        except UnicodeDecodeError:
-            if entry.name not in self._passed_over:
-                self._passed_over.add(entry.name)
-                self._say(f"passed over, since its name is not UTF-8: {os.fsdecode(entry.name)!r}")
+            path.encode("utf-8")
+        except UnicodeEncodeError:
+            self._pass_over(path, "its name is not UTF-8")
             return None
+        return path
+
+    def _pass_over(self, path: str, why: str) -> None:
+        """Tells of the first ten files that are passed over, of each once."""
+        if path in self._passed_over or len(self._passed_over) > MAX_TOLD:
+            return
+        self._passed_over.add(path)
+        told = len(self._passed_over) <= MAX_TOLD
+        self._say(f"passed over, since {why}: {path!r}" if told else "more files are passed over")
 
     def _update(self, path: str) -> SavedFile:
         whole = os.path.join(self._root, path.encode("utf-8", "surrogatepass"))
         known = self._files.get(path)
         try:
             found = os.stat(whole)
-            stamp: tuple = (found.st_mtime_ns, found.st_ctime_ns, found.st_size, found.st_ino, found.st_mode)
+            stamp: tuple = (found.st_mtime_ns, found.st_ctime_ns, found.st_size, found.st_dev, found.st_ino, found.st_mode)
         except (OSError, ValueError):
             stamp = ()
         if known is None or known.stamp != stamp:
-            known = self._files[path] = _read(whole, stamp)
+            known = self._files[path] = _read(whole, stamp, self._real_root)
+            if known.is_outside:
+                self._pass_over(path, "its real path is outside of the folder")
         return known
 
 
-def _is_folder(entry: os.DirEntry) -> bool:
+def _is_file(entry: os.DirEntry) -> bool:
     try:
-        return entry.is_dir()
+        return entry.is_file()
     except OSError:
         return False
 
 
-def _read(whole: bytes, stamp: tuple) -> SavedFile:
+def _read(whole: bytes, stamp: tuple, real_root: bytes) -> SavedFile:
     if not stamp:
         return SavedFile(stamp, None)
     if not stat.S_ISREG(stamp[-1]):
-        return SavedFile(stamp, None, "cannot read this file: it is not a regular one")
+        return SavedFile(stamp, None, NOT_REGULAR)
     try:
-        with open(whole, "rb") as opened:
-            return SavedFile(stamp, opened.read(MAX_FILE_BYTES + 1))
+        opened = os.open(whole, OPENED)
+        try:
+            # What was opened may be another file than the one that was looked at.
+            if not stat.S_ISREG(os.fstat(opened).st_mode):
+                return SavedFile(stamp, None, NOT_REGULAR)
+            if not is_below(_real_path(opened, whole), real_root):
+                return SavedFile(stamp, None, is_outside=True)
+            return SavedFile(stamp, _bytes_of(opened))
+        finally:
+            os.close(opened)
     except (FileNotFoundError, NotADirectoryError):
         return SavedFile(stamp, None)
     except OSError as error:
         return SavedFile(stamp, None, f"cannot read this file: {error.strerror}")
+
+
+def _real_path(opened: int, whole: bytes) -> bytes:
+    """The path of what was opened, where the system tells it; else that of what now stands at its path."""
+    try:
+        return os.readlink(b"/proc/self/fd/%d" % opened)
+    except OSError:
+        return os.path.realpath(whole)
+
+
+def _bytes_of(opened: int) -> bytes:
+    """The bytes of a file, at most one more than the linter takes."""
+    blocks, left = [], MAX_FILE_BYTES + 1
+    while left and (block := os.read(opened, min(left, READ_BYTES))):
+        blocks.append(block)
+        left -= len(block)
+    return b"".join(blocks)

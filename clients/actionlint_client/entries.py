@@ -5,12 +5,18 @@ import json
 import re
 from functools import lru_cache
 from pathlib import Path
-from typing import NamedTuple
+from typing import Iterable, NamedTuple, Sequence
 
 TABLE = Path(__file__).parent / "faults.json"
 ARGUMENT = re.compile(r"\{[01]\}")
+LINK_IN_BRACKETS = re.compile(r" \(\[[^\]]*\]\([^)]*\)(?:, those in bold)?\)")
+LINK = re.compile(r"\[([^\]]*)\]\([^)]*\)")
+EXAMPLE = re.compile(r"^```\w+\n(.*?)^```$", re.M | re.S)
 PAGE_LINK = re.compile(r"\[([^\]]*)\]\((?!\w+:)([^)]*)\)")
 KNOWN_MESSAGES = 4_096
+KNOWN_CHARACTERS = 1_000
+SHOWN_CHARACTERS = 200
+SHOWN_MESSAGES = 10
 
 
 class Entry(NamedTuple):
@@ -23,40 +29,91 @@ class Entry(NamedTuple):
     text: str
     why: str
     repair: str
-    pattern: re.Pattern[str]
+    fixed: tuple[str, ...]
+
+    def arguments(self, message: str) -> tuple[str, ...] | None:
+        """The arguments in a printed message, or None where it isn't made from this one. It takes time linear in the message: what is fixed
+        is compared at both ends, and looked for once between them."""
+        first, *between, last = self.fixed if len(self.fixed) > 1 else (*self.fixed, "")
+        if len(message) < len(first) + len(last) or not (message.startswith(first) and message.endswith(last)):
+            return None
+        inner = message[len(first):len(message) - len(last)]
+        if len(self.fixed) == 1:
+            return None if inner else ()
+        if not between:
+            return (inner,)
+        before, found, behind = inner.rpartition(between[0])
+        return (before, behind) if found else None
 
 
 @lru_cache(maxsize=None)
 def entries() -> tuple[Entry, ...]:
     rows = json.loads(TABLE.read_text(encoding="utf-8"))
-    return tuple(Entry(**row, pattern=_pattern(row["message"])) for row in rows)
+    return tuple(Entry(**row, fixed=tuple(ARGUMENT.split(row["message"]))) for row in rows)
 
 
-@lru_cache(maxsize=KNOWN_MESSAGES)
 def entry_of(message: str) -> Entry | None:
     """The entry of a printed message, or None for a message that no page has."""
-    return next((entry for entry in entries() if entry.pattern.fullmatch(message)), None)
+    return _found_before(message) if len(message) <= KNOWN_CHARACTERS else _find(message)
 
 
 def argument_of(message: str) -> str | None:
     """The first argument in a printed message."""
     entry = entry_of(message)
-    match = entry and entry.pattern.fullmatch(message)
-    return match[1] if match and match.groups() else None
+    arguments = entry and entry.arguments(message)
+    return arguments[0] if arguments else None
 
 
 def link_of(entry: Entry, docs: str) -> str:
     return f"{docs}/{entry.page}#{entry.anchor}"
 
 
-def markdown_of(entry: Entry, docs: str | None) -> str:
-    """The entry for a person; links lead to the pages where these are known."""
-    parts = [f"**{entry.code}** `{entry.message}`", entry.text]
+def plain_text(markdown: str) -> str:
+    """The first paragraph of Markdown without links: those in brackets are left out, of others the words stay."""
+    return LINK.sub(r"\1", LINK_IN_BRACKETS.sub("", markdown.split("\n\n", 1)[0]))
+
+
+def title_of(entry: Entry) -> str:
+    """The message with dots for its arguments."""
+    return ARGUMENT.sub("..", entry.message)
+
+
+def explained(entry: Entry) -> str:
+    """The entry as plain text, its examples indented."""
+    parts = [f"{entry.code}: {title_of(entry)}", entry.text, f"Why it matters: {entry.why}", f"Repair: {entry.repair}"]
+    return EXAMPLE.sub(lambda found: re.sub("^(?=.)", "    ", found[1], flags=re.M), LINK.sub(r"\1", "\n\n".join(parts)))
+
+
+def markdown_of(entry: Entry, docs: str | None, messages: Sequence[str] = ()) -> str:
+    """The entry for a person, below the messages of its faults where there are some; links lead to the pages where these are known."""
+    shown = [_code(message[:SHOWN_CHARACTERS]) for message in messages[:SHOWN_MESSAGES]] or [_code(title_of(entry))]
+    more = [f"{len(messages) - SHOWN_MESSAGES} more"] if len(messages) > SHOWN_MESSAGES else []
+    parts = [entry.text]
     parts += [f"*Why it matters*: {entry.why}"] if entry.why else []
     parts += [f"*Repair*: {entry.repair}"] if entry.repair else []
-    shown = PAGE_LINK.sub(rf"[\1]({docs}/\2)" if docs else r"\1", "\n\n".join(parts))
-    return shown + (f"\n\n[{entry.page}]({link_of(entry, docs)})" if docs else "")
+    text = PAGE_LINK.sub(rf"[\1]({docs}/\2)" if docs else r"\1", "\n\n".join(parts))
+    return f"**{entry.code}** {', '.join(shown + more)}\n\n{text}" + (f"\n\n[{entry.page}]({link_of(entry, docs)})" if docs else "")
 
 
-def _pattern(message: str) -> re.Pattern[str]:
-    return re.compile("(.*)".join(re.escape(part) for part in ARGUMENT.split(message)), re.S)
+def markdown_of_faults(messages: Iterable[str], docs: str | None) -> str | None:
+    """The entries of printed messages, one below the other, each once; None where no page has one of them."""
+    found: dict[str, tuple[Entry, list[str]]] = {}
+    for message in messages:
+        if (entry := entry_of(message)) is not None:
+            found.setdefault(entry.code, (entry, []))[1].append(message)
+    return "\n\n---\n\n".join(markdown_of(entry, docs, said) for entry, said in found.values()) or None
+
+
+def _code(text: str) -> str:
+    """A text as code: between more backquotes than stand together in it."""
+    fence = "`" * (1 + max((len(run) for run in re.findall("`+", text)), default=0))
+    return f"{fence}{text}{fence}" if len(fence) == 1 else f"{fence} {text} {fence}"
+
+
+@lru_cache(maxsize=KNOWN_MESSAGES)
+def _found_before(message: str) -> Entry | None:
+    return _find(message)
+
+
+def _find(message: str) -> Entry | None:
+    return next((entry for entry in entries() if entry.arguments(message) is not None), None)

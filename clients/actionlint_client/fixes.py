@@ -1,73 +1,149 @@
-"""Quick fixes: other texts for a fault that names one that is nearly a name which the linter knows (names.json, by make_tables.py)."""
+"""Quick fixes: repairs of faults, each tried by the linter before it is offered."""
 from __future__ import annotations
 
-import difflib
-import json
-from functools import lru_cache
-from pathlib import Path
+import re
+import time
+from collections import Counter
+from itertools import islice
+from typing import Callable, Iterable, NamedTuple
 
+from . import repairs_calls, repairs_expressions, repairs_keys, repairs_names, repairs_rules, repairs_yaml
 from .disk import MAX_FILE_BYTES
-from .entries import argument_of, entry_of
-from .positions import Lines
+from .entries import entry_of
+from .paths import is_workflow
+from .project import Project
+from .repair import Case, Repair, replaced
 from .report import Fault, parse_report
 from .session import LinterEnded, ReportTooLong, Session
 
-TABLE = Path(__file__).parent / "names.json"
-MAX_NAME_CHARACTERS = 100
-MAX_TRIED = 8
-MAX_SHOWN = 3
-LEAST_LIKENESS = 0.6
-MAX_REPORT_BYTES = 1_048_576
-QUOTES = ("'", '"')
-
-# Of which names the argument of a fault should have been one.
-LISTS = {"G1": "events", "G2": "activity types", "G12": "shells", "G13": "permission scopes", "G14": "permission values",
-         "G19": "input types", "G20": "using", "K1": "keys", "X7": "contexts", "X9": "functions", "X13": "properties"}
-
-
-@lru_cache(maxsize=None)
-def names() -> dict[str, list[str]]:
-    return json.loads(TABLE.read_text(encoding="utf-8"))
+MAX_FAULTS = 20
+MAX_LINE_CHARACTERS = 5_000
+MAX_SECONDS = 1.0
+MAX_TRIED = 24
+MAX_SHOWN = 4
+MAX_FILES = 64
+MAX_REPORT_BYTES = 4 * 1_048_576
+LOCAL_CALL = re.compile(r"\./[^\s'\"#,}\]]*")
+MODULES = (repairs_yaml, repairs_keys, repairs_rules, repairs_expressions, repairs_names, repairs_calls)
+REPAIRS: dict[str, tuple[Callable[[Case], Iterable[Repair]], ...]] = {
+    code: tuple(each for module in MODULES for each in module.REPAIRS.get(code, ())) for found in MODULES for code in found.REPAIRS}
 
 
-def near_names(message: str) -> list[str]:
-    """The names that are like the one in a message, the nearest first; none where it isn't about a known list."""
-    entry, wrong = entry_of(message), argument_of(message)
-    if entry is None or entry.code not in LISTS or wrong is None or len(wrong) > MAX_NAME_CHARACTERS:
+class Fix(NamedTuple):
+    """A fault, and what mends it."""
+
+    fault: Fault
+    repair: Repair
+
+
+def repairs(project: Project, fault: Fault) -> list[Repair]:
+    """What may mend a fault, the likeliest first."""
+    entry = entry_of(fault.message)
+    if entry is None or entry.code not in REPAIRS:
         return []
-    by_lower_case = {name.lower(): name for name in names()[LISTS[entry.code]]}
-    near = difflib.get_close_matches(wrong.lower(), by_lower_case, MAX_TRIED, LEAST_LIKENESS)
-    return [by_lower_case[name] for name in near if by_lower_case[name] != wrong]
-
-
-def new_texts(lines: Lines, fault: Fault) -> dict[str, str]:
-    """Of each near name the text for the fault's range, in its quotes where it has some. None where the range has another spelling of the
-    argument (an escape, more lines), as a name can't stand for that."""
-    written, wrong = lines.text_of(fault), argument_of(fault.message)
-    quote = written[:1] if written[:1] in QUOTES and written[-1:] == written[:1] else ""
-    if wrong is None or written != quote + wrong + quote:
-        return {}
-    return {name: quote + name + quote for name in near_names(fault.message)}
-
-
-def fixes(program: list[str], timeout: float, lines: Lines, fault: Fault, data: bytes) -> list[tuple[str, str]]:
-    """Names and texts after which the linter finds fewer faults in the file. It is asked in a session of its own, so that the one of the
-    folder never holds a text that isn't the file's."""
-    tried = new_texts(lines, fault)
-    if not tried or len(data) > MAX_FILE_BYTES:
+    case = Case(project, fault, entry)
+    if len(case.line) > MAX_LINE_CHARACTERS:
         return []
+    found = [repair for each in REPAIRS[entry.code] for repair in each(case)]
+    return list({repr((one.edits, one.new_files)): one for one in reversed(found)}.values())[::-1][:MAX_TRIED]
+
+
+def fixes(words: list[str], timeout: float, project: Project, faults: Iterable[Fault], earlier: Iterable[Fault] = ()) -> list[Fix]:
+    """Of the first 20 faults the repairs after which the linter reports the fault no more, and none that it didn't before: as many as could
+    be tried in a second. `words` start the linter. While a file is no YAML, `earlier` are the faults that it had when it was last; these
+    may come back."""
+    deadline = time.monotonic() + MAX_SECONDS
+    mended: list[Fix] = []
+    trial = None
     try:
-        session = Session(program, True, timeout)
-        try:
-            before = _count(session, fault.path, data)
-            found = [(name, text) for name, text in tried.items() if _count(session, fault.path, lines.replaced(fault, text)) < before]
-        finally:
-            session.stop()
+        for fault in islice(faults, MAX_FAULTS):
+            if time.monotonic() > deadline or len(project.read(fault.path) or b"") > MAX_FILE_BYTES:
+                break
+            found = repairs(project, fault)
+            if found and trial is None:
+                trial = Trial(words, timeout, project, fault.path)
+                trial.earlier = _counted(earlier)
+            right = [repair for repair in found if trial and time.monotonic() < deadline and trial.mends(repair, fault)]
+            mended += [Fix(fault, repair) for repair in _to_show(right)]
     except (LinterEnded, ReportTooLong):
-        return []
-    return found[:MAX_SHOWN]
+        pass
+    finally:
+        if trial is not None:
+            trial.session.stop()
+    return mended
 
 
-def _count(session: Session, path: str, data: bytes) -> int:
-    session.put(path, data)
-    return len(parse_report(session.report(MAX_REPORT_BYTES), False))
+def _to_show(found: list[Repair]) -> list[Repair]:
+    """The first of each title; last resorts where there is nothing else."""
+    better = [repair for repair in found if not repair.is_last_resort]
+    by_title = {repair.title: repair for repair in reversed(better or found)}
+    return list(by_title.values())[::-1][:MAX_SHOWN]
+
+
+class Trial:
+    """A session of the linter with a file, what it calls and what calls it, so that the session of the folder never holds a text that isn't
+    the file's."""
+
+    def __init__(self, words: list[str], timeout: float, project: Project, file: str, max_files: int = MAX_FILES):
+        self.session = Session(words, True, timeout)
+        self._max_files = max_files
+        self.earlier: Counter = Counter()
+        self.project = project
+        self.texts: dict[str, str] = {}
+        callers = [path for path in project.paths() if path != file and _calls(project, path, file)]
+        self._include([file, *callers])
+
+    def mends(self, repair: Repair, fault: Fault) -> bool:
+        """Whether the report after a repair lacks the fault and has no other that is new."""
+        changed = {path: replaced(self.project.text(path), edits) for path, edits in repair.edits.items()}
+        after = self.faults_after(changed | repair.new_files)
+        key = fault.path, fault.message
+        return after[key] < self.before[key] and not after - self.before - self.earlier
+
+    def faults_after(self, texts: dict[str, str]) -> Counter:
+        """The faults with other texts of some files; the session is then as before."""
+        called = [path for text in texts.values() for path in self._called(text)]
+        self._include([*(path for path in texts if self.project.has(path)), *called])
+        for path, text in texts.items():
+            self._put(path, text)
+        after = self.faults()
+        for path in texts:
+            if path in self.texts:
+                self._put(path, self.texts[path])
+            else:
+                self.session.delete(path)
+        return after
+
+    def faults(self) -> Counter:
+        return _counted(parse_report(self.session.report(MAX_REPORT_BYTES), False))
+
+    def _include(self, paths: list[str]) -> None:
+        """Puts files, and what they call, one after another, as far as they aren't there; not more than a number of them."""
+        waiting = [path for path in paths if path not in self.texts]
+        if not waiting:
+            return
+        while waiting and len(self.texts) < self._max_files:
+            path = waiting.pop(0)
+            if path not in self.texts and self.project.has(path):
+                self.texts[path] = self.project.text(path)
+                self._put(path, self.texts[path])
+                waiting += self._called(self.texts[path])
+        self.before = self.faults()
+
+    def _called(self, text: str) -> list[str]:
+        """The files of the folder that a text seems to call."""
+        names = set(LOCAL_CALL.findall(text))
+        return sorted({path for name in names for of_job in (True, False) if (path := self.project.callee(name, of_job))})
+
+    def _put(self, path: str, text: str) -> None:
+        self.session.put(path, text.encode("utf-8", "surrogatepass"))
+
+
+def _counted(faults: Iterable[Fault]) -> Counter:
+    """How often each file has each message: places may move."""
+    return Counter((fault.path, fault.message) for fault in faults)
+
+
+def _calls(project: Project, path: str, called: str) -> bool:
+    name = called if is_workflow(called) else called.rpartition("/")[0]
+    return "./" + name in project.text(path)

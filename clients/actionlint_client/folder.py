@@ -1,49 +1,68 @@
-"""The files of one repository as the linter sees them: what is on the disk, with unsaved buffers in place of saved files.
+"""The files of one repository as the linter sees them, and their faults.
 
-The folder holds what `actionlint --root DIR` lints, the workflows and the actions that they call, and besides every file that is open.
-After each change `refresh` brings the session there by puts and deletes, and answers the faults of all files. What the session should
-hold is made anew each time and compared with what it holds, so that an edit, a change of the disk, a refusal and a new linter all go
-one way.
+After each change `refresh` brings the session to what the folder should hold by puts and deletes, and reads one report. What was put is
+compared with what is wanted, so that an edit, a change of the disk, a refusal and a new linter all go one way.
 """
 from __future__ import annotations
 
 import time
 from dataclasses import dataclass
-from typing import Callable
+from typing import Callable, Iterable
 
-from .calls import MAX_PATH_BYTES, callees
-from .disk import MAX_FILE_BYTES, WORKFLOWS, Disk
-from .report import BadReport, Fault, ReportParser
-from .session import LinterEnded, LinterSilent, ReportTooLong, Session
+from .disk import MAX_FILE_BYTES
+from .faults import FaultReader, FileFaults, Form, LongReport
+from .files import Files
+from .paths import MAX_PATH_BYTES, is_workflow
+from .report import BadReport
+from .session import LinterEnded, LinterMissing, LinterSilent, Session
 
 MAX_FILES = 4_096
-MAX_REPORT_BYTES = 32 * 1_048_576
 ENDS_OF_A_FILE = 2
 
-BAD_PATH, NOT_LINTED, TOO_LARGE, FULL, ENDED_AT = "refused E1", "refused E2", "refused E3", "refused E4", "ended"
+BAD_PATH, TOO_LARGE, FULL = "refused E1", "refused E3", "refused E4"
+ENDED_AT, REPORTS_TOO_MUCH = "ended", "reports too much"
 REASONS = {
     BAD_PATH: "not linted, since its path has more than 1,024 bytes, a control character or a backslash",
     TOO_LARGE: "not linted, since it has more than 1,048,576 bytes",
     FULL: "not linted, since the folder has 4,096 other workflows and actions",
     ENDED_AT: "not linted, since the linter stopped at it twice",
+    REPORTS_TOO_MUCH: "not linted, since the report of its faults is too long",
 }
 
 
 @dataclass(frozen=True)
-class Result:
-    """The faults of each file that has some, in order, and of each file that isn't linted the reason."""
+class Program:
+    """The linter's words, and the seconds in which it has to answer."""
 
-    faults: dict[str, list[Fault]]
+    words: list[str]
+    timeout: float
+
+
+@dataclass(frozen=True)
+class Result:
+    """The faults of each file that has some, of each file that isn't linted the reason, and of which files one of these or the bytes may be
+    others than in the result before."""
+
+    faults: dict[str, FileFaults]
     refused: dict[str, str]
+    changed: set[str]
 
 
 @dataclass
 class PutFile:
-    """The last put of a file, its reply, and whether the session holds these bytes."""
+    """The last put of a file, and its reply."""
 
     data: bytes
     reply: str
-    held: bool
+
+
+@dataclass
+class LeftOut:
+    """Bytes of a file that aren't put any more, once the linter ended at them so often, and what is said in place of a reply."""
+
+    data: bytes
+    reply: str
+    ends: int = ENDS_OF_A_FILE
 
 
 class Restarts:
@@ -66,46 +85,56 @@ class Restarts:
 
 
 class Folder:
-    def __init__(self, root: bytes, program: list[str], timeout: float, say: Callable[[str], None]):
-        self._program, self._timeout, self._say = program, timeout, say
-        self._disk = Disk(root, say)
-        self._buffers: dict[str, bytes] = {}
-        self._callees: dict[str, tuple[bytes, frozenset[str]]] = {}
-        self._wanted: dict[str, bytes] = {}
-        self._unreadable: dict[str, str] = {}
+    def __init__(self, root: bytes, program: Program, say: Callable[[str], None], keeps_calls: bool = False):
+        """`keeps_calls` is that of `Files`."""
+        self._program, self._say = program, say
+        self._files = Files(root, say, keeps_calls)
         self._session: Session | None = None
         self._oneline = False
         self._put_files: dict[str, PutFile] = {}
-        self._ends_at: dict[str, tuple[bytes, int]] = {}
+        # Of the files that were put those that the session holds, those of them with a colon, and the reasons for those it doesn't hold.
+        self._held: set[str] = set()
+        self._with_colon: set[str] = set()
+        self._refused: dict[str, str] = {}
+        self._left_out: dict[str, LeftOut] = {}
         self._restarts = Restarts()
-        self._parser = ReportParser()
-        self._result: Result | None = None
-        self._is_stale = True
+        # What was said last of a linter that can't be started.
+        self._missing = ""
+        self._reader = FaultReader()
+        # What may differ from what was put, whether the faults may, and what may differ from the last result.
+        self._unsent: set[str] = set()
+        self._needs_report = False
+        self._untold: set[str] = set()
 
     def edit(self, path: str, data: bytes | None) -> None:
         """The bytes of a file's buffer, or None where it is no longer open."""
-        if data is None:
-            self._buffers.pop(path, None)
-        else:
-            self._buffers[path] = data
-        self._is_stale = True
+        self._files.edit(path, data)
 
-    def rescan(self, changed: set[str] = frozenset()) -> None:
+    def read(self, path: str) -> bytes | None:
+        """The bytes of a file as it is now, of its buffer or of the disk; None where there is none."""
+        return self._files.read(path)
+
+    def paths(self) -> list[str]:
+        """The workflows, the actions that are called, and what is open, as of the last `refresh`."""
+        return list(self._files.wanted)
+
+    def rescan(self, changed: Iterable[str] = ()) -> None:
         """Looks at the disk again, and reads the files of `changed` even where they look the same."""
-        self._disk.rescan(changed)
-        self._is_stale = True
+        self._files.rescan(changed)
 
     def refresh(self) -> Result | None:
         """The faults of the folder as it is now, or None where the linter can't be had: then `delay` seconds should pass first."""
         while self.delay() == 0:
             try:
                 return self._refresh()
-            except ReportTooLong:
+            except LongReport as error:
+                self._take_long_report(error.path)
+            except LinterMissing as error:
                 self._forget_session()
-                if self._oneline:
-                    self._restarts.note(True)
-                    self._say("the report is too long to be shown")
-                self._oneline = True
+                self._restarts.note(True)
+                if str(error) != self._missing:
+                    self._missing = str(error)
+                    self._say(self._missing)
             except (LinterEnded, BadReport) as error:
                 self._forget_session()
                 self._restarts.note(not isinstance(error, LinterEnded) or isinstance(error, LinterSilent))
@@ -127,115 +156,98 @@ class Folder:
             self._session.stop()
             self._session = None
 
+    def _refresh(self) -> Result:
+        if self._files.is_stale():
+            changed = self._files.update()
+            self._unsent |= changed
+            self._untold |= changed
+        self._send_changes()
+        if self._needs_report:
+            self._read_report()
+        told, self._untold = self._untold, set()
+        return Result(self._reader.files, self._refused | self._files.unreadable, told)
+
     def _forget_session(self) -> None:
         self.close()
+        self._untold |= {*self._put_files, *self._reader.files}
+        self._unsent = set(self._files.wanted)
         self._put_files.clear()
-        self._result = None
-        self._is_stale = True
+        self._held.clear()
+        self._with_colon.clear()
+        self._refused.clear()
+        self._reader = FaultReader()
+        self._needs_report = False
 
-    def _refresh(self) -> Result:
-        if not self._is_stale and self._result is not None:
-            return self._result
-        self._find_wanted()
-        if self._session is None:
-            self._session = Session(self._program, self._oneline, self._timeout)
-        faults = None if self._result is None else self._result.faults
-        if self._send_changes() or faults is None:
-            faults = self._report()
-        refused = {path: REASONS.get(put.reply, put.reply) for path, put in self._put_files.items()
-                   if not put.held and put.reply != NOT_LINTED}
-        self._result = Result(faults, refused | self._unreadable)
-        self._is_stale = False
-        return self._result
+    def _take_long_report(self, path: str) -> None:
+        """Without the snippets the report is shorter, and then without the file that has the most of it."""
+        if self._oneline:
+            self._left_out[path] = LeftOut(self._put_files[path].data, REPORTS_TOO_MUCH)
+        self._oneline = True
+        self._forget_session()
 
-    def _find_wanted(self) -> None:
-        """The workflows, what is open, and the actions that these call, one after another."""
-        wanted: dict[str, bytes] = {}
-        unreadable: dict[str, str] = {}
-        seen: set[str] = set()
-        waiting = [*self._disk.workflows, *self._buffers]
-        while waiting:
-            path = waiting.pop()
-            if path in seen:
-                continue
-            seen.add(path)
-            data = self._buffers.get(path)
-            if data is None:
-                saved = self._disk.file(path)
-                data = saved.data
-                if saved.error:
-                    unreadable[path] = saved.error
-            if data is not None:
-                wanted[path] = data
-                waiting.extend(self._callees_of(path, data))
-        self._callees = {path: known for path, known in self._callees.items() if path in wanted}
-        self._disk.keep(seen)
-        self._wanted, self._unreadable = wanted, unreadable
+    def _read_report(self) -> None:
+        assert self._session
+        form = Form(self._held, bool(self._with_colon), not self._session.oneline)
+        self._untold |= self._reader.read(self._session.report_blocks(), form)
+        self._needs_report = False
 
-    def _callees_of(self, path: str, data: bytes) -> frozenset[str]:
-        known = self._callees.get(path)
-        if known is None or known[0] is not data:
-            known = self._callees[path] = (data, callees(data))
-        return known[1]
-
-    def _send_changes(self) -> bool:
-        """Brings the session to what is wanted. Whether faults may have changed."""
-        changed = False
-        for path in [path for path in self._put_files if path not in self._wanted]:
-            changed |= self._delete(path)
-            del self._put_files[path]
-        has_room = sum(put.held for put in self._put_files.values()) < MAX_FILES
-        differing = [path for path, data in self._wanted.items() if self._differs(path, data, has_room)]
+    def _send_changes(self) -> None:
+        """Brings the session to what is wanted."""
+        wanted = self._files.wanted
+        for path in [path for path in self._unsent if path not in wanted]:
+            self._delete(path)
+            self._put_files.pop(path, None)
+            self._refused.pop(path, None)
+        if len(self._held) < MAX_FILES and REASONS[FULL] in self._refused.values():
+            self._unsent |= self._put_files.keys() - self._held
+        differing = [path for path in self._unsent if path in wanted and self._differs(path, wanted[path])]
         # Actions come first, so that at the start no caller is checked once more for each action that comes behind it.
-        for path in sorted(differing, key=lambda path: (path.startswith(WORKFLOWS), path)):
-            changed |= self._put(path, self._wanted[path])
-        return changed
+        for path in sorted(differing, key=lambda path: (is_workflow(path), path)):
+            self._put(path, wanted[path])
+        self._unsent.clear()
 
-    def _differs(self, path: str, data: bytes, has_room: bool) -> bool:
-        """Whether the last put of a file was of other bytes, or found no room where there is some now."""
+    def _differs(self, path: str, data: bytes) -> bool:
+        """Whether the last put of a file was of other bytes, or found no room."""
         put = self._put_files.get(path)
-        return put is None or put.data is not data and put.data != data or put.reply == FULL and has_room
+        return put is None or put.data is not data and put.data != data or put.reply == FULL
 
-    def _put(self, path: str, data: bytes) -> bool:
-        """Whether faults may have changed."""
+    def _put(self, path: str, data: bytes) -> None:
         reply = self._reply_to_put(path, data)
         if reply.startswith("ok "):
-            self._put_files[path] = PutFile(data, reply, True)
-            self._ends_at.pop(path, None)
-            return reply != "ok 0"
-        # After a refusal the session holds the text from before, which is no longer the file's.
-        changed = self._delete(path)
-        self._put_files[path] = PutFile(data, reply, False)
-        return changed
+            self._held.add(path)
+            if ":" in path:
+                self._with_colon.add(path)
+            self._refused.pop(path, None)
+            self._left_out.pop(path, None)
+            self._needs_report |= reply != "ok 0"
+        else:
+            # After a refusal the session holds the text from before, which is no longer the file's.
+            self._delete(path)
+            self._refused[path] = REASONS.get(reply, reply)
+        self._put_files[path] = PutFile(data, reply)
 
     def _reply_to_put(self, path: str, data: bytes) -> str:
         """The session's reply, or a refusal here: of a path that a command's line can't hold, which would end the session instead of being
-        refused, and of bytes at which the linter ended twice."""
-        assert self._session
+        refused, and of bytes that are left out."""
         if "\n" in path or len(path.encode("utf-8")) > MAX_PATH_BYTES:
             return BAD_PATH
-        before, ends = self._ends_at.get(path, (b"", 0))
-        if before != data:
-            ends = 0
-        if ends == ENDS_OF_A_FILE:
-            return ENDED_AT
+        left_out = self._left_out.get(path)
+        if left_out is not None and left_out.data == data and left_out.ends >= ENDS_OF_A_FILE:
+            return left_out.reply
+        if self._session is None:
+            self._session = Session(self._program.words, self._oneline, self._program.timeout)
+            self._missing = ""
         try:
             return self._session.put(path, data[:MAX_FILE_BYTES + 1])
         except LinterEnded:
-            self._ends_at[path] = (data, ends + 1)
+            ends = left_out.ends if left_out is not None and left_out.data == data else 0
+            self._left_out[path] = LeftOut(data, ENDED_AT, ends + 1)
             raise
 
-    def _delete(self, path: str) -> bool:
-        """Whether faults may have changed."""
-        assert self._session
-        put = self._put_files.get(path)
-        if put is None or not put.held:
-            return False
-        self._session.delete(path)
-        return True
-
-    def _report(self) -> dict[str, list[Fault]]:
-        assert self._session
-        lines = self._session.report(MAX_REPORT_BYTES)
-        held = {path for path, put in self._put_files.items() if put.held}
-        return self._parser.parse(lines, held, not self._session.oneline)
+    def _delete(self, path: str) -> None:
+        if path in self._held:
+            assert self._session
+            self._session.delete(path)
+            self._held.discard(path)
+            self._with_colon.discard(path)
+            self._needs_report = True

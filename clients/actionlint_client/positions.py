@@ -2,51 +2,87 @@
 from __future__ import annotations
 
 import re
+from bisect import bisect_left
+from dataclasses import dataclass
 
 from .report import Fault
+from .tree import Point, Span
 
 LINE_BREAK = re.compile(rb"\r\n|\n|\r")
 BYTE_ORDER_MARK = b"\xef\xbb\xbf"
 WORD = re.compile(r"[\w.-]+|.", re.S)
+TWO_UNITS = re.compile("[\U00010000-\U0010ffff]")
+
+
+def lines_of(data: bytes) -> list[bytes]:
+    return LINE_BREAK.split(data) if b"\r" in data else data.split(b"\n")
+
+
+@dataclass
+class Line:
+    """The characters of a line, and which of them are two units."""
+
+    index: int
+    text: str
+    two_units: list[int]
+
+    def units_before(self, character: int) -> int:
+        """A character's column in an editor; it may stand behind the line's end."""
+        character = min(character, len(self.text))
+        return character + bisect_left(self.two_units, character)
 
 
 class Lines:
     """The lines of a file, for its faults' ranges."""
 
     def __init__(self, data: bytes, is_buffer: bool):
-        self._lines = LINE_BREAK.split(data)
+        self._lines = lines_of(data)
         # An editor takes a byte order mark off a file that it opens; the linter counts it as a character of the first line.
         self._has_mark = not is_buffer and data.startswith(BYTE_ORDER_MARK)
+        # Many faults may stand on one long line.
+        self._last: Line | None = None
 
     def range_of(self, fault: Fault) -> dict:
         """A fault that goes on behind its first line ends with that line. Of a fault of unknown width the end is that of a word."""
-        text, first, end = self._columns(fault)
-        start = _utf16_length(text[:first])
-        line = fault.line - 1
-        return {"start": {"line": line, "character": start},
-                "end": {"line": line, "character": start + _utf16_length(text[first:end])}}
+        line, first, end = self._columns(fault)
+        return {"start": {"line": line.index, "character": line.units_before(first)},
+                "end": {"line": line.index, "character": line.units_before(end)}}
 
-    def text_of(self, fault: Fault) -> str:
-        """What stands in the range."""
-        text, first, end = self._columns(fault)
-        return text[first:end]
-
-    def replaced(self, fault: Fault, new: str) -> bytes:
-        """The lines, each ended by a line feed, with other text in place of the fault's."""
-        text, first, end = self._columns(fault)
-        index = fault.line - 1
-        changed = (text[:first] + new + text[end:]).encode("utf-8", "surrogatepass")
-        return b"\n".join([*self._lines[:index], changed, *self._lines[index + 1:]])
-
-    def _columns(self, fault: Fault) -> tuple[str, int, int]:
+    def _columns(self, fault: Fault) -> tuple[Line, int, int]:
         """The fault's line, and the characters before its start and before its end."""
-        index = fault.line - 1
-        data = self._lines[index] if index < len(self._lines) else b""
+        line = self._line(fault.line - 1)
         first = fault.column - 1
-        if index == 0 and self._has_mark:
-            data, first = data[len(BYTE_ORDER_MARK):], max(first - 1, 0)
-        text = data.decode("utf-8", "replace")
-        return text, first, first + (_word_length(text, first) if fault.width is None else fault.width)
+        if line.index == 0 and self._has_mark:
+            first = max(first - 1, 0)
+        return line, first, first + (_word_length(line.text, first) if fault.width is None else fault.width)
+
+    def _line(self, index: int) -> Line:
+        if self._last is None or self._last.index != index:
+            data = self._lines[index] if index < len(self._lines) else b""
+            text = (data[len(BYTE_ORDER_MARK):] if index == 0 and self._has_mark else data).decode("utf-8", "replace")
+            two_units = [] if text.isascii() else [found.start() for found in TWO_UNITS.finditer(text)]
+            self._last = Line(index, text, two_units)
+        return self._last
+
+
+def point_of(lines: list[str], position: dict) -> Point:
+    """An editor's position as a line and a character of a text; behind the end of a line or of the text it is that end."""
+    number = min(position["line"], len(lines) - 1)
+    line, units = lines[number], position["character"]
+    if line.isascii():
+        return Point(number, min(units, len(line)))
+    before = line.encode("utf-16-le", "surrogatepass")[:2 * units].decode("utf-16-le", "ignore")
+    return Point(number, len(before))
+
+
+def range_of_span(lines: list[str], span: Span) -> dict:
+    """A span of a text as an editor's range."""
+    return {"start": _position_of(lines, span.start), "end": _position_of(lines, span.end)}
+
+
+def _position_of(lines: list[str], point: Point) -> dict:
+    line = lines[point.line] if point.line < len(lines) else ""
+    return {"line": point.line, "character": _utf16_length(line[:point.column])}
 
 
 def _utf16_length(text: str) -> int:

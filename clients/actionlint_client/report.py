@@ -5,7 +5,11 @@ import re
 from dataclasses import dataclass
 from typing import Container, Iterable
 
-FAULT = re.compile(rb":([1-9]\d*):([1-9]\d*): (.+) \[([a-z-]+)\]$")
+from .paths import MAX_PATH_BYTES
+
+PLACE = re.compile(rb":([1-9]\d*):([1-9]\d*): ")
+KIND = re.compile(rb" \[([a-z-]+)\]")
+MAX_PLACE_BYTES = 64
 SNIPPET_LINES = 3
 SHOWN_OF_A_LINE = 200
 
@@ -29,18 +33,18 @@ class Fault:
 def parse_fault(line: bytes, paths: Container[str] | None, width: int | None = None) -> Fault:
     """The fault of a line. A path can itself look like the beginning of a fault, so more than one may fit: the longest of `paths` is taken,
     and the shortest that fits where `paths` is None."""
-    start, best = 0, None
-    while (match := FAULT.search(line, start)) is not None:
-        if paths is None:
-            best = match
-            break
-        if line[: match.start()].decode("utf-8") in paths:
-            best = match
-        start = match.start() + 1
-    if best is None:
+    kind = KIND.fullmatch(line, max(line.rfind(b" ["), 0))
+    end = kind.start() if kind else 0
+    best = None
+    for place in PLACE.finditer(line, 0, min(end, MAX_PATH_BYTES + MAX_PLACE_BYTES)):
+        if place.end() < end and (paths is None or line[: place.start()].decode("utf-8", "replace") in paths):
+            best = place
+            if paths is None:
+                break
+    if best is None or kind is None:
         raise BadReport(f"it reported {line[:SHOWN_OF_A_LINE].decode('utf-8', 'replace')!r}")
-    return Fault(line[: best.start()].decode("utf-8"), int(best[1]), int(best[2]), best[3].decode("utf-8", "replace"),
-                 best[4].decode("ascii"), width)
+    path, message = line[: best.start()].decode("utf-8", "replace"), line[best.end():end].decode("utf-8", "replace")
+    return Fault(path, int(best[1]), int(best[2]), message, kind[1].decode("ascii"), width)
 
 
 def marked_width(marks: bytes) -> int:
@@ -64,22 +68,3 @@ def _heads_and_marks(lines: list[bytes], snippets: bool) -> Iterable[tuple[bytes
     if len(lines) % step:
         raise BadReport("it reported a line of a file that is cut")
     return zip(lines[::step], lines[SNIPPET_LINES::step])
-
-
-class ReportParser:
-    """Parses one report after another. Lines that the report before had too aren't parsed again: an edit leaves most of them."""
-
-    def __init__(self) -> None:
-        self._known: dict[tuple[bytes, bytes], Fault] = {}
-        self._paths: set[str] = set()
-
-    def parse(self, lines: list[bytes], paths: set[str], snippets: bool) -> dict[str, list[Fault]]:
-        """The faults of each file that has some, in their order."""
-        before = self._known if paths == self._paths else {}
-        self._known, self._paths = {}, paths
-        found: dict[str, list[Fault]] = {}
-        for key in _heads_and_marks(lines, snippets):
-            fault = before.get(key) or parse_fault(key[0], paths, marked_width(key[1]) if snippets else None)
-            self._known[key] = fault
-            found.setdefault(fault.path, []).append(fault)
-        return found

@@ -6,8 +6,9 @@ import select
 import signal
 import subprocess
 import time
-from pathlib import Path
-from typing import NoReturn
+from typing import Iterator, NoReturn
+
+from .program import cannot_start
 
 READ_BYTES = 65_536
 EXIT_SECONDS = 0.5
@@ -16,15 +17,12 @@ LAST_LINES = (b"status 0\n", b"status 1\n")
 LONGEST_END = len(b"\nstatus 0\n")
 
 
-def default_program() -> str:
-    """The linter where none is named: that of the variable ACTIONLINT, the one that is built beside the clients, or one on the PATH."""
-    named = os.environ.get("ACTIONLINT")
-    built = Path(__file__).resolve().parents[2] / "crates" / "actionlint" / "out" / "actionlint"
-    return named or (str(built) if built.exists() else "actionlint")
-
-
 class LinterEnded(Exception):
     """The linter can't be started or has ended, or what it wrote is no reply."""
+
+
+class LinterMissing(LinterEnded):
+    """The linter can't be started."""
 
 
 class LinterSilent(LinterEnded):
@@ -46,7 +44,7 @@ class Session:
             self._child = subprocess.Popen(words, stdin=subprocess.PIPE, stdout=subprocess.PIPE, cwd="/", bufsize=0,
                                            start_new_session=True)
         except OSError as error:
-            raise LinterEnded(f"cannot start {program[0]}: {error.strerror}") from error
+            raise LinterMissing(cannot_start(program[0], error)) from error
         assert self._child.stdin and self._child.stdout
         self._stdin, self._stdout = self._child.stdin, self._child.stdout
         os.set_blocking(self._stdin.fileno(), False)
@@ -64,20 +62,27 @@ class Session:
 
     def report(self, max_bytes: int) -> list[bytes]:
         """The lines of the report before its status."""
-        self._send(b"report\n")
-        blocks = [self._unread]
-        size = len(self._unread)
-        tail = self._unread[-LONGEST_END:]
-        while not _ends_report(tail):
-            block = self._read()
-            blocks.append(block)
+        read, size = [], 0
+        for block in self.report_blocks():
+            read.append(block)
             size += len(block)
             if size > max_bytes:
                 self.stop()
                 raise ReportTooLong(str(size))
-            tail = (tail + block)[-LONGEST_END:]
-        self._unread = b""
-        return b"".join(blocks).split(b"\n")[:-2]
+        return b"".join(read).split(b"\n")[:-1]
+
+    def report_blocks(self) -> Iterator[bytes]:
+        """The report before its status, in blocks. Who doesn't read them all has to stop the session, since the rest stands before any
+        reply."""
+        self._send(b"report\n")
+        held, self._unread = self._unread, b""
+        while not _ends_report(held):
+            cut = max(len(held) - LONGEST_END, 0)
+            if cut:
+                yield held[:cut]
+            held = held[cut:] + self._read()
+        if len(held) > len(LAST_LINES[0]):
+            yield held[:-len(LAST_LINES[0])]
 
     def stop(self) -> int:
         """Ends the linter, for which the end of its input suffices, and answers its status."""
@@ -102,8 +107,7 @@ class Session:
         return reply
 
     def _read(self) -> bytes:
-        ready, _, _ = select.select([self._stdout], [], [], self._timeout)
-        if not ready:
+        if not _is_ready(self._stdout.fileno(), select.POLLIN, self._timeout):
             self._fail("it gave no answer in time", LinterSilent)
         block = os.read(self._stdout.fileno(), READ_BYTES)
         if not block:
@@ -117,10 +121,8 @@ class Session:
             try:
                 taken = os.write(self._stdin.fileno(), unsent)
             except BlockingIOError:
-                left = deadline - time.monotonic()
-                if left <= 0:
+                if not _is_ready(self._stdin.fileno(), select.POLLOUT, deadline - time.monotonic()):
                     self._fail("it took no input in time", LinterSilent)
-                select.select([], [self._stdin.fileno()], [], left)
                 continue
             except OSError:
                 self._fail("it ended")
@@ -130,7 +132,14 @@ class Session:
         raise kind(f"{why} (status {self.stop()})")
 
 
-def _ends_report(tail: bytes) -> bool:
+def _ends_report(report: bytes) -> bool:
     """Whether a report ends here, by its last bytes. No other line is `status N`: a fault's begins with a path and ends with a kind, and
     those of its snippet begin with a number or a space."""
-    return tail in LAST_LINES or tail.startswith(b"\n") and tail[1:] in LAST_LINES
+    return report in LAST_LINES or report.endswith(tuple(b"\n" + line for line in LAST_LINES))
+
+
+def _is_ready(descriptor: int, event: int, seconds: float) -> bool:
+    """Waits until a pipe can be read or written, or has no other end. Unlike `select` it takes descriptors of any number."""
+    waiting = select.poll()
+    waiting.register(descriptor, event)
+    return bool(waiting.poll(max(seconds, 0) * 1_000))

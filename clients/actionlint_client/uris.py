@@ -4,15 +4,19 @@ from __future__ import annotations
 import os
 from urllib.parse import quote_from_bytes, unquote_to_bytes, urlsplit
 
-from .disk import WORKFLOWS
+from .paths import WORKFLOWS, is_below
 
 
 def path_of(uri: str) -> bytes | None:
-    """The path of a `file` URI of this machine."""
-    parts = urlsplit(uri)
-    if parts.scheme != "file" or parts.netloc not in ("", "localhost"):
+    """The one path of a `file` URI of this machine, however the URI spells it, or None where there can be no such file."""
+    try:
+        parts = urlsplit(uri)
+        path = unquote_to_bytes(parts.path)
+    except ValueError:
         return None
-    return os.path.normpath(unquote_to_bytes(parts.path))
+    if parts.scheme != "file" or parts.netloc not in ("", "localhost") or not path.startswith(b"/") or b"\0" in path:
+        return None
+    return os.path.normpath(b"/" + path.lstrip(b"/"))
 
 
 def uri_of(root: bytes, path: str) -> str:
@@ -37,7 +41,3 @@ def root_of_file(file: bytes, workspace: list[bytes]) -> bytes:
     if folder.endswith(b"/" + WORKFLOWS.encode()):
         return folder[: -len(WORKFLOWS) - 1] or b"/"
     return root_of_folder(folder, workspace)
-
-
-def is_below(path: bytes, folder: bytes) -> bool:
-    return path == folder or path.startswith(folder.rstrip(b"/") + b"/")

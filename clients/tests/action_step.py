@@ -14,7 +14,7 @@ import sys
 import tempfile
 
 from cases import Cases
-from repositories import CLIENTS, FILES, WORKFLOWS, reported, write
+from repositories import CLIENTS, FILE, FILES, TOP, WORKFLOWS, reported, write
 
 CASES = Cases("step")
 FAULT = '.github/workflows/wrong.yml:1:5: unknown event "pussh" [events]'
@@ -23,18 +23,19 @@ FAULT = '.github/workflows/wrong.yml:1:5: unknown event "pussh" [events]'
 class Runner:
     """A repository and the step in it."""
 
-    def __init__(self, program: str, files: dict[str, str]):
-        self.program = program
+    def __init__(self, program: str, files: dict[str, str], here: str = str(TOP)):
+        self.program, self.here = program, here
         self.root = tempfile.mkdtemp(prefix="actionlint-test-")
         write(self.root, files)
 
     def step(self, files: str = "", sarif: str = "") -> tuple[int, list[str]]:
         """The step's status and the lines of its log."""
         output = self.root + "/output"
-        environment = {**os.environ, "HERE": str(CLIENTS / "github"), "PROGRAM": self.program, "FILES": files, "SARIF": sarif,
+        environment = {"PATH": "/usr/bin:/bin", "HERE": self.here, "PROGRAM": self.program, "FILES": files, "SARIF": sarif,
                        "GITHUB_OUTPUT": output}
-        done = subprocess.run([str(CLIENTS / "github/run")], cwd=self.root, env=environment, stdout=subprocess.PIPE,
+        done = subprocess.run([self.here + "/clients/github/run"], cwd=self.root, env=environment, stdout=subprocess.PIPE,
                               stderr=subprocess.PIPE, check=False)
+        assert not done.stderr, done.stderr
         with open(output, encoding="utf-8") as opened:
             assert opened.read() == f"status={done.returncode}\n"
         os.remove(output)
@@ -44,10 +45,10 @@ class Runner:
 @CASES.case
 def own_files(program: str) -> None:
     """The action and the workflow of the example have no fault."""
-    files = {WORKFLOWS + "lint.yml": "example.yml", "clients/github/action.yml": "action.yml"}
-    runner = Runner(program, {path: (CLIENTS / "github" / name).read_text(encoding="utf-8") for path, name in files.items()})
+    files = {WORKFLOWS + "lint.yml": CLIENTS / "github/example.yml", "action.yml": TOP / "action.yml"}
+    runner = Runner(program, {path: file.read_text(encoding="utf-8") for path, file in files.items()})
     assert runner.step()[0] == 0
-    assert runner.step("clients/github/action.yml")[0] == 0
+    assert runner.step("action.yml")[0] == 0
     assert reported(program, os.fsencode(runner.root), list(files)) == []
     shutil.rmtree(runner.root)
 
@@ -69,19 +70,59 @@ def reports_and_statuses(program: str) -> None:
     assert status == 1 and all(line.startswith("my action/action.yml:") for line in lines[2:-2]) and len(lines) > 4, lines
     assert runner.step(f"{WORKFLOWS}right.yml")[0] == 0
     status, lines = runner.step("none.yml", "faults.sarif")
-    assert status == 3 and lines[2:-2] == [], lines
+    assert status == 3 and lines[2:-2] == ["actionlint: none.yml: refused E2"] * 2, lines
     with open(runner.root + "/faults.sarif", encoding="utf-8") as opened:
         assert json.load(opened)["runs"][0]["invocations"][0]["executionSuccessful"] is False
     shutil.rmtree(runner.root)
 
 
 @CASES.case
+def no_linter(_: str) -> None:
+    """Where the one that is named, or any at all, isn't there, the status is 3 and a line says what names one."""
+    with tempfile.TemporaryDirectory(prefix="actionlint-test-") as here:
+        shutil.copytree(CLIENTS, here + "/clients", ignore=shutil.ignore_patterns("tests"))
+        for program, why in (("nowhere/it", "there is no such program"), ("", "there is none that runs here, beside the clients or on the PATH")):
+            runner = Runner(program, FILES, here)
+            status, lines = runner.step()
+            said = f"cannot start {program or 'actionlint'}: {why}; --program or the variable ACTIONLINT names the linter"
+            assert status == 3 and lines[2:-2] == [said], lines
+            shutil.rmtree(runner.root)
+
+
+@CASES.case
 def lines_that_look_like_commands(program: str) -> None:
-    """A path that begins with `::` stays between the lines that stop and resume commands."""
-    path = "::error::x/action.yml"
+    """Paths and standard error stay between the lines that stop and resume commands, from before the first run on."""
+    path, refused = "::error::x/action.yml", "##[add-mask]x"
     runner = Runner(program, {path: "name: x\n", **FILES})
     status, lines = runner.step(path)
     assert status == 1 and all(line.startswith("::error::x/action.yml:") for line in lines[2:-2]) and len(lines) > 4, lines
+    status, lines = runner.step(refused, "faults.sarif")
+    assert status == 3 and lines[2:-2] == [f"actionlint: {refused}: refused E2"] * 2, lines
+    shutil.rmtree(runner.root)
+
+
+@CASES.case
+def names_that_look_like_options(program: str) -> None:
+    """A file that is named as an option is linted, and doesn't lead the linter to another folder."""
+    path = "--root=clean/action.yml"
+    runner = Runner(program, {path: "name: x\n", "clean/.github/workflows/a.yml": FILES[FILE].replace("reff", "ref")})
+    status, lines = runner.step(path, "faults.sarif")
+    assert status == 1 and all(line.startswith(path + ":") for line in lines[2:-2]) and len(lines) > 4, lines
+    with open(runner.root + "/faults.sarif", encoding="utf-8") as opened:
+        found = json.load(opened)["runs"][0]["results"]
+    assert len(found) == len(lines) - 4 and {one["ruleId"] for one in found} == {"K2"}, found
+    shutil.rmtree(runner.root)
+
+
+@CASES.case
+def a_link_in_the_place_of_the_report(program: str) -> None:
+    """SARIF isn't written through a link of the repository, and the step doesn't pass."""
+    runner = Runner(program, {FILE: FILES[FILE].replace("reff", "ref"), "other": "x"})
+    os.symlink("other", runner.root + "/faults.sarif")
+    status, lines = runner.step(sarif="faults.sarif")
+    assert status == 3 and lines[2:-2] == ["actionlint-report: write failed: it is no regular file"], lines
+    with open(runner.root + "/other", encoding="utf-8") as opened:
+        assert opened.read() == "x"
     shutil.rmtree(runner.root)
 
 

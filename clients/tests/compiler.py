@@ -24,11 +24,8 @@ COMMANDS = {"vim": ["vim.nox", "-Nes", "-u", "NONE"], "nvim": ["nvim", "--headle
 
 def run(vim: str, program: str) -> bool:
     root = new_folder(MORE_FILES)
-    programs, out = os.path.dirname(root) + "/bin", root + ".json"
-    os.makedirs(programs)
-    os.symlink(program, programs + "/actionlint")
-    environment = {**os.environ, "FOLDER": root, "CLIENTS": str(CLIENTS), "OUT": out, "LC_ALL": "C.UTF-8",
-                   "PATH": programs + ":" + os.environ["PATH"]}
+    out = root + ".json"
+    environment = {**os.environ, "FOLDER": root, "CLIENTS": str(CLIENTS), "OUT": out, "LC_ALL": "C.UTF-8", "ACTIONLINT": program}
     subprocess.run([*COMMANDS[vim], "-S", SCRIPT], env=environment, stdin=subprocess.DEVNULL, stdout=subprocess.DEVNULL,
                    stderr=subprocess.DEVNULL, timeout=60, check=False)
     with open(out, encoding="utf-8") as opened:

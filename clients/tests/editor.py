@@ -17,7 +17,9 @@ EXIT_SECONDS = 10
 
 
 class Editor:
-    def __init__(self, program: str, root: bytes | None, watches: bool = True, words: tuple[str, ...] = (), capabilities: dict = {}):
+    def __init__(self, program: str | None, root: bytes | None, watches: bool = True, words: tuple[str, ...] = (), capabilities: dict = {},
+                 server: Path = SERVER, environment: dict[str, str] | None = None, inherited: tuple[int, ...] = ()):
+        """`inherited` are open files that the server is started with."""
         self.root = root
         self.shown: dict[str, dict] = {}
         self.messages: list[str] = []
@@ -28,8 +30,9 @@ class Editor:
         self._ids = 0
         self._versions: dict[str, int] = {}
         self._answers: queue.SimpleQueue = queue.SimpleQueue()
-        self.child = subprocess.Popen([sys.executable, str(SERVER), "--program", program, *words], stdin=subprocess.PIPE,
-                                      stdout=subprocess.PIPE)
+        named = [] if program is None else ["--program", program]
+        self.child = subprocess.Popen([sys.executable, str(server), *named, *words], stdin=subprocess.PIPE, stdout=subprocess.PIPE,
+                                      env=environment, pass_fds=inherited)
         threading.Thread(target=self._listen, daemon=True).start()
         uri = "file://" + quote_from_bytes(root) if root else None
         watching = {"workspace": {"didChangeWatchedFiles": {"dynamicRegistration": watches}}}
@@ -42,14 +45,18 @@ class Editor:
         return "file://" + quote_from_bytes(os.path.join(self.root or b"/", path.encode()))
 
     def open(self, path: str, text: str) -> None:
-        uri = self.uri(path)
+        self.open_uri(self.uri(path), text)
+
+    def open_uri(self, uri: str, text: str) -> None:
         self._versions[uri] = 1
         self.notify("textDocument/didOpen", {"textDocument": {"uri": uri, "languageId": "yaml", "version": 1, "text": text}})
 
     def change(self, path: str, text: str, held: bool = False) -> None:
         """Changes a buffer. What is held goes out with the next message in one write, so that the server isn't idle between the two."""
-        uri = self.uri(path)
-        self._versions[uri] += 1
+        self.change_uri(self.uri(path), text, held)
+
+    def change_uri(self, uri: str, text: str, held: bool = False) -> None:
+        self._versions[uri] = self._versions.get(uri, 1) + 1
         self.notify("textDocument/didChange", {"textDocument": {"uri": uri, "version": self._versions[uri]},
                                                "contentChanges": [{"text": text}]}, held)
 
@@ -57,7 +64,10 @@ class Editor:
         self.notify("textDocument/didSave", {"textDocument": {"uri": self.uri(path)}})
 
     def close(self, path: str) -> None:
-        self.notify("textDocument/didClose", {"textDocument": {"uri": self.uri(path)}})
+        self.close_uri(self.uri(path))
+
+    def close_uri(self, uri: str) -> None:
+        self.notify("textDocument/didClose", {"textDocument": {"uri": uri}})
 
     def touched(self, *paths: str, kind: int = 2) -> None:
         changes = [{"uri": self.uri(path), "type": kind} for path in paths]
@@ -148,3 +158,9 @@ def children(pid: int) -> list[int]:
     """What a process started that still runs."""
     with open(f"/proc/{pid}/task/{pid}/children", encoding="ascii") as opened:
         return [int(word) for word in opened.read().split()]
+
+
+def memory(pid: int, which: str = "VmRSS") -> int:
+    """KiB of memory that a process has, or by `VmHWM` has had at most."""
+    with open(f"/proc/{pid}/status", encoding="utf-8") as opened:
+        return next(int(line.split()[1]) for line in opened if line.startswith(which + ":"))

@@ -44,10 +44,16 @@ def expected(program: str, root: str, buffers: dict[str, str]) -> list[tuple]:
     return sorted(found)
 
 
-def in_terminal(words: list[str], environment: dict[str, str], seconds: float, rows: int = ROWS, columns: int = COLUMNS) -> bytes:
+def in_terminal(words: list[str], environment: dict[str, str], seconds: float, rows: int = ROWS, columns: int = COLUMNS,
+                folder: str = ".", user: int | None = None) -> bytes:
     """Runs an editor in a terminal of its own, and answers what it wrote there."""
     child, screen = pty.fork()
     if child == 0:
+        os.chdir(folder)
+        if user is not None:
+            os.setgroups([])
+            os.setresgid(user, user, user)
+            os.setresuid(user, user, user)
         os.execvpe(words[0], words, {**environment, "TERM": "xterm"})
     fcntl.ioctl(screen, termios.TIOCSWINSZ, struct.pack("HHHH", rows, columns, 0, 0))
     written, deadline = b"", time.monotonic() + seconds

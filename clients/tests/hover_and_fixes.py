@@ -38,6 +38,7 @@ FIXED = {
     "permission scope": ("on: push\npermissions:\n  content: read\njobs: {}\n", "contents", "  contents: read"),
     "permission value": ("on: push\npermissions:\n  contents: reed\njobs: {}\n", "read", "  contents: read"),
     "input type": ("on:\n  workflow_dispatch:\n    inputs:\n      a:\n        type: bool\njobs: {}\n", "boolean", "        type: boolean"),
+    "escape": ("on: \"pus\\x73h\"\njobs: {}\n", "push", "on: \"push\""),
     "far from all": ("on: zzzzzz\njobs: {}\n", None, None),
     "no fault": (RIGHT, None, None),
 }
@@ -45,7 +46,7 @@ FIXED = {
 
 @CASES.case
 def an_entry(program: str) -> None:
-    """The entry of the fault under the cursor, up to its last character, with links to the page; elsewhere nothing."""
+    """The entry of the fault under the cursor, up to its last character, with links to the page; not elsewhere."""
     editor = start(program, FILES, words=("--docs", DOCS))
     editor.open(FILE, WRONG)
     entry = TABLE["X13"]
@@ -54,15 +55,16 @@ def an_entry(program: str) -> None:
         assert shown["contents"]["kind"] == "markdown"
         assert shown["range"] == {"start": {"line": 5, "character": 29}, "end": {"line": 5, "character": 33}}, shown
         text = shown["contents"]["value"]
-        assert text.startswith('**X13** `property "{0}" is not defined`\n\n' + entry["text"]), text
+        assert text.startswith('**X13** `property "reff" is not defined`\n\n' + entry["text"]), text
         assert text.endswith(f"\n\n[FAULTS-EXPRESSIONS.md]({DOCS}/FAULTS-EXPRESSIONS.md#x13-property-0-is-not-defined)"), text
         assert f"\n\n*Why it matters*: {entry['why'].split(' [')[0]}" in text and entry["why"], text
         assert f"\n\n*Repair*: {entry['repair'].split(' [')[0].split(' (')[0]}" in text and entry["repair"], text
         assert "](LISTS.md" not in text
     for line, character in ((5, 28), (5, 34), (4, 30), (0, 0), (9, 0)):
-        assert editor.hover(FILE, line, character) is None, (line, character)
+        shown = editor.hover(FILE, line, character)
+        assert shown is None or "X13" not in shown["contents"]["value"], (line, character)
     editor.change(FILE, RIGHT)
-    assert editor.hover(FILE, 5, 31) is None, "the entry of a fault that is gone"
+    assert "X13" not in editor.hover(FILE, 5, 31)["contents"]["value"], "the entry of a fault that is gone"
     end(editor)
 
 
@@ -74,7 +76,12 @@ def two_entries_and_plain_text(program: str) -> None:
     shown = editor.hover(FILE, 0, 0)
     assert shown["contents"]["kind"] == "plaintext"
     text = shown["contents"]["value"]
-    assert text.count("**K1** `") == 1 and text.count("**K2** `") == 1 and text.count("\n\n---\n\n") == 1, text
+    assert text.startswith('**K2** `key "jobs" is missing`, `key "on" is missing`\n\n'), text
+    assert text.count('**K1** `unexpected key "nam"`\n\n') == 1 and text.count("\n\n---\n\n") == 1, text
+    editor.change(FILE, '"[a](b)": x\n')
+    assert '**K1** `unexpected key "[a](b)"`\n\n' in editor.hover(FILE, 0, 0)["contents"]["value"]
+    editor.change(FILE, '"a`b``c": x\n')
+    assert '**K1** ``` unexpected key "a`b``c" ```\n\n' in editor.hover(FILE, 0, 0)["contents"]["value"]
     assert editor.request("textDocument/hover", {"textDocument": {"uri": "file:///nowhere"},
                                                  "position": {"line": 0, "character": 0}})["result"] is None
     end(editor)
@@ -90,7 +97,7 @@ def fixes(program: str) -> None:
         found = editor.actions(FILE, EVERYWHERE)
         titles = [one["title"] for one in found]
         if name is None:
-            assert not found, (what, titles)
+            assert not any(title.startswith("change to") for title in titles), (what, titles)
             continue
         title = f'change to "{name}"'
         assert title in titles, (what, titles, editor.texts(FILE))
@@ -117,9 +124,13 @@ def where_fixes_are_asked_for(program: str) -> None:
     there = {"start": {"line": 1, "character": 0}, "end": {"line": 1, "character": 0}}
     assert editor.actions(FILE, here) and not editor.actions(FILE, there)
     assert editor.actions(FILE, here, only=["quickfix"]) and not editor.actions(FILE, here, only=["refactor"])
-    editor.change(FILE, "\non: pussh\njobs: {}\n", held=True)
-    assert not editor.actions(FILE, here), "the text is another one now"
-    for text in ("on: \"pus\\x73h\"\njobs: {}\n", "on: " + "p" * 200 + "\njobs: {}\n", "#" * 1_048_577):
+    # often, since a server that answers of the text before may have become idle, and right, between the two messages of one write
+    for _ in range(50):
+        editor.change(FILE, "\non: pussh\njobs: {}\n", held=True)
+        assert not editor.actions(FILE, here), "the text is another one now"
+        editor.change(FILE, "on: pussh\njobs: {}\n", held=True)
+        assert editor.actions(FILE, here), "the text is the first one again"
+    for text in ("on: " + "p" * 200 + "\njobs: {}\n", "#" * 1_048_577):
         editor.change(FILE, text)
         assert not editor.actions(FILE, EVERYWHERE), text[:50]
     end(editor)

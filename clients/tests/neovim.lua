@@ -2,15 +2,27 @@
 local folder = os.getenv('FOLDER')
 vim.opt.runtimepath:prepend(os.getenv('CLIENTS') .. '/neovim')
 vim.cmd('filetype on')
-require('actionlint').setup({ cmd = { os.getenv('CLIENTS') .. '/actionlint-lsp', '--program', os.getenv('PROGRAM') } })
+-- The cursor can stand behind a line's last character, as it does while one types.
+vim.opt.virtualedit = 'onemore'
+require('actionlint').setup({
+  cmd = { os.getenv('CLIENTS') .. '/actionlint-lsp', '--program', os.getenv('PROGRAM'), '--no-earlier-faults' },
+})
 
+local PATIENCE = 60000
 local steps = {}
+
+local function path_of(diagnostic)
+  return vim.api.nvim_buf_get_name(diagnostic.bufnr):sub(#folder + 2)
+end
+
+local function shows(path)
+  return vim.tbl_contains(vim.tbl_map(path_of, vim.diagnostic.get()), path)
+end
 
 local function shown()
   local found = {}
   for _, one in ipairs(vim.diagnostic.get()) do
-    local path = vim.api.nvim_buf_get_name(one.bufnr):sub(#folder + 2)
-    local line
+    local path, line = path_of(one), nil
     if vim.api.nvim_buf_is_loaded(one.bufnr) then
       line = vim.api.nvim_buf_get_lines(one.bufnr, one.lnum, one.lnum + 1, false)[1] or ''
     else
@@ -21,8 +33,17 @@ local function shown()
   return found
 end
 
--- Waits until what is shown has stayed the same for a while.
+-- Waits until the server has answered, before which it shows what it has.
+local function answered()
+  local function is_served() return next(vim.lsp.buf_get_clients(0)) ~= nil end
+  assert(vim.wait(PATIENCE, is_served, 20), 'no server was started')
+  local params = { textDocument = vim.lsp.util.make_text_document_params() }
+  assert(vim.lsp.buf_request_sync(0, 'textDocument/documentSymbol', params, PATIENCE), 'the server does not answer')
+end
+
+-- Waits until the server has answered, and what is shown has stayed the same for a while.
 local function settled(disk, quiet)
+  answered()
   local last, since = nil, vim.loop.now()
   vim.wait(8000, function()
     local now = vim.json.encode(shown())
@@ -44,7 +65,7 @@ end
 -- Asks the server as a key would make Neovim ask, and answers the result.
 local function ask(method, more)
   local params = vim.tbl_extend('force', vim.lsp.util.make_position_params(), more or {})
-  for _, answer in pairs(vim.lsp.buf_request_sync(0, method, params, 5000) or {}) do
+  for _, answer in pairs(vim.lsp.buf_request_sync(0, method, params, PATIENCE) or {}) do
     return answer.result
   end
 end
@@ -65,6 +86,38 @@ local function hover_and_fix()
   end
 end
 
+-- Completes a property as CTRL-X CTRL-O does, and answers what is offered.
+local function offered(row, column)
+  vim.api.nvim_win_set_cursor(0, { row, column })
+  local before = vim.fn.line('.')
+  vim.lsp.omnifunc(1, '')
+  local found = {}
+  for _, item in ipairs(ask('textDocument/completion').items) do
+    table.insert(found, item.label)
+  end
+  assert(vim.fn.line('.') == before)
+  return found
+end
+
+-- Names in a.yml: what is offered, what a name means, where it leads, and another one in its place.
+local function names()
+  vim.api.nvim_buf_set_lines(0, -1, -1, false, { '      - id: one', '        run: make', '      - if: steps.' })
+  local last = vim.api.nvim_buf_line_count(0)
+  assert(vim.tbl_contains(offered(last, 18), 'one'), 'the step is not offered')
+  vim.api.nvim_buf_set_text(0, last - 1, 18, last - 1, 18, { 'one.outcome' })
+  vim.api.nvim_buf_set_lines(0, -1, -1, false, { '        run: make' })
+  vim.api.nvim_win_set_cursor(0, { last, 24 })
+  local meaning = ask('textDocument/hover')
+  assert(meaning and meaning.contents.value:find('`outcome`', 1, true), 'hovering shows no meaning')
+  vim.api.nvim_win_set_cursor(0, { last, 19 })
+  assert(ask('textDocument/definition')[1].range.start.line == last - 3, 'the definition is elsewhere')
+  vim.lsp.util.apply_workspace_edit(ask('textDocument/rename', { newName = 'two' }), 'utf-16')
+  local lines = vim.api.nvim_buf_get_lines(0, last - 3, last, false)
+  assert(lines[1] == '      - id: two' and lines[3] == '      - if: steps.two.outcome', vim.inspect(lines))
+  local symbols = ask('textDocument/documentSymbol')
+  assert(#symbols == 1 and #symbols[1].children >= 1, vim.inspect(symbols))
+end
+
 local function go()
   vim.cmd('edit ' .. folder .. '/.github/workflows/c.yml')
   settled()
@@ -83,17 +136,20 @@ local function go()
   settled()
   hover_and_fix()
   settled()
+  names()
+  settled()
   vim.cmd('silent write')
   vim.cmd('silent! bdelete! ' .. folder .. '/a/action.yml')
   local saved = table.concat(vim.fn.readfile(folder .. '/.github/workflows/a.yml'), '\n') .. '\n'
   settled({ ['.github/workflows/a.yml'] = saved })
   -- The disk changes behind Neovim's back: it watches nothing, so the server looks by itself.
-  vim.fn.writefile({ 'on: pussh', 'jobs: {}' }, folder .. '/.github/workflows/new.yml')
-  vim.wait(3500, function() return false end, 50)
-  settled({ ['.github/workflows/new.yml'] = 'on: pussh\njobs: {}\n' })
-  vim.fn.delete(folder .. '/.github/workflows/new.yml')
-  vim.wait(3500, function() return false end, 50)
-  settled({ ['.github/workflows/new.yml'] = vim.NIL })
+  local new = '.github/workflows/new.yml'
+  vim.fn.writefile({ 'on: pussh', 'jobs: {}' }, folder .. '/' .. new)
+  vim.wait(PATIENCE, function() return shows(new) end, 50)
+  settled({ [new] = 'on: pussh\njobs: {}\n' })
+  vim.fn.delete(folder .. '/' .. new)
+  vim.wait(PATIENCE, function() return not shows(new) end, 50)
+  settled({ [new] = vim.NIL })
 end
 
 -- Random edits of three buffers, as keys would make them: characters, lines, undo, redo, a step back and forth between the buffers.

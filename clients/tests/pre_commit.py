@@ -1,5 +1,5 @@
 #!/usr/bin/env python3
-"""pre-commit with the hooks of this repository, in a repository of git, without a network.
+"""pre-commit with the hooks of this repository, from a clone that carries the linter, in a repository of git, without a network.
 
     pre_commit.py PROGRAM [NAME...]
 """
@@ -10,15 +10,18 @@ import shutil
 import subprocess
 import sys
 import tempfile
+from pathlib import Path
 
 from cases import Cases
-from repositories import ACTION, FILE, FILES, TOP, git, write
+from clones_and_releases import PATH, carry, commit, copy_few_sources
+from repositories import ACTION, FILE, FILES, git, write
 
 CASES = Cases("pre-commit")
 CONFIGURATION = "repos:\n  - repo: {repository}\n    rev: {revision}\n    hooks:\n      - id: {hook}\n"
 CALLER, REUSABLE = ".github/workflows/caller.yml", ".github/workflows/reusable.yml"
 CALLS = f"on: push\njobs:\n  call:\n    uses: ./{REUSABLE}\n"
 MISSING = f'workflow "./{REUSABLE}" is not in the folder [workflow-call]'
+OPTION = "--root=clean/action.yml"
 FAULT = '.github/workflows/a.yml:6:30: property "reff" is not defined [expression]'
 
 
@@ -27,26 +30,18 @@ class Commits:
 
     def __init__(self, program: str, hook: str):
         self.top = tempfile.mkdtemp(prefix="actionlint-test-")
-        hooks, self.root, programs = self.top + "/hooks", self.top + "/repo", self.top + "/bin"
-        for folder in (hooks, self.root, programs):
-            os.makedirs(folder)
-        os.symlink(program, programs + "/actionlint")
-        self.environment = {**os.environ, "PATH": programs + ":" + os.environ["PATH"], "HOME": self.top,
-                            "PRE_COMMIT_HOME": self.top + "/cache"}
-        shutil.copy(TOP / ".pre-commit-hooks.yaml", hooks)
-        revision = self._revision(hooks)
+        hooks, self.root = self.top + "/hooks", self.top + "/repo"
+        os.makedirs(self.root)
+        self.environment = {"PATH": PATH, "HOME": self.top, "PRE_COMMIT_HOME": self.top + "/cache"}
+        copy_few_sources(Path(hooks))
+        carry(Path(hooks), program)
+        commit(hooks)
+        revision = git(hooks, "rev-parse", "HEAD").strip()
         git(self.root, "init", "-q")
         right = {path: text.replace("reff", "ref").replace("required: true", "required: false") for path, text in FILES.items()}
         write(self.root, {**right, "README": "x\n", ".pre-commit-config.yaml": CONFIGURATION.format(
             repository=hooks, revision=revision, hook=hook)})
         subprocess.run(["pre-commit", "install"], cwd=self.root, check=True, env=self.environment, stdout=subprocess.DEVNULL)
-
-    @staticmethod
-    def _revision(hooks: str) -> str:
-        git(hooks, "init", "-q")
-        git(hooks, "add", ".")
-        git(hooks, "commit", "-qm", "hooks")
-        return git(hooks, "rev-parse", "HEAD").strip()
 
     def commit(self, files: dict[str, str], status: int = 0) -> str:
         """A commit of changed files on top of the last one; what was said."""
@@ -70,6 +65,9 @@ def check(program: str, hook: str, all_files: bool) -> None:
     commits = Commits(program, hook)
     assert "Passed" in commits.commit({})
     assert FAULT in commits.commit({FILE: FILES[FILE]}, status=1)
+    # A file that is named as an option is linted by the hook that is given files, and leads neither to another folder.
+    said = commits.commit({OPTION: "name: x\n"}, status=0 if all_files else 1)
+    assert all_files or OPTION + ":1:1:" in said, said
     # A fault that a changed action makes in a workflow that isn't changed.
     said = commits.commit({ACTION: FILES[ACTION]}, status=1 if all_files else 0)
     assert ("required input" in said) == all_files, said

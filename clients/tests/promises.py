@@ -15,9 +15,13 @@ import time
 from pathlib import Path
 
 sys.path.insert(0, str(Path(__file__).resolve().parent.parent))
-from actionlint_client.folder import Folder
+from actionlint_client import library
+
+assert not library.missing()
+from actionlint_client.faults import NO_FAULTS
+from actionlint_client.folder import Folder, Program
 from cases import Cases
-from editor import Editor, children
+from editor import Editor, children, memory
 from repositories import ACTION, CALLED, FILE, FILES, RIGHT, UNDEFINED, WORKFLOWS, WRONG, in_characters, reported, write
 
 CASES = Cases("promises")
@@ -111,7 +115,7 @@ def a_full_folder(program: str) -> None:
 
 @CASES.case
 def names_that_are_refused(program: str) -> None:
-    backslash, line_feed, fifo = WORKFLOWS + "b\\c.yml", WORKFLOWS + "l\nf.yml", WORKFLOWS + "y.yml"
+    backslash, line_feed = WORKFLOWS + "b\\c.yml", WORKFLOWS + "l\nf.yml"
     editor = start(program, {FILE: WRONG, backslash: WRONG, WORKFLOWS + "notes.txt": "x", "docs/x.yml": "a: ["})
     save(editor, line_feed, WRONG.encode())
     folder = os.path.join(editor.root, WORKFLOWS.encode())
@@ -131,8 +135,7 @@ def names_that_are_refused(program: str) -> None:
     editor.notify("textDocument/didOpen", {"textDocument": untitled})
     editor.notify("textDocument/didChange", {"textDocument": {"uri": untitled["uri"], "version": 2}, "contentChanges": [{"text": WRONG}]})
     editor.settle()
-    assert editor.texts(fifo) == ["cannot read this file: it is not a regular one"]
-    assert set(editor.diagnostics()) == {FILE, backslash, fifo, line_feed}
+    assert set(editor.diagnostics()) == {FILE, backslash, line_feed}
     end(editor)
 
 
@@ -203,7 +206,8 @@ def the_linter_goes_and_comes_back(program: str) -> None:
     editor.change(FILE, RIGHT)
     editor.settle()
     assert editor.diagnostics() == {}, editor.diagnostics()
-    assert any("cannot start" in said for said in editor.messages) and len(editor.messages) <= 4, editor.messages
+    assert [said for said in editor.messages if "cannot start" in said and "--program" in said and "ACTIONLINT" in said], editor.messages
+    assert len(editor.messages) <= 2, "the linter ended, and then there was none, which is told once"
     os.symlink(program, link)
     time.sleep(PAUSE_SECONDS + 1)
     editor.settle()
@@ -449,14 +453,13 @@ def many_reads(program: str) -> None:
     root = tempfile.mkdtemp(prefix="actionlint-test-")
     write(root, FILES)
     said: list[str] = []
-    folder = Folder(os.fsencode(root), [program], 20.0, said.append)
-    folder.rescan()
+    folder = Folder(os.fsencode(root), Program([program], 20.0), said.append)
     number = 0
     while not said and number < MAX_READS:
         number += 1
         folder.edit(FILE, (RIGHT if number % 2 else WRONG).encode())
         found = folder.refresh().faults
-        assert len(found.get(FILE, [])) == (number + 1) % 2 and len(found[CALLED]) == 1, (number, found)
+        assert len(found.get(FILE, NO_FAULTS).faults) == (number + 1) % 2 and len(found[CALLED].faults) == 1, (number, found)
     print(f"  after {number} edits: {said}")
     assert len(said) == 1 and number > MAX_READS // 4
     folder.close()
@@ -479,12 +482,6 @@ def many_edits(program: str) -> None:
     for before, after in zip(sizes[0], sizes[-1]):
         assert after <= before + 512, "more than 512 KiB more than after the first 1,000 edits"
     end(editor)
-
-
-def memory(pid: int, which: str = "VmRSS") -> int:
-    """KiB of memory that a process has, or by `VmHWM` has had at most."""
-    with open(f"/proc/{pid}/status", encoding="utf-8") as opened:
-        return next(int(line.split()[1]) for line in opened if line.startswith(which + ":"))
 
 
 if __name__ == "__main__":

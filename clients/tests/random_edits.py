@@ -1,6 +1,6 @@
 #!/usr/bin/env python3
-"""Random edits of buffers and of the disk through the language server. After each burst, what the editor shows is what the linter says of
-the folder with the unsaved buffers in place of the saved files.
+"""Random edits of buffers and of the disk through the language server, with completions and new names among them. After each burst, what
+the editor shows is what the linter says of the folder with the unsaved buffers in place of the saved files.
 
     random_edits.py PROGRAM [EDITS [SEED [BURST]]]      with BURST up to so many edits go out before the next comparison (1)
 """
@@ -8,6 +8,7 @@ from __future__ import annotations
 
 import os
 import random
+import re
 import shutil
 import sys
 import tempfile
@@ -15,7 +16,7 @@ import time
 from collections import Counter
 
 from editor import Editor
-from repositories import WORKFLOWS, in_characters, reported
+from repositories import LINE_BREAK, WORKFLOWS, in_characters, reported
 
 ACTION = """name: {name}
 description: d
@@ -67,6 +68,8 @@ WORKFLOW_PATHS = [WORKFLOWS + name for name in ("a.yml", "b.yaml", "c.yml", "cal
 PATHS = WORKFLOW_PATHS + [f"{folder}/{name}" for folder in FOLDERS for name in ("action.yml", "action.yaml")] + ["action.yml"]
 OTHERS = ["notes.yml", WORKFLOWS + "deep/x.yml"]
 FIRST_FILES = 9
+WORD = re.compile(r"[\w-]+")
+RENAMED = re.compile(r"\b(?:who|more|less|out|x|y|a|b|s)\b(?=:|[ }]|$)", re.M)
 TYPED = "a:-'\"{[\t\n é\U0001F600\x07&*#"
 
 
@@ -136,10 +139,9 @@ class World:
             os.makedirs(os.path.join(top, WORKFLOWS.encode()))
         self.disk: dict[str, str] = {}
         self.buffers: dict[str, str] = {}
-        self.besides = 0
         for path in PATHS[:FIRST_FILES] + OTHERS:
             self.write(path, self.texts.new(path))
-        self.editor = Editor(program, self.root)
+        self.editor = Editor(program, self.root, words=("--no-earlier-faults",))
 
     def write(self, path: str, text: str | None) -> None:
         """A file of the disk, or none of this name."""
@@ -166,22 +168,60 @@ class World:
         return self._edit_disk(path)
 
     def _edit_buffer(self, path: str) -> str:
-        kind = self.chance.randrange(10)
+        kind = self.chance.randrange(12)
         if kind < 7:
-            text = self.texts.new(path) if kind == 0 else self.texts.edited(self.buffers[path])
-            self.buffers[path] = text
-            self.editor.change(path, text)
-            self.reflect(path)
+            self._change(path, self.texts.new(path) if kind == 0 else self.texts.edited(self.buffers[path]))
             return f"change {path}"
         if kind == 7:
             self.write(path, self.buffers[path])
             self.editor.touched(path)
             self.editor.save(path)
             return f"save {path}"
+        if kind == 8:
+            return self._complete(path)
+        if kind == 9:
+            return self._rename(path)
         del self.buffers[path]
         self.editor.close(path)
         self.reflect(path)
         return f"close {path}"
+
+    def _change(self, path: str, text: str) -> None:
+        self.buffers[path] = text
+        self.editor.change(path, text)
+        self.reflect(path)
+
+    def _complete(self, path: str) -> str:
+        """Something that is offered at a place of a buffer is put in."""
+        answer = self.editor.request("textDocument/completion", self._place(path))
+        found = (answer["result"] or {}).get("items")
+        if found:
+            self._change(path, applied(self.buffers[path], [self.chance.choice(found)["textEdit"]]))
+        return f"complete {path}"
+
+    def _rename(self, path: str) -> str:
+        """What a name of a buffer stands for gets another one, in files that aren't open too, unless that is refused."""
+        name = self.chance.choice(["more", "new_name", "a b"])
+        answer = self.editor.request("textDocument/rename", {**self._place(path, RENAMED), "newName": name})
+        changes = (answer.get("result") or {}).get("changes") or {}
+        assert not (changes and name == "a b"), answer
+        by_uri = {self.editor.uri(file): file for file in {*self.buffers, *self.disk}}
+        for uri, edits in changes.items():
+            file = by_uri[uri]
+            if file in self.buffers:
+                self._change(file, applied(self.buffers[file], edits))
+            else:
+                self.write(file, applied(self.disk[file], edits))
+                self.editor.touched(file)
+        return f"{'rename-name' if changes else 'refuse-name'} {path}"
+
+    def _place(self, path: str, pattern: re.Pattern = WORD) -> dict:
+        """A place in a word of a buffer, or at its start where it has none."""
+        words = list(pattern.finditer(self.buffers[path]))
+        at = self.chance.choice(words).start() + self.chance.randrange(2) if words else 0
+        before = LINE_BREAK.split(self.buffers[path][:at])
+        return {"textDocument": {"uri": self.editor.uri(path)},
+                "position": {"line": len(before) - 1, "character": len(before[-1].encode("utf-16-le")) // 2}}
 
     def _edit_disk(self, path: str) -> str:
         kind = self.chance.randrange(4)
@@ -201,26 +241,32 @@ class World:
         self.editor.touched(path)
         return f"write {path}"
 
-    def seems_called(self, path: str) -> bool:
-        """Whether a file names the folder of an action behind `./`."""
-        texts = {**self.disk, **self.buffers}.values()
-        return not path.startswith(WORKFLOWS) and any(f"./{os.path.dirname(path)}" in text for text in texts)
-
     def compare(self, told: str) -> int:
         """How many faults are shown; an edit after which they differ from the linter's ends the test."""
         expected = set(reported(self.program, self.mirror))
         found = in_characters(self.editor.diagnostics(), {**self.disk, **self.buffers})
-        # Open files and what they call are shown too, and actions that a file only seems to call: one that is no YAML, or a comment.
+        # Open files and what they call are shown too.
         open_files = {path for path in self.buffers if path not in OTHERS}
-        more = {fault[0] for fault in found if self.seems_called(fault[0])} - {fault[0] for fault in expected} - open_files
-        self.besides += bool(more)
-        if open_files | more:
-            expected |= set(reported(self.program, self.mirror, sorted(open_files | more)))
+        if open_files:
+            expected |= set(reported(self.program, self.mirror, sorted(open_files)))
         if sorted(found) != sorted(expected):
             print(f"  after {told}: only shown: {sorted(set(found) - expected)}; only expected: {sorted(expected - set(found))}; "
                   f"told: {self.editor.messages[-3:]}")
             raise SystemExit(1)
         return len(found)
+
+
+def applied(text: str, edits: list[dict]) -> str:
+    """A text after edits of an editor, which don't overlap."""
+    starts = [0, *(match.end() for match in LINE_BREAK.finditer(text))]
+
+    def offset(position: dict) -> int:
+        line = LINE_BREAK.split(text[starts[position["line"]]:], 1)[0]
+        return starts[position["line"]] + len(line.encode("utf-16-le")[:2 * position["character"]].decode("utf-16-le"))
+    for start, end, new in sorted(((offset(edit["range"]["start"]), offset(edit["range"]["end"]), edit["newText"]) for edit in edits),
+                                  reverse=True):
+        text = text[:start] + new + text[end:]
+    return text
 
 
 def _write(top: bytes, path: str, text: str | None) -> None:
@@ -249,7 +295,7 @@ def main(words: list[str]) -> int:
     right = world.editor.quit() == 0 and faults > 0 and not world.editor.messages
     print(f"case=clients-random-edits-{edits}-{seed}-{burst} output={'expected' if right else 'wrong'} status=0 "
           f"comparisons={compared} faults={faults} seconds={time.monotonic() - begun:.0f}")
-    print(f"  {dict(kinds)}; {world.editor.publications} publications; {world.besides} times actions besides; "
+    print(f"  {dict(kinds)}; {world.editor.publications} publications; "
           f"told: {world.editor.messages}")
     shutil.rmtree(os.path.dirname(world.root))
     return 0 if right else 1

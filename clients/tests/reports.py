@@ -7,6 +7,7 @@ from __future__ import annotations
 
 import json
 import os
+import re
 import subprocess
 import sys
 import tempfile
@@ -24,9 +25,14 @@ FOLDERS: list[str] = []
 
 def run(program: str, form: str, *words: str) -> tuple[int, str, bytes]:
     """The status and both streams of actionlint-report."""
-    done = subprocess.run([sys.executable, REPORT, "--form", form, "--program", program, "--docs", DOCS, "--", *words],
+    done = subprocess.run([sys.executable, REPORT, "--form", form, "--program", program, "--docs", DOCS, *words],
                           stdout=subprocess.PIPE, stderr=subprocess.PIPE, check=False)
     return done.returncode, done.stdout.decode(), done.stderr
+
+
+def escaped(message: str) -> str:
+    """Text of a message in SARIF, where `[a](b)` would be a link (3.11.6)."""
+    return re.sub(r"([][\\])", r"\\\1", message)
 
 
 def compare(program: str, folder: str) -> None:
@@ -43,9 +49,9 @@ def compare(program: str, folder: str) -> None:
     for one in found["results"]:
         place = one["locations"][0]["physicalLocation"]
         region = place["region"]
-        assert "endColumn" not in region or region["endColumn"] > region["startColumn"] and region["endLine"] == region["startLine"]
+        assert region["endColumn"] > region["startColumn"] and region["endLine"] == region["startLine"]
         results.append((unquote(place["artifactLocation"]["uri"]), region["startLine"], region["startColumn"], one["message"]["text"]))
-    assert results == [(path, line, column, message.rsplit(" [", 1)[0]) for path, line, column, message in expected], folder
+    assert results == [(path, line, column, escaped(message.rsplit(" [", 1)[0])) for path, line, column, message in expected], folder
     status, text, _ = run(program, "jsonl", "--root", folder)
     lines = [json.loads(line) for line in text.splitlines()]
     assert [(one["path"], one["line"], one["column"], f"{one['message']} [{one['kind']}]") for one in lines] == expected, folder
@@ -95,7 +101,8 @@ def characters(program: str) -> None:
         assert one["ruleId"] == "X13" and one["message"]["text"] == 'property "reff" is not defined', one
         _, text, _ = run(program, "jsonl", "--root", folder)
         assert json.loads(text) == {"path": path, "line": 6, "column": 28, "end_column": 32, "code": "X13", "kind": "expression",
-                                    "message": 'property "reff" is not defined'}, text
+                                    "message": 'property "reff" is not defined',
+                                    "link": DOCS + "/FAULTS-EXPRESSIONS.md#x13-property-0-is-not-defined"}, text
 
 
 @CASES.case

@@ -20,7 +20,8 @@ CASES = Cases("sarif-model")
 OBJECTS = {"runs": "Run", "tool": "Tool", "driver": "ToolComponent", "rules": "ReportingDescriptor", "results": "Result",
            "message": "Message", "locations": "Location", "physicalLocation": "PhysicalLocation", "artifactLocation": "ArtifactLocation",
            "region": "Region", "invocations": "Invocation", "toolExecutionNotifications": "Notification",
-           "shortDescription": "MultiformatMessageString", "defaultConfiguration": "ReportingConfiguration"}
+           "shortDescription": "MultiformatMessageString", "fullDescription": "MultiformatMessageString",
+           "help": "MultiformatMessageString", "defaultConfiguration": "ReportingConfiguration"}
 
 
 def check(value: dict, name: str) -> None:

@@ -1,28 +1,32 @@
 #!/usr/bin/env python3
-"""The snippets of docs/EDITORS.md and docs/CI.md: each is run here, under the name in the comment before it, or its paragraph says that no
-test runs it.
+"""The snippets of the pages: each is run here, under the name in the comment before it, or its section says that no test runs it.
 
     snippets.py PROGRAM [NAME...]
+
+Each runs as its page says, with a PATH on which there is no linter and nothing of the kit: in a clone in which nothing was built and which
+carries PROGRAM, in the same clone as a user who can't write to it, and as such a user in a release that was unpacked.
 """
 from __future__ import annotations
 
+import json
 import os
 import re
-import shutil
 import subprocess
 import sys
 import tempfile
 from pathlib import Path
 
+import yaml
 from cases import Cases
+from clones_and_releases import ANYWHERE, Place, Room, in_each_clone, in_each_place
 from editors import in_terminal
-from repositories import CLIENTS, FILE, FILES, TOP, UNDEFINED, WORKFLOWS, git, new_folder, reported, write
+from repositories import CLIENTS, FILE, FILES, TOP, UNDEFINED, WORKFLOWS, git, reported, write
 
 CASES = Cases("snippets")
-PAGES = ("EDITORS.md", "CI.md")
+PAGES = ("README.md", "docs/EDITORS.md", "docs/CI.md", "docs/COMMAND-LINE.md")
 FENCED = re.compile(r"(?:<!-- run: ([\w-]+) -->\n)?^```\w+\n(.*?)^```$", re.M | re.S)
-ANYWHERE = "/opt/juzbrost"
 SECONDS = 60
+EXPRESSION = re.compile(r"\$\{\{ ([\w.]+) \}\}")
 # What each editor does behind its snippet: opens the file, waits for the fault, and writes its messages.
 LUA = """
 vim.cmd('filetype on')
@@ -45,7 +49,6 @@ LISP = """
 (run-with-timer 0.5 nil #'test-run)
 """
 VIM = """
-filetype plugin on
 function! Test(timer) abort
   execute 'edit ' . fnameescape($FILE)
   let begun = reltime()
@@ -63,124 +66,226 @@ qall!
 """
 
 
-def snippets() -> dict[str, str]:
+def snippets() -> dict[str, list[str]]:
     """The snippets by their names. One without a name has to say that no test runs it."""
-    found = {}
+    found: dict[str, list[str]] = {}
     for page in PAGES:
-        text = (TOP / "docs" / page).read_text(encoding="utf-8")
+        text = (TOP / page).read_text(encoding="utf-8")
         for match in FENCED.finditer(text):
             section = text[text.rindex("\n## ", 0, match.start()):match.start()]
             assert match[1] or "No test runs th" in section, f"{page}: a snippet is neither run nor said not to be: {match[2][:60]}"
             if match[1]:
-                found[match[1]] = match[2].replace(ANYWHERE, str(TOP))
+                found.setdefault(match[1], []).append(match[2])
     return found
 
 
-def messages_in(words: list[str], program: str, files: dict[str, str]) -> list[str]:
+def of_page(name: str, place: Place) -> list[str]:
+    """The snippets of a name, for a place. Two pages may show one."""
+    return [text.replace(ANYWHERE, str(place.folder)) for text in snippets()[name]]
+
+
+def messages_in(words: list[str], place: Place, files: dict[str, str]) -> list[str]:
     """What an editor shows of the file with the fault. `{}` in the words is the folder of `files`, its configuration."""
-    root = new_folder(FILES)
-    top = os.path.dirname(root)
-    write(top + "/configuration", files)
-    os.makedirs(top + "/bin")
-    os.symlink(program, top + "/bin/actionlint")
-    environment = {**os.environ, "ACTIONLINT": program, "FILE": os.path.join(root, FILE), "OUT": top + "/out", "HOME": top,
-                   "LC_ALL": "C.UTF-8", "PATH": top + "/bin:" + os.environ["PATH"]}
-    before = os.getcwd()
-    os.chdir(root)
-    try:
-        screen = in_terminal([word.replace("{}", top + "/configuration") for word in words], environment, SECONDS)
-    finally:
-        os.chdir(before)
-    assert os.path.exists(top + "/out"), screen[-2000:]
-    found = Path(top + "/out").read_text(encoding="utf-8").splitlines()
-    shutil.rmtree(top)
-    return found
+    with place.repository(FILES) as room:
+        write(room.top, {f"configuration/{name}": text for name, text in files.items()})
+        environment = {**room.environment, "FILE": os.path.join(room.root, FILE), "OUT": room.top + "/out", "LC_ALL": "C.UTF-8"}
+        screen = in_terminal([word.replace("{}", room.top + "/configuration") for word in words], environment, SECONDS,
+                             folder=room.root, user=place.user)
+        assert os.path.exists(room.top + "/out"), screen[-2000:]
+        return Path(room.top + "/out").read_text(encoding="utf-8").splitlines()
 
 
-@CASES.case
-def neovim(program: str) -> None:
-    assert messages_in(["nvim", "--headless", "-i", "NONE", "-u", "{}/init.lua", "-S", "{}/test.lua"], program,
-                       {"init.lua": snippets()["neovim"], "test.lua": LUA}) == [UNDEFINED]
+@in_each_place(CASES)
+def neovim(place: Place) -> None:
+    (text,) = of_page("neovim", place)
+    assert messages_in(["nvim", "--headless", "-i", "NONE", "-u", "{}/init.lua", "-S", "{}/test.lua"], place,
+                       {"init.lua": text, "test.lua": LUA}) == [UNDEFINED]
 
 
-@CASES.case
-def emacs(program: str) -> None:
+@in_each_place(CASES)
+def emacs(place: Place) -> None:
     folders = "(dolist (folder (directory-files \"/usr/share/emacs/site-lisp/elpa\" t \"\\\\`[^.]\")) (add-to-list 'load-path folder))\n"
-    (text,) = messages_in(["emacs", "-Q", "-nw", "-l", "{}/init.el", "-l", "{}/test.el"], program,
-                          {"init.el": folders + snippets()["emacs"], "test.el": LISP})
-    assert text.endswith(UNDEFINED) and "X13" in text, text
+    (text,) = of_page("emacs", place)
+    (shown,) = messages_in(["emacs", "-Q", "-nw", "-l", "{}/init.el", "-l", "{}/test.el"], place,
+                           {"init.el": folders + text, "test.el": LISP})
+    assert shown.endswith(UNDEFINED) and "X13" in shown, shown
 
 
-@CASES.case
-def ale(program: str) -> None:
-    assert messages_in(["vim.nox", "-N", "-i", "NONE", "-n", "-u", "{}/vimrc"], program,
-                       {"vimrc": snippets()["ale"] + VIM}) == [UNDEFINED]
+@in_each_place(CASES)
+def ale(place: Place) -> None:
+    (text,) = of_page("ale", place)
+    assert messages_in(["vim.nox", "-N", "-i", "NONE", "-n", "-u", "{}/vimrc"], place, {"vimrc": text + VIM}) == [UNDEFINED]
 
 
-@CASES.case
-def make(program: str) -> None:
-    script = snippets()["make"].replace("\nmake\n", "\nsilent make!\n")
-    found = messages_in(["vim.nox", "-Nes", "-u", "NONE", "-S", "{}/make.vim"], program, {"make.vim": script + QUICKFIX})
-    assert found[0] == UNDEFINED.removesuffix(" [expression]") and len(found) == 2, found
+def made(place: Place, script: str) -> list[str]:
+    """What :make puts into the quickfix list behind a script."""
+    return messages_in(["vim.nox", "-Nes", "-u", "NONE", "-S", "{}/make.vim"], place, {"make.vim": script + "silent make!\n" + QUICKFIX})
 
 
-@CASES.case
-def workflow(program: str) -> None:
-    """The one of clients/github, and without fault."""
-    text = snippets()["workflow"]
+@in_each_place(CASES)
+def make(place: Place) -> None:
+    for text in of_page("make", place):
+        found = made(place, text.removesuffix("make\n"))
+        assert found[0] == UNDEFINED.removesuffix(" [expression]") and len(found) == 2, found
+
+
+@in_each_place(CASES)
+def vim_options(place: Place) -> None:
+    (text,) = snippets()["vim-options"]
+    found = made(place, text.replace(ANYWHERE + "/actionlint", place.program))
+    assert found[0] == UNDEFINED and len(found) == 2, found
+
+
+@in_each_clone(CASES)
+def workflow(place: Place) -> None:
+    """The one of clients/github. Like any other its steps are those of the action, and it has no fault."""
+    (text,) = snippets()["workflow"]
     assert text == (CLIENTS / "github/example.yml").read_text(encoding="utf-8")
+    run_workflow(place, text)
+
+
+@in_each_clone(CASES)
+def scanning(place: Place) -> None:
+    run_workflow(place, *snippets()["scanning"], uploaded="actionlint.sarif")
+
+
+@CASES.case
+def archive(program: str) -> None:
+    """Its steps are run by tests/release.py; here it has no fault."""
+    (text,) = snippets()["archive"]
     with tempfile.TemporaryDirectory(prefix="actionlint-test-") as root:
         write(root, {WORKFLOWS + "lint.yml": text})
         assert reported(program, os.fsencode(root)) == []
 
 
-def run_lines(program: str, name: str, folder: str, *replaced: tuple[str, str]) -> list[int]:
-    """Runs the lines of a snippet in a folder that has the clients, and answers their statuses."""
-    os.symlink(CLIENTS, folder + "/clients")
-    text = snippets()[name]
+def run_workflow(place: Place, text: str, uploaded: str | None = None) -> None:
+    """Runs the steps of a workflow's one job as a runner would, in a repository with a fault beside the workflow."""
+    with place.repository({**FILES, WORKFLOWS + "lint.yml": text}) as room:
+        assert {one[0] for one in reported(place.program, os.fsencode(room.root))} == {FILE, WORKFLOWS + "c.yml"}
+        ((job),) = yaml.safe_load(text)["jobs"].values()
+        for step in job["steps"]:
+            name, _, reference = step["uses"].partition("@")
+            if name == "OWNER/REPOSITORY":
+                assert reference == "COMMIT"
+                status, said = run_action(place, room, step.get("with", {}))
+                assert status == 1 and f"{FILE}:6:30: {UNDEFINED}" in said.splitlines(), (status, said)
+            elif name == "github/codeql-action/upload-sarif":
+                assert step["with"] == {"sarif_file": uploaded} and "X13" in Path(room.root, uploaded).read_text(encoding="utf-8")
+            else:
+                assert name == "actions/checkout", name
+
+
+def run_action(place: Place, room: Room, inputs: dict[str, str]) -> tuple[int, str]:
+    """Runs the one step of the action as a runner does, with the clone as the folder into which it got the action."""
+    action = yaml.safe_load((place.folder / "action.yml").read_text(encoding="utf-8"))
+    (step,) = action["runs"]["steps"]
+    values = {f"inputs.{name}": inputs.get(name, one["default"]) for name, one in action["inputs"].items()}
+    values["github.action_path"] = str(place.folder)
+    own = {name: EXPRESSION.sub(lambda found: values[found[1]], value) for name, value in step["env"].items()}
+    write(room.top, {"step.sh": step["run"], "output": ""})
+    os.chmod(room.top + "/output", 0o666)
+    assert step["shell"] == "bash"
+    done = subprocess.run(["bash", "--noprofile", "--norc", "-e", "-o", "pipefail", room.top + "/step.sh"], cwd=room.root,
+                          env={**room.environment, **own, "GITHUB_OUTPUT": room.top + "/output"}, stdout=subprocess.PIPE,
+                          stderr=subprocess.STDOUT, check=False, **place.as_user())
+    assert Path(room.top + "/output").read_text(encoding="utf-8") == f"status={done.returncode}\n"
+    return done.returncode, done.stdout.decode()
+
+
+def run_lines(place: Place, name: str, room: Room, *replaced: tuple[str, str]) -> list[int]:
+    """Runs the lines of a snippet, or the commands of its `script`, and answers their statuses."""
+    (text,) = of_page(name, place)
     for old, new in replaced:
         text = text.replace(old, new)
-    return [subprocess.run(["sh", "-c", line], cwd=folder, env={**os.environ, "ACTIONLINT": program}, stdout=subprocess.DEVNULL,
-                           check=False).returncode for line in text.splitlines()]
+    lines = text.splitlines() if not text.startswith("actionlint:\n") else yaml.safe_load(text)["actionlint"]["script"]
+    return [subprocess.run(["sh", "-c", line], cwd=room.root, env=room.environment, stdout=subprocess.PIPE, check=False,
+                           **place.as_user()).returncode for line in lines]
+
+
+@in_each_place(CASES)
+def report(place: Place) -> None:
+    with place.repository({f"repository/{path}": text for path, text in FILES.items()}) as room:
+        assert run_lines(place, "report", room, ("DIR", "repository")) == [1, 1, 1]
+        assert "X13" in Path(room.root, "actionlint.sarif").read_text(encoding="utf-8")
+
+
+@in_each_place(CASES)
+def many(place: Place) -> None:
+    names = [f"r{number}" for number in range(4)]
+    files = {f"{name}/{path}": text for name in names for path, text in FILES.items()}
+    with place.repository({**files, "folders.txt": "".join(name + "\n" for name in names)}) as room:
+        assert run_lines(place, "many", room) == [123]
+        assert all("X13" in Path(room.root, name, "actionlint.sarif").read_text(encoding="utf-8") for name in names)
+
+
+@in_each_place(CASES)
+def gitlab(place: Place) -> None:
+    with place.repository(FILES) as room:
+        assert run_lines(place, "gitlab", room) == [1]
+        problems = json.loads(Path(room.root, "gl-code-quality-report.json").read_text(encoding="utf-8"))
+        assert {"X13", "C3"} == {one["check_name"] for one in problems}, problems
+
+
+@in_each_place(CASES)
+def log(place: Place) -> None:
+    with place.repository(FILES) as room:
+        assert run_lines(place, "log", room) == [1]
+
+
+@in_each_clone(CASES)
+def pre_commit(place: Place) -> None:
+    revision = git(str(place.folder), "-c", f"safe.directory={place.folder}", "rev-parse", "HEAD").strip()
+    for text in snippets()["pre-commit"]:
+        text = text.replace("https://github.com/OWNER/REPOSITORY", str(place.folder)).replace("COMMIT", revision)
+        with place.repository({**FILES, ".pre-commit-config.yaml": text}) as room:
+            status, said = room.run(["pre-commit", "run", "--all-files"])
+            assert status == 1 and UNDEFINED in said, said
+
+
+@in_each_clone(CASES)
+def local_hook(place: Place) -> None:
+    (text,) = of_page("local-hook", place)
+    with place.repository({**FILES, ".pre-commit-config.yaml": "repos:\n" + text}) as room:
+        status, said = room.run(["pre-commit", "run", "--all-files"])
+        assert status == 1 and UNDEFINED in said, said
+
+
+@in_each_clone(CASES)
+def git_hook(place: Place) -> None:
+    (text,) = of_page("git-hook", place)
+    with place.repository({**FILES, ".git/hooks/pre-commit": text}) as room:
+        os.chmod(room.root + "/.git/hooks/pre-commit", 0o755)
+        status, said = room.run(["git", "-c", "user.name=t", "-c", "user.email=t@t", "commit", "--allow-empty", "-m", "change"])
+        assert status == 1 and UNDEFINED in said, said
+
+
+@in_each_place(CASES)
+def tasks(place: Place) -> None:
+    """The command of the task; editor_details.py reads its output by the matcher."""
+    (text,) = of_page("tasks", place)
+    (task,) = json.loads(text)["tasks"]
+    with place.repository(FILES) as room:
+        status, said = room.run([task["command"], *task["args"]])
+        assert status == 1 and "X13" in said, said
+
+
+@in_each_clone(CASES)
+def recipe(place: Place) -> None:
+    """A step that stops commands around the report; tests/recipes.py has what a report can hold."""
+    (text,) = of_page("recipe", place)
+    (step,) = yaml.safe_load(text)
+    with place.repository({**FILES, "step.sh": step["run"]}) as room:
+        status, said = room.run(["bash", "--noprofile", "--norc", "-e", "step.sh"])
+        lines = said.splitlines()
+        assert status == 1 and lines[1].startswith("::stop-commands::") and lines[-1] == f"::{lines[1].removeprefix('::stop-commands::')}::"
+        assert UNDEFINED in said, said
 
 
 @CASES.case
-def report(program: str) -> None:
-    with tempfile.TemporaryDirectory(prefix="actionlint-test-") as top:
-        write(top + "/repository", FILES)
-        assert run_lines(program, "report", top, ("DIR", "repository")) == [1, 1]
-        assert "X13" in Path(top + "/actionlint.sarif").read_text(encoding="utf-8")
-
-
-@CASES.case
-def many(program: str) -> None:
-    with tempfile.TemporaryDirectory(prefix="actionlint-test-") as top:
-        names = [f"r{number}" for number in range(8)]
-        for name in names:
-            write(f"{top}/{name}", FILES)
-        write(top, {"folders.txt": "".join(name + "\n" for name in names)})
-        assert run_lines(program, "many", top) == [123]
-        assert all("X13" in Path(f"{top}/{name}/actionlint.sarif").read_text(encoding="utf-8") for name in names)
-
-
-@CASES.case
-def pre_commit(program: str) -> None:
-    with tempfile.TemporaryDirectory(prefix="actionlint-test-") as top:
-        hooks, root = top + "/hooks", top + "/repository"
-        os.makedirs(hooks)
-        os.makedirs(top + "/bin")
-        os.symlink(program, top + "/bin/actionlint")
-        shutil.copy(TOP / ".pre-commit-hooks.yaml", hooks)
-        git(hooks, "init", "-q")
-        git(hooks, "add", ".")
-        git(hooks, "commit", "-qm", "hooks")
-        text = snippets()["pre-commit"].replace("https://github.com/OWNER/REPOSITORY", hooks)
-        write(root, {**FILES, ".pre-commit-config.yaml": text.replace("REVISION", git(hooks, "rev-parse", "HEAD").strip())})
-        git(root, "init", "-q")
-        git(root, "add", ".")
-        environment = {**os.environ, "PATH": top + "/bin:" + os.environ["PATH"], "HOME": top, "PRE_COMMIT_HOME": top + "/cache"}
-        done = subprocess.run(["pre-commit", "run", "--all-files"], cwd=root, env=environment, stdout=subprocess.PIPE, check=False)
-        assert done.returncode == 1 and UNDEFINED.encode() in done.stdout, done.stdout
+def matcher(_: str) -> None:
+    """The one of clients/github, which matcher.js and tests/command_line_page.py apply."""
+    (text,) = snippets()["matcher"]
+    assert text == (CLIENTS / "github/matcher.json").read_text(encoding="utf-8")
 
 
 if __name__ == "__main__":

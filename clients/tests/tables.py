@@ -5,14 +5,13 @@
 """
 from __future__ import annotations
 
-import json
 import re
 import subprocess
 import sys
 from pathlib import Path
 
 sys.path.insert(0, str(Path(__file__).resolve().parent.parent))
-from actionlint_client import entries, fixes
+from actionlint_client import entries, names, syntax
 from actionlint_client.report import parse_fault
 from cases import Cases
 from repositories import CLIENTS, TOP
@@ -20,6 +19,7 @@ from repositories import CLIENTS, TOP
 CASES = Cases("tables")
 FAULT_LINE = re.compile(rb"^[^ :\n][^:\n]*:[0-9]+:[0-9]+: .*\[[a-z-]+\]$", re.M)
 CODE = re.compile(r"/// ([YKGXC][0-9]+): ")
+SECTION_ROW = re.compile(r"^\| \[([\w ]+)\]\(SYNTAX\.md#[\w-]+\) \| (.*) \|$", re.M)
 LEAST_LINES = 1_000
 
 
@@ -51,7 +51,7 @@ def one_entry_each(program: str) -> None:
     seen = set()
     for line in lines:
         message = parse_fault(line, None).message
-        found = [entry.code for entry in entries.entries() if entry.pattern.fullmatch(message)]
+        found = [entry.code for entry in entries.entries() if entry.arguments(message) is not None]
         assert len(found) == 1, (found, message)
         seen.update(found)
     missing = {entry.code for entry in entries.entries()} - seen
@@ -60,11 +60,39 @@ def one_entry_each(program: str) -> None:
 
 @CASES.case
 def fixes_have_lists(program: str) -> None:
-    """Each fault with a quick fix has an argument and a list, and each list is used."""
+    """Each fault with a near name has an argument and a list, and each list is used."""
     by_code = {entry.code: entry for entry in entries.entries()}
-    assert all("{0}" in by_code[code].message for code in fixes.LISTS)
-    assert set(fixes.LISTS.values()) == set(fixes.names()) == set(json.loads(fixes.TABLE.read_text(encoding="utf-8")))
-    assert all(fixes.names().values())
+    assert all("{0}" in by_code[code].message for code in names.LISTS)
+    assert set(names.LISTS.values()) == set(names.names())
+    assert all(names.names().values())
+
+
+@CASES.case
+def every_name_has_a_meaning(program: str) -> None:
+    """Each key by its section, and each name of a list; and no name that isn't there has one."""
+    table, lists = syntax.table(), names.names()
+    wanted = {shape["section"]: set(shape["keys"]) for shape in table["shapes"].values() if shape.get("section")}
+    fixed = {f"properties of {context}": set(found["properties"]) for context, found in table["contexts"].items()}
+    wanted |= fixed | {"events": set(lists["events"]), "types of inputs": set(lists["input types"]), "shells": set(lists["shells"]),
+                       "permissions": {*lists["permission scopes"], *lists["permission values"]}, "kinds of actions": set(lists["using"]),
+                       "contexts": set(lists["contexts"]), "functions": set(lists["functions"])}
+    for heading, found in wanted.items():
+        said = set(table["meanings"].get(heading, ()))
+        assert said == found, (heading, said ^ found)
+    assert set(table["meanings"]) - set(wanted) == {"runners", "schedules", "properties of a step", "properties of a job that is needed"}
+
+
+@CASES.case
+def shapes_are_known(program: str) -> None:
+    """Each shape that a shape leads to is one, and the sections are those of docs/LISTS.md with those that aren't checked."""
+    shapes = syntax.table()["shapes"]
+    for name, shape in shapes.items():
+        below = [shape["items"], shape["free"], *(row["shape"] for row in shape.get("keys", {}).values())]
+        assert all(one is None or one in shapes for one in below), (name, below)
+    page = (TOP / "docs/LISTS.md").read_text(encoding="utf-8")
+    rows = {match[1]: set(re.findall(r"`([^`]+)`(?! (?:\*\*)? ?unless)", match[2])) for match in SECTION_ROW.finditer(page)}
+    known = {shape["section"]: set(shape["keys"]) for shape in shapes.values() if shape.get("section")}
+    assert len(rows) >= 20 and all(keys <= known[section] | {"uses"} for section, keys in rows.items()), rows
 
 
 if __name__ == "__main__":

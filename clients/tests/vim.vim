@@ -1,5 +1,5 @@
 " Run by editors.py: what Vim with ALE shows after each step. ALE shows the faults of files that are open.
-set nocompatible hidden noswapfile encoding=utf-8 fileencodings=utf-8
+set nocompatible hidden noswapfile encoding=utf-8 fileencodings=utf-8 virtualedit=onemore
 filetype plugin on
 let g:ale_linters_explicit = 1
 let g:ale_linters = {'yaml': ['actionlint_lsp']}
@@ -41,11 +41,11 @@ function! s:shown() abort
   return found
 endfunction
 
-function! s:settled(disk) abort
+function! s:settled(disk, quiet = 1.5) abort
   let last = ''
   let since = reltime()
   let begun = reltime()
-  while reltimefloat(reltime(begun)) < 10 && reltimefloat(reltime(since)) < 1.5
+  while reltimefloat(reltime(begun)) < 10 && reltimefloat(reltime(since)) < a:quiet
     sleep 50m
     let now = json_encode(s:shown())
     if now !=# last
@@ -62,10 +62,46 @@ function! s:settled(disk) abort
   call add(s:steps, {'shown': s:shown(), 'buffers': buffers, 'disk': a:disk})
 endfunction
 
+" Names in the current buffer, a.yml: what is offered, and where a name leads.
+function! s:names() abort
+  call append('$', ['      - id: one', '        run: make', '      - if: steps.'])
+  doautocmd TextChanged
+  call s:settled({})
+  " ALE completes in insert mode alone, in which no function runs.
+  call ale#util#Mode()
+  function! ale#util#Mode(...) abort
+    return 'i'
+  endfunction
+  let s:offered = []
+  call cursor(line('$'), 19)
+  call ale#completion#GetCompletions('ale-callback', {'callback': {found -> extend(s:offered, found)}})
+  let begun = reltime()
+  while reltimefloat(reltime(begun)) < 5 && empty(s:offered)
+    sleep 50m
+  endwhile
+  if index(map(copy(s:offered), 'v:val.word'), 'one') < 0
+    throw 'offered is ' . string(s:offered)
+  endif
+  call setline('$', '      - if: steps.one.outcome')
+  call append('$', '        run: make')
+  doautocmd TextChanged
+  call s:settled({})
+  call cursor(line('$') - 1, 19)
+  ALEGoToDefinition
+  let begun = reltime()
+  while reltimefloat(reltime(begun)) < 5 && line('.') != line('$') - 3
+    sleep 50m
+  endwhile
+  if line('.') != line('$') - 3
+    throw 'the definition is at ' . line('.')
+  endif
+endfunction
+
 function! s:go() abort
   execute 'edit ' . $FOLDER . '/.github/workflows/a.yml'
   execute 'edit ' . $FOLDER . '/.github/workflows/c.yml'
-  call s:settled({})
+  " The server starts.
+  call s:settled({}, 5)
   execute 'edit ' . $FOLDER . '/a/action.yml'
   call s:settled({})
   %s/required: true/required: false/
@@ -81,6 +117,8 @@ function! s:go() abort
   execute 'buffer ' . bufnr($FOLDER . '/.github/workflows/a.yml')
   %s/reff/ref/
   doautocmd TextChanged
+  call s:settled({})
+  call s:names()
   call s:settled({})
 endfunction
 

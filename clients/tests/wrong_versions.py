@@ -16,7 +16,7 @@ from pathlib import Path
 from typing import NamedTuple
 
 CLIENTS = Path(__file__).resolve().parent.parent
-SECONDS = 120
+SECONDS = 600
 SIDE_BY_SIDE = 4
 RANDOM_EDITS = ("random_edits.py", "250", "1")
 
@@ -32,72 +32,160 @@ class WrongVersion(NamedTuple):
 
 WRONG_VERSIONS = {
     "only_open_files_are_shown": WrongVersion(
-        "server.py", "for path in sorted({*result.faults, *result.refused, *repository.shown, *repository.documents}):",
-        "for path in sorted(repository.documents):", ("promises.py", "a_renamed_file")),
+        "repository.py", "for path in sorted(paths):", "for path in sorted(paths & self.documents.keys()):",
+        ("promises.py", "a_renamed_file")),
     "columns_are_characters": WrongVersion(
-        "positions.py", "len(text.encode(\"utf-16-le\", \"surrogatepass\")) // 2", "len(text)", ("promises.py", "ranges")),
+        "positions.py", "return character + bisect_left(self.two_units, character)", "return character", ("promises.py", "ranges")),
     "columns_are_bytes": WrongVersion(
-        "positions.py", "len(text.encode(\"utf-16-le\", \"surrogatepass\")) // 2", "len(text.encode(\"utf-8\", \"surrogatepass\"))",
-        ("promises.py", "ranges")),
+        "positions.py", "return character + bisect_left(self.two_units, character)",
+        'return len(self.text[:character].encode("utf-8", "surrogatepass"))', ("promises.py", "ranges")),
     "a_mark_of_byte_order_is_counted": WrongVersion(
         "positions.py", "self._has_mark = not is_buffer and data.startswith(BYTE_ORDER_MARK)", "self._has_mark = False",
         ("promises.py", "ranges")),
     "a_refused_file_keeps_its_old_text": WrongVersion(
-        "folder.py", "changed = self._delete(path)\n        self._put_files[path] = PutFile(data, reply, False)",
-        "changed = False\n        self._put_files[path] = PutFile(data, reply, False)", ("promises.py", "large_files")),
+        "folder.py", "self._delete(path)\n            self._refused", "self._refused", ("promises.py", "large_files")),
     "a_deleted_file_stays": WrongVersion(
-        "folder.py", "changed |= self._delete(path)\n            del self._put_files[path]", "del self._put_files[path]",
+        "folder.py", "self._delete(path)\n            self._put_files.pop(path, None)", "self._put_files.pop(path, None)",
         ("promises.py", "a_renamed_file")),
     "a_file_without_room_is_not_tried_again": WrongVersion(
-        "folder.py", " or put.reply == FULL and has_room", "", ("promises.py", "a_full_folder")),
+        "folder.py", " or put.reply == FULL\n", "\n", ("promises.py", "a_full_folder")),
     "no_calls_are_found": WrongVersion(
-        "calls.py", "found: set[str] = set()\n    for line in LINE_BREAK.split(data):", "found: set[str] = set()\n    for line in []:",
-        ("promises.py", "large_files")),
+        "calls.py", 'if b"uses" not in data and b"\\\\" not in data:', "if True:", ("promises.py", "large_files")),
     "calls_by_action_yaml_are_not_found": WrongVersion(
-        "calls.py", 'ACTION_NAMES = ("action.yml", "action.yaml")', 'ACTION_NAMES = ("action.yml",)', RANDOM_EDITS),
+        "calls.py", "for name in ACTION_NAMES if", "for name in ACTION_NAMES[:1] if", RANDOM_EDITS),
     "changes_of_the_disk_are_passed_over": WrongVersion(
-        "disk.py", "for path in list(self._files):\n            self._update(path)", "pass", ("promises.py", "without_watching")),
+        "disk.py", "for path in files:\n            self._update(path)", "pass", ("promises.py", "without_watching")),
     "new_files_are_passed_over": WrongVersion(
-        "disk.py", "self.workflows = [path", "self.workflows = self.workflows or [path", ("promises.py", "a_renamed_file")),
+        "disk.py", "self.workflows = {path", "self.workflows = self.workflows or {path", ("promises.py", "a_renamed_file")),
     "a_closed_buffer_stays": WrongVersion(
-        "server.py", "document.repository.folder.edit(document.path, None)", "pass", ("promises.py", "large_files")),
+        "workspace.py", "document.repository.edit(document.path, None)", "pass", ("promises.py", "large_files")),
     "a_change_waits_for_the_next_message": WrongVersion(
-        "server.py", "if self._is_stale and self._messages.empty():\n            self._refresh()", "pass",
+        "server.py", "if self._workspace.is_stale and self._messages.is_empty():\n            self._workspace.refresh()", "pass",
         ("promises.py", "without_asking")),
     "requests_see_the_text_before": WrongVersion(
-        "server.py", 'self._is_stale and "id" in message and "method" in message', "False",
+        "server.py", 'self._workspace.is_stale and "id" in message and "method" in message', "False",
         ("hover_and_fixes.py", "where_fixes_are_asked_for")),
     "a_linter_that_ended_is_not_replaced": WrongVersion(
         "folder.py", "note(not isinstance(error, LinterEnded) or isinstance(error, LinterSilent))", "note(True)",
         ("promises.py", "the_linter_is_killed")),
     "a_new_linter_is_given_the_edit_alone": WrongVersion(
-        "folder.py", "self.close()\n        self._put_files.clear()", "self.close()", ("promises.py", "the_linter_is_killed")),
+        "folder.py", "self._unsent = set(self._files.wanted)", "pass", ("promises.py", "the_linter_is_killed")),
     "without_a_linter_old_faults_stay": WrongVersion(
-        "server.py", "repository.folder.refresh() or NOTHING", "repository.folder.refresh() or repository.result",
+        "repository.py", "result or NOTHING, set()", "result or self.result, set()",
         ("promises.py", "the_linter_goes_and_comes_back")),
     "a_linter_that_hangs_is_waited_for": WrongVersion(
-        "session.py", "select.select([self._stdout], [], [], self._timeout)", "select.select([self._stdout], [], [], 8)",
+        "session.py", "select.POLLIN, self._timeout)", "select.POLLIN, 8)",
         ("promises.py", "a_linter_that_hangs")),
     "a_file_is_tried_for_ever": WrongVersion(
-        "folder.py", "if ends == ENDS_OF_A_FILE:", "if ends == 1_000:", ("promises.py", "a_file_that_ends_the_linter")),
+        "folder.py", "left_out.ends >= ENDS_OF_A_FILE:", "left_out.ends >= 1_000:", ("promises.py", "a_file_that_ends_the_linter")),
     "a_path_with_a_line_feed_is_sent": WrongVersion(
         "folder.py", 'if "\\n" in path or', "if", ("promises.py", "names_that_are_refused")),
     "a_long_path_is_sent": WrongVersion(
         "folder.py", '"\\n" in path or len(path.encode("utf-8")) > MAX_PATH_BYTES', '"\\n" in path', ("promises.py", "a_long_path")),
     "a_report_of_any_length_is_read": WrongVersion(
-        "session.py", "if size > max_bytes:", "if False:", ("promises.py", "many_faults_on_a_line")),
+        "faults.py", "MAX_HELD_BYTES = 32", "MAX_HELD_BYTES = 1_024", ("promises.py", "many_faults_on_a_line")),
     "lines_that_were_read_are_never_read_again": WrongVersion(
-        "report.py", "self._known, self._paths = {}, paths", "self._known, self._paths = before, paths\n        paths = set()",
-        ("promises.py", "a_renamed_file")),
-    "null_ends_the_server": WrongVersion("server.py", "END = object()", "END = None", ("promises.py", "wrong_messages")),
+        "faults.py", "before = {path: self.files.pop(path) for path in gone}", "before = {}", ("promises.py", "a_renamed_file")),
+    "null_ends_the_server": WrongVersion("messages.py", "END = object()", "END = None", ("promises.py", "wrong_messages")),
     "a_folder_that_went_is_still_shown": WrongVersion(
-        "server.py", "self._publish(uri_of(root, path), None, [])", "pass", ("promises.py", "several_folders")),
+        "repository.py", "editor.publish(uri, None, [])", "pass", ("promises.py", "several_folders")),
     "fixes_are_not_tried": WrongVersion(
-        "fixes.py", " if _count(session, fault.path, lines.replaced(fault, text)) < before]", "]", ("hover_and_fixes.py", "fixes")),
+        "fixes.py", " and trial.mends(repair, fault)]", "]", ("fixes.py", "random_slips")),
+    "fixes_may_bring_faults": WrongVersion(
+        "fixes.py", " and not after - self.before - self.earlier", "", ("fixes.py", "random_slips")),
+    "a_trial_knows_no_callers": WrongVersion(
+        "fixes.py", "self._include([file, *callers])", "self._include([file])", ("fixes.py", "a_trial")),
+    "a_folder_has_a_linter_for_ever": WrongVersion(
+        "workspace.py", "if root not in kept and not repository.documents:", "if False:",
+        ("life.py", "a_folder_is_let_go")),
+    "a_uri_with_a_zero_byte_is_taken": WrongVersion("uris.py", ' or b"\\0" in path', "", ("life.py", "uris_that_are_refused")),
+    "each_uri_is_a_path_of_its_own": WrongVersion(
+        "uris.py", 'return os.path.normpath(b"/" + path.lstrip(b"/"))', "return path", ("life.py", "two_uris_of_one_path")),
+    "links_lead_out_of_the_folder": WrongVersion(
+        "disk.py", "if not is_below(_real_path(opened, whole), real_root):", "if False:", ("life.py", "links_that_leave_the_folder")),
+    "opening_waits_for_a_pipe": WrongVersion(
+        "disk.py", "os.O_RDONLY | os.O_NONBLOCK", "os.O_RDONLY", ("life.py", "what_changes_between_the_look_and_the_opening")),
+    "what_was_opened_is_not_looked_at": WrongVersion(
+        "disk.py", "if not stat.S_ISREG(os.fstat(opened).st_mode):", "if False:",
+        ("life.py", "what_changes_between_the_look_and_the_opening")),
+    "the_limit_of_descriptors_stays": WrongVersion(
+        "server.py", "options = _options(words)\n    _take_all_descriptors()", "options = _options(words)",
+        ("life.py", "many_descriptors")),
+    "pipes_are_waited_for_by_select": WrongVersion(
+        "session.py", "return bool(waiting.poll(max(seconds, 0) * 1_000))",
+        "return event != select.POLLIN or bool(select.select([descriptor], [], [], max(seconds, 0))[0])", ("life.py", "many_descriptors")),
+    "every_action_calls_its_steps": WrongVersion(
+        "calls.py", 'if _under(runs, "using") == "composite" else []', "", ("linear.py", "what_a_file_calls")),
+    "the_disk_is_looked_at_for_each_buffer": WrongVersion(
+        "files.py", "self._edited.add(path)", "self._edited.add(path)\n        self._disk.rescan()", ("linear.py", "many_buffers")),
+    "a_line_is_looked_through_for_each_fault": WrongVersion(
+        "positions.py", "if self._last is None or self._last.index != index:", "if True:", ("linear.py", "ranges_on_a_long_line")),
+    "a_new_line_behind_those_that_stay_is_passed_over": WrongVersion(
+        "faults.py", "            first -= 1\n", "            pass\n", ("linear.py", "reports_by_chance")),
+    "a_new_line_before_those_that_stay_is_passed_over": WrongVersion(
+        "faults.py", "            last += 1\n", "            pass\n", ("linear.py", "reports_by_chance")),
+    "all_lines_are_parsed_again": WrongVersion(
+        "faults.py", "first, last = self._differing_parts(report)", "first, last = 0, len(self._paths)",
+        ("linear.py", "only_what_changed_is_parsed")),
+    "faults_that_are_not_shown_are_not_counted": WrongVersion(
+        "faults.py", "self.more += breaks + 1", "pass", ("linear.py", "many_missing_inputs")),
+    "earlier_faults_stay_where_lines_were": WrongVersion(
+        "earlier.py", "line=fault.line + len(after) - len(before)", "line=fault.line", ("earlier.py", "a_key_without_its_colon")),
+    "earlier_faults_stand_on_the_line_of_the_new_one": WrongVersion(
+        "earlier.py", "if fault.line not in lines)", ")", ("earlier.py", "the_line_of_the_fault")),
+    "what_is_no_yaml_calls_nothing": WrongVersion(
+        "files.py", "known if self._keeps_calls else NO_CALLS", "NO_CALLS", ("earlier.py", "what_it_calls_stays")),
+    "the_option_leaves_what_is_called": WrongVersion(
+        "files.py", "known if self._keeps_calls else NO_CALLS", "known", ("earlier.py", "switched_off")),
+    "all_faults_are_errors": WrongVersion(
+        "diagnostics.py", "return next((row.severity for", "return ERROR or next((row.severity for", ("earlier.py", "severities")),
+    "earlier_faults_may_not_come_back": WrongVersion(
+        "fixes.py", "trial.earlier = _counted(earlier)", "pass", ("fixes.py", "faults_that_come_back")),
+    "a_trial_keeps_a_text": WrongVersion("fixes.py", "self._put(path, self.texts[path])\n            else:", "pass\n            else:",
+                                         ("fixes.py", "a_trial")),
+    "keys_that_stand_are_offered": WrongVersion(
+        "completion.py", "if key in place.siblings or key in barred", "if key in barred", ("completion.py", "by_place")),
+    "keys_that_clash_are_offered": WrongVersion(
+        "completion.py", ' or row["clash"] in place.siblings', "", ("completion.py", "by_place")),
+    "needs_may_make_a_cycle": WrongVersion(
+        "completion.py", "files.dependents(tree, job) |", "{job} |", ("completion.py", "by_place")),
+    "all_contexts_are_everywhere": WrongVersion(
+        "syntax.py", 'return row["contexts"], every + row["functions"]', 'return names()["contexts"], every + row["functions"]',
+        ("completion.py", "by_place")),
+    "later_steps_are_offered": WrongVersion(
+        "expressions.py", "return steps[:number[0]] if number", "return steps if number", ("completion.py", "by_place")),
+    "a_place_needs_yaml": WrongVersion(
+        "project.py", 'lines[line] = ""', "pass", ("completion.py", "by_place")),
+    "scripts_are_read_as_keys": WrongVersion(
+        "place.py", "block = (number, elements[-1].column) if is_block else None", "block = None", ("completion.py", "by_place")),
+    "lists_may_not_stand_below_their_key": WrongVersion(
+        "place.py", "is_dash and element.column == column and element.name is not None", "False", ("completion.py", "by_place")),
+    "callers_keep_the_old_name": WrongVersion(
+        "references.py", "(callers(project, symbol.file) if not symbol.scope else [])", "[]", ("navigation.py", "places")),
+    "anchors_of_one_name_are_one": WrongVersion(
+        "references.py", "self._anchors[node.anchor] = self._anchors.get(node.anchor, 0) + 1", "pass", ("navigation.py", "anchors")),
+    "texts_in_expressions_have_names": WrongVersion(
+        "references.py", 'masked = TEXT.sub(lambda match: " " * len(match[0]), text)', "masked = text", ("navigation.py", "names_in_texts")),
+    "a_new_name_is_not_tried": WrongVersion(
+        "renaming.py", "_refuse_faults(program, project, found.symbol, changed, name)", "pass", ("navigation.py", "a_rename")),
+    "positions_are_characters": WrongVersion(
+        "positions.py", "    if line.isascii():\n        return", "    if True:\n        return", ("navigation.py", "by_the_protocol")),
+    "names_are_read_as_options": WrongVersion(
+        "lint_run.py", '"--", *files]', "*files]", ("report_edges.py", "names_that_look_like_options")),
+    "a_pipe_is_replaced_by_the_report": WrongVersion(
+        "output.py", "if not stat.S_ISREG(mode):", "if False:", ("report_edges.py", "odd_files_to_write")),
+    "brackets_are_links": WrongVersion(
+        "sarif.py", r'SPECIAL.sub(r"\\\g<0>", text)', "text", ("report_edges.py", "links_in_messages")),
+    "characters_that_turn_text_stay": WrongVersion(
+        "characters.py", "\\u202a-\\u202e", "", ("report_edges.py", "characters")),
+    "a_comma_ends_a_path": WrongVersion(
+        "forms.py", '.replace(",", "%2C")', "", ("report_edges.py", "commands_in_annotations")),
+    "what_is_ignored_counts": WrongVersion(
+        "convert.py", "if ignored.has(problem):", "if False:", ("report_forms.py", "ignored_faults")),
     "columns_of_sarif_are_units": WrongVersion(
-        "convert.py", '"columnKind": "unicodeCodePoints"', '"columnKind": "utf16CodeUnits"', ("reports.py",)),
+        "sarif.py", '"columnKind": "unicodeCodePoints"', '"columnKind": "utf16CodeUnits"', ("reports.py",)),
     "a_run_that_failed_is_clean": WrongVersion(
-        "convert.py", '"executionSuccessful": run.status in (0, 1)', '"executionSuccessful": True', ("reports.py",)),
+        "sarif.py", '"executionSuccessful": outcome.status in (0, 1)', '"executionSuccessful": True', ("reports.py",)),
 }
 
 

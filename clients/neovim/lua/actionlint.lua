@@ -1,9 +1,9 @@
--- For Neovim 0.7 and later: faults as one types, by the language server. Stands on 'runtimepath' as lua/actionlint.lua.
+-- For Neovim 0.7 and later: faults and names as one types, by the language server. Stands on 'runtimepath' as lua/actionlint.lua.
 --   require('actionlint').setup()                                         the server is on the PATH
 --   require('actionlint').setup({ cmd = { '/path/actionlint-lsp' } })     the server and its options
 local M = {}
 
--- The client of each repository.
+-- The client of each repository, where Neovim doesn't keep them itself (before 0.8).
 local clients = {}
 
 -- The repository's folder of a workflow or an action; nil for other files.
@@ -25,18 +25,24 @@ function M.attach(buffer, options)
   if not root then
     return nil
   end
+  local config = {
+    name = 'actionlint',
+    cmd = options.cmd or { 'actionlint-lsp' },
+    root_dir = root,
+    workspace_folders = { { name = root, uri = vim.uri_from_fname(root) } },
+  }
+  if vim.lsp.start then
+    return vim.lsp.start(config, { bufnr = buffer })
+  end
   local client = clients[root]
   if not (client and vim.lsp.get_client_by_id(client)) then
-    client = vim.lsp.start_client({
-      name = 'actionlint',
-      cmd = options.cmd or { 'actionlint-lsp' },
-      root_dir = root,
-      workspace_folders = { { name = root, uri = vim.uri_from_fname(root) } },
-    })
+    client = vim.lsp.start_client(config)
     clients[root] = client
   end
   if client then
     vim.lsp.buf_attach_client(buffer, client)
+    -- So that CTRL-X CTRL-O completes.
+    vim.bo[buffer].omnifunc = 'v:lua.vim.lsp.omnifunc'
   end
   return client
 end

@@ -4,7 +4,13 @@ if exists('current_compiler')
 endif
 let current_compiler = 'actionlint'
 
-CompilerSet makeprg=actionlint\ --oneline
+" The linter is the one that all clients take: $ACTIONLINT, or the one beside them, or one on the PATH.
+let s:found = systemlist(shellescape(expand('<sfile>:p:h:h:h') . '/which-actionlint'))
+if v:shell_error
+  echohl ErrorMsg | echomsg get(s:found, 0, 'cannot start actionlint') | echohl None
+  let s:found = ['actionlint']
+endif
+execute 'CompilerSet makeprg=' . escape(shellescape(s:found[0], 1) . ' --oneline', ' \|"')
 CompilerSet errorformat=%f:%l:%c:\ %m\ [%*[a-z-]],%-G%.%#
 
 " The linter counts characters and Vim counts bytes, so columns behind characters of several bytes are put right.

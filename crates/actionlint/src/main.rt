@@ -2,11 +2,11 @@
 #![tactic(auto)]
 
 use al_base::{Input, Output, Stop};
-use al_cli::{Loaded, Unread, lint_loaded, load};
+use al_cli::{Loaded, Unread, WaitingOutput, lint_loaded, load};
 use al_scripts::{number_of, run_session};
 use al_session::Refused;
 use al_words::{Usage, Words, parse_words};
-use std::io::{BufWriter, ErrorKind};
+use std::io::{BufWriter, ErrorKind, Write};
 use std::process::ExitCode;
 use std::{env, io};
 
@@ -49,7 +49,7 @@ fn say_unreadable(rt: &HostRuntime, kind: ErrorKind) -> u8 {
 // Prints why the command line asks for no run.
 fn say_usage(rt: &HostRuntime, usage: Usage) -> u8 {
     match usage {
-        Usage::Help(text) => match print!(rt; "{text}") {
+        Usage::Help(text) => match WaitingOutput::new(rt.stdout(), rt).write_all(text.as_bytes()) {
             Ok(()) => 0,
             Err(_) => stopped(rt, Stop::WriteFault),
         },
@@ -67,7 +67,7 @@ fn say_usage(rt: &HostRuntime, usage: Usage) -> u8 {
 
 // Runs the script of standard input.
 fn run_script(rt: &HostRuntime, oneline: bool) -> u8 {
-    let Ok(buffer) = BufWriter::new(rt.alloc(), rt.stdout()) else {
+    let Ok(buffer) = BufWriter::new(rt.alloc(), WaitingOutput::new(rt.stdout(), rt)) else {
         return stopped(rt, Stop::Memory);
     };
     let mut reader = Input::new(rt.stdin());
@@ -84,18 +84,21 @@ fn run_script(rt: &HostRuntime, oneline: bool) -> u8 {
 
 // Lints the files that the words ask for.
 fn lint_folder(rt: &HostRuntime, words: &Words) -> u8 {
-    let files = match load(rt, rt.alloc(), words) {
-        Ok(files) => files,
+    let gathered = match load(rt, rt.alloc(), words) {
+        Ok(gathered) => gathered,
         Err(unread) => return say_unread(rt, unread),
     };
-    match lint_files(rt, files, words.oneline) {
+    for path in &gathered.outside {
+        let _ = eprintln!(rt; "actionlint: passed over {path}, which leads out of the folder");
+    }
+    match lint_files(rt, gathered.files, words.oneline) {
         Ok(status) => status,
         Err(stop) => stopped(rt, stop),
     }
 }
 
 fn lint_files(rt: &HostRuntime, files: Loaded, oneline: bool) -> Result<u8, Stop> {
-    let Ok(buffer) = BufWriter::new(rt.alloc(), rt.stdout()) else {
+    let Ok(buffer) = BufWriter::new(rt.alloc(), WaitingOutput::new(rt.stdout(), rt)) else {
         return Err(Stop::Memory);
     };
     let mut writer = Output::new(buffer);

@@ -5,6 +5,7 @@ pub mod LineBegins
 pub mod InOrder
 pub mod FaultLists
 pub mod Growing
+pub mod Sets
 pub mod Elements
 pub mod ShownTexts
 pub mod TwoTexts

@@ -1,3 +1,5 @@
 pub mod Inside
-pub mod Mandatory
-pub mod LeftOut
+pub mod Alike
+pub mod Parts
+pub mod UndefinedNames
+pub mod MissingNames

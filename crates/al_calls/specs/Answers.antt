@@ -1,16 +1,16 @@
 -- Which answer belongs to which call, and the faults of all calls of a file.
-use Rattle.std.specs.Prelude.{List, [], ◌∷◌, codes, drop, Option, None, option_and_then}
+use Rattle.std.specs.Prelude.{List, [], ◌∷◌, drop, Option, None, option_and_then}
 use Rattle.std.specs.List.{flat_map}
 use Rattle.std.specs.Option.{option_map_or}
 use Rattle.al_base.specs.declared.faults.Fault.{Fault}
 use Rattle.al_scalar.specs.Scalar.{Scalar}
 use Rattle.al_types.specs.Types.{Type'}
 use Rattle.al_yaml.specs.Node.{Node}
-use Rattle.al_shape.specs.Values.{entries_at}
 use Rattle.al_tree.specs.declared.files.FileKind.{FileKind}
 use Rattle.al_interfaces.specs.declared.interfaces.Interface.{Interface}
+use Rattle.al_interfaces.specs.declared.interfaces.ParameterKind.TheVariants.{Input}
 use Rattle.al_uses.specs.Uses.{Call, Site, calls_in, target_in}
-use Rattle.al_calls.specs.CallFaults.{call_faults, values_of}
+use Rattle.al_calls.specs.CallFaults.{Given, call_faults, given_by, values_of}
 
 -- a call with its answer: of a local call the next of the answers, which stand in the order of the local calls; else none
 pub record Answered : Type 0 where
@@ -31,8 +31,12 @@ answered (c ∷ cs) answers =
 abbrev pub Typing : Type 0
 Typing = Site → Node → Scalar → Type'
 
+-- what a call gives under `with`, each value with its type
+abbrev pub values_in : Typing → Call → List Given
+values_in typing c = values_of (typing c.site) (given_by Input c.node)
+
 abbrev pub answered_faults : Typing → Answered → List Fault
-answered_faults typing a = call_faults a.call (values_of (typing a.call.site) (entries_at (codes "with") a.call.node)) a.answer
+answered_faults typing a = call_faults a.call (values_in typing a.call) a.answer
 
 -- The faults of all calls of a file, given the answers of the local ones in order.
 abbrev pub faults_in : FileKind → Typing → Node → List (Option Interface) → List Fault

@@ -22,14 +22,15 @@ use Rattle.al_declarations.specs.Declarations.{named_among, names_of}
 use Rattle.al_declarations.specs.Inputs.{input_type}
 use Rattle.al_declarations.specs.declared.inputs.InputType.{InputType}
 use Rattle.al_declarations.specs.declared.inputs.InputType.TheVariants as input
-use Rattle.al_interfaces.specs.Mandatory.{is_mandatory}
-use Rattle.al_interfaces.specs.Names.{has_input, has_secret, is_input}
+use Rattle.al_interfaces.specs.Parameters.{has_parameter, is_mandatory, is_parameter}
+use Rattle.al_interfaces.specs.Kinds.{parameters_of}
 use Rattle.al_interfaces.specs.declared.interfaces.Interface.{Interface}
 use Rattle.al_interfaces.specs.declared.interfaces.Interface.TheVariants.{Readable, Unreadable}
-use Rattle.al_interfaces.specs.declared.interfaces.Input.{Input}
+use Rattle.al_interfaces.specs.declared.interfaces.Parameter.{Parameter}
+use Rattle.al_interfaces.specs.declared.interfaces.ParameterKind.{ParameterKind}
+use Rattle.al_interfaces.specs.declared.interfaces.ParameterKind.TheVariants as kind
 use Rattle.al_interfaces.specs.declared.interfaces.Role.{Role}
 use Rattle.al_interfaces.specs.declared.interfaces.Role.TheVariants as role
-use Rattle.al_interfaces.specs.declared.interfaces.Secret.{Secret}
 use Rattle.al_interfaces.specs.declared.interfaces.Signature.{Signature}
 use Rattle.al_uses.specs.Uses.{Call}
 use Rattle.al_uses.specs.declared.forms.Form.{Form}
@@ -61,65 +62,108 @@ abbrev pub absent_faults : Call → Caller → List Fault
 absent_faults c caller.Step = []
 absent_faults c caller.Job = that_uses code.NoWorkflow c
 
--- C1 where no file answers; C8 where it cannot be called; else the faults against what the file shows
-abbrev pub answer_faults : Call → Option Interface → (Signature → List Fault) → List Fault
-answer_faults c None against = absent_faults c (caller_of c)
-answer_faults c (Some Unreadable) against = []
-answer_faults c (Some (Readable s)) against = if is_callable (caller_of c) s.role then against s else that_uses code.NotCallable c
+-- C1 where no file answers, C8 where the one that does can't be called
+abbrev pub answer_faults : Call → Option Interface → List Fault
+answer_faults c None = absent_faults c (caller_of c)
+answer_faults c (Some Unreadable) = []
+answer_faults c (Some (Readable s)) = if is_callable (caller_of c) s.role then [] else that_uses code.NotCallable c
 
 -- C7 where `uses` is wrong
-abbrev pub form_faults : Form → Call → Option Interface → (Signature → List Fault) → List Fault
-form_faults Wrong c answer against = that_uses code.WrongUses c
-form_faults Other c answer against = []
-form_faults (Local t) c answer against = answer_faults c answer against
+abbrev pub form_faults : Form → Call → Option Interface → List Fault
+form_faults Wrong c answer = that_uses code.WrongUses c
+form_faults Other c answer = []
+form_faults (Local t) c answer = answer_faults c answer
+
+-- of `uses`
+abbrev pub uses_faults : Call → Option Interface → List Fault
+uses_faults c answer = form_faults c.form c answer
+
+-- what a file shows to a step, or a job, that may call it
+abbrev pub callable_signature : Caller → Option Interface → Option Signature
+callable_signature by None = None
+callable_signature by (Some Unreadable) = None
+callable_signature by (Some (Readable s)) = if is_callable by s.role then Some s else None
+
+abbrev pub signature_by : Form → Caller → Option Interface → Option Signature
+signature_by (Local t) by answer = callable_signature by answer
+signature_by Other by answer = None
+signature_by Wrong by answer = None
+
+-- what a call is compared with: none where it has C1, C7 or C8, or the file can't be read
+abbrev pub called_signature : Call → Option Interface → Option Signature
+called_signature c answer = signature_by c.form (caller_of c) answer
 
 -- how the called file is named: by its `name`, else by the text of `uses`
-abbrev pub called : Call → Signature → List ℕ
-called c s = option_map_or (λ n. n) s.name (text_of c.uses)
+abbrev pub called_name : Call → Signature → List ℕ
+called_name c s = option_map_or (λ n. n) s.name (text_of c.uses)
 
 -- a test of names
 abbrev pub Names : Type 0
 Names = List ℕ → Bool
 
--- the names under a key, and those of the inputs and the secrets that a file shows
+-- the names under a key
 abbrev pub given_names : List (Node × Node) → Names
 given_names given = named_among (names_of given)
 
-abbrev pub input_names : Signature → Names
-input_names s = has_input s.inputs
+-- what is given of each kind, and what is said of it: a name that isn't declared is C2 or C5, one that is missing C3 or C6
+abbrev pub given_by : ParameterKind → Node → List (Node × Node)
+given_by kind.Input n = entries_at (codes "with") n
+given_by kind.Secret n = entries_at (codes "secrets") n
 
-abbrev pub secret_names : Signature → Names
-secret_names s = has_secret s.secrets
+abbrev pub undefined_code : ParameterKind → CallCode
+undefined_code kind.Input = code.UndefinedInput
+undefined_code kind.Secret = code.UndefinedSecret
 
-abbrev pub is_free_for : Caller → List ℕ → Bool
-is_free_for caller.Step name = named_among (codes "args" ∷ codes "entrypoint" ∷ []) name
-is_free_for caller.Job name = false
+abbrev pub missing_code : ParameterKind → CallCode
+missing_code kind.Input = code.MissingInput
+missing_code kind.Secret = code.MissingSecret
 
-abbrev pub is_taken : Call → Names → List ℕ → Bool
-is_taken c shown name = shown name || is_free_for (caller_of c) name
+-- what a step gives to a container needs no input of the called file
+abbrev pub is_free_for : ParameterKind → Caller → List ℕ → Bool
+is_free_for kind.Input caller.Step name = named_among (codes "args" ∷ codes "entrypoint" ∷ []) name
+is_free_for kind.Input caller.Job name = false
+is_free_for kind.Secret by name = false
 
--- C2: an input that isn't declared
-abbrev pub extra_input : Call → Signature → Names → Node × Node → List Fault
-extra_input c s shown e =
-    if is_taken c shown (key_of e) then []
-    else fault code.UndefinedInput c (span_of e.0) (key_of e ∷ called c s ∷ []) ∷ []
+abbrev pub is_taken : ParameterKind → Call → Signature → List ℕ → Bool
+is_taken k c s name = has_parameter (parameters_of k s) name || is_free_for k (caller_of c) name
 
-abbrev pub is_missing : Names → Input → Bool
-is_missing given i = is_mandatory i && not (given i.name)
+abbrev pub undefined_name : ParameterKind → Call → Signature → Node × Node → List Fault
+undefined_name k c s e =
+    if is_taken k c s (key_of e) then [] else fault (undefined_code k) c (span_of e.0) (key_of e ∷ called_name c s ∷ []) ∷ []
 
--- C3: a required input that isn't given
-abbrev pub missing_input : Call → Signature → Names → Input → List Fault
-missing_input c s given i =
-    if is_missing given i then at_uses code.MissingInput c (i.name ∷ called c s ∷ []) else []
+abbrev pub is_missing : Names → Parameter → Bool
+is_missing given p = is_mandatory p && not (given p.name)
 
-abbrev pub extra_inputs : Call → Names → List (Node × Node) → Signature → List Fault
-extra_inputs c shown given s = flat_map (extra_input c s shown) given
+abbrev pub missing_name : ParameterKind → Call → Signature → Names → Parameter → List Fault
+missing_name k c s given p = if is_missing given p then at_uses (missing_code k) c (p.name ∷ called_name c s ∷ []) else []
 
-abbrev pub missing_inputs : Call → Names → Signature → List Fault
-missing_inputs c given s = flat_map (missing_input c s given) s.inputs
+abbrev pub undefined_names : ParameterKind → Call → Signature → List Fault
+undefined_names k c s = flat_map (undefined_name k c s) (given_by k c.node)
 
-abbrev pub input_faults : Call → List (Node × Node) → Signature → List Fault
-input_faults c given s = extra_inputs c (input_names s) given s ++ missing_inputs c (given_names given) s
+abbrev pub missing_names : ParameterKind → Call → Signature → List Fault
+missing_names k c s = flat_map (missing_name k c s (given_names (given_by k c.node))) (parameters_of k s)
+
+abbrev pub names_against : ParameterKind → Call → Signature → List Fault
+names_against k c s = undefined_names k c s ++ missing_names k c s
+
+abbrev pub is_inherit : Node → Bool
+is_inherit job = option_map_or (λ t. bytes_eq (text_of t.0) (codes "inherit")) (text_at (codes "secrets") job) false
+
+-- what is compared by name: of a step no secrets, and of a job none that it inherits
+abbrev pub is_compared : ParameterKind → Caller → Node → Bool
+is_compared kind.Input by n = true
+is_compared kind.Secret caller.Step n = false
+is_compared kind.Secret caller.Job n = not (is_inherit n)
+
+abbrev pub signature_for : ParameterKind → Call → Option Interface → Option Signature
+signature_for k c answer = if is_compared k (caller_of c) c.node then called_signature c answer else None
+
+abbrev pub names_of_kind : ParameterKind → Call → Option Interface → List Fault
+names_of_kind k c answer = option_map_or (names_against k c) (signature_for k c answer) []
+
+-- of names: C2 and C3 of inputs, C5 and C6 of secrets
+abbrev pub name_faults : Call → Option Interface → List Fault
+name_faults c answer = names_of_kind kind.Input c answer ++ names_of_kind kind.Secret c answer
 
 abbrev pub type_name : InputType → List ℕ
 type_name input.Boolean = codes "boolean"
@@ -129,7 +173,7 @@ type_name input.String = codes "string"
 abbrev pub is_right : Type' → InputType → Bool
 is_right t i = assignable_type t (input_type i)
 
-abbrev pub type_faults : Call → Node × Node → Type' → Input → List Fault
+abbrev pub type_faults : Call → Node × Node → Type' → Parameter → List Fault
 type_faults c e t i = if is_right t i.takes then [] else fault code.WrongInput c (span_of e.1) (i.name ∷ type_name i.takes ∷ []) ∷ []
 
 -- a value that is given, with its type; what is no scalar is any
@@ -143,49 +187,20 @@ abbrev pub values_of : (Node → Scalar → Type') → List (Node × Node) → L
 values_of type_of = map (λ e. (e, given_type type_of e))
 
 -- C4: a value of a wrong type
-abbrev pub wrong_input : Call → List Input → Given → List Fault
-wrong_input c inputs v = option_map_or (type_faults c v.0 v.1) (find (is_input (key_of v.0)) inputs) []
+abbrev pub wrong_input : Call → List Parameter → Given → List Fault
+wrong_input c inputs v = option_map_or (type_faults c v.0 v.1) (find (is_parameter (key_of v.0)) inputs) []
 
 abbrev pub wrong_inputs : Call → List Given → Signature → List Fault
 wrong_inputs c values s = flat_map (wrong_input c s.inputs) values
 
--- C5 and C6: the same for secrets, neither under `inherit`
-abbrev pub extra_secret : Call → Signature → Names → Node × Node → List Fault
-extra_secret c s shown e =
-    if shown (key_of e) then [] else fault code.UndefinedSecret c (span_of e.0) (key_of e ∷ called c s ∷ []) ∷ []
+-- of the types of values: a step's aren't compared
+abbrev pub values_against : Caller → Call → List Given → Option Signature → List Fault
+values_against caller.Step c values o = []
+values_against caller.Job c values o = option_map_or (wrong_inputs c values) o []
 
-abbrev pub is_missing_secret : Names → Secret → Bool
-is_missing_secret given x = x.required && not (given x.name)
-
-abbrev pub missing_secret : Call → Signature → Names → Secret → List Fault
-missing_secret c s given x = if is_missing_secret given x then at_uses code.MissingSecret c (x.name ∷ called c s ∷ []) else []
-
-abbrev pub is_inherit : Node → Bool
-is_inherit job = option_map_or (λ t. bytes_eq (text_of t.0) (codes "inherit")) (text_at (codes "secrets") job) false
-
-abbrev pub extra_secrets : Call → Names → List (Node × Node) → Signature → List Fault
-extra_secrets c shown given s = flat_map (extra_secret c s shown) given
-
-abbrev pub missing_secrets : Call → Names → Signature → List Fault
-missing_secrets c given s = flat_map (missing_secret c s given) s.secrets
-
-abbrev pub given_secrets : Call → List (Node × Node) → Signature → List Fault
-given_secrets c given s = extra_secrets c (secret_names s) given s ++ missing_secrets c (given_names given) s
-
-abbrev pub secret_faults : Call → Node → Signature → List Fault
-secret_faults c job s = if is_inherit job then [] else given_secrets c (entries_at (codes "secrets") job) s
-
--- what a step gives against what the file shows, and what a job gives
-abbrev pub step_against : Call → Signature → List Fault
-step_against c s = input_faults c (entries_at (codes "with") c.node) s
-
-abbrev pub job_against : Call → List Given → Signature → List Fault
-job_against c values s = input_faults c (entries_at (codes "with") c.node) s ++ wrong_inputs c values s ++ secret_faults c c.node s
-
-abbrev pub against : Caller → Call → List Given → Signature → List Fault
-against caller.Step c values = step_against c
-against caller.Job c values = job_against c values
+abbrev pub value_faults : Call → List Given → Option Interface → List Fault
+value_faults c values answer = values_against (caller_of c) c values (called_signature c answer)
 
 -- The faults of a call, given the values under `with` with their types, and its answer.
 abbrev pub call_faults : Call → List Given → Option Interface → List Fault
-call_faults c values answer = form_faults c.form c answer (against (caller_of c) c values)
+call_faults c values answer = uses_faults c answer ++ value_faults c values answer ++ name_faults c answer

@@ -1,92 +1,84 @@
-//! The faults of one call.
-#![tactic(auto, using(al_base::proofs::Growing::growth))]
-
+//! The faults of one call, but for those of names.
 ghost use Rattle.std.specs.Prelude.{◌≡◌, ◌++◌, map, OnOk};
 ghost use Rattle.std.specs.Option.{option_copied};
-ghost use Rattle.al_calls.specs.Private.AnswerViews.{given_of};
 ghost use Rattle.al_calls.specs.CallFaults as faults;
+ghost use Rattle.al_calls.specs.Private.AnswerViews.{given_of};
 ghost use Rattle.al_uses.specs.Private.CallViews.{call_of};
-ghost use Rattle.al_base.specs.Growth.{BeginsWith};
 
-use crate::given::check_inputs;
-use crate::reports::{caller_of, is_callable, report_absent, report_uses};
-use crate::secrets::check_secrets;
+use crate::reports::{caller_of, report_uses};
 use crate::values::{Value, check_values};
 use al_base::{CallCode, Caller, Fault};
-use al_interfaces::{Interface, Signature};
-use al_shape::members_under;
+use al_interfaces::{Interface, Role, Signature};
 use al_uses::{Call, Form};
 use std::alloc::{AllocError, Global};
 
-/// C2 and C3 of a step's call.
-fn check_step(
-    alloc: Global,
-    call: &Call<'_>,
-    signature: &Signature,
-    out: &mut Vec<Fault>,
-) -> Result<(), AllocError>
-    ensures ok { OnOk result (out.new.items ≡ out.old.items ++ faults.step_against (call_of call.now) signature.now) }
-    ensures begins { BeginsWith out.new.items out.old.items }
+/// Whether a step, or a job, may call a file that is this.
+fn is_callable(caller: Caller, role: Role) -> bool
+    ensures { result ≡ faults.is_callable caller role }
 {
-    let given = members_under(alloc, call.node, "with")?;
-    check_inputs(alloc, call, given.as_slice(), signature, out)
-}
-
-/// C2 to C6 of a job's call.
-fn check_job(
-    alloc: Global,
-    call: &Call<'_>,
-    values: &[Value<'_>],
-    signature: &Signature,
-    out: &mut Vec<Fault>,
-) -> Result<(), AllocError>
-    ensures ok { OnOk result (out.new.items ≡ out.old.items
-        ++ faults.job_against (call_of call.now) (map given_of values.now) signature.now) }
-    ensures begins { BeginsWith out.new.items out.old.items }
-{
-    let given = members_under(alloc, call.node, "with")?;
-    check_inputs(alloc, call, given.as_slice(), signature, out)?;
-    check_values(alloc, call, values, signature, out)?;
-    check_secrets(alloc, call, signature, out)
-}
-
-/// What a call gives against what the called file shows.
-fn check_against(
-    alloc: Global,
-    call: &Call<'_>,
-    values: &[Value<'_>],
-    signature: &Signature,
-    out: &mut Vec<Fault>,
-) -> Result<(), AllocError>
-    ensures ok { OnOk result (out.new.items ≡ out.old.items
-        ++ faults.against (faults.caller_of (call_of call.now)) (call_of call.now) (map given_of values.now) signature.now) }
-    ensures begins { BeginsWith out.new.items out.old.items }
-{
-    match caller_of(call) {
-        Caller::Step => check_step(alloc, call, signature, out),
-        Caller::Job => check_job(alloc, call, values, signature, out),
+    match caller {
+        Caller::Step => matches!(role, Role::Composite | Role::Action),
+        Caller::Job => matches!(role, Role::Callable),
     }
 }
 
-/// The faults of a call of a file of the folder.
+/// What a file shows to a step, or a job, that may call it.
+fn callable_signature<'a>(caller: Caller, answer: Option<&'a Interface>) -> Option<&'a Signature>
+    ensures { option_copied result ≡ faults.callable_signature caller (option_copied answer.entry) }
+{
+    match answer {
+        None => None,
+        Some(Interface::Unreadable) => None,
+        Some(Interface::Readable(signature)) => {
+            if is_callable(caller, signature.role) {
+                Some(signature)
+            } else {
+                None
+            }
+        }
+    }
+}
+
+/// What a call is compared with, if the file that answers it may be called.
+pub(crate) fn called_signature<'a>(
+    call: &Call<'_>,
+    answer: Option<&'a Interface>,
+) -> Option<&'a Signature>
+    ensures { option_copied result ≡ faults.called_signature (call_of call.now) (option_copied answer.entry) }
+{
+    match &call.form {
+        Form::Local(_) => callable_signature(caller_of(call), answer),
+        Form::Other => None,
+        Form::Wrong => None,
+    }
+}
+
+/// C1: a job's call that no file of the folder answers.
+fn check_absent(alloc: Global, call: &Call<'_>, out: &mut Vec<Fault>) -> Result<(), AllocError>
+    ensures { OnOk result (out.new.items ≡ out.old.items
+        ++ faults.absent_faults (call_of call.now) (faults.caller_of (call_of call.now))) }
+{
+    match caller_of(call) {
+        Caller::Step => Ok(()),
+        Caller::Job => report_uses(alloc, CallCode::NoWorkflow, call, out),
+    }
+}
+
+/// C1 and C8.
 fn check_answer(
     alloc: Global,
     call: &Call<'_>,
-    values: &[Value<'_>],
     answer: Option<&Interface>,
     out: &mut Vec<Fault>,
 ) -> Result<(), AllocError>
-    ensures ok { OnOk result (out.new.items ≡ out.old.items
-        ++ faults.answer_faults (call_of call.now) (option_copied answer.entry)
-        (faults.against (faults.caller_of (call_of call.now)) (call_of call.now) (map given_of values.now))) }
-    ensures begins { BeginsWith out.new.items out.old.items }
+    ensures { OnOk result (out.new.items ≡ out.old.items ++ faults.answer_faults (call_of call.now) (option_copied answer.entry)) }
 {
     match answer {
-        None => report_absent(alloc, call, out),
+        None => check_absent(alloc, call, out),
         Some(Interface::Unreadable) => Ok(()),
         Some(Interface::Readable(signature)) => {
             if is_callable(caller_of(call), signature.role) {
-                check_against(alloc, call, values, signature, out)
+                Ok(())
             } else {
                 report_uses(alloc, CallCode::NotCallable, call, out)
             }
@@ -94,10 +86,26 @@ fn check_answer(
     }
 }
 
-/// Adds the faults of a call, given what answers it (none where it names no file of the folder, or none that is there), and
-/// what a job gives under `with`, each value with its type. Of a step no values are looked at.
+/// C7, C1 and C8.
+fn check_uses(
+    alloc: Global,
+    call: &Call<'_>,
+    answer: Option<&Interface>,
+    out: &mut Vec<Fault>,
+) -> Result<(), AllocError>
+    ensures { OnOk result (out.new.items ≡ out.old.items ++ faults.uses_faults (call_of call.now) (option_copied answer.entry)) }
+{
+    match &call.form {
+        Form::Wrong => report_uses(alloc, CallCode::WrongUses, call, out),
+        Form::Other => Ok(()),
+        Form::Local(_) => check_answer(alloc, call, answer, out),
+    }
+}
+
+/// Adds the faults of a call but for those of names: C1, C4, C7 and C8, given what answers it (none where it names no file of the folder,
+/// or none that is there), and what a job gives under `with`, each value with its type. Of a step no values are looked at.
 ///
-/// Fails with `AllocError` for want of memory; the list then begins with what it held.
+/// Fails with `AllocError` for want of memory.
 pub fn check_call(
     alloc: Global,
     call: &Call<'_>,
@@ -105,13 +113,12 @@ pub fn check_call(
     answer: Option<&Interface>,
     out: &mut Vec<Fault>,
 ) -> Result<(), AllocError>
-    ensures ok { OnOk result (out.new.items ≡ out.old.items
-        ++ faults.call_faults (call_of call.now) (map given_of values.now) (option_copied answer.entry)) }
-    ensures begins { BeginsWith out.new.items out.old.items }
+    ensures { OnOk result (out.new.items ≡ out.old.items ++ (faults.uses_faults (call_of call.now) (option_copied answer.entry)
+        ++ faults.value_faults (call_of call.now) (map given_of values.now) (option_copied answer.entry))) }
 {
-    match &call.form {
-        Form::Wrong => report_uses(alloc, CallCode::WrongUses, call, out),
-        Form::Other => Ok(()),
-        Form::Local(_) => check_answer(alloc, call, values, answer, out),
+    check_uses(alloc, call, answer, out)?;
+    match caller_of(call) {
+        Caller::Step => Ok(()),
+        Caller::Job => check_values(alloc, call, values, called_signature(call, answer), out),
     }
 }

@@ -22,8 +22,8 @@ pub fn rows()
     ensures not_callable { faults_of file.job_calls_d (shown_by kind.Workflow file.not_callable)
         ≡ found code.NotCallable by.Job (at 30 55) (codes "./.github/workflows/d.yml" ∷ []) ∷ [] }
     ensures wrong_type { faults_with Number file.job_gives_x_and_y (shown_by kind.Workflow file.takes_boolean_x)
-        ≡ found code.UndefinedInput by.Job (at 83 84) (codes "y" ∷ codes "./.github/workflows/e.yml" ∷ [])
-        ∷ found code.WrongInput by.Job (at 75 76) (codes "x" ∷ codes "boolean" ∷ []) ∷ [] }
+        ≡ found code.WrongInput by.Job (at 75 76) (codes "x" ∷ codes "boolean" ∷ [])
+        ∷ found code.UndefinedInput by.Job (at 83 84) (codes "y" ∷ codes "./.github/workflows/e.yml" ∷ []) ∷ [] }
     ensures any_type { faults_of file.job_gives_x_and_y (shown_by kind.Workflow file.takes_boolean_x)
         ≡ found code.UndefinedInput by.Job (at 83 84) (codes "y" ∷ codes "./.github/workflows/e.yml" ∷ []) ∷ [] }
     ensures secrets { faults_of file.job_gives_key (shown_by kind.Workflow file.requires_token)

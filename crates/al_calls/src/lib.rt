@@ -3,22 +3,21 @@
 
 mod answers;
 mod calls;
+mod comparisons;
 mod examples;
-mod given;
-mod later;
 mod laws;
+mod missing;
 mod names;
 mod outputs;
 mod reports;
-mod secrets;
+mod undefined;
 mod values;
 
 pub use al_shape::members_under;
 pub use answers::{Answered, with_answers};
 pub use calls::check_call;
 pub use examples::rows;
-pub use later::check_later_call;
 pub use laws::faults_lie;
+pub use names::check_names;
 pub use outputs::outputs_of;
-pub use secrets::is_inherit;
 pub use values::Value;

@@ -1,18 +1,17 @@
 //! The types of what a job gives to the workflow that it calls: C4.
-#![tactic(auto, using(al_base::proofs::Growing::growth))]
-
 ghost use Rattle.std.specs.Prelude.{◌≡◌, ◌++◌, map, OnOk};
+ghost use Rattle.std.specs.Option.{option_copied};
+ghost use Rattle.al_base.specs.declared.codes.Caller.TheVariants as by;
 ghost use Rattle.al_shape.specs.Values.{member_of};
 ghost use Rattle.al_types.specs.TypeViews.{ty_of};
 ghost use Rattle.al_calls.specs.CallFaults as faults;
 ghost use Rattle.al_uses.specs.Private.CallViews.{call_of};
 ghost use Rattle.al_calls.specs.Private.AnswerViews.{given_of};
-ghost use Rattle.al_base.specs.Growth.{BeginsWith};
 
-use crate::reports::report_two;
+use crate::reports::{Report, report_two};
 use al_base::{CallCode, Fault};
 use al_declarations::{InputType, type_of};
-use al_interfaces::{Input, InputList, Signature};
+use al_interfaces::{Parameter, Parameters, Signature};
 use al_shape::{Member, key_text};
 use al_types::{Ty, assignable};
 use al_uses::Call;
@@ -45,37 +44,34 @@ fn check_type(
     alloc: Global,
     call: &Call<'_>,
     value: &Value<'_>,
-    input: &Input,
+    input: &Parameter,
     out: &mut Vec<Fault>,
 ) -> Result<(), AllocError>
-    ensures ok { OnOk result
+    ensures { OnOk result
         (out.new.items ≡ out.old.items ++ faults.type_faults (call_of call.now) (member_of value.now.member)
         (ty_of value.now.ty) input.now) }
-    ensures begins { BeginsWith out.new.items out.old.items }
 {
     if is_right(&value.ty, input.takes) {
         return Ok(());
     }
-    report_two(
-        alloc,
-        CallCode::WrongInput,
-        call,
-        value.member.value.span(),
-        (input.name.as_bytes(), type_name(input.takes)),
-        out,
-    )
+    let report = Report {
+        code: CallCode::WrongInput,
+        span: value.member.value.span(),
+        first: input.name.as_bytes(),
+        second: type_name(input.takes),
+    };
+    report_two(alloc, call, report, out)
 }
 
 /// C4.
 fn check_value(
     alloc: Global,
     call: &Call<'_>,
-    inputs: &InputList,
+    inputs: &Parameters,
     value: &Value<'_>,
     out: &mut Vec<Fault>,
 ) -> Result<(), AllocError>
-    ensures ok { OnOk result (out.new.items ≡ out.old.items ++ faults.wrong_input (call_of call.now) inputs.now (given_of value.now)) }
-    ensures begins { BeginsWith out.new.items out.old.items }
+    ensures { OnOk result (out.new.items ≡ out.old.items ++ faults.wrong_input (call_of call.now) inputs.now (given_of value.now)) }
 {
     let name = key_text(value.member.key);
     match inputs.named(alloc, name)? {
@@ -84,20 +80,36 @@ fn check_value(
     }
 }
 
-/// C4 of all that is given.
-pub(crate) fn check_values(
+/// C4 of all values, against what a file shows.
+fn check_all(
     alloc: Global,
     call: &Call<'_>,
     values: &[Value<'_>],
     signature: &Signature,
     out: &mut Vec<Fault>,
 ) -> Result<(), AllocError>
-    ensures ok { OnOk result
+    ensures { OnOk result
         (out.new.items ≡ out.old.items ++ faults.wrong_inputs (call_of call.now) (map given_of values.now) signature.now) }
-    ensures begins { BeginsWith out.new.items out.old.items }
 {
     for value in values {
         check_value(alloc, call, &signature.inputs, value, out)?;
     }
     Ok(())
+}
+
+/// C4 of what a job gives, against what the called file shows, if it may be called.
+pub(crate) fn check_values(
+    alloc: Global,
+    call: &Call<'_>,
+    values: &[Value<'_>],
+    signature: Option<&Signature>,
+    out: &mut Vec<Fault>,
+) -> Result<(), AllocError>
+    ensures { OnOk result (out.new.items ≡ out.old.items
+        ++ faults.values_against by.Job (call_of call.now) (map given_of values.now) (option_copied signature.entry)) }
+{
+    match signature {
+        None => Ok(()),
+        Some(signature) => check_all(alloc, call, values, signature, out),
+    }
 }

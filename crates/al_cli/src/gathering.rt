@@ -1,6 +1,6 @@
 //! The files that a run without a script lints: those that are asked for, and those that they call.
 
-use crate::disk::{Disk, DiskError, SystemFolder, WORKFLOWS};
+use crate::disk::{Disk, DiskError, Entry, SystemFolder, WORKFLOWS};
 use al_base::{Path, path_fault, shown};
 use al_check::Actions;
 use al_session::{Refused, SessionBuilder, Target};
@@ -11,6 +11,16 @@ use std::rt::Files;
 
 /// Files that were read, and not checked yet.
 pub type Loaded = SessionBuilder<Actions>;
+
+/// What a run without a script lints, and what it passed over.
+#[derive(Drop)]
+pub struct Gathered {
+    /// The files, read and not checked yet.
+    pub files: Loaded,
+    /// The paths at which links lead out of the folder, in the order in which they were tried, as a line of standard error has
+    /// them, with a `?` for each control character.
+    pub outside: Vec<String>,
+}
 
 /// Why files were not gathered. A path is as a fatal line has it, with a `?` for each control character.
 #[derive(Drop)]
@@ -37,7 +47,8 @@ impl<T: Drop> From<AllocFailed<T>> for Unread {
 
 /// The files that a run without a script lints, each with its path and its bytes: those that the words name, or else all
 /// workflows of the folder in order of path; and then, one after another, each file that those before it call and that is
-/// there. Of what the folder lists only regular files are taken, behind their links; anything else of a name can't be read.
+/// there. Of what the folder lists only regular files are taken, behind their links; anything else of a name can't be read. A
+/// listed or called file to which links lead out of the folder is passed over, and can't be read where the words name it.
 ///
 /// # Errors
 ///
@@ -51,10 +62,10 @@ pub fn gather<R: Files + AllocGlobal + Clone + Drop>(
         rt,
         root: words.root,
     };
-    gathered(alloc, &mut disk, words)?.into_files()
+    gather_from(alloc, &mut disk, words)?.into_files()
 }
 
-/// The same files, read and not checked yet.
+/// The same files, read and not checked yet, and the paths that were passed over.
 ///
 /// # Errors
 ///
@@ -63,7 +74,7 @@ pub fn load<R: Files + AllocGlobal + Clone + Drop>(
     rt: &R,
     alloc: Global,
     words: &Words,
-) -> Result<Loaded, Unread> {
+) -> Result<Gathered, Unread> {
     let mut disk = SystemFolder {
         rt,
         root: words.root,
@@ -76,11 +87,11 @@ pub fn load<R: Files + AllocGlobal + Clone + Drop>(
 /// # Errors
 ///
 /// Those of [`gather`].
-pub fn load_from<D: Disk>(alloc: Global, disk: &mut D, words: &Words) -> Result<Loaded, Unread> {
-    Ok(gathered(alloc, disk, words)?.files)
+pub fn load_from<D: Disk>(alloc: Global, disk: &mut D, words: &Words) -> Result<Gathered, Unread> {
+    Ok(gather_from(alloc, disk, words)?.into_gathered())
 }
 
-fn gathered<D: Disk>(alloc: Global, disk: &mut D, words: &Words) -> Result<Gathering, Unread> {
+fn gather_from<D: Disk>(alloc: Global, disk: &mut D, words: &Words) -> Result<Gathering, Unread> {
     let mut gathering = Gathering::new(alloc);
     gathering.take_asked(disk, words)?;
     Ok(gathering)
@@ -103,7 +114,7 @@ fn list_workflows<D: Disk>(alloc: Global, disk: &mut D) -> Result<BTreeSet<Strin
 struct Candidates {
     // those that weren't tried yet
     waiting: BTreeSet<String>,
-    // those at which no file is
+    // those at which no file is, or none of the folder
     absent: BTreeSet<String>,
 }
 
@@ -128,6 +139,15 @@ impl Candidates {
     }
 }
 
+// What was found at a path.
+#[derive(Clone, Copy)]
+enum Found {
+    // a file, which was taken
+    File,
+    Absent,
+    Outside,
+}
+
 // The files that were taken, and what is known of those that they call.
 #[derive(Drop)]
 struct Gathering {
@@ -136,6 +156,8 @@ struct Gathering {
     // the paths of the files, in the order in which they were taken
     taken: Vec<Path>,
     candidates: Candidates,
+    // the paths that lead out of the folder, as they are shown
+    outside: Vec<String>,
 }
 
 impl Gathering {
@@ -145,6 +167,7 @@ impl Gathering {
             files: Loaded::new(alloc, Actions::new()),
             taken: Vec::new(alloc),
             candidates: Candidates::new(alloc),
+            outside: Vec::new(alloc),
         }
     }
 
@@ -168,17 +191,21 @@ impl Gathering {
         listed: &BTreeSet<String>,
     ) -> Result<(), Unread> {
         for path in listed {
-            self.take_named(disk, path.as_str())?;
+            let path = path.as_str();
+            match self.take(disk, path)? {
+                Found::File => {}
+                Found::Outside => self.pass_over(path)?,
+                Found::Absent => return Err(failed(self.alloc, path, DiskError::Unreadable)),
+            }
         }
         Ok(())
     }
 
     // Takes a file that has to be there.
     fn take_named<D: Disk>(&mut self, disk: &mut D, path: &str) -> Result<(), Unread> {
-        if self.take(disk, path)? {
-            Ok(())
-        } else {
-            Err(failed(self.alloc, path, DiskError::Unreadable))
+        match self.take(disk, path)? {
+            Found::File => Ok(()),
+            _ => Err(failed(self.alloc, path, DiskError::Unreadable)),
         }
     }
 
@@ -199,35 +226,51 @@ impl Gathering {
     // Takes a called file, if it is there.
     fn take_candidate<D: Disk>(&mut self, disk: &mut D, path: String) -> Result<(), Unread> {
         let index = self.taken.len();
-        if self.take(disk, path.as_str())? {
-            self.await_calls(index)
-        } else {
-            self.candidates.absent.insert(path)?;
-            Ok(())
+        match self.take(disk, path.as_str())? {
+            Found::File => self.await_calls(index),
+            Found::Outside => self.pass_over(path.as_str()),
+            Found::Absent => {
+                self.candidates.absent.insert(path)?;
+                Ok(())
+            }
         }
     }
 
+    // Passes over a path that leads out of the folder, and doesn't try it again.
+    fn pass_over(&mut self, path: &str) -> Result<(), Unread> {
+        self.outside.push(shown(self.alloc, path)?)?;
+        self.candidates
+            .absent
+            .insert(String::from_str(self.alloc, path)?)?;
+        Ok(())
+    }
+
     // Takes a file; answers whether it is there.
-    fn take<D: Disk>(&mut self, disk: &mut D, path: &str) -> Result<bool, Unread> {
+    fn take<D: Disk>(&mut self, disk: &mut D, path: &str) -> Result<Found, Unread> {
         if path_fault(path).is_some() {
             return Err(refused(self.alloc, path, Refused::BadPath));
         }
         if !self.files.accepts(path) {
             return Err(refused(self.alloc, path, Refused::NotAccepted));
         }
-        let bytes = match disk.read(self.alloc, path) {
-            Ok(Some(bytes)) => bytes,
-            Ok(None) => return Ok(false),
-            Err(error) => return Err(failed(self.alloc, path, error)),
-        };
-        if let Err(reason) = self.files.put(path, &bytes) {
+        match disk.read(self.alloc, path) {
+            Ok(Entry::File(bytes)) => self.put(path, &bytes),
+            Ok(Entry::Absent) => Ok(Found::Absent),
+            Ok(Entry::Outside) => Ok(Found::Outside),
+            Err(error) => Err(failed(self.alloc, path, error)),
+        }
+    }
+
+    // Puts a file that was read.
+    fn put(&mut self, path: &str, bytes: &[u8]) -> Result<Found, Unread> {
+        if let Err(reason) = self.files.put(path, bytes) {
             return Err(refused(self.alloc, path, reason));
         }
         match Path::new(self.alloc, path) {
             Ok(path) => self.taken.push(path)?,
             Err(_) => return Err(Unread::Memory),
         }
-        Ok(true)
+        Ok(Found::File)
     }
 
     // Lets the candidates wait that the file of this number calls.
@@ -248,6 +291,14 @@ impl Gathering {
             }
         }
         Ok(())
+    }
+
+    // The files, and the paths that were passed over.
+    fn into_gathered(self) -> Gathered {
+        Gathered {
+            files: self.files,
+            outside: self.outside,
+        }
     }
 
     // The files with their bytes, in the order in which they were taken.

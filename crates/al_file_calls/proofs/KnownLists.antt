@@ -24,7 +24,7 @@ use Rattle.al_contexts.specs.Answered.{Behind, behind_of}
 use Rattle.al_contexts.specs.declared.known.Answer.{Answer}
 use Rattle.al_file_calls.specs.FileCalls.{behind}
 use Rattle.al_file_calls.specs.Private.KnownLists.{ArePlaced, Naming, StandsAt, Takes, lists_of, position_of}
-use Rattle.al_file_calls.specs.Private.Repeats.{AreToldByUses}
+use Rattle.al_calls.specs.Private.Comparing.{AreToldByUses}
 use Rattle.al_file_calls.specs.declared.known.Lists.{Lists}
 use Rattle.al_file_calls.proofs.Told.{told_back}
 

@@ -1,9 +1,8 @@
 -- The answers of a file's calls are told by who calls and by the text of `uses`, since these tell what is called.
-use Rattle.std.proofs.Common.{◌≡◌, ◌<◌, ◌∙◌, ℕ, List, [], ◌∷◌, Option, Some, None, ap, drop, get_or, length, map, refl, subst, sym, take}
-use Rattle.std.specs.Prelude.{All, Contains, IfSome, codes, is_some, option_and_then, option_map, if◌then◌else◌}
+use Rattle.std.proofs.Common.{◌≡◌, ◌∙◌, ℕ, List, [], ◌∷◌, Option, Some, None, ap, drop, map, refl, subst, sym}
+use Rattle.std.specs.Prelude.{codes, is_some, option_and_then, option_map, if◌then◌else◌}
 use Rattle.std.specs.List.{AllByRecursion, cons_option, enumerate_from, flat_map}
 use Rattle.std.specs.Option.{option_map_or, option_to_list}
-use Rattle.std.proofs.lemmas.List.Elements.{All-contains, All-from_recursion}
 use Rattle.al_base.proofs.Elements.{each_both, each_either}
 use Rattle.al_base.specs.declared.codes.Caller.{Caller}
 use Rattle.al_base.specs.declared.codes.Caller.TheVariants as caller
@@ -26,8 +25,7 @@ use Rattle.al_calls.specs.Answers.{Answered, answered, first_answer}
 use Rattle.al_calls.specs.CallFaults.{caller_of}
 use Rattle.al_calls.specs.Private.AnswerViews.{answered_of}
 use Rattle.al_calls.specs.declared.answers.Answered as code
-use Rattle.al_file_calls.specs.Private.Repeats.{AreToldByUses, IsAnsweredAlike}
-use Rattle.al_file_calls.proofs.Sets.{earlier_holds}
+use Rattle.al_calls.specs.Private.Comparing.{AreToldByUses}
 
 -- ---- what is called
 
@@ -97,20 +95,7 @@ told_by_uses k root given answers = record {
       (all_told answers.answer (calls_in k root) (calls_formed k root));
 }
 
--- ---- of the calls that the code has found, with their answers
-
+-- of the calls that the code has found, with their answers
 pub told_back : (P : Answered → Type 0) (found : List code.Answered) → AllByRecursion P (map answered_of found) → AllByRecursion (λ (a : code.Answered). P (answered_of a)) found
 told_back P [] h = tt
 told_back P (a ∷ found) h = (h.0, told_back P found h.1)
-
--- one of them and one before it
-pub answered_alike : (found : List code.Answered) → AreToldByUses (map answered_of found) → (i : ℕ) (one : code.Answered) → i < length found → one ≡ get_or found i one →
-    (o : Option code.Answered) → IfSome o (λ a. Contains (take i found) a) → IfSome o (λ (a : code.Answered). IsAnsweredAlike (answered_of a) (answered_of one))
-answered_alike found told i one within is None before = tt
-answered_alike found told i one within is (Some a) before =
-    let P : Answered → Type 0 = λ x. x.answer ≡ told.answer (caller_of x.call) (text_of x.call.uses) in
-    let all : All (λ (x : code.Answered). P (answered_of x)) found =
-    All-from_recursion (λ (x : code.Answered). P (answered_of x)) found (told_back P found told.told) in
-    let of_a : P (answered_of a) = earlier_holds (λ (x : code.Answered). P (answered_of x)) found i (Some a) all before in
-    let of_one : P (answered_of one) = All-contains (λ (x : code.Answered). P (answered_of x)) found one all (i, within, sym is) in
-    λ by text. of_a ∙ (λ j. told.answer (by j) (text j)) ∙ sym of_one

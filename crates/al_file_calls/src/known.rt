@@ -6,7 +6,7 @@ ghost use Rattle.al_calls.specs.Private.AnswerViews.{answered_of};
 ghost use Rattle.al_contexts.specs.Answered.{known_in, known_of};
 ghost use Rattle.al_file_calls.specs.FileCalls.{behind};
 ghost use Rattle.al_file_calls.specs.Private.KnownLists.{ArePlaced, Naming, StandsAt, Takes, behind_all, lists_of, position_of};
-ghost use Rattle.al_file_calls.specs.Private.Repeats.{AreToldByUses};
+ghost use Rattle.al_calls.specs.Private.Comparing.{AreToldByUses};
 ghost use Rattle.al_scalar.specs.Scalar.{text_of};
 ghost use Rattle.al_yaml.specs.View.{view};
 

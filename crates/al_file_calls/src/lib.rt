@@ -5,7 +5,6 @@
 mod faults;
 mod files;
 mod known;
-mod repeats;
 mod types;
 mod values;
 

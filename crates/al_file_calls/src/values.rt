@@ -7,7 +7,7 @@ ghost use Rattle.al_contexts.specs.Answered.{known_of};
 ghost use Rattle.al_contexts.specs.Private.Standing.{Stands};
 ghost use Rattle.al_file_calls.specs.FileCalls as file_calls;
 ghost use Rattle.al_file_calls.specs.FileCalls.{AreShort, type_in_job, typing};
-ghost use Rattle.al_file_calls.specs.Private.Repeats.{values_in};
+ghost use Rattle.al_calls.specs.Answers.{values_in};
 ghost use Rattle.al_places.specs.Places.{place_of};
 ghost use Rattle.al_shape.specs.Values.{member_of};
 ghost use Rattle.al_types.specs.TypeViews.{ty_of};

@@ -11,25 +11,23 @@ use Rattle.al_declarations.specs.declared.inputs.InputType.TheVariants as T
 use Rattle.al_declarations.specs.contracts.inputs.InputTypePartialEq.TheImpl as takes
 use Rattle.al_interfaces.specs.declared.interfaces.Interface.{Interface}
 use Rattle.al_interfaces.specs.declared.interfaces.Interface.TheVariants.{Readable, Unreadable}
-use Rattle.al_interfaces.specs.declared.interfaces.Input.{Input}
 use Rattle.al_interfaces.specs.declared.interfaces.Role.{Role}
 use Rattle.al_interfaces.specs.declared.interfaces.Role.TheVariants as R
-use Rattle.al_interfaces.specs.declared.interfaces.Secret.{Secret}
+use Rattle.al_interfaces.specs.declared.interfaces.Parameter.{Parameter}
 use Rattle.al_interfaces.specs.declared.interfaces.Signature.{Signature}
 use Rattle.al_interfaces.specs.contracts.interfaces.RolePartialEq.TheImpl as role
-use Rattle.al_interfaces.specs.contracts.interfaces.InputPartialEq.TheImpl as input
-use Rattle.al_interfaces.specs.contracts.interfaces.SecretPartialEq.TheImpl as secret
+use Rattle.al_interfaces.specs.contracts.interfaces.ParameterPartialEq.TheImpl as one
 use Rattle.al_interfaces.specs.contracts.interfaces.SignaturePartialEq.TheImpl as shown
 use Rattle.al_interfaces.specs.contracts.interfaces.InterfacePartialEq.TheImpl as iface
 
 lists_exact : {A : Type 0} (eq : A → A → Bool) → ((x y : A) → eq x y ≡ true → x ≡ y) → (xs ys : List A) → pointwise eq xs ys ≡ true → xs ≡ ys
-lists_exact eq one [] [] h = refl
-lists_exact eq one [] (y ∷ ys) h = absurd cc
-lists_exact eq one (x ∷ xs) [] h = absurd cc
-lists_exact eq one (x ∷ xs) (y ∷ ys) h =
+lists_exact eq same [] [] h = refl
+lists_exact eq same [] (y ∷ ys) h = absurd cc
+lists_exact eq same (x ∷ xs) [] h = absurd cc
+lists_exact eq same (x ∷ xs) (y ∷ ys) h =
     let p = and_parts (eq x y) (pointwise eq xs ys) h in
-    let e = one x y p.0 in
-    let es = lists_exact eq one xs ys p.1 in cc
+    let e = same x y p.0 in
+    let es = lists_exact eq same xs ys p.1 in cc
 
 bool_exact : (a b : Bool) → beq a b ≡ true → a ≡ b
 bool_exact true true h = refl
@@ -59,8 +57,8 @@ option_exact None (Some b) h = absurd cc
 option_exact (Some a) None h = absurd cc
 option_exact (Some a) (Some b) h = ap Some (name_exact a b h)
 
-input_exact : (a b : Input) → input.ghosts.eq a b ≡ true → a ≡ b
-input_exact a b h =
+one_exact : (a b : Parameter) → one.ghosts.eq a b ≡ true → a ≡ b
+one_exact a b h =
     let p = and_parts (bytes_eq a.name b.name) (beq a.required b.required && (beq a.has_default b.has_default && takes.ghosts.eq a.takes b.takes)) h in
     let q = and_parts (beq a.required b.required) (beq a.has_default b.has_default && takes.ghosts.eq a.takes b.takes) p.1 in
     let r = and_parts (beq a.has_default b.has_default) (takes.ghosts.eq a.takes b.takes) q.1 in
@@ -70,25 +68,18 @@ input_exact a b h =
     let e3 = type_exact a.takes b.takes r.1 in
     λ i. record { name = e0 i; required = e1 i; has_default = e2 i; takes = e3 i }
 
-secret_exact : (a b : Secret) → secret.ghosts.eq a b ≡ true → a ≡ b
-secret_exact a b h =
-    let p = and_parts (bytes_eq a.name b.name) (beq a.required b.required) h in
-    let e0 = name_exact a.name b.name p.0 in
-    let e1 = bool_exact a.required b.required p.1 in
-    λ i. record { name = e0 i; required = e1 i }
-
 shown_exact : (a b : Signature) → shown.ghosts.eq a b ≡ true → a ≡ b
 shown_exact a b h =
     let p = and_parts (option_eq bytes_eq a.name b.name)
-    (role.ghosts.eq a.role b.role && (pointwise input.ghosts.eq a.inputs b.inputs
-    && (pointwise secret.ghosts.eq a.secrets b.secrets && pointwise bytes_eq a.outputs b.outputs))) h in
-    let q = and_parts (role.ghosts.eq a.role b.role) (pointwise input.ghosts.eq a.inputs b.inputs && (pointwise secret.ghosts.eq a.secrets b.secrets && pointwise bytes_eq a.outputs b.outputs)) p.1 in
-    let r = and_parts (pointwise input.ghosts.eq a.inputs b.inputs) (pointwise secret.ghosts.eq a.secrets b.secrets && pointwise bytes_eq a.outputs b.outputs) q.1 in
-    let t = and_parts (pointwise secret.ghosts.eq a.secrets b.secrets) (pointwise bytes_eq a.outputs b.outputs) r.1 in
+    (role.ghosts.eq a.role b.role && (pointwise one.ghosts.eq a.inputs b.inputs
+    && (pointwise one.ghosts.eq a.secrets b.secrets && pointwise bytes_eq a.outputs b.outputs))) h in
+    let q = and_parts (role.ghosts.eq a.role b.role) (pointwise one.ghosts.eq a.inputs b.inputs && (pointwise one.ghosts.eq a.secrets b.secrets && pointwise bytes_eq a.outputs b.outputs)) p.1 in
+    let r = and_parts (pointwise one.ghosts.eq a.inputs b.inputs) (pointwise one.ghosts.eq a.secrets b.secrets && pointwise bytes_eq a.outputs b.outputs) q.1 in
+    let t = and_parts (pointwise one.ghosts.eq a.secrets b.secrets) (pointwise bytes_eq a.outputs b.outputs) r.1 in
     let e0 = option_exact a.name b.name p.0 in
     let e1 = role_exact a.role b.role q.0 in
-    let e2 = lists_exact input.ghosts.eq input_exact a.inputs b.inputs r.0 in
-    let e3 = lists_exact secret.ghosts.eq secret_exact a.secrets b.secrets t.0 in
+    let e2 = lists_exact one.ghosts.eq one_exact a.inputs b.inputs r.0 in
+    let e3 = lists_exact one.ghosts.eq one_exact a.secrets b.secrets t.0 in
     let e4 = lists_exact bytes_eq name_exact a.outputs b.outputs t.1 in
     λ i. record { name = e0 i; role = e1 i; inputs = e2 i; secrets = e3 i; outputs = e4 i }
 

@@ -1,4 +1,3 @@
 pub mod Exact
 pub mod Places
 pub mod Positions
-pub mod Apart

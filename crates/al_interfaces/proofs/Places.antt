@@ -1,6 +1,6 @@
 -- The places of the elements that a test is true of.
 use Rattle.std.proofs.Common.{◌≡◌, ℕ, ◌+◌, ◌<◌, List, [], ◌∷◌, ◌++◌, Bool, true, false, cond, inl, inr, Some, None, map, take, length, get_or, ap, arith, sym, ◌∙◌}
-use Rattle.std.proofs.lemmas.List.{append-nil, get_or-map, length-map, map-append}
+use Rattle.std.proofs.lemmas.List.{append-nil, get_or-map, length-map, map-append, take_more}
 use Rattle.std.proofs.lemmas.List.Elements.{filter_more}
 use Rattle.std.proofs.lemmas.Option.{get_or_from_slice_get, slice_get-get_or, slice_get_cases, slice_get_within}
 use Rattle.std.specs.List.{filter, slice_get}
@@ -33,23 +33,27 @@ no_more p all i x places room is fails stand =
 pub as_many : {A : Type 0} (places : List ℕ) (xs all : List A) → StandAt places xs all → length places ≡ length xs
 as_many places xs all stand = sym (length-map places (slice_get all)) ∙ ap length stand ∙ length-map xs Some
 
-stands_there : {A : Type 0} (places : List ℕ) (xs all : List A) (k place : ℕ) (x : A) → StandAt places xs all → k < length xs → place ≡ get_or places k place →
-    slice_get all place ≡ Some (get_or xs k x)
-stands_there places xs all k place x stand room is =
-    let within : k < length places = omega (arith, as_many places xs all stand) in
-    ap (slice_get all) is ∙ sym (get_or-map (slice_get all) places k place None within)
-    ∙ ap (λ l. get_or l k None) stand ∙ get_or-map Some xs k x None room
+module _ {A : Type 0} (places : List ℕ) (xs all : List A) (k place d : ℕ) (stand : StandAt places xs all) (room : k < length places) (is : place ≡ get_or places k d) where
+  stands_there : (x : A) → slice_get all place ≡ Some (get_or xs k x)
+  stands_there x =
+      let within : k < length xs = omega (arith, as_many places xs all stand) in
+      ap (slice_get all) is ∙ sym (get_or-map (slice_get all) places k d None room)
+      ∙ ap (λ l. get_or l k None) stand ∙ get_or-map Some xs k x None within
 
--- each place lies in the list
-pub place_within : {A : Type 0} (places : List ℕ) (xs all : List A) (k place : ℕ) → StandAt places xs all → k < length xs → place ≡ get_or places k place → place < length all
-place_within places xs all k place stand room is =
-    elim (slice_get_cases xs k).1 [
-      | inl (x, _, _, _) ↦ slice_get_within all place _ (stands_there places xs all k place x stand room is)
-      | inr (past, _) ↦ absurd (omega arith)
-    ]
+  -- each place lies in the list
+  pub place_within : place < length all
+  place_within =
+      elim (slice_get_cases xs k).1 [
+        | inl (x, _, _, _) ↦ slice_get_within all place _ (stands_there x)
+        | inr (past, _) ↦ let many = as_many places xs all stand in absurd (omega arith)
+      ]
 
--- what stands at one
-pub at_place : {A : Type 0} (places : List ℕ) (xs all : List A) (k place : ℕ) (x : A) → StandAt places xs all → k < length xs → place ≡ get_or places k place →
-    x ≡ get_or all place x → x ≡ get_or xs k x
-at_place places xs all k place x stand room is found =
-    found ∙ get_or_from_slice_get all place (get_or xs k x) x (stands_there places xs all k place x stand room is)
+  -- what stands at one
+  pub at_place : (x : A) → x ≡ get_or all place x → x ≡ get_or xs k x
+  at_place x found = found ∙ get_or_from_slice_get all place (get_or xs k x) x (stands_there x)
+
+-- what stands at the places, a place further
+pub placed_more : {A B : Type 0} (v : B → A) (xs : List A) (i : ℕ) (x : B) (old new : List B) → i < length xs → v x ≡ get_or xs i (v x) →
+    new ≡ old ++ x ∷ [] → map v old ≡ take i xs → map v new ≡ take (i + 1) xs
+placed_more v xs i x old new room is more so_far =
+    ap (map v) more ∙ map-append v old (x ∷ []) ∙ ap (λ l. l ++ v x ∷ []) so_far ∙ ap (λ y. take i xs ++ y ∷ []) is ∙ sym (take_more xs i (v x) room)

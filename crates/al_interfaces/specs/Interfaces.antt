@@ -19,11 +19,12 @@ use Rattle.al_declarations.specs.declared.inputs.InputType.{InputType}
 use Rattle.al_declarations.specs.declared.inputs.InputType.TheVariants as input
 use Rattle.al_interfaces.specs.declared.interfaces.Interface.{Interface}
 use Rattle.al_interfaces.specs.declared.interfaces.Interface.TheVariants.{Readable, Unreadable}
-use Rattle.al_interfaces.specs.declared.interfaces.Input.{Input}
+use Rattle.al_interfaces.specs.declared.interfaces.Parameter.{Parameter}
 use Rattle.al_interfaces.specs.declared.interfaces.Role.{Role}
 use Rattle.al_interfaces.specs.declared.interfaces.Role.TheVariants as role
-use Rattle.al_interfaces.specs.declared.interfaces.Secret.{Secret}
 use Rattle.al_interfaces.specs.declared.interfaces.Signature.{Signature}
+use Rattle.al_interfaces.specs.declared.signatures.Declaring.{Declaring}
+use Rattle.al_interfaces.specs.declared.signatures.Declaring.TheVariants as declared
 
 -- `true` in any ASCII case and any style
 abbrev pub is_true : Node → Bool
@@ -32,11 +33,23 @@ is_true n = option_map_or (λ s. same_name (text_of s) (codes "true")) (scalar_i
 abbrev pub is_required : Node → Bool
 is_required n = option_map_or is_true (value_at (codes "required") n) false
 
-abbrev pub input_shown : InputType → Node × Node → Input
-input_shown t e = record { name = key_of e; required = is_required e.1; has_default = has_value (codes "default") e.1; takes = t }
+-- a secret has no default
+abbrev pub has_default : Declaring → Node → Bool
+has_default declared.CallInputs n = has_value (codes "default") n
+has_default declared.ActionInputs n = has_value (codes "default") n
+has_default declared.Secrets n = false
 
-abbrev pub secret_shown : Node × Node → Secret
-secret_shown e = record { name = key_of e; required = is_required e.1 }
+-- inputs of actions are strings, and so are secrets
+abbrev pub type_taken : Declaring → Node → InputType
+type_taken declared.CallInputs n = input_of n
+type_taken declared.ActionInputs n = input.String
+type_taken declared.Secrets n = input.String
+
+abbrev pub parameter : Declaring → Node × Node → Parameter
+parameter by e = record { name = key_of e; required = is_required e.1; has_default = has_default by e.1; takes = type_taken by e.1 }
+
+abbrev pub parameters : Declaring → List (List ℕ) → Node → List Parameter
+parameters by ks n = map (parameter by) (declared_below ks n)
 
 abbrev pub name_of : Node → Option (List ℕ)
 name_of n = option_map (λ t. text_of t.0) (text_at (codes "name") n)
@@ -61,8 +74,8 @@ abbrev pub workflow_signature : Node → Signature
 workflow_signature n = record {
   name = name_of n;
   role = workflow_role n;
-  inputs = map (λ e. input_shown (input_of e.1) e) (declared_below (of_call (codes "inputs")) n);
-  secrets = map secret_shown (declared_below (of_call (codes "secrets")) n);
+  inputs = parameters declared.CallInputs (of_call (codes "inputs")) n;
+  secrets = parameters declared.Secrets (of_call (codes "secrets")) n;
   outputs = names_of (declared_below (of_call (codes "outputs")) n);
 }
 
@@ -70,7 +83,7 @@ abbrev pub action_signature : Node → Signature
 action_signature n = record {
   name = name_of n;
   role = action_role n;
-  inputs = map (input_shown input.String) (declared_below (codes "inputs" ∷ []) n);
+  inputs = parameters declared.ActionInputs (codes "inputs" ∷ []) n;
   secrets = [];
   outputs = names_of (declared_below (codes "outputs" ∷ []) n);
 }

@@ -1,5 +1,5 @@
 pub mod Interfaces
-pub mod Names
-pub mod Mandatory
+pub mod Parameters
+pub mod Kinds
 pub mod Equality
 pub mod Private

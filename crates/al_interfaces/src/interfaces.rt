@@ -1,6 +1,9 @@
 //! Interfaces as data. They hold no spans and no descriptions, so that an edit of a file which callers can't see leaves its
 //! interface the same.
-use crate::lists::{InputList, SecretList};
+ghost use Rattle.std.specs.Prelude.{◌≡◌};
+ghost use Rattle.al_interfaces.specs.Kinds.{parameters_of};
+
+use crate::lists::Parameters;
 use al_declarations::{InputType, Name, NameList};
 
 /// What a file is to its callers.
@@ -16,26 +19,24 @@ pub enum Role {
     Action,
 }
 
-/// An input that a file takes.
+/// An input or a secret that a file takes.
 #[derive(Drop, PartialEq, Eq)]
-pub struct Input {
+pub struct Parameter {
     /// As the file spells it.
     pub name: Name,
     /// Whether the text of `required` is `true`, in any ASCII case and any style.
     pub required: bool,
-    /// Whether there is a key `default`.
+    /// Whether there is a key `default`; a secret has none.
     pub has_default: bool,
-    /// Those of actions are strings.
+    /// Those of actions are strings, and so are secrets.
     pub takes: InputType,
 }
 
-/// A secret that a workflow takes.
-#[derive(Drop, PartialEq, Eq)]
-pub struct Secret {
-    /// As the file spells it.
-    pub name: Name,
-    /// Whether the text of `required` is `true`, in any ASCII case and any style.
-    pub required: bool,
+/// Which parameters: inputs, which stand under `with` of a call, or secrets, which stand under `secrets`.
+#[derive(Clone, Copy, PartialEq, Eq, PartialOrd, Ord)]
+pub enum ParameterKind {
+    Input,
+    Secret,
 }
 
 /// What a file shows whose root is a mapping. Of names that are equal but for ASCII case each list has the first alone.
@@ -44,11 +45,23 @@ pub struct Signature {
     /// The text of `name`, where that is a scalar and not null.
     pub name: Option<Name>,
     pub role: Role,
-    pub inputs: InputList,
+    pub inputs: Parameters,
     /// None of an action.
-    pub secrets: SecretList,
+    pub secrets: Parameters,
     /// The names of the outputs.
     pub outputs: NameList,
+}
+
+impl Signature {
+    /// The parameters of a kind.
+    pub fn parameters(&self, kind: ParameterKind) -> &Parameters
+        ensures { result.now ≡ parameters_of kind self.now }
+    {
+        match kind {
+            ParameterKind::Input => &self.inputs,
+            ParameterKind::Secret => &self.secrets,
+        }
+    }
 }
 
 /// What a file shows to its callers.

@@ -8,6 +8,6 @@ mod signatures;
 
 pub use al_declarations::{Name, NameList};
 pub use equality::equal_interfaces;
-pub use interfaces::{Input, Interface, Role, Secret, Signature};
-pub use lists::{InputList, SecretList, is_mandatory};
+pub use interfaces::{Interface, Parameter, ParameterKind, Role, Signature};
+pub use lists::Parameters;
 pub use signatures::interface_of;

@@ -3,18 +3,13 @@ ghost use Rattle.std.specs.Prelude.{◌≡◌, [], map, option_map, IfOk};
 ghost use Rattle.std.specs.List.{list_any};
 ghost use Rattle.std.specs.Option.{option_map_or};
 ghost use Rattle.al_declarations.specs.Declarations.{declared_in, names_of};
-ghost use Rattle.al_declarations.specs.Inputs.{input_of as type_declared};
 ghost use Rattle.al_scalar.specs.Scalar.{text_of};
-ghost use Rattle.al_shape.specs.Keys.{key_of};
 ghost use Rattle.al_shape.specs.Values.{member_of, scalar_node_of};
 ghost use Rattle.al_yaml.specs.View.{view};
 ghost use Rattle.al_interfaces.specs.Interfaces as interfaces;
-ghost use Rattle.al_interfaces.specs.Interfaces.{input_shown, secret_shown};
-ghost use Rattle.al_interfaces.specs.Private.Names.{AreApart};
-ghost use Rattle.al_declarations.specs.declared.inputs.InputType.TheVariants as type_variant;
 
-use crate::interfaces::{Input, Interface, Role, Secret, Signature};
-use crate::lists::{InputList, SecretList};
+use crate::interfaces::{Interface, Parameter, Role, Signature};
+use crate::lists::Parameters;
 use al_base::is_same_name;
 use al_declarations::{
     InputType, Name, NameList, declared_at, has_value, input_of, is_composite, value_below_three,
@@ -23,6 +18,17 @@ use al_shape::{Member, ScalarNode, key_text, text_under, texts, value};
 use al_tree::FileKind;
 use al_yaml::Node;
 use std::alloc::{AllocError, Global};
+
+/// How parameters are declared.
+#[derive(Clone, Copy)]
+enum Declaring {
+    /// As inputs of a workflow that can be called.
+    CallInputs,
+    /// As inputs of an action.
+    ActionInputs,
+    /// As secrets of a workflow that can be called.
+    Secrets,
+}
 
 /// Whether a node is `true`, in any ASCII case.
 fn is_true(node: &Node) -> bool
@@ -44,65 +50,63 @@ fn is_required(node: &Node) -> bool
     }
 }
 
-/// The input that a member declares.
-fn input(alloc: Global, takes: InputType, member: Member<'_>) -> Result<Input, AllocError>
-    ensures { IfOk result (λ i. i ≡ input_shown takes (member_of member.entry)) }
+/// Whether what is declared so has a default.
+fn has_default(by: Declaring, node: &Node) -> bool
+    ensures { result ≡ interfaces.has_default by (view node.now) }
 {
-    Ok(Input {
+    match by {
+        Declaring::CallInputs => has_value(node, "default"),
+        Declaring::ActionInputs => has_value(node, "default"),
+        Declaring::Secrets => false,
+    }
+}
+
+/// What a parameter that is declared so takes.
+fn type_taken(by: Declaring, node: &Node) -> InputType
+    ensures { result ≡ interfaces.type_taken by (view node.now) }
+{
+    match by {
+        Declaring::CallInputs => input_of(node),
+        Declaring::ActionInputs => InputType::String,
+        Declaring::Secrets => InputType::String,
+    }
+}
+
+/// The parameter that a member declares.
+fn parameter(alloc: Global, by: Declaring, member: Member<'_>) -> Result<Parameter, AllocError>
+    ensures { IfOk result (λ p. p ≡ interfaces.parameter by (member_of member.entry)) }
+{
+    Ok(Parameter {
         name: Name::new(alloc, key_text(member.key))?,
         required: is_required(member.value),
-        has_default: has_value(member.value, "default"),
-        takes,
+        has_default: has_default(by, member.value),
+        takes: type_taken(by, member.value),
     })
 }
 
-/// The secret that a member declares.
-fn secret(alloc: Global, member: Member<'_>) -> Result<Secret, AllocError>
-    ensures { IfOk result (λ s. s ≡ secret_shown (member_of member.entry)) }
+/// The parameters that members declare.
+fn parameters_in(
+    alloc: Global,
+    by: Declaring,
+    members: &[Member<'_>],
+) -> Result<Parameters, AllocError>
+    ensures { IfOk result (λ ps. ps ≡ map (interfaces.parameter by) (map member_of members.now)) }
 {
-    Ok(Secret {
-        name: Name::new(alloc, key_text(member.key))?,
-        required: is_required(member.value),
-    })
-}
-
-/// The inputs that members declare, each of its type.
-fn typed_inputs(alloc: Global, members: &[Member<'_>]) -> Result<InputList, AllocError>
-    requires { AreApart key_of (map member_of members.now) }
-    ensures { IfOk result (λ is. is ≡ map (λ e. input_shown (type_declared e.1) e) (map member_of members.now)) }
-{
-    let mut inputs = Vec::new(alloc);
+    let mut found = Vec::new(alloc);
     for member in members {
-        inputs.push(input(alloc, input_of(member.value), *member)?)?;
+        found.push(parameter(alloc, by, *member)?)?;
     }
-    let list = InputList::new(alloc, inputs)?;
+    let list = Parameters::new(alloc, found)?;
     Ok(list)
 }
 
-/// The inputs that members declare, all strings.
-fn string_inputs(alloc: Global, members: &[Member<'_>]) -> Result<InputList, AllocError>
-    requires { AreApart key_of (map member_of members.now) }
-    ensures { IfOk result (λ is. is ≡ map (input_shown type_variant.String) (map member_of members.now)) }
+/// The parameters that a mapping declares, where there is one.
+fn parameters(alloc: Global, by: Declaring, node: Option<&Node>) -> Result<Parameters, AllocError>
+    ensures { IfOk result (λ ps. ps
+        ≡ map (interfaces.parameter by) (option_map_or declared_in (option_map (λ n. view n.now) node.entry) [])) }
 {
-    let mut inputs = Vec::new(alloc);
-    for member in members {
-        inputs.push(input(alloc, InputType::String, *member)?)?;
-    }
-    let list = InputList::new(alloc, inputs)?;
-    Ok(list)
-}
-
-/// The secrets that members declare.
-fn secrets(alloc: Global, members: &[Member<'_>]) -> Result<SecretList, AllocError>
-    requires { AreApart key_of (map member_of members.now) }
-    ensures { IfOk result (λ ss. ss ≡ map secret_shown (map member_of members.now)) }
-{
-    let mut secrets = Vec::new(alloc);
-    for member in members {
-        secrets.push(secret(alloc, *member)?)?;
-    }
-    let list = SecretList::new(alloc, secrets)?;
-    Ok(list)
+    let declared = declared_at(alloc, node)?;
+    parameters_in(alloc, by, declared.as_slice())
 }
 
 /// The names of members.
@@ -191,12 +195,14 @@ fn workflow_signature(alloc: Global, root: &Node) -> Result<Signature, AllocErro
 {
     let name = name_of(alloc, root)?;
     let role = workflow_role(alloc, root)?;
-    let inputs = declared_at(
+    let inputs = parameters(
         alloc,
+        Declaring::CallInputs,
         value_below_three(root, "on", "workflow_call", "inputs"),
     )?;
-    let secret_members = declared_at(
+    let secrets = parameters(
         alloc,
+        Declaring::Secrets,
         value_below_three(root, "on", "workflow_call", "secrets"),
     )?;
     let outputs = declared_names(
@@ -206,8 +212,8 @@ fn workflow_signature(alloc: Global, root: &Node) -> Result<Signature, AllocErro
     Ok(Signature {
         name,
         role,
-        inputs: typed_inputs(alloc, inputs.as_slice())?,
-        secrets: secrets(alloc, secret_members.as_slice())?,
+        inputs,
+        secrets,
         outputs,
     })
 }
@@ -228,13 +234,13 @@ fn action_signature(alloc: Global, root: &Node) -> Result<Signature, AllocError>
     ensures { IfOk result (λ s. s ≡ interfaces.action_signature (view root.now)) }
 {
     let name = name_of(alloc, root)?;
-    let inputs = declared_at(alloc, value(root, "inputs"))?;
+    let inputs = parameters(alloc, Declaring::ActionInputs, value(root, "inputs"))?;
     let outputs = declared_names(alloc, value(root, "outputs"))?;
     Ok(Signature {
         name,
         role: action_role(root),
-        inputs: string_inputs(alloc, inputs.as_slice())?,
-        secrets: SecretList::new(alloc, Vec::new(alloc))?,
+        inputs,
+        secrets: Parameters::new(alloc, Vec::new(alloc))?,
         outputs,
     })
 }

@@ -1,6 +1,6 @@
 //! Which files a run takes from a disk, and in which order.
 
-use al_cli::{Disk, DiskError, load_from};
+use al_cli::{Disk, DiskError, Entry, load_from};
 use al_words::Words;
 use std::alloc::Global;
 use std::collections::BTreeSet;
@@ -8,7 +8,7 @@ use std::collections::BTreeSet;
 // A folder's files, by their paths and bytes.
 type Files = &'static [(&'static str, &'static [u8])];
 
-// A disk in memory, which keeps the paths that it is asked for.
+// A disk in memory, which keeps the paths that it is asked for. A file that holds `outside` stands for a link out of the folder.
 #[derive(Drop)]
 struct Held {
     files: Files,
@@ -26,22 +26,30 @@ impl Disk for Held {
         Ok(listed)
     }
 
-    fn read(&mut self, alloc: Global, path: &str) -> Result<Option<Vec<u8>>, DiskError> {
+    fn read(&mut self, alloc: Global, path: &str) -> Result<Entry, DiskError> {
         self.asked.push(String::from_str(alloc, path)?)?;
         for (held, bytes) in self.files {
             if *held == path {
-                return Ok(Some(Vec::from_slice(alloc, bytes)?));
+                return entry_of(alloc, bytes);
             }
         }
-        Ok(None)
+        Ok(Entry::Absent)
     }
 }
 
-// A workflow that calls two actions, the second of which calls the first's neighbour and itself.
-static FOLDER: [(&str, &[u8]); 4] = [
+fn entry_of(alloc: Global, bytes: &[u8]) -> Result<Entry, DiskError> {
+    if bytes == b"outside".as_slice() {
+        return Ok(Entry::Outside);
+    }
+    Ok(Entry::File(Vec::from_slice(alloc, bytes)?))
+}
+
+// A workflow that calls two actions, the second of which calls the first's neighbour and itself. The first lies
+// outside, and so does another workflow, which a job calls.
+static FOLDER: [(&str, &[u8]); 6] = [
     (
         ".github/workflows/a.yml",
-        b"on: push\njobs: {a: {runs-on: x, steps: [{uses: ./y}, {uses: ./x}, {uses: ./x}]}}\n",
+        b"on: push\njobs: {a: {runs-on: x, steps: [{uses: ./y}, {uses: ./x}, {uses: ./x}]}, b: {uses: ./.github/workflows/b.yml}}\n",
     ),
     (
         "x/action.yml",
@@ -51,6 +59,8 @@ static FOLDER: [(&str, &[u8]); 4] = [
         "w/action.yaml",
         b"name: w\ndescription: w\nruns: {using: composite, steps: []}\n",
     ),
+    (".github/workflows/b.yml", b"outside"),
+    ("y/action.yml", b"outside"),
     ("z/action.yml", b"not called"),
 ];
 
@@ -59,8 +69,9 @@ fn folder() -> Files {
 }
 
 // The workflows first; then at each turn the first candidate that wasn't tried, each once.
-static READS: [&str; 7] = [
+static READS: [&str; 8] = [
     ".github/workflows/a.yml",
+    ".github/workflows/b.yml",
     "x/action.yaml",
     "x/action.yml",
     "w/action.yaml",
@@ -73,11 +84,18 @@ fn reads() -> &'static [&'static str] {
     &READS
 }
 
-fn is_asked(asked: &[String], paths: &[&str]) -> bool {
-    if asked.len() != paths.len() {
+// What leads out, in the order in which it was read.
+static OUTSIDE: [&str; 2] = [".github/workflows/b.yml", "y/action.yml"];
+
+fn outside() -> &'static [&'static str] {
+    &OUTSIDE
+}
+
+fn are_these(texts: &[String], paths: &[&str]) -> bool {
+    if texts.len() != paths.len() {
         return false;
     }
-    for (text, path) in asked.iter().zip(paths) {
+    for (text, path) in texts.iter().zip(paths) {
         if text.as_str() != *path {
             return false;
         }
@@ -90,8 +108,12 @@ fn are_read_in_order(alloc: Global, words: &Words<'_>) -> bool {
         files: folder(),
         asked: Vec::new(alloc),
     };
-    let is_loaded = load_from(alloc, &mut disk, words).is_ok();
-    is_loaded && is_asked(&disk.asked, reads())
+    match load_from(alloc, &mut disk, words) {
+        Ok(gathered) => {
+            are_these(&disk.asked, reads()) && are_these(&gathered.outside, outside())
+        }
+        Err(_) => false,
+    }
 }
 
 fn are_read_of_a_folder(alloc: Global) -> bool {

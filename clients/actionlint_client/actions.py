@@ -1,0 +1,51 @@
+"""Code actions: the quick fixes of the faults in a range."""
+from __future__ import annotations
+
+from . import fixes
+from .diagnostics import Diagnostics
+from .editor import Editor
+from .folder import Program
+from .positions import range_of_span
+from .repair import Edit
+from .repository import Document, Repository
+from .tree import Point, Span
+from .workspace import Workspace
+
+
+class CodeActions:
+    capabilities = {"codeActionProvider": {"codeActionKinds": ["quickfix"]}}
+
+    def __init__(self, workspace: Workspace, diagnostics: Diagnostics, editor: Editor, program: Program):
+        self._workspace, self._diagnostics, self._editor, self._program = workspace, diagnostics, editor, program
+
+    def handlers(self) -> dict:
+        return {"textDocument/codeAction": self.code_actions}
+
+    def code_actions(self, textDocument, range, context=None, **_) -> list[dict]:
+        document = self._workspace.document(textDocument["uri"])
+        kinds = (context or {}).get("only")
+        if document is None or kinds and not any(kind in ("", "quickfix") for kind in kinds):
+            return []
+        faults = [fault for fault, _ in document.faults_in(range)]
+        found = fixes.fixes(self._program.words, self._program.timeout, document.repository.project, faults, document.earlier().faults)
+        return [self._action(document, fix) for fix in found if not fix.repair.new_files or self._editor.makes_files()]
+
+    def _action(self, document: Document, fix: fixes.Fix) -> dict:
+        return {"title": fix.repair.title, "kind": "quickfix",
+                "diagnostics": [self._diagnostics.of_fault(document.lines(), fix.fault)],
+                "edit": workspace_edit(document.repository, fix.repair.edits, fix.repair.new_files)}
+
+
+def workspace_edit(repository: Repository, edits: dict[str, tuple[Edit, ...]], new_files: dict[str, str] = {}) -> dict:
+    """Edits of files, and new files, as the protocol has them."""
+    changes = {repository.uri(path): [{"range": range_of_span(repository.project.lines(path), edit.span), "newText": edit.text}
+                                      for edit in some] for path, some in edits.items()}
+    if not new_files:
+        return {"changes": changes}
+    start = range_of_span([""], Span(Point(0, 0), Point(0, 0)))
+    made: list[dict] = []
+    for path, text in new_files.items():
+        uri = repository.uri(path)
+        made += [{"kind": "create", "uri": uri, "options": {"ignoreIfExists": True}},
+                 {"textDocument": {"uri": uri, "version": None}, "edits": [{"range": start, "newText": text}]}]
+    return {"documentChanges": made + [{"textDocument": {"uri": uri, "version": None}, "edits": some} for uri, some in changes.items()]}

@@ -1,0 +1,49 @@
+"""Completion for editors."""
+from __future__ import annotations
+
+import re
+
+from .asked import asked
+from .completion import Offer, offers
+from .editor import Editor
+from .workspace import Workspace
+
+# CompletionItemKind of the protocol.
+KINDS = {"key": 10, "value": 12, "event": 23, "module": 9, "property": 5, "function": 3, "file": 17}
+SNIPPET = 2
+EMPTY_ARGUMENT = re.compile(r"''''|''")
+
+
+class Completion:
+    capabilities = {"completionProvider": {"triggerCharacters": [".", "/", "'", ":", " "]}}
+
+    def __init__(self, workspace: Workspace, editor: Editor):
+        self._workspace, self._editor = workspace, editor
+
+    def handlers(self) -> dict:
+        return {"textDocument/completion": self.complete}
+
+    def complete(self, textDocument, position, **_) -> dict | None:
+        place = asked(self._workspace, textDocument, position)
+        if place is None:
+            return None
+        span, found = offers(place.project, place.file, place.point)
+        where = place.range(span)
+        return {"isIncomplete": False, "items": [self._item(where, number, offer) for number, offer in enumerate(found)]}
+
+    def _item(self, where: dict, number: int, offer: Offer) -> dict:
+        item: dict[str, object] = {
+            "label": offer.label, "kind": KINDS[offer.kind], "detail": offer.detail, "filterText": offer.label,
+            "sortText": f"{offer.rank}{number:04}", "textEdit": {"range": where, "newText": offer.text}}
+        if offer.documentation:
+            item["documentation"] = {"kind": "markdown", "value": offer.documentation}
+        if offer.arguments and self._editor.takes_snippets():
+            item |= {"insertTextFormat": SNIPPET, "textEdit": {"range": where, "newText": snippet(offer.text)}}
+        return item
+
+
+def snippet(call: str) -> str:
+    """A call of a function as a snippet, whose arguments are its places."""
+    parts = EMPTY_ARGUMENT.split(call)
+    quote = "''" if "''''" in call else "'"
+    return parts[0] + "".join(f"{quote}${{{number}}}{quote}{part}" for number, part in enumerate(parts[1:], 1))

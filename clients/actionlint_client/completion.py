@@ -1,0 +1,275 @@
+"""What can stand at a cursor: keys of the section, values of the key, and names in expressions."""
+from __future__ import annotations
+
+import re
+from dataclasses import dataclass, replace
+from typing import Callable, Iterable
+
+from . import project as files
+from .expressions import Before, Property, Scope, chain_before, expression_before
+from .names import names
+from .paths import is_workflow
+from .place import Place, Role, outline_of
+from .project import Project
+from .syntax import available, is_condition, key_of, meaning, section_at, shape_at, table, value_words
+from .tree import Node, Path, Point, Span
+
+IDENTIFIER = re.compile(r"[\w-]*")
+REST = re.compile(r"[^#,}\]\n]*")
+PLAIN = re.compile(r"[A-Za-z0-9_./][\w./@-]*")
+# What stands behind a key that must not be left empty.
+FIRST_VALUES = {("workflow", "on"): "push", ("workflow", "jobs"): "\n  build:\n    runs-on: ubuntu-latest\n    steps:\n      - run: make"}
+
+
+@dataclass(frozen=True)
+class Offer:
+    """A name that can stand at the cursor, the text that is put there, what it is in a word and in sentences. The first ones come first;
+    with `arguments` it is a call of a function, whose arguments are to be filled in."""
+
+    label: str
+    kind: str
+    text: str
+    detail: str = ""
+    documentation: str | None = None
+    rank: int = 1
+    arguments: int | None = None
+
+
+@dataclass(frozen=True)
+class Cursor:
+    """A place in a file, the tree around it, and the keys on the way to it."""
+
+    project: Project
+    file: str
+    place: Place
+
+    @property
+    def tree(self) -> Node | None:
+        return self.project.tree_around(self.file, self.place.span.start.line)
+
+    @property
+    def levels(self) -> tuple[dict[str, str], ...]:
+        return (*self.place.around, self.place.siblings)
+
+    def section(self, path: Path) -> str | None:
+        return section_at(self.file, path, self.levels)
+
+    def texts(self, depth: int) -> dict[str, str]:
+        """The keys with texts beside the one at a depth of the path."""
+        found = self.place.around[depth] if depth < len(self.place.around) else {}
+        return {key: text.strip("'\"") for key, text in found.items()}
+
+
+def cursor_at(project: Project, file: str, point: Point) -> Cursor:
+    return Cursor(project, file, outline_of(project.text(file)).place(point))
+
+
+def offers(project: Project, file: str, point: Point) -> tuple[Span, list[Offer]]:
+    """What can stand at a point, and the characters that it replaces."""
+    cursor = cursor_at(project, file, point)
+    place = cursor.place
+    if point < place.span.start:
+        return place.span, []
+    expression = None
+    if place.role is not Role.KEY:
+        expression = expression_before(place.before, is_condition(file, place.path, cursor.levels))
+    if expression is not None:
+        before = chain_before(expression)
+        line = project.lines(file)[point.line]
+        end = IDENTIFIER.match(line, point.column).end()
+        typed = len(before.typed) if before else 0
+        span = Span(Point(point.line, point.column - typed), Point(point.line, end))
+        return span, names_in_expression(cursor, before) if before else []
+    found = [] if place.role is Role.VALUE else list(keys(cursor))
+    if place.role is not Role.KEY:
+        found += values(cursor)
+    if is_behind_sign(project.lines(file)[point.line], place):
+        found = [replace(offer, text=" " + offer.text) for offer in found]
+    if key_of(place.path)[1] == "cron" and place.before[:1] not in ("'", '"'):
+        line = project.lines(file)[point.line]
+        return Span(place.span.start, Point(point.line, REST.match(line, point.column).end())), found
+    return place.span, found
+
+
+def is_behind_sign(line: str, place: Place) -> bool:
+    """Whether nothing is typed yet, and the space behind a colon or a dash neither."""
+    return not place.typed and not place.before.strip() and line[:place.span.start.column][-1:] in (":", "-")
+
+
+def names_in_expression(cursor: Cursor, before: Before) -> list[Offer]:
+    """Contexts and functions, or properties of what stands before the dot."""
+    place = cursor.place
+    if available(cursor.file, place.path, cursor.levels) is None:
+        return []
+    scope = Scope(cursor.project, cursor.file, cursor.tree, place.path, cursor.levels)
+    quote = "''''" if place.before[:1] == "'" else "''"
+    if before.chain:
+        return [_offer_of(one) for one in scope.properties(before.chain)]
+    found = [_offer_of(one) for one in scope.contexts()]
+    for name in scope.functions():
+        signature = table()["functions"][name]
+        count = sum(1 for word in signature["takes"].split(", ") if word and not word.startswith("optional") and not word.endswith(".."))
+        text = f"{name}({', '.join([quote] * count)})"
+        found.append(Offer(name, "function", text, f"({signature['takes']}) {signature['gives']}", meaning("functions", name), 2, count))
+    return found
+
+
+def _offer_of(one: Property) -> Offer:
+    return Offer(one.name, "module" if one.detail == "context" else "property", one.name, one.detail, one.text)
+
+
+def keys(cursor: Cursor) -> Iterable[Offer]:
+    """The keys of the section that don't stand there yet and can stand beside those that do, required ones first."""
+    place = cursor.place
+    yield from _named_keys(cursor)
+    shape = shape_at(cursor.file, place.path, cursor.levels)
+    if shape is None or "keys" not in shape:
+        return
+    section, fields = shape["section"], shape["keys"]
+    barred = {row["clash"] for key, row in fields.items() if key in place.siblings}
+    for key, row in fields.items():
+        if key in place.siblings or key in barred or row["clash"] in place.siblings:
+            continue
+        is_needed = row["need"] is True or row["need"] is not None and row["need"] not in place.siblings
+        takes = value_words(table()["shapes"].get(row["shape"]))
+        yield Offer(key, "key", _key_text(place, section, key), takes + (", required" if is_needed else ""), meaning(section, key),
+                    0 if is_needed else 1)
+    if shape["others"] == "events":
+        yield from (Offer(event, "event", _key_text(place, section, event), "event", meaning("events", event))
+                    for event in names()["events"] if event not in place.siblings and event not in fields)
+
+
+def _named_keys(cursor: Cursor) -> Iterable[Offer]:
+    """Keys below one that takes free ones: scopes, inputs and secrets of what is called, rows."""
+    place = cursor.place
+    around, key = key_of(place.path)
+    section = cursor.section(around)
+    if key == "permissions" and section in ("workflow", "job"):
+        for scope in (one for one in names()["permission scopes"] if one not in place.siblings):
+            text = _key_text(place, key, scope)
+            yield Offer(scope, "key", text if place.has_colon else text + "read", "scope", meaning("permissions", scope))
+    if key in ("with", "secrets") and section in ("step", "job"):
+        callee = cursor.project.callee(cursor.texts(len(place.path) - 1).get("uses"), section == "job")
+        tree = cursor.project.good_tree(callee) if callee else None
+        given = {name.lower() for name in place.siblings}
+        for one in files.declarations(callee, tree, "inputs" if key == "with" else "secrets", True) if callee else ():
+            if one.name.lower() not in given:
+                yield _declared_key(place, one)
+    if key == "exclude" and section == "matrix" and cursor.tree:
+        for row in files.matrix_rows(cursor.tree, str(place.path[1])):
+            if row not in place.siblings:
+                yield Offer(row, "key", _key_text(place, key, row), "row of the matrix")
+
+
+def _declared_key(place: Place, one: files.Declaration) -> Offer:
+    """An input or a secret of what is called, with a value that fits its type."""
+    kind = one.value.text("type") or ""
+    value = {"boolean": "true", "number": "0"}.get(kind, "")
+    text = one.name if place.has_colon else f"{one.name}: {value}"
+    return Offer(one.name, "key", text, (kind or "text") + (", required" if one.is_required else ""), one.value.text("description"),
+                 0 if one.is_required else 1)
+
+
+def _key_text(place: Place, section: str, key: str) -> str:
+    if place.has_colon:
+        return key
+    value = FIRST_VALUES.get((section, key), "")
+    return f"{key}:{value}" if value.startswith("\n") else f"{key}: {value}"
+
+
+def values(cursor: Cursor) -> list[Offer]:
+    """The values of a key, where they are known."""
+    around, key = key_of(cursor.place.path)
+    section = cursor.section(around) or ""
+    found = [*_fixed_values(cursor, section, key, around), *_names_of_file(cursor, section, key), *_flags(cursor)]
+    return [replace(one, text=_quoted(cursor.place, one.text)) for one in found]
+
+
+def _fixed_values(cursor: Cursor, section: str, key: str | None, around: Path) -> list[Offer]:
+    """Values out of the lists that the linter knows."""
+    if key == "types" and section == "event":
+        types = table()["activity types"].get(str(around[-1]), [])
+        return [Offer(name, "value", name, "activity type") for name in types]
+    permissions = table()["permission values"]
+    lists: dict[tuple[str, str | None], tuple[Iterable[str], str, str]] = {
+        ("workflow", "on"): (names()["events"], "events", "event"),
+        ("workflow", "permissions"): (permissions["whole_values"], "permissions", "permissions"),
+        ("job", "permissions"): (permissions["whole_values"], "permissions", "permissions"),
+        ("step", "shell"): (names()["shells"], "shells", "shell"),
+        ("run defaults", "shell"): (names()["shells"], "shells", "shell"),
+        ("call input", "type"): (table()["call input types"], "types of inputs", "type"),
+        ("dispatch input", "type"): (names()["input types"], "types of inputs", "type"),
+        ("job", "runs-on"): (table()["meanings"]["runners"], "runners", "label"),
+        ("runs on", "labels"): (table()["meanings"]["runners"], "runners", "label"),
+        ("cron", "cron"): (table()["meanings"]["schedules"], "schedules", "cron"),
+    }
+    if key == "using":
+        lists[section, key] = names()["using"], "kinds of actions", "kind"
+    if around and around[-1] == "permissions" and cursor.section(around[:-1]) in ("workflow", "job"):
+        lists[section, key] = permissions["scope_values"], "permissions", "access"
+    if isinstance(cursor.place.path[-1] if cursor.place.path else None, int) and key == "permissions":
+        return []
+    known, heading, detail = lists.get((section, key), ((), "", ""))
+    return [Offer(name, "value", name, detail, meaning(heading, name)) for name in known]
+
+
+def _names_of_file(cursor: Cursor, section: str, key: str | None) -> list[Offer]:
+    """Values that name something of the file or of the folder."""
+    ways: dict[tuple[str, str | None], Callable[[Cursor], list[Offer]]] = {
+        ("job", "needs"): _jobs, ("job", "uses"): _workflows, ("step", "uses"): _actions, ("event", "workflows"): _workflow_names,
+        ("job", "secrets"): lambda _: [Offer("inherit", "value", "inherit", "all secrets of the caller")]}
+    return ways[section, key](cursor) if (section, key) in ways else []
+
+
+def _jobs(cursor: Cursor) -> list[Offer]:
+    """The jobs that a job can need: those that don't need it themselves."""
+    tree, job = cursor.tree, str(cursor.place.path[1])
+    if tree is None:
+        return []
+    barred = files.dependents(tree, job) | (set(tree.texts("jobs", job, "needs")) - {cursor.place.word})
+    return [Offer(name, "value", name, "job", tree.text("jobs", name, "name")) for name in tree.names("jobs") if name not in barred]
+
+
+def _workflows(cursor: Cursor) -> list[Offer]:
+    """The workflows of the folder that jobs can call."""
+    trees = {file: cursor.project.good_tree(file) for file in cursor.project.paths() if is_workflow(file) and file != cursor.file}
+    return [Offer("./" + file, "file", "./" + file, "workflow", tree.text("name") if tree else None)
+            for file, tree in sorted(trees.items()) if files.is_callable(tree)]
+
+
+def _actions(cursor: Cursor) -> list[Offer]:
+    """The actions of the folder."""
+    found = []
+    for file in sorted(set(cursor.project.actions()) - {cursor.file}):
+        tree = cursor.project.good_tree(file)
+        path = "./" + file.rpartition("/")[0]
+        found.append(Offer(path, "file", path, "action", tree.text("description") if tree else None))
+    return found
+
+
+def _workflow_names(cursor: Cursor) -> list[Offer]:
+    trees = [cursor.project.good_tree(file) for file in cursor.project.paths() if is_workflow(file) and file != cursor.file]
+    named = sorted({tree.text("name") or "" for tree in trees if tree} - {""})
+    return [Offer(name, "value", name, "workflow") for name in named]
+
+
+def _flags(cursor: Cursor) -> list[Offer]:
+    """True and false where a flag is wanted, also by the type of an input of what is called."""
+    path = cursor.place.path
+    shape = shape_at(cursor.file, path, cursor.levels)
+    is_flag = shape is not None and shape["scalars"] == "Bools" or path[-1:] == ("required",)
+    if len(path) > 1 and path[-2] == "with" and cursor.section(path[:-2]) == "job":
+        callee = cursor.project.callee(cursor.texts(len(path) - 2).get("uses"), True)
+        tree = cursor.project.good_tree(callee) if callee else None
+        declared = files.declarations(callee, tree, "inputs", True) if callee else []
+        is_flag = any(one.name.lower() == str(path[-1]).lower() and one.value.text("type") == "boolean" for one in declared)
+    if not is_flag or cursor.place.before[:1] in ("'", '"'):
+        return []
+    return [Offer(word, "value", word, "flag") for word in ("true", "false")]
+
+
+def _quoted(place: Place, text: str) -> str:
+    """A text as a value: in quotes where it has signs that YAML reads otherwise, and none are there yet."""
+    if place.before[:1] in ("'", '"') or PLAIN.fullmatch(text):
+        return text.replace("'", "''") if place.before[:1] == "'" else text
+    return "'" + text.replace("'", "''") + "'"

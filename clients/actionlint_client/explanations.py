@@ -1,0 +1,25 @@
+"""What a name means where it stands."""
+from __future__ import annotations
+
+from .completion import Offer, offers
+from .project import Project
+from .tree import Point, Span
+
+
+def explanation(project: Project, file: str, point: Point) -> tuple[Span, str] | None:
+    """Markdown on the key, the value or the name in an expression at a point, and where that stands."""
+    if point.line >= len(project.lines(file)):
+        return None
+    span, found = offers(project, file, point)
+    name = project.lines(file)[span.start.line][span.start.column:span.end.column]
+    same = [offer for offer in found if offer.label == name] or [offer for offer in found if offer.label.lower() == name.lower()]
+    return (span, markdown_of(same[0])) if name and same else None
+
+
+def markdown_of(offer: Offer) -> str:
+    """An offer for a person: its name with the signature of a function, what it is, and what it means."""
+    if offer.kind == "function":
+        head = f"`{offer.label}{offer.detail.rpartition(') ')[0]})` gives {offer.detail.rpartition(') ')[2]}"
+    else:
+        head = f"`{offer.label}`" + (f": {offer.detail}" if offer.detail else "")
+    return head + (f"\n\n{offer.documentation}" if offer.documentation else "")

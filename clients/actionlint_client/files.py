@@ -1,0 +1,101 @@
+"""The files that a repository's folder holds for the linter: what is on the disk, with unsaved buffers in place of saved files."""
+from __future__ import annotations
+
+from typing import Callable, Iterable
+
+from .calls import callees
+from .disk import Disk
+from .paths import is_linted
+
+NO_CALLS: frozenset[str] = frozenset()
+
+
+class Files:
+    """The folder holds what `actionlint --root DIR` lints, the workflows and the actions that they call, and besides every file that is
+    open. `update` brings it there, and looks only at what was edited where that suffices."""
+
+    def __init__(self, root: bytes, say: Callable[[str], None], keeps_calls: bool):
+        """With `keeps_calls` a file that is no YAML while it is edited still calls what it called before."""
+        self.wanted: dict[str, bytes] = {}
+        self.unreadable: dict[str, str] = {}
+        self._disk = Disk(root, say)
+        self._keeps_calls = keeps_calls
+        self._buffers: dict[str, bytes] = {}
+        self._calls: dict[str, tuple[bytes, frozenset[str]]] = {}
+        self._edited: set[str] = set()
+        self._disk_may_differ = True
+
+    def edit(self, path: str, data: bytes | None) -> None:
+        """The bytes of a file's buffer, or None where it is no longer open."""
+        if data is None:
+            self._buffers.pop(path, None)
+            self._disk.forget([path])
+        else:
+            self._buffers[path] = data
+        self._edited.add(path)
+
+    def rescan(self, changed: Iterable[str] = ()) -> None:
+        """Looks at the disk again, and reads the files of `changed` even where they look the same."""
+        linted = {path for path in changed if is_linted(path)}
+        self._disk.forget(linted)
+        self._edited |= linted
+        self._disk_may_differ = True
+
+    def read(self, path: str) -> bytes | None:
+        """The bytes of a file as it is now, of its buffer or of the disk, also where it isn't wanted; None where there is none."""
+        return self._data(path)
+
+    def is_stale(self) -> bool:
+        return self._disk_may_differ or bool(self._edited)
+
+    def update(self) -> set[str]:
+        """Brings `wanted` and `unreadable` to what they are now, and answers at which paths they may have changed."""
+        edited, self._edited = self._edited, set()
+        disk_differs = self._disk_may_differ and self._disk.rescan()
+        self._disk_may_differ = False
+        if not disk_differs and all(map(self._stays_where_it_is, edited)):
+            self.wanted.update((path, self._data(path)) for path in edited)
+            return edited
+        wanted, unreadable = self.wanted, self.unreadable
+        self._find()
+        return {path for path in {*wanted, *self.wanted} if wanted.get(path) is not self.wanted.get(path)} | {
+            path for path in {*unreadable, *self.unreadable} if unreadable.get(path) != self.unreadable.get(path)}
+
+    def _stays_where_it_is(self, path: str) -> bool:
+        """Whether a file that was edited, here or on the disk, is still wanted, and calls what it called before."""
+        data = self._data(path)
+        if path not in self.wanted or data is None or path not in self._buffers and path not in self._disk.workflows:
+            return False
+        before = self._calls[path][1]
+        return self._calls_of(path, data) == before
+
+    def _data(self, path: str) -> bytes | None:
+        data = self._buffers.get(path)
+        return self._disk.file(path).data if data is None else data
+
+    def _find(self) -> None:
+        """The workflows, what is open, and the actions that these call, one after another."""
+        self.wanted, self.unreadable = {}, {}
+        seen: set[str] = set()
+        waiting = [*self._disk.workflows, *self._buffers]
+        while waiting:
+            path = waiting.pop()
+            if path in seen:
+                continue
+            seen.add(path)
+            data = self._data(path)
+            if data is not None:
+                self.wanted[path] = data
+                waiting.extend(self._calls_of(path, data))
+            elif error := self._disk.file(path).error:
+                self.unreadable[path] = error
+        self._calls = {path: known for path, known in self._calls.items() if path in self.wanted}
+        self._disk.keep(seen)
+
+    def _calls_of(self, path: str, data: bytes) -> frozenset[str]:
+        before, known = self._calls.get(path, (None, NO_CALLS))
+        if before is not data:
+            found = callees(path, data)
+            known = found if found is not None else known if self._keeps_calls else NO_CALLS
+            self._calls[path] = data, known
+        return known

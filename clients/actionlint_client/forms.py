@@ -1,0 +1,147 @@
+"""The forms of a report that programs read line by line or as a list: lines of JSON, GitLab's Code Quality, GitHub's annotations."""
+from __future__ import annotations
+
+import hashlib
+from collections import Counter
+from dataclasses import dataclass, field
+from typing import BinaryIO
+
+from .characters import json_text
+from .problems import Problem
+
+
+@dataclass
+class Outcome:
+    """What a run came to: the status, what its programs wrote on standard error, how many faults and notes of shellcheck were told,
+    in which files, and how many were ignored."""
+
+    status: int = 0
+    errors: str = ""
+    faults: int = 0
+    notes: int = 0
+    ignored: int = 0
+    files: set[str] = field(default_factory=set)
+
+    def count(self, problem: Problem) -> None:
+        """Counts a problem that is told."""
+        self.files.add(problem.fault.path)
+        if problem.is_note():
+            self.notes += 1
+        else:
+            self.faults += 1
+
+    def say(self, line: str) -> None:
+        """Adds a line to what was written on standard error."""
+        self.errors += f"actionlint-report: {line}\n"
+
+    def count_line(self) -> str:
+        """The count, in words; of a run that could not go on nothing is known."""
+        if self.status not in (0, 1):
+            return "nothing is known of the faults: the linter could not go on"
+        found = [_counted(self.faults, "fault"), *([f"{_counted(self.notes, 'note')} of shellcheck (not proved)"] if self.notes else [])]
+        return (" and ".join(found) + (f" in {_counted(len(self.files), 'file')}" if self.files else "")
+                + (f", {self.ignored} ignored" if self.ignored else ""))
+
+
+class Form:
+    """Writes problems as they come. `docs` is the address of the pages of faults."""
+
+    # Whether the form itself tells what was on standard error, and the count.
+    tells_errors = False
+    tells_count = False
+
+    def __init__(self, out: BinaryIO, docs: str | None):
+        self._out = out
+        self.docs = docs
+        self.left_out = 0
+
+    def write(self, text: str) -> None:
+        self._out.write(text.encode("utf-8"))
+
+    def begin(self) -> None:
+        """What stands before the first problem."""
+
+    def add(self, problem: Problem) -> None:
+        raise NotImplementedError
+
+    def end(self, outcome: Outcome) -> None:
+        """What stands behind the last problem."""
+
+
+class JsonLines(Form):
+    """A line of JSON for each problem: lines and columns count from 1, columns characters; `end_column` is the column behind the last
+    one."""
+
+    def add(self, problem: Problem) -> None:
+        fault = problem.fault
+        self.write(json_text({
+            "path": fault.path, "line": fault.line, "column": fault.column,
+            "end_column": fault.column + fault.width if fault.width else None, "code": problem.code if problem.has_code() else None,
+            "kind": fault.kind, "message": fault.message, "link": problem.link_in(self.docs)}) + "\n")
+
+
+class CodeQuality(Form):
+    """GitLab's list of problems. A fingerprint stays the same while a fault's line moves, and no two are the same."""
+
+    SEVERITIES = {"error": "major", "warning": "minor", "note": "info"}
+
+    def __init__(self, out: BinaryIO, docs: str | None):
+        super().__init__(out, docs)
+        self._seen: Counter = Counter()
+
+    def begin(self) -> None:
+        self.write("[")
+
+    def add(self, problem: Problem) -> None:
+        fault = problem.fault
+        same = _digest(fault.path, problem.code, fault.message)
+        self._seen[same] += 1
+        self.write(("," if self._seen.total() > 1 else "") + "\n" + json_text({
+            "description": fault.message, "check_name": problem.code, "fingerprint": _digest(same, str(self._seen[same])),
+            "severity": self.SEVERITIES[problem.level], "location": {"path": fault.path, "lines": {"begin": fault.line}}}))
+
+    def end(self, outcome: Outcome) -> None:
+        self.write("\n]\n" if self._seen else "]\n")
+
+
+class Annotations(Form):
+    """Workflow commands of GitHub, each of which becomes an annotation. Whatever a file, a path or standard error holds stands in the text
+    of one, so that it gives no command itself."""
+
+    tells_errors = tells_count = True
+    COMMANDS = {"error": "error", "warning": "warning", "note": "notice"}
+
+    def add(self, problem: Problem) -> None:
+        fault = problem.fault
+        place = {"file": fault.path, "line": fault.line, "endLine": fault.line, "col": fault.column}
+        if fault.width:
+            place["endColumn"] = fault.column + fault.width
+        near = problem.near()
+        said = [f"{fault.message} [{fault.kind}]", *([f'did you mean "{near}"?'] if near else []), problem.advice()]
+        self._command(self.COMMANDS[problem.level], {**place, "title": problem.code}, "\n".join(filter(None, said)))
+
+    def end(self, outcome: Outcome) -> None:
+        for line in outcome.errors.splitlines():
+            self._command("error", {"title": "actionlint"}, line)
+        self.write(outcome.count_line() + "\n")
+
+    def _command(self, name: str, properties: dict[str, object], text: str) -> None:
+        listed = ",".join(f"{key}={_property(str(value))}" for key, value in properties.items())
+        self.write(f"::{name} {listed}::{_data(text)}\n")
+
+
+def _data(text: str) -> str:
+    """Text of a workflow command, escaped as GitHub's toolkit does it."""
+    return text.replace("%", "%25").replace("\r", "%0D").replace("\n", "%0A")
+
+
+def _property(text: str) -> str:
+    return _data(text).replace(":", "%3A").replace(",", "%2C")
+
+
+def _digest(*texts: str) -> str:
+    return hashlib.sha256("\0".join(texts).encode("utf-8", "surrogatepass")).hexdigest()
+
+
+def _counted(count: int, what: str) -> str:
+    return f"{count} {what}" + ("" if count == 1 else "s")

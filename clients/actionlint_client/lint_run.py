@@ -1,0 +1,99 @@
+"""A run of the linter over a folder, whose faults are read as they are printed."""
+from __future__ import annotations
+
+import subprocess
+import tempfile
+from dataclasses import dataclass
+from typing import Iterator
+
+from .program import cannot_start
+from .report import SHOWN_OF_A_LINE, SNIPPET_LINES, BadReport, Fault, marked_width, parse_fault
+
+MAX_REPORT_BYTES = 64 * 1_048_576
+CANNOT_GO_ON = 3
+
+
+class CannotStart(Exception):
+    """The linter can't be started."""
+
+
+class ReportTooLong(Exception):
+    """A report with the lines of files has more bytes than are read of one: a line is printed once for each fault on it."""
+
+
+@dataclass(frozen=True)
+class Reported:
+    """A fault and the three lines below it, which are the file's line between a bar and the marks; none where they weren't asked for."""
+
+    fault: Fault
+    snippet: tuple[bytes, ...]
+
+
+class LintRun:
+    """The faults of a folder, or of files below it; `status` and `errors` stand once all of them were read. With snippets the faults have
+    widths."""
+
+    def __init__(self, program: str, root: str | None, files: list[str], snippets: bool):
+        words = [program, *([] if snippets else ["--oneline"]), *([f"--root={root}"] if root is not None else []), "--", *files]
+        self.status = CANNOT_GO_ON
+        self.errors = ""
+        self._snippets = snippets
+        self._said = tempfile.TemporaryFile()
+        try:
+            self._child = subprocess.Popen(words, stdin=subprocess.DEVNULL, stdout=subprocess.PIPE, stderr=self._said)
+        except OSError as error:
+            self._said.close()
+            raise CannotStart(cannot_start(program, error)) from error
+
+    def __enter__(self) -> LintRun:
+        return self
+
+    def __exit__(self, *_: object) -> None:
+        """Ends the linter where it still runs."""
+        assert self._child.stdout
+        self._child.kill()
+        self._child.stdout.close()
+        self._child.wait()
+        self._said.close()
+
+    def __iter__(self) -> Iterator[Reported]:
+        cut = None
+        for lines in self._groups():
+            if len(lines) != self._group_length() or not lines[-1].endswith(b"\n"):
+                cut = lines[0]
+            else:
+                yield self._reported([line[:-1] for line in lines])
+        self._end()
+        if cut is not None and self.status != CANNOT_GO_ON:
+            raise BadReport(f"it reported {cut[:SHOWN_OF_A_LINE].decode('utf-8', 'replace')!r}")
+
+    def _group_length(self) -> int:
+        """How many lines a fault has."""
+        return 1 + SNIPPET_LINES if self._snippets else 1
+
+    def _groups(self) -> Iterator[list[bytes]]:
+        """The lines of each fault; the last one's may be cut."""
+        assert self._child.stdout
+        size, group = 0, []
+        for line in self._child.stdout:
+            size += len(line)
+            if self._snippets and size > MAX_REPORT_BYTES:
+                raise ReportTooLong(str(size))
+            group.append(line)
+            if len(group) == self._group_length():
+                yield group
+                group = []
+        if group:
+            yield group
+
+    def _reported(self, lines: list[bytes]) -> Reported:
+        width = marked_width(lines[-1]) if self._snippets else None
+        return Reported(parse_fault(lines[0], None, width), tuple(lines[1:]))
+
+    def _end(self) -> None:
+        status = self._child.wait()
+        self._said.seek(0)
+        self.errors = self._said.read().decode("utf-8", "replace")
+        if status < 0:
+            self.errors = self.errors or f"actionlint: ended by signal {-status}\n"
+        self.status = status if status >= 0 else CANNOT_GO_ON

@@ -1,0 +1,84 @@
+"""Definition, references, highlights and renaming for editors."""
+from __future__ import annotations
+
+from pylsp_jsonrpc.exceptions import JsonRpcException
+
+from .actions import workspace_edit
+from .asked import asked
+from .folder import Program
+from .references import all_of, occurrence_at, occurrences
+from .renaming import Refusal, renamable_at, rename
+from .tree import Point, Span
+from .workspace import Workspace
+
+START = Span(Point(0, 0), Point(0, 0))
+WRITE, READ = 3, 2
+
+
+class RenameRefused(JsonRpcException):
+    """The protocol's RequestFailed, with what is told to the person."""
+
+    CODE = -32803
+
+    def __init__(self, refusal: Refusal):
+        super().__init__(message=f"actionlint: {refusal}", code=self.CODE)
+
+
+class Navigation:
+    capabilities = {"definitionProvider": True, "referencesProvider": True, "documentHighlightProvider": True,
+                    "renameProvider": {"prepareProvider": True}}
+
+    def __init__(self, workspace: Workspace, program: Program):
+        self._workspace, self._program = workspace, program
+
+    def handlers(self) -> dict:
+        return {
+            "textDocument/definition": self.definition,
+            "textDocument/references": self.references,
+            "textDocument/documentHighlight": self.highlights,
+            "textDocument/prepareRename": self.prepare_rename,
+            "textDocument/rename": self.rename,
+        }
+
+    def definition(self, textDocument, position, **_) -> list[dict]:
+        place = asked(self._workspace, textDocument, position)
+        found = occurrence_at(place.project, place.file, place.point) if place else None
+        if place is None or found is None:
+            return []
+        if found.symbol.kind == "file":
+            return [place.location(START, found.symbol.file)]
+        return [place.location(one.span, one.file) for one in all_of(place.project, found.symbol) if one.is_definition]
+
+    def references(self, textDocument, position, context=None, **_) -> list[dict]:
+        place = asked(self._workspace, textDocument, position)
+        found = occurrence_at(place.project, place.file, place.point) if place else None
+        if place is None or found is None:
+            return []
+        with_definitions = (context or {}).get("includeDeclaration", True)
+        return [place.location(one.span, one.file) for one in all_of(place.project, found.symbol)
+                if with_definitions or not one.is_definition]
+
+    def highlights(self, textDocument, position, **_) -> list[dict]:
+        place = asked(self._workspace, textDocument, position)
+        found = occurrence_at(place.project, place.file, place.point) if place else None
+        if place is None or found is None:
+            return []
+        return [{"range": place.range(one.span), "kind": WRITE if one.is_definition else READ}
+                for one in occurrences(place.project, place.file) if one.symbol == found.symbol]
+
+    def prepare_rename(self, textDocument, position, **_) -> dict | None:
+        place = asked(self._workspace, textDocument, position)
+        found = renamable_at(place.project, place.file, place.point) if place else None
+        if place is None or found is None:
+            return None
+        line = place.project.lines(place.file)[found.span.start.line]
+        return {"range": place.range(found.span), "placeholder": line[found.span.start.column:found.span.end.column]}
+
+    def rename(self, textDocument, position, newName, **_) -> dict | None:
+        place = asked(self._workspace, textDocument, position)
+        if place is None:
+            return None
+        try:
+            return workspace_edit(place.repository, rename(self._program, place.project, place.file, place.point, newName))
+        except Refusal as refusal:
+            raise RenameRefused(refusal) from refusal

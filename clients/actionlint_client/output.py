@@ -1,0 +1,87 @@
+"""Where a report goes: to standard output, or to a file, whose new text takes the old one's place when all of it is written."""
+from __future__ import annotations
+
+import errno
+import os
+import secrets
+import select
+import shutil
+import stat
+import tempfile
+from contextlib import contextmanager
+from typing import BinaryIO, Iterator
+
+STANDARD_OUTPUT = 1
+FOLDER = os.O_RDONLY | os.O_DIRECTORY | os.O_CLOEXEC
+NEW_FILE = os.O_WRONLY | os.O_CREAT | os.O_EXCL | os.O_NOFOLLOW | os.O_CLOEXEC
+
+
+@contextmanager
+def report_output(file: str | None) -> Iterator[BinaryIO]:
+    """What is written goes to the file, or to standard output, when the block ends without an exception; else nothing is changed. OSError
+    where it can't: where something stands there that is no regular file itself (a link, a pipe, a device), or a link leads there from the
+    current folder on."""
+    if file is None:
+        with tempfile.TemporaryFile() as spool:
+            yield spool
+            spool.seek(0)
+            shutil.copyfileobj(spool, _StandardOutput())
+        return
+    folder, name = _open_folder(os.path.dirname(file)), os.path.basename(file)
+    try:
+        with _replaced(folder, name) as opened:
+            yield opened
+    finally:
+        os.close(folder)
+
+
+@contextmanager
+def _replaced(folder: int, name: str) -> Iterator[BinaryIO]:
+    """A new file in a folder that gets the name in the end."""
+    _refuse_odd(folder, name)
+    beside = f".actionlint-report.{secrets.token_hex(8)}"
+    handle = os.open(beside, NEW_FILE, 0o666, dir_fd=folder)
+    try:
+        with open(handle, "w+b") as opened:
+            yield opened
+        os.rename(beside, name, src_dir_fd=folder, dst_dir_fd=folder)
+    except BaseException:
+        os.unlink(beside, dir_fd=folder)
+        raise
+
+
+def _refuse_odd(folder: int, name: str) -> None:
+    try:
+        mode = os.stat(name, dir_fd=folder, follow_symlinks=False).st_mode
+    except FileNotFoundError:
+        return
+    if not stat.S_ISREG(mode):
+        raise OSError(errno.EINVAL, "it is no regular file")
+
+
+def _open_folder(path: str) -> int:
+    """A folder; below the current one no link is followed."""
+    if os.path.isabs(path):
+        return os.open(path, FOLDER)
+    folder = os.open(".", FOLDER)
+    for part in path.split("/"):
+        if part not in ("", "."):
+            above = folder
+            try:
+                folder = os.open(part, FOLDER | os.O_NOFOLLOW, dir_fd=above)
+            finally:
+                os.close(above)
+    return folder
+
+
+class _StandardOutput:
+    """Writes all bytes at once, also where the output is set not to block."""
+
+    @staticmethod
+    def write(data: bytes) -> None:
+        unwritten = memoryview(data)
+        while unwritten:
+            try:
+                unwritten = unwritten[os.write(STANDARD_OUTPUT, unwritten):]
+            except BlockingIOError:
+                select.select([], [STANDARD_OUTPUT], [])

@@ -1,0 +1,35 @@
+"""Which files are linted, by their paths below the repository's folder."""
+from __future__ import annotations
+
+import re
+
+WORKFLOWS = ".github/workflows"
+WORKFLOW_ENDINGS = (".yml", ".yaml")
+ACTION_NAMES = ("action.yml", "action.yaml")
+MAX_PATH_BYTES = 1_024
+# A control character, a backslash, or a part between slashes that is empty or dots.
+NO_PATH = re.compile(r"[\x00-\x1f\x7f\\]|(?:^|/)\.{0,2}(?:/|\Z)")
+
+
+def is_workflow(path: str) -> bool:
+    folder, _, name = path.rpartition("/")
+    return folder == WORKFLOWS and name.endswith(WORKFLOW_ENDINGS) and name not in WORKFLOW_ENDINGS
+
+
+def is_action(path: str) -> bool:
+    return path.rpartition("/")[2] in ACTION_NAMES
+
+
+def is_linted(path: str) -> bool:
+    """Whether a file is a workflow or an action. What else the linter asks of a path is told by its refusal."""
+    return is_workflow(path) or is_action(path)
+
+
+def is_path(path: str) -> bool:
+    """Whether a command of the session can name a file so."""
+    return NO_PATH.search(path) is None and len(path.encode("utf-8", "surrogatepass")) <= MAX_PATH_BYTES
+
+
+def is_below(path: bytes, folder: bytes) -> bool:
+    """Whether a whole path is that of a folder or of something in it."""
+    return path == folder or path.startswith(folder.rstrip(b"/") + b"/")

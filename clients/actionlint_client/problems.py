@@ -1,0 +1,106 @@
+"""What a report tells of a fault: its code, its entry, and what to write instead."""
+from __future__ import annotations
+
+from dataclasses import dataclass
+from typing import Callable, NamedTuple
+
+from .entries import Entry, entry_of, link_of, plain_text
+from .names import near_name
+from .report import Fault
+from .wanted import wanted_under
+
+ERROR = "error"
+
+
+@dataclass(frozen=True)
+class Problem:
+    """A fault of the linter, or a note of a program that it was handed on to, which has no entry and a `link` of its own. The snippet is
+    the file's line with the fault's characters marked below it, or nothing. The level is that of SARIF: error, warning or note."""
+
+    fault: Fault
+    code: str
+    entry: Entry | None
+    snippet: tuple[bytes, ...] = ()
+    level: str = ERROR
+    link: str | None = None
+
+    def is_note(self) -> bool:
+        """Whether another program than the linter says it."""
+        return self.link is not None
+
+    def has_code(self) -> bool:
+        """Whether the code is one, and not the kind in its place."""
+        return self.entry is not None or self.is_note()
+
+    def near(self) -> str | None:
+        """The known name that is most like the one in the message."""
+        return near_name(self.fault.message) if self.entry else None
+
+    def advice(self) -> str:
+        """What to write instead, in a sentence of the entry; empty where there is no entry."""
+        if self.entry is None:
+            return ""
+        arguments = self.entry.arguments(self.fault.message) or ()
+        return next((slip.sentence for slip in SLIPS if slip.code == self.code and slip.fits(self, *arguments)),
+                    first_sentence(plain_text(self.entry.repair)))
+
+    def link_in(self, docs: str | None) -> str | None:
+        """Where more is said of it; `docs` is the address of the pages."""
+        return link_of(self.entry, docs.rstrip("/")) if self.entry and docs else self.link
+
+    def line(self) -> str:
+        """The file's line, or nothing where it isn't known."""
+        return self.snippet[1].decode("utf-8", "replace").partition(" | ")[2] if self.snippet else ""
+
+
+class Slip(NamedTuple):
+    """A sentence of an entry's repair that fits some of its faults best."""
+
+    code: str
+    fits: Callable[..., bool]
+    sentence: str
+
+
+def problem_of(fault: Fault, snippet: tuple[bytes, ...] = ()) -> Problem:
+    """A fault of the linter with its entry; its kind stands for the code of a message that no page has."""
+    entry = entry_of(fault.message)
+    return Problem(fault, entry.code if entry else fault.kind, entry, snippet)
+
+
+def first_sentence(text: str) -> str:
+    """The first sentence of a text: up to a full stop before a blank or the end."""
+    end = text.find(". ")
+    return text if end < 0 else text[:end + 1]
+
+
+def _is_behind(problem: Problem, context: str) -> bool:
+    """Whether the fault stands behind a context's name and a dot or a bracket."""
+    before = problem.line()[:problem.fault.column - 1].rstrip(" '[.").rstrip()
+    return before.lower().endswith(context)
+
+
+def _lacks_ref(problem: Problem, uses: str) -> bool:
+    return "@" not in uses and "/" in uses and not uses.startswith((".", "/", "docker://")) and "${{" not in uses
+
+
+def _wants(wanted: str) -> Callable[..., bool]:
+    """Whether the key takes this alone, and what stands there isn't one, nor an entry of one."""
+    def fits(problem: Problem, key: str) -> bool:
+        start = problem.fault.column - 1
+        before, value = problem.line()[:start].rstrip(), problem.line()[start:]
+        return wanted_under(key) == wanted and before.endswith(":") and not value.startswith(("[", "{", "- "))
+    return fits
+
+
+SLIPS = (
+    Slip("K2", lambda problem, key: key in ("run", "uses"), "A step has `run` or `uses`."),
+    Slip("K4", _wants("list"), "A list is wanted, each entry in a line with a dash."),
+    Slip("K4", _wants("mapping"), "A mapping is wanted, in lines `KEY: VALUE`."),
+    Slip("K5", lambda problem, key: key == "on", "`on` needs an event."),
+    Slip("K5", _wants("number"), "A number is wanted, without quotes."),
+    Slip("K5", _wants("flag"), "`true` or `false` is wanted, without quotes."),
+    Slip("G3", lambda problem, pattern: pattern.removeprefix("!").startswith("./"),
+         "Paths begin at the repository's root, without `./` in front."),
+    Slip("X13", lambda problem, name: _is_behind(problem, "needs"), "A job names in its own `needs` each job whose results it reads."),
+    Slip("C7", _lacks_ref, "An action or a workflow of another repository has `@REF` behind it: a branch, a tag or a commit."),
+)

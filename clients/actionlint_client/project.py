@@ -1,0 +1,172 @@
+"""The files of a repository for those who look for names: their trees, what they declare, and which file a call leads to."""
+from __future__ import annotations
+
+import re
+from dataclasses import dataclass
+from typing import Callable, Iterable, NamedTuple
+
+from .paths import ACTION_NAMES, is_action, is_path, is_workflow
+from .tree import Node, read_tree
+
+LINE_BREAK = re.compile("\r\n|\n|\r")
+OUTPUT_NAME = re.compile(r"""(?:^|[\s"'{(;&|])([A-Za-z_][\w-]*)(?:=|<<)""")
+
+
+class Declaration(NamedTuple):
+    """An input, a secret or an output: its name as it is written, the node of that, and what stands below it."""
+
+    name: str
+    key: Node
+    value: Node
+
+    @property
+    def is_required(self) -> bool:
+        return (self.value.text("required") or "").lower() == "true" and self.value.get("default") is None
+
+
+@dataclass
+class _Known:
+    """A file's bytes with their text, its lines and its tree where these were asked for, and the last tree that it had."""
+
+    data: bytes
+    text: str
+    lines: list[str] | None = None
+    tree: Node | None = None
+    is_read: bool = False
+    good: Node | None = None
+
+
+class Project:
+    """`read` answers the bytes of a file as it is now, `paths` the workflows and the actions that are linted, and `actions` all actions."""
+
+    def __init__(self, read: Callable[[str], bytes | None], paths: Callable[[], Iterable[str]],
+                 actions: Callable[[], Iterable[str]] | None = None):
+        self.read, self.paths = read, paths
+        self.actions = actions or (lambda: (path for path in paths() if is_action(path)))
+        # What others keep of a file, by a name of their own.
+        self.memory: dict[tuple[str, str], object] = {}
+        self._known: dict[str, _Known] = {}
+
+    def text(self, file: str) -> str:
+        """The text with line feeds alone, and without a mark of byte order; empty where there is no such file."""
+        return self._look(file).text
+
+    def lines(self, file: str) -> list[str]:
+        known = self._look(file)
+        if known.lines is None:
+            known.lines = known.text.split("\n")
+        return known.lines
+
+    def tree(self, file: str) -> Node | None:
+        """The tree of a file, or None while it is no YAML."""
+        return self._read(file).tree
+
+    def good_tree(self, file: str) -> Node | None:
+        """The tree of a file, or the last one that it had."""
+        return self._read(file).good
+
+    def tree_around(self, file: str, line: int) -> Node | None:
+        """The tree of a file; while it is no YAML that of the file without a line, or else the last one that it had."""
+        known = self._read(file)
+        if known.tree:
+            return known.tree
+        lines = [*self.lines(file)]
+        if line < len(lines):
+            lines[line] = ""
+        known.good = read_tree("\n".join(lines)) or known.good
+        return known.good
+
+    def has(self, file: str) -> bool:
+        return self.read(file) is not None
+
+    def callee(self, uses: str | None, of_job: bool) -> str | None:
+        """The file of the folder that a call leads to."""
+        if not uses or not uses.startswith("./"):
+            return None
+        folder = uses[2:].removesuffix("/")
+        candidates = [uses[2:]] if of_job else [f"{folder}/{name}" if folder else name for name in ACTION_NAMES]
+        return next((file for file in candidates if is_path(file) and self.has(file)), None)
+
+    def _look(self, file: str) -> _Known:
+        data = self.read(file) or b""
+        known = self._known.get(file)
+        if known is None or known.data is not data and known.data != data:
+            text = LINE_BREAK.sub("\n", data.decode("utf-8", "replace").removeprefix("\ufeff"))
+            known = self._known[file] = _Known(data, text, good=known.good if known else None)
+        return known
+
+    def _read(self, file: str) -> _Known:
+        """The file with its tree."""
+        known = self._look(file)
+        if not known.is_read:
+            known.tree, known.is_read = read_tree(known.text), True
+            known.good = known.tree or known.good
+        return known
+
+
+def declarations(file: str, tree: Node | None, what: str, of_call: bool = False) -> list[Declaration]:
+    """The inputs, secrets or outputs that a file declares. Inputs are those of a call and of a start by hand, or of a call alone."""
+    if tree is None:
+        return []
+    ways = [("on", "workflow_call", what)] if is_workflow(file) else [(what,)]
+    if is_workflow(file) and what == "inputs" and not of_call:
+        ways.append(("on", "workflow_dispatch", what))
+    found: dict[str, Declaration] = {}
+    for way in ways:
+        node = tree.at(way)
+        for key, value in node.entries if node else ():
+            found.setdefault(key.value.lower(), Declaration(key.value, key, value))
+    return list(found.values())
+
+
+def is_callable(tree: Node | None) -> bool:
+    """Whether jobs can call this workflow."""
+    on = tree.get("on") if tree else None
+    return on is not None and ("workflow_call" in on.names() or "workflow_call" in on.texts())
+
+
+def steps_of(tree: Node | None, job: str | None) -> list[Node]:
+    """The steps of a job, or of a composite action."""
+    node = tree.at(("runs", "steps") if job is None else ("jobs", job, "steps")) if tree else None
+    return node.items if node else []
+
+
+def needed(tree: Node, job: str) -> list[str]:
+    """The jobs under a job's `needs`, in the spelling of their keys."""
+    by_lower_case = {name.lower(): name for name in tree.names("jobs")}
+    return [by_lower_case[name.lower()] for name in tree.texts("jobs", job, "needs") if name.lower() in by_lower_case]
+
+
+def dependents(tree: Node, job: str) -> set[str]:
+    """The jobs that need a job, perhaps over further jobs, and that one."""
+    jobs = tree.names("jobs")
+    needed_by: dict[str, list[str]] = {}
+    for name in jobs:
+        for need in tree.texts("jobs", name, "needs"):
+            needed_by.setdefault(need.lower(), []).append(name)
+    found, waiting = {job}, [job]
+    while waiting:
+        for name in needed_by.get(waiting.pop().lower(), ()):
+            if name not in found:
+                found.add(name)
+                waiting.append(name)
+    return found
+
+
+def matrix_rows(tree: Node | None, job: str) -> dict[str, Node]:
+    """The rows of a job's matrix and what its `include` adds, each with its first node."""
+    matrix = tree.at(("jobs", job, "strategy", "matrix")) if tree else None
+    found: dict[str, Node] = {}
+    for key, value in matrix.entries if matrix else ():
+        if key.value not in ("include", "exclude"):
+            found.setdefault(key.value, value)
+    for item in (matrix.get("include") or matrix).items if matrix else ():
+        for key, value in item.entries:
+            found.setdefault(key.value, value)
+    return found
+
+
+def written_outputs(step: Node) -> list[str]:
+    """The outputs that a script seems to write: the names before `=` on lines with GITHUB_OUTPUT."""
+    script = step.text("run") or ""
+    return [name for line in script.split("\n") if "GITHUB_OUTPUT" in line for name in OUTPUT_NAME.findall(line)]

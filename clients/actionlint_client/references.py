@@ -1,0 +1,246 @@
+"""Which names of a file stand for the same thing: jobs, steps, inputs, outputs, secrets, rows of a matrix, anchors, called files."""
+from __future__ import annotations
+
+import re
+from bisect import bisect_right
+from typing import Iterator, NamedTuple
+
+from . import project as files
+from .expressions import CHAIN, LINK, expressions_in
+from .paths import is_workflow
+from .project import Project
+from .syntax import CONDITIONS
+from .tree import Node, Path, Point, Span, walk
+
+# Texts of expressions; those in square brackets are names.
+TEXT = re.compile(r"(?<!\[)'(?:[^']|'')*'")
+ANCHOR = re.compile(r"[&*]([^\s,\[\]{}]+)")
+PROPERTY = re.compile(r"&\S+\s+|")
+CONDITION_KEYS = {key for keys in CONDITIONS.values() for key in keys}
+
+
+class Symbol(NamedTuple):
+    """What a name stands for: a kind, the file that declares it, the job or the step around it, and its name in small letters."""
+
+    kind: str
+    file: str
+    scope: str
+    name: str
+
+
+class Occurrence(NamedTuple):
+    """A place of a name, as it is written there."""
+
+    symbol: Symbol
+    file: str
+    span: Span
+    is_definition: bool
+
+
+class _Known(NamedTuple):
+    """The names of a tree, and the calls with the files that these led to."""
+
+    tree: Node
+    calls: dict[tuple[str | None, bool], str | None]
+    found: list[Occurrence]
+
+
+class _Text:
+    """A file's text by offsets."""
+
+    def __init__(self, lines: list[str]):
+        self.text = "\n".join(lines)
+        self._starts = [0]
+        for line in lines:
+            self._starts.append(self._starts[-1] + len(line) + 1)
+
+    def offset(self, point: Point) -> int:
+        return min(self._starts[min(point.line, len(self._starts) - 1)] + point.column, len(self.text))
+
+    def point(self, offset: int) -> Point:
+        line = bisect_right(self._starts, offset) - 1
+        return Point(line, offset - self._starts[line])
+
+    def span(self, start: int, end: int) -> Span:
+        return Span(self.point(start), self.point(end))
+
+
+def occurrences(project: Project, file: str) -> list[Occurrence]:
+    """All places of names in a file; none while it is no YAML."""
+    tree = project.tree(file)
+    if tree is None:
+        return []
+    known = project.memory.get(("names", file))
+    if not isinstance(known, _Known) or known.tree is not tree or any(project.callee(*call) != callee for call,
+                                                                      callee in known.calls.items()):
+        finder = _Finder(project, file, tree)
+        known = project.memory["names", file] = _Known(tree, finder.calls, list(finder.find()))
+    return known.found
+
+
+def occurrence_at(project: Project, file: str, point: Point) -> Occurrence | None:
+    return next((one for one in occurrences(project, file) if one.span.holds(point)), None)
+
+
+def all_of(project: Project, symbol: Symbol) -> list[Occurrence]:
+    """The places of a symbol in the file that declares it, and in those that call that file, the definitions first."""
+    names = [symbol.file, *(callers(project, symbol.file) if not symbol.scope else [])]
+    found = [one for file in dict.fromkeys(names) for one in occurrences(project, file) if one.symbol == symbol]
+    return sorted(found, key=lambda one: not one.is_definition)
+
+
+def callers(project: Project, file: str) -> list[str]:
+    """The files that call a file."""
+    name = "./" + (file if is_workflow(file) else file.rpartition("/")[0])
+    return [path for path in project.paths() if path != file and name in project.text(path)
+            and any(one.symbol == Symbol("file", file, "", "") for one in occurrences(project, path))]
+
+
+class _Finder:
+    def __init__(self, project: Project, file: str, tree: Node):
+        self.project, self.file, self.tree = project, file, tree
+        self.text = _Text(project.lines(file))
+        self.calls: dict[tuple[str | None, bool], str | None] = {}
+        self._anchors: dict[str, int] = {}
+        self._jobs = {name.lower(): name for name in tree.names("jobs")}
+        self._steps: dict[str | None, dict[str, Node]] = {}
+        self._secrets = {one.name.lower() for one in files.declarations(file, tree, "secrets")}
+
+    def _callee(self, uses: str | None, of_job: bool) -> str | None:
+        if (uses, of_job) not in self.calls:
+            self.calls[uses, of_job] = self.project.callee(uses, of_job)
+        return self.calls[uses, of_job]
+
+    def find(self) -> Iterator[Occurrence]:
+        for path, key, value in walk(self.tree):
+            if key is not None:
+                yield from self._of_key(path, key)
+            if value.anchor or value.alias:
+                yield from self._of_anchor(value)
+            if value.kind == "scalar" and value.alias is None:
+                yield from self._of_scalar(path, value)
+
+    def _of_key(self, path: Path, key: Node) -> Iterator[Occurrence]:
+        declared = self._declared_by_key(path)
+        if declared:
+            yield Occurrence(declared, self.file, self._inner(key), "exclude" not in path)
+        given = self._given_by_key(path)
+        if given:
+            yield Occurrence(given, self.file, self._inner(key), False)
+
+    def _declared_by_key(self, path: Path) -> Symbol | None:
+        """What a key declares: a job, an input, an output, a secret, a row."""
+        name = str(path[-1]).lower()
+        if is_workflow(self.file):
+            if len(path) == 2 and path[0] == "jobs":
+                return Symbol("job", self.file, "", name)
+            if len(path) == 4 and path[0] == "on" and path[2] in ("inputs", "outputs", "secrets"):
+                return Symbol(path[2].removesuffix("s"), self.file, "", name)
+            if len(path) == 4 and path[0] == "jobs" and path[2] == "outputs":
+                return Symbol("output", self.file, str(path[1]).lower(), name)
+            if path[:1] == ("jobs",) and path[2:4] == ("strategy", "matrix") and self._is_row(path[4:]):
+                return Symbol("row", self.file, str(path[1]).lower(), name)
+        elif len(path) == 2 and path[0] in ("inputs", "outputs"):
+            return Symbol(path[0].removesuffix("s"), self.file, "", name)
+        return None
+
+    @staticmethod
+    def _is_row(path: Path) -> bool:
+        """Whether the way from a matrix leads to a row, or to one in an entry of `include` or `exclude`."""
+        return len(path) == 1 and path[0] not in ("include", "exclude") or len(path) == 3 and path[0] in ("include", "exclude")
+
+    def _given_by_key(self, path: Path) -> Symbol | None:
+        """The input or the secret of what is called that a key gives."""
+        if len(path) < 3 or path[-2] not in ("with", "secrets"):
+            return None
+        node = self.tree.at(path[:-2])
+        of_job = is_workflow(self.file) and len(path) == 4
+        callee = self._callee(node.text("uses"), of_job) if node else None
+        kind = "input" if path[-2] == "with" else "secret"
+        return Symbol(kind, callee, "", str(path[-1]).lower()) if callee else None
+
+    def _of_anchor(self, node: Node) -> Iterator[Occurrence]:
+        """An anchor, or an alias of the last anchor of its name."""
+        start = self.text.offset(node.span.start)
+        match = ANCHOR.match(self.text.text, start)
+        if match is None:
+            return
+        if node.anchor:
+            self._anchors[node.anchor] = self._anchors.get(node.anchor, 0) + 1
+        name = node.anchor or node.alias or ""
+        symbol = Symbol("anchor", self.file, str(self._anchors.get(name, 0)), name)
+        yield Occurrence(symbol, self.file, self.text.span(*match.span(1)), node.anchor is not None)
+
+    def _of_scalar(self, path: Path, value: Node) -> Iterator[Occurrence]:
+        key = next((step for step in reversed(path) if isinstance(step, str)), "")
+        job = str(path[1]) if is_workflow(self.file) and path[:1] == ("jobs",) and len(path) > 1 else None
+        is_of_step = len(path) > 2 and isinstance(path[-2], int) and path[-3] == "steps"
+        if key == "id" and is_of_step:
+            yield Occurrence(Symbol("step", self.file, (job or "").lower(), value.value.lower()), self.file, self._inner(value), True)
+        elif key == "uses":
+            callee = self._callee(value.value, job is not None and not is_of_step)
+            if callee:
+                yield Occurrence(Symbol("file", callee, "", ""), self.file, self._inner(value), False)
+        elif key == "needs" and job is not None and path[2:3] == ("needs",):
+            yield Occurrence(Symbol("job", self.file, "", value.value.lower()), self.file, self._inner(value), False)
+        else:
+            yield from self._of_expressions(value, job, key in CONDITION_KEYS)
+
+    def _of_expressions(self, value: Node, job: str | None, is_condition: bool) -> Iterator[Occurrence]:
+        start, end = self.text.offset(value.span.start), self.text.offset(value.span.end)
+        written = self.text.text[start:end]
+        parts = list(expressions_in(written))
+        if not parts and is_condition and "${{" not in written:
+            parts = [(0, written)]
+        for at, text in parts:
+            masked = TEXT.sub(lambda match: " " * len(match[0]), text)
+            for chain in CHAIN.finditer(masked):
+                yield from self._of_chain(chain[0], start + at + chain.start(), job)
+
+    def _of_chain(self, chain: str, start: int, job: str | None) -> Iterator[Occurrence]:
+        links = [(link[1] or link[2] or "*", link.start(1) if link[1] else link.start(2)) for link in LINK.finditer(chain)]
+        names = [name.lower() for name, _ in links]
+        for number, symbol in self._symbols_of(names, job):
+            if number < len(links):
+                begin = start + links[number][1]
+                yield Occurrence(symbol, self.file, self.text.span(begin, begin + len(links[number][0])), False)
+
+    def _symbols_of(self, names: list[str], job: str | None) -> Iterator[tuple[int, Symbol]]:
+        """Of a chain's names the numbers of those that stand for something, and for what."""
+        context = names[0]
+        scope = (job or "").lower()
+        if len(names) < 2:
+            return
+        if context in ("needs", "jobs"):
+            yield 1, Symbol("job", self.file, "", names[1])
+            if names[2:3] == ["outputs"] and len(names) > 3:
+                yield 3, self._output_of_job(names[1], names[3])
+        elif context == "steps":
+            yield 1, Symbol("step", self.file, scope, names[1])
+            callee = self._callee_of_step(names[1], job)
+            if callee and names[2:3] == ["outputs"] and len(names) > 3:
+                yield 3, Symbol("output", callee, "", names[3])
+        elif context == "inputs":
+            yield 1, Symbol("input", self.file, "", names[1])
+        elif names[:3] == ["github", "event", "inputs"] and len(names) > 3 and is_workflow(self.file):
+            yield 3, Symbol("input", self.file, "", names[3])
+        elif context == "secrets" and names[1] in self._secrets:
+            yield 1, Symbol("secret", self.file, "", names[1])
+        elif context == "matrix" and job is not None:
+            yield 1, Symbol("row", self.file, scope, names[1])
+
+    def _output_of_job(self, job: str, name: str) -> Symbol:
+        callee = self._callee(self.tree.text("jobs", self._jobs.get(job, job), "uses"), True)
+        return Symbol("output", callee, "", name) if callee else Symbol("output", self.file, job, name)
+
+    def _callee_of_step(self, name: str, job: str | None) -> str | None:
+        if job not in self._steps:
+            self._steps[job] = {(step.text("id") or "").lower(): step for step in reversed(files.steps_of(self.tree, job))}
+        step = self._steps[job].get(name)
+        return self._callee(step.text("uses"), False) if step else None
+
+    def _inner(self, node: Node) -> Span:
+        """The place of a scalar without its anchor and its quotes."""
+        start, end = self.text.offset(node.span.start), self.text.offset(node.span.end)
+        start = PROPERTY.match(self.text.text, start, end).end() if node.anchor else start
+        return self.text.span(start + 1, end - 1) if node.style in ("'", '"') else self.text.span(start, end)

@@ -1,0 +1,65 @@
+"""Renaming what a name stands for, in all files that have it; a new name after which the linter finds a fault more is refused."""
+from __future__ import annotations
+
+import re
+from collections import Counter
+
+from .fixes import Trial
+from .folder import Program
+from .project import Project
+from .references import Occurrence, Symbol, all_of, occurrence_at
+from .repair import Edit, replaced
+from .session import LinterEnded, ReportTooLong
+from .tree import Point
+
+IDENTIFIER = re.compile(r"[A-Za-z_][\w-]*", re.A)
+MAX_OTHER_FILES = 256
+ANCHOR_NAME = re.compile(r"[\w-]+", re.A)
+
+
+class Refusal(Exception):
+    """Why a name can't be changed so."""
+
+
+def renamable_at(project: Project, file: str, point: Point) -> Occurrence | None:
+    """The name at a point, where it is declared in a file of the folder."""
+    found = occurrence_at(project, file, point)
+    if found is None or found.symbol.kind == "file":
+        return None
+    return found if any(one.is_definition for one in all_of(project, found.symbol)) else None
+
+
+def rename(program: Program, project: Project, file: str, point: Point, name: str) -> dict[str, tuple[Edit, ...]]:
+    """The edits by file. `Refusal` where there is no name, the new one isn't a name, or it makes a fault."""
+    found = renamable_at(project, file, point)
+    if found is None:
+        raise Refusal("there is no name here that can be changed")
+    if not (ANCHOR_NAME if found.symbol.kind == "anchor" else IDENTIFIER).fullmatch(name):
+        raise Refusal(f'"{name}" is not a name: letters, digits, "_" and "-", the first no digit and no "-"')
+    edits: dict[str, list[Edit]] = {}
+    for one in all_of(project, found.symbol):
+        edits.setdefault(one.file, []).append(Edit(one.span, name))
+    changed = {path: tuple(some) for path, some in edits.items()}
+    _refuse_faults(program, project, found.symbol, changed, name)
+    return changed
+
+
+def _refuse_faults(program: Program, project: Project, symbol: Symbol, edits: dict[str, tuple[Edit, ...]], name: str) -> None:
+    """`Refusal` where the report has a fault more after the edits. Messages that only have the new name in place of the old one are the
+    same."""
+    texts = {path: replaced(project.text(path), some) for path, some in edits.items()}
+    try:
+        trial = Trial(program.words, program.timeout, project, symbol.file, len(texts) + MAX_OTHER_FILES)
+        try:
+            after = trial.faults_after(texts)
+            before = trial.before
+        finally:
+            trial.session.stop()
+    except (LinterEnded, ReportTooLong) as error:
+        raise Refusal("the linter can't be asked whether the name makes a fault") from error
+    named = re.compile(rf"(?<=[\"./]){re.escape(symbol.name)}(?=[\"./])", re.I)
+    renamed = before | Counter({(path, named.sub(lambda _: name, message)): count for (path, message), count in before.items()})
+    gained = sorted(after - renamed)
+    if gained:
+        path, message = gained[0]
+        raise Refusal(f"{path} would have a fault: {message}")

@@ -1,0 +1,248 @@
+"""A fault to be repaired: where it stands in the text and the tree, and the edits of which repairs are made."""
+from __future__ import annotations
+
+import re
+from bisect import bisect_right
+from dataclasses import dataclass, field
+from functools import cached_property
+from typing import Iterable, NamedTuple
+
+from .entries import Entry
+from .paths import is_workflow
+from .place import Outline
+from .positions import BYTE_ORDER_MARK, WORD
+from .project import Project
+from .report import Fault
+from .tree import Node, Path, Point, Span, last_line, walk
+
+NEEDS_QUOTES = re.compile(r"^[!&*\[\]{}|>@`%'\"#,?-]|: | #|:$")
+FLOW_SIGNS = re.compile(r"[\[\]{},]")
+COMMENT = re.compile(r"\s+#.*$|\s+$")
+
+
+class Edit(NamedTuple):
+    """New text in place of a span, which may be empty."""
+
+    span: Span
+    text: str
+
+
+@dataclass(frozen=True)
+class Repair:
+    """What can be done about a fault: edits by file, and new files. A last resort is offered only where nothing else mends the fault."""
+
+    title: str
+    edits: dict[str, tuple[Edit, ...]]
+    new_files: dict[str, str] = field(default_factory=dict)
+    is_last_resort: bool = False
+
+
+class Found(NamedTuple):
+    """A node of the tree with its path, and the node of its key and the mapping or list around it."""
+
+    path: Path
+    key: Node | None
+    value: Node
+    parent: Node
+
+
+class Nodes:
+    """The nodes of a tree by their places."""
+
+    def __init__(self, tree: Node | None):
+        self.tree = tree
+        self.keys: dict[Point, Found] = {}
+        self.values: dict[Point, Found] = {}
+        self._scalars: list[Found] = []
+        if tree is None:
+            return
+        self.values[tree.span.start] = Found((), None, tree, tree)
+        parents = {(): tree}
+        for path, key, value in walk(tree):
+            parents[path] = value
+            found = Found(path, key, value, parents[path[:-1]])
+            if key is not None:
+                self.keys.setdefault(key.span.start, found)
+            self.values.setdefault(value.span.start, found)
+            if value.kind == "scalar" and value.span.start < value.span.end:
+                self._scalars.append(found)
+        self._starts = [found.value.span.start for found in self._scalars]
+
+    def scalar_at(self, point: Point) -> Found | None:
+        """The first scalar that holds a point, its end too."""
+        number = bisect_right(self._starts, point) - 1 if self._scalars else -1
+        found = [self._scalars[one] for one in (number - 1, number) if one >= 0]
+        return next((one for one in found if one.value.span.holds(point)), None)
+
+
+class Case:
+    """A fault of a file, with its arguments and its span, and the text and the tree of the file."""
+
+    def __init__(self, project: Project, fault: Fault, entry: Entry):
+        self.project, self.file, self.code, self.entry = project, fault.path, entry.code, entry
+        self.arguments = entry.arguments(fault.message) or ()
+        self.text = project.text(fault.path)
+        self.lines = project.lines(fault.path)
+        # The linter counts a mark of byte order as a character of the first line.
+        mark = fault.line == 1 and (project.read(fault.path) or b"").startswith(BYTE_ORDER_MARK)
+        start = Point(fault.line - 1, max(fault.column - 1 - mark, 0))
+        word = WORD.match(self.line_at(start.line), start.column)
+        width = fault.width if fault.width is not None else len(word[0]) if word else 0
+        self.span = Span(start, Point(start.line, start.column + width))
+
+    @property
+    def written(self) -> str:
+        """What stands at the fault's place."""
+        return self.slice(self.span)
+
+    @cached_property
+    def tree(self) -> Node | None:
+        return self.project.tree(self.file)
+
+    @cached_property
+    def outline(self) -> Outline:
+        return Outline(self.lines)
+
+    @property
+    def line(self) -> str:
+        return self.line_at(self.span.start.line)
+
+    def line_at(self, number: int) -> str:
+        """A line of the text; an empty one behind its end."""
+        return self.lines[number] if number < len(self.lines) else ""
+
+    @property
+    def key(self) -> Found | None:
+        """The entry whose key begins at the fault."""
+        return self._nodes.keys.get(self.span.start)
+
+    @property
+    def value(self) -> Found | None:
+        """The outermost node that begins at the fault."""
+        return self._nodes.values.get(self.span.start)
+
+    @property
+    def scalar(self) -> Found | None:
+        """The value that is a scalar and holds the fault."""
+        return self._nodes.scalar_at(self.span.start)
+
+    @cached_property
+    def _nodes(self) -> Nodes:
+        known = self.project.memory.get(("nodes", self.file))
+        if not isinstance(known, Nodes) or known.tree is not self.tree:
+            known = self.project.memory["nodes", self.file] = Nodes(self.tree)
+        return known
+
+    def at(self, *path: str | int) -> Node | None:
+        return self.tree.at(path) if self.tree else None
+
+    @property
+    def job(self) -> str | None:
+        here = self.key or self.scalar or self.value
+        path = here.path if here else ()
+        return str(path[1]) if is_workflow(self.file) and path[:1] == ("jobs",) and len(path) > 1 else None
+
+    def shell_of(self, script: Found) -> str:
+        """The shell of a step's script: its own, the one by default, or that of the runner."""
+        own = script.parent.text("shell")
+        job = self.at("jobs", self.job) if self.job else None
+        defaults = [node.text("defaults", "run", "shell") for node in (job, self.tree) if node]
+        runner = "pwsh" if job and any("windows" in label for label in job.texts("runs-on")) else "bash"
+        return next((shell for shell in (own, *defaults) if shell), runner)
+
+    def slice(self, span: Span) -> str:
+        """The text of a span."""
+        lines = self.lines[span.start.line:span.end.line + 1]
+        if not lines:
+            return ""
+        lines[-1] = lines[-1][:span.end.column]
+        lines[0] = lines[0][span.start.column:]
+        return "\n".join(lines)
+
+    def of(self, title: str, *edits: Edit) -> Repair:
+        """A repair of this file alone."""
+        return Repair(title, {self.file: edits})
+
+    def replace(self, title: str, text: str, span: Span | None = None) -> Repair:
+        """Other text at the fault's place, or at another one."""
+        return self.of(title, Edit(span or self.span, text))
+
+    def rest_span(self, line: int) -> Span | None:
+        """What stands behind the dashes and the key of a line, without a comment."""
+        found = self.outline.lines[line] if line < len(self.outline.lines) else None
+        if found is None or found.owner is not None:
+            return None
+        text = self.lines[line]
+        start = found.elements[-1].end if found.elements else found.indent
+        start += len(text[start:]) - len(text[start:].lstrip())
+        end = start + len(COMMENT.sub("", text[start:]))
+        return Span(Point(line, start), Point(line, end)) if end > start else None
+
+
+def quoted(text: str) -> str:
+    """A text in single quotes."""
+    return "'" + text.replace("'", "''") + "'"
+
+
+def as_scalar(text: str, style: str, in_flow: bool) -> str:
+    """A text as a value: in quotes where it had some, or where it has signs that YAML reads otherwise."""
+    needs_quotes = style in ("'", '"') or NEEDS_QUOTES.search(text) or in_flow and FLOW_SIGNS.search(text)
+    return quoted(text) if needs_quotes else text
+
+
+def is_within_flow(case: Case, path: Path) -> bool:
+    """Whether the node at a path stands in brackets."""
+    nodes = (case.at(*path[:depth]) for depth in range(len(path)))
+    return any(node is not None and node.is_flow for node in nodes)
+
+
+def first_entry(case: Case, mapping: Node, entry: str) -> Edit:
+    """An entry at the start of a mapping; its further lines are indented with it."""
+    start = mapping.span.start
+    if mapping.is_flow:
+        start = Point(start.line, start.column + 1)
+        return Edit(Span(start, start), entry + (", " if mapping.entries else ""))
+    start = mapping.entries[0][0].span.start if mapping.entries else start
+    indent = "\n" + " " * start.column
+    return Edit(Span(start, start), entry.replace("\n", indent) + indent)
+
+
+def next_entry(case: Case, mapping: Node, key: str, entry: str) -> Edit:
+    """An entry behind another one of a mapping."""
+    name, value = next((name, value) for name, value in mapping.entries if name.value == key)
+    if mapping.is_flow:
+        return Edit(Span(value.span.end, value.span.end), ", " + entry)
+    line = last_line(value, case.lines)
+    end = Point(line, len(case.lines[line]))
+    return Edit(Span(end, end), ("\n" + entry).replace("\n", "\n" + " " * name.span.start.column))
+
+
+def without_entry(case: Case, mapping: Node, key: Node) -> Edit:
+    """A mapping without one of its entries, which is not the only one."""
+    number = next(number for number, (name, _) in enumerate(mapping.entries) if name is key)
+    value = mapping.entries[number][1]
+    has_next = number + 1 < len(mapping.entries)
+    if mapping.is_flow:
+        if has_next:
+            return Edit(Span(key.span.start, mapping.entries[number + 1][0].span.start), "")
+        start = mapping.entries[number - 1][1].span.end if number else key.span.start
+        return Edit(Span(start, value.span.end), "")
+    line = last_line(value, case.lines)
+    if case.lines[key.span.start.line][:key.span.start.column].strip() and has_next:
+        return Edit(Span(key.span.start, mapping.entries[number + 1][0].span.start), "")
+    if line + 1 < len(case.lines):
+        return Edit(Span(Point(key.span.start.line, 0), Point(line + 1, 0)), "")
+    above = max(key.span.start.line - 1, 0)
+    return Edit(Span(Point(above, len(case.lines[above])), Point(line, len(case.lines[line]))), "")
+
+
+def replaced(text: str, edits: Iterable[Edit]) -> str:
+    """A text after edits whose spans don't overlap."""
+    lines = text.split("\n")
+    starts = [0]
+    for line in lines:
+        starts.append(starts[-1] + len(line) + 1)
+    at = lambda point: min(starts[min(point.line, len(lines))] + point.column, len(text))
+    for edit in sorted(edits, key=lambda edit: edit.span.start, reverse=True):
+        text = text[:at(edit.span.start)] + edit.text + text[at(edit.span.end):]
+    return text

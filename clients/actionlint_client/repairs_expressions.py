@@ -1,0 +1,339 @@
+"""Repairs of expressions."""
+from __future__ import annotations
+
+import itertools
+import re
+from typing import Callable, Iterable, NamedTuple
+
+from .expressions import CHAIN, NAME, STRING, links
+from .repair import NEEDS_QUOTES, Case, Repair, as_scalar, is_within_flow
+from .tree import Point, Span
+
+BRACES = re.compile(r"\$\{\{(.*?)\}\}", re.S)
+DOUBLE_QUOTED = re.compile(r'\\?"([^"\\]*)\\?"')
+SINGLE_EQUALS = re.compile(r"(?<![=!<>])=(?!=)")
+WORD_OPERATORS = {"and": "&&", "or": "||", "not": "!", "eq": "==", "ne": "!="}
+WORDS = re.compile(r"\b(" + "|".join(WORD_OPERATORS) + r")\b", re.I)
+VARIABLE = re.compile(r"\$\{?(GITHUB_)?([A-Z_][A-Z0-9_]*)\}?")
+METHOD = re.compile(rf"({NAME}(?:\.{NAME})*?)\.(contains|startsWith|endsWith)\(")
+AMONG = re.compile(rf"({NAME}(?:\.{NAME})*)\s+in\s+[\[(]([^\])]*)[\])]")
+LIST_ARGUMENT = re.compile(r"\(\s*\[([^\]]*)\]\s*,")
+CONDITIONAL = re.compile(r"^(.*?)\?(.*?):(.*)$", re.S)
+CALL_OF_THREE = re.compile(r"\w+\(([^()]*(?:\([^()]*\))?[^(),]*),([^()]*(?:\([^()]*\))?[^(),]*),([^()]*(?:\([^()]*\))?[^(),]*)\)")
+ARGUMENTS = re.compile(r"(?:'(?:[^']|'')*'|[^()']|\((?:[^()']|'[^']*')*\))*")
+ARGUMENT = re.compile(r"(?:'(?:[^']|'')*'|\((?:[^()']|'[^']*')*\)|[^,()'])+")
+MAX_CONDITION_CHARACTERS = 5_000
+TWO_QUOTES = "''"
+SUM = re.compile(rf"({CHAIN.pattern}|'[^']*')((?:\s*\+\s*(?:{CHAIN.pattern}|'[^']*'))+)")
+
+
+class Expression(NamedTuple):
+    """An expression without its braces, where it stands, and how its value is quoted as YAML."""
+
+    text: str
+    span: Span
+    style: str
+
+
+def expression_of(case: Case) -> Expression | None:
+    """The expression that has the fault: between the braces around it, or the whole text of a condition."""
+    here = case.scalar
+    if here is None:
+        return None
+    style, span = here.value.style, here.value.span
+    start = case.line.rfind("${{", 0, case.span.start.column + 3)
+    line = case.span.start.line
+    if start >= 0 and (start >= span.start.column or line > span.start.line):
+        end = case.line.find("}}", case.span.start.column)
+        last = end if end >= 0 else len(case.line.rstrip()) - (1 if style in ("'", '"') else 0)
+        inner = Span(Point(line, start + 3), Point(line, max(last, start + 3)))
+        return Expression(case.slice(inner), inner, style)
+    if "${{" in case.slice(span):
+        return None
+    if style in ("|", ">"):
+        inner = Span(Point(line, len(case.line) - len(case.line.lstrip())), Point(line, len(case.line.rstrip())))
+    elif style:
+        inner = Span(Point(span.start.line, span.start.column + 1), Point(span.end.line, span.end.column - 1))
+    else:
+        inner = span
+    return Expression(case.slice(inner), inner, style)
+
+
+def rewritten(title: str, change: Callable[[str], str | None]) -> Callable[[Case], Iterable[Repair]]:
+    """A repair that makes another expression of the whole one."""
+    def repairs(case: Case) -> Iterable[Repair]:
+        expression = expression_of(case)
+        text = change(expression.text) if expression else None
+        if expression and text is not None and text != expression.text:
+            is_whole = case.scalar is not None and expression.span == case.scalar.value.span
+            wrapped = "${{ " + text + " }}" if is_whole and NEEDS_QUOTES.search(text) else text
+            yield case.replace(title, in_yaml(wrapped, expression), expression.span)
+    return repairs
+
+
+def in_yaml(text: str, expression: Expression) -> str:
+    """A new text of an expression: in single quotes of YAML a quote stands twice."""
+    if expression.style != "'":
+        return text
+    return re.sub(r"'+", lambda match: match[0] if len(match[0]) % 2 == 0 else match[0] * 2, text)
+
+
+def _outside_texts(text: str, change: Callable[[str], str]) -> str:
+    """A text in which what isn't in quotes is changed."""
+    parts, at = [], 0
+    for match in STRING.finditer(text):
+        parts += [change(text[at:match.start()]), match[0]]
+        at = match.end()
+    return "".join([*parts, change(text[at:])])
+
+
+def _single_quotes(text: str) -> str:
+    return DOUBLE_QUOTED.sub(lambda match: "'" + match[1].replace("'", "''") + "'", text)
+
+
+def _operators(text: str) -> str:
+    changed = _outside_texts(text, lambda part: WORDS.sub(lambda match: WORD_OPERATORS[match[1].lower()], part))
+    changed = _outside_texts(changed, lambda part: re.sub(r"===+", "==", part).replace("!==", "!=").replace("<>", "!="))
+    return _outside_texts(changed, lambda part: re.sub(r"! (?=\S)", "!", part))
+
+
+def _doubled(text: str) -> str:
+    changed = _outside_texts(text, lambda part: SINGLE_EQUALS.sub("==", part))
+    return _outside_texts(changed, lambda part: re.sub(r"(?<!&)&(?!&)", "&&", re.sub(r"(?<!\|)\|(?!\|)", "||", part)))
+
+
+def _all_operators(text: str) -> str:
+    return _operators(_doubled(_single_quotes(text)))
+
+
+def _double_braces(text: str) -> str | None:
+    match = re.fullmatch(r"\$?\{+(.*?)\}+", text.strip(), re.S)
+    return "${{ " + match[1].strip() + " }}" if match else None
+
+
+def _github_variables(text: str) -> str:
+    """`$GITHUB_REF` as `github.ref`, another variable as one of `env`."""
+    return _outside_texts(text, lambda part: VARIABLE.sub(
+        lambda match: "github." + match[2].lower() if match[1] else "env." + match[2], part))
+
+
+def _called(text: str) -> str:
+    """`a.contains(b)` as `contains(a, b)`, `a in [b]` and `[b]` as a list from JSON."""
+    changed = METHOD.sub(lambda match: f"{match[2]}({match[1]}, ", text)
+    changed = AMONG.sub(lambda match: f"contains({_json_list(match[2])}, {match[1]})", changed)
+    return LIST_ARGUMENT.sub(lambda match: f"({_json_list(match[1])},", changed)
+
+
+def _json_list(entries: str) -> str:
+    texts = ", ".join('"' + text.strip().strip("'\"") + '"' for text in entries.split(","))
+    return f"fromJSON('[{texts}]')"
+
+
+def _chosen(text: str) -> str | None:
+    match = CONDITIONAL.match(text)
+    return f"{match[1].rstrip()} && {match[2].strip()} || {match[3].strip()} " if match else None
+
+
+def _chosen_by_call(text: str) -> str | None:
+    changed = CALL_OF_THREE.sub(lambda match: "(" + match[1].strip() + " && " + match[2].strip() + " || " + match[3].strip() + ")", text, 1)
+    return changed if re.search(r"\b(case|iif|if|ternary|choose)\s*\(", text) else None
+
+
+chosen_by_call = rewritten('write "&&" and "||"', _chosen_by_call)
+
+
+def _formatted(text: str) -> str | None:
+    """`a + 'b'` as a call of format; where no text is added, it may be a sum, which expressions don't have."""
+    def call(match: re.Match) -> str:
+        parts = [part.strip() for part in re.split(r"\s*\+\s*", match[0])]
+        if not any(part.startswith("'") for part in parts):
+            return match[0]
+        return f"format('{''.join('{%d}' % number for number in range(len(parts)))}', {', '.join(parts)})"
+    return SUM.sub(call, text)
+
+
+def _balanced(text: str) -> str:
+    bare = STRING.sub("", text)
+    closers = "".join({"(": ")", "[": "]"}[sign] for sign in reversed(_open_brackets(bare)))
+    return text.rstrip() + closers + text[len(text.rstrip()):]
+
+
+def _open_brackets(text: str) -> list[str]:
+    found: list[str] = []
+    for sign in text:
+        if sign in "([":
+            found.append(sign)
+        elif sign in ")]" and found:
+            found.pop()
+    return found
+
+
+def _without_rest(text: str) -> str | None:
+    """An expression without an operator at its end, or a bracket too many."""
+    stripped = text.rstrip()
+    changed = re.sub(r"\s*(?:&&|\|\||==|!=|[<>]=?|,|\.|\))$", "", stripped)
+    return changed + text[len(stripped):] if changed != stripped else None
+
+
+def without_character(case: Case) -> Iterable[Repair]:
+    end = Point(case.span.start.line, case.span.start.column + max(len(case.written), 1))
+    yield case.replace("delete it", "", Span(case.span.start, end))
+
+
+def closed_text(case: Case) -> Iterable[Repair]:
+    expression = expression_of(case)
+    if expression:
+        quote = "''" if expression.style == "'" else "'"
+        stripped = expression.text.rstrip()
+        for text in (stripped + quote, stripped[:-1] + quote + stripped[-1:] if stripped.endswith(")") else stripped + quote + ")"):
+            yield case.replace("close the text", text + expression.text[len(stripped):], expression.span)
+
+
+def closed_braces(case: Case) -> Iterable[Repair]:
+    """Two braces behind the expression."""
+    rest = case.line[case.span.start.column:]
+    match = re.match(rf"\$\{{\{{\s*{CHAIN.pattern}[^}}\n]*?(?=\}}|\s*['\"]?$)|\$\{{\{{[^}}]*", rest)
+    ends = [match.end()] if match else []
+    chain = re.match(rf"\$\{{\{{\s*{CHAIN.pattern}", rest)
+    ends += [chain.end()] if chain else []
+    for end in dict.fromkeys(ends):
+        tail = rest[end:end + 1]
+        span = Span(Point(case.span.start.line, case.span.start.column + end),
+                    Point(case.span.start.line, case.span.start.column + end + (1 if tail == "}" else 0)))
+        before = "" if rest[:end].endswith(" ") else " "
+        yield case.replace("close the braces", before + "}}", span)
+
+
+def whole_chain(case: Case) -> tuple[tuple[str, ...], Span]:
+    """The names of the chain that has the fault, and where it stands."""
+    line, column = case.line, case.span.start.column
+    for match in CHAIN.finditer(line):
+        if match.start() <= column < match.end():
+            return links(match[0]), Span(Point(case.span.start.line, match.start()), Point(case.span.start.line, match.end()))
+    return (), case.span
+
+
+def word_as_text(case: Case) -> Iterable[Repair]:
+    """What stands around the fault up to the next spaces, in quotes."""
+    expression = expression_of(case)
+    line, column = case.line, case.span.start.column
+    start = column - len(re.search(r"[^\s'\"()=!,]*$", line[:column])[0])
+    end = column + len(re.match(r"[^\s'\"()=!,}]*", line[column:])[0])
+    if expression and start < end:
+        span = Span(Point(case.span.start.line, start), Point(case.span.start.line, end))
+        yield case.replace("put it in quotes", in_yaml(f"'{line[start:end]}'", expression), span)
+
+
+def without_index(case: Case) -> Iterable[Repair]:
+    """The chain up to what can't be indexed."""
+    chain, span = whole_chain(case)
+    dot = max(case.line.rfind(sign, span.start.column, case.span.start.column + 1) for sign in (".", "["))
+    if chain and dot > span.start.column:
+        yield case.replace("take away the index", "", Span(Point(case.span.start.line, dot), span.end))
+
+
+def as_json(case: Case) -> Iterable[Repair]:
+    """The value as a text."""
+    chain, span = whole_chain(case)
+    if chain:
+        yield case.replace("write it as JSON", f"toJSON({case.slice(span)})", span)
+        if span.end.column > span.start.column:
+            expression = expression_of(case)
+            literal = in_yaml("', '", expression) if expression else "', '"
+            yield case.replace("join its entries", f"join({case.slice(span)}, {literal})", span)
+    elif (expression := expression_of(case)) and expression.text.strip():
+        yield case.replace("write it as JSON", f" toJSON({expression.text.strip()}) ", expression.span)
+
+
+def one_pair(case: Case) -> Iterable[Repair]:
+    """A condition with one pair of braces around all of it, or with none."""
+    here = case.value
+    if here is None or here.value.kind != "scalar" or len(here.value.value) > MAX_CONDITION_CHARACTERS:
+        return
+    in_flow = is_within_flow(case, here.path)
+    text = " ".join(here.value.value.split())
+    grouped = BRACES.sub(lambda match: "(" + match[1].strip() + ")" if re.search(r"&&|\|\|", match[1]) else match[1].strip(), text).strip()
+    whole = as_scalar("${{ " + grouped + " }}", here.value.style, in_flow)
+    yield case.replace("put all of it into one pair of braces", whole, here.value.span)
+    for match in BRACES.finditer(text):
+        if text.replace(match[0], "").strip() in (".", ";", ",", "'", '"', '""', "''"):
+            alone = as_scalar(match[0], here.value.style, in_flow)
+            yield case.replace("take away what stands beside the braces", alone, here.value.span)
+
+
+def fewer_arguments(case: Case) -> Iterable[Repair]:
+    """A call with one argument less or more, as far as the function takes so many."""
+    line, column = case.line, case.span.start.column
+    match = re.match(rf"{NAME}\s*\(", line[column:])
+    if not match:
+        return
+    start = column + match.end()
+    end = line.find(")", start)
+    inner = line[start:end] if end >= 0 else ""
+    parts = re.split(r",\s*(?=(?:[^']*'[^']*')*[^']*$)", inner) if inner.strip() else []
+    expression = expression_of(case)
+    empty = in_yaml("''", expression) if expression and expression.style != "'" else "''''"
+    span = Span(Point(case.span.start.line, start), Point(case.span.start.line, end))
+    if end < 0:
+        return
+    for changed in (parts[:-1], parts[:-2], [], [*parts, empty], [*parts, empty, empty]):
+        yield case.replace("give it as many arguments as it takes", ", ".join(changed), span)
+
+
+def _format_call(case: Case) -> tuple[list[str], Span] | None:
+    """The arguments of the call of format around the fault, and where they stand."""
+    start = case.line.rfind("format(", 0, case.span.end.column)
+    if start < 0:
+        return None
+    begin = start + len("format(")
+    match = ARGUMENTS.match(case.line, begin)
+    parts = [part.strip() for part in ARGUMENT.findall(match[0])]
+    return parts, Span(Point(case.span.start.line, begin), Point(case.span.start.line, match.end()))
+
+
+def right_format(case: Case) -> Iterable[Repair]:
+    """As many arguments as placeholders, or the other way; braces that are none twice."""
+    call = _format_call(case)
+    if call is None or not call[0]:
+        return
+    (text, *arguments), span = call
+    numbers = [int(number) for number in re.findall(r"\{(\d+)\}", text)]
+    empty, quote = (TWO_QUOTES * 2, TWO_QUOTES) if text.startswith(TWO_QUOTES) else (TWO_QUOTES, "'")
+    most = max(numbers, default=-1)
+    unused = "".join(f" {{{number}}}" for number in range(len(arguments)) if number not in numbers)
+    tries = [(f"give it {most + 1} arguments", [text, *arguments, *[empty] * (most + 1 - len(arguments))]),
+             ("take away the argument", [text, *arguments[:most + 1]]),
+             ("put it into the text", [text.removesuffix(quote) + unused + quote, *arguments]),
+             ("number the placeholders", [_numbered(text), *arguments]),
+             ("write the braces twice", [re.sub(r"\{(?!\d+\})([^{}]*)\}", r"{{\1}}", text), *arguments])]
+    for title, changed in tries:
+        if changed != [text, *arguments]:
+            yield case.replace(title, ", ".join(changed), span)
+
+
+def _numbered(text: str) -> str:
+    numbers = itertools.count()
+    return re.sub(r"\{\}|%s", lambda match: "{%d}" % next(numbers), text)
+
+
+REPAIRS: dict[str, tuple[Callable[[Case], Iterable[Repair]], ...]] = {
+    "X1": (rewritten("write single quotes", _single_quotes), rewritten('write "==", "&&", "||"', _doubled),
+           rewritten('write "&&" and "||"', _chosen), rewritten('write "&&", "||", "!"', _operators),
+           rewritten("write a call of format", _formatted), rewritten("write them as expressions have them", _all_operators),
+           rewritten('write "${{" and "}}"', _double_braces), rewritten("take it from the context",
+                                                                        _github_variables), word_as_text, without_character),
+    "X2": (closed_text,),
+    "X3": (rewritten('write "&&", "||", "!"', _operators), rewritten('write "==", "&&", "||"', _doubled),
+           rewritten('write "&&" and "||"', _chosen), rewritten("call a function", _called), rewritten("close the brackets", _balanced),
+           rewritten("take away what is too much at the end", _without_rest), without_character),
+    "X4": (rewritten("close the brackets", _balanced), rewritten("take away what is too much at the end", _without_rest)),
+    "X11": (fewer_arguments,),
+    "X14": (without_index,),
+    "X16": (right_format,),
+    "X17": (right_format,),
+    "X18": (as_json,),
+    "X12": (as_json,),
+    "X15": (as_json,),
+    "X20": (closed_braces,),
+    "G18": (one_pair,),
+}

@@ -1,0 +1,316 @@
+"""Repairs of keys and values that GitHub's syntax doesn't have."""
+from __future__ import annotations
+
+import re
+from typing import Callable, Iterable
+
+from .names import names, near
+from .paths import is_workflow
+from .repair import Case, Edit, Found, Repair, first_entry, is_within_flow, next_entry, quoted, without_entry
+from .repairs_yaml import DASH_WITHOUT_SPACE
+from .syntax import table
+from .tree import Node, Point, Span, last_line, walk
+
+JOB = "build:\n  runs-on: ubuntu-latest\n  steps:\n    - run: make"
+# What is put behind a key that is missing.
+MISSING = {"on": "push", "jobs": "\n  " + JOB.replace("\n", "\n  "), "runs-on": "ubuntu-latest", "run": "echo", "type": "string",
+           "group": "${{ github.workflow }}-${{ github.ref }}", "cron": "'0 0 * * *'", "value": "''", "name": "Name",
+           "description": "Description", "using": "composite", "main": "index.js", "image": "Dockerfile", "steps": "[]",
+           "runs": "\n  using: composite\n  steps: []"}
+WORKFLOW = f"on: push\njobs:\n  {JOB.replace(chr(10), chr(10) + '  ')}\n"
+ACTION = "name: Name\ndescription: Description\nruns:\n  using: composite\n  steps:\n    - run: make\n      shell: bash\n"
+FLAGS = {"yes": "true", "on": "true", "y": "true", "1": "true", "true": "true", "no": "false", "off": "false", "n": "false", "0": "false",
+         "false": "false"}
+# Keys that are often written for another one, which is too far from them for a near name.
+OTHER_NAMES = {"timeout": "timeout-minutes", "command": "run", "script": "run", "image": "container", "branch": "branches", "tag": "tags",
+               "path": "paths", "environment-variables": "env", "depends-on": "needs", "depends_on": "needs", "requires": "needs",
+               "condition": "if", "when": "if", "title": "name", "dir": "working-directory", "cwd": "working-directory", "triggers": "on",
+               "environments": "environment", "variables": "env", "vars": "env", "args": "with", "params": "with", "secret": "secrets",
+               "allow-failure": "continue-on-error", "allow_failure": "continue-on-error", "os": "runs-on", "type": "types", "job": "jobs",
+               "workdir": "working-directory",
+               "continue-on-failure": "continue-on-error", "ignore-errors": "continue-on-error", "matrix": "strategy"}
+
+
+def near_key(case: Case) -> Iterable[Repair]:
+    """A key of the section that is nearly this one."""
+    wrong = case.arguments[0]
+    known = [*near(wrong, names()["keys"]), *([OTHER_NAMES[wrong.lower()]] if wrong.lower() in OTHER_NAMES else [])]
+    known += [name for name in names()["keys"] if name.lower() == wrong.lower().replace("_", "-") != wrong]
+    yield from (in_its_quotes(case, name) for name in dict.fromkeys(known))
+
+
+def in_its_quotes(case: Case, name: str) -> Repair:
+    """A name in place of what is written, in its quotes where it has some."""
+    quote = case.written[:1] if case.written[:1] in ("'", '"') else ""
+    return case.replace(f'change to "{name}"', quote + name + quote)
+
+
+def below_run(case: Case) -> Iterable[Repair]:
+    """The keys of `defaults` one level deeper, below `run`."""
+    here = case.key
+    if here and here.path[-2:-1] == ("defaults",) and here.path[-1] in table()["shapes"]["RunDefaults"]["keys"]:
+        entries = [(key, value) for key, value in here.parent.entries if key.value in table()["shapes"]["RunDefaults"]["keys"]]
+        texts = [case.slice(Span(key.span.start, value.span.end)) for key, value in entries]
+        span = Span(entries[0][0].span.start, entries[-1][1].span.end)
+        if here.parent.is_flow:
+            yield case.replace('put it below "run"', "run: {" + ", ".join(texts) + "}", span)
+        else:
+            indent = "\n" + " " * (entries[0][0].span.start.column + 2)
+            yield case.replace('put it below "run"', "run:" + indent + indent.join(texts), span)
+
+
+def part_of_value(case: Case) -> Iterable[Repair]:
+    """A text with a comma that was cut in brackets, in quotes."""
+    here = case.key
+    if here is None or here.key is None or not here.parent.is_flow or here.value.value:
+        return
+    number = next(number for number, (key, _) in enumerate(here.parent.entries) if key is here.key)
+    before = here.parent.entries[number - 1][1] if number else None
+    if before and before.kind == "scalar" and not before.style:
+        span = Span(before.span.start, here.key.span.end)
+        yield case.replace("put it in quotes", quoted(case.slice(span)), span)
+
+
+def deleted(case: Case) -> Iterable[Repair]:
+    """The mapping without the key."""
+    here = case.key
+    if here and here.key and len(here.parent.entries) > 1:
+        yield case.of(f'delete "{here.key.value}"', without_entry(case, here.parent, here.key))
+
+
+def another_job(case: Case) -> Iterable[Repair]:
+    """A job of the same key with one of its own."""
+    here = case.key
+    if here and here.path[:-1] == ("jobs",):
+        yield case.replace(f'change to "{here.path[-1]}-2"', f"{here.path[-1]}-2")
+
+
+def missing_key(case: Case) -> Iterable[Repair]:
+    """The key with a value to begin with."""
+    here = case.value
+    name = case.arguments[0]
+    if here is None or here.value.kind != "mapping" or name not in MISSING:
+        return
+    if name == "on" and not is_workflow(case.file):
+        return
+    value = MISSING[name]
+    if here.value.is_flow and "\n" in value:
+        return
+    entry = f"{name}:{value}" if value.startswith("\n") else f"{name}: {value}"
+    if name in ("jobs", "run", "runs", "steps") and here.value.entries:
+        yield case.of(f'add "{name}"', next_entry(case, here.value, here.value.entries[-1][0].value, entry))
+    else:
+        yield case.of(f'add "{name}"', first_entry(case, here.value, entry))
+
+
+def step_of_its_own(case: Case) -> Iterable[Repair]:
+    """Of a step with `uses` and `run` two, where each stands on lines of its own."""
+    here = case.key
+    if here and here.key and case.line[:here.key.span.start.column].strip() == "" and len(here.path) > 1 and isinstance(here.path[-2], int):
+        column = here.key.span.start.column
+        dash = case.lines[here.parent.span.start.line][:column]
+        if "-" in dash and here.parent.entries[0][0] is not here.key:
+            start = Point(here.key.span.start.line, 0)
+            yield case.replace("make it a step of its own", dash, Span(start, here.key.span.start))
+
+
+def other_kind(case: Case) -> Iterable[Repair]:
+    """A list where one is wanted, a space behind dashes, a first job, and an alias in place of `<<`."""
+    here = case.value
+    yield from _spaced_dashes(case)
+    if case.arguments[0] == "jobs":
+        yield from _first_job(case)
+    if case.arguments[0] == "<<":
+        yield from _without_merge(case)
+    if here is None:
+        return
+    yield from _of_its_section(case, here)
+    value, text = here.value, case.slice(here.value.span)
+    if value.kind == "scalar" and value.style not in ("|", ">") and value.value:
+        yield case.replace("make it a list", f"[{text}]", value.span)
+        yield case.replace('make it a step with "run"', f"run: {text}", value.span)
+        pair = re.fullmatch(r"([\w-]+)[=:]\s*(.+)", value.value)
+        if pair:
+            yield case.replace("make it a mapping", "{%s: %s}" % (pair[1], quoted(pair[2])), value.span)
+    if value.kind == "mapping" and not value.is_flow:
+        if all(not entry.value and entry.kind == "scalar" for _, entry in value.entries):
+            keys = ", ".join(case.slice(key.span) for key, _ in value.entries)
+            yield case.replace("make it a list", f"[{keys}]", _tight(case, value))
+        yield from as_list(case, value)
+    if value.kind == "sequence":
+        yield from as_mapping(case, value)
+        yield from _scalars_as_other(case, here)
+
+
+def _scalars_as_other(case: Case, here: Found) -> Iterable[Repair]:
+    """A list of texts as a mapping, a script, or a text alone."""
+    items, span = here.value.items, _tight(case, here.value)
+    texts = [item.value for item in items if item.kind == "scalar"]
+    if not items or len(texts) != len(items):
+        return
+    if case.arguments[0] == "permissions":
+        yield case.replace("make it a mapping", "{" + ", ".join(f"{scope}: read" for scope in texts) + "}", span)
+    line = case.outline.lines[here.value.span.start.line]
+    if case.arguments[0] == "run" and line.elements:
+        indent = "\n" + " " * (line.elements[-1].column + 2)
+        yield case.replace("write the script in lines", "|" + "".join(indent + text for text in texts), span)
+    pairs = [re.fullmatch(r"([\w-]+)=(.*)", text) for text in texts]
+    if all(pairs):
+        yield case.replace("make it a mapping", "{" + ", ".join(f"{pair[1]}: {quoted(pair[2])}" for pair in pairs if pair) + "}", span)
+    if len(items) == 1:
+        yield case.replace("take it out of the list", case.slice(items[0].span), span)
+
+
+def _of_its_section(case: Case, here: Found) -> Iterable[Repair]:
+    """What a schedule, steps, a job or an input is to be, made of the text or the mapping in its place."""
+    value, text, name = here.value, case.slice(here.value.span), case.arguments[0]
+    is_text = value.kind == "scalar" and bool(value.value)
+    column = here.key.span.start.column if here.key else 0
+    if name == "schedule" and is_text:
+        cron = "{cron: %s}" % quoted(value.value)
+        yield case.replace("make it a list of cron", cron if isinstance(here.path[-1], int) else f"[{cron}]", value.span)
+    elif name == "schedule" and value.is_flow:
+        yield case.replace("make it a list of cron", f"[{text}]", value.span)
+    elif name == "steps" and is_text:
+        yield case.replace("make it a list of steps", "[{run: %s}]" % quoted(value.value), value.span)
+    elif name == "inputs" and value.kind == "sequence" and value.is_flow:
+        entries = ", ".join("%s: {type: string}" % item.value for item in value.items)
+        yield case.replace("make it a mapping", "{" + entries + "}", value.span)
+    elif here.path[-2:-1] == ("inputs",) and is_text:
+        yield case.replace("make it a mapping", "{type: string}", value.span)
+    elif here.path[:-1] == ("jobs",) and here.key and value.kind == "scalar":
+        yield from _indented_keys(case, here)
+        run = value.value or "make"
+        lines = JOB.replace("make", run).split("\n")[1:]
+        yield case.replace("make it a job", ":" + "".join("\n" + " " * column + line for line in lines),
+                           Span(here.key.span.end, value.span.end))
+    elif name == "steps" and value.kind == "scalar" and isinstance(here.path[-1], int):
+        line = case.line_at(value.span.start.line)
+        yield case.replace("add a script", (" " if line.rstrip().endswith("-") else "") + "run: echo",
+                           Span(Point(value.span.start.line, len(line.rstrip())), Point(value.span.start.line, len(line))))
+
+
+def _indented_keys(case: Case, here: Found) -> Iterable[Repair]:
+    """The keys of a job below it, where they stand beside it."""
+    if here.value.value or is_within_flow(case, here.path):
+        return
+    edits = []
+    behind = [(key, value) for key, value in here.parent.entries if here.key and key.span.start > here.key.span.start]
+    for key, value in behind:
+        if key.value not in table()["shapes"]["Job"]["keys"]:
+            break
+        edits += [Edit(Span(Point(line, 0), Point(line, 0)), "  ") for line in range(key.span.start.line, last_line(value, case.lines) + 1)]
+    if edits:
+        yield case.of("indent the keys of the job", *edits)
+
+
+def _tight(case: Case, node: Node) -> Span:
+    """The span of a node without the lines behind it."""
+    line = last_line(node, case.lines)
+    return node.span if node.span.end.line == line else Span(node.span.start, Point(line, len(case.lines[line])))
+
+
+def as_list(case: Case, mapping: Node) -> Iterable[Repair]:
+    """A mapping in lines as the one entry of a list, or each of its entries as one."""
+    first, last = mapping.span.start.line, last_line(mapping, case.lines)
+    start = mapping.span.start
+    edits = [Edit(Span(start, start), "- ")]
+    edits += [Edit(Span(Point(line, 0), Point(line, 0)), "  ") for line in range(first + 1, last + 1) if case.lines[line].strip()]
+    yield case.of("make it a list", *edits)
+
+
+def as_mapping(case: Case, sequence: Node) -> Iterable[Repair]:
+    """A list of mappings in lines without its dashes."""
+    if sequence.is_flow or not sequence.items or any(item.kind != "mapping" or item.is_flow for item in sequence.items):
+        return
+    edits = []
+    for item in sequence.items:
+        line, column = item.span.start
+        dash = case.lines[line].index("-")
+        edits.append(Edit(Span(Point(line, dash), Point(line, column)), " " * (column - dash)))
+    yield case.of("take away the dashes", *edits)
+
+
+def _spaced_dashes(case: Case) -> Iterable[Repair]:
+    edits = []
+    for number in range(case.span.start.line, len(case.lines)):
+        match = DASH_WITHOUT_SPACE.match(case.lines[number])
+        if match and match.end() - 1 == case.span.start.column:
+            edits.append(Edit(Span(Point(number, match.end()), Point(number, match.end())), " "))
+    if edits:
+        yield case.of("put a space behind the dash", *edits)
+
+
+def _first_job(case: Case) -> Iterable[Repair]:
+    jobs = case.tree.key("jobs") if case.tree else None
+    value = case.at("jobs")
+    if jobs and value and not value.entries and not value.items:
+        line = jobs.span.start.line
+        span = Span(Point(line, jobs.span.end.column), Point(line, len(case.lines[line])))
+        yield case.replace("add a job", ":\n  " + JOB.replace("\n", "\n  "), span)
+
+
+def _without_merge(case: Case) -> Iterable[Repair]:
+    """The alias alone where a mapping has nothing else but `<<`, or what the alias stands for in its place."""
+    if case.tree is None:
+        return
+    parents = {(): case.tree, **{path: value for path, _, value in walk(case.tree)}}
+    edits = []
+    for path, key, value in walk(case.tree):
+        parent = parents[path[:-1]]
+        if key is None or key.value != "<<" or value.alias is None:
+            continue
+        if len(parent.entries) == 1 and len(path) > 1:
+            edits.append(_alias_alone(case, parent, value))
+        elif value.entries and all(entry.kind == "scalar" for _, entry in value.entries):
+            entries = [f"{name.value}: {case.slice(entry.span)}" for name, entry in value.entries]
+            between = ", " if parent.is_flow else "\n" + " " * key.span.start.column
+            edits.append(Edit(Span(key.span.start, value.span.end), between.join(entries)))
+    if edits:
+        yield case.of('write no "<<"', *edits)
+
+
+def _alias_alone(case: Case, mapping: Node, alias: Node) -> Edit:
+    if mapping.is_flow:
+        return Edit(mapping.span, f"*{alias.alias}")
+    line = mapping.span.start.line
+    before = case.lines[line - 1].rstrip() if line else ""
+    if case.lines[line][:mapping.span.start.column].strip() or not before.endswith(":"):
+        return Edit(Span(mapping.span.start, alias.span.end), f"*{alias.alias}")
+    return Edit(Span(Point(line - 1, len(before)), alias.span.end), f" *{alias.alias}")
+
+
+def other_type(case: Case) -> Iterable[Repair]:
+    """A flag or a number that is written as a text."""
+    here = case.value
+    text = here.value.value.strip() if here else ""
+    if here and text.lower() in FLAGS:
+        yield case.replace(f'change to "{FLAGS[text.lower()]}"', FLAGS[text.lower()], here.value.span)
+    number = re.match(r"-?\d+(?:\.\d+)?", text)
+    if here and number:
+        yield case.replace(f'change to "{number[0]}"', number[0], here.value.span)
+    if here and here.path == ("on",) and not text:
+        key = case.tree.key("on") if case.tree else None
+        if key:
+            span = Span(key.span.end, Point(key.span.end.line, len(case.lines[key.span.end.line])))
+            yield case.replace('add "push"', ": push", span)
+    if here and re.fullmatch(r"\$?\{.*\}?\}", text) and here.value.kind == "scalar":
+        yield case.replace("write it as an expression", "${{ " + text.strip("${} ") + " }}", here.value.span)
+
+
+def skeleton(case: Case) -> Iterable[Repair]:
+    """A file to begin with, behind its comments."""
+    end = Point(len(case.lines) - 1, len(case.lines[-1]))
+    before = "\n" if case.lines[-1] else ""
+    yield case.replace("begin the file", before + (WORKFLOW if is_workflow(case.file) else ACTION), Span(end, end))
+
+
+REPAIRS: dict[str, tuple[Callable[[Case], Iterable[Repair]], ...]] = {
+    "K1": (near_key, below_run, part_of_value, deleted),
+    "K2": (missing_key,),
+    "K3": (another_job, deleted),
+    "K4": (other_kind,),
+    "K5": (other_type,),
+    "K6": (step_of_its_own, deleted),
+    "K7": (skeleton,),
+}

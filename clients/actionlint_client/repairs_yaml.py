@@ -1,0 +1,267 @@
+"""Repairs of texts that are no YAML: quotes, brackets, spaces."""
+from __future__ import annotations
+
+import re
+from typing import Callable, Iterable
+
+from .repair import Case, Edit, Repair, quoted
+from .tree import Point, Span
+
+FLOW_ITEM = re.compile(r"[^,\[\]{}]*")
+TERNARY = re.compile(r"\$\{\{(.*?)\?(.*?) : (.*?)\}\}")
+DASH_WITHOUT_SPACE = re.compile(r"^( *)-(?=[A-Za-z_][\w-]*:(?: |$))")
+KEY_IN_BRACKETS = re.compile(r"\s*[\w-]+: +")
+IN_QUOTES = re.compile(r"'[^']*'|\"[^\"]*\"")
+CLOSERS = {"[": "]", "{": "}"}
+
+
+def with_quotes(case: Case) -> Iterable[Repair]:
+    """The value on the fault's line, or on one above it, in quotes."""
+    number = case.span.start.line
+    for line in (number, number - 1):
+        span = case.rest_span(line) if 0 <= line else None
+        if span and span.start.column <= (case.span.start.column if line == number else span.end.column):
+            yield case.replace("put it in quotes", quoted(case.slice(span)), span)
+    yield from _quoted_item(case)
+
+
+def _quoted_item(case: Case) -> Iterable[Repair]:
+    """The entry of a list in brackets that has the fault, in quotes."""
+    line, column = case.line, case.span.start.column
+    text_start = line.find("${{") if 0 <= line.find("${{") < column else column
+    start = max(line.rfind(sign, 0, text_start) for sign in "[{,") + 1
+    key = KEY_IN_BRACKETS.match(line, start)
+    start = key.end() if key and key.end() <= text_start else start + len(line[start:]) - len(line[start:].lstrip())
+    ends = [FLOW_ITEM.match(line, max(column + 1, start)).end(), *(match.end() for match in re.finditer(r"\}\}", line)),
+            line.find(", ", column), line.rfind("]")]
+    for end in dict.fromkeys(end for end in ends if end > column):
+        text = line[start:end].rstrip()
+        if text and start <= column:
+            span = Span(Point(case.span.start.line, start), Point(case.span.start.line, start + len(text)))
+            yield case.replace("put it in quotes", quoted(text), span)
+
+
+def as_block(case: Case) -> Iterable[Repair]:
+    """A script in lines of its own."""
+    span = case.rest_span(case.span.start.line)
+    line = case.outline.lines[case.span.start.line]
+    if span and line.elements and line.elements[-1].name == "run":
+        indent = " " * (line.elements[-1].column + 2)
+        yield case.replace("write the script below its key", f"|\n{indent}{case.slice(span)}", span)
+
+
+def pair_below(case: Case) -> Iterable[Repair]:
+    """A key with its value, which stand behind another key, on a line of their own."""
+    span = case.rest_span(case.span.start.line)
+    elements = case.outline.lines[case.span.start.line].elements
+    if span and elements and elements[-1].name is not None and re.match(r"[\w-]+: ", case.slice(span)):
+        start = Point(case.span.start.line, elements[-1].end)
+        indent = "\n" + " " * (elements[-1].column + 2)
+        yield case.replace("put it on a line of its own", indent + case.slice(span), Span(start, span.end))
+
+
+def as_condition(case: Case) -> Iterable[Repair]:
+    """`a ? b : c` as `a && b || c`, which expressions have."""
+    for match in TERNARY.finditer(case.line):
+        parts = [part.strip() for part in match.groups()]
+        span = Span(Point(case.span.start.line, match.start()), Point(case.span.start.line, match.end()))
+        yield case.replace('write "&&" and "||"', "${{ %s && %s || %s }}" % tuple(parts), span)
+
+
+def closed_quote(case: Case) -> Iterable[Repair]:
+    """A quote at the end of its line; or before what follows on it."""
+    line = case.line
+    quote = line[case.span.start.column:case.span.start.column + 1]
+    ends = dict.fromkeys([len(line.rstrip()),
+                          *(len(line[:at].rstrip()) for at in (line.find(" #"), line.find("]"), line.find("}"), line.find(","))
+                                               if at > case.span.start.column)])
+    for end in ends:
+        here = Point(case.span.start.line, end)
+        yield case.replace("close the quotes", quote, Span(here, here))
+    yield from with_quotes(case)
+
+
+def closed_bracket(case: Case) -> Iterable[Repair]:
+    """A bracket at the end of its line, or below it of its last line."""
+    opener = case.line[case.span.start.column:case.span.start.column + 1]
+    if opener not in CLOSERS:
+        return
+    number = case.span.start.line
+    for line in range(number, min(number + 20, len(case.lines))):
+        if case.lines[line].strip():
+            here = Point(line, len(case.lines[line].rstrip()))
+            yield case.replace("close the bracket", CLOSERS[opener], Span(here, here))
+
+
+def closed_above(case: Case) -> Iterable[Repair]:
+    """The brackets that are open on a line above, closed at its end."""
+    for line in range(case.span.start.line, max(case.span.start.line - 4, -1), -1):
+        span = case.rest_span(line)
+        open_signs = _open_signs(case.slice(span)) if span else []
+        if span and open_signs:
+            yield case.replace("close the bracket", "".join(CLOSERS[sign] for sign in reversed(open_signs)), Span(span.end, span.end))
+
+
+def _open_signs(text: str) -> list[str]:
+    """The brackets of a text in brackets that aren't closed in it."""
+    found: list[str] = []
+    for sign in IN_QUOTES.sub("", text) if text[:1] in CLOSERS else "":
+        if sign in CLOSERS:
+            found.append(sign)
+        elif sign in CLOSERS.values() and found:
+            found.pop()
+    return found
+
+
+def spaces_for_tabs(case: Case) -> Iterable[Repair]:
+    """Spaces for each tab at the start of lines; of how many columns the text has, isn't told."""
+    for width in (2, 4, 8, 1):
+        edits = []
+        for number, line in enumerate(case.lines):
+            head = line[:len(line) - len(line.lstrip(" \t-"))]
+            if "\t" in head:
+                edits.append(Edit(Span(Point(number, 0), Point(number, len(head))), head.replace("\t", " " * width)))
+        if edits:
+            yield case.of("write spaces for tabs", *edits)
+    indent = next((len(line) - len(line.lstrip(" ")) for line in reversed(case.lines[:case.span.start.line]) if line.strip()), 0)
+    head = Span(Point(case.span.start.line, 0), Point(case.span.start.line, len(case.line) - len(case.line.lstrip(" \t"))))
+    for spaces in (indent, indent + 2):
+        yield case.replace("write spaces for tabs", " " * spaces, head)
+
+
+def script_in_lines(case: Case) -> Iterable[Repair]:
+    """A script whose further lines stand at the indent of its key, below that key."""
+    number = case.span.start.line - 1
+    while number > 0 and not case.outline.lines[number].elements:
+        number -= 1
+    line = case.outline.lines[number] if number >= 0 else None
+    if line is None or not line.elements or line.elements[-1].name != "run" or not line.rest or line.rest[0] in "|>":
+        return
+    indent = " " * (line.elements[-1].column + 2)
+    last = case.span.start.line
+    while last + 1 < len(case.lines) and case.lines[last + 1].strip() and not case.outline.lines[last + 1].elements:
+        last += 1
+    texts = [line.rest, *(text.strip() for text in case.lines[number + 1:last + 1])]
+    start = Point(number, line.elements[-1].end)
+    yield case.replace("write the script in lines", " |" + "".join("\n" + indent + text for text in texts),
+                       Span(start, Point(last, len(case.lines[last]))))
+
+
+def as_expression(case: Case) -> Iterable[Repair]:
+    """A condition that begins in double quotes, as it would in a shell, as an expression."""
+    span = case.rest_span(case.span.start.line)
+    text = case.slice(span) if span else ""
+    if span and text.startswith('"') and "${{" in text:
+        bare = re.sub(r'"?\$\{\{\s*(.*?)\s*\}\}"?', r"\1", text).replace('"', "'")
+        yield case.replace("write it as an expression", "${{ " + bare + " }}", span)
+
+
+def moved_line(case: Case) -> Iterable[Repair]:
+    """The line at one of the indents above it."""
+    number = case.span.start.line
+    text = case.line
+    indents = [above.elements[-1].column for above in case.outline.lines[max(number - 30, 0):number] if above.elements]
+    indents += [above.indent for above in case.outline.lines[max(number - 30, 0):number] if above.elements]
+    own = len(text) - len(text.lstrip(" "))
+    last = number
+    while last + 1 < len(case.lines) and (not case.lines[last + 1].strip() or
+                                          len(case.lines[last + 1]) - len(case.lines[last + 1].lstrip(" ")) > own):
+        last += 1
+    for indent in sorted(set(indents), key=lambda indent: abs(indent - own))[:6]:
+        edits = []
+        for line in range(number, last + 1):
+            if indent > own:
+                edits.append(Edit(Span(Point(line, 0), Point(line, 0)), " " * (indent - own)))
+            elif indent < own and case.lines[line].strip():
+                edits.append(Edit(Span(Point(line, 0), Point(line, own - indent)), ""))
+        if edits:
+            yield case.of(f"indent it by {indent}", *edits)
+
+
+def with_space(case: Case) -> Iterable[Repair]:
+    """A space behind a colon or a dash that has none."""
+    number = case.span.start.line
+    for line in (number, number - 1):
+        text = case.lines[line] if line >= 0 else ""
+        match = re.match(r"^( *(?:- +)?[A-Za-z_][\w-]*):(?=[^\s/:])", text)
+        if match:
+            here = Point(line, match.end())
+            yield case.replace("put a space behind the colon", " ", Span(here, here))
+        match = DASH_WITHOUT_SPACE.match(text)
+        if match:
+            here = Point(line, match.end())
+            yield case.replace("put a space behind the dash", " ", Span(here, here))
+
+
+def with_colon(case: Case) -> Iterable[Repair]:
+    """A colon behind a word that is alone on its line, or before the value on it."""
+    number = case.span.start.line
+    for line in (number, number - 1):
+        text = case.lines[line] if line >= 0 else ""
+        match = re.match(r"^ *(?:- +)?([A-Za-z_][\w-]*)(?= |$)", text)
+        if match:
+            here = Point(line, match.end())
+            yield case.replace(f'put a colon behind "{match[1]}"', ":", Span(here, here))
+
+
+def single_quotes(case: Case) -> Iterable[Repair]:
+    """A text with backslashes in single quotes, or with each of them twice."""
+    line, column = case.line, case.span.start.column
+    start = line.rfind('"', 0, column)
+    end = next((match.start() for match in re.finditer(r'(?<!\\)"', line) if match.start() > column), -1)
+    if start >= 0 and end > 0:
+        span = Span(Point(case.span.start.line, start), Point(case.span.start.line, end + 1))
+        yield case.replace("put it in single quotes", quoted(line[start + 1:end]), span)
+    here = Point(case.span.start.line, column)
+    yield case.replace("write the backslash twice", "\\", Span(here, here))
+
+
+def without_character(case: Case) -> Iterable[Repair]:
+    end = Point(case.span.start.line, case.span.start.column + 1)
+    edit = Edit(Span(case.span.start, end), "")
+    yield Repair("delete the character", {case.file: (edit,)}, is_last_resort=True)
+
+
+def without_line(case: Case) -> Iterable[Repair]:
+    """The text without the fault's line, as where it begins a second document or is a directive."""
+    number = case.span.start.line
+    if number + 1 < len(case.lines):
+        yield case.replace("delete the line", "", Span(Point(number, 0), Point(number + 1, 0)))
+
+
+def text_on_next_line(case: Case) -> Iterable[Repair]:
+    """The text behind `|` on a line of its own."""
+    line = case.outline.lines[case.span.start.line]
+    column = line.elements[-1].column if line.elements else 0
+    rest = case.line[case.span.start.column:]
+    span = Span(case.span.start, Point(case.span.start.line, len(case.line)))
+    yield case.replace("begin the text on the next line", "\n" + " " * (column + 2) + rest.lstrip(), span)
+    yield from with_quotes(case)
+
+
+def quoted_key(case: Case) -> Iterable[Repair]:
+    """A key that begins with a sign in quotes."""
+    match = re.match(r"^( *(?:- +)?)([^\s'\"][^:]*)(?=:(?: |$))", case.line)
+    if match:
+        span = Span(Point(case.span.start.line, match.start(2)), Point(case.span.start.line, match.end(2)))
+        yield case.replace("put the key in quotes", quoted(match[2]), span)
+
+
+REPAIRS: dict[str, tuple[Callable[[Case], Iterable[Repair]], ...]] = {
+    "Y2": (without_character,),
+    "Y3": (spaces_for_tabs,),
+    "Y4": (with_colon, with_space, moved_line, with_quotes),
+    "Y5": (closed_quote,),
+    "Y6": (closed_bracket, with_quotes),
+    "Y7": (with_quotes, quoted_key),
+    "Y8": (with_quotes, quoted_key),
+    "Y9": (with_quotes, quoted_key),
+    "Y10": (with_quotes, without_line),
+    "Y11": (without_line,),
+    "Y12": (single_quotes,),
+    "Y13": (as_condition, as_expression, pair_below, script_in_lines, with_quotes, as_block, with_space, with_colon, closed_above,
+            moved_line, without_character),
+    "Y16": (text_on_next_line,),
+    "Y17": (with_colon, with_quotes, quoted_key),
+    "Y18": (with_quotes,),
+}

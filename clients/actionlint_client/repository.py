@@ -1,0 +1,156 @@
+"""A folder with its open files, its faults, and what the editor was told of them."""
+from __future__ import annotations
+
+from dataclasses import dataclass, field
+from functools import cached_property
+
+from .actions_on_disk import actions_below
+from .diagnostics import Diagnostics
+from .earlier import Earlier, is_no_yaml
+from .editor import Editor
+from .faults import NO_FAULTS, FileFaults
+from .folder import Folder, Result
+from .positions import Lines
+from .project import Project
+from .report import Fault
+from .uris import uri_of
+
+NOTHING = Result({}, {}, set())
+
+
+@dataclass
+class Document:
+    """An open file, with its path below its repository's folder, and its version by each URI that it was opened by."""
+
+    path: str
+    repository: Repository
+    versions: dict[str, int | None]
+    _lines: tuple[bytes, Lines] | None = None
+    _earlier: Earlier | None = None
+
+    def opened_as(self, uri: str) -> str:
+        """The URI by which it was opened: this one, or the last of those that are the same path."""
+        return uri if uri in self.versions else next(reversed(self.versions))
+
+    def data(self) -> bytes:
+        """The bytes that the faults are about: those of the buffer, unless the linter can't be had."""
+        return self.repository.folder.data_of(self.path)
+
+    def lines(self) -> Lines:
+        data = self.data()
+        if self._lines is None or self._lines[0] is not data:
+            self._lines = data, Lines(data, True)
+        return self._lines[1]
+
+    def found(self) -> FileFaults:
+        return self.repository.result.faults.get(self.path, NO_FAULTS)
+
+    def faults(self) -> tuple[Fault, ...]:
+        """The first 1,000 faults."""
+        return self.found().faults
+
+    def earlier(self) -> FileFaults:
+        """While the file is no YAML, the faults on other lines that it had when it was last."""
+        return self._earlier.beside(self.found()) if self._earlier and is_no_yaml(self.found()) else NO_FAULTS
+
+    def note(self) -> None:
+        """Notes what a later text may show that is no YAML."""
+        data, found = self.data(), self.found()
+        if not is_no_yaml(found):
+            self._earlier = Earlier(data, found)
+        elif self._earlier is not None and self._earlier.data != data:
+            self._earlier = self._earlier.in_text(data)
+
+    def faults_in(self, wanted: dict, with_earlier: bool = False) -> list[tuple[Fault, dict]]:
+        """The faults that touch a range, each with its own."""
+        lines = self.lines()
+        faults = self.faults() + (self.earlier().faults if with_earlier else ())
+        with_ranges = [(fault, lines.range_of(fault)) for fault in faults
+                       if wanted["start"]["line"] <= fault.line - 1 <= wanted["end"]["line"]]
+        return [(fault, one) for fault, one in with_ranges
+                if _key(one["start"]) <= _key(wanted["end"]) and _key(wanted["start"]) <= _key(one["end"])]
+
+
+@dataclass
+class Repository:
+    root: bytes
+    folder: Folder
+    shows_earlier: bool
+    result: Result = NOTHING
+    documents: dict[str, Document] = field(default_factory=dict)
+    _touched: set[str] = field(default_factory=set)
+    _shown: dict[str, tuple] = field(default_factory=dict)
+    _told: set[str] = field(default_factory=set)
+
+    @cached_property
+    def project(self) -> Project:
+        """The files for those who look for names."""
+        return Project(self.folder.read, self.folder.paths, lambda: actions_below(self.root))
+
+    def uri(self, path: str) -> str:
+        """The URI by which the editor has a file open, or else one of its path."""
+        document = self.documents.get(path)
+        return next(iter(document.versions)) if document and document.versions else uri_of(self.root, path)
+
+    def open(self, path: str) -> Document:
+        """The open file, which `edit` gives its text."""
+        document = self.documents.get(path)
+        if document is None:
+            document = self.documents[path] = Document(path, self, {})
+            document.note()
+        return document
+
+    def edit(self, path: str, data: bytes | None) -> None:
+        """The bytes of a file's buffer, or None where it is no longer open."""
+        self._touched.add(path)
+        self.folder.edit(path, data)
+
+    def lines(self, path: str) -> Lines:
+        document = self.documents.get(path)
+        return document.lines() if document else Lines(self.folder.data_of(path), False)
+
+    def refresh(self, editor: Editor, diagnostics: Diagnostics) -> None:
+        """Shows the faults as they are now; nothing where the linter can't be had, since all that was shown may be wrong by now."""
+        result = self.folder.refresh()
+        paths = self._touched | (self._shown.keys() if result is None else result.changed)
+        self.result, self._touched = result or NOTHING, set()
+        for path in sorted(paths):
+            self._show(path, editor, diagnostics)
+
+    def close(self, editor: Editor) -> None:
+        """Ends the linter, and takes back what is shown."""
+        self.folder.close()
+        for path in self._shown:
+            for uri in self._versions(path):
+                editor.publish(uri, None, [])
+        self._shown.clear()
+
+    def _versions(self, path: str) -> dict[str, int | None]:
+        document = self.documents.get(path)
+        return dict(document.versions) if document else {uri_of(self.root, path): None}
+
+    def _show(self, path: str, editor: Editor, diagnostics: Diagnostics) -> None:
+        """Publishes the diagnostics of a file, unless the editor has them already."""
+        versions, document = self._versions(path), self.documents.get(path)
+        found, refused, earlier = self.result.faults.get(path, NO_FAULTS), self.result.refused.get(path), NO_FAULTS
+        if document and self.shows_earlier and self.result is not NOTHING:
+            document.note()
+            earlier = document.earlier()
+        is_to_show = found is not NO_FAULTS or refused is not None or document is not None
+        state = (versions, found, earlier, refused, self.folder.data_of(path))
+        if self._shown.get(path) == state or not (is_to_show or path in self._shown):
+            return
+        told = diagnostics.of_file(self.lines(path), found, earlier, refused)
+        for uri, version in versions.items():
+            editor.publish(uri, version, told)
+        if refused and refused not in self._told:
+            self._told.add(refused)
+            editor.say(f"{path}: {refused}")
+        if is_to_show:
+            self._shown[path] = state
+        else:
+            del self._shown[path]
+
+
+def _key(position: dict) -> tuple[int, int]:
+    return position["line"], position["character"]

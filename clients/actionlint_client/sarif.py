@@ -1,0 +1,85 @@
+"""SARIF 2.1.0 as GitHub's page "SARIF support for code scanning" asks for it, written as the problems come."""
+from __future__ import annotations
+
+import re
+from typing import BinaryIO
+from urllib.parse import quote
+
+from .characters import json_text
+from .entries import explained, markdown_of, plain_text, title_of
+from .forms import Form, Outcome
+from .problems import Problem
+from .version import version
+
+SCHEMA = "https://json.schemastore.org/sarif-2.1.0.json"
+# GitHub refuses a run with more results.
+MAX_RESULTS = 25_000
+SPECIAL = re.compile(r"[\[\]\\]")
+
+
+class Sarif(Form):
+    """A log of one run (3.14). Columns are characters (3.14.27)."""
+
+    def __init__(self, out: BinaryIO, docs: str | None):
+        super().__init__(out, docs)
+        self._rules: dict[str, dict] = {}
+        self._results = 0
+
+    def begin(self) -> None:
+        self.write(f'{{"$schema": {json_text(SCHEMA)}, "version": "2.1.0", "runs": [{{\n"columnKind": "unicodeCodePoints",\n"results": [')
+
+    def add(self, problem: Problem) -> None:
+        if self._results == MAX_RESULTS:
+            self.left_out += 1
+            return
+        self.write(("," if self._results else "") + "\n" + json_text(self._result(problem)))
+        self._results += 1
+
+    def end(self, outcome: Outcome) -> None:
+        invocation: dict[str, object] = {"executionSuccessful": outcome.status in (0, 1), "exitCode": outcome.status}
+        notifications = [{"level": "error", "message": _message(outcome.errors.strip())}] if outcome.errors else []
+        if self.left_out:
+            notifications.append({"level": "warning", "message": _message(left_out_line(self.left_out))})
+        if notifications:
+            invocation["toolExecutionNotifications"] = notifications
+        driver: dict[str, object] = {"name": "actionlint", "rules": list(self._rules.values())}
+        if known := version():
+            driver["version"] = known
+        if self.docs:
+            driver["informationUri"] = self.docs
+        self.write(f'],\n"tool": {json_text({"driver": driver}, indent=1)},\n"invocations": {json_text([invocation])}\n}}]}}\n')
+
+    def _result(self, problem: Problem) -> dict:
+        """A result, whose rule is added where it is new."""
+        fault = problem.fault
+        if problem.code not in self._rules:
+            self._rules[problem.code] = _rule(problem, self.docs)
+        region = {"startLine": fault.line, "startColumn": fault.column, "endLine": fault.line,
+                  "endColumn": fault.column + (fault.width or 1)}
+        place = {"artifactLocation": {"uri": quote(fault.path), "uriBaseId": "%SRCROOT%"}, "region": region}
+        return {"ruleId": problem.code, "ruleIndex": list(self._rules).index(problem.code), "level": problem.level,
+                "message": _message(fault.message), "locations": [{"physicalLocation": place}]}
+
+
+def left_out_line(count: int) -> str:
+    return f"{count} more were left out: GitHub takes {MAX_RESULTS} results of a run"
+
+
+def _rule(problem: Problem, docs: str | None) -> dict:
+    """What SARIF tells of all faults with a code."""
+    entry = problem.entry
+    rule: dict[str, object] = {"id": problem.code, "name": problem.fault.kind, "defaultConfiguration": {"level": problem.level}}
+    if entry:
+        rule |= {"shortDescription": {"text": title_of(entry)}, "fullDescription": {"text": plain_text(entry.text)},
+                 "help": {"text": explained(entry), "markdown": markdown_of(entry, docs)}}
+    else:
+        rule |= {"shortDescription": {"text": problem.code}, "fullDescription": {"text": f"{problem.code} of {problem.fault.kind}"},
+                 "help": {"text": problem.link or problem.code}}
+    if link := problem.link_in(docs):
+        rule["helpUri"] = link
+    return rule
+
+
+def _message(text: str) -> dict:
+    """Text of a message, in which brackets would be links (3.11.6)."""
+    return {"text": SPECIAL.sub(r"\\\g<0>", text)}

@@ -1,0 +1,67 @@
+"""Symbols, links and folds for editors."""
+from __future__ import annotations
+
+from .asked import Asked, asked
+from .structure import Part, folds, links, part_of
+from .tree import Point
+from .workspace import Workspace
+
+# SymbolKind of the protocol.
+KINDS = {"workflow": 2, "action": 2, "job": 5, "step": 6}
+MAX_SYMBOLS = 1_000
+START = Point(0, 0)
+
+
+class Symbols:
+    capabilities = {"documentSymbolProvider": True, "workspaceSymbolProvider": True, "documentLinkProvider": {"resolveProvider": False},
+                    "foldingRangeProvider": True}
+
+    def __init__(self, workspace: Workspace):
+        self._workspace = workspace
+
+    def handlers(self) -> dict:
+        return {
+            "textDocument/documentSymbol": self.of_document,
+            "workspace/symbol": self.of_workspace,
+            "textDocument/documentLink": self.links,
+            "textDocument/foldingRange": self.folds,
+        }
+
+    def of_document(self, textDocument, **_) -> list[dict]:
+        place = asked(self._workspace, textDocument)
+        part = part_of(place.project, place.file) if place else None
+        return [_symbol(place, part)] if place and part else []
+
+    def of_workspace(self, query="", **_) -> list[dict]:
+        """The first 1,000 workflows, jobs and steps whose names have the text, in any case of letters."""
+        found: list[dict] = []
+        for repository in self._workspace.repositories():
+            for path in sorted(repository.folder.paths()):
+                place = Asked(repository, path, START)
+                found += [{"name": part.name, "kind": KINDS[part.kind], "containerName": around,
+                           "location": place.location(part.naming, path)}
+                          for part, around in _all(part_of(place.project, path), path) if query.lower() in part.name.lower()]
+                if len(found) >= MAX_SYMBOLS:
+                    return found[:MAX_SYMBOLS]
+        return found
+
+    def links(self, textDocument, **_) -> list[dict]:
+        place = asked(self._workspace, textDocument)
+        return [{"range": place.range(link.span), "target": link.address or place.repository.uri(link.file or "")}
+                for link in links(place.project, place.file)] if place else []
+
+    def folds(self, textDocument, **_) -> list[dict]:
+        place = asked(self._workspace, textDocument)
+        return [{"startLine": first, "endLine": last} for first, last in folds(place.project, place.file)] if place else []
+
+
+def _symbol(place: Asked, part: Part) -> dict:
+    return {"name": part.name, "detail": part.kind, "kind": KINDS[part.kind], "range": place.range(part.span),
+            "selectionRange": place.range(part.naming), "children": [_symbol(place, inner) for inner in part.parts]}
+
+
+def _all(part: Part | None, around: str) -> list[tuple[Part, str]]:
+    """A part and those in it, each with the name of the one around it."""
+    if part is None:
+        return []
+    return [(part, around), *(found for inner in part.parts for found in _all(inner, part.name))]

@@ -1,0 +1,14 @@
+"""The version of what the clients belong to."""
+from __future__ import annotations
+
+from pathlib import Path
+
+FILE = Path(__file__).resolve().parents[2] / "VERSION"
+
+
+def version() -> str | None:
+    """What the file VERSION of the repository or the release says, or None where there is none."""
+    try:
+        return FILE.read_text(encoding="utf-8").strip()
+    except OSError:
+        return None

@@ -1,0 +1,358 @@
+#!/usr/bin/env python3
+"""What completion offers: names by place, and each offer is taken by the linter where it is put in.
+
+    completion.py PROGRAM [NAME...]
+"""
+from __future__ import annotations
+
+import os
+import random
+import re
+import sys
+from pathlib import Path
+
+sys.path.insert(0, str(Path(__file__).resolve().parent.parent))
+from actionlint_client import library
+
+library.missing()
+from actionlint_client.completion import Offer, offers
+from actionlint_client.project import Project
+from actionlint_client.report import Fault, parse_report
+from actionlint_client.session import Session
+from actionlint_client.tree import Point, Span
+from cases import Cases
+from repositories import FILE, WORKFLOWS
+
+CASES = Cases("completion")
+CALLED, ACTION = WORKFLOWS + "called.yml", "greet/action.yml"
+SECONDS = 20.0
+PUTS = int(os.environ.get("PUTS", "800"))
+# A folder without fault, in which most keys stand.
+FOLDER = {
+    FILE: """name: Build
+run-name: Build of ${{ github.actor }}
+on:
+  push:
+    branches: [main, 'release/**']
+    paths-ignore: ['docs/**']
+  issues:
+    types: [opened, closed]
+  schedule:
+    - cron: '0 5 * * *'
+  workflow_dispatch:
+    inputs:
+      level:
+        type: choice
+        required: true
+        options: [low, high]
+  workflow_run:
+    workflows: [Called]
+    types: completed
+permissions:
+  contents: read
+  issues: write
+env:
+  MODE: fast
+defaults:
+  run:
+    shell: bash
+concurrency:
+  group: build-${{ github.ref }}
+  cancel-in-progress: true
+jobs:
+  plan:
+    runs-on: ubuntu-latest
+    timeout-minutes: 5
+    outputs:
+      list: ${{ steps.list.outputs.names }}
+    steps:
+      - uses: actions/checkout@v4
+        with:
+          fetch-depth: 0
+      - id: list
+        name: List
+        run: |
+          echo "names=a" >> "$GITHUB_OUTPUT"
+          echo "${{ inputs.level }}"
+        shell: bash
+      - if: steps.list.outcome == 'success' && always()
+        uses: ./greet
+        id: greet
+        with:
+          who: ${{ github.actor }}
+          loud: true
+      - run: echo ${{ steps.greet.outputs.text }} ${{ steps.list.conclusion }}
+        continue-on-error: true
+  test:
+    needs: [plan]
+    if: ${{ github.event_name == 'push' && needs.plan.result == 'success' }}
+    strategy:
+      fail-fast: false
+      matrix:
+        os: [ubuntu-latest, windows-latest]
+        node: [18, 20]
+        exclude:
+          - os: windows-latest
+            node: 18
+    runs-on: ${{ matrix.os }}
+    env:
+      LIST: ${{ needs.plan.outputs.list }}
+      KEY: ${{ secrets.KEY }}
+    environment:
+      name: test
+      url: https://example.org
+    container:
+      image: node:${{ matrix.node }}
+      credentials:
+        username: me
+        password: ${{ secrets.PASSWORD }}
+    services:
+      base:
+        image: postgres
+        ports: ['5432:5432']
+    steps:
+      - {run: 'echo ${{ env.LIST }} ${{ matrix.node }}', shell: sh}
+      - run: echo ${{ contains(github.ref, 'x') }} ${{ runner.os }} ${{ hashFiles('a') }}
+  call:
+    needs: plan
+    permissions: read-all
+    uses: ./.github/workflows/called.yml
+    with:
+      name: x
+      fast: true
+    secrets:
+      token: ${{ secrets.GITHUB_TOKEN }}
+""",
+    CALLED: """name: Called
+on:
+  workflow_call:
+    inputs:
+      name: {type: string, required: true, description: Whom to greet.}
+      fast: {type: boolean}
+    secrets:
+      token: {required: true}
+    outputs:
+      done: {value: '${{ jobs.a.outputs.x }}'}
+jobs:
+  a:
+    runs-on: ubuntu-latest
+    outputs:
+      x: ${{ inputs.name }}
+    steps:
+      - run: make
+""",
+    ACTION: """name: Greet
+description: Says hello.
+inputs:
+  who:
+    description: Whom to greet.
+    required: true
+  loud:
+    default: 'false'
+outputs:
+  text:
+    value: ${{ steps.say.outputs.text }}
+runs:
+  using: composite
+  steps:
+    - id: say
+      run: echo "text=${{ inputs.who }}" >> "$GITHUB_OUTPUT"
+      shell: bash
+    - run: echo ${{ steps.say.outputs.text }}
+      shell: bash
+branding:
+  icon: bell
+""",
+}
+# Faults that stand at the beginning of a mapping or at a call, of what is still to be written there.
+STILL_LACKING = (" is missing", " is required here")
+TOKEN = re.compile(r"[\w./-]+")
+# Places and what has to be offered there, the first one first; and what must not be.
+JOB = "on: push\njobs:\n  a:\n    runs-on: u\n    steps:\n      - {id: one, run: make}\n      - {id: two, run: make}\n  b:\n    needs: a\n"
+PLACES = {
+    "keys of a workflow, needed ones first": ("|", {"on", "jobs", "name", "permissions"}, {"runs-on", "steps"}),
+    "those that don't stand there": ("on: push\n|\njobs: {}\n", {"env", "defaults"}, {"on", "jobs"}),
+    "keys of a job": (JOB + "    |", {"runs-on", "uses", "strategy"}, {"needs", "on", "run"}),
+    "keys beside uses": (JOB + "    uses: ./x\n    |", {"with", "secrets"}, {"runs-on", "steps", "env"}),
+    "keys of a step": (JOB + "    steps:\n      - |", {"run", "uses", "name"}, {"runs-on"}),
+    "keys of a step half typed": (JOB + "    steps:\n      - name: x\n        shel|\n  c:\n    runs-on: u\n", {"shell", "run"}, {"name"}),
+    "keys in brackets": (JOB + "    steps: [{run: x, |}]\n", {"shell", "env"}, {"run", "uses"}),
+    "events": ("on: |\njobs: {}\n", {"push", "pull_request"}, {"main"}),
+    "events in a list": ("on: [push, pu|]\njobs: {}\n", {"pull_request"}, {"jobs"}),
+    "events as keys": ("on:\n  push:\n  |\njobs: {}\n", {"issues", "schedule"}, {"push"}),
+    "filters": ("on:\n  push:\n    branches: x\n    |\njobs: {}\n", {"tags", "paths"}, {"branches", "branches-ignore"}),
+    "activity types": ("on:\n  issues:\n    types: [opened, |]\njobs: {}\n", {"closed", "typed"}, {"submitted"}),
+    "scopes": ("on: push\npermissions:\n  |\njobs: {}\n", {"contents", "id-token"}, {"read"}),
+    "access": ("on: push\npermissions:\n  contents: |\njobs: {}\n", {"read", "write", "none"}, {"read-all"}),
+    "all permissions": ("on: push\npermissions: |\njobs: {}\n", {"read-all"}, {"read"}),
+    "shells": (JOB + "    steps:\n      - run: x\n        shell: |", {"bash", "pwsh"}, {"fish"}),
+    "presets of cron": ("on:\n  schedule:\n    - cron: '|'\njobs: {}\n", {"0 0 * * *"}, set()),
+    "types of inputs of a call": ("on:\n  workflow_call:\n    inputs:\n      a:\n        type: |\njobs: {}\n", {"boolean"}, {"choice"}),
+    "types of inputs by hand": ("on:\n  workflow_dispatch:\n    inputs:\n      a:\n        type: |\njobs: {}\n", {"boolean", "choice"},
+                                set()),
+    "needs": (JOB + "  c:\n    needs: [|]\n", {"a", "b"}, {"c"}),
+    "needs without a cycle": ("on: push\njobs:\n  a:\n    needs: |\n  b:\n    needs: a\n  c: {}\n", {"c"}, {"a", "b"}),
+    "contexts of a step": (JOB + "    steps:\n      - run: ${{ | }}", {"github", "needs", "secrets", "contains", "hashFiles"},
+                           {"always", "jobs"}),
+    "contexts of a job's condition": (JOB + "    if: |", {"github", "needs", "always"}, {"env", "secrets", "steps", "hashFiles"}),
+    "strict properties": (JOB + "    if: github.r|", {"ref", "run_id"}, {"reff"}),
+    "properties in brackets": (JOB + "    if: github['r|", {"ref"}, set()),
+    "jobs that are needed": (JOB + "  c:\n    if: needs.|\n    needs: [b]\n", {"b"}, {"a", "c"}),
+    "their properties": (JOB + "    if: needs.a.|", {"result"}, {"outputs"}),
+    "steps before this one": (JOB + "    runs-on: u\n    steps:\n      - id: x\n        run: y\n      - if: steps.|\n        id: z\n",
+                              {"x"}, {"z", "one"}),
+    "properties of a step": (JOB + "    steps:\n      - id: x\n      - if: steps.x.|\n", {"outcome", "conclusion"}, set()),
+    "outputs of a script": (JOB + "    steps:\n      - id: x\n        run: echo \"n=1\" >> $GITHUB_OUTPUT\n      - if: steps.x.outputs.|\n",
+                            {"n"}, set()),
+    "outputs of an action": (JOB + "    steps:\n      - id: x\n        uses: ./greet\n      - if: steps.x.outputs.|\n", {"text"}, {"who"}),
+    "outputs of a workflow": (JOB + "    uses: ./.github/workflows/called.yml\n  c:\n    needs: b\n    if: needs.b.outputs.|\n", {"done"},
+                              {"name"}),
+    "inputs of an action": (JOB + "    steps:\n      - uses: ./greet\n        with:\n          |", {"who", "loud"}, {"text"}),
+    "inputs that aren't given": (JOB + "    steps:\n      - uses: ./greet\n        with:\n          who: x\n          |", {"loud"},
+                                 {"who"}),
+    "inputs of a workflow": (JOB + "    uses: ./.github/workflows/called.yml\n    with:\n      |", {"name", "fast"}, {"token"}),
+    "secrets of a workflow": (JOB + "    uses: ./.github/workflows/called.yml\n    secrets:\n      |", {"token"}, {"name"}),
+    "all secrets": (JOB + "    uses: ./.github/workflows/called.yml\n    secrets: |", {"inherit"}, set()),
+    "flags of a workflow's inputs": (JOB + "    uses: ./.github/workflows/called.yml\n    with:\n      fast: |", {"true", "false"}, set()),
+    "rows": (JOB + "    strategy: {matrix: {os: [a], node: [1]}}\n    runs-on: ${{ matrix.| }}\n", {"os", "node"}, set()),
+    "actions of the folder": (JOB + "    steps:\n      - uses: |", {"./greet"}, set()),
+    "workflows of the folder": (JOB + "    uses: |", {"./.github/workflows/called.yml"}, {"./.github/workflows/a.yml", "./greet"}),
+    "names of workflows": ("on:\n  workflow_run:\n    workflows: [|]\njobs: {}\n", {"Called"}, set()),
+    "own inputs": ("on:\n  workflow_call:\n    inputs:\n      a: {type: string}\njobs:\n  b:\n    if: inputs.|\n", {"a"}, set()),
+    "variables": ("on: push\nenv: {A: b}\n" + JOB[9:] + "    env: {C: d}\n    steps:\n      - run: ${{ env.| }}\n", {"A", "C"}, set()),
+    "a line before is broken": ("on: push\nenv\njobs:\n  a:\n    runs-on: u\n    |", {"steps"}, {"runs-on"}),
+    "a bracket is open": (JOB + "  c:\n    needs: [|\n    runs-on: u\n", {"a", "b"}, {"c"}),
+    "a list at the column of its key": ("on: push\njobs:\n  a:\n    runs-on: u\n    steps:\n    - run: x\n      |", {"shell"}, {"run"}),
+    "an expression over lines": (JOB + "    steps:\n      - run: |\n          echo ${{\n            github.r|", {"ref"}, set()),
+    "no expressions in uses": (JOB + "    steps:\n      - uses: x@${{ |", set(), {"github"}),
+    "nothing in a script": (JOB + "    steps:\n      - run: |\n          na|", set(), {"name", "github"}),
+}
+
+
+def project_of(texts: dict[str, str]) -> Project:
+    files = {path: text.encode() for path, text in texts.items()}
+    return Project(files.get, lambda: list(files))
+
+
+def offered(text: str, file: str = FILE, folder: dict[str, str] = FOLDER) -> list[Offer]:
+    """The offers at the last `|` of a text."""
+    at = text.rindex("|")
+    before, text = text[:at], text[:at] + text[at + 1:]
+    point = Point(before.count("\n"), len(before) - before.rfind("\n") - 1)
+    return offers(project_of({**folder, file: text}), file, point)[1]
+
+
+@CASES.case
+def by_place(program: str) -> None:
+    for what, (text, wanted, unwanted) in PLACES.items():
+        labels = [offer.label for offer in offered(text)]
+        assert wanted <= set(labels), (what, wanted - set(labels), labels)
+        assert not unwanted & set(labels), (what, unwanted & set(labels))
+
+
+@CASES.case
+def in_actions(program: str) -> None:
+    """Keys by `using`, contexts without secrets, and the outputs of all steps for the action's own."""
+    head = "name: x\ndescription: y\n"
+    places = {
+        head + "runs:\n  using: |": {"composite", "node20"},
+        head + "runs:\n  using: node20\n  |": {"main", "post-if"},
+        head + "runs:\n  using: composite\n  |": {"steps"},
+        head + "runs:\n  using: composite\n  steps:\n    - run: x\n      |": {"shell", "id"},
+        head + "inputs:\n  a:\n    |": {"description", "required", "default"},
+        head + "outputs:\n  a:\n    value: ${{ steps.| }}\nruns:\n  using: composite\n  steps:\n    - id: s\n": {"s"},
+    }
+    for text, wanted in places.items():
+        labels = {offer.label for offer in offered(text, "x/action.yml")}
+        assert wanted <= labels, (text, labels)
+    labels = {offer.label for offer in offered(head + "runs:\n  using: composite\n  steps:\n    - if: |", "x/action.yml")}
+    assert {"github", "always", "hashFiles"} <= labels and not {"secrets", "needs", "jobs"} & labels, labels
+
+
+@CASES.case
+def texts_and_order(program: str) -> None:
+    """What is required comes first, and an offer says what it is."""
+    found = {offer.label: offer for offer in offered("|")}
+    assert found["on"].rank < found["name"].rank and "required" in found["on"].detail
+    assert found["permissions"].documentation and found["name"].text == "name: "
+    who = next(offer for offer in offered(JOB + "    steps:\n      - uses: ./greet\n        with:\n          |") if offer.label == "who")
+    assert who.documentation == "Whom to greet." and "required" in who.detail and who.text == "who: "
+    (cron, *_) = [offer for offer in offered("on:\n  schedule:\n    - cron: |") if offer.label == "*/15 * * * *"]
+    assert cron.text == "'*/15 * * * *'" and cron.documentation
+    call = next(offer for offer in offered(JOB + "    if: |") if offer.label == "contains")
+    assert call.text == "contains('', '')" and call.detail.endswith("bool")
+
+
+class Linter:
+    """The faults of a folder, of which one file changes."""
+
+    def __init__(self, program: str, folder: dict[str, str]):
+        self.session = Session([program], False, SECONDS)
+        for path, text in folder.items():
+            self.session.put(path, text.encode())
+
+    def faults(self, path: str, text: str) -> list[Fault]:
+        self.session.put(path, text.encode())
+        return [fault for fault in parse_report(self.session.report(1 << 26), True) if fault.path == path]
+
+
+def put(text: str, span: Span, new: str) -> tuple[str, int, int]:
+    """A text with an offer put in, and where that begins and ends."""
+    lines = text.split("\n")
+    start = sum(len(line) + 1 for line in lines[:span.start.line]) + span.start.column
+    end = sum(len(line) + 1 for line in lines[:span.end.line]) + span.end.column
+    return text[:start] + new + text[end:], start, start + len(new)
+
+
+def touches(text: str, fault: Fault, start: int, end: int) -> bool:
+    """Whether a fault's place is that of what was put in."""
+    lines = text.split("\n")
+    first = sum(len(line) + 1 for line in lines[:fault.line - 1]) + fault.column - 1
+    return first < end and start < first + max(fault.width or 1, 1)
+
+
+@CASES.case
+def each_is_taken(program: str) -> None:
+    """Of words of files without fault a part is typed; each offer there is put in, and the linter finds no fault at its place,
+    but of what has to follow."""
+    chance = random.Random(int(os.environ.get("SEED", "1")))
+    linter = Linter(program, FOLDER)
+    for path, text in FOLDER.items():
+        assert not linter.faults(path, text), linter.faults(path, text)
+    tokens = [(path, match.start(), match.end()) for path, text in FOLDER.items() for match in TOKEN.finditer(text)]
+    count = 0
+    while count < PUTS:
+        path, start, end = chance.choice(tokens)
+        whole = FOLDER[path]
+        typed = chance.randrange(end - start + 1)
+        text = whole[:start + typed] + whole[end:]
+        before = text[:start + typed]
+        point = Point(before.count("\n"), len(before) - before.rfind("\n") - 1)
+        span, found = offers(project_of({**FOLDER, path: text}), path, point)
+        for offer in chance.sample(found, min(len(found), 6)):
+            count += 1
+            check_put(linter, path, text, span, offer)
+        linter.faults(path, whole)
+
+
+def check_put(linter: Linter, path: str, text: str, span: Span, offer: Offer) -> None:
+    """Puts in an offer, and behind an object one of its properties until there is none."""
+    changed, start, end = put(text, span, offer.text)
+    while offer.kind in ("module", "property"):
+        before = changed[:end] + "."
+        point = Point(before.count("\n"), len(before) - before.rfind("\n") - 1)
+        further = offers(project_of({**FOLDER, path: before + changed[end:]}), path, point)[1]
+        if not further:
+            break
+        offer = further[0]
+        changed = before + offer.text + changed[end:]
+        end += 1 + len(offer.text)
+    if offer.kind == "module":
+        changed, end = changed[:end] + ".x" + changed[end:], end + 2
+    wrong = [fault for fault in linter.faults(path, changed)
+             if touches(changed, fault, start, end) and not fault.message.endswith(STILL_LACKING)]
+    assert not wrong, f"{path}: {changed[start:end]!r} at {span.start} gives {wrong[0]}\n{changed}"
+
+
+if __name__ == "__main__":
+    sys.exit(CASES.run(sys.argv[1:]))

@@ -1,0 +1,170 @@
+#!/usr/bin/env python3
+"""While a buffer is no YAML the faults of its other lines stay; and how grave each fault is.
+
+    earlier.py PROGRAM [NAME...]
+"""
+from __future__ import annotations
+
+import sys
+
+from cases import Cases
+from promises import end, start
+from repositories import ACTION, CALLED, FILE, FILES
+
+from actionlint_client import entries
+from actionlint_client.diagnostics import ERROR, SEVERITIES, WARNING, severity_of
+from actionlint_client.earlier import Earlier
+from actionlint_client.faults import FileFaults
+from actionlint_client.report import Fault
+
+CASES = Cases("earlier")
+MARK = " (of the last text that was YAML)"
+STEP = "      - run: echo ${{{{ github.{} }}}}\n"
+PROPERTIES = [f"p{number}" for number in range(11)]
+TEXT = "on: push\njobs:\n  a:\n    runs-on: ubuntu-latest\n    steps:\n" + "".join(map(STEP.format, PROPERTIES))
+FIRST_STEP = 5
+
+
+def undefined(number: int) -> str:
+    return f'property "{PROPERTIES[number]}" is not defined [expression]'
+
+
+def shown(editor, path: str = FILE) -> list[tuple[int, str]]:
+    """Of each diagnostic its line and its message."""
+    return sorted((one["range"]["start"]["line"], one["message"]) for one in editor.diagnostics().get(path, []))
+
+
+@CASES.case
+def a_key_without_its_colon(program: str) -> None:
+    """The ten faults on other lines stay and are marked, at the places that they have now, and hovering tells of them."""
+    editor = start(program, {FILE: TEXT})
+    editor.open(FILE, TEXT)
+    editor.settle()
+    good = shown(editor)
+    assert good == [(FIRST_STEP + number, undefined(number)) for number in range(11)]
+    lines = TEXT.split("\n")
+    for typed in ("    na", "    name"):
+        editor.change(FILE, "\n".join(lines[:3] + [typed] + lines[3:]))
+        editor.settle()
+        found = shown(editor)
+        # What was typed goes on to the next line, whose colon is one too many.
+        assert len(found) == 12 and [line for line, message in found if not message.endswith(MARK)] == [4], found
+        assert [one for one in found if one[0] != 4] == [(line + 1, message + MARK) for line, message in good], found
+    one = next(one for one in editor.diagnostics()[FILE] if one["range"]["start"]["line"] == FIRST_STEP + 1)
+    assert one["data"] == {"kind": "expression", "earlier": True} and one["range"]["start"]["character"] == 29, one
+    assert "X13" in editor.hover(FILE, FIRST_STEP + 1, 29)["contents"]["value"]
+    editor.change(FILE, "\n".join(lines[:3] + ["    name: x"] + lines[3:]))
+    editor.settle()
+    assert shown(editor) == [(line + 1, message) for line, message in good]
+    end(editor)
+
+
+@CASES.case
+def the_line_of_the_fault(program: str) -> None:
+    """What stood on the line that is no YAML, or on one that was changed since, isn't shown; once it is YAML again, all is as reported."""
+    editor = start(program, {FILE: TEXT})
+    editor.open(FILE, TEXT)
+    broken = TEXT.replace(STEP.format("p3"), STEP.format("p3").replace("run:", "'run:"))
+    editor.change(FILE, broken)
+    editor.settle()
+    found = shown(editor)
+    assert [message for _, message in found if not message.endswith(MARK)] == ["quoted text is not closed [syntax-check]"], found
+    rest = [undefined(number) + MARK for number in range(11) if number != 3]
+    assert [message for _, message in found if message.endswith(MARK)] == rest, found
+    editor.change(FILE, broken.replace(STEP.format("p7"), STEP.format("ref")))
+    editor.settle()
+    rest = [undefined(number) + MARK for number in range(11) if number not in (3, 7)]
+    assert [message for _, message in shown(editor) if message.endswith(MARK)] == rest, "two changed lines, and those between them stay"
+    editor.change(FILE, TEXT.replace(STEP.format("p7"), STEP.format("ref")))
+    editor.settle()
+    assert [message for _, message in shown(editor)] == [undefined(number) for number in range(11) if number != 7]
+    machine = TEXT.replace("ubuntu-latest", "${{ github.q }}")
+    editor.change(FILE, machine)
+    editor.settle()
+    assert shown(editor)[0] == (3, 'property "q" is not defined [expression]') and len(shown(editor)) == 12, shown(editor)
+    editor.change(FILE, machine.replace("    runs-on", "    na\n    runs-on"))
+    editor.settle()
+    assert shown(editor)[0] == (4, "unexpected character [syntax-check]") and len(shown(editor)) == 12, "its line has another one now"
+    editor.change(FILE, "")
+    editor.settle()
+    assert [message for _, message in shown(editor)] == ["file is empty [syntax-check]"], "an empty file is none that isn't YAML"
+    end(editor)
+
+
+@CASES.case
+def what_it_calls_stays(program: str) -> None:
+    """The faults of an action that a buffer calls don't come and go with the buffer's YAML."""
+    editor = start(program, {**FILES, ACTION: "name: A\n"})
+    editor.open(CALLED, FILES[CALLED])
+    editor.settle()
+    faults = shown(editor, ACTION)
+    assert len(faults) == 2
+    editor.change(CALLED, FILES[CALLED] + "  b\n")
+    editor.settle()
+    assert shown(editor, ACTION) == faults and len(shown(editor, CALLED)) == 1
+    end(editor)
+
+
+@CASES.case
+def switched_off(program: str) -> None:
+    """With the option only what the linter says is shown: the one fault."""
+    editor = start(program, {**FILES, ACTION: "name: A\n", CALLED: FILES[CALLED] + STEP.format("p0")}, words=("--no-earlier-faults",))
+    editor.open(CALLED, FILES[CALLED] + STEP.format("p0"))
+    editor.settle()
+    assert len(shown(editor, CALLED)) == 1 and len(shown(editor, ACTION)) == 2
+    editor.change(CALLED, FILES[CALLED] + STEP.format("p0") + "  b\n")
+    editor.settle()
+    assert len(shown(editor, CALLED)) == 1 and MARK not in shown(editor, CALLED)[0][1] and shown(editor, ACTION) == []
+    end(editor)
+
+
+@CASES.case
+def opened_as_no_yaml(program: str) -> None:
+    """A file that is opened as no YAML has the faults of the saved file on the lines that it shares with that, until it is closed."""
+    editor = start(program, {FILE: TEXT})
+    editor.open(FILE, TEXT + "  b\n")
+    editor.settle()
+    assert len(shown(editor)) == 12 and sum(message.endswith(MARK) for _, message in shown(editor)) == 11, shown(editor)
+    editor.change(FILE, "a: [")
+    editor.settle()
+    assert [message for _, message in shown(editor)] == ["flow collection is not closed [syntax-check]"]
+    editor.close(FILE)
+    editor.settle()
+    assert [message for _, message in shown(editor)] == [undefined(number) for number in range(11)]
+    end(editor)
+
+
+@CASES.case
+def where_lines_go(_: str) -> None:
+    """Faults move with their lines, whatever ends these; those of lines that were changed go."""
+    found = FileFaults(tuple(Fault("a", line, 1, "m", "k", 1) for line in (1, 2, 3, 4, 5)), 7)
+    for before, after, lines in (
+            (b"a\nb\nc\nd\ne", b"a\nb\nc\nd\ne", [1, 2, 3, 4, 5]),
+            (b"a\nb\nc\nd\ne", b"x\na\nb\nc\nd\ne", [2, 3, 4, 5, 6]),
+            (b"a\nb\nc\nd\ne", b"a\nb\nx\ny\nd\ne", [1, 2, 5, 6]),
+            (b"a\r\nb\rc\nd\ne", b"a\r\nb\re", [1, 2, 3]),
+            (b"a\nb\nc\nd\ne", b"", []),
+            (b"a\na\na\na\na", b"a\na\na", [1, 2, 3]),
+            (b"a\nb\nc\nd\ne", b"e\nd\nc\nb\na", [])):
+        moved = Earlier(before, found).in_text(after)
+        assert [fault.line for fault in moved.found.faults] == lines and moved.found.more == 7, (before, after, moved)
+
+
+@CASES.case
+def severities(program: str) -> None:
+    """What breaks a run is an error; what GitHub only warns of, a warning. Each row has a known code and a reason."""
+    commands = {"set-output": WARNING, "save-state": WARNING, "set-env": ERROR, "add-path": ERROR}
+    script = "".join(f"      - run: echo '::{command}{' name=x' * (command != 'add-path')}::y'\n" for command in commands)
+    editor = start(program, {FILE: TEXT + script})
+    found = {one["message"]: one["severity"] for one in editor.diagnostics()[FILE]}
+    for command, severity in commands.items():
+        assert found[f'command "{command}" is deprecated [deprecated-commands]'] == severity, found
+    assert all(found[undefined(number)] == ERROR for number in range(11)), found
+    codes = {entry.code for entry in entries.entries()}
+    assert all(row.code in codes and row.arguments and row.reason for row in SEVERITIES)
+    assert severity_of("X13", 'property "set-output" is not defined') == ERROR
+    end(editor)
+
+
+if __name__ == "__main__":
+    sys.exit(CASES.run(sys.argv[1:]))

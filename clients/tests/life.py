@@ -1,0 +1,274 @@
+#!/usr/bin/env python3
+"""How long a folder has a linter, which URIs are one file, and what the server opens on a disk that was made by a stranger.
+
+    life.py PROGRAM [NAME...]
+"""
+from __future__ import annotations
+
+import os
+import resource
+import shutil
+import sys
+import tempfile
+import time
+
+from cases import Cases
+from editor import Editor, children
+from promises import end, save, start
+from repositories import ACTION, CALLED, FILE, FILES, RIGHT, UNDEFINED, WORKFLOWS, WRONG, write
+
+from actionlint_client.disk import NOT_REGULAR, OPENED, Disk
+from actionlint_client.uris import path_of
+
+CASES = Cases("life")
+OUTSIDE = "its real path is outside of the folder"
+BROKEN_ACTION = "name: A\n"
+# What `select` can't take any more.
+MANY_DESCRIPTORS = 1_030
+
+
+def link(root: bytes, path: str, target: str) -> None:
+    whole = os.path.join(os.fsdecode(root), path)
+    os.makedirs(os.path.dirname(whole), exist_ok=True)
+    os.symlink(target, whole)
+
+
+@CASES.case
+def a_folder_is_let_go(program: str) -> None:
+    """A linter runs while a workflow or an action is open, and for the workspace's folders."""
+    top = tempfile.mkdtemp(prefix="actionlint-test-")
+    editor = Editor(program, None)
+    editor.root = os.fsencode(top)
+    for number in range(20):
+        os.makedirs(f"{top}/{number}")
+        editor.open(f"{number}/values.yml", "a: [")
+    editor.settle()
+    assert children(editor.child.pid) == [], "a YAML file that is neither a workflow nor an action has a linter"
+    for number in range(20):
+        editor.open(f"{number}/action.yml", BROKEN_ACTION)
+    editor.settle()
+    assert len(children(editor.child.pid)) == 20 and len(editor.diagnostics()) == 20
+    for number in range(20):
+        editor.close(f"{number}/values.yml")
+        if number:
+            editor.close(f"{number}/action.yml")
+    editor.settle()
+    assert len(children(editor.child.pid)) == 1 and set(editor.diagnostics()) == {"0/action.yml"}, editor.diagnostics()
+    assert editor.quit() == 0
+    shutil.rmtree(top)
+    editor = start(program, FILES)
+    editor.open(FILE, WRONG)
+    editor.close(FILE)
+    editor.settle()
+    assert len(children(editor.child.pid)) == 1 and editor.texts(FILE) == [UNDEFINED], "a folder of the workspace stays"
+    end(editor)
+
+
+@CASES.case
+def a_folder_that_nobody_watches(program: str) -> None:
+    """An editor watches its workspace alone: where a file of another folder is open, the server looks at that disk."""
+    editor = start(program, FILES)
+    top = tempfile.mkdtemp(prefix="actionlint-test-")
+    write(top, {ACTION: FILES[ACTION], FILE: RIGHT})
+    editor.open_uri(f"file://{top}/{FILE}", RIGHT)
+    editor.settle()
+    write(top, {CALLED: FILES[CALLED]})
+    deadline = time.monotonic() + 10
+    while f"file://{top}/{CALLED}" not in editor.shown:
+        assert time.monotonic() < deadline, "nobody looked"
+        time.sleep(0.1)
+    end(editor)
+    shutil.rmtree(top)
+
+
+@CASES.case
+def a_folder_without_files(program: str) -> None:
+    """A folder of the workspace has a linter once there is a file to lint."""
+    editor = start(program, {"notes.yml": "a: 1\n"})
+    assert children(editor.child.pid) == []
+    save(editor, FILE, WRONG.encode())
+    assert len(children(editor.child.pid)) == 1 and editor.texts(FILE) == [UNDEFINED]
+    os.remove(os.path.join(editor.root, FILE.encode()))
+    editor.touched(FILE, kind=3)
+    editor.settle()
+    assert editor.diagnostics() == {}
+    end(editor)
+
+
+@CASES.case
+def many_descriptors(program: str) -> None:
+    """Descriptors beyond those of `select` are as good as others, and the limit that a program starts with is no limit of folders."""
+    soft, hard = resource.getrlimit(resource.RLIMIT_NOFILE)
+    resource.setrlimit(resource.RLIMIT_NOFILE, (hard, hard))
+    opened = tuple(os.open(os.devnull, os.O_RDONLY) for _ in range(MANY_DESCRIPTORS))
+    editor = start(program, FILES, inherited=opened)
+    for descriptor in opened:
+        os.close(descriptor)
+    assert editor.texts(FILE) == [UNDEFINED] and not editor.messages, editor.messages
+    end(editor)
+    resource.setrlimit(resource.RLIMIT_NOFILE, (40, hard))
+    editor = Editor(program, None)
+    resource.setrlimit(resource.RLIMIT_NOFILE, (soft, hard))
+    editor.root = tempfile.mkdtemp(prefix="actionlint-test-").encode()
+    for number in range(30):
+        os.makedirs(os.path.join(editor.root, b"%d" % number))
+        editor.open(f"{number}/action.yml", BROKEN_ACTION)
+    editor.settle()
+    assert len(editor.diagnostics()) == 30 and not editor.messages, editor.messages
+    end(editor)
+
+
+@CASES.case
+def uris_that_are_refused(program: str) -> None:
+    """A URI that no file can have is passed over, and what comes behind it is taken."""
+    editor = start(program, FILES)
+    linters = len(children(editor.child.pid))
+    for uri in ("file:///x/a%00b/.github/workflows/a.yml", "file:///x%00/action.yml", "file:action.yml", "file://elsewhere/action.yml",
+                "file://[/action.yml", "", "action.yml"):
+        editor.open_uri(uri, WRONG)
+        editor.settle()
+        assert len(children(editor.child.pid)) == linters, uri
+        answer = editor.request("textDocument/hover", {"textDocument": {"uri": uri}, "position": {"line": 5, "character": 30}})
+        assert answer["result"] is None and path_of(uri) is None, uri
+    editor.open(FILE, RIGHT)
+    editor.settle()
+    assert editor.texts(FILE) == [] and editor.texts(CALLED) and not editor.messages
+    end(editor)
+
+
+@CASES.case
+def two_uris_of_one_path(program: str) -> None:
+    """However a URI spells a path, it is one buffer, which is open until it is closed as often as it was opened."""
+    editor = start(program, FILES)
+    one = editor.uri(FILE)
+    for other in (one.replace("a.yml", "%61%2eyml"), one.replace("workflows/", "workflows/./"), one.replace("file://", "file://localhost"),
+                  one.replace("workflows/", "workflows//x/../"), one.replace("file://", "file:////"), one.replace("file:", "FILE:")):
+        editor.open_uri(one, WRONG)
+        editor.change_uri(other, RIGHT)
+        editor.settle()
+        assert editor.shown[one]["diagnostics"] == [], other
+        editor.open_uri(other, WRONG)
+        editor.settle()
+        assert [len(editor.shown[uri]["diagnostics"]) for uri in (one, other)] == [1, 1], other
+        editor.change_uri(one, RIGHT)
+        editor.close_uri(one)
+        editor.settle()
+        assert editor.shown[other]["diagnostics"] == [], f"{other} is open still"
+        editor.close_uri(other)
+        editor.settle()
+        assert len(editor.shown[one]["diagnostics"]) == 1, "closed, so that the file's text counts"
+        editor.open_uri(one, RIGHT)
+        editor.change_uri(other, RIGHT + "#")
+        editor.close_uri(other)
+        editor.settle()
+        assert len(editor.shown[one]["diagnostics"]) == 1, "closed by the other URI"
+    assert len(children(editor.child.pid)) == 1
+    end(editor)
+
+
+@CASES.case
+def links_that_leave_the_folder(program: str) -> None:
+    """What lies outside behind its links is passed over, and told once; links within the folder are followed."""
+    outside = tempfile.mkdtemp(prefix="actionlint-test-")
+    write(outside, {"secret.yml": "SECRET: x\n", "action.yml": BROKEN_ACTION})
+    first, second, third = WORKFLOWS + "first.yml", WORKFLOWS + "second.yml", WORKFLOWS + "third.yml"
+    editor = start(program, {FILE: WRONG, "kept/real.yml": WRONG, first: RIGHT.replace("run: echo", "uses: ./out\n      - run: echo")})
+    link(editor.root, second, outside + "/secret.yml")
+    link(editor.root, third, "../../kept/real.yml")
+    link(editor.root, "out/action.yml", outside + "/action.yml")
+    link(editor.root, WORKFLOWS + ".#a.yml", "somebody@host.1234")
+    link(editor.root, WORKFLOWS + "environ.yml", "/proc/self/environ")
+    for _ in range(2):
+        editor.touched(FILE)
+        editor.settle()
+    assert set(editor.diagnostics()) == {FILE, third}, editor.diagnostics()
+    told = [said for said in editor.messages if OUTSIDE in said]
+    assert len(told) == 3 and any("out/action.yml" in said for said in told) and len(editor.messages) == 3, editor.messages
+    editor.open(second, WRONG)
+    editor.settle()
+    assert editor.texts(second) == [UNDEFINED], "the text of a buffer is the editor's"
+    end(editor)
+    shutil.rmtree(outside)
+
+
+@CASES.case
+def many_links_that_leave(_: str) -> None:
+    """A folder that is full of them doesn't fill the screen."""
+    with tempfile.TemporaryDirectory(prefix="actionlint-test-") as root:
+        said: list[str] = []
+        looked_at = Disk(os.fsencode(root), said.append)
+        for number in range(50):
+            link(os.fsencode(root), f"{WORKFLOWS}{number}.yml", "/proc/self/environ")
+        for _ in range(2):
+            looked_at.rescan()
+            assert all(looked_at.file(path).data is None for path in looked_at.workflows) and len(looked_at.workflows) == 50
+        assert len(said) == 11 and all(OUTSIDE in one for one in said[:10]) and said[10] == "more files are passed over", said
+
+
+@CASES.case
+def a_root_behind_a_link(program: str) -> None:
+    """The folder itself may be a link, and its own real path counts."""
+    top = tempfile.mkdtemp(prefix="actionlint-test-")
+    write(top + "/real", FILES)
+    os.symlink("real", top + "/link")
+    editor = Editor(program, os.fsencode(top + "/link"))
+    editor.settle()
+    assert editor.texts(FILE) == [UNDEFINED] and editor.texts(CALLED) and not editor.messages, editor.messages
+    assert editor.quit() == 0
+    shutil.rmtree(top)
+
+
+@CASES.case
+def pipes_and_devices(program: str) -> None:
+    """A listed one is passed over, a called one can't be read, and none is waited for."""
+    editor = start(program, {**FILES, WORKFLOWS + "b.yml": RIGHT.replace("run: echo", "uses: ./pipe\n      - run: echo")})
+    os.makedirs(os.path.join(editor.root, b"pipe"))
+    os.mkfifo(os.path.join(editor.root, b"pipe/action.yml"))
+    os.mkfifo(os.path.join(editor.root, WORKFLOWS.encode() + b"p.yml"))
+    os.mkdir(os.path.join(editor.root, WORKFLOWS.encode() + b"d.yml"))
+    for path, target in (("e.yml", "/dev/zero"), ("f.yml", "/proc/kmsg"), ("g.yml", "/dev/stdin"), ("h.yml", "../../pipe/action.yml")):
+        link(editor.root, WORKFLOWS + path, target)
+    editor.touched(FILE)
+    editor.settle()
+    assert editor.texts("pipe/action.yml") == [NOT_REGULAR], editor.diagnostics()
+    assert set(editor.diagnostics()) == {FILE, CALLED, "pipe/action.yml"}, editor.diagnostics()
+    end(editor)
+
+
+@CASES.case
+def what_changes_between_the_look_and_the_opening(program: str) -> None:
+    """What was opened is looked at: a pipe that took a file's place isn't waited for, nor is a file outside read."""
+    with tempfile.TemporaryDirectory(prefix="actionlint-test-") as top:
+        root, file = top + "/root", top + "/root/" + FILE
+        for replaced in ("pipe", "link"):
+            write(root, {FILE: RIGHT})
+            write(top, {"outside.yml": "SECRET: x\n"})
+            opened = os.open
+
+            def replace(path, flags, *more, replaced=replaced, opened=opened):
+                os.remove(file)
+                os.mkfifo(file) if replaced == "pipe" else os.symlink(top + "/outside.yml", file)
+                assert flags == OPENED and flags & os.O_NONBLOCK
+                return opened(path, flags, *more)
+
+            os.open = replace
+            try:
+                found = Disk(os.fsencode(root), lambda said: None).file(FILE)
+            finally:
+                os.open = opened
+            assert found.data is None and (found.error == NOT_REGULAR) == (replaced == "pipe"), (replaced, found)
+            assert found.is_outside == (replaced == "link")
+            os.remove(file)
+
+
+@CASES.case
+def a_name_that_is_too_long(program: str) -> None:
+    """A call of an action whose name no disk can hold is one of an action that isn't there."""
+    editor = start(program, {FILE: WRONG.replace("run: echo", "uses: ./" + "n" * 300 + "\n      - run: echo"), ACTION: FILES[ACTION]})
+    assert editor.texts(FILE) == [UNDEFINED] and not editor.messages
+    assert set(editor.diagnostics()) == {FILE}
+    end(editor)
+
+
+if __name__ == "__main__":
+    sys.exit(CASES.run(sys.argv[1:]))

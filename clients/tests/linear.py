@@ -1,0 +1,309 @@
+#!/usr/bin/env python3
+"""The server's work is linear in what it is sent: calls, reports, buffers, ranges and quick fixes, also of files that a stranger wrote.
+Nothing is timed here: what is done is counted. bench/clients.py has the times.
+
+    linear.py PROGRAM [NAME...]
+"""
+from __future__ import annotations
+
+import os
+import random
+import shutil
+import sys
+import tempfile
+from pathlib import Path
+
+from cases import Cases
+from editor import memory
+from promises import end, script, start
+from repositories import ACTION, CALLED, FILE, FILES, RIGHT, UNDEFINED, WORKFLOWS, WRONG, reported, write
+
+from actionlint_client import disk, faults, positions
+from actionlint_client.calls import callees
+from actionlint_client.diagnostics import Diagnostics
+from actionlint_client.faults import FaultReader, Form
+from actionlint_client.folder import REASONS, REPORTS_TOO_MUCH, Folder, Program
+from actionlint_client.report import Fault
+from actionlint_client.repository import Repository
+from actionlint_client.workspace import Workspace
+
+CASES = Cases("linear")
+EVERYWHERE = {"start": {"line": 0, "character": 0}, "end": {"line": 1_000, "character": 0}}
+HEAD = "on: push\njobs:\n  a:\n    runs-on: ubuntu-latest\n    steps:\n"
+FOLDERS = ("a", "b", "d e", "é", ".github/x", "a/b")
+TWO_REQUIRED = "name: A\ndescription: d\ninputs:\n  who: {required: true}\n  what: {required: true}\nruns: {using: node20, main: m.js}\n"
+# Values of `uses`, and the folders of the actions that they name.
+USES = {
+    "./a": ["a"], "./a/": ["a"], "'./a'": ["a"], '"./a"': ["a"], '"\\x2e/a"': ["a"], '"./\\\n          a"': ["a"], "./a # ./b": ["a"],
+    "|-\n          ./a": ["a"], "\n          ./a": ["a"], "./d e": ["d e"], "&x ./a": ["a"], "./é": ["é"], "./": [""],
+    "'./a\n          b'": ["a b"], "./a, ./b": ["a, ./b"], "././a": [], "./a//b": [], "./../a": [], ".//a": [], "/a": [], "a": [],
+    "./a\\b": [], '"./a\\tb"': [], "./${{ github.ref }}": [], "[./a]": [], "{./a: 1}": [], "!x ./a": None, "*y": None,
+}
+NO_CALLS = (
+    "      - run: |\n          uses: ./a\n          - uses: ./a\n", "      # - uses: ./a\n", "      - name: 'uses: ./a'\n",
+    "      - run: x\n        with:\n          uses: ./a\n", "      - run: x\n        env: {uses: ./a}\n",
+)
+
+
+@CASES.case
+def what_a_file_calls(_: str) -> None:
+    """The candidates are those of the linter: the calls of steps, however they are written, and nothing that only looks like one."""
+    for value, folders in USES.items():
+        found = callees(FILE, f"{HEAD}      - uses: {value}\n".encode())
+        expected = folders and {f"{folder}/{name}".lstrip("/") for folder in folders for name in ("action.yml", "action.yaml")}
+        assert found == (None if folders is None else frozenset(expected or ())), (value, found)
+    for text in NO_CALLS:
+        assert callees(FILE, (HEAD + text).encode()) == frozenset(), text
+    composite = "name: A\nruns:\n  using: {}\n  steps:\n    - uses: ./a\n"
+    assert len(callees(ACTION, composite.format("composite").encode())) == 2
+    assert callees(ACTION, composite.format("node20").encode()) == callees(FILE, composite.format("composite").encode()) == frozenset()
+    for text in ("uses: [", "a: b\n---\nuses: c\n", "? [uses]\n: a\n", "&a uses: b\n", "uses: " + "[" * 65 + "]" * 65, "uses: \t- a: [",
+                 "uses: " + "[" * 500_000, "- " * 500_000 + "uses"):
+        assert callees(FILE, text.encode()) is None, text[:40]
+    assert callees(FILE, b"uses: \xff") is None
+
+
+def random_steps(chance: random.Random) -> str:
+    steps = []
+    for _ in range(chance.randrange(1, 5)):
+        value = chance.choice([one for one in USES if one != "*y"])
+        other = f"./{chance.choice(FOLDERS)}"
+        steps.append(chance.choice([
+            f"      - uses: {value}\n", f"      - name: x\n        uses: {other}\n        with:\n          uses: ./b\n",
+            f"      - {{uses: '{other}'}}\n", f"      - &s{chance.randrange(2)}\n        uses: {other}\n",
+            f"      - *s{chance.randrange(2)}\n", *NO_CALLS]))
+    text = HEAD + "".join(steps)
+    # Only in anchors' names do the two readers of YAML differ here.
+    if chance.random() < 0.5 or "&" in text or "*" in text:
+        return text
+    at = chance.randrange(len(text))
+    return text[:at] + chance.choice("-:'\"[{ \n") + text[at + chance.randrange(2):]
+
+
+@CASES.case
+def calls_by_chance(program: str) -> None:
+    """Of files by chance the actions that are there and are called are those that the linter lints besides."""
+    chance = random.Random(7)
+    with tempfile.TemporaryDirectory(prefix="actionlint-test-") as root:
+        actions = {f"{folder}/{name}" for folder in FOLDERS for name in ("action.yml", "action.yaml")} | {"action.yml"}
+        write(root, {path: "name: A\n" for path in actions})
+        called = 0
+        for number in range(300):
+            text = random_steps(chance)
+            write(root, {FILE: text})
+            linted = {fault[0] for fault in reported(program, os.fsencode(root))} - {FILE}
+            found = (callees(FILE, text.encode()) or frozenset()) & actions
+            assert found == linted, (number, text, found, linted)
+            called += len(found)
+    assert called > 100
+
+
+@CASES.case
+def texts_that_look_like_calls(program: str) -> None:
+    """A script of 368 KB that is full of `./` costs no more memory than another one."""
+    for piece in ("./ ", "./a,", "uses: ./a'"):
+        text = HEAD + "      - run: |\n          uses " + piece * (368_000 // len(piece)) + "\n"
+        editor = start(program, {FILE: text})
+        editor.open(FILE, text)
+        editor.change(FILE, text + "#\n")
+        editor.settle()
+        assert editor.diagnostics() == {} and memory(editor.child.pid, "VmHWM") < 64 * 1_024, memory(editor.child.pid, "VmHWM")
+        end(editor)
+
+
+class Silent:
+    """An editor that hears nothing."""
+
+    def watches(self) -> bool:
+        return True
+
+    def publish(self, *_) -> None:
+        pass
+
+    def say(self, *_) -> None:
+        pass
+
+
+@CASES.case
+def many_buffers(program: str) -> None:
+    """However many buffers are opened, changed and closed in a burst, the disk is looked at once."""
+    paths = [f"{WORKFLOWS}{number:03}.yml" for number in range(200)]
+    root = tempfile.mkdtemp(prefix="actionlint-test-")
+    write(root, {path: RIGHT for path in paths})
+    looks = []
+    rescan = disk.Disk.rescan
+    disk.Disk.rescan = lambda one: (looks.append(1), rescan(one))
+    try:
+        linter = Program([program], 20.0)
+        workspace = Workspace(lambda root: Repository(root, Folder(root, linter, print), True), Silent(), Diagnostics(None))
+        for doing in (lambda uri: workspace.open(uri, 1, WRONG.encode()), lambda uri: workspace.change(uri, 2, RIGHT.encode()),
+                      lambda uri: workspace.rescan(), workspace.close):
+            looks.clear()
+            for path in paths:
+                doing(f"file://{root}/{path}")
+            assert not looks
+            workspace.refresh()
+            assert len(looks) <= 1
+        workspace.end()
+    finally:
+        disk.Disk.rescan = rescan
+    shutil.rmtree(root)
+
+
+@CASES.case
+def bursts(program: str) -> None:
+    """Many edits that come together make few reports."""
+    folder = tempfile.mkdtemp(prefix="actionlint-test-")
+    log = folder + "/log"
+    editor = start(script(folder, f'#!/bin/sh\ntee -a "{log}" | "{program}" "$@"\n'), FILES)
+    editor.open(FILE, WRONG)
+    editor.settle()
+    before = Path(log).read_text(encoding="utf-8").count("\nreport\n")
+    for number in range(100):
+        editor.change(FILE, WRONG + "#" * number + "\n", held=number < 99)
+    editor.settle()
+    assert Path(log).read_text(encoding="utf-8").count("\nreport\n") - before < 10
+    assert editor.texts(FILE) == [UNDEFINED]
+    end(editor)
+    shutil.rmtree(folder)
+
+
+@CASES.case
+def fixes_of_many_faults(program: str) -> None:
+    """Quick fixes over 400 faults take one linter more, and those of the first faults are offered."""
+    folder = tempfile.mkdtemp(prefix="actionlint-test-")
+    log = folder + "/log"
+    text = HEAD + "".join(f"      - run: echo ${{{{ github.acto{number} }}}}\n" for number in range(400))
+    editor = start(script(folder, f'#!/bin/sh\necho started >> "{log}"\nexec "{program}" "$@"\n'), {FILE: text})
+    editor.open(FILE, text)
+    editor.settle()
+    assert len(editor.texts(FILE)) == 400
+    found = editor.actions(FILE, EVERYWHERE)
+    assert found and found[0]["title"] == 'change to "actor"', found[:1]
+    assert Path(log).read_text(encoding="utf-8").count("started") == 2
+    end(editor)
+    shutil.rmtree(folder)
+
+
+@CASES.case
+def ranges_on_a_long_line(_: str) -> None:
+    """Columns are those of a reader that counts anew for each fault, and the line is looked through once."""
+    chance = random.Random(3)
+    text = "".join(chance.choice("aé\u2028\U0001F600 -") for _ in range(2_000))
+    lines = positions.Lines(b"x\n" + text.encode(), True)
+    counted = []
+    two_units = positions.TWO_UNITS
+
+    class Counting:
+        def finditer(self, line):
+            counted.append(1)
+            return two_units.finditer(line)
+
+    positions.TWO_UNITS = Counting()
+    try:
+        for _ in range(500):
+            column, width = chance.randrange(1, 2_005), chance.randrange(5)
+            found = lines.range_of(Fault("a", 2, column, "m", "k", width))
+            units = [len(text[:before].encode("utf-16-le")) // 2 for before in (column - 1, column - 1 + width)]
+            assert [found["start"]["character"], found["end"]["character"]] == units and found["start"]["line"] == 1
+    finally:
+        positions.TWO_UNITS = two_units
+    assert len(counted) == 1
+
+
+@CASES.case
+def many_missing_inputs(program: str) -> None:
+    """600 calls that each lack 1,000 inputs: the first 1,000 faults are shown and how many more there are, and the other files' too."""
+    inputs = "".join(f"  i{number}: {{required: true}}\n" for number in range(1_000))
+    calls = "".join(f"      - uses: ./a\n        with:\n          x{number}: 1\n" for number in range(600))
+    editor = start(program, {FILE: WRONG, CALLED: HEAD + calls, ACTION: TWO_REQUIRED.replace("  who: {required: true}\n", inputs)})
+    assert editor.texts(FILE) == [UNDEFINED] and not editor.messages, editor.messages
+    shown = editor.texts(CALLED)
+    # Each call lacks `what` too, and gives an input that isn't one.
+    assert len(shown) == 1_001 and shown[-1] == f"{600 * 1_002 - 1_000} more faults in this file", shown[-1]
+    assert memory(editor.child.pid, "VmHWM") < 128 * 1_024, "the server has held the whole report"
+    editor.open(CALLED, FILES[CALLED])
+    editor.settle()
+    assert len(editor.texts(CALLED)) == 1_001 and editor.texts(FILE) == [UNDEFINED]
+    end(editor)
+
+
+@CASES.case
+def a_report_that_is_too_long(program: str) -> None:
+    """The file with most of it is left out until it changes, and that is told; the others are shown."""
+    held, most = faults.MAX_HELD_BYTES, faults.MAX_REPORT_BYTES
+    faults.MAX_HELD_BYTES, faults.MAX_REPORT_BYTES = 5_000, 20_000
+    root = tempfile.mkdtemp(prefix="actionlint-test-")
+    write(root, {FILE: WRONG, CALLED: HEAD + "".join(f"      - run: echo ${{{{ github.a{number} }}}}\n" for number in range(1_000))})
+    folder = Folder(os.fsencode(root), Program([program], 20.0), print)
+    try:
+        result = folder.refresh()
+        assert set(result.faults) == {FILE} and result.refused == {CALLED: REASONS[REPORTS_TOO_MUCH]}, result.refused
+        folder.edit(FILE, RIGHT.encode())
+        assert folder.refresh().faults == {}
+        folder.edit(CALLED, WRONG.encode())
+        result = folder.refresh()
+        assert len(result.faults[CALLED].faults) == 1 and result.refused == {}
+    finally:
+        faults.MAX_HELD_BYTES, faults.MAX_REPORT_BYTES = held, most
+        folder.close()
+    shutil.rmtree(root)
+
+
+PATHS = [f".github/workflows/{name}.yml" for name in ("a", "ab", "b", "ba", "c", "x", "xy", "z")]
+SNIPPETS = ("  |\n1 | a\n  | ^\n", "  |\n1 | ab\n  | ^~\n", "  |\n1 | .github/workflows/b.yml:1:1: m [k]\n  | ^~\n")
+
+
+def report_line(chance: random.Random, path: str, snippets: bool) -> str:
+    line = f"{path}:{chance.randrange(1, 4)}:{chance.randrange(1, 3)}: {chance.choice(['m', 'mm', 'key'])} [k]\n"
+    return line + chance.choice(SNIPPETS) if snippets else line
+
+
+@CASES.case
+def reports_by_chance(_: str) -> None:
+    """Whatever changed between two reports, what is taken of the second is what a reader that never saw the first takes of it."""
+    chance = random.Random(5)
+    for snippets, mistakable, held in ((False, False, True), (True, False, True), (True, True, True), (False, False, False)):
+        form, reader, files = Form(set(PATHS), mistakable, snippets), FaultReader(), {}
+        for _ in range(400):
+            for path in chance.sample(PATHS, chance.randrange(1, 3)):
+                lines = list(files.get(path, []))
+                if lines and chance.random() < 0.5:
+                    del lines[chance.randrange(len(lines))]
+                else:
+                    lines.insert(chance.randrange(len(lines) + 1), report_line(chance, path, snippets))
+                files[path] = lines if chance.random() < 0.8 else []
+            report = "".join(line for path in sorted(files) for line in files[path]).encode()
+            before, new = dict(reader.files), FaultReader()
+            faults.MAX_HELD_BYTES = 32 * 1_048_576 if held else -1
+            try:
+                changed = reader.read([report[at:at + 50] for at in range(0, len(report), 50)] or [b""], form)
+            finally:
+                faults.MAX_HELD_BYTES = 32 * 1_048_576
+            new.read([report], form)
+            assert reader.files == new.files, report
+            assert changed == {path for path in {*before, *new.files} if before.get(path) != new.files.get(path)}, report
+
+
+@CASES.case
+def only_what_changed_is_parsed(_: str) -> None:
+    """Of a report over 4,096 files with a fault each, the lines of one file are parsed after an edit of it."""
+    paths = [f"{WORKFLOWS}{number:04}.yml" for number in range(4_096)]
+    form, reader, parsed = Form(set(paths), False, False), FaultReader(), []
+    parse = faults.parse_fault
+    faults.parse_fault = lambda line, *more: (parsed.append(line), parse(line, *more))[1]
+    try:
+        reader.read([b"".join(b"%s:1:1: m [k]\n" % path.encode() for path in paths)], form)
+        for number in (0, 1_000, 4_095):
+            lines = [b"%s:1:1: m [k]\n" % path.encode() for path in paths]
+            for text in (b"%s:1:1: mm [k]\n", b"", b"%s:1:1: m [k]\n", b"%s:1:1: m [k]\n" * 2, b"%s:1:1: m [k]\n"):
+                lines[number] = text.replace(b"%s", paths[number].encode())
+                parsed.clear()
+                assert reader.read([b"".join(lines)], form) == {paths[number]}
+                assert parsed == [line + b" [k]" for line in lines[number].split(b" [k]\n")[:-1]], (number, text, parsed)
+    finally:
+        faults.parse_fault = parse
+
+
+if __name__ == "__main__":
+    sys.exit(CASES.run(sys.argv[1:]))

@@ -1,0 +1,148 @@
+#!/usr/bin/env python3
+"""Which linter the clients run: the first that there is of five, and where there is none one message says what names one.
+
+    lookup.py PROGRAM [NAME...]
+"""
+from __future__ import annotations
+
+import os
+import shutil
+import subprocess
+import sys
+import tempfile
+import time
+from pathlib import Path
+
+from cases import Cases
+from clones_and_releases import PATH
+from editor import Editor
+from repositories import CLIENTS, FILE, FILES, UNDEFINED, write
+
+CASES = Cases("lookup")
+WHERE = "--program or the variable ACTIONLINT names the linter"
+NONE = f"cannot start actionlint: there is none that runs here, beside the clients or on the PATH; {WHERE}"
+
+
+class Tree:
+    """Copies of the clients below share/actionlint of a folder, with what may lie around them."""
+
+    def __init__(self) -> None:
+        self.room = Path(tempfile.mkdtemp(prefix="actionlint-test-"))
+        self.top = self.room / "a prefix/share/actionlint"
+        shutil.copytree(CLIENTS, self.top / "clients", ignore=shutil.ignore_patterns("tests", "__pycache__"))
+        self.environment = {"PATH": PATH, "HOME": str(self.room)}
+
+    def add(self, path: str, text: str = "exit 0") -> str:
+        """A program below the folder, whose path is answered."""
+        whole = self.room / path
+        whole.parent.mkdir(parents=True, exist_ok=True)
+        whole.write_text(f"#!/bin/sh\n{text}\n", encoding="utf-8")
+        whole.chmod(0o755)
+        return str(whole)
+
+    def found(self, *words: str, folder: str | None = None, **environment: str) -> tuple[int, str, str]:
+        """The status and both streams of which-actionlint."""
+        done = subprocess.run([self.top / "clients/which-actionlint", *words], cwd=folder or self.room, stdout=subprocess.PIPE,
+                              stderr=subprocess.PIPE, env={**self.environment, **environment}, text=True, check=False)
+        return done.returncode, done.stdout.removesuffix("\n"), done.stderr.removesuffix("\n")
+
+    def remove(self) -> None:
+        shutil.rmtree(self.room)
+
+
+@CASES.case
+def order(_: str) -> None:
+    """Each in its turn, as those before it go."""
+    tree = Tree()
+    beside = "a prefix/share/actionlint"
+    named, variable, on_path = tree.add("named"), tree.add("variable"), tree.add("path/actionlint")
+    release, fits = tree.add("a prefix/bin/actionlint"), tree.add("fits")
+    wrapper = tree.add(f"{beside}/actionlint", f'[ "$1" = --which ] && echo "{fits}"')
+    built, carried = tree.add(f"{beside}/crates/actionlint/out/actionlint"), tree.add(f"{beside}/prebuilt/actionlint")
+    own = {"PATH": f"{tree.room}/path:{PATH}"}
+    assert tree.found(named, **own, ACTIONLINT=variable) == (0, named, "")
+    assert tree.found(**own, ACTIONLINT=variable) == (0, variable, "")
+    assert tree.found("", **own, ACTIONLINT="") == (0, release, "")
+    os.remove(release)
+    assert tree.found(**own) == (0, fits, "")
+    os.chmod(wrapper, 0o644)
+    assert tree.found(**own) == (0, built, "")
+    tree.add(f"{beside}/actionlint", "exit 3")
+    assert tree.found(**own) == (0, built, "")
+    tree.add(f"{beside}/crates/actionlint/out/actionlint", "exit 1")
+    assert tree.found(**own) == (0, carried, ""), "one that doesn't run here is passed over"
+    os.remove(carried)
+    assert tree.found(**own) == (0, on_path, "")
+    assert tree.found() == (3, "", NONE)
+    tree.remove()
+
+
+@CASES.case
+def names(_: str) -> None:
+    """A linter is named by its path, also from the current folder on, or by its name on the PATH; nothing takes the place of one that isn't
+    there."""
+    tree = Tree()
+    named = tree.add("my linters/it's")
+    tree.add("a prefix/bin/actionlint")
+    assert tree.found("./it's", folder=str(Path(named).parent)) == (0, f"{tree.room}/my linters/./it's", "")
+    assert tree.found("it's", PATH=f"{tree.room}/my linters:{PATH}") == (0, named, "")
+    assert tree.found("it's", folder=str(Path(named).parent), PATH=f".:{PATH}") == (0, f"{tree.room}/my linters/./it's", "")
+    for wrong in ("it's", "nowhere/it", str(tree.room), "--help", "echo x"):
+        said = f"cannot start {wrong}: there is no such program; {WHERE}"
+        assert tree.found(wrong) == tree.found(ACTIONLINT=wrong) == (3, "", said), wrong
+    link = tree.room / "link"
+    link.symlink_to(tree.top / "clients/which-actionlint")
+    done = subprocess.run([link], stdout=subprocess.PIPE, env=tree.environment, text=True, check=True)
+    assert done.stdout == f"{tree.room}/a prefix/bin/actionlint\n", done.stdout
+    tree.remove()
+
+
+@CASES.case
+def reports(program: str) -> None:
+    """actionlint-report runs the program of its release, and without one says what names one."""
+    tree = Tree()
+    write(str(tree.room / "repository"), FILES)
+    command = tree.room / "a prefix/bin/actionlint-report"
+    command.parent.mkdir()
+    command.symlink_to("../share/actionlint/clients/actionlint-report")
+
+    def run() -> subprocess.CompletedProcess:
+        return subprocess.run([command, "--form", "jsonl"], cwd=tree.room / "repository", env=tree.environment, stdout=subprocess.PIPE,
+                              stderr=subprocess.PIPE, text=True, check=False)
+    done = run()
+    assert (done.returncode, done.stdout) == (3, "") and WHERE in done.stderr and done.stderr.count("\n") == 1, done.stderr
+    shutil.copy(program, command.with_name("actionlint"))
+    done = run()
+    assert done.returncode == 1 and '"X13"' in done.stdout and not done.stderr, done
+    tree.remove()
+
+
+@CASES.case
+def language_server(program: str) -> None:
+    """The same of the language server, which tells it once."""
+    tree = Tree()
+    root = tree.room / "repository"
+    write(str(root), FILES)
+    server = tree.top / "clients/actionlint-lsp"
+
+    def opened() -> Editor:
+        editor = Editor(None, os.fsencode(root), server=server, environment=tree.environment)
+        editor.open(FILE, FILES[FILE])
+        editor.settle()
+        return editor
+    editor = opened()
+    time.sleep(1)
+    editor.change(FILE, FILES[FILE] + "\n")
+    editor.settle()
+    assert len(editor.messages) == 1 and WHERE in editor.messages[0] and editor.diagnostics() == {}, editor.messages
+    editor.quit()
+    (tree.room / "a prefix/bin").mkdir()
+    shutil.copy(program, tree.room / "a prefix/bin/actionlint")
+    editor = opened()
+    assert editor.texts(FILE) == [UNDEFINED] and not editor.messages, editor.messages
+    editor.quit()
+    tree.remove()
+
+
+if __name__ == "__main__":
+    sys.exit(CASES.run(sys.argv[1:]))

@@ -1,0 +1,201 @@
+#!/usr/bin/env python3
+"""What hostile files and folders can do to actionlint-report: names, long messages, many faults, characters, and the file to write.
+
+    report_edges.py PROGRAM [NAME...]
+"""
+from __future__ import annotations
+
+import json
+import os
+import resource
+import subprocess
+import sys
+import tempfile
+
+from cases import Cases
+from repositories import CLIENTS, FILE, FILES, RIGHT, UNDEFINED, WORKFLOWS, write
+
+CASES = Cases("report-edges")
+REPORT = str(CLIENTS / "actionlint-report")
+SECONDS = 200
+MEMORY = 300 * 1_048_576
+MANY = 150_000
+TAKEN_BY_GITHUB = 25_000
+# Prints as many faults as the linter would, with the file's line below each unless it is told not to.
+MANY_FAULTS = f"""#!/bin/sh
+case " $* " in
+  *" --oneline "*) lines='' ;;
+  *) lines='\\n  |\\n1 | x\\n  | ^' ;;
+esac
+awk -v lines="$lines" 'BEGIN {{
+  for (i = 1; i <= {MANY}; i++) printf "{FILE}:%d:1: unexpected key \\"x\\" [syntax-check]%s\\n", i, lines
+}}'
+exit 1
+"""
+
+
+def run(program: str, folder: str, *words: str) -> tuple[int, str, str]:
+    """The status and both streams of actionlint-report, under limits of memory and of time."""
+    done = subprocess.run([sys.executable, REPORT, "--program", program, *words], cwd=folder, stdout=subprocess.PIPE,
+                          stderr=subprocess.PIPE, timeout=SECONDS, check=False,
+                          preexec_fn=lambda: resource.setrlimit(resource.RLIMIT_AS, (MEMORY, MEMORY)))
+    return done.returncode, done.stdout.decode(), done.stderr.decode()
+
+
+def new_folder(files: dict[str, str]) -> tempfile.TemporaryDirectory:
+    folder = tempfile.TemporaryDirectory(prefix="actionlint-test-")
+    write(folder.name, files)
+    return folder
+
+
+@CASES.case
+def names_that_look_like_options(program: str) -> None:
+    """A FILE behind `--` is one, whatever its name."""
+    path = "--root=clean/action.yml"
+    with new_folder({path: "name: x\n", "clean/" + FILE: RIGHT}) as folder:
+        status, text, _ = run(program, folder, "--form", "jsonl", "--", path)
+        assert status == 1 and {json.loads(line)["path"] for line in text.splitlines()} == {path}, text
+
+
+@CASES.case
+def long_messages(program: str) -> None:
+    """A text of a megabyte that holds the fixed parts of messages, or beginnings of faults, takes time linear in it."""
+    for part in ('" is not defined in "', "a:1:1: "):
+        text = part * (900_000 // len(part))
+        with new_folder({FILE: f"on: push\njobs:\n  a:\n    uses: '{text}'\n"}) as folder:
+            for form in ("sarif", "jsonl", "codequality", "github", "text"):
+                status, said, errors = run(program, folder, "--form", form)
+                assert status == 1 and len(said) > len(text) and not errors, (form, status, errors)
+
+
+@CASES.case
+def many_faults(program: str) -> None:
+    """They are written as they come; SARIF has as many as GitHub takes of a run, and says how many were left out."""
+    with new_folder({"linter": MANY_FAULTS}) as folder:
+        linter = folder + "/linter"
+        os.chmod(linter, 0o755)
+        status, text, errors = run(linter, folder, "--out", "faults.sarif")
+        left_out = f"{MANY - TAKEN_BY_GITHUB} more were left out: GitHub takes {TAKEN_BY_GITHUB} results of a run"
+        assert status == 1 and not text and errors == f"actionlint-report: {left_out}\n", (status, errors)
+        with open(folder + "/faults.sarif", encoding="utf-8") as opened:
+            (found,) = json.load(opened)["runs"]
+        assert [one["locations"][0]["physicalLocation"]["region"]["startLine"] for one in found["results"]] == list(
+            range(1, TAKEN_BY_GITHUB + 1))
+        (said,) = found["invocations"][0]["toolExecutionNotifications"]
+        assert said == {"level": "warning", "message": {"text": left_out}}, said
+        status, text, errors = run(linter, folder, "--form", "jsonl", "--ignore", "K1")
+        assert (status, text, errors) == (0, "", f"actionlint-report: 0 faults, {MANY} ignored\n"), (status, errors)
+
+
+@CASES.case
+def long_lines(program: str) -> None:
+    """Where the lines of files would be too many bytes, the report is made without them."""
+    keys = ", ".join(f"k{number}: 1" for number in range(5_000))
+    with new_folder({FILE: f"{{on: push, jobs: {{}}, {keys}}}\n"}) as folder:
+        status, text, _ = run(program, folder, "--form", "jsonl")
+        found = [json.loads(line) for line in text.splitlines()]
+        assert status == 1 and len(found) == 5_000 and all(one["end_column"] is None for one in found), len(found)
+        _, text, _ = run(program, folder)
+        assert text.count('"startLine"') == 5_000 == text.count('"endColumn"'), "GitHub asks for the end of each region"
+
+
+@CASES.case
+def characters(program: str) -> None:
+    """JSON has no character that a reader takes for an end of a line or that turns the direction of a text, and text none at all."""
+    hidden = "".join(chr(one) for one in (0x85, 0x9B, 0x2028, 0x2029, 0x202A, 0x202E, 0x2066, 0x2069))
+    path = WORKFLOWS + "\u202ea.yml"
+    with new_folder({path: 'on: push\njobs: {}\n"a\\x85\\x9b\\u2028\\u2029\\u202a\\u202e\\u2066\\u2069b": 1\n'}) as folder:
+        for form in ("sarif", "jsonl", "codequality"):
+            status, text, _ = run(program, folder, "--form", form)
+            assert status == 1 and not set(text) & set(hidden), (form, text)
+            assert hidden in json_texts(json.loads(text)), (form, text)
+        status, text, _ = run(program, folder, "--form", "text")
+        assert status == 1 and not set(text) & set(hidden) and "<U+202E>a.yml:3:1" in text and "<U+009B><U+2028>" in text, text
+
+
+def json_texts(value: object) -> str:
+    """All texts in what JSON holds, one after another."""
+    if isinstance(value, str):
+        return value
+    items = value.values() if isinstance(value, dict) else value if isinstance(value, list) else []
+    return "\n".join(map(json_texts, items))
+
+
+@CASES.case
+def links_in_messages(program: str) -> None:
+    """A key that looks like a link of SARIF is told as text, whose brackets and backslashes have one before them."""
+    with new_folder({FILE: 'on: push\njobs: {}\n"[a](https://example.org/)\\\\": 1\n'}) as folder:
+        _, text, _ = run(program, folder)
+        (one,) = json.loads(text)["runs"][0]["results"]
+        assert one["message"]["text"] == 'unexpected key "\\[a\\](https://example.org/)\\\\"', one
+        status, text, _ = run(program, folder, "no[b](c).yml")
+        (said,) = json.loads(text)["runs"][0]["invocations"][0]["toolExecutionNotifications"]
+        assert status == 3 and said["message"]["text"] == "actionlint: no\\[b\\](c).yml: refused E2", said
+
+
+@CASES.case
+def commands_in_annotations(program: str) -> None:
+    """Whatever a path, a key or standard error holds stands in the text of an annotation, and begins no line."""
+    path = "::set-output name=x::1, 50%/action.yml"
+    with new_folder({path: 'name: x\n"##[add-mask]x": 1\n', FILE: RIGHT}) as folder:
+        status, text, errors = run(program, folder, "--form", "github", "--", path)
+        *lines, last = text.splitlines()
+        assert status == 1 and not errors and last == "3 faults in 1 file", (text, errors)
+        start = "::error file=%3A%3Aset-output name=x%3A%3A1%2C 50%25/action.yml,line="
+        assert len(lines) == 3 and all(line.startswith(start) for line in lines), lines
+        assert '::unexpected key "##[add-mask]x" [syntax-check]%0A' in lines[-1], lines
+        status, text, errors = run(program, folder, "--form", "github", "--", "##[add-mask]x")
+        assert (status, errors) == (3, "") and text.splitlines() == [
+            "::error title=actionlint::actionlint: ##[add-mask]x: refused E2",
+            "nothing is known of the faults: the linter could not go on"], text
+
+
+@CASES.case
+def odd_files_to_write(program: str) -> None:
+    """What is no regular file is neither written nor replaced, nor waited for; no link below the current folder is followed."""
+    with new_folder({FILE: RIGHT, "kept": "old", "elsewhere/kept": "old"}) as folder:
+        os.symlink("kept", folder + "/link")
+        os.symlink("nowhere", folder + "/loose")
+        os.symlink("elsewhere", folder + "/linked")
+        os.mkfifo(folder + "/pipe")
+        before = sorted(os.listdir(folder))
+        for out in ("link", "loose", "pipe", "elsewhere", "linked/kept", "nowhere/kept"):
+            status, text, errors = run(program, folder, "--out", out)
+            assert (status, text) == (3, "") and errors.startswith("actionlint-report: write failed: "), (out, status, errors)
+        assert sorted(os.listdir(folder)) == before and os.listdir(folder + "/elsewhere") == ["kept"]
+        for kept in ("kept", "elsewhere/kept"):
+            with open(f"{folder}/{kept}", encoding="utf-8") as opened:
+                assert opened.read() == "old"
+
+
+@CASES.case
+def the_old_report_stays_whole(program: str) -> None:
+    """A report takes the old one's place at once, and only where it is whole."""
+    with new_folder(FILES) as folder:
+        out = folder + "/x/faults"
+        write(folder, {"x/faults": "old"})
+        assert run("/bin/echo", folder, "--out", "x/faults")[0] == 3
+        assert os.listdir(folder + "/x") == ["faults"]
+        with open(out, encoding="utf-8") as before:
+            assert run(program, folder, "--form", "text", "--out", "x/faults")[0] == 1
+            assert before.read() == "old" and os.listdir(folder + "/x") == ["faults"]
+        with open(out, encoding="utf-8") as opened:
+            assert UNDEFINED.partition(" [")[0] in opened.read()
+
+
+@CASES.case
+def output_that_does_not_block(program: str) -> None:
+    """A pipe that is full for a while is waited for, also where writing to it doesn't block."""
+    keys = "".join(f"k{number}: 1\n" for number in range(2_000))
+    with new_folder({FILE: "on: push\njobs: {}\n" + keys}) as folder:
+        read, written = os.pipe()
+        os.set_blocking(written, False)
+        child = subprocess.Popen([sys.executable, REPORT, "--program", program, "--form", "jsonl"], cwd=folder, stdout=written)
+        os.close(written)
+        with open(read, encoding="utf-8") as opened:
+            assert len(opened.readlines()) == 2_000
+        assert child.wait(SECONDS) == 1
+
+
+if __name__ == "__main__":
+    sys.exit(CASES.run(sys.argv[1:]))

@@ -1,0 +1,240 @@
+#!/usr/bin/env python3
+"""The forms of actionlint-report for people and for GitHub, what it says of a code, and faults that aren't to count.
+
+    report_forms.py PROGRAM [NAME...]
+"""
+from __future__ import annotations
+
+import json
+import os
+import pty
+import subprocess
+import sys
+import tempfile
+from pathlib import Path
+
+from cases import Cases
+from repositories import CLIENTS, FILE, FILES, RIGHT, TOP, WORKFLOWS, write
+
+sys.path.insert(0, str(CLIENTS))
+from actionlint_client.entries import entries, plain_text
+from actionlint_client.problems import SLIPS, first_sentence
+from actionlint_client.sarif import MAX_RESULTS
+
+CASES = Cases("report-forms")
+REPORT = str(CLIENTS / "actionlint-report")
+DOCS = "https://example.org/docs"
+BROKEN = """.github/workflows/release.yml:4:5: unexpected key "branch" [syntax-check, K1]
+  4 |     branch: [main]
+    |     ^~~~~~
+  did you mean "branches"?
+  Look for the key in its section: it is misspelled, or it stands one level too high or too deep.
+
+.github/workflows/release.yml:11:13: condition is always true [if-cond, G18]
+  11 |         if: ${{ github.event_name == 'push' }} && success()
+     |             ^~~~~~~~~~~~~~~~~~~~~~~~~~~~~~~~~~~~~~~~~~~~~~~
+  Put the whole condition into the braces, or leave them out: a condition needs none.
+
+.github/workflows/release.yml:13:13: job "tests" is not defined [job-needs, G8]
+  13 |     needs: [tests]
+     |             ^~~~~
+  Write the key of a job of this file (not its `name`), or delete the entry.
+
+.github/workflows/release.yml:20:30: property "versoin" is not defined [expression, X13]
+  20 |           VERSION: ${{ steps.versoin.outputs.number }}
+     |                              ^~~~~~~
+  Write a property that the context has here.
+
+.github/workflows/release.yml:21:15: required input "channel" of "Announce" is missing [action, C3]
+  21 |       - uses: ./announce
+     |               ^~~~~~~~~~
+  Give the input under `with`, or give it a `default` in the called file where it can be left out.
+
+5 faults in 1 file
+"""
+STEP = "on: push\njobs:\n  a:\n    runs-on: ubuntu-latest\n    steps:\n      - "
+# The commonest slips, each with what a person is told first.
+ADVICE = {
+    'on: {push: {branches: [**/x]}}\n': 'Y18: A text that begins with `*`, as a pattern of branches does, needs quotes.',
+    "on: push\njobs:\n  a:\n    if: !cancelled()\n": "Y8: A text that begins with `!` needs quotes, as a pattern",
+    "on: push\nname: {x} y\n": "Y13: A text that begins with `[`, `{`, `@`, `%` or a backtick, or holds `: `, needs quotes, and",
+    "on: push\nname: a\n  b: c\n": "Y13: A text that begins with `[`, `{`, `@`, `%` or a backtick, or holds `: `, needs quotes, and",
+    "on: push\n&x jobs: {}\n": "Y7: A text that begins with `*` or `&` needs quotes.",
+    STEP + 'run: echo ${{ github.ref == "a" }}\n': "X1: A text stands in single quotes, a choice is written `TEST && THIS || THAT`, and equality `==`.",
+    STEP + "run: echo ${{ needs.build.result }}\n": "X13: A job names in its own `needs` each job whose results it reads.",
+    STEP + "run: echo ${{ needs['build'].result }}\n": "X13: A job names in its own `needs` each job whose results it reads.",
+    STEP + "run: echo ${{ github.build }}\n": "X13: Write a property that the context has here.",
+    STEP + "uses: actions/checkout\n": "C7: An action or a workflow of another repository has `@REF` behind it: a branch, a tag or a commit.",
+    STEP + "uses: checkout\n": "C7: Write `OWNER/REPO@REF`, `./FOLDER` or `docker://IMAGE` for a step, `./.github/workflows/FILE` or",
+    "on: {schedule: [{cron: '0 0 * *'}]}\njobs: {}\n": "G4: Write five fields: minute, hour, day of the month, month, day of the week.",
+    "on: push\njobs:\n  a:\n    runs-on: x\n    steps: make\n": "K4: A list is wanted, each entry in a line with a dash.",
+    "on: push\njobs: make\n": "K4: A mapping is wanted, in lines `KEY: VALUE`.",
+    "on: push\njobs:\n  a:\n    runs-on: x\n    steps: [make]\n": "K4: Write the value as its section takes it.",
+    "on: push\njobs: {a: {runs-on: x, timeout-minutes: ten}}\n": "K5: A number is wanted, without quotes.",
+    "on: push\njobs: {a: {runs-on: x, continue-on-error: 'true'}}\n": "K5: `true` or `false` is wanted, without quotes.",
+    "on:\njobs: {}\n": "K5: `on` needs an event.",
+    "on: {push: {paths: [./src]}}\njobs: {}\n": "G3: Paths begin at the repository's root, without `./` in front.",
+    "on: {push: {branches: ['a b']}}\njobs: {}\n": "G3: Write the pattern by GitHub's cheat sheet: `*` is any text without a slash, `**` any text,",
+    STEP + "name: x\n": "K2: A step has `run` or `uses`.",
+    "on: push\njobs: {a: {steps: []}}\n": "K2: Add the key to the mapping that begins at this place.",
+}
+
+
+def run(program: str, folder: str, *words: str, **variables: str) -> tuple[int, str, str]:
+    """The status and both streams of actionlint-report."""
+    done = subprocess.run([sys.executable, REPORT, "--program", program, *words], cwd=folder, stdout=subprocess.PIPE,
+                          stderr=subprocess.PIPE, env={**os.environ, **variables}, check=False)
+    return done.returncode, done.stdout.decode(), done.stderr.decode()
+
+
+@CASES.case
+def text(program: str) -> None:
+    """Each fault has its line, its code, a near name and the repair; the last line has the count. Links lead to the pages."""
+    broken = str(TOP / "examples/broken")
+    assert run(program, broken, "--form", "text") == (1, BROKEN, "")
+    status, said, _ = run(program, str(TOP), "--form", "text", "--docs", DOCS, "--root", broken)
+    assert said.count(f"  {DOCS}/FAULTS") == 5 and f"  {DOCS}/FAULTS.md#k1-unexpected-key-0\n" in said, said
+    with tempfile.TemporaryDirectory(prefix="actionlint-test-") as folder:
+        write(folder, {FILE: RIGHT})
+        assert run(program, folder, "--form", "text") == (0, "0 faults\n", "")
+        write(folder, FILES)
+        assert run(program, folder, "--form", "text")[1].endswith("\n\n2 faults in 2 files\n")
+        assert run(program, folder, "--form", "text", "no.yml") == (
+            3, "nothing is known of the faults: the linter could not go on\n", "actionlint: no.yml: refused E2\n")
+
+
+@CASES.case
+def advice(program: str) -> None:
+    """Of the commonest slips the text below the fault's line is the sentence that helps."""
+    with tempfile.TemporaryDirectory(prefix="actionlint-test-") as folder:
+        for file, expected in ADVICE.items():
+            write(folder, {FILE: file})
+            paragraphs = run(program, folder, "--form", "text")[1].split("\n\n")[:-1]
+            found = [f"{lines[0].rpartition(', ')[2][:-1]}: " + " ".join(line.strip() for line in lines[3:] if "did you mean" not in line)
+                     for lines in (one.splitlines() for one in paragraphs)]
+            assert any(one.startswith(expected) for one in found), (file, expected, found)
+
+
+@CASES.case
+def sentences_of_entries(program: str) -> None:
+    """What is said in place of the first sentence stands in the entry too, and every entry has a sentence."""
+    by_code = {entry.code: plain_text(entry.repair).lower() for entry in entries()}
+    for slip in SLIPS:
+        assert slip.sentence.lower().removesuffix(".") in by_code[slip.code], slip
+    for code, repair in by_code.items():
+        assert first_sentence(repair).endswith(".") and "](" not in repair and "(the list)" not in repair, (code, repair)
+
+
+@CASES.case
+def color(program: str) -> None:
+    """On a terminal, unless NO_COLOR is set; anywhere where it is asked for."""
+    broken = str(TOP / "examples/broken")
+    plain = run(program, broken, "--form", "text")[1]
+    colored = run(program, broken, "--form", "text", "--color", "always")[1]
+    assert "\x1b[" not in plain and "\x1b[31munexpected key" in colored
+    assert "".join(part.partition("m")[2] if number else part for number, part in enumerate(colored.split("\x1b["))) == plain
+    for variables, words, expected in (({"TERM": "xterm"}, [], True), ({"TERM": "xterm", "NO_COLOR": "1"}, [], False),
+                                       ({"TERM": "dumb"}, [], False), ({"TERM": "xterm"}, ["--color", "never"], False)):
+        assert (b"\x1b[" in on_terminal([sys.executable, REPORT, "--program", program, "--form", "text", "--root", broken, *words],
+                                        variables)) == expected, (variables, words)
+
+
+def on_terminal(command: list[str], variables: dict[str, str]) -> bytes:
+    """What a command writes to a terminal."""
+    environment = {name: value for name, value in os.environ.items() if name != "NO_COLOR"} | variables
+    parent, child = pty.openpty()
+    with subprocess.Popen(command, stdin=child, stdout=child, stderr=child, env=environment):
+        os.close(child)
+        blocks = []
+        while True:
+            try:
+                block = os.read(parent, 65_536)
+            except OSError:
+                break
+            if not block:
+                break
+            blocks.append(block)
+    os.close(parent)
+    return b"".join(blocks)
+
+
+@CASES.case
+def github(program: str) -> None:
+    """Annotations as GitHub's toolkit writes them, with what to write instead on lines of their own."""
+    status, said, errors = run(program, str(TOP / "examples/broken"), "--form", "github")
+    lines = said.splitlines()
+    assert (status, errors, len(lines), lines[-1]) == (1, "", 6, "5 faults in 1 file"), said
+    assert lines[0] == ('::error file=.github/workflows/release.yml,line=4,endLine=4,col=5,endColumn=11,title=K1::unexpected key "branch" '
+                        '[syntax-check]%0Adid you mean "branches"?%0ALook for the key in its section: it is misspelled, or it stands one '
+                        "level too high or too deep."), lines[0]
+
+
+@CASES.case
+def sarif(program: str) -> None:
+    """What GitHub's page asks for: texts, help with the entry, its address, and the version."""
+    status, said, _ = run(program, str(TOP / "examples/broken"), "--docs", DOCS + "/")
+    driver = json.loads(said)["runs"][0]["tool"]["driver"]
+    assert driver["version"] == (TOP / "VERSION").read_text(encoding="utf-8").strip() and driver["informationUri"] == DOCS + "/", driver
+    rule = driver["rules"][0]
+    entry = next(entry for entry in entries() if entry.code == "K1")
+    assert rule["id"] == "K1" and rule["shortDescription"]["text"] == 'unexpected key ".."', rule
+    assert rule["fullDescription"]["text"] == plain_text(entry.text) and entry.repair.split("```")[1] in rule["help"]["markdown"], rule
+    assert rule["helpUri"] == f"{DOCS}/FAULTS.md#k1-unexpected-key-0" and "Repair: Look for the key" in rule["help"]["text"], rule
+    assert "{0}" not in said and MAX_RESULTS == 25_000
+    assert "informationUri" not in run(program, str(TOP / "examples/broken"))[1]
+
+
+@CASES.case
+def links_in_json_lines(program: str) -> None:
+    """Each has the address of its entry where that of the pages is given."""
+    for words, expected in ((["--docs", DOCS], f"{DOCS}/FAULTS.md#k1-unexpected-key-0"), ([], None)):
+        _, said, _ = run(program, str(TOP / "examples/broken"), "--form", "jsonl", *words)
+        assert json.loads(said.splitlines()[0])["link"] == expected, said
+
+
+@CASES.case
+def explain(program: str) -> None:
+    """The entry of a code; another text is a wrong word."""
+    status, said, errors = run(program, "/", "--explain", "x13")
+    assert (status, errors) == (0, "") and said.startswith('X13: property ".." is not defined\n\nA property that an object'), said
+    assert "\n\nRepair: Write a property" in said and "\n    on: push\n" in said and "```" not in said and "](" not in said, said
+    assert all(run(program, "/", "--explain", code)[0] == 0 for code in ("Y1", "K7", "C9"))
+    assert run(program, "/", "--explain", "X99") == (2, "", "actionlint-report: 'X99' is no code of a fault\n")
+
+
+@CASES.case
+def ignored_faults(program: str) -> None:
+    """They don't count, in the status neither, and are counted; a wrong rule or a file of rules that isn't there ends the run."""
+    with tempfile.TemporaryDirectory(prefix="actionlint-test-") as folder:
+        write(folder, {**FILES, WORKFLOWS + "b.yml": FILES[FILE], "kept": f"# known\n\nC3\n  X13:{FILE}\n"})
+        for words, status, count in (
+                ([], 1, "3 faults in 3 files"), (["--ignore", "X13"], 1, "1 fault in 1 file, 2 ignored"),
+                (["--ignore", f"X13:{FILE}", "--ignore", "C3"], 1, "1 fault in 1 file, 2 ignored"),
+                (["--ignore-file", "kept"], 1, "1 fault in 1 file, 2 ignored"),
+                (["--ignore-file", "kept", "--ignore", "X13"], 0, "0 faults, 3 ignored"),
+                (["--ignore", "X13:b.yml"], 1, "3 faults in 3 files")):
+            found, said, _ = run(program, folder, "--form", "text", *words)
+            assert (found, said.splitlines()[-1]) == (status, count), (words, said)
+        found, said, errors = run(program, folder, "--form", "jsonl", "--ignore-file", "kept")
+        assert (found, errors) == (1, "actionlint-report: 1 fault in 1 file, 2 ignored\n") and len(said.splitlines()) == 1, (said, errors)
+        # A run that could not go on is told as one, whatever is ignored.
+        assert run(program, folder, "--ignore", "X13", "no.yml")[0] == 3
+        for words, why in ((["--ignore", "X99"], "'X99' is no code"), (["--ignore", "expression"], "is no code"), (["--ignore", "X13:"], "names no file"),
+                           (["--ignore-file", "none"], "cannot read none: No such file")):
+            found, said, errors = run(program, folder, *words)
+            assert (found, said) == (2, "") and why in errors, (words, errors)
+
+
+@CASES.case
+def without_libraries(program: str) -> None:
+    """Reports need python3 alone."""
+    with tempfile.TemporaryDirectory(prefix="actionlint-test-") as folder:
+        for module in ("yaml", "pylsp_jsonrpc"):
+            Path(folder, f"{module}.py").write_text("raise ImportError\n", encoding="utf-8")
+        words = [sys.executable, REPORT, "--program", program, "--form", "text", "--root", str(TOP / "examples/broken")]
+        done = subprocess.run(words, stdout=subprocess.PIPE, stderr=subprocess.PIPE, env={**os.environ, "PYTHONPATH": folder}, check=False)
+    assert done.returncode == 1 and b"5 faults in 1 file" in done.stdout and done.stderr == b"", done
+
+
+if __name__ == "__main__":
+    sys.exit(CASES.run(sys.argv[1:]))

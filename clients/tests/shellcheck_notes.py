@@ -1,0 +1,164 @@
+#!/usr/bin/env python3
+"""Notes of shellcheck: each at its place in the file, whatever the scalar that its script stands in. Needs Debian's shellcheck and
+python3-yaml.
+
+    shellcheck_notes.py PROGRAM [NAME...]
+"""
+from __future__ import annotations
+
+import json
+import os
+import subprocess
+import sys
+import tempfile
+from pathlib import Path
+
+from cases import Cases
+from repositories import CLIENTS, FILE, TOP, WORKFLOWS, write
+
+sys.path.insert(0, str(CLIENTS))
+from actionlint_client import library
+from actionlint_client.scripts import NotRead, Script, scripts_and_calls, without_expressions
+
+CASES = Cases("shellcheck")
+library.find("yaml")
+REPORT = str(CLIENTS / "actionlint-report")
+STEPS = "on: push\njobs:\n  a:\n    runs-on: ubuntu-latest\n    steps:\n"
+# Steps, and where a note stands that a variable lacks its quotes (SC2086), counted by hand: below STEPS the first line is 6.
+PLACES = {
+    "plain": ('      - run: echo ${{ github.sha }} "é😀" $x\n', (6, 42)),
+    "plain over lines": ("      - run: echo\n          a\n\n          echo $x\n", (9, 16)),
+    "literal": ("      - run: |\n          if true; then\n            echo 'é😀' $x\n          fi\n", (8, 23)),
+    "literal with an indent of its own": ("      - run: |2-  # two\n\n            echo  $x\n", (8, 19)),
+    "literal with a tab": ("      - run: |\n          true\n          \techo $x\n", (8, 17)),
+    "folded": ("      - run: >-\n          echo\n          a\n\n          echo b\n          $x\n", (11, 11)),
+    "folded with deeper lines": ("      - run: >\n          echo a\n            echo b $x\n          echo\n", (8, 20)),
+    "in single quotes": ("      - run: 'echo ''a''\n          b $x'\n", (7, 13)),
+    "in double quotes": ('      - run: "echo \\"\\u00e9\\x41\\" \\\n          \\tb $x"\n', (7, 15)),
+    "after a line break that is written": ('      - run: "true\\necho $x"\n', (6, 26)),
+    "in a flow mapping": ("      - {name: a, run: echo $x}\n", (6, 29)),
+    "an expression over lines": ("      - run: |\n          echo ${{ github.sha ||\n            '}}' }} $x\n", (8, 21)),
+    "an alias": ("      - run: &r echo $x\n      - run: *r\n", (6, 22)),
+    "an alias of a block": ("      - run: &r |\n          echo $x\n      - run: *r\n", (7, 16)),
+}
+# Jobs and steps, and the shell of their script; None where shellcheck isn't asked.
+SHELLS = {
+    "  a:\n    runs-on: ubuntu-latest\n    steps:\n      - run: x\n": "bash",
+    "  a:\n    runs-on: windows-latest\n    steps:\n      - run: x\n": None,
+    "  a:\n    runs-on: windows-latest\n    steps:\n      - run: x\n        shell: bash\n": "bash",
+    "  a:\n    runs-on: ${{ matrix.os }}\n    strategy: {matrix: {os: [windows-latest]}}\n    steps:\n      - run: x\n": None,
+    "  a:\n    runs-on: ${{ matrix.os }}\n    strategy: {matrix: {os: [ubuntu-latest]}}\n    steps:\n      - run: x\n": "bash",
+    "  a:\n    runs-on: ubuntu-latest\n    container: alpine\n    steps:\n      - run: x\n": "sh",
+    "  a:\n    runs-on: ubuntu-latest\n    defaults: {run: {shell: '/bin/sh -e {0}'}}\n    steps:\n      - run: x\n": "sh",
+    "  a:\n    runs-on: ubuntu-latest\n    steps:\n      - run: x\n        shell: python\n": None,
+    "  a:\n    runs-on: ubuntu-latest\n    steps:\n      - run: x\n        shell: bash -euo pipefail {0}\n": "bash",
+}
+
+
+def run(program: str, folder: str, *words: str) -> tuple[int, list[dict], str]:
+    """The status, the lines of JSON and standard error."""
+    done = subprocess.run([sys.executable, REPORT, "--program", program, "--form", "jsonl", "--shellcheck", *words], cwd=folder,
+                          stdout=subprocess.PIPE, stderr=subprocess.PIPE, check=False)
+    return done.returncode, [json.loads(line) for line in done.stdout.decode().splitlines()], done.stderr.decode()
+
+
+@CASES.case
+def places(program: str) -> None:
+    """Through each kind of scalar, and behind characters of several bytes."""
+    with tempfile.TemporaryDirectory(prefix="actionlint-test-") as folder:
+        for what, (steps, place) in PLACES.items():
+            write(folder, {FILE: STEPS + steps})
+            status, found, errors = run(program, folder)
+            assert status == 1 and not errors, (what, status, errors)
+            assert [(one["line"], one["column"], one["end_column"]) for one in found if one["code"] == "SC2086"] == [
+                (*place, place[1] + 2)], (what, found)
+            assert all(one["kind"] == "shellcheck" and one["link"].endswith("/wiki/" + one["code"]) for one in found), found
+        write(folder, {FILE: "\ufeff" + (STEPS + PLACES["folded"][0]).replace("\n", "\r\n")})
+        assert [(one["line"], one["column"]) for one in run(program, folder)[1] if one["code"] == "SC2086"] == [PLACES["folded"][1]]
+
+
+def check_script(text: str, script: Script) -> None:
+    """Each character of a script, blanks aside, stands where it is said to stand, unless an escape or an expression is written there."""
+    assert len(script.offsets) == len(script.text) + 1 and script.offsets == sorted(script.offsets), script
+    for character, offset in zip(script.text, script.offsets):
+        assert character.isspace() or text[offset] == character or character == "x" or text[offset] in "\\'", (character, offset, script)
+
+
+@CASES.case
+def every_character(program: str) -> None:
+    """Of all scripts of the examples and of the files of the cases above."""
+    texts = [path.read_text(encoding="utf-8") for path in Path(TOP / "examples").rglob("*.yml")]
+    texts += [STEPS + steps for steps, _ in PLACES.values()]
+    scripts = [(text, script) for text in texts for script in scripts_and_calls(text)[0]]
+    assert len(scripts) >= 30, len(scripts)
+    for text, script in scripts:
+        check_script(text, script)
+
+
+@CASES.case
+def shells(program: str) -> None:
+    for jobs, shell in SHELLS.items():
+        scripts, _ = scripts_and_calls("on: push\njobs:\n" + jobs)
+        assert [script.shell for script in scripts] == ([shell] if shell else []), (jobs, scripts)
+    scripts, _ = scripts_and_calls("defaults: {run: {shell: sh}}\njobs: {a: {steps: [{run: x}]}}\n")
+    assert [script.shell for script in scripts] == ["sh"], scripts
+    scripts, _ = scripts_and_calls("runs: {using: composite, steps: [{run: x, shell: sh}, {run: y}]}\n")
+    assert [(script.shell, script.text) for script in scripts] == [("sh", "x")], scripts
+
+
+@CASES.case
+def expressions(program: str) -> None:
+    """Words of the same length stand for them; braces in quotes don't end them, and what has no end stays."""
+    assert without_expressions("a${{ b }}c ${{ '}}' }}${{ d") == "axxxxxxxxc " + "x" * 11 + "${{ d"
+    assert without_expressions("${{ a\nb }}") == "x" * 10
+
+
+@CASES.case
+def files_that_are_called(program: str) -> None:
+    """What the workflows call is looked at too, in each shell, by its own notes; a file that the linter can't read is passed over."""
+    action = "name: a\ndescription: b\nruns:\n  using: composite\n  steps:\n    - run: echo $x\n      shell: sh\n"
+    with tempfile.TemporaryDirectory(prefix="actionlint-test-") as top:
+        folder = top + "/repository"
+        write(folder, {FILE: STEPS + "      - uses: ./a\n      - run: echo ok\n", "a/action.yml": action, "b/action.yml": action,
+                       WORKFLOWS + "wrong.yml": "on: push\nname: 'x\n"})
+        status, found, errors = run(program, folder)
+        assert status == 1 and not errors and [(one["path"], one["code"]) for one in found] == [
+            (WORKFLOWS + "wrong.yml", "Y5"), ("a/action.yml", "SC2086")], (found, errors)
+        status, found, _ = run(program, folder, "--ignore", "SC2086", "--ignore", f"Y5:{WORKFLOWS}wrong.yml")
+        assert (status, found) == (0, []), found
+        write(folder, {"../outside/action.yml": action})
+        write(folder, {FILE: STEPS + "      - uses: ./../outside\n      - uses: ./a/../b\n      - uses: .//b\n      - run: echo ok\n"})
+        _, found, errors = run(program, folder)
+        assert [one["code"] for one in found if one["kind"] == "shellcheck"] == [] and not errors, (found, errors)
+        _, found, _ = run(program, folder, "--", "b/action.yml")
+        assert [(one["path"], one["line"], one["column"]) for one in found] == [("b/action.yml", 6, 17)], found
+
+
+@CASES.case
+def off_unless_asked_for(program: str) -> None:
+    """And where shellcheck isn't there, the run doesn't pass for one without notes."""
+    with tempfile.TemporaryDirectory(prefix="actionlint-test-") as folder:
+        write(folder, {FILE: STEPS + PLACES["plain"][0]})
+        done = subprocess.run([sys.executable, REPORT, "--program", program, "--form", "text"], cwd=folder, stdout=subprocess.PIPE,
+                              check=False)
+        assert (done.returncode, done.stdout) == (0, b"0 faults\n"), done
+        done = subprocess.run([sys.executable, REPORT, "--program", program, "--shellcheck"], cwd=folder, stdout=subprocess.PIPE,
+                              stderr=subprocess.PIPE, env={**os.environ, "PATH": folder}, check=False)
+        assert (done.returncode, done.stdout) == (3, b"") and b"cannot start shellcheck" in done.stderr, done
+        done = subprocess.run([sys.executable, REPORT, "--program", program, "--form", "text", "--shellcheck"], cwd=folder,
+                              stdout=subprocess.PIPE, check=False)
+        assert done.stdout.decode().splitlines()[-1] == "0 faults and 1 note of shellcheck (not proved) in 1 file", done
+
+
+@CASES.case
+def files_that_the_library_refuses(program: str) -> None:
+    for text in ("a: [", "\x00"):
+        try:
+            scripts_and_calls(text)
+        except NotRead:
+            continue
+        raise AssertionError(text)
+
+
+if __name__ == "__main__":
+    sys.exit(CASES.run(sys.argv[1:]))

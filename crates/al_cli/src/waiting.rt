@@ -1,0 +1,52 @@
+//! Output that is waited for.
+
+ghost use Rattle.std.specs.Prelude.{◌≡◌};
+
+use std::io::{ErrorKind, Write};
+use std::time::{Clock, Duration};
+use std::{io, thread};
+
+/// How many milliseconds are waited where the writer takes nothing at the moment.
+const PAUSE: u64 = 1;
+
+/// A writer that waits until the one below takes bytes.
+///
+/// A pipe that its maker set not to block, as Node does, refuses a write where it is full (`WouldBlock`). What is written here waits
+/// then, as at a pipe that blocks; any other answer is handed on.
+#[derive(Drop)]
+pub struct WaitingOutput<'a, W, C> {
+    output: W,
+    clock: &'a C,
+}
+
+impl<'a, W, C> WaitingOutput<'a, W, C> {
+    /// A writer over this one, which waits by this clock.
+    pub fn new(output: W, clock: &'a C) -> WaitingOutput<'a, W, C>
+        ensures { result.output ≡ output }
+    {
+        WaitingOutput { output, clock }
+    }
+}
+
+impl<W: Write, C: Clock> Write for WaitingOutput<'_, W, C> {
+    ghost contents = { λ s. W.contents s.output };
+
+    #[tactic(auto, using(crate::proofs::Refusals::written_behind))]
+    fn write(&mut self, buf: &[u8]) -> io::Result<usize> {
+        for _ in 0..u64::MAX {
+            match self.output.write(buf) {
+                Err(error) if error.kind() == ErrorKind::WouldBlock => pause(self.clock),
+                answer => return answer,
+            }
+        }
+        Err(io::Error::from(ErrorKind::WouldBlock))
+    }
+
+    fn flush(&mut self) -> io::Result<()> {
+        self.output.flush()
+    }
+}
+
+fn pause<C: Clock>(clock: &C) {
+    thread::sleep(clock, Duration::from_millis(PAUSE));
+}

@@ -1,0 +1,9 @@
+pub mod Below
+pub mod Tables
+pub mod Fusing
+pub mod Joins
+pub mod Gathering
+pub mod Keeping
+pub mod Merges
+pub mod Indexes
+pub mod PrefixLemmas

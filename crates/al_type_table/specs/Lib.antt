@@ -1,0 +1,9 @@
+pub mod Names
+pub mod Types
+pub mod Joining
+pub mod Tables
+pub mod Parts
+pub mod Sets
+pub mod Marks
+pub mod Merging
+pub mod Prefixes

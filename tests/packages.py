@@ -1,0 +1,185 @@
+"""Tests the package for Debian that `./release --deb` makes, the manual page, and what shells complete: packages.py PROGRAM.
+
+The package has the same bytes from two folders; dpkg installs it below a root of its own where the C library is new enough, and else
+refuses it; its programs run from there, the clients find theirs, and its removal leaves nothing. The manual page has the words of the
+program's help and its version, and what bash, zsh and fish complete is asked of them. A case whose command isn't on this machine (dpkg,
+mandoc, fish, zsh) is skipped. Prints one line for each case.
+"""
+
+import os
+import pathlib
+import re
+import shutil
+import subprocess
+import sys
+import tempfile
+
+from release import clone, failed, run
+from running import CALLED, CALLER, MISSING_INPUT, WORKFLOWS, report, results
+
+WORDS = ["--oneline", "--root", "--session", "--help"]
+INSTALLED = "Package: libc6\nStatus: install ok installed\nArchitecture: amd64\nMaintainer: x\nVersion: {}\nDescription: x\n\n"
+ENVIRONMENT = {"PATH": "/usr/sbin:/usr/bin:/sbin:/bin", "LC_ALL": "C.UTF-8"}
+
+
+def made(folder, program, to):
+    """The package that a repository makes, and what went wrong."""
+    wrong = failed(run([folder / "release", "--program", program, "--deb", "--to", to]))
+    found = sorted(to.glob("*.deb")) if to.exists() else []
+    return (found[0] if found else None), wrong + ([] if len(found) == 1 else [f"{len(found)} packages"])
+
+
+def dpkg(root, *words):
+    """Runs dpkg over a root of its own, as any user."""
+    given = ["--force-not-root", "--force-script-chrootless", f"--root={root}", f"--log={root}/log", *words]
+    return run(["dpkg", *given], env=ENVIRONMENT)
+
+
+def scratch_root(room, glibc):
+    """A root in which nothing but the C library is installed."""
+    root = pathlib.Path(tempfile.mkdtemp(dir=room))
+    for name in ("info", "updates"):
+        (root / "var/lib/dpkg" / name).mkdir(parents=True)
+    (root / "var/lib/dpkg/status").write_text(INSTALLED.format(glibc))
+    return root
+
+
+def repository(room):
+    """A folder with a workflow that lacks an input of an action."""
+    folder = pathlib.Path(tempfile.mkdtemp(dir=room))
+    for path, data in {f"{WORKFLOWS}/c.yml": CALLER, "a/action.yml": CALLED}.items():
+        (folder / path).parent.mkdir(parents=True)
+        (folder / path).write_bytes(data)
+    return folder
+
+
+def installed(package, root, room, version):
+    """Installs the package, runs what it brings, and removes it."""
+    wrong = failed(dpkg(root, "-i", package))
+    lint = run([root / "usr/bin/actionlint", "--oneline"], cwd=repository(room), env=ENVIRONMENT)
+    wrong += failed(lint, 1) + ([] if lint.stdout == MISSING_INPUT else [f"it reports {lint.stdout}"])
+    ran = run([root / "usr/bin/actionlint-report", "--form", "jsonl"], cwd=repository(room), env=ENVIRONMENT)
+    wrong += failed(ran, 1) + ([] if b'"C3"' in ran.stdout else [f"the report is {ran.stdout}"])
+    ran = run([root / "usr/bin/actionlint-report", "--version"], env=ENVIRONMENT)
+    wrong += [] if ran.stdout.decode() == f"actionlint-report {version}\n" else [f"its version is {ran.stdout}"]
+    wrong += failed(dpkg(root, "--verify", "juzbrost-actionlint"))
+    wrong += failed(dpkg(root, "-r", "juzbrost-actionlint"))
+    left = [str(it.relative_to(root)) for it in (root / "usr").rglob("*")] if (root / "usr").exists() else []
+    return wrong + [f"{it} is left" for it in left]
+
+
+def refused(package, room):
+    """With an older C library dpkg doesn't set it up."""
+    ran = dpkg(scratch_root(room, "2.33-1"), "-i", package)
+    return [] if ran.returncode and b"depends on libc6 (>= 2.34)" in ran.stderr else [f"status {ran.returncode}: {ran.stderr}"]
+
+
+def control(package, version):
+    """What the package says of itself."""
+    said = run(["dpkg-deb", "-f", package]).stdout.decode()
+    wanted = ["Package: juzbrost-actionlint", f"Version: {version}", "Architecture: amd64", "Depends: libc6 (>= 2.34)",
+              "Recommends: python3, python3-pylsp-jsonrpc, python3-yaml"]
+    return [f"{it} is missing" for it in wanted if it not in said.splitlines()]
+
+
+def manual_page(page, program, version):
+    """The page, as mandoc shows it: no warning, the program's words, and the version."""
+    lint = run(["mandoc", "-T", "lint", "-W", "warning", page])
+    shown = run(["mandoc", "-T", "ascii", "-O", "width=300", page]).stdout.decode()
+    text = re.sub(".\x08", "", shown)
+    help_text = run([program, "--help"]).stdout.decode()
+    needed = [*WORDS, version, "Takes commands from standard input", "actionlint --root \"$(git rev-parse --show-toplevel)\""]
+    assert all(it in help_text for it in needed if it != version)
+    return failed(lint) + [f"{it} is missing" for it in needed if it not in text]
+
+
+def bash_completes(file, typed, folder):
+    """What bash completes of the last of the words that were typed."""
+    command = typed.split(" ")[0]
+    script = 'source "$1"; COMP_WORDS=($2); [[ $2 == *" " ]] && COMP_WORDS+=(""); COMP_CWORD=$((${#COMP_WORDS[@]} - 1)); '
+    script += f'_{command.replace("-", "_")}; printf "%s\\n" "${{COMPREPLY[@]}}"'
+    return sorted(run(["bash", "-c", script, "bash", file, typed], cwd=folder).stdout.decode().split())
+
+
+def fish_completes(file, typed, folder):
+    """What fish completes of a line."""
+    given = ["fish", "--no-config", "-c", "source $argv[1]; complete -C $argv[2]", file, typed]
+    ran = run(given, cwd=folder, env=ENVIRONMENT | {"HOME": str(folder)})
+    return sorted(it.split("\t")[0] for it in ran.stdout.decode().splitlines())
+
+
+def zsh_words(file):
+    """What the file gives to zsh's `_arguments`, each a word with its text and its values."""
+    script = '_arguments() { print -rl -- "$@" }; source $1'
+    return run(["zsh", "-fc", script, "zsh", file], env=ENVIRONMENT).stdout.decode().splitlines()
+
+
+def shells(share, room):
+    """What each shell completes: words, values, folders and files."""
+    folder = repository(room)
+    (folder / "sub").mkdir()
+    asked = (("actionlint --", WORDS), ("actionlint --r", ["--root"]), ("actionlint --root s", ["sub"]),
+             ("actionlint a/ac", ["a/action.yml"]), ("actionlint-report --form c", ["codequality"]),
+             ("actionlint-report --color a", ["always", "auto"]))
+    wrong = []
+    for typed, wanted in asked:
+        found = bash_completes(share / "bash-completion/completions" / typed.split(" ")[0], typed, folder)
+        wrong += [] if found == sorted(wanted) else [f"{typed!r} gives {found}"]
+    yield "bash", wrong
+    if shutil.which("fish"):
+        wrong = []
+        for typed, wanted in asked:
+            found = fish_completes(share / f"fish/vendor_completions.d/{typed.split(' ')[0]}.fish", typed, folder)
+            wrong += [] if [it.rstrip("/") for it in found] == sorted(wanted) else [f"{typed!r} gives {found}"]
+        yield "fish", wrong
+    else:
+        yield "fish", None
+    if shutil.which("zsh"):
+        found = zsh_words(share / "zsh/site-functions/_actionlint") + zsh_words(share / "zsh/site-functions/_actionlint-report")
+        wanted = ["--oneline[Prints each fault as one line, without the line of the file below it]",
+                  r"--root=[The repository's folder \[default\: .\]]:DIR:_files -/", "*:FILE:_files"]
+        wrong = [f"{it!r} is missing of {found}" for it in wanted if it not in found]
+        colors = [it for it in found if it.startswith("--color=[") and it.endswith(":value:(auto always never)")]
+        yield "zsh", wrong + ([] if colors else [f"no colors are in {found}"])
+    else:
+        yield "zsh", None
+
+
+def cases(program, room):
+    """Each case with what differs, or nothing where it can't be run."""
+    if not shutil.which("dpkg-deb"):
+        yield "package", None
+        return
+    first, second = clone(room / "a"), clone(room / "b" / "deeper")
+    version = (first / "VERSION").read_text().strip()
+    package, wrong = made(first, program, room / "out-a")
+    yield "package", wrong or control(package, version)
+    if wrong:
+        return
+    other, wrong = made(second, program, room / "out-b")
+    yield "package-of-the-same-bytes", wrong + ([] if package.read_bytes() == other.read_bytes() else ["the bytes differ"])
+    yield "package-checksum", failed(run(["sha256sum", "-c", f"{package.name}.sha256"], cwd=package.parent))
+    yield "package-installed", installed(package, scratch_root(room, "2.36-9"), room, version)
+    yield "package-refused", refused(package, room)
+    share = room / "put/share"
+    run([first / "release", "--program", program, "--install", share.parent]).check_returncode()
+    yield "manual-page", manual_page(share / "man/man1/actionlint.1", program, version) if shutil.which("mandoc") else None
+    for name, wrong in shells(share, room):
+        yield f"completed-by-{name}", wrong
+
+
+def main():
+    if len(sys.argv) != 2:
+        print("packages.py PROGRAM", file=sys.stderr)
+        return 2
+    with tempfile.TemporaryDirectory(prefix="actionlint-packages-") as room:
+        for name, wrong in cases(pathlib.Path(sys.argv[1]).resolve(), pathlib.Path(room)):
+            if wrong is None:
+                print(f"case={name} output=skipped status=- since a command isn't there")
+            else:
+                report(name, "-", wrong)
+    return 1 if results["wrong"] or not results["right"] else 0
+
+
+if __name__ == "__main__":
+    sys.exit(main())

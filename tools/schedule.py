@@ -1,0 +1,39 @@
+"""When each crate would be proved: the seconds that docs/PROVING.md has for each, side by side on so many processors."""
+
+import re
+
+from crates import crates_of
+
+ROW = re.compile(r"^\| `(\w+)` \| [\d,]+ \| (\d+) \|", re.MULTILINE)
+UNKNOWN_SECONDS = 100
+
+
+def seconds_of(top):
+    """The seconds that the proof of each crate took by the table of docs/PROVING.md."""
+    page = top / "docs/PROVING.md"
+    rows = ROW.findall(page.read_text(encoding="utf-8")) if page.is_file() else []
+    return {crate: int(seconds) for crate, seconds in rows}
+
+
+def schedule(top, crates, processors):
+    """The second at which each of these crates is proved, once what it stands on is: of those that can begin, the one that most seconds
+    wait for goes first, as `rt ci` does it."""
+    named, known = crates_of(top), seconds_of(top)
+    below = {it: [name for name in named[it] if name in crates] for it in crates}
+    seconds = {it: known.get(it, UNKNOWN_SECONDS) for it in crates}
+    behind = {}
+
+    def longest(crate):
+        if crate not in behind:
+            behind[crate] = seconds[crate] + max((longest(it) for it in crates if crate in below[it]), default=0)
+        return behind[crate]
+
+    ends, free = {}, [0] * processors
+    waiting = sorted(crates, key=longest, reverse=True)
+    while waiting:
+        lane = min(range(processors), key=free.__getitem__)
+        begins = {it: max([free[lane], *(ends[name] for name in below[it])]) for it in waiting if all(name in ends for name in below[it])}
+        crate = min(begins, key=begins.get)
+        waiting.remove(crate)
+        ends[crate] = free[lane] = begins[crate] + seconds[crate]
+    return ends
