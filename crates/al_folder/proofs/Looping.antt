@@ -3,7 +3,6 @@ use Rattle.std.proofs.Common.{◌≡◌, ℕ, zero, suc, ◌+◌, ◌<◌, ◌�
 use Rattle.std.proofs.Common.{get_or, drop, take, Option, Some, None, String, Vec, slice_get, refl, sym, ◌∙◌, ◌||◌, ap, subst, arith, append_assoc, append-nil, nat_lt, nat_eq}
 use Rattle.std.proofs.Common.{⊎_elim, inl, inr}
 use Rattle.std.specs.Prelude.{string_bytes, bytes_eq, Contains, IfSome, ◌↔◌, ◌&&◌, nat_le}
-use Rattle.std.specs.Borrow.{Bor}
 use Rattle.std.specs.Global.{Global}
 use Rattle.std.specs.Bool.{◌==◌}
 use Rattle.std.specs.List.{AllByRecursion, cons_option, enumerate_from, filter_map, list_any, position, prefix_len}
@@ -22,11 +21,11 @@ use Rattle.al_graph.proofs.Labels.{labels_same}
 use Rattle.al_graph.proofs.Edges.{edges_at}
 use Rattle.al_graph.proofs.Lists.{none_in}
 use Rattle.al_graph.proofs.OneWay.{no_loop_before, no_loop_behind, part_tells}
-use Rattle.al_folder.specs.Meaning.{CallSite, Meaning, candidates}
+use Rattle.al_folder.specs.Meaning.{Meaning, candidates}
 use Rattle.al_folder.specs.Folder.{Folder, or_else, paths_of}
-use Rattle.al_folder.specs.Kept.{Files, folder_of, entry_of, AllKept, AreKept, IsKept, referred}
-use Rattle.al_folder.specs.Loops.{called, calls_graph, leads_back, loop_fault, loop_fault_if, loop_faults, looping, number_among, number_of}
-use Rattle.al_folder.specs.Private.CallGraphs.{HasRoomUpTo, IsCallGraph, IsCalledBy, IsRow, NoneBackward, NoneForward, TellLoops, is_on_loop, part_of}
+use Rattle.al_folder.specs.Kept.{Files, folder_of, entry_of, AllKept, AreKept, IsKept}
+use Rattle.al_folder.specs.Loops.{called, calls_graph, leads_back, loop_faults, looping, fault_if, number_among, number_of}
+use Rattle.al_folder.specs.Private.CallGraphs.{IsCallGraph, IsCalledBy, IsRow, NoneBackward, NoneForward, TellLoops, part_of}
 use Rattle.al_folder.specs.declared.kept.KeptFile.{KeptFile}
 use Rattle.al_folder.specs.declared.lint.Target.{Target}
 use Rattle.al_folder.proofs.Ways.{leads_before, leads_behind}
@@ -142,23 +141,23 @@ module _ {U I : Type 0} (files : Files U I) where
   pub none_yet : (first : ℕ) → first ≡ 0 → NoneForward files first
   none_yet first is k e lt at = absurd (omega (arith, lt, is))
 
-  pub next_forward : (n : ℕ) (x : String Global × KeptFile U I) → slice_get files n ≡ Some x → x.1.calls_forward ≡ false → NoneForward files n → NoneForward files (n + 1)
+  pub next_forward : (n : ℕ) (x : String Global × KeptFile U I) → slice_get files n ≡ Some x → x.1.calls.go_forward ≡ false → NoneForward files n → NoneForward files (n + 1)
   next_forward n x there quiet before k e lt at = ⊎_elim
       (λ below. before k e below at)
       (λ past. let same : k ≡ n = omega (arith, lt, past) in
       let is : Some x ≡ Some e = sym there ∙ ap (slice_get files) (sym same) ∙ at in
-      ap (λ (o : Option (String Global × KeptFile U I)). (unwrap_or o x).1.calls_forward) (sym is) ∙ quiet)
+      ap (λ (o : Option (String Global × KeptFile U I)). (unwrap_or o x).1.calls.go_forward) (sym is) ∙ quiet)
       (cases_lt k n)
 
   pub none_left : (end : ℕ) → end ≡ length files → NoneBackward files end
   none_left end is k e past at = let below = below_length files k e at in absurd (omega (arith, past, is, below))
 
-  pub next_backward : (n end : ℕ) (x : String Global × KeptFile U I) → end ≡ n + 1 → slice_get files n ≡ Some x → x.1.calls_backward ≡ false → NoneBackward files end → NoneBackward files n
+  pub next_backward : (n end : ℕ) (x : String Global × KeptFile U I) → end ≡ n + 1 → slice_get files n ≡ Some x → x.1.calls.go_backward ≡ false → NoneBackward files end → NoneBackward files n
   next_backward n end x one there quiet behind k e past at = ⊎_elim
       (λ above. behind k e (omega (arith, above, one)) at)
       (λ last. let same : k ≡ n = omega (arith, last, past) in
       let is : Some x ≡ Some e = sym there ∙ ap (slice_get files) (sym same) ∙ at in
-      ap (λ (o : Option (String Global × KeptFile U I)). (unwrap_or o x).1.calls_backward) (sym is) ∙ quiet)
+      ap (λ (o : Option (String Global × KeptFile U I)). (unwrap_or o x).1.calls.go_backward) (sym is) ∙ quiet)
       (cases_lt n k)
 
 -- ---- calls that lead back
@@ -178,17 +177,17 @@ labels_tell graph labels i to r c edge says =
     (λ h. says.1 ((c.1 i to edge).1 ((leads_tells graph to i).0 h)))
 
 -- a call more
-module _ (graph : List (List ℕ)) (f : Folder) (i : ℕ) (ts : List Target) (ss : List CallSite) (at : ℕ) (done whole : List Fault)
+module _ (graph : List (List ℕ)) (f : Folder) (i : ℕ) (ts : List Target) (ss : List Fault) (at : ℕ) (done whole : List Fault)
     (so_far : done ++ looping graph f i (drop at ts) (drop at ss) ≡ whole) where
-  pub looping_next : (more : List Fault) (t : Target) (s : CallSite) → at < length ts → t ≡ get_or ts at t → slice_get ss at ≡ Some s →
-      more ≡ done ++ loop_fault_if (leads_back graph i (called f t)) s → more ++ looping graph f i (drop (at + 1) ts) (drop (at + 1) ss) ≡ whole
+  pub looping_next : (more : List Fault) (t : Target) (s : Fault) → at < length ts → t ≡ get_or ts at t → slice_get ss at ≡ Some s →
+      more ≡ done ++ fault_if (leads_back graph i (called f t)) s → more ++ looping graph f i (drop (at + 1) ts) (drop (at + 1) ss) ≡ whole
   looping_next more t s within read known now =
       let inside : at < length ss = below_length ss at s known in
       let is : get_or ss at s ≡ s = get_or_from_slice_get ss at s s known in
       let one : drop at ts ≡ t ∷ drop (at + 1) ts = drop_more ts at t within ∙ sym (ap (λ c. c ∷ drop (at + 1) ts) read) in
       let two : drop at ss ≡ s ∷ drop (at + 1) ss = drop_more ss at s inside ∙ ap (λ a. a ∷ drop (at + 1) ss) is in
       let rest = looping graph f i (drop (at + 1) ts) (drop (at + 1) ss) in
-      let one_fault = loop_fault_if (leads_back graph i (called f t)) s in
+      let one_fault = fault_if (leads_back graph i (called f t)) s in
       ap (λ l. l ++ rest) now ∙ append_assoc done one_fault rest
       ∙ sym (ap (λ l. done ++ l) (ap (λ l. looping graph f i l (drop at ss)) one ∙ ap (looping graph f i (t ∷ drop (at + 1) ts)) two)) ∙ so_far
 
@@ -226,25 +225,6 @@ row_called f row ts at d n t row_of size lt is read = ⊎_elim
 pub if_called : (f : Folder) (t : Target) (o : Option ℕ) (bound : ℕ) → o ≡ called f t → length f ≡ bound → IfSome o (λ k. k < bound)
 if_called f t None bound is n = tt
 if_called f t (Some k) bound is n = let below = called_below f t k (sym is) in omega (arith, below, n)
-
--- the fault that is kept of a call
-pub kept_fault : (ss : List CallSite) (faults : List Fault) (at : ℕ) (s : CallSite) (fault : Fault) → faults ≡ map loop_fault ss → slice_get ss at ≡ Some s → fault ≡ get_or faults at fault →
-    fault ≡ loop_fault s
-kept_fault ss faults at s fault is known read =
-    read ∙ ap (λ l. get_or l at fault) is
-    ∙ get_or_from_slice_get (map loop_fault ss) at (loop_fault s) fault (slice_get-map loop_fault ss at ∙ ap (option_map loop_fault) known)
-
--- the faults of calls, a call further
-pub faults_next : (ss : List CallSite) (i : ℕ) (s : CallSite) (old new : List Fault) → slice_get ss i ≡ Some s → old ≡ map loop_fault (take i ss) → new ≡ old ++ loop_fault s ∷ [] →
-    new ≡ map loop_fault (take (i + 1) ss)
-faults_next ss i s old new known is more =
-    let lt = below_length ss i s known in
-    more ∙ ap (λ l. l ++ loop_fault s ∷ []) is
-    ∙ sym (ap (map loop_fault) (take_more ss i s lt ∙ ap (λ x. take i ss ++ x ∷ []) (get_or_from_slice_get ss i s s known)) ∙ map-append loop_fault (take i ss) (s ∷ []))
-
--- references that were added
-pub referred_more : {T : Type 0} (old new : List (Bor T)) (r : Bor T) → new ≡ old ++ r ∷ [] → referred new ≡ referred old ++ r.now ∷ []
-referred_more {T} old new r more = ap referred more ∙ map-append (λ (x : Bor T). x.now) old (r ∷ [])
 
 -- numbers, one call further
 pub numbers_next : (h : Target → Option ℕ) (ts : List Target) (i : ℕ) (t : Target) (old new : List ℕ) → i < length ts → t ≡ get_or ts i t → old ≡ filter_map h (take i ts) →
@@ -331,14 +311,14 @@ module _ (first end : ℕ) where
 
   -- made file after file
   pub part_of_kept : {U I : Type 0} (m : Meaning I) (is_unit : U → List ℕ → List ℕ → Type 0) (h : Target → Option ℕ) (n : ℕ) (files : Files U I) → AllKept m is_unit files →
-      map (λ (x : ℕ × (String Global × KeptFile U I)). filter_map h (cond (Inside x.0) x.1.1.calls.items [])) (enumerate_from n files)
+      map (λ (x : ℕ × (String Global × KeptFile U I)). filter_map h (cond (Inside x.0) x.1.1.calls.targets.items [])) (enumerate_from n files)
       ≡ map Row (enumerate_from n (map (λ (e : List ℕ × List ℕ). filter_map h (m.calls e.0 e.1)) (folder_of files)))
   part_of_kept m is_unit h n [] kept = refl
   part_of_kept {U} {I} m is_unit h n (e ∷ es) kept =
-      let calls : e.1.calls.items ≡ m.calls (string_bytes e.0) e.1.bytes.items = kept.0.calls in
-      let one : filter_map h (cond (Inside n) e.1.calls.items []) ≡ cond (Inside n) (filter_map h (m.calls (string_bytes e.0) e.1.bytes.items)) [] =
+      let calls : e.1.calls.targets.items ≡ m.calls (string_bytes e.0) e.1.bytes.items = kept.0.calls.targets in
+      let one : filter_map h (cond (Inside n) e.1.calls.targets.items []) ≡ cond (Inside n) (filter_map h (m.calls (string_bytes e.0) e.1.bytes.items)) [] =
       ap (λ ts. filter_map h (cond (Inside n) ts [])) calls ∙ through (Inside n) (m.calls (string_bytes e.0) e.1.bytes.items) in
-      ap (λ l. l ∷ map (λ (x : ℕ × (String Global × KeptFile U I)). filter_map h (cond (Inside x.0) x.1.1.calls.items [])) (enumerate_from (n + 1) es)) one
+      ap (λ l. l ∷ map (λ (x : ℕ × (String Global × KeptFile U I)). filter_map h (cond (Inside x.0) x.1.1.calls.targets.items [])) (enumerate_from (n + 1) es)) one
       ∙ ap (λ l. cond (Inside n) (filter_map h (m.calls (string_bytes e.0) e.1.bytes.items)) [] ∷ l) (part_of_kept m is_unit h (n + 1) es kept.1)
     where
       through : (b : Bool) (ts : List Target) → filter_map h (cond b ts []) ≡ cond b (filter_map h ts) []
@@ -371,7 +351,7 @@ module _ {U I : Type 0} (m : Meaning I) (is_unit : U → List ℕ → List ℕ �
       let b = e.1.bytes.items in
       leads_before F kept.ordered y p b at
       (λ c k is. let n : length (paths_of F) ≡ length F = length-map F _ in let below = number_below F c k is in omega (arith, n, below))
-      (m.calls p b) z (sym one.forward ∙ none y e lt there.1)
+      (m.calls p b) z (sym one.calls.forward ∙ none y e lt there.1)
       (subst (λ ns. Contains ns z) (at_file m F y p b at) edge)
 
   goes_on : (end : ℕ) → NoneBackward files end → (y z : ℕ) → end ≤ y → Edge G y z → y < z
@@ -383,7 +363,7 @@ module _ {U I : Type 0} (m : Meaning I) (is_unit : U → List ℕ → List ℕ �
       let p = string_bytes e.0 in
       let b = e.1.bytes.items in
       let inside = below_length files y e there.1 in
-      leads_behind F kept.ordered y p b at (omega (arith, inside, paths_number)) (m.calls p b) z (sym one.backward ∙ none y e past there.1)
+      leads_behind F kept.ordered y p b at (omega (arith, inside, paths_number)) (m.calls p b) z (sym one.calls.backward ∙ none y e past there.1)
       (subst (λ ns. Contains ns z) (at_file m F y p b at) edge)
 
   -- the part has each call that leads back
@@ -451,19 +431,19 @@ none_has T (y ∷ ys) x h c = by (T y) refl c.0 c.1 c.2 (λ rest at. none_has T 
 
 module _ (graph : List (List ℕ)) (f : Folder) (i : ℕ) where
   -- where nothing that these calls lead to leads back
-  no_loops : (ts : List Target) (ss : List CallSite) → ((k : ℕ) → Contains (filter_map (called f) ts) k → leads graph k i ≡ false) → looping graph f i ts ss ≡ []
+  no_loops : (ts : List Target) (ss : List Fault) → ((k : ℕ) → Contains (filter_map (called f) ts) k → leads graph k i ≡ false) → looping graph f i ts ss ≡ []
   no_loops [] ss h = refl
   no_loops (t ∷ ts) [] h = refl
   no_loops (t ∷ ts) (s ∷ ss) h = by (called f t) refl (λ rest. no_loops ts ss rest)
     where
       by : (o : Option ℕ) → called f t ≡ o → (((k : ℕ) → Contains (filter_map (called f) ts) k → leads graph k i ≡ false) → looping graph f i ts ss ≡ []) →
-          loop_fault_if (leads_back graph i (called f t)) s ++ looping graph f i ts ss ≡ []
+          fault_if (leads_back graph i (called f t)) s ++ looping graph f i ts ss ≡ []
       by None a more =
-          ap (λ o. loop_fault_if (leads_back graph i o) s ++ looping graph f i ts ss) a
+          ap (λ o. fault_if (leads_back graph i o) s ++ looping graph f i ts ss) a
           ∙ more (λ k c. h k (put_behind (called f) (called f t) k (filter_map (called f) ts) c))
       by (Some k) a more =
-          ap (λ o. loop_fault_if (leads_back graph i o) s ++ looping graph f i ts ss) a
-          ∙ ap (λ b. loop_fault_if b s ++ looping graph f i ts ss) (h k (put_first (called f) (called f t) k (filter_map (called f) ts) a))
+          ap (λ o. fault_if (leads_back graph i o) s ++ looping graph f i ts ss) a
+          ∙ ap (λ b. fault_if b s ++ looping graph f i ts ss) (h k (put_first (called f) (called f t) k (filter_map (called f) ts) a))
           ∙ more (λ j c. h j (put_behind (called f) (called f t) j (filter_map (called f) ts) c))
 
 -- ---- files with a call that leads back
@@ -486,16 +466,16 @@ module _ (graph : List (List ℕ)) (f : Folder) (i : ℕ) where
       wrong h = cc
 
   -- where no call leads back, none of the files that these calls lead to does
-  none_of_calls : (ts : List Target) (ss : List CallSite) → length ss ≡ length ts → looping graph f i ts ss ≡ [] → AllByRecursion (λ t. (k : ℕ) → called f t ≡ Some k → leads graph k i ≡ false) ts
+  none_of_calls : (ts : List Target) (ss : List Fault) → length ss ≡ length ts → looping graph f i ts ss ≡ [] → AllByRecursion (λ t. (k : ℕ) → called f t ≡ Some k → leads graph k i ≡ false) ts
   none_of_calls [] ss n e = tt
   none_of_calls (t ∷ ts) [] n e = absurd (let wrong : 0 ≡ length (t ∷ ts) = n in omega (arith, wrong))
   none_of_calls (t ∷ ts) (s ∷ ss) n e = (
     λ k is. not_true (leads graph k i)
-        (λ yes. wrong (sym (ap (λ o. loop_fault_if (leads_back graph i o) s ++ looping graph f i ts ss) is ∙ ap (λ b. loop_fault_if b s ++ looping graph f i ts ss) yes) ∙ e)),
-    none_of_calls ts ss (omega (arith, n)) (last_none (loop_fault_if (leads_back graph i (called f t)) s) (looping graph f i ts ss) e),
+        (λ yes. wrong (sym (ap (λ o. fault_if (leads_back graph i o) s ++ looping graph f i ts ss) is ∙ ap (λ b. fault_if b s ++ looping graph f i ts ss) yes) ∙ e)),
+    none_of_calls ts ss (omega (arith, n)) (last_none (fault_if (leads_back graph i (called f t)) s) (looping graph f i ts ss) e),
   )
     where
-      wrong : loop_fault s ∷ looping graph f i ts ss ≡ [] → ⊥
+      wrong : s ∷ looping graph f i ts ss ≡ [] → ⊥
       wrong h = cc
 
 -- a file by its row of the program's graph: whether one of its calls leads to a file with its label of the program's graph
@@ -568,18 +548,3 @@ module _ {I : Type 0} (m : Meaning I) (f : Folder) (edges : List (Vec ℕ Global
       some [] e = absurd (let wrong : true ≡ false = is ∙ row_told p b at sited e in cc)
       some (x ∷ xs) e = apart (length xs)
   row_tells false is p b at sited = ap (λ l. not (length l == 0)) (row_quiet (sym is) p b at)
-
--- ---- room for what is joined of a file
-
-module _ {U I : Type 0} (files : Files U I) (graph : List (Vec ℕ Global)) (labels : List (Option ℕ)) where
-  pub room_none : (room : ℕ) → HasRoomUpTo files graph labels 0 room
-  room_none room i below on = absurd (omega (arith, below))
-
-  pub room_next : (n old new : ℕ) (x : String Global × KeptFile U I) (wanted : Bool) → slice_get files n ≡ Some x → wanted ≡ is_on_loop graph labels n →
-      HasRoomUpTo files graph labels n old → old ≤ new → (wanted ≡ true → length x.1.calls.items + length x.1.faults.items ≤ new) → HasRoomUpTo files graph labels (n + 1) new
-  room_next n old new x wanted there is room more one i below on e at = ⊎_elim
-      (λ lt. let h = room i lt on e at in omega (arith, h, more))
-      (λ past. let last : i ≡ n = omega (arith, past, below) in
-      let same : x ≡ e = one_entry files n x e there (ap (slice_get files) (sym last) ∙ at) in
-      subst (λ (y : String Global × KeptFile U I). length y.1.calls.items + length y.1.faults.items ≤ new) same (one (is ∙ ap (is_on_loop graph labels) (sym last) ∙ on)))
-      (cases_lt i n)

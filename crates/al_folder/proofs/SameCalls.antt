@@ -166,17 +166,18 @@ module _ {I : Type 0} (m : Meaning I) where
 
   -- among kept files
   pub put_same_calls : {U : Type 0} (is_unit : U → List ℕ → List ℕ → Type 0) (files : Files U I) (p : List ℕ) (file : KeptFile U I) → AreKept m is_unit files → IsKept m is_unit p file →
-      option_map (λ (kept : KeptFile U I). kept.calls.items) (file_at files p) ≡ Some file.calls.items → HasSameCalls m (folder_of files) (with_file (folder_of files) p file.bytes.items)
+      option_map (λ (kept : KeptFile U I). kept.calls.targets.items) (file_at files p) ≡ Some file.calls.targets.items →
+      HasSameCalls m (folder_of files) (with_file (folder_of files) p file.bytes.items)
   put_same_calls {U} is_unit files p file kept one same = by (file_at files p) refl
     where
       by : (o : Option (KeptFile U I)) → file_at files p ≡ o → HasSameCalls m (folder_of files) (with_file (folder_of files) p file.bytes.items)
-      by None a = absurd (wrong (sym (ap (option_map (λ (kept : KeptFile U I). kept.calls.items)) a) ∙ same))
+      by None a = absurd (wrong (sym (ap (option_map (λ (kept : KeptFile U I). kept.calls.targets.items)) a) ∙ same))
         where
-          wrong : None ≡ Some file.calls.items → ⊥
+          wrong : None ≡ Some file.calls.targets.items → ⊥
           wrong h = cc
       by (Some old) a =
           let before : IsKept m is_unit p old = kept_at m is_unit files p old kept.kept a in
           let there : bytes_at (folder_of files) p ≡ Some old.bytes.items = bytes_kept files p ∙ ap (option_map (λ (kept : KeptFile U I). kept.bytes.items)) a in
-          let some : Some old.calls.items ≡ Some file.calls.items = sym (ap (option_map (λ (kept : KeptFile U I). kept.calls.items)) a) ∙ same in
-          let calls : old.calls.items ≡ file.calls.items = ap (λ o. unwrap_or o []) some in
-          put_calls (folder_of files) p old.bytes.items file.bytes.items kept.ordered there (sym one.calls ∙ sym calls ∙ before.calls)
+          let some : Some old.calls.targets.items ≡ Some file.calls.targets.items = sym (ap (option_map (λ (kept : KeptFile U I). kept.calls.targets.items)) a) ∙ same in
+          let calls : old.calls.targets.items ≡ file.calls.targets.items = ap (λ o. unwrap_or o []) some in
+          put_calls (folder_of files) p old.bytes.items file.bytes.items kept.ordered there (sym one.calls.targets ∙ sym calls ∙ before.calls.targets)

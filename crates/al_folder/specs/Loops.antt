@@ -5,7 +5,7 @@ use Rattle.std.specs.List.{filter_map, position}
 use Rattle.al_base.specs.FaultLists.{fault_list}
 use Rattle.al_base.specs.declared.faults.Fault.{Fault}
 use Rattle.al_graph.specs.Within.{leads}
-use Rattle.al_folder.specs.Meaning.{CallSite, Meaning, candidates}
+use Rattle.al_folder.specs.Meaning.{Meaning, candidates}
 use Rattle.al_folder.specs.Folder.{Folder, faults_in, or_else, paths_of}
 use Rattle.al_folder.specs.declared.lint.Target.{Target}
 
@@ -32,17 +32,14 @@ leads_back graph file None = false
 leads_back graph file (Some to) = leads graph to file
 
 -- what is said of such a call
-abbrev pub loop_fault : CallSite → Fault
-loop_fault site = record { span = site.span; code = site.code; args = site.text ∷ [] }
-
-abbrev pub loop_fault_if : Bool → CallSite → List Fault
-loop_fault_if looping site = if looping then loop_fault site ∷ [] else []
+abbrev pub fault_if : Bool → Fault → List Fault
+fault_if looping fault = if looping then fault ∷ [] else []
 
 -- of these calls of the file with this number, those that lead back to it
-abbrev pub looping : List (List ℕ) → Folder → ℕ → List Target → List CallSite → List Fault
+abbrev pub looping : List (List ℕ) → Folder → ℕ → List Target → List Fault → List Fault
 looping graph f file [] sites = []
 looping graph f file (t ∷ ts) [] = []
-looping graph f file (t ∷ ts) (s ∷ ss) = loop_fault_if (leads_back graph file (called f t)) s ++ looping graph f file ts ss
+looping graph f file (t ∷ ts) (s ∷ ss) = fault_if (leads_back graph file (called f t)) s ++ looping graph f file ts ss
 
 abbrev pub loop_faults : {I : Type 0} → Meaning I → Folder → ℕ → List ℕ → List ℕ → List Fault
 loop_faults m f file p b = looping (calls_graph m f) f file (m.calls p b) (m.sites p b)

@@ -7,7 +7,7 @@ ghost use Rattle.al_folder.specs.Kept.{goes_backward, goes_forward};
 use crate::lint::Target;
 
 /// Whether a candidate of one of these calls is the path or stands behind it.
-pub fn has_forward(path: &str, calls: &[Target]) -> bool
+pub(crate) fn has_forward(path: &str, calls: &[Target]) -> bool
     ensures { result ≡ list_any (goes_forward path.now) calls.now }
 {
     for target in calls {
@@ -19,7 +19,7 @@ pub fn has_forward(path: &str, calls: &[Target]) -> bool
 }
 
 /// Whether a candidate of one of these calls is the path or stands in front of it.
-pub fn has_backward(path: &str, calls: &[Target]) -> bool
+pub(crate) fn has_backward(path: &str, calls: &[Target]) -> bool
     ensures { result ≡ list_any (goes_backward path.now) calls.now }
 {
     for target in calls {

@@ -4,6 +4,7 @@
 
 mod affected;
 mod callers;
+mod calls;
 mod check;
 mod directions;
 mod kept;
@@ -15,12 +16,12 @@ mod place;
 mod same_calls;
 
 pub use affected::affected_paths;
-pub use callers::{candidates_of, drop_callers, index_calls, reindex};
+pub use callers::{drop_callers, index_calls, reindex};
+pub use calls::calls_of;
 pub use check::{check_path, check_paths};
-pub use directions::{has_backward, has_forward};
-pub use kept::{Callers, Files, KeptFile};
+pub use kept::{Callers, Calls, Files, KeptFile};
 pub use lint::{Lint, Refused, Site, Target};
-pub use loops::{CallGraph, add_loop_faults, call_faults, call_graph, is_on_loop, room_for};
+pub use loops::{CallGraph, call_graph, is_on_loop, loop_faults};
 pub use missing::missing_paths;
 pub use paths::Paths;
 pub use place::{file_number, place_in};

@@ -1,17 +1,16 @@
 //! Calls that lead back to their own file.
 
-ghost use Rattle.std.specs.Prelude.{◌≡◌, ◌<◌, ◌≤◌, ◌+◌, ◌++◌, ◌&&◌, ◌∷◌, ◌==◌, [], ℕ, List, None, Some, Contains, cond, length, not, true};
-ghost use Rattle.std.specs.Prelude.{vec_capacity, vec_len};
-ghost use Rattle.std.specs.Prelude.{map, nat_eq, nat_le, nat_lt, slice_get, slice_index_or};
+ghost use Rattle.std.specs.Prelude.{◌≡◌, ◌<◌, ◌+◌, ◌++◌, ◌&&◌, ◌==◌, [], ℕ, List, None, Some, Contains, cond, length, not, true};
+ghost use Rattle.std.specs.Prelude.{nat_eq, nat_le, nat_lt, slice_get, slice_index_or};
 ghost use Rattle.std.specs.Prelude.{IfOk, IfSome, OnOk};
 ghost use Rattle.std.specs.List.{cons_option, filter_map, list_any};
 ghost use Rattle.std.specs.Option.{option_eq};
 ghost use Rattle.al_graph.specs.Graphs.{edges_of};
-ghost use Rattle.al_folder.specs.Kept.{AreKept, IsKept, folder_of, referred};
+ghost use Rattle.al_folder.specs.Kept.{AreKept, IsKept, folder_of};
 ghost use Rattle.al_folder.specs.Loops as loops;
-ghost use Rattle.al_folder.specs.Private.CallGraphs.{HasRoomFor, HasRoomForCalls, IsCallGraph, IsCalledBy, IsLonger, IsRow};
-ghost use Rattle.al_folder.specs.Private.CallGraphs.{NoneBackward, NoneForward, TellLoops, is_on_loop, part_of};
-ghost use Rattle.al_folder.specs.Sites.{site_of};
+ghost use Rattle.al_folder.specs.Private.CallGraphs.{IsCallGraph, IsCalledBy, IsRow, NoneBackward, NoneForward, TellLoops};
+ghost use Rattle.al_folder.specs.Private.CallGraphs.{is_on_loop, part_of};
+ghost use Rattle.al_folder.specs.Sites.{fault_of};
 
 use crate::kept::{Files, KeptFile};
 use crate::lint::{Lint, Site, Target};
@@ -92,7 +91,7 @@ fn first_forward<U, I>(files: &Files<U, I>) -> usize
 {
     for index in 0..files.len() {
         let (_, file) = file_number(files, index);
-        if file.calls_forward {
+        if file.calls.go_forward {
             return index;
         }
     }
@@ -107,7 +106,7 @@ fn end_backward<U, I>(files: &Files<U, I>) -> usize
     let mut end = files.len();
     while end > 0 {
         let (_, file) = file_number(files, end - 1);
-        if file.calls_backward {
+        if file.calls.go_backward {
             return end;
         }
         end -= 1;
@@ -124,10 +123,10 @@ fn is_between(first: usize, index: usize, end: usize) -> bool
 
 /// The calls of a file, or none.
 fn calls_if<U, I>(is_wanted: bool, file: &KeptFile<U, I>) -> &[Target]
-    ensures { result.now ≡ cond is_wanted file.now.calls.items [] }
+    ensures { result.now ≡ cond is_wanted file.now.calls.targets.items [] }
 {
     if is_wanted {
-        file.calls.as_slice()
+        file.calls.targets.as_slice()
     } else {
         &[]
     }
@@ -199,17 +198,6 @@ fn has_label_of(nodes: &[usize], labels: &[Option<usize>], node: usize) -> bool
     false
 }
 
-/// The fault of a call that leads back to its own file.
-fn loop_fault(alloc: Global, site: Site<'_>) -> Result<Fault, AllocError>
-    ensures { IfOk result (λ fault. fault ≡ loops.loop_fault (site_of site.entry)) }
-{
-    Ok(Fault {
-        span: site.span,
-        code: site.code,
-        args: Args::one(String::from_str(alloc, site.text)?),
-    })
-}
-
 /// The number of the file that one of a file's calls leads to, by the row that these calls gave in the graph. Where each of them leads to a
 /// file, it has its place in the row, and nothing is looked up again.
 fn called_again<U, I>(
@@ -243,70 +231,6 @@ fn leads_back(labels: &[Option<usize>], index: usize, to: Option<usize>) -> bool
     }
 }
 
-/// The faults of so many calls of a file, in their order, which reports list where the calls lead back.
-///
-/// # Errors
-///
-/// [`AllocError`] where memory ran out.
-pub fn call_faults<L: Lint>(
-    lint: &L,
-    alloc: Global,
-    unit: &L::Unit,
-    count: usize,
-) -> Result<Vec<Fault>, AllocError>
-    requires { (p : List ℕ) × (b : List ℕ) × L.is_unit unit.now p b × (count ≡ length (L.meaning.calls p b)) }
-    ensures { (p b : List ℕ) → L.is_unit unit.now p b → count ≡ length (L.meaning.calls p b)
-        → IfOk result (λ faults. faults.items ≡ map loops.loop_fault (L.meaning.sites p b)) }
-{
-    let mut faults = Vec::with_capacity(alloc, count)?;
-    for call in 0..count {
-        faults.push(loop_fault(alloc, lint.site(unit, call))?)?;
-    }
-    Ok(faults)
-}
-
-/// Adds the fault of a call, if it leads back. There is room for it.
-fn add_if<'a>(leads_back: bool, fault: &'a Fault, faults: &mut Vec<&'a Fault>)
-    requires { vec_len faults.old < vec_capacity faults.old }
-    ensures faults { referred faults.new.items ≡ referred faults.old.items ++ cond leads_back (fault.entry.now ∷ []) [] }
-    ensures len { vec_len faults.new ≤ vec_len faults.old + 1 }
-    ensures capacity { vec_capacity faults.new ≡ vec_capacity faults.old }
-{
-    if leads_back {
-        faults.push_reserved(fault);
-    }
-}
-
-/// Adds the faults of the calls of a file with this number that lead back to it, in the order of the calls. There is room for one of each.
-fn add_faults_of_calls<'a, L: Lint>(
-    files: &Files<L::Unit, L::Iface>,
-    labels: &[Option<usize>],
-    row: &[usize],
-    index: usize,
-    file: &'a KeptFile<L::Unit, L::Iface>,
-    faults: &mut Vec<&'a Fault>,
-)
-    requires kept { AreKept L.meaning L.is_unit files.now.entries }
-    requires labels { TellLoops (loops.calls_graph L.meaning (folder_of files.now.entries)) labels.now }
-    requires row { IsRow (folder_of files.now.entries) row.now file.now.calls.items }
-    requires there { (p : List ℕ) × IsKept L.meaning L.is_unit p file.now
-        × (slice_get (folder_of files.now.entries) index ≡ Some (p, file.now.bytes.items)) }
-    requires room { vec_len faults.old + length file.now.calls.items ≤ vec_capacity faults.old }
-    ensures faults { (p : List ℕ) → IsKept L.meaning L.is_unit p file.now → referred faults.new.items
-        ≡ referred faults.old.items ++ loops.loop_faults L.meaning (folder_of files.now.entries) index p file.now.bytes.items }
-    ensures len { vec_len faults.new ≤ vec_len faults.old + length file.now.calls.items }
-    ensures capacity { vec_capacity faults.new ≡ vec_capacity faults.old }
-{
-    for (call, target) in file.calls.iter().enumerate() {
-        let to = called_again(files, row, &file.calls, call, target);
-        add_if(
-            leads_back(labels, index, to),
-            &file.call_faults[call],
-            faults,
-        );
-    }
-}
-
 /// Whether a call of the file with this number leads back to it: whether one leads to a file in its strongly connected component. No file
 /// is looked at.
 pub fn is_on_loop<L: Lint>(
@@ -324,64 +248,82 @@ pub fn is_on_loop<L: Lint>(
     has_label_of(row, &calls.labels, index)
 }
 
-/// A number that is at least another and, where it is asked for, at least how many calls and faults a file has.
-fn with_room<U, I>(
-    is_wanted: bool,
-    least: usize,
-    file: &KeptFile<U, I>,
-) -> Result<usize, AllocError>
-    ensures { IfOk result (λ n. (least ≤ n)
-        × (is_wanted ≡ true → length file.now.calls.items + length file.now.faults.items ≤ n)) }
+/// What is said of a call that leads back to its own file.
+fn fault_of(alloc: Global, site: Site<'_>) -> Result<Fault, AllocError>
+    ensures { IfOk result (λ fault. fault ≡ fault_of site.entry) }
 {
-    if !is_wanted {
-        return Ok(least);
-    }
-    match file.calls.len().checked_add(file.faults.len()) {
-        None => Err(AllocError),
-        Some(count) => Ok(if least < count { count } else { least }),
-    }
+    Ok(Fault {
+        span: site.span,
+        code: site.code,
+        args: Args::one(String::from_str(alloc, site.text)?),
+    })
 }
 
-/// A number that is at least how many calls and faults a file has one of whose calls leads back to it, for each such file; 0 where there is
-/// none. No other file is looked at, and no candidate is looked up. Takes no memory.
+/// Adds the fault of a call, if it leads back.
+fn add_fault_if(
+    alloc: Global,
+    leads_back: bool,
+    site: Site<'_>,
+    faults: &mut Vec<Fault>,
+) -> Result<(), AllocError>
+    ensures { OnOk result (faults.new.items ≡ faults.old.items ++ loops.fault_if leads_back (fault_of site.entry)) }
+{
+    if leads_back {
+        faults.push(fault_of(alloc, site)?)?;
+    }
+    Ok(())
+}
+
+/// The faults of the calls of a file with this number that lead back to it, in the order of the calls.
+fn faults_of_calls<L: Lint>(
+    lint: &L,
+    alloc: Global,
+    files: &Files<L::Unit, L::Iface>,
+    labels: &[Option<usize>],
+    row: &[usize],
+    index: usize,
+    file: &KeptFile<L::Unit, L::Iface>,
+) -> Result<Vec<Fault>, AllocError>
+    requires labels { TellLoops (loops.calls_graph L.meaning (folder_of files.now.entries)) labels.now }
+    requires row { IsRow (folder_of files.now.entries) row.now file.now.calls.targets.items }
+    requires there { (p : List ℕ) × IsKept L.meaning L.is_unit p file.now
+        × (slice_get (folder_of files.now.entries) index ≡ Some (p, file.now.bytes.items)) }
+    ensures { (p : List ℕ) → IsKept L.meaning L.is_unit p file.now → IfOk result (λ faults. faults.items
+        ≡ loops.loop_faults L.meaning (folder_of files.now.entries) index p file.now.bytes.items) }
+{
+    let targets = file.calls.targets.as_slice();
+    let mut faults = Vec::new(alloc);
+    for (call, target) in targets.iter().enumerate() {
+        let to = called_again(files, row, targets, call, target);
+        let leads_back = leads_back(labels, index, to);
+        add_fault_if(alloc, leads_back, lint.site(&file.unit, call), &mut faults)?;
+    }
+    Ok(faults)
+}
+
+/// The faults of the calls of the file with this number that lead back to it, in the order of the calls. No candidate is looked up of a
+/// file each of whose calls leads to a file, nor of one none of whose calls leads back.
 ///
 /// # Errors
 ///
-/// [`AllocError`] where a file has more calls and faults than can be counted.
-pub fn room_for<L: Lint>(
+/// [`AllocError`] where memory ran out.
+pub fn loop_faults<L: Lint>(
+    lint: &L,
+    alloc: Global,
     files: &Files<L::Unit, L::Iface>,
     calls: &CallGraph,
-) -> Result<usize, AllocError>
-    requires { IsCallGraph L.meaning (folder_of files.now.entries) calls.now.graph.items calls.now.labels.items }
-    ensures { IfOk result (λ room. HasRoomFor files.now.entries calls.now.graph.items calls.now.labels.items room) }
-{
-    let mut room = 0;
-    for index in 0..files.len() {
-        let (_, file) = file_number(files, index);
-        let is_wanted = is_on_loop::<L>(files, calls, index);
-        room = with_room(is_wanted, room, file)?;
-    }
-    Ok(room)
-}
-
-/// Adds the faults of the calls of the file with this number that lead back to it, in the order of the calls. There is room for one of
-/// each. No candidate is looked up of a file each of whose calls leads to a file.
-pub fn add_loop_faults<'a, L: Lint>(
-    files: &'a Files<L::Unit, L::Iface>,
-    calls: &CallGraph,
     index: usize,
-    faults: &mut Vec<&'a Fault>,
-)
+) -> Result<Vec<Fault>, AllocError>
     requires kept { AreKept L.meaning L.is_unit files.now.entries }
     requires calls { IsCallGraph L.meaning (folder_of files.now.entries) calls.now.graph.items calls.now.labels.items }
     requires index { index < length files.now.entries }
-    requires room { HasRoomForCalls files.now.entries index (vec_len faults.old) (vec_capacity faults.old) }
-    ensures faults { (p b : List ℕ) → slice_get (folder_of files.now.entries) index ≡ Some (p, b) → referred faults.new.items
-        ≡ referred faults.old.items ++ loops.loop_faults L.meaning (folder_of files.now.entries) index p b }
-    ensures len { IsLonger files.now.entries index (vec_len faults.old) (vec_len faults.new) }
-    ensures capacity { vec_capacity faults.new ≡ vec_capacity faults.old }
+    ensures { (p b : List ℕ) → slice_get (folder_of files.now.entries) index ≡ Some (p, b) → IfOk result (λ faults. faults.items
+        ≡ loops.loop_faults L.meaning (folder_of files.now.entries) index p b) }
 {
+    if !is_on_loop::<L>(files, calls, index) {
+        return Ok(Vec::new(alloc));
+    }
     let row = calls.graph[index].as_slice();
     let (_, file) = file_number(files, index);
-    add_faults_of_calls::<L>(files, &calls.labels, row, index, file, faults);
+    faults_of_calls(lint, alloc, files, &calls.labels, row, index, file)
 }

@@ -1,6 +1,6 @@
 -- The faults that a report lists: each file's own, and those of its calls that lead back to it.
 use Rattle.std.proofs.Common.{◌≤◌, ◌≡◌, ◌<◌, ℕ, zero, suc, ◌+◌, Bool, true, false, cond, not, List, [], ◌∷◌, ◌++◌, length}
-use Rattle.std.proofs.Common.{get_or, Option, Some, None, String, slice_get, refl, sym, ◌∙◌, ap, subst, ◌||◌, arith}
+use Rattle.std.proofs.Common.{get_or, Option, Some, None, String, slice_get, refl, sym, ◌∙◌, ap, subst, ◌||◌, arith, length-append, ⊎_elim}
 use Rattle.std.specs.Prelude.{string_bytes}
 use Rattle.std.specs.Bool.{◌==◌}
 use Rattle.std.specs.Borrow.{Bor}
@@ -12,7 +12,8 @@ use Rattle.std.specs.Ordering.{is_lt, match_ordering}
 use Rattle.std.specs.declared.cmp.Ordering.{Ordering}
 use Rattle.std.specs.declared.cmp.Ordering.TheVariants.{Less, Equal, Greater}
 use Rattle.std.proofs.lemmas.Bool.Decides.{nat_tests}
-use Rattle.std.proofs.lemmas.List.{get_or-map, length-map}
+use Rattle.std.proofs.lemmas.Bool.{cases_lt}
+use Rattle.std.proofs.lemmas.List.{get_or-append-add, get_or-map, get_or_append_left, length-map}
 use Rattle.std.proofs.lemmas.List.Sorted.{IsPermutation-append_comm, IsPermutation-map}
 use Rattle.al_base.proofs.FaultLists.{AllByRecursion-fault_list, derived_is, derived_ties, fault_cmp_same, fault_cmp_total, fault_list-permutation, fault_list-sorted}
 use Rattle.al_base.proofs.InOrder.{dedup-in_order}
@@ -23,16 +24,16 @@ use Rattle.al_base.specs.InOrder.{in_order, with_one}
 use Rattle.al_text.specs.Snippets.{fault_text}
 use Rattle.al_base.specs.Spans.{LiesIn}
 use Rattle.al_base.specs.declared.faults.Fault.{Fault}
-use Rattle.al_folder.specs.Meaning.{CallSite, Meaning}
+use Rattle.al_folder.specs.Meaning.{Meaning}
 use Rattle.al_folder.specs.Folder.{Folder, answers, faults_in}
 use Rattle.al_folder.specs.Kept.{Files, folder_of, referred, AllKept}
-use Rattle.al_folder.specs.Loops.{calls_graph, called, leads_back, loop_fault_if, loop_faults, looping, reported}
+use Rattle.al_folder.specs.Loops.{calls_graph, called, leads_back, fault_if, loop_faults, looping, reported}
 use Rattle.al_folder.specs.declared.kept.KeptFile.{KeptFile}
 use Rattle.al_folder.specs.declared.lint.Target.{Target}
 use Rattle.al_folder.proofs.Looping.{kept_number}
 use Rattle.al_listing.specs.Report.{status_of, report_of}
 use Rattle.al_listing.specs.Checked.{AllChecked}
-use Rattle.al_listing.specs.Private.Printing.{ArePrintable, numbered_lines}
+use Rattle.al_listing.specs.Private.Printing.{AreNumbered, ArePrintable, joined_faults, listed, numbered_lines}
 use Rattle.al_listing.proofs.Reports.{any_fault}
 
 -- ---- faults that are joined
@@ -61,21 +62,21 @@ all_one P [] ys a b = b
 all_one P (x ∷ xs) ys a b = (a.0, all_one P xs ys a.1 b)
 
 module _ {I : Type 0} (m : Meaning I) (f : Folder) (i : ℕ) (size : ℕ) where
-  one_inside : (t : Bool) (s : CallSite) → LiesIn size s.span → AllByRecursion (λ (fault : Fault). LiesIn size fault.span) (loop_fault_if t s)
+  one_inside : (t : Bool) (s : Fault) → LiesIn size s.span → AllByRecursion (λ (fault : Fault). LiesIn size fault.span) (fault_if t s)
   one_inside true s h = (h, tt)
   one_inside false s h = tt
 
-  looping_inside : (ts : List Target) (ss : List CallSite) → AllByRecursion (λ (s : CallSite). LiesIn size s.span) ss →
+  looping_inside : (ts : List Target) (ss : List Fault) → AllByRecursion (λ (s : Fault). LiesIn size s.span) ss →
       AllByRecursion (λ (fault : Fault). LiesIn size fault.span) (looping (calls_graph m f) f i ts ss)
   looping_inside [] ss h = tt
   looping_inside (t ∷ ts) [] h = tt
   looping_inside (t ∷ ts) (s ∷ ss) h =
-      all_one _ (loop_fault_if (leads_back (calls_graph m f) i (called f t)) s) (looping (calls_graph m f) f i ts ss)
+      all_one _ (fault_if (leads_back (calls_graph m f) i (called f t)) s) (looping (calls_graph m f) f i ts ss)
       (one_inside (leads_back (calls_graph m f) i (called f t)) s h.0) (looping_inside ts ss h.1)
 
 module _ {I : Type 0} (m : Meaning I)
     (inside : (p b : List ℕ) (given : List (Option I)) → length b ≤ 1048576 → AllByRecursion (λ (fault : Fault). LiesIn (length b) fault.span) (m.faults p b given))
-    (sites : (p b : List ℕ) → length b ≤ 1048576 → AllByRecursion (λ (s : CallSite). LiesIn (length b) s.span) (m.sites p b)) where
+    (sites : (p b : List ℕ) → length b ≤ 1048576 → AllByRecursion (λ (s : Fault). LiesIn (length b) s.span) (m.sites p b)) where
   reported_inside : (f : Folder) (i : ℕ) (p b : List ℕ) → length b ≤ 1048576 → AllByRecursion (λ (fault : Fault). LiesIn (length b) fault.span) (reported m f i p b)
   unfolding reported faults_in
   reported_inside f i p b small =
@@ -109,20 +110,12 @@ some_list x xs = ap not (apart (length xs))
     apart : (n : ℕ) → (suc n == 0) ≡ false
     apart n = grind (arith, nat_tests)
 
-pub none_of : {X : Type 0} (xs : List X) → (length xs == 0) ≡ true → xs ≡ []
+none_of : {X : Type 0} (xs : List X) → (length xs == 0) ≡ true → xs ≡ []
 none_of [] e = refl
 none_of (x ∷ xs) e = absurd (apart (length xs) e)
   where
     apart : (n : ℕ) → (suc n == 0) ≡ true → ⊥
     apart n h = grind (arith, nat_tests)
-
--- a list whose length isn't told to be some has none
-pub none_told : (xs : List Fault) (told : Bool) → told ≡ not (length xs == 0) → told ≡ false → xs ≡ []
-none_told xs told is none = none_of xs (other (length xs == 0) (sym is ∙ none))
-  where
-    other : (b : Bool) → not b ≡ false → b ≡ true
-    other true e = refl
-    other false e = sym e
 
 put_some : (x : Fault) (ys : List Fault) → not (length (with_one fault_cmp x ys) == 0) ≡ true
 put_some x [] = some_list x []
@@ -243,3 +236,63 @@ listed_both m files i e all list checked at a o =
     let looping = loop_faults m (folder_of files) i (string_bytes e.0) e.1.bytes.items in
     o ∙ ap fault_list (a ∙ ap (λ x. x ++ looping) (checked_number m (folder_of files) files i e checked at))
     ∙ fault_list-permutation (own ++ looping) (looping ++ own) (IsPermutation-append_comm own looping)
+
+-- what is listed of a file
+module _ {U I : Type 0} (m : Meaning I) (ordered : (p b : List ℕ) (given : List (Option I)) → IsStrictlySortedBy fault_cmp (m.faults p b given)) (files : Files U I) (i : ℕ)
+    (e : String Global × KeptFile U I) (own loops : List Fault) (joined : List (Bor Fault)) (checked : AllChecked m (folder_of files) files) (at : slice_get files i ≡ Some e)
+    (is : own ≡ e.1.faults.items) (all : loops ≡ loop_faults m (folder_of files) i (string_bytes e.0) e.1.bytes.items) (now : referred joined ≡ joined_faults own loops) where
+  none_listed : loops ≡ [] → listed e.1 joined ≡ reported m (folder_of files) i (string_bytes e.0) e.1.bytes.items
+  none_listed none =
+      let empty : referred joined ≡ [] = now ∙ ap (joined_faults own) none in
+      let n : length (referred joined) ≡ length joined = length-map joined (λ (r : Bor Fault). r.now) in
+      let no : (length joined == 0) ≡ true = ap (λ k. k == 0) (sym n ∙ ap length empty) in
+      ap (λ b. cond b e.1.faults.items (referred joined)) no
+      ∙ own_reported m ordered (folder_of files) i (string_bytes e.0) e.1.bytes.items e.1.faults.items (checked_number m (folder_of files) files i e checked at) (sym all ∙ none)
+
+  some_listed : (length loops == 0) ≡ false → listed e.1 joined ≡ reported m (folder_of files) i (string_bytes e.0) e.1.bytes.items
+  some_listed some =
+      let put : referred joined ≡ fault_list (own ++ loops) = now ∙ ap (λ b. cond b [] (fault_list (own ++ loops))) some in
+      let n : length (referred joined) ≡ length joined = length-map joined (λ (r : Bor Fault). r.now) in
+      let told : not (length joined == 0) ≡ true =
+      ap (λ k. not (k == 0)) (sym n ∙ ap length put) ∙ some_in_order (own ++ loops) ∙ some_of_both own loops ∙ ap (λ b. not (length own == 0) || not b) some ∙ or_true (not (length own == 0)) in
+      ap (λ b. cond b e.1.faults.items (referred joined)) (other (length joined == 0) told)
+      ∙ listed_both m files i e (own ++ loops) joined checked at (ap (λ l. l ++ loops) is ∙ ap (λ l. e.1.faults.items ++ l) all) put
+    where
+      or_true : (b : Bool) → (b || true) ≡ true
+      or_true true = refl
+      or_true false = refl
+
+      other : (b : Bool) → not b ≡ true → b ≡ false
+      other false h = refl
+      other true h = absurd (wrong h)
+        where
+          wrong : false ≡ true → ⊥
+          wrong h = cc
+
+  pub listed_is : listed e.1 joined ≡ reported m (folder_of files) i (string_bytes e.0) e.1.bytes.items
+  listed_is = by (length loops == 0) refl
+    where
+      by : (b : Bool) → (length loops == 0) ≡ b → listed e.1 joined ≡ reported m (folder_of files) i (string_bytes e.0) e.1.bytes.items
+      by true none = none_listed (none_of loops none)
+      by false some = some_listed some
+
+-- ---- elements by their numbers
+
+module _ {X : Type 0} (P : ℕ → X → Type 0) where
+  pub numbered_none : (all : List X) → all ≡ [] → AreNumbered P 0 all
+  numbered_none all none = record { number = ap length none; each = λ i x below is. absurd (omega (arith, below)) }
+
+  pub numbered_more : (n : ℕ) (old new : List X) (x : X) → AreNumbered P n old → P n x → new ≡ old ++ x ∷ [] → AreNumbered P (n + 1) new
+  numbered_more n old new x are one more = record {
+    number = let all = length-append old (x ∷ []) in let before = are.number in omega (arith, ap length more, all, before);
+    each = λ i y below is.
+        ⊎_elim
+        (λ lt. let inside : i < length old = let before = are.number in omega (arith, lt, before) in
+        are.each i y lt (is ∙ ap (λ l. get_or l i y) more ∙ get_or_append_left old (x ∷ []) y i inside))
+        (λ past. let before = are.number in
+        let same : n ≡ i = omega (arith, past, below) in
+        let at : i ≡ length old + 0 = omega (arith, same, before) in
+        let last : y ≡ x = is ∙ ap (λ l. get_or l i y) more ∙ ap (λ k. get_or (old ++ x ∷ []) k y) at ∙ get_or-append-add old (x ∷ []) 0 y in
+        subst (λ k. P k y) same (subst (P n) (sym last) one))
+        (cases_lt i n);
+  }

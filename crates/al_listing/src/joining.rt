@@ -1,83 +1,98 @@
 //! The faults of calls that lead back to their own file, joined with the file's others.
 
-ghost use Rattle.std.specs.Prelude.{◌≡◌, ◌<◌, ◌≤◌, ◌+◌, ◌++◌, ◌==◌, IfOk, length, not};
-ghost use Rattle.std.specs.Prelude.{vec_capacity, vec_len};
+ghost use Rattle.std.specs.Prelude.{◌≡◌, ◌++◌, ◌==◌, IfOk, OnOk, length, not};
 ghost use Rattle.std.specs.List.{enumerate_from, list_any};
 ghost use Rattle.al_base.specs.FaultLists.{fault_list};
 ghost use Rattle.al_folder.specs.Kept.{AreKept, folder_of, referred};
 ghost use Rattle.al_folder.specs.Loops as loops;
-ghost use Rattle.al_folder.specs.Private.CallGraphs.{HasRoomFor, IsCallGraph};
+ghost use Rattle.al_folder.specs.Private.CallGraphs.{IsCallGraph};
 ghost use Rattle.al_listing.specs.Checked.{AllChecked};
-ghost use Rattle.al_listing.specs.Private.Printing.{IsListed};
+ghost use Rattle.al_listing.specs.Private.Printing.{AreListed, AreLoops, joined_faults};
 
 use al_base::Fault;
-use al_folder::{CallGraph, Files, Lint, add_loop_faults, file_number, is_on_loop, room_for};
+use al_folder::{CallGraph, Files, Lint, file_number, is_on_loop, loop_faults};
 use std::alloc::{AllocError, Global};
 
-// Adds references to faults. There is room for them.
-fn add_references<'a>(faults: &'a [Fault], out: &mut Vec<&'a Fault>)
-    requires { vec_len out.old + length faults.now ≤ vec_capacity out.old }
-    ensures faults { referred out.new.items ≡ referred out.old.items ++ faults.now }
-    ensures capacity { vec_capacity out.new ≡ vec_capacity out.old }
+// Adds references to faults.
+fn add_references<'a>(faults: &'a [Fault], out: &mut Vec<&'a Fault>) -> Result<(), AllocError>
+    ensures { OnOk result (referred out.new.items ≡ referred out.old.items ++ faults.now) }
 {
     for fault in faults {
-        out.push_reserved(fault);
+        out.push(fault)?;
     }
+    Ok(())
 }
 
 // Puts the faults that are referred to in the order of reports, each once.
 fn put_in_order(faults: &mut Vec<&Fault>)
-    ensures faults { referred faults.new.items ≡ fault_list (referred faults.old.items) }
-    ensures capacity { vec_capacity faults.new ≡ vec_capacity faults.old }
+    ensures { referred faults.new.items ≡ fault_list (referred faults.old.items) }
 {
     faults.sort_unstable();
     faults.dedup();
 }
 
-/// Gathers the faults that a report lists of the file with this number, in place of what the list held, where a call of the file leads back
-/// to it. Answers whether one does: else the file's own faults are listed. There is room for them, so no memory is wanted.
-pub(crate) fn join_file<'a, L: Lint>(
-    files: &'a Files<L::Unit, L::Iface>,
-    calls: &CallGraph,
-    index: usize,
-    joined: &mut Vec<&'a Fault>,
-) -> bool
-    requires kept { AreKept L.meaning L.is_unit files.now.entries }
-    requires checked { AllChecked L.meaning (folder_of files.now.entries) files.now.entries }
-    requires calls { IsCallGraph L.meaning (folder_of files.now.entries) calls.now.graph.items calls.now.labels.items }
-    requires index { index < length files.now.entries }
-    requires room { HasRoomFor files.now.entries calls.now.graph.items calls.now.labels.items (vec_capacity joined.old) }
-    ensures listed { IsListed L.meaning files.now.entries index result joined.new.items }
-    ensures capacity { vec_capacity joined.new ≡ vec_capacity joined.old }
+// A file's own faults and those of its calls that lead back to it, in the order of reports, each once; none where no call does.
+fn join_faults<'a>(
+    alloc: Global,
+    own: &'a [Fault],
+    loops: &'a [Fault],
+) -> Result<Vec<&'a Fault>, AllocError>
+    ensures { IfOk result (λ joined. referred joined.items ≡ joined_faults own.now loops.now) }
 {
-    if !is_on_loop::<L>(files, calls, index) {
-        return false;
+    let mut joined = Vec::new(alloc);
+    if loops.is_empty() {
+        return Ok(joined);
     }
-    let (_, file) = file_number(files, index);
-    joined.clear();
     // The file's own faults are in order, and few stand behind its first call: so they are put in order fastest from the front.
-    add_references(&file.faults, joined);
-    add_loop_faults::<L>(files, calls, index, joined);
-    put_in_order(joined);
-    true
+    add_references(own, &mut joined)?;
+    add_references(loops, &mut joined)?;
+    put_in_order(&mut joined);
+    Ok(joined)
 }
 
-/// An empty list with room for what is joined of any of these files, so that [`write_files`](crate::write_files) wants no memory.
+/// The faults of the calls that lead back to their own file, for each file in order.
 ///
 /// # Errors
 ///
 /// [`AllocError`] where memory ran out.
-pub fn joining_of<'a, L: Lint>(
+pub fn find_loops<L: Lint>(
+    lint: &L,
+    alloc: Global,
+    files: &Files<L::Unit, L::Iface>,
+    calls: &CallGraph,
+) -> Result<Vec<Vec<Fault>>, AllocError>
+    requires kept { AreKept L.meaning L.is_unit files.now.entries }
+    requires calls { IsCallGraph L.meaning (folder_of files.now.entries) calls.now.graph.items calls.now.labels.items }
+    ensures { IfOk result (λ loops. AreLoops L.meaning files.now.entries loops.items) }
+{
+    let mut loops = Vec::with_capacity(alloc, files.len())?;
+    for index in 0..files.len() {
+        loops.push(loop_faults(lint, alloc, files, calls, index)?)?;
+    }
+    Ok(loops)
+}
+
+/// What a report lists of each file in order, by these faults of calls that lead back to it; none where there are no such: then its own
+/// faults are listed.
+///
+/// # Errors
+///
+/// [`AllocError`] where memory ran out.
+pub fn join_files<'a, L: Lint>(
     alloc: Global,
     files: &'a Files<L::Unit, L::Iface>,
-    calls: &CallGraph,
-) -> Result<Vec<&'a Fault>, AllocError>
-    requires { IsCallGraph L.meaning (folder_of files.now.entries) calls.now.graph.items calls.now.labels.items }
-    ensures { IfOk result (λ list. HasRoomFor files.now.entries calls.now.graph.items calls.now.labels.items (vec_capacity list)) }
+    loops: &'a [Vec<Fault>],
+) -> Result<Vec<Vec<&'a Fault>>, AllocError>
+    requires checked { AllChecked L.meaning (folder_of files.now.entries) files.now.entries }
+    requires loops { AreLoops L.meaning files.now.entries loops.now }
+    ensures { IfOk result (λ joined. AreListed L.meaning files.now.entries joined.items) }
 {
-    let room = room_for::<L>(files, calls)?;
-    let list = Vec::with_capacity(alloc, room)?;
-    Ok(list)
+    let mut joined = Vec::with_capacity(alloc, files.len())?;
+    for index in 0..files.len() {
+        let (_, file) = file_number(files, index);
+        joined.push(join_faults(alloc, &file.faults, &loops[index])?)?;
+    }
+    Ok(joined)
 }
 
 /// Whether a call of a file leads back to it. Takes no memory.

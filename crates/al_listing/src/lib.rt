@@ -5,5 +5,5 @@
 mod joining;
 mod report;
 
-pub use joining::{has_loops, joining_of};
+pub use joining::{find_loops, has_loops, join_files};
 pub use report::{has_faults, write_files};

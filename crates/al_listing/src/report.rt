@@ -1,6 +1,6 @@
 //! What is printed of a folder's files.
 
-ghost use Rattle.std.specs.Prelude.{◌≡◌, ◌<◌, ◌≤◌, not, length, vec_capacity, ◌==◌, OnOk, OnErr, IsOkUnless};
+ghost use Rattle.std.specs.Prelude.{◌≡◌, ◌≤◌, not, length, ◌==◌, OnOk, OnErr, IsOkUnless};
 ghost use Rattle.std.specs.List.{AllByRecursion, enumerate_from, flat_map, list_any};
 ghost use Rattle.std.specs.Io.KnownBytes.{Appends};
 ghost use Rattle.al_base.specs.Counted.{HasRisen, AppendsFront};
@@ -9,14 +9,11 @@ ghost use Rattle.al_base.specs.LineStarts.{line_starts};
 ghost use Rattle.al_base.specs.Spans.{LiesIn};
 ghost use Rattle.al_text.specs.Snippets.{fault_text};
 ghost use Rattle.al_base.specs.Streams.{bytes_written, write_failures};
-ghost use Rattle.al_folder.specs.Kept.{AreKept, folder_of, referred};
-ghost use Rattle.al_folder.specs.Private.CallGraphs.{HasRoomFor, IsCallGraph};
-ghost use Rattle.al_listing.specs.Checked.{AllChecked};
-ghost use Rattle.al_listing.specs.Private.Printing.{ArePrintable, IsPrintable, lines_of, listed, numbered_lines};
+ghost use Rattle.al_folder.specs.Kept.{folder_of, referred};
+ghost use Rattle.al_listing.specs.Private.Printing.{AreListed, ArePrintable, IsPrintable, lines_of, listed, numbered_lines};
 
-use crate::joining::join_file;
 use al_base::{Fault, Lines, Location, Output, Stop};
-use al_folder::{CallGraph, Files, KeptFile, Lint, file_number};
+use al_folder::{Files, KeptFile, Lint, file_number};
 use al_text::{write_fault_at, write_faults};
 use std::io::Write;
 
@@ -41,23 +38,18 @@ fn is_clean<U, I>(file: &KeptFile<U, I>) -> bool
 }
 
 /// Writes the faults that a report lists of all files, file by file in order of path: each as its line, and its snippet unless `oneline` is
-/// asked for. The calls are those of these files, and the list has room for what is joined of any of them, as
-/// [`joining_of`](crate::joining_of) makes it, so no memory is wanted. What it holds is replaced.
+/// asked for. What is listed is what [`join_files`](crate::join_files) joined. Takes no memory.
 ///
 /// # Errors
 ///
 /// [`Stop::WriteFault`] where the writer failed, which then holds a front of what was to be written. No other stop is answered.
-pub fn write_files<'a, L: Lint, W: Write>(
+pub fn write_files<L: Lint, W: Write>(
     writer: &mut Output<W>,
-    files: &'a Files<L::Unit, L::Iface>,
-    calls: &CallGraph,
-    joined: &mut Vec<&'a Fault>,
+    files: &Files<L::Unit, L::Iface>,
+    joined: &[Vec<&Fault>],
     oneline: bool,
 ) -> Result<(), Stop>
-    requires kept { AreKept L.meaning L.is_unit files.now.entries }
-    requires checked { AllChecked L.meaning (folder_of files.now.entries) files.now.entries }
-    requires calls { IsCallGraph L.meaning (folder_of files.now.entries) calls.now.graph.items calls.now.labels.items }
-    requires room { HasRoomFor files.now.entries calls.now.graph.items calls.now.labels.items (vec_capacity joined.old) }
+    requires listed { AreListed L.meaning files.now.entries joined.now }
     requires printable { ArePrintable L.meaning files.now.entries }
     ensures all { OnOk result (Appends (bytes_written W.contents writer.old) (bytes_written W.contents writer.new)
         (flat_map (numbered_lines oneline L.meaning (folder_of files.now.entries)) (enumerate_from 0 files.now.entries))) }
@@ -69,38 +61,29 @@ pub fn write_files<'a, L: Lint, W: Write>(
 {
     for index in 0..files.len() {
         let (path, file) = file_number(files, index);
-        let is_joined = join_file::<L>(files, calls, index, joined);
-        write_file(
-            writer,
-            path.as_str(),
-            file,
-            is_joined,
-            joined.as_slice(),
-            oneline,
-        )?;
+        write_file(writer, path.as_str(), file, &joined[index], oneline)?;
     }
     Ok(())
 }
 
-// Writes the listed faults of one file: those that were joined, or its own.
+// Writes the listed faults of one file: those that were joined, or its own where none were.
 fn write_file<U, I, W: Write>(
     writer: &mut Output<W>,
     path: &str,
     file: &KeptFile<U, I>,
-    is_joined: bool,
     joined: &[&Fault],
     oneline: bool,
 ) -> Result<(), Stop>
-    requires { IsPrintable file.now (listed file.now is_joined joined.now) }
+    requires { IsPrintable file.now (listed file.now joined.now) }
     ensures all { OnOk result (Appends (bytes_written W.contents writer.old) (bytes_written W.contents writer.new)
-        (lines_of oneline path.now file.now (listed file.now is_joined joined.now))) }
+        (lines_of oneline path.now file.now (listed file.now joined.now))) }
     ensures front { OnErr result (AppendsFront (bytes_written W.contents writer.old) (bytes_written W.contents writer.new)
-        (lines_of oneline path.now file.now (listed file.now is_joined joined.now))) }
+        (lines_of oneline path.now file.now (listed file.now joined.now))) }
     ensures failures { OnOk result (write_failures writer.new ≡ write_failures writer.old) }
     ensures failed { OnErr result (HasRisen (write_failures writer.old) (write_failures writer.new)) }
     ensures err { IsOkUnless result Stop.WriteFault }
 {
-    if is_joined {
+    if !joined.is_empty() {
         return write_referred(writer, &file.lines, path, &file.bytes, joined, oneline);
     }
     write_faults(

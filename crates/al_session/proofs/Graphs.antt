@@ -17,7 +17,7 @@ graph_by m f g same (Some calls) is = graph_still m f g same calls.graph.items c
 
 -- where the file that is there calls what the new one calls, the graph stays
 pub graph_put : {U I : Type 0} (m : Meaning I) (is_unit : U → List ℕ → List ℕ → Type 0) (files : Files U I) (p : List ℕ) (file : KeptFile U I) (calls : Option CallGraph) →
-    AreKept m is_unit files → IsKept m is_unit p file → option_map (λ (kept : KeptFile U I). kept.calls.items) (file_at files p) ≡ Some file.calls.items →
+    AreKept m is_unit files → IsKept m is_unit p file → option_map (λ (kept : KeptFile U I). kept.calls.targets.items) (file_at files p) ≡ Some file.calls.targets.items →
     IsGraphIf m (folder_of files) calls → IsGraphIf m (with_file (folder_of files) p file.bytes.items) calls
 graph_put m is_unit files p file calls kept one same is =
     graph_by m (folder_of files) (with_file (folder_of files) p file.bytes.items) (put_same_calls m is_unit files p file kept one same) calls is

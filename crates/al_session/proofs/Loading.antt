@@ -167,13 +167,13 @@ paths_more {U} {I} es i e h =
 
 -- the calls that are kept at a path
 pub calls_kept : {U I : Type 0} (m : Meaning I) (is_unit : U → List ℕ → List ℕ → Type 0) (files : Files U I) (q : List ℕ) → AllKept m is_unit files
-    → option_map (λ (file : KeptFile U I). file.calls.items) (file_at files q) ≡ option_map (m.calls q) (bytes_at (folder_of files) q)
+    → option_map (λ (file : KeptFile U I). file.calls.targets.items) (file_at files q) ≡ option_map (m.calls q) (bytes_at (folder_of files) q)
 calls_kept {U} {I} m is_unit files q kept = by (file_at files q) refl ∙ ap (option_map (m.calls q)) (sym (bytes_kept files q))
   where
     by : (o : Option (KeptFile U I)) → file_at files q ≡ o
-        → option_map (λ (file : KeptFile U I). file.calls.items) (file_at files q) ≡ option_map (m.calls q) (option_map (λ (file : KeptFile U I). file.bytes.items) (file_at files q))
+        → option_map (λ (file : KeptFile U I). file.calls.targets.items) (file_at files q) ≡ option_map (m.calls q) (option_map (λ (file : KeptFile U I). file.bytes.items) (file_at files q))
     by None h = rw h refl
-    by (Some file) h = rw h (ap Some (kept_at m is_unit files q file kept h).calls)
+    by (Some file) h = rw h (ap Some (kept_at m is_unit files q file kept h).calls.targets)
 
 -- whether a file is kept at a path
 pub has_file : {U I : Type 0} (es : Files U I) (p : List ℕ) → is_some (file_at es p) ≡ is_some (bytes_at (folder_of es) p)

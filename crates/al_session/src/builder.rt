@@ -87,7 +87,7 @@ impl<L: Lint> SessionBuilder<L> {
         ensures { option_copied result ≡ option_map (L.meaning.calls path.now) (bytes_at self.now.folder path.now) }
     {
         match self.files.get(path) {
-            Some(file) => Some(file.calls.as_slice()),
+            Some(file) => Some(file.calls.targets.as_slice()),
             None => None,
         }
     }

@@ -62,10 +62,11 @@ pub(crate) fn forget_unless_same<L: Lint>(
 
 // Whether a file with this path is there that calls what this file calls.
 fn calls_the_same<U, I>(files: &Files<U, I>, path: &str, file: &KeptFile<U, I>) -> bool
-    ensures { Decides result (option_map (λ kept. kept.calls.items) (file_at files.now.entries path.now) ≡ Some file.now.calls.items) }
+    ensures { Decides result (option_map (λ kept. kept.calls.targets.items) (file_at files.now.entries path.now)
+        ≡ Some file.now.calls.targets.items) }
 {
     match files.get(path) {
-        Some(old) => has_same_calls(&old.calls, &file.calls),
+        Some(old) => has_same_calls(&old.calls.targets, &file.calls.targets),
         None => false,
     }
 }

@@ -27,7 +27,7 @@ use crate::edit::{put_file, remove_file};
 use crate::refused::put_refused;
 use al_base::{Fault, Output, Path, Stop, path_fault};
 use al_folder::{CallGraph, Callers, Files, Lint, Paths, Refused, missing_paths};
-use al_listing::{has_faults, has_loops, joining_of, write_files};
+use al_listing::{find_loops, has_faults, has_loops, join_files, write_files};
 use indexmap::IndexMap;
 use std::alloc::{AllocError, Global};
 use std::io::Write;
@@ -309,8 +309,9 @@ impl<L: Lint> Session<L> {
     {
         find_graph::<L>(self.alloc, &self.files, &mut self.calls)?;
         let calls = found_graph(&self.calls);
-        let mut list = joining_of::<L>(self.alloc, &self.files, calls)?;
-        write_files::<L, W>(writer, &self.files, calls, &mut list, oneline)
+        let loops = find_loops(&self.lint, self.alloc, &self.files, calls)?;
+        let joined = join_files::<L>(self.alloc, &self.files, &loops)?;
+        write_files::<L, W>(writer, &self.files, &joined, oneline)
     }
 
     /// The candidates of calls that are not in the folder, in order of path, each once.

@@ -1,5 +1,5 @@
 -- The graph of calls, as far as calls can lead back, labels that tell which ones do, and what it depends on.
-use Rattle.std.specs.Prelude.{ℕ, ◌+◌, ◌≤◌, ◌<◌, ◌≡◌, ◌↔◌, ◌⊎◌, ◌&&◌, Bool, false, true, List, [], Option, Some, None, String, Vec}
+use Rattle.std.specs.Prelude.{ℕ, ◌≤◌, ◌<◌, ◌≡◌, ◌↔◌, ◌⊎◌, ◌&&◌, Bool, false, List, [], Option, Some, None, String, Vec}
 use Rattle.std.specs.Prelude.{bytes_eq, cond, length, map, nat_eq, nat_le, nat_lt, slice_get, slice_index_or}
 use Rattle.std.specs.Global.{Global}
 use Rattle.std.specs.List.{enumerate_from, filter_map, list_any}
@@ -16,12 +16,12 @@ use Rattle.al_folder.specs.declared.lint.Target.TheVariants.{FirstOf, Only}
 -- no file before this number calls its own path or one behind it
 abbrev pub NoneForward : {U I : Type 0} → Files U I → ℕ → Type 0
 NoneForward {U} {I} files first = (k : ℕ) (e : String Global × KeptFile U I) → k < first → slice_get files k ≡ Some e →
-    e.1.calls_forward ≡ false
+    e.1.calls.go_forward ≡ false
 
 -- no file from this number on calls its own path or one in front of it
 abbrev pub NoneBackward : {U I : Type 0} → Files U I → ℕ → Type 0
 NoneBackward {U} {I} files end = (k : ℕ) (e : String Global × KeptFile U I) → end ≤ k → slice_get files k ≡ Some e →
-    e.1.calls_backward ≡ false
+    e.1.calls.go_backward ≡ false
 
 -- a graph with the edges from some nodes alone: those from one number on and before another
 abbrev pub part_of : ℕ → ℕ → List (List ℕ) → List (List ℕ)
@@ -65,25 +65,3 @@ is_same_target (FirstOf p q) (FirstOf r s) = bytes_eq p r && bytes_eq q s
 abbrev pub is_on_loop : List (Vec ℕ Global) → List (Option ℕ) → ℕ → Bool
 is_on_loop graph labels i =
     list_any (λ k. option_eq nat_eq (slice_index_or labels k None) (slice_index_or labels i None)) (slice_index_or (edges_of graph) i [])
-
--- this number is at least how many calls and faults the file with that one has
-abbrev pub HasRoom : {U I : Type 0} → Files U I → ℕ → ℕ → Type 0
-HasRoom {U} {I} files i room = (e : String Global × KeptFile U I) → slice_get files i ≡ Some e →
-    length e.1.calls.items + length e.1.faults.items ≤ room
-
--- it is so for each of the first files with a call that leads back to it
-abbrev pub HasRoomUpTo : {U I : Type 0} → Files U I → List (Vec ℕ Global) → List (Option ℕ) → ℕ → ℕ → Type 0
-HasRoomUpTo files graph labels count room = (i : ℕ) → i < count → is_on_loop graph labels i ≡ true → HasRoom files i room
-
--- it is so for each file with such a call
-abbrev pub HasRoomFor : {U I : Type 0} → Files U I → List (Vec ℕ Global) → List (Option ℕ) → ℕ → Type 0
-HasRoomFor files graph labels room = HasRoomUpTo files graph labels (length files) room
-
--- what has this length and capacity has room for one more for each call of the file with this number
-abbrev pub HasRoomForCalls : {U I : Type 0} → Files U I → ℕ → ℕ → ℕ → Type 0
-HasRoomForCalls {U} {I} files i len capacity = (e : String Global × KeptFile U I) → slice_get files i ≡ Some e →
-    len + length e.1.calls.items ≤ capacity
-
--- from the first of these lengths to the second there is at most one more for each such call
-abbrev pub IsLonger : {U I : Type 0} → Files U I → ℕ → ℕ → ℕ → Type 0
-IsLonger {U} {I} files i old new = (e : String Global × KeptFile U I) → slice_get files i ≡ Some e → new ≤ old + length e.1.calls.items

@@ -22,12 +22,12 @@ loop-index-preserved g c =
     let h = called (folder_of files) in
     let e : String Global × KeptFile _ _ = (c.file_number.result.0.now, c.file_number.result.1.now) in
     let n : length (enumerate_from 0 files) ≡ length files = length-enumerate_from 0 files in
-    graph_next (λ x. filter_map h (cond (Inside c.args.first c.args.end x.0) x.1.1.calls.items [])) (enumerate_from 0 files) c.loop-index.index
+    graph_next (λ x. filter_map h (cond (Inside c.args.first c.args.end x.0) x.1.1.calls.targets.items [])) (enumerate_from 0 files) c.loop-index.index
     (c.loop-index.index, e) c.loop-index.graph.items c.push.new.self.items c.in_ok-all_called.field-0
     (omega (arith, n, c.len-index-end.ensures.len, c.loop-index-test.true))
     (read_is (enumerate_from 0 files) c.loop-index.index (c.loop-index.index, e) (numbered files c.loop-index.index e c.file_number.ensures))
     c.loop-index.invariant c.in_ok-push.ensures.items
-    (c.in_ok-all_called.ensures ∙ ap (filter_map h) (c.calls_if-calls.ensures ∙ ap (λ b. cond b e.1.calls.items []) c.is_between-is_wanted.ensures))
+    (c.in_ok-all_called.ensures ∙ ap (filter_map h) (c.calls_if-calls.ensures ∙ ap (λ b. cond b e.1.calls.targets.items []) c.is_between-is_wanted.ensures))
 
 pub returns : goal.returns
 returns g c =
@@ -35,5 +35,5 @@ returns g c =
     let h = called (folder_of files) in
     let n : length (enumerate_from 0 files) ≡ length files = length-enumerate_from 0 files in
     let whole = take_all c.loop-index.index (enumerate_from 0 files) (omega (arith, n, c.len-index-end.ensures.len, c.loop-index-test.false)) in
-    c.loop-index.invariant ∙ ap (map (λ x. filter_map h (cond (Inside c.args.first c.args.end x.0) x.1.1.calls.items []))) whole
+    c.loop-index.invariant ∙ ap (map (λ x. filter_map h (cond (Inside c.args.first c.args.end x.0) x.1.1.calls.targets.items []))) whole
     ∙ part_of_kept c.args.first c.args.end g.L.Lint.meaning g.L.Lint.is_unit h 0 files c.requires.kept

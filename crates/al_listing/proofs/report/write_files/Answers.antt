@@ -13,38 +13,34 @@ use Rattle.al_folder.proofs.Missings.{read_is}
 use Rattle.al_listing.specs.Private.Printing.{numbered_lines}
 use Rattle.al_listing.proofs.report.write_files.Goals as goal
 
-pub join_file-is_joined-requires-clause-room : goal.join_file-is_joined-requires-clause-room
-join_file-is_joined-requires-clause-room g c = rw c.loop-index.invariant.capacity c.requires.room
-
 pub write_file-requires : goal.write_file-requires
 write_file-requires g c =
     let e : String Global × KeptFile _ _ = (c.file_number.result.0.now, c.file_number.result.1.now) in
-    let is = c.join_file-is_joined.ensures.listed e c.file_number.ensures in
-    rw (c.as_slice.ensures.value, is) (c.requires.printable c.loop-index.index e c.file_number.ensures)
+    let is = c.requires.listed.each c.loop-index.index _ (omega (arith, c.len-index-end.ensures.len, c.loop-index-test.true)) c.index-joined-index.is e c.file_number.ensures in
+    rw (c.deref.ensures.value, is) (c.requires.printable c.loop-index.index e c.file_number.ensures)
 
 pub returns-in_err-write_file-clause-front : goal.returns-in_err-write_file-clause-front
 returns-in_err-write_file-clause-front g c =
     let p = err_from_is_err_and c.from_residual.result c.from_residual.ensures.1 in
     let files = c.args.files.now.entries in
     let e : String Global × KeptFile _ _ = (c.file_number.result.0.now, c.file_number.result.1.now) in
-    let is = c.join_file-is_joined.ensures.listed e c.file_number.ensures in
+    let is = c.requires.listed.each c.loop-index.index _ (omega (arith, c.len-index-end.ensures.len, c.loop-index-test.true)) c.index-joined-index.is e c.file_number.ensures in
     rw p.1 (AppendsFront-next (numbered_lines c.args.oneline g.L.Lint.meaning (folder_of files)) (enumerate_from 0 files) c.loop-index.index (c.loop-index.index, e)
     (omega (arith, length-enumerate_from 0 files, c.len-index-end.ensures.len, c.loop-index-test.true))
     (read_is (enumerate_from 0 files) c.loop-index.index (c.loop-index.index, e) (numbered files c.loop-index.index e c.file_number.ensures)) _ _ _ c.loop-index.invariant.appended
-    (rw (c.as_str.ensures.value, c.as_slice.ensures.value, is) at c.in_err-write_file.ensures.front))
+    (rw (c.as_str.ensures.value, c.deref.ensures.value, is) at c.in_err-write_file.ensures.front))
 
 pub loop-index-preserved : goal.loop-index-preserved
 loop-index-preserved g c =
     let files = c.args.files.now.entries in
     let e : String Global × KeptFile _ _ = (c.file_number.result.0.now, c.file_number.result.1.now) in
-    let is = c.join_file-is_joined.ensures.listed e c.file_number.ensures in
+    let is = c.requires.listed.each c.loop-index.index _ (omega (arith, c.len-index-end.ensures.len, c.loop-index-test.true)) c.index-joined-index.is e c.file_number.ensures in
     record {
       appended = Appends-next (numbered_lines c.args.oneline g.L.Lint.meaning (folder_of files)) (enumerate_from 0 files) c.loop-index.index (c.loop-index.index, e)
           (omega (arith, length-enumerate_from 0 files, c.len-index-end.ensures.len, c.loop-index-test.true))
           (read_is (enumerate_from 0 files) c.loop-index.index (c.loop-index.index, e) (numbered files c.loop-index.index e c.file_number.ensures)) _ _ _ c.loop-index.invariant.appended
-          (rw (c.as_str.ensures.value, c.as_slice.ensures.value, is) at c.in_ok-write_file.ensures.all);
+          (rw (c.as_str.ensures.value, c.deref.ensures.value, is) at c.in_ok-write_file.ensures.all);
       unfailed = c.in_ok-write_file.ensures.failures ∙ c.loop-index.invariant.unfailed;
-      capacity = c.join_file-is_joined.ensures.capacity ∙ c.loop-index.invariant.capacity;
     }
 
 pub returns-clause-all : goal.returns-clause-all

@@ -1,5 +1,4 @@
 use Rattle.std.proofs.Common.{◌≡◌, take}
-use Rattle.std.specs.Prelude.{vec_capacity}
 use Rattle.std.specs.Io.KnownBytes.{Appends}
 use Rattle.std.specs.List.{enumerate_from, flat_map}
 use Rattle.al_base.specs.Streams.{bytes_written, write_failures}
@@ -12,5 +11,4 @@ invariant-loop-index g l = record {
   appended : Appends (bytes_written g.W.Write.contents l.fn.writer) (bytes_written g.W.Write.contents l.writer)
       (flat_map (numbered_lines l.oneline g.L.Lint.meaning (folder_of l.files.entries)) (take l.index (enumerate_from 0 l.files.entries)));
   unfailed : write_failures l.writer ≡ write_failures l.fn.writer;
-  capacity : vec_capacity l.joined ≡ vec_capacity l.fn.joined;
 }
