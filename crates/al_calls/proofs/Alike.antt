@@ -15,17 +15,14 @@ use Rattle.al_base.specs.contracts.faults.SpanPartialEq.TheImpl as span_eq
 use Rattle.al_base.specs.declared.codes.Caller.{Caller}
 use Rattle.al_base.specs.declared.codes.Caller.TheVariants.{Job, Step}
 use Rattle.al_base.specs.declared.faults.Span.{Span}
-use Rattle.al_scalar.specs.Scalar.{text_of}
 use Rattle.al_interfaces.specs.contracts.interfaces.ParameterKindPartialEq.TheImpl as kind_eq
 use Rattle.al_interfaces.specs.declared.interfaces.Interface.{Interface}
 use Rattle.al_interfaces.specs.declared.interfaces.ParameterKind.{ParameterKind}
 use Rattle.al_interfaces.specs.declared.interfaces.ParameterKind.TheVariants.{Input, Secret}
 use Rattle.al_interfaces.specs.declared.interfaces.Signature.{Signature}
 use Rattle.al_uses.specs.Uses.{Call}
-use Rattle.al_uses.specs.declared.forms.Form.{Form}
-use Rattle.al_uses.specs.declared.forms.Form.TheVariants.{Local, Other, Wrong}
 use Rattle.al_calls.specs.Answers.{Answered}
-use Rattle.al_calls.specs.CallFaults.{callable_signature, caller_of, is_compared, signature_by}
+use Rattle.al_calls.specs.CallFaults.{callable_signature, caller_of, is_compared}
 use Rattle.al_calls.specs.Private.AnswerViews.{compared_of}
 use Rattle.al_calls.specs.Private.Comparing.{AreToldByUses, CallAlike, Comparison, HaveOneSignature, TellSignatures, call_alike, compared_with}
 use Rattle.al_calls.specs.Private.Comparing.{comparison_of, comparisons}
@@ -53,36 +50,29 @@ span_exact a b h =
 pub likeness : (q r : Comparison) → call_alike q r ≡ true → CallAlike q r
 likeness q r h =
     let by = caller_eq.ghosts.eq (caller_of q.call) (caller_of r.call) in
-    let text = bytes_eq (text_of q.call.uses) (text_of r.call.uses) in
+    let text = bytes_eq (q.call.text) (r.call.text) in
     let p = and_parts (kind_eq.ghosts.eq q.kind r.kind) (by && text) h in
     let t = and_parts by text p.1 in
-    record { kind = kind_exact _ _ p.0; by = caller_exact _ _ t.0; text = (bytes_eq-Decides (text_of q.call.uses) (text_of r.call.uses)).0 t.1 }
+    record { kind = kind_exact _ _ p.0; by = caller_exact _ _ t.0; text = (bytes_eq-Decides (q.call.text) (r.call.text)).0 t.1 }
 
 -- ---- what is told
 
 module _ (answer : Caller → List ℕ → Option Interface) where
   abbrev IsTold : Comparison → Type 0
-  IsTold q = callable_signature (caller_of q.call) (answer (caller_of q.call) (text_of q.call.uses)) ≡ Some q.signature
+  IsTold q = callable_signature (caller_of q.call) (answer (caller_of q.call) (q.call.text)) ≡ Some q.signature
 
-  told_if : (k : ParameterKind) (c : Call) (b : Bool) (o : Option Signature) → callable_signature (caller_of c) (answer (caller_of c) (text_of c.uses)) ≡ o →
+  told_if : (k : ParameterKind) (c : Call) (b : Bool) (o : Option Signature) → callable_signature (caller_of c) (answer (caller_of c) c.text) ≡ o →
       IfSome (option_map (compared_with k c) (cond b o None)) IsTold
   told_if k c false o is = tt
   told_if k c true None is = tt
   told_if k c true (Some s) is = is
 
-  told_by_form : (k : ParameterKind) (c : Call) (b : Bool) (f : Form) (o : Option Interface) → o ≡ answer (caller_of c) (text_of c.uses) →
-      IfSome (option_map (compared_with k c) (cond b (signature_by f (caller_of c) o) None)) IsTold
-  told_by_form k c b (Local t) o is = told_if k c b (callable_signature (caller_of c) o) (ap (callable_signature (caller_of c)) (sym is))
-  told_by_form k c true Other o is = tt
-  told_by_form k c false Other o is = tt
-  told_by_form k c true Wrong o is = tt
-  told_by_form k c false Wrong o is = tt
-
   abbrev IsToldBy : Answered → Type 0
-  IsToldBy a = a.answer ≡ answer (caller_of a.call) (text_of a.call.uses)
+  IsToldBy a = a.answer ≡ answer (caller_of a.call) (a.call.text)
 
   one_told : (k : ParameterKind) (a : Answered) → IsToldBy a → IfSome (comparison_of k a) IsTold
-  one_told k a is = told_by_form k a.call (is_compared k (caller_of a.call) a.call.node) a.call.form a.answer is
+  one_told k a is =
+      told_if k a.call (is_compared k (caller_of a.call) a.call.site.node) (callable_signature (caller_of a.call) a.answer) (ap (callable_signature (caller_of a.call)) (sym is))
 
   put : (o : Option Comparison) (qs : List Comparison) → IfSome o IsTold → AllByRecursion IsTold qs → AllByRecursion IsTold (cons_option o qs)
   put None qs h hs = hs
@@ -97,8 +87,8 @@ module _ (answer : Caller → List ℕ → Option Interface) where
 
   pair_told : (q r : Comparison) → IsTold q → IsTold r → HaveOneSignature q r
   pair_told q r a b by text =
-      let same : callable_signature (caller_of q.call) (answer (caller_of q.call) (text_of q.call.uses))
-      ≡ callable_signature (caller_of r.call) (answer (caller_of r.call) (text_of r.call.uses)) =
+      let same : callable_signature (caller_of q.call) (answer (caller_of q.call) (q.call.text))
+      ≡ callable_signature (caller_of r.call) (answer (caller_of r.call) (r.call.text)) =
       λ i. callable_signature (by i) (answer (by i) (text i)) in
       cc
 

@@ -1,7 +1,7 @@
 -- Each fault of a file's calls lies in the file that its tree lies in.
-use Rattle.std.specs.Prelude.{ℕ, Bool, List, [], ◌∷◌, ◌++◌, codes, drop, Option, Some, None, find}
+use Rattle.std.specs.Prelude.{ℕ, Bool, List, [], ◌∷◌, ◌++◌, codes, drop, IfSome, Option, Some, None, find, option_map}
 use Rattle.std.proofs.Common.{cond}
-use Rattle.std.specs.List.{AllByRecursion, flat_map}
+use Rattle.std.specs.List.{AllByRecursion, cons_option, flat_map}
 use Rattle.std.specs.Option.{option_map_or}
 use Rattle.al_base.specs.Spans.{LiesIn}
 use Rattle.al_base.specs.declared.codes.CallCode.{CallCode}
@@ -25,14 +25,13 @@ use Rattle.al_interfaces.specs.declared.interfaces.ParameterKind.{ParameterKind}
 use Rattle.al_interfaces.specs.declared.interfaces.ParameterKind.TheVariants.{Input, Secret}
 use Rattle.al_interfaces.specs.declared.interfaces.Signature.{Signature}
 use Rattle.al_uses.specs.Uses.{Call, calls_in, target_in}
-use Rattle.al_uses.specs.declared.forms.Form.{Form}
-use Rattle.al_uses.specs.declared.forms.Form.TheVariants.{Local, Other, Wrong}
+use Rattle.al_folder.specs.declared.lint.Target.{Target}
 use Rattle.al_uses.proofs.Inside.{AtLies, calls_lie, inside_kept}
 use Rattle.al_base.proofs.Elements.{each_both, each_either, each_of}
 use Rattle.al_uses.proofs.Parts.{entries_kept}
-use Rattle.al_calls.specs.Answers.{Answered, Typing, answered, answered_faults, values_in}
-use Rattle.al_calls.specs.CallFaults.{Given, Names, absent_faults, answer_faults, at_uses, call_faults, called_name, called_signature, caller_of, fault}
-use Rattle.al_calls.specs.CallFaults.{form_faults, given_by, given_names, is_callable, is_missing, is_right, is_taken, missing_code, missing_name}
+use Rattle.al_calls.specs.Answers.{Answered, Typing, answered, answered_by, answered_faults, first_answer, values_in}
+use Rattle.al_calls.specs.CallFaults.{Given, Names, absent_faults, at_uses, call_faults, called_name, called_signature, caller_of, fault}
+use Rattle.al_calls.specs.CallFaults.{given_by, given_names, is_callable, is_missing, is_right, is_taken, missing_code, missing_name}
 use Rattle.al_calls.specs.CallFaults.{missing_names, name_faults, names_against, names_of_kind, signature_for, that_uses, type_faults, undefined_code}
 use Rattle.al_calls.specs.CallFaults.{undefined_name, undefined_names, uses_faults, value_faults, values_against, values_of, wrong_input}
 use Rattle.al_calls.specs.Laws.{CallFaultsLie}
@@ -51,7 +50,7 @@ module _ (size : ℕ) where
   GivenLies v = Pair v.0
 
   abbrev CallLies : Call → Type 0
-  CallLies c = LiesIn size c.at × IsInside size c.node
+  CallLies c = LiesIn size c.at × IsInside size c.site.node
 
   node_lies : (n : Node) → IsInside size n → LiesIn size (span_of n)
   node_lies (scalar s at) i = i
@@ -91,8 +90,8 @@ module _ (size : ℕ) where
   names_lie : (k : ParameterKind) (c : Call) (s : Signature) → CallLies c → AllLie (names_against k c s)
   names_lie k c s p =
       each_both Lies (undefined_names k c s) (missing_names k c s)
-      (each_of Pair Lies (undefined_name k c s) (undefined_lies k c s) (given_by k c.node) (given_lie k c.node p.1))
-      (same_for_all (missing_name k c s (given_names (given_by k c.node))) (missing_lies k c s (given_names (given_by k c.node)) p.0) (parameters_of k s))
+      (each_of Pair Lies (undefined_name k c s) (undefined_lies k c s) (given_by k c.site.node) (given_lie k c.site.node p.1))
+      (same_for_all (missing_name k c s (given_names (given_by k c.site.node))) (missing_lies k c s (given_names (given_by k c.site.node)) p.0) (parameters_of k s))
 
   kind_lies : (k : ParameterKind) (c : Call) (o : Option Signature) → CallLies c → AllLie (option_map_or (names_against k c) o [])
   kind_lies k c None p = tt
@@ -117,20 +116,15 @@ module _ (size : ℕ) where
   absent_lies c caller.Step i = tt
   absent_lies c caller.Job i = (i, tt)
 
-  answer_lies : (c : Call) (answer : Option Interface) → LiesIn size c.at → AllLie (answer_faults c answer)
-  answer_lies c None i = absent_lies c (caller_of c) i
-  answer_lies c (Some Unreadable) i = tt
-  answer_lies c (Some (Readable s)) i = unless (is_callable (caller_of c) s.role) (that_uses code.NotCallable c) (i, tt)
-
-  form_lies : (form : Form) (c : Call) (answer : Option Interface) → LiesIn size c.at → AllLie (form_faults form c answer)
-  form_lies Wrong c answer i = (i, tt)
-  form_lies Other c answer i = tt
-  form_lies (Local t) c answer i = answer_lies c answer i
+  uses_lie : (c : Call) (answer : Option Interface) → LiesIn size c.at → AllLie (uses_faults c answer)
+  uses_lie c None i = absent_lies c (caller_of c) i
+  uses_lie c (Some Unreadable) i = tt
+  uses_lie c (Some (Readable s)) i = unless (is_callable (caller_of c) s.role) (that_uses code.NotCallable c) (i, tt)
 
   call_lies : (c : Call) (values : List Given) (answer : Option Interface) → CallLies c → AllByRecursion GivenLies values → AllLie (call_faults c values answer)
   call_lies c values answer p v =
       each_both Lies (uses_faults c answer ++ value_faults c values answer) (name_faults c answer)
-      (each_both Lies (uses_faults c answer) (value_faults c values answer) (form_lies c.form c answer p.0)
+      (each_both Lies (uses_faults c answer) (value_faults c values answer) (uses_lie c answer p.0)
       (values_against_lie (caller_of c) c values (called_signature c answer) v))
       (each_both Lies (names_of_kind Input c answer) (names_of_kind Secret c answer)
       (kind_lies Input c (signature_for Input c answer) p) (kind_lies Secret c (signature_for Secret c answer) p))
@@ -141,11 +135,21 @@ module _ (size : ℕ) where
 
   answered_lies : (typing : Typing) (a : Answered) → CallLies a.call → AllLie (answered_faults typing a)
   answered_lies typing a p =
-      call_lies a.call (values_in typing a.call) a.answer p (values_lie (typing a.call.site) (given_by Input a.call.node) (given_lie Input a.call.node p.1))
+      call_lies a.call (values_in typing a.call) a.answer p (values_lie (typing a.call.site) (given_by Input a.call.site.node) (given_lie Input a.call.site.node p.1))
+
+  put : (o : Option Answered) (rest : List Answered) → IfSome o (λ a. CallLies a.call) → AllByRecursion (λ a. CallLies a.call) rest → AllByRecursion (λ a. CallLies a.call) (cons_option o rest)
+  put None rest p ps = ps
+  put (Some a) rest p ps = (p, ps)
+
+  one_answered : (c : Call) (o : Option Target) (answer : Option Interface) → CallLies c → IfSome (option_map (λ t. answered_by c answer) o) (λ a. CallLies a.call)
+  one_answered c None answer p = tt
+  one_answered c (Some t) answer p = p
 
   all_answered : (cs : List Call) (answers : List (Option Interface)) → AllByRecursion CallLies cs → AllByRecursion (λ a. CallLies a.call) (answered cs answers)
   all_answered [] answers p = tt
-  all_answered (c ∷ cs) answers p = (p.0, all_answered cs (option_map_or (λ t. drop 1 answers) (target_in c.form) answers) p.1)
+  all_answered (c ∷ cs) answers p =
+      put (option_map (λ t. answered_by c (first_answer answers)) (target_in c.form)) (answered cs (option_map_or (λ t. drop 1 answers) (target_in c.form) answers))
+      (one_answered c (target_in c.form) (first_answer answers) p.0) (all_answered cs (option_map_or (λ t. drop 1 answers) (target_in c.form) answers) p.1)
 
 pub call_faults_lie : CallFaultsLie
 call_faults_lie size kind typing root answers i =

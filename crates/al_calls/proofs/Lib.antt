@@ -1,3 +1,4 @@
+pub mod Answering
 pub mod Inside
 pub mod Alike
 pub mod Parts

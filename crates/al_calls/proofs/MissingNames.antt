@@ -51,7 +51,7 @@ either false given fs = refl
 
 pub missing_are : (q : Comparison) → missing_of q ≡ flat_map (fault_unless_given q) (mandatory_for q)
 missing_are q =
-    filtered is_mandatory (missing_name q.kind q.call q.signature (given_names (given_by q.kind q.call.node))) (fault_unless_given q)
+    filtered is_mandatory (missing_name q.kind q.call q.signature (given_names (given_by q.kind q.call.site.node))) (fault_unless_given q)
     (λ p. either (is_mandatory p) (gives q p) (missing_fault q p ∷ [])) (parameters_of q.kind q.signature)
 
 -- ---- one call more

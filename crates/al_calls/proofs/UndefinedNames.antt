@@ -38,7 +38,7 @@ all_names : (qs : List Comparison) → flat_map undefined_at (flat_map names_by 
 all_names [] = refl
 all_names (q ∷ qs) =
     flat_map-append undefined_at (names_by q) (flat_map names_by qs)
-    ∙ λ i. name_faults q (given_by q.kind q.call.node) i ++ all_names qs i
+    ∙ λ i. name_faults q (given_by q.kind q.call.site.node) i ++ all_names qs i
 
 given_by_one : (q : Comparison) (es : List (Node × Node)) (n : GivenName) → Contains (map (name_by q) es) n → q ≡ n.by
 given_by_one q [] n c = absurd (omega (arith, c.1))
@@ -49,8 +49,8 @@ tell_names : (qs : List Comparison) → TellSignatures qs → TellSignaturesBy (
 tell_names qs tell n m a b =
     from_flat_map names_by qs n (HaveOneSignature n.by m.by)
     (λ q at c. from_flat_map names_by qs m (HaveOneSignature n.by m.by)
-    (λ r at' c'. subst (λ x. HaveOneSignature x m.by) (given_by_one q (given_by q.kind q.call.node) n c)
-    (subst (λ y. HaveOneSignature q y) (given_by_one r (given_by r.kind r.call.node) m c') (tell q r at at'))) b) a
+    (λ r at' c'. subst (λ x. HaveOneSignature x m.by) (given_by_one q (given_by q.kind q.call.site.node) n c)
+    (subst (λ y. HaveOneSignature q y) (given_by_one r (given_by r.kind r.call.site.node) m c') (tell q r at at'))) b) a
 
 tell_names_permuted : (xs ys : List GivenName) → IsPermutation xs ys → TellSignaturesBy xs → TellSignaturesBy ys
 tell_names_permuted xs ys p tell n m a b = tell n m (Contains-permutation ys xs n (IsPermutation-sym xs ys p) a) (Contains-permutation ys xs m (IsPermutation-sym xs ys p) b)

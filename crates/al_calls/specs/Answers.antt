@@ -1,6 +1,6 @@
--- Which answer belongs to which call, and the faults of all calls of a file.
-use Rattle.std.specs.Prelude.{List, [], ◌∷◌, drop, Option, None, option_and_then}
-use Rattle.std.specs.List.{flat_map}
+-- Which answer belongs to which call, and the faults of all calls of a file that are of files of the folder.
+use Rattle.std.specs.Prelude.{List, [], ◌∷◌, drop, Option, None, option_map}
+use Rattle.std.specs.List.{cons_option, flat_map}
 use Rattle.std.specs.Option.{option_map_or}
 use Rattle.al_base.specs.declared.faults.Fault.{Fault}
 use Rattle.al_scalar.specs.Scalar.{Scalar}
@@ -12,7 +12,7 @@ use Rattle.al_interfaces.specs.declared.interfaces.ParameterKind.TheVariants.{In
 use Rattle.al_uses.specs.Uses.{Call, Site, calls_in, target_in}
 use Rattle.al_calls.specs.CallFaults.{Given, call_faults, given_by, values_of}
 
--- a call with its answer: of a local call the next of the answers, which stand in the order of the local calls; else none
+-- a call of a file of the folder with its answer, the next of the answers, which stand in the order of these calls
 pub record Answered : Type 0 where
   pub call : Call
   pub answer : Option Interface
@@ -21,11 +21,14 @@ abbrev pub first_answer : List (Option Interface) → Option Interface
 first_answer [] = None
 first_answer (a ∷ more) = a
 
+abbrev pub answered_by : Call → Option Interface → Answered
+answered_by c answer = record { call = c; answer = answer }
+
 abbrev pub answered : List Call → List (Option Interface) → List Answered
 answered [] answers = []
 answered (c ∷ cs) answers =
-    record { call = c; answer = option_and_then (λ t. first_answer answers) (target_in c.form) }
-    ∷ answered cs (option_map_or (λ t. drop 1 answers) (target_in c.form) answers)
+    cons_option (option_map (λ t. answered_by c (first_answer answers)) (target_in c.form))
+    (answered cs (option_map_or (λ t. drop 1 answers) (target_in c.form) answers))
 
 -- the type of what is given at a call, by its key and its scalar
 abbrev pub Typing : Type 0
@@ -33,11 +36,11 @@ Typing = Site → Node → Scalar → Type'
 
 -- what a call gives under `with`, each value with its type
 abbrev pub values_in : Typing → Call → List Given
-values_in typing c = values_of (typing c.site) (given_by Input c.node)
+values_in typing c = values_of (typing c.site) (given_by Input c.site.node)
 
 abbrev pub answered_faults : Typing → Answered → List Fault
 answered_faults typing a = call_faults a.call (values_in typing a.call) a.answer
 
--- The faults of all calls of a file, given the answers of the local ones in order.
+-- The faults of all calls of files of the folder that a file has, given their answers in order.
 abbrev pub faults_in : FileKind → Typing → Node → List (Option Interface) → List Fault
 faults_in kind typing root answers = flat_map (answered_faults typing) (answered (calls_in kind root) answers)

@@ -1,6 +1,6 @@
--- The faults of calls, given the answers.
+-- The faults of calls of files of the folder, given the answers.
 use Rattle.std.specs.Prelude.{ℕ, List, [], ◌∷◌, ◌++◌, Bool, true, false, ◌||◌, ◌&&◌, not, codes}
-use Rattle.std.specs.Prelude.{map, Option, Some, None, find, is_some, if◌then◌else◌}
+use Rattle.std.specs.Prelude.{map, Option, Some, None, find, if◌then◌else◌}
 use Rattle.std.specs.List.{flat_map}
 use Rattle.std.specs.Option.{option_map_or}
 use Rattle.std.specs.Str.{bytes_eq}
@@ -32,12 +32,11 @@ use Rattle.al_interfaces.specs.declared.interfaces.ParameterKind.TheVariants as 
 use Rattle.al_interfaces.specs.declared.interfaces.Role.{Role}
 use Rattle.al_interfaces.specs.declared.interfaces.Role.TheVariants as role
 use Rattle.al_interfaces.specs.declared.interfaces.Signature.{Signature}
+use Rattle.al_uses.specs.Uses as uses
 use Rattle.al_uses.specs.Uses.{Call}
-use Rattle.al_uses.specs.declared.forms.Form.{Form}
-use Rattle.al_uses.specs.declared.forms.Form.TheVariants.{Local, Other, Wrong}
 
 abbrev pub caller_of : Call → Caller
-caller_of c = if is_some c.site.step then caller.Step else caller.Job
+caller_of c = uses.caller_of c.site
 
 abbrev pub fault : CallCode → Call → Span → List (List ℕ) → Fault
 fault f c at texts = record { span = at; code = kind_of_code.Call f (caller_of c); args = map utf8_lossy texts }
@@ -47,7 +46,7 @@ abbrev pub at_uses : CallCode → Call → List (List ℕ) → List Fault
 at_uses f c texts = fault f c c.at texts ∷ []
 
 abbrev pub that_uses : CallCode → Call → List Fault
-that_uses f c = at_uses f c (text_of c.uses ∷ [])
+that_uses f c = at_uses f c (c.text ∷ [])
 
 -- which files a step may call, and which a job
 abbrev pub is_callable : Caller → Role → Bool
@@ -62,21 +61,11 @@ abbrev pub absent_faults : Call → Caller → List Fault
 absent_faults c caller.Step = []
 absent_faults c caller.Job = that_uses code.NoWorkflow c
 
--- C1 where no file answers, C8 where the one that does can't be called
-abbrev pub answer_faults : Call → Option Interface → List Fault
-answer_faults c None = absent_faults c (caller_of c)
-answer_faults c (Some Unreadable) = []
-answer_faults c (Some (Readable s)) = if is_callable (caller_of c) s.role then [] else that_uses code.NotCallable c
-
--- C7 where `uses` is wrong
-abbrev pub form_faults : Form → Call → Option Interface → List Fault
-form_faults Wrong c answer = that_uses code.WrongUses c
-form_faults Other c answer = []
-form_faults (Local t) c answer = answer_faults c answer
-
--- of `uses`
+-- of `uses`: C1 where no file answers, C8 where the one that does can't be called
 abbrev pub uses_faults : Call → Option Interface → List Fault
-uses_faults c answer = form_faults c.form c answer
+uses_faults c None = absent_faults c (caller_of c)
+uses_faults c (Some Unreadable) = []
+uses_faults c (Some (Readable s)) = if is_callable (caller_of c) s.role then [] else that_uses code.NotCallable c
 
 -- what a file shows to a step, or a job, that may call it
 abbrev pub callable_signature : Caller → Option Interface → Option Signature
@@ -84,18 +73,13 @@ callable_signature by None = None
 callable_signature by (Some Unreadable) = None
 callable_signature by (Some (Readable s)) = if is_callable by s.role then Some s else None
 
-abbrev pub signature_by : Form → Caller → Option Interface → Option Signature
-signature_by (Local t) by answer = callable_signature by answer
-signature_by Other by answer = None
-signature_by Wrong by answer = None
-
--- what a call is compared with: none where it has C1, C7 or C8, or the file can't be read
+-- what a call is compared with: none where it has C1 or C8, or the file can't be read
 abbrev pub called_signature : Call → Option Interface → Option Signature
-called_signature c answer = signature_by c.form (caller_of c) answer
+called_signature c answer = callable_signature (caller_of c) answer
 
 -- how the called file is named: by its `name`, else by the text of `uses`
 abbrev pub called_name : Call → Signature → List ℕ
-called_name c s = option_map_or (λ n. n) s.name (text_of c.uses)
+called_name c s = option_map_or (λ n. n) s.name (c.text)
 
 -- a test of names
 abbrev pub Names : Type 0
@@ -138,10 +122,10 @@ abbrev pub missing_name : ParameterKind → Call → Signature → Names → Par
 missing_name k c s given p = if is_missing given p then at_uses (missing_code k) c (p.name ∷ called_name c s ∷ []) else []
 
 abbrev pub undefined_names : ParameterKind → Call → Signature → List Fault
-undefined_names k c s = flat_map (undefined_name k c s) (given_by k c.node)
+undefined_names k c s = flat_map (undefined_name k c s) (given_by k c.site.node)
 
 abbrev pub missing_names : ParameterKind → Call → Signature → List Fault
-missing_names k c s = flat_map (missing_name k c s (given_names (given_by k c.node))) (parameters_of k s)
+missing_names k c s = flat_map (missing_name k c s (given_names (given_by k c.site.node))) (parameters_of k s)
 
 abbrev pub names_against : ParameterKind → Call → Signature → List Fault
 names_against k c s = undefined_names k c s ++ missing_names k c s
@@ -156,7 +140,7 @@ is_compared kind.Secret caller.Step n = false
 is_compared kind.Secret caller.Job n = not (is_inherit n)
 
 abbrev pub signature_for : ParameterKind → Call → Option Interface → Option Signature
-signature_for k c answer = if is_compared k (caller_of c) c.node then called_signature c answer else None
+signature_for k c answer = if is_compared k (caller_of c) c.site.node then called_signature c answer else None
 
 abbrev pub names_of_kind : ParameterKind → Call → Option Interface → List Fault
 names_of_kind k c answer = option_map_or (names_against k c) (signature_for k c answer) []
@@ -201,6 +185,6 @@ values_against caller.Job c values o = option_map_or (wrong_inputs c values) o [
 abbrev pub value_faults : Call → List Given → Option Interface → List Fault
 value_faults c values answer = values_against (caller_of c) c values (called_signature c answer)
 
--- The faults of a call, given the values under `with` with their types, and its answer.
+-- The faults of a call of a file of the folder, given the values under `with` with their types, and its answer.
 abbrev pub call_faults : Call → List Given → Option Interface → List Fault
 call_faults c values answer = uses_faults c answer ++ value_faults c values answer ++ name_faults c answer

@@ -2,14 +2,13 @@
 ghost use Rattle.std.specs.Prelude.{◌≡◌, ◌++◌, map, OnOk};
 ghost use Rattle.std.specs.Option.{option_copied};
 ghost use Rattle.al_calls.specs.CallFaults as faults;
-ghost use Rattle.al_calls.specs.Private.AnswerViews.{given_of};
-ghost use Rattle.al_uses.specs.Private.CallViews.{call_of};
+ghost use Rattle.al_calls.specs.Private.AnswerViews.{call_of, given_of};
 
+use crate::answers::SiteCall;
 use crate::reports::{caller_of, report_uses};
 use crate::values::{Value, check_values};
 use al_base::{CallCode, Caller, Fault};
 use al_interfaces::{Interface, Role, Signature};
-use al_uses::{Call, Form};
 use std::alloc::{AllocError, Global};
 
 /// Whether a step, or a job, may call a file that is this.
@@ -41,22 +40,18 @@ fn callable_signature<'a>(caller: Caller, answer: Option<&'a Interface>) -> Opti
 
 /// What a call is compared with, if the file that answers it may be called.
 pub(crate) fn called_signature<'a>(
-    call: &Call<'_>,
+    call: SiteCall<'_>,
     answer: Option<&'a Interface>,
 ) -> Option<&'a Signature>
-    ensures { option_copied result ≡ faults.called_signature (call_of call.now) (option_copied answer.entry) }
+    ensures { option_copied result ≡ faults.called_signature (call_of call.entry) (option_copied answer.entry) }
 {
-    match &call.form {
-        Form::Local(_) => callable_signature(caller_of(call), answer),
-        Form::Other => None,
-        Form::Wrong => None,
-    }
+    callable_signature(caller_of(call), answer)
 }
 
 /// C1: a job's call that no file of the folder answers.
-fn check_absent(alloc: Global, call: &Call<'_>, out: &mut Vec<Fault>) -> Result<(), AllocError>
+fn check_absent(alloc: Global, call: SiteCall<'_>, out: &mut Vec<Fault>) -> Result<(), AllocError>
     ensures { OnOk result (out.new.items ≡ out.old.items
-        ++ faults.absent_faults (call_of call.now) (faults.caller_of (call_of call.now))) }
+        ++ faults.absent_faults (call_of call.entry) (faults.caller_of (call_of call.entry))) }
 {
     match caller_of(call) {
         Caller::Step => Ok(()),
@@ -65,13 +60,13 @@ fn check_absent(alloc: Global, call: &Call<'_>, out: &mut Vec<Fault>) -> Result<
 }
 
 /// C1 and C8.
-fn check_answer(
+fn check_uses(
     alloc: Global,
-    call: &Call<'_>,
+    call: SiteCall<'_>,
     answer: Option<&Interface>,
     out: &mut Vec<Fault>,
 ) -> Result<(), AllocError>
-    ensures { OnOk result (out.new.items ≡ out.old.items ++ faults.answer_faults (call_of call.now) (option_copied answer.entry)) }
+    ensures { OnOk result (out.new.items ≡ out.old.items ++ faults.uses_faults (call_of call.entry) (option_copied answer.entry)) }
 {
     match answer {
         None => check_absent(alloc, call, out),
@@ -86,35 +81,19 @@ fn check_answer(
     }
 }
 
-/// C7, C1 and C8.
-fn check_uses(
-    alloc: Global,
-    call: &Call<'_>,
-    answer: Option<&Interface>,
-    out: &mut Vec<Fault>,
-) -> Result<(), AllocError>
-    ensures { OnOk result (out.new.items ≡ out.old.items ++ faults.uses_faults (call_of call.now) (option_copied answer.entry)) }
-{
-    match &call.form {
-        Form::Wrong => report_uses(alloc, CallCode::WrongUses, call, out),
-        Form::Other => Ok(()),
-        Form::Local(_) => check_answer(alloc, call, answer, out),
-    }
-}
-
-/// Adds the faults of a call but for those of names: C1, C4, C7 and C8, given what answers it (none where it names no file of the folder,
-/// or none that is there), and what a job gives under `with`, each value with its type. Of a step no values are looked at.
+/// Adds the faults of a call but for those of names: C1, C4 and C8, given what answers it (none where none of the files
+/// that it names is there), and what a job gives under `with`, each value with its type. Of a step no values are looked at.
 ///
 /// Fails with `AllocError` for want of memory.
 pub fn check_call(
     alloc: Global,
-    call: &Call<'_>,
+    call: SiteCall<'_>,
     values: &[Value<'_>],
     answer: Option<&Interface>,
     out: &mut Vec<Fault>,
 ) -> Result<(), AllocError>
-    ensures { OnOk result (out.new.items ≡ out.old.items ++ (faults.uses_faults (call_of call.now) (option_copied answer.entry)
-        ++ faults.value_faults (call_of call.now) (map given_of values.now) (option_copied answer.entry))) }
+    ensures { OnOk result (out.new.items ≡ out.old.items ++ (faults.uses_faults (call_of call.entry) (option_copied answer.entry)
+        ++ faults.value_faults (call_of call.entry) (map given_of values.now) (option_copied answer.entry))) }
 {
     check_uses(alloc, call, answer, out)?;
     match caller_of(call) {

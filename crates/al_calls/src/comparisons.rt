@@ -3,19 +3,17 @@ ghost use Rattle.std.specs.Prelude.{◌≡◌, ◌++◌, [], map, option_map, If
 ghost use Rattle.std.specs.List.{cons_option, flat_map};
 ghost use Rattle.std.specs.Option.{option_copied};
 ghost use Rattle.al_calls.specs.CallFaults as faults;
-ghost use Rattle.al_calls.specs.Private.AnswerViews.{answered_of, compared_of};
+ghost use Rattle.al_calls.specs.Private.AnswerViews.{answered_of, call_of, compared_of};
 ghost use Rattle.al_calls.specs.Private.Comparing as comparing;
 ghost use Rattle.al_shape.specs.Values.{member_of};
-ghost use Rattle.al_uses.specs.Private.CallViews.{call_of};
 ghost use Rattle.al_yaml.specs.View.{view};
 
-use crate::answers::Answered;
+use crate::answers::{Answered, SiteCall};
 use crate::calls::called_signature;
 use crate::reports::{caller_of, uses_text};
 use al_base::Caller;
 use al_interfaces::{ParameterKind, Signature};
 use al_shape::{Member, members_under, text_under};
-use al_uses::Call;
 use al_yaml::Node;
 use std::alloc::{AllocError, Global};
 
@@ -23,7 +21,7 @@ use std::alloc::{AllocError, Global};
 #[derive(Clone, Copy)]
 pub(crate) struct Comparison<'a> {
     pub(crate) kind: ParameterKind,
-    pub(crate) call: &'a Call<'a>,
+    pub(crate) call: SiteCall<'a>,
     pub(crate) signature: &'a Signature,
 }
 
@@ -52,14 +50,14 @@ fn is_inherit(job: &Node) -> bool
 }
 
 /// Whether names of a kind are compared: of a step no secrets, and of a job none that it inherits.
-fn is_compared(kind: ParameterKind, call: &Call<'_>) -> bool
-    ensures { result ≡ faults.is_compared kind (faults.caller_of (call_of call.now)) (call_of call.now).node }
+fn is_compared(kind: ParameterKind, call: SiteCall<'_>) -> bool
+    ensures { result ≡ faults.is_compared kind (faults.caller_of (call_of call.entry)) (call_of call.entry).site.node }
 {
     match kind {
         ParameterKind::Input => true,
         ParameterKind::Secret => match caller_of(call) {
             Caller::Step => false,
-            Caller::Job => !is_inherit(call.node),
+            Caller::Job => !is_inherit(call.site.node),
         },
     }
 }

@@ -30,5 +30,4 @@ pub fn rows()
         ≡ found code.UndefinedSecret by.Job (at 75 78) (codes "key" ∷ codes "./.github/workflows/e.yml" ∷ [])
         ∷ found code.MissingSecret by.Job (at 30 55) (codes "token" ∷ codes "./.github/workflows/e.yml" ∷ []) ∷ [] }
     ensures inherited { faults_of file.job_inherits (shown_by kind.Workflow file.requires_token) ≡ [] }
-    ensures wrong_uses { faults_of file.job_uses_a_name [] ≡ found code.WrongUses by.Job (at 30 35) (codes "e.yml" ∷ []) ∷ [] }
 {}

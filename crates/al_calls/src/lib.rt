@@ -14,7 +14,7 @@ mod undefined;
 mod values;
 
 pub use al_shape::members_under;
-pub use answers::{Answered, with_answers};
+pub use answers::{Answered, SiteCall, with_answers};
 pub use calls::check_call;
 pub use examples::rows;
 pub use laws::faults_lie;

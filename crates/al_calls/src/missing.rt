@@ -41,9 +41,9 @@ fn names_in(alloc: Global, given: &[Member<'_>]) -> Result<NameSet, AllocError>
 fn giver_of<'a>(alloc: Global, call: Comparison<'a>) -> Result<Giver<'a>, AllocError>
     ensures call { IfOk result (λ g. compared_of g.call ≡ compared_of call.entry) }
     ensures names { let q = compared_of call.entry in IfOk result
-        (λ g. holds g.names ≡ faults.given_names (faults.given_by q.kind q.call.node)) }
+        (λ g. holds g.names ≡ faults.given_names (faults.given_by q.kind q.call.site.node)) }
 {
-    let given = given_by(alloc, call.kind, call.call.node)?;
+    let given = given_by(alloc, call.kind, call.call.site.node)?;
     let names = names_in(alloc, given.as_slice())?;
     Ok(Giver { call, names })
 }
@@ -83,7 +83,7 @@ fn check_parameter<'a>(
     left: &mut Vec<&'a Parameter>,
     out: &mut Vec<Fault>,
 ) -> Result<(), AllocError>
-    requires { let q = compared_of giver.now.call in holds giver.now.names ≡ faults.given_names (faults.given_by q.kind q.call.node) }
+    requires { let q = compared_of giver.now.call in holds giver.now.names ≡ faults.given_names (faults.given_by q.kind q.call.site.node) }
     ensures faults { OnOk result (out.new.items ≡ out.old.items
         ++ comparing.fault_unless_given (compared_of giver.now.call) parameter.entry.now) }
     ensures left { OnOk result (map (λ p. p.now) left.new.items

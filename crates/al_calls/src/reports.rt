@@ -1,12 +1,12 @@
 //! How faults of calls are reported.
 ghost use Rattle.std.specs.Prelude.{◌≡◌, ◌++◌, ◌∷◌, [], OnOk};
 ghost use Rattle.al_calls.specs.CallFaults as faults;
-ghost use Rattle.al_scalar.specs.Scalar.{text_of};
-ghost use Rattle.al_uses.specs.Private.CallViews.{call_of};
+ghost use Rattle.al_calls.specs.Private.AnswerViews.{call_of};
 
+use crate::answers::SiteCall;
 use al_base::{Args, CallCode, Caller, Code, Fault, Span};
 use al_interfaces::Signature;
-use al_uses::Call;
+use al_uses::caller_of as caller_of_site;
 use std::alloc::{AllocError, Global};
 
 /// A fault of a call that names two texts.
@@ -19,22 +19,22 @@ pub(crate) struct Report<'a> {
 }
 
 /// The text of `uses`.
-pub(crate) fn uses_text<'a>(call: &Call<'a>) -> &'a [u8]
-    ensures { result.now ≡ text_of (call_of call.now).uses }
+pub(crate) fn uses_text<'a>(call: SiteCall<'a>) -> &'a [u8]
+    ensures { result.now ≡ (call_of call.entry).text }
 {
     call.uses.scalar.text()
 }
 
 /// Where the value of `uses` stands.
-pub(crate) fn uses_span(call: &Call<'_>) -> Span
-    ensures { result ≡ (call_of call.now).at }
+pub(crate) fn uses_span(call: SiteCall<'_>) -> Span
+    ensures { result ≡ (call_of call.entry).at }
 {
     call.uses.span
 }
 
 /// How the called file is named.
-pub(crate) fn called_name<'a>(call: &Call<'a>, signature: &'a Signature) -> &'a [u8]
-    ensures { result.now ≡ faults.called_name (call_of call.now) signature.now }
+pub(crate) fn called_name<'a>(call: SiteCall<'a>, signature: &'a Signature) -> &'a [u8]
+    ensures { result.now ≡ faults.called_name (call_of call.entry) signature.now }
 {
     match &signature.name {
         Some(name) => name.as_bytes(),
@@ -43,24 +43,21 @@ pub(crate) fn called_name<'a>(call: &Call<'a>, signature: &'a Signature) -> &'a 
 }
 
 /// Who calls.
-pub(crate) fn caller_of(call: &Call<'_>) -> Caller
-    ensures { result ≡ faults.caller_of (call_of call.now) }
+pub(crate) fn caller_of(call: SiteCall<'_>) -> Caller
+    ensures { result ≡ faults.caller_of (call_of call.entry) }
 {
-    match call.site.step {
-        Some(_) => Caller::Step,
-        None => Caller::Job,
-    }
+    caller_of_site(call.site)
 }
 
 /// Adds a fault of a call that names two texts.
 pub(crate) fn report_two(
     alloc: Global,
-    call: &Call<'_>,
+    call: SiteCall<'_>,
     report: Report<'_>,
     out: &mut Vec<Fault>,
 ) -> Result<(), AllocError>
     ensures { OnOk result (out.new.items ≡ out.old.items
-        ++ faults.fault (report.entry).code (call_of call.now) (report.entry).span
+        ++ faults.fault (report.entry).code (call_of call.entry) (report.entry).span
         ((report.entry).first.now ∷ (report.entry).second.now ∷ []) ∷ []) }
 {
     out.push(Fault {
@@ -75,10 +72,10 @@ pub(crate) fn report_two(
 pub(crate) fn report_uses(
     alloc: Global,
     code: CallCode,
-    call: &Call<'_>,
+    call: SiteCall<'_>,
     out: &mut Vec<Fault>,
 ) -> Result<(), AllocError>
-    ensures { OnOk result (out.new.items ≡ out.old.items ++ faults.that_uses code (call_of call.now)) }
+    ensures { OnOk result (out.new.items ≡ out.old.items ++ faults.that_uses code (call_of call.entry)) }
 {
     out.push(Fault {
         span: uses_span(call),

@@ -145,7 +145,7 @@ fn add_names_by<'a>(
 ) -> Result<(), AllocError>
     ensures { OnOk result (map name_of found.new.items ≡ map name_of found.old.items ++ comparing.names_by (compared_of by.entry)) }
 {
-    let given = given_by(alloc, by.kind, by.call.node)?;
+    let given = given_by(alloc, by.kind, by.call.site.node)?;
     add_members(by, given.as_slice(), found)
 }
 

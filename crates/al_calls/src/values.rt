@@ -5,16 +5,15 @@ ghost use Rattle.al_base.specs.declared.codes.Caller.TheVariants as by;
 ghost use Rattle.al_shape.specs.Values.{member_of};
 ghost use Rattle.al_types.specs.TypeViews.{ty_of};
 ghost use Rattle.al_calls.specs.CallFaults as faults;
-ghost use Rattle.al_uses.specs.Private.CallViews.{call_of};
-ghost use Rattle.al_calls.specs.Private.AnswerViews.{given_of};
+ghost use Rattle.al_calls.specs.Private.AnswerViews.{call_of, given_of};
 
+use crate::answers::SiteCall;
 use crate::reports::{Report, report_two};
 use al_base::{CallCode, Fault};
 use al_declarations::{InputType, type_of};
 use al_interfaces::{Parameter, Parameters, Signature};
 use al_shape::{Member, key_text};
 use al_types::{Ty, assignable};
-use al_uses::Call;
 use std::alloc::{AllocError, Global};
 
 /// What is given under a name, and its type.
@@ -42,13 +41,13 @@ fn is_right(ty: &Ty, takes: InputType) -> bool
 
 fn check_type(
     alloc: Global,
-    call: &Call<'_>,
+    call: SiteCall<'_>,
     value: &Value<'_>,
     input: &Parameter,
     out: &mut Vec<Fault>,
 ) -> Result<(), AllocError>
     ensures { OnOk result
-        (out.new.items ≡ out.old.items ++ faults.type_faults (call_of call.now) (member_of value.now.member)
+        (out.new.items ≡ out.old.items ++ faults.type_faults (call_of call.entry) (member_of value.now.member)
         (ty_of value.now.ty) input.now) }
 {
     if is_right(&value.ty, input.takes) {
@@ -66,12 +65,12 @@ fn check_type(
 /// C4.
 fn check_value(
     alloc: Global,
-    call: &Call<'_>,
+    call: SiteCall<'_>,
     inputs: &Parameters,
     value: &Value<'_>,
     out: &mut Vec<Fault>,
 ) -> Result<(), AllocError>
-    ensures { OnOk result (out.new.items ≡ out.old.items ++ faults.wrong_input (call_of call.now) inputs.now (given_of value.now)) }
+    ensures { OnOk result (out.new.items ≡ out.old.items ++ faults.wrong_input (call_of call.entry) inputs.now (given_of value.now)) }
 {
     let name = key_text(value.member.key);
     match inputs.named(alloc, name)? {
@@ -83,13 +82,13 @@ fn check_value(
 /// C4 of all values, against what a file shows.
 fn check_all(
     alloc: Global,
-    call: &Call<'_>,
+    call: SiteCall<'_>,
     values: &[Value<'_>],
     signature: &Signature,
     out: &mut Vec<Fault>,
 ) -> Result<(), AllocError>
     ensures { OnOk result
-        (out.new.items ≡ out.old.items ++ faults.wrong_inputs (call_of call.now) (map given_of values.now) signature.now) }
+        (out.new.items ≡ out.old.items ++ faults.wrong_inputs (call_of call.entry) (map given_of values.now) signature.now) }
 {
     for value in values {
         check_value(alloc, call, &signature.inputs, value, out)?;
@@ -100,13 +99,13 @@ fn check_all(
 /// C4 of what a job gives, against what the called file shows, if it may be called.
 pub(crate) fn check_values(
     alloc: Global,
-    call: &Call<'_>,
+    call: SiteCall<'_>,
     values: &[Value<'_>],
     signature: Option<&Signature>,
     out: &mut Vec<Fault>,
 ) -> Result<(), AllocError>
     ensures { OnOk result (out.new.items ≡ out.old.items
-        ++ faults.values_against by.Job (call_of call.now) (map given_of values.now) (option_copied signature.entry)) }
+        ++ faults.values_against by.Job (call_of call.entry) (map given_of values.now) (option_copied signature.entry)) }
 {
     match signature {
         None => Ok(()),

@@ -1,21 +1,20 @@
 -- What reading a file gave.
-use Rattle.std.specs.Prelude.{◌≡◌, ◌++◌, ℕ, List, [], length, map, Result, Ok, Err}
+use Rattle.std.specs.Prelude.{◌≡◌, ℕ, List, [], length, Result, Ok, Err}
 use Rattle.al_scalar.specs.declared.faults.YamlFault.{YamlFault}
 use Rattle.al_base.specs.Growth.{SameSet}
 use Rattle.al_base.specs.Spans.{LiesIn}
 use Rattle.al_base.specs.declared.faults.Fault.{Fault}
 use Rattle.al_base.specs.Limits.{largest_file}
-use Rattle.al_shape.specs.Faults.{root_faults}
 use Rattle.al_tree.specs.declared.files.FileKind.{FileKind}
 use Rattle.al_tree.specs.declared.files.Tree.{Tree}
-use Rattle.al_tree.specs.Files.{kind_in, root_of, shape_of}
+use Rattle.al_tree.specs.Files.{kind_in, root_of}
 use Rattle.al_yaml.specs.ByteFaults.{fault_span}
 use Rattle.al_yaml.specs.Document.{tree_of}
-use Rattle.al_yaml.specs.Node.{Node}
 use Rattle.al_yaml.specs.Spans.{AreFrom, IsInside, IsLaid}
 use Rattle.al_yaml.specs.Texts.{HasTexts}
-use Rattle.al_check.specs.RuleFaults.{rule_faults}
-use Rattle.al_check.specs.Sites.{file_sites, kept_site}
+use Rattle.al_uses.specs.Kept.{AreCallsOf}
+use Rattle.al_uses.specs.declared.calls.Call.{Call}
+use Rattle.al_check.specs.FileFaults.{own_faults}
 use Rattle.al_check.specs.declared.files.ReadFile.{ReadFile}
 
 -- the document of these bytes, which lies in them, as a file of this kind
@@ -37,16 +36,17 @@ abbrev pub IsGiven : FileKind → List ℕ → Result Tree YamlFault → Type 0
 IsGiven file bytes (Ok t) = IsTree file bytes t
 IsGiven file bytes (Err f) = IsFault bytes f
 
--- of keys and values, and of rules
-abbrev pub own_faults : FileKind → Node → List Fault
-own_faults kind root = root_faults (shape_of kind) root ++ rule_faults kind root
-
 -- likewise of a file that was read; one that is no YAML has none
 abbrev pub own_given : Result Tree YamlFault → List Fault
 own_given (Ok t) = own_faults (kind_in t) (root_of t)
 own_given (Err f) = []
 
+-- its calls of files of the folder, of which a file that is no YAML has none
+abbrev pub CallsGiven : Result Tree YamlFault → List Call → Type 0
+CallsGiven (Ok t) calls = AreCallsOf (kind_in t) (root_of t) calls
+CallsGiven (Err f) calls = calls ≡ []
+
 pub record IsRead (read : ReadFile) (file : FileKind) (bytes : List ℕ) : Type 0 where
   pub given : IsGiven file bytes read.tree
   pub own : SameSet read.own.items (own_given read.tree)
-  pub sites : map kept_site read.calls.items ≡ file_sites file bytes
+  pub calls : CallsGiven read.tree read.calls.items

@@ -1,28 +1,38 @@
 //! The linter, as a session of a folder asks for it.
-ghost use Rattle.std.specs.Prelude.{◌≡◌, Option};
+ghost use Rattle.std.specs.Prelude.{◌≡◌, ◌∷◌, [], ℕ, List, Option};
 ghost use Rattle.al_tree.specs.Kinds.{file_kind};
 ghost use Rattle.al_check.specs.Linting.{linting};
 ghost use Rattle.al_check.specs.Reading.{IsRead};
 ghost use Rattle.al_interfaces.proofs.Exact.{exact};
 ghost use Rattle.al_check.specs.Proofs.Laws.{each_sited, faults_inside, faults_ordered, sites_inside};
-ghost use Rattle.al_check.specs.Sites.{kept_site};
-ghost use Rattle.al_folder.specs.Sites as sites;
+ghost use Rattle.al_folder.specs.Sites.{fault_of};
 
-use crate::files::{LocalCall, ReadFile, file_faults, file_interface, file_targets, read_file};
-use al_base::{CallCode, Code, Fault};
+use crate::files::{ReadFile, file_faults, file_interface, file_targets, read_file};
+use al_base::{Args, Fault};
 use al_folder::{Lint, Site, Target};
 use al_interfaces::Interface;
 use al_tree::{file_kind, is_action, is_workflow};
+use al_uses::Call;
 use std::alloc::{AllocError, Global};
 
+/// The first of a fault's texts; empty where it has none.
+fn first_text(args: &Args) -> &str
+    ensures { (text : List ℕ) → args.now ≡ text ∷ [] → result.now ≡ text }
+{
+    match args.first() {
+        Some(text) => text,
+        None => "",
+    }
+}
+
 /// What is said of a call that leads back to its file.
-fn site_of(call: &LocalCall) -> Site<'_>
-    ensures { sites.site_of result ≡ kept_site call.now }
+fn site_of(call: &Call) -> Site<'_>
+    ensures { (text : List ℕ) → call.now.fault.args ≡ text ∷ [] → fault_of result ≡ call.now.fault }
 {
     Site {
-        code: Code::Call(CallCode::LeadsBack, call.caller),
-        span: call.span,
-        text: call.text.as_str(),
+        code: call.fault.code,
+        span: call.fault.span,
+        text: first_text(&call.fault.args),
     }
 }
 

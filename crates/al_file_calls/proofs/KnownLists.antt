@@ -14,7 +14,6 @@ use Rattle.std.proofs.lemmas.List.Elements.{All-contains, All-from_recursion}
 use Rattle.std.proofs.lemmas.Map.Text.{is_eq-slice_cmp}
 use Rattle.std.proofs.lemmas.Slice.Eq.{bytes_eq-Decides}
 use Rattle.al_base.specs.declared.codes.Caller.TheVariants as caller
-use Rattle.al_scalar.specs.Scalar.{text_of}
 use Rattle.al_calls.specs.Answers.{Answered}
 use Rattle.al_calls.specs.CallFaults.{caller_of}
 use Rattle.al_calls.specs.Outputs.{outputs_behind, outputs_in}
@@ -133,7 +132,7 @@ takes_as {old} {new} {b} {b'} {t} {t'} {n} {n'} {position} e f g h =
 -- ---- the answers so far
 
 abbrev IsNamed : Naming → Answered → Type 0
-IsNamed naming a = naming (is_some a.call.site.step) (text_of a.call.uses) ≡ outputs_behind a
+IsNamed naming a = naming (is_some a.call.site.step) a.call.text ≡ outputs_behind a
 
 -- of the first of some calls, with names that may be told of all of them
 abbrev pub AreKnown : List code.Answered → ℕ → Lists → List Answer → Type 0
@@ -149,13 +148,13 @@ named_at naming answered i a named within is =
 
 -- one call more
 pub one_known : (answered : List code.Answered) (i : ℕ) (a : code.Answered) (old new : Lists) (known now : List Answer) (position : Option ℕ) → i < length answered →
-    a ≡ get_or answered i a → Takes old new (is_some (answered_of a).call.site.step) (text_of (answered_of a).call.uses) (outputs_behind (answered_of a)) position →
-    now ≡ known ++ record { job = a.call.now.site.job; step = a.call.now.site.step; names = position } ∷ [] → AreKnown answered i old known → AreKnown answered (i + 1) new now
+    a ≡ get_or answered i a → Takes old new (is_some (answered_of a).call.site.step) (answered_of a).call.text (outputs_behind (answered_of a)) position →
+    now ≡ known ++ record { job = a.call.site.job; step = a.call.site.step; names = position } ∷ [] → AreKnown answered i old known → AreKnown answered (i + 1) new now
 one_known answered i a old new known now position within is takes pushed before naming named =
     let placed = (before naming named).0 in
     let told = named_at naming answered i a named within is in
     let stands = takes.stands naming told placed in
-    let answer : Answer = record { job = a.call.now.site.job; step = a.call.now.site.step; names = position } in
+    let answer : Answer = record { job = a.call.site.job; step = a.call.site.step; names = position } in
     let calls : take (i + 1) answered ≡ take i answered ++ a ∷ [] = take_more answered i a within ∙ ap (λ x. take i answered ++ x ∷ []) (sym is) in
     let behinds : map behind (map answered_of (take (i + 1) answered)) ≡ map behind (map answered_of (take i answered)) ++ behind (answered_of a) ∷ [] =
     ap (λ l. map behind (map answered_of l)) calls ∙ ap (map behind) (map-append answered_of (take i answered) (a ∷ []))
@@ -164,7 +163,7 @@ one_known answered i a old new known now position within is takes pushed before 
       λ more.
           let seen : Answer → Behind = behind_of (lists_of new ++ more) in
           let here : seen answer ≡ behind (answered_of a) =
-          ap (λ (names : Option Names). record { job = (answered_of a).call.site.job; step = a.call.now.site.step; names = names }) (stands more) in
+          ap (λ (names : Option Names). record { job = (answered_of a).call.site.job; step = a.call.site.step; names = names }) (stands more) in
           let so_far : map seen known ≡ map behind (map answered_of (take i answered)) =
           ap (λ ls. map (behind_of ls) known) (ap (λ ls. ls ++ more) takes.grown ∙ append_assoc (lists_of old) takes.added more)
           ∙ (before naming named).1 (takes.added ++ more) in
@@ -187,7 +186,7 @@ pub all_known : (answered : List code.Answered) (i : ℕ) (ls : Lists) (known : 
 all_known answered i ls known end told so_far =
     let found = map answered_of answered in
     let naming = naming_of found told in
-    let named = all_named naming found (λ (a : Answered). a.answer ≡ told.answer (caller_of a.call) (text_of a.call.uses))
+    let named = all_named naming found (λ (a : Answered). a.answer ≡ told.answer (caller_of a.call) a.call.text)
     (λ a h. ap (outputs_in (caller_of a.call)) (sym h)) told.told in
     ap (λ l. map (behind_of l) known) (sym (append-nil (lists_of ls))) ∙ (so_far naming named).1 []
     ∙ ap (λ l. map behind (map answered_of l)) (take_all i answered end)

@@ -25,7 +25,7 @@ fn check_job<'a>(
     out: &mut Vec<Fault>,
 ) -> Result<(), AllocError>
     requires stands { Stands file env.old }
-    requires short { AreShort (view answered.call.now.node.now) }
+    requires short { AreShort (view answered.call.site.node.now) }
     ensures stands { OnOk result (Stands file.entry env.new) }
     ensures faults { let types = typing (file.entry).kind (known_of (file.entry).known) (view (file.entry).root.now) in
         OnOk result (out.new.items ≡ out.old.items ++ faults_but_names types (answered_of answered.entry)) }
@@ -42,7 +42,7 @@ fn check_job<'a>(
 
 /// Adds the faults of a step's call, whose values have no types, but for those of names.
 fn check_step(alloc: Global, answered: Answered<'_>, out: &mut Vec<Fault>) -> Result<(), AllocError>
-    requires { is_some answered.call.now.site.step ≡ true }
+    requires { is_some answered.call.site.step ≡ true }
     ensures { (types : Typing) → OnOk result (out.new.items ≡ out.old.items ++ faults_but_names types (answered_of answered.entry)) }
 {
     check_call(alloc, answered.call, &[], answered.answer, out)
@@ -57,7 +57,7 @@ fn check_one<'a>(
     out: &mut Vec<Fault>,
 ) -> Result<(), AllocError>
     requires stands { Stands file env.old }
-    requires short { AreShort (view answered.call.now.node.now) }
+    requires short { AreShort (view answered.call.site.node.now) }
     ensures stands { OnOk result (Stands file.entry env.new) }
     ensures faults { let types = typing (file.entry).kind (known_of (file.entry).known) (view (file.entry).root.now) in
         OnOk result (out.new.items ≡ out.old.items ++ faults_but_names types (answered_of answered.entry)) }
@@ -77,7 +77,7 @@ fn check_each<'a>(
     out: &mut Vec<Fault>,
 ) -> Result<(), AllocError>
     requires stands { Stands file env.old }
-    requires short { All (λ a. AreShort (view a.call.now.node.now)) answered.now }
+    requires short { All (λ a. AreShort (view a.call.site.node.now)) answered.now }
     ensures { let types = typing (file.entry).kind (known_of (file.entry).known) (view (file.entry).root.now) in
         OnOk result (out.new.items ≡ out.old.items ++ flat_map (faults_but_names types) (map answered_of answered.now)) }
 {
@@ -96,7 +96,7 @@ pub(crate) fn check_calls<'a>(
     out: &mut Vec<Fault>,
 ) -> Result<(), AllocError>
     requires stands { Stands file env.old }
-    requires short { All (λ a. AreShort (view a.call.now.node.now)) answered.now }
+    requires short { All (λ a. AreShort (view a.call.site.node.now)) answered.now }
     requires answers { AreToldByUses (map answered_of answered.now) }
     ensures { OnOk result (SameSet out.new.items (out.old.items
         ++ call_faults (file.entry).kind (known_of (file.entry).known) (view (file.entry).root.now) (map answered_of answered.now))) }

@@ -7,7 +7,6 @@ ghost use Rattle.al_contexts.specs.Answered.{known_in, known_of};
 ghost use Rattle.al_file_calls.specs.FileCalls.{behind};
 ghost use Rattle.al_file_calls.specs.Private.KnownLists.{ArePlaced, Naming, StandsAt, Takes, behind_all, lists_of, position_of};
 ghost use Rattle.al_calls.specs.Private.Comparing.{AreToldByUses};
-ghost use Rattle.al_scalar.specs.Scalar.{text_of};
 ghost use Rattle.al_yaml.specs.View.{view};
 
 use al_calls::{Answered, outputs_of};
@@ -76,7 +75,7 @@ impl<'a> Lists<'a> {
     /// The position of the outputs behind a call.
     fn position(&mut self, answered: Answered<'a>) -> Result<Option<usize>, AllocError>
         ensures { let a = answered_of answered.entry in IfOk result
-            (λ position. Takes self.old self.new (is_some a.call.site.step) (text_of a.call.uses) (outputs_behind a) position) }
+            (λ position. Takes self.old self.new (is_some a.call.site.step) a.call.text (outputs_behind a) position) }
     {
         let call = answered.call;
         let of_step = call.site.step.is_some();

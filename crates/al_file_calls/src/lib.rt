@@ -8,4 +8,4 @@ mod known;
 mod types;
 mod values;
 
-pub use files::behind_faults;
+pub use files::{Calling, behind_faults};

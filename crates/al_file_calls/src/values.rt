@@ -1,7 +1,7 @@
 //! What a job gives under `with`, each value with its type.
 ghost use Rattle.std.specs.Prelude.{◌≡◌, map, All, IfOk, OnOk};
 ghost use Rattle.std.specs.Option.{option_copied};
-ghost use Rattle.al_calls.specs.Private.AnswerViews.{given_of};
+ghost use Rattle.al_calls.specs.Private.AnswerViews.{call_of, given_of};
 ghost use Rattle.al_calls.specs.CallFaults.{given_type, values_of};
 ghost use Rattle.al_contexts.specs.Answered.{known_of};
 ghost use Rattle.al_contexts.specs.Private.Standing.{Stands};
@@ -11,18 +11,16 @@ ghost use Rattle.al_calls.specs.Answers.{values_in};
 ghost use Rattle.al_places.specs.Places.{place_of};
 ghost use Rattle.al_shape.specs.Values.{member_of};
 ghost use Rattle.al_types.specs.TypeViews.{ty_of};
-ghost use Rattle.al_uses.specs.Private.CallViews.{call_of};
 ghost use Rattle.al_yaml.specs.View.{view};
 
 use crate::types::scalar_type;
-use al_calls::{Value, members_under};
+use al_calls::{SiteCall, Value, members_under};
 use al_contents::go_to;
 use al_contexts::{Env, File};
 use al_places::{Place, Position, Section, Seen, available};
 use al_scalar::Scalar;
 use al_shape::{Member, key_text};
 use al_types::Ty;
-use al_uses::Call;
 use al_yaml::Node;
 use std::alloc::{AllocError, Global};
 
@@ -109,15 +107,15 @@ pub(crate) fn job_values<'a>(
     alloc: Global,
     file: File<'a>,
     env: &mut Env<'a>,
-    call: &'a Call<'a>,
+    call: SiteCall<'a>,
 ) -> Result<Vec<Value<'a>>, AllocError>
     requires stands { Stands file env.old }
-    requires short { AreShort (view call.now.node.now) }
+    requires short { AreShort (view call.site.node.now) }
     ensures stands { OnOk result (Stands file.entry env.new) }
     ensures values { IfOk result (λ v. map given_of v.items
-        ≡ values_in (typing (file.entry).kind (known_of (file.entry).known) (view (file.entry).root.now)) (call_of call.entry.now)) }
+        ≡ values_in (typing (file.entry).kind (known_of (file.entry).known) (view (file.entry).root.now)) (call_of call.entry)) }
 {
-    let given = members_under(alloc, call.node, "with")?;
+    let given = members_under(alloc, call.site.node, "with")?;
     let job = text_or_empty(call.site.job);
     values_given(alloc, file, env, job, given.as_slice())
 }

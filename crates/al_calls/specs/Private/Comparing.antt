@@ -7,7 +7,6 @@ use Rattle.al_base.specs.contracts.codes.CallerPartialEq.TheImpl as caller
 use Rattle.al_base.specs.contracts.faults.SpanPartialEq.TheImpl as span
 use Rattle.al_base.specs.declared.codes.Caller.{Caller}
 use Rattle.al_base.specs.declared.faults.Fault.{Fault}
-use Rattle.al_scalar.specs.Scalar.{text_of}
 use Rattle.al_yaml.specs.Node.{Node, span_of}
 use Rattle.al_shape.specs.Keys.{key_of}
 use Rattle.al_interfaces.specs.Kinds.{parameters_of}
@@ -58,7 +57,7 @@ missing_of q = missing_names q.kind q.call q.signature
 
 -- who calls, and by which text, tells what is shown
 abbrev pub HaveOneSignature : Comparison → Comparison → Type 0
-HaveOneSignature q r = caller_of q.call ≡ caller_of r.call → text_of q.call.uses ≡ text_of r.call.uses → q.signature ≡ r.signature
+HaveOneSignature q r = caller_of q.call ≡ caller_of r.call → q.call.text ≡ r.call.text → q.signature ≡ r.signature
 
 abbrev pub TellSignatures : List Comparison → Type 0
 TellSignatures qs = (q r : Comparison) → Contains qs q → Contains qs r → HaveOneSignature q r
@@ -66,18 +65,18 @@ TellSignatures qs = (q r : Comparison) → Contains qs q → Contains qs r → H
 -- calls whose answers are told so
 pub record AreToldByUses (found : List Answered) : Type 0 where
   pub answer : Caller → List ℕ → Option Interface
-  pub told : AllByRecursion (λ a. a.answer ≡ answer (caller_of a.call) (text_of a.call.uses)) found
+  pub told : AllByRecursion (λ a. a.answer ≡ answer (caller_of a.call) (a.call.text)) found
 
 -- steps, or jobs, that call by one text
 abbrev pub call_alike : Comparison → Comparison → Bool
 call_alike q r =
     kinds.ghosts.eq q.kind r.kind
-    && (caller.ghosts.eq (caller_of q.call) (caller_of r.call) && bytes_eq (text_of q.call.uses) (text_of r.call.uses))
+    && (caller.ghosts.eq (caller_of q.call) (caller_of r.call) && bytes_eq (q.call.text) (r.call.text))
 
 pub record CallAlike (q r : Comparison) : Type 0 where
   pub kind : q.kind ≡ r.kind
   pub by : caller_of q.call ≡ caller_of r.call
-  pub text : text_of q.call.uses ≡ text_of r.call.uses
+  pub text : q.call.text ≡ r.call.text
 
 -- ---- names that aren't declared
 
@@ -90,7 +89,7 @@ abbrev pub name_by : Comparison → Node × Node → GivenName
 name_by q e = record { by = q; entry = e }
 
 abbrev pub names_by : Comparison → List GivenName
-names_by q = map (name_by q) (given_by q.kind q.call.node)
+names_by q = map (name_by q) (given_by q.kind q.call.site.node)
 
 abbrev pub undefined_at : GivenName → List Fault
 undefined_at n = undefined_name n.by.kind n.by.call n.by.signature n.entry
@@ -113,7 +112,7 @@ abbrev pub is_by_same_uses : Comparison → Comparison → Bool
 is_by_same_uses q r = call_alike q r && span.ghosts.eq q.call.at r.call.at
 
 abbrev pub gives : Comparison → Parameter → Bool
-gives q p = given_names (given_by q.kind q.call.node) p.name
+gives q p = given_names (given_by q.kind q.call.site.node) p.name
 
 abbrev pub missing_fault : Comparison → Parameter → Fault
 missing_fault q p = fault (missing_code q.kind) q.call q.call.at (p.name ∷ called_name q.call q.signature ∷ [])

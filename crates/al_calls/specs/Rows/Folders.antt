@@ -133,14 +133,5 @@ job_inherits = mapping (entry (word (codes "on") 0) (word (codes "push") 4) (ent
     (entry (word (codes "secrets") 60) (word (codes "inherit") 69) no_entries)) (at 24 76)) no_entries) (at 17 76)) no_entries))
     (at 0 76)
 
--- on: push
--- jobs:
---   a:
---     uses: e.yml
-abbrev pub job_uses_a_name : Node
-job_uses_a_name = mapping (entry (word (codes "on") 0) (word (codes "push") 4) (entry (word (codes "jobs") 9)
-    (mapping (entry (word (codes "a") 17) (mapping (entry (word (codes "uses") 24) (word (codes "e.yml") 30) no_entries)
-    (at 24 35)) no_entries) (at 17 35)) no_entries)) (at 0 35)
-
 abbrev pub shown_by : FileKind → Node → List (Option Interface)
 shown_by k root = Some (interface_of k root) ∷ []

@@ -1,6 +1,6 @@
 -- What holds of every file: each of its faults lies in it, and they are in the order of reports, each once.
 use Rattle.std.specs.Prelude.{◌≡◌, suc, Option, Some, None, option_map, ◌≤◌, ℕ, List, [], ◌∷◌, ◌++◌, length, map, Ok, Err, Result, IfOk}
-use Rattle.std.specs.List.{AllByRecursion, cons_option}
+use Rattle.std.specs.List.{AllByRecursion, cons_option, flat_map}
 use Rattle.std.proofs.Common.{ap, refl}
 use Rattle.std.proofs.lemmas.List.Elements.{recursion_from_All}
 use Rattle.al_scalar.specs.Taken as yaml
@@ -20,19 +20,22 @@ use Rattle.al_yaml.proofs.LaidRoot.{tree-from, tree-inside, tree-laid, tree-laid
 use Rattle.al_yaml.specs.Laws.{IsTreeLaid}
 use Rattle.al_contents.proofs.Inside.{expression_faults_lie}
 use Rattle.al_contents.specs.FileExpressions.{expression_faults}
-use Rattle.al_uses.specs.Uses.{Call, calls_in, target_in, targets_of}
+use Rattle.al_base.proofs.Elements.{each_of}
+use Rattle.al_base.specs.declared.codes.CallCode.TheVariants.{LeadsBack}
+use Rattle.al_uses.specs.Uses.{Call, calls_in, loop_faults, target_in, targets_of, that_uses, wrong_by, wrong_uses}
+use Rattle.al_uses.specs.declared.forms.Form.{Form}
+use Rattle.al_uses.specs.declared.forms.Form.TheVariants.{Local, Other, Wrong}
 use Rattle.al_uses.proofs.Inside.{calls_lie}
-use Rattle.al_folder.specs.Meaning.{CallSite}
 use Rattle.al_folder.specs.declared.lint.Target.{Target}
 use Rattle.al_check.specs.Calling.{file_targets, targets_given}
-use Rattle.al_check.specs.Sites.{file_sites, site_of_call, sites_given, sites_of}
+use Rattle.al_check.specs.Sites.{file_sites, sites_given}
 use Rattle.al_calls.proofs.Inside.{call_faults_lie}
 use Rattle.al_calls.specs.Answers.{Answered, answered}
 use Rattle.al_file_calls.specs.FileCalls.{behind_faults, call_faults, known_by, typing}
 use Rattle.al_meaning.proofs.Inside.{both_lie}
 use Rattle.al_rules.proofs.Lying.{rules_lie}
 use Rattle.al_shape.specs.Faults.{root_faults}
-use Rattle.al_check.specs.FileFaults.{Answers, document_faults, faults_given, file_faults, found_in, printed}
+use Rattle.al_check.specs.FileFaults.{Answers, document_faults, faults_given, file_faults, found_in, own_faults, printed, wrong_uses_in}
 use Rattle.al_check.specs.RuleFaults.{rule_faults}
 use Rattle.al_check.specs.Proofs.RuleSets.{rules_hold}
 
@@ -42,6 +45,17 @@ AllLie size faults = AllByRecursion (λ (f : Fault). LiesIn size f.span) faults
 printed_lie : (size : ℕ) (faults : List Fault) → AllLie size faults → AllLie size (map printed faults)
 printed_lie size [] l = tt
 printed_lie size (f ∷ fs) l = (l.0, printed_lie size fs l.1)
+
+abbrev CallLies : ℕ → Call → Type 0
+CallLies size c = LiesIn size c.at × IsInside size c.site.node
+
+wrong_uses_lie : (size : ℕ) (cs : List Call) → AllByRecursion (CallLies size) cs → AllLie size (flat_map wrong_uses cs)
+wrong_uses_lie size cs h = each_of (CallLies size) (λ (f : Fault). LiesIn size f.span) wrong_uses (λ c p. by c.form c p) cs h
+  where
+    by : (f : Form) (c : Call) → CallLies size c → AllLie size (wrong_by f c)
+    by Wrong c p = (p.0, tt)
+    by Other c p = tt
+    by (Local t) c p = tt
 
 module _ (size : ℕ) (kind : FileKind) (root : Node) (i : IsInside size root) (w : IsLaid size root) (f : AreFrom size root)
     (answers : Answers) where
@@ -56,11 +70,13 @@ module _ (size : ℕ) (kind : FileKind) (root : Node) (i : IsInside size root) (
 
   found_lie : AllLie size (found_in kind root answers)
   found_lie =
-      both_lie size (root_faults (shape_of kind) root ++ rule_faults kind root) (behind_faults kind root answers)
+      both_lie size (own_faults kind root) (behind_faults kind root answers)
+      (both_lie size (root_faults (shape_of kind) root ++ rule_faults kind root) (wrong_uses_in kind root)
       (both_lie size (root_faults (shape_of kind) root) (rule_faults kind root)
       (recursion_from_All (λ (x : Fault). LiesIn size x.span) (root_faults (shape_of kind) root)
       (root_lies size (shape_of kind) root i))
       (rules_lie size kind root (rule_faults kind root) w (rules_hold kind root)))
+      (wrong_uses_lie size (calls_in kind root) (calls_lie size kind root i)))
       behind_lie
 
   document_lies : AllLie size (document_faults kind root answers)
@@ -94,12 +110,12 @@ faults_ordered kind bytes answers = given_ordered kind bytes answers (tree_of by
 
 -- each call has a site
 
-sited_calls : (cs : List Call) → length (sites_of cs) ≡ length (targets_of cs)
+sited_calls : (cs : List Call) → length (loop_faults cs) ≡ length (targets_of cs)
 sited_calls [] = refl
 sited_calls (c ∷ cs) = put (target_in c.form) (sited_calls cs)
   where
-    put : (o : Option Target) → length (sites_of cs) ≡ length (targets_of cs) →
-        length (cons_option (option_map (site_of_call c) o) (sites_of cs)) ≡ length (cons_option o (targets_of cs))
+    put : (o : Option Target) → length (loop_faults cs) ≡ length (targets_of cs) →
+        length (cons_option (option_map (λ t. that_uses LeadsBack c) o) (loop_faults cs)) ≡ length (cons_option o (targets_of cs))
     put None h = h
     put (Some t) h = ap suc h
 
@@ -112,22 +128,19 @@ each_sited kind bytes = given_sited kind (tree_of bytes)
 
 -- and it lies in the file
 
-abbrev SitesLie : ℕ → List CallSite → Type 0
-SitesLie size sites = AllByRecursion (λ (s : CallSite). LiesIn size s.span) sites
-
-calls_sites_lie : (size : ℕ) (cs : List Call) → AllByRecursion (λ (c : Call). LiesIn size c.at × IsInside size c.node) cs →
-    SitesLie size (sites_of cs)
-calls_sites_lie size [] h = tt
-calls_sites_lie size (c ∷ cs) h = put (target_in c.form) (calls_sites_lie size cs h.1)
+loops_lie : (size : ℕ) (cs : List Call) → AllByRecursion (CallLies size) cs → AllLie size (loop_faults cs)
+loops_lie size [] h = tt
+loops_lie size (c ∷ cs) h = put (target_in c.form) (loops_lie size cs h.1)
   where
-    put : (o : Option Target) → SitesLie size (sites_of cs) → SitesLie size (cons_option (option_map (site_of_call c) o) (sites_of cs))
+    put : (o : Option Target) → AllLie size (loop_faults cs) →
+        AllLie size (cons_option (option_map (λ t. that_uses LeadsBack c) o) (loop_faults cs))
     put None rest = rest
     put (Some t) rest = (h.0.0, rest)
 
 given_sites_lie : (kind : FileKind) (bytes : List ℕ) (read : Result Node yaml.Fault) → IfOk read (IsInside (length bytes)) →
-    SitesLie (length bytes) (sites_given kind read)
-given_sites_lie kind bytes (Ok root) i = calls_sites_lie (length bytes) (calls_in kind root) (calls_lie (length bytes) kind root i)
+    AllLie (length bytes) (sites_given kind read)
+given_sites_lie kind bytes (Ok root) i = loops_lie (length bytes) (calls_in kind root) (calls_lie (length bytes) kind root i)
 given_sites_lie kind bytes (Err fault) i = tt
 
-pub sites_inside : (kind : FileKind) (bytes : List ℕ) → SitesLie (length bytes) (file_sites kind bytes)
+pub sites_inside : (kind : FileKind) (bytes : List ℕ) → AllLie (length bytes) (file_sites kind bytes)
 sites_inside kind bytes = given_sites_lie kind bytes (tree_of bytes) (tree-inside bytes)

@@ -43,7 +43,3 @@ returns-clause-secrets c = refl
 pub returns-clause-inherited : goal.returns-clause-inherited
 unfolding is_utf8 chars encode
 returns-clause-inherited c = refl
-
-pub returns-clause-wrong_uses : goal.returns-clause-wrong_uses
-unfolding utf8_lossy utf8_valid_len is_utf8 chars encode
-returns-clause-wrong_uses c = refl

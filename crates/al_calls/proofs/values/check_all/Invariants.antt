@@ -1,8 +1,7 @@
 use Rattle.std.proofs.Common.{◌≡◌, ◌++◌, drop, map}
 use Rattle.std.specs.List.{flat_map}
 use Rattle.al_calls.specs.CallFaults.{wrong_input}
-use Rattle.al_uses.specs.Private.CallViews.{call_of}
-use Rattle.al_calls.specs.Private.AnswerViews.{given_of}
+use Rattle.al_calls.specs.Private.AnswerViews.{call_of, given_of}
 use Rattle.al_calls.proofs.values.check_all.Given as goal
 
 abbrev pub invariant-loop-value : goal.invariant-loop-value

@@ -1,9 +1,9 @@
-use Rattle.std.proofs.Common.{arith, length, ◌≡◌, ◌∙◌}
-use Rattle.al_check.proofs.Given.{is_none, none_called}
+use Rattle.std.proofs.Common.{◌≡◌, ◌∙◌, ap, map, subst}
+use Rattle.std.specs.Prelude.{IfOk}
+use Rattle.al_check.proofs.Given.{targets_kept}
 use Rattle.al_check.proofs.files.file_targets.Goals as goal
 
-pub returns-then-is_empty : goal.returns-then-is_empty
-returns-then-is_empty c = λ kind bytes is.
-    let count : c.args.file.now.calls.len ≡ 0 = is_none c.args.file.now.calls.len (c.if-is_empty.ensures {u = tt}) in
-    let none : length c.args.file.now.calls.items ≡ 0 = omega (arith, count, c.args.file.now.calls.ok.0) in
-    c.new.ensures.items ∙ none_called c.args.file.now kind bytes is none
+pub returns : goal.returns
+returns c = λ kind bytes is.
+    subst (λ list. IfOk c.targets.result (λ found. found.items ≡ list))
+    (ap (map (λ call. call.target)) c.as_slice.ensures.value ∙ targets_kept c.args.file.now kind bytes is) c.targets.ensures

@@ -16,7 +16,7 @@ pub returns-clause-values : goal.returns-clause-values
 returns-clause-values c =
     let root = view c.args.file.root.now in
     let known = known_of c.args.file.known in
-    let given : map member_of c.as_slice.result.now ≡ entries_at (codes "with") (view c.args.call.now.node.now) =
+    let given : map member_of c.as_slice.result.now ≡ entries_at (codes "with") (view c.args.call.site.node.now) =
     ap (map member_of) c.as_slice.ensures.value ∙ c.in_ok-given.ensures in
     let job = c.text_or_empty-job.ensures in
     subst (λ l. IfOk c.values_given.result (λ v. map given_of v.items ≡ l)) (λ i. values_of (type_in_job c.args.file.kind known root (job i)) (given i)) c.values_given.ensures.values
