@@ -1,6 +1,6 @@
-"""How the time to read one scalar grows with its bytes: bench/scalars.py, after ./test or a build of crates/readers.
+"""How the time to read one scalar grows with its bytes: bench/scalars.py, after ./test or a build of crates/al_dump.
 
-Each shape of scalar is read at a quarter, half and the whole of its size by the program `readers`, which also prints its
+Each shape of scalar is read at a quarter, half and the whole of its size by the program `al_dump`, which also prints its
 text with the offset of each byte. Where reading is linear, the time doubles with the size. The times are the least of
 several runs in one run of this program, less the time of the empty scalar.
 """
@@ -28,7 +28,7 @@ SHAPES = {
 
 def seconds(file):
     """How long one run takes to read a scalar."""
-    took, status, _ = run_seconds([program("readers"), "scalar"], file)
+    took, status, _ = run_seconds([program("al_dump"), "scalar"], file)
     if status != 0:
         sys.exit(f"the scalar was not read: {file[:80]}")
     return took

@@ -1,5 +1,5 @@
 """How long a file of YAML takes to read, beside libyaml's event parser on the same bytes: bench/yaml.py [BEFORE], after ./test
-or a build of crates/readers. BEFORE is a `readers` program of another version, whose times are taken in the same run.
+or a build of crates/al_dump. BEFORE is a `al_dump` program of another version, whose times are taken in the same run.
 
 It needs a C compiler and libyaml with its headers (Debian's libyaml-dev). Each file ends with a line at which both readers
 stop with a fault, so that neither prints a tree, and all before it is read by both. Each time is the least processor time of
@@ -114,7 +114,7 @@ def main():
     with tempfile.TemporaryDirectory() as folder:
         events = pathlib.Path(folder) / "yaml_events"
         subprocess.run(["cc", "-O2", "-o", events, TOP / "bench" / "yaml_events.c", "-lyaml"], check=True)
-        commands = [[events]] + [[path, "yaml"] for path in [program("readers"), *sys.argv[1:]]]
+        commands = [[events]] + [[path, "yaml"] for path in [program("al_dump"), *sys.argv[1:]]]
         before = "  this/before" if sys.argv[1:] else ""
         print(f"{'file':44} {'bytes':>9} {'this':>9} {'libyaml':>9} {'this/libyaml':>12}{before}  whole/half of bytes")
         for asked, of_each in ((commands, shapes), (commands[:2], shared_shapes)):

@@ -79,20 +79,20 @@ def repaired_files(entry: fault_entries.Entry) -> list[str]:
 
 def names(crates: Path) -> dict[str, list[str]]:
     """The lists of names, each sorted."""
-    settings = definitions(crates / "al_settings/specs/Names.antt")
-    events = definitions(crates / "al_events/specs/Names.antt")
-    shape = (crates / "al_shape/specs/Table.antt").read_text(encoding="utf-8")
+    settings = definitions(crates / "al_rules_settings/specs/Names.antt")
+    events = definitions(crates / "al_rules_events/specs/Names.antt")
+    shape = (crates / "al_tree_shape/specs/Table.antt").read_text(encoding="utf-8")
     types = definitions(crates / "al_types/specs/Names.antt")
-    objects = definitions(crates / "al_contexts/specs/Contexts.antt")
+    objects = definitions(crates / "al_check_contexts/specs/Contexts.antt")
     lists = {
-        "events": NAME.findall(definitions(crates / "al_shape/specs/Names.antt")["event_names"]),
+        "events": NAME.findall(definitions(crates / "al_tree_shape/specs/Names.antt")["event_names"]),
         # The rows are pairs of lists, each ended by `[]`: events, and their types.
         "activity types": [name for types_of in events["activities"].split("[]")[1::2] for name in NAME.findall(types_of)],
         "input types": NAME.findall(events["dispatch_types"]),
         "keys": FIELD.findall(shape),
         "contexts": NAME.findall(types["context_name"]),
         "functions": NAME.findall(types["function_name"]),
-        "properties": NAME.findall((crates / "al_contexts/specs/Fixed.antt").read_text(encoding="utf-8"))
+        "properties": NAME.findall((crates / "al_check_contexts/specs/Fixed.antt").read_text(encoding="utf-8"))
         + re.findall(r'\(codes "([^"]+)", ', objects["step_type"] + objects["job_field"]),
         "shells": NAME.findall(settings["shells"]),
         "permission scopes": NAME.findall(settings["permissions"]),
@@ -110,12 +110,12 @@ def syntax(top: Path) -> dict[str, dict | list]:
     crates = top / "crates"
     meanings = {heading.lower(): dict(MEANINGS_ROW.findall(body))
                 for heading, body in MEANINGS_SECTION.findall((top / "docs/MEANINGS.md").read_text(encoding="utf-8"))}
-    rows = contexts_page.availability_rows((crates / "al_places/specs/Availability.antt").read_text(encoding="utf-8"))
+    rows = contexts_page.availability_rows((crates / "al_check_places/specs/Availability.antt").read_text(encoding="utf-8"))
     return {
-        "shapes": shapes((crates / "al_shape/specs/Table.antt").read_text(encoding="utf-8"), meanings),
+        "shapes": shapes((crates / "al_tree_shape/specs/Table.antt").read_text(encoding="utf-8"), meanings),
         "activity types": activity_types(crates),
-        "call input types": lists_page.names_of((crates / "al_events/specs/Names.antt").read_text(encoding="utf-8"), "call_types"),
-        "permission values": {name: lists_page.names_of((crates / "al_settings/specs/Names.antt").read_text(encoding="utf-8"), name)
+        "call input types": lists_page.names_of((crates / "al_rules_events/specs/Names.antt").read_text(encoding="utf-8"), "call_types"),
+        "permission values": {name: lists_page.names_of((crates / "al_rules_settings/specs/Names.antt").read_text(encoding="utf-8"), name)
                               for name in ("scope_values", "whole_values")},
         "places": {path: {"contexts": contexts, "functions": functions} for path, contexts, functions in rows},
         "contexts": fixed_contexts(crates),
@@ -165,12 +165,12 @@ def activity_types(crates: Path) -> dict[str, list[str]]:
 
 
 def lists_sections(crates: Path) -> dict[str, str]:
-    return syntax_page.tables_of((crates / "al_shape/specs/Table.antt").read_text(encoding="utf-8"))
+    return syntax_page.tables_of((crates / "al_tree_shape/specs/Table.antt").read_text(encoding="utf-8"))
 
 
 def fixed_contexts(crates: Path) -> dict[str, dict]:
     """The contexts that are the same in every file: the properties with their types, and whether there are others."""
-    table = contexts_page.fixed((crates / "al_contexts/specs/Fixed.antt").read_text(encoding="utf-8"))
+    table = contexts_page.fixed((crates / "al_check_contexts/specs/Fixed.antt").read_text(encoding="utf-8"))
     return {cells[0].strip("`"): {"properties": dict(re.findall(r"`([^`]+)` (\w+)", cells[1])), "strict": cells[2] == "none"}
             for cells in (row.split(" | ") for row in lists_page.ROW.findall(table)[1:])}
 

@@ -42,8 +42,8 @@ def keys_of(table):
 
 def events(top, sections):
     """Each event, its activity types, and what may stand below it."""
-    names = names_of((top / "al_shape/specs/Names.antt").read_text(), "event_names")
-    rows = (top / "al_events/specs/Names.antt").read_text()
+    names = names_of((top / "al_tree_shape/specs/Names.antt").read_text(), "event_names")
+    rows = (top / "al_rules_events/specs/Names.antt").read_text()
     table = rows[rows.index("activities ="):rows.index("abbrev pub activities_of")]
     types = {}
     for left, right in re.findall(r'((?:codes "\w+"\s*∷\s*)+)\[\],\s*((?:codes "\w+"\s*∷\s*)+)\[\]', table):
@@ -63,7 +63,7 @@ def filters(sections):
 
 def input_types(top):
     """The types that inputs have."""
-    text = (top / "al_events/specs/Names.antt").read_text()
+    text = (top / "al_rules_events/specs/Names.antt").read_text()
     lists = (("workflow_call", "call_types"), ("workflow_dispatch", "dispatch_types"))
     rows = "".join(f"| `{event}` | {quoted(names_of(text, name))} |\n" for event, name in lists)
     return "| Inputs of | Types |\n|---|---|\n" + rows
@@ -71,7 +71,7 @@ def input_types(top):
 
 def settings(top):
     """Permissions with their values, and shells."""
-    text = (top / "al_settings/specs/Names.antt").read_text()
+    text = (top / "al_rules_settings/specs/Names.antt").read_text()
     cells = " | ".join(quoted(names_of(text, name)) for name in ("permissions", "scope_values", "whole_values"))
     yield f"| Scopes | Values of a scope | Values of `permissions` as a whole |\n|---|---|---|\n| {cells} |\n"
     yield f"| Shells |\n|---|\n| {quoted(names_of(text, 'shells'))} |\n"
@@ -93,7 +93,7 @@ def section_keys(sections):
 def contexts(top):
     """The properties of the contexts that are the same in every file, those of one type together."""
     rows = ""
-    table = fixed((top / "al_contexts/specs/Fixed.antt").read_text())
+    table = fixed((top / "al_check_contexts/specs/Fixed.antt").read_text())
     for cells in (row.split(" | ") for row in ROW.findall(table)[1:]):
         by_type = {}
         for name, of in re.findall(r"(`[^`]+`) (\w+)", cells[1]):
@@ -104,7 +104,7 @@ def contexts(top):
 
 def places(top):
     """Of each context and each special function the rows of the table of places that have it."""
-    rows = availability_rows((top / "al_places/specs/Availability.antt").read_text())
+    rows = availability_rows((top / "al_check_places/specs/Availability.antt").read_text())
     for column, what in ((1, "Context"), (2, "Special function")):
         found = {}
         for row in rows:
@@ -137,7 +137,7 @@ def untrusted(top):
 def lists(top):
     """All tables of the page."""
     crates = top / "crates"
-    sections = tables_of((crates / "al_shape/specs/Table.antt").read_text())
+    sections = tables_of((crates / "al_tree_shape/specs/Table.antt").read_text())
     return [
         events(crates, sections), filters(sections), input_types(crates), *settings(crates), usings(crates), section_keys(sections),
         contexts(crates), *places(crates), functions(crates), untrusted(crates),

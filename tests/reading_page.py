@@ -19,11 +19,11 @@ PAGE = "docs/READING.md"
 MARK = "<!-- What follows is made by tests/reading_page.py. -->\n"
 # What is promised, and the crate, the file and the functions or blocks whose contracts say so.
 THEOREMS = (
-    ("R", "the tree of a file's bytes, or its one fault", (("al_yaml_reader", "document.rt", ("pub fn read_yaml",)),)),
+    ("R", "the tree of a file's bytes, or its one fault", (("al_yaml", "document.rt", ("pub fn read_yaml",)),)),
     ("P", "the chunks of a text, the tokens and the tree of an expression, or their fault", (
-        ("al_grammar", "chunk.rt", ("pub fn chunks",)),
-        ("al_grammar", "lexer.rt", ("pub fn lex",)),
-        ("al_grammar", "expression.rt", ("pub fn parse_expr",)),
+        ("al_expr_grammar", "chunk.rt", ("pub fn chunks",)),
+        ("al_expr_grammar", "lexer.rt", ("pub fn lex",)),
+        ("al_expr_grammar", "expression.rt", ("pub fn parse_expr",)),
     )),
     ("T", "the type of an expression, and its faults", (("al_meaning", "typing.rt", ("pub fn type_of",)),)),
     ("U", "the faults by the rules of a tree", (("al_rules", "files.rt", ("pub fn rules",)),)),
@@ -34,12 +34,12 @@ THEOREMS = (
         )),
         ("al_session", "changes.rt", ("pub fn apply_changes",)),
     )),
-    ("W", "the words of the command line", (("al_words", "words.rt", ("pub fn parse_words",)),)),
-    ("S", "the output of a script", (("al_scripts", "run.rt", ("pub fn run_session",)),)),
+    ("W", "the words of the command line", (("al_cli_words", "words.rt", ("pub fn parse_words",)),)),
+    ("S", "the output of a script", (("al_cli_scripts", "run.rt", ("pub fn run_session",)),)),
     ("F", "the report and status of a folder", (("al_cli", "linted.rt", ("pub fn lint_all",)),)),
 )
 # the trait whose laws a theorem's `impl` proves: its crate, its file, and its opening
-LAWS = {"L": ("al_folder", "lint.rt", ("pub trait Lint",))}
+LAWS = {"L": ("al_session_folder", "lint.rt", ("pub trait Lint",))}
 
 
 def contract(source, opening):

@@ -16,7 +16,7 @@ ENDINGS = {"src": ".rt", "specs": ".antt", "proofs": ".antt"}
 KINDS = ["Private", "Rows", "Proofs"]
 # proofs of the crates, and the definition that takes a tree from one
 PROOFS = re.compile(r"\bRattle\.((?!std\.)\w+\.proofs\.\w+)")
-WITH_PROOF = {"crates/al_contents/specs/Spelled.antt"}
+WITH_PROOF = {"crates/al_check_expressions/specs/Spelled.antt"}
 MODULE = re.compile(r"\bRattle\.\w+\.specs\.(\w+(?:\.\w+)*)")
 # `use PATH.{NAMES}`, `use PATH as NAME` or `use PATH`; a list may take several lines
 USE = re.compile(r"^ *(?P<passed>pub )?(?:ghost )?use (?P<path>[^{};\n]+?)(?:\{(?P<list>[^}]*)\})?;?\n", re.MULTILINE)

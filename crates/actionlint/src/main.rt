@@ -3,9 +3,9 @@
 
 use al_base::{Input, Output, Stop};
 use al_cli::{Loaded, Unread, WaitingOutput, lint_loaded, load};
-use al_scripts::{number_of, run_session};
+use al_cli_scripts::{number_of, run_session};
+use al_cli_words::{Usage, Words, parse_words};
 use al_session::Refused;
-use al_words::{Usage, Words, parse_words};
 use std::io::{BufWriter, ErrorKind, Write};
 use std::process::ExitCode;
 use std::{env, io};

@@ -9,7 +9,7 @@ use Rattle.std.proofs.lemmas.List.{take-append-le}
 use Rattle.std.specs.Io.KnownBytes.{Appends}
 use Rattle.std.proofs.KnownBytes.{Appends-trans}
 use Rattle.std.specs.Io.KnownBytes.{Keeps}
-use Rattle.al_base.specs.Counted.{AppendsFront}
+use Rattle.al_base.specs.Counted.{AppendsPrefix}
 
 -- the front of length k, and then n of what is left
 pub Appends-more : (a b c : Option (List ℕ)) (xs : List ℕ) (k n : ℕ) → Appends a b (take k xs) → Appends b c (take n (take (length xs - k) (drop k xs))) → Appends a c (take (k + n) xs)
@@ -17,30 +17,30 @@ Appends-more a b c xs k n p q =
     let more : Appends b c (take n (drop k xs)) = subst (Appends b c) (ap (take n) (take_rest xs k)) q in
     subst (Appends a c) (sym (take-add k n xs)) (Appends-trans a b c (take k xs) (take n (drop k xs)) p more)
 
-pub AppendsFront-none : (a b : Option (List ℕ)) (xs : List ℕ) → Keeps a b → AppendsFront a b xs
-AppendsFront-none None b xs p = (0, omega arith, tt)
-AppendsFront-none (Some x) None xs p = absurd p
-AppendsFront-none (Some x) (Some y) xs p = (0, omega arith, p ∙ sym (append-nil x))
+pub AppendsPrefix-none : (a b : Option (List ℕ)) (xs : List ℕ) → Keeps a b → AppendsPrefix a b xs
+AppendsPrefix-none None b xs p = (0, omega arith, tt)
+AppendsPrefix-none (Some x) None xs p = absurd p
+AppendsPrefix-none (Some x) (Some y) xs p = (0, omega arith, p ∙ sym (append-nil x))
 
-pub AppendsFront-all : (a b : Option (List ℕ)) (xs : List ℕ) → Appends a b xs → AppendsFront a b xs
-AppendsFront-all a b xs p = (length xs, omega arith, subst (Appends a b) (sym (take-length xs)) p)
+pub AppendsPrefix-all : (a b : Option (List ℕ)) (xs : List ℕ) → Appends a b xs → AppendsPrefix a b xs
+AppendsPrefix-all a b xs p = (length xs, omega arith, subst (Appends a b) (sym (take-length xs)) p)
 
--- a front of xs is one of what goes on
-pub AppendsFront-wider : (a b : Option (List ℕ)) (xs ys : List ℕ) → AppendsFront a b xs → AppendsFront a b (xs ++ ys)
-AppendsFront-wider a b xs ys w =
+-- a prefix of xs is one of what goes on
+pub AppendsPrefix-wider : (a b : Option (List ℕ)) (xs ys : List ℕ) → AppendsPrefix a b xs → AppendsPrefix a b (xs ++ ys)
+AppendsPrefix-wider a b xs ys w =
     let within : w.0 ≤ length xs = w.1 in
     (w.0, omega (arith, length-append xs ys), subst (Appends a b) (sym (take-append-le w.0 xs ys w.1)) w.2)
 
--- all of xs, and then a front of ys
-pub AppendsFront-after : (a b c : Option (List ℕ)) (xs ys : List ℕ) → Appends a b xs → AppendsFront b c ys → AppendsFront a c (xs ++ ys)
-AppendsFront-after a b c xs ys p w =
+-- all of xs, and then a prefix of ys
+pub AppendsPrefix-after : (a b c : Option (List ℕ)) (xs ys : List ℕ) → Appends a b xs → AppendsPrefix b c ys → AppendsPrefix a c (xs ++ ys)
+AppendsPrefix-after a b c xs ys p w =
     let within : w.0 ≤ length ys = w.1 in
     (length xs + w.0, omega (arith, length-append xs ys), subst (Appends a c) (sym (take-append-add xs ys w.0)) (Appends-trans a b c xs (take w.0 ys) p w.2))
 
--- the parts before i, and then a front of part i
-pub AppendsFront-part : {X : Type 0} (f : X → List ℕ) (parts : List X) (i : ℕ) (d : X) (a b c : Option (List ℕ)) → i < length parts
-    → Appends a b (flat_map f (take i parts)) → AppendsFront b c (f (get_or parts i d)) → AppendsFront a c (flat_map f parts)
-AppendsFront-part {X} f parts i d a b c h p w =
+-- the parts before i, and then a prefix of part i
+pub AppendsPrefix-part : {X : Type 0} (f : X → List ℕ) (parts : List X) (i : ℕ) (d : X) (a b c : Option (List ℕ)) → i < length parts
+    → Appends a b (flat_map f (take i parts)) → AppendsPrefix b c (f (get_or parts i d)) → AppendsPrefix a c (flat_map f parts)
+AppendsPrefix-part {X} f parts i d a b c h p w =
     let x : X = get_or parts i d in
     let more : take (i + 1) parts ≡ take i parts ++ x ∷ [] = take_more parts i d h in
     let whole : parts ≡ (take i parts ++ x ∷ []) ++ drop (i + 1) parts = sym (take-append-drop (i + 1) parts) ∙ ap (λ l. l ++ drop (i + 1) parts) more in
@@ -48,13 +48,13 @@ AppendsFront-part {X} f parts i d a b c h p w =
     ap (flat_map f) whole ∙ flat_map-append f (take i parts ++ x ∷ []) (drop (i + 1) parts)
     ∙ ap (λ l. l ++ flat_map f (drop (i + 1) parts))
     (flat_map-append f (take i parts) (x ∷ []) ∙ ap (λ l. flat_map f (take i parts) ++ l) (append-nil (f x))) in
-    subst (AppendsFront a c) (sym split) (AppendsFront-wider a c (flat_map f (take i parts) ++ f x) _ (AppendsFront-after a b c (flat_map f (take i parts)) (f x) p w))
+    subst (AppendsPrefix a c) (sym split) (AppendsPrefix-wider a c (flat_map f (take i parts) ++ f x) _ (AppendsPrefix-after a b c (flat_map f (take i parts)) (f x) p w))
 
 -- the same for a map
-pub AppendsFront-item : {X : Type 0} (f : X → ℕ) (xs : List X) (i : ℕ) (d : X) (a b c : Option (List ℕ)) → i < length xs
-    → Appends a b (map f (take i xs)) → AppendsFront b c (f (get_or xs i d) ∷ []) → AppendsFront a c (map f xs)
-AppendsFront-item f xs i d a b c h p w =
-    subst (AppendsFront a c) (flat_map_single f xs) (AppendsFront-part (λ y. f y ∷ []) xs i d a b c h (subst (Appends a b) (sym (flat_map_single f (take i xs))) p) w)
+pub AppendsPrefix-item : {X : Type 0} (f : X → ℕ) (xs : List X) (i : ℕ) (d : X) (a b c : Option (List ℕ)) → i < length xs
+    → Appends a b (map f (take i xs)) → AppendsPrefix b c (f (get_or xs i d) ∷ []) → AppendsPrefix a c (map f xs)
+AppendsPrefix-item f xs i d a b c h p w =
+    subst (AppendsPrefix a c) (flat_map_single f xs) (AppendsPrefix-part (λ y. f y ∷ []) xs i d a b c h (subst (Appends a b) (sym (flat_map_single f (take i xs))) p) w)
 
 -- what a loop has appended that writes a part for each element of a list, where x is the next element
 module _ {X : Type 0} (f : X → List ℕ) (parts : List X) (i : ℕ) (x : X) (within : i < length parts) (read : x ≡ get_or parts i x)
@@ -67,6 +67,6 @@ module _ {X : Type 0} (f : X → List ℕ) (parts : List X) (i : ℕ) (x : X) (w
       ∙ ap (λ l. flat_map f (take i parts) ++ l) (append-nil (f x)) in
       subst (Appends a c) (sym whole) (Appends-trans a b c (flat_map f (take i parts)) (f x) so_far more)
 
-  -- a front of the next part is one of them all
-  pub AppendsFront-next : AppendsFront b c (f x) → AppendsFront a c (flat_map f parts)
-  AppendsFront-next front = AppendsFront-part f parts i x a b c within so_far (subst (λ (y : X). AppendsFront b c (f y)) read front)
+  -- a prefix of the next part is one of them all
+  pub AppendsPrefix-next : AppendsPrefix b c (f x) → AppendsPrefix a c (flat_map f parts)
+  AppendsPrefix-next front = AppendsPrefix-part f parts i x a b c within so_far (subst (λ (y : X). AppendsPrefix b c (f y)) read front)

@@ -1,7 +1,7 @@
 -- What a clause sees of an input and an output: the inner reader or writer, and the counts.
 use Rattle.std.specs.Prelude.{ℕ, List, Option}
 use Rattle.std.specs.Io.KnownBytes.{Appends}
-use Rattle.al_base.specs.Counted.{AppendsFront}
+use Rattle.al_base.specs.Counted.{AppendsPrefix}
 use Rattle.al_base.specs.declared.streams.Input.{Input}
 use Rattle.al_base.specs.declared.streams.Output.{Output}
 
@@ -33,6 +33,6 @@ write_failures output = output.failures
 abbrev pub Writes : {W : Type 0} → (W → Option (List ℕ)) → Output W → Output W → List ℕ → Type 0
 Writes contents old new bytes = Appends (bytes_written contents old) (bytes_written contents new) bytes
 
--- it wrote a front of them
-abbrev pub WritesFront : {W : Type 0} → (W → Option (List ℕ)) → Output W → Output W → List ℕ → Type 0
-WritesFront contents old new bytes = AppendsFront (bytes_written contents old) (bytes_written contents new) bytes
+-- it wrote a prefix of them
+abbrev pub WritesPrefix : {W : Type 0} → (W → Option (List ℕ)) → Output W → Output W → List ℕ → Type 0
+WritesPrefix contents old new bytes = AppendsPrefix (bytes_written contents old) (bytes_written contents new) bytes

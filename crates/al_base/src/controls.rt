@@ -14,7 +14,7 @@ pub fn first_control(text: &[u8]) -> Option<usize>
     text.iter().position(|byte| byte.is_ascii_control())
 }
 
-/// A copy of a text as it is printed. Fails with `AllocError` for want of memory.
+/// A copy of a text as it is printed. Fails with `AllocError` when out of memory.
 pub fn shown(alloc: Global, text: &str) -> Result<String, AllocError>
     ensures { IfOk result (λ it. string_bytes it ≡ shown text.now) }
 {

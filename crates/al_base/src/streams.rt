@@ -4,7 +4,7 @@ ghost use Rattle.std.specs.Io.{ReadsAtMost};
 ghost use Rattle.std.specs.Io.KnownBytes.{Keeps, ReadConsumes};
 ghost use Rattle.al_base.specs.Counted.{raised, HasRisen};
 ghost use Rattle.al_base.specs.Streams.{bytes_left, turns_of, read_failures, largest_ask, bytes_written, write_failures, Writes};
-ghost use Rattle.al_base.specs.Streams.{WritesFront};
+ghost use Rattle.al_base.specs.Streams.{WritesPrefix};
 
 use super::stops::Stop;
 use std::io::{Read, Write};
@@ -110,10 +110,10 @@ impl<W: Write> Output<W> {
     ///
     /// # Errors
     ///
-    /// [`Stop::WriteFault`] where a write failed; a front of the bytes is written then.
+    /// [`Stop::WriteFault`] where a write failed; a prefix of the bytes is written then.
     pub fn write_all(&mut self, bytes: &[u8]) -> Result<(), Stop>
         ensures all { OnOk result (Writes W.contents self.old self.new bytes.now) }
-        ensures front { OnErr result (WritesFront W.contents self.old self.new bytes.now) }
+        ensures prefix { OnErr result (WritesPrefix W.contents self.old self.new bytes.now) }
         ensures failures { OnOk result (write_failures self.new ≡ write_failures self.old) }
         ensures failed { OnErr result (HasRisen (write_failures self.old) (write_failures self.new)) }
         ensures err { IsOkUnless result Stop.WriteFault }

@@ -1,10 +1,10 @@
 //! Interfaces of files, and the reports of folders whose files call one another, with ample memory.
 
 use al_base::Output;
+use al_check_interfaces::{Interface, interface_of};
 use al_cli::lint_all;
-use al_interfaces::{Interface, interface_of};
 use al_tree::FileKind;
-use al_yaml_reader::read_yaml;
+use al_yaml::read_yaml;
 use std::alloc::{AllocError, Global};
 
 /// A file by its path and its bytes.

@@ -11,16 +11,16 @@ use Rattle.al_base.specs.declared.codes.CallCode.TheVariants.{LeadsBack}
 use Rattle.al_base.specs.declared.faults.Fault.{Fault}
 use Rattle.al_scalar.specs.Taken as yaml
 use Rattle.al_scalar.specs.declared.faults.YamlFault.{YamlFault}
-use Rattle.al_yaml.specs.Document.{tree_of}
-use Rattle.al_yaml.specs.Node.{Node}
-use Rattle.al_folder.specs.declared.lint.Target.{Target}
+use Rattle.al_yaml_tree.specs.Document.{tree_of}
+use Rattle.al_yaml_tree.specs.Node.{Node}
+use Rattle.al_session_folder.specs.declared.lint.Target.{Target}
 use Rattle.al_tree.specs.Files.{kind_in, root_of}
 use Rattle.al_tree.specs.declared.files.FileKind.{FileKind}
 use Rattle.al_tree.specs.declared.files.Tree.{Tree}
-use Rattle.al_uses.proofs.CallLists.{kept_faults, kept_targets}
-use Rattle.al_uses.specs.Uses as uses
-use Rattle.al_uses.specs.Uses.{calls_in, loop_faults, sites_in, target_in, that_uses}
-use Rattle.al_uses.specs.declared.calls.Call.{Call}
+use Rattle.al_check_uses.proofs.CallLists.{kept_faults, kept_targets}
+use Rattle.al_check_uses.specs.Uses as uses
+use Rattle.al_check_uses.specs.Uses.{calls_in, loop_faults, sites_in, target_in, that_uses}
+use Rattle.al_check_uses.specs.declared.calls.Call.{Call}
 use Rattle.al_check.specs.Calling.{file_interface, file_targets, interface_given, shown_by, shown_read, targets_given, targets_of, targets_read}
 use Rattle.al_check.specs.Reading.{CallsGiven, IsGiven, IsRead}
 use Rattle.al_check.specs.Sites.{file_sites, sites_given}

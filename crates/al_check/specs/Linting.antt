@@ -1,7 +1,7 @@
 -- What the linter means.
-use Rattle.al_folder.specs.Meaning.{Meaning}
+use Rattle.al_session_folder.specs.Meaning.{Meaning}
 use Rattle.al_tree.specs.Kinds.{is_accepted, file_kind}
-use Rattle.al_interfaces.specs.declared.interfaces.Interface.{Interface}
+use Rattle.al_check_interfaces.specs.declared.interfaces.Interface.{Interface}
 use Rattle.al_check.specs.Calling.{file_interface, file_targets}
 use Rattle.al_check.specs.FileFaults.{file_faults}
 use Rattle.al_check.specs.Sites.{file_sites}

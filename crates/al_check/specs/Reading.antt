@@ -8,12 +8,12 @@ use Rattle.al_base.specs.Limits.{largest_file}
 use Rattle.al_tree.specs.declared.files.FileKind.{FileKind}
 use Rattle.al_tree.specs.declared.files.Tree.{Tree}
 use Rattle.al_tree.specs.Files.{kind_in, root_of}
-use Rattle.al_yaml.specs.ByteFaults.{fault_span}
-use Rattle.al_yaml.specs.Document.{tree_of}
-use Rattle.al_yaml.specs.Spans.{AreFrom, IsInside, IsLaid}
-use Rattle.al_yaml.specs.Texts.{HasTexts}
-use Rattle.al_uses.specs.Kept.{AreCallsOf}
-use Rattle.al_uses.specs.declared.calls.Call.{Call}
+use Rattle.al_yaml_tree.specs.ByteFaults.{fault_span}
+use Rattle.al_yaml_tree.specs.Document.{tree_of}
+use Rattle.al_yaml_tree.specs.Spans.{AreFrom, IsInside, IsLaid}
+use Rattle.al_yaml_tree.specs.Texts.{HasTexts}
+use Rattle.al_check_uses.specs.Kept.{AreCallsOf}
+use Rattle.al_check_uses.specs.declared.calls.Call.{Call}
 use Rattle.al_check.specs.FileFaults.{own_faults}
 use Rattle.al_check.specs.declared.files.ReadFile.{ReadFile}
 

@@ -1,20 +1,20 @@
 //! Files as they are read, and the faults of each.
 ghost use Rattle.std.specs.Prelude.{◌≡◌, ◌≤◌, ◌++◌, [], ◌∷◌, ℕ, List, length, map, IfOk, OnOk};
 ghost use Rattle.std.specs.Option.{option_copied};
-ghost use Rattle.al_shape.specs.Faults.{root_faults};
+ghost use Rattle.al_tree_shape.specs.Faults.{root_faults};
 ghost use Rattle.al_base.specs.Growth.{SameSet};
 ghost use Rattle.al_base.specs.FaultLists.{fault_list};
 ghost use Rattle.al_base.specs.Limits.{largest_file};
 ghost use Rattle.al_tree.specs.Files.{kind_in, root_of, shape_of};
-ghost use Rattle.al_yaml.specs.Document.{tree_of};
-ghost use Rattle.al_yaml.specs.Spans.{AreFrom, IsInside, IsLaid};
-ghost use Rattle.al_yaml.specs.Texts.{HasTexts};
-ghost use Rattle.al_yaml.specs.View.{view};
-ghost use Rattle.al_interfaces.specs.Interfaces as interfaces;
-ghost use Rattle.al_uses.specs.Kept.{AreCallsOf};
-ghost use Rattle.al_uses.specs.Uses as uses;
-ghost use Rattle.al_folder.specs.Meaning.{AreAnswers};
-ghost use Rattle.al_file_calls.specs.FileCalls as calls;
+ghost use Rattle.al_yaml_tree.specs.Document.{tree_of};
+ghost use Rattle.al_yaml_tree.specs.Spans.{AreFrom, IsInside, IsLaid};
+ghost use Rattle.al_yaml_tree.specs.Texts.{HasTexts};
+ghost use Rattle.al_yaml_tree.specs.View.{view};
+ghost use Rattle.al_check_interfaces.specs.Interfaces as interfaces;
+ghost use Rattle.al_check_uses.specs.Kept.{AreCallsOf};
+ghost use Rattle.al_check_uses.specs.Uses as uses;
+ghost use Rattle.al_session_folder.specs.Meaning.{AreAnswers};
+ghost use Rattle.al_check_file_calls.specs.FileCalls as calls;
 ghost use Rattle.al_check.specs.FileFaults as faults;
 ghost use Rattle.al_check.specs.Calling as calling;
 ghost use Rattle.al_check.specs.Calling.{shown_by};
@@ -25,15 +25,15 @@ ghost use Rattle.al_check.specs.RuleFaults.{rule_faults};
 
 use crate::printing::printed;
 use al_base::{Args, Code, Fault, add_copies, ordered};
-use al_file_calls::{Calling, behind_faults};
-use al_folder::Target;
-use al_interfaces::{Interface, interface_of};
+use al_check_file_calls::{Calling, behind_faults};
+use al_check_interfaces::{Interface, interface_of};
+use al_check_uses::{Call, calls_by, sites_in};
 use al_rules::rules;
 use al_scalar::YamlFault;
+use al_session_folder::Target;
 use al_tree::{FileKind, Tree, read_action, read_workflow};
-use al_uses::{Call, calls_by, sites_in};
-use al_yaml::Doc;
-use al_yaml_reader::read_yaml;
+use al_yaml::read_yaml;
+use al_yaml_tree::Doc;
 use std::alloc::{AllocError, Global};
 
 /// A file as it was read: a workflow or an action, or its fault as YAML; its faults that depend on no other file, of the syntax, of rules

@@ -3,16 +3,16 @@ ghost use Rattle.std.specs.Prelude.{◌≡◌, ◌∷◌, [], ℕ, List, Option}
 ghost use Rattle.al_tree.specs.Kinds.{file_kind};
 ghost use Rattle.al_check.specs.Linting.{linting};
 ghost use Rattle.al_check.specs.Reading.{IsRead};
-ghost use Rattle.al_interfaces.proofs.Exact.{exact};
+ghost use Rattle.al_check_interfaces.proofs.Exact.{exact};
 ghost use Rattle.al_check.specs.Proofs.Laws.{each_sited, faults_inside, faults_ordered, sites_inside};
-ghost use Rattle.al_folder.specs.Sites.{fault_of};
+ghost use Rattle.al_session_folder.specs.Sites.{fault_of};
 
 use crate::files::{ReadFile, file_faults, file_interface, file_targets, read_file};
 use al_base::{Args, Fault};
-use al_folder::{Lint, Site, Target};
-use al_interfaces::Interface;
+use al_check_interfaces::Interface;
+use al_check_uses::Call;
+use al_session_folder::{Lint, Site, Target};
 use al_tree::{file_kind, is_action, is_workflow};
-use al_uses::Call;
 use std::alloc::{AllocError, Global};
 
 /// The first of a fault's texts; empty where it has none.

@@ -3,8 +3,8 @@
 use crate::disk::{Disk, DiskError, Entry, SystemFolder, WORKFLOWS};
 use al_base::{Path, path_fault, shown};
 use al_check::Actions;
+use al_cli_words::Words;
 use al_session::{Refused, SessionBuilder, Target};
-use al_words::Words;
 use std::alloc::{AllocError, AllocFailed, Global};
 use std::collections::BTreeSet;
 use std::rt::Files;

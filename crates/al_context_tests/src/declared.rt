@@ -1,13 +1,13 @@
 //! What files declare.
 
 use crate::files::document;
-use al_declarations::{
+use al_tree_declarations::{
     InputType, declared_at, declared_in, has_value, input_of, is_composite, is_named_among,
     type_of, value_below_three, value_below_two,
 };
-use al_shape::{Member, key_text};
+use al_tree_shape::{Member, key_text};
 use al_types::Form;
-use al_yaml::Node;
+use al_yaml_tree::Node;
 use std::alloc::{AllocError, Global};
 
 const CALLED: &[u8] = b"on:

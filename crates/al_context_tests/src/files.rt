@@ -1,9 +1,9 @@
 //! Files as their trees, and environments at places by their texts.
 
-use al_contexts::{Answers, Env, File};
-use al_places::places;
-use al_yaml::Doc;
-use al_yaml_reader::read_yaml;
+use al_check_contexts::{Answers, Env, File};
+use al_check_places::places;
+use al_yaml::read_yaml;
+use al_yaml_tree::Doc;
 use std::alloc::{AllocError, Global};
 
 /// Nothing is known of the outputs behind any call.

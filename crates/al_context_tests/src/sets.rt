@@ -1,8 +1,8 @@
 //! Which contexts and special functions stand at places.
 
 use crate::files::{document, env_at, nothing_known};
-use al_contexts::File;
-use al_places::{available, placed_scalars, rows};
+use al_check_contexts::File;
+use al_check_places::{available, placed_scalars, rows};
 use al_tree::FileKind;
 use al_types::{Context, ContextSet, Function, FunctionSet, Scope};
 use std::alloc::{AllocError, Global};
@@ -163,7 +163,7 @@ fn count_at(keys: &[&[u8]]) -> Option<usize> {
 fn worked_rows(_rt: HostRuntime) {
     rows();
     placed_scalars();
-    al_contexts::rows();
+    al_check_contexts::rows();
 }
 
 #[test]

@@ -2,10 +2,10 @@
 
 use crate::files::{document, env_at, nothing_known};
 use crate::shown::shown;
-use al_contexts::{Answer, Answers, Env, File};
-use al_declarations::{Name, NameList};
-use al_places::places;
+use al_check_contexts::{Answer, Answers, Env, File};
+use al_check_places::places;
 use al_tree::FileKind;
+use al_tree_declarations::{Name, NameList};
 use al_types::{Context, Ty};
 use std::alloc::{AllocError, Global};
 

@@ -3,7 +3,7 @@
 //! The face of three crates: the grammar, the types, and the meaning of a tree under a scope.
 #![tactic(auto)]
 
-pub use al_grammar::{
+pub use al_expr_grammar::{
     Chunk, Expr, Keyword, Operand, Operator, PathStep, Token, TokenKind, Word, chunks, extent,
     grammar, lex, parse_expr,
 };

@@ -104,7 +104,7 @@ fn finish_from<'a>(
 
 /// The nodes in an order in which a depth-first search finishes them: each behind those that it leads to, unless these lead back to it.
 ///
-/// Takes time in proportion to the nodes and edges. Fails with `AllocError` for want of memory.
+/// Takes time in proportion to the nodes and edges. Fails with `AllocError` when out of memory.
 pub(crate) fn finish_order(alloc: Global, graph: &[Vec<usize>]) -> Result<Vec<usize>, AllocError>
     requires { (j k : ℕ) → Edge (edges_of graph.now) j k → k < length graph.now }
     ensures { IfOk result (λ order. IsFinished (edges_of graph.now) order.items) }

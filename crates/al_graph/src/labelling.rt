@@ -111,7 +111,7 @@ fn label_all(
 /// A label for each node of a graph, the same for two nodes just where each leads to the other: where they are in one strongly connected
 /// component. No label is `None`.
 ///
-/// Takes time in proportion to the nodes and edges, whatever the graph. Fails with `AllocError` for want of memory.
+/// Takes time in proportion to the nodes and edges, whatever the graph. Fails with `AllocError` when out of memory.
 pub fn strongly_connected_components(
     alloc: Global,
     graph: &[Vec<usize>],

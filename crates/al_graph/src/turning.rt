@@ -68,7 +68,7 @@ fn add_edges(from: &[usize], to: usize, graph: &mut [Vec<usize>]) -> Result<(), 
 
 /// The graph with the same nodes, and each edge the other way round.
 ///
-/// Takes time in proportion to the nodes and edges. Fails with `AllocError` for want of memory.
+/// Takes time in proportion to the nodes and edges. Fails with `AllocError` when out of memory.
 pub fn turned(alloc: Global, graph: &[Vec<usize>]) -> Result<Vec<Vec<usize>>, AllocError>
     requires { (j k : ℕ) → Edge (edges_of graph.now) j k → k < length graph.now }
     ensures len { IfOk result (λ v. vec_len v ≡ length graph.now) }

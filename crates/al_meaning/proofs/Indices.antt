@@ -5,7 +5,7 @@ use Rattle.std.proofs.lemmas.Bool.{le-ltb}
 use Rattle.al_meaning.specs.declared.placeholders.PlaceholderState.{PlaceholderState}
 use Rattle.al_meaning.specs.declared.placeholders.PlaceholderState.TheVariants.{Outside, InIndex}
 use Rattle.al_meaning.specs.declared.placeholders.Turn.TheVariants.{To, Names, Wrong}
-use Rattle.al_grammar.specs.Tokens.{is_digit}
+use Rattle.al_expr_grammar.specs.Tokens.{is_digit}
 use Rattle.al_meaning.specs.Private.PlaceholderStates.{turned, used_from}
 
 pub names_none : (n : ℕ) (used : List Bool) (go : PlaceholderState → List Bool → Option (List Bool)) → length used ≤ n → turned (Names n) used go ≡ None

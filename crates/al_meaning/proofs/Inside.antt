@@ -6,14 +6,14 @@ use Rattle.al_base.specs.Spans.{LiesIn}
 use Rattle.al_base.specs.declared.codes.ExpressionCode.TheVariants as code
 use Rattle.al_base.specs.declared.faults.Fault.{Fault}
 use Rattle.al_base.specs.declared.faults.Span.{Span}
-use Rattle.al_grammar.specs.Extents.{across, extent, start_of}
-use Rattle.al_grammar.specs.Inside.{AllLie}
-use Rattle.al_grammar.specs.Refusal.{fault}
-use Rattle.al_grammar.specs.Tree as tree
-use Rattle.al_grammar.specs.Tree.{Tree, sign, Constant, Named, Call, Group, Negated, Path, Chain, Steps, NoStep, PropertyThen, AllThen}
-use Rattle.al_grammar.specs.Tree.{IndexThen, Operands, NoOperand, OperandThen, Arguments, NoArgument, ArgumentThen}
-use Rattle.al_grammar.specs.declared.token.Operator.{Operator}
-use Rattle.al_grammar.proofs.Inside.{TreeLies, StepsLie, OperandsLie, ArgumentsLie, tree_extent}
+use Rattle.al_expr_grammar.specs.Extents.{across, extent, start_of}
+use Rattle.al_expr_grammar.specs.Inside.{AllLie}
+use Rattle.al_expr_grammar.specs.Refusal.{fault}
+use Rattle.al_expr_grammar.specs.Tree as tree
+use Rattle.al_expr_grammar.specs.Tree.{Tree, sign, Constant, Named, Call, Group, Negated, Path, Chain, Steps, NoStep, PropertyThen, AllThen}
+use Rattle.al_expr_grammar.specs.Tree.{IndexThen, Operands, NoOperand, OperandThen, Arguments, NoArgument, ArgumentThen}
+use Rattle.al_expr_grammar.specs.declared.token.Operator.{Operator}
+use Rattle.al_expr_grammar.proofs.Inside.{TreeLies, StepsLie, OperandsLie, ArgumentsLie, tree_extent}
 use Rattle.al_types.specs.Names.{context_of, function_of}
 use Rattle.al_types.specs.Scopes.{Scope}
 use Rattle.al_types.specs.Signatures.{accepts, signature, takes, wanted}

@@ -6,12 +6,12 @@ use Rattle.al_base.specs.declared.faults.Span.{Span}
 use Rattle.al_base.specs.declared.codes.ExpressionCode.TheVariants as code
 use Rattle.al_types.specs.declared.names.Context.{Context}
 use Rattle.al_types.specs.declared.names.Function.{Function}
-use Rattle.al_grammar.specs.Refusal.{fault}
+use Rattle.al_expr_grammar.specs.Refusal.{fault}
 use Rattle.al_types.specs.Names.{context_of}
 use Rattle.al_types.specs.Types.{Type', Any}
-use Rattle.al_grammar.specs.Tree.{Tree, Named, Path, Sign, sign, Arguments, StepTree, Property, All, Index, steps_of, operands_of, arguments_of}
+use Rattle.al_expr_grammar.specs.Tree.{Tree, Named, Path, Sign, sign, Arguments, StepTree, Property, All, Index, steps_of, operands_of, arguments_of}
 use Rattle.al_types.specs.Scopes.{Scope}
-use Rattle.al_grammar.specs.Extents.{extent}
+use Rattle.al_expr_grammar.specs.Extents.{extent}
 use Rattle.al_meaning.specs.Untrusted.{part_of, chain_among, untrusted_chains, with_dots}
 use Rattle.al_meaning.specs.Meaning.{Typed, typed, behind, before, named, called, called_with, base_name, untrusted, untrusted_from}
 use Rattle.al_meaning.specs.Meaning.{untrusted_fault, and_then, AllTyped, all_typed, typed_then, all_behind, parts_of, stepped, indexed}

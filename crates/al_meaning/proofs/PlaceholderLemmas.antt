@@ -5,7 +5,7 @@ use Rattle.std.specs.Prelude.{map, slice_set}
 use Rattle.al_base.specs.Ascii as ascii
 use Rattle.al_base.specs.Digits.{decimal, digit_of}
 use Rattle.al_base.specs.FirstBytes.{begins_with}
-use Rattle.al_grammar.specs.Tokens.{is_digit}
+use Rattle.al_expr_grammar.specs.Tokens.{is_digit}
 use Rattle.al_meaning.specs.declared.placeholders.PlaceholderState.TheVariants.{Outside, BehindOpening, InIndex, BehindClosing}
 use Rattle.al_meaning.specs.declared.placeholders.Turn.{Turn}
 use Rattle.al_meaning.specs.declared.placeholders.Turn.TheVariants.{To, Names, Wrong}

@@ -9,7 +9,7 @@ use Rattle.std.specs.declared.rc.Rc.{Rc}
 use Rattle.al_types.specs.declared.types.Fused.{Fused}
 use Rattle.al_types.specs.declared.types.Object.{Object}
 use Rattle.al_types.specs.declared.types.Ty as rust
-use Rattle.al_grammar.specs.Refusal.{fault}
+use Rattle.al_expr_grammar.specs.Refusal.{fault}
 use Rattle.al_types.specs.Types.{Type', Any, ArrayOf, option_of, or_any, property_in}
 use Rattle.al_types.specs.TypeViews.{ty_of, fused_of, object_of, parts_of, parts_of_fused}
 use Rattle.al_meaning.specs.Meaning.{Typed, typed, behind, before, and_then, array_of, or_fault, property_of, all_of, index_of, element_at, not_indexable}

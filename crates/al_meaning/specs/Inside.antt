@@ -1,8 +1,8 @@
 -- The faults of an expression's meaning lie in its content.
 use Rattle.std.specs.Prelude.{ℕ, List, length}
-use Rattle.al_grammar.specs.Inside.{AllLie}
-use Rattle.al_grammar.specs.Refusal.{Spells}
-use Rattle.al_grammar.specs.Tree.{Tree}
+use Rattle.al_expr_grammar.specs.Inside.{AllLie}
+use Rattle.al_expr_grammar.specs.Refusal.{Spells}
+use Rattle.al_expr_grammar.specs.Tree.{Tree}
 use Rattle.al_types.specs.Scopes.{Scope}
 use Rattle.al_meaning.specs.Meaning.{faults_in, meaning_of}
 

@@ -5,25 +5,25 @@ use Rattle.std.specs.Fmt.{decimal}
 use Rattle.al_base.specs.declared.codes.ExpressionCode.TheVariants as code
 use Rattle.al_base.specs.declared.faults.Fault.{Fault}
 use Rattle.al_base.specs.declared.faults.Span.{Span}
-use Rattle.al_grammar.specs.declared.token.Operator.{Operator}
-use Rattle.al_grammar.specs.declared.token.Operator.TheVariants as operator
+use Rattle.al_expr_grammar.specs.declared.token.Operator.{Operator}
+use Rattle.al_expr_grammar.specs.declared.token.Operator.TheVariants as operator
 use Rattle.al_types.specs.declared.names.Context.{Context}
 use Rattle.al_types.specs.declared.names.Function.{Function}
 use Rattle.al_types.specs.declared.names.Function.TheVariants as function
 use Rattle.al_types.specs.declared.signatures.Parameters.{Parameters}
-use Rattle.al_grammar.specs.Refusal.{fault}
+use Rattle.al_expr_grammar.specs.Refusal.{fault}
 use Rattle.al_types.specs.Names.{context_of, function_of}
 use Rattle.al_meaning.specs.Placeholders.{used_arguments}
 use Rattle.al_types.specs.Types.{Type', Any, Number, Bool', String, ArrayOf, ObjectOf, fuse_type, option_of, or_any, or_else}
 use Rattle.al_meaning.specs.Comparison.{comparable_types}
 use Rattle.al_types.specs.Signatures.{signature, takes, wanted, accepts, returned_type}
 use Rattle.al_types.specs.Scopes.{Scope}
-use Rattle.al_grammar.specs.Extents.{extent, across}
+use Rattle.al_expr_grammar.specs.Extents.{extent, across}
 use Rattle.al_meaning.specs.Literals.{literal_text, type_of_keyword}
 use Rattle.al_meaning.specs.Untrusted.{untrusted_chains, chain_among, part_of_index, with_dots}
-use Rattle.al_grammar.specs.Tree as tree
-use Rattle.al_grammar.specs.Tree.{Tree, sign, Constant, Named, Call, Group, Negated, Path, Chain, StepTree, Steps, NoStep}
-use Rattle.al_grammar.specs.Tree.{PropertyThen, AllThen, IndexThen, Operands, NoOperand, OperandThen, Arguments, NoArgument, ArgumentThen}
+use Rattle.al_expr_grammar.specs.Tree as tree
+use Rattle.al_expr_grammar.specs.Tree.{Tree, sign, Constant, Named, Call, Group, Negated, Path, Chain, StepTree, Steps, NoStep}
+use Rattle.al_expr_grammar.specs.Tree.{PropertyThen, AllThen, IndexThen, Operands, NoOperand, OperandThen, Arguments, NoArgument, ArgumentThen}
 
 -- a type with the faults found on the way
 pub data Typed : Type 0 where

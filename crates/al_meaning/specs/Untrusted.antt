@@ -2,7 +2,7 @@
 use Rattle.std.specs.Prelude.{codes, ℕ, List, [], ◌∷◌, ◌++◌, Bool, true, false, ◌&&◌, if◌then◌else◌, Option, Some, None}
 use Rattle.std.specs.List.{flat_map}
 use Rattle.al_base.specs.declared.faults.Span.{Span}
-use Rattle.al_grammar.specs.Tree.{StepTree, Property, All, Index}
+use Rattle.al_expr_grammar.specs.Tree.{StepTree, Property, All, Index}
 use Rattle.al_base.specs.Names.{same_name}
 use Rattle.al_meaning.specs.Literals.{literal_text}
 

@@ -6,13 +6,13 @@ ghost use Rattle.al_meaning.specs.Meaning.{typed, behind, give, is_test, called_
 ghost use Rattle.al_meaning.specs.Meaning.{placeholder_faults, unused};
 ghost use Rattle.al_meaning.specs.Meaning as meaning;
 ghost use Rattle.al_meaning.specs.Placeholders.{used_arguments};
-ghost use Rattle.al_grammar.specs.Refusal.{fault};
+ghost use Rattle.al_expr_grammar.specs.Refusal.{fault};
 ghost use Rattle.al_meaning.specs.Private.CallViews.{argument_of};
 ghost use Rattle.al_types.specs.Scopes.{scope_of};
 ghost use Rattle.al_types.specs.Signatures.{accepts, wanted};
-ghost use Rattle.al_grammar.specs.Tree.{arguments_of};
+ghost use Rattle.al_expr_grammar.specs.Tree.{arguments_of};
 ghost use Rattle.al_types.specs.TypeViews.{ty_of};
-ghost use Rattle.al_grammar.specs.View.{tree_of};
+ghost use Rattle.al_expr_grammar.specs.View.{tree_of};
 ghost use Rattle.std.specs.Fmt.{decimal};
 ghost use Rattle.al_base.specs.declared.codes.ExpressionCode.TheVariants as code;
 
@@ -20,7 +20,7 @@ use crate::literals::{Literal, literal_text};
 use crate::placeholders::used_arguments;
 use crate::reports::{report, report_plain, report_text};
 use al_base::{Args, ExpressionCode, Fault, Span};
-use al_grammar::{Expr, Word};
+use al_expr_grammar::{Expr, Word};
 use al_types::{Function, Parameters, Scope, Ty};
 use std::alloc::{AllocError, Global};
 

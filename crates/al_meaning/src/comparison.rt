@@ -4,7 +4,7 @@ ghost use Rattle.std.specs.Prelude.{◌≡◌};
 ghost use Rattle.al_meaning.specs.Comparison.{comparable_types};
 ghost use Rattle.al_types.specs.TypeViews.{ty_of};
 
-use al_grammar::Operator;
+use al_expr_grammar::Operator;
 use al_types::Ty;
 
 /// Whether an operator that compares may stand between values of these types: not between an array or object and a

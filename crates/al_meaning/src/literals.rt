@@ -7,10 +7,10 @@ ghost use Rattle.al_meaning.specs.Literals.{literal_text, text_value, type_of_ke
 ghost use Rattle.al_meaning.specs.Private.QuotingStates.{adds, moves};
 ghost use Rattle.al_meaning.specs.Private.LiteralViews.{literal_of};
 ghost use Rattle.al_types.specs.TypeViews.{ty_of};
-ghost use Rattle.al_grammar.specs.View.{tree_of};
+ghost use Rattle.al_expr_grammar.specs.View.{tree_of};
 
 use al_base::Span;
-use al_grammar::{Expr, Keyword};
+use al_expr_grammar::{Expr, Keyword};
 use al_types::Ty;
 use std::alloc::{AllocError, Global};
 
@@ -30,7 +30,7 @@ pub(crate) enum Quoting {
 }
 
 /// The value of a text literal, in brackets or not: none where the expression is no such literal.
-#[tactic(auto, using(al_grammar::proofs::TreeViews::tree_views))]
+#[tactic(auto, using(al_expr_grammar::proofs::TreeViews::tree_views))]
 pub(crate) fn literal_text(alloc: Global, expr: &Expr) -> Result<Option<Literal>, AllocError>
     ensures { IfOk result (λ l. option_map literal_of l ≡ literal_text (tree_of expr.now)) }
 {

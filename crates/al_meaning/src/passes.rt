@@ -2,7 +2,7 @@
 
 use crate::literals::literal_text;
 use crate::typing::begins_logic;
-use al_grammar::{Expr, Operand, PathStep, Word};
+use al_expr_grammar::{Expr, Operand, PathStep, Word};
 use al_paths::{Paths, Step};
 use al_types::{Context, ContextSet, Scope};
 use std::alloc::{AllocError, Global};
@@ -10,7 +10,7 @@ use std::alloc::{AllocError, Global};
 /// Notes each path with a `.*` that typing an expression takes from a context that is available: of branches the path from each.
 /// Takes the time of the expression. Only time depends on it.
 ///
-/// Fails with `AllocError` for want of memory; the paths that were noted stay.
+/// Fails with `AllocError` when out of memory; the paths that were noted stay.
 pub fn note_passes(
     alloc: Global,
     scope: &Scope,

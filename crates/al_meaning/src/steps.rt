@@ -3,7 +3,7 @@
 ghost use Rattle.std.specs.Prelude.{◌≡◌, ◌∷◌, [], IfOk, None, option_map};
 ghost use Rattle.al_base.specs.Growth.{BeginsWith};
 ghost use Rattle.al_base.specs.declared.codes.ExpressionCode.TheVariants as code;
-ghost use Rattle.al_grammar.specs.Refusal.{fault};
+ghost use Rattle.al_expr_grammar.specs.Refusal.{fault};
 ghost use Rattle.al_meaning.specs.Meaning.{typed, behind, or_fault, property_of, all_of, index_of, element_at};
 ghost use Rattle.al_meaning.specs.Meaning.{not_indexable};
 ghost use Rattle.al_types.specs.Types.{ArrayOf, or_any, property_in};

@@ -10,9 +10,9 @@ ghost use Rattle.al_meaning.specs.Meaning as meaning;
 ghost use Rattle.al_meaning.specs.Literals.{literal_text};
 ghost use Rattle.al_types.specs.Names.{context_of, function_of};
 ghost use Rattle.al_types.specs.Scopes.{scope_of, type_of_context};
-ghost use Rattle.al_grammar.specs.Tree.{steps_of, operands_of, arguments_of};
+ghost use Rattle.al_expr_grammar.specs.Tree.{steps_of, operands_of, arguments_of};
 ghost use Rattle.al_types.specs.TypeViews.{ty_of};
-ghost use Rattle.al_grammar.specs.View.{tree_of, step_of, operand_of};
+ghost use Rattle.al_expr_grammar.specs.View.{tree_of, step_of, operand_of};
 
 use crate::calls::{Argument, Callee, called, is_test};
 use crate::comparison::comparable;
@@ -22,7 +22,7 @@ use crate::reports::{report_plain, report_text};
 use crate::steps::element;
 use crate::untrusted::untrusted_chain;
 use al_base::{ExpressionCode, Fault, Span};
-use al_grammar::{Expr, Operand, Operator, PathStep, Word, across, extent, path_extent};
+use al_expr_grammar::{Expr, Operand, Operator, PathStep, Word, across, extent, path_extent};
 use al_types::{Context, Function, Scope, Ty, copy, fuse};
 use std::alloc::{AllocError, Global};
 
@@ -372,7 +372,7 @@ fn is_logic(operator: Operator) -> bool
 
 /// Whether operators choose between their operands, so that these are branches. All operators of a level are of one kind, so the first
 /// tells.
-#[tactic(auto, using(al_grammar::proofs::TreeViews::operand_view))]
+#[tactic(auto, using(al_expr_grammar::proofs::TreeViews::operand_view))]
 pub(crate) fn begins_logic(operands: &[Operand]) -> bool
     ensures { result ≡ begins_logic (operands_of (map operand_of operands.now)) }
 {
@@ -440,7 +440,7 @@ fn check_untrusted(
 }
 
 // The name that a path begins with: a bracket ends a chain.
-#[tactic(auto, using(al_grammar::proofs::TreeViews::tree_views))]
+#[tactic(auto, using(al_expr_grammar::proofs::TreeViews::tree_views))]
 fn base_name(base: &Expr) -> Option<&str>
     ensures { option_map (λ n. n.now) result ≡ base_name (tree_of base.now) }
 {

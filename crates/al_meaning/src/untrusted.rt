@@ -3,11 +3,11 @@
 ghost use Rattle.std.specs.Prelude.{◌≡◌, ◌∷◌, IfOk, length, map, option_map, string_bytes};
 ghost use Rattle.al_meaning.specs.Untrusted.{untrusted_chains, part_of, same_parts, chain_among, with_dots};
 ghost use Rattle.al_base.specs.Names.{same_name};
-ghost use Rattle.al_grammar.specs.View.{step_of};
+ghost use Rattle.al_expr_grammar.specs.View.{step_of};
 
 use crate::literals::literal_text;
 use al_base::is_same_name;
-use al_grammar::PathStep;
+use al_expr_grammar::PathStep;
 use std::alloc::{AllocError, Global};
 
 type Parts = &'static [&'static str];
@@ -106,7 +106,7 @@ fn are_parts(alloc: Global, parts: &[&str], steps: &[PathStep]) -> Result<bool, 
     Ok(true)
 }
 
-#[tactic(auto, using(al_grammar::proofs::TreeViews::step_views))]
+#[tactic(auto, using(al_expr_grammar::proofs::TreeViews::step_views))]
 fn is_part(alloc: Global, part: &str, step: &PathStep) -> Result<bool, AllocError>
     ensures { IfOk result (λ b. b ≡ same_name part.now (part_of (step_of step.now))) }
 {

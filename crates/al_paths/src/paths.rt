@@ -37,7 +37,7 @@ impl Paths {
         }
     }
 
-    /// Puts a step in front of those that begin at a place, and tells the place of it. Fails with `AllocError` for want of memory, as all
+    /// Puts a step in front of those that begin at a place, and tells the place of it. Fails with `AllocError` when out of memory, as all
     /// below.
     pub fn push(&mut self, step: Step, next: Option<usize>) -> Result<usize, AllocError> {
         let place = self.links.len();

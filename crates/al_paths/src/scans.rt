@@ -41,7 +41,7 @@ struct Place<'t> {
 }
 
 /// The first scan of a path from a type, if it has one. Objects are scanned even by a path that ends there, which copies their list. Fails
-/// with `AllocError` for want of memory alone, as all here.
+/// with `AllocError`, only when out of memory, as all here.
 pub(crate) fn first_scan(
     alloc: Global,
     ty: &Ty,

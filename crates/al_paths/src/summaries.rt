@@ -16,7 +16,7 @@ use std::rc::Rc;
 
 /// The same type, from which an expression is to take a path. Where that scans objects or fields, as many as it scans are added to those
 /// that were scanned so far. Once they are so many that to make the objects one, or to keep what the fields have in common, takes no
-/// longer, that is done, and the count begins anew. Fails with `AllocError` for want of memory alone.
+/// longer, that is done, and the count begins anew. Fails with `AllocError`, only when out of memory.
 pub fn passed(
     alloc: Global,
     ty: Ty,

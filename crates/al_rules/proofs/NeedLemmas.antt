@@ -9,20 +9,20 @@ use Rattle.std.proofs.lemmas.List.Elements.{All-nil, All-cons, All-get_or, All-c
 use Rattle.std.specs.List.{AllByRecursion, cons_option, enumerate_from, filter_map, flat_map}
 use Rattle.std.specs.Prelude.{◌↔◌, Contains, codes}
 use Rattle.al_base.specs.declared.faults.Fault.{Fault}
-use Rattle.al_yaml.specs.Node.{Node}
+use Rattle.al_yaml_tree.specs.Node.{Node}
 use Rattle.al_graph.specs.Graphs.{Edge, StronglyConnected, Walk, edges_of, here, onward}
 use Rattle.al_graph.proofs.FilterMaps.{put_behind, put_first}
 use Rattle.al_graph.proofs.Labels.{labels_same}
 use Rattle.al_scalar.specs.Scalar.{Scalar}
 use Rattle.al_base.specs.declared.faults.Span.{Span}
-use Rattle.al_shape.specs.Values.{texts_at}
+use Rattle.al_tree_shape.specs.Values.{texts_at}
 use Rattle.al_rules.specs.Private.Components.{has_label_of, labelled_fault, labelled_faults}
 use Rattle.al_rules.specs.Needs.{AddsAllNeeds, AddsNeeds, AreNeedsFaults, undefined_job, leads_back, leads_on, no_needs, and_need}
 use Rattle.al_rules.specs.Needs.{IsNeedFaults, Need, all_needs, cycle_fault, keys_of, named_by, needs_in, needs_lists, needs_of}
 use Rattle.al_rules.specs.Needs.{position_in}
 use Rattle.al_base.specs.Names.{same_name}
 use Rattle.al_types.proofs.PositionLemmas.{first_within}
-use Rattle.al_reports.specs.Words.{Named, of_key, of_scalar}
+use Rattle.al_rules_reports.specs.Words.{Named, of_key, of_scalar}
 
 enumerated : {X : Type 0} (i : ℕ) (xs : List X) (y : X) → enumerate_from i (xs ++ y ∷ []) ≡ enumerate_from i xs ++ (i + length xs, y) ∷ []
 enumerated i [] y = ap (λ k. (k, y) ∷ []) (omega arith)

@@ -6,22 +6,22 @@ use Rattle.std.specs.Option.{option_map_or}
 use Rattle.std.specs.Str.{bytes_eq}
 use Rattle.al_base.specs.declared.codes.RuleCode.TheVariants.{MissingOutputValue, MissingShell, UnknownUsing}
 use Rattle.al_base.specs.declared.faults.Fault.{Fault}
-use Rattle.al_yaml.specs.Access.{scalar_in}
-use Rattle.al_yaml.specs.Node.{Node, span_of}
-use Rattle.al_yaml.specs.View.{view}
-use Rattle.al_shape.specs.Names.{among}
-use Rattle.al_shape.specs.Values.{entries_at, items_at, key_at, text_at, text_below, value_at, value_below}
+use Rattle.al_yaml_tree.specs.Access.{scalar_in}
+use Rattle.al_yaml_tree.specs.Node.{Node, span_of}
+use Rattle.al_yaml_tree.specs.View.{view}
+use Rattle.al_tree_shape.specs.Names.{among}
+use Rattle.al_tree_shape.specs.Values.{entries_at, items_at, key_at, text_at, text_below, value_at, value_below}
 use Rattle.al_tree.specs.Files.{jobs_of}
 use Rattle.al_tree.specs.declared.files.FileKind.{FileKind}
 use Rattle.al_tree.specs.declared.files.FileKind.TheVariants as kind
 use Rattle.al_tree.specs.declared.files.Tree.{Tree}
 use Rattle.al_tree.specs.declared.files.Tree.TheVariants as tree
-use Rattle.al_events.specs.Events.{on_faults}
-use Rattle.al_settings.specs.Ids.{ids_faults}
-use Rattle.al_settings.specs.Matrix.{matrix_faults}
+use Rattle.al_rules_events.specs.Events.{on_faults}
+use Rattle.al_rules_settings.specs.Ids.{ids_faults}
+use Rattle.al_rules_settings.specs.Matrix.{matrix_faults}
 use Rattle.al_rules.specs.Needs.{IsNeedsFaults, keys_of}
-use Rattle.al_settings.specs.Settings.{condition_faults, credentials_faults, env_faults, permissions_faults, script_faults, shell_faults}
-use Rattle.al_reports.specs.Words.{Named, about, fault, of_key, of_scalar}
+use Rattle.al_rules_settings.specs.Settings.{condition_faults, credentials_faults, env_faults, permissions_faults, script_faults, shell_faults}
+use Rattle.al_rules_reports.specs.Words.{Named, about, fault, of_key, of_scalar}
 
 -- of a step
 abbrev pub run_faults : Node → List Fault

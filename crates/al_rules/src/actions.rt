@@ -2,19 +2,19 @@
 
 ghost use Rattle.al_rules.specs.Rules.{action_faults, composite_faults, hooks_faults, no_shell_faults, output_faults, runs_faults};
 ghost use Rattle.al_rules.specs.Rules.{scalar_of_value, using_faults};
-ghost use Rattle.al_reports.specs.Private.Views.{named_of};
+ghost use Rattle.al_rules_reports.specs.Private.Views.{named_of};
 ghost use Rattle.al_base.specs.Growth.{BeginsWith};
-ghost use Rattle.al_shape.specs.Values.{entries_at, member_of, value_at};
-ghost use Rattle.al_yaml.specs.View.{view};
+ghost use Rattle.al_tree_shape.specs.Values.{entries_at, member_of, value_at};
+ghost use Rattle.al_yaml_tree.specs.View.{view};
 ghost use Rattle.std.specs.List.{flat_map};
 ghost use Rattle.std.specs.Prelude.{◌≡◌, ◌++◌, codes, map, option_and_then, option_map, OnOk};
 
 use crate::sections::check_steps;
 use al_base::{Fault, RuleCode};
-use al_reports::{Named, named_key, report, report_plain};
-use al_settings::{check_condition, check_env};
+use al_rules_reports::{Named, named_key, report, report_plain};
+use al_rules_settings::{check_condition, check_env};
 use al_tree::{Member, is_among, items_under, key, members, text_under, value};
-use al_yaml::Node;
+use al_yaml_tree::Node;
 use std::alloc::{AllocError, Global};
 
 /// The values of `using` that run JavaScript.

@@ -3,7 +3,7 @@
 ghost use Rattle.al_rules.specs.Rows.Files as file;
 ghost use Rattle.al_rules.specs.Rows.Files.{at, needs_by_steps};
 ghost use Rattle.al_rules.specs.Rules.{action_faults, workflow_faults};
-ghost use Rattle.al_reports.specs.Words.{fault};
+ghost use Rattle.al_rules_reports.specs.Words.{fault};
 ghost use Rattle.al_base.specs.declared.codes.RuleCode.TheVariants.{AlwaysTrue, DeprecatedCommand, MissingOutputValue, MissingShell};
 ghost use Rattle.al_base.specs.declared.codes.RuleCode.TheVariants.{NeedsCycle, PasswordNotExpression, RepeatedId, ScheduleTooOften};
 ghost use Rattle.al_base.specs.declared.codes.RuleCode.TheVariants.{UndefinedJob, UnknownActivity, UnknownEvent, UnknownInputType};

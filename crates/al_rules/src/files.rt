@@ -12,7 +12,7 @@ use std::alloc::{AllocError, Global};
 
 /// Adds the faults of the rules that a file breaks by itself.
 ///
-/// Fails with `AllocError` for want of memory; the list then begins with what it held.
+/// Fails with `AllocError` when out of memory; the list then begins with what it held.
 #[tactic(auto, using(al_base::proofs::Growing::growth))]
 pub fn rules(alloc: Global, tree: &Tree, out: &mut Vec<Fault>) -> Result<(), AllocError>
     ensures rules { OnOk result (AddsRules tree.now out.old.items out.new.items) }

@@ -6,17 +6,17 @@ ghost use Rattle.al_rules.specs.Needs.{AddsAllNeeds, all_needs, keys_of as keys_
 ghost use Rattle.al_rules.specs.Needs.{position_in};
 ghost use Rattle.al_rules.specs.Private.Components as components;
 ghost use Rattle.al_rules.specs.Private.Components.{labelled_fault, labelled_faults};
-ghost use Rattle.al_reports.specs.Private.Views.{named_of};
+ghost use Rattle.al_rules_reports.specs.Private.Views.{named_of};
 ghost use Rattle.al_rules.specs.Private.Views.{need_of};
-ghost use Rattle.al_reports.specs.Words.{of_key, of_scalar};
+ghost use Rattle.al_rules_reports.specs.Words.{of_key, of_scalar};
 ghost use Rattle.al_base.specs.Growth.{BeginsWith};
-ghost use Rattle.al_shape.specs.Values.{member_of, scalar_node_of};
+ghost use Rattle.al_tree_shape.specs.Values.{member_of, scalar_node_of};
 ghost use Rattle.std.specs.List.{filter_map};
 ghost use Rattle.std.specs.Prelude.{◌≡◌, ◌++◌, map, slice_index_or, IfOk, OnOk, None};
 
 use al_base::{Fault, RuleCode};
 use al_graph::strongly_connected_components;
-use al_reports::{Named, named_key, named_text, report, report_two};
+use al_rules_reports::{Named, named_key, named_text, report, report_two};
 use al_tree::{Member, ScalarNode, key_text, texts_under};
 use al_types::NamePositions;
 use std::alloc::{AllocError, Global};

@@ -2,22 +2,22 @@
 
 ghost use Rattle.al_rules.specs.Rules.{container_faults, containers_faults, job_faults, matrix_faults_of, run_faults, section_faults};
 ghost use Rattle.al_rules.specs.Rules.{settings_faults, step_faults, step_ids, steps_faults};
-ghost use Rattle.al_reports.specs.Private.Views.{named_of};
+ghost use Rattle.al_rules_reports.specs.Private.Views.{named_of};
 ghost use Rattle.al_base.specs.Growth.{BeginsWith};
-ghost use Rattle.al_shape.specs.Values.{entries_at, member_of, scalar_node_of, text_below, value_at, value_below};
-ghost use Rattle.al_yaml.specs.View.{view};
+ghost use Rattle.al_tree_shape.specs.Values.{entries_at, member_of, scalar_node_of, text_below, value_at, value_below};
+ghost use Rattle.al_yaml_tree.specs.View.{view};
 ghost use Rattle.std.specs.List.{flat_map};
 ghost use Rattle.std.specs.Option.{option_map_or};
 ghost use Rattle.std.specs.Prelude.{◌≡◌, ◌++◌, [], ◌∷◌, codes, map, option_map, IfOk, OnOk};
 
 use al_base::Fault;
-use al_reports::{Named, named_text};
-use al_settings::{
+use al_rules_reports::{Named, named_text};
+use al_rules_settings::{
     check_condition, check_credentials, check_env, check_ids, check_matrix, check_permissions,
     check_script, check_shell,
 };
 use al_tree::{Member, ScalarNode, items_under, members, text_under, value};
-use al_yaml::Node;
+use al_yaml_tree::Node;
 use std::alloc::{AllocError, Global};
 
 /// Adds the faults of what a step runs.

@@ -3,8 +3,8 @@
 use al_base::{Code, Fault, RuleCode, position};
 use al_rules::{rules, spans};
 use al_tree::{FileKind, Tree, read_action, read_workflow};
-use al_yaml::Doc;
-use al_yaml_reader::read_yaml;
+use al_yaml::read_yaml;
+use al_yaml_tree::Doc;
 use std::alloc::{AllocError, Global};
 
 /// A fault: its line and column, its code and its arguments.

@@ -13,7 +13,7 @@ use std::alloc::AllocError;
 /// Folds the break at an offset and the empty lines behind it, and answers where the next text begins. An escaped break
 /// gives nothing of its own (YAML 1.2.2, 6.5 and 7.3.1).
 ///
-/// Fails with `AllocError` for want of memory; the text then begins with what it held.
+/// Fails with `AllocError` when out of memory; the text then begins with what it held.
 #[tactic(auto, using(al_base::proofs::Growing::growth))]
 pub fn fold_break(
     text: &mut Text,

@@ -258,7 +258,7 @@ pub struct ShortText {
 }
 
 impl ShortText {
-    /// The same text, in the form that takes any bytes. Fails with `AllocError` for want of memory.
+    /// The same text, in the form that takes any bytes. Fails with `AllocError` when out of memory.
     fn lengthened(&self, alloc: Global) -> Result<LongText, AllocError>
         requires { IsSound (Short self.now) }
         ensures { IfOk result (λ text. text ≡ short_cells self.now) }

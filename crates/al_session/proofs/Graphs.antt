@@ -1,13 +1,13 @@
 -- The graph of calls that a session keeps, where a file is put.
 use Rattle.std.proofs.Common.{◌≡◌, ℕ, Bool, List, Option, Some, None, Result, Ok, Err, IfOk, OnErr, sym, subst}
 use Rattle.std.specs.Option.{option_map}
-use Rattle.al_folder.specs.Meaning.{Meaning}
-use Rattle.al_folder.specs.Folder.{Folder, with_file}
-use Rattle.al_folder.specs.Kept.{AreKept, Callers, Files, IsKept, file_at, folder_of}
-use Rattle.al_folder.specs.Private.CallGraphs.{HasSameCalls, IsCallGraph}
-use Rattle.al_folder.specs.declared.kept.KeptFile.{KeptFile}
-use Rattle.al_folder.specs.declared.loops.CallGraph.{CallGraph}
-use Rattle.al_folder.proofs.SameCalls.{graph_still, put_same_calls}
+use Rattle.al_session_folder.specs.Meaning.{Meaning}
+use Rattle.al_session_folder.specs.Folder.{Folder, with_file}
+use Rattle.al_session_folder.specs.Kept.{AreKept, Callers, Files, IsKept, file_at, folder_of}
+use Rattle.al_session_folder.specs.Private.CallGraphs.{HasSameCalls, IsCallGraph}
+use Rattle.al_session_folder.specs.declared.kept.KeptFile.{KeptFile}
+use Rattle.al_session_folder.specs.declared.loops.CallGraph.{CallGraph}
+use Rattle.al_session_folder.proofs.SameCalls.{graph_still, put_same_calls}
 use Rattle.al_session.specs.Private.Edits.{IsEdited, IsUndone}
 use Rattle.al_session.specs.Private.Graphs.{IsGraphIf}
 

@@ -15,17 +15,17 @@ use Rattle.std.proofs.lemmas.List.Edits.{length-insert}
 use Rattle.indexmap.specs.IndexSet.{contains_text}
 use Rattle.al_base.specs.declared.faults.Fault.{Fault}
 use Rattle.al_base.specs.Paths.{path_fault_of}
-use Rattle.al_folder.specs.Meaning.{Meaning}
-use Rattle.al_folder.specs.declared.kept.KeptFile.{KeptFile}
-use Rattle.al_folder.specs.Folder.{Folder, bytes_at, faults_in, paths_of}
-use Rattle.al_folder.specs.Affected.{is_among}
-use Rattle.al_folder.specs.Kept.{Files, after, folder_of, file_at, faults_of, IsKept, AllKept, AreKept, Callers, IsIndex}
-use Rattle.al_folder.specs.Private.Place.{place_of}
-use Rattle.al_folder.proofs.Places.{gap, length-folder_of}
-use Rattle.al_folder.proofs.Views.{after_same, all_in, bytes_kept, bytes_self, kept_at}
-use Rattle.al_folder.proofs.Affecting.{changed_sorted}
+use Rattle.al_session_folder.specs.Meaning.{Meaning}
+use Rattle.al_session_folder.specs.declared.kept.KeptFile.{KeptFile}
+use Rattle.al_session_folder.specs.Folder.{Folder, bytes_at, faults_in, paths_of}
+use Rattle.al_session_folder.specs.Affected.{is_among}
+use Rattle.al_session_folder.specs.Kept.{Files, after, folder_of, file_at, faults_of, IsKept, AllKept, AreKept, Callers, IsIndex}
+use Rattle.al_session_folder.specs.Private.Place.{place_of}
+use Rattle.al_session_folder.proofs.Places.{gap, length-folder_of}
+use Rattle.al_session_folder.proofs.Views.{after_same, all_in, bytes_kept, bytes_self, kept_at}
+use Rattle.al_session_folder.proofs.Affecting.{changed_sorted}
 use Rattle.al_session.specs.Builder.{AreLoaded}
-use Rattle.al_listing.specs.Checked.{AllChecked}
+use Rattle.al_session_listing.specs.Checked.{AllChecked}
 use Rattle.al_session.specs.Session.{AreLinted}
 use Rattle.al_session.specs.Private.Lists.{with_lists}
 use Rattle.al_session.proofs.Giving.{all_checked, folder_of-with_lists, kept-with_lists}

@@ -1,7 +1,7 @@
 -- What is true of the files that a session is to begin with.
 use Rattle.std.specs.Prelude.{ℕ, ◌≤◌, ◌^◌, ◌-◌, List}
-use Rattle.al_folder.specs.Meaning.{Meaning}
-use Rattle.al_folder.specs.Kept.{AreKept, Callers, Files, IsIndex, folder_of}
+use Rattle.al_session_folder.specs.Meaning.{Meaning}
+use Rattle.al_session_folder.specs.Kept.{AreKept, Callers, Files, IsIndex, folder_of}
 
 -- Files that were read, whose faults are not told yet: the index is that of their folder.
 pub record AreLoaded {U I S R : Type 0} (m : Meaning I) (is_unit : U → List ℕ → List ℕ → Type 0) (files : Files U I)

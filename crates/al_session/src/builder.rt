@@ -5,17 +5,19 @@ ghost use Rattle.std.specs.Option.{option_copied, option_map};
 ghost use Rattle.al_base.specs.Counted.{raised};
 ghost use Rattle.al_base.specs.Paths.{path_fault_of};
 ghost use Rattle.al_base.specs.Limits.{largest_file, most_files};
-ghost use Rattle.al_folder.specs.Folder.{bytes_at, paths_of, put_refusal, refusal_or_memory, with_file};
-ghost use Rattle.al_folder.specs.Kept.{folder_of, AreKept};
-ghost use Rattle.al_folder.specs.Meaning.{IsUpTo};
+ghost use Rattle.al_session_folder.specs.Folder.{bytes_at, paths_of, put_refusal, refusal_or_memory, with_file};
+ghost use Rattle.al_session_folder.specs.Kept.{folder_of, AreKept};
+ghost use Rattle.al_session_folder.specs.Meaning.{IsUpTo};
 ghost use Rattle.al_session.specs.Builder.{AreLoaded};
-ghost use Rattle.al_listing.specs.Checked.{AllChecked};
+ghost use Rattle.al_session_listing.specs.Checked.{AllChecked};
 
 use crate::edit::{insert_file, read_file, replace_file, set_faults};
 use crate::refused::put_refused;
 use crate::session::Session;
 use al_base::Path;
-use al_folder::{Callers, Files, Lint, Refused, Target, check_paths, file_number, place_in};
+use al_session_folder::{
+    Callers, Files, Lint, Refused, Target, check_paths, file_number, place_in,
+};
 use indexmap::IndexMap;
 use std::alloc::{AllocError, Global};
 use std::marker::Model;
@@ -35,7 +37,7 @@ pub struct SessionBuilder<L: Lint> {
 
 impl<L: Lint> Model for SessionBuilder<L> {
     ghost use Rattle.std.specs.Prelude.{◌≤◌, ◌^◌, ◌-◌};
-    ghost use Rattle.al_folder.specs.Kept.{folder_of};
+    ghost use Rattle.al_session_folder.specs.Kept.{folder_of};
     ghost use Rattle.al_session.specs.Builder.{AreLoaded};
     ghost use Rattle.al_session.specs.Session.{SessionState};
 

@@ -1,12 +1,12 @@
 //! Why a file is refused.
 
 ghost use Rattle.std.specs.Prelude.{◌≡◌, is_some};
-ghost use Rattle.al_folder.specs.Folder.{bytes_at, put_refusal};
-ghost use Rattle.al_folder.specs.Kept.{folder_of};
+ghost use Rattle.al_session_folder.specs.Folder.{bytes_at, put_refusal};
+ghost use Rattle.al_session_folder.specs.Kept.{folder_of};
 
 use al_base::limits::{LARGEST_FILE, MOST_FILES};
 use al_base::path_fault;
-use al_folder::{Files, Lint, Refused};
+use al_session_folder::{Files, Lint, Refused};
 
 /// Why a file with this path and these bytes is refused beside the files that are there, other than for memory.
 pub(crate) fn put_refused<L: Lint>(

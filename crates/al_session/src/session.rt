@@ -7,27 +7,27 @@ ghost use Rattle.std.specs.Ordering.{nat_cmp};
 ghost use Rattle.std.specs.Cmp.Lexicographic.{slice_cmp};
 ghost use Rattle.std.specs.Io.KnownBytes.{Appends, Keeps};
 ghost use Rattle.std.specs.Option.{option_copied};
-ghost use Rattle.al_base.specs.Counted.{HasRisen, AppendsFront};
+ghost use Rattle.al_base.specs.Counted.{HasRisen, AppendsPrefix};
 ghost use Rattle.al_base.specs.FaultLists.{fault_cmp};
 ghost use Rattle.al_base.specs.Spans.{LiesIn};
 ghost use Rattle.al_base.specs.Streams.{bytes_written, write_failures};
-ghost use Rattle.al_folder.specs.Folder.{bytes_at, faults_at, put_refusal, delete_refusal, with_file};
-ghost use Rattle.al_folder.specs.Folder.{without_file, paths_of, refusal_or_memory};
+ghost use Rattle.al_session_folder.specs.Folder.{bytes_at, faults_at, put_refusal, delete_refusal, with_file};
+ghost use Rattle.al_session_folder.specs.Folder.{without_file, paths_of, refusal_or_memory};
 ghost use Rattle.std.specs.Bool.{Decides};
-ghost use Rattle.al_folder.specs.Affected.{affected};
-ghost use Rattle.al_folder.specs.Meaning.{IsUpTo};
+ghost use Rattle.al_session_folder.specs.Affected.{affected};
+ghost use Rattle.al_session_folder.specs.Meaning.{IsUpTo};
 ghost use Rattle.al_base.specs.Counted.{raised};
-ghost use Rattle.al_folder.specs.Kept.{folder_of};
-ghost use Rattle.al_folder.specs.Missing.{missing_in};
-ghost use Rattle.al_listing.specs.Report.{status_of, report_of};
+ghost use Rattle.al_session_folder.specs.Kept.{folder_of};
+ghost use Rattle.al_session_folder.specs.Missing.{missing_in};
+ghost use Rattle.al_session_listing.specs.Report.{status_of, report_of};
 ghost use Rattle.al_session.specs.Session.{AreLinted, ReadsForPut};
 
 use crate::calls::{find_graph, found_graph};
 use crate::edit::{put_file, remove_file};
 use crate::refused::put_refused;
 use al_base::{Fault, Output, Path, Stop, path_fault};
-use al_folder::{CallGraph, Callers, Files, Lint, Paths, Refused, missing_paths};
-use al_listing::{find_loops, has_faults, has_loops, join_files, write_files};
+use al_session_folder::{CallGraph, Callers, Files, Lint, Paths, Refused, missing_paths};
+use al_session_listing::{find_loops, has_faults, has_loops, join_files, write_files};
 use indexmap::IndexMap;
 use std::alloc::{AllocError, Global};
 use std::io::Write;
@@ -59,7 +59,7 @@ pub struct Session<L: Lint> {
 
 impl<L: Lint> Model for Session<L> {
     ghost use Rattle.std.specs.Prelude.{◌≤◌, ◌^◌, ◌-◌};
-    ghost use Rattle.al_folder.specs.Kept.{folder_of};
+    ghost use Rattle.al_session_folder.specs.Kept.{folder_of};
     ghost use Rattle.al_session.specs.Session.{SessionState, AreLinted};
     ghost use Rattle.al_session.specs.Private.Graphs.{IsGraphIf};
 
@@ -292,12 +292,12 @@ impl<L: Lint> Session<L> {
     ///
     /// # Errors
     ///
-    /// [`Stop::WriteFault`] where the writer failed, which then holds a front of the report, and [`Stop::Memory`]
+    /// [`Stop::WriteFault`] where the writer failed, which then holds a prefix of the report, and [`Stop::Memory`]
     /// where memory ran out, which happens only before the first byte. No other stop is answered.
     pub fn report<W: Write>(&mut self, writer: &mut Output<W>, oneline: bool) -> Result<(), Stop>
         ensures all { OnOk result (Appends (bytes_written W.contents writer.old) (bytes_written W.contents writer.new)
             (report_of oneline L.meaning self.old.folder)) }
-        ensures front { OnErr result (AppendsFront (bytes_written W.contents writer.old) (bytes_written W.contents writer.new)
+        ensures prefix { OnErr result (AppendsPrefix (bytes_written W.contents writer.old) (bytes_written W.contents writer.new)
             (report_of oneline L.meaning self.old.folder)) }
         ensures in_order { IsStrictlySortedBy (slice_cmp nat_cmp) (paths_of self.old.folder) }
         ensures memory { result ≡ Err Stop.Memory

@@ -1,7 +1,7 @@
 //! Which files a run takes from a disk, and in which order.
 
 use al_cli::{Disk, DiskError, Entry, load_from};
-use al_words::Words;
+use al_cli_words::Words;
 use std::alloc::Global;
 use std::collections::BTreeSet;
 

@@ -1,15 +1,15 @@
 //! A document taken as a workflow or an action, and its faults of keys and shapes.
 
-ghost use Rattle.al_shape.specs.Faults.{root_faults};
+ghost use Rattle.al_tree_shape.specs.Faults.{root_faults};
 ghost use Rattle.al_base.specs.Growth.{SameSet};
-ghost use Rattle.al_shape.specs.declared.table.Shape.TheVariants.{Action as ActionShape, Workflow as WorkflowShape};
+ghost use Rattle.al_tree_shape.specs.declared.table.Shape.TheVariants.{Action as ActionShape, Workflow as WorkflowShape};
 ghost use Rattle.al_tree.specs.Files.{key_faults, kind_in, root_of, shape_of};
-ghost use Rattle.al_yaml.specs.View.{view};
+ghost use Rattle.al_yaml_tree.specs.View.{view};
 ghost use Rattle.std.specs.Prelude.{◌≡◌, IfOk};
 
 use al_base::{Fault, ordered};
-use al_shape::{Shape, shape_faults};
-use al_yaml::{Doc, Node};
+use al_tree_shape::{Shape, shape_faults};
+use al_yaml_tree::{Doc, Node};
 use std::alloc::{AllocError, Global};
 
 /// A workflow, by the root of its file (GitHub, "Workflow syntax for GitHub Actions").
@@ -63,7 +63,7 @@ impl Tree {
 /// The workflow that a document is, and what in it breaks the syntax of workflows: its faults in the order of the document,
 /// which are exactly those that the syntax's table gives.
 ///
-/// Fails with `AllocError` for want of memory.
+/// Fails with `AllocError` when out of memory.
 #[tactic(auto, using(al_base::proofs::Growing::same_set))]
 pub fn read_workflow(alloc: Global, doc: Doc) -> Result<(Workflow, Vec<Fault>), AllocError>
     ensures tree { IfOk result (λ r. view r.0.root ≡ view doc.root) }
@@ -77,7 +77,7 @@ pub fn read_workflow(alloc: Global, doc: Doc) -> Result<(Workflow, Vec<Fault>), 
 /// The action that a document is, and what in it breaks the syntax of actions: its faults in the order of the document,
 /// which are exactly those that the syntax's table gives.
 ///
-/// Fails with `AllocError` for want of memory.
+/// Fails with `AllocError` when out of memory.
 #[tactic(auto, using(al_base::proofs::Growing::same_set))]
 pub fn read_action(alloc: Global, doc: Doc) -> Result<(Action, Vec<Fault>), AllocError>
     ensures tree { IfOk result (λ r. view r.0.root ≡ view doc.root) }
@@ -101,7 +101,7 @@ fn root_shape(kind: FileKind) -> Shape
 /// What in a document breaks the syntax of workflows or of actions: the faults of its keys and values in the order of
 /// reports, each once.
 ///
-/// Fails with `AllocError` for want of memory.
+/// Fails with `AllocError` when out of memory.
 pub fn document_faults(alloc: Global, kind: FileKind, doc: &Doc) -> Result<Vec<Fault>, AllocError>
     ensures { IfOk result (λ found. found.items ≡ key_faults kind (view doc.now.root)) }
 {

@@ -3,8 +3,8 @@
 use crate::scalars::comes_from;
 use al_base::YamlCode;
 use al_scalar::{Class, Scalar};
-use al_yaml::{Doc, Node};
-use al_yaml_reader::read_yaml;
+use al_yaml::read_yaml;
+use al_yaml_tree::{Doc, Node};
 use std::alloc::{AllocError, Global};
 
 /// A file whose root has one entry, and of that entry's value the text, the offset of each byte and the end's, and the

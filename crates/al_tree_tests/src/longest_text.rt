@@ -2,8 +2,8 @@
 //! three bytes each.
 
 use al_scalar::{Scalar, ScalarContext, read_scalar};
-use al_yaml::Doc;
-use al_yaml_reader::read_yaml;
+use al_yaml::read_yaml;
+use al_yaml_tree::Doc;
 use std::alloc::{AllocError, Global};
 
 /// How many escapes there is room for between the quotes.

@@ -6,7 +6,7 @@ use al_tree::{
     FileKind, ScalarNode, Tree, document_faults, items_under, key, key_text, members_under,
     read_action, read_workflow, text_under, texts_under, value,
 };
-use al_yaml::Node;
+use al_yaml_tree::Node;
 use std::alloc::{AllocError, Global};
 
 /// A fault: its line and column, its code and its first argument.

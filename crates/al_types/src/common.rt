@@ -16,7 +16,7 @@ const MANY: usize = 1 << 20;
 
 impl Object {
     /// What its fields and the type of others have in common: none where it has neither. Few fields are gone over for it, of many it is
-    /// known. Fails with `AllocError` for want of memory, as all here.
+    /// known. Fails with `AllocError` when out of memory, as all here.
     pub fn common(&self, alloc: Global) -> Result<Option<Ty>, AllocError>
         ensures { IfOk result (λ t. option_map ty_of t ≡ option_of (parts_of self.now).2) }
     {

@@ -54,7 +54,7 @@ impl FieldList {
         FieldList { fields, positions }
     }
 
-    /// These fields. Fails with `AllocError` for want of memory, as all below.
+    /// These fields. Fails with `AllocError` when out of memory, as all below.
     pub fn of(alloc: Global, fields: Vec<Field>) -> Result<FieldList, AllocError>
         ensures { IfOk result (λ l. map field_of l.fields.items ≡ map field_of fields.items) }
     {

@@ -11,7 +11,7 @@ use crate::positions::NamePositions;
 use crate::types::{Field, field_among};
 use std::alloc::{AllocError, Global};
 
-/// Where each name first stands among some fields. Fails with `AllocError` for want of memory.
+/// Where each name first stands among some fields. Fails with `AllocError` when out of memory.
 pub fn field_positions(alloc: Global, fields: &[Field]) -> Result<NamePositions, AllocError>
     ensures { IfOk result (λ p. IsFieldIndex p (fields_of (map field_of fields.now))) }
 {
@@ -22,7 +22,7 @@ pub fn field_positions(alloc: Global, fields: &[Field]) -> Result<NamePositions,
     Ok(positions)
 }
 
-/// Whether no two fields have the same name, but for ASCII case. Fails with `AllocError` for want of memory.
+/// Whether no two fields have the same name, but for ASCII case. Fails with `AllocError` when out of memory.
 pub(crate) fn are_distinct(alloc: Global, fields: &[Field]) -> Result<bool, AllocError>
     ensures { IfOk result (λ b. IsTrue b → are_distinct (fields_of (map field_of fields.now)) ≡ true) }
 {

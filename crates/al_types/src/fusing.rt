@@ -12,7 +12,7 @@ use std::rc::Rc;
 /// What two types have in common: any with any or null, itself with itself, a string for two other scalars, an array
 /// of what the elements have in common, and an object with all fields of both, those of one name fused, as are the
 /// types of other fields where both have one. Everything else is any. The fields of objects are not looked at before they are asked for.
-/// Fails for want of memory alone.
+/// Fails only when out of memory.
 #[tactic(auto, using(crate::proofs::FusedForms::by_form, crate::proofs::TypeFields::fused_type))]
 #[cycle(fusing)]
 pub fn fuse(alloc: Global, a: Ty, b: Ty) -> Result<Ty, AllocError>

@@ -17,7 +17,7 @@ use std::rc::Rc;
 
 /// What a type has in common with an object of one field, unless it has one of its name: so an object grows by it. Its fields are moved
 /// out of an object that nothing else shares: one that grows field after field takes time that grows with the logarithm of their number for
-/// each. Fails with `AllocError` for want of memory alone, as all here.
+/// each. Fails with `AllocError`, only when out of memory, as all here.
 pub fn with_field(alloc: Global, ty: Ty, field: Field) -> Result<Ty, AllocError>
     ensures { IfOk result (λ t. ty_of t ≡ types.with_field (ty_of ty) (field_of field)) }
 {
@@ -133,7 +133,7 @@ fn type_and_field(alloc: Global, ty: Ty, field: Field) -> Result<Ty, AllocError>
     fuse(alloc, ty, object_of_fields(alloc, fields, None)?)
 }
 
-/// Whether a type is an object that has a field of this name, in any ASCII case. Fails with `AllocError` for want of memory.
+/// Whether a type is an object that has a field of this name, in any ASCII case. Fails with `AllocError` when out of memory.
 #[tactic(auto, using(crate::proofs::TypeFields::fused_type))]
 pub fn has_field_in(alloc: Global, ty: &Ty, name: &str) -> Result<bool, AllocError>
     ensures { IfOk result (λ b. b ≡ types.has_in name.now (ty_of ty.now)) }

@@ -25,7 +25,7 @@ pub(crate) const COMMON_DEPTH: usize = 4;
 
 /// The same type, whose fields stand in one object where it is one, or where arrays hold one, and so the types of these fields: so a
 /// property is found in one look. What all fields have in common is made one a few levels deep, once for all paths that lead there. Takes
-/// the time and memory of all fields of those that were fused. Fails with `AllocError` for want of memory alone, as all here.
+/// the time and memory of all fields of those that were fused. Fails with `AllocError`, only when out of memory, as all here.
 pub fn joined(alloc: Global, ty: Ty) -> Result<Ty, AllocError>
     ensures { IfOk result (λ t. ty_of t ≡ ty_of ty) }
 {

@@ -22,7 +22,7 @@ use std::alloc::{AllocError, Global};
 use std::rc::Rc;
 
 /// An object of fields, whose names stand at these positions, and no others. Many are found by their names, in time that grows with the
-/// logarithm of their number, and what all have in common is kept beside them. Fails with `AllocError` for want of memory alone, as all
+/// logarithm of their number, and what all have in common is kept beside them. Fails with `AllocError`, only when out of memory, as all
 /// here.
 pub fn object_by_names(
     alloc: Global,
@@ -218,8 +218,8 @@ impl NamedFields {
         }
     }
 
-    /// The type of the first field of a name, in any ASCII case, with its index: none where no field has it. Fails with `AllocError` for
-    /// want of memory, as below.
+    /// The type of the first field of a name, in any ASCII case, with its index: none where no field has it. Fails with `AllocError` when
+    /// out of memory, as below.
     pub fn indexed_field(
         &self,
         alloc: Global,

@@ -19,8 +19,8 @@ use std::rc::Rc;
 /// So many fields are looked through one by one, and nearly all objects have no more: that takes less memory, and little time.
 pub(crate) const FEW: usize = 32;
 
-/// An object of fields, and of a type of every field beside them, if there may be others. Fields are looked through one by one. Fails for
-/// want of memory alone.
+/// An object of fields, and of a type of every field beside them, if there may be others. Fields are looked through one by one. Fails
+/// only when out of memory.
 #[tactic(auto, using(crate::proofs::TypeFields::listing_made))]
 pub fn object_of_fields(
     alloc: Global,
@@ -34,7 +34,7 @@ pub fn object_of_fields(
 }
 
 /// An object whose fields are strings of these names, and no others. Many are found by their names, in time that grows with the
-/// logarithm of their number. Fails for want of memory alone.
+/// logarithm of their number. Fails only when out of memory.
 pub fn object_of_strings(alloc: Global, names: Vec<String>) -> Result<Ty, AllocError>
     ensures { IfOk result (λ t. ty_of t ≡ named_strings (map string_bytes names.items)) }
 {
@@ -58,7 +58,7 @@ fn places_of(alloc: Global, names: &[String]) -> Result<NamePositions, AllocErro
     Ok(positions)
 }
 
-/// Fields that are strings of these names. Fails for want of memory alone.
+/// Fields that are strings of these names. Fails only when out of memory.
 pub(crate) fn string_fields(alloc: Global, names: &[String]) -> Result<Vec<Field>, AllocError>
     ensures { IfOk result (λ v. map field_of v.items ≡ strings (map string_bytes names.now)) }
 {
@@ -72,7 +72,7 @@ pub(crate) fn string_fields(alloc: Global, names: &[String]) -> Result<Vec<Field
     Ok(fields)
 }
 
-/// Fields once more, with names of their own. Fails for want of memory alone.
+/// Fields once more, with names of their own. Fails only when out of memory.
 pub(crate) fn copy_fields(alloc: Global, fields: &[Field]) -> Result<Vec<Field>, AllocError>
     ensures { IfOk result (λ v. map field_of v.items ≡ map field_of fields.now) }
 {
@@ -85,7 +85,7 @@ pub(crate) fn copy_fields(alloc: Global, fields: &[Field]) -> Result<Vec<Field>,
     Ok(copies)
 }
 
-/// The fields of an object once more, with names of their own. The type of others is not looked at. Fails for want of memory alone.
+/// The fields of an object once more, with names of their own. The type of others is not looked at. Fails only when out of memory.
 pub(crate) fn copied_fields(alloc: Global, object: &Object) -> Result<Vec<Field>, AllocError>
     ensures { IfOk result (λ v. (λ n. optional (field_at n (fields_of (map field_of v.items)))) ≡ (parts_of object.now).0) }
 {
@@ -98,7 +98,7 @@ pub(crate) fn copied_fields(alloc: Global, object: &Object) -> Result<Vec<Field>
 
 impl Object {
     /// The type of the first field of a name, in any ASCII case: none where no field has it. The type of other fields
-    /// is not looked at. Fails with `AllocError` for want of memory, as all below.
+    /// is not looked at. Fails with `AllocError` when out of memory, as all below.
     pub(crate) fn field(
         &self,
         alloc: Global,

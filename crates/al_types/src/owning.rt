@@ -13,7 +13,7 @@ use std::alloc::{AllocError, Global};
 use std::rc::Rc;
 
 /// The same object, which nothing else shares: its fields once more where something does, whose types are shared. Fails with `AllocError`
-/// for want of memory alone, as all here.
+/// only when out of memory, as all here.
 pub fn unshared(alloc: Global, object: Rc<Object>) -> Result<Object, AllocError>
     ensures { IfOk result (λ o. object_of o ≡ object_of object.value) }
 {

@@ -7,7 +7,7 @@ use std::alloc::{AllocError, Global};
 use std::collections::BTreeMap;
 use std::collections::btree_map::Entry;
 
-/// A name in lower case, by which names that are the same but for ASCII case are found. Fails with `AllocError` for want of memory.
+/// A name in lower case, by which names that are the same but for ASCII case are found. Fails with `AllocError` when out of memory.
 pub fn in_lower_case(alloc: Global, name: &[u8]) -> Result<Vec<u8>, AllocError>
     ensures { IfOk result (λ v. v.items ≡ folded name.now) }
 {
@@ -33,7 +33,7 @@ impl TextPositions {
 
     /// Adds a text that stands at a position, unless it stood before, and answers whether it is new.
     ///
-    /// Fails with `AllocError` for want of memory; the positions are then as before.
+    /// Fails with `AllocError` when out of memory; the positions are then as before.
     pub fn insert(&mut self, text: Vec<u8>, position: usize) -> Result<bool, AllocError>
         ensures positions { OnOk result (text_position self.new ≡ and_text_at (text_position self.old) text.items position) }
         ensures is_new { IfOk result (λ b. b ≡ is_none (text_position self.old text.items)) }
@@ -76,7 +76,7 @@ impl NamePositions {
 
     /// Adds a name that stands at a position, unless an equal one stood before, and answers whether it is new.
     ///
-    /// Fails with `AllocError` for want of memory; the positions are then as before.
+    /// Fails with `AllocError` when out of memory; the positions are then as before.
     pub fn insert(
         &mut self,
         alloc: Global,
@@ -91,7 +91,7 @@ impl NamePositions {
         Ok(added)
     }
 
-    /// Where a name first stands. Fails with `AllocError` for want of memory.
+    /// Where a name first stands. Fails with `AllocError` when out of memory.
     pub fn get(&self, alloc: Global, name: &[u8]) -> Result<Option<usize>, AllocError>
         ensures { IfOk result (λ i. i ≡ name_position self.now name.now) }
     {

@@ -20,7 +20,7 @@ pub enum Property<'t> {
 impl Ty {
     /// The type of a property, where it is an object that has it.
     ///
-    /// Fails with `AllocError` for want of memory.
+    /// Fails with `AllocError` when out of memory.
     #[tactic(auto, using(crate::proofs::TypeFields::fused_type))]
     pub fn property(&self, alloc: Global, name: &str) -> Result<Option<Property<'_>>, AllocError>
         ensures { IfOk result (λ found. option_map property_type found ≡ property_in name.now (ty_of self.now)) }
@@ -53,7 +53,7 @@ pub(crate) fn made<'t>(found: Option<Ty>) -> Option<Property<'t>>
 
 impl Fused {
     /// The type of a property: what the fields of its name have in common, where an object has one, else what the types of other fields
-    /// have in common, where there may be others. Fails with `AllocError` for want of memory, as all below.
+    /// have in common, where there may be others. Fails with `AllocError` when out of memory, as all below.
     pub(crate) fn property(&self, alloc: Global, name: &str) -> Result<Option<Ty>, AllocError>
         ensures { IfOk result (λ found. option_map ty_of found ≡ property_in name.now (fused_of self.now)) }
     {
@@ -86,7 +86,7 @@ impl Fused {
     }
 }
 
-/// What a type has in common with that of a property, where both are there. Fails with `AllocError` for want of memory.
+/// What a type has in common with that of a property, where both are there. Fails with `AllocError` when out of memory.
 pub(crate) fn common_property(
     alloc: Global,
     sofar: Option<Ty>,
@@ -101,7 +101,7 @@ pub(crate) fn common_property(
     }
 }
 
-/// What a type has in common with another, where both are there. Fails with `AllocError` for want of memory, as below.
+/// What a type has in common with another, where both are there. Fails with `AllocError` when out of memory, as below.
 pub(crate) fn common_type(
     alloc: Global,
     sofar: Option<Ty>,

@@ -85,7 +85,7 @@ impl Field {
     }
 }
 
-/// A name as a text. Names of a file that was read are UTF-8: so this fails for want of memory alone.
+/// A name as a text. Names of a file that was read are UTF-8: so this fails only when out of memory.
 pub fn name_text(alloc: Global, name: &[u8]) -> Result<String, AllocError>
     ensures { IfOk result (λ s. string_bytes s ≡ name.now) }
 {
@@ -191,7 +191,7 @@ impl Listing {
     }
 }
 
-/// The same type once more. Objects are shared, so that their fields take neither time nor memory again. Fails for want of memory alone.
+/// The same type once more. Objects are shared, so that their fields take neither time nor memory again. Fails only when out of memory.
 #[tactic(auto, using(crate::proofs::TypeFields::fused_type))]
 pub fn copy(alloc: Global, ty: &Ty) -> Result<Ty, AllocError>
     ensures { IfOk result (λ t. ty_of t ≡ ty_of ty.now) }

@@ -3,16 +3,16 @@ use Rattle.std.proofs.Common.{◌≡◌, ℕ, zero, suc, ◌+◌, ◌-◌, ◌<�
 use Rattle.std.proofs.lemmas.Grind.{common_steps}
 use Rattle.al_base.specs.declared.codes.YamlCode.TheVariants as yaml
 use Rattle.al_scalar.specs.Taken.{Fault}
-use Rattle.al_yaml.specs.Limits.{broken_limit, most_counted}
-use Rattle.al_yaml.specs.Node.{Node, nodes_in, text_in, levels_in}
+use Rattle.al_yaml_tree.specs.Limits.{broken_limit, most_counted}
+use Rattle.al_yaml_tree.specs.Node.{Node, nodes_in, text_in, levels_in}
 use Rattle.al_scalar.specs.Line.{start}
 use Rattle.al_scalar.specs.Private.Places.{lines_at}
 use Rattle.al_scalar.proofs.RestLemmas.{start-at}
-use Rattle.al_yaml.specs.Content.{anchor_name, behind_name}
+use Rattle.al_yaml_tree.specs.Content.{anchor_name, behind_name}
 use Rattle.al_yaml_parts.specs.Private.Reads.{alias_part}
 use Rattle.al_yaml_parts.specs.declared.faults.ReadError.{ReadError}
 use Rattle.al_yaml_parts.proofs.ReadLemmas.{bind-ok, stops-bind, stops-from}
-use Rattle.al_yaml.specs.Reading.{Reading, Part, part, gives, ◌>>=◌, Anchor, start_with, alias, alias_of, alias_start, deepest}
+use Rattle.al_yaml_tree.specs.Reading.{Reading, Part, part, gives, ◌>>=◌, Anchor, start_with, alias, alias_of, alias_start, deepest}
 use Rattle.al_yaml_parts.specs.Private.Reads.{State, run, run_outcome, Stops}
 use Rattle.al_yaml_parts.proofs.RunLemmas.{run-fails, run-gives, run-any_start, run-broken_start}
 

@@ -6,8 +6,8 @@ use Rattle.al_scalar.specs.Places.{first_text}
 use Rattle.al_scalar.specs.Private.Places.{lines_at, text_at, IsLineEnd}
 use Rattle.al_scalar.specs.Block.{at_end}
 use Rattle.al_scalar.specs.Taken.{Fault, fault}
-use Rattle.al_yaml.specs.Content.{behind, is_skipped, line_ended}
-use Rattle.al_yaml.specs.Document.{first_line, document_start, ended_behind, last_line, document_end}
+use Rattle.al_yaml_tree.specs.Content.{behind, is_skipped, line_ended}
+use Rattle.al_yaml_tree.specs.Document.{first_line, document_start, ended_behind, last_line, document_end}
 use Rattle.al_yaml_parts.specs.Private.DocumentLines.{text_line, IsBehindMarker}
 use Rattle.al_yaml_parts.proofs.LineLemmas.{behind-one}
 use Rattle.al_scalar.proofs.RestLemmas.{start-at}

@@ -10,9 +10,9 @@ use Rattle.std.proofs.Common.{zero}
 use Rattle.std.proofs.lemmas.Bool.{eqb-true}
 use Rattle.al_scalar.specs.Plain.{Context, flow, block, is_value_colon, ends_key, begins_flow_indicator}
 use Rattle.al_scalar.proofs.MarkerLemmas.{begins-inside}
-use Rattle.al_yaml.specs.Content.{same_line, characters, behind}
-use Rattle.al_yaml.specs.Flow as items
-use Rattle.al_yaml.specs.Keys as keys
+use Rattle.al_yaml_tree.specs.Content.{same_line, characters, behind}
+use Rattle.al_yaml_tree.specs.Flow as items
+use Rattle.al_yaml_tree.specs.Keys as keys
 use Rattle.al_yaml_parts.specs.Private.Places.{IsColon}
 use Rattle.al_yaml_parts.proofs.LineLemmas.{solid-lines, behind-one}
 use Rattle.al_scalar.proofs.LineParts.{blanks_dropped-stays, Kind, at_file_end, at_break, at_byte, kind, end-here}

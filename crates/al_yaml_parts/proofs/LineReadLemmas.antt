@@ -12,14 +12,14 @@ use Rattle.al_scalar.specs.Scalar as value
 use Rattle.al_scalar.specs.Scalar.{scalar_at}
 use Rattle.al_scalar.specs.Taken.{Fault}
 use Rattle.al_scalar.specs.declared.scalars.ScalarRead.{ScalarRead}
-use Rattle.al_yaml.specs.Node as tree
-use Rattle.al_yaml.specs.Reading.{Reading, Part, part, gives, given, listed, start_of, ◌>>=◌}
-use Rattle.al_yaml.specs.Limits.{broken_limit}
-use Rattle.al_yaml.specs.Content.{is_quote}
-use Rattle.al_yaml.specs.Blocks.{scalar_left, scalar_node_at}
-use Rattle.al_yaml.specs.View.{view}
+use Rattle.al_yaml_tree.specs.Node as tree
+use Rattle.al_yaml_tree.specs.Reading.{Reading, Part, part, gives, given, listed, start_of, ◌>>=◌}
+use Rattle.al_yaml_tree.specs.Limits.{broken_limit}
+use Rattle.al_yaml_tree.specs.Content.{is_quote}
+use Rattle.al_yaml_tree.specs.Blocks.{scalar_left, scalar_node_at}
+use Rattle.al_yaml_tree.specs.View.{view}
 use Rattle.al_yaml_parts.specs.declared.part.Part as code
-use Rattle.al_yaml.specs.Keys.{Key, one_line, with_lines, read_with_lines, plain_on_line, key_scalar, behind_colon, key_from}
+use Rattle.al_yaml_tree.specs.Keys.{Key, one_line, with_lines, read_with_lines, plain_on_line, key_scalar, behind_colon, key_from}
 use Rattle.al_yaml_parts.specs.Private.Places.{IsReadInside}
 use Rattle.al_yaml_parts.specs.Private.Reads.{State, run, counted, Stops, Refuses, Answers, part_of}
 use Rattle.al_yaml_parts.specs.declared.faults.ReadError.{ReadError}

@@ -10,7 +10,7 @@ use Rattle.al_scalar.specs.Plain.{is_flow_indicator}
 use Rattle.al_scalar.proofs.LineLemmas.{cells_between-more, with_cells_before-more}
 use Rattle.al_scalar.proofs.PlainLemmas.{text_at-cell}
 use Rattle.al_scalar.proofs.SingleLemmas.{is_inside, never, text-line_end}
-use Rattle.al_yaml.specs.Content.{anchor_cells, anchor_name, behind, behind_name, ends_name, has_no_name, is_property, same_line}
+use Rattle.al_yaml_tree.specs.Content.{anchor_cells, anchor_name, behind, behind_name, ends_name, has_no_name, is_property, same_line}
 use Rattle.al_yaml_parts.proofs.Choices.{if-true, if-false}
 use Rattle.al_yaml_parts.proofs.LineLemmas.{first_cell, solid-lines}
 

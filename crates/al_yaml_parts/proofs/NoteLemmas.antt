@@ -1,13 +1,13 @@
 -- Answers: what is read behind one, and a node that is complete with its anchor.
 use Rattle.std.proofs.Common.{◌≡◌, ℕ, List, refl, sym, ap, ◌∙◌, Option, Some, None, Ok, Err}
-use Rattle.al_yaml.specs.Node as tree
-use Rattle.al_yaml.specs.Node.{Node}
-use Rattle.al_yaml.specs.Reading.{Reading, Part, part, anchored, gives, fails, spanned, ◌>>=◌}
+use Rattle.al_yaml_tree.specs.Node as tree
+use Rattle.al_yaml_tree.specs.Node.{Node}
+use Rattle.al_yaml_tree.specs.Reading.{Reading, Part, part, anchored, gives, fails, spanned, ◌>>=◌}
 use Rattle.al_yaml_parts.specs.Private.Answers.{Answer, Mark, answered, noting}
 use Rattle.al_yaml_parts.specs.Private.Answers.{completing, mark_of}
 use Rattle.al_scalar.specs.Taken.{Fault}
 use Rattle.al_yaml_parts.specs.Private.Reads.{State, run, Stops, anchor_at, noted_at, part_of}
-use Rattle.al_yaml.specs.View.{view}
+use Rattle.al_yaml_tree.specs.View.{view}
 use Rattle.al_yaml_parts.specs.declared.faults.ReadError.{ReadError}
 use Rattle.al_yaml_parts.specs.declared.part.Part as code
 use Rattle.al_yaml_parts.proofs.RunLemmas.{run-anchored, run-bind, run-stop}

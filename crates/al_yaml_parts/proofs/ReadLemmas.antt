@@ -7,20 +7,20 @@ use Rattle.al_scalar.specs.Scalar.{span}
 use Rattle.al_scalar.specs.Private.Places.{lines_at}
 use Rattle.al_scalar.specs.Private.Contract.{read_of}
 use Rattle.al_scalar.specs.declared.scalars.ScalarRead.{ScalarRead}
-use Rattle.al_yaml.specs.Flow.{empty_node}
+use Rattle.al_yaml_tree.specs.Flow.{empty_node}
 use Rattle.al_yaml_parts.specs.declared.part.Part as code
 use Rattle.al_scalar.proofs.RestLemmas.{start-at}
 use Rattle.al_scalar.specs.Taken.{Fault}
-use Rattle.al_yaml.specs.Node as tree
-use Rattle.al_yaml.specs.Reading.{Reading, Part, part, given, gives, listed, start_of, spanned, ◌>>=◌}
-use Rattle.al_yaml.specs.Limits.{broken_limit}
+use Rattle.al_yaml_tree.specs.Node as tree
+use Rattle.al_yaml_tree.specs.Reading.{Reading, Part, part, given, gives, listed, start_of, spanned, ◌>>=◌}
+use Rattle.al_yaml_tree.specs.Limits.{broken_limit}
 use Rattle.al_yaml_parts.specs.Private.Places.{fault_of}
 use Rattle.al_yaml_parts.specs.Private.Reads.{State, run, counted, Stops, Refuses, IsRead, part_of}
-use Rattle.al_yaml.specs.View.{view, entry_view, nodes_of, entries_of}
+use Rattle.al_yaml_tree.specs.View.{view, entry_view, nodes_of, entries_of}
 use Rattle.al_yaml_parts.specs.declared.faults.ReadError.{ReadError}
 use Rattle.al_yaml_parts.specs.declared.faults.ReadError.TheVariants as stop
-use Rattle.al_yaml.specs.declared.node.Node.{Node}
-use Rattle.al_yaml.specs.declared.node.Entry.{Entry}
+use Rattle.al_yaml_tree.specs.declared.node.Node.{Node}
+use Rattle.al_yaml_tree.specs.declared.node.Entry.{Entry}
 use Rattle.al_yaml_parts.proofs.RunLemmas.{run-bind, run-stop, run-gives, run-refused, run-given, run-start, run-broken}
 
 -- ---- faults stay

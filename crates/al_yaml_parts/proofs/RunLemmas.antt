@@ -3,8 +3,8 @@ use Rattle.std.proofs.Common.{◌≡◌, ℕ, ◌+◌, List, [], ◌∷◌, ◌+
 use Rattle.std.specs.Prelude.{nat_lt}
 use Rattle.al_base.specs.declared.codes.YamlCode.{YamlCode}
 use Rattle.al_scalar.specs.Taken.{Fault}
-use Rattle.al_yaml.specs.Reading.{Start, start_of, start_with, Anchor, anchored, with_anchor, nothing_known, listed, Known, Outcome, Reading, gives, fails, given, after, next, ◌>>=◌}
-use Rattle.al_yaml.specs.Limits.{broken_limit, unless_broken, limited, nodes_listed, text_listed, max_nodes, max_text, max_depth}
+use Rattle.al_yaml_tree.specs.Reading.{Start, start_of, start_with, Anchor, anchored, with_anchor, nothing_known, listed, Known, Outcome, Reading, gives, fails, given, after, next, ◌>>=◌}
+use Rattle.al_yaml_tree.specs.Limits.{broken_limit, unless_broken, limited, nodes_listed, text_listed, max_nodes, max_text, max_depth}
 use Rattle.al_yaml_parts.specs.Private.Reads.{State, finished, state_after, run_outcome, run, counted, noted, at_start}
 
 limit-none : (a d : Bool) (e f : Fault) (below below' rest : Option Fault) → cond a (Some e) (cond d (Some f) below) ≡ None

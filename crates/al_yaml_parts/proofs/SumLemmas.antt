@@ -1,9 +1,9 @@
 -- What is counted of a node, node after node.
 use Rattle.std.proofs.Common.{◌≡◌, ℕ, ◌+◌, ◌<◌, List, [], ◌∷◌, ◌++◌, max, refl, ap, sym, ◌∙◌, arith, rules}
-use Rattle.al_yaml.specs.Access.{nodes, entries}
-use Rattle.al_yaml.specs.Limits.{most_counted}
-use Rattle.al_yaml.specs.Node.{Node, Nodes, Entries, scalar, sequence, mapping, no_nodes, item, no_entries, entry, greater_of}
-use Rattle.al_yaml.specs.Node.{nodes_in, nodes_in_items, nodes_in_entries, text_in, text_in_items, text_in_entries, levels_in, levels_in_items, levels_in_entries}
+use Rattle.al_yaml_tree.specs.Access.{nodes, entries}
+use Rattle.al_yaml_tree.specs.Limits.{most_counted}
+use Rattle.al_yaml_tree.specs.Node.{Node, Nodes, Entries, scalar, sequence, mapping, no_nodes, item, no_entries, entry, greater_of}
+use Rattle.al_yaml_tree.specs.Node.{nodes_in, nodes_in_items, nodes_in_entries, text_in, text_in_items, text_in_entries, levels_in, levels_in_items, levels_in_entries}
 use Rattle.al_yaml_parts.specs.Private.Sums.{IsOwn, IsSums, inside, members, own_level, own_text, within}
 use Rattle.al_yaml_parts.specs.declared.sums.Sums.{Sums}
 

@@ -1,12 +1,12 @@
 //! Anchors (YAML 1.2.2, 6.9.2), the nodes that they name, and the aliases that stand for them (7.1).
 
 ghost use Rattle.al_scalar.specs.Private.Places.{cells_between, lines_at, text_at, with_cells_before};
-ghost use Rattle.al_yaml.specs.Content as content;
+ghost use Rattle.al_yaml_tree.specs.Content as content;
 ghost use Rattle.al_yaml_parts.specs.Private.Files.{left_at, size};
-ghost use Rattle.al_yaml.specs.Reading as reading;
-ghost use Rattle.al_yaml.specs.Reading.{with_anchor, nothing_known};
+ghost use Rattle.al_yaml_tree.specs.Reading as reading;
+ghost use Rattle.al_yaml_tree.specs.Reading.{with_anchor, nothing_known};
 ghost use Rattle.al_yaml_parts.specs.Private.Reads.{IsRead, IsStopInside, anchor_at, anchor_seen, known_of, noted_at, state_of};
-ghost use Rattle.al_yaml.specs.View.{view};
+ghost use Rattle.al_yaml_tree.specs.View.{view};
 ghost use Rattle.std.specs.Prelude.{IfErr, IfOk, length, true, ◌+◌, ◌<◌, ◌≡◌, ◌≤◌};
 
 use crate::faults::ReadError;
@@ -18,7 +18,7 @@ use crate::sums::{deepest, sums_of};
 use al_base::YamlCode;
 use al_scalar::FaultAt;
 use al_scalar::lines::is_blank_or_end;
-use al_yaml::{Node, sharable, shared_node};
+use al_yaml_tree::{Node, sharable, shared_node};
 use std::alloc::{AllocError, Global};
 use std::collections::BTreeMap;
 use std::rc::Rc;
@@ -106,7 +106,7 @@ impl Anchors {
 
     /// A node is complete with the anchor whose indicator stands at an offset. It is shared from here on.
     ///
-    /// Fails with `AllocError` for want of memory.
+    /// Fails with `AllocError` when out of memory.
     #[inline(never)]
     pub fn complete(&mut self, file: &File, at: usize, node: Node) -> Result<Node, AllocError>
         ensures node { IfOk result (λ n. view n ≡ view node) }

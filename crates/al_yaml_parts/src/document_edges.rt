@@ -1,8 +1,8 @@
 //! What stands round a document's root.
 
 ghost use Rattle.al_scalar.specs.Private.Places.{lines_at, text_at};
-ghost use Rattle.al_yaml.specs.Content as content;
-ghost use Rattle.al_yaml.specs.Document as document;
+ghost use Rattle.al_yaml_tree.specs.Content as content;
+ghost use Rattle.al_yaml_tree.specs.Document as document;
 ghost use Rattle.al_yaml_parts.specs.Private.DocumentLines.{IsBehindMarker, text_line};
 ghost use Rattle.al_yaml_parts.specs.Private.Places.{Shows};
 ghost use Rattle.std.specs.Prelude.{◌<◌, ◌≡◌, ◌≤◌, IfErr, IfOk, false, length};

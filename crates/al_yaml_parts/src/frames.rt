@@ -3,7 +3,7 @@
 use crate::flow_nodes::Bracket;
 use crate::slots::Cursor;
 use al_scalar::ScalarRead;
-use al_yaml::{Entry, Node};
+use al_yaml_tree::{Entry, Node};
 
 /// What was read of an open flow mapping, and the key whose value is a collection that is read now.
 #[derive(Drop)]

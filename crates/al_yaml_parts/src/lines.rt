@@ -2,7 +2,7 @@
 
 ghost use Rattle.al_scalar.specs.Line as line;
 ghost use Rattle.al_scalar.specs.Private.Places.{IsBreakByte, lines_at, text_at};
-ghost use Rattle.al_yaml.specs.Content as content;
+ghost use Rattle.al_yaml_tree.specs.Content as content;
 ghost use Rattle.std.specs.Prelude.{IsTrue, false, length, nat_le, nat_lt, true, ◌&&◌, ◌+◌, ◌<◌, ◌↔◌, ◌≡◌, ◌≤◌};
 
 use al_scalar::lines::{after_break, is_line_end, line_end};

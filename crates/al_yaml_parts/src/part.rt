@@ -1,12 +1,12 @@
 //! What was read of a node, and how far.
 
 ghost use Rattle.al_scalar.specs.Scalar as scalar;
-ghost use Rattle.al_yaml.specs.Node as tree;
-ghost use Rattle.al_yaml.specs.View.{entries_of, entry_view, nodes_of, view};
+ghost use Rattle.al_yaml_tree.specs.Node as tree;
+ghost use Rattle.al_yaml_tree.specs.View.{entries_of, entry_view, nodes_of, view};
 ghost use Rattle.std.specs.Prelude.{map, ◌<◌, ◌^◌, ◌≡◌};
 
 use al_base::Span;
-use al_yaml::{Entry, Node, mapping_node, sequence_node};
+use al_yaml_tree::{Entry, Node, mapping_node, sequence_node};
 
 /// A node that was read, the end of its written form, and the offset of what is left.
 #[derive(Drop)]

@@ -2,13 +2,13 @@
 
 ghost use Rattle.al_scalar.specs.Private.Contract.{read_of, reading_at};
 ghost use Rattle.al_scalar.specs.Private.Places.{lines_at};
-ghost use Rattle.al_yaml.specs.Blocks as block;
+ghost use Rattle.al_yaml_tree.specs.Blocks as block;
 ghost use Rattle.al_yaml_parts.specs.Private.Files.{left_at, size};
-ghost use Rattle.al_yaml.specs.Flow as flow;
-ghost use Rattle.al_yaml.specs.Node as tree;
+ghost use Rattle.al_yaml_tree.specs.Flow as flow;
+ghost use Rattle.al_yaml_tree.specs.Node as tree;
 ghost use Rattle.al_yaml_parts.specs.Private.Places.{IsReadInside, Shows};
 ghost use Rattle.al_yaml_parts.specs.Private.Reads.{Answers, IsBehind, IsRead, IsStopInside, part_of, state_of};
-ghost use Rattle.al_yaml.specs.View.{view};
+ghost use Rattle.al_yaml_tree.specs.View.{view};
 ghost use Rattle.std.specs.Prelude.{IfErr, IfOk, length, ◌+◌, ◌≡◌, ◌≤◌};
 ghost use Rattle.al_base.specs.Limits.{largest_file};
 
@@ -19,7 +19,7 @@ use crate::limits::State;
 use crate::part::Part;
 use crate::starts::is_block_start;
 use al_scalar::{FaultAt, ScalarContext, ScalarRead, read_scalar};
-use al_yaml::scalar_node;
+use al_yaml_tree::scalar_node;
 use std::alloc::Global;
 
 /// Reads the scalar at an offset.

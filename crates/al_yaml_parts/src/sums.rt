@@ -1,13 +1,13 @@
 //! What an alias counts of its node (YAML 1.2.2, 7.1): a loop over the nodes in it, with a stack of its own.
 
-ghost use Rattle.al_yaml.specs.Limits.{most_counted};
-ghost use Rattle.al_yaml.specs.Node as tree;
-ghost use Rattle.al_yaml.specs.Reading as reading;
+ghost use Rattle.al_yaml_tree.specs.Limits.{most_counted};
+ghost use Rattle.al_yaml_tree.specs.Node as tree;
+ghost use Rattle.al_yaml_tree.specs.Reading as reading;
 ghost use Rattle.al_yaml_parts.specs.Private.Sums.{IsOwn, IsSums, inside, members, uncounted_view, within};
-ghost use Rattle.al_yaml.specs.View.{entry_view, view};
+ghost use Rattle.al_yaml_tree.specs.View.{entry_view, view};
 ghost use Rattle.std.specs.Prelude.{IfOk, map, ◌++◌, ◌+◌, ◌≡◌};
 
-use al_yaml::{Entry, Kind, Node};
+use al_yaml_tree::{Entry, Kind, Node};
 use std::alloc::{AllocError, Global};
 
 /// What an alias counts of its node: the nodes in it, the bytes of their texts, and how deep collections stand in it; each
@@ -82,7 +82,7 @@ pub struct Uncounted<'a> {
 
 /// What an alias counts of a node. It takes time in proportion to the nodes in it, and memory for those that are left.
 ///
-/// Fails with `AllocError` for want of memory.
+/// Fails with `AllocError` when out of memory.
 pub fn sums_of(alloc: Global, node: &Node) -> Result<Sums, AllocError>
     ensures { IfOk result (IsSums (view node.now)) }
 {

@@ -12,7 +12,7 @@ use Rattle.al_rules.specs.Rules.{AreRuleFaults}
 use Rattle.al_tree.specs.Files.{jobs_of}
 use Rattle.al_tree.specs.declared.files.FileKind.{FileKind}
 use Rattle.al_tree.specs.declared.files.FileKind.TheVariants as kind
-use Rattle.al_yaml.specs.Node.{Node}
+use Rattle.al_yaml_tree.specs.Node.{Node}
 use Rattle.al_check.specs.RuleFaults.{needs_graph, rule_faults}
 
 module _ (graph : List (List ℕ)) where

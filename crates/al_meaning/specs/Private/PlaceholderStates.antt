@@ -3,7 +3,7 @@
 use Rattle.std.specs.Prelude.{ℕ, ◌+◌, ◌*◌, ◌-◌, List, [], ◌∷◌, Bool, true, ◌==◌, nat_lt, if◌then◌else◌, Option, Some, None, length}
 use Rattle.std.specs.Prelude.{slice_set}
 use Rattle.al_base.specs.Ascii as ascii
-use Rattle.al_grammar.specs.Tokens.{is_digit}
+use Rattle.al_expr_grammar.specs.Tokens.{is_digit}
 use Rattle.al_meaning.specs.declared.placeholders.PlaceholderState.{PlaceholderState}
 use Rattle.al_meaning.specs.declared.placeholders.PlaceholderState.TheVariants.{Outside, BehindOpening, InIndex, BehindClosing}
 use Rattle.al_meaning.specs.declared.placeholders.Turn.{Turn}

@@ -1,5 +1,5 @@
 -- What the program's own types stand for.
-use Rattle.al_reports.specs.Private.Views.{named_of}
+use Rattle.al_rules_reports.specs.Private.Views.{named_of}
 use Rattle.al_rules.specs.Needs.{Need}
 use Rattle.al_rules.specs.declared.needs.Need as rust
 

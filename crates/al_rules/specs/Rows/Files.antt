@@ -6,7 +6,7 @@ use Rattle.al_scalar.specs.declared.styles.Class.TheVariants.{Str}
 use Rattle.al_scalar.specs.declared.styles.Style.TheVariants.{Plain, SingleQuoted}
 use Rattle.al_base.specs.declared.faults.Fault.{Fault}
 use Rattle.al_base.specs.declared.faults.Span.{Span}
-use Rattle.al_yaml.specs.Node.{Node, scalar, sequence, mapping, no_nodes, item, no_entries, entry}
+use Rattle.al_yaml_tree.specs.Node.{Node, scalar, sequence, mapping, no_nodes, item, no_entries, entry}
 use Rattle.al_graph.specs.Within.{leads_within}
 use Rattle.al_rules.specs.Needs.{keys_of, needs_faults, needs_lists, position_in}
 use Rattle.al_tree.specs.Files.{jobs_of}

@@ -1,10 +1,10 @@
 -- What an edit of kept files leaves.
 use Rattle.std.specs.Prelude.{◌≡◌, ℕ, Bool, List, length}
 use Rattle.al_base.specs.Counted.{raised}
-use Rattle.al_folder.specs.Meaning.{IsUpTo, Meaning}
-use Rattle.al_folder.specs.Folder.{Folder}
-use Rattle.al_folder.specs.Affected.{affected}
-use Rattle.al_folder.specs.Kept.{Callers, Files, folder_of}
+use Rattle.al_session_folder.specs.Meaning.{IsUpTo, Meaning}
+use Rattle.al_session_folder.specs.Folder.{Folder}
+use Rattle.al_session_folder.specs.Affected.{affected}
+use Rattle.al_session_folder.specs.Kept.{Callers, Files, folder_of}
 use Rattle.al_session.specs.Session.{AreLinted}
 
 -- The files of the folder that was wanted, linted: the affected ones were checked, each once.

@@ -1,9 +1,9 @@
 -- The graph of calls that is kept beside the files.
 use Rattle.std.specs.Prelude.{Option, Some, None}
-use Rattle.al_folder.specs.Meaning.{Meaning}
-use Rattle.al_folder.specs.Folder.{Folder}
-use Rattle.al_folder.specs.Private.CallGraphs.{IsCallGraph}
-use Rattle.al_folder.specs.declared.loops.CallGraph.{CallGraph}
+use Rattle.al_session_folder.specs.Meaning.{Meaning}
+use Rattle.al_session_folder.specs.Folder.{Folder}
+use Rattle.al_session_folder.specs.Private.CallGraphs.{IsCallGraph}
+use Rattle.al_session_folder.specs.declared.loops.CallGraph.{CallGraph}
 
 -- what is kept of a folder's calls, if anything is, is their graph
 abbrev pub IsGraphIf : {I : Type 0} → Meaning I → Folder → Option CallGraph → Type 0

@@ -2,7 +2,7 @@
 use Rattle.std.specs.Prelude.{ℕ, List, [], ◌∷◌, Vec, string_bytes, bytes_eq, cond}
 use Rattle.std.specs.Global.{Global}
 use Rattle.al_base.specs.declared.faults.Fault.{Fault}
-use Rattle.al_folder.specs.Kept.{Files}
+use Rattle.al_session_folder.specs.Kept.{Files}
 
 -- the file at a path with other faults
 abbrev pub with_faults : {U I : Type 0} → Files U I → List ℕ → Vec Fault Global → Files U I

@@ -2,9 +2,9 @@
 use Rattle.std.specs.Prelude.{ℕ, List, Option, Some, None, option_map, Result, Ok, Err}
 use Rattle.al_scalar.specs.Private.Places.{lines_at}
 use Rattle.al_scalar.specs.Taken.{Fault}
-use Rattle.al_yaml.specs.Content.{anchor_name}
-use Rattle.al_yaml.specs.Node.{Node}
-use Rattle.al_yaml.specs.Reading.{Anchor, Reading, Part, anchored, ◌>>=◌}
+use Rattle.al_yaml_tree.specs.Content.{anchor_name}
+use Rattle.al_yaml_tree.specs.Node.{Node}
+use Rattle.al_yaml_tree.specs.Reading.{Anchor, Reading, Part, anchored, ◌>>=◌}
 use Rattle.al_yaml_parts.specs.Private.Reads.{State, anchor_at, noted, run}
 
 -- what reading ends with, under the limits

@@ -2,9 +2,9 @@
 use Rattle.std.specs.Prelude.{ℕ, ◌<◌, ◌≤◌, List, length, Option, Some, None, IfSome}
 use Rattle.al_scalar.specs.Private.Contract.{read_of}
 use Rattle.al_scalar.specs.Private.Places.{lines_at}
-use Rattle.al_yaml.specs.Keys as keys
+use Rattle.al_yaml_tree.specs.Keys as keys
 use Rattle.al_yaml_parts.specs.Private.Places.{IsReadInside}
-use Rattle.al_yaml.specs.Blocks as block
+use Rattle.al_yaml_tree.specs.Blocks as block
 use Rattle.al_yaml_parts.specs.declared.slots.Slot.{Slot}
 use Rattle.al_yaml_parts.specs.declared.slots.Spot.{Spot}
 use Rattle.al_yaml_parts.specs.declared.slots.Spot.TheVariants as spot

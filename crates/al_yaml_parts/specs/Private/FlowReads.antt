@@ -3,11 +3,11 @@ use Rattle.std.specs.Prelude.{◌≡◌, ℕ, ◌<◌, ◌≤◌, List, length, 
 use Rattle.al_base.specs.declared.codes.YamlCode.TheVariants as yaml
 use Rattle.al_scalar.specs.Private.Contract.{read_of}
 use Rattle.al_scalar.specs.Private.Places.{lines_at, text_at}
-use Rattle.al_yaml.specs.Node as tree
-use Rattle.al_yaml.specs.Content as content
-use Rattle.al_yaml.specs.Reading.{Reading, Part, fails, ◌>>=◌}
-use Rattle.al_yaml.specs.Flow.{CollectionReader}
-use Rattle.al_yaml.specs.Flow as flow
+use Rattle.al_yaml_tree.specs.Node as tree
+use Rattle.al_yaml_tree.specs.Content as content
+use Rattle.al_yaml_tree.specs.Reading.{Reading, Part, fails, ◌>>=◌}
+use Rattle.al_yaml_tree.specs.Flow.{CollectionReader}
+use Rattle.al_yaml_tree.specs.Flow as flow
 use Rattle.al_yaml_parts.specs.Private.Places.{option_lines, IsReadInside}
 use Rattle.al_yaml_parts.specs.Private.Answers.{mark_of, noting}
 use Rattle.al_yaml_parts.specs.Private.Reads.{State, run, Stops, IsBehind, part_of}

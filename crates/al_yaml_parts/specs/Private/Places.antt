@@ -6,7 +6,7 @@ use Rattle.al_scalar.specs.Places.{first_end}
 use Rattle.al_scalar.specs.Private.Places.{IsLineEnd, lines_at}
 use Rattle.al_scalar.specs.Taken.{Fault}
 use Rattle.al_scalar.specs.declared.scalars.ScalarRead.{ScalarRead}
-use Rattle.al_yaml.specs.Content as content
+use Rattle.al_yaml_tree.specs.Content as content
 use Rattle.al_scalar.specs.declared.faults.FaultAt.{FaultAt}
 use Rattle.al_yaml_parts.specs.declared.content.Next.{Next}
 use Rattle.al_yaml_parts.specs.declared.content.Next.TheVariants as next

@@ -5,12 +5,12 @@ use Rattle.std.specs.Cmp.Lexicographic.{slice_cmp}
 use Rattle.std.specs.Ordering.{nat_cmp}
 use Rattle.al_scalar.specs.Private.Places.{lines_at}
 use Rattle.al_scalar.specs.Taken.{Fault}
-use Rattle.al_yaml.specs.Node as tree
+use Rattle.al_yaml_tree.specs.Node as tree
 use Rattle.al_scalar.specs.Line.{Line, start}
-use Rattle.al_yaml.specs.Content.{anchor_name, behind_name}
-use Rattle.al_yaml.specs.Reading.{Anchor, Known, nothing_known, with_anchor, Outcome, Reading, Part, part, gives, alias, ◌>>=◌}
-use Rattle.al_yaml.specs.Limits.{limited_from, nodes_listed, text_listed}
-use Rattle.al_yaml.specs.View.{view}
+use Rattle.al_yaml_tree.specs.Content.{anchor_name, behind_name}
+use Rattle.al_yaml_tree.specs.Reading.{Anchor, Known, nothing_known, with_anchor, Outcome, Reading, Part, part, gives, alias, ◌>>=◌}
+use Rattle.al_yaml_tree.specs.Limits.{limited_from, nodes_listed, text_listed}
+use Rattle.al_yaml_tree.specs.View.{view}
 use Rattle.al_yaml_parts.specs.Private.Places.{fault_of}
 use Rattle.al_yaml_parts.specs.declared.anchors.Anchored.{Anchored}
 use Rattle.al_yaml_parts.specs.declared.anchors.Anchors.{Anchors}
@@ -72,7 +72,7 @@ abbrev pub noted_at : List ℕ → Option ℕ → tree.Node → State → State
 noted_at bytes None n s = s
 noted_at bytes (Some at) n s = noted (anchor_at bytes at n) s
 
--- reading ends with a fault, if not for want of memory
+-- reading ends with a fault, unless memory runs out
 abbrev pub Stops : {B : Type 0} → Reading B → State → ReadError → Type 0
 Stops reading before (stop.Fault f) = run before reading ≡ Err (fault_of f)
 Stops reading before stop.Memory = Unit {0}
@@ -95,7 +95,7 @@ pub record IsBehind (bytes : List ℕ) (at : ℕ) (p : code.Part) : Type 0 where
 abbrev pub alias_part : ℕ → List Line → Reading (Part tree.Node)
 alias_part depth ls = alias (anchor_name ls) (start ls) depth >>= (λ n. gives (part n (start (behind_name ls)) (behind_name ls)))
 
--- what is asked ends with a fault, if not for want of memory
+-- what is asked ends with a fault, unless memory runs out
 abbrev pub Refuses : {B : Type 0} → Result B Fault → ReadError → Type 0
 Refuses asked (stop.Fault f) = asked ≡ Err (fault_of f)
 Refuses asked stop.Memory = Unit {0}

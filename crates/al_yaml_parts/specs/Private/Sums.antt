@@ -1,9 +1,9 @@
 -- What an alias counts of its node (YAML 1.2.2, 7.1), in counts that stay at their greatest value.
 use Rattle.std.specs.Prelude.{◌≡◌, ℕ, ◌+◌, List, [], ◌∷◌, length, map}
-use Rattle.al_yaml.specs.Access.{nodes, entries}
-use Rattle.al_yaml.specs.Limits.{most_counted}
-use Rattle.al_yaml.specs.Node.{Node, scalar, sequence, mapping, nodes_in, text_in, levels_in}
-use Rattle.al_yaml.specs.View.{view}
+use Rattle.al_yaml_tree.specs.Access.{nodes, entries}
+use Rattle.al_yaml_tree.specs.Limits.{most_counted}
+use Rattle.al_yaml_tree.specs.Node.{Node, scalar, sequence, mapping, nodes_in, text_in, levels_in}
+use Rattle.al_yaml_tree.specs.View.{view}
 use Rattle.al_yaml_parts.specs.declared.sums.Sums.{Sums}
 use Rattle.al_yaml_parts.specs.declared.sums.Uncounted.{Uncounted}
 

@@ -1,7 +1,7 @@
 use Rattle.std.proofs.Common.{◌∙◌, ap, map, subst, sym}
 use Rattle.std.specs.Option.{option_copied}
 use Rattle.al_base.specs.Growth.{SameSet}
-use Rattle.al_folder.specs.Meaning.{AreAnswers}
+use Rattle.al_session_folder.specs.Meaning.{AreAnswers}
 use Rattle.al_check.specs.Reading.{CallsGiven, own_given}
 use Rattle.al_check.specs.Calling.{targets_read}
 use Rattle.al_check.proofs.Given.{targets_called}

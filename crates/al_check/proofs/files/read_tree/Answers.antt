@@ -1,12 +1,12 @@
 use Rattle.std.proofs.Common.{◌++◌, ◌∙◌, ap, ◌≡◌, ◌≤◌, length, sym, subst}
 use Rattle.std.specs.Prelude.{Ok}
 use Rattle.al_base.specs.Growth.{SameSet}
-use Rattle.al_shape.specs.Faults.{root_faults}
-use Rattle.al_yaml.proofs.LaidLemmas.{laid-higher}
-use Rattle.al_yaml.specs.Document.{tree_of}
-use Rattle.al_yaml.specs.Spans.{AreFrom, IsInside, IsLaid}
-use Rattle.al_yaml.specs.Texts.{HasTexts}
-use Rattle.al_yaml.specs.View.{view}
+use Rattle.al_tree_shape.specs.Faults.{root_faults}
+use Rattle.al_yaml_tree.proofs.LaidLemmas.{laid-higher}
+use Rattle.al_yaml_tree.specs.Document.{tree_of}
+use Rattle.al_yaml_tree.specs.Spans.{AreFrom, IsInside, IsLaid}
+use Rattle.al_yaml_tree.specs.Texts.{HasTexts}
+use Rattle.al_yaml_tree.specs.View.{view}
 use Rattle.al_tree.specs.Files.{kind_in, root_of, shape_of}
 use Rattle.al_base.proofs.Growing.{same_set}
 use Rattle.al_base.proofs.Sets.{set_more, set_trans}

@@ -14,5 +14,5 @@ pub returns-in_err-report-clause-stopped : goal.returns-in_err-report-clause-sto
 returns-in_err-report-clause-stopped g c =
     let p = err_from_is_err_and c.from_residual-in_err-report.result c.from_residual-in_err-report.ensures.1 in
     rw (p.1, p.2) (stopped_report c.args.oneline c.status.new.self.folder c.args.session.now.folder _ _ _ c.report.result
-    (ap (λ (s : SessionState). s.folder) c.status.ensures.unchanged) (c.in_err-report.was {u = tt}) c.in_err-report.ensures.front c.report.ensures.memory
+    (ap (λ (s : SessionState). s.folder) c.status.ensures.unchanged) (c.in_err-report.was {u = tt}) c.in_err-report.ensures.prefix c.report.ensures.memory
     c.report.ensures.no_read)

@@ -1,7 +1,7 @@
 use Rattle.std.proofs.Common.{◌++◌, string_bytes, map, sym, ◌∙◌, append-nil, append_assoc, arith}
 use Rattle.std.proofs.lemmas.List.{at_drop_all}
 use Rattle.al_base.proofs.Growing.{begins_trans}
-use Rattle.al_grammar.proofs.RestItems.{rest_item}
+use Rattle.al_expr_grammar.proofs.RestItems.{rest_item}
 use Rattle.al_meaning.specs.Private.CallViews.{argument_of}
 use Rattle.al_meaning.specs.Meaning.{wrong_arguments}
 use Rattle.al_meaning.proofs.calls.check_types.Goals as goal

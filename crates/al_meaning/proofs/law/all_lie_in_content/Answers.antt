@@ -1,5 +1,5 @@
 use Rattle.std.proofs.Common.{false, length}
-use Rattle.al_grammar.proofs.Inside.{tree_lies}
+use Rattle.al_expr_grammar.proofs.Inside.{tree_lies}
 use Rattle.al_meaning.proofs.Inside.{meaning_lies}
 use Rattle.al_meaning.proofs.law.all_lie_in_content.Goals as goal
 

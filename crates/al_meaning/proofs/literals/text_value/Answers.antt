@@ -8,7 +8,7 @@ use Rattle.std.proofs.lemmas.List.Concat.{flat_map-append}
 use Rattle.std.proofs.lemmas.Iterator.Consumers.{YieldsList-turn, YieldsList-end}
 use Rattle.al_meaning.specs.declared.literals.Quoting.{Quoting}
 use Rattle.al_meaning.specs.Private.QuotingStates.{unquoted_from, adds, moves}
-use Rattle.al_grammar.proofs.RestItems.{rest_item}
+use Rattle.al_expr_grammar.proofs.RestItems.{rest_item}
 use Rattle.al_meaning.proofs.LiteralLemmas.{states_give}
 use Rattle.al_meaning.proofs.literals.text_value.Goals as goal
 

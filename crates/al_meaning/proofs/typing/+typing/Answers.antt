@@ -8,14 +8,14 @@ use Rattle.al_types.specs.Types.{Number, String, Bool'}
 use Rattle.al_types.specs.Names.{function_of}
 use Rattle.al_types.specs.TypeViews.{ty_of}
 use Rattle.al_types.specs.Scopes.{scope_of}
-use Rattle.al_grammar.specs.Tree.{sign, steps_of, operands_of, arguments_of}
-use Rattle.al_grammar.specs.View.{tree_of, step_of, operand_of}
+use Rattle.al_expr_grammar.specs.Tree.{sign, steps_of, operands_of, arguments_of}
+use Rattle.al_expr_grammar.specs.View.{tree_of, step_of, operand_of}
 use Rattle.al_meaning.specs.Meaning.{typed, behind, walked, chained, begins_logic}
-use Rattle.al_grammar.proofs.Trees.{tree_of-Keyword, tree_of-Number, tree_of-Text, tree_of-Name, tree_of-Call, tree_of-Group, tree_of-Not, tree_of-Path, tree_of-Chain}
-use Rattle.al_grammar.proofs.Trees.{step_of-Property, step_of-All, step_of-Index}
+use Rattle.al_expr_grammar.proofs.Trees.{tree_of-Keyword, tree_of-Number, tree_of-Text, tree_of-Name, tree_of-Call, tree_of-Group, tree_of-Not, tree_of-Path, tree_of-Chain}
+use Rattle.al_expr_grammar.proofs.Trees.{step_of-Property, step_of-All, step_of-Index}
 use Rattle.al_meaning.proofs.TypedSteps.{unchanged, follows}
-use Rattle.al_grammar.proofs.TreeViews.{operand_view}
-use Rattle.al_grammar.proofs.RestItems.{rest_item}
+use Rattle.al_expr_grammar.proofs.TreeViews.{operand_view}
+use Rattle.al_expr_grammar.proofs.RestItems.{rest_item}
 use Rattle.al_base.proofs.Growing.{begins_trans}
 use Rattle.al_meaning.proofs.Paths.{called_on, path_on, chained_on, indexed_on, meanings_on, walked_on}
 use Rattle.al_meaning.proofs.typing.+typing.Goals as goal

@@ -3,9 +3,9 @@ use Rattle.al_meaning.specs.Private.CallViews.{argument_of}
 use Rattle.al_meaning.specs.Private.FoundTypes.{found_type}
 use Rattle.al_base.specs.Growth.{BeginsWith}
 use Rattle.al_types.specs.Scopes.{scope_of}
-use Rattle.al_grammar.specs.Tree.{steps_of, operands_of, arguments_of}
+use Rattle.al_expr_grammar.specs.Tree.{steps_of, operands_of, arguments_of}
 use Rattle.al_types.specs.TypeViews.{ty_of}
-use Rattle.al_grammar.specs.View.{tree_of, step_of, operand_of}
+use Rattle.al_expr_grammar.specs.View.{tree_of, step_of, operand_of}
 use Rattle.al_meaning.specs.Meaning.{behind, walked, chained, meanings, all_behind}
 use Rattle.al_meaning.proofs.typing.+typing.Given as goal
 

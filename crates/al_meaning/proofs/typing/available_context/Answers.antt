@@ -1,9 +1,9 @@
 use Rattle.std.proofs.Common.{◌≡◌, sym, ap, ◌∙◌, string_bytes, Some}
 use Rattle.al_types.specs.Names.{context_of}
 use Rattle.al_types.specs.Scopes.{scope_of}
-use Rattle.al_grammar.specs.View.{tree_of}
+use Rattle.al_expr_grammar.specs.View.{tree_of}
 use Rattle.al_meaning.specs.Meaning.{meaning}
-use Rattle.al_grammar.proofs.Trees.{tree_of-Name}
+use Rattle.al_expr_grammar.proofs.Trees.{tree_of-Name}
 use Rattle.al_meaning.proofs.Paths.{named_available}
 use Rattle.al_meaning.proofs.typing.available_context.Goals as goal
 

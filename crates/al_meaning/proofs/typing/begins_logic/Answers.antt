@@ -1,6 +1,6 @@
 use Rattle.std.proofs.Common.{◌≡◌, ◌∷◌, drop, arith}
-use Rattle.al_grammar.proofs.RestItems.{rest_item}
-use Rattle.al_grammar.proofs.TreeViews.{operand_view}
+use Rattle.al_expr_grammar.proofs.RestItems.{rest_item}
+use Rattle.al_expr_grammar.proofs.TreeViews.{operand_view}
 use Rattle.al_meaning.proofs.typing.begins_logic.Goals as goal
 
 pub returns-in-len1-up : goal.returns-in-len1-up

@@ -1,9 +1,9 @@
 use Rattle.std.proofs.Common.{◌≡◌, ◌++◌, ◌∷◌, [], map, sym, ap, ◌∙◌, append-nil, Some}
 use Rattle.std.proofs.lemmas.Result.{on_ok_weaker}
 use Rattle.al_base.specs.declared.codes.ExpressionCode.TheVariants as code
-use Rattle.al_grammar.specs.Refusal.{fault}
-use Rattle.al_grammar.specs.Tree.{steps_of}
-use Rattle.al_grammar.specs.View.{tree_of, step_of}
+use Rattle.al_expr_grammar.specs.Refusal.{fault}
+use Rattle.al_expr_grammar.specs.Tree.{steps_of}
+use Rattle.al_expr_grammar.specs.View.{tree_of, step_of}
 use Rattle.al_meaning.specs.Meaning.{base_name, untrusted}
 use Rattle.al_meaning.proofs.Paths.{untrusted_none, untrusted_some}
 use Rattle.al_meaning.proofs.typing.check_untrusted.Goals as goal

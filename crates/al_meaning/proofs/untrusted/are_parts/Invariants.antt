@@ -1,5 +1,5 @@
 use Rattle.std.proofs.Common.{◌≡◌, map, drop}
-use Rattle.al_grammar.specs.View.{step_of}
+use Rattle.al_expr_grammar.specs.View.{step_of}
 use Rattle.al_meaning.specs.Untrusted.{same_parts, part_of}
 use Rattle.al_meaning.proofs.untrusted.are_parts.Given as goal
 

@@ -1,5 +1,5 @@
 use Rattle.std.proofs.Common.{◌≡◌, ◌∷◌, map, drop}
-use Rattle.al_grammar.specs.View.{step_of}
+use Rattle.al_expr_grammar.specs.View.{step_of}
 use Rattle.al_meaning.specs.Untrusted.{chain_among, part_of}
 use Rattle.al_meaning.proofs.untrusted.find_chain.Given as goal
 

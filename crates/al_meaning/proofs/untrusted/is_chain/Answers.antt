@@ -3,7 +3,7 @@ use Rattle.std.proofs.lemmas.List.{length-map}
 use Rattle.std.proofs.lemmas.Grind.{common_steps}
 use Rattle.al_base.specs.Names.{same_name}
 use Rattle.al_meaning.specs.Untrusted.{same_parts, part_of}
-use Rattle.al_grammar.specs.View.{step_of}
+use Rattle.al_expr_grammar.specs.View.{step_of}
 use Rattle.al_meaning.proofs.untrusted.is_chain.Goals as goal
 
 and_false : (x : Bool) → x && false ≡ false

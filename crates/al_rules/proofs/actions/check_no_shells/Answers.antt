@@ -1,5 +1,5 @@
 use Rattle.std.proofs.Common.{◌≤◌, arith, length}
-use Rattle.al_yaml.specs.View.{view}
+use Rattle.al_yaml_tree.specs.View.{view}
 use Rattle.al_rules.specs.Rules.{no_shell_faults}
 use Rattle.al_base.proofs.Growing.{begins_trans}
 use Rattle.al_rules.proofs.Turns.{added_all, added_next}

@@ -1,7 +1,7 @@
 use Rattle.std.proofs.Common.{◌∙◌, [], ap, sym, length}
 use Rattle.std.specs.Option.{option_copied}
-use Rattle.al_folder.specs.Kept.{after, faults_of}
-use Rattle.al_folder.proofs.Views.{view_same}
+use Rattle.al_session_folder.specs.Kept.{after, faults_of}
+use Rattle.al_session_folder.proofs.Views.{view_same}
 use Rattle.al_session.proofs.Linted.{as_many}
 use Rattle.al_session.proofs.Loading.{as_many_paths, each_there, put_checked, put_folder, put_kept}
 use Rattle.al_session.proofs.builder.check_all.Goals as goal

@@ -1,7 +1,7 @@
 use Rattle.std.proofs.Common.{sym, ap, ◌∙◌, arith, is_some}
-use Rattle.al_folder.specs.Folder.{with_file}
-use Rattle.al_folder.specs.Kept.{folder_of}
-use Rattle.al_folder.proofs.Places.{absent, found}
+use Rattle.al_session_folder.specs.Folder.{with_file}
+use Rattle.al_session_folder.specs.Kept.{folder_of}
+use Rattle.al_session_folder.proofs.Places.{absent, found}
 use Rattle.al_session.proofs.Linted.{some_file}
 use Rattle.al_session.proofs.Loading.{loaded_by, new_kept, over_kept}
 use Rattle.al_session.proofs.Puts.{insert_is, set_is}

@@ -1,9 +1,9 @@
 use Rattle.std.proofs.Common.{◌∙◌, ◌++◌, ◌∷◌, [], ap, sym, arith, take, List, ℕ}
 use Rattle.al_base.specs.Paths.{path_fault_of}
 use Rattle.std.proofs.lemmas.List.{length-map, take_all}
-use Rattle.al_folder.specs.Folder.{paths_of}
-use Rattle.al_folder.specs.Kept.{folder_of}
-use Rattle.al_folder.proofs.Places.{length-folder_of}
+use Rattle.al_session_folder.specs.Folder.{paths_of}
+use Rattle.al_session_folder.specs.Kept.{folder_of}
+use Rattle.al_session_folder.proofs.Places.{length-folder_of}
 use Rattle.al_session.proofs.Loading.{paths_more, valid_at}
 use Rattle.al_session.proofs.builder.paths_in.Goals as goal
 

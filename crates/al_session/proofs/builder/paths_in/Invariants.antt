@@ -1,6 +1,6 @@
 use Rattle.std.proofs.Common.{◌≡◌, take}
-use Rattle.al_folder.specs.Folder.{paths_of}
-use Rattle.al_folder.specs.Kept.{folder_of}
+use Rattle.al_session_folder.specs.Folder.{paths_of}
+use Rattle.al_session_folder.specs.Kept.{folder_of}
 use Rattle.al_session.proofs.builder.paths_in.Given as goal
 
 abbrev pub invariant-loop-index : goal.invariant-loop-index

@@ -1,7 +1,7 @@
 use Rattle.std.proofs.Common.{◌≡◌, ◌++◌, ◌∷◌, [], ℕ, List, subst, append_assoc}
 use Rattle.std.proofs.lemmas.Result.{on_ok_weaker, on_err_weaker}
 use Rattle.std.specs.Io.KnownBytes.{Appends}
-use Rattle.al_base.specs.Counted.{AppendsFront}
+use Rattle.al_base.specs.Counted.{AppendsPrefix}
 use Rattle.al_base.specs.Shown.{shown}
 use Rattle.al_text.proofs.printing.write_line.Goals as goal
 
@@ -27,8 +27,8 @@ returns-clause-all g c =
     (λ x. subst (Appends _ _) (line_is a.place.path.now a.place.line.now a.place.column.now a.wording.head.now (shown a.first.now)
     a.wording.middle.now (shown a.second.now) a.wording.tail.now a.kind.now) x) w
 
-pub returns-clause-front : goal.returns-clause-front
-returns-clause-front g c =
+pub returns-clause-prefix : goal.returns-clause-prefix
+returns-clause-prefix g c =
     let w = rw (
       c.as_bytes.ensures.value,
       c.as_bytes-2.ensures.value,
@@ -37,8 +37,8 @@ returns-clause-front g c =
       c.as_bytes-5.ensures.value,
       c.as_bytes-6.ensures.value,
       c.as_bytes-7.ensures.value,
-    ) at c.write_fragments.ensures.front in
+    ) at c.write_fragments.ensures.prefix in
     let a = c.args in
     on_err_weaker c.write_fragments.result
-    (λ x. subst (AppendsFront _ _) (line_is a.place.path.now a.place.line.now a.place.column.now a.wording.head.now (shown a.first.now)
+    (λ x. subst (AppendsPrefix _ _) (line_is a.place.path.now a.place.line.now a.place.column.now a.wording.head.now (shown a.first.now)
     a.wording.middle.now (shown a.second.now) a.wording.tail.now a.kind.now) x) w

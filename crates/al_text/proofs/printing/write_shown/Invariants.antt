@@ -1,6 +1,6 @@
 use Rattle.std.proofs.Common.{◌≡◌, ◌≤◌, ℕ, List, Option, length}
 use Rattle.std.specs.Io.KnownBytes.{Appends}
-use Rattle.al_base.specs.Counted.{AppendsFront}
+use Rattle.al_base.specs.Counted.{AppendsPrefix}
 use Rattle.al_base.specs.Shown.{shown}
 use Rattle.al_text.proofs.printing.write_shown.Given as goal
 
@@ -8,7 +8,7 @@ abbrev pub invariant-loop-at : goal.invariant-loop-at
 invariant-loop-at g l = record {
   shorter : length l.rest ≤ length l.text;
   all : (b : Option (List ℕ)) → Appends (g.W.Write.contents l.writer.inner) b (shown l.rest) → Appends (g.W.Write.contents l.fn.writer.inner) b (shown l.text);
-  front : (b : Option (List ℕ)) → AppendsFront (g.W.Write.contents l.writer.inner) b (shown l.rest) → AppendsFront (g.W.Write.contents l.fn.writer.inner) b (shown l.text);
+  front : (b : Option (List ℕ)) → AppendsPrefix (g.W.Write.contents l.writer.inner) b (shown l.rest) → AppendsPrefix (g.W.Write.contents l.fn.writer.inner) b (shown l.text);
   unfailed : l.writer.failures ≡ l.fn.writer.failures;
 }
 

@@ -1,5 +1,5 @@
 use Rattle.std.proofs.Common.{◌≡◌, ◌≤◌, ◌-◌, length, drop}
-use Rattle.al_yaml.specs.Bytes.{are_continuations}
+use Rattle.al_yaml_tree.specs.Bytes.{are_continuations}
 use Rattle.al_yaml_parts.proofs.bytes.are_continuations.Given as goal
 
 abbrev pub invariant-bytes : goal.invariant-bytes

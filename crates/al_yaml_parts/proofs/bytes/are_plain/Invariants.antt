@@ -1,6 +1,6 @@
 use Rattle.std.proofs.Common.{◌≡◌, drop}
 use Rattle.std.specs.Prelude.{IsTrue}
-use Rattle.al_yaml.specs.Bytes.{ill_formed_at, unprintable_at}
+use Rattle.al_yaml_tree.specs.Bytes.{ill_formed_at, unprintable_at}
 use Rattle.al_yaml_parts.proofs.bytes.are_plain.Given as goal
 
 abbrev pub invariant-loop-at : goal.invariant-loop-at

@@ -1,6 +1,6 @@
 use Rattle.std.proofs.Common.{length, subst, sym, arith}
 use Rattle.al_base.specs.Spans.{LiesIn}
-use Rattle.al_yaml.proofs.CharacterLemmas.{character-inside}
+use Rattle.al_yaml_tree.proofs.CharacterLemmas.{character-inside}
 use Rattle.al_yaml_parts.proofs.bytes.byte_fault.Goals as goal
 
 pub returns-in-Some-unprintable_at-clause-inside : goal.returns-in-Some-unprintable_at-clause-inside

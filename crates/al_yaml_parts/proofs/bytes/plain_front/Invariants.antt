@@ -1,5 +1,5 @@
 use Rattle.std.proofs.Common.{◌≡◌, ◌≤◌, ◌-◌, length, drop}
-use Rattle.al_yaml.specs.Bytes.{ill_formed_at, unprintable_at}
+use Rattle.al_yaml_tree.specs.Bytes.{ill_formed_at, unprintable_at}
 use Rattle.al_yaml_parts.proofs.bytes.plain_front.Given as goal
 
 abbrev pub invariant-front : goal.invariant-front

@@ -1,5 +1,5 @@
 use Rattle.std.proofs.Common.{◌≡◌, ◌≤◌, ◌-◌, length, drop}
-use Rattle.al_yaml.specs.Bytes.{unprintable_at}
+use Rattle.al_yaml_tree.specs.Bytes.{unprintable_at}
 use Rattle.al_yaml_parts.proofs.bytes.unprintable_at.Given as goal
 
 abbrev pub invariant-characters : goal.invariant-characters

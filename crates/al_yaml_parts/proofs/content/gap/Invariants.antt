@@ -1,6 +1,6 @@
 use Rattle.std.proofs.Common.{length, ◌-◌, ◌≡◌, ◌≤◌, false}
 use Rattle.al_scalar.specs.Private.Places.{lines_at}
-use Rattle.al_yaml.specs.Flow.{gap}
+use Rattle.al_yaml_tree.specs.Flow.{gap}
 use Rattle.al_yaml_parts.proofs.content.gap.Given as goal
 
 abbrev pub invariant-lines : goal.invariant-lines

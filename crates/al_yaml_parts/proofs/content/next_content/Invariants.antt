@@ -1,6 +1,6 @@
 use Rattle.std.proofs.Common.{length, ◌-◌, ◌≡◌, ◌≤◌}
 use Rattle.al_scalar.specs.Private.Places.{lines_at}
-use Rattle.al_yaml.specs.Content.{content}
+use Rattle.al_yaml_tree.specs.Content.{content}
 use Rattle.al_yaml_parts.proofs.content.next_content.Given as goal
 
 abbrev pub invariant-lines : goal.invariant-lines

@@ -1,5 +1,5 @@
 use Rattle.al_scalar.specs.Private.Places.{lines_at}
-use Rattle.al_yaml.specs.Flow.{flow_content, flow_node_over, flow_property}
+use Rattle.al_yaml_tree.specs.Flow.{flow_content, flow_node_over, flow_property}
 use Rattle.al_yaml_parts.specs.Private.FlowReads.{flow_slot}
 use Rattle.al_yaml_parts.specs.Private.Reads.{state_of}
 use Rattle.al_yaml_parts.proofs.FlowNodeLemmas.{node-property, node-content}

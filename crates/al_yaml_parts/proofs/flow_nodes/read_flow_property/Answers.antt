@@ -1,13 +1,13 @@
 use Rattle.std.proofs.Common.{ap, ◌∙◌, Some}
 use Rattle.std.proofs.lemmas.Result.{err_from_is_err_and}
 use Rattle.al_scalar.specs.Private.Places.{lines_at}
-use Rattle.al_yaml.specs.Flow.{CollectionReader, flow_content, flow_property, flow_value}
+use Rattle.al_yaml_tree.specs.Flow.{CollectionReader, flow_content, flow_property, flow_value}
 use Rattle.al_yaml_parts.specs.Private.Answers.{completing, mark_of}
 use Rattle.al_yaml_parts.specs.Private.FlowReads.{flow_slot}
 use Rattle.al_yaml_parts.specs.Private.Reads.{alias_part}
 use Rattle.al_yaml_parts.specs.Private.Answers.{noting}
-use Rattle.al_yaml.specs.Node as tree
-use Rattle.al_yaml.specs.Reading.{Reading, Part, anchored}
+use Rattle.al_yaml_tree.specs.Node as tree
+use Rattle.al_yaml_tree.specs.Reading.{Reading, Part, anchored}
 use Rattle.al_yaml_parts.specs.Private.Reads.{run, anchor_at, state_of}
 use Rattle.al_yaml_parts.proofs.FlowNodeLemmas.{property-unnamed, property-alias, property-anchor}
 use Rattle.al_yaml_parts.proofs.NoteLemmas.{completing-noted, noted-part}

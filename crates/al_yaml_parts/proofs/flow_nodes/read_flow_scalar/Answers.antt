@@ -3,8 +3,8 @@ use Rattle.std.proofs.lemmas.Result.{err_from_is_err_and}
 use Rattle.al_scalar.specs.Private.Places.{lines_at}
 use Rattle.al_scalar.specs.Plain.{flow}
 use Rattle.al_scalar.specs.Scalar.{scalar_at}
-use Rattle.al_yaml.specs.Flow.{flow_content}
-use Rattle.al_yaml.specs.Reading.{listed, start_of}
+use Rattle.al_yaml_tree.specs.Flow.{flow_content}
+use Rattle.al_yaml_tree.specs.Reading.{listed, start_of}
 use Rattle.al_yaml_parts.specs.Private.Reads.{run, state_of}
 use Rattle.al_yaml_parts.specs.Private.Places.{fault_of}
 use Rattle.al_yaml_parts.proofs.RunLemmas.{run-broken}

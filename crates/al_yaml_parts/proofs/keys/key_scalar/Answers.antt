@@ -1,7 +1,7 @@
 use Rattle.al_scalar.specs.Private.Places.{lines_at}
 use Rattle.al_scalar.specs.Plain.{block}
 use Rattle.al_scalar.specs.Scalar.{scalar_at}
-use Rattle.al_yaml.specs.Keys.{key_scalar, plain_on_line}
+use Rattle.al_yaml_tree.specs.Keys.{key_scalar, plain_on_line}
 use Rattle.al_yaml_parts.proofs.LineReadLemmas.{answers-same, key-quoted, key-plain}
 use Rattle.al_yaml_parts.proofs.keys.key_scalar.Goals as goal
 

@@ -1,5 +1,5 @@
 use Rattle.std.proofs.Common.{◌∙◌, ap, sym, slice_index}
-use Rattle.al_yaml.specs.Content.{block_fault, start_fault}
+use Rattle.al_yaml_tree.specs.Content.{block_fault, start_fault}
 use Rattle.al_yaml_parts.proofs.LineLemmas.{first_cell}
 use Rattle.al_yaml_parts.proofs.starts.block_fault.Goals as goal
 

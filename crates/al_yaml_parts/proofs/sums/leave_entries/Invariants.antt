@@ -1,6 +1,6 @@
 use Rattle.std.proofs.Common.{◌≡◌, ◌++◌, drop, map}
 use Rattle.al_yaml_parts.specs.Private.Sums.{members, uncounted_view, within}
-use Rattle.al_yaml.specs.View.{entry_view}
+use Rattle.al_yaml_tree.specs.View.{entry_view}
 use Rattle.al_yaml_parts.proofs.sums.leave_entries.Given as goal
 
 abbrev pub invariant-entries : goal.invariant-entries

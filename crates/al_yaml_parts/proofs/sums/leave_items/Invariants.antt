@@ -1,6 +1,6 @@
 use Rattle.std.proofs.Common.{◌≡◌, ◌++◌, drop, map}
 use Rattle.al_yaml_parts.specs.Private.Sums.{uncounted_view, within}
-use Rattle.al_yaml.specs.View.{view}
+use Rattle.al_yaml_tree.specs.View.{view}
 use Rattle.al_yaml_parts.proofs.sums.leave_items.Given as goal
 
 abbrev pub invariant-items : goal.invariant-items

@@ -1,6 +1,6 @@
 use Rattle.std.proofs.Common.{◌≡◌, ◌++◌, ◌∷◌, [], ◌∙◌, ap, arith, map, subst, sym}
 use Rattle.std.proofs.lemmas.List.{map-append}
-use Rattle.al_yaml.specs.View.{view}
+use Rattle.al_yaml_tree.specs.View.{view}
 use Rattle.al_yaml_parts.specs.Private.Sums.{uncounted_view}
 use Rattle.al_yaml_parts.proofs.SumLemmas.{IsCounting, counting-next, fewer-left, nodes_left}
 use Rattle.al_yaml_parts.proofs.sums.sums_of.Goals as goal

@@ -1,6 +1,6 @@
 use Rattle.std.proofs.Common.{map}
 use Rattle.al_yaml_parts.specs.Private.Sums.{uncounted_view}
-use Rattle.al_yaml.specs.View.{view}
+use Rattle.al_yaml_tree.specs.View.{view}
 use Rattle.al_yaml_parts.proofs.SumLemmas.{IsCounting, nodes_left}
 use Rattle.al_yaml_parts.proofs.sums.sums_of.Given as goal
 

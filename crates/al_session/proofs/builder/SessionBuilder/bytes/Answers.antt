@@ -1,6 +1,6 @@
 use Rattle.std.proofs.Common.{sym, ap, ◌∙◌, Some}
 use Rattle.std.specs.Option.{option_map}
-use Rattle.al_folder.proofs.Views.{bytes_kept}
+use Rattle.al_session_folder.proofs.Views.{bytes_kept}
 use Rattle.al_session.proofs.builder.SessionBuilder.bytes.Goals as goal
 
 pub returns-in-Some : goal.returns-in-Some

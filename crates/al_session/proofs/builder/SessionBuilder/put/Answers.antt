@@ -1,6 +1,6 @@
 use Rattle.std.proofs.Common.{arith, sym, ◌∙◌}
-use Rattle.al_folder.specs.Kept.{folder_of}
-use Rattle.al_folder.proofs.Places.{length-folder_of}
+use Rattle.al_session_folder.specs.Kept.{folder_of}
+use Rattle.al_session_folder.proofs.Places.{length-folder_of}
 use Rattle.al_session.proofs.Refusals.{allowed}
 use Rattle.al_session.proofs.builder.SessionBuilder.put.Goals as goal
 

@@ -1,8 +1,0 @@
-use Rattle.std.proofs.Common.{◌≡◌, map, take}
-use Rattle.std.specs.List.{flat_map}
-use Rattle.al_calls.specs.Private.AnswerViews.{answered_of, compared_of}
-use Rattle.al_calls.specs.Private.Comparing.{comparisons}
-use Rattle.al_calls.proofs.comparisons.all_comparisons.Given as goal
-
-abbrev pub invariant-loop-one : goal.invariant-loop-one
-invariant-loop-one l = map compared_of l.found.items ≡ flat_map comparisons (map answered_of (take l.one-index l.answered))

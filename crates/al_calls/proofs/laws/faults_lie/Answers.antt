@@ -1,5 +1,0 @@
-use Rattle.al_calls.proofs.Inside.{call_faults_lie}
-use Rattle.al_calls.proofs.laws.faults_lie.Goals as goal
-
-pub returns : goal.returns
-returns c = call_faults_lie

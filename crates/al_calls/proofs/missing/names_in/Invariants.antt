@@ -1,9 +1,0 @@
-use Rattle.std.proofs.Common.{◌≡◌, take, map}
-use Rattle.al_declarations.specs.Declarations.{named_among, names_of}
-use Rattle.al_declarations.specs.Private.NameSets.{holds}
-use Rattle.al_shape.specs.Values.{member_of}
-use Rattle.al_calls.proofs.missing.names_in.Given as goal
-
-abbrev pub invariant-loop-member : goal.invariant-loop-member
-invariant-loop-member l =
-    holds l.names ≡ named_among (names_of (map member_of (take l.member-index l.given)))

@@ -1,0 +1,157 @@
+-- Each fault of a file's calls lies in the file that its tree lies in.
+use Rattle.std.specs.Prelude.{ℕ, Bool, List, [], ◌∷◌, ◌++◌, codes, drop, IfSome, Option, Some, None, find, option_map}
+use Rattle.std.proofs.Common.{cond}
+use Rattle.std.specs.List.{AllByRecursion, cons_option, flat_map}
+use Rattle.std.specs.Option.{option_map_or}
+use Rattle.al_base.specs.Spans.{LiesIn}
+use Rattle.al_base.specs.declared.codes.CallCode.{CallCode}
+use Rattle.al_base.specs.declared.codes.CallCode.TheVariants as code
+use Rattle.al_base.specs.declared.codes.Caller.{Caller}
+use Rattle.al_base.specs.declared.codes.Caller.TheVariants as caller
+use Rattle.al_base.specs.declared.faults.Fault.{Fault}
+use Rattle.al_base.specs.declared.faults.Span.{Span}
+use Rattle.al_types.specs.Types.{Type'}
+use Rattle.al_scalar.specs.Scalar.{Scalar}
+use Rattle.al_yaml_tree.specs.Node.{Node, scalar, sequence, mapping, span_of}
+use Rattle.al_yaml_tree.specs.Spans.{IsInside}
+use Rattle.al_tree_shape.specs.Keys.{key_of}
+use Rattle.al_tree_shape.specs.Values.{entries_at}
+use Rattle.al_check_interfaces.specs.Parameters.{is_parameter}
+use Rattle.al_check_interfaces.specs.Kinds.{parameters_of}
+use Rattle.al_check_interfaces.specs.declared.interfaces.Interface.{Interface}
+use Rattle.al_check_interfaces.specs.declared.interfaces.Interface.TheVariants.{Readable, Unreadable}
+use Rattle.al_check_interfaces.specs.declared.interfaces.Parameter.{Parameter}
+use Rattle.al_check_interfaces.specs.declared.interfaces.ParameterKind.{ParameterKind}
+use Rattle.al_check_interfaces.specs.declared.interfaces.ParameterKind.TheVariants.{Input, Secret}
+use Rattle.al_check_interfaces.specs.declared.interfaces.Signature.{Signature}
+use Rattle.al_check_uses.specs.Uses.{Call, calls_in, target_in}
+use Rattle.al_session_folder.specs.declared.lint.Target.{Target}
+use Rattle.al_check_uses.proofs.Inside.{AtLies, calls_lie, inside_kept}
+use Rattle.al_base.proofs.Elements.{each_both, each_either, each_of}
+use Rattle.al_check_uses.proofs.Parts.{entries_kept}
+use Rattle.al_check_calls.specs.Answers.{Answered, Typing, answered, answered_by, answered_faults, first_answer, values_in}
+use Rattle.al_check_calls.specs.CallFaults.{Given, Names, absent_faults, at_uses, call_faults, called_name, called_signature, caller_of, fault}
+use Rattle.al_check_calls.specs.CallFaults.{given_by, given_names, is_callable, is_missing, is_right, is_taken, missing_code, missing_name}
+use Rattle.al_check_calls.specs.CallFaults.{missing_names, name_faults, names_against, names_of_kind, signature_for, that_uses, type_faults, undefined_code}
+use Rattle.al_check_calls.specs.CallFaults.{undefined_name, undefined_names, uses_faults, value_faults, values_against, values_of, wrong_input}
+use Rattle.al_check_calls.specs.Laws.{CallFaultsLie}
+
+module _ (size : ℕ) where
+  abbrev Lies : Fault → Type 0
+  Lies f = LiesIn size f.span
+
+  abbrev AllLie : List Fault → Type 0
+  AllLie fs = AllByRecursion Lies fs
+
+  abbrev Pair : Node × Node → Type 0
+  Pair e = IsInside size e.0 × IsInside size e.1
+
+  abbrev GivenLies : Given → Type 0
+  GivenLies v = Pair v.0
+
+  abbrev CallLies : Call → Type 0
+  CallLies c = LiesIn size c.at × IsInside size c.site.node
+
+  node_lies : (n : Node) → IsInside size n → LiesIn size (span_of n)
+  node_lies (scalar s at) i = i
+  node_lies (sequence ns at) i = i.0
+  node_lies (mapping es at) i = i.0
+
+  unless : (b : Bool) (fs : List Fault) → AllLie fs → AllLie (cond b [] fs)
+  unless b fs p = each_either Lies b [] fs tt p
+
+  when : (b : Bool) (fs : List Fault) → AllLie fs → AllLie (cond b fs [])
+  when b fs p = each_either Lies b fs [] p tt
+
+  one_lies : (f : CallCode) (c : Call) (at : Span) (texts : List (List ℕ)) → LiesIn size at → AllLie (fault f c at texts ∷ [])
+  one_lies f c at texts i = (i, tt)
+
+  same_for_all : {X : Type 0} (f : X → List Fault) → ((x : X) → AllLie (f x)) → (xs : List X) → AllLie (flat_map f xs)
+  same_for_all f h [] = tt
+  same_for_all f h (x ∷ xs) = each_both Lies (f x) (flat_map f xs) (h x) (same_for_all f h xs)
+
+  undefined_lies : (k : ParameterKind) (c : Call) (s : Signature) (e : Node × Node) → Pair e → AllLie (undefined_name k c s e)
+  undefined_lies k c s e p =
+      unless (is_taken k c s (key_of e)) (fault (undefined_code k) c (span_of e.0) (key_of e ∷ called_name c s ∷ []) ∷ [])
+      (one_lies (undefined_code k) c (span_of e.0) (key_of e ∷ called_name c s ∷ []) (node_lies e.0 p.0))
+
+  missing_lies : (k : ParameterKind) (c : Call) (s : Signature) (given : Names) → LiesIn size c.at → (i : Parameter) → AllLie (missing_name k c s given i)
+  missing_lies k c s given at i =
+      when (is_missing given i) (at_uses (missing_code k) c (i.name ∷ called_name c s ∷ []))
+      (one_lies (missing_code k) c c.at (i.name ∷ called_name c s ∷ []) at)
+
+  entries_lie : (k : List ℕ) (n : Node) → IsInside size n → AllByRecursion Pair (entries_at k n)
+  entries_lie k n i = entries_kept (IsInside size) (AtLies size) (inside_kept size) (λ s at p. p) k n i
+
+  given_lie : (k : ParameterKind) (n : Node) → IsInside size n → AllByRecursion Pair (given_by k n)
+  given_lie Input n i = entries_lie (codes "with") n i
+  given_lie Secret n i = entries_lie (codes "secrets") n i
+
+  names_lie : (k : ParameterKind) (c : Call) (s : Signature) → CallLies c → AllLie (names_against k c s)
+  names_lie k c s p =
+      each_both Lies (undefined_names k c s) (missing_names k c s)
+      (each_of Pair Lies (undefined_name k c s) (undefined_lies k c s) (given_by k c.site.node) (given_lie k c.site.node p.1))
+      (same_for_all (missing_name k c s (given_names (given_by k c.site.node))) (missing_lies k c s (given_names (given_by k c.site.node)) p.0) (parameters_of k s))
+
+  kind_lies : (k : ParameterKind) (c : Call) (o : Option Signature) → CallLies c → AllLie (option_map_or (names_against k c) o [])
+  kind_lies k c None p = tt
+  kind_lies k c (Some s) p = names_lie k c s p
+
+  type_lies : (c : Call) (e : Node × Node) (t : Type') (i : Parameter) → Pair e → AllLie (type_faults c e t i)
+  type_lies c e t i p = unless (is_right t i.takes) _ (node_lies e.1 p.1, tt)
+
+  typed_lies : (c : Call) (v : Given) (o : Option Parameter) → GivenLies v → AllLie (option_map_or (type_faults c v.0 v.1) o [])
+  typed_lies c v None p = tt
+  typed_lies c v (Some i) p = type_lies c v.0 v.1 i p
+
+  wrong_lies : (c : Call) (inputs : List Parameter) (v : Given) → GivenLies v → AllLie (wrong_input c inputs v)
+  wrong_lies c inputs v p = typed_lies c v (find (is_parameter (key_of v.0)) inputs) p
+
+  values_against_lie : (by : Caller) (c : Call) (values : List Given) (o : Option Signature) → AllByRecursion GivenLies values → AllLie (values_against by c values o)
+  values_against_lie caller.Step c values o v = tt
+  values_against_lie caller.Job c values None v = tt
+  values_against_lie caller.Job c values (Some s) v = each_of GivenLies Lies (wrong_input c s.inputs) (wrong_lies c s.inputs) values v
+
+  absent_lies : (c : Call) (by : Caller) → LiesIn size c.at → AllLie (absent_faults c by)
+  absent_lies c caller.Step i = tt
+  absent_lies c caller.Job i = (i, tt)
+
+  uses_lie : (c : Call) (answer : Option Interface) → LiesIn size c.at → AllLie (uses_faults c answer)
+  uses_lie c None i = absent_lies c (caller_of c) i
+  uses_lie c (Some Unreadable) i = tt
+  uses_lie c (Some (Readable s)) i = unless (is_callable (caller_of c) s.role) (that_uses code.NotCallable c) (i, tt)
+
+  call_lies : (c : Call) (values : List Given) (answer : Option Interface) → CallLies c → AllByRecursion GivenLies values → AllLie (call_faults c values answer)
+  call_lies c values answer p v =
+      each_both Lies (uses_faults c answer ++ value_faults c values answer) (name_faults c answer)
+      (each_both Lies (uses_faults c answer) (value_faults c values answer) (uses_lie c answer p.0)
+      (values_against_lie (caller_of c) c values (called_signature c answer) v))
+      (each_both Lies (names_of_kind Input c answer) (names_of_kind Secret c answer)
+      (kind_lies Input c (signature_for Input c answer) p) (kind_lies Secret c (signature_for Secret c answer) p))
+
+  values_lie : (typing : Node → Scalar → Type') (es : List (Node × Node)) → AllByRecursion Pair es → AllByRecursion GivenLies (values_of typing es)
+  values_lie typing [] p = tt
+  values_lie typing (e ∷ es) p = (p.0, values_lie typing es p.1)
+
+  answered_lies : (typing : Typing) (a : Answered) → CallLies a.call → AllLie (answered_faults typing a)
+  answered_lies typing a p =
+      call_lies a.call (values_in typing a.call) a.answer p (values_lie (typing a.call.site) (given_by Input a.call.site.node) (given_lie Input a.call.site.node p.1))
+
+  put : (o : Option Answered) (rest : List Answered) → IfSome o (λ a. CallLies a.call) → AllByRecursion (λ a. CallLies a.call) rest → AllByRecursion (λ a. CallLies a.call) (cons_option o rest)
+  put None rest p ps = ps
+  put (Some a) rest p ps = (p, ps)
+
+  one_answered : (c : Call) (o : Option Target) (answer : Option Interface) → CallLies c → IfSome (option_map (λ t. answered_by c answer) o) (λ a. CallLies a.call)
+  one_answered c None answer p = tt
+  one_answered c (Some t) answer p = p
+
+  all_answered : (cs : List Call) (answers : List (Option Interface)) → AllByRecursion CallLies cs → AllByRecursion (λ a. CallLies a.call) (answered cs answers)
+  all_answered [] answers p = tt
+  all_answered (c ∷ cs) answers p =
+      put (option_map (λ t. answered_by c (first_answer answers)) (target_in c.form)) (answered cs (option_map_or (λ t. drop 1 answers) (target_in c.form) answers))
+      (one_answered c (target_in c.form) (first_answer answers) p.0) (all_answered cs (option_map_or (λ t. drop 1 answers) (target_in c.form) answers) p.1)
+
+pub call_faults_lie : CallFaultsLie
+call_faults_lie size kind typing root answers i =
+    each_of (λ a. CallLies size a.call) (Lies size) (answered_faults typing) (answered_lies size typing) (answered (calls_in kind root) answers)
+    (all_answered size (calls_in kind root) answers (calls_lie size kind root i))

@@ -1,0 +1,186 @@
+-- Names that are missing, call by call: behind one alike by the same `uses` only what all of them so far have given is looked up.
+use Rattle.std.proofs.Common.{◌≡◌, ◌∙◌, ◌⊎◌, ⊎_elim, inl, inr, zero, suc, List, [], ◌∷◌, ◌++◌, Bool, true, false, cond, Option, Some, None}
+use Rattle.std.proofs.Common.{ap, append-nil, arith, map, option_map, refl, subst, sym}
+use Rattle.std.specs.Prelude.{Contains, ◌&&◌, not}
+use Rattle.std.specs.List.{cons_option, filter, flat_map}
+use Rattle.std.specs.List.Sorted.{IsPermutation}
+use Rattle.std.specs.Option.{option_map_or}
+use Rattle.std.specs.Str.Lossy.{utf8_lossy}
+use Rattle.std.proofs.lemmas.Bool.{and_parts}
+use Rattle.std.proofs.lemmas.Grind.{flat_map-append}
+use Rattle.std.proofs.lemmas.List.Elements.{Contains-append_cases, Contains-append_left, Contains-append_right}
+use Rattle.std.proofs.lemmas.List.Sorted.{IsPermutation-map}
+use Rattle.al_base.proofs.Growing.{same_set}
+use Rattle.al_base.proofs.Sets.{from_flat_map, head_in, in_flat_map, set_behind, set_permuted, set_trans}
+use Rattle.al_base.specs.Growth.{SameSet}
+use Rattle.al_base.specs.contracts.faults.SpanPartialEq.TheImpl as span_eq
+use Rattle.al_base.specs.declared.codes.Code.TheVariants as kind_of_code
+use Rattle.al_base.specs.declared.faults.Fault.{Fault}
+use Rattle.al_check_interfaces.specs.Kinds.{parameters_of}
+use Rattle.al_check_interfaces.specs.Parameters.{is_mandatory, mandatory_of}
+use Rattle.al_check_interfaces.specs.declared.interfaces.Parameter.{Parameter}
+use Rattle.al_check_interfaces.specs.declared.interfaces.ParameterKind.{ParameterKind}
+use Rattle.al_check_interfaces.specs.declared.interfaces.ParameterKind.TheVariants.{Input, Secret}
+use Rattle.al_check_interfaces.specs.declared.interfaces.Signature.{Signature}
+use Rattle.al_check_uses.specs.Uses.{Call}
+use Rattle.al_check_calls.specs.Answers.{Answered}
+use Rattle.al_check_calls.specs.CallFaults.{given_by, given_names, missing_code, missing_name, names_against, names_of_kind, signature_for}
+use Rattle.al_check_calls.specs.Private.AnswerViews.{compared_of}
+use Rattle.al_check_calls.specs.Private.Comparing.{Comparison, HaveOneSignature, IsSaid, call_alike, compared_with, comparison_of, comparisons}
+use Rattle.al_check_calls.specs.Private.Comparing.{fault_unless_given, faults_of_names, gives, is_by_same_uses, mandatory_for, missing_fault, missing_of}
+use Rattle.al_check_calls.specs.Private.Comparing.{name_faults_of, parameter_if_given, undefined_of}
+use Rattle.al_check_calls.specs.declared.comparisons.Comparison as code
+use Rattle.al_check_calls.proofs.Alike.{likeness, span_exact}
+use Rattle.al_check_calls.proofs.Parts.{in_parts}
+
+-- ---- what is missing is among what each call has to give
+
+filtered_step : {A B : Type 0} (g : A → List B) (x : A) (rest : List A) (b : Bool) (first more : List B) →
+    first ≡ cond b (g x) [] → more ≡ flat_map g rest → first ++ more ≡ flat_map g (cond b (x ∷ rest) rest)
+filtered_step g x rest true first more h m = λ i. h i ++ m i
+filtered_step g x rest false first more h m = λ i. h i ++ m i
+
+filtered : {A B : Type 0} (p : A → Bool) (f g : A → List B) → ((x : A) → f x ≡ cond (p x) (g x) []) → (xs : List A) → flat_map f xs ≡ flat_map g (filter p xs)
+filtered p f g h [] = refl
+filtered p f g h (x ∷ xs) = filtered_step g x (filter p xs) (p x) (f x) (flat_map f xs) (h x) (filtered p f g h xs)
+
+either : (mandatory given : Bool) (fs : List Fault) → cond (mandatory && not given) fs [] ≡ cond mandatory (cond given [] fs) []
+either true true fs = refl
+either true false fs = refl
+either false given fs = refl
+
+pub missing_are : (q : Comparison) → missing_of q ≡ flat_map (fault_unless_given q) (mandatory_for q)
+missing_are q =
+    filtered is_mandatory (missing_name q.kind q.call q.signature (given_names (given_by q.kind q.call.site.node))) (fault_unless_given q)
+    (λ p. either (is_mandatory p) (gives q p) (missing_fault q p ∷ [])) (parameters_of q.kind q.signature)
+
+-- ---- one call more
+
+-- what a choice gives at most
+only : {X : Type 0} (b : Bool) (x y : X) → Contains (cond b [] (x ∷ [])) y → x ≡ y
+only true x y c = absurd (omega (arith, c.1))
+only false x y (zero, room, is) = is
+only false x y (suc k, room, is) = absurd (omega (arith, room))
+
+only_then : {X : Type 0} (b : Bool) (x y : X) → Contains (cond b (x ∷ []) []) y → x ≡ y
+only_then false x y c = absurd (omega (arith, c.1))
+only_then true x y (zero, room, is) = is
+only_then true x y (suc k, room, is) = absurd (omega (arith, room))
+
+module _ (q : Comparison) (left : List Parameter) (old : List Fault) (before : IsSaid q left old) where
+  abbrev found : List Fault
+  found = flat_map (fault_unless_given q) left
+
+  abbrev rest : List Parameter
+  rest = flat_map (parameter_if_given q) left
+
+  of_one : (p : Parameter) (f : Fault) → Contains (mandatory_for q) p → Contains (fault_unless_given q p) f → Contains (old ++ found) f
+  of_one p f at c =
+      ⊎_elim (λ l. Contains-append_right old found f (in_flat_map (fault_unless_given q) left p f l c))
+      (λ o. Contains-append_left old found f (subst (λ g. Contains old g) (only (gives q p) (missing_fault q p) f c) o)) (before.said p at)
+
+  all_found : SameSet (old ++ found) (old ++ flat_map (fault_unless_given q) (mandatory_for q))
+  all_found f = (
+    λ c. ⊎_elim (λ a. Contains-append_left old _ f a)
+        (λ b. Contains-append_right old _ f (from_flat_map (fault_unless_given q) left f (Contains (flat_map (fault_unless_given q) (mandatory_for q)) f)
+        (λ p at c'. in_flat_map (fault_unless_given q) (mandatory_for q) p f (before.among p at) c') b)) (Contains-append_cases old found f c),
+    λ c. ⊎_elim (λ a. Contains-append_left old found f a) (λ b. from_flat_map (fault_unless_given q) (mandatory_for q) f (Contains (old ++ found) f) (λ p at c'. of_one p f at c') b)
+        (Contains-append_cases old _ f c),
+  )
+
+  stays : (p : Parameter) (b : Bool) → gives q p ≡ b → Contains left p → Contains rest p ⊎ Contains (old ++ found) (missing_fault q p)
+  stays p true is l = inl (in_flat_map (parameter_if_given q) left p p l (subst (λ b. Contains (cond b (p ∷ []) []) p) (sym is) (head_in p [])))
+  stays p false is l =
+      inr (Contains-append_right old found (missing_fault q p) (in_flat_map (fault_unless_given q) left p (missing_fault q p) l
+      (subst (λ b. Contains (cond b [] (missing_fault q p ∷ [])) (missing_fault q p)) (sym is) (head_in (missing_fault q p) []))))
+
+  then_said : IsSaid q rest (old ++ found)
+  then_said = record {
+    among = λ p c. from_flat_map (parameter_if_given q) left p (Contains (mandatory_for q) p)
+        (λ z at c'. subst (λ y. Contains (mandatory_for q) y) (only_then (gives q z) z p c') (before.among z at)) c;
+    said = λ p at. ⊎_elim (λ l. stays p (gives q p) refl l) (λ o. inr (Contains-append_left old found (missing_fault q p) o)) (before.said p at);
+  }
+
+-- all that is missing of it is said behind it, and of the rest what it gives is left
+pub next_found : (q : Comparison) (left : List Parameter) (old new : List Fault) → IsSaid q left old → new ≡ old ++ flat_map (fault_unless_given q) left →
+    SameSet new (old ++ missing_of q)
+next_found q left old new before is =
+    set_trans new (old ++ flat_map (fault_unless_given q) left) (old ++ missing_of q) (same_set _ _ is)
+    (subst (λ l. SameSet (old ++ flat_map (fault_unless_given q) left) (old ++ l)) (sym (missing_are q)) (all_found q left old before))
+
+pub next_said : (q : Comparison) (left after : List Parameter) (old new : List Fault) → IsSaid q left old → new ≡ old ++ flat_map (fault_unless_given q) left →
+    after ≡ flat_map (parameter_if_given q) left → IsSaid q after new
+next_said q left after old new before is are =
+    subst (λ l. IsSaid q l new) (sym are) (subst (λ l. IsSaid q (flat_map (parameter_if_given q) left) l) (sym is) (then_said q left old before))
+
+-- of the first call by a `uses` all is left
+pub first_said : (q : Comparison) (left : List Parameter) (out : List Fault) → left ≡ mandatory_for q → IsSaid q left out
+first_said q left out are = subst (λ l. IsSaid q l out) (sym are) (record { among = λ p at. at; said = λ p at. inl at })
+
+-- ---- calls alike by one `uses`
+
+same_fault : (q r : Comparison) → is_by_same_uses q r ≡ true → HaveOneSignature q r → (p : Parameter) → missing_fault q p ≡ missing_fault r p
+same_fault q r h tells p =
+    let t = and_parts (call_alike q r) (span_eq.ghosts.eq q.call.at r.call.at) h in
+    let alike = likeness q r t.0 in
+    let at = span_exact q.call.at r.call.at t.1 in
+    let kind = alike.kind in
+    let by = alike.by in
+    let text = alike.text in
+    let one = tells by text in
+    λ i. record {
+      span = at i;
+      code = kind_of_code.Call (missing_code (kind i)) (by i);
+      args = map utf8_lossy (p.name ∷ option_map_or (λ n. n) (one i).name (text i) ∷ []);
+    }
+
+-- what is said of one is said of the other
+pub alike_said : (q r : Comparison) (left : List Parameter) (out : List Fault) → is_by_same_uses q r ≡ true → HaveOneSignature q r → IsSaid q left out → IsSaid r left out
+alike_said q r left out h tells said =
+    let alike = likeness q r (and_parts (call_alike q r) (span_eq.ghosts.eq q.call.at r.call.at) h).0 in
+    let kind = alike.kind in
+    let one = tells alike.by alike.text in
+    let same : mandatory_for q ≡ mandatory_for r = λ i. mandatory_of (parameters_of (kind i) (one i)) in
+    record {
+      among = λ p c. subst (λ l. Contains l p) same (said.among p c);
+      said = λ p c. ⊎_elim (λ l. inl l) (λ o. inr (subst (λ f. Contains out f) (same_fault q r h tells p) o)) (said.said p (subst (λ l. Contains l p) (sym same) c));
+    }
+
+-- those that were put in order
+pub order_found : (calls sorted : List code.Comparison) (old new : List Fault) → IsPermutation calls sorted →
+    SameSet new (old ++ flat_map missing_of (map compared_of sorted)) → SameSet new (old ++ flat_map missing_of (map compared_of calls))
+order_found calls sorted old new order is =
+    let before = flat_map missing_of (map compared_of calls) in
+    let behind = flat_map missing_of (map compared_of sorted) in
+    set_trans new (old ++ behind) (old ++ before) is
+    (set_behind old behind before (set_permuted missing_of (map compared_of calls) (map compared_of sorted) (IsPermutation-map compared_of calls sorted order)))
+
+-- ---- of all calls, both what isn't declared and what is missing
+
+put_first : (f : Comparison → List Fault) (o : Option Comparison) (more : List Comparison) → flat_map f (cons_option o more) ≡ option_map_or f o [] ++ flat_map f more
+put_first f None more = refl
+put_first f (Some q) more = refl
+
+of_kind : (k : ParameterKind) (c : Call) (o : Option Signature) → option_map_or name_faults_of (option_map (compared_with k c) o) [] ≡ option_map_or (names_against k c) o []
+of_kind k c None = refl
+of_kind k c (Some s) = refl
+
+of_secrets : (a : Answered) → flat_map name_faults_of (cons_option (comparison_of Secret a) []) ≡ names_of_kind Secret a.call a.answer
+of_secrets a =
+    put_first name_faults_of (comparison_of Secret a) [] ∙ append-nil (option_map_or name_faults_of (comparison_of Secret a) [])
+    ∙ of_kind Secret a.call (signature_for Secret a.call a.answer)
+
+of_call : (a : Answered) → flat_map name_faults_of (comparisons a) ≡ faults_of_names a
+of_call a =
+    put_first name_faults_of (comparison_of Input a) (cons_option (comparison_of Secret a) [])
+    ∙ λ i. of_kind Input a.call (signature_for Input a.call a.answer) i ++ of_secrets a i
+
+of_calls : (as' : List Answered) → flat_map name_faults_of (flat_map comparisons as') ≡ flat_map faults_of_names as'
+of_calls [] = refl
+of_calls (a ∷ as') = flat_map-append name_faults_of (comparisons a) (flat_map comparisons as') ∙ λ i. of_call a i ++ of_calls as' i
+
+pub all_names_found : (as' : List Answered) (qs : List Comparison) (old mid new : List Fault) → qs ≡ flat_map comparisons as' →
+    SameSet mid (old ++ flat_map undefined_of qs) → SameSet new (mid ++ flat_map missing_of qs) → SameSet new (old ++ flat_map faults_of_names as')
+all_names_found as' qs old mid new are undefined missing =
+    subst (λ l. SameSet new (old ++ l)) (ap (flat_map name_faults_of) are ∙ of_calls as')
+    (in_parts name_faults_of undefined_of missing_of (λ q. refl) qs old mid new undefined missing)

@@ -1,0 +1,13 @@
+use Rattle.std.proofs.Common.{◌≡◌, ◌++◌, drop, map}
+use Rattle.std.specs.Option.{option_copied}
+use Rattle.al_check_uses.specs.Private.CallViews.{site_of}
+use Rattle.al_check_calls.specs.Private.AnswerViews as views
+use Rattle.al_check_calls.specs.Private.AnswerViews.{answered_of}
+use Rattle.al_check_calls.proofs.answers.answered_at.Given as goal
+
+-- the calls so far, and the others with the answers that are left
+abbrev pub invariant-loop-call : goal.invariant-loop-call
+invariant-loop-call l =
+    map answered_of l.found.items
+    ++ views.answered_at (map site_of l.sites) (map (λ c. c.site) (drop l.call-index l.calls)) (map (λ a. option_copied a) l.left)
+    ≡ views.answered_at (map site_of l.sites) (map (λ c. c.site) l.calls) (map (λ a. option_copied a) l.answers)

@@ -1,0 +1,23 @@
+use Rattle.std.proofs.Common.{map, subst, sym, ◌++◌}
+use Rattle.std.proofs.lemmas.List.Sorted.{IsPermutation-map}
+use Rattle.std.proofs.lemmas.Result.{on_ok_weaker}
+use Rattle.std.specs.List.{flat_map}
+use Rattle.al_base.specs.Growth.{SameSet}
+use Rattle.al_check_calls.specs.Private.AnswerViews.{compared_of}
+use Rattle.al_check_calls.specs.Private.Comparing.{TellSignatures, missing_of}
+use Rattle.al_check_calls.proofs.Alike.{tell_permuted}
+use Rattle.al_check_calls.proofs.MissingNames.{order_found}
+use Rattle.al_check_calls.proofs.missing.check_missing.Goals as goal
+
+pub check_in_turn-requires : goal.check_in_turn-requires
+check_in_turn-requires c =
+    subst (λ l. TellSignatures (map compared_of l)) (sym c.as_slice.ensures.value)
+    (tell_permuted (map compared_of c.args.comparisons.items) (map compared_of c.in_order-calls.result.items)
+    (IsPermutation-map compared_of c.args.comparisons.items c.in_order-calls.result.items c.in_order-calls.ensures) c.requires)
+
+pub returns : goal.returns
+returns c =
+    on_ok_weaker c.check_in_turn.result
+    (λ found. order_found c.args.comparisons.items c.in_order-calls.result.items c.args.out.now.items c.check_in_turn.new.out.items c.in_order-calls.ensures
+    (subst (λ l. SameSet c.check_in_turn.new.out.items (c.args.out.now.items ++ flat_map missing_of (map compared_of l))) c.as_slice.ensures.value found))
+    c.check_in_turn.ensures

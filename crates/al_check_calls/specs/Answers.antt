@@ -1,0 +1,46 @@
+-- Which answer belongs to which call, and the faults of all calls of a file that are of files of the folder.
+use Rattle.std.specs.Prelude.{List, [], ◌∷◌, drop, Option, None, option_map}
+use Rattle.std.specs.List.{cons_option, flat_map}
+use Rattle.std.specs.Option.{option_map_or}
+use Rattle.al_base.specs.declared.faults.Fault.{Fault}
+use Rattle.al_scalar.specs.Scalar.{Scalar}
+use Rattle.al_types.specs.Types.{Type'}
+use Rattle.al_yaml_tree.specs.Node.{Node}
+use Rattle.al_tree.specs.declared.files.FileKind.{FileKind}
+use Rattle.al_check_interfaces.specs.declared.interfaces.Interface.{Interface}
+use Rattle.al_check_interfaces.specs.declared.interfaces.ParameterKind.TheVariants.{Input}
+use Rattle.al_check_uses.specs.Uses.{Call, Site, calls_in, target_in}
+use Rattle.al_check_calls.specs.CallFaults.{Given, call_faults, given_by, values_of}
+
+-- a call of a file of the folder with its answer, the next of the answers, which stand in the order of these calls
+pub record Answered : Type 0 where
+  pub call : Call
+  pub answer : Option Interface
+
+abbrev pub first_answer : List (Option Interface) → Option Interface
+first_answer [] = None
+first_answer (a ∷ more) = a
+
+abbrev pub answered_by : Call → Option Interface → Answered
+answered_by c answer = record { call = c; answer = answer }
+
+abbrev pub answered : List Call → List (Option Interface) → List Answered
+answered [] answers = []
+answered (c ∷ cs) answers =
+    cons_option (option_map (λ t. answered_by c (first_answer answers)) (target_in c.form))
+    (answered cs (option_map_or (λ t. drop 1 answers) (target_in c.form) answers))
+
+-- the type of what is given at a call, by its key and its scalar
+abbrev pub Typing : Type 0
+Typing = Site → Node → Scalar → Type'
+
+-- what a call gives under `with`, each value with its type
+abbrev pub values_in : Typing → Call → List Given
+values_in typing c = values_of (typing c.site) (given_by Input c.site.node)
+
+abbrev pub answered_faults : Typing → Answered → List Fault
+answered_faults typing a = call_faults a.call (values_in typing a.call) a.answer
+
+-- The faults of all calls of files of the folder that a file has, given their answers in order.
+abbrev pub faults_in : FileKind → Typing → Node → List (Option Interface) → List Fault
+faults_in kind typing root answers = flat_map (answered_faults typing) (answered (calls_in kind root) answers)

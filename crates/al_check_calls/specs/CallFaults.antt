@@ -1,0 +1,190 @@
+-- The faults of calls of files of the folder, given the answers.
+use Rattle.std.specs.Prelude.{ℕ, List, [], ◌∷◌, ◌++◌, Bool, true, false, ◌||◌, ◌&&◌, not, codes}
+use Rattle.std.specs.Prelude.{map, Option, Some, None, find, if◌then◌else◌}
+use Rattle.std.specs.List.{flat_map}
+use Rattle.std.specs.Option.{option_map_or}
+use Rattle.std.specs.Str.{bytes_eq}
+use Rattle.std.specs.Str.Lossy.{utf8_lossy}
+use Rattle.al_base.specs.declared.codes.CallCode.{CallCode}
+use Rattle.al_base.specs.declared.codes.CallCode.TheVariants as code
+use Rattle.al_base.specs.declared.codes.Caller.{Caller}
+use Rattle.al_base.specs.declared.codes.Caller.TheVariants as caller
+use Rattle.al_base.specs.declared.codes.Code.TheVariants as kind_of_code
+use Rattle.al_base.specs.declared.faults.Fault.{Fault}
+use Rattle.al_base.specs.declared.faults.Span.{Span}
+use Rattle.al_scalar.specs.Scalar.{Scalar, text_of}
+use Rattle.al_types.specs.Types.{Type', Any, assignable_type}
+use Rattle.al_yaml_tree.specs.Access.{scalar_in}
+use Rattle.al_yaml_tree.specs.Node.{Node, span_of}
+use Rattle.al_tree_shape.specs.Keys.{key_of}
+use Rattle.al_tree_shape.specs.Values.{entries_at, text_at}
+use Rattle.al_tree_declarations.specs.Declarations.{named_among, names_of}
+use Rattle.al_tree_declarations.specs.Inputs.{input_type}
+use Rattle.al_tree_declarations.specs.declared.inputs.InputType.{InputType}
+use Rattle.al_tree_declarations.specs.declared.inputs.InputType.TheVariants as input
+use Rattle.al_check_interfaces.specs.Parameters.{has_parameter, is_mandatory, is_parameter}
+use Rattle.al_check_interfaces.specs.Kinds.{parameters_of}
+use Rattle.al_check_interfaces.specs.declared.interfaces.Interface.{Interface}
+use Rattle.al_check_interfaces.specs.declared.interfaces.Interface.TheVariants.{Readable, Unreadable}
+use Rattle.al_check_interfaces.specs.declared.interfaces.Parameter.{Parameter}
+use Rattle.al_check_interfaces.specs.declared.interfaces.ParameterKind.{ParameterKind}
+use Rattle.al_check_interfaces.specs.declared.interfaces.ParameterKind.TheVariants as kind
+use Rattle.al_check_interfaces.specs.declared.interfaces.Role.{Role}
+use Rattle.al_check_interfaces.specs.declared.interfaces.Role.TheVariants as role
+use Rattle.al_check_interfaces.specs.declared.interfaces.Signature.{Signature}
+use Rattle.al_check_uses.specs.Uses as uses
+use Rattle.al_check_uses.specs.Uses.{Call}
+
+abbrev pub caller_of : Call → Caller
+caller_of c = uses.caller_of c.site
+
+abbrev pub fault : CallCode → Call → Span → List (List ℕ) → Fault
+fault f c at texts = record { span = at; code = kind_of_code.Call f (caller_of c); args = map utf8_lossy texts }
+
+-- at the value of `uses`
+abbrev pub at_uses : CallCode → Call → List (List ℕ) → List Fault
+at_uses f c texts = fault f c c.at texts ∷ []
+
+abbrev pub that_uses : CallCode → Call → List Fault
+that_uses f c = at_uses f c (c.text ∷ [])
+
+-- which files a step may call, and which a job
+abbrev pub is_callable : Caller → Role → Bool
+is_callable caller.Step role.Composite = true
+is_callable caller.Step role.Action = true
+is_callable caller.Step _ = false
+is_callable caller.Job role.Callable = true
+is_callable caller.Job _ = false
+
+-- a step may call an action that isn't there, a job no workflow
+abbrev pub absent_faults : Call → Caller → List Fault
+absent_faults c caller.Step = []
+absent_faults c caller.Job = that_uses code.NoWorkflow c
+
+-- of `uses`: C1 where no file answers, C8 where the one that does can't be called
+abbrev pub uses_faults : Call → Option Interface → List Fault
+uses_faults c None = absent_faults c (caller_of c)
+uses_faults c (Some Unreadable) = []
+uses_faults c (Some (Readable s)) = if is_callable (caller_of c) s.role then [] else that_uses code.NotCallable c
+
+-- what a file shows to a step, or a job, that may call it
+abbrev pub callable_signature : Caller → Option Interface → Option Signature
+callable_signature by None = None
+callable_signature by (Some Unreadable) = None
+callable_signature by (Some (Readable s)) = if is_callable by s.role then Some s else None
+
+-- what a call is compared with: none where it has C1 or C8, or the file can't be read
+abbrev pub called_signature : Call → Option Interface → Option Signature
+called_signature c answer = callable_signature (caller_of c) answer
+
+-- how the called file is named: by its `name`, else by the text of `uses`
+abbrev pub called_name : Call → Signature → List ℕ
+called_name c s = option_map_or (λ n. n) s.name (c.text)
+
+-- a test of names
+abbrev pub Names : Type 0
+Names = List ℕ → Bool
+
+-- the names under a key
+abbrev pub given_names : List (Node × Node) → Names
+given_names given = named_among (names_of given)
+
+-- what is given of each kind, and what is said of it: a name that isn't declared is C2 or C5, one that is missing C3 or C6
+abbrev pub given_by : ParameterKind → Node → List (Node × Node)
+given_by kind.Input n = entries_at (codes "with") n
+given_by kind.Secret n = entries_at (codes "secrets") n
+
+abbrev pub undefined_code : ParameterKind → CallCode
+undefined_code kind.Input = code.UndefinedInput
+undefined_code kind.Secret = code.UndefinedSecret
+
+abbrev pub missing_code : ParameterKind → CallCode
+missing_code kind.Input = code.MissingInput
+missing_code kind.Secret = code.MissingSecret
+
+-- what a step gives to a container needs no input of the called file
+abbrev pub is_free_for : ParameterKind → Caller → List ℕ → Bool
+is_free_for kind.Input caller.Step name = named_among (codes "args" ∷ codes "entrypoint" ∷ []) name
+is_free_for kind.Input caller.Job name = false
+is_free_for kind.Secret by name = false
+
+abbrev pub is_taken : ParameterKind → Call → Signature → List ℕ → Bool
+is_taken k c s name = has_parameter (parameters_of k s) name || is_free_for k (caller_of c) name
+
+abbrev pub undefined_name : ParameterKind → Call → Signature → Node × Node → List Fault
+undefined_name k c s e =
+    if is_taken k c s (key_of e) then [] else fault (undefined_code k) c (span_of e.0) (key_of e ∷ called_name c s ∷ []) ∷ []
+
+abbrev pub is_missing : Names → Parameter → Bool
+is_missing given p = is_mandatory p && not (given p.name)
+
+abbrev pub missing_name : ParameterKind → Call → Signature → Names → Parameter → List Fault
+missing_name k c s given p = if is_missing given p then at_uses (missing_code k) c (p.name ∷ called_name c s ∷ []) else []
+
+abbrev pub undefined_names : ParameterKind → Call → Signature → List Fault
+undefined_names k c s = flat_map (undefined_name k c s) (given_by k c.site.node)
+
+abbrev pub missing_names : ParameterKind → Call → Signature → List Fault
+missing_names k c s = flat_map (missing_name k c s (given_names (given_by k c.site.node))) (parameters_of k s)
+
+abbrev pub names_against : ParameterKind → Call → Signature → List Fault
+names_against k c s = undefined_names k c s ++ missing_names k c s
+
+abbrev pub is_inherit : Node → Bool
+is_inherit job = option_map_or (λ t. bytes_eq (text_of t.0) (codes "inherit")) (text_at (codes "secrets") job) false
+
+-- what is compared by name: of a step no secrets, and of a job none that it inherits
+abbrev pub is_compared : ParameterKind → Caller → Node → Bool
+is_compared kind.Input by n = true
+is_compared kind.Secret caller.Step n = false
+is_compared kind.Secret caller.Job n = not (is_inherit n)
+
+abbrev pub signature_for : ParameterKind → Call → Option Interface → Option Signature
+signature_for k c answer = if is_compared k (caller_of c) c.site.node then called_signature c answer else None
+
+abbrev pub names_of_kind : ParameterKind → Call → Option Interface → List Fault
+names_of_kind k c answer = option_map_or (names_against k c) (signature_for k c answer) []
+
+-- of names: C2 and C3 of inputs, C5 and C6 of secrets
+abbrev pub name_faults : Call → Option Interface → List Fault
+name_faults c answer = names_of_kind kind.Input c answer ++ names_of_kind kind.Secret c answer
+
+abbrev pub type_name : InputType → List ℕ
+type_name input.Boolean = codes "boolean"
+type_name input.Number = codes "number"
+type_name input.String = codes "string"
+
+abbrev pub is_right : Type' → InputType → Bool
+is_right t i = assignable_type t (input_type i)
+
+abbrev pub type_faults : Call → Node × Node → Type' → Parameter → List Fault
+type_faults c e t i = if is_right t i.takes then [] else fault code.WrongInput c (span_of e.1) (i.name ∷ type_name i.takes ∷ []) ∷ []
+
+-- a value that is given, with its type; what is no scalar is any
+abbrev pub Given : Type 0
+Given = (Node × Node) × Type'
+
+abbrev pub given_type : (Node → Scalar → Type') → Node × Node → Type'
+given_type type_of e = option_map_or (type_of e.0) (scalar_in e.1) Any
+
+abbrev pub values_of : (Node → Scalar → Type') → List (Node × Node) → List Given
+values_of type_of = map (λ e. (e, given_type type_of e))
+
+-- C4: a value of a wrong type
+abbrev pub wrong_input : Call → List Parameter → Given → List Fault
+wrong_input c inputs v = option_map_or (type_faults c v.0 v.1) (find (is_parameter (key_of v.0)) inputs) []
+
+abbrev pub wrong_inputs : Call → List Given → Signature → List Fault
+wrong_inputs c values s = flat_map (wrong_input c s.inputs) values
+
+-- of the types of values: a step's aren't compared
+abbrev pub values_against : Caller → Call → List Given → Option Signature → List Fault
+values_against caller.Step c values o = []
+values_against caller.Job c values o = option_map_or (wrong_inputs c values) o []
+
+abbrev pub value_faults : Call → List Given → Option Interface → List Fault
+value_faults c values answer = values_against (caller_of c) c values (called_signature c answer)
+
+-- The faults of a call of a file of the folder, given the values under `with` with their types, and its answer.
+abbrev pub call_faults : Call → List Given → Option Interface → List Fault
+call_faults c values answer = uses_faults c answer ++ value_faults c values answer ++ name_faults c answer

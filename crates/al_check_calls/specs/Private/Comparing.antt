@@ -1,0 +1,132 @@
+-- The faults of a call by itself; and how those of names are found, for all calls of a file together.
+use Rattle.std.specs.Prelude.{◌≡◌, ◌⊎◌, List, [], ◌∷◌, ◌++◌, Bool, ◌&&◌, Contains, map, Option, option_map, if◌then◌else◌}
+use Rattle.std.specs.Prelude.{ℕ}
+use Rattle.std.specs.List.{AllByRecursion, cons_option}
+use Rattle.std.specs.Str.{bytes_eq}
+use Rattle.al_base.specs.contracts.codes.CallerPartialEq.TheImpl as caller
+use Rattle.al_base.specs.contracts.faults.SpanPartialEq.TheImpl as span
+use Rattle.al_base.specs.declared.codes.Caller.{Caller}
+use Rattle.al_base.specs.declared.faults.Fault.{Fault}
+use Rattle.al_yaml_tree.specs.Node.{Node, span_of}
+use Rattle.al_tree_shape.specs.Keys.{key_of}
+use Rattle.al_check_interfaces.specs.Kinds.{parameters_of}
+use Rattle.al_check_interfaces.specs.Parameters.{mandatory_of}
+use Rattle.al_check_interfaces.specs.contracts.interfaces.ParameterKindPartialEq.TheImpl as kinds
+use Rattle.al_check_interfaces.specs.declared.interfaces.Interface.{Interface}
+use Rattle.al_check_interfaces.specs.declared.interfaces.Parameter.{Parameter}
+use Rattle.al_check_interfaces.specs.declared.interfaces.ParameterKind.{ParameterKind}
+use Rattle.al_check_interfaces.specs.declared.interfaces.ParameterKind.TheVariants.{Input, Secret}
+use Rattle.al_check_interfaces.specs.declared.interfaces.Signature.{Signature}
+use Rattle.al_check_uses.specs.Uses.{Call}
+use Rattle.al_check_calls.specs.Answers.{Answered, Typing, values_in}
+use Rattle.al_check_calls.specs.CallFaults.{called_name, caller_of, fault, given_by, given_names, missing_code, missing_names, name_faults}
+use Rattle.al_check_calls.specs.CallFaults.{names_against, signature_for, undefined_name, undefined_names, uses_faults, value_faults}
+
+-- all but those of names
+abbrev pub faults_but_names : Typing → Answered → List Fault
+faults_but_names typing a = uses_faults a.call a.answer ++ value_faults a.call (values_in typing a.call) a.answer
+
+abbrev pub faults_of_names : Answered → List Fault
+faults_of_names a = name_faults a.call a.answer
+
+-- ---- calls whose names are compared
+
+-- a call whose names of a kind are compared with what a file shows
+pub record Comparison : Type 0 where
+  pub kind : ParameterKind
+  pub call : Call
+  pub signature : Signature
+
+abbrev pub compared_with : ParameterKind → Call → Signature → Comparison
+compared_with k c s = record { kind = k; call = c; signature = s }
+
+abbrev pub comparison_of : ParameterKind → Answered → Option Comparison
+comparison_of k a = option_map (compared_with k a.call) (signature_for k a.call a.answer)
+
+abbrev pub comparisons : Answered → List Comparison
+comparisons a = cons_option (comparison_of Input a) (cons_option (comparison_of Secret a) [])
+
+abbrev pub name_faults_of : Comparison → List Fault
+name_faults_of q = names_against q.kind q.call q.signature
+
+abbrev pub undefined_of : Comparison → List Fault
+undefined_of q = undefined_names q.kind q.call q.signature
+
+abbrev pub missing_of : Comparison → List Fault
+missing_of q = missing_names q.kind q.call q.signature
+
+-- who calls, and by which text, tells what is shown
+abbrev pub HaveOneSignature : Comparison → Comparison → Type 0
+HaveOneSignature q r = caller_of q.call ≡ caller_of r.call → q.call.text ≡ r.call.text → q.signature ≡ r.signature
+
+abbrev pub TellSignatures : List Comparison → Type 0
+TellSignatures qs = (q r : Comparison) → Contains qs q → Contains qs r → HaveOneSignature q r
+
+-- calls whose answers are told so
+pub record AreToldByUses (found : List Answered) : Type 0 where
+  pub answer : Caller → List ℕ → Option Interface
+  pub told : AllByRecursion (λ a. a.answer ≡ answer (caller_of a.call) (a.call.text)) found
+
+-- steps, or jobs, that call by one text
+abbrev pub call_alike : Comparison → Comparison → Bool
+call_alike q r =
+    kinds.ghosts.eq q.kind r.kind
+    && (caller.ghosts.eq (caller_of q.call) (caller_of r.call) && bytes_eq (q.call.text) (r.call.text))
+
+pub record CallAlike (q r : Comparison) : Type 0 where
+  pub kind : q.kind ≡ r.kind
+  pub by : caller_of q.call ≡ caller_of r.call
+  pub text : q.call.text ≡ r.call.text
+
+-- ---- names that aren't declared
+
+-- a name that a call gives
+pub record GivenName : Type 0 where
+  pub by : Comparison
+  pub entry : Node × Node
+
+abbrev pub name_by : Comparison → Node × Node → GivenName
+name_by q e = record { by = q; entry = e }
+
+abbrev pub names_by : Comparison → List GivenName
+names_by q = map (name_by q) (given_by q.kind q.call.site.node)
+
+abbrev pub undefined_at : GivenName → List Fault
+undefined_at n = undefined_name n.by.kind n.by.call n.by.signature n.entry
+
+abbrev pub TellSignaturesBy : List GivenName → Type 0
+TellSignaturesBy ns = (n m : GivenName) → Contains ns n → Contains ns m → HaveOneSignature n.by m.by
+
+-- calls alike give one name at one place
+abbrev pub is_same_name_given : GivenName → GivenName → Bool
+is_same_name_given n m =
+    call_alike n.by m.by && (bytes_eq (key_of n.entry) (key_of m.entry) && span.ghosts.eq (span_of n.entry.0) (span_of m.entry.0))
+
+abbrev pub AreThere : List Fault → List Fault → Type 0
+AreThere faults all = (f : Fault) → Contains faults f → Contains all f
+
+-- ---- names that are missing
+
+-- calls alike by one `uses`
+abbrev pub is_by_same_uses : Comparison → Comparison → Bool
+is_by_same_uses q r = call_alike q r && span.ghosts.eq q.call.at r.call.at
+
+abbrev pub gives : Comparison → Parameter → Bool
+gives q p = given_names (given_by q.kind q.call.site.node) p.name
+
+abbrev pub missing_fault : Comparison → Parameter → Fault
+missing_fault q p = fault (missing_code q.kind) q.call q.call.at (p.name ∷ called_name q.call q.signature ∷ [])
+
+abbrev pub fault_unless_given : Comparison → Parameter → List Fault
+fault_unless_given q p = if gives q p then [] else missing_fault q p ∷ []
+
+abbrev pub parameter_if_given : Comparison → Parameter → List Parameter
+parameter_if_given q p = if gives q p then p ∷ [] else []
+
+abbrev pub mandatory_for : Comparison → List Parameter
+mandatory_for q = mandatory_of (parameters_of q.kind q.signature)
+
+-- What a call has to give is left to be looked up, or it is said that it is missing at this `uses`.
+pub record IsSaid (q : Comparison) (left : List Parameter) (out : List Fault) : Type 0 where
+  pub among : (p : Parameter) → Contains left p → Contains (mandatory_for q) p
+  pub said : (p : Parameter) → Contains (mandatory_for q) p → Contains left p ⊎ Contains out (missing_fault q p)

@@ -1,0 +1,139 @@
+//! Calls whose names are compared with those that a file shows.
+ghost use Rattle.std.specs.Prelude.{◌≡◌, ◌++◌, [], map, option_map, IfOk, OnOk};
+ghost use Rattle.std.specs.List.{cons_option, flat_map};
+ghost use Rattle.std.specs.Option.{option_copied};
+ghost use Rattle.al_check_calls.specs.CallFaults as faults;
+ghost use Rattle.al_check_calls.specs.Private.AnswerViews.{answered_of, call_of, compared_of};
+ghost use Rattle.al_check_calls.specs.Private.Comparing as comparing;
+ghost use Rattle.al_tree_shape.specs.Values.{member_of};
+ghost use Rattle.al_yaml_tree.specs.View.{view};
+
+use crate::answers::{Answered, SiteCall};
+use crate::calls::called_signature;
+use crate::reports::{caller_of, uses_text};
+use al_base::Caller;
+use al_check_interfaces::{ParameterKind, Signature};
+use al_tree_shape::{Member, members_under, text_under};
+use al_yaml_tree::Node;
+use std::alloc::{AllocError, Global};
+
+/// A call whose names of a kind are compared with those that a file shows.
+#[derive(Clone, Copy)]
+pub(crate) struct Comparison<'a> {
+    pub(crate) kind: ParameterKind,
+    pub(crate) call: SiteCall<'a>,
+    pub(crate) signature: &'a Signature,
+}
+
+/// What a step or a job gives of a kind.
+pub(crate) fn given_by<'a>(
+    alloc: Global,
+    kind: ParameterKind,
+    node: &'a Node,
+) -> Result<Vec<Member<'a>>, AllocError>
+    ensures { IfOk result (λ v. map member_of v.items ≡ faults.given_by kind (view node.now)) }
+{
+    match kind {
+        ParameterKind::Input => members_under(alloc, node, "with"),
+        ParameterKind::Secret => members_under(alloc, node, "secrets"),
+    }
+}
+
+/// Whether a job gives the called workflow all its secrets, by `secrets: inherit`.
+fn is_inherit(job: &Node) -> bool
+    ensures { result ≡ faults.is_inherit (view job.now) }
+{
+    match text_under(job, "secrets") {
+        Some(text) => text.scalar.text() == b"inherit".as_slice(),
+        None => false,
+    }
+}
+
+/// Whether names of a kind are compared: of a step no secrets, and of a job none that it inherits.
+fn is_compared(kind: ParameterKind, call: SiteCall<'_>) -> bool
+    ensures { result ≡ faults.is_compared kind (faults.caller_of (call_of call.entry)) (call_of call.entry).site.node }
+{
+    match kind {
+        ParameterKind::Input => true,
+        ParameterKind::Secret => match caller_of(call) {
+            Caller::Step => false,
+            Caller::Job => !is_inherit(call.site.node),
+        },
+    }
+}
+
+/// With what names of a kind are compared.
+fn signature_for<'a>(kind: ParameterKind, answered: Answered<'a>) -> Option<&'a Signature>
+    ensures { let a = answered_of answered.entry in option_copied result ≡ faults.signature_for kind a.call a.answer }
+{
+    if is_compared(kind, answered.call) {
+        called_signature(answered.call, answered.answer)
+    } else {
+        None
+    }
+}
+
+fn comparison_of<'a>(kind: ParameterKind, answered: Answered<'a>) -> Option<Comparison<'a>>
+    ensures { option_map compared_of result ≡ comparing.comparison_of kind (answered_of answered.entry) }
+{
+    match signature_for(kind, answered) {
+        None => None,
+        Some(signature) => Some(Comparison {
+            kind,
+            call: answered.call,
+            signature,
+        }),
+    }
+}
+
+/// Adds a call, if its names of a kind are compared.
+fn add_comparison<'a>(
+    kind: ParameterKind,
+    answered: Answered<'a>,
+    found: &mut Vec<Comparison<'a>>,
+) -> Result<(), AllocError>
+    ensures { OnOk result (map compared_of found.new.items
+        ≡ map compared_of found.old.items ++ cons_option (comparing.comparison_of kind (answered_of answered.entry)) []) }
+{
+    match comparison_of(kind, answered) {
+        None => Ok(()),
+        Some(comparison) => {
+            found.push(comparison)?;
+            Ok(())
+        }
+    }
+}
+
+fn add_comparisons<'a>(
+    answered: Answered<'a>,
+    found: &mut Vec<Comparison<'a>>,
+) -> Result<(), AllocError>
+    ensures { OnOk result (map compared_of found.new.items
+        ≡ map compared_of found.old.items ++ comparing.comparisons (answered_of answered.entry)) }
+{
+    add_comparison(ParameterKind::Input, answered, found)?;
+    add_comparison(ParameterKind::Secret, answered, found)
+}
+
+/// The calls whose names are compared: those of inputs, those of secrets.
+pub(crate) fn all_comparisons<'a>(
+    alloc: Global,
+    answered: &[Answered<'a>],
+) -> Result<Vec<Comparison<'a>>, AllocError>
+    ensures { IfOk result (λ v. map compared_of v.items ≡ flat_map comparing.comparisons (map answered_of answered.now)) }
+{
+    let mut found = Vec::new(alloc);
+    for one in answered {
+        add_comparisons(*one, &mut found)?;
+    }
+    Ok(found)
+}
+
+/// Whether two steps, or two jobs, call by one text, and names of one kind are compared.
+pub(crate) fn call_alike(one: Comparison<'_>, other: Comparison<'_>) -> bool
+    ensures { result ≡ comparing.call_alike (compared_of one.entry) (compared_of other.entry) }
+{
+    one.kind == other.kind
+        && caller_of(one.call) == caller_of(other.call)
+        && uses_text(one.call) == uses_text(other.call)
+}

@@ -1,0 +1,197 @@
+//! Names that calls have to give and don't: C3 and C6. They are said at `uses`, in words that name the parameter alone; so of calls alike
+//! by one `uses` a parameter is looked up as long as all of them so far have given it, and is said where the first doesn't.
+ghost use Rattle.std.specs.Prelude.{◌≡◌, ◌++◌, ◌∷◌, [], map, IfOk, IfSome, OnOk};
+ghost use Rattle.std.specs.List.{flat_map};
+ghost use Rattle.std.specs.List.Sorted.{IsPermutation};
+ghost use Rattle.al_base.specs.Growth.{SameSet};
+ghost use Rattle.al_check_calls.specs.CallFaults as faults;
+ghost use Rattle.al_check_calls.specs.Private.AnswerViews.{compared_of};
+ghost use Rattle.al_check_calls.specs.Private.Comparing as comparing;
+ghost use Rattle.al_check_calls.specs.Private.Comparing.{HaveOneSignature, IsSaid, TellSignatures};
+ghost use Rattle.al_tree_declarations.specs.Private.NameSets.{holds};
+ghost use Rattle.al_tree_shape.specs.Values.{member_of};
+
+use crate::comparisons::{Comparison, call_alike, given_by};
+use crate::reports::{Report, called_name, caller_of, report_two, uses_span};
+use al_base::{CallCode, Caller, Fault};
+use al_check_interfaces::{Parameter, ParameterKind};
+use al_tree_declarations::NameSet;
+use al_tree_shape::{Member, key_text};
+use std::alloc::{AllocError, Global};
+
+/// A call, and the names that it gives.
+#[derive(Drop)]
+struct Giver<'a> {
+    call: Comparison<'a>,
+    names: NameSet,
+}
+
+/// The keys of members.
+#[tactic(auto, using(al_tree_declarations::proofs::NameLemmas::named_more))]
+fn names_in(alloc: Global, given: &[Member<'_>]) -> Result<NameSet, AllocError>
+    ensures { IfOk result (λ s. holds s ≡ faults.given_names (map member_of given.now)) }
+{
+    let mut names = NameSet::new(alloc);
+    for member in given {
+        let _ = names.insert(alloc, key_text(member.key))?;
+    }
+    Ok(names)
+}
+
+fn giver_of<'a>(alloc: Global, call: Comparison<'a>) -> Result<Giver<'a>, AllocError>
+    ensures call { IfOk result (λ g. compared_of g.call ≡ compared_of call.entry) }
+    ensures names { let q = compared_of call.entry in IfOk result
+        (λ g. holds g.names ≡ faults.given_names (faults.given_by q.kind q.call.site.node)) }
+{
+    let given = given_by(alloc, call.kind, call.call.site.node)?;
+    let names = names_in(alloc, given.as_slice())?;
+    Ok(Giver { call, names })
+}
+
+fn missing_code(kind: ParameterKind) -> CallCode
+    ensures { result ≡ faults.missing_code kind }
+{
+    match kind {
+        ParameterKind::Input => CallCode::MissingInput,
+        ParameterKind::Secret => CallCode::MissingSecret,
+    }
+}
+
+/// C3 or C6 of a parameter.
+fn report_missing(
+    alloc: Global,
+    call: Comparison<'_>,
+    parameter: &Parameter,
+    out: &mut Vec<Fault>,
+) -> Result<(), AllocError>
+    ensures { OnOk result (out.new.items ≡ out.old.items ++ comparing.missing_fault (compared_of call.entry) parameter.now ∷ []) }
+{
+    let report = Report {
+        code: missing_code(call.kind),
+        span: uses_span(call.call),
+        first: parameter.name.as_bytes(),
+        second: called_name(call.call, call.signature),
+    };
+    report_two(alloc, call.call, report, out)
+}
+
+/// C3 or C6 of a parameter, which is left if the call gives it.
+fn check_parameter<'a>(
+    alloc: Global,
+    giver: &Giver<'_>,
+    parameter: &'a Parameter,
+    left: &mut Vec<&'a Parameter>,
+    out: &mut Vec<Fault>,
+) -> Result<(), AllocError>
+    requires { let q = compared_of giver.now.call in holds giver.now.names ≡ faults.given_names (faults.given_by q.kind q.call.site.node) }
+    ensures faults { OnOk result (out.new.items ≡ out.old.items
+        ++ comparing.fault_unless_given (compared_of giver.now.call) parameter.entry.now) }
+    ensures left { OnOk result (map (λ p. p.now) left.new.items
+        ≡ map (λ p. p.now) left.old.items ++ comparing.parameter_if_given (compared_of giver.now.call) parameter.entry.now) }
+{
+    if giver.names.contains(alloc, parameter.name.as_bytes())? {
+        left.push(parameter)?;
+        return Ok(());
+    }
+    report_missing(alloc, giver.call, parameter, out)
+}
+
+/// Adds C3 and C6 of these parameters, and answers those that the call gives.
+fn check_parameters<'a>(
+    alloc: Global,
+    call: Comparison<'_>,
+    parameters: &[&'a Parameter],
+    out: &mut Vec<Fault>,
+) -> Result<Vec<&'a Parameter>, AllocError>
+    ensures faults { OnOk result (out.new.items ≡ out.old.items
+        ++ flat_map (comparing.fault_unless_given (compared_of call.entry)) (map (λ p. p.now) parameters.now)) }
+    ensures left { IfOk result (λ v. map (λ p. p.now) v.items
+        ≡ flat_map (comparing.parameter_if_given (compared_of call.entry)) (map (λ p. p.now) parameters.now)) }
+{
+    let giver = giver_of(alloc, call)?;
+    let mut left = Vec::new(alloc);
+    for parameter in parameters {
+        check_parameter(alloc, &giver, *parameter, &mut left, out)?;
+    }
+    Ok(left)
+}
+
+/// Whether calls alike are by one `uses`.
+fn is_by_same_uses(one: Comparison<'_>, other: Comparison<'_>) -> bool
+    ensures { result ≡ comparing.is_by_same_uses (compared_of one.entry) (compared_of other.entry) }
+{
+    call_alike(one, other) && uses_span(one.call) == uses_span(other.call)
+}
+
+/// C3 and C6 of a call. Behind one alike by the same `uses` only the parameters that are left are looked up; answers those that are left
+/// then.
+fn check_next<'a>(
+    alloc: Global,
+    previous: Option<Comparison<'a>>,
+    left: &[&'a Parameter],
+    call: Comparison<'a>,
+    out: &mut Vec<Fault>,
+) -> Result<Vec<&'a Parameter>, AllocError>
+    requires alike { IfSome previous (λ p. HaveOneSignature (compared_of p) (compared_of call)) }
+    requires said { IfSome previous (λ p. IsSaid (compared_of p) (map (λ q. q.now) left.now) out.old.items) }
+    ensures faults { OnOk result (SameSet out.new.items (out.old.items ++ comparing.missing_of (compared_of call.entry))) }
+    ensures said { IfOk result (λ v. IsSaid (compared_of call.entry) (map (λ q. q.now) v.items) out.new.items) }
+{
+    if let Some(before) = previous {
+        if is_by_same_uses(before, call) {
+            let found = check_parameters(alloc, call, left, out)?;
+            return Ok(found);
+        }
+    }
+    let all = call.signature.parameters(call.kind).mandatory(alloc)?;
+    let found = check_parameters(alloc, call, all.as_slice(), out)?;
+    Ok(found)
+}
+
+/// C3 and C6 of calls, one after another.
+fn check_in_turn<'a>(
+    alloc: Global,
+    calls: &[Comparison<'a>],
+    out: &mut Vec<Fault>,
+) -> Result<(), AllocError>
+    requires { TellSignatures (map compared_of calls.now) }
+    ensures { OnOk result (SameSet out.new.items (out.old.items ++ flat_map comparing.missing_of (map compared_of calls.now))) }
+{
+    let mut previous = None;
+    let mut left = Vec::new(alloc);
+    for i in 0..calls.len() {
+        let call = calls[i];
+        left = check_next(alloc, previous, left.as_slice(), call, out)?;
+        previous = Some(call);
+    }
+    Ok(())
+}
+
+/// What puts calls in order: where `uses` stands, and then who calls, and the kind.
+fn order_of(call: &Comparison<'_>) -> (u32, Caller, ParameterKind) {
+    (uses_span(call.call).start, caller_of(call.call), call.kind)
+}
+
+/// Puts calls in order, so that those alike by one `uses` stand together.
+fn in_order<'a>(comparisons: Vec<Comparison<'a>>) -> Vec<Comparison<'a>>
+    ensures { IsPermutation comparisons.entry.items result.items }
+{
+    let mut calls = comparisons;
+    calls.sort_unstable_by_key(|call| order_of(call));
+    calls
+}
+
+/// Adds C3 and C6 of calls, of equal faults at least one. Takes time by what the calls give, and by what has to be given once for each
+/// `uses`.
+pub(crate) fn check_missing(
+    alloc: Global,
+    comparisons: Vec<Comparison<'_>>,
+    out: &mut Vec<Fault>,
+) -> Result<(), AllocError>
+    requires { TellSignatures (map compared_of comparisons.items) }
+    ensures { OnOk result (SameSet out.new.items
+        (out.old.items ++ flat_map comparing.missing_of (map compared_of comparisons.entry.items))) }
+{
+    let calls = in_order(comparisons);
+    check_in_turn(alloc, calls.as_slice(), out)
+}

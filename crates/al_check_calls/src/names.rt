@@ -1,0 +1,30 @@
+//! The faults of the names that calls give, and of those that they have to give: C2, C3, C5 and C6.
+ghost use Rattle.std.specs.Prelude.{◌++◌, map, OnOk};
+ghost use Rattle.std.specs.List.{flat_map};
+ghost use Rattle.al_base.specs.Growth.{SameSet};
+ghost use Rattle.al_check_calls.specs.Private.AnswerViews.{answered_of};
+ghost use Rattle.al_check_calls.specs.Private.Comparing.{AreToldByUses, faults_of_names};
+
+use crate::answers::Answered;
+use crate::comparisons::all_comparisons;
+use crate::missing::check_missing;
+use crate::undefined::check_undefined;
+use al_base::Fault;
+use std::alloc::{AllocError, Global};
+
+/// Adds the faults of the names of calls, of equal faults at least one. Takes time by what the calls give, and by what has to be given once
+/// for each `uses`.
+///
+/// Fails with `AllocError` when out of memory.
+pub fn check_names(
+    alloc: Global,
+    answered: &[Answered<'_>],
+    out: &mut Vec<Fault>,
+) -> Result<(), AllocError>
+    requires { AreToldByUses (map answered_of answered.now) }
+    ensures { OnOk result (SameSet out.new.items (out.old.items ++ flat_map faults_of_names (map answered_of answered.now))) }
+{
+    let calls = all_comparisons(alloc, answered)?;
+    check_undefined(alloc, calls.as_slice(), out)?;
+    check_missing(alloc, calls, out)
+}

@@ -1,0 +1,197 @@
+//! Names that calls give and the called files don't declare: C2 and C5. They are said where the names stand; so calls alike that give one
+//! name at one place, as behind an alias, say the same, and it is said once.
+ghost use Rattle.std.specs.Prelude.{◌≡◌, ◌++◌, map, IfOk, IfSome, OnOk};
+ghost use Rattle.std.specs.List.{flat_map};
+ghost use Rattle.std.specs.List.Sorted.{IsPermutation};
+ghost use Rattle.al_base.specs.Growth.{SameSet};
+ghost use Rattle.al_check_calls.specs.CallFaults as faults;
+ghost use Rattle.al_check_calls.specs.Private.AnswerViews.{compared_of, name_of};
+ghost use Rattle.al_check_calls.specs.Private.Comparing as comparing;
+ghost use Rattle.al_check_calls.specs.Private.Comparing.{AreThere, HaveOneSignature, TellSignatures, TellSignaturesBy};
+ghost use Rattle.al_tree_shape.specs.Values.{member_of};
+
+use crate::comparisons::{Comparison, call_alike, given_by};
+use crate::reports::{Report, called_name, caller_of, report_two, uses_text};
+use al_base::{CallCode, Caller, Fault};
+use al_check_interfaces::ParameterKind;
+use al_tree_declarations::is_named_among;
+use al_tree_shape::{Member, key_text};
+use std::alloc::{AllocError, Global};
+
+/// A name that a call gives.
+#[derive(Clone, Copy)]
+struct GivenName<'a> {
+    by: Comparison<'a>,
+    member: Member<'a>,
+}
+
+/// Whether a name needs no parameter of the called file: what a step gives to a container.
+fn is_free_for(kind: ParameterKind, caller: Caller, name: &[u8]) -> bool
+    ensures { result ≡ faults.is_free_for kind caller name.now }
+{
+    match kind {
+        ParameterKind::Secret => false,
+        ParameterKind::Input => match caller {
+            Caller::Step => is_named_among(&[b"args".as_slice(), b"entrypoint".as_slice()], name),
+            Caller::Job => false,
+        },
+    }
+}
+
+/// Whether a call may give a name.
+fn is_taken(alloc: Global, by: Comparison<'_>, name: &[u8]) -> Result<bool, AllocError>
+    ensures { let q = compared_of by.entry in IfOk result (λ b. b ≡ faults.is_taken q.kind q.call q.signature name.now) }
+{
+    if by.signature.parameters(by.kind).has(alloc, name)? {
+        return Ok(true);
+    }
+    Ok(is_free_for(by.kind, caller_of(by.call), name))
+}
+
+fn undefined_code(kind: ParameterKind) -> CallCode
+    ensures { result ≡ faults.undefined_code kind }
+{
+    match kind {
+        ParameterKind::Input => CallCode::UndefinedInput,
+        ParameterKind::Secret => CallCode::UndefinedSecret,
+    }
+}
+
+/// C2 or C5 of a name.
+fn check_name(alloc: Global, name: GivenName<'_>, out: &mut Vec<Fault>) -> Result<(), AllocError>
+    ensures { OnOk result (out.new.items ≡ out.old.items ++ comparing.undefined_at (name_of name.entry)) }
+{
+    let text = key_text(name.member.key);
+    if is_taken(alloc, name.by, text)? {
+        return Ok(());
+    }
+    let report = Report {
+        code: undefined_code(name.by.kind),
+        span: name.member.key.span(),
+        first: text,
+        second: called_name(name.by.call, name.by.signature),
+    };
+    report_two(alloc, name.by.call, report, out)
+}
+
+/// Whether calls alike give one name at one place.
+fn is_same_name_given(one: GivenName<'_>, other: GivenName<'_>) -> bool
+    ensures { result ≡ comparing.is_same_name_given (name_of one.entry) (name_of other.entry) }
+{
+    call_alike(one.by, other.by)
+        && key_text(one.member.key) == key_text(other.member.key)
+        && one.member.key.span() == other.member.key.span()
+}
+
+/// C2 or C5 of a name, unless the one before it is the same.
+fn check_next_name(
+    alloc: Global,
+    previous: Option<GivenName<'_>>,
+    name: GivenName<'_>,
+    out: &mut Vec<Fault>,
+) -> Result<(), AllocError>
+    requires alike { IfSome previous (λ p. HaveOneSignature (name_of p).by (name_of name).by) }
+    requires there { IfSome previous (λ p. AreThere (comparing.undefined_at (name_of p)) out.old.items) }
+    ensures { OnOk result (SameSet out.new.items (out.old.items ++ comparing.undefined_at (name_of name.entry))) }
+{
+    if let Some(before) = previous {
+        if is_same_name_given(before, name) {
+            return Ok(());
+        }
+    }
+    check_name(alloc, name, out)
+}
+
+/// C2 and C5 of names, one after another.
+fn check_in_turn<'a>(
+    alloc: Global,
+    given: &[GivenName<'a>],
+    out: &mut Vec<Fault>,
+) -> Result<(), AllocError>
+    requires { TellSignaturesBy (map name_of given.now) }
+    ensures { OnOk result (SameSet out.new.items (out.old.items ++ flat_map comparing.undefined_at (map name_of given.now))) }
+{
+    let mut previous = None;
+    for i in 0..given.len() {
+        let name = given[i];
+        check_next_name(alloc, previous, name, out)?;
+        previous = Some(name);
+    }
+    Ok(())
+}
+
+fn add_members<'a>(
+    by: Comparison<'a>,
+    given: &[Member<'a>],
+    found: &mut Vec<GivenName<'a>>,
+) -> Result<(), AllocError>
+    ensures { OnOk result (map name_of found.new.items
+        ≡ map name_of found.old.items ++ map (comparing.name_by (compared_of by.entry)) (map member_of given.now)) }
+{
+    for member in given {
+        found.push(GivenName {
+            by,
+            member: *member,
+        })?;
+    }
+    Ok(())
+}
+
+/// Adds what a call gives of a kind.
+fn add_names_by<'a>(
+    alloc: Global,
+    by: Comparison<'a>,
+    found: &mut Vec<GivenName<'a>>,
+) -> Result<(), AllocError>
+    ensures { OnOk result (map name_of found.new.items ≡ map name_of found.old.items ++ comparing.names_by (compared_of by.entry)) }
+{
+    let given = given_by(alloc, by.kind, by.call.site.node)?;
+    add_members(by, given.as_slice(), found)
+}
+
+/// The names that calls give.
+fn names_given<'a>(
+    alloc: Global,
+    calls: &[Comparison<'a>],
+) -> Result<Vec<GivenName<'a>>, AllocError>
+    ensures { IfOk result (λ v. map name_of v.items ≡ flat_map comparing.names_by (map compared_of calls.now)) }
+{
+    let mut found = Vec::new(alloc);
+    for by in calls {
+        add_names_by(alloc, *by, &mut found)?;
+    }
+    Ok(found)
+}
+
+/// What puts names in order: where they stand, and then by whom and by which text the file is called.
+fn order_of<'a>(name: &GivenName<'a>) -> (u32, ParameterKind, Caller, &'a [u8]) {
+    let call = name.by.call;
+    (
+        name.member.key.span().start,
+        name.by.kind,
+        caller_of(call),
+        uses_text(call),
+    )
+}
+
+/// Puts names in order, so that those which are the same stand together.
+fn in_order<'a>(given: Vec<GivenName<'a>>) -> Vec<GivenName<'a>>
+    ensures { IsPermutation given.entry.items result.items }
+{
+    let mut names = given;
+    names.sort_unstable_by_key(|name| order_of(name));
+    names
+}
+
+/// Adds C2 and C5 of what calls give, of equal faults at least one.
+pub(crate) fn check_undefined(
+    alloc: Global,
+    calls: &[Comparison<'_>],
+    out: &mut Vec<Fault>,
+) -> Result<(), AllocError>
+    requires { TellSignatures (map compared_of calls.now) }
+    ensures { OnOk result (SameSet out.new.items (out.old.items ++ flat_map comparing.undefined_of (map compared_of calls.now))) }
+{
+    let given = in_order(names_given(alloc, calls)?);
+    check_in_turn(alloc, given.as_slice(), out)
+}

@@ -1,0 +1,139 @@
+-- The type of each context at a position of a file.
+use Rattle.std.specs.Prelude.{ℕ, List, [], ◌∷◌, codes, map, take, Option, Some, None, option_map, find, if◌then◌else◌}
+use Rattle.std.specs.List.{filter_map, enumerate_from}
+use Rattle.std.specs.Option.{option_map_or}
+use Rattle.std.specs.Str.{bytes_eq}
+use Rattle.al_base.specs.declared.faults.Span.{Span}
+use Rattle.al_scalar.specs.Scalar.{Scalar, text_of}
+use Rattle.al_base.specs.Names.{same_name}
+use Rattle.al_types.specs.Types.{Type', Any, String}
+use Rattle.al_types.specs.declared.names.Context.{Context}
+use Rattle.al_types.specs.declared.names.Context.TheVariants as context
+use Rattle.al_yaml_tree.specs.Node.{Node}
+use Rattle.al_tree_shape.specs.Keys.{key_of}
+use Rattle.al_tree_shape.specs.Values.{entries_at, items_at, text_at, texts_at}
+use Rattle.al_tree.specs.Files.{jobs_of}
+use Rattle.al_tree.specs.declared.files.FileKind.{FileKind}
+use Rattle.al_tree.specs.declared.files.FileKind.TheVariants as kind
+use Rattle.al_check_places.specs.Positions.{Position, Section, apart, in_on, in_job, Seen, no_step, before, every_step}
+use Rattle.al_tree_declarations.specs.Declarations.{action_steps, has_value, is_composite, names_of}
+use Rattle.al_check_contexts.specs.Fixed.{github_type, runner_type, job_type, strategy_type}
+use Rattle.al_check_contexts.specs.Inputs.{workflow_inputs, action_inputs}
+use Rattle.al_check_contexts.specs.Matrix.{matrix_type}
+use Rattle.al_types.specs.Strings.{named_strings}
+use Rattle.al_check_contexts.specs.Objects.{strictly, loose_strings, loose_any}
+use Rattle.al_types.specs.Puts.{Typed, firsts}
+
+-- What is known of the outputs behind calls: of the nth step of a job or, without a key, of an action, and of a job; None where nothing is.
+pub record Known : Type 0 where
+  pub of_step : Option (List ℕ) → ℕ → Option (List (List ℕ))
+  pub of_job : List ℕ → Option (List (List ℕ))
+
+abbrev pub nothing_known : Known
+nothing_known = record { of_step = λ job i. None; of_job = λ job. None }
+
+abbrev pub step_outputs : Option (List (List ℕ)) → Type'
+step_outputs None = loose_strings
+step_outputs (Some names) = named_strings names
+
+abbrev pub call_outputs : Option (List (List ℕ)) → Type'
+call_outputs None = loose_any
+call_outputs (Some names) = named_strings names
+
+-- `steps`: each step with an id, of those that are seen; of equal ids the first
+abbrev pub step_type : Option (List (List ℕ)) → Type'
+step_type outputs = strictly ((codes "conclusion", String) ∷ (codes "outcome", String) ∷ (codes "outputs", step_outputs outputs) ∷ [])
+
+abbrev pub step_field : Known → Option (List ℕ) → ℕ × Node → Option Typed
+step_field known job s = option_map (λ id. (text_of id.0, step_type (known.of_step job s.0))) (text_at (codes "id") s.1)
+
+abbrev pub seen_of : Seen → List Node → List Node
+seen_of no_step steps = []
+seen_of (before n) steps = take n steps
+seen_of every_step steps = steps
+
+abbrev pub steps_fields : Known → Option (List ℕ) → ℕ → List Node → List Typed
+steps_fields known job from steps = filter_map (step_field known job) (enumerate_from from steps)
+
+abbrev pub steps_shown : Known → Option (List ℕ) → List Node → Seen → List Typed
+steps_shown known job steps seen = firsts (steps_fields known job 0 (seen_of seen steps))
+
+abbrev pub steps_type : Known → Option (List ℕ) → List Node → Seen → Type'
+steps_type known job steps seen = strictly (steps_shown known job steps seen)
+
+-- what a job shows to others: its result, and its outputs, those of the called workflow where it calls one
+abbrev pub job_outputs : Known → Node × Node → Type'
+job_outputs known j =
+    if has_value (codes "uses") j.1 then call_outputs (known.of_job (key_of j))
+    else named_strings (names_of (entries_at (codes "outputs") j.1))
+
+abbrev pub job_field : Known → Node × Node → Typed
+job_field known j = (key_of j, strictly ((codes "result", String) ∷ (codes "outputs", job_outputs known j) ∷ []))
+
+abbrev pub jobs_type_of : Known → List (Node × Node) → Type'
+jobs_type_of known jobs = strictly (firsts (map (job_field known) jobs))
+
+abbrev pub jobs_type : Known → Node → Type'
+jobs_type known root = jobs_type_of known (jobs_of root)
+
+-- `needs`: the direct dependencies that exist; a name means the first such job, in any ASCII case
+abbrev pub needed : Known → List (Node × Node) → List ℕ → Option Typed
+needed known jobs name = option_map (job_field known) (find (λ j. same_name (key_of j) name) jobs)
+
+abbrev pub needed_by : Known → List (Node × Node) → Scalar × Span → Option Typed
+needed_by known jobs t = needed known jobs (text_of t.0)
+
+abbrev pub needs_type_of : Known → List (Node × Node) → Node → Type'
+needs_type_of known jobs job = strictly (firsts (filter_map (needed_by known jobs) (texts_at (codes "needs") job)))
+
+abbrev pub needs_type : Known → Node → Node → Type'
+needs_type known root job = needs_type_of known (jobs_of root) job
+
+-- the job of a section, with its key; none where there is none
+abbrev pub job_among : List (Node × Node) → Section → Option (Node × Node)
+job_among jobs apart = None
+job_among jobs in_on = None
+job_among jobs (in_job k) = find (λ j. bytes_eq (key_of j) k) jobs
+
+abbrev pub job_in : Node → Section → Option (Node × Node)
+job_in root s = job_among (jobs_of root) s
+
+-- in a job a type, elsewhere any
+abbrev pub type_in_job : (Node × Node → Type') → Option (Node × Node) → Type'
+type_in_job of job = option_map_or of job Any
+
+abbrev pub jobs_seen : Known → Node → Section → Type'
+jobs_seen known root apart = Any
+jobs_seen known root in_on = jobs_type known root
+jobs_seen known root (in_job k) = jobs_type known root
+
+-- The table of a workflow's contexts, and of an action's.
+abbrev pub workflow_type : Known → Node → Position → Context → Type'
+workflow_type known root p context.Github = github_type
+workflow_type known root p context.Env = loose_strings
+workflow_type known root p context.Vars = loose_strings
+workflow_type known root p context.Secrets = loose_strings
+workflow_type known root p context.Runner = runner_type
+workflow_type known root p context.Job = job_type
+workflow_type known root p context.Strategy = type_in_job (λ j. strategy_type) (job_in root p.section)
+workflow_type known root p context.Needs = type_in_job (λ j. needs_type known root j.1) (job_in root p.section)
+workflow_type known root p context.Jobs = jobs_seen known root p.section
+workflow_type known root p context.Steps =
+    type_in_job (λ j. steps_type known (Some (key_of j)) (items_at (codes "steps") j.1) p.seen) (job_in root p.section)
+workflow_type known root p context.Matrix = type_in_job (λ j. matrix_type j.1) (job_in root p.section)
+workflow_type known root p context.Inputs = workflow_inputs root
+
+abbrev pub action_type : Known → Node → Position → Context → Type'
+action_type known root p context.Github = github_type
+action_type known root p context.Env = loose_strings
+action_type known root p context.Vars = loose_strings
+action_type known root p context.Secrets = loose_strings
+action_type known root p context.Runner = runner_type
+action_type known root p context.Job = job_type
+action_type known root p context.Steps = if is_composite root then steps_type known None (action_steps root) p.seen else Any
+action_type known root p context.Inputs = action_inputs root
+action_type known root p _ = Any
+
+abbrev pub type_at : FileKind → Known → Node → Position → Context → Type'
+type_at kind.Workflow = workflow_type
+type_at kind.Action = action_type

@@ -1,0 +1,25 @@
+-- The types of `inputs` (GitHub, "Contexts reference", `inputs`).
+use Rattle.std.specs.Prelude.{ℕ, List, [], ◌∷◌, codes, map}
+use Rattle.al_types.specs.Types.{Type'}
+use Rattle.al_yaml_tree.specs.Node.{Node}
+use Rattle.al_tree_shape.specs.Keys.{key_of}
+use Rattle.al_tree_declarations.specs.Declarations.{declared_below, names_of}
+use Rattle.al_tree_declarations.specs.Inputs.{input_of, input_type}
+use Rattle.al_types.specs.Strings.{named_strings}
+use Rattle.al_check_contexts.specs.Objects.{strictly}
+use Rattle.al_types.specs.Puts.{Typed, put, put_all}
+
+abbrev pub input_field : Node × Node → Typed
+input_field e = (key_of e, input_type (input_of e.1))
+
+-- the inputs that an event declares
+abbrev pub event_inputs : List ℕ → Node → List Typed
+event_inputs event root = map input_field (declared_below (codes "on" ∷ event ∷ codes "inputs" ∷ []) root)
+
+-- of a workflow those of a call, and those of a dispatch fused in
+abbrev pub workflow_inputs : Node → Type'
+workflow_inputs root = strictly (put_all put (event_inputs (codes "workflow_call") root) (event_inputs (codes "workflow_dispatch") root))
+
+-- of an action strings
+abbrev pub action_inputs : Node → Type'
+action_inputs root = named_strings (names_of (declared_below (codes "inputs" ∷ []) root))

@@ -1,0 +1,35 @@
+-- What is found in maps that are made once for a file.
+use Rattle.std.specs.Prelude.{ℕ, List, Option, Some, None, map, option_map, option_and_then, slice_get, if◌then◌else◌}
+use Rattle.std.specs.BTreeMap.{get_by}
+use Rattle.std.specs.Cmp.Lexicographic.{slice_cmp}
+use Rattle.std.specs.Option.{option_cmp, option_copied}
+use Rattle.std.specs.Ordering.{nat_cmp, ordering_then}
+use Rattle.al_check_contexts.specs.Answered.{Behind, is_at}
+use Rattle.al_check_contexts.specs.Contexts.{Known}
+use Rattle.al_check_contexts.specs.declared.known.Outputs.{Outputs}
+
+-- the names at a place, None where nothing is known of them; None where nothing was answered there
+abbrev pub Found : Type 0
+Found = Option (List ℕ) → Option ℕ → Option (Option (List (List ℕ)))
+
+-- the lists of names, and the one at a position among them
+abbrev pub lists_of : Outputs → List (List (List ℕ))
+lists_of o = map (λ l. l.now) o.lists.now
+
+abbrev pub list_at : Outputs → ℕ → Option (List (List ℕ))
+list_at o = slice_get (lists_of o)
+
+unfoldable pub found_at : Outputs → Found
+found_at o job step =
+    option_map (option_and_then (list_at o)) (get_by
+    (λ k. ordering_then (option_cmp (slice_cmp nat_cmp) job (option_copied k.0)) (option_cmp nat_cmp step k.1)) o.positions)
+
+-- with an answer in front
+abbrev pub and_found : Behind → Found → Found
+and_found b found job step = if is_at job step b then Some b.names else found job step
+
+abbrev pub names_by : Outputs → Option (List ℕ) → Option ℕ → Option (List (List ℕ))
+names_by o job step = option_and_then (λ names. names) (found_at o job step)
+
+abbrev pub known_by : Outputs → Known
+known_by o = record { of_step = λ job i. names_by o job (Some i); of_job = λ job. names_by o (Some job) None }

@@ -1,0 +1,116 @@
+//! What is known of the outputs behind calls.
+ghost use Rattle.std.specs.Prelude.{◌≡◌, ◌<◌, IfOk, IfSome, OnOk, length, option_and_then};
+ghost use Rattle.std.specs.Option.{option_copied};
+ghost use Rattle.al_check_contexts.specs.Answered.{behind_of, known_of};
+ghost use Rattle.al_check_contexts.specs.Private.Lookups.{and_found, found_at, known_by, list_at, lists_of, names_by};
+
+use al_tree_declarations::NameList;
+use std::alloc::{AllocError, Global};
+use std::collections::BTreeMap;
+
+/// What is known of the outputs behind a call: of a job by its key, of a step of a job by the job's key and the step's index, and of
+/// a step of an action by its index alone. Of the answers at one place the first counts.
+#[derive(Clone, Copy)]
+pub struct Answer<'a> {
+    /// The key of the job; none of an action's step.
+    pub job: Option<&'a [u8]>,
+    /// The index of the step, counted from 0; none where the job itself calls.
+    pub step: Option<usize>,
+    /// The position of the names of the outputs in `Answers::lists`, counted from 0; none where nothing is known of them. A position at
+    /// which no list stands says the same.
+    pub names: Option<usize>,
+}
+
+/// What is known of the outputs behind the calls of a file. Calls with one position in `lists` have the same outputs, which is told
+/// without a look at the names.
+#[derive(Clone, Copy)]
+pub struct Answers<'a> {
+    /// The answers, in any order but for those at one place of a file.
+    pub answers: &'a [Answer<'a>],
+    /// The lists of names that answers have positions in.
+    pub lists: &'a [&'a NameList],
+}
+
+/// What answers make known, found by the place of the call.
+#[derive(Drop)]
+pub(crate) struct Outputs<'a> {
+    /// The positions of the names in `lists`.
+    positions: BTreeMap<(Option<&'a [u8]>, Option<usize>), Option<usize>>,
+    lists: &'a [&'a NameList],
+}
+
+impl<'a> Outputs<'a> {
+    /// What these answers make known. Fails with `AllocError` when out of memory.
+    pub(crate) fn of(alloc: Global, known: Answers<'a>) -> Result<Outputs<'a>, AllocError>
+        ensures { IfOk result (λ o. known_by o ≡ known_of known.entry) }
+    {
+        let mut outputs = Outputs {
+            positions: BTreeMap::new(alloc),
+            lists: known.lists,
+        };
+        let mut rest = known.answers.len();
+        while rest > 0 {
+            rest -= 1;
+            outputs.put(known.answers[rest])?;
+        }
+        Ok(outputs)
+    }
+
+    /// Puts an answer in front of the others.
+    fn put(&mut self, answer: Answer<'a>) -> Result<(), AllocError>
+        ensures found { OnOk result (found_at self.new ≡ and_found (behind_of (lists_of self.old) answer.entry) (found_at self.old)) }
+        ensures lists { (self.new).lists ≡ (self.old).lists }
+    {
+        self.positions
+            .insert((answer.job, answer.step), answer.names)?;
+        Ok(())
+    }
+
+    /// This position, if a list stands there.
+    fn within(&self, position: Option<usize>) -> Option<usize>
+        ensures names { option_and_then (list_at self.now) result ≡ option_and_then (list_at self.now) position }
+        ensures there { IfSome result (λ i. i < length (lists_of self.now)) }
+    {
+        match position {
+            Some(i) => if i < self.lists.len() { Some(i) } else { None },
+            None => None,
+        }
+    }
+
+    /// The position of the names of the outputs behind a call; none where nothing is known of them. A list stands at each position that is
+    /// answered, and calls with one position have the same outputs.
+    fn position(&self, job: Option<&'a [u8]>, step: Option<usize>) -> Option<usize>
+        ensures names { option_and_then (list_at self.now) result ≡ names_by self.now (option_copied job.entry) step }
+        ensures there { IfSome result (λ i. i < length (lists_of self.now)) }
+    {
+        match self.positions.get(&(job, step)) {
+            Some(position) => self.within(*position),
+            None => None,
+        }
+    }
+
+    /// The position of the names of a step's outputs, likewise.
+    pub(crate) fn position_of_step(&self, job: Option<&'a [u8]>, i: usize) -> Option<usize>
+        ensures names { option_and_then (list_at self.now) result ≡ (known_by self.now).of_step (option_copied job.entry) i }
+        ensures there { IfSome result (λ i. i < length (lists_of self.now)) }
+    {
+        self.position(job, Some(i))
+    }
+
+    /// The position of the names of a job's outputs, likewise.
+    pub(crate) fn position_of_job(&self, job: &'a [u8]) -> Option<usize>
+        ensures names { option_and_then (list_at self.now) result ≡ (known_by self.now).of_job job.entry.now }
+    {
+        self.position(Some(job), None)
+    }
+
+    /// The names at a position.
+    pub(crate) fn list(&self, position: Option<usize>) -> Option<&'a NameList>
+        ensures { option_copied result ≡ option_and_then (list_at self.now) position }
+    {
+        match position {
+            Some(i) => self.lists.get(i).copied(),
+            None => None,
+        }
+    }
+}

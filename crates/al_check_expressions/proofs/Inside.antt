@@ -1,0 +1,174 @@
+-- Each fault of an expression lies in the file.
+use Rattle.std.proofs.Common.{◌≡◌, ◌≤◌, ◌<◌, ◌+◌, ◌-◌, ℕ, zero, suc, List, [], ◌∷◌, length, take, drop, map, arith, Bool, true, false, cond}
+use Rattle.std.proofs.Common.{nat_eq, ◌&&◌, ◌||◌, not, Option, Some, None, subst, refl, inl, inr, ◌⊎◌}
+use Rattle.std.specs.Prelude.{slice_range}
+use Rattle.std.specs.List.{AllByRecursion, flat_map}
+use Rattle.std.specs.Option.{option_map_or, option_to_list}
+use Rattle.std.proofs.lemmas.Bool.Decides.{nat_tests}
+use Rattle.al_base.specs.Spans.{LiesIn}
+use Rattle.al_base.specs.declared.codes.ExpressionCode.TheVariants as code
+use Rattle.al_base.specs.declared.faults.Fault.{Fault}
+use Rattle.al_base.specs.declared.faults.Span.{Span}
+use Rattle.al_scalar.specs.Line.{Cell}
+use Rattle.al_scalar.specs.Offsets.{AreRising, IsFrom, IsPlaced, reach}
+use Rattle.al_scalar.specs.Scalar.{Scalar, offset_of, offset_or, text_of}
+use Rattle.al_expr_grammar.specs.Chunks.{chunks_of}
+use Rattle.al_expr_grammar.specs.Extents.{extent}
+use Rattle.al_expr_grammar.specs.Grammar.{Binary}
+use Rattle.al_expr_grammar.specs.Lexeme.{Lexeme}
+use Rattle.al_expr_grammar.specs.Refusal.{fault, fault_of_content}
+use Rattle.al_expr_grammar.specs.Tokens.{Lexed, AllRead, Bad, Unclosed, tokens_of}
+use Rattle.al_expr_grammar.specs.Tree.{Tree}
+use Rattle.al_expr_grammar.proofs.Inside.{TreeLies, chunks_lie, content_fault_lies, extent_lies, tree_lies}
+use Rattle.al_expr_grammar.proofs.Total.{Outcome, read, refused, all}
+use Rattle.al_types.specs.Scopes.{Scope}
+use Rattle.al_types.specs.Types.{Type', is_collection}
+use Rattle.al_meaning.specs.Meaning.{faults_in, meaning_of, type_in}
+use Rattle.al_meaning.proofs.Inside.{both_lie, meaning_lies}
+use Rattle.al_yaml_tree.specs.Node.{Node}
+use Rattle.al_yaml_tree.specs.Spans.{AreFrom, IsLaid}
+use Rattle.al_tree.specs.declared.files.FileKind.{FileKind}
+use Rattle.al_check_places.specs.Places.{Place, places_of}
+use Rattle.al_check_contexts.specs.Contexts.{Known}
+use Rattle.al_check_contexts.specs.Scopes.{scope_at}
+use Rattle.al_check_expressions.specs.FileExpressions.{expression_faults}
+use Rattle.al_check_expressions.specs.Contents.{chunk_faults, chunked_faults, collection_faults, content_faults, is_one_chunk, is_whole, located, moved, place_faults, tree_faults}
+use Rattle.al_expr_grammar.specs.Inside.{AllLie}
+use Rattle.al_check_expressions.specs.Inside.{IsThere}
+use Rattle.al_check_expressions.specs.Spelled.{tree_in, tree_of_content, tree_of_tokens}
+use Rattle.al_check_expressions.proofs.EndLemmas.{length_text}
+use Rattle.al_scalar.proofs.Locating.{offset_or-end}
+use Rattle.al_check_expressions.proofs.Places.{places_there}
+
+-- ---- offsets
+
+from_low : (cs : List Cell) (low high end j : ℕ) → AreRising low high cs → j < length cs → low ≤ offset_or cs end j
+from_low [] low high end j r h = absurd (omega (arith, h))
+from_low (c ∷ cs) low high end zero r h = r.0
+from_low (c ∷ cs) low high end (suc j) r h = let first = r.0 in let rest = from_low cs c.1 high end j r.2 (omega (arith, h)) in omega (arith, first, rest)
+
+rise : (cs : List Cell) (low high end i j : ℕ) → AreRising low high cs → i ≤ j → j < length cs → offset_or cs end i ≤ offset_or cs end j
+rise [] low high end i j r o h = absurd (omega (arith, h))
+rise (c ∷ cs) low high end zero zero r o h = omega arith
+rise (c ∷ cs) low high end zero (suc j) r o h = from_low cs c.1 high end j r.2 (omega (arith, h))
+rise (c ∷ cs) low high end (suc i) zero r o h = absurd (omega (arith, o))
+rise (c ∷ cs) low high end (suc i) (suc j) r o h = rise cs c.1 high end i j r.2 (omega (arith, o)) (omega (arith, h))
+
+below_or_not : (j n : ℕ) → (j < n) ⊎ (n ≤ j)
+below_or_not j n = grind arith
+
+-- ---- faults of a scalar's text, at their places
+
+module _ (size : ℕ) (s : Scalar) (at : Span) (there : LiesIn size at) (p : IsPlaced 1048576 s at) (from : IsFrom size s) where
+  inside_at : (i : ℕ) → offset_of s i ≤ size
+  inside_at i = elim (below_or_not i (length (text_of s))) [
+    | inl h ↦ let below = from i h in omega (arith, below)
+    | inr h ↦
+        let same = length_text s.cells in
+        let e : offset_of s i ≡ s.end = offset_or-end s.cells s.end i (omega (arith, h, same)) in
+        let last = p.end in
+        let in_file = there.inside in
+        omega (arith, e, last, in_file)
+  ]
+
+  located_at : (t : Bool) (i j : ℕ) → nat_eq i j ≡ t → i ≤ j → j ≤ length (text_of s)
+      → LiesIn size (cond t (record { start = offset_of s i; end = offset_of s i })
+      (record { start = offset_of s i; end = offset_of s (j - 1) + 1 }))
+  located_at true i j e o h = let here = inside_at i in record { ordered = omega arith; inside = here }
+  located_at false i j e o h =
+      let apart : i < j = grind (arith, nat_tests) in
+      let same = length_text s.cells in
+      let last : offset_of s (j - 1) < size = from (j - 1) (omega (arith, apart, h)) in
+      let up : offset_of s i ≤ offset_of s (j - 1) = rise s.cells at.start (reach 1048576 s.style s.end) s.end i (j - 1) p.rising (omega (arith, apart)) (omega (arith, apart, h, same)) in
+      record { ordered = omega (arith, up); inside = omega (arith, last) }
+
+  located_lies : (i j : ℕ) → i ≤ j → j ≤ length (text_of s) → LiesIn size (located s i j)
+  located_lies i j o h = located_at (nat_eq i j) i j refl o h
+
+  moved_lie : (by n : ℕ) (fs : List Fault) → AllLie n fs → by + n ≤ length (text_of s) → AllLie size (map (moved s by) fs)
+  moved_lie by n [] l h = tt
+  moved_lie by n (f ∷ fs) l h =
+      let o = (l.0).ordered in
+      let i = (l.0).inside in
+      (located_lies (by + f.span.start) (by + f.span.end) (omega (arith, o)) (omega (arith, i, h)), moved_lie by n fs l.1 h)
+
+-- ---- the faults of a content
+
+if_lie : (n : ℕ) (t : Bool) (xs ys : List Fault) → AllLie n xs → AllLie n ys → AllLie n (cond t xs ys)
+if_lie n true xs ys a b = a
+if_lie n false xs ys a b = b
+
+by_fault : (n : ℕ) (o : Option Fault) (rest : List Fault) → AllLie n (option_to_list o) → AllLie n rest → AllLie n (option_map_or (λ f. f ∷ []) o rest)
+by_fault n None rest a b = b
+by_fault n (Some f) rest a b = a
+
+by_tree : (n : ℕ) (o : Option Tree) (f : Tree → List Fault) → ((t : Tree) → o ≡ Some t → AllLie n (f t)) → AllLie n (option_map_or f o [])
+by_tree n None f h = tt
+by_tree n (Some t) f h = h t refl
+
+outcome_lies : (content : List ℕ) (ts : List Lexeme) (o : Outcome (Binary 0) 50 ts) (t : Tree) → tokens_of content ≡ AllRead ts → tree_in ts o ≡ Some t → TreeLies (length content) 0 t
+outcome_lies content ts (read u rest p) t e is =
+    let same : u ≡ t = cc in
+    subst (TreeLies (length content) 0) same (tree_lies content ts u e p.derives)
+outcome_lies content ts (refused x i r) t e is = absurd cc
+
+lexed_lies : (content : List ℕ) (r : Lexed) (t : Tree) → tokens_of content ≡ r → tree_of_tokens r ≡ Some t → TreeLies (length content) 0 t
+lexed_lies content (AllRead ts) t e is = outcome_lies content ts (all (suc (length ts)) 50 ts (omega arith)) t e is
+lexed_lies content (Bad s) t e is = absurd cc
+lexed_lies content Unclosed t e is = absurd cc
+
+collection_lies : (n : ℕ) (alone only : Bool) (ty : Type') (t : Tree) → TreeLies n 0 t → AllLie n (collection_faults alone only ty t)
+collection_lies n alone only ty t l = if_lie n (is_collection ty && (not alone || only)) (fault code.NotText (extent t) [] ∷ []) [] (extent_lies n t l, tt) tt
+
+tree_faults_lie : (n : ℕ) (sc : Scope) (alone only : Bool) (t : Tree) → TreeLies n 0 t → AllLie n (tree_faults sc alone only t)
+tree_faults_lie n sc alone only t l =
+    both_lie n (faults_in (meaning_of sc t)) (collection_faults alone only (type_in (meaning_of sc t)) t) (meaning_lies n t sc false 0 l)
+    (collection_lies n alone only (type_in (meaning_of sc t)) t l)
+
+content_lies : (sc : Scope) (alone only : Bool) (content : List ℕ) → AllLie (length content) (content_faults sc alone only content)
+content_lies sc alone only content =
+    by_fault (length content) (fault_of_content content) (option_map_or (tree_faults sc alone only) (tree_of_content content) []) (content_fault_lies content)
+    (by_tree (length content) (tree_of_content content) (tree_faults sc alone only)
+    (λ t e. tree_faults_lie (length content) sc alone only t (lexed_lies content (tokens_of content) t refl e)))
+
+-- ---- the faults at a place
+
+take_short : (n : ℕ) (xs : List ℕ) → length (take n xs) ≤ n
+take_short zero xs = omega arith
+take_short (suc n) [] = omega arith
+take_short (suc n) (x ∷ xs) = omega (arith, take_short n xs)
+
+module _ (size : ℕ) (sc : Scope) (only : Bool) (s : Scalar) (at : Span) (there : LiesIn size at) (p : IsPlaced 1048576 s at) (from : IsFrom size s) where
+  chunk_lies : (c : Span) → LiesIn (length (text_of s)) c → AllLie size (chunk_faults sc only s c)
+  chunk_lies c i =
+      let ordered = i.ordered in
+      let inside = i.inside in
+      let cut : length (slice_range (text_of s) c.start c.end) ≤ c.end - c.start = take_short (c.end - c.start) (drop c.start (text_of s)) in
+      moved_lie size s at there p from c.start (length (slice_range (text_of s) c.start c.end)) (content_faults sc (is_one_chunk (text_of s)) only (slice_range (text_of s) c.start c.end))
+      (content_lies sc (is_one_chunk (text_of s)) only (slice_range (text_of s) c.start c.end)) (omega (arith, cut, ordered, inside))
+
+  each_chunk : (cs : List Span) → AllByRecursion (λ (c : Span). LiesIn (length (text_of s)) c) cs → AllLie size (flat_map (chunk_faults sc only s) cs)
+  each_chunk [] l = tt
+  each_chunk (c ∷ cs) l = both_lie size (chunk_faults sc only s c) (flat_map (chunk_faults sc only s) cs) (chunk_lies c l.0) (each_chunk cs l.1)
+
+  chunked_lies : AllLie size (chunked_faults sc only s (chunks_of (text_of s)))
+  chunked_lies =
+      let all = chunks_lie (text_of s) in
+      both_lie size (flat_map (chunk_faults sc only s) (chunks_of (text_of s)).chunks)
+      (map (moved s 0) (option_to_list (chunks_of (text_of s)).fault)) (each_chunk (chunks_of (text_of s)).chunks all.0)
+      (moved_lie size s at there p from 0 (length (text_of s)) (option_to_list (chunks_of (text_of s)).fault) all.1 (omega arith))
+
+  whole_lies : AllLie size (map (moved s 0) (content_faults sc true only (text_of s)))
+  whole_lies = moved_lie size s at there p from 0 (length (text_of s)) (content_faults sc true only (text_of s)) (content_lies sc true only (text_of s)) (omega arith)
+
+place_lies : (size : ℕ) (sc : Scope) (p : Place) → IsThere size p → AllLie size (place_faults sc p)
+place_lies size sc p is =
+    if_lie size (is_whole p) (map (moved p.word 0) (content_faults sc true p.is_scalar_only (text_of p.word))) (chunked_faults sc p.is_scalar_only p.word (chunks_of (text_of p.word)))
+    (whole_lies size sc p.is_scalar_only p.word p.at is.span is.placed is.from) (chunked_lies size sc p.is_scalar_only p.word p.at is.span is.placed is.from)
+
+all_places : (size : ℕ) (f : Place → Scope) (ps : List Place) → AllByRecursion (IsThere size) ps → AllLie size (flat_map (λ p. place_faults (f p) p) ps)
+all_places size f [] h = tt
+all_places size f (p ∷ ps) h = both_lie size (place_faults (f p) p) (flat_map (λ p. place_faults (f p) p) ps) (place_lies size (f p) p h.0) (all_places size f ps h.1)
+
+pub expression_faults_lie : (size : ℕ) (kind : FileKind) (known : Known) (root : Node) → IsLaid size root → AreFrom size root → AllLie size (expression_faults kind known root)
+expression_faults_lie size kind known root w f = all_places size (scope_at kind known root) (places_of kind root) (places_there size kind root w f)

@@ -1,0 +1,40 @@
+-- A text without `${{` has no chunks, and so no fault where it is no condition.
+use Rattle.std.proofs.Common.{◌≡◌, ℕ, suc, List, [], ◌∷◌, length, refl, ap, ◌∙◌, arith, Bool, true, false, cond, ◌&&◌, ◌||◌, not, Some, None, map}
+use Rattle.std.proofs.lemmas.Bool.Decides.{nat_tests}
+use Rattle.std.specs.List.{starts_with}
+use Rattle.std.specs.Prelude.{codes, nat_eq, option_map}
+use Rattle.al_expr_grammar.specs.Chunks.{opens, before_opening, with_opening, chunks_within, chunks_of, no_chunks}
+use Rattle.al_scalar.specs.Scalar.{text_of}
+use Rattle.al_tree_shape.specs.Faults.{has_chunk}
+use Rattle.al_types.specs.Scopes.{Scope}
+use Rattle.al_check_places.specs.Places.{Place}
+use Rattle.al_check_expressions.specs.Contents.{chunked_faults, content_faults, moved, place_faults}
+
+closed_or : (a b : Bool) → (a || b) ≡ false → a ≡ false
+closed_or false b h = refl
+closed_or true b h = h
+
+later_or : (a b : Bool) → (a || b) ≡ false → b ≡ false
+later_or false b h = h
+later_or true b h = absurd cc
+
+opens_not : (bs : List ℕ) → starts_with nat_eq bs (codes "${{") ≡ false → opens bs ≡ false
+opens_not [] h = refl
+opens_not (a ∷ []) h = grind (arith, nat_tests)
+opens_not (a ∷ b ∷ []) h = grind (arith, nat_tests)
+opens_not (a ∷ b ∷ c ∷ bs) h = grind (arith, nat_tests)
+
+no_opening : (bs : List ℕ) → has_chunk bs ≡ false → before_opening bs ≡ None
+no_opening [] h = refl
+no_opening (b ∷ bs) h = ap (λ t. cond t (Some 0) (option_map suc (before_opening bs))) (opens_not (b ∷ bs) (closed_or _ _ h))
+    ∙ ap (option_map suc) (no_opening bs (later_or _ _ h))
+
+without_chunks : (bs : List ℕ) → has_chunk bs ≡ false → chunks_of bs ≡ no_chunks None
+without_chunks [] h = refl
+without_chunks (b ∷ bs) h = ap (with_opening (chunks_within (length bs)) 0 (b ∷ bs)) (no_opening (b ∷ bs) h)
+
+pub plain : (sc : Scope) (p : Place) → p.is_condition ≡ false → has_chunk (text_of p.word) ≡ false → place_faults sc p ≡ []
+plain sc p none without =
+    ap (λ t. cond (t && not (has_chunk (text_of p.word))) (map (moved p.word 0) (content_faults sc true p.is_scalar_only (text_of p.word)))
+    (chunked_faults sc p.is_scalar_only p.word (chunks_of (text_of p.word)))) none
+    ∙ ap (chunked_faults sc p.is_scalar_only p.word) (without_chunks (text_of p.word) without)

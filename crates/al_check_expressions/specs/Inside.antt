@@ -1,0 +1,20 @@
+-- What holds of each scalar that is checked, and so of the places of its faults.
+use Rattle.std.specs.Prelude.{ℕ, ◌≤◌, length, IsUtf8}
+use Rattle.al_base.specs.Spans.{LiesIn}
+use Rattle.al_base.specs.Limits.{largest_file, longest_text}
+use Rattle.al_scalar.specs.Offsets.{IsFrom, IsPlaced}
+use Rattle.al_scalar.specs.Scalar.{text_of}
+use Rattle.al_check_places.specs.Places.{Place}
+use Rattle.al_check_expressions.specs.Contents.{HasRoom}
+
+-- its text is UTF-8, of at most 4,194,304 bytes, and each offset has room behind it
+pub record IsReadable (p : Place) : Type 0 where
+  pub utf8 : IsUtf8 (text_of p.word)
+  pub small : length (text_of p.word) ≤ longest_text
+  pub room : HasRoom p.word
+
+-- a place whose scalar lies in a file of so many bytes, and each byte of its text comes from there
+pub record IsThere (size : ℕ) (p : Place) : Type 0 where
+  pub span : LiesIn size p.at
+  pub placed : IsPlaced largest_file p.word p.at
+  pub from : IsFrom size p.word

@@ -1,0 +1,68 @@
+-- The answers of a file's calls are told by who calls and by the text of `uses`, since these tell what is called.
+use Rattle.std.proofs.Common.{◌≡◌, ◌∙◌, ℕ, List, [], ◌∷◌, Option, Some, None, ap, drop, map, option_map, refl, subst, sym}
+use Rattle.std.specs.Prelude.{codes, option_and_then}
+use Rattle.std.specs.List.{AllByRecursion, cons_option, filter_map}
+use Rattle.std.specs.Option.{option_map_or}
+use Rattle.al_base.specs.declared.codes.Caller.{Caller}
+use Rattle.al_base.specs.declared.faults.Span.{Span}
+use Rattle.al_session_folder.specs.Meaning.{AreAnswers}
+use Rattle.al_session_folder.specs.declared.lint.Target.{Target}
+use Rattle.al_scalar.specs.Scalar.{Scalar}
+use Rattle.al_yaml_tree.specs.Node.{Node}
+use Rattle.al_tree_shape.specs.Values.{text_at}
+use Rattle.al_tree.specs.declared.files.FileKind.{FileKind}
+use Rattle.al_check_interfaces.specs.declared.interfaces.Interface.{Interface}
+use Rattle.al_check_uses.specs.Forms.{form_by}
+use Rattle.al_check_uses.specs.Uses.{Call, Site, call_at, call_by, calls_in, sites_in, target_in, targets_of}
+use Rattle.al_check_calls.specs.Answers.{Answered, answered, answered_by, first_answer}
+use Rattle.al_check_calls.specs.CallFaults.{caller_of}
+use Rattle.al_check_calls.specs.Private.AnswerViews.{answered_of}
+use Rattle.al_check_calls.specs.declared.answers.Answered as code
+use Rattle.al_check_calls.specs.Private.Comparing.{AreToldByUses}
+
+-- ---- what is called
+
+abbrev IsFormed : Call → Type 0
+IsFormed c = c.form ≡ form_by (caller_of c) c.text
+
+put_formed : (s : Site) (o : Option (Scalar × Span)) (cs : List Call) → AllByRecursion IsFormed cs → AllByRecursion IsFormed (cons_option (option_map (call_by s) o) cs)
+put_formed s None cs h = h
+put_formed s (Some t) cs h = (refl, h)
+
+sites_formed : (sites : List Site) → AllByRecursion IsFormed (filter_map call_at sites)
+sites_formed [] = tt
+sites_formed (s ∷ sites) = put_formed s (text_at (codes "uses") s.node) (filter_map call_at sites) (sites_formed sites)
+
+-- ---- what answers
+
+module _ (answer : Target → Option Interface) where
+  abbrev answer_by : Caller → List ℕ → Option Interface
+  answer_by by text = option_and_then answer (target_in (form_by by text))
+
+  abbrev IsTold : Answered → Type 0
+  IsTold a = a.answer ≡ answer_by (caller_of a.call) a.call.text
+
+  -- of the answers the first is that of the first call, and the others are those of the others
+  put_told : (c : Call) (o : Option Target) (rest : List Target) (more : List (Option Interface) → List Answered) → target_in c.form ≡ o → IsFormed c →
+      AllByRecursion IsTold (more (map answer rest)) →
+      AllByRecursion IsTold (cons_option (option_map (λ t. answered_by c (first_answer (map answer (cons_option o rest)))) o)
+      (more (option_map_or (λ t. drop 1 (map answer (cons_option o rest))) o (map answer (cons_option o rest)))))
+  put_told c None rest more is formed h = h
+  put_told c (Some t) rest more is formed h = (ap (option_and_then answer) (sym is) ∙ ap (λ f. option_and_then answer (target_in f)) formed, h)
+
+  all_told : (cs : List Call) → AllByRecursion IsFormed cs → AllByRecursion IsTold (answered cs (map answer (targets_of cs)))
+  all_told [] formed = tt
+  all_told (c ∷ cs) formed = put_told c (target_in c.form) (targets_of cs) (answered cs) refl formed.0 (all_told cs formed.1)
+
+pub told_by_uses : (k : FileKind) (root : Node) (given : List (Option Interface)) → AreAnswers (targets_of (calls_in k root)) given → AreToldByUses (answered (calls_in k root) given)
+told_by_uses k root given answers = record {
+  answer = answer_by answers.answer;
+  told =
+      subst (λ list. AllByRecursion (IsTold answers.answer) (answered (calls_in k root) list)) (sym answers.are)
+      (all_told answers.answer (calls_in k root) (sites_formed (sites_in k root)));
+}
+
+-- of the calls that the code has found, with their answers
+pub told_back : (P : Answered → Type 0) (found : List code.Answered) → AllByRecursion P (map answered_of found) → AllByRecursion (λ (a : code.Answered). P (answered_of a)) found
+told_back P [] h = tt
+told_back P (a ∷ found) h = (h.0, told_back P found h.1)

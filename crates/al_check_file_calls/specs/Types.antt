@@ -1,0 +1,28 @@
+-- The type of a scalar that is given to an input.
+use Rattle.std.specs.Prelude.{ℕ, List, ◌-◌, length, slice_range, if◌then◌else◌}
+use Rattle.std.specs.Option.{option_map_or}
+use Rattle.al_scalar.specs.Scalar.{Scalar, text_of}
+use Rattle.al_expr_grammar.specs.Refusal.{fault_of_content}
+use Rattle.al_types.specs.Scopes.{Scope}
+use Rattle.al_types.specs.Types.{Type', Any, String}
+use Rattle.al_meaning.specs.Meaning.{meaning_of, type_in}
+use Rattle.al_tree_shape.specs.Faults.{has_chunk}
+use Rattle.al_check_contexts.specs.Matrix.{class_type}
+use Rattle.al_check_expressions.specs.Contents.{is_one_chunk}
+use Rattle.al_check_expressions.specs.Spelled.{tree_of_content}
+
+-- of the content of an expression: any where it has a fault of its own
+abbrev pub content_type : Scope → List ℕ → Type'
+content_type sc content =
+    option_map_or (λ f. Any) (fault_of_content content) (option_map_or (λ t. type_in (meaning_of sc t)) (tree_of_content content) Any)
+
+-- the content of a text that is one chunk
+abbrev pub lone_content : List ℕ → List ℕ
+lone_content text = slice_range text 3 (length text - 2)
+
+-- of any other text: with expressions in it a string, else by its class
+abbrev pub text_type : Scalar → Type'
+text_type s = if has_chunk (text_of s) then String else class_type s.class
+
+abbrev pub scalar_type : Scope → Scalar → Type'
+scalar_type sc s = if is_one_chunk (text_of s) then content_type sc (lone_content (text_of s)) else text_type s

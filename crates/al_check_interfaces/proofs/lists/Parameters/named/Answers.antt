@@ -1,0 +1,26 @@
+use Rattle.std.proofs.Common.{List, Some, ap, arith, find, sym, ◌∙◌}
+use Rattle.al_types.specs.Private.Positions.{name_position}
+use Rattle.al_check_interfaces.specs.declared.interfaces.Parameter.{Parameter}
+use Rattle.al_check_interfaces.specs.Parameters.{is_parameter}
+use Rattle.al_check_interfaces.proofs.Positions.{named_at, not_named, position_within}
+use Rattle.al_check_interfaces.proofs.lists.Parameters.named.Goals as goal
+
+pub index-requires : goal.index-requires
+index-requires c =
+    let within = position_within (λ (p : Parameter). p.name) c.self.inside.parameters.items (name_position c.self.inside.positions) c.args.name.now c.in-Some.i
+    c.self.invariant.0 (sym c.in-Some.is ∙ c.in_ok-i.ensures) in
+    omega (arith, within, c.self.inside.parameters.ok.0)
+
+pub returns-in-Some : goal.returns-in-Some
+returns-in-Some c =
+    let name = c.args.name.now in
+    ap Some c.index.ensures
+    ∙ named_at (λ (p : Parameter). p.name) c.self.inside.parameters.items (name_position c.self.inside.positions) name c.in-Some.i c.index.result.now
+    c.self.invariant.0 (sym c.in-Some.is ∙ c.in_ok-i.ensures)
+    ∙ ap (λ (l : List Parameter). find (is_parameter name) l) c.self.view_is
+
+pub returns-in-None : goal.returns-in-None
+returns-in-None c =
+    let name = c.args.name.now in
+    not_named (λ (p : Parameter). p.name) c.self.inside.parameters.items (name_position c.self.inside.positions) name c.self.invariant.0 (sym c.in-None.is ∙ c.in_ok-i.ensures)
+    ∙ ap (λ (l : List Parameter). find (is_parameter name) l) c.self.view_is

@@ -1,0 +1,99 @@
+-- What a file shows to its callers (GitHub, "Workflow syntax", `on.workflow_call`; "Metadata syntax", `inputs`, `outputs`, `runs`):
+-- no spans, no descriptions.
+use Rattle.std.specs.Prelude.{ℕ, List, [], ◌∷◌, Bool, false, ◌||◌, codes, map, Option, option_map, if◌then◌else◌}
+use Rattle.std.specs.List.{list_any}
+use Rattle.std.specs.Option.{option_map_or}
+use Rattle.std.specs.Str.{bytes_eq}
+use Rattle.al_base.specs.declared.faults.Span.{Span}
+use Rattle.al_scalar.specs.Scalar.{Scalar, text_of}
+use Rattle.al_base.specs.Names.{same_name}
+use Rattle.al_yaml_tree.specs.Access.{scalar_in}
+use Rattle.al_yaml_tree.specs.Node.{Node, scalar, sequence, mapping}
+use Rattle.al_tree_shape.specs.Keys.{key_of}
+use Rattle.al_tree_shape.specs.Values.{text_at, texts_in, value_at}
+use Rattle.al_tree.specs.declared.files.FileKind.{FileKind}
+use Rattle.al_tree.specs.declared.files.FileKind.TheVariants as kind
+use Rattle.al_tree_declarations.specs.Declarations.{declared_below, has_value, is_composite, names_of}
+use Rattle.al_tree_declarations.specs.Inputs.{input_of}
+use Rattle.al_tree_declarations.specs.declared.inputs.InputType.{InputType}
+use Rattle.al_tree_declarations.specs.declared.inputs.InputType.TheVariants as input
+use Rattle.al_check_interfaces.specs.declared.interfaces.Interface.{Interface}
+use Rattle.al_check_interfaces.specs.declared.interfaces.Interface.TheVariants.{Readable, Unreadable}
+use Rattle.al_check_interfaces.specs.declared.interfaces.Parameter.{Parameter}
+use Rattle.al_check_interfaces.specs.declared.interfaces.Role.{Role}
+use Rattle.al_check_interfaces.specs.declared.interfaces.Role.TheVariants as role
+use Rattle.al_check_interfaces.specs.declared.interfaces.Signature.{Signature}
+use Rattle.al_check_interfaces.specs.declared.signatures.Declaring.{Declaring}
+use Rattle.al_check_interfaces.specs.declared.signatures.Declaring.TheVariants as declared
+
+-- `true` in any ASCII case and any style
+abbrev pub is_true : Node → Bool
+is_true n = option_map_or (λ s. same_name (text_of s) (codes "true")) (scalar_in n) false
+
+abbrev pub is_required : Node → Bool
+is_required n = option_map_or is_true (value_at (codes "required") n) false
+
+-- a secret has no default
+abbrev pub has_default : Declaring → Node → Bool
+has_default declared.CallInputs n = has_value (codes "default") n
+has_default declared.ActionInputs n = has_value (codes "default") n
+has_default declared.Secrets n = false
+
+-- inputs of actions are strings, and so are secrets
+abbrev pub type_taken : Declaring → Node → InputType
+type_taken declared.CallInputs n = input_of n
+type_taken declared.ActionInputs n = input.String
+type_taken declared.Secrets n = input.String
+
+abbrev pub parameter : Declaring → Node × Node → Parameter
+parameter by e = record { name = key_of e; required = is_required e.1; has_default = has_default by e.1; takes = type_taken by e.1 }
+
+abbrev pub parameters : Declaring → List (List ℕ) → Node → List Parameter
+parameters by ks n = map (parameter by) (declared_below ks n)
+
+abbrev pub name_of : Node → Option (List ℕ)
+name_of n = option_map (λ t. text_of t.0) (text_at (codes "name") n)
+
+abbrev pub says_call : Scalar × Span → Bool
+says_call t = bytes_eq (text_of t.0) (codes "workflow_call")
+
+-- `on` names `workflow_call` in any form
+abbrev pub names_call : Node → Bool
+names_call on = list_any says_call (texts_in on) || has_value (codes "workflow_call") on
+
+abbrev pub of_call : List ℕ → List (List ℕ)
+of_call k = codes "on" ∷ codes "workflow_call" ∷ k ∷ []
+
+abbrev pub workflow_role : Node → Role
+workflow_role n = if option_map_or names_call (value_at (codes "on") n) false then role.Callable else role.Workflow
+
+abbrev pub action_role : Node → Role
+action_role n = if is_composite n then role.Composite else role.Action
+
+abbrev pub workflow_signature : Node → Signature
+workflow_signature n = record {
+  name = name_of n;
+  role = workflow_role n;
+  inputs = parameters declared.CallInputs (of_call (codes "inputs")) n;
+  secrets = parameters declared.Secrets (of_call (codes "secrets")) n;
+  outputs = names_of (declared_below (of_call (codes "outputs")) n);
+}
+
+abbrev pub action_signature : Node → Signature
+action_signature n = record {
+  name = name_of n;
+  role = action_role n;
+  inputs = parameters declared.ActionInputs (codes "inputs" ∷ []) n;
+  secrets = [];
+  outputs = names_of (declared_below (codes "outputs" ∷ []) n);
+}
+
+abbrev pub signature_of : FileKind → Node → Signature
+signature_of kind.Workflow n = workflow_signature n
+signature_of kind.Action n = action_signature n
+
+-- of a file with this root
+abbrev pub interface_of : FileKind → Node → Interface
+interface_of k (mapping es at) = Readable (signature_of k (mapping es at))
+interface_of k (scalar s at) = Unreadable
+interface_of k (sequence ns at) = Unreadable

@@ -1,0 +1,153 @@
+//! The parameters of an interface. Where their names stand, and which of them each call has to give, is made ready once for all calls.
+ghost use Rattle.std.specs.Prelude.{◌≡◌, ◌<◌, find, length, map, slice_index_or, IfOk};
+ghost use Rattle.std.specs.Option.{option_copied};
+ghost use Rattle.al_types.specs.Private.Positions.{name_position};
+ghost use Rattle.al_check_interfaces.specs.Parameters.{has_parameter, is_mandatory, is_parameter, mandatory_of};
+ghost use Rattle.al_check_interfaces.specs.Private.Names.{positions_by};
+ghost use Rattle.al_check_interfaces.specs.Private.Places.{StandAt};
+
+use crate::interfaces::Parameter;
+use al_types::NamePositions;
+use std::alloc::{AllocError, Global};
+use std::marker::Model;
+
+/// Parameters in order whose names differ, where each name stands among them, and where those stand that each call has to give. Contracts
+/// see their list. Finding one by its name takes time that grows with the logarithm of their number, and with the name's length.
+#[derive(Drop)]
+pub struct Parameters {
+    parameters: Vec<Parameter>,
+    positions: NamePositions,
+    mandatory: Vec<usize>,
+}
+
+impl Model for Parameters {
+    ghost use Rattle.std.specs.Prelude.{◌≡◌, List};
+    ghost use Rattle.al_types.specs.Private.Positions.{name_position};
+    ghost use Rattle.al_check_interfaces.specs.declared.interfaces.Parameter.{Parameter};
+    ghost use Rattle.al_check_interfaces.specs.Parameters.{mandatory_of};
+    ghost use Rattle.al_check_interfaces.specs.Private.Names.{positions_by};
+    ghost use Rattle.al_check_interfaces.specs.Private.Places.{StandAt};
+
+    ghost Value = { List Parameter };
+
+    ghost view = { λ a. a.parameters.items };
+
+    ghost invariant = { λ a. (name_position a.positions ≡ positions_by (λ p. p.name) a.parameters.items)
+        × StandAt a.mandatory.items (mandatory_of a.parameters.items) a.parameters.items };
+}
+
+/// Where the first parameter with each name stands.
+fn positions_of(alloc: Global, parameters: &[Parameter]) -> Result<NamePositions, AllocError>
+    ensures { IfOk result (λ p. name_position p ≡ positions_by (λ x. x.name) parameters.now) }
+{
+    let mut positions = NamePositions::new(alloc);
+    for (i, parameter) in parameters.iter().enumerate() {
+        let _ = positions.insert(alloc, parameter.name.as_bytes(), i)?;
+    }
+    Ok(positions)
+}
+
+/// Whether each call has to give a parameter.
+fn is_mandatory(parameter: &Parameter) -> bool
+    ensures { result ≡ is_mandatory parameter.now }
+{
+    parameter.required && !parameter.has_default
+}
+
+/// Where the parameters stand that each call has to give.
+fn mandatory_places(alloc: Global, parameters: &[Parameter]) -> Result<Vec<usize>, AllocError>
+    ensures { IfOk result (λ places. StandAt places.items (mandatory_of parameters.now) parameters.now) }
+{
+    let mut places = Vec::new(alloc);
+    for (i, parameter) in parameters.iter().enumerate() {
+        if is_mandatory(parameter) {
+            places.push(i)?;
+        }
+    }
+    Ok(places)
+}
+
+fn parameter_at(parameters: &[Parameter], place: usize) -> &Parameter
+    requires { place < length parameters.now }
+    ensures { result.now ≡ slice_index_or parameters.now place result.now }
+{
+    &parameters[place]
+}
+
+/// The parameters that each call has to give, which stand at these places.
+fn all_at<'a>(
+    alloc: Global,
+    parameters: &'a [Parameter],
+    places: &[usize],
+) -> Result<Vec<&'a Parameter>, AllocError>
+    requires { StandAt places.now (mandatory_of parameters.now) parameters.now }
+    ensures { IfOk result (λ v. map (λ p. p.now) v.items ≡ mandatory_of parameters.now) }
+{
+    let mut found = Vec::new(alloc);
+    for i in 0..places.len() {
+        found.push(parameter_at(parameters, places[i]))?;
+    }
+    Ok(found)
+}
+
+impl Parameters {
+    /// The list of these parameters. Fails with `AllocError` when out of memory.
+    pub(crate) fn new(alloc: Global, parameters: Vec<Parameter>) -> Result<Parameters, AllocError>
+        ensures { IfOk result (λ l. l ≡ parameters.items) }
+    {
+        let positions = positions_of(alloc, parameters.as_slice())?;
+        let mandatory = mandatory_places(alloc, parameters.as_slice())?;
+        Ok(Parameters {
+            parameters,
+            positions,
+            mandatory,
+        })
+    }
+
+    /// Those that each call has to give. Fails with `AllocError` when out of memory.
+    pub fn mandatory(&self, alloc: Global) -> Result<Vec<&Parameter>, AllocError>
+        ensures { IfOk result (λ v. map (λ p. p.now) v.items ≡ mandatory_of self.now) }
+    {
+        all_at(alloc, self.parameters.as_slice(), self.mandatory.as_slice())
+    }
+
+    /// The first parameter with a name, in any ASCII case. Fails with `AllocError` when out of memory.
+    pub fn named(&self, alloc: Global, name: &[u8]) -> Result<Option<&Parameter>, AllocError>
+        ensures { IfOk result (λ p. option_copied p ≡ find (is_parameter name.now) self.now) }
+    {
+        match self.positions.get(alloc, name)? {
+            Some(i) => Ok(Some(&self.parameters[i])),
+            None => Ok(None),
+        }
+    }
+
+    /// Whether a parameter has a name, in any ASCII case. Fails with `AllocError` when out of memory.
+    pub fn has(&self, alloc: Global, name: &[u8]) -> Result<bool, AllocError>
+        ensures { IfOk result (λ b. b ≡ has_parameter self.now name.now) }
+    {
+        let position = self.positions.get(alloc, name)?;
+        Ok(position.is_some())
+    }
+}
+
+impl PartialEq for Parameters {
+    ghost use Rattle.std.specs.Cmp.{partial_equiv_from_equiv};
+    ghost use Rattle.std.specs.Cmp.Lexicographic.{pointwise, lists_equiv};
+    ghost use Rattle.al_check_interfaces.specs.contracts.interfaces.ParameterPartialEq.TheImpl as one;
+    ghost use Rattle.al_check_interfaces.specs.contracts.interfaces.ParameterEq.TheImpl.Laws as one_laws;
+
+    ghost eq = { pointwise one.ghosts.eq };
+
+    ghost laws = { partial_equiv_from_equiv (lists_equiv one_laws.laws-law) };
+
+    fn eq(&self, other: &Parameters) -> bool {
+        self.parameters.as_slice() == other.parameters.as_slice()
+    }
+}
+
+impl Eq for Parameters {
+    ghost use Rattle.std.specs.Cmp.Lexicographic.{lists_equiv};
+    ghost use Rattle.al_check_interfaces.specs.contracts.interfaces.ParameterEq.TheImpl.Laws as one_laws;
+
+    ghost laws = { lists_equiv one_laws.laws-law };
+}

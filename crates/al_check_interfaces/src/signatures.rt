@@ -1,0 +1,269 @@
+//! The interface of a file, from its root.
+ghost use Rattle.std.specs.Prelude.{◌≡◌, [], map, option_map, IfOk};
+ghost use Rattle.std.specs.List.{list_any};
+ghost use Rattle.std.specs.Option.{option_map_or};
+ghost use Rattle.al_tree_declarations.specs.Declarations.{declared_in, names_of};
+ghost use Rattle.al_scalar.specs.Scalar.{text_of};
+ghost use Rattle.al_tree_shape.specs.Values.{member_of, scalar_node_of};
+ghost use Rattle.al_yaml_tree.specs.View.{view};
+ghost use Rattle.al_check_interfaces.specs.Interfaces as interfaces;
+
+use crate::interfaces::{Interface, Parameter, Role, Signature};
+use crate::lists::Parameters;
+use al_base::is_same_name;
+use al_tree::FileKind;
+use al_tree_declarations::{
+    InputType, Name, NameList, declared_at, has_value, input_of, is_composite, value_below_three,
+};
+use al_tree_shape::{Member, ScalarNode, key_text, text_under, texts, value};
+use al_yaml_tree::Node;
+use std::alloc::{AllocError, Global};
+
+/// How parameters are declared.
+#[derive(Clone, Copy)]
+enum Declaring {
+    /// As inputs of a workflow that can be called.
+    CallInputs,
+    /// As inputs of an action.
+    ActionInputs,
+    /// As secrets of a workflow that can be called.
+    Secrets,
+}
+
+/// Whether a node is `true`, in any ASCII case.
+fn is_true(node: &Node) -> bool
+    ensures { result ≡ interfaces.is_true (view node.now) }
+{
+    match node.scalar() {
+        Some(scalar) => is_same_name(scalar.text(), b"true"),
+        None => false,
+    }
+}
+
+/// Whether what a node declares is required.
+fn is_required(node: &Node) -> bool
+    ensures { result ≡ interfaces.is_required (view node.now) }
+{
+    match value(node, "required") {
+        Some(node) => is_true(node),
+        None => false,
+    }
+}
+
+/// Whether what is declared so has a default.
+fn has_default(by: Declaring, node: &Node) -> bool
+    ensures { result ≡ interfaces.has_default by (view node.now) }
+{
+    match by {
+        Declaring::CallInputs => has_value(node, "default"),
+        Declaring::ActionInputs => has_value(node, "default"),
+        Declaring::Secrets => false,
+    }
+}
+
+/// What a parameter that is declared so takes.
+fn type_taken(by: Declaring, node: &Node) -> InputType
+    ensures { result ≡ interfaces.type_taken by (view node.now) }
+{
+    match by {
+        Declaring::CallInputs => input_of(node),
+        Declaring::ActionInputs => InputType::String,
+        Declaring::Secrets => InputType::String,
+    }
+}
+
+/// The parameter that a member declares.
+fn parameter(alloc: Global, by: Declaring, member: Member<'_>) -> Result<Parameter, AllocError>
+    ensures { IfOk result (λ p. p ≡ interfaces.parameter by (member_of member.entry)) }
+{
+    Ok(Parameter {
+        name: Name::new(alloc, key_text(member.key))?,
+        required: is_required(member.value),
+        has_default: has_default(by, member.value),
+        takes: type_taken(by, member.value),
+    })
+}
+
+/// The parameters that members declare.
+fn parameters_in(
+    alloc: Global,
+    by: Declaring,
+    members: &[Member<'_>],
+) -> Result<Parameters, AllocError>
+    ensures { IfOk result (λ ps. ps ≡ map (interfaces.parameter by) (map member_of members.now)) }
+{
+    let mut found = Vec::new(alloc);
+    for member in members {
+        found.push(parameter(alloc, by, *member)?)?;
+    }
+    let list = Parameters::new(alloc, found)?;
+    Ok(list)
+}
+
+/// The parameters that a mapping declares, where there is one.
+fn parameters(alloc: Global, by: Declaring, node: Option<&Node>) -> Result<Parameters, AllocError>
+    ensures { IfOk result (λ ps. ps
+        ≡ map (interfaces.parameter by) (option_map_or declared_in (option_map (λ n. view n.now) node.entry) [])) }
+{
+    let declared = declared_at(alloc, node)?;
+    parameters_in(alloc, by, declared.as_slice())
+}
+
+/// The names of members.
+fn names(alloc: Global, members: &[Member<'_>]) -> Result<NameList, AllocError>
+    ensures { IfOk result (λ ns. ns ≡ names_of (map member_of members.now)) }
+{
+    let mut names = Vec::new(alloc);
+    for member in members {
+        names.push(Name::new(alloc, key_text(member.key))?)?;
+    }
+    let list = NameList::new(alloc, names)?;
+    Ok(list)
+}
+
+/// The names of what a mapping declares, where there is one.
+fn declared_names(alloc: Global, node: Option<&Node>) -> Result<NameList, AllocError>
+    ensures { IfOk result (λ ns. ns ≡ names_of (option_map_or declared_in (option_map (λ n. view n.now) node.entry) [])) }
+{
+    let declared = declared_at(alloc, node)?;
+    names(alloc, declared.as_slice())
+}
+
+/// The text of a scalar as a name, where there is one.
+fn text_name(alloc: Global, text: Option<ScalarNode<'_>>) -> Result<Option<Name>, AllocError>
+    ensures { IfOk result (λ n. n ≡ option_map (λ t. text_of t.0) (option_map scalar_node_of text.entry)) }
+{
+    match text {
+        Some(text) => Ok(Some(Name::new(alloc, text.scalar.text())?)),
+        None => Ok(None),
+    }
+}
+
+/// The `name` of a file.
+fn name_of(alloc: Global, root: &Node) -> Result<Option<Name>, AllocError>
+    ensures { IfOk result (λ n. n ≡ interfaces.name_of (view root.now)) }
+{
+    text_name(alloc, text_under(root, "name"))
+}
+
+/// Whether a scalar is `workflow_call`.
+fn says_call(text: ScalarNode<'_>) -> bool
+    ensures { result ≡ interfaces.says_call (scalar_node_of text.entry) }
+{
+    text.scalar.text() == b"workflow_call".as_slice()
+}
+
+/// Whether one of some scalars is `workflow_call`.
+fn has_call(texts: &[ScalarNode<'_>]) -> bool
+    ensures { result ≡ list_any interfaces.says_call (map scalar_node_of texts.now) }
+{
+    for text in texts {
+        if says_call(*text) {
+            return true;
+        }
+    }
+    false
+}
+
+/// Whether what stands under `on` names `workflow_call`.
+fn names_call(alloc: Global, on: &Node) -> Result<bool, AllocError>
+    ensures { IfOk result (λ b. b ≡ interfaces.names_call (view on.now)) }
+{
+    let texts = texts(alloc, on)?;
+    Ok(has_call(texts.as_slice()) || has_value(on, "workflow_call"))
+}
+
+/// What a workflow is to its callers.
+fn workflow_role(alloc: Global, root: &Node) -> Result<Role, AllocError>
+    ensures { IfOk result (λ r. r ≡ interfaces.workflow_role (view root.now)) }
+{
+    match value(root, "on") {
+        None => Ok(Role::Workflow),
+        Some(on) => {
+            if names_call(alloc, on)? {
+                Ok(Role::Callable)
+            } else {
+                Ok(Role::Workflow)
+            }
+        }
+    }
+}
+
+/// What a workflow shows.
+fn workflow_signature(alloc: Global, root: &Node) -> Result<Signature, AllocError>
+    ensures { IfOk result (λ s. s ≡ interfaces.workflow_signature (view root.now)) }
+{
+    let name = name_of(alloc, root)?;
+    let role = workflow_role(alloc, root)?;
+    let inputs = parameters(
+        alloc,
+        Declaring::CallInputs,
+        value_below_three(root, "on", "workflow_call", "inputs"),
+    )?;
+    let secrets = parameters(
+        alloc,
+        Declaring::Secrets,
+        value_below_three(root, "on", "workflow_call", "secrets"),
+    )?;
+    let outputs = declared_names(
+        alloc,
+        value_below_three(root, "on", "workflow_call", "outputs"),
+    )?;
+    Ok(Signature {
+        name,
+        role,
+        inputs,
+        secrets,
+        outputs,
+    })
+}
+
+/// What an action is to its callers.
+fn action_role(root: &Node) -> Role
+    ensures { result ≡ interfaces.action_role (view root.now) }
+{
+    if is_composite(root) {
+        Role::Composite
+    } else {
+        Role::Action
+    }
+}
+
+/// What an action shows.
+fn action_signature(alloc: Global, root: &Node) -> Result<Signature, AllocError>
+    ensures { IfOk result (λ s. s ≡ interfaces.action_signature (view root.now)) }
+{
+    let name = name_of(alloc, root)?;
+    let inputs = parameters(alloc, Declaring::ActionInputs, value(root, "inputs"))?;
+    let outputs = declared_names(alloc, value(root, "outputs"))?;
+    Ok(Signature {
+        name,
+        role: action_role(root),
+        inputs,
+        secrets: Parameters::new(alloc, Vec::new(alloc))?,
+        outputs,
+    })
+}
+
+/// What a file shows.
+fn signature(alloc: Global, kind: FileKind, root: &Node) -> Result<Signature, AllocError>
+    ensures { IfOk result (λ s. s ≡ interfaces.signature_of kind (view root.now)) }
+{
+    match kind {
+        FileKind::Workflow => workflow_signature(alloc, root),
+        FileKind::Action => action_signature(alloc, root),
+    }
+}
+
+/// What a file with this root shows to its callers. A file that is no YAML has no root, and is unreadable.
+///
+/// Fails with `AllocError` when out of memory.
+pub fn interface_of(alloc: Global, kind: FileKind, root: &Node) -> Result<Interface, AllocError>
+    ensures { IfOk result (λ i. i ≡ interfaces.interface_of kind (view root.now)) }
+{
+    if root.mapping().is_some() {
+        Ok(Interface::Readable(signature(alloc, kind, root)?))
+    } else {
+        Ok(Interface::Unreadable)
+    }
+}

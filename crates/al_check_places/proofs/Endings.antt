@@ -1,0 +1,141 @@
+-- The last key of a way to a condition is one of three.
+use Rattle.std.proofs.Common.{◌+◌, ◌<◌, ◌≤◌, get_or, take}
+use Rattle.std.proofs.lemmas.List.{take_more}
+use Rattle.std.proofs.Common.{◌≡◌, ℕ, suc, List, [], ◌∷◌, ◌++◌, length, map, ap, arith, refl, sym, Bool, true, false, cond, not, ◌&&◌, ◌||◌, ◌==◌, ◌-◌, ◌∙◌, Option, Some, None}
+use Rattle.std.proofs.lemmas.Bool.{eqb-true}
+use Rattle.std.specs.Prelude.{codes}
+use Rattle.std.specs.Str.{bytes_eq}
+use Rattle.al_check_places.specs.Availability.{any, begins, fits, key}
+use Rattle.al_check_places.specs.Places.{fits as fits_rule, has_expression, place_at, scalar_places, takes_scalars_only}
+use Rattle.al_scalar.specs.Scalar.{Scalar}
+use Rattle.al_tree_shape.specs.Table.{Rule}
+use Rattle.al_base.specs.declared.faults.Span.{Span}
+use Rattle.al_tree.specs.declared.files.FileKind.{FileKind}
+use Rattle.al_check_places.specs.Private.Endings.{is_condition_key}
+use Rattle.al_check_places.specs.Ways.{Path, conditions, WayStep, is_checked, is_one, is_path, keys_of, step_of, under}
+use Rattle.al_check_places.specs.declared.ways.WayStep as rust
+use Rattle.al_check_places.specs.declared.ways.WayStep.TheVariants.{Nth, Under}
+
+same : {A : Type 0} (a b : A) → Some a ≡ Some b → a ≡ b
+same a b h = cc
+
+less : (a b : ℕ) → suc a ≡ suc b → a ≡ b
+less a b h = cc
+
+abbrev last_key : List (List ℕ) → Option (List ℕ)
+last_key [] = None
+last_key (k ∷ []) = Some k
+last_key (k ∷ l ∷ ls) = last_key (l ∷ ls)
+
+behind : (k : List ℕ) (ks : List (List ℕ)) (l : List ℕ) → last_key ks ≡ Some l → last_key (k ∷ ks) ≡ Some l
+behind k [] l h = absurd cc
+behind k (m ∷ ks) l h = h
+
+front : (s : rust.WayStep) (way : List rust.WayStep) (l : List ℕ) → last_key (keys_of (map step_of way)) ≡ Some l →
+    last_key (keys_of (map step_of (s ∷ way))) ≡ Some l
+front (Under k) way l h = behind k.now (keys_of (map step_of way)) l h
+front (Nth i) way l h = h
+
+-- the first steps of a way, one more of them
+pub one_step_more : (way : List rust.WayStep) (n : ℕ) (d s : rust.WayStep) → 0 < n → n ≤ length way → get_or way (n - 1) d ≡ s →
+    keys_of (map step_of (take n way)) ≡ keys_of (map step_of (take (n - 1) way ++ s ∷ []))
+one_step_more way n d s some within e =
+    let count : n ≡ n - 1 + 1 = omega (arith, some) in
+    ap (λ k. keys_of (map step_of (take k way))) count
+    ∙ ap (λ l. keys_of (map step_of l)) (take_more way (n - 1) d (omega (arith, some, within)) ∙ ap (λ t. take (n - 1) way ++ t ∷ []) e)
+
+-- positions at the end of a way have no keys
+pub keys_before_nth : (way : List rust.WayStep) (i : ℕ) → keys_of (map step_of (way ++ Nth i ∷ [])) ≡ keys_of (map step_of way)
+keys_before_nth [] i = refl
+keys_before_nth (Under k ∷ way) i = ap (λ ks. k.now ∷ ks) (keys_before_nth way i)
+keys_before_nth (Nth j ∷ way) i = keys_before_nth way i
+
+last_under : (way : List rust.WayStep) (s : rust.WayStep) (k : List ℕ) → step_of s ≡ under k → last_key (keys_of (map step_of (way ++ s ∷ []))) ≡ Some k
+last_under [] s k e = ap (λ u. last_key (keys_of (u ∷ []))) e
+last_under (t ∷ way) s k e = front t (way ++ s ∷ []) k (last_under way s k e)
+
+both : (a b : Bool) → (a && b) ≡ true → (a ≡ true) × (b ≡ true)
+both true b h = (refl, h)
+both false b h = absurd cc
+
+-- the last key of a way along a path is the path's
+ends_with : (p : Path) (w : List ℕ) (ks : List (List ℕ)) → begins (p ++ key w ∷ []) ks ≡ true → length (p ++ key w ∷ []) ≡ length ks →
+    (k : List ℕ) → last_key ks ≡ Some k → bytes_eq w k ≡ true
+ends_with [] w [] h e k is = absurd cc
+ends_with [] w (l ∷ []) h e k is = sym (ap (bytes_eq w) (same l k is)) ∙ (both (bytes_eq w l) true h).0
+ends_with [] w (l ∷ m ∷ ks) h e k is = absurd cc
+ends_with (q ∷ p) w [] h e k is = absurd cc
+ends_with (q ∷ []) w (l ∷ []) h e k is = absurd cc
+ends_with (q ∷ r ∷ p) w (l ∷ []) h e k is = absurd cc
+ends_with (q ∷ p) w (l ∷ m ∷ ks) h e k is =
+    ends_with p w (m ∷ ks) (both (fits q l) (begins (p ++ key w ∷ []) (m ∷ ks)) h).1 (less (length (p ++ key w ∷ [])) (length (m ∷ ks)) e) k is
+
+along : (p : Path) (w : List ℕ) (ks : List (List ℕ)) → is_path ks (p ++ key w ∷ []) ≡ true →
+    (k : List ℕ) → last_key ks ≡ Some k → bytes_eq w k ≡ true
+along p w ks h k is =
+    let parts = both (begins (p ++ key w ∷ []) ks) (length (p ++ key w ∷ []) == length ks) h in
+    ends_with p w ks parts.0 (eqb-true (length (p ++ key w ∷ [])) (length ks) parts.1) k is
+
+either : (a b c : Bool) → (a || b) ≡ true → (a ≡ true → c ≡ true) → (b ≡ true → c ≡ true) → c ≡ true
+either true b c h f g = f refl
+either false b c h f g = g h
+
+first : (a b : Bool) → a ≡ true → (a || b) ≡ true
+first true b h = refl
+first false b h = absurd cc
+
+second : (a b : Bool) → b ≡ true → (a || b) ≡ true
+second true b h = refl
+second false b h = h
+
+false_is_true : false ≡ true → ⊥
+false_is_true h = absurd cc
+
+last_of_condition : (ks : List (List ℕ)) (k : List ℕ) → last_key ks ≡ Some k → is_one conditions ks ≡ true → is_condition_key k ≡ true
+last_of_condition ks k is h =
+    let one = bytes_eq (codes "if") k in
+    let two = bytes_eq (codes "pre-if") k in
+    let three = bytes_eq (codes "post-if") k in
+    let plain = λ (e : one ≡ true). first (one || two) three (first one two e) in
+    let before = λ (e : two ≡ true). first (one || two) three (second one two e) in
+    let after = second (one || two) three in
+    let a = is_path ks (key (codes "jobs") ∷ any ∷ key (codes "if") ∷ []) in
+    let b = is_path ks (key (codes "jobs") ∷ any ∷ key (codes "steps") ∷ key (codes "if") ∷ []) in
+    let c = is_path ks (key (codes "runs") ∷ key (codes "steps") ∷ key (codes "if") ∷ []) in
+    let d = is_path ks (key (codes "runs") ∷ key (codes "pre-if") ∷ []) in
+    let f = is_path ks (key (codes "runs") ∷ key (codes "post-if") ∷ []) in
+    let all = is_condition_key k in
+    either a (b || (c || (d || (f || false)))) all h (λ e. plain (along (key (codes "jobs") ∷ any ∷ []) (codes "if") ks e k is)) (λ h2.
+    either b (c || (d || (f || false))) all h2 (λ e. plain (along (key (codes "jobs") ∷ any ∷ key (codes "steps") ∷ []) (codes "if") ks e k is)) (λ h3.
+    either c (d || (f || false)) all h3 (λ e. plain (along (key (codes "runs") ∷ key (codes "steps") ∷ []) (codes "if") ks e k is)) (λ h4.
+    either d (f || false) all h4 (λ e. before (along (key (codes "runs") ∷ []) (codes "pre-if") ks e k is)) (λ h5.
+    either f false all h5 (λ e. after (along (key (codes "runs") ∷ []) (codes "post-if") ks e k is)) (λ h6. absurd (false_is_true h6))))))
+
+-- what is said of the last key of a way
+pub last_is_under : (way before : List rust.WayStep) (s : rust.WayStep) (k : List ℕ) → keys_of (map step_of way) ≡ keys_of (map step_of (before ++ s ∷ [])) →
+    step_of s ≡ under k → is_one conditions (keys_of (map step_of way)) ≡ true → is_condition_key k ≡ true
+last_is_under way before s k h e is = last_of_condition (keys_of (map step_of way)) k (ap last_key h ∙ last_under before s k e) is
+
+-- ---- scalars without an expression
+
+pub only_a_condition : (a b : Bool) → b ≡ false → (a || b) ≡ true → a ≡ true
+only_a_condition true b e h = refl
+only_a_condition false b e h = absurd cc
+
+apart : (b : Bool) → b ≡ false → b ≡ true → ⊥
+apart b untrue_b true_b = absurd cc
+
+untrue : (b : Bool) → (b ≡ true → ⊥) → b ≡ false
+untrue false f = refl
+untrue true f = absurd (f refl)
+
+third_untrue : (a b c : Bool) → c ≡ false → (a && b && c) ≡ false
+third_untrue true true c h = h
+third_untrue true false c h = refl
+third_untrue false b c h = refl
+
+pub without_expression : (k : FileKind) (r : Rule) (is_item : Bool) (way : List WayStep) (s : Scalar) (at : Span) (may : Bool) → may ≡ false →
+    (has_expression way s ≡ true → may ≡ true) → scalar_places k r is_item way s at ≡ []
+without_expression k r is_item way s at may off f =
+    let none : has_expression way s ≡ false = untrue (has_expression way s) (λ h. apart may off (f h)) in
+    ap (λ t. cond t (place_at k way (takes_scalars_only r && not is_item) s at ∷ []) []) (third_untrue (fits_rule r s) (is_checked k way) (has_expression way s) none)

@@ -1,0 +1,14 @@
+use Rattle.std.proofs.Common.{◌++◌, ap, append-nil, map, sym, ◌∙◌}
+use Rattle.al_tree_shape.specs.Table.{rule}
+use Rattle.al_check_places.specs.Places.{place_of, rule_or_any}
+use Rattle.al_check_places.specs.Ways.{step_of}
+use Rattle.al_check_places.proofs.Endings.{without_expression}
+use Rattle.al_check_places.proofs.walk.find_scalar.Goals as goal
+
+pub returns-then-not-may_have_expression : goal.returns-then-not-may_have_expression
+returns-then-not-may_have_expression c =
+    let before = map place_of c.args.out.now.items in
+    let none = without_expression c.args.kind (rule_or_any (rule c.args.asked.shape)) c.args.asked.is_item (map step_of c.args.way.now)
+    c.args.scalar.scalar.now c.args.scalar.span
+    c.may_have_expression.result (cc) c.may_have_expression.ensures in
+    sym (append-nil before) ∙ ap (λ more. before ++ more) (sym none)

@@ -1,0 +1,118 @@
+-- The scalars that have expressions, each with its place: found by the table of sections, so a value that doesn't fit, a value under a
+-- wrong key and one under a repeated key have no place.
+use Rattle.std.specs.Prelude.{ℕ, List, [], ◌∷◌, ◌++◌, ◌+◌, Bool, true, false, ◌&&◌, ◌||◌, not}
+use Rattle.std.specs.Prelude.{Option, Some, None, is_none, option_map, if◌then◌else◌}
+use Rattle.std.specs.Option.{option_map_or}
+use Rattle.al_base.specs.declared.faults.Span.{Span}
+use Rattle.al_scalar.specs.Scalar.{Scalar, text_of}
+use Rattle.al_yaml_tree.specs.Access.{entries}
+use Rattle.al_yaml_tree.specs.Node.{Node, Nodes, Entries, scalar, sequence, mapping, no_nodes, item, no_entries, entry}
+use Rattle.al_tree_shape.specs.Faults.{Standing, repeated, unexpected, ignored, expected, standing, refined, scalar_fault, has_chunk, is_null}
+use Rattle.al_tree_shape.specs.Keys.{key_text, keys_in}
+use Rattle.al_tree_shape.specs.Names.{among}
+use Rattle.al_tree_shape.specs.Table.{Rule, Keys, no_keys, free, keys, rule}
+use Rattle.al_tree_shape.specs.declared.table.Shape.{Shape}
+use Rattle.al_tree_shape.specs.declared.table.Shape.TheVariants.{Any}
+use Rattle.al_tree_shape.specs.declared.table.ScalarSet.TheVariants.{AnyScalar}
+use Rattle.al_tree.specs.Files.{shape_of}
+use Rattle.al_tree.specs.declared.files.FileKind.{FileKind}
+use Rattle.al_tree.specs.declared.files.FileKind.TheVariants as kind
+use Rattle.al_check_places.specs.Availability.{Available, availability, row_of}
+use Rattle.al_check_places.specs.Ways.{WayStep, under, nth, keys_of, is_checked, is_one, conditions, scripts}
+use Rattle.al_check_places.specs.Positions.{Position, position_of, position_view}
+use Rattle.al_check_places.specs.declared.walk.Place as rust
+
+-- A scalar with the span of its written form; whether its key takes nothing but a scalar; which contexts and special functions stand
+-- there (of an action None: all); whether it is a condition, or a step's script; and where it lies.
+pub record Place : Type 0 where
+  pub word : Scalar
+  pub at : Span
+  pub is_scalar_only : Bool
+  pub available : Option Available
+  pub is_condition : Bool
+  pub is_script : Bool
+  pub position : Position
+
+-- what isn't checked takes everything below it
+abbrev pub rule_or_any : Option Rule → Rule
+rule_or_any (Some r) = r
+rule_or_any None = record { scalars = AnyScalar; items = Some Any; keys_of = free Any }
+
+abbrev pub has_no_keys : Keys → Bool
+has_no_keys no_keys = true
+has_no_keys (free s) = false
+has_no_keys (keys o fs) = false
+
+abbrev pub takes_scalars_only : Rule → Bool
+takes_scalars_only r = option_map_or (λ s. false) r.items (has_no_keys r.keys_of)
+
+abbrev pub available_at : FileKind → List WayStep → Option Available
+available_at kind.Workflow way = availability (keys_of way)
+available_at kind.Action way = None
+
+abbrev pub place_at : FileKind → List WayStep → Bool → Scalar → Span → Place
+place_at k way only s at = record {
+  word = s;
+  at = at;
+  is_scalar_only = only;
+  available = available_at k way;
+  is_condition = is_one conditions (keys_of way);
+  is_script = is_one scripts (keys_of way);
+  position = position_of k way;
+}
+
+-- a scalar that isn't null and that the rule takes
+abbrev pub fits : Rule → Scalar → Bool
+fits r s = not (is_null s) && is_none (scalar_fault r.scalars s)
+
+-- a condition is an expression, and a text with `${{` has one
+abbrev pub has_expression : List WayStep → Scalar → Bool
+has_expression way s = is_one conditions (keys_of way) || has_chunk (text_of s)
+
+-- one on a way that is checked
+abbrev pub scalar_places : FileKind → Rule → Bool → List WayStep → Scalar → Span → List Place
+scalar_places k r is_item way s at =
+    if fits r s && is_checked k way && has_expression way s then place_at k way (takes_scalars_only r && not is_item) s at ∷ [] else []
+
+-- of an entry, given the places of its value as a node of a shape
+abbrev pub entry_places : Standing → (Shape → List Place) → List Place
+entry_places repeated value = []
+entry_places (unexpected other) value = []
+entry_places ignored value = []
+entry_places (expected s other) value = value s
+
+abbrev mutual
+  -- the places of a node at the end of a way, where it should have a shape and may be an item of a list
+  pub placed : FileKind → Shape → Bool → List WayStep → Node → List Place
+  placed k shape is_item way (scalar s at) = scalar_places k (rule_or_any (rule shape)) is_item way s at
+  placed k shape is_item way (sequence ns at) = option_map_or (λ s. placed_items k s way 0 ns) (rule_or_any (rule shape)).items []
+  placed k shape is_item way (mapping es at) =
+      placed_entries k (rule_or_any (rule (refined shape (entries es)))).keys_of [] (among (keys_in (entries es))) way es
+
+  -- of the items of a list from the nth on
+  pub placed_items : FileKind → Shape → List WayStep → ℕ → Nodes → List Place
+  placed_items k s way i no_nodes = []
+  placed_items k s way i (item n ns) = placed k s true (way ++ nth i ∷ []) n ++ placed_items k s way (i + 1) ns
+
+  -- of entries behind others with the keys that were seen, in a mapping with all these
+  pub placed_entries : FileKind → Keys → List (List ℕ) → (List ℕ → Bool) → List WayStep → Entries → List Place
+  placed_entries k ks seen all way no_entries = []
+  placed_entries k ks seen all way (entry key v es) =
+      entry_places (standing ks (among seen) all (key_text key)) (λ s. placed k s false (way ++ under (key_text key) ∷ []) v)
+      ++ placed_entries k ks (seen ++ key_text key ∷ []) all way es
+
+-- the places of a file with this root
+abbrev pub places_of : FileKind → Node → List Place
+places_of k root = placed k (shape_of k) false [] root
+
+-- what the program's places stand for
+abbrev pub place_of : rust.Place → Place
+place_of p = record {
+  word = p.scalar.now;
+  at = p.span;
+  is_scalar_only = p.is_scalar_only;
+  available = option_map (λ r. row_of r.now) p.available;
+  is_condition = p.is_condition;
+  is_script = p.is_script;
+  position = position_view p.position;
+}

@@ -1,0 +1,75 @@
+-- Where a way leads, as far as the types of contexts depend on it.
+use Rattle.std.specs.Prelude.{ℕ, List, ◌∷◌, Bool, true, ◌&&◌, codes, if◌then◌else◌}
+use Rattle.std.specs.Str.{bytes_eq}
+use Rattle.al_tree.specs.declared.files.FileKind.{FileKind}
+use Rattle.al_tree.specs.declared.files.FileKind.TheVariants as kind
+use Rattle.al_check_places.specs.Ways.{WayStep, under, nth}
+use Rattle.al_check_places.specs.declared.positions.Section as rust_section
+use Rattle.al_check_places.specs.declared.positions.Seen as rust_seen
+use Rattle.al_check_places.specs.declared.positions.Position as rust
+
+-- below `on`, in a job with a key, or anywhere else
+pub data Section : Type 0 where
+  apart : Section
+  in_on : Section
+  in_job : List ℕ → Section
+
+-- the steps that are seen: none, those before the nth, all
+pub data Seen : Type 0 where
+  no_step : Seen
+  before : ℕ → Seen
+  every_step : Seen
+
+pub record Position : Type 0 where
+  pub section : Section
+  pub seen : Seen
+
+abbrev pub section_of : List WayStep → Section
+section_of (under a ∷ under b ∷ more) = if bytes_eq a (codes "on") then in_on else if bytes_eq a (codes "jobs") then in_job b else apart
+section_of _ = apart
+
+abbrev pub sees_every_step : List ℕ → List ℕ → Bool
+sees_every_step a b = if bytes_eq a (codes "outputs") then true else bytes_eq a (codes "environment") && bytes_eq b (codes "url")
+
+-- From an item of the list under a key: of `steps` those before it.
+abbrev pub seen_in_item : List ℕ → ℕ → Seen
+seen_in_item a i = if bytes_eq a (codes "steps") then before i else no_step
+
+-- From below a job: in a step the earlier ones, in `outputs` and `environment.url` all.
+abbrev pub seen_below_job : List WayStep → Seen
+seen_below_job (under a ∷ nth i ∷ more) = seen_in_item a i
+seen_below_job (under a ∷ under b ∷ more) =
+    if sees_every_step a b then every_step else no_step
+seen_below_job _ = no_step
+
+abbrev pub seen_in_workflow : List WayStep → Seen
+seen_in_workflow (a ∷ b ∷ more) = seen_below_job more
+seen_in_workflow _ = no_step
+
+-- From an action's outputs all, in a step the earlier ones.
+abbrev pub seen_below_runs : List WayStep → Seen
+seen_below_runs (under a ∷ nth i ∷ more) = seen_in_item a i
+seen_below_runs _ = no_step
+
+abbrev pub seen_in_action : List WayStep → Seen
+seen_in_action (under a ∷ more) =
+    if bytes_eq a (codes "outputs") then every_step else if bytes_eq a (codes "runs") then seen_below_runs more else no_step
+seen_in_action _ = no_step
+
+abbrev pub position_of : FileKind → List WayStep → Position
+position_of kind.Workflow way = record { section = section_of way; seen = seen_in_workflow way }
+position_of kind.Action way = record { section = apart; seen = seen_in_action way }
+
+-- what the program's positions stand for
+abbrev pub section_view : rust_section.Section → Section
+section_view rust_section.TheVariants.Apart = apart
+section_view rust_section.TheVariants.On = in_on
+section_view (rust_section.TheVariants.Job k) = in_job k.now
+
+abbrev pub seen_view : rust_seen.Seen → Seen
+seen_view rust_seen.TheVariants.Nothing = no_step
+seen_view (rust_seen.TheVariants.Before n) = before n
+seen_view rust_seen.TheVariants.Everything = every_step
+
+abbrev pub position_view : rust.Position → Position
+position_view p = record { section = section_view p.section; seen = seen_view p.seen }

@@ -1,0 +1,56 @@
+-- Words to write small files and their places with.
+use Rattle.std.specs.Prelude.{ℕ, ◌+◌, ◌==◌, List, [], ◌∷◌, Bool, true, false, ◌&&◌, not, length, map}
+use Rattle.std.specs.List.{list_all, list_any}
+use Rattle.std.specs.Option.{option_map_or}
+use Rattle.al_check_places.specs.Places.{Place, places_of}
+use Rattle.al_tree_shape.specs.Rows.Files.{at}
+use Rattle.al_scalar.specs.Line.{Cell}
+use Rattle.al_scalar.specs.declared.styles.Class.{Class}
+use Rattle.al_scalar.specs.declared.styles.Class.TheVariants.{Str}
+use Rattle.al_scalar.specs.declared.styles.Style.{Style}
+use Rattle.al_scalar.specs.declared.styles.Style.TheVariants.{Plain}
+use Rattle.al_yaml_tree.specs.Node.{Node, scalar}
+use Rattle.al_tree.specs.declared.files.FileKind.{FileKind}
+
+-- bytes that stand one behind another from an offset on
+abbrev pub run : List ℕ → ℕ → List Cell
+run [] i = []
+run (b ∷ bs) i = (b, i) ∷ run bs (i + 1)
+
+abbrev pub text : Style → Class → List Cell → ℕ → ℕ → Node
+text s c cs i j = scalar (record { style = s; class = c; cells = cs; end = j }) (at i j)
+
+-- a plain scalar on one line, from an offset on
+abbrev pub plain : Class → List ℕ → ℕ → Node
+plain c bs i = text Plain c (run bs i) i (i + length bs)
+
+abbrev pub word : List ℕ → ℕ → Node
+word = plain Str
+
+-- where a place starts, whether it takes only a scalar, is a condition, is a script, and how many contexts (99: all) and special
+-- functions stand there
+abbrev pub Row : Type 0
+Row = ℕ × Bool × Bool × Bool × ℕ × ℕ
+
+abbrev pub same : Bool → Bool → Bool
+same true b = b
+same false b = not b
+
+abbrev pub row_at : Place → Row
+row_at p = (
+  p.at.start,
+  p.is_scalar_only,
+  p.is_condition,
+  p.is_script,
+  option_map_or (λ r. length r.contexts) p.available 99,
+  option_map_or (λ r. length r.special) p.available 0,
+)
+
+abbrev pub is_row : Row → Row → Bool
+is_row a b = (a.0 == b.0) && same a.1 b.1 && same a.2 b.2 && same a.3 b.3 && (a.4 == b.4) && (a.5 == b.5)
+
+abbrev pub found : FileKind → Node → List Row
+found k n = map row_at (places_of k n)
+
+abbrev pub holds : FileKind → Node → List Row → Bool
+holds k n rs = list_all (λ x. list_any (is_row x) rs) (found k n) && list_all (λ y. list_any (is_row y) (found k n)) rs

@@ -1,0 +1,137 @@
+//! Where a way leads, as far as the types of contexts depend on it.
+ghost use Rattle.std.specs.Prelude.{◌≡◌, map};
+ghost use Rattle.al_check_places.specs.Positions as positions;
+ghost use Rattle.al_check_places.specs.Positions.{position_view, section_view, seen_view};
+ghost use Rattle.al_check_places.specs.Ways.{step_of};
+
+use crate::ways::WayStep;
+use al_tree::FileKind;
+
+/// Below `on`, in a job with a key, or anywhere else.
+#[derive(Clone, Copy)]
+pub enum Section<'a> {
+    Apart,
+    On,
+    Job(&'a [u8]),
+}
+
+/// The steps that are seen: none, those before one, all.
+#[derive(Clone, Copy)]
+pub enum Seen {
+    Nothing,
+    Before(usize),
+    Everything,
+}
+
+#[derive(Clone, Copy)]
+pub struct Position<'a> {
+    pub section: Section<'a>,
+    pub seen: Seen,
+}
+
+fn section_at<'a>(way: &[WayStep<'a>]) -> Section<'a>
+    ensures { section_view result ≡ positions.section_of (map step_of way.now) }
+{
+    match way {
+        [WayStep::Under(first), WayStep::Under(second), ..] => {
+            if *first == b"on".as_slice() {
+                Section::On
+            } else if *first == b"jobs".as_slice() {
+                Section::Job(second)
+            } else {
+                Section::Apart
+            }
+        }
+        _ => Section::Apart,
+    }
+}
+
+/// Whether all steps are seen below these two keys of a job.
+fn sees_every_step(first: &[u8], second: &[u8]) -> bool
+    ensures { result ≡ positions.sees_every_step first.now second.now }
+{
+    if first == b"outputs".as_slice() {
+        true
+    } else if first == b"environment".as_slice() {
+        second == b"url".as_slice()
+    } else {
+        false
+    }
+}
+
+fn seen_in_item(key: &[u8], i: usize) -> Seen
+    ensures { seen_view result ≡ positions.seen_in_item key.now i }
+{
+    if key == b"steps".as_slice() {
+        Seen::Before(i)
+    } else {
+        Seen::Nothing
+    }
+}
+
+fn seen_below_job(way: &[WayStep<'_>]) -> Seen
+    ensures { seen_view result ≡ positions.seen_below_job (map step_of way.now) }
+{
+    match way {
+        [WayStep::Under(first), WayStep::Nth(i), ..] => seen_in_item(first, *i),
+        [WayStep::Under(first), WayStep::Under(second), ..] => {
+            if sees_every_step(first, second) {
+                Seen::Everything
+            } else {
+                Seen::Nothing
+            }
+        }
+        _ => Seen::Nothing,
+    }
+}
+
+fn seen_in_workflow(way: &[WayStep<'_>]) -> Seen
+    ensures { seen_view result ≡ positions.seen_in_workflow (map step_of way.now) }
+{
+    match way {
+        [_, _, rest @ ..] => seen_below_job(rest),
+        _ => Seen::Nothing,
+    }
+}
+
+fn seen_below_runs(way: &[WayStep<'_>]) -> Seen
+    ensures { seen_view result ≡ positions.seen_below_runs (map step_of way.now) }
+{
+    match way {
+        [WayStep::Under(first), WayStep::Nth(i), ..] => seen_in_item(first, *i),
+        _ => Seen::Nothing,
+    }
+}
+
+fn seen_in_action(way: &[WayStep<'_>]) -> Seen
+    ensures { seen_view result ≡ positions.seen_in_action (map step_of way.now) }
+{
+    match way {
+        [WayStep::Under(first), rest @ ..] => {
+            if *first == b"outputs".as_slice() {
+                Seen::Everything
+            } else if *first == b"runs".as_slice() {
+                seen_below_runs(rest)
+            } else {
+                Seen::Nothing
+            }
+        }
+        _ => Seen::Nothing,
+    }
+}
+
+/// Where a way leads in a file of a kind.
+pub(crate) fn position_at<'a>(kind: FileKind, way: &[WayStep<'a>]) -> Position<'a>
+    ensures { position_view result ≡ positions.position_of kind (map step_of way.now) }
+{
+    match kind {
+        FileKind::Workflow => Position {
+            section: section_at(way),
+            seen: seen_in_workflow(way),
+        },
+        FileKind::Action => Position {
+            section: Section::Apart,
+            seen: seen_in_action(way),
+        },
+    }
+}

@@ -1,0 +1,331 @@
+//! Availability of contexts and special functions: the table, and its longest path.
+ghost use Rattle.std.specs.Prelude.{◌≡◌, IsTrue, map, option_map};
+ghost use Rattle.al_check_places.specs.Availability.{availability, begins, fits, key_of, longer, row_of, table};
+
+use al_types::{Context, Function};
+
+/// A key of a path: one by its name, or any.
+#[derive(Clone, Copy)]
+pub enum Key {
+    Named(&'static str),
+    Id,
+}
+
+/// What stands at the places whose way begins with a path.
+#[derive(Clone, Copy)]
+pub struct Row {
+    pub path: &'static [Key],
+    pub contexts: &'static [Context],
+    pub special: &'static [Function],
+}
+
+use Context::{
+    Env, Github, Inputs, Job, Jobs, Matrix, Needs, Runner, Secrets, Steps, Strategy, Vars,
+};
+use Function::{Always, Cancelled, Failure, HashFiles, Success};
+use Key::{Id, Named};
+
+const BASIC: &[Context] = &[Github, Needs, Vars, Inputs];
+
+const OF_STRATEGY: &[Context] = &[Github, Needs, Vars, Inputs, Strategy, Matrix];
+
+const OF_STEP: &[Context] = &[
+    Github, Needs, Vars, Inputs, Strategy, Matrix, Job, Runner, Env, Secrets, Steps,
+];
+
+const TABLE: &[Row] = &[
+    Row {
+        path: &[Named("run-name")],
+        contexts: &[Github, Inputs, Vars],
+        special: &[],
+    },
+    Row {
+        path: &[Named("concurrency")],
+        contexts: &[Github, Inputs, Vars],
+        special: &[],
+    },
+    Row {
+        path: &[
+            Named("on"),
+            Named("workflow_call"),
+            Named("inputs"),
+            Id,
+            Named("default"),
+        ],
+        contexts: &[Github, Inputs, Vars],
+        special: &[],
+    },
+    Row {
+        path: &[Named("env")],
+        contexts: &[Github, Secrets, Inputs, Vars],
+        special: &[],
+    },
+    Row {
+        path: &[
+            Named("on"),
+            Named("workflow_call"),
+            Named("outputs"),
+            Id,
+            Named("value"),
+        ],
+        contexts: &[Github, Jobs, Vars, Inputs],
+        special: &[],
+    },
+    Row {
+        path: &[Named("jobs"), Id, Named("if")],
+        contexts: BASIC,
+        special: &[Always, Cancelled, Success, Failure],
+    },
+    Row {
+        path: &[Named("jobs"), Id, Named("strategy")],
+        contexts: BASIC,
+        special: &[],
+    },
+    Row {
+        path: &[Named("jobs"), Id, Named("concurrency")],
+        contexts: OF_STRATEGY,
+        special: &[],
+    },
+    Row {
+        path: &[Named("jobs"), Id, Named("container")],
+        contexts: OF_STRATEGY,
+        special: &[],
+    },
+    Row {
+        path: &[Named("jobs"), Id, Named("container"), Named("image")],
+        contexts: OF_STRATEGY,
+        special: &[],
+    },
+    Row {
+        path: &[Named("jobs"), Id, Named("continue-on-error")],
+        contexts: OF_STRATEGY,
+        special: &[],
+    },
+    Row {
+        path: &[Named("jobs"), Id, Named("environment")],
+        contexts: OF_STRATEGY,
+        special: &[],
+    },
+    Row {
+        path: &[Named("jobs"), Id, Named("name")],
+        contexts: OF_STRATEGY,
+        special: &[],
+    },
+    Row {
+        path: &[Named("jobs"), Id, Named("runs-on")],
+        contexts: OF_STRATEGY,
+        special: &[],
+    },
+    Row {
+        path: &[Named("jobs"), Id, Named("services")],
+        contexts: OF_STRATEGY,
+        special: &[],
+    },
+    Row {
+        path: &[Named("jobs"), Id, Named("timeout-minutes")],
+        contexts: OF_STRATEGY,
+        special: &[],
+    },
+    Row {
+        path: &[Named("jobs"), Id, Named("with"), Id],
+        contexts: OF_STRATEGY,
+        special: &[],
+    },
+    Row {
+        path: &[Named("jobs"), Id, Named("defaults"), Named("run")],
+        contexts: &[Github, Needs, Vars, Inputs, Strategy, Matrix, Env],
+        special: &[],
+    },
+    Row {
+        path: &[Named("jobs"), Id, Named("env")],
+        contexts: &[Github, Needs, Vars, Inputs, Strategy, Matrix, Secrets],
+        special: &[],
+    },
+    Row {
+        path: &[Named("jobs"), Id, Named("secrets"), Id],
+        contexts: &[Github, Needs, Vars, Inputs, Strategy, Matrix, Secrets],
+        special: &[],
+    },
+    Row {
+        path: &[Named("jobs"), Id, Named("container"), Named("credentials")],
+        contexts: &[Github, Needs, Vars, Inputs, Strategy, Matrix, Env, Secrets],
+        special: &[],
+    },
+    Row {
+        path: &[
+            Named("jobs"),
+            Id,
+            Named("services"),
+            Id,
+            Named("credentials"),
+        ],
+        contexts: &[Github, Needs, Vars, Inputs, Strategy, Matrix, Env, Secrets],
+        special: &[],
+    },
+    Row {
+        path: &[Named("jobs"), Id, Named("container"), Named("env"), Id],
+        contexts: &[
+            Github, Needs, Vars, Inputs, Strategy, Matrix, Job, Runner, Env, Secrets,
+        ],
+        special: &[],
+    },
+    Row {
+        path: &[Named("jobs"), Id, Named("services"), Id, Named("env"), Id],
+        contexts: &[
+            Github, Needs, Vars, Inputs, Strategy, Matrix, Job, Runner, Env, Secrets,
+        ],
+        special: &[],
+    },
+    Row {
+        path: &[Named("jobs"), Id, Named("environment"), Named("url")],
+        contexts: &[
+            Github, Needs, Vars, Inputs, Strategy, Matrix, Job, Runner, Env, Steps,
+        ],
+        special: &[],
+    },
+    Row {
+        path: &[Named("jobs"), Id, Named("outputs"), Id],
+        contexts: OF_STEP,
+        special: &[],
+    },
+    Row {
+        path: &[
+            Named("jobs"),
+            Id,
+            Named("steps"),
+            Named("continue-on-error"),
+        ],
+        contexts: OF_STEP,
+        special: &[HashFiles],
+    },
+    Row {
+        path: &[Named("jobs"), Id, Named("steps"), Named("env")],
+        contexts: OF_STEP,
+        special: &[HashFiles],
+    },
+    Row {
+        path: &[Named("jobs"), Id, Named("steps"), Named("name")],
+        contexts: OF_STEP,
+        special: &[HashFiles],
+    },
+    Row {
+        path: &[Named("jobs"), Id, Named("steps"), Named("run")],
+        contexts: OF_STEP,
+        special: &[HashFiles],
+    },
+    Row {
+        path: &[Named("jobs"), Id, Named("steps"), Named("timeout-minutes")],
+        contexts: OF_STEP,
+        special: &[HashFiles],
+    },
+    Row {
+        path: &[Named("jobs"), Id, Named("steps"), Named("with")],
+        contexts: OF_STEP,
+        special: &[HashFiles],
+    },
+    Row {
+        path: &[
+            Named("jobs"),
+            Id,
+            Named("steps"),
+            Named("working-directory"),
+        ],
+        contexts: OF_STEP,
+        special: &[HashFiles],
+    },
+    Row {
+        path: &[Named("jobs"), Id, Named("steps"), Named("if")],
+        contexts: &[
+            Github, Needs, Vars, Inputs, Strategy, Matrix, Job, Runner, Env, Steps,
+        ],
+        special: &[Always, Cancelled, Success, Failure, HashFiles],
+    },
+];
+
+fn rows() -> &'static [Row]
+    ensures { map row_of result.now ≡ table }
+{
+    TABLE
+}
+
+fn key_fits(key: &Key, name: &[u8]) -> bool
+    ensures { result ≡ fits (key_of key.now) name.now }
+{
+    match key {
+        Key::Id => true,
+        Key::Named(text) => text.as_bytes() == name,
+    }
+}
+
+/// Whether a path begins the keys.
+pub(crate) fn begins_keys(path: &[Key], keys: &[&[u8]]) -> bool
+    ensures { result ≡ begins (map key_of path.now) (map (λ k. k.now) keys.now) }
+{
+    match path.split_first() {
+        None => true,
+        Some((key, rest)) => match keys.split_first() {
+            None => false,
+            Some((name, names)) => key_fits(key, name) && begins_keys(rest, names),
+        },
+    }
+}
+
+/// Whether the third key of a path, where both have one, fits the third of the keys. That tells most rows of jobs apart.
+fn third_fits(path: &[Key], keys: &[&[u8]]) -> bool
+    ensures { IsTrue (begins (map key_of path.now) (map (λ k. k.now) keys.now)) → IsTrue result }
+{
+    match path {
+        [_, _, key, ..] => match keys {
+            [_, _, name, ..] => key_fits(key, name),
+            _ => true,
+        },
+        _ => true,
+    }
+}
+
+/// The same of the fourth keys, which tell the rows of steps apart.
+fn fourth_fits(path: &[Key], keys: &[&[u8]]) -> bool
+    ensures { IsTrue (begins (map key_of path.now) (map (λ k. k.now) keys.now)) → IsTrue result }
+{
+    match path {
+        [_, _, _, key, ..] => match keys {
+            [_, _, _, name, ..] => key_fits(key, name),
+            _ => true,
+        },
+        _ => true,
+    }
+}
+
+/// Whether the path of a row begins the keys.
+fn leads_to(row: &Row, keys: &[&[u8]]) -> bool
+    ensures { result ≡ begins (row_of row.now).path (map (λ k. k.now) keys.now) }
+{
+    third_fits(row.path, keys) && fourth_fits(row.path, keys) && begins_keys(row.path, keys)
+}
+
+fn better(best: Option<&'static Row>, row: &'static Row) -> Option<&'static Row>
+    ensures { option_map (λ r. row_of r.now) result ≡ longer (option_map (λ r. row_of r.now) best.entry) (row_of row.now) }
+{
+    match best {
+        Some(old) => if old.path.len() < row.path.len() {
+            Some(row)
+        } else {
+            Some(old)
+        },
+        None => Some(row),
+    }
+}
+
+/// The row of a place, by the keys on the way to it; None where everything is available.
+pub fn available(keys: &[&[u8]]) -> Option<&'static Row>
+    ensures { option_map (λ r. row_of r.now) result ≡ availability (map (λ k. k.now) keys.now) }
+{
+    let rows = rows();
+    let mut best: Option<&'static Row> = None;
+    for row in rows {
+        if leads_to(row, keys) {
+            best = better(best, row);
+        }
+    }
+    best
+}

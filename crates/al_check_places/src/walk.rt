@@ -1,0 +1,320 @@
+//! The walk that finds the scalars that have expressions.
+ghost use Rattle.std.specs.Prelude.{◌≡◌, ◌++◌, ◌∷◌, [], false, map, option_map, IfOk, IsTrue, OnOk};
+ghost use Rattle.al_tree_shape.specs.Faults.{standing_view};
+ghost use Rattle.al_tree_shape.specs.Keys.{key_of as key_in, keys_in};
+ghost use Rattle.al_tree_shape.specs.Names.{among};
+ghost use Rattle.al_tree_shape.specs.Table.{keys_view, rule_view, rule as table_rule};
+ghost use Rattle.al_check_places.specs.Availability.{row_of};
+ghost use Rattle.al_check_places.specs.Places as places;
+ghost use Rattle.al_check_places.specs.Places.{available_at, entry_places, place_of, placed, placed_entries};
+ghost use Rattle.al_check_places.specs.Places.{placed_items, places_of, rule_or_any, scalar_places};
+ghost use Rattle.al_check_places.specs.Ways.{keys_of, step_of, under};
+ghost use Rattle.al_tree.specs.Files.{shape_of as file_shape};
+ghost use Rattle.al_yaml_tree.specs.View.{entries_of, entry_view, nodes_of, view};
+
+use crate::positions::{Position, position_at};
+use crate::table::{Row, available};
+use crate::ways::{WayStep, ends_as_condition, is_checked, is_condition, is_script, keys};
+use al_base::Span;
+use al_scalar::Scalar;
+use al_tree::FileKind;
+use al_tree_shape::{
+    KeySet, Keys, Rule, ScalarNode, ScalarSet, Shape, Standing, contains_chunk, is_null_scalar,
+    key_of, refine, rule_of, scalar_fault, standing_of,
+};
+use al_yaml_tree::{Entry, Kind, Node};
+use std::alloc::{AllocError, Global};
+
+/// A scalar that has expressions, and what decides there.
+#[derive(Clone, Copy)]
+pub struct Place<'a> {
+    pub scalar: &'a Scalar,
+    pub span: Span,
+    /// Whether its key takes nothing but a scalar.
+    pub is_scalar_only: bool,
+    /// Which contexts and special functions stand there. None: all, or in an action.
+    pub available: Option<&'static Row>,
+    pub is_condition: bool,
+    pub is_script: bool,
+    pub position: Position<'a>,
+}
+
+/// What the place of a node asks for.
+#[derive(Clone, Copy)]
+struct Asked {
+    shape: Shape,
+    /// Whether the node is an item of a list.
+    is_item: bool,
+}
+
+/// The rule of a shape; what isn't checked takes everything.
+fn rule_at(shape: Shape) -> Rule
+    ensures { rule_view result ≡ rule_or_any (table_rule shape) }
+{
+    match rule_of(shape) {
+        Some(rule) => rule,
+        None => Rule {
+            scalars: ScalarSet::AnyScalar,
+            items: Some(Shape::Any),
+            keys: Keys::Free(Shape::Any),
+        },
+    }
+}
+
+fn has_no_keys(keys: Keys) -> bool
+    ensures { result ≡ places.has_no_keys (keys_view keys) }
+{
+    match keys {
+        Keys::No => true,
+        Keys::Free(_) => false,
+        Keys::These(_, _) => false,
+    }
+}
+
+fn takes_scalars_only(rule: Rule) -> bool
+    ensures { result ≡ places.takes_scalars_only (rule_view rule) }
+{
+    match rule.items {
+        Some(_) => false,
+        None => has_no_keys(rule.keys),
+    }
+}
+
+/// What stands at the end of a way with these keys.
+fn available_in(kind: FileKind, way: &[WayStep<'_>], keys: &[&[u8]]) -> Option<&'static Row>
+    requires { map (λ k. k.now) keys.now ≡ keys_of (map step_of way.now) }
+    ensures { option_map (λ r. row_of r.now) result ≡ available_at kind (map step_of way.now) }
+{
+    match kind {
+        FileKind::Workflow => available(keys),
+        FileKind::Action => None,
+    }
+}
+
+/// The place at the end of a way with these keys.
+fn place_at<'a>(
+    kind: FileKind,
+    way: &[WayStep<'a>],
+    keys: &[&[u8]],
+    is_scalar_only: bool,
+    scalar: ScalarNode<'a>,
+) -> Place<'a>
+    requires { map (λ k. k.now) keys.now ≡ keys_of (map step_of way.now) }
+    ensures { place_of result
+        ≡ places.place_at kind (map step_of way.now) is_scalar_only (scalar.entry).scalar.now (scalar.entry).span }
+{
+    Place {
+        scalar: scalar.scalar,
+        span: scalar.span,
+        is_scalar_only,
+        available: available_in(kind, way, keys),
+        is_condition: is_condition(keys),
+        is_script: is_script(keys),
+        position: position_at(kind, way),
+    }
+}
+
+/// Whether a scalar isn't null and fits.
+fn fits(rule: Rule, scalar: &Scalar) -> bool
+    ensures { result ≡ places.fits (rule_view rule) scalar.now }
+{
+    !is_null_scalar(scalar) && scalar_fault(rule.scalars, scalar).is_none()
+}
+
+/// Whether a scalar at the end of a way may have an expression. Most don't, and nothing more is asked of those.
+fn may_have_expression(way: &[WayStep<'_>], scalar: &Scalar) -> bool
+    ensures { IsTrue (places.has_expression (map step_of way.now) scalar.now) → IsTrue result }
+{
+    contains_chunk(scalar.text()) || ends_as_condition(way)
+}
+
+/// Whether a scalar has an expression: with these keys on the way to it, it is a condition, or its text has `${{`.
+fn has_expression(way: &[WayStep<'_>], keys: &[&[u8]], scalar: &Scalar) -> bool
+    requires { map (λ k. k.now) keys.now ≡ keys_of (map step_of way.now) }
+    ensures { result ≡ places.has_expression (map step_of way.now) scalar.now }
+{
+    is_condition(keys) || contains_chunk(scalar.text())
+}
+
+/// Adds the place of a scalar, where it is checked and has an expression.
+fn find_scalar<'a>(
+    alloc: Global,
+    kind: FileKind,
+    asked: Asked,
+    way: &[WayStep<'a>],
+    scalar: ScalarNode<'a>,
+    out: &mut Vec<Place<'a>>,
+) -> Result<(), AllocError>
+    ensures { OnOk result (map place_of out.new.items ≡ map place_of out.old.items
+        ++ scalar_places kind (rule_or_any (table_rule asked.shape)) asked.is_item (map step_of way.now)
+        (scalar.entry).scalar.now (scalar.entry).span) }
+{
+    if !may_have_expression(way, scalar.scalar) {
+        return Ok(());
+    }
+    let rule = rule_at(asked.shape);
+    if !fits(rule, scalar.scalar) {
+        return Ok(());
+    }
+    let keys = keys(alloc, way)?;
+    let keys = keys.as_slice();
+    if !is_checked(kind, way, keys) || !has_expression(way, keys, scalar.scalar) {
+        return Ok(());
+    }
+    let only = takes_scalars_only(rule) && !asked.is_item;
+    out.push(place_at(kind, way, keys, only, scalar))?;
+    Ok(())
+}
+
+/// Adds the places of a node at the end of a way, where it should have a shape and may be an item of a list.
+#[tactic(auto, using(crate::proofs::Nodes::placed_sequence, crate::proofs::Nodes::placed_mapping))]
+#[cycle(finds)]
+fn find<'a>(
+    alloc: Global,
+    kind: FileKind,
+    asked: Asked,
+    way: &mut Vec<WayStep<'a>>,
+    node: &'a Node,
+    out: &mut Vec<Place<'a>>,
+) -> Result<(), AllocError>
+    ensures found { OnOk result (map place_of out.new.items ≡ map place_of out.old.items
+        ++ placed kind asked.shape asked.is_item (map step_of way.old.items) (view node.now)) }
+    ensures way { OnOk result (way.new.items ≡ way.old.items) }
+{
+    match &node.kind {
+        Kind::Scalar(scalar) => {
+            let scalar = ScalarNode {
+                scalar,
+                span: node.span,
+            };
+            find_scalar(alloc, kind, asked, way.as_slice(), scalar, out)
+        }
+        Kind::Sequence(nodes) => match rule_at(asked.shape).items {
+            None => Ok(()),
+            Some(inner) => find_items(alloc, kind, inner, way, nodes.as_slice(), out),
+        },
+        Kind::Mapping(entries) => find_entries(
+            alloc,
+            kind,
+            rule_at(refine(asked.shape, entries.as_slice())).keys,
+            way,
+            entries.as_slice(),
+            out,
+        ),
+        Kind::Shared(inner) => find(alloc, kind, asked, way, inner, out),
+    }
+}
+
+/// Adds the places of the items of a list.
+#[cycle(finds)]
+fn find_items<'a>(
+    alloc: Global,
+    kind: FileKind,
+    shape: Shape,
+    way: &mut Vec<WayStep<'a>>,
+    nodes: &'a [Node],
+    out: &mut Vec<Place<'a>>,
+) -> Result<(), AllocError>
+    ensures found { OnOk result (map place_of out.new.items ≡ map place_of out.old.items
+        ++ placed_items kind shape (map step_of way.old.items) 0 (nodes_of (map view nodes.now))) }
+    ensures way { OnOk result (way.new.items ≡ way.old.items) }
+{
+    let mut i = 0;
+    for node in nodes {
+        let asked = Asked {
+            shape,
+            is_item: true,
+        };
+        way.push(WayStep::Nth(i))?;
+        find(alloc, kind, asked, way, node, out)?;
+        way.pop();
+        i += 1;
+    }
+    Ok(())
+}
+
+/// Adds the places of the entries of a mapping that takes these keys.
+#[tactic(auto, using(al_tree_shape::proofs::KeyLemmas::among_more))]
+#[cycle(finds)]
+fn find_entries<'a>(
+    alloc: Global,
+    kind: FileKind,
+    takes: Keys,
+    way: &mut Vec<WayStep<'a>>,
+    entries: &'a [Entry],
+    out: &mut Vec<Place<'a>>,
+) -> Result<(), AllocError>
+    ensures found { OnOk result (map place_of out.new.items ≡ map place_of out.old.items
+        ++ placed_entries kind (keys_view takes) [] (among (keys_in (map entry_view entries.now))) (map step_of way.old.items)
+        (entries_of (map entry_view entries.now))) }
+    ensures way { OnOk result (way.new.items ≡ way.old.items) }
+{
+    let mut seen = KeySet::new(alloc);
+    for entry in entries {
+        let key = key_of(entry);
+        // All keys of the mapping would tell beside which of them the key cannot stand, and so no place.
+        let standing = standing_of(takes, &seen, &seen, key);
+        find_entry(alloc, kind, standing, way, entry, out)?;
+        seen.insert(key)?;
+    }
+    Ok(())
+}
+
+/// Adds the places of an entry that stands so in its mapping.
+#[tactic(auto, using(al_yaml_tree::proofs::ViewLemmas::entry_parts))]
+#[cycle(finds)]
+fn find_entry<'a>(
+    alloc: Global,
+    kind: FileKind,
+    standing: Standing,
+    way: &mut Vec<WayStep<'a>>,
+    entry: &'a Entry,
+    out: &mut Vec<Place<'a>>,
+) -> Result<(), AllocError>
+    ensures found { OnOk result (map place_of out.new.items ≡ map place_of out.old.items
+        ++ entry_places (standing_view standing)
+        (λ s. placed kind s false (map step_of way.old.items ++ under (key_in (entry_view entry.now)) ∷ [])
+        (entry_view entry.now).1)) }
+    ensures way { OnOk result (way.new.items ≡ way.old.items) }
+{
+    match standing {
+        Standing::Repeated => Ok(()),
+        Standing::Unexpected(_) => Ok(()),
+        Standing::Ignored => Ok(()),
+        Standing::Expected(shape, _) => {
+            let asked = Asked {
+                shape,
+                is_item: false,
+            };
+            way.push(WayStep::Under(key_of(entry)))?;
+            find(alloc, kind, asked, way, &entry.value, out)?;
+            way.pop();
+            Ok(())
+        }
+    }
+}
+
+fn shape_of(kind: FileKind) -> Shape
+    ensures { result ≡ file_shape kind }
+{
+    match kind {
+        FileKind::Workflow => Shape::Workflow,
+        FileKind::Action => Shape::Action,
+    }
+}
+
+/// The scalars of a file that have expressions, in the order of the file: conditions, and texts with `${{`. Other texts have no fault.
+///
+/// Fails with `AllocError` when out of memory.
+pub fn places(alloc: Global, kind: FileKind, root: &Node) -> Result<Vec<Place<'_>>, AllocError>
+    ensures { IfOk result (λ v. map place_of v.items ≡ places_of kind (view root.now)) }
+{
+    let asked = Asked {
+        shape: shape_of(kind),
+        is_item: false,
+    };
+    let mut out = Vec::new(alloc);
+    let mut way = Vec::new(alloc);
+    find(alloc, kind, asked, &mut way, root, &mut out)?;
+    Ok(out)
+}

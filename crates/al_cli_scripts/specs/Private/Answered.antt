@@ -1,0 +1,22 @@
+-- What a call on the bytes that wait leaves.
+use Rattle.std.specs.Prelude.{ℕ, ◌≤◌, ◌⊎◌, List, ◌++◌, length, drop, codes, Option}
+use Rattle.std.specs.Io.KnownBytes.{Appends}
+use Rattle.al_base.specs.Counted.{AppendsPrefix}
+use Rattle.al_cli_scripts.specs.Script.{IsWrong, IsPending}
+use Rattle.al_cli_scripts.specs.Runs.{Steps, Served}
+use Rattle.al_cli_scripts.specs.declared.run.Progress.{Progress}
+use Rattle.al_cli_scripts.specs.declared.run.Progress.TheVariants.{Waits, Bad}
+
+-- each whole command was answered, and a wrong rest too
+abbrev pub Progresses : {F : Type 0} → Steps F → F → F → List ℕ → Progress → Option (List ℕ) → Option (List ℕ) → Type 0
+Progresses steps start folder waiting (Waits done) wrote now = (replies : List ℕ)
+    × Served steps start waiting folder replies (drop done waiting) × IsPending (drop done waiting) × (done ≤ length waiting)
+    × Appends wrote now replies
+Progresses {F} steps start folder waiting Bad wrote now = (replies : List ℕ) × (rest : List ℕ)
+    × Served steps start waiting folder replies rest × IsWrong rest × Appends wrote now (replies ++ codes "bad command\n")
+
+-- the run stopped in the midst of what it writes for these bytes, or before it
+abbrev pub IsStuck : {F : Type 0} → Steps F → F → List ℕ → Option (List ℕ) → Option (List ℕ) → Type 0
+IsStuck {F} steps start waiting wrote now = (folder : F) × (replies : List ℕ) × (rest : List ℕ)
+    × Served steps start waiting folder replies rest
+    × (AppendsPrefix wrote now replies ⊎ (IsWrong rest × AppendsPrefix wrote now (replies ++ codes "bad command\n")))

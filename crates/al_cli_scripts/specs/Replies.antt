@@ -1,0 +1,73 @@
+-- What a script's session does at a command: the folder, replies and the status.
+use Rattle.std.specs.Prelude.{◌≡◌, ◌≢◌, ◌⊎◌, ℕ, Bool, List, ◌++◌, length, codes, decimal, Option, None, Some, Result, Ok, Err}
+use Rattle.std.specs.Io.KnownBytes.{Keeps}
+use Rattle.al_base.specs.Counted.{AppendsPrefix}
+use Rattle.al_base.specs.declared.stops.Stop.{Stop}
+use Rattle.al_base.specs.declared.stops.Stop.TheVariants as stops
+use Rattle.al_session.specs.declared.session.Edit.{Edit}
+use Rattle.al_session.specs.Affected.{affected}
+use Rattle.al_session.specs.Folder.{Folder, put_refusal, delete_refusal, with_file, without_file}
+use Rattle.al_session.specs.Report.{report_of, status_of}
+use Rattle.al_session.specs.declared.lint.Refused.{Refused}
+use Rattle.al_session.specs.declared.lint.Refused.TheVariants.{BadPath, NotAccepted, TooLarge, Full, NoSuchFile, Memory}
+use Rattle.al_check.specs.Linting.{linting}
+use Rattle.al_check_interfaces.specs.contracts.interfaces.InterfacePartialEq.TheImpl as interface
+use Rattle.al_cli_scripts.specs.Script.{Command, Put, Delete, Report}
+use Rattle.al_cli_scripts.specs.Runs.{Steps}
+
+-- the number that a reply gives
+abbrev pub number_of : Refused → ℕ
+number_of BadPath = 1
+number_of NotAccepted = 2
+number_of TooLarge = 3
+number_of Full = 4
+number_of NoSuchFile = 5
+number_of Memory = 6
+
+abbrev pub accepted_reply : ℕ → List ℕ
+accepted_reply files = codes "ok " ++ decimal files ++ codes "\n"
+
+abbrev pub refused_reply : Refused → List ℕ
+refused_reply refused = codes "refused E" ++ decimal (number_of refused) ++ codes "\n"
+
+-- an edit that may be refused leaves the folder as it was, or another one
+abbrev pub edited : Option Refused → Folder → Folder → Folder
+edited None old new = new
+edited (Some refused) old new = old
+
+-- an accepted edit is answered by the number of the files that it can change
+abbrev pub edit_reply : Option Refused → Folder → Folder → List ℕ
+edit_reply None old new = accepted_reply (length (affected interface.ghosts.eq linting old new))
+edit_reply (Some refused) old new = refused_reply refused
+
+abbrev pub after_command : Folder → Command → Folder
+after_command folder (Put path bytes) = edited (put_refusal linting folder path bytes) folder (with_file folder path bytes)
+after_command folder (Delete path) = edited (delete_refusal linting folder path) folder (without_file folder path)
+after_command folder Report = folder
+
+-- to a report with snippets, or of lines alone
+abbrev pub reply_to : Bool → Folder → Command → List ℕ
+reply_to oneline folder (Put path bytes) = edit_reply (put_refusal linting folder path bytes) folder (with_file folder path bytes)
+reply_to oneline folder (Delete path) = edit_reply (delete_refusal linting folder path) folder (without_file folder path)
+reply_to oneline folder Report = report_of oneline linting folder ++ (codes "status " ++ decimal (status_of linting folder) ++ codes "\n")
+
+-- why a command is refused, other than for memory
+abbrev pub refusal_of : Folder → Command → Option Refused
+refusal_of folder (Put path bytes) = put_refusal linting folder path bytes
+refusal_of folder (Delete path) = delete_refusal linting folder path
+refusal_of folder Report = None
+
+-- the session of a script, over its folders
+abbrev pub session : Bool → Steps Folder
+session oneline = record { reply = reply_to oneline; after = after_command; status = status_of linting }
+
+-- ---- what a reply to an edit writes
+
+abbrev pub reply_bytes : Result Edit Refused → List ℕ
+reply_bytes (Ok edit) = accepted_reply (length edit.rechecked)
+reply_bytes (Err refused) = refused_reply refused
+
+-- the session ran out of memory and nothing was written, or a write failed behind a prefix of the reply
+abbrev pub ReplyStops : Result Edit Refused → Option (List ℕ) → Option (List ℕ) → Stop → Type 0
+ReplyStops reply wrote now stop = ((stop ≡ stops.Memory) × (reply ≡ Err Memory) × Keeps wrote now)
+    ⊎ ((stop ≡ stops.WriteFault) × (reply ≢ Err Memory) × AppendsPrefix wrote now (reply_bytes reply))

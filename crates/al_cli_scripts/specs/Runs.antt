@@ -1,0 +1,131 @@
+-- The output of a script, for any session that answers one command at a time, and what a run leaves that stops early.
+use Rattle.std.specs.Prelude.{◌≡◌, ◌≢◌, ℕ, ◌<◌, ◌≤◌, ◌⊎◌, List, [], ◌∷◌, ◌++◌, length, All, codes, Option, IfSome, Result, OnOk, IsErrOf}
+use Rattle.std.specs.Io.KnownBytes.{Appends, Consumes, Keeps}
+use Rattle.al_base.specs.declared.stops.Stop.{Stop}
+use Rattle.al_base.specs.declared.stops.Stop.TheVariants.{ReadFault, WriteFault, Memory, TooManyTurns}
+use Rattle.al_base.specs.Counted.{AppendsPrefix, HasRisen}
+use Rattle.al_base.specs.Limits.{largest_read, most_reads}
+use Rattle.al_cli_scripts.specs.Script.{Command, command_bytes, IsCommand, BeginsWithCommand, IsPending, IsWrong}
+
+-- what a session does at a command, over its folders
+pub record Steps (F : Type 0) : Type 0 where
+  pub reply : F → Command → List ℕ
+  pub after : F → Command → F
+  pub status : F → ℕ
+
+abbrev pub folder_after : {F : Type 0} → Steps F → F → List Command → F
+folder_after steps folder [] = folder
+folder_after steps folder (c ∷ cs) = folder_after steps (steps.after folder c) cs
+
+abbrev pub replies_to : {F : Type 0} → Steps F → F → List Command → List ℕ
+replies_to steps folder [] = []
+replies_to steps folder (c ∷ cs) = steps.reply folder c ++ replies_to steps (steps.after folder c) cs
+
+abbrev pub script_of : List Command → List ℕ
+script_of [] = []
+script_of (c ∷ cs) = command_bytes c ++ script_of cs
+
+-- these bytes are whole commands and then rest: with their replies, and the folder after them
+pub record Served {F : Type 0} (steps : Steps F) (start : F) (bytes : List ℕ) (folder : F) (replies rest : List ℕ) : Type 0 where
+  pub commands : List Command
+  pub each : All IsCommand commands
+  pub whole : bytes ≡ script_of commands ++ rest
+  pub leaves : folder ≡ folder_after steps start commands
+  pub answered : replies ≡ replies_to steps start commands
+
+-- the end of a script, where no command begins: nothing is left, or the rest is a bad command
+abbrev pub Ends : {F : Type 0} → Steps F → F → List ℕ → List ℕ → ℕ → Type 0
+Ends steps folder rest out answer = ((rest ≡ []) × (out ≡ []) × (answer ≡ steps.status folder))
+    ⊎ ((rest ≢ []) × (BeginsWithCommand rest → ⊥) × (out ≡ codes "bad command\n") × (answer ≡ 2))
+
+-- the output and the answer of a script over a folder
+pub record Puts {F : Type 0} (steps : Steps F) (start : F) (script out : List ℕ) (answer : ℕ) : Type 0 where
+  pub folder : F
+  pub replies : List ℕ
+  pub rest : List ℕ
+  pub last : List ℕ
+  pub served : Served steps start script folder replies rest
+  pub ends : Ends steps folder rest last answer
+  pub whole : out ≡ replies ++ last
+
+-- ---- what a run leaves; left and then are what the reader has left, before and after, wrote and now what the writer holds
+
+-- the run put out the whole output of what waits and what the reader has left
+abbrev pub RunsToEnd : {F : Type 0} → Steps F → F → List ℕ → Option (List ℕ) → Option (List ℕ) → Option (List ℕ) → ℕ → Type 0
+RunsToEnd steps start waiting left wrote now answer =
+    IfSome left (λ script. (out : List ℕ) × Puts steps start (waiting ++ script) out answer × Appends wrote now out)
+
+-- the run put out a prefix of that output
+abbrev pub IsCutShort : {F : Type 0} → Steps F → F → List ℕ → Option (List ℕ) → Option (List ℕ) → Option (List ℕ) → Type 0
+IsCutShort steps start waiting left wrote now =
+    IfSome left (λ script. (out : List ℕ) (answer : ℕ) → Puts steps start (waiting ++ script) out answer → AppendsPrefix wrote now out)
+
+-- the run read these bytes, and answered each whole command among them; what is left of them isn't wrong
+pub record PausesAfter {F : Type 0} (steps : Steps F) (start folder : F) (waiting : List ℕ) (left then wrote now : Option (List ℕ))
+    (read : List ℕ) : Type 0 where
+  pub replies : List ℕ
+  pub consumed : Consumes left then read
+  pub served : Served steps start read folder replies waiting
+  pub pending : IsPending waiting
+  pub written : Appends wrote now replies
+
+-- such a run, of at least so many bytes
+abbrev pub Pauses : {F : Type 0} → Steps F → F → Option (List ℕ) → Option (List ℕ) → Option (List ℕ) → Option (List ℕ) → ℕ → Type 0
+Pauses {F} steps start left then wrote now least = (folder : F) × (waiting : List ℕ) × (read : List ℕ)
+    × (least ≤ length read) × PausesAfter steps start folder waiting left then wrote now read
+
+-- what a run leaves that stopped early
+abbrev pub Stops : {F : Type 0} → Steps F → F → Option (List ℕ) → Option (List ℕ) → Option (List ℕ) → Option (List ℕ) → Stop → Type 0
+Stops steps start left then wrote now ReadFault = Pauses steps start left then wrote now 0
+Stops steps start left then wrote now TooManyTurns = Pauses steps start left then wrote now most_reads
+Stops steps start left then wrote now WriteFault = IsCutShort steps start [] left wrote now
+Stops steps start left then wrote now Memory = IsCutShort steps start [] left wrote now
+
+-- a read behind which the run ends: it gave nothing, or made wrong what waited
+abbrev pub IsDecisive : {F : Type 0} → Steps F → F → List ℕ → List ℕ → Type 0
+IsDecisive {F} steps folder waiting last = (last ≡ []) ⊎ ((after : F) × (replies : List ℕ) × (rest : List ℕ)
+    × Served steps folder (waiting ++ last) after replies rest × IsWrong rest)
+
+-- one read, of 65,536 bytes at most, behind which the run ends
+abbrev pub ReadsLast : {F : Type 0} → Steps F → F → List ℕ → Option (List ℕ) → Option (List ℕ) → Type 0
+ReadsLast steps folder waiting left then =
+    (last : List ℕ) × (length last ≤ largest_read) × Consumes left then last × IsDecisive steps folder waiting last
+
+-- all reads but the last gave whole commands and what begins one, and behind the last the run ended: it read nothing else
+pub record ReadsNoFurther {F : Type 0} (steps : Steps F) (start : F) (left then : Option (List ℕ)) : Type 0 where
+  pub folder : F
+  pub replies : List ℕ
+  pub waiting : List ℕ
+  pub before : List ℕ
+  pub last : List ℕ
+  pub served : Served steps start before folder replies waiting
+  pub pending : IsPending waiting
+  pub short : length last ≤ largest_read
+  pub consumed : Consumes left then (before ++ last)
+  pub decisive : IsDecisive steps folder waiting last
+
+-- a count of failures, as before where a run answered or goes on, and one more where it stopped at such a failure
+pub record CountsFailures {T : Type 0} (result : Result T Stop) (stop : Stop) (before now : ℕ) : Type 0 where
+  pub answered : OnOk result (now ≡ before)
+  pub stopped : IsErrOf result stop → HasRisen before now
+
+-- ---- one turn
+
+-- the turn read these bytes, and answered each whole command
+pub record GoesOn {F : Type 0} (steps : Steps F) (start folder : F) (waited waiting : List ℕ)
+    (left then wrote now : Option (List ℕ)) : Type 0 where
+  pub read : List ℕ
+  pub some : 0 < length read
+  pub replies : List ℕ
+  pub consumed : Consumes left then read
+  pub served : Served steps start (waited ++ read) folder replies waiting
+  pub pending : IsPending waiting
+  pub written : Appends wrote now replies
+
+abbrev pub TurnStops : {F : Type 0} → Steps F → F → F → List ℕ → List ℕ → Option (List ℕ) → Option (List ℕ) → Option (List ℕ) →
+    Option (List ℕ) → Stop → Type 0
+TurnStops steps start folder waited waiting left then wrote now ReadFault =
+    (folder ≡ start) × (waiting ≡ waited) × Keeps left then × Keeps wrote now
+TurnStops steps start folder waited waiting left then wrote now WriteFault = IsCutShort steps start waited left wrote now
+TurnStops steps start folder waited waiting left then wrote now Memory = IsCutShort steps start waited left wrote now
+TurnStops steps start folder waited waiting left then wrote now TooManyTurns = ⊥

@@ -1,0 +1,187 @@
+//! The commands of a script, as bytes.
+
+ghost use Rattle.std.specs.Prelude.{◌≡◌, ◌≢◌, ◌<◌, ◌≤◌, ◌+◌, MatchOption, length, All, take, drop, slice_index, decimal, IsTrue, ◌↔◌};
+ghost use Rattle.al_base.specs.Limits.{longest_line};
+ghost use Rattle.al_cli_scripts.specs.Private.Next.{IsNext, IsLineOf, IsPutOf, IsLengthOf, IsPutLine, IsDeleteOf};
+ghost use Rattle.al_cli_scripts.specs.Script.{HasNoBreak, IsPathText};
+
+use al_base::limits::LONGEST_LINE;
+use itoa::Buffer;
+
+/// A command of a script.
+#[derive(Clone, Copy)]
+pub enum Command<'a> {
+    /// A path, and the bytes of the file to be put there.
+    Put(&'a str, &'a [u8]),
+    /// The path of the file to be deleted.
+    Delete(&'a str),
+    Report,
+}
+
+/// What the bytes that wait begin with.
+#[derive(Clone, Copy)]
+pub enum NextCommand<'a> {
+    /// A command, and how many bytes it has.
+    Whole(Command<'a>, usize),
+    /// No whole command, and not wrong yet.
+    Pending,
+    /// No command, whatever follows.
+    Wrong,
+}
+
+/// The lengths of seven digits end here.
+const LENGTHS: u32 = 10_000_000;
+
+// A command's line.
+#[derive(Clone, Copy)]
+pub(crate) enum Line<'a> {
+    Put(&'a str, usize),
+    Delete(&'a str),
+    Report,
+}
+
+/// The command that these bytes begin with.
+pub fn next_command(bytes: &[u8]) -> NextCommand<'_>
+    ensures { IsNext bytes.now result }
+{
+    let Some(end) = find_break(bytes) else {
+        return if bytes.len() > LONGEST_LINE {
+            NextCommand::Wrong
+        } else {
+            NextCommand::Pending
+        };
+    };
+    match read_line(&bytes[..end]) {
+        None => NextCommand::Wrong,
+        Some(Line::Report) => NextCommand::Whole(Command::Report, end + 1),
+        Some(Line::Delete(path)) => NextCommand::Whole(Command::Delete(path), end + 1),
+        Some(Line::Put(path, length)) => next_put(bytes, end, path, length),
+    }
+}
+
+// The command of a put's line that ends at `end`.
+fn next_put<'a>(bytes: &'a [u8], end: usize, path: &'a str, length: usize) -> NextCommand<'a>
+    requires line { IsPutLine bytes.now end path.now length }
+    ensures { IsNext bytes.now result }
+{
+    let body = &bytes[end + 1..];
+    if body.len() <= length {
+        NextCommand::Pending
+    } else if body[length] != b'\n' {
+        NextCommand::Wrong
+    } else {
+        NextCommand::Whole(Command::Put(path, &body[..length]), end + 1 + length + 1)
+    }
+}
+
+// The first LF, where the line before it isn't too long.
+fn find_break(bytes: &[u8]) -> Option<usize>
+    ensures { MatchOption result (HasNoBreak (take 2049 bytes.now))
+        (λ end. (end < length bytes.now) × (end ≤ longest_line) × HasNoBreak (take end bytes.now) × (slice_index bytes.now end ≡ 10)) }
+{
+    first_break(&bytes[..bytes.len().min(LONGEST_LINE + 1)])
+}
+
+pub(crate) fn first_break(bytes: &[u8]) -> Option<usize>
+    ensures { MatchOption result (HasNoBreak bytes.now)
+        (λ end. (end < length bytes.now) × HasNoBreak (take end bytes.now) × (slice_index bytes.now end ≡ 10)) }
+{
+    bytes.iter().position(|b| *b == b'\n')
+}
+
+// The line that has these bytes.
+fn read_line(line: &[u8]) -> Option<Line<'_>>
+    requires one { HasNoBreak line.now }
+    requires short { length line.now ≤ longest_line }
+    ensures { IsLineOf line.now result }
+{
+    if line == b"report".as_slice() {
+        return Some(Line::Report);
+    }
+    match line.strip_prefix(b"put ") {
+        Some(rest) => match read_put(rest) {
+            None => None,
+            Some((path, length)) => Some(Line::Put(path, length)),
+        },
+        None => read_delete(line),
+    }
+}
+
+// A delete's line, where it is one.
+fn read_delete(line: &[u8]) -> Option<Line<'_>>
+    requires { HasNoBreak line.now }
+    ensures { IsDeleteOf line.now result }
+{
+    match line.strip_prefix(b"delete ") {
+        None => None,
+        Some(rest) => match read_path(rest) {
+            None => None,
+            Some(path) => Some(Line::Delete(path)),
+        },
+    }
+}
+
+// A put's path and length. The last space stands between them.
+fn read_put(rest: &[u8]) -> Option<(&str, usize)>
+    requires { HasNoBreak rest.now }
+    ensures { IsPutOf rest.now result }
+{
+    match last_space(rest) {
+        None => None,
+        Some(space) => match read_length(&rest[space + 1..]) {
+            None => None,
+            Some(length) => match read_path(&rest[..space]) {
+                None => None,
+                Some(path) => Some((path, length)),
+            },
+        },
+    }
+}
+
+// A path's text, which is UTF-8 and not empty.
+fn read_path(bytes: &[u8]) -> Option<&str>
+    requires { HasNoBreak bytes.now }
+    ensures { MatchOption result (IsPathText bytes.now → ⊥) (λ path. (path.now ≡ bytes.now) × IsPathText bytes.now) }
+{
+    if bytes.is_empty() {
+        return None;
+    }
+    match str::from_utf8(bytes) {
+        Err(_) => None,
+        Ok(path) => Some(path),
+    }
+}
+
+fn last_space(text: &[u8]) -> Option<usize>
+    ensures { MatchOption result (All (λ b. b ≢ 32) text.now)
+        (λ at. (at < length text.now) × (slice_index text.now at ≡ 32) × All (λ b. b ≢ 32) (drop (at + 1) text.now)) }
+{
+    text.iter().rposition(|b| *b == b' ')
+}
+
+// The number below ten millions that is written so.
+fn read_length(digits: &[u8]) -> Option<usize>
+    ensures { IsLengthOf digits.now result }
+{
+    match str::from_utf8(digits) {
+        Err(_) => None,
+        Ok(text) => match text.parse::<u32>() {
+            Err(_) => None,
+            Ok(length) => {
+                // A number isn't written with a sign or a leading zero.
+                if length < LENGTHS && is_written(length, text) {
+                    Some(length as usize)
+                } else {
+                    None
+                }
+            }
+        },
+    }
+}
+
+fn is_written(number: u32, text: &str) -> bool
+    ensures { IsTrue result ↔ (text.now ≡ decimal number) }
+{
+    let mut buffer = Buffer::new();
+    buffer.format(number) == text
+}

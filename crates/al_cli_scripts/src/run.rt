@@ -1,0 +1,282 @@
+//! A script run over a session: commands read, replies and reports written.
+
+ghost use Rattle.std.specs.Prelude.{Err, None, false, max, ◌≡◌, ◌≢◌, [], ◌<◌, MatchOption, ◌+◌, ◌≤◌, ◌++◌, ◌⊎◌, ℕ, List, length};
+ghost use Rattle.std.specs.Prelude.{drop, codes, IfOk, IfSome, OnOk, OnErr, IfErr, IsErrOf, decimal, IsOkUnless};
+ghost use Rattle.std.specs.Io.KnownBytes.{Appends, Keeps};
+ghost use Rattle.al_base.specs.Counted.{raised, HasRisen, AppendsPrefix};
+ghost use Rattle.al_base.specs.Streams.{bytes_left, turns_of, read_failures, largest_ask, bytes_written, write_failures};
+ghost use Rattle.al_cli_scripts.specs.Private.Next.{meaning};
+ghost use Rattle.al_cli_scripts.specs.Script.{IsPending, BeginsWithCommand};
+ghost use Rattle.al_cli_scripts.specs.Runs.{CountsFailures, RunsToEnd, Stops, Ends, GoesOn, TurnStops, ReadsLast, ReadsNoFurther};
+ghost use Rattle.al_cli_scripts.specs.Replies as replies;
+ghost use Rattle.al_cli_scripts.specs.Script as script;
+ghost use Rattle.al_session.specs.declared.lint.Refused.TheVariants as refused;
+ghost use Rattle.al_cli_scripts.specs.Private.Answered.{Progresses, IsStuck};
+ghost use Rattle.al_base.specs.declared.stops.Stop.TheVariants.{ReadFault, WriteFault, Memory, TooManyTurns};
+ghost use Rattle.al_base.specs.Limits.{largest_read, most_reads};
+
+use super::commands::{Command, NextCommand, next_command};
+use al_base::limits::{LARGEST_READ, MOST_READS};
+use al_base::{Input, Output, Stop};
+use al_check::Actions;
+use al_session::{Edit, Refused, Session};
+use itoa::Buffer;
+use std::alloc::{AllocError, Global};
+use std::io::{Read, Write};
+
+/// Where the bytes that wait stand once each whole command is answered.
+#[derive(Clone, Copy)]
+pub(crate) enum Progress {
+    /// So many bytes were commands, and the rest is none yet.
+    Waits(usize),
+    /// The rest is no command, and this was said.
+    Bad,
+}
+
+/// Runs the script that the reader gives. Its reports print faults as lines alone where `oneline` is asked for. Each read
+/// asks for 65,536 bytes, and behind the one with which the input ends or goes wrong there is none.
+pub fn run_session<R: Read, W: Write>(
+    alloc: Global,
+    reader: &mut Input<R>,
+    writer: &mut Output<W>,
+    oneline: bool,
+) -> Result<u8, Stop>
+    ensures end { IfOk result (RunsToEnd (replies.session oneline) [] [] (bytes_left R.remaining reader.old)
+        (bytes_written W.contents writer.old) (bytes_written W.contents writer.new)) }
+    ensures stop { IfErr result (Stops (replies.session oneline) []
+        (bytes_left R.remaining reader.old) (bytes_left R.remaining reader.new)
+        (bytes_written W.contents writer.old) (bytes_written W.contents writer.new)) }
+    ensures last_read { OnOk result (ReadsNoFurther (replies.session oneline) []
+        (bytes_left R.remaining reader.old) (bytes_left R.remaining reader.new)) }
+    ensures reads { turns_of reader.new ≤ turns_of reader.old + most_reads }
+    ensures read_failures { CountsFailures result Stop.ReadFault (read_failures reader.old) (read_failures reader.new) }
+    ensures write_failures { CountsFailures result Stop.WriteFault (write_failures writer.old) (write_failures writer.new) }
+    ensures all_turns { IsErrOf result Stop.TooManyTurns → turns_of reader.new ≡ raised (turns_of reader.old) most_reads }
+    ensures asked { largest_ask reader.new ≤ max (largest_ask reader.old) largest_read }
+    ensures asks { result ≢ Err Memory → largest_ask reader.new ≡ max (largest_ask reader.old) largest_read }
+{
+    // A proof knows that a count fits its type where the body reads it.
+    let _turns_before = reader.turns();
+    let mut session = Session::open(alloc, Actions::new());
+    let mut waiting: Vec<u8> = Vec::new(alloc);
+    let mut piece = empty_piece(alloc)?;
+    for _turn in 0..MOST_READS {
+        match take_turn(
+            &mut session,
+            &mut waiting,
+            &mut piece,
+            reader,
+            writer,
+            oneline,
+        )? {
+            Some(answer) => return Ok(answer),
+            None => {}
+        }
+    }
+    Err(Stop::TooManyTurns)
+}
+
+// Room for one read. The clause leaves the zeros out: a tactic that sees `replicate 65536 0` computes it.
+fn empty_piece(alloc: Global) -> Result<Vec<u8>, AllocError>
+    ensures { IfOk result (λ piece. length piece.items ≡ largest_read) }
+{
+    vec![in alloc; 0u8; LARGEST_READ]
+}
+
+// One read, and the answers to what came. `Some` is the answer of a run that is over.
+fn take_turn<R: Read, W: Write>(
+    session: &mut Session<Actions>,
+    waiting: &mut Vec<u8>,
+    piece: &mut [u8],
+    reader: &mut Input<R>,
+    writer: &mut Output<W>,
+    oneline: bool,
+) -> Result<Option<u8>, Stop>
+    requires room { length piece.old ≡ largest_read }
+    requires pending { IsPending waiting.old.items }
+    ensures ok { IfOk result (λ answer. MatchOption answer
+        (GoesOn (replies.session oneline) session.old.folder session.new.folder waiting.old.items waiting.new.items
+        (bytes_left R.remaining reader.old) (bytes_left R.remaining reader.new)
+        (bytes_written W.contents writer.old) (bytes_written W.contents writer.new))
+        (RunsToEnd (replies.session oneline) session.old.folder waiting.old.items (bytes_left R.remaining reader.old)
+        (bytes_written W.contents writer.old) (bytes_written W.contents writer.new))) }
+    ensures err { IfErr result
+        (TurnStops (replies.session oneline) session.old.folder session.new.folder waiting.old.items waiting.new.items
+        (bytes_left R.remaining reader.old) (bytes_left R.remaining reader.new)
+        (bytes_written W.contents writer.old) (bytes_written W.contents writer.new)) }
+    ensures last { IfOk result (λ answer. IfSome answer (λ _.
+        ReadsLast (replies.session oneline) session.old.folder waiting.old.items
+        (bytes_left R.remaining reader.old) (bytes_left R.remaining reader.new))) }
+    ensures turns { turns_of reader.new ≡ raised (turns_of reader.old) 1 }
+    ensures asked { largest_ask reader.new ≡ max (largest_ask reader.old) largest_read }
+    ensures read_failures { CountsFailures result Stop.ReadFault (read_failures reader.old) (read_failures reader.new) }
+    ensures write_failures { CountsFailures result Stop.WriteFault (write_failures writer.old) (write_failures writer.new) }
+{
+    let count = reader.read(piece)?;
+    if count == 0 {
+        return Ok(Some(finish(session, waiting, writer)?));
+    }
+    waiting.extend_from_slice(&piece[..count])?;
+    match answer_all(session, waiting, writer, oneline)? {
+        Progress::Bad => Ok(Some(2)),
+        Progress::Waits(done) => {
+            drop_front(waiting, done);
+            writer.flush()?;
+            Ok(None)
+        }
+    }
+}
+
+// Drops the bytes that were answered.
+fn drop_front(waiting: &mut Vec<u8>, done: usize)
+    requires { done ≤ length waiting.old.items }
+    ensures { waiting.new.items ≡ drop done waiting.old.items }
+{
+    waiting.drain(..done);
+}
+
+// The end of the input, whatever reports print.
+fn finish<W: Write>(
+    session: &mut Session<Actions>,
+    waiting: &[u8],
+    writer: &mut Output<W>,
+) -> Result<u8, Stop>
+    requires { BeginsWithCommand waiting.now → ⊥ }
+    ensures ok { IfOk result (λ answer. (last : List ℕ) × Ends (replies.session false) session.old.folder waiting.now last answer
+        × Appends (bytes_written W.contents writer.old) (bytes_written W.contents writer.new) last) }
+    ensures err { OnErr result
+        (((waiting.now ≢ [])
+        × AppendsPrefix (bytes_written W.contents writer.old) (bytes_written W.contents writer.new) (codes "bad command\n"))
+        ⊎ Keeps (bytes_written W.contents writer.old) (bytes_written W.contents writer.new)) }
+    ensures failures { OnOk result (write_failures writer.new ≡ write_failures writer.old) }
+    ensures failed { IsErrOf result Stop.WriteFault → HasRisen (write_failures writer.old) (write_failures writer.new) }
+    ensures only { IfErr result (λ e. (e ≡ WriteFault) ⊎ (e ≡ Memory)) }
+    ensures unchanged { session.new ≡ session.old }
+{
+    if waiting.is_empty() {
+        return Ok(session.status()?);
+    }
+    writer.write_all(b"bad command\n")?;
+    Ok(2)
+}
+
+// Answers each whole command that stands first, and a bad one.
+fn answer_all<W: Write>(
+    session: &mut Session<Actions>,
+    waiting: &[u8],
+    writer: &mut Output<W>,
+    oneline: bool,
+) -> Result<Progress, Stop>
+    ensures ok { IfOk result (λ progress. Progresses (replies.session oneline) session.old.folder session.new.folder waiting.now progress
+        (bytes_written W.contents writer.old) (bytes_written W.contents writer.new)) }
+    ensures err { OnErr result (IsStuck (replies.session oneline) session.old.folder waiting.now
+        (bytes_written W.contents writer.old) (bytes_written W.contents writer.new)) }
+    ensures failures { OnOk result (write_failures writer.new ≡ write_failures writer.old) }
+    ensures failed { IsErrOf result Stop.WriteFault → HasRisen (write_failures writer.old) (write_failures writer.new) }
+    ensures only { IfErr result (λ e. (e ≡ WriteFault) ⊎ (e ≡ Memory)) }
+{
+    let mut done = 0;
+    while done < waiting.len() {
+        match next_command(&waiting[done..]) {
+            NextCommand::Whole(command, count) => {
+                answer(session, command, writer, oneline)?;
+                done += count;
+            }
+            NextCommand::Pending => return Ok(Progress::Waits(done)),
+            NextCommand::Wrong => {
+                writer.write_all(b"bad command\n")?;
+                return Ok(Progress::Bad);
+            }
+        }
+    }
+    Ok(Progress::Waits(done))
+}
+
+// Answers one command.
+fn answer<W: Write>(
+    session: &mut Session<Actions>,
+    command: Command<'_>,
+    writer: &mut Output<W>,
+    oneline: bool,
+) -> Result<(), Stop>
+    ensures after { OnOk result (session.new.folder ≡ replies.after_command session.old.folder (meaning command.entry)) }
+    ensures ok { OnOk result (Appends (bytes_written W.contents writer.old) (bytes_written W.contents writer.new)
+        (replies.reply_to oneline session.old.folder (meaning command.entry))) }
+    ensures err { OnErr result (AppendsPrefix (bytes_written W.contents writer.old) (bytes_written W.contents writer.new)
+        (replies.reply_to oneline session.old.folder (meaning command.entry))) }
+    ensures failures { OnOk result (write_failures writer.new ≡ write_failures writer.old) }
+    ensures failed { IsErrOf result Stop.WriteFault → HasRisen (write_failures writer.old) (write_failures writer.new) }
+    ensures only { IfErr result (λ e. (e ≡ WriteFault) ⊎ (e ≡ Memory)) }
+    ensures memory { IsErrOf result Stop.Memory → replies.refusal_of session.old.folder (meaning command.entry) ≡ None }
+{
+    match command {
+        Command::Put(path, bytes) => write_reply(writer, session.put(path, bytes)),
+        Command::Delete(path) => write_reply(writer, session.delete(path)),
+        Command::Report => write_report(writer, session, oneline),
+    }
+}
+
+// Writes the reply to an edit. Want of memory has none, and ends the run; no other reply does.
+fn write_reply<W: Write>(writer: &mut Output<W>, reply: Result<Edit, Refused>) -> Result<(), Stop>
+    ensures ok { OnOk result ((reply ≢ Err refused.Memory)
+        × Appends (bytes_written W.contents writer.old) (bytes_written W.contents writer.new) (replies.reply_bytes reply)) }
+    ensures err { IfErr result (replies.ReplyStops reply (bytes_written W.contents writer.old) (bytes_written W.contents writer.new)) }
+    ensures failures { OnOk result (write_failures writer.new ≡ write_failures writer.old) }
+    ensures failed { IsErrOf result Stop.WriteFault → HasRisen (write_failures writer.old) (write_failures writer.new) }
+{
+    match reply {
+        Ok(edit) => write_number(writer, b"ok ", edit.rechecked.as_slice().len() as u64),
+        Err(Refused::Memory) => Err(Stop::Memory),
+        Err(refused) => write_number(writer, b"refused E", number_of(refused)),
+    }
+}
+
+/// The number of a refusal (E1 to E6).
+pub fn number_of(refused: Refused) -> u64
+    ensures { result ≡ replies.number_of refused }
+{
+    match refused {
+        Refused::BadPath => 1,
+        Refused::NotAccepted => 2,
+        Refused::TooLarge => 3,
+        Refused::Full => 4,
+        Refused::NoSuchFile => 5,
+        Refused::Memory => 6,
+    }
+}
+
+// Writes each file's faults, and the status.
+fn write_report<W: Write>(
+    writer: &mut Output<W>,
+    session: &mut Session<Actions>,
+    oneline: bool,
+) -> Result<(), Stop>
+    ensures ok { OnOk result (Appends (bytes_written W.contents writer.old) (bytes_written W.contents writer.new)
+        (replies.reply_to oneline session.old.folder script.Report)) }
+    ensures err { OnErr result (AppendsPrefix (bytes_written W.contents writer.old) (bytes_written W.contents writer.new)
+        (replies.reply_to oneline session.old.folder script.Report)) }
+    ensures failures { OnOk result (write_failures writer.new ≡ write_failures writer.old) }
+    ensures failed { IsErrOf result Stop.WriteFault → HasRisen (write_failures writer.old) (write_failures writer.new) }
+    ensures only { IfErr result (λ e. (e ≡ WriteFault) ⊎ (e ≡ Memory)) }
+    ensures unchanged { session.new ≡ session.old }
+{
+    session.report(writer, oneline)?;
+    let status = session.status()?;
+    write_number(writer, b"status ", u64::from(status))
+}
+
+// Writes a line of a word and a number.
+fn write_number<W: Write>(writer: &mut Output<W>, word: &[u8], number: u64) -> Result<(), Stop>
+    ensures ok { OnOk result (Appends (bytes_written W.contents writer.old) (bytes_written W.contents writer.new)
+        (word.now ++ decimal number ++ codes "\n")) }
+    ensures err { OnErr result (AppendsPrefix (bytes_written W.contents writer.old) (bytes_written W.contents writer.new)
+        (word.now ++ decimal number ++ codes "\n")) }
+    ensures failures { OnOk result (write_failures writer.new ≡ write_failures writer.old) }
+    ensures failed { OnErr result (HasRisen (write_failures writer.old) (write_failures writer.new)) }
+    ensures only { IsOkUnless result Stop.WriteFault }
+{
+    let mut digits = Buffer::new();
+    writer.write_all(word)?;
+    writer.write_all(digits.format(number).as_bytes())?;
+    writer.write_all(b"\n")
+}

@@ -1,5 +1,0 @@
-use Rattle.al_contents.proofs.Inside.{expression_faults_lie}
-use Rattle.al_contents.proofs.law.all_lie_in_file.Goals as goal
-
-pub returns : goal.returns
-returns c size kind known root w f = expression_faults_lie size kind known root w f

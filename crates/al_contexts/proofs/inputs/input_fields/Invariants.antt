@@ -1,9 +1,0 @@
-use Rattle.std.proofs.Common.{◌≡◌, ◌++◌, drop, map}
-use Rattle.al_types.specs.Private.TypeParts.{field_of}
-use Rattle.al_shape.specs.Values.{member_of}
-use Rattle.al_contexts.specs.Inputs.{input_field}
-use Rattle.al_contexts.proofs.inputs.input_fields.Given as goal
-
-abbrev pub invariant-loop-input : goal.invariant-loop-input
-invariant-loop-input l =
-    map field_of l.fields.items ++ map input_field (map member_of (drop l.input-index l.declared)) ≡ map input_field (map member_of l.declared)

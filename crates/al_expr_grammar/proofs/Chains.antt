@@ -1,0 +1,194 @@
+-- Negations, paths and chains of operators beside the table.
+use Rattle.std.proofs.Common.{◌≡◌, ◌≢◌, ℕ, zero, suc, ◌+◌, ◌<◌, List, [], ◌∷◌, ◌++◌, length, refl, sym, ap, ◌∙◌, arith, subst, Result, Ok, Err}
+use Rattle.std.specs.Prelude.{MatchResult}
+use Rattle.al_expr_grammar.specs.declared.token.Operator.{Operator}
+use Rattle.al_expr_grammar.specs.declared.token.Operator.TheVariants as op
+use Rattle.al_base.specs.declared.faults.Span.{Span}
+use Rattle.al_expr_grammar.specs.declared.token.TokenKind.{TokenKind}
+use Rattle.al_expr_grammar.specs.declared.token.TokenKind.TheVariants.{Bang, Infix}
+use Rattle.al_expr_grammar.specs.declared.parser.ParseError.{ParseError}
+use Rattle.al_expr_grammar.specs.declared.parser.ParseError.TheVariants as error
+use Rattle.al_expr_grammar.specs.Lexeme.{Lexeme, lexeme, kinds}
+use Rattle.al_expr_grammar.specs.Tree.{Sign, sign, Tree, Negated, Path, Chain, StepTree, steps_of, operands_of, path_of, chain_of}
+use Rattle.al_expr_grammar.specs.Grammar.{Binary, Unary, Postfix, Primary, level_of, below, single, chain, positive, negated, bare, path}
+use Rattle.al_expr_grammar.specs.Grammar.{Operators, no_more, one_more, Walks, arrived, to_property, to_keyword, to_all, to_each, to_index}
+use Rattle.al_expr_grammar.specs.Table.{Verdict, TooDeep, E, O, Frame, outside, scan}
+use Rattle.al_expr_grammar.specs.Private.Parsed.{StartsAt, Goes, EndsPath, EndsLevel, Stops, Parsed, Refused, PartOfChain, PartOfPath, StepRead, StepRefused, NoOperator}
+use Rattle.al_expr_grammar.proofs.Rules.{not_deeper, too_deep, settled, same_length, refused_map, path_refused_map}
+
+-- a negation
+pub not_read : (room inner : ℕ) (b : List ℕ) (s : Span) (ts rest : List Lexeme) (t : Tree) → inner + 1 ≡ room → Parsed Unary inner ts t rest
+    → Parsed Unary room (lexeme Bang b s ∷ ts) (Negated s t) rest
+not_read room inner b s ts rest t e p = record {
+  derives = negated p.derives;
+  goes = λ k st a h. not_deeper (k + outside st) _ _ (omega arith) ∙ p.goes (suc k) st tt (omega arith) ∙ settled (suc k) k st (kinds rest) p.stops;
+  stops = p.stops;
+  shorter = let short = p.shorter in omega arith;
+}
+
+pub not_refused : (room inner : ℕ) (b : List ℕ) (s : Span) (ts : List Lexeme) (e : ParseError) → inner + 1 ≡ room → Refused Unary inner ts e → Refused Unary room (lexeme Bang b s ∷ ts) e
+not_refused room inner b s ts e one r = refused_map Unary Unary inner room ts (lexeme Bang b s ∷ ts) e (λ v g k st a h. not_deeper (k + outside st) _ _ (omega arith) ∙ g (suc k) st tt (omega arith)) r
+
+pub not_deep : (b : List ℕ) (s : Span) (ts : List Lexeme) → Refused Unary 0 (lexeme Bang b s ∷ ts) (error.TooDeep (suc (length ts)))
+not_deep b s ts = λ k st a h. too_deep (k + outside st) _ _ (omega arith) ∙ ap (λ n. TooDeep (suc n)) (same_length ts)
+
+-- An operand without a negation is a level of its own.
+pub positive_read : (room : ℕ) (ts rest : List Lexeme) (t : Tree) → Parsed Postfix room ts t rest → Parsed Unary room ts t rest
+positive_read room ts rest t p = record { derives = positive p.derives; goes = p.goes; stops = p.stops; shorter = p.shorter }
+
+pub positive_refused : (room : ℕ) (ts : List Lexeme) (e : ParseError) → Refused Postfix room ts e → Refused Unary room ts e
+positive_refused room ts e r = refused_map Postfix Unary room room ts ts e (λ v g k st a h. g k st tt h) r
+
+-- paths
+pub bare_read : (room : ℕ) (ts rest : List Lexeme) (t : Tree) → Parsed Primary room ts t rest → EndsPath (kinds rest) → Parsed Postfix room ts t rest
+bare_read room ts rest t p ends = record { derives = bare p.derives; goes = p.goes; stops = ends; shorter = p.shorter }
+
+pub path_read : (room : ℕ) (ts mid rest : List Lexeme) (t : Tree) (s : StepTree) (ss : List StepTree) → Parsed Primary room ts t mid
+    → PartOfPath room mid (s ∷ ss) rest → EndsPath (kinds rest) → Parsed Postfix room ts (Path t (steps_of (s ∷ ss))) rest
+path_read room ts mid rest t s ss p w ends = record {
+  derives = path p.derives w.derives;
+  goes = λ k st a h. p.goes k st a h ∙ w.goes k st h;
+  stops = ends;
+  shorter = let a = p.shorter in let b = w.shorter in omega arith;
+}
+
+pub walks_append : (ts mid : List Lexeme) (ss : List StepTree) (s : StepTree) (rest : List Lexeme) → Walks ts ss mid
+    → ((more : List StepTree) (after : List Lexeme) → Walks rest more after → Walks mid (s ∷ more) after) → Walks ts (ss ++ s ∷ []) rest
+walks_append ts mid ss s rest arrived one = one [] _ arrived
+walks_append ts mid ss s rest (to_property w) one = to_property (walks_append _ _ _ s rest w one)
+walks_append ts mid ss s rest (to_keyword w) one = to_keyword (walks_append _ _ _ s rest w one)
+walks_append ts mid ss s rest (to_all w) one = to_all (walks_append _ _ _ s rest w one)
+walks_append ts mid ss s rest (to_each w) one = to_each (walks_append _ _ _ s rest w one)
+walks_append ts mid ss s rest (to_index d w) one = to_index d (walks_append _ _ _ s rest w one)
+
+pub path_begins : (room : ℕ) (ts : List Lexeme) → PartOfPath room ts [] ts
+path_begins room ts = record { derives = arrived; goes = λ k st h. refl; shorter = omega arith }
+
+pub path_goes_on : (room : ℕ) (ts mid rest : List Lexeme) (ss : List StepTree) (s : StepTree) → PartOfPath room ts ss mid → StepRead room mid s rest → PartOfPath room ts (ss ++ s ∷ []) rest
+path_goes_on room ts mid rest ss s w r = record {
+  derives = walks_append ts mid ss s rest w.derives r.derives;
+  goes = λ k st h. w.goes k st h ∙ r.goes k st h;
+  shorter = let a = w.shorter in let b = r.shorter in omega arith;
+}
+
+walks_none : {ts rest : List Lexeme} {ss : List StepTree} → Walks ts ss rest → ss ≡ [] → ts ≡ rest
+walks_none arrived e = refl
+walks_none (to_property w) e = cc
+walks_none (to_keyword w) e = cc
+walks_none (to_all w) e = cc
+walks_none (to_each w) e = cc
+walks_none (to_index d w) e = cc
+
+pub steps_read : (room : ℕ) (ts mid rest : List Lexeme) (t : Tree) (ss : List StepTree) → Parsed Primary room ts t mid
+    → PartOfPath room mid ss rest → EndsPath (kinds rest) → Parsed Postfix room ts (path_of t ss) rest
+steps_read room ts mid rest t [] p w ends = bare_read room ts rest t (subst (λ m. Parsed Primary room ts t m) (walks_none w.derives refl) p) ends
+steps_read room ts mid rest t (s ∷ ss) p w ends = path_read room ts mid rest t s ss p w ends
+
+-- what a path begins with is refused
+pub base_refused : (room : ℕ) (ts : List Lexeme) (e : ParseError) → Refused Primary room ts e → Refused Postfix room ts e
+base_refused room ts e r = refused_map Primary Postfix room room ts ts e (λ v g k st a h. g k st tt h) r
+
+-- a step of a path is refused
+pub path_refused : (room : ℕ) (ts mid left : List Lexeme) (t : Tree) (ss : List StepTree) (e : ParseError) → Parsed Primary room ts t mid
+    → PartOfPath room mid ss left → StepRefused room left e → Refused Postfix room ts e
+path_refused room ts mid left t ss e p w r = path_refused_map Postfix room room left ts e (λ v g k st a h. p.goes k st tt h ∙ w.goes k st h ∙ g k st h) r
+
+-- chains of operators
+not_looser : (l : ℕ) (o : Operator) → level_of o < suc l → level_of o ≢ l → level_of o < l
+not_looser l o h n = omega (arith, h, n)
+
+at_most_three : (o : Operator) → level_of o < 4
+at_most_three op.Or = omega arith
+at_most_three op.And = omega arith
+at_most_three op.Equal = omega arith
+at_most_three op.NotEqual = omega arith
+at_most_three op.Less = omega arith
+at_most_three op.LessEqual = omega arith
+at_most_three op.Greater = omega arith
+at_most_three op.GreaterEqual = omega arith
+
+looser : (l : ℕ) (ts : List TokenKind) → EndsLevel (suc l) ts → NoOperator l ts → EndsLevel l ts
+looser l [] h n = tt
+looser l (Infix o ∷ ts) h n = not_looser l o h n
+looser l (t ∷ ts) h n = h
+
+tightest : (ts : List TokenKind) → EndsPath ts → NoOperator 3 ts → EndsLevel 3 ts
+tightest [] h n = tt
+tightest (Infix o ∷ ts) h n = not_looser 3 o (at_most_three o) n
+tightest (t ∷ ts) h n = h
+
+pub ends_below : (l : ℕ) (ts : List TokenKind) → l < 4 → Stops (below l) ts → NoOperator l ts → EndsLevel l ts
+ends_below zero ts h s n = looser 0 ts s n
+ends_below (suc zero) ts h s n = looser 1 ts s n
+ends_below (suc (suc zero)) ts h s n = looser 2 ts s n
+ends_below (suc (suc (suc zero))) ts h s n = tightest ts s n
+ends_below (suc (suc (suc (suc l)))) ts h s n = absurd (omega arith)
+
+pub starts_below : (l : ℕ) → StartsAt (below l) 0
+starts_below zero = refl
+starts_below (suc zero) = refl
+starts_below (suc (suc zero)) = refl
+starts_below (suc (suc (suc l))) = tt
+
+-- from the start of a chain, where no negation is open
+from_start : (l room : ℕ) (ts : List Lexeme) (v : ℕ → List Frame → Verdict) → ((st : List Frame) → outside st + room ≡ 50 → scan E 0 st (kinds ts) ≡ v 0 st) → Goes (Binary l) room ts v
+from_start l room ts v g k st a h = subst (λ j. j + outside st + room ≡ 50 → scan E j st (kinds ts) ≡ v j st) (sym a) (λ f. g st (omega arith)) h
+
+pub single_read : (l room : ℕ) (ts rest : List Lexeme) (t : Tree) → l < 4 → Parsed (below l) room ts t rest → NoOperator l (kinds rest) → Parsed (Binary l) room ts t rest
+single_read l room ts rest t h p never = record {
+  derives = single p.derives;
+  goes = from_start l room ts (λ k st. scan O k st (kinds rest)) (λ st f. p.goes 0 st (starts_below l) (omega arith));
+  stops = ends_below l (kinds rest) h p.stops never;
+  shorter = p.shorter;
+}
+
+pub chain_read : (l room : ℕ) (ts mid rest : List Lexeme) (t : Tree) (o : Sign × Tree) (os : List (Sign × Tree)) → l < 4
+    → Parsed (below l) room ts t mid → PartOfChain l room mid (o ∷ os) rest → Stops (below l) (kinds rest) → NoOperator l (kinds rest)
+    → Parsed (Binary l) room ts (Chain t (operands_of (o ∷ os))) rest
+chain_read l room ts mid rest t o os h p c s never = record {
+  derives = chain p.derives c.derives;
+  goes = from_start l room ts (λ k st. scan O k st (kinds rest)) (λ st f. p.goes 0 st (starts_below l) (omega arith) ∙ c.goes st f);
+  stops = ends_below l (kinds rest) h s never;
+  shorter = let a = p.shorter in let b = c.shorter in omega arith;
+}
+
+pub operators_append : (l : ℕ) (ts mid : List Lexeme) (os : List (Sign × Tree)) (o : Sign × Tree) (rest : List Lexeme)
+    → Operators l ts os mid → Operators l mid (o ∷ []) rest → Operators l ts (os ++ o ∷ []) rest
+operators_append l ts mid os o rest no_more one = one
+operators_append l ts mid os o rest (one_more e d w) one = one_more e d (operators_append l _ mid _ o rest w one)
+
+pub chain_begins : (l room : ℕ) (ts : List Lexeme) → PartOfChain l room ts [] ts
+chain_begins l room ts = record { derives = no_more; goes = λ st h. refl; shorter = omega arith }
+
+pub chain_goes_on : (l room : ℕ) (ts inner rest : List Lexeme) (os : List (Sign × Tree)) (o : Operator) (b : List ℕ) (s : Span) (t : Tree)
+    → PartOfChain l room ts os (lexeme (Infix o) b s ∷ inner) → level_of o ≡ l → Parsed (below l) room inner t rest
+    → PartOfChain l room ts (os ++ (sign o s, t) ∷ []) rest
+chain_goes_on l room ts inner rest os o b s t c lv p = record {
+  derives = operators_append l ts (lexeme (Infix o) b s ∷ inner) os (sign o s, t) rest c.derives (one_more lv p.derives no_more);
+  goes = λ st h. c.goes st h ∙ p.goes 0 st (starts_below l) (omega arith);
+  shorter = let a = c.shorter in let d = p.shorter in omega arith;
+}
+
+operators_none : {l : ℕ} {ts rest : List Lexeme} {os : List (Sign × Tree)} → Operators l ts os rest → os ≡ [] → ts ≡ rest
+operators_none no_more e = refl
+operators_none (one_more a d w) e = cc
+
+pub operands_read : (l room : ℕ) (ts mid rest : List Lexeme) (t : Tree) (os : List (Sign × Tree)) → l < 4 → Parsed (below l) room ts t mid
+    → PartOfChain l room mid os rest → Stops (below l) (kinds rest) → NoOperator l (kinds rest)
+    → Parsed (Binary l) room ts (chain_of t os) rest
+operands_read l room ts mid rest t [] h p c s never = single_read l room ts rest t h (subst (λ m. Parsed (below l) room ts t m) (operators_none c.derives refl) p) never
+operands_read l room ts mid rest t (o ∷ os) h p c s never = chain_read l room ts mid rest t o os h p c s never
+
+-- an operand of a chain is refused, the first or a later one
+pub first_refused : (l room : ℕ) (ts : List Lexeme) (e : ParseError) → Refused (below l) room ts e → Refused (Binary l) room ts e
+first_refused l room ts e r = refused_map (below l) (Binary l) room room ts ts e (λ v g. from_start l room ts (λ k st. v) (λ st f. g 0 st (starts_below l) (omega arith))) r
+
+pub later_refused : (l room : ℕ) (ts mid inner : List Lexeme) (t : Tree) (os : List (Sign × Tree)) (o : Operator) (b : List ℕ) (s : Span)
+    (e : ParseError) → Parsed (below l) room ts t mid → PartOfChain l room mid os (lexeme (Infix o) b s ∷ inner)
+    → Refused (below l) room inner e → Refused (Binary l) room ts e
+later_refused l room ts mid inner t os o b s e p c r = refused_map (below l) (Binary l) room room inner ts e
+    (λ v g. from_start l room ts (λ k st. v) (λ st f. p.goes 0 st (starts_below l) (omega arith) ∙ c.goes st f ∙ g 0 st (starts_below l) (omega arith))) r
+
+pub either_way : {A F : Type 0} (P P' : A → Type 0) (Q Q' : F → Type 0) (r : Result A F) → ((a : A) → P a → P' a) → ((e : F) → Q e → Q' e) → MatchResult r P Q → MatchResult r P' Q'
+either_way P P' Q Q' (Ok a) f g h = f a h
+either_way P P' Q Q' (Err e) f g h = g e h

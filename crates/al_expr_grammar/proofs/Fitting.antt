@@ -1,0 +1,161 @@
+-- A token that is read lies in the bytes, and its last byte is ASCII, so that a character ends with it.
+use Rattle.std.proofs.Common.{◌≡◌, ◌<◌, ◌≤◌, ◌+◌, ◌-◌, ℕ, zero, suc, List, [], ◌∷◌, length, length-drop, add-zero, inl, inr, ◌⊎◌, drop}
+use Rattle.std.proofs.Common.{refl, subst, arith, Bool, true, false, cond, ◌&&◌, nat_eq, max, Option, Some, None}
+use Rattle.std.proofs.lemmas.Bool.Decides.{nat_tests}
+use Rattle.std.proofs.lemmas.List.{get_or-drop}
+use Rattle.std.proofs.lemmas.List.Sums.{prefix_len_passes, prefix_len-le-length}
+use Rattle.std.specs.Prelude.{slice_index}
+use Rattle.al_base.specs.FirstBytes.{begins_with, first_is}
+use Rattle.al_expr_grammar.specs.Tokens.{is_digit, is_hex_digit, is_sign, begins_name, goes_on_name, run, with_digits, hex_len, fraction_len}
+use Rattle.al_expr_grammar.specs.Tokens.{exponent_len, decimal_tail, decimal_len, unsigned_len, number_len, add_to, text_tail}
+use Rattle.al_expr_grammar.specs.Private.TextTails.{after_byte, tail_from}
+use Rattle.al_expr_grammar.proofs.TextTails.{tail_is}
+use Rattle.al_expr_grammar.specs.Private.TokenStates.{Fits}
+use Rattle.al_expr_grammar.specs.Tokens.{text_read, number_read, name_read}
+
+-- Where it isn't empty, a part of so many bytes at the front lies in them and ends with an ASCII byte.
+pub record Ends (bs : List ℕ) (n : ℕ) : Type 0 where
+  within : n ≤ length bs
+  last : 0 < n → slice_index bs (n - 1) < 128
+
+nothing : (bs : List ℕ) → Ends bs 0
+nothing bs = record { within = omega arith; last = λ h. absurd (omega arith) }
+
+max_is : (x y : ℕ) → (max x y ≡ x) ⊎ (max x y ≡ y)
+max_is x y = grind arith
+
+-- one part behind another
+further : (bs : List ℕ) (k m : ℕ) → Ends bs k → Ends (drop k bs) m → Ends bs (k + m)
+further bs k zero a b = rw add-zero a
+further bs k (suc m) a b =
+    let within : suc m ≤ length (drop k bs) = b.within in
+    let e : (k + suc m) - 1 ≡ k + (suc m - 1) = omega arith in
+    let last : slice_index (drop k bs) (suc m - 1) < 128 = b.last (omega arith) in
+    let far : k ≤ length bs = a.within in
+    record { within = omega (arith, length-drop k bs); last = λ h. rw (e, ← get_or-drop k bs (suc m - 1) 0) last }
+
+digit_ascii : (b : ℕ) → is_digit b ≡ true → b < 128
+digit_ascii b h = grind (arith, nat_tests)
+
+hex_ascii : (b : ℕ) → is_hex_digit b ≡ true → b < 128
+hex_ascii b h = grind (arith, nat_tests)
+
+name_ascii : (b : ℕ) → goes_on_name b ≡ true → b < 128
+name_ascii b h = grind (arith, nat_tests)
+
+name_goes_on : (b : ℕ) → begins_name b ≡ true → goes_on_name b ≡ true
+name_goes_on b h = grind (arith, nat_tests)
+
+run_ends : (p : ℕ → Bool) (bs : List ℕ) → ((b : ℕ) → p b ≡ true → b < 128) → Ends bs (run p bs)
+run_ends p bs f = record {
+  within = prefix_len-le-length p bs;
+  last = λ h. f _ (prefix_len_passes p bs (run p bs - 1) 0 (omega arith));
+}
+
+-- a part that is there only with a digit
+with_ends : (bs : List ℕ) (lead d : ℕ) → lead ≤ length bs → Ends (drop lead bs) d → Ends bs (with_digits lead d)
+with_ends bs lead zero h e = nothing bs
+with_ends bs lead (suc d) h e =
+    let within : suc d ≤ length (drop lead bs) = e.within in
+    let i : (lead + suc d) - 1 ≡ lead + (suc d - 1) = omega arith in
+    let last : slice_index (drop lead bs) (suc d - 1) < 128 = e.last (omega arith) in
+    record { within = omega (arith, length-drop lead bs); last = λ h. rw (i, ← get_or-drop lead bs (suc d - 1) 0) last }
+
+either : (bs : List ℕ) (t : Bool) (x y : ℕ) → (t ≡ true → Ends bs x) → Ends bs y → Ends bs (cond t x y)
+either bs true x y f g = f refl
+either bs false x y f g = g
+
+one_byte : (p : ℕ → Bool) (bs : List ℕ) → first_is p bs ≡ true → 1 ≤ length bs
+one_byte p [] h = absurd cc
+one_byte p (b ∷ bs) h = omega arith
+
+begun : (c : ℕ) (bs : List ℕ) → begins_with c bs ≡ true → 1 ≤ length bs
+begun c [] h = absurd cc
+begun c (b ∷ bs) h = omega arith
+
+two_begun : (c d : ℕ) (bs : List ℕ) → (begins_with c bs && begins_with d (drop 1 bs)) ≡ true → 2 ≤ length bs
+two_begun c d [] h = absurd cc
+two_begun c d (b ∷ []) h = absurd (grind arith)
+two_begun c d (b ∷ e ∷ bs) h = omega arith
+
+fraction_ends : (bs : List ℕ) → Ends bs (fraction_len bs)
+fraction_ends bs = either bs _ _ _ (λ h. with_ends bs 1 _ (begun _ bs h) (run_ends is_digit (drop 1 bs) digit_ascii)) (nothing bs)
+
+signed_ends : (bs : List ℕ) → 1 ≤ length bs → Ends bs (cond (first_is is_sign (drop 1 bs)) (with_digits 2 (run is_digit (drop 2 bs))) (with_digits 1 (run is_digit (drop 1 bs))))
+signed_ends bs h = either bs _ _ _
+    (λ s. with_ends bs 2 _ (let n = one_byte _ (drop 1 bs) s in omega (arith, n, length-drop 1 bs))
+    (run_ends is_digit (drop 2 bs) digit_ascii)) (with_ends bs 1 _ h (run_ends is_digit (drop 1 bs) digit_ascii))
+
+exponent_ends : (bs : List ℕ) → Ends bs (exponent_len bs)
+exponent_ends bs = either bs _ _ _ (λ h. signed_ends bs (one_byte _ bs h)) (nothing bs)
+
+hex_ends : (bs : List ℕ) → Ends bs (hex_len bs)
+hex_ends bs = either bs _ _ _ (λ h. with_ends bs 2 _ (two_begun _ _ bs h) (run_ends is_hex_digit (drop 2 bs) hex_ascii)) (nothing bs)
+
+tail_ends : (bs : List ℕ) → Ends bs (decimal_tail bs)
+tail_ends bs = further bs (fraction_len bs) _ (fraction_ends bs) (exponent_ends (drop (fraction_len bs) bs))
+
+decimal_ends : (bs : List ℕ) → Ends bs (decimal_len bs)
+decimal_ends bs = either bs _ _ _ (λ h. further bs (run is_digit bs) _ (run_ends is_digit bs digit_ascii) (tail_ends (drop (run is_digit bs) bs))) (nothing bs)
+
+greater : (bs : List ℕ) (x y : ℕ) → Ends bs x → Ends bs y → Ends bs (max x y)
+greater bs x y a b = elim (max_is x y) [ inl e ↦ rw e a | inr e ↦ rw e b ]
+
+unsigned_ends : (bs : List ℕ) → Ends bs (unsigned_len bs)
+unsigned_ends bs = greater bs (hex_len bs) (decimal_len bs) (hex_ends bs) (decimal_ends bs)
+
+number_ends : (bs : List ℕ) → Ends bs (number_len bs)
+number_ends bs = either bs _ _ _ (λ h. with_ends bs 1 _ (one_byte _ bs h) (unsigned_ends (drop 1 bs))) (unsigned_ends bs)
+
+number_fits_at : (bs : List ℕ) (n : ℕ) → Ends bs n → Fits bs (number_read n)
+number_fits_at bs zero e = tt
+number_fits_at bs (suc n) e = (omega arith, e.within, e.last (omega arith))
+
+pub number_fits : (bs : List ℕ) → Fits bs (number_read (number_len bs))
+number_fits bs = number_fits_at bs (number_len bs) (number_ends bs)
+
+pub name_fits : (b : ℕ) (bs : List ℕ) → begins_name b ≡ true → Fits (b ∷ bs) (name_read (b ∷ bs))
+name_fits b bs h =
+    let e = run_ends goes_on_name (b ∷ bs) name_ascii in
+    let g = name_goes_on b h in
+    let some : 0 < run goes_on_name (b ∷ bs) = rw g (omega arith) in
+    (some, e.within, e.last some)
+
+-- The bytes of a text lie in these, and the last one is a quote, where no quote came last before.
+abbrev TailEnds : Bool → List ℕ → Option ℕ → Type 0
+TailEnds quote bs None = Unit {0}
+TailEnds quote bs (Some n) = (n ≤ length bs) × (0 < n → slice_index bs (n - 1) ≡ 39) × (quote ≡ false → 0 < n)
+
+one_more : (quote q : Bool) (b : ℕ) (bs : List ℕ) (o : Option ℕ) → (q ≡ true → b ≡ 39) → TailEnds q bs o → TailEnds quote (b ∷ bs) (add_to 1 o)
+one_more quote q b bs None f e = tt
+one_more quote true b bs (Some zero) f e = (omega arith, (λ h. f refl), (λ h. omega arith))
+one_more quote false b bs (Some zero) f e = absurd (let h : 0 < 0 = e.2 refl in omega arith)
+one_more quote q b bs (Some (suc m)) f e =
+    let i : (1 + suc m) - 1 ≡ suc m = omega arith in
+    let j : suc m - 1 ≡ m = omega arith in
+    let last : slice_index bs (suc m - 1) ≡ 39 = e.1 (omega arith) in
+    (omega (arith, e.0), (λ h. rw i (rw j at last)), (λ h. omega arith))
+
+quote_is : (b : ℕ) → nat_eq b 39 ≡ true → b ≡ 39
+quote_is b h = grind (arith, nat_tests)
+
+stays : (quote t : Bool) (b : ℕ) (bs : List ℕ) → (t ≡ true → b ≡ 39) → ((q : Bool) → TailEnds q bs (tail_from q bs)) → TailEnds quote (b ∷ bs) (after_byte quote t (λ q. tail_from q bs))
+stays false t b bs f g = one_more false t b bs (tail_from t bs) f (g t)
+stays true true b bs f g = one_more true false b bs (tail_from false bs) (λ e. absurd cc) (g false)
+stays true false b bs f g = (omega arith, (λ h. absurd (omega arith)), (λ e. absurd cc))
+
+tail_ends_at : (bs : List ℕ) (quote : Bool) → TailEnds quote bs (tail_from quote bs)
+tail_ends_at [] false = tt
+tail_ends_at [] true = (omega arith, (λ h. absurd (omega arith)), (λ e. absurd cc))
+tail_ends_at (b ∷ bs) quote = stays quote (nat_eq b 39) b bs (quote_is b) (λ q. tail_ends_at bs q)
+
+text_fits_at : (bs : List ℕ) (o : Option ℕ) → TailEnds false bs o → Fits (39 ∷ bs) (text_read o)
+text_fits_at bs None e = tt
+text_fits_at bs (Some n) e =
+    let some : 0 < n = e.2 refl in
+    let i : (1 + n) - 1 ≡ suc (n - 1) = omega arith in
+    let last : slice_index bs (n - 1) ≡ 39 = e.1 some in
+    (omega arith, omega (arith, e.0), rw (i, last) (omega arith))
+
+pub text_fits : (bs : List ℕ) → Fits (39 ∷ bs) (text_read (text_tail bs))
+text_fits bs = text_fits_at bs (text_tail bs) (subst (TailEnds false bs) (tail_is bs) (tail_ends_at bs false))

@@ -1,0 +1,366 @@
+-- Chunks, tokens, trees and faults lie in the text or content that they were found in.
+use Rattle.std.proofs.Common.{◌≡◌, ◌<◌, ◌≤◌, ◌+◌, ◌-◌, ℕ, zero, suc, List, [], ◌∷◌, length, drop, refl, sym, subst, arith, Bool, true, false, cond, nat_lt, Option, Some, None}
+use Rattle.std.specs.List.{AllByRecursion}
+use Rattle.std.specs.Option.{option_map, option_to_list}
+use Rattle.std.proofs.lemmas.Bool.Decides.{nat_tests}
+use Rattle.std.proofs.lemmas.List.Sums.{prefix_len-le-length}
+use Rattle.al_base.specs.Spans.{LiesIn}
+use Rattle.al_base.specs.declared.faults.Fault.{Fault}
+use Rattle.al_base.specs.declared.faults.Span.{Span}
+use Rattle.al_expr_grammar.specs.declared.chunk.Move.{Move}
+use Rattle.al_expr_grammar.specs.declared.chunk.Move.TheVariants.{On, End}
+use Rattle.al_expr_grammar.specs.declared.chunk.ChunkState.{ChunkState}
+use Rattle.al_expr_grammar.specs.declared.chunk.ChunkState.TheVariants.{Outside, Inside, Quoted}
+use Rattle.al_expr_grammar.specs.declared.lexer.Read.{Read}
+use Rattle.al_expr_grammar.specs.declared.lexer.Read.TheVariants.{Blank, Token, BadCharacter, OpenText}
+use Rattle.al_expr_grammar.specs.declared.token.TokenKind.{TokenKind}
+use Rattle.al_expr_grammar.specs.Chunks.{Chunked, chunks_of, closes, opens}
+use Rattle.al_expr_grammar.specs.Private.TokenStates.{continue_with, tokens_from}
+use Rattle.al_expr_grammar.specs.Private.ChunkStates.{chunks_from, end_fault, move, moved}
+use Rattle.al_expr_grammar.proofs.ChunkLemmas.{states_give}
+use Rattle.al_expr_grammar.proofs.Chunking.{third_is}
+use Rattle.al_expr_grammar.specs.Extents.{start_of, end_of, end_of_steps, end_of_operands}
+use Rattle.al_expr_grammar.specs.Grammar.{Nonterminal, Derives, single, chain, positive, negated, bare, path, constant, number, text, name}
+use Rattle.al_expr_grammar.specs.Grammar.{call_empty, call, group, Operators, no_more, one_more, Walks, arrived, to_property, to_keyword, to_all}
+use Rattle.al_expr_grammar.specs.Grammar.{to_each, to_index, Lists, listed, and_next}
+use Rattle.al_expr_grammar.specs.Inside.{AllLie}
+use Rattle.al_expr_grammar.specs.Lexeme.{Lexeme, lexeme, kinds}
+use Rattle.al_expr_grammar.specs.Refusal.{fault_at, fault_of_content, fault_of_lexed, fault_of_tokens, fault_of_verdict, open_text}
+use Rattle.al_expr_grammar.specs.Table.{Verdict, Fine, Early, Unexpected, TooDeep, verdict_of}
+use Rattle.al_base.specs.FirstBytes.{first_is}
+use Rattle.al_expr_grammar.specs.Tokens.{Lexed, AllRead, Bad, Unclosed, if_none}
+use Rattle.al_expr_grammar.specs.Tokens.{is_inside, is_quote, last_place, last_quote, read}
+use Rattle.al_expr_grammar.specs.Tokens.{span, then_token, tokens_of}
+use Rattle.al_expr_grammar.specs.Tree as tree
+use Rattle.al_expr_grammar.specs.Tree.{Sign, sign, Tree, Constant, Named, Call, Group, Negated, Path, Chain, Steps, NoStep, PropertyThen}
+use Rattle.al_expr_grammar.specs.Tree.{AllThen, IndexThen, StepTree, Operands, NoOperand, OperandThen, Arguments, NoArgument, ArgumentThen}
+use Rattle.al_expr_grammar.specs.Tree.{steps_of, operands_of, arguments_of}
+use Rattle.al_expr_grammar.proofs.Reading.{Short, read_short}
+use Rattle.al_expr_grammar.proofs.Splitting.{tokens_are}
+
+-- ---- tokens lie in their content, one behind another
+
+module _ (size : ℕ) where
+  abbrev pub TokensLie : ℕ → List Lexeme → Type 0
+  TokensLie low [] = Unit {0}
+  TokensLie low (lexeme k b s ∷ ts) = (low ≤ s.start) × LiesIn size s × TokensLie s.start ts
+
+  abbrev LexedLies : ℕ → Lexed → Type 0
+  LexedLies low (AllRead ts) = TokensLie low ts
+  LexedLies low (Bad s) = LiesIn size s
+  LexedLies low Unclosed = Unit {0}
+
+  pub weaker : (low high : ℕ) (ts : List Lexeme) → low ≤ high → TokensLie high ts → TokensLie low ts
+  weaker low high [] h l = tt
+  weaker low high (lexeme k b s ∷ ts) h l = let there = l.0 in (omega (arith, h, there), l.1, l.2)
+
+  weaker_lexed : (low high : ℕ) (r : Lexed) → low ≤ high → LexedLies high r → LexedLies low r
+  weaker_lexed low high (AllRead ts) h l = weaker low high ts h l
+  weaker_lexed low high (Bad s) h l = l
+  weaker_lexed low high Unclosed h l = tt
+
+  then_lies : (k : TokenKind) (b : List ℕ) (s : Span) (r : Lexed) → LiesIn size s → LexedLies s.start r → LexedLies s.start (then_token (lexeme k b s) r)
+  then_lies k b s (AllRead ts) i l = (omega arith, i, l)
+  then_lies k b s (Bad t) i l = l
+  then_lies k b s Unclosed i l = tt
+
+  continued : (r : Read) (at b : ℕ) (bs : List ℕ) (go : ℕ → Lexed) → at + length (b ∷ bs) ≤ size → Short (b ∷ bs) r →
+      ((skip : ℕ) → LexedLies (at + 1) (go skip)) → LexedLies at (continue_with r at (b ∷ bs) go)
+  continued Blank at b bs go room short ih = weaker_lexed at (at + 1) (go 0) (omega arith) (ih 0)
+  continued BadCharacter at b bs go room short ih =
+      let within = prefix_len-le-length is_inside bs in
+      record { ordered = omega arith; inside = omega (arith, within, room) }
+  continued OpenText at b bs go room short ih = tt
+  continued (Token k n) at b bs go room short ih =
+      then_lies k _ (span at (at + n)) (go (n - 1)) (record { ordered = omega arith; inside = omega (arith, room, short.1) })
+      (weaker_lexed at (at + 1) (go (n - 1)) (omega arith) (ih (n - 1)))
+
+  lexed_lies : (bs : List ℕ) (skip at : ℕ) → at + length bs ≤ size → LexedLies at (tokens_from skip at bs)
+  lexed_lies [] skip at room = tt
+  lexed_lies (b ∷ bs) (suc skip) at room =
+      weaker_lexed at (at + 1) (tokens_from skip (at + 1) bs) (omega arith) (lexed_lies bs skip (at + 1) (omega (arith, room)))
+  lexed_lies (b ∷ bs) zero at room =
+      continued (read (b ∷ bs)) at b bs (λ skip. tokens_from skip (at + 1) bs) room (read_short b bs) (λ skip. lexed_lies bs skip (at + 1) (omega (arith, room)))
+
+  -- ---- trees lie in their content, each part behind where the tree begins
+
+  abbrev mutual
+    pub TreeLies : ℕ → Tree → Type 0
+    TreeLies low (Constant w s) = (low ≤ s.start) × LiesIn size s
+    TreeLies low (tree.Number b s) = (low ≤ s.start) × LiesIn size s
+    TreeLies low (tree.Text b s) = (low ≤ s.start) × LiesIn size s
+    TreeLies low (Named b s) = (low ≤ s.start) × LiesIn size s
+    TreeLies low (Call b s as' e) = (low ≤ s.start) × LiesIn size s × ArgumentsLie s.start as' × (s.start ≤ e.start) × LiesIn size e
+    TreeLies low (Group t s e) = (low ≤ s.start) × LiesIn size s × TreeLies s.start t × (s.start ≤ e.start) × LiesIn size e
+    TreeLies low (Negated s t) = (low ≤ s.start) × LiesIn size s × TreeLies s.start t
+    TreeLies low (Path t ss) = TreeLies low t × StepsLie (start_of t) ss
+    TreeLies low (Chain t os) = TreeLies low t × OperandsLie (start_of t) os
+
+    pub StepsLie : ℕ → Steps → Type 0
+    StepsLie low NoStep = Unit {0}
+    StepsLie low (PropertyThen d b s ss) = (low ≤ d.start) × LiesIn size d × (d.start ≤ s.start) × LiesIn size s × StepsLie low ss
+    StepsLie low (AllThen a b ss) = (low ≤ a.start) × LiesIn size a × (a.start ≤ b.start) × LiesIn size b × StepsLie low ss
+    StepsLie low (IndexThen a t b ss) = (low ≤ a.start) × LiesIn size a × TreeLies low t × (a.start ≤ b.start) × LiesIn size b × StepsLie low ss
+
+    pub OperandsLie : ℕ → Operands → Type 0
+    OperandsLie low NoOperand = Unit {0}
+    OperandsLie low (OperandThen (sign o s) t os) = LiesIn size s × TreeLies low t × OperandsLie low os
+
+    pub ArgumentsLie : ℕ → Arguments → Type 0
+    ArgumentsLie low NoArgument = Unit {0}
+    ArgumentsLie low (ArgumentThen t ts) = TreeLies low t × ArgumentsLie low ts
+
+  pub record Extends (low start end : ℕ) : Type 0 where
+    pub from : low ≤ start
+    pub ordered : start ≤ end
+    pub inside : end ≤ size
+
+  at_span : (low : ℕ) (s : Span) → (low ≤ s.start) × LiesIn size s → Extends low s.start s.end
+  at_span low s l = record { from = l.0; ordered = (l.1).ordered; inside = (l.1).inside }
+
+  up_to : (low : ℕ) (s e : Span) → low ≤ s.start → s.start ≤ e.start → LiesIn size e → Extends low s.start e.end
+  up_to low s e from between l = let o : e.start ≤ e.end = l.ordered in record { from = from; ordered = omega (arith, between, o); inside = l.inside }
+
+  mutual
+    pub tree_extent : (t : Tree) (low : ℕ) → TreeLies low t → Extends low (start_of t) (end_of t)
+    tree_extent (Constant w s) low l = at_span low s l
+    tree_extent (tree.Number b s) low l = at_span low s l
+    tree_extent (tree.Text b s) low l = at_span low s l
+    tree_extent (Named b s) low l = at_span low s l
+    tree_extent (Call b s as' e) low l = up_to low s e l.0 l.3 l.4
+    tree_extent (Group t s e) low l = up_to low s e l.0 l.3 l.4
+    tree_extent (Negated s t) low l = let x = tree_extent t s.start l.2 in let a = x.from in let b = x.ordered in record { from = l.0; ordered = omega (arith, a, b); inside = x.inside }
+    tree_extent (Path t ss) low l =
+        let x = tree_extent t low l.0 in
+        let y = steps_extent ss (start_of t) (end_of t) x.ordered x.inside l.1 in
+        record { from = x.from; ordered = y.0; inside = y.1 }
+    tree_extent (Chain t os) low l =
+        let x = tree_extent t low l.0 in
+        let y = operands_extent os (start_of t) (end_of t) x.ordered x.inside l.1 in
+        record { from = x.from; ordered = y.0; inside = y.1 }
+
+    steps_extent : (ss : Steps) (low n : ℕ) → low ≤ n → n ≤ size → StepsLie low ss → (low ≤ end_of_steps n ss) × (end_of_steps n ss ≤ size)
+    steps_extent NoStep low n h i l = (h, i)
+    steps_extent (PropertyThen d b s ss) low n h i l =
+        let a = l.0 in let c = l.2 in let e : s.start ≤ s.end = (l.3).ordered in steps_extent ss low s.end (omega (arith, a, c, e)) (l.3).inside l.4
+    steps_extent (AllThen a b ss) low n h i l =
+        let f = l.0 in let c = l.2 in let e : b.start ≤ b.end = (l.3).ordered in steps_extent ss low b.end (omega (arith, f, c, e)) (l.3).inside l.4
+    steps_extent (IndexThen a t b ss) low n h i l =
+        let f = l.0 in let c = l.3 in let e : b.start ≤ b.end = (l.4).ordered in steps_extent ss low b.end (omega (arith, f, c, e)) (l.4).inside l.5
+
+    operands_extent : (os : Operands) (low n : ℕ) → low ≤ n → n ≤ size → OperandsLie low os → (low ≤ end_of_operands n os) × (end_of_operands n os ≤ size)
+    operands_extent NoOperand low n h i l = (h, i)
+    operands_extent (OperandThen (sign o s) t os) low n h i l =
+        let x = tree_extent t low l.1 in let a = x.from in let b = x.ordered in operands_extent os low (end_of t) (omega (arith, a, b)) x.inside l.2
+
+  -- The tokens of a tree are followed by tokens behind where the tree begins.
+  mutual
+    pub derives_lie : {p : Nonterminal} {ts rest : List Lexeme} {t : Tree} → Derives p ts t rest → (low : ℕ) → TokensLie low ts → TreeLies low t × TokensLie (start_of t) rest
+    derives_lie (single d) low l = derives_lie d low l
+    derives_lie (chain d w) low l = let x = derives_lie d low l in let y = operators_lie w _ x.1 in ((x.0, y.0), y.1)
+    derives_lie (positive d) low l = derives_lie d low l
+    derives_lie (negated {s = s} {rest = rest} {t = t} d) low l =
+        let x = derives_lie d s.start l.2 in
+        let there = tree_extent t s.start x.0 in
+        ((l.0, l.1, x.0), weaker s.start (start_of t) rest there.from x.1)
+    derives_lie (bare d) low l = derives_lie d low l
+    derives_lie (path d w) low l = let x = derives_lie d low l in let y = walks_lie w _ x.1 in ((x.0, y.0), y.1)
+    derives_lie constant low l = ((l.0, l.1), l.2)
+    derives_lie number low l = ((l.0, l.1), l.2)
+    derives_lie text low l = ((l.0, l.1), l.2)
+    derives_lie name low l = ((l.0, l.1), l.2)
+    derives_lie (call_empty {s = s} {u = u} {e = e} {rest = rest}) low l =
+        let o = l.2 in
+        let c = o.2 in
+        let before : s.start ≤ e.start = omega (arith, o.0, c.0) in
+        ((l.0, l.1, tt, before, c.1), weaker s.start e.start rest before c.2)
+    derives_lie (call {s = s} {u = u} {e = e} {ts = ts} {mid = mid} {rest = rest} {t = t} d w) low l =
+        let o = l.2 in
+        let x = derives_lie d s.start (weaker s.start u.start ts o.0 o.2) in
+        let there = tree_extent t s.start x.0 in
+        let y = lists_lie w s.start (weaker s.start (start_of t) mid there.from x.1) in
+        let c = y.1 in
+        ((l.0, l.1, (x.0, y.0), c.0, c.1), weaker s.start e.start rest c.0 c.2)
+    derives_lie (group {s = s} {e = e} {rest = rest} {t = t} d) low l =
+        let x = derives_lie d s.start l.2 in
+        let there = tree_extent t s.start x.0 in
+        let c = x.1 in
+        let before : s.start ≤ e.start = let a = there.from in let b = c.0 in omega (arith, a, b) in
+        ((l.0, l.1, x.0, before, c.1), weaker s.start e.start rest before c.2)
+
+    operators_lie : {n : ℕ} {ts rest : List Lexeme} {os : List (Sign × Tree)} → Operators n ts os rest → (low : ℕ) → TokensLie low ts → OperandsLie low (operands_of os) × TokensLie low rest
+    operators_lie no_more low l = (tt, l)
+    operators_lie (one_more {s = s} {ts = ts} {mid = mid} {t = t} e d w) low l =
+        let x = derives_lie d low (weaker low s.start ts l.0 l.2) in
+        let there = tree_extent t low x.0 in
+        let y = operators_lie w low (weaker low (start_of t) mid there.from x.1) in
+        ((l.1, x.0, y.0), y.1)
+
+    walks_lie : {ts rest : List Lexeme} {ss : List StepTree} → Walks ts ss rest → (low : ℕ) → TokensLie low ts → StepsLie low (steps_of ss) × TokensLie low rest
+    walks_lie arrived low l = (tt, l)
+    walks_lie (to_property {s = s} {d = d} {ts = ts} w) low l =
+        let n = l.2 in let y = walks_lie w low (weaker low s.start ts (omega (arith, l.0, n.0)) n.2) in ((l.0, l.1, n.0, n.1, y.0), y.1)
+    walks_lie (to_keyword {s = s} {d = d} {ts = ts} w) low l =
+        let n = l.2 in let y = walks_lie w low (weaker low s.start ts (omega (arith, l.0, n.0)) n.2) in ((l.0, l.1, n.0, n.1, y.0), y.1)
+    walks_lie (to_all {s = s} {d = d} {ts = ts} w) low l =
+        let n = l.2 in let y = walks_lie w low (weaker low s.start ts (omega (arith, l.0, n.0)) n.2) in ((l.0, l.1, n.0, n.1, y.0), y.1)
+    walks_lie (to_each {s = s} {d = d} {e = e} {ts = ts} w) low l =
+        let n = l.2 in
+        let m = n.2 in
+        let y = walks_lie w low (weaker low e.start ts (omega (arith, l.0, n.0, m.0)) m.2) in
+        ((l.0, l.1, omega (arith, n.0, m.0), m.1, y.0), y.1)
+    walks_lie (to_index {s = s} {e = e} {ts = ts} {mid = mid} {t = t} d w) low l =
+        let x = derives_lie d s.start l.2 in
+        let there = tree_extent t s.start x.0 in
+        let c = x.1 in
+        let before : s.start ≤ e.start = let a = there.from in let b = c.0 in omega (arith, a, b) in
+        let y = walks_lie w low (weaker low e.start mid (omega (arith, l.0, before)) c.2) in
+        ((l.0, l.1, (derives_lie d low (weaker low s.start ts l.0 l.2)).0, before, c.1, y.0), y.1)
+
+    lists_lie : {ts rest : List Lexeme} {more : List Tree} → Lists ts more rest → (low : ℕ) → TokensLie low ts → ArgumentsLie low (arguments_of more) × TokensLie low rest
+    lists_lie listed low l = (tt, l)
+    lists_lie (and_next {s = s} {ts = ts} {mid = mid} {t = t} d w) low l =
+        let x = derives_lie d low (weaker low s.start ts l.0 l.2) in
+        let there = tree_extent t low x.0 in
+        let y = lists_lie w low (weaker low (start_of t) mid there.from x.1) in
+        ((x.0, y.0), y.1)
+
+  -- ---- the fault of a content
+
+  at_token : (make : Span → List ℕ → Fault) → ((s : Span) (b : List ℕ) → LiesIn size s → LiesIn size (make s b).span) →
+      (n low : ℕ) (ts : List Lexeme) → TokensLie low ts → AllLie size (option_to_list (fault_at make (drop n ts)))
+  at_token make keeps zero low [] l = tt
+  at_token make keeps (suc n) low [] l = tt
+  at_token make keeps zero low (lexeme k b s ∷ ts) l = (keeps s b l.1, tt)
+  at_token make keeps (suc n) low (lexeme k b s ∷ ts) l = at_token make keeps n s.start ts l.2
+
+  verdict_lies : (ts : List Lexeme) (v : Verdict) → TokensLie 0 ts → AllLie size (option_to_list (fault_of_verdict size ts v))
+  verdict_lies ts Fine l = tt
+  verdict_lies ts Early l = (record { ordered = omega arith; inside = omega arith }, tt)
+  verdict_lies ts (Unexpected left) l = at_token _ (λ s b i. i) (length ts - left) 0 ts l
+  verdict_lies ts (TooDeep left) l = at_token _ (λ s b i. i) (length ts - left) 0 ts l
+
+-- ---- the last quote
+
+abbrev IsBelow : ℕ → Option ℕ → Type 0
+IsBelow n None = Unit {0}
+IsBelow n (Some q) = q < n
+
+either_below : (n : ℕ) (a b : Option ℕ) → IsBelow n a → IsBelow n b → IsBelow n (if_none a b)
+either_below n None b h i = i
+either_below n (Some q) b h i = h
+
+here_below : (t : Bool) (n at : ℕ) → at < n → IsBelow n (cond t (Some at) None)
+here_below true n at h = h
+here_below false n at h = tt
+
+further_below : (n : ℕ) (o : Option ℕ) → IsBelow n o → IsBelow (suc n) (option_map suc o)
+further_below n None h = tt
+further_below n (Some q) h = omega (arith, h)
+
+last_below : (p : ℕ → Bool) (bs : List ℕ) → IsBelow (length bs) (last_place p bs)
+last_below p [] = tt
+last_below p (b ∷ bs) =
+    either_below (suc (length bs)) (option_map suc (last_place p bs)) (cond (p b) (Some 0) None)
+    (further_below (length bs) (last_place p bs) (last_below p bs)) (here_below (p b) (suc (length bs)) 0 (omega arith))
+
+quote_lies : (n : ℕ) (o : Option ℕ) → IsBelow n o → AllLie n (option_to_list (open_text o))
+quote_lies n None h = tt
+quote_lies n (Some q) h = (record { ordered = omega arith; inside = omega (arith, h) }, tt)
+
+unclosed_lies : (content : List ℕ) → AllLie (length content) (option_to_list (open_text (last_quote content)))
+unclosed_lies content = quote_lies (length content) (last_quote content) (last_below is_quote content)
+
+lexed_fault : (content : List ℕ) (r : Lexed) → LexedLies (length content) 0 r → AllLie (length content) (option_to_list (fault_of_lexed content r))
+lexed_fault content (AllRead ts) l = tt
+lexed_fault content (Bad s) l = (l, tt)
+lexed_fault content Unclosed l = unclosed_lies content
+
+tokens_fault : (content : List ℕ) (r : Lexed) → LexedLies (length content) 0 r → AllLie (length content) (option_to_list (fault_of_tokens content r))
+tokens_fault content (AllRead ts) l = verdict_lies (length content) ts (verdict_of (kinds ts)) l
+tokens_fault content (Bad s) l = (l, tt)
+tokens_fault content Unclosed l = unclosed_lies content
+
+content_lexed : (content : List ℕ) → LexedLies (length content) 0 (tokens_of content)
+content_lexed content =
+    subst (LexedLies (length content) 0) (sym (tokens_are (length content) 0 content (omega arith))) (lexed_lies (length content) content 0 0 (omega arith))
+
+pub token_fault_lies : (content : List ℕ) → AllLie (length content) (option_to_list (fault_of_lexed content (tokens_of content)))
+token_fault_lies content = lexed_fault content (tokens_of content) (content_lexed content)
+
+too_long : (t : Bool) (size : ℕ) (f : Fault) (o : Option Fault) → (t ≡ true → LiesIn size f.span) → AllLie size (option_to_list o) → AllLie size (option_to_list (cond t (Some f) o))
+too_long true size f o h l = (h refl, tt)
+too_long false size f o h l = l
+
+some_byte : (n : ℕ) → nat_lt 21000 n ≡ true → LiesIn n (span 0 1)
+some_byte n h = let more : 21000 < n = grind (arith, nat_tests) in record { ordered = omega arith; inside = omega (arith, more) }
+
+pub content_fault_lies : (content : List ℕ) → AllLie (length content) (option_to_list (fault_of_content content))
+content_fault_lies content =
+    too_long (nat_lt 21000 (length content)) (length content) _ (fault_of_tokens content (tokens_of content)) (some_byte (length content))
+    (tokens_fault content (tokens_of content) (content_lexed content))
+
+-- the tokens of a content, where they are all read
+pub tokens_lie : (content : List ℕ) (ts : List Lexeme) → tokens_of content ≡ AllRead ts → TokensLie (length content) 0 ts
+tokens_lie content ts e = subst (LexedLies (length content) 0) e (content_lexed content)
+
+-- a tree that the first of a content's tokens spell
+pub tree_lies : {p : Nonterminal} {rest : List Lexeme} (content : List ℕ) (ts : List Lexeme) (t : Tree) → tokens_of content ≡ AllRead ts → Derives p ts t rest → TreeLies (length content) 0 t
+tree_lies content ts t e d = (derives_lie (length content) d 0 (tokens_lie content ts e)).0
+
+pub extent_lies : (size : ℕ) (t : Tree) → TreeLies size 0 t → LiesIn size (span (start_of t) (end_of t))
+extent_lies size t l = let x = tree_extent size t 0 l in record { ordered = x.ordered; inside = x.inside }
+
+-- ---- chunks
+
+module _ (size : ℕ) where
+  abbrev Stands : ℕ → ChunkState → Type 0
+  Stands at Outside = Unit {0}
+  Stands at (Inside start) = (start ≤ at) × (start ≤ size)
+  Stands at (Quoted start quote) = (start ≤ at) × (start ≤ size) × (quote < size)
+
+  abbrev Leads : ℕ → Move → Type 0
+  Leads at (On skip w) = Stands (at + 1 + skip) w
+  Leads at (End start) = start ≤ at
+
+  abbrev ChunkedLies : Chunked → Type 0
+  ChunkedLies c = AllByRecursion (λ (s : Span). LiesIn size s) c.chunks × AllLie size (option_to_list c.fault)
+
+  end_lies : (w : ChunkState) (at : ℕ) → Stands at w → AllLie size (option_to_list (end_fault w))
+  end_lies Outside at s = tt
+  end_lies (Inside start) at s = (record { ordered = omega arith; inside = s.1 }, tt)
+  end_lies (Quoted start quote) at s = let q = s.2 in (record { ordered = omega arith; inside = omega (arith, q) }, tt)
+
+  if_leads : (at : ℕ) (t : Bool) (x y : Move) → (t ≡ true → Leads at x) → Leads at y → Leads at (cond t x y)
+  if_leads at true x y a b = a refl
+  if_leads at false x y a b = b
+
+  move_leads : (w : ChunkState) (at b : ℕ) (bs : List ℕ) → at + length (b ∷ bs) ≤ size → Stands at w → Leads at (move w at (b ∷ bs))
+  move_leads Outside at b bs room s =
+      if_leads at (opens (b ∷ bs)) (On 2 (Inside (at + 3))) (On 0 Outside) (λ e. let t = (third_is (b ∷ bs) e).0 in (omega arith, omega (arith, t, room))) tt
+  move_leads (Inside start) at b bs room s =
+      let h = s.0 in
+      if_leads at (first_is is_quote (b ∷ bs)) (On 0 (Quoted start at)) (cond (closes (b ∷ bs)) (End start) (On 0 (Inside start))) (λ e. (omega (arith, h), s.1, omega (arith, room)))
+      (if_leads at (closes (b ∷ bs)) (End start) (On 0 (Inside start)) (λ e. h) (omega (arith, h), s.1))
+  move_leads (Quoted start quote) at b bs room s =
+      let h = s.0 in
+      if_leads at (first_is is_quote (b ∷ bs)) (On 0 (Inside start)) (On 0 (Quoted start quote)) (λ e. (omega (arith, h), s.1)) (omega (arith, h), s.1, s.2)
+
+  moved_lies : (m : Move) (at : ℕ) (go : ℕ → ChunkState → Chunked) → at ≤ size → Leads at m →
+      ((skip : ℕ) (w : ChunkState) → Stands (at + 1 + skip) w → ChunkedLies (go skip w)) → ChunkedLies (moved m at go)
+  moved_lies (On skip w) at go room l ih = ih skip w l
+  moved_lies (End start) at go room l ih = let x = ih 1 Outside tt in ((record { ordered = l; inside = room }, x.0), x.1)
+
+  chunked_lies : (bs : List ℕ) (skip : ℕ) (w : ChunkState) (at : ℕ) → at + length bs ≤ size → Stands (at + skip) w → ChunkedLies (chunks_from skip w at bs)
+  chunked_lies [] skip w at room s = (tt, end_lies w (at + skip) s)
+  chunked_lies (b ∷ bs) (suc skip) w at room s =
+      let e : at + suc skip ≡ (at + 1) + skip = omega arith in
+      chunked_lies bs skip w (at + 1) (omega (arith, room)) (subst (λ n. Stands n w) e s)
+  chunked_lies (b ∷ bs) zero w at room s =
+      let e : at + 0 ≡ at = omega arith in
+      moved_lies (move w at (b ∷ bs)) at (λ skip v. chunks_from skip v (at + 1) bs) (omega (arith, room))
+      (move_leads w at b bs room (subst (λ n. Stands n w) e s))
+      (λ skip v t. chunked_lies bs skip v (at + 1) (omega (arith, room)) t)
+
+pub chunks_lie : (text : List ℕ) → AllByRecursion (λ (s : Span). LiesIn (length text) s) (chunks_of text).chunks × AllLie (length text) (option_to_list (chunks_of text).fault)
+chunks_lie bytes = subst (ChunkedLies (length bytes)) (states_give bytes) (chunked_lies (length bytes) bytes 0 Outside 0 (omega arith) tt)

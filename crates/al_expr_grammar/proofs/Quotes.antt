@@ -1,0 +1,90 @@
+-- A text that is never closed has a quote.
+use Rattle.std.proofs.Common.{◌≡◌, ◌≢◌, ◌-◌, ◌+◌, ℕ, zero, suc, List, [], ◌∷◌, length, arith, refl, sym, ◌∙◌, Bool, true, false, cond, Option, Some, None}
+use Rattle.std.specs.Prelude.{option_map}
+use Rattle.al_expr_grammar.specs.declared.lexer.Read.{Read}
+use Rattle.al_expr_grammar.specs.declared.lexer.Read.TheVariants.{Blank, Token, BadCharacter, OpenText}
+use Rattle.al_expr_grammar.specs.declared.token.TokenKind.{TokenKind}
+use Rattle.al_expr_grammar.specs.Lexeme.{Lexeme}
+use Rattle.al_expr_grammar.specs.Tokens.{Lexed, AllRead, Bad, Unclosed, read, mark, number_read, number_len, or_equal, doubled, tokens_of}
+use Rattle.al_expr_grammar.specs.Tokens.{is_quote, last_quote, then_token, if_none}
+use Rattle.al_expr_grammar.specs.Private.TokenStates.{continue_with, tokens_from}
+use Rattle.al_expr_grammar.proofs.Splitting.{tokens_are}
+
+apart : (t : Bool) (x y : Read) → x ≢ OpenText → y ≢ OpenText → cond t x y ≢ OpenText
+apart true x y f g = f
+apart false x y f g = g
+
+token : (k : TokenKind) (n : ℕ) → Token k n ≢ OpenText
+token k n e = cc
+
+equal_apart : (t : Bool) (k j : TokenKind) → or_equal t k j ≢ OpenText
+equal_apart true k j e = cc
+equal_apart false k j e = cc
+
+doubled_apart : (t : Bool) (k : TokenKind) → doubled t k ≢ OpenText
+doubled_apart true k e = cc
+doubled_apart false k e = cc
+
+number_apart : (n : ℕ) → number_read n ≢ OpenText
+number_apart zero e = cc
+number_apart (suc n) e = cc
+
+bad_apart : BadCharacter ≢ OpenText
+bad_apart e = cc
+
+mark_apart : (b : ℕ) (bs : List ℕ) → mark b bs ≢ OpenText
+mark_apart b bs = search (apart, token, equal_apart, doubled_apart, bad_apart) depth 20
+
+quote_or : (t : Bool) (x y : Read) → y ≢ OpenText → cond t x y ≡ OpenText → t ≡ true
+quote_or true x y f e = refl
+quote_or false x y f e = absurd (f e)
+
+other : (t : Bool) (x y : Read) → x ≢ OpenText → cond t x y ≡ OpenText → y ≡ OpenText
+other true x y f e = absurd (f e)
+other false x y f e = e
+
+blank_apart : Blank ≢ OpenText
+blank_apart e = cc
+
+begins_with_quote : (b : ℕ) (bs : List ℕ) → read (b ∷ bs) ≡ OpenText → is_quote b ≡ true
+begins_with_quote b bs e =
+    quote_or _ _ _ (apart _ _ _ (number_apart (number_len (b ∷ bs))) (mark_apart b bs)) (other _ _ _ (token _ _) (other _ _ _ blank_apart e))
+
+some_second : (o : Option ℕ) (n : ℕ) → if_none o (Some n) ≢ None
+some_second None n = λ e. cc
+some_second (Some m) n = λ e. cc
+
+more_tokens : (t : Lexeme) (l : Lexed) → then_token t l ≡ Unclosed → l ≡ Unclosed
+more_tokens t (AllRead ts) e = absurd cc
+more_tokens t (Bad s) e = e
+more_tokens t Unclosed e = e
+
+-- Where what comes first leads to an open text, it is one, or what follows leads there.
+leads : (P : Type 0) (r : Read) (at : ℕ) (bs : List ℕ) (go : ℕ → Lexed) → (r ≡ OpenText → P) → ((skip : ℕ) → go skip ≡ Unclosed → P) → continue_with r at bs go ≡ Unclosed → P
+leads P Blank at bs go here there e = there 0 e
+leads P (Token k n) at bs go here there e = there (n - 1) (more_tokens _ _ e)
+leads P BadCharacter at bs go here there e = absurd cc
+leads P OpenText at bs go here there e = here refl
+
+at_first : (b : ℕ) (bs : List ℕ) → is_quote b ≡ true → last_quote (b ∷ bs) ≢ None
+at_first b bs h = rw h (some_second (option_map suc (last_quote bs)) 0)
+
+behind_first : (o p : Option ℕ) → o ≢ None → if_none (option_map suc o) p ≢ None
+behind_first None p f = absurd (f refl)
+behind_first (Some n) p f = λ e. cc
+
+pub has_quote : (bs : List ℕ) (skip at : ℕ) → tokens_from skip at bs ≡ Unclosed → last_quote bs ≢ None
+has_quote [] skip at e = absurd cc
+has_quote (b ∷ bs) (suc skip) at e = behind_first (last_quote bs) _ (has_quote bs skip (at + 1) e)
+has_quote (b ∷ bs) zero at e =
+    leads (last_quote (b ∷ bs) ≢ None) (read (b ∷ bs)) at (b ∷ bs) (λ skip. tokens_from skip (at + 1) bs)
+    (λ r. at_first b bs (begins_with_quote b bs r))
+    (λ skip f. behind_first (last_quote bs) _ (has_quote bs skip (at + 1) f)) e
+
+none_of : (o : Option ℕ) → ((n : ℕ) → o ≡ Some n → ⊥) → o ≡ None
+none_of None f = refl
+none_of (Some n) f = absurd (f n refl)
+
+-- An open text and no quote are absurd.
+pub quote_found : (content : List ℕ) (o : Option ℕ) → tokens_of content ≡ Unclosed → o ≡ last_quote content → ((n : ℕ) → o ≡ Some n → ⊥) → ⊥
+quote_found content o u e f = has_quote content 0 0 (sym (tokens_are (length content) 0 content (omega arith)) ∙ u) (sym e ∙ none_of o f)

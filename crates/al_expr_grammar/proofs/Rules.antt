@@ -1,0 +1,300 @@
+-- Each rule of the grammar, and each fault, beside the table.
+use Rattle.std.proofs.Common.{◌≡◌, ℕ, suc, ◌+◌, ◌<◌, List, [], ◌∷◌, ◌++◌, length, refl, ap, ◌∙◌, arith, nat_lt, cond}
+use Rattle.al_base.specs.declared.faults.Span.{Span}
+use Rattle.al_expr_grammar.specs.declared.token.TokenKind.{TokenKind}
+use Rattle.al_expr_grammar.specs.declared.token.TokenKind.TheVariants.{Name, Keyword, Number, Text, Open, Close, OpenIndex, CloseIndex, Dot, Comma, Star, Infix}
+use Rattle.al_expr_grammar.specs.declared.parser.ParseError.{ParseError}
+use Rattle.al_expr_grammar.specs.declared.parser.ParseError.TheVariants as error
+use Rattle.al_expr_grammar.specs.Lexeme.{Lexeme, lexeme, kinds}
+use Rattle.al_expr_grammar.specs.Tree as tree
+use Rattle.al_expr_grammar.specs.Tree.{Tree, Named, Property, All, arguments_of}
+use Rattle.al_expr_grammar.specs.Grammar.{Nonterminal, Binary, Primary, level_of}
+use Rattle.al_expr_grammar.specs.Grammar.{name, call_empty, call, group}
+use Rattle.al_expr_grammar.specs.Grammar.{to_property, to_keyword, to_all, to_each, to_index, Lists, listed, and_next}
+use Rattle.al_expr_grammar.specs.Table.{Verdict, Early, Unexpected, TooDeep, E, A, I, S, O, N, Frame, Group, Call, Index, outside, scan}
+use Rattle.al_expr_grammar.specs.Private.Parsed.{Goes, EndsPath, EndsLevel, Parsed, Refused, PartOfCall, StepRead, GoesAfter, StepRefused, fault_at, NoClose}
+use Rattle.al_expr_grammar.proofs.Shape.{NoCall}
+use Rattle.std.proofs.lemmas.Bool.Decides.{nat_tests}
+
+-- one deeper, where there is room
+abbrev pub deeper : ℕ → ℕ → Verdict → Verdict
+deeper n left v = cond (nat_lt n 50) v (TooDeep left)
+
+pub not_deeper : (n left : ℕ) (v : Verdict) → n < 50 → deeper n left v ≡ v
+not_deeper n left v h = grind (arith, nat_tests)
+
+pub too_deep : (n left : ℕ) (v : Verdict) → n ≡ 50 → deeper n left v ≡ TooDeep left
+too_deep n left v h = grind (arith, nat_tests)
+
+pub same_length : (ts : List Lexeme) → length (kinds ts) ≡ length ts
+same_length [] = refl
+same_length (t ∷ ts) = ap suc (same_length ts)
+
+-- Where no path goes on, the negations that stand open don't matter.
+pub settled : (k j : ℕ) (st : List Frame) (ts : List TokenKind) → EndsPath ts → scan O k st ts ≡ scan O j st ts
+settled k j st [] h = refl
+settled k j st (Dot ∷ ts) h = absurd h
+settled k j st (OpenIndex ∷ ts) h = absurd h
+settled k j [] (Close ∷ ts) h = refl
+settled k j (Group i ∷ st) (Close ∷ ts) h = refl
+settled k j (Call i ∷ st) (Close ∷ ts) h = refl
+settled k j (Index i ∷ st) (Close ∷ ts) h = refl
+settled k j [] (CloseIndex ∷ ts) h = refl
+settled k j (Group i ∷ st) (CloseIndex ∷ ts) h = refl
+settled k j (Call i ∷ st) (CloseIndex ∷ ts) h = refl
+settled k j (Index i ∷ st) (CloseIndex ∷ ts) h = refl
+settled k j [] (Comma ∷ ts) h = refl
+settled k j (Group i ∷ st) (Comma ∷ ts) h = refl
+settled k j (Call i ∷ st) (Comma ∷ ts) h = refl
+settled k j (Index i ∷ st) (Comma ∷ ts) h = refl
+settled k j st (t ∷ ts) h = refl
+
+pub uncalled : (k : ℕ) (st : List Frame) (ts : List TokenKind) → NoCall ts → scan N k st ts ≡ scan O k st ts
+uncalled k [] [] h = refl
+uncalled k (f ∷ st) [] h = refl
+uncalled k st (Open ∷ ts) h = absurd h
+uncalled k st (t ∷ ts) h = refl
+
+-- No star comes first.
+abbrev pub NoStar : List TokenKind → Type 0
+NoStar (Star ∷ ts) = ⊥
+NoStar _ = Unit {0}
+
+pub in_call : (k : ℕ) (st : List Frame) (ts : List TokenKind) → NoClose ts → scan A k st ts ≡ scan E k st ts
+in_call k st [] h = refl
+in_call k st (Close ∷ ts) h = absurd h
+in_call k st (t ∷ ts) h = refl
+
+pub in_index : (k : ℕ) (st : List Frame) (ts : List TokenKind) → NoStar ts → scan I k st ts ≡ scan E k st ts
+in_index k st [] h = refl
+in_index k st (Star ∷ ts) h = absurd h
+in_index k st (t ∷ ts) h = refl
+
+pub refused_map : (p q : Nonterminal) (room other : ℕ) (ts us : List Lexeme) (e : ParseError)
+    → ((v : Verdict) → Goes p room ts (λ k st. v) → Goes q other us (λ k st. v)) → Refused p room ts e → Refused q other us e
+refused_map p q room other ts us error.Memory f r = tt
+refused_map p q room other ts us error.Early f r = f Early r
+refused_map p q room other ts us (error.Unexpected n) f r = f (Unexpected n) r
+refused_map p q room other ts us (error.TooDeep n) f r = f (TooDeep n) r
+
+pub step_refused_map : (p : Nonterminal) (room other : ℕ) (ts us : List Lexeme) (e : ParseError)
+    → ((v : Verdict) → Goes p room ts (λ k st. v) → GoesAfter other us v) → Refused p room ts e → StepRefused other us e
+step_refused_map p room other ts us error.Memory f r = tt
+step_refused_map p room other ts us error.Early f r = f Early r
+step_refused_map p room other ts us (error.Unexpected n) f r = f (Unexpected n) r
+step_refused_map p room other ts us (error.TooDeep n) f r = f (TooDeep n) r
+
+pub path_refused_map : (p : Nonterminal) (room other : ℕ) (ts us : List Lexeme) (e : ParseError)
+    → ((v : Verdict) → GoesAfter room ts v → Goes p other us (λ k st. v)) → StepRefused room ts e → Refused p other us e
+path_refused_map p room other ts us error.Memory f r = tt
+path_refused_map p room other ts us error.Early f r = f Early r
+path_refused_map p room other ts us (error.Unexpected n) f r = f (Unexpected n) r
+path_refused_map p room other ts us (error.TooDeep n) f r = f (TooDeep n) r
+
+-- the verdict of a fault at the front
+abbrev pub stray : List Lexeme → Verdict
+stray [] = Early
+stray (t ∷ ts) = Unexpected (length (t ∷ ts))
+
+pub refused_stray : (p : Nonterminal) (room : ℕ) (ts us : List Lexeme) → Goes p room ts (λ k st. stray us) → Refused p room ts (fault_at us)
+refused_stray p room ts [] g = g
+refused_stray p room ts (u ∷ us) g = g
+
+pub step_stray : (room : ℕ) (ts us : List Lexeme) → GoesAfter room ts (stray us) → StepRefused room ts (fault_at us)
+step_stray room ts [] g = g
+step_stray room ts (u ∷ us) g = g
+
+pub unexpected : (ts : List Lexeme) → Unexpected (suc (length (kinds ts))) ≡ Unexpected (suc (length ts))
+unexpected ts = ap (λ n. Unexpected (suc n)) (same_length ts)
+
+-- no closing bracket of an index comes first
+abbrev pub NoCloseIndex : List TokenKind → Type 0
+NoCloseIndex (CloseIndex ∷ ts) = ⊥
+NoCloseIndex _ = Unit {0}
+
+-- neither a comma nor a closing bracket comes first
+abbrev pub EndsArguments : List TokenKind → Type 0
+EndsArguments (Close ∷ ts) = ⊥
+EndsArguments (Comma ∷ ts) = ⊥
+EndsArguments _ = Unit {0}
+
+-- no token that may follow a whole operand inside these brackets
+module _ (k : ℕ) (st : List Frame) where
+  stray_in_group : (us : List Lexeme) → EndsLevel 0 (kinds us) → NoClose (kinds us) → scan O 0 (Group k ∷ st) (kinds us) ≡ stray us
+  stray_in_group [] h c = refl
+  stray_in_group (lexeme Dot b s ∷ us) h c = absurd h
+  stray_in_group (lexeme OpenIndex b s ∷ us) h c = absurd h
+  stray_in_group (lexeme Close b s ∷ us) h c = absurd c
+  stray_in_group (lexeme (Infix o) b s ∷ us) h c = let low : level_of o < 0 = h in absurd (omega (arith, low))
+  stray_in_group (lexeme t b s ∷ us) h c = unexpected us
+
+  stray_in_index : (us : List Lexeme) → EndsLevel 0 (kinds us) → NoCloseIndex (kinds us) → scan O 0 (Index k ∷ st) (kinds us) ≡ stray us
+  stray_in_index [] h c = refl
+  stray_in_index (lexeme Dot b s ∷ us) h c = absurd h
+  stray_in_index (lexeme OpenIndex b s ∷ us) h c = absurd h
+  stray_in_index (lexeme CloseIndex b s ∷ us) h c = absurd c
+  stray_in_index (lexeme (Infix o) b s ∷ us) h c = let low : level_of o < 0 = h in absurd (omega (arith, low))
+  stray_in_index (lexeme t b s ∷ us) h c = unexpected us
+
+  stray_in_call : (us : List Lexeme) → EndsLevel 0 (kinds us) → EndsArguments (kinds us) → scan O 0 (Call k ∷ st) (kinds us) ≡ stray us
+  stray_in_call [] h c = refl
+  stray_in_call (lexeme Dot b s ∷ us) h c = absurd h
+  stray_in_call (lexeme OpenIndex b s ∷ us) h c = absurd h
+  stray_in_call (lexeme Close b s ∷ us) h c = absurd c
+  stray_in_call (lexeme Comma b s ∷ us) h c = absurd c
+  stray_in_call (lexeme (Infix o) b s ∷ us) h c = let low : level_of o < 0 = h in absurd (omega (arith, low))
+  stray_in_call (lexeme t b s ∷ us) h c = unexpected us
+
+-- a literal
+pub constant_read : (room : ℕ) (w : _) (b : List ℕ) (s : Span) (rest : List Lexeme) → Parsed Primary room (lexeme (Keyword w) b s ∷ rest) (tree.Constant w s) rest
+constant_read room w b s rest = record { derives = Rattle.al_expr_grammar.specs.Grammar.constant; goes = λ k st a h. refl; stops = tt; shorter = omega arith }
+
+pub number_read : (room : ℕ) (b : List ℕ) (s : Span) (rest : List Lexeme) → Parsed Primary room (lexeme Number b s ∷ rest) (tree.Number b s) rest
+number_read room b s rest = record { derives = Rattle.al_expr_grammar.specs.Grammar.number; goes = λ k st a h. refl; stops = tt; shorter = omega arith }
+
+pub text_read : (room : ℕ) (b : List ℕ) (s : Span) (rest : List Lexeme) → Parsed Primary room (lexeme Text b s ∷ rest) (tree.Text b s) rest
+text_read room b s rest = record { derives = Rattle.al_expr_grammar.specs.Grammar.text; goes = λ k st a h. refl; stops = tt; shorter = omega arith }
+
+pub name_read : (room : ℕ) (b : List ℕ) (s : Span) (rest : List Lexeme) → NoCall (kinds rest) → Parsed Primary room (lexeme Name b s ∷ rest) (Named b s) rest
+name_read room b s rest never = record { derives = name; goes = λ k st a h. uncalled k st (kinds rest) never; stops = tt; shorter = omega arith }
+
+-- brackets
+module _ (room inner : ℕ) (b : List ℕ) (s : Span) (ts : List Lexeme) (one : inner + 1 ≡ room) where
+  in_group : (k : ℕ) (st : List Frame) → k + outside st + room ≡ 50 → scan E k st (Open ∷ kinds ts) ≡ scan E 0 (Group k ∷ st) (kinds ts)
+  in_group k st h = not_deeper (k + outside st) _ _ (omega arith)
+
+  pub group_read : (c : List ℕ) (e : Span) (rest : List Lexeme) (t : Tree) → Parsed (Binary 0) inner ts t (lexeme Close c e ∷ rest) → Parsed Primary room (lexeme Open b s ∷ ts) (tree.Group t s e) rest
+  group_read c e rest t p = record {
+    derives = group p.derives;
+    goes = λ k st a h. in_group k st h ∙ p.goes 0 (Group k ∷ st) refl (omega arith);
+    stops = tt;
+    shorter = let short = p.shorter in omega arith;
+  }
+
+  pub group_refused : (e : ParseError) → Refused (Binary 0) inner ts e → Refused Primary room (lexeme Open b s ∷ ts) e
+  group_refused e r = refused_map (Binary 0) Primary inner room ts (lexeme Open b s ∷ ts) e (λ v g k st a h. in_group k st h ∙ g 0 (Group k ∷ st) refl (omega arith)) r
+
+  pub group_stray : (mid : List Lexeme) (t : Tree) → Parsed (Binary 0) inner ts t mid → NoClose (kinds mid) → Refused Primary room (lexeme Open b s ∷ ts) (fault_at mid)
+  group_stray mid t p never = refused_stray Primary room (lexeme Open b s ∷ ts) mid (λ k st a h. in_group k st h ∙ p.goes 0 (Group k ∷ st) refl (omega arith) ∙ stray_in_group k st mid p.stops never)
+
+  -- an index
+  to_inside : (k : ℕ) (st : List Frame) → NoStar (kinds ts) → k + outside st + room ≡ 50 → scan O k st (OpenIndex ∷ kinds ts) ≡ scan E 0 (Index k ∷ st) (kinds ts)
+  to_inside k st n h = not_deeper (k + outside st) _ _ (omega arith) ∙ in_index 0 (Index k ∷ st) (kinds ts) n
+
+  pub index_read : (c : List ℕ) (e : Span) (rest : List Lexeme) (t : Tree) → NoStar (kinds ts)
+      → Parsed (Binary 0) inner ts t (lexeme CloseIndex c e ∷ rest) → StepRead room (lexeme OpenIndex b s ∷ ts) (tree.Index s t e) rest
+  index_read c e rest t n p = record {
+    derives = λ ss after w. to_index p.derives w;
+    goes = λ k st h. to_inside k st n h ∙ p.goes 0 (Index k ∷ st) refl (omega arith);
+    shorter = let short = p.shorter in omega arith;
+  }
+
+  pub index_refused : (e : ParseError) → NoStar (kinds ts) → Refused (Binary 0) inner ts e → StepRefused room (lexeme OpenIndex b s ∷ ts) e
+  index_refused e n r = step_refused_map (Binary 0) inner room ts (lexeme OpenIndex b s ∷ ts) e (λ v g k st h. to_inside k st n h ∙ g 0 (Index k ∷ st) refl (omega arith)) r
+
+  pub index_stray : (mid : List Lexeme) (t : Tree) → NoStar (kinds ts) → Parsed (Binary 0) inner ts t mid → NoCloseIndex (kinds mid) → StepRefused room (lexeme OpenIndex b s ∷ ts) (fault_at mid)
+  index_stray mid t n p never = step_stray room (lexeme OpenIndex b s ∷ ts) mid (λ k st h. to_inside k st n h ∙ p.goes 0 (Index k ∷ st) refl (omega arith) ∙ stray_in_index k st mid p.stops never)
+
+-- brackets without room
+pub group_deep : (b : List ℕ) (s : Span) (ts : List Lexeme) → Refused Primary 0 (lexeme Open b s ∷ ts) (error.TooDeep (suc (length ts)))
+group_deep b s ts = λ k st a h. too_deep (k + outside st) _ _ (omega arith) ∙ ap (λ n. TooDeep (suc n)) (same_length ts)
+
+pub index_deep : (b : List ℕ) (s : Span) (ts : List Lexeme) → StepRefused 0 (lexeme OpenIndex b s ∷ ts) (error.TooDeep (suc (length ts)))
+index_deep b s ts = λ k st h. too_deep (k + outside st) _ _ (omega arith) ∙ ap (λ n. TooDeep (suc n)) (same_length ts)
+
+pub call_deep : (b c : List ℕ) (s u : Span) (ts : List Lexeme) → Refused Primary 0 (lexeme Name b s ∷ lexeme Open c u ∷ ts) (error.TooDeep (suc (length ts)))
+call_deep b c s u ts = λ k st a h. too_deep (k + outside st) _ _ (omega arith) ∙ ap (λ n. TooDeep (suc n)) (same_length ts)
+
+-- calls
+pub lists_append : (ts mid rest : List Lexeme) (more : List Tree) (t : Tree) → Lists ts more mid → Lists mid (t ∷ []) rest → Lists ts (more ++ t ∷ []) rest
+lists_append ts mid rest more t listed one = one
+lists_append ts mid rest more t (and_next d w) one = and_next d (lists_append _ mid rest _ t w one)
+
+module _ (room inner : ℕ) (b c : List ℕ) (s u : Span) (ts : List Lexeme) (one : inner + 1 ≡ room) where
+  into_call : (k : ℕ) (st : List Frame) → k + outside st + room ≡ 50 → scan E k st (Name ∷ Open ∷ kinds ts) ≡ scan A 0 (Call k ∷ st) (kinds ts)
+  into_call k st h = not_deeper (k + outside st) _ _ (omega arith)
+
+  pub call_refused : (e : ParseError) → NoClose (kinds ts) → Refused (Binary 0) inner ts e → Refused Primary room (lexeme Name b s ∷ lexeme Open c u ∷ ts) e
+  call_refused e n r = refused_map (Binary 0) Primary inner room ts (lexeme Name b s ∷ lexeme Open c u ∷ ts) e
+      (λ v g k st a h. into_call k st h ∙ in_call 0 (Call k ∷ st) (kinds ts) n ∙ g 0 (Call k ∷ st) refl (omega arith)) r
+
+  module _ (mid : List Lexeme) (t : Tree) (n : NoClose (kinds ts)) (p : Parsed (Binary 0) inner ts t mid) where
+    first_argument : (k : ℕ) (st : List Frame) → k + outside st + room ≡ 50 → scan E k st (Name ∷ Open ∷ kinds ts) ≡ scan O 0 (Call k ∷ st) (kinds mid)
+    first_argument k st h = into_call k st h ∙ in_call 0 (Call k ∷ st) (kinds ts) n ∙ p.goes 0 (Call k ∷ st) refl (omega arith)
+
+    pub call_read : (d : List ℕ) (e : Span) (rest : List Lexeme) (more : List Tree) → PartOfCall inner mid more (lexeme Close d e ∷ rest) →
+        Parsed Primary room (lexeme Name b s ∷ lexeme Open c u ∷ ts) (tree.Call b s (arguments_of (t ∷ more)) e) rest
+    call_read d e rest more w = record {
+      derives = call p.derives w.derives;
+      goes = λ k st a h. first_argument k st h ∙ w.goes k st (omega arith);
+      stops = tt;
+      shorter = let x = p.shorter in let y = w.shorter in omega arith;
+    }
+
+    pub call_stray : (left : List Lexeme) (more : List Tree) → PartOfCall inner mid more left → EndsArguments (kinds left) →
+        Refused Primary room (lexeme Name b s ∷ lexeme Open c u ∷ ts) (fault_at left)
+    call_stray left more w never = refused_stray Primary room (lexeme Name b s ∷ lexeme Open c u ∷ ts) left
+        (λ k st a h. first_argument k st h ∙ w.goes k st (omega arith) ∙ stray_in_call k st left w.stops never)
+
+    pub argument_refused : (d : List ℕ) (x : Span) (us : List Lexeme) (more : List Tree) (e : ParseError) → PartOfCall inner mid more (lexeme Comma d x ∷ us) →
+        Refused (Binary 0) inner us e → Refused Primary room (lexeme Name b s ∷ lexeme Open c u ∷ ts) e
+    argument_refused d x us more e w r = refused_map (Binary 0) Primary inner room us (lexeme Name b s ∷ lexeme Open c u ∷ ts) e
+        (λ v g k st a h. first_argument k st h ∙ w.goes k st (omega arith) ∙ g 0 (Call k ∷ st) refl (omega arith)) r
+
+pub call_empty_read : (room inner : ℕ) (b c d : List ℕ) (s u e : Span) (rest : List Lexeme) → inner + 1 ≡ room →
+    Parsed Primary room (lexeme Name b s ∷ lexeme Open c u ∷ lexeme Close d e ∷ rest) (tree.Call b s (arguments_of []) e) rest
+call_empty_read room inner b c d s u e rest one = record {
+  derives = call_empty;
+  goes = λ k st a h. not_deeper (k + outside st) _ _ (omega arith);
+  stops = tt;
+  shorter = omega arith;
+}
+
+pub arguments_begin : (room : ℕ) (ts : List Lexeme) → EndsLevel 0 (kinds ts) → PartOfCall room ts [] ts
+arguments_begin room ts h = record { derives = listed; goes = λ k st g. refl; stops = h; shorter = omega arith }
+
+pub arguments_go_on : (room : ℕ) (ts us rest : List Lexeme) (b : List ℕ) (s : Span) (more : List Tree) (t : Tree) →
+    PartOfCall room ts more (lexeme Comma b s ∷ us) → Parsed (Binary 0) room us t rest → PartOfCall room ts (more ++ t ∷ []) rest
+arguments_go_on room ts us rest b s more t w p = record {
+  derives = lists_append ts (lexeme Comma b s ∷ us) rest more t w.derives (and_next p.derives listed);
+  goes = λ k st h. w.goes k st h ∙ p.goes 0 (Call k ∷ st) refl (omega arith);
+  stops = p.stops;
+  shorter = let x = w.shorter in let y = p.shorter in omega arith;
+}
+
+-- steps of a path
+pub property_read : (room : ℕ) (b c : List ℕ) (s d : Span) (rest : List Lexeme) → StepRead room (lexeme Dot c d ∷ lexeme Name b s ∷ rest) (Property d b s) rest
+property_read room b c s d rest = record { derives = λ ss after w. to_property w; goes = λ k st h. refl; shorter = omega arith }
+
+pub keyword_read : (room : ℕ) (w : _) (b c : List ℕ) (s d : Span) (rest : List Lexeme) → StepRead room (lexeme Dot c d ∷ lexeme (Keyword w) b s ∷ rest) (Property d b s) rest
+keyword_read room w b c s d rest = record { derives = λ ss after x. to_keyword x; goes = λ k st h. refl; shorter = omega arith }
+
+pub all_read : (room : ℕ) (b c : List ℕ) (s d : Span) (rest : List Lexeme) → StepRead room (lexeme Dot c d ∷ lexeme Star b s ∷ rest) (All d s) rest
+all_read room b c s d rest = record { derives = λ ss after w. to_all w; goes = λ k st h. refl; shorter = omega arith }
+
+pub each_read : (room inner : ℕ) (a b c : List ℕ) (s d e : Span) (rest : List Lexeme) → inner + 1 ≡ room
+    → StepRead room (lexeme OpenIndex c d ∷ lexeme Star b s ∷ lexeme CloseIndex a e ∷ rest) (All d e) rest
+each_read room inner a b c s d e rest one = record { derives = λ ss after w. to_each w; goes = λ k st h. not_deeper (k + outside st) _ _ (omega arith); shorter = omega arith }
+
+-- after a dot neither a name nor a star
+abbrev pub NoProperty : List TokenKind → Type 0
+NoProperty (Name ∷ ts) = ⊥
+NoProperty (Keyword w ∷ ts) = ⊥
+NoProperty (Star ∷ ts) = ⊥
+NoProperty _ = Unit {0}
+
+pub dot_stray : (room : ℕ) (c : List ℕ) (d : Span) (us : List Lexeme) → NoProperty (kinds us) → StepRefused room (lexeme Dot c d ∷ us) (fault_at us)
+dot_stray room c d [] n = λ k st h. refl
+dot_stray room c d (lexeme Name b s ∷ us) n = absurd n
+dot_stray room c d (lexeme (Keyword w) b s ∷ us) n = absurd n
+dot_stray room c d (lexeme Star b s ∷ us) n = absurd n
+dot_stray room c d (lexeme t b s ∷ us) n = λ k st h. unexpected us
+
+after_star : (k : ℕ) (st : List Frame) (us : List Lexeme) → NoCloseIndex (kinds us) → scan S 0 (Index k ∷ st) (kinds us) ≡ stray us
+after_star k st [] n = refl
+after_star k st (lexeme CloseIndex b s ∷ us) n = absurd n
+after_star k st (lexeme t b s ∷ us) n = unexpected us
+
+pub star_stray : (room inner : ℕ) (b c : List ℕ) (s d : Span) (us : List Lexeme) → inner + 1 ≡ room → NoCloseIndex (kinds us)
+    → StepRefused room (lexeme OpenIndex c d ∷ lexeme Star b s ∷ us) (fault_at us)
+star_stray room inner b c s d us one n = step_stray room (lexeme OpenIndex c d ∷ lexeme Star b s ∷ us) us (λ k st h. not_deeper (k + outside st) _ _ (omega arith) ∙ after_star k st us n)

@@ -1,0 +1,25 @@
+-- Byte by byte a text ends where the definition says.
+use Rattle.std.proofs.Common.{◌≡◌, ℕ, List, [], ◌∷◌, Bool, true, false, cond, Option, Some, None, refl, ap, ◌∙◌, arith}
+use Rattle.al_expr_grammar.specs.Tokens.{add_to, is_quote, text_tail}
+use Rattle.al_expr_grammar.specs.Private.TextTails.{after_byte, tail_from}
+
+twice : (o : Option ℕ) → add_to 1 (add_to 1 o) ≡ add_to 2 o
+twice None = refl
+twice (Some n) = ap Some (omega arith)
+
+last_byte : (quote : Bool) → add_to 1 (tail_from quote []) ≡ cond quote (Some 1) None
+last_byte true = refl
+last_byte false = refl
+
+two_bytes : (first second : Bool) (c : ℕ) (bs : List ℕ) (rest behind : Option ℕ) → tail_from false bs ≡ rest
+    → after_byte false second (λ q. tail_from q bs) ≡ behind
+    → add_to 1 (after_byte first second (λ q. tail_from q bs)) ≡ cond first (cond second (add_to 2 rest) (Some 1)) (add_to 1 behind)
+two_bytes true true c bs rest behind e f = twice (tail_from false bs) ∙ ap (add_to 2) e
+two_bytes true false c bs rest behind e f = refl
+two_bytes false second c bs rest behind e f = ap (add_to 1) f
+
+pub tail_is : (bs : List ℕ) → tail_from false bs ≡ text_tail bs
+tail_is [] = refl
+tail_is (b ∷ []) = last_byte (is_quote b)
+tail_is (b ∷ c ∷ bs) =
+    two_bytes (is_quote b) (is_quote c) c bs (text_tail bs) (text_tail (c ∷ bs)) (tail_is bs) (tail_is (c ∷ bs))

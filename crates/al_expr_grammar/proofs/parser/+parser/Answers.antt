@@ -1,0 +1,231 @@
+use Rattle.std.proofs.Common.{map, refl}
+use Rattle.std.proofs.lemmas.List.{map-append}
+use Rattle.std.proofs.lemmas.Result.{err_from_is_err_and}
+use Rattle.al_expr_grammar.specs.Lexeme.{seen}
+use Rattle.al_expr_grammar.proofs.Trees.{tree_of-Keyword, tree_of-Number, tree_of-Text, tree_of-Name, tree_of-Call, tree_of-Group, tree_of-Not, step_of-All, step_of-Index, operand_of-made}
+use Rattle.al_expr_grammar.proofs.Rules.{constant_read, number_read, text_read, name_read, group_read, group_refused, call_empty_read, each_read, index_read, index_refused}
+use Rattle.al_expr_grammar.proofs.Chains.{not_read, positive_read, steps_read, path_begins, path_goes_on, chain_begins, chain_goes_on, operands_read, either_way}
+use Rattle.al_expr_grammar.proofs.Chains.{not_refused, positive_refused, base_refused, path_refused, first_refused, later_refused}
+use Rattle.al_expr_grammar.proofs.Front.{no_call, no_close, no_comma, no_star, group_not_closed, star_not_closed, first_argument_refused, first_argument_read, later_argument_refused}
+use Rattle.al_expr_grammar.proofs.Front.{later_argument_read, call_closed, call_not_closed, index_not_closed}
+use Rattle.al_expr_grammar.proofs.parser.+parser.Goals as goal
+
+pub primary-returns-in_default : goal.primary-returns-in_default
+primary-returns-in_default t c = rw c.in_default.ensures (λ k st a h. refl)
+
+pub primary-returns-in-Open : goal.primary-returns-in-Open
+primary-returns-in-Open t c = rw c.in-Some.ensures c.group.ensures
+
+pub primary-returns-in-Some-after : goal.primary-returns-in-Some-after
+primary-returns-in-Some-after t c = rw (c.in-Some.ensures, c.in-Some-after.ensures.0) c.call.ensures
+
+pub primary-returns-in-Keyword : goal.primary-returns-in-Keyword
+primary-returns-in-Keyword t c = rw (c.in-Some.ensures, c.in-Keyword.is, tree_of-Keyword) (constant_read _ _ _ _ _)
+
+pub primary-returns-in_ok-word-in-Number : goal.primary-returns-in_ok-word-in-Number
+primary-returns-in_ok-word-in-Number t c =
+    let w = c.in_ok-word-in-Number.ensures in
+    rw (c.in-Some.ensures, c.in-Number.is, tree_of-Number, w.text, w.span) (number_read _ _ _ _)
+
+pub primary-returns-in_ok-word-in-Text : goal.primary-returns-in_ok-word-in-Text
+primary-returns-in_ok-word-in-Text t c =
+    let w = c.in_ok-word-in-Text.ensures in
+    rw (c.in-Some.ensures, c.in-Text.is, tree_of-Text, w.text, w.span) (text_read _ _ _ _)
+
+pub primary-returns-in_ok-word-in-None : goal.primary-returns-in_ok-word-in-None
+primary-returns-in_ok-word-in-None t c =
+    let w = c.in_ok-word-in-None.ensures in
+    rw (c.in-Some.ensures, c.in-Name.is, tree_of-Name, w.text, w.span) (name_read _ _ _ _ (no_call _ c.in-None.ensures))
+
+pub group-returns-in_err-expr : goal.group-returns-in_err-expr
+group-returns-in_err-expr t c =
+    let p = err_from_is_err_and c.from_residual-in_err-expr.result c.from_residual-in_err-expr.ensures.1 in
+    rw (p.1, p.2, c.requires)
+    (group_refused c.args.room c.in_ok-inner.inner c.args.bracket.text.now c.args.bracket.span (map seen c.args.tokens.now) c.in_ok-inner.ensures _ c.in_err-expr.ensures)
+
+pub group-returns-in_err-close : goal.group-returns-in_err-close
+group-returns-in_err-close t c =
+    let p = err_from_is_err_and c.from_residual-in_err-close.result c.from_residual-in_err-close.ensures.1 in
+    rw (p.1, p.2, c.requires)
+    (group_not_closed c.args.room c.in_ok-inner.inner c.args.bracket.text.now c.args.bracket.span (map seen c.args.tokens.now) c.in_ok-inner.ensures
+    _ _ _ c.in_ok-expr.ensures c.in_err-close.ensures)
+
+pub group-returns : goal.group-returns
+group-returns t c =
+    let g = c.in_ok-close.ensures in
+    let h = rw (g.0, g.1) at c.in_ok-expr.ensures in
+    rw (c.requires, tree_of-Group, c.in_ok-new.ensures.ok) (group_read _ c.in_ok-inner.inner _ _ _ c.in_ok-inner.ensures _ _ _ _ h)
+
+pub call-returns-in-Some : goal.call-returns-in-Some
+call-returns-in-Some t c =
+    let w = c.in_ok-function.ensures in
+    let g = c.in-Some.ensures in
+    rw (c.requires.name, c.requires.bracket, g.0, g.1, tree_of-Call, w.text, w.span, c.new.ensures.items) (call_empty_read _ c.in_ok-inner.inner _ _ _ _ _ _ _ c.in_ok-inner.ensures)
+
+pub call-returns-in_err-given : goal.call-returns-in_err-given
+call-returns-in_err-given t c =
+    let p = err_from_is_err_and c.from_residual-in_err-given.result c.from_residual-in_err-given.ensures.1 in
+    rw (p.1, p.2, c.requires.name, c.requires.bracket) (c.in_err-given.ensures c.args.room c.args.name.text.now c.args.bracket.text.now c.args.name.span c.args.bracket.span c.in_ok-inner.ensures)
+
+pub call-returns-in_err-close : goal.call-returns-in_err-close
+call-returns-in_err-close t c =
+    let p = err_from_is_err_and c.from_residual-in_err-close.result c.from_residual-in_err-close.ensures.1 in
+    rw (p.1, p.2, c.requires.name, c.requires.bracket)
+    (call_not_closed c.args.room c.in_ok-inner.inner c.args.name.text.now c.args.bracket.text.now c.args.name.span c.args.bracket.span
+    (map seen c.args.tokens.now) c.in_ok-inner.ensures (no_close _ c.in_default.ensures) _ _ _ c.in_ok-given.ensures
+    c.in_err-close.ensures)
+
+pub call-returns : goal.call-returns
+call-returns t c =
+    let w = c.in_ok-function.ensures in
+    let g = c.in_ok-close.ensures in
+    let h = rw (g.0, g.1) at c.in_ok-given.ensures in
+    rw (c.requires.name, c.requires.bracket, tree_of-Call, w.text, w.span)
+    (call_closed _ _ _ _ _ _ _ c.in_ok-inner.ensures (no_close _ c.in_default.ensures) _ _ _ _ h)
+
+pub arguments-returns : goal.arguments-returns
+arguments-returns t c = record { part = c.list.invariant; ends = no_comma _ c.in_default.ensures }
+
+pub arguments-returns-in_err-first : goal.arguments-returns-in_err-first
+arguments-returns-in_err-first t c =
+    let p = err_from_is_err_and c.from_residual.result c.from_residual.ensures.1 in
+    rw (p.1, p.2) (first_argument_refused _ _ _ c.requires c.in_err-first.ensures)
+
+pub arguments-list-init : goal.arguments-list-init
+arguments-list-init t c = rw (c.in_ok-push.ensures.items, c.new-given.ensures.items) (first_argument_read _ _ _ _ c.in_ok-first.ensures)
+
+pub arguments-returns-in_err-argument : goal.arguments-returns-in_err-argument
+arguments-returns-in_err-argument t c =
+    let p = err_from_is_err_and c.from_residual-in_err-argument.result c.from_residual-in_err-argument.ensures.1 in
+    let g = c.in-Some.ensures in
+    let h = rw (g.0, g.1) at c.list.invariant in
+    rw (p.1, p.2) (later_argument_refused _ _ _ _ _ _ _ c.requires h c.in_err-argument.ensures)
+
+pub arguments-list-preserved : goal.arguments-list-preserved
+arguments-list-preserved t c =
+    let g = c.in-Some.ensures in
+    let h = rw (g.0, g.1) at c.list.invariant in
+    rw (c.in_ok-push-2.ensures.items, map-append) (later_argument_read _ _ _ _ _ _ _ _ h c.in_ok-argument.ensures)
+
+pub postfix-returns-in_err-base : goal.postfix-returns-in_err-base
+postfix-returns-in_err-base t c =
+    let p = err_from_is_err_and c.from_residual.result c.from_residual.ensures.1 in
+    rw (p.1, p.2) (base_refused c.args.room (map seen c.args.tokens.now) _ c.in_err-base.ensures)
+
+pub postfix-returns-in_err-taken : goal.postfix-returns-in_err-taken
+postfix-returns-in_err-taken t c =
+    let p = err_from_is_err_and c.from_residual-in_err-taken.result c.from_residual-in_err-taken.ensures.1 in
+    rw (p.1, p.2)
+    (path_refused c.args.room (map seen c.args.tokens.now) _ (map seen c.walk.left.now) _ _ _ c.in_ok-base.ensures c.walk.invariant.so_far c.in_err-taken.ensures)
+
+pub postfix-walk-init : goal.postfix-walk-init
+postfix-walk-init t c = record { same = refl; so_far = rw c.new-steps.ensures.items (path_begins _ _) }
+
+pub postfix-walk-preserved : goal.postfix-walk-preserved
+postfix-walk-preserved t c =
+    let a = c.in_ok-push.ensures.items in
+    let s = rw c.in-Some.is at c.in_ok-taken.ensures in
+    let b = path_goes_on _ _ _ _ _ _ c.walk.invariant.so_far s in
+    record { same = c.walk.invariant.same; so_far = rw (a, map-append) b }
+
+pub postfix-returns : goal.postfix-returns
+postfix-returns t c =
+    let e = rw c.in_default.is at c.in_ok-taken.ensures in
+    rw (c.in_ok-with_steps.ensures, c.walk.invariant.same) (steps_read _ _ _ _ _ _ c.in_ok-base.ensures c.walk.invariant.so_far e)
+
+pub step-returns-in_default : goal.step-returns-in_default
+step-returns-in_default t c = rw c.in_default.ensures tt
+
+pub step-returns-in_err-property-in-Dot : goal.step-returns-in_err-property-in-Dot
+step-returns-in_err-property-in-Dot t c =
+    let p = err_from_is_err_and c.from_residual.result c.from_residual.ensures.1 in
+    rw (p.1, p.2, c.in-Some.ensures) c.in_err-property-in-Dot.ensures
+
+pub step-returns-in_err-index-in-OpenIndex : goal.step-returns-in_err-index-in-OpenIndex
+step-returns-in_err-index-in-OpenIndex t c =
+    let p = err_from_is_err_and c.from_residual-in_err-index-in-OpenIndex.result c.from_residual-in_err-index-in-OpenIndex.ensures.1 in
+    rw (p.1, p.2, c.in-Some.ensures) c.in_err-index-in-OpenIndex.ensures
+
+pub step-returns-in_ok-property-in-Dot : goal.step-returns-in_ok-property-in-Dot
+step-returns-in_ok-property-in-Dot t c = rw c.in-Some.ensures c.in_ok-property-in-Dot.ensures
+
+pub step-returns-in_ok-index-in-OpenIndex : goal.step-returns-in_ok-index-in-OpenIndex
+step-returns-in_ok-index-in-OpenIndex t c = rw c.in-Some.ensures c.in_ok-index-in-OpenIndex.ensures
+
+pub index-returns-in_err-close : goal.index-returns-in_err-close
+index-returns-in_err-close t c =
+    let p = err_from_is_err_and c.from_residual-in_err-close.result c.from_residual-in_err-close.ensures.1 in
+    let g = c.in-Some.ensures in
+    rw (p.1, p.2, c.requires, g.0, g.1)
+    (star_not_closed c.args.room c.in_ok-inner.inner c.in-Some.field-0-0.text.now c.args.bracket.text.now c.in-Some.field-0-0.span
+    c.args.bracket.span (map seen c.in-Some.left.now) _ c.in_ok-inner.ensures c.in_err-close.ensures)
+
+pub index-returns-in-Some : goal.index-returns-in-Some
+index-returns-in-Some t c =
+    let f = c.in-Some.ensures in
+    let g = c.in_ok-close.ensures in
+    rw (c.requires, f.0, f.1, g.0, g.1, step_of-All) (each_read _ c.in_ok-inner.inner _ _ _ _ _ _ _ c.in_ok-inner.ensures)
+
+pub index-returns-in_err-expr : goal.index-returns-in_err-expr
+index-returns-in_err-expr t c =
+    let p = err_from_is_err_and c.from_residual-in_err-expr.result c.from_residual-in_err-expr.ensures.1 in
+    rw (p.1, p.2, c.requires) (index_refused c.args.room c.in_ok-inner.inner c.args.bracket.text.now c.args.bracket.span
+    (map seen c.args.tokens.now) c.in_ok-inner.ensures _ (no_star _ c.in_default.ensures) c.in_err-expr.ensures)
+
+pub index-returns-in_err-close-2 : goal.index-returns-in_err-close-2
+index-returns-in_err-close-2 t c =
+    let p = err_from_is_err_and c.from_residual-in_err-close-2.result c.from_residual-in_err-close-2.ensures.1 in
+    rw (p.1, p.2, c.requires)
+    (index_not_closed c.args.room c.in_ok-inner.inner c.args.bracket.text.now c.args.bracket.span (map seen c.args.tokens.now)
+    c.in_ok-inner.ensures _ _ _ c.in_ok-expr.ensures (no_star _ c.in_default.ensures) c.in_err-close-2.ensures)
+
+pub index-returns : goal.index-returns
+index-returns t c =
+    let g = c.in_ok-close-2.ensures in
+    let h = rw (g.0, g.1) at c.in_ok-expr.ensures in
+    rw (c.requires, step_of-Index) (index_read _ c.in_ok-inner.inner _ _ _ c.in_ok-inner.ensures _ _ _ _ (no_star _ c.in_default.ensures) h)
+
+pub unary-returns-in_err-expr : goal.unary-returns-in_err-expr
+unary-returns-in_err-expr t c =
+    let p = err_from_is_err_and c.from_residual-in_err-expr.result c.from_residual-in_err-expr.ensures.1 in
+    let g = c.in-Some.ensures in
+    rw (p.1, p.2, g.0, g.1)
+    (not_refused c.args.room c.in_ok-within.within c.in-Some.bang.text.now c.in-Some.bang.span (map seen c.in-Some.inner.now) _
+    c.in_ok-within.ensures c.in_err-expr.ensures)
+
+pub unary-returns-in_default : goal.unary-returns-in_default
+unary-returns-in_default t c =
+    either_way _ _ _ _ c.postfix.result (λ x. positive_read c.args.room (map seen c.args.tokens.now) _ _) (λ e. positive_refused c.args.room (map seen c.args.tokens.now) e) c.postfix.ensures
+
+pub unary-returns : goal.unary-returns
+unary-returns t c =
+    let g = c.in-Some.ensures in
+    rw (g.0, g.1, tree_of-Not, c.in_ok-new.ensures.ok) (not_read _ c.in_ok-within.within _ _ _ _ _ c.in_ok-within.ensures c.in_ok-expr.ensures)
+
+pub binary-returns-in_err-first : goal.binary-returns-in_err-first
+binary-returns-in_err-first t c =
+    let p = err_from_is_err_and c.from_residual.result c.from_residual.ensures.1 in
+    rw (p.1, p.2) (first_refused c.args.level c.args.room (map seen c.args.tokens.now) _ c.in_err-first.ensures)
+
+pub binary-returns-in_err-expr : goal.binary-returns-in_err-expr
+binary-returns-in_err-expr t c =
+    let p = err_from_is_err_and c.from_residual-in_err-expr.result c.from_residual-in_err-expr.ensures.1 in
+    let g = c.in-Some.ensures in
+    let h = rw (g.0, g.1) at c.chain.invariant.so_far in
+    rw (p.1, p.2)
+    (later_refused c.args.level c.args.room (map seen c.args.tokens.now) _ (map seen c.in-Some.inner.now) _ _ _ _ _ _ c.in_ok-first.ensures h c.in_err-expr.ensures)
+
+pub binary-chain-init : goal.binary-chain-init
+binary-chain-init t c = record { same = refl; so_far = rw c.new-more.ensures.items (chain_begins _ _ _); stops = c.in_ok-first.ensures.stops }
+
+pub binary-chain-preserved : goal.binary-chain-preserved
+binary-chain-preserved t c =
+    let a = c.in_ok-push.ensures.items in
+    let g = c.in-Some.ensures in
+    let h = rw (g.0, g.1) at c.chain.invariant.so_far in
+    let b = chain_goes_on _ _ _ _ _ _ _ _ _ _ h g.2 c.in_ok-expr.ensures in
+    record { same = c.chain.invariant.same; so_far = rw (a, map-append, operand_of-made) b; stops = c.in_ok-expr.ensures.stops }
+
+pub binary-returns : goal.binary-returns
+binary-returns t c =
+    rw (c.in_ok-with_operands.ensures, c.chain.invariant.same) (operands_read _ _ _ _ _ _ _ c.requires c.in_ok-first.ensures c.chain.invariant.so_far c.chain.invariant.stops c.in_default.ensures)

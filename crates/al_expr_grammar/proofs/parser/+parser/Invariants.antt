@@ -1,0 +1,61 @@
+use Rattle.std.proofs.Common.{◌≡◌, ◌+◌, ◌-◌, ◌*◌, length, map}
+use Rattle.al_expr_grammar.specs.Lexeme.{seen, kinds}
+use Rattle.al_expr_grammar.specs.Private.Parsed.{PartOfChain, PartOfPath, Stops, ArgumentsPart}
+use Rattle.al_expr_grammar.specs.View.{tree_of, step_of, operand_of}
+use Rattle.al_expr_grammar.specs.Grammar.{below}
+use Rattle.al_expr_grammar.proofs.parser.+parser.Given as goal
+
+abbrev pub decreases-binary : goal.decreases-binary
+decreases-binary l = 16 * length (map seen l.tokens.now) + 14 - 2 * l.level
+
+abbrev pub decreases-operand : goal.decreases-operand
+decreases-operand l = 16 * length (map seen l.tokens.now) + 13 - 2 * l.level
+
+abbrev pub decreases-unary : goal.decreases-unary
+decreases-unary l = 16 * length (map seen l.tokens.now) + 6
+
+abbrev pub decreases-postfix : goal.decreases-postfix
+decreases-postfix l = 16 * length (map seen l.tokens.now) + 5
+
+abbrev pub decreases-primary : goal.decreases-primary
+decreases-primary l = 16 * length (map seen l.tokens.now) + 4
+
+abbrev pub decreases-step : goal.decreases-step
+decreases-step l = 16 * length (map seen l.tokens.now) + 4
+
+abbrev pub decreases-call : goal.decreases-call
+decreases-call l = 16 * length (map seen l.tokens.now) + 16
+
+abbrev pub decreases-arguments : goal.decreases-arguments
+decreases-arguments l = 16 * length (map seen l.tokens.now) + 15
+
+abbrev pub decreases-group : goal.decreases-group
+decreases-group l = 16 * length (map seen l.tokens.now) + 15
+
+abbrev pub decreases-index : goal.decreases-index
+decreases-index l = 16 * length (map seen l.tokens.now) + 15
+
+abbrev pub invariant-binary-chain : goal.invariant-binary-chain
+invariant-binary-chain l = record {
+  same : l.first ≡ l.initial.first;
+  so_far : PartOfChain l.level l.room (map seen l.initial.left) (map operand_of l.more.items) (map seen l.left);
+  stops : Stops (below l.level) (kinds (map seen l.left));
+}
+
+abbrev pub decreases-binary-chain : goal.decreases-binary-chain
+decreases-binary-chain l = length (map seen l.left)
+
+abbrev pub invariant-postfix-walk : goal.invariant-postfix-walk
+invariant-postfix-walk l = record {
+  same : l.base ≡ l.initial.base;
+  so_far : PartOfPath l.room (map seen l.initial.left) (map step_of l.steps.items) (map seen l.left);
+}
+
+abbrev pub decreases-postfix-walk : goal.decreases-postfix-walk
+decreases-postfix-walk l = length (map seen l.left)
+
+abbrev pub invariant-arguments-list : goal.invariant-arguments-list
+invariant-arguments-list l = ArgumentsPart l.room (map seen l.fn.tokens) (map tree_of l.given.items) (map seen l.left)
+
+abbrev pub decreases-arguments-list : goal.decreases-arguments-list
+decreases-arguments-list l = length (map seen l.left)

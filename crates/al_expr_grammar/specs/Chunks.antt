@@ -1,0 +1,86 @@
+-- The chunks of a text, `${{ .. }}` (GitHub, "Evaluate expressions in workflows and actions").
+--
+-- A text splits into what stands before its first `${{`, that opening, a content, the closing `}}` and the rest, whose chunks follow. The
+-- closing is the first `}}` outside quotes: an even number of single quotes stands in the content before it. So at most one splitting is
+-- right, and the chunks are the only ones.
+use Rattle.std.specs.Prelude.{◌≡◌, ℕ, zero, suc, ◌+◌, ◌-◌, List, [], ◌∷◌, Bool, true, ◌&&◌, not, if◌then◌else◌, length}
+use Rattle.std.specs.Prelude.{drop, find, slice_range, take, Option, Some, None, option_map}
+use Rattle.std.specs.List.{range_with_len}
+use Rattle.al_base.specs.Ascii as ascii
+use Rattle.al_base.specs.FirstBytes.{begins_with}
+use Rattle.al_base.specs.declared.codes.ExpressionCode.TheVariants as code
+use Rattle.al_base.specs.declared.faults.Fault.{Fault}
+use Rattle.al_base.specs.declared.faults.Span.{Span}
+use Rattle.al_expr_grammar.specs.declared.chunk.Chunk.{Chunk}
+use Rattle.al_expr_grammar.specs.Tokens.{add_to, is_quote, last_quote, span}
+use Rattle.al_expr_grammar.specs.Refusal.{fault, open_text}
+
+-- where the contents of the chunks lie, and what is wrong at the text's end
+pub record Chunked : Type 0 where
+  pub chunks : List Span
+  pub fault : Option Fault
+
+-- `${{`
+abbrev pub opens : List ℕ → Bool
+opens bs = begins_with ascii.dollar bs && begins_with ascii.open_brace (drop 1 bs) && begins_with ascii.open_brace (drop 2 bs)
+
+-- `}}`
+abbrev pub closes : List ℕ → Bool
+closes bs = begins_with ascii.close_brace bs && begins_with ascii.close_brace (drop 1 bs)
+
+-- Behind these bytes of a content no quote is open: their number of quotes is even.
+abbrev pub is_outside_quotes : List ℕ → Bool
+is_outside_quotes [] = true
+is_outside_quotes (b ∷ bs) = let more = is_outside_quotes bs in if is_quote b then not more else more
+
+-- how many bytes stand before the first `${{`
+abbrev pub before_opening : List ℕ → Option ℕ
+before_opening [] = None
+before_opening (b ∷ bs) = let later = option_map suc (before_opening bs) in if opens (b ∷ bs) then Some 0 else later
+
+-- a `}}` outside quotes stands behind so many bytes of a content
+abbrev pub closes_behind : List ℕ → ℕ → Bool
+closes_behind bs n = is_outside_quotes (take n bs) && closes (drop n bs)
+
+-- how many bytes stand before the first one
+abbrev pub before_closing : List ℕ → Option ℕ
+before_closing bs = find (closes_behind bs) (range_with_len 0 (length bs))
+
+abbrev pub no_chunks : Option Fault → Chunked
+no_chunks f = record { chunks = []; fault = f }
+
+abbrev pub then_chunk : Span → Chunked → Chunked
+then_chunk s c = record { chunks = s ∷ c.chunks; fault = c.fault }
+
+-- What is wrong with a content from this place on that the text's end cuts off: an open quote is X2 at the last one, otherwise its
+-- opening is X20.
+abbrev pub open_fault : ℕ → List ℕ → Option Fault
+open_fault start content =
+    if is_outside_quotes content then Some (fault code.UnclosedChunk (span (start - 3) start) [])
+    else open_text (add_to start (last_quote content))
+
+-- the content from a place on, up to its closing, and the chunks of the rest
+abbrev pub with_content : (ℕ → List ℕ → Chunked) → ℕ → List ℕ → Option ℕ → Chunked
+with_content rest start bs None = no_chunks (open_fault start bs)
+with_content rest start bs (Some len) = then_chunk (span start (start + len)) (rest (start + len + 2) (drop (len + 2) bs))
+
+-- the content behind an opening
+abbrev pub with_opening : (ℕ → List ℕ → Chunked) → ℕ → List ℕ → Option ℕ → Chunked
+with_opening rest at bs None = no_chunks None
+with_opening rest at bs (Some before) =
+    with_content rest (at + before + 3) (drop (before + 3) bs) (before_closing (drop (before + 3) bs))
+
+-- the chunks of a text whose first byte stands at this place: at most so many
+abbrev pub chunks_within : ℕ → ℕ → List ℕ → Chunked
+chunks_within zero at bs = no_chunks None
+chunks_within (suc n) at bs = with_opening (chunks_within n) at bs (before_opening bs)
+
+abbrev pub chunks_of : List ℕ → Chunked
+chunks_of text = chunks_within (length text) 0 text
+
+abbrev pub span_of_chunk : Chunk → Span
+span_of_chunk c = c.span
+
+-- A chunk holds the bytes of the text from its start to its end.
+abbrev pub IsCutFrom : List ℕ → Chunk → Type 0
+IsCutFrom text c = c.content.now ≡ slice_range text c.span.start c.span.end

@@ -1,0 +1,24 @@
+-- What the table has to do with the grammar.
+use Rattle.std.specs.Prelude.{◌≡◌, ◌≢◌, ℕ, List, ◌∷◌, ◌++◌, length}
+use Rattle.al_expr_grammar.specs.Lexeme.{Lexeme, kinds}
+use Rattle.al_expr_grammar.specs.Tree.{Tree}
+use Rattle.al_expr_grammar.specs.Grammar.{IsTreeOf}
+use Rattle.al_expr_grammar.specs.Table.{Fine, Early, Unexpected, verdict_of}
+
+-- A list with the fault that a token may not stand where it does, or that it ends too early, spells no tree.
+abbrev pub FaultsSpellNothing : Type 0
+FaultsSpellNothing = (ts : List Lexeme) (t : Tree) → IsTreeOf t ts
+    → (verdict_of (kinds ts) ≢ Early) × ((n : ℕ) → verdict_of (kinds ts) ≢ Unexpected n)
+
+-- Nor does any list that begins with the tokens up to that one, it included.
+abbrev pub NoWayOn : Type 0
+NoWayOn = (front back other : List Lexeme) (x : Lexeme) (t : Tree) →
+    verdict_of (kinds (front ++ x ∷ back)) ≡ Unexpected (length (x ∷ back)) → IsTreeOf t (front ++ x ∷ other) → ⊥
+
+-- No list spells two trees.
+abbrev pub OneTree : Type 0
+OneTree = (ts : List Lexeme) (t u : Tree) → IsTreeOf t ts → IsTreeOf u ts → t ≡ u
+
+-- A list without a fault spells a tree.
+abbrev pub SomeTree : Type 0
+SomeTree = (ts : List Lexeme) → verdict_of (kinds ts) ≡ Fine → (t : Tree) × IsTreeOf t ts

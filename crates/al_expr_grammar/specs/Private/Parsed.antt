@@ -1,0 +1,164 @@
+-- What each function of the parser answers.
+use Rattle.std.specs.Prelude.{◌≡◌, ◌≢◌, ℕ, ◌+◌, ◌<◌, ◌≤◌, List, [], ◌∷◌, length, map, Result, MatchResult}
+use Rattle.std.specs.Borrow.{Bor}
+use Rattle.al_expr_grammar.specs.declared.ast.Expr.{Expr}
+use Rattle.al_expr_grammar.specs.declared.ast.PathStep.{PathStep}
+use Rattle.al_expr_grammar.specs.declared.token.Token.{Token}
+use Rattle.al_expr_grammar.specs.declared.token.TokenKind.{TokenKind}
+use Rattle.al_expr_grammar.specs.declared.token.TokenKind.TheVariants.{Name, Open, Close, OpenIndex, Comma, Bang, Dot, Infix}
+use Rattle.al_expr_grammar.specs.declared.parser.ParseError.{ParseError}
+use Rattle.al_expr_grammar.specs.declared.parser.ParseError.TheVariants as error
+use Rattle.al_base.specs.declared.faults.Span.{Span}
+use Rattle.al_expr_grammar.specs.Lexeme.{Lexeme, lexeme, kinds, seen}
+use Rattle.al_expr_grammar.specs.Tree.{Sign, Tree, StepTree}
+use Rattle.al_expr_grammar.specs.Grammar.{Nonterminal, Binary, Unary, Postfix, Primary, level_of, Derives, Operators, Walks, Lists}
+use Rattle.al_expr_grammar.specs.View.{tree_of, step_of}
+use Rattle.al_expr_grammar.specs.Table.{Verdict, Early, Unexpected, TooDeep, E, O, Frame, Call, outside, scan}
+
+-- No negation stands open in the innermost bracket where a chain of operators begins.
+abbrev pub StartsAt : Nonterminal → ℕ → Type 0
+StartsAt (Binary l) k = k ≡ 0
+StartsAt _ k = Unit {0}
+
+-- From where an operand is expected the table comes to this verdict.
+abbrev pub Goes : Nonterminal → ℕ → List Lexeme → (ℕ → List Frame → Verdict) → Type 0
+Goes p room ts v = (k : ℕ) (st : List Frame) → StartsAt p k → k + outside st + room ≡ 50 → scan E k st (kinds ts) ≡ v k st
+
+-- No path goes on.
+abbrev pub EndsPath : List TokenKind → Type 0
+EndsPath (Dot ∷ ts) = ⊥
+EndsPath (OpenIndex ∷ ts) = ⊥
+EndsPath _ = Unit {0}
+
+-- Neither a path goes on nor an operator of this level or a tighter one.
+abbrev pub EndsLevel : ℕ → List TokenKind → Type 0
+EndsLevel l (Dot ∷ ts) = ⊥
+EndsLevel l (OpenIndex ∷ ts) = ⊥
+EndsLevel l (Infix o ∷ ts) = level_of o < l
+EndsLevel l _ = Unit {0}
+
+abbrev pub Stops : Nonterminal → List TokenKind → Type 0
+Stops (Binary l) ts = EndsLevel l ts
+Stops Unary ts = EndsPath ts
+Stops Postfix ts = EndsPath ts
+Stops Primary ts = Unit {0}
+
+pub record Parsed (p : Nonterminal) (room : ℕ) (ts : List Lexeme) (t : Tree) (rest : List Lexeme) : Type 0 where
+  pub derives : Derives p ts t rest
+  pub goes : Goes p room ts (λ k st. scan O k st (kinds rest))
+  pub stops : Stops p (kinds rest)
+  pub shorter : length rest < length ts
+
+-- Unless memory ran out, the fault is the table's.
+abbrev pub Refused : Nonterminal → ℕ → List Lexeme → ParseError → Type 0
+Refused p room ts error.Memory = Unit {0}
+Refused p room ts error.Early = Goes p room ts (λ k st. Early)
+Refused p room ts (error.Unexpected left) = Goes p room ts (λ k st. Unexpected left)
+Refused p room ts (error.TooDeep left) = Goes p room ts (λ k st. TooDeep left)
+
+-- What a reader of expressions answers: a tree of this kind at the front of the tokens, with those left, or its fault.
+abbrev pub Parses : Nonterminal → ℕ → List Lexeme → Result (Expr × Bor (List Token)) ParseError → Type 0
+Parses p room ts result =
+    MatchResult result (λ x. Parsed p room ts (tree_of x.0) (map seen x.1.now)) (λ e. Refused p room ts e)
+
+-- A chain of operators, as far as it was read.
+pub record PartOfChain (l room : ℕ) (ts : List Lexeme) (os : List (Sign × Tree)) (rest : List Lexeme) : Type 0 where
+  pub derives : Operators l ts os rest
+  pub goes : (st : List Frame) → outside st + room ≡ 50 → scan O 0 st (kinds ts) ≡ scan O 0 st (kinds rest)
+  pub shorter : length rest ≤ length ts
+
+-- A path, as far as it was read.
+pub record PartOfPath (room : ℕ) (ts : List Lexeme) (ss : List StepTree) (rest : List Lexeme) : Type 0 where
+  pub derives : Walks ts ss rest
+  pub goes : (k : ℕ) (st : List Frame) → k + outside st + room ≡ 50 → scan O k st (kinds ts) ≡ scan O k st (kinds rest)
+  pub shorter : length rest ≤ length ts
+
+-- Further arguments, as far as they were read, inside a call that stands behind so many negations.
+pub record PartOfCall (room : ℕ) (ts : List Lexeme) (more : List Tree) (rest : List Lexeme) : Type 0 where
+  pub derives : Lists ts more rest
+  pub goes : (k : ℕ) (st : List Frame) → 1 + k + outside st + room ≡ 50
+      → scan O 0 (Call k ∷ st) (kinds ts) ≡ scan O 0 (Call k ∷ st) (kinds rest)
+  pub stops : EndsLevel 0 (kinds rest)
+  pub shorter : length rest ≤ length ts
+
+-- A path goes on.
+abbrev pub GoesOn : List TokenKind → Type 0
+GoesOn (Dot ∷ ts) = Unit {0}
+GoesOn (OpenIndex ∷ ts) = Unit {0}
+GoesOn _ = ⊥
+
+-- one step of a path
+pub record StepRead (room : ℕ) (ts : List Lexeme) (s : StepTree) (rest : List Lexeme) : Type 0 where
+  pub derives : (ss : List StepTree) (after : List Lexeme) → Walks rest ss after → Walks ts (s ∷ ss) after
+  pub goes : (k : ℕ) (st : List Frame) → k + outside st + room ≡ 50 → scan O k st (kinds ts) ≡ scan O k st (kinds rest)
+  pub shorter : length rest < length ts
+
+abbrev pub GoesAfter : ℕ → List Lexeme → Verdict → Type 0
+GoesAfter room ts v = (k : ℕ) (st : List Frame) → k + outside st + room ≡ 50 → scan O k st (kinds ts) ≡ v
+
+abbrev pub StepRefused : ℕ → List Lexeme → ParseError → Type 0
+StepRefused room ts error.Memory = Unit {0}
+StepRefused room ts error.Early = GoesAfter room ts Early
+StepRefused room ts (error.Unexpected left) = GoesAfter room ts (Unexpected left)
+StepRefused room ts (error.TooDeep left) = GoesAfter room ts (TooDeep left)
+
+-- what a reader of steps answers
+abbrev pub ParsesStep : ℕ → List Lexeme → Result (PathStep × Bor (List Token)) ParseError → Type 0
+ParsesStep room ts result =
+    MatchResult result (λ x. StepRead room ts (step_of x.0) (map seen x.1.now)) (λ e. StepRefused room ts e)
+
+-- the fault where the first token may not stand here
+abbrev pub fault_at : List Lexeme → ParseError
+fault_at [] = error.Early
+fault_at (t ∷ ts) = error.Unexpected (length (t ∷ ts))
+
+-- No comma comes first.
+abbrev pub NoComma : List TokenKind → Type 0
+NoComma (Comma ∷ ts) = ⊥
+NoComma _ = Unit {0}
+
+-- the arguments of a call as far as they were read, of which there is at least one
+pub record ArgumentsPart (room : ℕ) (ts : List Lexeme) (all : List Tree) (rest : List Lexeme) : Type 0 where
+  pub first : Tree
+  pub more : List Tree
+  pub mid : List Lexeme
+  pub is : all ≡ first ∷ more
+  pub begins : Parsed (Binary 0) room ts first mid
+  pub goes_on : PartOfCall room mid more rest
+
+-- all arguments of a call
+pub record ArgumentsRead (room : ℕ) (ts : List Lexeme) (all : List Tree) (rest : List Lexeme) : Type 0 where
+  pub part : ArgumentsPart room ts all rest
+  pub ends : NoComma (kinds rest)
+
+-- A call with these tokens behind its opening bracket is refused.
+abbrev pub ArgumentsRefused : ℕ → List Lexeme → ParseError → Type 0
+ArgumentsRefused room ts e = (outer : ℕ) (b c : List ℕ) (s u : Span) → room + 1 ≡ outer
+    → Refused Primary outer (lexeme Name b s ∷ lexeme Open c u ∷ ts) e
+
+-- No operator of this level comes first.
+abbrev pub NoOperator : ℕ → List TokenKind → Type 0
+NoOperator l (Infix o ∷ ts) = level_of o ≢ l
+NoOperator l _ = Unit {0}
+
+-- No negation comes first.
+abbrev pub NoBang : List TokenKind → Type 0
+NoBang (Bang ∷ ts) = ⊥
+NoBang _ = Unit {0}
+
+-- No closing bracket comes first.
+abbrev pub NoClose : List TokenKind → Type 0
+NoClose (Close ∷ ts) = ⊥
+NoClose _ = Unit {0}
+
+-- The token that has to come first isn't of this kind.
+pub record IsStray (ts : List Lexeme) (k : TokenKind) (e : ParseError) : Type 0 where
+  pub fault : e ≡ fault_at ts
+  pub other : (rest : List TokenKind) → kinds ts ≢ k ∷ rest
+
+-- Unless memory ran out, the table comes to this fault.
+abbrev pub IsVerdict : ParseError → Verdict → Type 0
+IsVerdict error.Memory v = Unit {0}
+IsVerdict error.Early v = v ≡ Early
+IsVerdict (error.Unexpected left) v = v ≡ Unexpected left
+IsVerdict (error.TooDeep left) v = v ≡ TooDeep left

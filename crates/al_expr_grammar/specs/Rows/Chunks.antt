@@ -1,0 +1,19 @@
+-- What rows of chunks are written with.
+use Rattle.std.specs.Prelude.{ℕ, List, map, Some, None}
+use Rattle.al_base.specs.declared.codes.ExpressionCode.{ExpressionCode}
+use Rattle.al_base.specs.declared.faults.Span.{Span}
+use Rattle.al_expr_grammar.specs.Chunks.{Chunked}
+use Rattle.al_expr_grammar.specs.Refusal.{fault}
+use Rattle.al_expr_grammar.specs.Tokens.{span}
+use Rattle.std.specs.Prelude.{[]}
+
+abbrev pub span_of : ℕ × ℕ → Span
+span_of p = span p.0 p.1
+
+-- contents from and to these places, and nothing wrong at the end
+abbrev pub closed : List (ℕ × ℕ) → Chunked
+closed places = record { chunks = map span_of places; fault = None }
+
+-- the same with a fault from and to some place
+abbrev pub cut_off : List (ℕ × ℕ) → ExpressionCode → ℕ × ℕ → Chunked
+cut_off places code place = record { chunks = map span_of places; fault = Some (fault code (span_of place) []) }

@@ -1,0 +1,111 @@
+-- Which token may come next, and the first fault.
+use Rattle.std.specs.Prelude.{ℕ, suc, ◌+◌, List, [], ◌∷◌, length, Bool, nat_lt, if◌then◌else◌}
+use Rattle.al_expr_grammar.specs.declared.token.TokenKind.{TokenKind}
+use Rattle.al_expr_grammar.specs.declared.token.TokenKind.TheVariants.{Name, Keyword, Number, Text, Open, Close, OpenIndex, CloseIndex, Dot}
+use Rattle.al_expr_grammar.specs.declared.token.TokenKind.TheVariants.{Comma, Star, Bang, Infix}
+
+-- E: an operand is expected. A: after a call's bracket. I: after an index's bracket. S: after `[*`. D: after a dot. O: after an operand.
+-- N: after a name.
+pub data Mode : Type 0 where
+  E : Mode
+  A : Mode
+  I : Mode
+  S : Mode
+  D : Mode
+  O : Mode
+  N : Mode
+
+-- an open bracket, with the negations that stood open before it in its own bracket
+pub data Frame : Type 0 where
+  Group : ℕ → Frame
+  Call : ℕ → Frame
+  Index : ℕ → Frame
+
+-- What a token leads to: nothing; a mode with so many negations open in the innermost bracket, and the open brackets; or the same one
+-- deeper.
+pub data Transition : Type 0 where
+  Stuck : Transition
+  Go : Mode → ℕ → List Frame → Transition
+  Deeper : Mode → ℕ → List Frame → Transition
+
+abbrev pub operand : ℕ → List Frame → TokenKind → Transition
+operand k st Name = Go N k st
+operand k st (Keyword w) = Go O k st
+operand k st Number = Go O k st
+operand k st Text = Go O k st
+operand k st Open = Deeper E 0 (Group k ∷ st)
+operand k st Bang = Deeper E (suc k) st
+operand k st _ = Stuck
+
+-- what a closing bracket leads to
+abbrev pub close : List Frame → Transition
+close (Group k ∷ st) = Go O k st
+close (Call k ∷ st) = Go O k st
+close _ = Stuck
+
+abbrev pub close_index : List Frame → Transition
+close_index (Index k ∷ st) = Go O k st
+close_index _ = Stuck
+
+abbrev pub comma : List Frame → Transition
+comma (Call k ∷ st) = Go E 0 (Call k ∷ st)
+comma _ = Stuck
+
+abbrev pub after_operand : ℕ → List Frame → TokenKind → Transition
+after_operand k st (Infix o) = Go E 0 st
+after_operand k st Dot = Go D k st
+after_operand k st OpenIndex = Deeper I 0 (Index k ∷ st)
+after_operand k st Close = close st
+after_operand k st CloseIndex = close_index st
+after_operand k st Comma = comma st
+after_operand k st _ = Stuck
+
+abbrev pub step : Mode → ℕ → List Frame → TokenKind → Transition
+step E k st t = operand k st t
+step A k st Close = close st
+step A k st t = operand k st t
+step I k st Star = Go S k st
+step I k st t = operand k st t
+step S k st CloseIndex = close_index st
+step S k st t = Stuck
+step D k st Name = Go O k st
+step D k st (Keyword w) = Go O k st
+step D k st Star = Go O k st
+step D k st t = Stuck
+step O k st t = after_operand k st t
+step N k st Open = Deeper A 0 (Call k ∷ st)
+step N k st t = after_operand k st t
+
+-- A fault stands at the token behind which this many are left, itself counted.
+pub data Verdict : Type 0 where
+  Fine : Verdict
+  Early : Verdict
+  Unexpected : ℕ → Verdict
+  TooDeep : ℕ → Verdict
+
+-- where the tokens end
+abbrev pub finish : Mode → List Frame → Verdict
+finish O [] = Fine
+finish N [] = Fine
+finish _ _ = Early
+
+-- the brackets and negations that are open
+abbrev pub outside : List Frame → ℕ
+outside [] = 0
+outside (Group k ∷ st) = 1 + k + outside st
+outside (Call k ∷ st) = 1 + k + outside st
+outside (Index k ∷ st) = 1 + k + outside st
+
+-- on from a step, with whether there is room for one more, and how many tokens were left
+abbrev pub onward : Transition → Bool → ℕ → (Mode → ℕ → List Frame → Verdict) → Verdict
+onward Stuck room left go = Unexpected left
+onward (Go m k st) room left go = go m k st
+onward (Deeper m k st) room left go = if room then go m k st else TooDeep left
+
+-- the verdict on the tokens, in a mode with so many negations in the innermost bracket, and the open brackets
+abbrev pub scan : Mode → ℕ → List Frame → List TokenKind → Verdict
+scan m k st [] = finish m st
+scan m k st (t ∷ ts) = onward (step m k st t) (nat_lt (k + outside st) 50) (suc (length ts)) (λ m' k' st'. scan m' k' st' ts)
+
+abbrev pub verdict_of : List TokenKind → Verdict
+verdict_of ts = scan E 0 [] ts

@@ -1,0 +1,199 @@
+-- The tokens of a content.
+--
+-- A content splits into what stands first and the rest behind it, whose tokens follow: a blank, or a token, the longest that begins there.
+-- Else its first character begins none, or a text is never closed.
+use Rattle.al_base.specs.Ascii as ascii
+use Rattle.al_base.specs.FirstBytes.{first_is, begins_with}
+use Rattle.al_expr_grammar.specs.declared.token.Operator.TheVariants.{Or, And, Equal, NotEqual, Less, LessEqual, Greater, GreaterEqual}
+use Rattle.al_expr_grammar.specs.declared.token.Keyword.TheVariants as keyword
+use Rattle.al_expr_grammar.specs.declared.lexer.Read.{Read}
+use Rattle.al_expr_grammar.specs.declared.lexer.Read.TheVariants.{Blank, Token, BadCharacter, OpenText}
+use Rattle.al_expr_grammar.specs.declared.token.TokenKind.{TokenKind}
+use Rattle.al_expr_grammar.specs.declared.token.TokenKind.TheVariants.{Name, Keyword, Number, Text, Open, Close, OpenIndex, CloseIndex, Dot}
+use Rattle.al_expr_grammar.specs.declared.token.TokenKind.TheVariants.{Comma, Star, Bang, Infix}
+use Rattle.al_base.specs.declared.faults.Span.{Span}
+use Rattle.al_expr_grammar.specs.Lexeme.{Lexeme, lexeme}
+use Rattle.std.specs.Char.{is_ascii_alphabetic, is_ascii_digit, is_ascii_hexdigit}
+use Rattle.std.specs.Int.{is_in_range}
+use Rattle.std.specs.List.{prefix_len}
+use Rattle.std.specs.Str.{bytes_eq}
+use Rattle.std.specs.Prelude.{codes, ℕ, zero, suc, ◌+◌, List, [], ◌∷◌, Bool, true, false, ◌&&◌, ◌||◌, ◌==◌, if◌then◌else◌, max}
+use Rattle.std.specs.Prelude.{take, drop, Option, Some, None, option_map, length}
+
+abbrev pub is_digit : ℕ → Bool
+is_digit b = is_ascii_digit b
+
+abbrev pub is_hex_digit : ℕ → Bool
+is_hex_digit b = is_ascii_hexdigit b
+
+abbrev pub begins_name : ℕ → Bool
+begins_name b = is_ascii_alphabetic b || b == ascii.underscore
+
+abbrev pub goes_on_name : ℕ → Bool
+goes_on_name b = begins_name b || is_digit b || b == ascii.dash
+
+abbrev pub is_blank : ℕ → Bool
+is_blank b = b == ascii.space || b == ascii.tab || b == ascii.line_feed || b == ascii.carriage_return
+
+abbrev pub is_sign : ℕ → Bool
+is_sign b = b == ascii.plus || b == ascii.dash
+
+abbrev pub is_quote : ℕ → Bool
+is_quote b = b == ascii.single_quote
+
+-- how many bytes at the front pass a test
+abbrev pub run : (ℕ → Bool) → List ℕ → ℕ
+run p bs = prefix_len p bs
+
+-- a part that is there only with at least one digit: so many bytes and the digits behind them
+abbrev pub with_digits : ℕ → ℕ → ℕ
+with_digits lead zero = 0
+with_digits lead (suc n) = lead + suc n
+
+-- `0x` and hexadecimal digits
+abbrev pub hex_len : List ℕ → ℕ
+hex_len bs =
+    if begins_with ascii.digit_zero bs && begins_with ascii.small_x (drop 1 bs) then with_digits 2 (run is_hex_digit (drop 2 bs)) else 0
+
+-- a dot and digits
+abbrev pub fraction_len : List ℕ → ℕ
+fraction_len bs = if begins_with ascii.dot bs then with_digits 1 (run is_digit (drop 1 bs)) else 0
+
+-- an `e`, a sign or none, and digits
+abbrev pub exponent_len : List ℕ → ℕ
+exponent_len bs =
+    if first_is (λ b. b == ascii.capital_e || b == ascii.small_e) bs
+    then (if first_is is_sign (drop 1 bs) then with_digits 2 (run is_digit (drop 2 bs)) else with_digits 1 (run is_digit (drop 1 bs)))
+    else 0
+
+-- what follows the digits of a decimal number
+abbrev pub decimal_tail : List ℕ → ℕ
+decimal_tail bs = fraction_len bs + exponent_len (drop (fraction_len bs) bs)
+
+abbrev pub decimal_len : List ℕ → ℕ
+decimal_len bs = if first_is is_digit bs then run is_digit bs + decimal_tail (drop (run is_digit bs) bs) else 0
+
+-- a number's length without its sign, the longest that fits, or 0 where there is none
+abbrev pub unsigned_len : List ℕ → ℕ
+unsigned_len bs = max (hex_len bs) (decimal_len bs)
+
+abbrev pub number_len : List ℕ → ℕ
+number_len bs = if first_is is_sign bs then with_digits 1 (unsigned_len (drop 1 bs)) else unsigned_len bs
+
+abbrev pub add_to : ℕ → Option ℕ → Option ℕ
+add_to n None = None
+add_to n (Some m) = Some (n + m)
+
+-- How many bytes follow the quote that opens a text, its closing quote included, where it is closed: two quotes stand for one in the
+-- text, and the first that is single closes it.
+abbrev pub text_tail : List ℕ → Option ℕ
+text_tail [] = None
+text_tail (b ∷ []) = if is_quote b then Some 1 else None
+text_tail (b ∷ c ∷ bs) = if is_quote b then (if is_quote c then add_to 2 (text_tail bs) else Some 1) else add_to 1 (text_tail (c ∷ bs))
+
+-- `null`, `true` and `false` are words of their own
+abbrev pub word_kind : List ℕ → TokenKind
+word_kind b =
+    if bytes_eq b (codes "null") then Keyword keyword.Null
+    else if bytes_eq b (codes "true") then Keyword keyword.True
+    else if bytes_eq b (codes "false") then Keyword keyword.False
+    else Name
+
+-- the same mark alone or before `=`
+abbrev pub or_equal : Bool → TokenKind → TokenKind → Read
+or_equal true alone equal = Token equal 2
+or_equal false alone equal = Token alone 1
+
+-- a mark that stands doubled
+abbrev pub doubled : Bool → TokenKind → Read
+doubled true k = Token k 2
+doubled false k = BadCharacter
+
+abbrev pub mark : ℕ → List ℕ → Read
+mark b bs =
+    if b == ascii.open_parenthesis then Token Open 1
+    else if b == ascii.close_parenthesis then Token Close 1
+    else if b == ascii.open_bracket then Token OpenIndex 1
+    else if b == ascii.close_bracket then Token CloseIndex 1
+    else if b == ascii.dot then Token Dot 1
+    else if b == ascii.comma then Token Comma 1
+    else if b == ascii.asterisk then Token Star 1
+    else if b == ascii.exclamation then or_equal (begins_with ascii.equals bs) Bang (Infix NotEqual)
+    else if b == ascii.less then or_equal (begins_with ascii.equals bs) (Infix Less) (Infix LessEqual)
+    else if b == ascii.greater then or_equal (begins_with ascii.equals bs) (Infix Greater) (Infix GreaterEqual)
+    else if b == ascii.equals then doubled (begins_with ascii.equals bs) (Infix Equal)
+    else if b == ascii.ampersand then doubled (begins_with ascii.ampersand bs) (Infix And)
+    else if b == ascii.bar then doubled (begins_with ascii.bar bs) (Infix Or)
+    else BadCharacter
+
+abbrev pub text_read : Option ℕ → Read
+text_read None = OpenText
+text_read (Some n) = Token Text (1 + n)
+
+-- a number of a positive length
+abbrev pub number_read : ℕ → Read
+number_read zero = BadCharacter
+number_read (suc n) = Token Number (suc n)
+
+abbrev pub name_read : List ℕ → Read
+name_read bs = Token (word_kind (take (run goes_on_name bs) bs)) (run goes_on_name bs)
+
+abbrev pub read : List ℕ → Read
+read [] = BadCharacter
+read (b ∷ bs) =
+    if is_blank b then Blank
+    else if begins_name b then name_read (b ∷ bs)
+    else if is_quote b then text_read (text_tail bs)
+    else if is_digit b || is_sign b then number_read (number_len (b ∷ bs))
+    else mark b bs
+
+pub data Lexed : Type 0 where
+  AllRead : List Lexeme → Lexed
+  -- at the bad character
+  Bad : Span → Lexed
+  -- a quote is open
+  Unclosed : Lexed
+
+abbrev pub then_token : Lexeme → Lexed → Lexed
+then_token t (AllRead ts) = AllRead (t ∷ ts)
+then_token t other = other
+
+abbrev pub span : ℕ → ℕ → Span
+span a b = record { start = a; end = b }
+
+-- the bytes that continue a character
+abbrev pub is_inside : ℕ → Bool
+is_inside b = is_in_range 0x80 0xBF b
+
+-- the character that bytes begin with which stand at a place
+abbrev pub character_at : ℕ → List ℕ → Span
+character_at at bs = span at (at + 1 + run is_inside (drop 1 bs))
+
+-- what bytes begin with, and the rest behind it
+abbrev pub with_first : (ℕ → List ℕ → Lexed) → Read → ℕ → List ℕ → Lexed
+with_first rest Blank at bs = rest (at + 1) (drop 1 bs)
+with_first rest (Token k n) at bs = then_token (lexeme k (take n bs) (span at (at + n))) (rest (at + n) (drop n bs))
+with_first rest BadCharacter at bs = Bad (character_at at bs)
+with_first rest OpenText at bs = Unclosed
+
+-- the tokens of bytes that stand at a place: at most so many, each blank counted too
+abbrev pub tokens_within : ℕ → ℕ → List ℕ → Lexed
+tokens_within zero at bs = AllRead []
+tokens_within (suc n) at [] = AllRead []
+tokens_within (suc n) at (b ∷ bs) = with_first (tokens_within n) (read (b ∷ bs)) at (b ∷ bs)
+
+abbrev pub tokens_of : List ℕ → Lexed
+tokens_of content = tokens_within (length content) 0 content
+
+abbrev pub if_none : Option ℕ → Option ℕ → Option ℕ
+if_none None o = o
+if_none (Some n) o = Some n
+
+-- the place of the last of some bytes that pass a test
+abbrev pub last_place : (ℕ → Bool) → List ℕ → Option ℕ
+last_place p [] = None
+last_place p (b ∷ bs) = if_none (option_map suc (last_place p bs)) (if p b then Some 0 else None)
+
+-- the place of the last quote
+abbrev pub last_quote : List ℕ → Option ℕ
+last_quote bs = last_place is_quote bs

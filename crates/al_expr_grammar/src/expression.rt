@@ -1,0 +1,86 @@
+//! A content read as one expression: its tree, or its one fault.
+
+ghost use Rattle.std.specs.Prelude.{◌≡◌, ◌<◌, ◌≤◌, ◌-◌, slice_get, IfOk, IfErr, Some, None, map, length};
+ghost use Rattle.al_expr_grammar.specs.Lexeme.{seen, kinds};
+ghost use Rattle.al_expr_grammar.specs.Private.Parsed.{IsVerdict};
+ghost use Rattle.al_expr_grammar.specs.Refusal.{fault_of_content, fault_of_verdict, Spells};
+ghost use Rattle.al_expr_grammar.specs.Table.{verdict_of};
+ghost use Rattle.al_expr_grammar.specs.View.{tree_of};
+ghost use Rattle.al_expr_grammar.specs.declared.parser.ParseError.TheVariants.{Memory};
+
+use crate::ast::Expr;
+use crate::faults::{named_fault, plain_fault};
+use crate::lexer::lex;
+use crate::parser::{ParseError, parse};
+use crate::token::Token;
+use al_base::limits::LONGEST_EXPRESSION;
+use al_base::{ExpressionCode, Fault, Span};
+use std::alloc::{AllocError, Global};
+
+/// The token behind which so many are left, itself counted.
+fn token_at<'a>(tokens: &[Token<'a>], left: usize) -> Token<'a>
+    requires some { 0 < left }
+    requires within { left ≤ length tokens.now }
+    ensures { slice_get (map seen tokens.now) (length tokens.now - left) ≡ Some (seen result) }
+{
+    tokens[tokens.len() - left]
+}
+
+/// The fault that the parser found in the tokens of a content of so many bytes.
+fn parse_fault(
+    alloc: Global,
+    length: u32,
+    tokens: &[Token],
+    error: ParseError,
+) -> Result<Fault, AllocError>
+    requires { IsVerdict error (verdict_of (kinds (map seen tokens.now))) }
+    ensures { IfOk result (λ f. fault_of_verdict length (map seen tokens.now) (verdict_of (kinds (map seen tokens.now))) ≡ Some f) }
+{
+    match error {
+        ParseError::Memory => Err(AllocError),
+        ParseError::Early => Ok(plain_fault(
+            ExpressionCode::EndsEarly,
+            Span {
+                start: length,
+                end: length,
+            },
+        )),
+        ParseError::Unexpected(left) => {
+            let token = token_at(tokens, left);
+            named_fault(
+                alloc,
+                ExpressionCode::UnexpectedToken,
+                token.span,
+                token.text,
+            )
+        }
+        ParseError::TooDeep(left) => {
+            let token = token_at(tokens, left);
+            Ok(plain_fault(ExpressionCode::TooDeep, token.span))
+        }
+    }
+}
+
+/// The tree of a content, or the one fault for which it has none. Places are byte offsets in the content.
+///
+/// The fault is X5 where the content is longer than 21,000 bytes; else X1 or X2 of its tokens; else, at the first token
+/// that no expression's tokens go on with, X3, or at the token that makes the nesting 51, X6; else X4 at the content's
+/// end, where its tokens end too early. The outer error: out of memory.
+pub fn parse_expr(alloc: Global, content: &str) -> Result<Result<Expr, Fault>, AllocError>
+    ensures tree { IfOk result (λ r. IfOk r (λ e. Spells content.now (tree_of e))) }
+    ensures none { IfOk result (λ r. IfOk r (λ e. fault_of_content content.now ≡ None)) }
+    ensures fault { IfOk result (λ r. IfErr r (λ f. fault_of_content content.now ≡ Some f)) }
+{
+    if content.len() > LONGEST_EXPRESSION {
+        let first = Span { start: 0, end: 1 };
+        return Ok(Err(plain_fault(ExpressionCode::TooLong, first)));
+    }
+    let tokens = match lex(alloc, content)? {
+        Ok(tokens) => tokens,
+        Err(fault) => return Ok(Err(fault)),
+    };
+    match parse(alloc, &tokens) {
+        Ok(expr) => Ok(Ok(expr)),
+        Err(error) => Ok(Err(parse_fault(alloc, content.len() as u32, &tokens, error)?)),
+    }
+}

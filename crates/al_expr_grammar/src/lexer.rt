@@ -1,0 +1,321 @@
+//! The tokens of a content, or the character at which they break off.
+
+ghost use Rattle.std.specs.Prelude.{map, ℕ, IfOk, IfSome, MatchOption, MatchResult, ◌≡◌, ◌≤◌, ◌<◌, ◌+◌, ◌^◌, Some, [], ◌∷◌, length, false};
+ghost use Rattle.al_expr_grammar.specs.Lexeme.{seen};
+ghost use Rattle.al_expr_grammar.specs.Tokens.{begins_name, goes_on_name, is_blank, is_sign, is_inside, run, or_equal, doubled, mark};
+ghost use Rattle.al_base.specs.Ascii as ascii;
+ghost use Rattle.al_base.specs.FirstBytes.{begins_with};
+ghost use Rattle.al_base.specs.Limits.{longest_text};
+ghost use Rattle.al_expr_grammar.specs.Tokens.{word_kind, text_tail, text_read, name_read, number_read, number_len, read, tokens_of, AllRead};
+ghost use Rattle.al_expr_grammar.specs.Tokens.{last_quote};
+ghost use Rattle.al_expr_grammar.specs.Private.TokenStates.{unread, Fits};
+ghost use Rattle.al_expr_grammar.specs.Private.TextTails.{tail_from};
+ghost use Rattle.al_expr_grammar.specs.Refusal.{fault_of_lexed};
+
+use crate::faults::plain_fault;
+use crate::number::{digit, number};
+use crate::token::{Keyword, Operator, Token, TokenKind};
+use al_base::{ExpressionCode, Fault, Span};
+use std::alloc::{AllocError, Global};
+
+/// What stands at the front of the rest of a content.
+#[derive(Clone, Copy)]
+enum Read {
+    /// A byte between tokens.
+    Blank,
+    /// A token of so many bytes.
+    Token(TokenKind, usize),
+    /// A character that begins no token.
+    BadCharacter,
+    /// A text that is never closed.
+    OpenText,
+}
+
+/// Why the tokens of a content were not all read.
+#[derive(Clone, Copy)]
+enum LexError {
+    /// At this character.
+    BadCharacter(Span),
+    OpenText,
+}
+
+/// Whether a byte separates tokens: a blank or a part of a break.
+fn blank(b: u8) -> bool
+    ensures { result ≡ is_blank b }
+{
+    b == b' ' || b == b'\t' || b == b'\n' || b == b'\r'
+}
+
+fn sign(b: u8) -> bool
+    ensures { result ≡ is_sign b }
+{
+    b == b'+' || b == b'-'
+}
+
+fn name_start(b: u8) -> bool
+    ensures { result ≡ begins_name b }
+{
+    (b'A' <= b && b <= b'Z') || (b'a' <= b && b <= b'z') || b == b'_'
+}
+
+fn name_part(b: u8) -> bool
+    ensures { result ≡ goes_on_name b }
+{
+    name_start(b) || digit(b) || b == b'-'
+}
+
+/// How many bytes of a name stand at the front.
+fn name_len(bytes: &[u8]) -> usize
+    ensures value { result ≡ run goes_on_name bytes.now }
+    ensures within { result ≤ length bytes.now }
+{
+    bytes.iter().take_while(|b| name_part(**b)).count()
+}
+
+/// How many bytes at the front continue a character.
+fn inside_len(bytes: &[u8]) -> usize
+    ensures value { result ≡ run is_inside bytes.now }
+    ensures within { result ≤ length bytes.now }
+{
+    bytes
+        .iter()
+        .take_while(|b| 128 <= **b && **b <= 191)
+        .count()
+}
+
+/// Whether a name is a word of its own.
+fn name_kind(name: &[u8]) -> TokenKind
+    ensures { result ≡ word_kind name.now }
+{
+    if name == "null".as_bytes() {
+        TokenKind::Keyword(Keyword::Null)
+    } else if name == "true".as_bytes() {
+        TokenKind::Keyword(Keyword::True)
+    } else if name == "false".as_bytes() {
+        TokenKind::Keyword(Keyword::False)
+    } else {
+        TokenKind::Name
+    }
+}
+
+/// How many bytes follow the quote that opens a text, the closing one included, or none where it is never closed. A
+/// doubled quote is a part of the text.
+fn text_len(bytes: &[u8]) -> Option<usize>
+    ensures value { result ≡ tail_from false bytes.now }
+    ensures within { IfSome result (λ n. n ≤ length bytes.now) }
+{
+    let mut closes = false;
+    for (i, b) in bytes.iter().enumerate() {
+        if *b == b'\'' {
+            closes = !closes;
+        } else if closes {
+            return Some(i);
+        }
+    }
+    if closes { Some(bytes.len()) } else { None }
+}
+
+fn starts_with(bytes: &[u8], b: u8) -> bool
+    ensures { result ≡ begins_with b bytes.now }
+{
+    match bytes {
+        [first, ..] => *first == b,
+        [] => false,
+    }
+}
+
+/// A mark that means another thing before `=`.
+fn alone_or_equal(rest: &[u8], alone: TokenKind, equal: TokenKind) -> Read
+    ensures value { result ≡ or_equal (begins_with ascii.equals rest.now) alone equal }
+    ensures fits { (b : ℕ) → b < 128 → Fits (b ∷ rest.now) result }
+{
+    if starts_with(rest, b'=') {
+        Read::Token(equal, 2)
+    } else {
+        Read::Token(alone, 1)
+    }
+}
+
+/// A mark that stands doubled only.
+fn twice(b: u8, rest: &[u8], kind: TokenKind) -> Read
+    requires { b < 128 }
+    ensures value { result ≡ doubled (begins_with b rest.now) kind }
+    ensures fits { Fits (b ∷ rest.now) result }
+{
+    if starts_with(rest, b) {
+        Read::Token(kind, 2)
+    } else {
+        Read::BadCharacter
+    }
+}
+
+/// The mark that a byte begins, with what follows the byte.
+fn mark_at(first: u8, rest: &[u8]) -> Read
+    ensures value { result ≡ mark first rest.now }
+    ensures fits { Fits (first ∷ rest.now) result }
+{
+    match first {
+        b'(' => Read::Token(TokenKind::Open, 1),
+        b')' => Read::Token(TokenKind::Close, 1),
+        b'[' => Read::Token(TokenKind::OpenIndex, 1),
+        b']' => Read::Token(TokenKind::CloseIndex, 1),
+        b'.' => Read::Token(TokenKind::Dot, 1),
+        b',' => Read::Token(TokenKind::Comma, 1),
+        b'*' => Read::Token(TokenKind::Star, 1),
+        b'!' => alone_or_equal(rest, TokenKind::Bang, TokenKind::Infix(Operator::NotEqual)),
+        b'<' => alone_or_equal(
+            rest,
+            TokenKind::Infix(Operator::Less),
+            TokenKind::Infix(Operator::LessEqual),
+        ),
+        b'>' => alone_or_equal(
+            rest,
+            TokenKind::Infix(Operator::Greater),
+            TokenKind::Infix(Operator::GreaterEqual),
+        ),
+        b'=' => twice(b'=', rest, TokenKind::Infix(Operator::Equal)),
+        b'&' => twice(b'&', rest, TokenKind::Infix(Operator::And)),
+        b'|' => twice(b'|', rest, TokenKind::Infix(Operator::Or)),
+        _ => Read::BadCharacter,
+    }
+}
+
+/// The name at the front.
+fn name_at(bytes: &[u8]) -> Read
+    ensures { result ≡ name_read bytes.now }
+{
+    let len = name_len(bytes);
+    Read::Token(name_kind(&bytes[..len]), len)
+}
+
+/// The number at the front.
+fn number_at(bytes: &[u8]) -> Read
+    ensures { result ≡ number_read (number_len bytes.now) }
+{
+    match number(bytes) {
+        0 => Read::BadCharacter,
+        len => Read::Token(TokenKind::Number, len),
+    }
+}
+
+/// The text behind its opening quote.
+fn text_at(rest: &[u8]) -> Read
+    ensures { result ≡ text_read (text_tail rest.now) }
+{
+    match text_len(rest) {
+        Some(len) => Read::Token(TokenKind::Text, 1 + len),
+        None => Read::OpenText,
+    }
+}
+
+/// The first byte, and the others.
+fn split(bytes: &[u8]) -> Option<(u8, &[u8])>
+    ensures { MatchOption result (bytes.now ≡ []) (λ x. bytes.now ≡ x.0 ∷ x.1.now) }
+{
+    match bytes {
+        [] => None,
+        [first, rest @ ..] => Some((*first, rest)),
+    }
+}
+
+/// What stands at the front.
+fn read_at(bytes: &[u8]) -> Read
+    ensures value { result ≡ read bytes.now }
+    ensures fits { Fits bytes.now result }
+{
+    let Some((first, rest)) = split(bytes) else {
+        return Read::BadCharacter;
+    };
+    if blank(first) {
+        Read::Blank
+    } else if name_start(first) {
+        name_at(bytes)
+    } else if first == b'\'' {
+        text_at(rest)
+    } else if digit(first) || sign(first) {
+        number_at(bytes)
+    } else {
+        mark_at(first, rest)
+    }
+}
+
+/// The tokens of a content, or why they are not all read.
+fn tokens(alloc: Global, content: &str) -> Result<Result<Vec<Token>, LexError>, AllocError>
+    requires { length content.now < 2 ^ 32 }
+    ensures { IfOk result (λ r. MatchResult r (λ v. tokens_of content.now ≡ AllRead (map seen v.items))
+        (λ e. tokens_of content.now ≡ unread e)) }
+{
+    let mut tokens = Vec::new(alloc);
+    let mut start = 0;
+    let mut rest = content;
+    'tokens: while !rest.is_empty() {
+        match read_at(rest.as_bytes()) {
+            Read::Blank => {
+                start += 1;
+                rest = &rest[1..];
+            }
+            Read::Token(kind, len) => {
+                let end = start + len;
+                let (text, behind) = rest.split_at(len);
+                let span = Span {
+                    start: start as u32,
+                    end: end as u32,
+                };
+                tokens.push(Token { kind, text, span })?;
+                start = end;
+                rest = behind;
+            }
+            Read::BadCharacter => {
+                let end = start + 1 + inside_len(&rest.as_bytes()[1..]);
+                return Ok(Err(LexError::BadCharacter(Span {
+                    start: start as u32,
+                    end: end as u32,
+                })));
+            }
+            Read::OpenText => return Ok(Err(LexError::OpenText)),
+        }
+    }
+    Ok(Ok(tokens))
+}
+
+/// The last quote.
+fn last_quote(bytes: &[u8]) -> Option<usize>
+    ensures value { result ≡ last_quote bytes.now }
+    ensures within { IfSome result (λ n. n < length bytes.now) }
+{
+    let mut last = None;
+    for (i, b) in bytes.iter().enumerate() {
+        if *b == b'\'' {
+            last = Some(i);
+        }
+    }
+    last
+}
+
+/// The tokens of a content, in order; their texts and places are those in the content.
+///
+/// The fault is X1 at the first character that begins no token, or X2 at the content's last quote where a text is never
+/// closed. The outer error: out of memory.
+pub fn lex(alloc: Global, content: &str) -> Result<Result<Vec<Token>, Fault>, AllocError>
+    requires { length content.now ≤ longest_text }
+    ensures { IfOk result (λ r. MatchResult r (λ v. tokens_of content.now ≡ AllRead (map seen v.items))
+        (λ f. fault_of_lexed content.now (tokens_of content.now) ≡ Some f)) }
+{
+    match tokens(alloc, content)? {
+        Ok(read) => Ok(Ok(read)),
+        Err(LexError::BadCharacter(span)) => Ok(Err(plain_fault(
+            ExpressionCode::BadCharacter,
+            span,
+        ))),
+        Err(LexError::OpenText) => {
+            let Some(quote) = last_quote(content.as_bytes()) else {
+                unreachable!()
+            };
+            let span = Span {
+                start: quote as u32,
+                end: quote as u32 + 1,
+            };
+            Ok(Err(plain_fault(ExpressionCode::UnclosedText, span)))
+        }
+    }
+}

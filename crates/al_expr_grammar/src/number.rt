@@ -1,0 +1,112 @@
+//! How far a number reaches.
+
+ghost use Rattle.std.specs.Prelude.{◌≡◌, ◌≤◌, ◌<◌, ◌+◌, ◌^◌, length};
+ghost use Rattle.al_expr_grammar.specs.Tokens.{is_digit, is_hex_digit, run, with_digits, fraction_len, exponent_len, hex_len, decimal_len};
+ghost use Rattle.al_expr_grammar.specs.Tokens.{unsigned_len, number_len};
+
+/// Whether a byte is a decimal digit.
+pub fn digit(b: u8) -> bool
+    ensures { result ≡ is_digit b }
+{
+    b'0' <= b && b <= b'9'
+}
+
+/// Whether a byte is a hexadecimal digit, of either case.
+fn hex_digit(b: u8) -> bool
+    ensures { result ≡ is_hex_digit b }
+{
+    digit(b) || (b'A' <= b && b <= b'F') || (b'a' <= b && b <= b'f')
+}
+
+/// How many digits stand at the front.
+fn digits(bytes: &[u8]) -> usize
+    ensures value { result ≡ run is_digit bytes.now }
+    ensures within { result ≤ length bytes.now }
+{
+    bytes.iter().take_while(|b| digit(**b)).count()
+}
+
+/// How many hexadecimal digits stand at the front.
+fn hex_digits(bytes: &[u8]) -> usize
+    ensures value { result ≡ run is_hex_digit bytes.now }
+    ensures within { result ≤ length bytes.now }
+{
+    bytes.iter().take_while(|b| hex_digit(**b)).count()
+}
+
+/// The length of a part that is there only with a digit: so many bytes, then digits.
+fn with(lead: usize, digits: usize) -> usize
+    requires { lead + digits < 2 ^ 64 }
+    ensures { result ≡ with_digits lead digits }
+{
+    if digits == 0 { 0 } else { lead + digits }
+}
+
+/// The length of a dot with digits at the front, or 0.
+fn fraction(bytes: &[u8]) -> usize
+    ensures value { result ≡ fraction_len bytes.now }
+    ensures within { result ≤ length bytes.now }
+{
+    match bytes {
+        [b'.', rest @ ..] => with(1, digits(rest)),
+        _ => 0,
+    }
+}
+
+/// The length of an exponent at the front, or 0.
+fn exponent(bytes: &[u8]) -> usize
+    ensures value { result ≡ exponent_len bytes.now }
+    ensures within { result ≤ length bytes.now }
+{
+    match bytes {
+        [b'e' | b'E', rest @ ..] => match rest {
+            [b'+' | b'-', rest @ ..] => with(2, digits(rest)),
+            _ => with(1, digits(rest)),
+        },
+        _ => 0,
+    }
+}
+
+/// The length of a hexadecimal number at the front, or 0.
+fn hexadecimal(bytes: &[u8]) -> usize
+    ensures value { result ≡ hex_len bytes.now }
+    ensures within { result ≤ length bytes.now }
+{
+    match bytes {
+        [b'0', b'x', rest @ ..] => with(2, hex_digits(rest)),
+        _ => 0,
+    }
+}
+
+/// The length of a decimal number at the front, or 0.
+fn decimal(bytes: &[u8]) -> usize
+    ensures value { result ≡ decimal_len bytes.now }
+    ensures within { result ≤ length bytes.now }
+{
+    let whole = digits(bytes);
+    if whole == 0 {
+        return 0;
+    }
+    let rest = &bytes[whole..];
+    let part = fraction(rest);
+    whole + part + exponent(&rest[part..])
+}
+
+/// The length of a number without a sign at the front, or 0.
+fn unsigned(bytes: &[u8]) -> usize
+    ensures value { result ≡ unsigned_len bytes.now }
+    ensures within { result ≤ length bytes.now }
+{
+    hexadecimal(bytes).max(decimal(bytes))
+}
+
+/// The length of the number at the front, the longest that fits, or 0 where there is none.
+pub fn number(bytes: &[u8]) -> usize
+    ensures value { result ≡ number_len bytes.now }
+    ensures within { result ≤ length bytes.now }
+{
+    match bytes {
+        [b'+' | b'-', rest @ ..] => with(1, unsigned(rest)),
+        _ => unsigned(bytes),
+    }
+}

@@ -1,0 +1,406 @@
+//! The tree that tokens spell, level by level of the operators.
+
+ghost use Rattle.std.specs.Prelude.{map, IfOk, ◌≡◌, ◌≢◌, ◌+◌, ◌<◌, MatchOption, MatchResult, List, [], ◌∷◌, string_bytes};
+ghost use Rattle.al_expr_grammar.specs.Lexeme.{seen, kinds, kind_of, text_of, span_of};
+ghost use Rattle.al_expr_grammar.specs.Private.Parsed.{EndsPath, IsStray, NoOperator, Parses, ParsesStep, StepRead, StepRefused, ArgumentsRead};
+ghost use Rattle.al_expr_grammar.specs.Private.Parsed.{ArgumentsRefused, NoClose, NoBang, IsVerdict};
+ghost use Rattle.al_expr_grammar.specs.View.{tree_of, step_of, operand_of};
+ghost use Rattle.al_expr_grammar.specs.Tree.{path_of, chain_of};
+ghost use Rattle.al_expr_grammar.specs.Grammar.{Binary, Unary, Postfix, Primary, level_of, below, IsTreeOf};
+ghost use Rattle.al_expr_grammar.specs.Table.{Fine, verdict_of};
+ghost use Rattle.al_expr_grammar.specs.declared.parser.ParseError.TheVariants.{Memory, TooDeep};
+ghost use Rattle.al_expr_grammar.specs.declared.token.TokenKind.{TokenKind};
+ghost use Rattle.al_expr_grammar.specs.declared.token.TokenKind.TheVariants.{Infix, Name, Open, OpenIndex, Close, Dot};
+
+use crate::ast::{Expr, Operand, PathStep, Word};
+use crate::token::{Operator, Token, TokenKind};
+use al_base::limits::DEEPEST_EXPRESSION;
+use std::alloc::{AllocError, AllocFailed, Global};
+
+/// Why tokens were not read, with how many are left where the fault stands, the faulty one included.
+#[derive(Clone, Copy, Debug)]
+pub enum ParseError {
+    Memory,
+    Early,
+    Unexpected(usize),
+    TooDeep(usize),
+}
+
+impl From<AllocError> for ParseError {
+    ghost from_gives = { λ _ e. e ≡ Memory };
+
+    fn from(_error: AllocError) -> ParseError {
+        ParseError::Memory
+    }
+}
+
+impl<T: Drop> From<AllocFailed<T>> for ParseError {
+    ghost from_gives = { λ _ e. e ≡ Memory };
+
+    fn from(_error: AllocFailed<T>) -> ParseError {
+        ParseError::Memory
+    }
+}
+
+/// The level of an operator, the loosest first.
+fn level_of(operator: Operator) -> u8
+    ensures { result ≡ level_of operator }
+{
+    match operator {
+        Operator::Or => 0,
+        Operator::And => 1,
+        Operator::Equal | Operator::NotEqual => 2,
+        Operator::Less | Operator::LessEqual | Operator::Greater | Operator::GreaterEqual => 3,
+    }
+}
+
+/// The first token, and the others.
+fn split<'t, 'a>(tokens: &'t [Token<'a>]) -> Option<(Token<'a>, &'t [Token<'a>])>
+    ensures { MatchOption result (map seen tokens.now ≡ []) (λ x. map seen tokens.now ≡ seen x.0 ∷ map seen x.1.now) }
+{
+    match tokens {
+        [] => None,
+        [first, rest @ ..] => Some((*first, rest)),
+    }
+}
+
+/// A token's text with its place.
+fn word(alloc: Global, token: Token) -> Result<Word, AllocError>
+    ensures text { IfOk result (λ w. string_bytes w.text ≡ text_of (seen token.entry)) }
+    ensures span { IfOk result (λ w. w.span ≡ span_of (seen token.entry)) }
+{
+    let text = String::from_str(alloc, token.text)?;
+    Ok(Word {
+        text,
+        span: token.span,
+    })
+}
+
+/// The path from a base, which is the base itself where there is no step.
+fn with_steps(alloc: Global, base: Expr, steps: Vec<PathStep>) -> Result<Expr, AllocError>
+    ensures { IfOk result (λ e. tree_of e ≡ path_of (tree_of base) (map step_of steps.items)) }
+{
+    if steps.len() == 0 {
+        return Ok(base);
+    }
+    Ok(Expr::Path(Box::new(alloc, base)?, steps))
+}
+
+/// The chain from a first operand, which is the operand itself where there is no other.
+fn with_operands(alloc: Global, first: Expr, more: Vec<Operand>) -> Result<Expr, AllocError>
+    ensures { IfOk result (λ e. tree_of e ≡ chain_of (tree_of first) (map operand_of more.items)) }
+{
+    if more.len() == 0 {
+        return Ok(first);
+    }
+    Ok(Expr::Chain(Box::new(alloc, first)?, more))
+}
+
+/// The token of this kind that has to come first, and what follows it.
+fn past<'t, 'a>(
+    tokens: &'t [Token<'a>],
+    kind: TokenKind,
+) -> Result<(Token<'a>, &'t [Token<'a>]), ParseError>
+    ensures { MatchResult result (λ x. (map seen tokens.now ≡ seen x.0 ∷ map seen x.1.now) × (kind_of (seen x.0) ≡ kind))
+        (λ e. IsStray (map seen tokens.now) kind e) }
+{
+    let Some((first, rest)) = split(tokens) else {
+        return Err(ParseError::Early);
+    };
+    if first.kind == kind {
+        Ok((first, rest))
+    } else {
+        Err(ParseError::Unexpected(tokens.len()))
+    }
+}
+
+/// An operator of this level at the front, with the tokens behind it.
+fn operator<'t, 'a>(
+    level: u8,
+    tokens: &'t [Token<'a>],
+) -> Option<(Operator, Token<'a>, &'t [Token<'a>])>
+    ensures { MatchOption result (NoOperator level (kinds (map seen tokens.now)))
+        (λ x. (map seen tokens.now ≡ seen x.1 ∷ map seen x.2.now) × (kind_of (seen x.1) ≡ Infix x.0) × (level_of x.0 ≡ level)) }
+{
+    let Some((first, rest)) = split(tokens) else {
+        return None;
+    };
+    match first.kind {
+        TokenKind::Infix(operator) => if level_of(operator) == level {
+            Some((operator, first, rest))
+        } else {
+            None
+        },
+        _ => None,
+    }
+}
+
+/// The first token where it is of this kind, and what follows it.
+fn after<'t, 'a>(tokens: &'t [Token<'a>], kind: TokenKind) -> Option<(Token<'a>, &'t [Token<'a>])>
+    ensures { MatchOption result ((rest : List TokenKind) → kinds (map seen tokens.now) ≢ kind ∷ rest)
+        (λ x. (map seen tokens.now ≡ seen x.0 ∷ map seen x.1.now) × (kind_of (seen x.0) ≡ kind)) }
+{
+    let (first, rest) = split(tokens)?;
+    if first.kind == kind {
+        Some((first, rest))
+    } else {
+        None
+    }
+}
+
+/// The nesting that is left inside a bracket or behind a `!`, with so many tokens left, it included.
+fn deeper(room: u32, left: usize) -> Result<u32, ParseError>
+    ensures { MatchResult result (λ inner. inner + 1 ≡ room) (λ e. (room ≡ 0) × (e ≡ TooDeep left)) }
+{
+    if room == 0 {
+        return Err(ParseError::TooDeep(left));
+    }
+    Ok(room - 1)
+}
+
+/// The property that a dot leads to.
+fn property<'t, 'a>(
+    alloc: Global,
+    dot: Token,
+    tokens: &'t [Token<'a>],
+    room: u32,
+) -> Result<(PathStep, &'t [Token<'a>]), ParseError>
+    requires { kind_of (seen dot) ≡ Dot }
+    ensures { ParsesStep room (seen dot.entry ∷ map seen tokens.now) result }
+{
+    let Some((first, rest)) = split(tokens) else {
+        return Err(ParseError::Early);
+    };
+    match first.kind {
+        TokenKind::Name | TokenKind::Keyword(_) => {
+            Ok((PathStep::Property(dot.span, word(alloc, first)?), rest))
+        }
+        TokenKind::Star => Ok((PathStep::All(dot.span, first.span), rest)),
+        _ => Err(ParseError::Unexpected(tokens.len())),
+    }
+}
+
+/// A literal, a name, a call or brackets, at the front.
+#[cycle(parser)]
+fn primary<'t, 'a>(
+    alloc: Global,
+    tokens: &'t [Token<'a>],
+    room: u32,
+) -> Result<(Expr, &'t [Token<'a>]), ParseError>
+    requires { NoBang (kinds (map seen tokens.now)) }
+    ensures { Parses Primary room (map seen tokens.now) result }
+{
+    let Some((first, rest)) = split(tokens) else {
+        return Err(ParseError::Early);
+    };
+    match first.kind {
+        TokenKind::Keyword(keyword) => Ok((Expr::Keyword(keyword, first.span), rest)),
+        TokenKind::Number => Ok((Expr::Number(word(alloc, first)?), rest)),
+        TokenKind::Text => Ok((Expr::Text(word(alloc, first)?), rest)),
+        TokenKind::Open => group(alloc, first, rest, room),
+        TokenKind::Name => match after(rest, TokenKind::Open) {
+            Some((bracket, inner)) => call(alloc, first, bracket, inner, room),
+            None => Ok((Expr::Name(word(alloc, first)?), rest)),
+        },
+        _ => Err(ParseError::Unexpected(tokens.len())),
+    }
+}
+
+/// Brackets, behind the opening one.
+#[cycle(parser)]
+fn group<'t, 'a>(
+    alloc: Global,
+    bracket: Token,
+    tokens: &'t [Token<'a>],
+    room: u32,
+) -> Result<(Expr, &'t [Token<'a>]), ParseError>
+    requires { kind_of (seen bracket) ≡ Open }
+    ensures { Parses Primary room (seen bracket.entry ∷ map seen tokens.now) result }
+{
+    let inner = deeper(room, tokens.len() + 1)?;
+    let (expr, left) = binary(alloc, 0, tokens, inner)?;
+    let (close, rest) = past(left, TokenKind::Close)?;
+    Ok((
+        Expr::Group(Box::new(alloc, expr)?, bracket.span, close.span),
+        rest,
+    ))
+}
+
+/// A call, behind its name and opening bracket.
+#[cycle(parser)]
+fn call<'t, 'a>(
+    alloc: Global,
+    name: Token,
+    bracket: Token,
+    tokens: &'t [Token<'a>],
+    room: u32,
+) -> Result<(Expr, &'t [Token<'a>]), ParseError>
+    requires name { kind_of (seen name) ≡ Name }
+    requires bracket { kind_of (seen bracket) ≡ Open }
+    ensures { Parses Primary room (seen name.entry ∷ seen bracket.entry ∷ map seen tokens.now) result }
+{
+    let inner = deeper(room, tokens.len() + 1)?;
+    let function = word(alloc, name)?;
+    if let Some((close, rest)) = after(tokens, TokenKind::Close) {
+        return Ok((Expr::Call(function, Vec::new(alloc), close.span), rest));
+    }
+    let (given, left) = arguments(alloc, tokens, inner)?;
+    let (close, rest) = past(left, TokenKind::Close)?;
+    Ok((Expr::Call(function, given, close.span), rest))
+}
+
+/// The arguments of a call, of which there is at least one.
+#[cycle(parser)]
+fn arguments<'t, 'a>(
+    alloc: Global,
+    tokens: &'t [Token<'a>],
+    room: u32,
+) -> Result<(Vec<Expr>, &'t [Token<'a>]), ParseError>
+    requires { NoClose (kinds (map seen tokens.now)) }
+    ensures { MatchResult result (λ x. ArgumentsRead room (map seen tokens.now) (map tree_of x.0.items) (map seen x.1.now))
+        (λ e. ArgumentsRefused room (map seen tokens.now) e) }
+{
+    let (first, mut left) = binary(alloc, 0, tokens, room)?;
+    let mut given = Vec::new(alloc);
+    given.push(first)?;
+    'list: while let Some((_, next)) = after(left, TokenKind::Comma) {
+        let (argument, rest) = binary(alloc, 0, next, room)?;
+        given.push(argument)?;
+        left = rest;
+    }
+    Ok((given, left))
+}
+
+/// An operand with the steps behind it.
+#[cycle(parser)]
+fn postfix<'t, 'a>(
+    alloc: Global,
+    tokens: &'t [Token<'a>],
+    room: u32,
+) -> Result<(Expr, &'t [Token<'a>]), ParseError>
+    requires { NoBang (kinds (map seen tokens.now)) }
+    ensures { Parses Postfix room (map seen tokens.now) result }
+{
+    let (base, mut left) = primary(alloc, tokens, room)?;
+    let mut steps = Vec::new(alloc);
+    'walk: while let Some((taken, rest)) = step(alloc, left, room)? {
+        steps.push(taken)?;
+        left = rest;
+    }
+    Ok((with_steps(alloc, base, steps)?, left))
+}
+
+/// A step at the front, or none where no path goes on.
+#[cycle(parser)]
+fn step<'t, 'a>(
+    alloc: Global,
+    tokens: &'t [Token<'a>],
+    room: u32,
+) -> Result<Option<(PathStep, &'t [Token<'a>])>, ParseError>
+    ensures { MatchResult result (λ o. MatchOption o (EndsPath (kinds (map seen tokens.now)))
+        (λ x. StepRead room (map seen tokens.now) (step_of x.0) (map seen x.1.now)))
+        (λ e. StepRefused room (map seen tokens.now) e) }
+{
+    let Some((first, rest)) = split(tokens) else {
+        return Ok(None);
+    };
+    match first.kind {
+        TokenKind::Dot => Ok(Some(property(alloc, first, rest, room)?)),
+        TokenKind::OpenIndex => Ok(Some(index(alloc, first, rest, room)?)),
+        _ => Ok(None),
+    }
+}
+
+/// An index, behind its opening bracket.
+#[cycle(parser)]
+fn index<'t, 'a>(
+    alloc: Global,
+    bracket: Token,
+    tokens: &'t [Token<'a>],
+    room: u32,
+) -> Result<(PathStep, &'t [Token<'a>]), ParseError>
+    requires { kind_of (seen bracket) ≡ OpenIndex }
+    ensures { ParsesStep room (seen bracket.entry ∷ map seen tokens.now) result }
+{
+    let inner = deeper(room, tokens.len() + 1)?;
+    if let Some((_, left)) = after(tokens, TokenKind::Star) {
+        let (close, rest) = past(left, TokenKind::CloseIndex)?;
+        return Ok((PathStep::All(bracket.span, close.span), rest));
+    }
+    let (expr, left) = binary(alloc, 0, tokens, inner)?;
+    let (close, rest) = past(left, TokenKind::CloseIndex)?;
+    Ok((PathStep::Index(bracket.span, expr, close.span), rest))
+}
+
+/// An operand of the tightest operators: negations, or none, before a path.
+#[cycle(parser)]
+fn unary<'t, 'a>(
+    alloc: Global,
+    tokens: &'t [Token<'a>],
+    room: u32,
+) -> Result<(Expr, &'t [Token<'a>]), ParseError>
+    ensures { Parses Unary room (map seen tokens.now) result }
+{
+    let Some((bang, inner)) = after(tokens, TokenKind::Bang) else {
+        return postfix(alloc, tokens, room);
+    };
+    let within = deeper(room, tokens.len())?;
+    let (expr, rest) = unary(alloc, inner, within)?;
+    Ok((Expr::Not(bang.span, Box::new(alloc, expr)?), rest))
+}
+
+/// Operands with the operators of one level between them.
+#[cycle(parser)]
+fn binary<'t, 'a>(
+    alloc: Global,
+    level: u8,
+    tokens: &'t [Token<'a>],
+    room: u32,
+) -> Result<(Expr, &'t [Token<'a>]), ParseError>
+    requires { level < 4 }
+    ensures { Parses (Binary level) room (map seen tokens.now) result }
+{
+    let (first, mut left) = operand(alloc, level, tokens, room)?;
+    let mut more = Vec::new(alloc);
+    'chain: while let Some((found, sign, inner)) = operator(level, left) {
+        let (expr, rest) = operand(alloc, level, inner, room)?;
+        more.push(Operand {
+            operator: found,
+            at: sign.span,
+            expr,
+        })?;
+        left = rest;
+    }
+    Ok((with_operands(alloc, first, more)?, left))
+}
+
+/// An operand of a level.
+#[cycle(parser)]
+fn operand<'t, 'a>(
+    alloc: Global,
+    level: u8,
+    tokens: &'t [Token<'a>],
+    room: u32,
+) -> Result<(Expr, &'t [Token<'a>]), ParseError>
+    requires { level < 4 }
+    ensures { Parses (below level) room (map seen tokens.now) result }
+{
+    if level < 3 {
+        binary(alloc, level + 1, tokens, room)
+    } else {
+        unary(alloc, tokens, room)
+    }
+}
+
+/// The tree of the tokens, or the first fault in them.
+pub fn parse(alloc: Global, tokens: &[Token]) -> Result<Expr, ParseError>
+    ensures { MatchResult result (λ e. (verdict_of (kinds (map seen tokens.now)) ≡ Fine) × IsTreeOf (tree_of e) (map seen tokens.now))
+        (λ e. IsVerdict e (verdict_of (kinds (map seen tokens.now)))) }
+{
+    let (expr, rest) = binary(alloc, 0, tokens, DEEPEST_EXPRESSION)?;
+    if rest.is_empty() {
+        Ok(expr)
+    } else {
+        Err(ParseError::Unexpected(rest.len()))
+    }
+}

@@ -1,0 +1,43 @@
+//! Chunks and tokens of small texts that were worked out by hand, computed by the definitions.
+ghost use Rattle.al_expr_grammar.specs.Rows.Chunks.{closed, cut_off};
+ghost use Rattle.al_expr_grammar.specs.Rows.Tokens as row;
+ghost use Rattle.al_expr_grammar.specs.Chunks.{chunks_of};
+ghost use Rattle.al_expr_grammar.specs.Tokens.{AllRead, Bad, Unclosed, last_quote, span, tokens_of};
+ghost use Rattle.al_base.specs.declared.codes.ExpressionCode.TheVariants.{UnclosedChunk, UnclosedText};
+ghost use Rattle.std.specs.Prelude.{◌≡◌, [], ◌∷◌, codes, None, Some};
+
+/// Where the contents of chunks lie in some texts, and what is wrong at their ends. Does nothing.
+pub fn chunk_rows()
+    ensures none { chunks_of (codes "a $''{{ }} b") ≡ closed [] }
+    ensures closing_in_quotes { chunks_of (codes "a ${{ 'x}}' }} b") ≡ closed ((5, 12) ∷ []) }
+    ensures quotes_outside { chunks_of (codes "a'''${{a }}${{}} ") ≡ closed ((7, 9) ∷ (14, 14) ∷ []) }
+    ensures opening_inside { chunks_of (codes "x${{\n{$ }}$${{} ${{ a }}") ≡ closed ((4, 8) ∷ (14, 22) ∷ []) }
+    ensures three { chunks_of (codes "{${{'}}'${{ a }}${{}}${{ a }}") ≡ closed ((4, 14) ∷ (19, 19) ∷ (24, 27) ∷ []) }
+    ensures quote_open { chunks_of (codes "${{  }}a${{'}}' }}${{ '") ≡ cut_off ((3, 5) ∷ (11, 16) ∷ []) UnclosedText (22, 23) }
+    ensures last_quote { chunks_of (codes "${{$ ${{  }}${{ '''{''${{") ≡ cut_off ((3, 10) ∷ []) UnclosedText (21, 22) }
+    ensures braces_alone { chunks_of (codes "${{$") ≡ cut_off [] UnclosedChunk (0, 3) }
+    ensures braces_behind { chunks_of (codes "$''${{}${{ a }}${{ ") ≡ cut_off ((6, 13) ∷ []) UnclosedChunk (15, 18) }
+    ensures quotes_closed { chunks_of (codes "}${{x''${{ a }}\n'x${{ \n''") ≡ cut_off ((4, 13) ∷ []) UnclosedChunk (18, 21) }
+{}
+
+/// The tokens of some contents, or where one stands that has none. Does nothing.
+pub fn token_rows()
+    ensures none { tokens_of (codes " \n") ≡ AllRead [] }
+    ensures path { tokens_of (codes "a . b-1") ≡ AllRead (row.name (codes "a") 0 ∷ row.dot (codes ".") 2 ∷ row.name (codes "b-1") 4 ∷ []) }
+    ensures quotes { tokens_of (codes " 'it''s'''") ≡ AllRead (row.text (codes "'it''s'''") 1 ∷ []) }
+    ensures texts { tokens_of (codes "'a' ''") ≡ AllRead (row.text (codes "'a'") 0 ∷ row.text (codes "''") 4 ∷ []) }
+    ensures longest_number { tokens_of (codes "-1.5e3.2") ≡ AllRead (row.number (codes "-1.5e3") 0 ∷ row.dot (codes ".") 6
+        ∷ row.number (codes "2") 7 ∷ []) }
+    ensures no_exponent { tokens_of (codes "1e 0x") ≡ AllRead (row.number (codes "1") 0 ∷ row.name (codes "e") 1
+        ∷ row.number (codes "0") 3 ∷ row.name (codes "x") 4 ∷ []) }
+    ensures words { tokens_of (codes "true trues") ≡ AllRead (row.word_true (codes "true") 0 ∷ row.name (codes "trues") 5 ∷ []) }
+    ensures longest_mark { tokens_of (codes "<=<") ≡ AllRead (row.less_equal (codes "<=") 0 ∷ row.less (codes "<") 2 ∷ []) }
+    ensures bad { tokens_of (codes "a = 2") ≡ Bad (span 2 3) }
+    ensures bad_character { tokens_of (97 ∷ 195 ∷ 169 ∷ 98 ∷ []) ≡ Bad (span 1 3) }
+    ensures open { tokens_of (codes "a 'b''c") ≡ Unclosed }
+    ensures last_quote { last_quote (codes "a 'b''c") ≡ Some 5 }
+    ensures no_quote { last_quote (codes "a b") ≡ None }
+    ensures doubled_marks { tokens_of (codes "&&||==!=") ≡ AllRead (row.and (codes "&&") 0 ∷ row.or (codes "||") 2
+        ∷ row.equal (codes "==") 4 ∷ row.not_equal (codes "!=") 6 ∷ []) }
+    ensures hexadecimal { tokens_of (codes "0xaF 1E+2") ≡ AllRead (row.number (codes "0xaF") 0 ∷ row.number (codes "1E+2") 5 ∷ []) }
+{}

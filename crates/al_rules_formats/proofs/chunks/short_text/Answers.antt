@@ -1,0 +1,23 @@
+use Rattle.std.proofs.Common.{◌≡◌, ℕ, ◌≤◌, List, true, false, ◌&&◌, length, nat_le, arith, ap, ⊎_elim}
+use Rattle.std.specs.Str.{IsUtf8, is_utf8}
+use Rattle.std.proofs.lemmas.Bool.{and_from, cases_Bool}
+use Rattle.std.proofs.lemmas.Bool.Decides.{nat_tests}
+use Rattle.std.proofs.lemmas.Str.{IsUtf8-from_is_utf8, is_utf8-from_IsUtf8}
+use Rattle.al_rules_formats.specs.Chunks.{is_short}
+use Rattle.al_rules_formats.proofs.chunks.short_text.Goals as goal
+
+small : (n : ℕ) → n ≤ 4194304 → nat_le n 4194304 ≡ true
+small n h = grind (arith, nat_tests)
+
+short : (text : List ℕ) → IsUtf8 text → length text ≤ 4194304 → is_short text ≡ true
+short text u h = and_from _ _ (is_utf8-from_IsUtf8 text u) (small (length text) h)
+
+not_short : (text : List ℕ) → ¬ IsUtf8 text → is_short text ≡ false
+not_short text n =
+    ⊎_elim (λ t. absurd (n (IsUtf8-from_is_utf8 text t))) (λ f. ap (λ b. b && nat_le (length text) 4194304) f) (cases_Bool (is_utf8 text))
+
+pub returns-in-Ok : goal.returns-in-Ok
+returns-in-Ok c = (c.in-Ok.ensures.cases.0, short c.args.bytes.now c.in-Ok.ensures.cases.1 (omega arith))
+
+pub returns-in-Err : goal.returns-in-Err
+returns-in-Err c = not_short c.args.bytes.now c.in-Err.ensures.cases.0

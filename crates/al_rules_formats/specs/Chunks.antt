@@ -1,0 +1,31 @@
+-- Texts that are one expression.
+use Rattle.std.specs.Prelude.{ℕ, List, [], ◌∷◌, Bool, false, ◌&&◌, ◌+◌, ◌-◌, nat_le, length, take, drop, Option, None}
+use Rattle.std.specs.List.{list_all}
+use Rattle.std.specs.Str.{is_utf8}
+use Rattle.al_base.specs.declared.faults.Fault.{Fault}
+use Rattle.al_base.specs.declared.faults.Span.{Span}
+use Rattle.al_base.specs.Limits.{longest_text}
+use Rattle.al_expr_grammar.specs.Chunks.{chunks_of}
+use Rattle.al_expr_grammar.specs.Tokens.{is_blank}
+use Rattle.al_rules_formats.specs.declared.chunks.Around.{Around}
+use Rattle.al_rules_formats.specs.declared.chunks.Around.TheVariants.{Blanks, Nothing}
+
+-- what may stand outside the braces: nothing, or blanks and breaks
+abbrev pub may_stand : Around → ℕ → Bool
+may_stand Nothing b = false
+may_stand Blanks b = is_blank b
+
+abbrev pub stands_alone : Around → List ℕ → Span → Bool
+stands_alone around text s = list_all (may_stand around) (take (s.start - 3) text) && list_all (may_stand around) (drop (s.end + 2) text)
+
+abbrev pub is_lone : Around → List ℕ → List Span → Option Fault → Bool
+is_lone around text (s ∷ []) None = stands_alone around text s
+is_lone around text _ _ = false
+
+-- A text that has chunks: UTF-8 of at most 4,194,304 bytes, which each text of a file is.
+abbrev pub is_short : List ℕ → Bool
+is_short text = is_utf8 text && nat_le (length text) longest_text
+
+-- the text is one chunk, and outside it nothing else stands than what may
+abbrev pub is_lone_chunk : Around → List ℕ → Bool
+is_lone_chunk around text = is_short text && is_lone around text (chunks_of text).chunks (chunks_of text).fault

@@ -1,0 +1,146 @@
+-- The grammar of schedules, and their minutes (GitHub, "Events that trigger workflows", `schedule`).
+use Rattle.std.specs.Prelude.{ℕ, List, [], ◌∷◌, Bool, true, false, Option, Some, None, option_map, option_and_then, map}
+use Rattle.std.specs.Prelude.{◌-◌, ◌%◌, ◌==◌, nat_lt, nat_le, ◌&&◌, not, codes, if◌then◌else◌, find, is_some}
+use Rattle.std.specs.List.{list_all, list_any, filter, range_with_len}
+use Rattle.std.specs.Str.{bytes_eq}
+use Rattle.std.specs.Char.{is_ascii_digit}
+use Rattle.al_base.specs.Ascii as ascii
+use Rattle.al_base.specs.Digits.{decimal}
+use Rattle.al_base.specs.Names.{same_name}
+use Rattle.al_rules_formats.specs.Texts.{pieces}
+use Rattle.al_rules_formats.specs.declared.schedules.Item.{Item}
+
+-- a field takes the numbers from low to high, and names for some of them
+pub record Range : Type 0 where
+  pub low : ℕ
+  pub high : ℕ
+  pub names : List (List ℕ × ℕ)
+
+-- An item has the numbers from its low one on, each step-th one, up to its high one.
+
+abbrev pub between : ℕ → ℕ → Range
+between low high = record { low = low; high = high; names = [] }
+
+abbrev pub month_names : List (List ℕ × ℕ)
+month_names =
+    (codes "jan", 1) ∷ (codes "feb", 2) ∷ (codes "mar", 3) ∷ (codes "apr", 4) ∷ (codes "may", 5) ∷ (codes "jun", 6)
+    ∷ (codes "jul", 7) ∷ (codes "aug", 8) ∷ (codes "sep", 9) ∷ (codes "oct", 10) ∷ (codes "nov", 11) ∷ (codes "dec", 12) ∷ []
+
+abbrev pub day_names : List (List ℕ × ℕ)
+day_names =
+    (codes "sun", 0) ∷ (codes "mon", 1) ∷ (codes "tue", 2) ∷ (codes "wed", 3) ∷ (codes "thu", 4) ∷ (codes "fri", 5) ∷ (codes "sat", 6) ∷ []
+
+abbrev pub minutes : Range
+minutes = between 0 59
+
+abbrev pub hours : Range
+hours = between 0 23
+
+abbrev pub days : Range
+days = between 1 31
+
+abbrev pub months : Range
+months = record { low = 1; high = 12; names = month_names }
+
+abbrev pub weekdays : Range
+weekdays = record { low = 0; high = 6; names = day_names }
+
+abbrev pub is_empty : List ℕ → Bool
+is_empty [] = true
+is_empty (b ∷ bs) = false
+
+-- the number that digits write
+abbrev pub number_of : List ℕ → Option ℕ
+number_of bs = if not (is_empty bs) && list_all is_ascii_digit bs then Some (decimal bs) else None
+
+abbrev pub in_range : ℕ → ℕ → ℕ → Option ℕ
+in_range low high n = if nat_le low n && nat_le n high then Some n else None
+
+abbrev pub number_in : ℕ → ℕ → List ℕ → Option ℕ
+number_in low high bs = option_and_then (in_range low high) (number_of bs)
+
+-- a name without case
+abbrev pub name_in : List (List ℕ × ℕ) → List ℕ → Option ℕ
+name_in names bs = option_map (λ p. p.1) (find (λ p. same_name bs p.0) names)
+
+-- a value: a name, or a number in the range
+abbrev pub value_or : Option ℕ → Option ℕ → Option ℕ
+value_or (Some n) other = Some n
+value_or None other = other
+
+abbrev pub value_in : Range → List ℕ → Option ℕ
+value_in r bs = value_or (name_in r.names bs) (number_in r.low r.high bs)
+
+-- the numbers from one value to another in steps, if they don't descend
+abbrev pub from_to : ℕ → ℕ → ℕ → Option Item
+from_to step a b = if nat_le a b then Some (record { low = a; high = b; step = step }) else None
+
+-- what is meant by `*`, by a value (with a step all from it on) and by value-value
+abbrev pub all_in : Range → Option ℕ → Option Item
+all_in r None = from_to 1 r.low r.high
+all_in r (Some step) = from_to step r.low r.high
+
+abbrev pub from_value : Range → Option ℕ → ℕ → Option Item
+from_value r None a = from_to 1 a a
+from_value r (Some step) a = from_to step a r.high
+
+abbrev pub step_or_one : Option ℕ → ℕ
+step_or_one None = 1
+step_or_one (Some step) = step
+
+abbrev pub head_of : Range → Option ℕ → List (List ℕ) → Option Item
+head_of r step (a ∷ []) = if bytes_eq a (codes "*") then all_in r step else option_and_then (from_value r step) (value_in r a)
+head_of r step (a ∷ b ∷ []) = option_and_then (λ m. option_and_then (from_to (step_or_one step) m) (value_in r b)) (value_in r a)
+head_of r step _ = None
+
+-- a head, perhaps with a slash and a step from 1 to the greatest value
+abbrev pub item_parts : Range → List (List ℕ) → Option Item
+item_parts r (head ∷ []) = head_of r None (pieces ascii.dash head)
+item_parts r (head ∷ step ∷ []) = option_and_then (λ n. head_of r (Some n) (pieces ascii.dash head)) (number_in 1 r.high step)
+item_parts r _ = None
+
+abbrev pub item_of : Range → List ℕ → Option Item
+item_of r bs = item_parts r (pieces ascii.slash bs)
+
+-- all of them, if each is there
+abbrev pub all_of : {X : Type 0} → List (Option X) → Option (List X)
+all_of [] = Some []
+all_of (x ∷ xs) = option_and_then (λ y. option_map (λ ys. y ∷ ys) (all_of xs)) x
+
+-- items separated by commas
+abbrev pub field_of : Range → List ℕ → Option (List Item)
+field_of r bs = all_of (map (item_of r) (pieces ascii.comma bs))
+
+abbrev pub is_field : Range → List ℕ → Bool
+is_field r bs = is_some (field_of r bs)
+
+-- the texts between spaces
+abbrev pub words : List ℕ → List (List ℕ)
+words bs = filter (λ w. not (is_empty w)) (pieces ascii.space bs)
+
+-- Five fields: minutes, hours, days of the month, months, days of the week. If all are right, the minutes' items.
+abbrev pub minutes_in : List (List ℕ) → Option (List Item)
+minutes_in (m ∷ h ∷ d ∷ o ∷ w ∷ []) =
+    if is_field hours h && is_field days d && is_field months o && is_field weekdays w then field_of minutes m else None
+minutes_in _ = None
+
+abbrev pub schedule_of : List ℕ → Option (List Item)
+schedule_of bs = minutes_in (words bs)
+
+-- n is a member of an item
+abbrev pub picks : ℕ → Item → Bool
+picks n i = nat_le i.low n && nat_le n i.high && nat_lt 0 i.step && ((n - i.low) % i.step == 0)
+
+-- the set of minutes, of 60 from 0 on
+abbrev pub minute_set : List Item → List ℕ
+minute_set items = filter (λ n. list_any (picks n) items) (range_with_len 0 60)
+
+-- two of the numbers differ by less than 5
+abbrev pub is_just_below : ℕ → ℕ → Bool
+is_just_below m n = nat_lt m n && nat_lt (n - m) 5
+
+abbrev pub are_close : List ℕ → Bool
+are_close ns = list_any (λ m. list_any (is_just_below m) ns) ns
+
+abbrev pub is_too_often : List Item → Bool
+is_too_often items = are_close (minute_set items)

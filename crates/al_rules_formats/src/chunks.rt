@@ -1,0 +1,113 @@
+//! Texts that are one expression.
+
+ghost use Rattle.al_rules_formats.specs.Chunks.{is_lone_chunk as lone_chunk, is_short, may_stand, stands_alone as alone};
+ghost use Rattle.std.specs.List.{list_all};
+ghost use Rattle.std.specs.Prelude.{◌≡◌, false, true, drop, take, IfOk, MatchOption};
+
+use al_base::Span;
+use al_base::limits::LONGEST_TEXT;
+use al_expr_grammar::chunks;
+use std::alloc::{AllocError, Global};
+
+/// What may stand in a text outside the braces of its one expression.
+#[derive(Clone, Copy)]
+pub enum Around {
+    /// Nothing.
+    Nothing,
+    /// Spaces, tabs and breaks.
+    Blanks,
+}
+
+/// Whether a byte may stand outside the braces.
+fn may_be(around: Around, byte: u8) -> bool
+    ensures { result ≡ may_stand around byte }
+{
+    match around {
+        Around::Nothing => false,
+        Around::Blanks => matches!(byte, b' ' | b'\t' | b'\n' | b'\r'),
+    }
+}
+
+/// Whether all of some bytes may.
+fn may_all(around: Around, bytes: &[u8]) -> bool
+    ensures { result ≡ list_all (may_stand around) bytes.now }
+{
+    for byte in bytes {
+        if !may_be(around, *byte) {
+            return false;
+        }
+    }
+    true
+}
+
+/// The first bytes of a text.
+fn front(bytes: &[u8], count: usize) -> &[u8]
+    ensures { result.now ≡ take count bytes.now }
+{
+    if count < bytes.len() {
+        &bytes[..count]
+    } else {
+        bytes
+    }
+}
+
+/// What stands behind the first bytes of a text.
+fn back(bytes: &[u8], count: usize) -> &[u8]
+    ensures { result.now ≡ drop count bytes.now }
+{
+    if count < bytes.len() {
+        &bytes[count..]
+    } else {
+        &[]
+    }
+}
+
+/// Whether nothing but what may stands outside the braces of a chunk.
+fn stands_alone(around: Around, bytes: &[u8], content: Span) -> bool
+    ensures { result ≡ alone around bytes.now content }
+{
+    may_all(
+        around,
+        front(bytes, (content.start as usize).saturating_sub(3)),
+    ) && may_all(around, back(bytes, content.end as usize + 2))
+}
+
+/// A text that has chunks.
+fn short_text(bytes: &[u8]) -> Option<&str>
+    ensures { MatchOption result (is_short bytes.now ≡ false) (λ s. (s.now ≡ bytes.now) × (is_short bytes.now ≡ true)) }
+{
+    if bytes.len() > LONGEST_TEXT {
+        return None;
+    }
+    match str::from_utf8(bytes) {
+        Ok(text) => Some(text),
+        Err(_) => None,
+    }
+}
+
+/// Whether a text is one chunk.
+fn has_lone_chunk(alloc: Global, around: Around, text: &str) -> Result<bool, AllocError>
+    requires { is_short text.now ≡ true }
+    ensures { IfOk result (λ r. r ≡ lone_chunk around text.now) }
+{
+    let (found, fault) = chunks(alloc, text)?;
+    if fault.is_some() {
+        return Ok(false);
+    }
+    match found.as_slice() {
+        [chunk] => Ok(stands_alone(around, text.as_bytes(), chunk.span)),
+        _ => Ok(false),
+    }
+}
+
+/// Whether a text is one expression, `${{ .. }}`, outside whose braces nothing else stands than what may.
+///
+/// A text over 4,194,304 bytes, or that isn't UTF-8, is none: no file has such a text. Fails with `AllocError` when out of memory.
+pub fn is_lone_chunk(alloc: Global, around: Around, text: &[u8]) -> Result<bool, AllocError>
+    ensures { IfOk result (λ r. r ≡ lone_chunk around text.now) }
+{
+    match short_text(text) {
+        Some(text) => has_lone_chunk(alloc, around, text),
+        None => Ok(false),
+    }
+}

@@ -1,0 +1,70 @@
+//! The names that jobs, steps and environment variables take.
+
+ghost use Rattle.al_rules_formats.specs.Names.{begins_id, continues_id, is_id as id, is_variable as variable, is_variable_byte};
+ghost use Rattle.std.specs.List.{list_all};
+ghost use Rattle.std.specs.Prelude.{◌≡◌};
+
+/// Whether a byte may begin an id.
+fn begins(byte: u8) -> bool
+    ensures { result ≡ begins_id byte }
+{
+    byte.is_ascii_alphabetic() || byte == b'_'
+}
+
+/// Whether a byte may stand in an id behind the first one.
+fn continues(byte: u8) -> bool
+    ensures { result ≡ continues_id byte }
+{
+    byte.is_ascii_alphanumeric() || byte == b'_' || byte == b'-'
+}
+
+/// Whether all of some bytes may.
+fn all_continue(bytes: &[u8]) -> bool
+    ensures { result ≡ list_all continues_id bytes.now }
+{
+    for byte in bytes {
+        if !continues(*byte) {
+            return false;
+        }
+    }
+    true
+}
+
+/// Whether a text is an id of a job or a step: an ASCII letter or `_`, and then ASCII letters, digits, `_` and `-`.
+pub fn is_id(text: &[u8]) -> bool
+    ensures { result ≡ id text.now }
+{
+    match text {
+        [first, rest @ ..] => begins(*first) && all_continue(rest),
+        [] => false,
+    }
+}
+
+/// Whether a byte may stand in the name of an environment variable.
+fn may_name(byte: u8) -> bool
+    ensures { result ≡ is_variable_byte byte }
+{
+    !matches!(byte, b' ' | b'=' | b'&')
+}
+
+/// Whether all of some bytes may.
+fn may_all_name(bytes: &[u8]) -> bool
+    ensures { result ≡ list_all is_variable_byte bytes.now }
+{
+    for byte in bytes {
+        if !may_name(*byte) {
+            return false;
+        }
+    }
+    true
+}
+
+/// Whether a text is the name of an environment variable: it isn't empty, and has no space, `=` or `&`.
+pub fn is_variable(text: &[u8]) -> bool
+    ensures { result ≡ variable text.now }
+{
+    match text {
+        [] => false,
+        [_, ..] => may_all_name(text),
+    }
+}

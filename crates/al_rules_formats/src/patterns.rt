@@ -1,0 +1,161 @@
+//! Filter patterns, of branches, tags and paths (GitHub, "Workflow syntax", "Filter pattern cheat sheet").
+
+ghost use Rattle.al_rules_formats.specs.Patterns.{are_items as items, behind_not as without_not, has_barred as barred, is_barred};
+ghost use Rattle.al_rules_formats.specs.Patterns.{is_pattern as pattern, is_relative as relative, is_right};
+ghost use Rattle.al_rules_formats.specs.Private.PatternStates.{outside as outside_class, read as read_one};
+ghost use Rattle.std.specs.List.{list_any};
+ghost use Rattle.std.specs.Prelude.{◌≡◌, IfOk};
+ghost use Rattle.std.specs.Str.{chars};
+
+use std::alloc::{AllocError, Global};
+
+/// What a filter pattern is matched with.
+#[derive(Clone, Copy)]
+pub enum Filter {
+    /// The names of branches or tags.
+    Names,
+    /// The paths of changed files.
+    Paths,
+}
+
+/// Where a filter pattern stands.
+#[derive(Clone, Copy)]
+pub(crate) enum State {
+    /// Before its first item.
+    FirstItem,
+    /// Behind an item.
+    AfterItem,
+    /// Behind a `\`.
+    AfterEscape,
+    /// In a class that has nothing yet.
+    ClassFirst,
+    /// In a class, behind a range.
+    ClassNext,
+    /// In a class, behind a character that may begin a range.
+    ClassLow(char),
+    /// In a class, behind that and a `-`.
+    ClassDash(char),
+}
+
+/// One more character outside a class, behind an item or not.
+fn outside(is_behind: bool, c: char) -> Option<State>
+    ensures { result ≡ outside_class is_behind c }
+{
+    match c {
+        '\\' => Some(State::AfterEscape),
+        '[' => Some(State::ClassFirst),
+        '?' | '+' if is_behind => Some(State::AfterItem),
+        '?' | '+' => None,
+        _ => Some(State::AfterItem),
+    }
+}
+
+/// One more character, if it may stand there.
+fn read(state: State, c: char) -> Option<State>
+    ensures { result ≡ read_one state c }
+{
+    match state {
+        State::FirstItem => outside(false, c),
+        State::AfterItem => outside(true, c),
+        State::AfterEscape => Some(State::AfterItem),
+        State::ClassFirst if c == ']' => None,
+        State::ClassFirst => Some(State::ClassLow(c)),
+        State::ClassNext | State::ClassLow(_) | State::ClassDash(_) if c == ']' => {
+            Some(State::AfterItem)
+        }
+        State::ClassNext => Some(State::ClassLow(c)),
+        State::ClassLow(low) if c == '-' => Some(State::ClassDash(low)),
+        State::ClassLow(_) => Some(State::ClassLow(c)),
+        State::ClassDash(low) if c < low => None,
+        State::ClassDash(_) => Some(State::ClassNext),
+    }
+}
+
+/// Whether characters are one or more items.
+fn are_items(characters: &[char]) -> bool
+    ensures { result ≡ items characters.now }
+{
+    let mut state = State::FirstItem;
+    for c in characters {
+        match read(state, *c) {
+            Some(next) => state = next,
+            None => return false,
+        }
+    }
+    matches!(state, State::AfterItem)
+}
+
+/// The characters behind a `!` at the start.
+fn behind_not(characters: &[char]) -> &[char]
+    ensures { result.now ≡ without_not characters.now }
+{
+    match characters {
+        ['!', rest @ ..] => rest,
+        _ => characters,
+    }
+}
+
+/// Whether a path begins with `./`.
+fn is_relative(characters: &[char]) -> bool
+    ensures { result ≡ relative characters.now }
+{
+    matches!(characters, ['.', '/', ..])
+}
+
+/// Whether filters of branches and tags may not have a character.
+fn is_barred_character(c: char) -> bool
+    ensures { result ≡ is_barred c }
+{
+    matches!(c, ' ' | '~' | '^' | ':')
+}
+
+/// Whether one of some characters is such a one.
+fn has_barred_character(characters: &[char]) -> bool
+    ensures { result ≡ list_any is_barred characters.now }
+{
+    for c in characters {
+        if is_barred_character(*c) {
+            return true;
+        }
+    }
+    false
+}
+
+/// Whether a filter has what filters of its kind may not have.
+fn has_barred(filter: Filter, characters: &[char]) -> bool
+    ensures { result ≡ barred filter characters.now }
+{
+    match filter {
+        Filter::Names => has_barred_character(characters),
+        Filter::Paths => is_relative(behind_not(characters)),
+    }
+}
+
+/// Whether characters are a filter pattern.
+fn is_right_pattern(filter: Filter, characters: &[char]) -> bool
+    ensures { result ≡ is_right filter characters.now }
+{
+    !has_barred(filter, characters) && (are_items(characters) || are_items(behind_not(characters)))
+}
+
+/// The characters of a text. Fails with `AllocError` when out of memory.
+fn characters_of(alloc: Global, text: &str) -> Result<Vec<char>, AllocError>
+    ensures { IfOk result (λ v. v.items ≡ chars text.now) }
+{
+    let mut characters = Vec::new(alloc);
+    for c in text.chars() {
+        characters.push(c)?;
+    }
+    Ok(characters)
+}
+
+/// Whether a text is a filter pattern: an optional `!`, and then one or more items, of which none has what such filters may not have.
+///
+/// Bytes that aren't UTF-8 are read as U+FFFD. Fails with `AllocError` when out of memory.
+pub fn is_pattern(alloc: Global, filter: Filter, text: &[u8]) -> Result<bool, AllocError>
+    ensures { IfOk result (λ r. r ≡ pattern filter text.now) }
+{
+    let text = String::from_utf8_lossy(alloc, text)?;
+    let characters = characters_of(alloc, text.as_str())?;
+    Ok(is_right_pattern(filter, characters.as_slice()))
+}

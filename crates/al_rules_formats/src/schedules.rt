@@ -1,0 +1,462 @@
+//! Schedules: five fields, each a set of numbers (GitHub, "Events that trigger workflows", `schedule`).
+
+ghost use Rattle.al_rules_formats.specs.Schedules as spec;
+ghost use Rattle.al_rules_formats.specs.Schedules.{all_of, are_close as close, field_of, from_to as numbers_from_to, head_of, is_empty};
+ghost use Rattle.al_rules_formats.specs.Schedules.{is_field as field_is_right, is_just_below, is_too_often as too_often, item_of, minute_set};
+ghost use Rattle.al_rules_formats.specs.Schedules.{minutes_in, name_in, number_in as in_range_number, number_of, picks as item_picks};
+ghost use Rattle.al_rules_formats.specs.Schedules.{schedule_of, value_in, words};
+ghost use Rattle.al_rules_formats.specs.Texts.{pieces};
+ghost use Rattle.al_base.specs.Ascii as ascii;
+ghost use Rattle.al_rules_formats.specs.Private.Views.{least_thousand, range_of, range_name};
+ghost use Rattle.std.specs.List.{list_any, filter};
+ghost use Rattle.std.specs.Prelude.{◌≡◌, ◌<◌, ◌≤◌, ◌+◌, ◌*◌, ◌&&◌, [], ◌∷◌, ◌++◌, map, not, option_map, IfOk, OnOk};
+
+use crate::texts::split;
+use al_base::is_same_name;
+use std::alloc::{AllocError, Global};
+
+/// A name for a number.
+#[derive(Clone, Copy)]
+struct Name {
+    name: &'static str,
+    number: u32,
+}
+
+/// What a field takes: the numbers from the low to the high one, and names for some of them.
+#[derive(Clone, Copy)]
+struct Range {
+    low: u32,
+    high: u32,
+    names: &'static [Name],
+}
+
+/// Numbers from a low one on, each so many further, up to a high one.
+#[derive(Clone, Copy)]
+pub struct Item {
+    pub low: u32,
+    pub high: u32,
+    pub step: u32,
+}
+
+const MINUTES: Range = Range {
+    low: 0,
+    high: 59,
+    names: &[],
+};
+
+const HOURS: Range = Range {
+    low: 0,
+    high: 23,
+    names: &[],
+};
+
+const DAYS: Range = Range {
+    low: 1,
+    high: 31,
+    names: &[],
+};
+
+const MONTHS: Range = Range {
+    low: 1,
+    high: 12,
+    names: &[
+        Name {
+            name: "jan",
+            number: 1,
+        },
+        Name {
+            name: "feb",
+            number: 2,
+        },
+        Name {
+            name: "mar",
+            number: 3,
+        },
+        Name {
+            name: "apr",
+            number: 4,
+        },
+        Name {
+            name: "may",
+            number: 5,
+        },
+        Name {
+            name: "jun",
+            number: 6,
+        },
+        Name {
+            name: "jul",
+            number: 7,
+        },
+        Name {
+            name: "aug",
+            number: 8,
+        },
+        Name {
+            name: "sep",
+            number: 9,
+        },
+        Name {
+            name: "oct",
+            number: 10,
+        },
+        Name {
+            name: "nov",
+            number: 11,
+        },
+        Name {
+            name: "dec",
+            number: 12,
+        },
+    ],
+};
+
+const WEEKDAYS: Range = Range {
+    low: 0,
+    high: 6,
+    names: &[
+        Name {
+            name: "sun",
+            number: 0,
+        },
+        Name {
+            name: "mon",
+            number: 1,
+        },
+        Name {
+            name: "tue",
+            number: 2,
+        },
+        Name {
+            name: "wed",
+            number: 3,
+        },
+        Name {
+            name: "thu",
+            number: 4,
+        },
+        Name {
+            name: "fri",
+            number: 5,
+        },
+        Name {
+            name: "sat",
+            number: 6,
+        },
+    ],
+};
+
+/// The number that digits write, or 1,000 where they write a greater one.
+fn number(text: &[u8]) -> Option<u32>
+    ensures { result ≡ option_map least_thousand (number_of text.now) }
+{
+    if text.is_empty() {
+        return None;
+    }
+    let mut number = 0;
+    for byte in text {
+        if !byte.is_ascii_digit() {
+            return None;
+        }
+        number = at_most_thousand(number, *byte - b'0');
+    }
+    Some(number)
+}
+
+/// A number with one more digit, or 1,000.
+fn at_most_thousand(number: u32, digit: u8) -> u32
+    requires { number ≤ 1000 }
+    ensures value { result ≡ least_thousand (number * 10 + digit) }
+    ensures small { result ≤ 1000 }
+{
+    let next = number * 10 + digit as u32;
+    if next < 1_000 { next } else { 1_000 }
+}
+
+/// The number that digits write, where it lies in a range.
+fn number_in(low: u32, high: u32, text: &[u8]) -> Option<u32>
+    requires { high < 1000 }
+    ensures { result ≡ in_range_number low high text.now }
+{
+    let number = number(text)?;
+    if low <= number && number <= high {
+        Some(number)
+    } else {
+        None
+    }
+}
+
+/// The number that a name stands for.
+fn named_number(names: &[Name], text: &[u8]) -> Option<u32>
+    ensures { result ≡ name_in (map range_name names.now) text.now }
+{
+    for name in names {
+        if is_same_name(text, name.name.as_bytes()) {
+            return Some(name.number);
+        }
+    }
+    None
+}
+
+/// The number that a value of a field is.
+fn value(range: Range, text: &[u8]) -> Option<u32>
+    requires { range.high < 1000 }
+    ensures { result ≡ value_in (range_of range) text.now }
+{
+    match named_number(range.names, text) {
+        Some(number) => Some(number),
+        None => number_in(range.low, range.high, text),
+    }
+}
+
+/// The numbers from one to another in steps, where they don't descend.
+fn from_to(step: u32, low: u32, high: u32) -> Option<Item>
+    ensures { result ≡ numbers_from_to step low high }
+{
+    if low <= high {
+        Some(Item { low, high, step })
+    } else {
+        None
+    }
+}
+
+/// What one value, or `*`, means with a step or without one.
+fn one_value(range: Range, step: Option<u32>, text: &[u8]) -> Option<Item>
+    requires { range.high < 1000 }
+    ensures { result ≡ head_of (range_of range) step (text.now ∷ []) }
+{
+    if text == b"*".as_slice() {
+        return from_to(step.unwrap_or(1), range.low, range.high);
+    }
+    let low = value(range, text)?;
+    match step {
+        Some(step) => from_to(step, low, range.high),
+        None => from_to(1, low, low),
+    }
+}
+
+/// What two values with a dash between them mean.
+fn two_values(range: Range, step: Option<u32>, low: &[u8], high: &[u8]) -> Option<Item>
+    requires { range.high < 1000 }
+    ensures { result ≡ head_of (range_of range) step (low.now ∷ high.now ∷ []) }
+{
+    let low = value(range, low)?;
+    let high = value(range, high)?;
+    from_to(step.unwrap_or(1), low, high)
+}
+
+/// What stands before a step means.
+fn head(
+    alloc: Global,
+    range: Range,
+    step: Option<u32>,
+    text: &[u8],
+) -> Result<Option<Item>, AllocError>
+    requires { range.high < 1000 }
+    ensures { IfOk result (λ r. r ≡ head_of (range_of range) step (pieces ascii.dash text.now)) }
+{
+    let parts = split(alloc, text, b'-')?;
+    Ok(match parts.as_slice() {
+        [only] => one_value(range, step, only),
+        [low, high] => two_values(range, step, low, high),
+        _ => None,
+    })
+}
+
+/// An item of a field.
+fn item_at(alloc: Global, range: Range, text: &[u8]) -> Result<Option<Item>, AllocError>
+    requires { range.high < 1000 }
+    ensures { IfOk result (λ r. r ≡ item_of (range_of range) text.now) }
+{
+    let parts = split(alloc, text, b'/')?;
+    match parts.as_slice() {
+        [numbers] => head(alloc, range, None, numbers),
+        [numbers, step] => match number_in(1, range.high, step) {
+            Some(step) => head(alloc, range, Some(step), numbers),
+            None => Ok(None),
+        },
+        _ => Ok(None),
+    }
+}
+
+/// The items of a field, if each is right.
+fn field(alloc: Global, range: Range, text: &[u8]) -> Result<Option<Vec<Item>>, AllocError>
+    requires { range.high < 1000 }
+    ensures { IfOk result (λ r. option_map (λ v. v.items) r ≡ field_of (range_of range) text.now) }
+{
+    let parts = split(alloc, text, b',')?;
+    items_of(alloc, range, parts.as_slice())
+}
+
+/// Items, if each is right.
+fn items_of(alloc: Global, range: Range, parts: &[&[u8]]) -> Result<Option<Vec<Item>>, AllocError>
+    requires { range.high < 1000 }
+    ensures { IfOk result (λ r. option_map (λ v. v.items) r ≡ all_of (map (item_of (range_of range)) (map (λ p. p.now) parts.now))) }
+{
+    let mut items = Vec::new(alloc);
+    for part in parts {
+        match item_at(alloc, range, part)? {
+            Some(item) => items.push(item)?,
+            None => return Ok(None),
+        }
+    }
+    Ok(Some(items))
+}
+
+/// Whether a field is right.
+fn is_field(alloc: Global, range: Range, text: &[u8]) -> Result<bool, AllocError>
+    requires { range.high < 1000 }
+    ensures { IfOk result (λ r. r ≡ field_is_right (range_of range) text.now) }
+{
+    Ok(field(alloc, range, text)?.is_some())
+}
+
+/// The texts between spaces.
+fn words_of(alloc: Global, text: &[u8]) -> Result<Vec<&[u8]>, AllocError>
+    ensures { IfOk result (λ v. map (λ p. p.now) v.items ≡ words text.now) }
+{
+    let parts = split(alloc, text, b' ')?;
+    without_empty(alloc, parts.as_slice())
+}
+
+/// The texts that aren't empty.
+fn without_empty<'a>(alloc: Global, parts: &[&'a [u8]]) -> Result<Vec<&'a [u8]>, AllocError>
+    ensures { IfOk result (λ v. map (λ p. p.now) v.items ≡ filter (λ w. not (is_empty w)) (map (λ p. p.now) parts.now)) }
+{
+    let mut found = Vec::new(alloc);
+    for part in parts {
+        if !part.is_empty() {
+            found.push(*part)?;
+        }
+    }
+    Ok(found)
+}
+
+/// Whether the fields behind the minutes are right.
+fn are_right(
+    alloc: Global,
+    hours: &[u8],
+    days: &[u8],
+    months: &[u8],
+    weekdays: &[u8],
+) -> Result<bool, AllocError>
+    ensures { IfOk result (λ r. r ≡ (field_is_right spec.hours hours.now && field_is_right spec.days days.now
+        && field_is_right spec.months months.now && field_is_right spec.weekdays weekdays.now)) }
+{
+    if !is_field(alloc, HOURS, hours)? {
+        return Ok(false);
+    }
+    if !is_field(alloc, DAYS, days)? {
+        return Ok(false);
+    }
+    if !is_field(alloc, MONTHS, months)? {
+        return Ok(false);
+    }
+    is_field(alloc, WEEKDAYS, weekdays)
+}
+
+/// The minutes of a schedule with these fields, if it is right.
+fn minutes(alloc: Global, fields: &[&[u8]]) -> Result<Option<Vec<Item>>, AllocError>
+    ensures { IfOk result (λ r. option_map (λ v. v.items) r ≡ minutes_in (map (λ p. p.now) fields.now)) }
+{
+    match fields {
+        [minutes, hours, days, months, weekdays] => {
+            if are_right(alloc, hours, days, months, weekdays)? {
+                field(alloc, MINUTES, minutes)
+            } else {
+                Ok(None)
+            }
+        }
+        _ => Ok(None),
+    }
+}
+
+/// The items of a schedule's minutes, if the text is a schedule, and `None` where it is not. Fails with `AllocError` when out of memory.
+pub fn schedule(alloc: Global, text: &[u8]) -> Result<Option<Vec<Item>>, AllocError>
+    ensures { IfOk result (λ r. option_map (λ v. v.items) r ≡ schedule_of text.now) }
+{
+    let fields = words_of(alloc, text)?;
+    minutes(alloc, fields.as_slice())
+}
+
+/// Whether a number is a member of an item.
+fn picks(number: u32, item: Item) -> bool
+    ensures { result ≡ item_picks number item }
+{
+    item.low <= number
+        && number <= item.high
+        && 0 < item.step
+        && (number - item.low) % item.step == 0
+}
+
+/// Whether a number is a member of one of some items.
+fn is_member(number: u32, items: &[Item]) -> bool
+    ensures { result ≡ list_any (item_picks number) items.now }
+{
+    for item in items {
+        if picks(number, *item) {
+            return true;
+        }
+    }
+    false
+}
+
+/// Adds a minute, if it is a member of one of some items.
+fn add_minute(items: &[Item], minute: u32, found: &mut Vec<u32>) -> Result<(), AllocError>
+    ensures { OnOk result (found.new.items ≡ found.old.items ++ filter (λ n. list_any (item_picks n) items.now) (minute ∷ [])) }
+{
+    if is_member(minute, items) {
+        found.push(minute)?;
+    }
+    Ok(())
+}
+
+/// The minutes that are members of some items.
+fn minutes_of(alloc: Global, items: &[Item]) -> Result<Vec<u32>, AllocError>
+    ensures { IfOk result (λ v. v.items ≡ minute_set items.now) }
+{
+    let mut found = Vec::new(alloc);
+    for minute in 0..60 {
+        add_minute(items, minute, &mut found)?;
+    }
+    Ok(found)
+}
+
+/// Whether two numbers differ by less than 5, and the first is the lower one.
+fn is_close(low: u32, high: u32) -> bool
+    ensures { result ≡ is_just_below low high }
+{
+    low < high && high - low < 5
+}
+
+/// Whether a number is the lower one of two that differ by less than 5.
+fn is_close_below(low: u32, numbers: &[u32]) -> bool
+    ensures { result ≡ list_any (is_just_below low) numbers.now }
+{
+    for high in numbers {
+        if is_close(low, *high) {
+            return true;
+        }
+    }
+    false
+}
+
+/// Whether two of some numbers differ by less than 5.
+fn are_close(numbers: &[u32]) -> bool
+    ensures { result ≡ close numbers.now }
+{
+    for low in numbers {
+        if is_close_below(*low, numbers) {
+            return true;
+        }
+    }
+    false
+}
+
+/// Whether two of the minutes of an hour in these items differ by less than 5. Fails with `AllocError` when out of memory.
+pub fn is_too_often(alloc: Global, items: &[Item]) -> Result<bool, AllocError>
+    ensures { IfOk result (λ r. r ≡ too_often items.now) }
+{
+    let minutes = minutes_of(alloc, items)?;
+    Ok(are_close(minutes.as_slice()))
+}

@@ -1,0 +1,38 @@
+-- Small words of the rules: texts with their places, and faults that name them.
+use Rattle.std.specs.Prelude.{ℕ, List, [], ◌∷◌, Bool, map, if◌then◌else◌}
+use Rattle.std.specs.Str.Lossy.{utf8_lossy}
+use Rattle.al_base.specs.declared.codes.Code.TheVariants as code
+use Rattle.al_base.specs.declared.codes.RuleCode.{RuleCode}
+use Rattle.al_base.specs.declared.faults.Fault.{Fault}
+use Rattle.al_base.specs.declared.faults.Span.{Span}
+use Rattle.al_scalar.specs.Scalar.{Scalar, text_of}
+use Rattle.al_yaml_tree.specs.Node.{Node, span_of}
+use Rattle.al_tree_shape.specs.Keys.{key_text}
+use Rattle.al_tree_shape.specs.Names.{among}
+
+-- a text of a file, and where it stands
+pub record Named : Type 0 where
+  pub text : List ℕ
+  pub span : Span
+
+abbrev pub of_key : Node → Named
+of_key n = record { text = key_text n; span = span_of n }
+
+abbrev pub of_scalar : Scalar × Span → Named
+of_scalar s = record { text = text_of s.0; span = s.1 }
+
+-- A fault that names these texts. Its arguments are UTF-8: bytes that aren't, of which reading a file gives none, are U+FFFD.
+abbrev pub fault : RuleCode → Span → List (List ℕ) → Fault
+fault rule at texts = record { span = at; code = code.Rule rule; args = map utf8_lossy texts }
+
+-- the fault of a text, which names it
+abbrev pub about : RuleCode → Named → List Fault
+about rule n = fault rule n.span (n.text ∷ []) ∷ []
+
+-- a text that isn't right
+abbrev pub unless : Bool → RuleCode → Named → List Fault
+unless right rule n = if right then [] else about rule n
+
+-- a text that isn't one of these
+abbrev pub unless_among : RuleCode → List (List ℕ) → Named → List Fault
+unless_among rule names n = unless (among names n.text) rule n

@@ -1,0 +1,113 @@
+-- Each fault of a setting lies in the file that the tree was read from.
+use Rattle.std.specs.Prelude.{ℕ, ◌||◌, Bool, not, List, [], ◌∷◌, ◌++◌, codes, map, Option, Some, None, IfSome}
+use Rattle.std.specs.List.{AllByRecursion, flat_map}
+use Rattle.al_base.specs.Spans.{LiesIn}
+use Rattle.al_base.specs.declared.codes.RuleCode.TheVariants.{AlwaysTrue, PasswordNotExpression, RepeatedId, UnknownMatrixRow}
+use Rattle.al_base.specs.declared.codes.RuleCode.TheVariants.{UnknownPermission, UnknownShell, WrongId, WrongMatrix, WrongPermission}
+use Rattle.al_base.specs.declared.codes.RuleCode.TheVariants.{WrongVariable}
+use Rattle.al_base.specs.declared.faults.Span.{Span}
+use Rattle.al_rules_formats.specs.Names.{is_id, is_variable}
+use Rattle.al_scalar.specs.Scalar.{Scalar, text_of}
+use Rattle.al_yaml_tree.specs.Node.{Node, span_of}
+use Rattle.al_tree_shape.specs.Names.{among}
+use Rattle.al_tree_shape.specs.Values.{entries_at, entries_in, items_at, text_in, value_at, value_below}
+use Rattle.al_rules_settings.specs.Ids.{id_faults, ids_faults, repeated_faults, with_folded}
+use Rattle.al_rules_settings.specs.Matrix.{exclude_faults, exclude_keys, excludes_faults, is_dynamic, is_mapping, is_null_node, is_row_value, matrix_faults, row_faults, row_names, shape_faults}
+use Rattle.al_rules_settings.specs.Names.{permissions, scope_values, whole_values}
+use Rattle.al_rules_settings.specs.Settings.{all_permissions_faults, condition_faults, credentials_faults, env_faults, is_always_true}
+use Rattle.al_rules_settings.specs.Settings.{is_password, is_shell, password_faults, permission_faults, permissions_faults, script_faults}
+use Rattle.al_rules_settings.specs.Settings.{shell_faults, value_faults, variable_faults}
+use Rattle.al_rules_reports.specs.Words.{Named, of_key, of_scalar, unless, unless_among}
+use Rattle.al_rules_settings.proofs.Places.{commands_lie}
+use Rattle.al_base.proofs.Elements.{each_as, each_of, map_or}
+use Rattle.al_rules_reports.proofs.Inside.{Are, Fine, Lies, NameLies, Pair, Text, below_fine, both, entries_at_fine, entries_in_fine}
+use Rattle.al_rules_reports.proofs.Inside.{items_at_fine, one_lies, or_lies, span_lies, text_fine, unless_lies, value_fine}
+
+module _ (size : ℕ) where
+  -- ---- ids
+
+  abbrev Folded : Named × List ℕ → Type 0
+  Folded p = NameLies size p.0
+
+  repeated_lie : (seen : List (List ℕ)) (ps : List (Named × List ℕ)) → AllByRecursion Folded ps → Are size (repeated_faults seen ps)
+  repeated_lie seen [] h = tt
+  repeated_lie seen (p ∷ ps) h =
+      both size (unless (not (among seen p.1)) RepeatedId p.0) (repeated_faults (seen ++ p.1 ∷ []) ps)
+      (unless_lies size (not (among seen p.1)) RepeatedId p.0 h.0) (repeated_lie (seen ++ p.1 ∷ []) ps h.1)
+
+  folded_place : (ids : List Named) → AllByRecursion (NameLies size) ids → AllByRecursion Folded (map with_folded ids)
+  folded_place ids h = each_as (NameLies size) Folded with_folded (λ n p. p) ids h
+
+  pub ids_lie : (ids : List Named) → AllByRecursion (NameLies size) ids → Are size (ids_faults ids)
+  ids_lie ids h =
+      both size (flat_map id_faults ids) (repeated_faults [] (map with_folded ids)) (each_of (NameLies size) (Lies size) id_faults (λ n p. unless_lies size (is_id n.text) WrongId n p) ids h)
+      (repeated_lie [] (map with_folded ids) (folded_place ids h))
+
+  -- ---- matrices
+
+  shape_lies : (right : Bool) (at : Span) (name : List ℕ) → LiesIn size at → Are size (shape_faults right at name)
+  shape_lies right at name p = or_lies size right [] _ tt (one_lies size WrongMatrix at (name ∷ []) p)
+
+  row_lies : (m : Node × Node) → Pair size m → Are size (row_faults m)
+  row_lies m p = shape_lies (is_row_value (of_key m.0).text m.1) (span_of m.1) (of_key m.0).text (span_lies size m.1 p.1)
+
+  exclude_place : (items : List Node) → AllByRecursion (Fine size) items → AllByRecursion (NameLies size) (exclude_keys items)
+  exclude_place items h =
+      each_of (Fine size) (NameLies size) (λ item. map (λ m. of_key m.0) (entries_in item))
+      (λ item f. each_as (Pair size) (NameLies size) (λ m. of_key m.0) (λ m q. span_lies size m.0 q.0) (entries_in item) (entries_in_fine size item f)) items h
+
+  excludes_lie : (rows : List (List ℕ)) (names : List Named) → AllByRecursion (NameLies size) names → Are size (excludes_faults rows names)
+  excludes_lie rows names h =
+      each_of Folded (Lies size) (exclude_faults rows) (λ p q. unless_lies size (among rows p.1) UnknownMatrixRow p.0 q) (map with_folded names) (folded_place names h)
+
+  pub matrix_lies : (n : Node) → Fine size n → Are size (matrix_faults n)
+  matrix_lies n f =
+      or_lies size (is_mapping n) _ _
+      (both size (flat_map row_faults (entries_in n)) (excludes_faults (row_names (entries_in n)) (exclude_keys (items_at (codes "exclude") n)))
+      (each_of (Pair size) (Lies size) row_faults row_lies (entries_in n) (entries_in_fine size n f))
+      (excludes_lie (row_names (entries_in n)) (exclude_keys (items_at (codes "exclude") n)) (exclude_place (items_at (codes "exclude") n) (items_at_fine size (codes "exclude") n f))))
+      (shape_lies (is_null_node n || is_dynamic n) (span_of n) (codes "matrix") (span_lies size n f))
+
+  -- ---- settings
+
+  pub shell_lies : (o : Option (Scalar × Span)) → IfSome o (Text size) → Are size (shell_faults o)
+  shell_lies o h = map_or (Text size) (Lies size) (λ s. unless (is_shell (of_scalar s).text) UnknownShell (of_scalar s))
+      (λ s t. unless_lies size (is_shell (text_of s.0)) UnknownShell (of_scalar s) t.place) o h
+
+  value_lies : (values : List (List ℕ)) (n : Node) → Fine size n → Are size (value_faults values n)
+  value_lies values n f =
+      map_or (Text size) (Lies size) (λ s. unless_among WrongPermission values (of_scalar s))
+      (λ s t. unless_lies size (among values (text_of s.0)) WrongPermission (of_scalar s) t.place) (text_in n) (text_fine size n f)
+
+  permission_lies : (m : Node × Node) → Pair size m → Are size (permission_faults m)
+  permission_lies m p =
+      both size (unless_among UnknownPermission permissions (of_key m.0)) (value_faults scope_values m.1)
+      (unless_lies size (among permissions (of_key m.0).text) UnknownPermission (of_key m.0) (span_lies size m.0 p.0)) (value_lies scope_values m.1 p.1)
+
+  all_permissions_lie : (n : Node) → Fine size n → Are size (all_permissions_faults n)
+  all_permissions_lie n f =
+      both size (value_faults whole_values n) (flat_map permission_faults (entries_in n)) (value_lies whole_values n f)
+      (each_of (Pair size) (Lies size) permission_faults permission_lies (entries_in n) (entries_in_fine size n f))
+
+  pub permissions_lie : (n : Node) → Fine size n → Are size (permissions_faults n)
+  permissions_lie n f = map_or (Fine size) (Lies size) all_permissions_faults all_permissions_lie (value_at (codes "permissions") n) (value_fine size (codes "permissions") n f)
+
+  pub env_lies : (n : Node) → Fine size n → Are size (env_faults n)
+  env_lies n f =
+      each_of (Pair size) (Lies size) variable_faults (λ m p. unless_lies size (is_variable (of_key m.0).text) WrongVariable (of_key m.0) (span_lies size m.0 p.0))
+      (entries_at (codes "env") n) (entries_at_fine size (codes "env") n f)
+
+  password_lies : (n : Node) → Fine size n → Are size (password_faults n)
+  password_lies n f = or_lies size (is_password n) [] _ tt (one_lies size PasswordNotExpression (span_of n) [] (span_lies size n f))
+
+  pub credentials_lie : (n : Node) → Fine size n → Are size (credentials_faults n)
+  credentials_lie n f =
+      map_or (Fine size) (Lies size) password_faults password_lies (value_below (codes "credentials" ∷ codes "password" ∷ []) n) (below_fine size (codes "credentials" ∷ codes "password" ∷ []) n f)
+
+  pub script_lies : (o : Option (Scalar × Span)) → IfSome o (Text size) → Are size (script_faults o)
+  script_lies None h = tt
+  script_lies (Some s) h = commands_lie size s h
+
+  pub condition_lies : (o : Option (Scalar × Span)) → IfSome o (Text size) → Are size (condition_faults o)
+  condition_lies None h = tt
+  condition_lies (Some s) h = or_lies size (is_always_true (text_of s.0)) _ [] (one_lies size AlwaysTrue s.1 [] h.place) tt

@@ -1,0 +1,284 @@
+//! The matrix of a job.
+
+ghost use Rattle.al_rules_settings.specs.Matrix.{are_combinations as all_combinations, exclude_faults, exclude_keys, excludes_faults};
+ghost use Rattle.al_rules_settings.specs.Matrix.{is_combination as combination, is_dynamic as dynamic};
+ghost use Rattle.al_rules_settings.specs.Matrix.{is_mapping as mapping, is_null_node as null_node, is_row_value as row_value};
+ghost use Rattle.al_rules_settings.specs.Matrix.{is_sequence as sequence, mapping_faults, matrix_faults, row_faults, row_names, shape_faults};
+ghost use Rattle.al_rules_reports.specs.Private.Views.{named_of};
+ghost use Rattle.al_rules_settings.specs.Private.Views.{folded_id};
+ghost use Rattle.al_rules_reports.specs.Words.{of_key, unless};
+ghost use Rattle.al_base.specs.Growth.{BeginsWith};
+ghost use Rattle.al_tree_shape.specs.Keys.{holds};
+ghost use Rattle.al_tree_shape.specs.Names.{among};
+ghost use Rattle.al_tree_shape.specs.Values.{entries_in, member_of};
+ghost use Rattle.al_base.specs.declared.codes.RuleCode.TheVariants.{UnknownMatrixRow};
+ghost use Rattle.al_yaml_tree.specs.View.{view};
+ghost use Rattle.std.specs.List.{flat_map, list_all};
+ghost use Rattle.std.specs.Prelude.{◌≡◌, ◌++◌, map, IfOk, OnOk};
+
+use crate::ids::{FoldedId, folded};
+use al_base::{Fault, RuleCode, Span};
+use al_rules_reports::{Named, named_key, report_at, report_unless};
+use al_tree::{
+    KeySet, Member, contains_chunk, is_combination_key, is_null_scalar, items_under, members,
+};
+use al_yaml_tree::Node;
+use std::alloc::{AllocError, Global};
+
+/// Whether a node is null.
+fn is_null_node(node: &Node) -> bool
+    ensures { result ≡ null_node (view node.now) }
+{
+    match node.scalar() {
+        Some(scalar) => is_null_scalar(scalar),
+        None => false,
+    }
+}
+
+/// Whether a node is a scalar with an expression.
+fn is_dynamic(node: &Node) -> bool
+    ensures { result ≡ dynamic (view node.now) }
+{
+    match node.scalar() {
+        Some(scalar) => contains_chunk(scalar.text()),
+        None => false,
+    }
+}
+
+/// Whether a node is a sequence.
+fn is_sequence(node: &Node) -> bool
+    ensures { result ≡ sequence (view node.now) }
+{
+    node.sequence().is_some()
+}
+
+/// Whether a node is a mapping.
+fn is_mapping(node: &Node) -> bool
+    ensures { result ≡ mapping (view node.now) }
+{
+    node.mapping().is_some()
+}
+
+/// Whether a node may stand in `include` and `exclude`.
+fn is_combination(node: &Node) -> bool
+    ensures { result ≡ combination (view node.now) }
+{
+    is_mapping(node) || is_dynamic(node)
+}
+
+/// Whether all of some nodes may.
+fn may_all(nodes: &[Node]) -> bool
+    ensures { result ≡ list_all combination (map view nodes.now) }
+{
+    for node in nodes {
+        if !is_combination(node) {
+            return false;
+        }
+    }
+    true
+}
+
+/// Whether a node is a sequence of such nodes.
+fn are_combinations(node: &Node) -> bool
+    ensures { result ≡ all_combinations (view node.now) }
+{
+    match node.sequence() {
+        Some(nodes) => may_all(nodes),
+        None => false,
+    }
+}
+
+/// Whether a key of a matrix may have a value.
+fn is_row_value(key: &[u8], value: &Node) -> bool
+    ensures { result ≡ row_value key.now (view value.now) }
+{
+    if is_null_node(value) || is_dynamic(value) {
+        return true;
+    }
+    if is_combination_key(key) {
+        are_combinations(value)
+    } else {
+        is_sequence(value)
+    }
+}
+
+/// Adds the fault of a wrong shape.
+#[tactic(auto, using(al_base::proofs::Growing::growth))]
+fn check_shape(
+    alloc: Global,
+    right: bool,
+    span: Span,
+    name: &[u8],
+    out: &mut Vec<Fault>,
+) -> Result<(), AllocError>
+    ensures ok { OnOk result (out.new.items ≡ out.old.items ++ shape_faults right span name.now) }
+    ensures begins { BeginsWith out.new.items out.old.items }
+{
+    if right {
+        return Ok(());
+    }
+    report_at(alloc, RuleCode::WrongMatrix, span, name, out)
+}
+
+/// Adds the fault of a row.
+#[tactic(auto, using(al_base::proofs::Growing::growth))]
+fn check_row(alloc: Global, row: Member<'_>, out: &mut Vec<Fault>) -> Result<(), AllocError>
+    ensures ok { OnOk result (out.new.items ≡ out.old.items ++ row_faults (member_of row.entry)) }
+    ensures begins { BeginsWith out.new.items out.old.items }
+{
+    let key = named_key(row.key);
+    check_shape(
+        alloc,
+        is_row_value(key.text, row.value),
+        row.value.span(),
+        key.text,
+        out,
+    )
+}
+
+/// Adds the faults of some rows.
+#[tactic(auto, using(al_base::proofs::Growing::growth))]
+fn check_rows(alloc: Global, rows: &[Member<'_>], out: &mut Vec<Fault>) -> Result<(), AllocError>
+    ensures ok { OnOk result (out.new.items ≡ out.old.items ++ flat_map row_faults (map member_of rows.now)) }
+    ensures begins { BeginsWith out.new.items out.old.items }
+{
+    for row in rows {
+        check_row(alloc, *row, out)?;
+    }
+    Ok(())
+}
+
+/// The names of the rows, without case, and without `include` and `exclude`.
+fn names_of(alloc: Global, rows: &[Member<'_>]) -> Result<Vec<Vec<u8>>, AllocError>
+    ensures { IfOk result (λ v. map (λ t. t.items) v.items ≡ row_names (map member_of rows.now)) }
+{
+    let mut names = Vec::new(alloc);
+    for row in rows {
+        let key = named_key(row.key);
+        if !is_combination_key(key.text) {
+            names.push(key.text.to_ascii_lowercase(alloc)?)?;
+        }
+    }
+    Ok(names)
+}
+
+/// Texts as a set.
+#[tactic(auto, using(al_tree_shape::proofs::KeyLemmas::among_more))]
+fn set_of(alloc: Global, names: &[Vec<u8>]) -> Result<KeySet<'_>, AllocError>
+    ensures { IfOk result (λ s. holds s ≡ among (map (λ t. t.items) names.now)) }
+{
+    let mut set = KeySet::new(alloc);
+    for name in names {
+        set.insert(name.as_slice())?;
+    }
+    Ok(set)
+}
+
+/// The keys of an item of `exclude`.
+fn add_keys<'a>(alloc: Global, item: &'a Node, found: &mut Vec<Named<'a>>) -> Result<(), AllocError>
+    ensures { OnOk result (map named_of found.new.items ≡ map named_of found.old.items
+        ++ map (λ m. of_key m.0) (entries_in (view item.now))) }
+{
+    let keys = members(alloc, item)?;
+    add_names(keys.as_slice(), found)
+}
+
+/// Adds the keys of some entries.
+fn add_names<'a>(keys: &[Member<'a>], found: &mut Vec<Named<'a>>) -> Result<(), AllocError>
+    ensures { OnOk result (map named_of found.new.items ≡ map named_of found.old.items ++ map (λ m. of_key m.0) (map member_of keys.now)) }
+{
+    for key in keys {
+        found.push(named_key(key.key))?;
+    }
+    Ok(())
+}
+
+/// The keys of the items of `exclude`.
+fn excluded(alloc: Global, items: &[Node]) -> Result<Vec<Named<'_>>, AllocError>
+    ensures { IfOk result (λ v. map named_of v.items ≡ exclude_keys (map view items.now)) }
+{
+    let mut found = Vec::new(alloc);
+    for item in items {
+        add_keys(alloc, item, &mut found)?;
+    }
+    Ok(found)
+}
+
+/// Adds the faults of some keys of `exclude`.
+#[tactic(auto, using(al_base::proofs::Growing::growth))]
+fn check_excluded<'a>(
+    alloc: Global,
+    rows: &KeySet<'a>,
+    keys: &'a [FoldedId<'a>],
+    out: &mut Vec<Fault>,
+) -> Result<(), AllocError>
+    ensures ok { OnOk result (out.new.items ≡ out.old.items
+        ++ flat_map (λ p. unless (holds rows.now p.1) UnknownMatrixRow p.0) (map folded_id keys.now)) }
+    ensures begins { BeginsWith out.new.items out.old.items }
+{
+    for key in keys {
+        let known = rows.contains(key.text.as_slice());
+        report_unless(alloc, known, RuleCode::UnknownMatrixRow, key.id, out)?;
+    }
+    Ok(())
+}
+
+/// Adds the faults of some keys of `exclude`, beside rows with these names.
+#[tactic(auto, using(al_base::proofs::Growing::growth))]
+fn check_beside<'a>(
+    alloc: Global,
+    names: &'a [Vec<u8>],
+    keys: &'a [FoldedId<'a>],
+    out: &mut Vec<Fault>,
+) -> Result<(), AllocError>
+    ensures ok { OnOk result (out.new.items ≡ out.old.items
+        ++ flat_map (exclude_faults (map (λ t. t.items) names.now)) (map folded_id keys.now)) }
+    ensures begins { BeginsWith out.new.items out.old.items }
+{
+    let rows = set_of(alloc, names)?;
+    check_excluded(alloc, &rows, keys, out)
+}
+
+/// Adds the faults of the keys of `exclude` beside some rows.
+#[tactic(auto, using(al_base::proofs::Growing::growth))]
+fn check_excludes(
+    alloc: Global,
+    rows: &[Member<'_>],
+    items: &[Node],
+    out: &mut Vec<Fault>,
+) -> Result<(), AllocError>
+    ensures ok { OnOk result (out.new.items ≡ out.old.items
+        ++ excludes_faults (row_names (map member_of rows.now)) (exclude_keys (map view items.now))) }
+    ensures begins { BeginsWith out.new.items out.old.items }
+{
+    let names = names_of(alloc, rows)?;
+    let keys = excluded(alloc, items)?;
+    let keys = folded(alloc, keys.as_slice())?;
+    check_beside(alloc, names.as_slice(), keys.as_slice(), out)
+}
+
+/// Adds the faults of a matrix that is a mapping.
+#[tactic(auto, using(al_base::proofs::Growing::growth))]
+fn check_mapping(alloc: Global, node: &Node, out: &mut Vec<Fault>) -> Result<(), AllocError>
+    ensures ok { OnOk result (out.new.items ≡ out.old.items ++ mapping_faults (view node.now)) }
+    ensures begins { BeginsWith out.new.items out.old.items }
+{
+    let rows = members(alloc, node)?;
+    check_rows(alloc, rows.as_slice(), out)?;
+    check_excludes(alloc, rows.as_slice(), items_under(node, "exclude"), out)
+}
+
+/// Adds the faults of a matrix: of its rows, and of the keys of `exclude` that name none of them.
+///
+/// Fails with `AllocError` when out of memory; the list then begins with what it held.
+#[tactic(auto, using(al_base::proofs::Growing::growth))]
+pub fn check_matrix(alloc: Global, node: &Node, out: &mut Vec<Fault>) -> Result<(), AllocError>
+    ensures ok { OnOk result (out.new.items ≡ out.old.items ++ matrix_faults (view node.now)) }
+    ensures begins { BeginsWith out.new.items out.old.items }
+{
+    if is_mapping(node) {
+        return check_mapping(alloc, node, out);
+    }
+    let right = is_null_node(node) || is_dynamic(node);
+    check_shape(alloc, right, node.span(), b"matrix", out)
+}

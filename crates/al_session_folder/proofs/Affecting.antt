@@ -1,0 +1,476 @@
+-- Which files a change of one path can affect.
+use Rattle.std.proofs.Common.{zero, suc, ◌+◌, ◌<◌, ◌++◌, take, get_or, arith, ◌≡◌, ℕ, Bool, true, false, not, ◌&&◌, ◌||◌, cond, filter}
+use Rattle.std.proofs.Common.{List, [], ◌∷◌, length, Option, Some, None, is_some, refl, sym, ◌∙◌, ap, subst}
+use Rattle.std.specs.Prelude.{bytes_eq}
+use Rattle.std.proofs.Common.{Result, Ok, Err, IfOk, Bor}
+use Rattle.std.specs.Option.{option_copied}
+use Rattle.al_session_folder.specs.declared.kept.KeptFile.{KeptFile}
+use Rattle.std.specs.Option.{option_map, option_map_or}
+use Rattle.std.specs.List.{AllByRecursion, list_all, list_any}
+use Rattle.std.specs.List.Sorted.{IsStrictlySortedBy}
+use Rattle.std.specs.Ordering.{nat_cmp, is_eq, match_ordering}
+use Rattle.std.specs.declared.cmp.Ordering.{Ordering}
+use Rattle.std.specs.declared.cmp.Ordering.TheVariants.{Less}
+use Rattle.std.specs.Cmp.Lexicographic.{slice_cmp}
+use Rattle.std.proofs.lemmas.Bool.{cond-true, cond-false}
+use Rattle.std.proofs.lemmas.Map.Text.{is_eq-slice_cmp}
+use Rattle.std.proofs.lemmas.Cmp.{nat_list_cmp_total}
+use Rattle.al_session_folder.specs.Meaning.{Meaning, candidates}
+use Rattle.std.proofs.lemmas.List.{take_more}
+use Rattle.al_session_folder.proofs.Missings.{with_path-sorted}
+use Rattle.al_session_folder.specs.Folder.{Folder, without_file, bytes_at, paths_of, interface_in, or_else, answer_among, answer}
+use Rattle.al_session_folder.specs.Affected.{same_answer, is_same_text, is_untouched, affected, is_affected, is_among}
+use Rattle.al_session_folder.specs.Kept.{changed, is_candidate}
+use Rattle.al_session_folder.specs.Missing.{with_path}
+use Rattle.al_session_folder.specs.declared.lint.Target.{Target}
+use Rattle.al_session_folder.proofs.Places.{by_ordering, exact_path, rest_sorted, sorted_put}
+use Rattle.al_session_folder.proofs.Views.{bytes_changed, bytes_same, bytes_self, none_behind}
+
+or_left : (a b : Bool) → a || b ≡ false → a ≡ false
+or_left true b h = h
+or_left false b h = refl
+
+or_right : (a b : Bool) → a || b ≡ false → b ≡ false
+or_right true b h = absurd (true_false h)
+  where
+    true_false : true ≡ false → ⊥
+    true_false h = cc
+or_right false b h = h
+
+pub eq_flipped : (p q : List ℕ) (t : Bool) → bytes_eq p q ≡ t → bytes_eq q p ≡ t
+eq_flipped p q true h = subst (λ (x : List ℕ). bytes_eq x p ≡ true) (bytes_same p q h) (bytes_self p)
+eq_flipped p q false h = by (bytes_eq q p) refl
+  where
+    by : (t : Bool) → bytes_eq q p ≡ t → bytes_eq q p ≡ false
+    by false a = a
+    by true a = absurd (both (sym (subst (λ (x : List ℕ). bytes_eq p x ≡ true) (sym (bytes_same q p a)) (bytes_self p)) ∙ h))
+      where
+        both : true ≡ false → ⊥
+        both h = cc
+
+-- a change at p leaves the answer of every call that has no candidate p
+module _ {I : Type 0} (m : Meaning I) (p : List ℕ) (f : Folder) (now : Option (List ℕ)) (ordered : IsStrictlySortedBy (slice_cmp nat_cmp) (paths_of f)) where
+  among_changed : (ps : List (List ℕ)) → list_any (bytes_eq p) ps ≡ false → answer_among m (changed f p now) ps ≡ answer_among m f ps
+  among_changed [] none = refl
+  among_changed (q ∷ ps) none =
+      let far : bytes_eq q p ≡ false = eq_flipped p q false (or_left (bytes_eq p q) (list_any (bytes_eq p) ps) none) in
+      let same : bytes_at (changed f p now) q ≡ bytes_at f q = bytes_changed p q f now ordered ∙ cond-false _ _ _ far in
+      ap (λ o. or_else (option_map (m.interface q) o) (answer_among m (changed f p now) ps)) same
+      ∙ ap (or_else (interface_in m f q)) (among_changed ps (or_right (bytes_eq p q) (list_any (bytes_eq p) ps) none))
+
+  pub answer_changed : (t : Target) → list_any (bytes_eq p) (candidates t) ≡ false → answer m (changed f p now) t ≡ answer m f t
+  unfolding answer
+  answer_changed t none = among_changed (candidates t) none
+
+  -- it leaves every answer where p offers what it offered
+  among_still : interface_in m f p ≡ interface_in m (changed f p now) p → (ps : List (List ℕ)) → answer_among m (changed f p now) ps ≡ answer_among m f ps
+  among_still still [] = refl
+  among_still still (q ∷ ps) =
+      ap (λ o. or_else o (answer_among m (changed f p now) ps)) (by (bytes_eq q p) refl)
+      ∙ ap (or_else (interface_in m f q)) (among_still still ps)
+    where
+      by : (t : Bool) → bytes_eq q p ≡ t → interface_in m (changed f p now) q ≡ interface_in m f q
+      by true a = subst (λ (x : List ℕ). interface_in m (changed f p now) x ≡ interface_in m f x) (sym (bytes_same q p a)) (sym still)
+      by false a = ap (option_map (m.interface q)) (bytes_changed p q f now ordered ∙ cond-false _ _ _ a)
+
+  answer_still : interface_in m f p ≡ interface_in m (changed f p now) p → (t : Target) → answer m (changed f p now) t ≡ answer m f t
+  unfolding answer
+  answer_still still t = among_still still (candidates t)
+
+  module _ (eq : I → I → Bool) (itself : (x : I) → eq x x ≡ true) where
+    same_as_itself : (o : Option I) → same_answer eq o o ≡ true
+    same_as_itself None = refl
+    same_as_itself (Some x) = itself x
+
+    pub same_answers : (ts : List Target) → is_candidate ts p ≡ false → list_all (λ t. same_answer eq (answer m f t) (answer m (changed f p now) t)) ts ≡ true
+    same_answers [] none = refl
+    same_answers (t ∷ ts) none =
+        let here : answer m (changed f p now) t ≡ answer m f t = answer_changed t (or_left (list_any (bytes_eq p) (candidates t)) (is_candidate ts p) none) in
+        let first : same_answer eq (answer m f t) (answer m (changed f p now) t) ≡ true = ap (same_answer eq (answer m f t)) here ∙ same_as_itself (answer m f t) in
+        ap (λ b. b && list_all (λ t. same_answer eq (answer m f t) (answer m (changed f p now) t)) ts) first
+        ∙ same_answers ts (or_right (list_any (bytes_eq p) (candidates t)) (is_candidate ts p) none)
+
+    -- a file at another path is affected just where one of its calls has another answer
+    pub affected_other : (q b : List ℕ) → bytes_eq q p ≡ false → bytes_at f q ≡ Some b
+        → is_affected eq m f (changed f p now) q ≡ not (list_all (λ t. same_answer eq (answer m f t) (answer m (changed f p now) t)) (m.calls q b))
+    unfolding is_untouched
+    affected_other q b far there =
+        let new : bytes_at (changed f p now) q ≡ Some b = bytes_changed p q f now ordered ∙ cond-false _ _ _ far ∙ there in
+        ap (λ (o : Option (List ℕ)). option_map_or (λ x. not (is_untouched eq m f (changed f p now) q x)) o false) new
+        ∙ ap (λ (o : Option (List ℕ)). not (is_same_text o b && list_all (λ t. same_answer eq (answer m f t) (answer m (changed f p now) t)) (m.calls q b))) there
+        ∙ ap (λ s. not (s && list_all (λ t. same_answer eq (answer m f t) (answer m (changed f p now) t)) (m.calls q b))) (bytes_self b)
+
+    -- a file at another path that is in no folder is not affected
+    pub affected_absent : (q : List ℕ) → bytes_eq q p ≡ false → bytes_at f q ≡ None → is_affected eq m f (changed f p now) q ≡ false
+    affected_absent q far none = ap (λ (o : Option (List ℕ)). option_map_or (λ x. not (is_untouched eq m f (changed f p now) q x)) o false)
+        (bytes_changed p q f now ordered ∙ cond-false _ _ _ far ∙ none)
+
+    -- one that has no call with the candidate p is not affected
+    pub affected_stranger : (q : List ℕ) → bytes_eq q p ≡ false → option_map_or (λ b. is_candidate (m.calls q b) p) (bytes_at f q) false ≡ false
+        → is_affected eq m f (changed f p now) q ≡ false
+    affected_stranger q far stranger = by (bytes_at f q) refl
+      where
+        by : (o : Option (List ℕ)) → bytes_at f q ≡ o → is_affected eq m f (changed f p now) q ≡ false
+        by None none = affected_absent q far none
+        by (Some b) there =
+            let s : is_candidate (m.calls q b) p ≡ false = sym (ap (λ (o : Option (List ℕ)). option_map_or (λ b. is_candidate (m.calls q b) p) o false) there) ∙ stranger in
+            affected_other q b far there ∙ ap not (same_answers (m.calls q b) s)
+
+    still_answers : interface_in m f p ≡ interface_in m (changed f p now) p → (ts : List Target) → list_all (λ t. same_answer eq (answer m f t) (answer m (changed f p now) t)) ts ≡ true
+    still_answers still [] = refl
+    still_answers still (t ∷ ts) =
+        let first : same_answer eq (answer m f t) (answer m (changed f p now) t) ≡ true = ap (same_answer eq (answer m f t)) (answer_still still t) ∙ same_as_itself (answer m f t) in
+        ap (λ b. b && list_all (λ t. same_answer eq (answer m f t) (answer m (changed f p now) t)) ts) first ∙ still_answers still ts
+
+    -- no file at another path is affected where p offers what it offered
+    pub none_affected : interface_in m f p ≡ interface_in m (changed f p now) p → (q : List ℕ) → not (bytes_eq q p) && is_affected eq m f (changed f p now) q ≡ false
+    none_affected still q = by (bytes_eq q p) refl (bytes_at f q) refl
+      where
+        by : (t : Bool) → bytes_eq q p ≡ t → (o : Option (List ℕ)) → bytes_at f q ≡ o → not (bytes_eq q p) && is_affected eq m f (changed f p now) q ≡ false
+        by true a o there = ap (λ t. not t && is_affected eq m f (changed f p now) q) a
+        by false a None none = ap (λ t. not t && is_affected eq m f (changed f p now) q) a ∙ affected_absent q a none
+        by false a (Some b) there = ap (λ t. not t && is_affected eq m f (changed f p now) q) a ∙ affected_other q b a there ∙ ap not (still_answers still (m.calls q b))
+
+    -- the same, where it is known whether the answers are the same
+    pub touched_is : (q b : List ℕ) (r : Bool) → bytes_eq q p ≡ false → bytes_at f q ≡ Some b → r ≡ list_all (λ t. same_answer eq (answer m f t) (answer m (changed f p now) t)) (m.calls q b)
+        → not (bytes_eq q p) && is_affected eq m f (changed f p now) q ≡ not r
+    touched_is q b r far there h = ap (λ t. not t && is_affected eq m f (changed f p now) q) far ∙ affected_other q b far there ∙ ap not (sym h)
+
+    pub absent_is : (q : List ℕ) → bytes_at f q ≡ None → not (bytes_eq q p) && is_affected eq m f (changed f p now) q ≡ false
+    absent_is q none = by (bytes_eq q p) refl
+      where
+        by : (t : Bool) → bytes_eq q p ≡ t → not (bytes_eq q p) && is_affected eq m f (changed f p now) q ≡ false
+        by true a = ap (λ t. not t && is_affected eq m f (changed f p now) q) a
+        by false a = ap (λ t. not t && is_affected eq m f (changed f p now) q) a ∙ affected_absent q a none
+
+    -- the file that is put is affected where it has not these bytes
+    pub affected_itself : (q : List ℕ) (now2 : Option (List ℕ)) → now2 ≡ now → bytes_eq q p ≡ true → (now ≡ bytes_at f p → ⊥) → is_affected eq m f (changed f p now) q ≡ is_some now2
+    unfolding is_untouched
+    affected_itself q None e same other = ap
+        (λ (o : Option (List ℕ)). option_map_or (λ x. not (is_untouched eq m f (changed f p now) q x)) o false)
+        (bytes_changed p q f now ordered ∙ cond-true _ _ _ same ∙ sym e)
+    affected_itself q (Some b) e same other =
+        ap (λ (o : Option (List ℕ)). option_map_or (λ x. not (is_untouched eq m f (changed f p now) q x)) o false) (bytes_changed p q f now ordered ∙ cond-true _ _ _ same ∙ sym e)
+        ∙ ap (λ s. not (s && list_all (λ t. same_answer eq (answer m f t) (answer m (changed f p now) t)) (m.calls q b))) (text (bytes_at f q) refl)
+      where
+        text : (o : Option (List ℕ)) → bytes_at f q ≡ o → is_same_text (bytes_at f q) b ≡ false
+        text None a = ap (λ o. is_same_text o b) a
+        text (Some a) h = ap (λ o. is_same_text o b) h ∙ by (bytes_eq a b) refl
+          where
+            by : (t : Bool) → bytes_eq a b ≡ t → bytes_eq a b ≡ false
+            by false z = z
+            by true z = absurd (other (sym e ∙ ap Some (sym (bytes_same a b z)) ∙ sym h ∙ ap (bytes_at f) (bytes_same q p same)))
+
+    -- the path of the change, and those of its callers that it affects, are all that it affects
+    pub affected_members : (q : List ℕ) (any : Bool) → any ≡ option_map_or (λ b. is_candidate (m.calls q b) p) (bytes_at f q) false → (now ≡ bytes_at f p → ⊥)
+        → (any && (not (bytes_eq q p) && is_affected eq m f (changed f p now) q)) || is_among q (cond (is_some now) (p ∷ []) []) ≡ is_affected eq m f (changed f p now) q
+    affected_members q any calls other = by (bytes_eq q p) any refl calls
+      where
+        and_false : (b : Bool) → b && false ≡ false
+        and_false true = refl
+        and_false false = refl
+
+        or_false : (b : Bool) → b || false ≡ b
+        or_false true = refl
+        or_false false = refl
+
+        first : (t s : Bool) → bytes_eq q p ≡ t → is_among q (cond s (p ∷ []) []) ≡ s && t
+        first t true a = or_false (bytes_eq q p) ∙ a
+        first t false a = refl
+
+        and_true : (b : Bool) → b && true ≡ b
+        and_true true = refl
+        and_true false = refl
+
+        by : (t any2 : Bool) → bytes_eq q p ≡ t → any2 ≡ option_map_or (λ b. is_candidate (m.calls q b) p) (bytes_at f q) false
+            → (any2 && (not (bytes_eq q p) && is_affected eq m f (changed f p now) q)) || is_among q (cond (is_some now) (p ∷ []) []) ≡ is_affected eq m f (changed f p now) q
+        by true any2 a e =
+            ap (λ t. (any2 && (not t && is_affected eq m f (changed f p now) q)) || is_among q (cond (is_some now) (p ∷ []) [])) a
+            ∙ ap (λ t. t || is_among q (cond (is_some now) (p ∷ []) [])) (and_false any2) ∙ first true (is_some now) a ∙ and_true (is_some now) ∙ sym (affected_itself q now refl a other)
+        by false true a e =
+            ap (λ t. (not t && is_affected eq m f (changed f p now) q) || is_among q (cond (is_some now) (p ∷ []) [])) a
+            ∙ ap (λ t. is_affected eq m f (changed f p now) q || t) (first false (is_some now) a ∙ and_false (is_some now)) ∙ or_false _
+        by false false a e = first false (is_some now) a ∙ and_false (is_some now) ∙ sym (affected_stranger q a (sym e))
+
+-- Strictly sorted lists with the same members are the same
+
+module _ (q : List ℕ) where
+  below_among : (p : List ℕ) (ps : List (List ℕ)) → AllByRecursion (λ y. slice_cmp nat_cmp p y ≡ Less) ps → is_among q ps ≡ true → slice_cmp nat_cmp p q ≡ Less
+  below_among p [] below h = absurd (false_true h)
+    where
+      false_true : false ≡ true → ⊥
+      false_true h = cc
+  below_among p (r ∷ rs) below h = by (bytes_eq q r) refl (λ there. below_among p rs below.1 there)
+    where
+      by : (t : Bool) → bytes_eq q r ≡ t → (is_among q rs ≡ true → slice_cmp nat_cmp p q ≡ Less) → slice_cmp nat_cmp p q ≡ Less
+      by true a rest = ap (slice_cmp nat_cmp p) (bytes_same q r a) ∙ below.0
+      by false a rest = rest (sym (ap (λ t. t || is_among q rs) a) ∙ h)
+
+not_below_itself : (p : List ℕ) → slice_cmp nat_cmp p p ≡ Less → ⊥
+not_below_itself p h = wrong (sym (is_eq-slice_cmp p p ∙ bytes_self p) ∙ ap is_eq h)
+  where
+    wrong : true ≡ false → ⊥
+    wrong h = cc
+
+head_sorted : (p : List ℕ) (ps : List (List ℕ)) → IsStrictlySortedBy (slice_cmp nat_cmp) (p ∷ ps) → AllByRecursion (λ y. slice_cmp nat_cmp p y ≡ Less) ps
+unfolding IsStrictlySortedBy
+head_sorted p ps s = s.0
+
+tail_sorted : (p : List ℕ) (ps : List (List ℕ)) → IsStrictlySortedBy (slice_cmp nat_cmp) (p ∷ ps) → IsStrictlySortedBy (slice_cmp nat_cmp) ps
+unfolding IsStrictlySortedBy
+tail_sorted p ps s = s.1
+
+not_behind : (p : List ℕ) (ps : List (List ℕ)) → IsStrictlySortedBy (slice_cmp nat_cmp) (p ∷ ps) → is_among p ps ≡ false
+not_behind p ps s = by (is_among p ps) refl
+  where
+    by : (t : Bool) → is_among p ps ≡ t → is_among p ps ≡ false
+    by false a = a
+    by true a = absurd (not_below_itself p (below_among p p ps (head_sorted p ps s) a))
+
+first_among : (p : List ℕ) (ps : List (List ℕ)) → is_among p (p ∷ ps) ≡ true
+first_among p ps = ap (λ t. t || is_among p ps) (bytes_self p)
+
+pub same_members : (ps qs : List (List ℕ)) → IsStrictlySortedBy (slice_cmp nat_cmp) ps → IsStrictlySortedBy (slice_cmp nat_cmp) qs
+    → ((q : List ℕ) → is_among q ps ≡ is_among q qs) → ps ≡ qs
+same_members [] [] s t same = refl
+same_members [] (q ∷ qs) s t same = absurd (wrong (same q ∙ first_among q qs))
+  where
+    wrong : false ≡ true → ⊥
+    wrong h = cc
+same_members (p ∷ ps) [] s t same = absurd (wrong (sym (first_among p ps) ∙ same p))
+  where
+    wrong : true ≡ false → ⊥
+    wrong h = cc
+same_members (p ∷ ps) (q ∷ qs) s t same = by (bytes_eq p q) refl (λ rest. same_members ps qs (tail_sorted p ps s) (tail_sorted q qs t) rest)
+  where
+    wrong : true ≡ false → ⊥
+    wrong h = cc
+
+    by : (b : Bool) → bytes_eq p q ≡ b → (((r : List ℕ) → is_among r ps ≡ is_among r qs) → ps ≡ qs) → p ∷ ps ≡ q ∷ qs
+    by false a rest =
+        let later : is_among p qs ≡ true = sym (ap (λ t. t || is_among p qs) a) ∙ sym (same p) ∙ first_among p ps in
+        let later2 : is_among q ps ≡ true = sym (ap (λ t. t || is_among q ps) (eq_flipped p q false a)) ∙ same q ∙ first_among q qs in
+        absurd (not_below_itself p (nat_list_cmp_total.trans p q p (below_among q p ps (head_sorted p ps s) later2) (below_among p q qs (head_sorted q qs t) later)))
+    by true a rest =
+        let e : p ≡ q = bytes_same p q a in
+        let P : List ℕ → Type 0 = λ x. (r : List ℕ) → is_among r (p ∷ ps) ≡ is_among r (x ∷ qs) in
+        let S : List ℕ → Type 0 = λ x. IsStrictlySortedBy (slice_cmp nat_cmp) (x ∷ qs) in
+        let same2 : P p = subst P (sym e) same in
+        let t2 : S p = subst S (sym e) t in
+        ap (λ l. p ∷ l) (rest (λ r. without r same2 t2 (bytes_eq r p) refl)) ∙ ap (λ x. x ∷ qs) e
+      where
+        without : (r : List ℕ) → ((r : List ℕ) → is_among r (p ∷ ps) ≡ is_among r (p ∷ qs))
+            → IsStrictlySortedBy (slice_cmp nat_cmp) (p ∷ qs) → (b : Bool) → bytes_eq r p ≡ b → is_among r ps ≡ is_among r qs
+        without r same2 t2 true at =
+            let here : r ≡ p = bytes_same r p at in
+            ap (λ x. is_among x ps) here ∙ not_behind p ps s ∙ sym (ap (λ x. is_among x qs) here ∙ not_behind p qs t2)
+        without r same2 t2 false at = sym (ap (λ t. t || is_among r ps) at) ∙ same2 r ∙ ap (λ t. t || is_among r qs) at
+
+-- The affected files, as members
+
+module _ (T : List ℕ × List ℕ → Bool) where
+  pub all_kept : (P : List ℕ → Type 0) (g : Folder) → AllByRecursion P (paths_of g) → AllByRecursion P (paths_of (filter T g))
+  all_kept P [] all = tt
+  all_kept P (e ∷ es) all = by (T e) refl (all_kept P es all.1)
+    where
+      by : (t : Bool) → T e ≡ t → AllByRecursion P (paths_of (filter T es)) → AllByRecursion P (paths_of (filter T (e ∷ es)))
+      by true a rest = subst (λ (l : Folder). AllByRecursion P (paths_of l)) (sym (ap (λ t. cond t (e ∷ filter T es) (filter T es)) a)) (all.0, rest)
+      by false a rest = subst (λ (l : Folder). AllByRecursion P (paths_of l)) (sym (ap (λ t. cond t (e ∷ filter T es) (filter T es)) a)) rest
+
+  pub sorted_kept : (g : Folder) → IsStrictlySortedBy (slice_cmp nat_cmp) (paths_of g) → IsStrictlySortedBy (slice_cmp nat_cmp) (paths_of (filter T g))
+  unfolding IsStrictlySortedBy
+  sorted_kept [] s = tt
+  sorted_kept (e ∷ es) s = by (T e) refl (all_kept (λ y. slice_cmp nat_cmp e.0 y ≡ Less) es s.0) (sorted_kept es s.1)
+    where
+      by : (t : Bool) → T e ≡ t → AllByRecursion (λ y. slice_cmp nat_cmp e.0 y ≡ Less) (paths_of (filter T es))
+          → IsStrictlySortedBy (slice_cmp nat_cmp) (paths_of (filter T es))
+          → IsStrictlySortedBy (slice_cmp nat_cmp) (paths_of (filter T (e ∷ es)))
+      by true a all rest = subst (λ (l : Folder). IsStrictlySortedBy (slice_cmp nat_cmp) (paths_of l)) (sym (ap (λ t. cond t (e ∷ filter T es) (filter T es)) a)) (all, rest)
+      by false a all rest = subst (λ (l : Folder). IsStrictlySortedBy (slice_cmp nat_cmp) (paths_of l)) (sym (ap (λ t. cond t (e ∷ filter T es) (filter T es)) a)) rest
+
+  pub member_kept : (g : Folder) (q : List ℕ) → IsStrictlySortedBy (slice_cmp nat_cmp) (paths_of g) → is_among q (paths_of (filter T g)) ≡ option_map_or (λ b. T (q, b)) (bytes_at g q) false
+  member_kept [] q s = refl
+  member_kept (e ∷ es) q s = by (bytes_eq q e.0) (T e) refl refl (member_kept es q (rest_sorted q e es s))
+    where
+      filtered : (t : Bool) → T e ≡ t → is_among q (paths_of (filter T (e ∷ es))) ≡ is_among q (paths_of (cond t (e ∷ filter T es) (filter T es)))
+      filtered t a = ap (λ t. is_among q (paths_of (cond t (e ∷ filter T es) (filter T es)))) a
+
+      found : bytes_eq q e.0 ≡ true → bytes_at (e ∷ es) q ≡ Some e.1
+      found a = cond-true _ _ _ (is_eq-slice_cmp q e.0 ∙ a)
+
+      passed : bytes_eq q e.0 ≡ false → bytes_at (e ∷ es) q ≡ bytes_at es q
+      passed a = cond-false _ _ _ (is_eq-slice_cmp q e.0 ∙ a)
+
+      by : (b t : Bool) → bytes_eq q e.0 ≡ b → T e ≡ t → is_among q (paths_of (filter T es))
+          ≡ option_map_or (λ b. T (q, b)) (bytes_at es q) false → is_among q (paths_of (filter T (e ∷ es)))
+          ≡ option_map_or (λ b. T (q, b)) (bytes_at (e ∷ es) q) false
+      by true true a h rest =
+          let at : q ≡ e.0 = bytes_same q e.0 a in
+          filtered true h ∙ ap (λ t. t || is_among q (paths_of (filter T es))) a ∙ sym (ap (λ (o : Option (List ℕ)). option_map_or (λ b. T (q, b)) o false) (found a) ∙ ap (λ x. T (x, e.1)) at ∙ h)
+      by true false a h rest =
+          let at : q ≡ e.0 = bytes_same q e.0 a in
+          filtered false h ∙ rest ∙ ap (λ (o : Option (List ℕ)). option_map_or (λ b. T (q, b)) o false) (none_behind q e es at s)
+          ∙ sym (ap (λ (o : Option (List ℕ)). option_map_or (λ b. T (q, b)) o false) (found a) ∙ ap (λ x. T (x, e.1)) at ∙ h)
+      by false true a h rest = filtered true h ∙ ap (λ t. t || is_among q (paths_of (filter T es))) a ∙ rest ∙ sym (ap (λ (o : Option (List ℕ)). option_map_or (λ b. T (q, b)) o false) (passed a))
+      by false false a h rest = filtered false h ∙ rest ∙ sym (ap (λ (o : Option (List ℕ)). option_map_or (λ b. T (q, b)) o false) (passed a))
+
+among_put : (q n : List ℕ) (ps : List (List ℕ)) → is_among q (with_path ps n) ≡ bytes_eq q n || is_among q ps
+among_put q n [] = refl
+among_put q n (r ∷ rs) = by_ordering (slice_cmp nat_cmp n r)
+    (λ a. ap (is_among q) (put a))
+    (λ a. ap (is_among q) (put a) ∙ there (bytes_eq q n) refl (exact_path n r a))
+    (λ a. ap (is_among q) (put a) ∙ ap (λ t. bytes_eq q r || t) (among_put q n rs) ∙ swap (bytes_eq q r) (bytes_eq q n) (is_among q rs))
+  where
+    put : {o : Ordering} → slice_cmp nat_cmp n r ≡ o → with_path (r ∷ rs) n ≡ match_ordering o (n ∷ r ∷ rs) (r ∷ rs) (r ∷ with_path rs n)
+    put h = ap (λ o. match_ordering o (n ∷ r ∷ rs) (r ∷ rs) (r ∷ with_path rs n)) h
+
+    swap : (a b d : Bool) → a || (b || d) ≡ b || (a || d)
+    swap true true d = refl
+    swap true false d = refl
+    swap false true d = refl
+    swap false false d = refl
+
+    there : (t : Bool) → bytes_eq q n ≡ t → n ≡ r → is_among q (r ∷ rs) ≡ bytes_eq q n || is_among q (r ∷ rs)
+    there true a same = ap (λ x. bytes_eq q x || is_among q rs) (sym same) ∙ ap (λ t. t || is_among q rs) a ∙ sym (ap (λ t. t || is_among q (r ∷ rs)) a)
+    there false a same = sym (ap (λ t. t || is_among q (r ∷ rs)) a)
+
+-- One path more among affected ones
+
+pub members_more : (q n p : List ℕ) (aff : List ℕ → Bool) (old new : List (List ℕ)) → new ≡ cond (not (bytes_eq n p) && aff n) (with_path old n) old
+    → is_among q new ≡ (bytes_eq q n && (not (bytes_eq q p) && aff q)) || is_among q old
+members_more q n p aff old new e = ap (is_among q) e ∙ by (not (bytes_eq n p) && aff n) refl
+  where
+    here : (t : Bool) → not (bytes_eq n p) && aff n ≡ t → bytes_eq q n && (not (bytes_eq q p) && aff q) ≡ bytes_eq q n && t
+    here t a = same (bytes_eq q n) refl
+      where
+        same : (s : Bool) → bytes_eq q n ≡ s → bytes_eq q n && (not (bytes_eq q p) && aff q) ≡ bytes_eq q n && t
+        same true z = ap (λ b. b && (not (bytes_eq q p) && aff q)) z ∙ ap (λ x. not (bytes_eq x p) && aff x) (bytes_same q n z) ∙ a ∙ sym (ap (λ b. b && t) z)
+        same false z = ap (λ b. b && (not (bytes_eq q p) && aff q)) z ∙ sym (ap (λ b. b && t) z)
+
+    and_true : (b : Bool) → b && true ≡ b
+    and_true true = refl
+    and_true false = refl
+
+    and_false : (b : Bool) → b && false ≡ false
+    and_false true = refl
+    and_false false = refl
+
+    by : (t : Bool) → not (bytes_eq n p) && aff n ≡ t → is_among q (cond (not (bytes_eq n p) && aff n) (with_path old n) old) ≡ (bytes_eq q n && (not (bytes_eq q p) && aff q)) || is_among q old
+    by true a = ap (λ t. is_among q (cond t (with_path old n) old)) a ∙ among_put q n old ∙ sym (ap (λ t. t || is_among q old) (here true a ∙ and_true (bytes_eq q n)))
+    by false a = ap (λ t. is_among q (cond t (with_path old n) old)) a ∙ sym (ap (λ t. t || is_among q old) (here false a ∙ and_false (bytes_eq q n)))
+
+module _ {I : Type 0} (eq : I → I → Bool) (m : Meaning I) (f g : Folder) (ordered : IsStrictlySortedBy (slice_cmp nat_cmp) (paths_of g)) where
+  pub affected_sorted : IsStrictlySortedBy (slice_cmp nat_cmp) (affected eq m f g)
+  unfolding affected
+  affected_sorted = sorted_kept (λ e. not (is_untouched eq m f g e.0 e.1)) g ordered
+
+  pub affected_member : (q : List ℕ) → is_among q (affected eq m f g) ≡ is_affected eq m f g q
+  unfolding affected
+  affected_member q = member_kept (λ e. not (is_untouched eq m f g e.0 e.1)) g q ordered
+
+  -- the paths in order that have just the affected files
+  pub affected_is : (paths : List (List ℕ)) → IsStrictlySortedBy (slice_cmp nat_cmp) paths → ((q : List ℕ) → is_among q paths ≡ is_affected eq m f g q) → paths ≡ affected eq m f g
+  affected_is paths s members = same_members paths (affected eq m f g) s affected_sorted (λ q. members q ∙ sym (affected_member q))
+
+module _ (T : Target → Bool) where
+  pub all_next : (ts : List Target) (i : ℕ) (t : Target) → i < length ts → t ≡ get_or ts i t → list_all T (take i ts) ≡ true → T t ≡ true → list_all T (take (i + 1) ts) ≡ true
+  all_next ts i t within read before now = ap (list_all T) (take_more ts i t within) ∙ all_append (take i ts) (get_or ts i t) before (ap T (sym read) ∙ now)
+    where
+      all_append : (xs : List Target) (y : Target) → list_all T xs ≡ true → T y ≡ true → list_all T (xs ++ y ∷ []) ≡ true
+      all_append [] y a b = ap (λ t. t && true) b
+      all_append (x ∷ xs) y a b = by (T x) refl (λ rest. all_append xs y rest b)
+        where
+          by : (t : Bool) → T x ≡ t → (list_all T xs ≡ true → list_all T (xs ++ y ∷ []) ≡ true) → list_all T (x ∷ xs ++ y ∷ []) ≡ true
+          by true z rest = ap (λ t. t && list_all T (xs ++ y ∷ [])) z ∙ rest (sym (ap (λ t. t && list_all T xs) z) ∙ a)
+          by false z rest = absurd (wrong (sym (ap (λ t. t && list_all T xs) z) ∙ a))
+            where
+              wrong : false ≡ true → ⊥
+              wrong h = cc
+
+  pub all_stop : (ts : List Target) (i : ℕ) (t : Target) → i < length ts → t ≡ get_or ts i t → T t ≡ false → list_all T ts ≡ false
+  all_stop [] i t within read stop = absurd (omega (arith, within))
+  all_stop (x ∷ xs) zero t within read stop = ap (λ b. b && list_all T xs) (ap T (sym read) ∙ stop)
+  all_stop (x ∷ xs) (suc i) t within read stop = ap (λ b. T x && b) (all_stop xs i t (omega (arith, within)) read stop) ∙ and_false (T x)
+    where
+      and_false : (b : Bool) → b && false ≡ false
+      and_false true = refl
+      and_false false = refl
+
+pub sorted_more : (n : List ℕ) (t : Bool) (old new : List (List ℕ)) → new ≡ cond t (with_path old n) old → IsStrictlySortedBy (slice_cmp nat_cmp) old → IsStrictlySortedBy (slice_cmp nat_cmp) new
+sorted_more n true old new e s = subst (IsStrictlySortedBy (slice_cmp nat_cmp)) (sym e) (with_path-sorted n old s)
+sorted_more n false old new e s = subst (IsStrictlySortedBy (slice_cmp nat_cmp)) (sym e) s
+
+pub start_sorted : (t : Bool) (p : List ℕ) (ps : List (List ℕ)) → ps ≡ cond t (p ∷ []) [] → IsStrictlySortedBy (slice_cmp nat_cmp) ps
+unfolding IsStrictlySortedBy
+start_sorted t p ps e = subst (IsStrictlySortedBy (slice_cmp nat_cmp)) (sym e) (by t)
+  where
+    by : (t : Bool) → IsStrictlySortedBy (slice_cmp nat_cmp) (cond t (p ∷ []) [])
+    by true = (tt, tt)
+    by false = tt
+
+all_gone : (P : List ℕ → Type 0) (p : List ℕ) (f : Folder) → AllByRecursion P (paths_of f) → AllByRecursion P (paths_of (without_file f p))
+all_gone P p [] all = tt
+all_gone P p (e ∷ es) all = by (is_eq (slice_cmp nat_cmp p e.0)) refl (all_gone P p es all.1)
+  where
+    by : (t : Bool) → is_eq (slice_cmp nat_cmp p e.0) ≡ t → AllByRecursion P (paths_of (without_file es p)) → AllByRecursion P (paths_of (without_file (e ∷ es) p))
+    by true a rest = subst (λ (l : Folder). AllByRecursion P (paths_of l)) (sym (cond-true _ es (e ∷ without_file es p) a)) all.1
+    by false a rest = subst (λ (l : Folder). AllByRecursion P (paths_of l)) (sym (cond-false _ es (e ∷ without_file es p) a)) (all.0, rest)
+
+pub sorted_gone : (p : List ℕ) (f : Folder) → IsStrictlySortedBy (slice_cmp nat_cmp) (paths_of f) → IsStrictlySortedBy (slice_cmp nat_cmp) (paths_of (without_file f p))
+unfolding IsStrictlySortedBy
+sorted_gone p [] s = tt
+sorted_gone p (e ∷ es) s = by (is_eq (slice_cmp nat_cmp p e.0)) refl (all_gone (λ y. slice_cmp nat_cmp e.0 y ≡ Less) p es s.0) (sorted_gone p es s.1)
+  where
+    by : (t : Bool) → is_eq (slice_cmp nat_cmp p e.0) ≡ t → AllByRecursion (λ y. slice_cmp nat_cmp e.0 y ≡ Less)
+        (paths_of (without_file es p)) → IsStrictlySortedBy (slice_cmp nat_cmp) (paths_of (without_file es p))
+        → IsStrictlySortedBy (slice_cmp nat_cmp) (paths_of (without_file (e ∷ es) p))
+    by true a all rest = subst (λ (l : Folder). IsStrictlySortedBy (slice_cmp nat_cmp) (paths_of l)) (sym (cond-true _ es (e ∷ without_file es p) a)) s.1
+    by false a all rest = subst (λ (l : Folder). IsStrictlySortedBy (slice_cmp nat_cmp) (paths_of l)) (sym (cond-false _ es (e ∷ without_file es p) a)) (all, rest)
+
+pub changed_sorted : (p : List ℕ) (f : Folder) (now : Option (List ℕ)) → IsStrictlySortedBy (slice_cmp nat_cmp) (paths_of f) → IsStrictlySortedBy (slice_cmp nat_cmp) (paths_of (changed f p now))
+changed_sorted p f None s = sorted_gone p f s
+changed_sorted p f (Some b) s = sorted_put p f b s
+
+-- The paths that were found are the affected ones
+module _ {I : Type 0} (m : Meaning I) (eq : I → I → Bool) (itself : (x : I) → eq x x ≡ true) (p : List ℕ) (f : Folder) (now : Option (List ℕ))
+    (ordered : IsStrictlySortedBy (slice_cmp nat_cmp) (paths_of f)) (other : now ≡ bytes_at f p → ⊥) (any : List ℕ → Bool)
+    (calls : (q : List ℕ) → any q ≡ option_map_or (λ b. is_candidate (m.calls q b) p) (bytes_at f q) false) where
+  and_swap : (a b : Bool) → a && b ≡ b && a
+  and_swap true true = refl
+  and_swap true false = refl
+  and_swap false true = refl
+  and_swap false false = refl
+
+  pub affected_found : (start paths : List (List ℕ)) → start ≡ cond (is_some now) (p ∷ []) [] → IsStrictlySortedBy (slice_cmp nat_cmp) paths
+      → ((q : List ℕ) → is_among q paths ≡ ((not (bytes_eq q p) && is_affected eq m f (changed f p now) q) && any q) || is_among q start) → paths ≡ affected eq m f (changed f p now)
+  affected_found start paths e s members = affected_is eq m f (changed f p now) (changed_sorted p f now ordered) paths s
+      (λ q. members q ∙ ap (λ t. t || is_among q start) (and_swap (not (bytes_eq q p) && is_affected eq m f (changed f p now) q) (any q))
+      ∙ ap (λ l. (any q && (not (bytes_eq q p) && is_affected eq m f (changed f p now) q)) || is_among q l) e ∙ affected_members m p f now ordered eq itself q (any q) (calls q) other)
+
+  pub affected_none : (start : List (List ℕ)) → start ≡ cond (is_some now) (p ∷ []) [] → ((q : List ℕ) → any q ≡ false) → start ≡ affected eq m f (changed f p now)
+  affected_none start e none = affected_found start start e (start_sorted (is_some now) p start e)
+      (λ q. sym (ap (λ t. ((not (bytes_eq q p) && is_affected eq m f (changed f p now) q) && t) || is_among q start) (none q) ∙ ap (λ t. t || is_among q start) (and_swap _ false)))
+
+  pub affected_still : (start : List (List ℕ)) → start ≡ cond (is_some now) (p ∷ []) [] → interface_in m f p ≡ interface_in m (changed f p now) p → start ≡ affected eq m f (changed f p now)
+  affected_still start e still = affected_found start start e (start_sorted (is_some now) p start e)
+      (λ q. sym (ap (λ t. (t && any q) || is_among q start) (none_affected m p f now ordered eq itself still q)))
+
+pub same_answer_exact : {I : Type 0} (eq : I → I → Bool) → ((x y : I) → eq x y ≡ true → x ≡ y) → (a b : Option I) → same_answer eq a b ≡ true → a ≡ b
+same_answer_exact eq exact None None h = refl
+same_answer_exact eq exact (Some x) (Some y) h = ap Some (exact x y h)
+same_answer_exact eq exact None (Some y) h = absurd (wrong h)
+  where
+    wrong : false ≡ true → ⊥
+    wrong h = cc
+same_answer_exact eq exact (Some x) None h = absurd (wrong h)
+  where
+    wrong : false ≡ true → ⊥
+    wrong h = cc
+
+pub if_ok2 : {A E : Type 0} {P Q R : A → Type 0} (r : Result A E) → ((v : A) → P v → Q v → R v) → IfOk r P → IfOk r Q → IfOk r R
+if_ok2 (Ok v) f p q = f v p q
+if_ok2 (Err e) f p q = p
+
+pub some_kept : {U I : Type 0} (now : Option (Bor (KeptFile U I))) → is_some now ≡ is_some (option_map (λ (file : KeptFile U I). file.bytes.items) (option_copied now))
+some_kept None = refl
+some_kept (Some file) = refl

@@ -1,0 +1,42 @@
+use Rattle.std.proofs.Common.{◌≡◌, ℕ, ◌+◌, ◌<◌, List, [], ◌∷◌, ◌++◌, Option, Some, None, refl, sym, ◌∙◌, ap, map, take, length, get_or, arith}
+use Rattle.std.proofs.lemmas.List.{map_push, map_more}
+use Rattle.al_base.specs.declared.faults.Fault.{Fault}
+use Rattle.al_session_folder.specs.Meaning.{Meaning}
+use Rattle.al_base.specs.Counted.{raised}
+use Rattle.al_session_folder.specs.Folder.{Folder, interface_in, or_else, answer, faults_in, bytes_at}
+use Rattle.al_session_folder.specs.Kept.{faults_of}
+use Rattle.std.specs.Option.{option_map_or}
+use Rattle.al_session_folder.specs.declared.lint.Target.{Target}
+use Rattle.al_session_folder.specs.declared.lint.Target.TheVariants.{Only, FirstOf}
+
+or_none : {T : Type 0} (o : Option T) → or_else o None ≡ o
+or_none None = refl
+or_none (Some x) = refl
+
+module _ {I : Type 0} (m : Meaning I) (f : Folder) where
+  pub answer-Only : (t : Target) (p : List ℕ) → t ≡ Only p → interface_in m f p ≡ answer m f t
+  unfolding answer
+  answer-Only t p h = rw h (sym (or_none (interface_in m f p)))
+
+  pub answer-FirstOf : (t : Target) (p q : List ℕ) → t ≡ FirstOf p q → or_else (interface_in m f p) (interface_in m f q) ≡ answer m f t
+  unfolding answer
+  answer-FirstOf t p q h = rw h (ap (or_else (interface_in m f p)) (sym (or_none (interface_in m f q))))
+
+-- what a check answers are the file's faults, where it was given the answers of its calls
+pub check_is : {I : Type 0} (m : Meaning I) (f : Folder) (p b b1 : List ℕ) (targets : List Target) (given : List (Option I)) (faults : List Fault)
+    → b1 ≡ b → targets ≡ m.calls p b → given ≡ map (answer m f) targets → faults ≡ m.faults p b1 given → faults ≡ faults_in m f p b
+unfolding faults_in
+check_is m f p b b1 targets given faults bytes calls answered checked =
+    checked ∙ ap (λ c. m.faults p c given) bytes ∙ ap (m.faults p b) (answered ∙ ap (map (answer m f)) calls)
+
+-- one more of each of two lists
+pub map_both : {A B C : Type 0} (f : A → C) (g : B → C) (xs : List A) (ys : List B) (i : ℕ) (d : B) (x : A) → i < length ys → map f xs
+    ≡ map g (take i ys) → f x ≡ g (get_or ys i d) → map f (xs ++ x ∷ []) ≡ map g (take (i + 1) ys)
+map_both f g xs ys i d x within so_far here = map_push f xs x ∙ ap (λ l. l ++ f x ∷ []) so_far ∙ ap (λ y. map g (take i ys) ++ y ∷ []) here ∙ sym (map_more g ys i d within)
+
+pub raised_more : (n k a b : ℕ) → a ≡ raised n k → b ≡ raised a 1 → b ≡ raised n (k + 1)
+raised_more n k a b h e = omega arith
+
+-- the faults of a file at a path are those of its bytes
+pub faults_there : {I : Type 0} (m : Meaning I) (f : Folder) (q b : List ℕ) → bytes_at f q ≡ Some b → faults_in m f q b ≡ faults_of m f q
+faults_there m f q b h = sym (ap (λ (o : Option (List ℕ)). option_map_or (faults_in m f q) o []) h)

@@ -1,0 +1,183 @@
+-- Folders whose files have the same paths and call the same have the same graph of calls.
+use Rattle.std.proofs.Common.{◌≡◌, ℕ, zero, suc, ◌+◌, ◌<◌, Bool, true, false, List, [], ◌∷◌, length, map, get_or, set, slice_get, take, Option, Some, None}
+use Rattle.std.proofs.Common.{Result, Ok, Err, Vec, refl, sym, ◌∙◌, ap, subst, arith, ◌&&◌}
+use Rattle.std.specs.Prelude.{bytes_eq, ◌⊎◌}
+use Rattle.std.specs.Bool.{Decides}
+use Rattle.std.specs.Global.{Global}
+use Rattle.std.specs.List.{cons_option, filter_map, position}
+use Rattle.std.specs.List.Sorted.{IsStrictlySortedBy}
+use Rattle.std.specs.Option.{option_map, unwrap_or}
+use Rattle.std.specs.Ordering.{nat_cmp}
+use Rattle.std.specs.Cmp.Lexicographic.{slice_cmp}
+use Rattle.std.proofs.lemmas.List.{length-map, take_more_same}
+use Rattle.std.proofs.lemmas.Option.{slice_get-map}
+use Rattle.al_graph.specs.Graphs.{Edge, Walk, edges_of}
+use Rattle.al_session_folder.specs.Meaning.{Meaning, candidates}
+use Rattle.al_session_folder.specs.Folder.{Folder, bytes_at, or_else, paths_of, with_file}
+use Rattle.al_session_folder.specs.Kept.{AreKept, Files, IsKept, file_at, folder_of}
+use Rattle.al_session_folder.specs.Loops.{called, calls_graph, number_among, number_of}
+use Rattle.al_session_folder.specs.Private.CallGraphs.{HasSameCalls, IsCallGraph, IsRow, TellLoops, is_same_target}
+use Rattle.al_session_folder.specs.Private.Place.{place_of}
+use Rattle.al_session_folder.specs.declared.kept.KeptFile.{KeptFile}
+use Rattle.al_session_folder.specs.declared.lint.Target.{Target}
+use Rattle.al_session_folder.specs.declared.lint.Target.TheVariants.{FirstOf, Only}
+use Rattle.al_session_folder.proofs.Looping.{below_length, entry_there}
+use Rattle.al_session_folder.proofs.Places.{absent, found}
+use Rattle.al_session_folder.proofs.Views.{bytes_kept, bytes_same, bytes_self, kept_at}
+
+-- ---- calls that are compared
+
+pub differ : {P : Type 0} → (P → ⊥) → Decides false P
+differ apart = (λ h. absurd (wrong h), λ p. absurd (apart p))
+  where
+    wrong : false ≡ true → ⊥
+    wrong h = cc
+
+both : (a b : Bool) → a && b ≡ true → (a ≡ true) × (b ≡ true)
+both true true h = (refl, refl)
+both true false h = cc
+both false b h = cc
+
+pub same_target : (t u : Target) → is_same_target t u ≡ true → t ≡ u
+same_target (Only p) (Only q) h = ap Only (bytes_same p q h)
+same_target (Only p) (FirstOf q r) h = cc
+same_target (FirstOf p q) (Only r) h = cc
+same_target (FirstOf p q) (FirstOf r s) h =
+    let parts = both (bytes_eq p r) (bytes_eq q s) h in
+    ap (λ x. FirstOf x q) (bytes_same p r parts.0) ∙ ap (FirstOf r) (bytes_same q s parts.1)
+
+same_itself : (t : Target) → is_same_target t t ≡ true
+same_itself (Only p) = bytes_self p
+same_itself (FirstOf p q) = ap (λ b. b && bytes_eq q q) (bytes_self p) ∙ bytes_self q
+
+pub none_taken : {X : Type 0} (xs ys : List X) → take 0 xs ≡ take 0 ys
+none_taken xs ys = none xs ∙ sym (none ys)
+  where
+    none : {X : Type 0} (zs : List X) → take 0 zs ≡ []
+    none [] = refl
+    none (z ∷ zs) = refl
+
+-- fronts that are the same, one element further
+pub take_same : {X : Type 0} (xs ys : List X) (i : ℕ) (x y : X) → i < length xs → i < length ys → x ≡ get_or xs i x → y ≡ get_or ys i y → x ≡ y →
+    take i xs ≡ take i ys → take (i + 1) xs ≡ take (i + 1) ys
+take_same {X} xs ys i x y lt below is at same before =
+    take_more_same xs ys i x lt below before (sym is ∙ subst (λ (z : X). z ≡ get_or ys i z) (sym same) at)
+
+one_at : {X : Type 0} (xs : List X) (i : ℕ) (x y : X) → i < length xs → x ≡ get_or xs i x → y ≡ get_or xs i y → x ≡ y
+one_at [] i x y lt a b = absurd (omega (arith, lt))
+one_at (z ∷ zs) zero x y lt a b = a ∙ sym b
+one_at (z ∷ zs) (suc i) x y lt a b = one_at zs i x y (omega (arith, lt)) a b
+
+-- lists that differ at a place are not the same
+pub apart : (xs ys : List Target) (i : ℕ) (x y : Target) → i < length xs → x ≡ get_or xs i x → y ≡ get_or ys i y → is_same_target x y ≡ false → xs ≡ ys → ⊥
+apart xs ys i x y lt is at other e =
+    let same : x ≡ y = one_at xs i x y lt is (at ∙ ap (λ l. get_or l i y) (sym e)) in
+    wrong (sym (same_itself y) ∙ ap (λ t. is_same_target t y) (sym same) ∙ other)
+  where
+    wrong : true ≡ false → ⊥
+    wrong h = cc
+
+-- ---- the graph of such a folder
+
+module _ {I : Type 0} (m : Meaning I) (f g : Folder) (same : HasSameCalls m f g) where
+  as_many : length g ≡ length f
+  as_many =
+      let n : length (paths_of g) ≡ length g = length-map g (λ e. e.0) in
+      let k : length (paths_of f) ≡ length f = length-map f (λ e. e.0) in
+      sym n ∙ ap length same.paths ∙ k
+
+  among_same : (ps : List (List ℕ)) → number_among g ps ≡ number_among f ps
+  among_same [] = refl
+  among_same (p ∷ ps) = ap (λ l. or_else (position (bytes_eq p) l) (number_among g ps)) same.paths ∙ ap (or_else (number_of f p)) (among_same ps)
+
+  row_same : (ts : List Target) → filter_map (called g) ts ≡ filter_map (called f) ts
+  row_same [] = refl
+  row_same (t ∷ ts) = ap (λ o. cons_option o (filter_map (called g) ts)) (among_same (candidates t)) ∙ ap (cons_option (called f t)) (row_same ts)
+
+  rows_of : (es : Folder) → map (λ (e : List ℕ × List ℕ). filter_map (called g) (m.calls e.0 e.1)) es
+      ≡ map (filter_map (called f)) (map (λ (e : List ℕ × List ℕ). m.calls e.0 e.1) es)
+  rows_of [] = refl
+  rows_of (e ∷ es) =
+      ap (λ l. l ∷ map (λ (e : List ℕ × List ℕ). filter_map (called g) (m.calls e.0 e.1)) es) (row_same (m.calls e.0 e.1))
+      ∙ ap (λ l. filter_map (called f) (m.calls e.0 e.1) ∷ l) (rows_of es)
+
+  own_rows : (es : Folder) → map (filter_map (called f)) (map (λ (e : List ℕ × List ℕ). m.calls e.0 e.1) es)
+      ≡ map (λ (e : List ℕ × List ℕ). filter_map (called f) (m.calls e.0 e.1)) es
+  own_rows [] = refl
+  own_rows (e ∷ es) = ap (λ l. filter_map (called f) (m.calls e.0 e.1) ∷ l) (own_rows es)
+
+  pub graph_same : calls_graph m g ≡ calls_graph m f
+  graph_same = rows_of g ∙ ap (map (filter_map (called f))) same.calls ∙ own_rows f
+
+  calls_number : (h : Folder) (i : ℕ) (e : List ℕ × List ℕ) → slice_get h i ≡ Some e → slice_get (map (λ (x : List ℕ × List ℕ). m.calls x.0 x.1) h) i ≡ Some (m.calls e.0 e.1)
+  calls_number h i e at =
+      slice_get-map (λ (x : List ℕ × List ℕ). m.calls x.0 x.1) h i ∙ ap (option_map (λ (x : List ℕ × List ℕ). m.calls x.0 x.1)) at
+
+  row_still : (graph : List (Vec ℕ Global)) (labels : List (Option ℕ)) → IsCallGraph m f graph labels → (i : ℕ) (p b : List ℕ) → slice_get g i ≡ Some (p, b) →
+      IsRow g (get_or (edges_of graph) i []) (m.calls p b)
+  row_still graph labels is i p b at =
+      let below = below_length g i (p, b) at in
+      let e = entry_there f i (omega (arith, below, as_many)) in
+      let one : Some (m.calls e.0.0 e.0.1) ≡ Some (m.calls p b) = sym (calls_number f i e.0 e.1) ∙ ap (λ l. slice_get l i) (sym same.calls) ∙ calls_number g i (p, b) at in
+      let calls : m.calls e.0.0 e.0.1 ≡ m.calls p b = ap (λ o. unwrap_or o []) one in
+      let row : IsRow f (get_or (edges_of graph) i []) (m.calls p b) =
+      subst (λ (ts : List Target). IsRow f (get_or (edges_of graph) i []) ts) calls (is.rows i e.0.0 e.0.1 e.1) in
+      subst (λ (l : List ℕ). (get_or (edges_of graph) i [] ≡ []) ⊎ (get_or (edges_of graph) i [] ≡ l)) (sym (row_same (m.calls p b))) row
+
+  -- what is the graph of the one is that of the other
+  pub graph_still : (graph : List (Vec ℕ Global)) (labels : List (Option ℕ)) → IsCallGraph m f graph labels → IsCallGraph m g graph labels
+  graph_still graph labels is = record {
+    size = is.size ∙ sym as_many;
+    inside = λ j k e. let below = is.inside j k e in omega (arith, below, as_many);
+    rows = row_still graph labels is;
+    kept = subst (λ (l : List (List ℕ)). (j k : ℕ) → Edge l j k → Walk l k j → Edge (edges_of graph) j k) (sym graph_same) is.kept;
+    tell = subst (λ (l : List (List ℕ)). TellLoops l labels) (sym graph_same) is.tell;
+  }
+
+-- ---- a put of a file that calls the same
+
+module _ {I : Type 0} (m : Meaning I) where
+  set_calls : (f : Folder) (i : ℕ) (p old now : List ℕ) → slice_get f i ≡ Some (p, old) → m.calls p now ≡ m.calls p old → HasSameCalls m f (set f i (p, now))
+  set_calls [] i p old now at same = record { paths = refl; calls = refl }
+  set_calls (x ∷ xs) zero p old now at same =
+      let is : x ≡ (p, old) = ap (λ o. unwrap_or o x) at in
+      record {
+        paths = ap (λ (y : List ℕ × List ℕ). y.0 ∷ paths_of xs) (sym is);
+        calls = ap (λ ts. ts ∷ map (λ (e : List ℕ × List ℕ). m.calls e.0 e.1) xs) (same ∙ ap (λ (y : List ℕ × List ℕ). m.calls y.0 y.1) (sym is));
+      }
+  set_calls (x ∷ xs) (suc i) p old now at same =
+      let rest = set_calls xs i p old now at same in
+      record { paths = ap (λ l. x.0 ∷ l) rest.paths; calls = ap (λ l. m.calls x.0 x.1 ∷ l) rest.calls }
+
+  pub put_calls : (f : Folder) (p b now : List ℕ) → IsStrictlySortedBy (slice_cmp nat_cmp) (paths_of f) → bytes_at f p ≡ Some b → m.calls p now ≡ m.calls p b →
+      HasSameCalls m f (with_file f p now)
+  put_calls f p b now s there same = by (place_of (paths_of f) p) refl
+    where
+      by : (r : Result ℕ ℕ) → place_of (paths_of f) p ≡ r → HasSameCalls m f (with_file f p now)
+      by (Err i) h = absurd (wrong (sym (absent f p i s h) ∙ there))
+        where
+          wrong : None ≡ Some b → ⊥
+          wrong h = cc
+      by (Ok i) h =
+          let r = found p f i h in
+          let one : Some r.bytes ≡ Some b = sym r.finds ∙ there in
+          let bytes : r.bytes ≡ b = ap (λ o. unwrap_or o b) one in
+          subst (HasSameCalls m f) (r.puts now) (set_calls f i p r.bytes now r.entry (same ∙ ap (m.calls p) (sym bytes)))
+
+  -- among kept files
+  pub put_same_calls : {U : Type 0} (is_unit : U → List ℕ → List ℕ → Type 0) (files : Files U I) (p : List ℕ) (file : KeptFile U I) → AreKept m is_unit files → IsKept m is_unit p file →
+      option_map (λ (kept : KeptFile U I). kept.calls.targets.items) (file_at files p) ≡ Some file.calls.targets.items →
+      HasSameCalls m (folder_of files) (with_file (folder_of files) p file.bytes.items)
+  put_same_calls {U} is_unit files p file kept one same = by (file_at files p) refl
+    where
+      by : (o : Option (KeptFile U I)) → file_at files p ≡ o → HasSameCalls m (folder_of files) (with_file (folder_of files) p file.bytes.items)
+      by None a = absurd (wrong (sym (ap (option_map (λ (kept : KeptFile U I). kept.calls.targets.items)) a) ∙ same))
+        where
+          wrong : None ≡ Some file.calls.targets.items → ⊥
+          wrong h = cc
+      by (Some old) a =
+          let before : IsKept m is_unit p old = kept_at m is_unit files p old kept.kept a in
+          let there : bytes_at (folder_of files) p ≡ Some old.bytes.items = bytes_kept files p ∙ ap (option_map (λ (kept : KeptFile U I). kept.bytes.items)) a in
+          let some : Some old.calls.targets.items ≡ Some file.calls.targets.items = sym (ap (option_map (λ (kept : KeptFile U I). kept.calls.targets.items)) a) ∙ same in
+          let calls : old.calls.targets.items ≡ file.calls.targets.items = ap (λ o. unwrap_or o []) some in
+          put_calls (folder_of files) p old.bytes.items file.bytes.items kept.ordered there (sym one.calls.targets ∙ sym calls ∙ before.calls.targets)

@@ -1,0 +1,5 @@
+use Rattle.al_session_folder.specs.Private.CallGraphs.{NoneForward}
+use Rattle.al_session_folder.proofs.loops.first_forward.Given as goal
+
+abbrev pub invariant-loop-index : goal.invariant-loop-index
+invariant-loop-index g l = NoneForward l.files.entries l.index

@@ -1,0 +1,92 @@
+-- A folder of files, its calls and their answers, and the edits that it takes.
+use Rattle.std.specs.Prelude.{ℕ, Bool, not, ◌&&◌, List, [], ◌∷◌, Option, Some, None, length}
+use Rattle.std.specs.Prelude.{if◌then◌else◌, nat_lt, nat_le, is_some, map, unwrap_or}
+use Rattle.std.specs.Option.{option_map}
+use Rattle.std.specs.Ordering.{nat_cmp}
+use Rattle.std.specs.Cmp.Lexicographic.{slice_cmp}
+use Rattle.std.specs.BTreeMap.{insert_entry, is_at}
+use Rattle.std.specs.Map.{lookup, remove_entry}
+use Rattle.al_base.specs.declared.faults.Fault.{Fault}
+use Rattle.al_base.specs.Limits.{largest_file, most_files}
+use Rattle.al_base.specs.Paths.{path_fault_of}
+use Rattle.al_session_folder.specs.Meaning.{Meaning, candidates}
+use Rattle.al_session_folder.specs.declared.lint.Target.{Target}
+use Rattle.al_session_folder.specs.declared.lint.Refused.{Refused}
+use Rattle.al_session_folder.specs.declared.lint.Refused.TheVariants.{BadPath, NotAccepted, TooLarge, Full, NoSuchFile, Memory}
+
+-- The bytes of files by their paths, in order of path.
+abbrev pub Folder : Type 0
+Folder = List (List ℕ × List ℕ)
+
+-- the bytes of a file of the folder
+abbrev pub bytes_at : Folder → List ℕ → Option (List ℕ)
+bytes_at f p = lookup (is_at (slice_cmp nat_cmp p)) f
+
+-- the folder with these bytes at a path, and all others as they were
+abbrev pub with_file : Folder → List ℕ → List ℕ → Folder
+with_file f p b = insert_entry (slice_cmp nat_cmp) f p b
+
+abbrev pub without_file : Folder → List ℕ → Folder
+without_file f p = remove_entry (is_at (slice_cmp nat_cmp p)) f
+
+abbrev pub paths_of : Folder → List (List ℕ)
+paths_of f = map (λ e. e.0) f
+
+-- Calls and their answers
+
+-- the interface of the file at a path, if it is there
+abbrev pub interface_in : {I : Type 0} → Meaning I → Folder → List ℕ → Option I
+interface_in m f p = option_map (m.interface p) (bytes_at f p)
+
+abbrev pub or_else : {T : Type 0} → Option T → Option T → Option T
+or_else None other = other
+or_else (Some x) other = Some x
+
+-- the interface of the first of these paths that is in the folder
+abbrev pub answer_among : {I : Type 0} → Meaning I → Folder → List (List ℕ) → Option I
+answer_among m f [] = None
+answer_among m f (p ∷ ps) = or_else (interface_in m f p) (answer_among m f ps)
+
+-- the answer of a call: the interface of its first candidate in the folder, or absent
+unfoldable pub answer : {I : Type 0} → Meaning I → Folder → Target → Option I
+answer m f t = answer_among m f (candidates t)
+
+-- the answers of a file's calls
+abbrev pub answers : {I : Type 0} → Meaning I → Folder → List ℕ → List ℕ → List (Option I)
+answers m f p b = map (answer m f) (m.calls p b)
+
+-- the faults of a file with this path and these bytes in this folder
+unfoldable pub faults_in : {I : Type 0} → Meaning I → Folder → List ℕ → List ℕ → List Fault
+faults_in m f p b = m.faults p b (answers m f p b)
+
+-- the faults of the file at a path, if it is there
+abbrev pub faults_at : {I : Type 0} → Meaning I → Folder → List ℕ → Option (List Fault)
+faults_at m f p = option_map (faults_in m f p) (bytes_at f p)
+
+-- Edits
+
+-- the first reason whose test is true
+abbrev pub first_refusal : List (Bool × Refused) → Option Refused
+first_refusal [] = None
+first_refusal (t ∷ ts) = if t.0 then Some t.1 else first_refusal ts
+
+-- why a put is refused, other than for memory
+unfoldable pub put_refusal : {I : Type 0} → Meaning I → Folder → List ℕ → List ℕ → Option Refused
+put_refusal m f p b =
+    first_refusal ((is_some (path_fault_of p), BadPath)
+    ∷ (not (m.accepts p), NotAccepted)
+    ∷ (nat_lt largest_file (length b), TooLarge)
+    ∷ (nat_le most_files (length f) && not (is_some (bytes_at f p)), Full)
+    ∷ [])
+
+-- why a delete is refused, other than for memory
+unfoldable pub delete_refusal : {I : Type 0} → Meaning I → Folder → List ℕ → Option Refused
+delete_refusal m f p =
+    first_refusal ((is_some (path_fault_of p), BadPath)
+    ∷ (not (m.accepts p), NotAccepted)
+    ∷ (not (is_some (bytes_at f p)), NoSuchFile)
+    ∷ [])
+
+-- the reply where an edit is not accepted
+abbrev pub refusal_or_memory : Option Refused → Refused
+refusal_or_memory r = unwrap_or r Memory

@@ -1,0 +1,49 @@
+-- Calls that lead back to their own file, at once or over calls of further files.
+use Rattle.std.specs.Prelude.{ℕ, Bool, false, List, [], ◌∷◌, ◌++◌, Option, Some, None, bytes_eq, map}
+use Rattle.std.specs.Prelude.{if◌then◌else◌}
+use Rattle.std.specs.List.{filter_map, position}
+use Rattle.al_base.specs.FaultLists.{fault_list}
+use Rattle.al_base.specs.declared.faults.Fault.{Fault}
+use Rattle.al_graph.specs.Within.{leads}
+use Rattle.al_session_folder.specs.Meaning.{Meaning, candidates}
+use Rattle.al_session_folder.specs.Folder.{Folder, faults_in, or_else, paths_of}
+use Rattle.al_session_folder.specs.declared.lint.Target.{Target}
+
+-- the number of the file at a path, in order of path, if it is there
+abbrev pub number_of : Folder → List ℕ → Option ℕ
+number_of f p = position (bytes_eq p) (paths_of f)
+
+-- the number of the first of these paths that is in the folder
+abbrev pub number_among : Folder → List (List ℕ) → Option ℕ
+number_among f [] = None
+number_among f (p ∷ ps) = or_else (number_of f p) (number_among f ps)
+
+-- the file that a call leads to: its first candidate in the folder
+abbrev pub called : Folder → Target → Option ℕ
+called f t = number_among f (candidates t)
+
+-- for each file the files that its calls lead to
+abbrev pub calls_graph : {I : Type 0} → Meaning I → Folder → List (List ℕ)
+calls_graph m f = map (λ e. filter_map (called f) (m.calls e.0 e.1)) f
+
+-- whether a call of the file with this number leads back to it: the file that it leads to is that file, or further calls lead there
+abbrev pub leads_back : List (List ℕ) → ℕ → Option ℕ → Bool
+leads_back graph file None = false
+leads_back graph file (Some to) = leads graph to file
+
+-- what is said of such a call
+abbrev pub fault_if : Bool → Fault → List Fault
+fault_if looping fault = if looping then fault ∷ [] else []
+
+-- of these calls of the file with this number, those that lead back to it
+abbrev pub looping : List (List ℕ) → Folder → ℕ → List Target → List Fault → List Fault
+looping graph f file [] sites = []
+looping graph f file (t ∷ ts) [] = []
+looping graph f file (t ∷ ts) (s ∷ ss) = fault_if (leads_back graph file (called f t)) s ++ looping graph f file ts ss
+
+abbrev pub loop_faults : {I : Type 0} → Meaning I → Folder → ℕ → List ℕ → List ℕ → List Fault
+loop_faults m f file p b = looping (calls_graph m f) f file (m.calls p b) (m.sites p b)
+
+-- a file's faults as reports list them: its own, and those of its calls that lead back to it, in order, each once
+unfoldable pub reported : {I : Type 0} → Meaning I → Folder → ℕ → List ℕ → List ℕ → List Fault
+reported m f file p b = fault_list (loop_faults m f file p b ++ faults_in m f p b)

@@ -1,0 +1,7 @@
+-- What is said of a call, by its site.
+use Rattle.std.specs.Prelude.{[], ◌∷◌}
+use Rattle.al_base.specs.declared.faults.Fault.{Fault}
+use Rattle.al_session_folder.specs.declared.lint.Site.{Site}
+
+abbrev pub fault_of : Site → Fault
+fault_of s = record { span = s.span; code = s.code; args = s.text.now ∷ [] }

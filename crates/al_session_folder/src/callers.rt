@@ -1,0 +1,207 @@
+//! The index: which files call a path, whether a file is there or not.
+
+ghost use Rattle.std.specs.Prelude.{◌≡◌, ℕ, List, [], ◌∷◌, Bool, true, false, not, ◌&&◌, ◌||◌, None, bytes_eq, cond, IfOk, OnOk, OnErr};
+ghost use Rattle.indexmap.specs.IndexMap.{get_by_text};
+ghost use Rattle.indexmap.specs.IndexSet.{contains_text};
+ghost use Rattle.al_session_folder.specs.Kept.{is_caller, is_candidate};
+
+use crate::kept::Callers;
+use crate::lint::Target;
+use indexmap::IndexSet;
+use std::alloc::{AllocError, Global};
+
+/// The candidates of these calls, each once.
+pub(crate) fn candidates_of(
+    alloc: Global,
+    targets: &[Target],
+) -> Result<IndexSet<String>, AllocError>
+    ensures { IfOk result (λ names. (c : List ℕ) → contains_text names c ≡ is_candidate targets.now c) }
+{
+    let mut names = IndexSet::new(alloc);
+    for target in targets {
+        add_names_of(alloc, &mut names, target)?;
+    }
+    Ok(names)
+}
+
+// Adds the candidates of one call.
+fn add_names_of(
+    alloc: Global,
+    names: &mut IndexSet<String>,
+    target: &Target,
+) -> Result<(), AllocError>
+    ensures { OnOk result ((c : List ℕ)
+        → contains_text names.new c ≡ (is_candidate (target.now ∷ []) c || contains_text names.old c)) }
+{
+    match target {
+        Target::Only(path) => add_name(alloc, names, path.as_str()),
+        Target::FirstOf(first, second) => {
+            add_name(alloc, names, first.as_str())?;
+            add_name(alloc, names, second.as_str())
+        }
+    }
+}
+
+// Adds a text, unless it is there. On failure the texts stay.
+fn add_name(alloc: Global, names: &mut IndexSet<String>, name: &str) -> Result<(), AllocError>
+    ensures added { OnOk result ((c : List ℕ)
+        → contains_text names.new c ≡ (bytes_eq c name.now || contains_text names.old c)) }
+    ensures as_before { OnErr result ((c : List ℕ) → contains_text names.new c ≡ contains_text names.old c) }
+{
+    if !names.contains(name) {
+        names.insert(String::from_str(alloc, name)?)?;
+    }
+    Ok(())
+}
+
+/// Makes a file a caller of a candidate. On failure the callers stay.
+pub(crate) fn add_caller(
+    alloc: Global,
+    callers: &mut Callers,
+    candidate: &str,
+    path: &str,
+) -> Result<(), AllocError>
+    ensures added { OnOk result ((c q : List ℕ) → is_caller callers.new c q
+        ≡ ((bytes_eq c candidate.now && bytes_eq q path.now) || is_caller callers.old c q)) }
+    ensures as_before { OnErr result ((c q : List ℕ) → is_caller callers.new c q ≡ is_caller callers.old c q) }
+{
+    match callers.get_mut(candidate) {
+        Some(known) => add_name(alloc, known, path),
+        None => add_first_caller(alloc, callers, candidate, path),
+    }
+}
+
+// Makes a file the caller of a candidate that has none.
+fn add_first_caller(
+    alloc: Global,
+    callers: &mut Callers,
+    candidate: &str,
+    path: &str,
+) -> Result<(), AllocError>
+    requires { get_by_text callers.old candidate.now ≡ None }
+    ensures added { OnOk result ((c q : List ℕ) → is_caller callers.new c q
+        ≡ ((bytes_eq c candidate.now && bytes_eq q path.now) || is_caller callers.old c q)) }
+    ensures as_before { OnErr result ((c q : List ℕ) → is_caller callers.new c q ≡ is_caller callers.old c q) }
+{
+    let mut known = IndexSet::new(alloc);
+    add_name(alloc, &mut known, path)?;
+    callers.insert(String::from_str(alloc, candidate)?, known)?;
+    Ok(())
+}
+
+/// Takes a file out of the callers of a candidate.
+pub(crate) fn drop_caller(callers: &mut Callers, candidate: &str, path: &str)
+    ensures { (c q : List ℕ) → is_caller callers.new c q
+        ≡ (not (bytes_eq c candidate.now && bytes_eq q path.now) && is_caller callers.old c q) }
+{
+    match callers.get_mut(candidate) {
+        Some(known) => {
+            if drop_name(known, path) {
+                callers.swap_remove(candidate);
+            }
+        }
+        None => {}
+    }
+}
+
+// Takes a text out, and answers whether none is left.
+fn drop_name(names: &mut IndexSet<String>, name: &str) -> bool
+    ensures names { (c : List ℕ) → contains_text names.new c ≡ (not (bytes_eq c name.now) && contains_text names.old c) }
+    ensures empty { result ≡ true → (c : List ℕ) → contains_text names.new c ≡ false }
+{
+    names.swap_remove(name);
+    names.is_empty()
+}
+
+/// Makes a file a caller of all these candidates. On failure it may be one of some of them.
+fn add_callers(
+    alloc: Global,
+    callers: &mut Callers,
+    names: &IndexSet<String>,
+    path: &str,
+) -> Result<(), AllocError>
+    ensures added { OnOk result ((c q : List ℕ) → is_caller callers.new c q
+        ≡ ((bytes_eq q path.now && contains_text names.now c) || is_caller callers.old c q)) }
+    ensures some { OnErr result ((added : List ℕ → Bool) × ((c : List ℕ) → added c ≡ true → contains_text names.now c ≡ true)
+        × ((c q : List ℕ) → is_caller callers.new c q
+        ≡ ((bytes_eq q path.now && added c) || is_caller callers.old c q))) }
+{
+    for name in names.as_slice() {
+        add_caller(alloc, callers, name.as_str(), path)?;
+    }
+    Ok(())
+}
+
+/// Takes a file out of the callers of those of these candidates that are not among the others. Takes no memory.
+pub fn drop_callers(
+    callers: &mut Callers,
+    names: &IndexSet<String>,
+    others: &IndexSet<String>,
+    path: &str,
+)
+    ensures { (c q : List ℕ) → is_caller callers.new c q
+        ≡ (not (bytes_eq q path.now && (contains_text names.now c && not (contains_text others.now c)))
+        && is_caller callers.old c q) }
+{
+    for name in names.as_slice() {
+        drop_unless(callers, name.as_str(), others, path);
+    }
+}
+
+// Takes a file out of the callers of a candidate, unless that is among the others.
+fn drop_unless(callers: &mut Callers, name: &str, others: &IndexSet<String>, path: &str)
+    ensures { (c q : List ℕ) → is_caller callers.new c q
+        ≡ (not (bytes_eq q path.now && (bytes_eq c name.now && not (contains_text others.now c))) && is_caller callers.old c q) }
+{
+    if !others.contains(name) {
+        drop_caller(callers, name, path);
+    }
+}
+
+/// Makes a file, which is a caller of the candidates `before`, one of the candidates `now` too.
+///
+/// # Errors
+///
+/// [`AllocError`] where memory ran out. The callers are then as before.
+pub fn index_calls(
+    alloc: Global,
+    callers: &mut Callers,
+    before: &IndexSet<String>,
+    now: &IndexSet<String>,
+    path: &str,
+) -> Result<(), AllocError>
+    requires { (c : List ℕ) → is_caller callers.old c path.now ≡ contains_text before.now c }
+    ensures added { OnOk result ((c q : List ℕ) → is_caller callers.new c q
+        ≡ ((bytes_eq q path.now && contains_text now.now c) || is_caller callers.old c q)) }
+    ensures as_before { OnErr result ((c q : List ℕ) → is_caller callers.new c q ≡ is_caller callers.old c q) }
+{
+    match add_callers(alloc, callers, now, path) {
+        Ok(()) => Ok(()),
+        Err(error) => {
+            drop_callers(callers, now, before, path);
+            Err(error)
+        }
+    }
+}
+
+/// Makes a file, which is a caller of the candidates `before`, one of the candidates `now` alone.
+///
+/// # Errors
+///
+/// [`AllocError`] where memory ran out. The callers are then as before.
+pub fn reindex(
+    alloc: Global,
+    callers: &mut Callers,
+    before: &IndexSet<String>,
+    now: &IndexSet<String>,
+    path: &str,
+) -> Result<(), AllocError>
+    requires { (c : List ℕ) → is_caller callers.old c path.now ≡ contains_text before.now c }
+    ensures moved { OnOk result ((c q : List ℕ) → is_caller callers.new c q
+        ≡ cond (bytes_eq q path.now) (contains_text now.now c) (is_caller callers.old c q)) }
+    ensures as_before { OnErr result ((c q : List ℕ) → is_caller callers.new c q ≡ is_caller callers.old c q) }
+{
+    index_calls(alloc, callers, before, now, path)?;
+    drop_callers(callers, before, now, path);
+    Ok(())
+}

@@ -1,0 +1,173 @@
+//! What is asked of a linter of a folder's files, and why an edit of the folder is refused.
+
+ghost use Rattle.std.specs.Prelude.{◌≡◌, ℕ, ◌≤◌, ◌<◌, List, Option, Some, length, map, slice_get, true, IfOk};
+ghost use Rattle.std.specs.Option.{option_copied};
+ghost use Rattle.std.specs.List.{AllByRecursion};
+ghost use Rattle.std.specs.List.Sorted.{IsStrictlySortedBy};
+ghost use Rattle.al_base.specs.FaultLists.{fault_cmp};
+ghost use Rattle.al_base.specs.Limits.{largest_file};
+ghost use Rattle.al_base.specs.Spans.{LiesIn};
+ghost use Rattle.al_session_folder.specs.Meaning.{AreAnswers, Meaning};
+ghost use Rattle.al_session_folder.specs.Sites.{fault_of};
+ghost use Rattle.al_base.specs.Counted.{raised};
+
+use al_base::{Code, Fault, Path, Span};
+use std::alloc::{AllocError, Global};
+
+/// What a file calls: the paths of which the first that is in the folder answers.
+#[derive(Drop)]
+pub enum Target {
+    Only(Path),
+    FirstOf(Path, Path),
+}
+
+impl Target {
+    /// A copy, with memory of its own.
+    ///
+    /// # Errors
+    ///
+    /// [`AllocError`] where memory ran out.
+    pub fn copy(&self, alloc: Global) -> Result<Target, AllocError>
+        ensures { IfOk result (λ copy. copy ≡ self.now) }
+    {
+        match self {
+            Target::Only(path) => Ok(Target::Only(copy_of(alloc, path)?)),
+            Target::FirstOf(first, second) => {
+                let first = copy_of(alloc, first)?;
+                Ok(Target::FirstOf(first, copy_of(alloc, second)?))
+            }
+        }
+    }
+}
+
+// A copy of a path.
+fn copy_of(alloc: Global, path: &Path) -> Result<Path, AllocError>
+    ensures { IfOk result (λ copy. copy ≡ path.now) }
+{
+    Path::new(alloc, path.as_str()).map_err(|_| AllocError)
+}
+
+/// Where a call stands, and what is said where it leads back to its own file.
+#[derive(Clone, Copy)]
+pub struct Site<'a> {
+    /// The code of the fault that such a call gives.
+    pub code: Code,
+    /// The call's span, which lies inside the file.
+    pub span: Span,
+    /// The text that names what is called, which is the fault's argument.
+    pub text: &'a str,
+}
+
+/// Why an edit is refused, in the order in which the reasons are looked for.
+#[derive(Clone, Copy, Debug, Drop, PartialEq, Eq)]
+pub enum Refused {
+    /// E1: the text is no path.
+    BadPath,
+    /// E2: the linter accepts no file with this path.
+    NotAccepted,
+    /// E3: the file has more than 1,048,576 bytes.
+    TooLarge,
+    /// E4: the folder has 4,096 files, none of them with this path.
+    Full,
+    /// E5: no file has this path.
+    NoSuchFile,
+    /// E6: memory ran out.
+    Memory,
+}
+
+/// A linter of files that may call one another.
+///
+/// Its [`Unit`](Lint::Unit) is what reading a file gives, its [`Iface`](Lint::Iface) what a file offers to those that
+/// call it. What a file's faults are depends on its path, its bytes and the interfaces that answer its calls, and on
+/// nothing else.
+pub trait Lint: Drop {
+    /// A file that was read.
+    type Unit: Drop;
+
+    /// What a file offers to its callers.
+    type Iface: Eq + Drop;
+
+    /// What this linter means: the paths that it takes, and the calls, interface and faults of a file. No value of the
+    /// linter changes it.
+    ghost meaning: { Meaning Self.Iface };
+
+    /// This unit is what reading the file with that path and those bytes gives.
+    ghost is_unit: { Self.Unit → List ℕ → List ℕ → Type 0 };
+
+    /// How many checks were made, up to the greatest count.
+    ghost checks_of: { Self → ℕ };
+
+    /// How many files were read, up to the greatest count.
+    ghost reads_of: { Self → ℕ };
+
+    /// Whether the linter takes a file with this path. Takes no memory.
+    fn accepts(&self, path: &str) -> bool
+        ensures { result ≡ meaning.accepts path.now };
+
+    /// Reads a file of at most 1,048,576 bytes. Counts one read, whatever it answers.
+    fn read(&mut self, alloc: Global, path: &str, bytes: &[u8]) -> Result<Self::Unit, AllocError>
+        requires small { length bytes.now ≤ largest_file }
+        ensures unit { IfOk result (λ u. is_unit u path.now bytes.now) }
+        ensures reads { reads_of self.new ≡ raised (reads_of self.old) 1 }
+        ensures checks { checks_of self.new ≡ checks_of self.old };
+
+    /// What a file offers to its callers.
+    fn iface(&self, alloc: Global, path: &str, unit: &Self::Unit) -> Result<Self::Iface, AllocError>
+        ensures { (b : List ℕ) → is_unit unit.now path.now b
+            → IfOk result (λ i. i ≡ meaning.interface path.now b) };
+
+    /// A file's calls, in order.
+    fn calls(&self, alloc: Global, path: &str, unit: &Self::Unit) -> Result<Vec<Target>, AllocError>
+        ensures { (b : List ℕ) → is_unit unit.now path.now b
+            → IfOk result (λ ts. ts.items ≡ meaning.calls path.now b) };
+
+    /// The faults of a file in order, each once. The answers are those of its calls, in their order: the interface of
+    /// the file that answers, or `None` where no candidate is in the folder. Calls with the same candidates have the same
+    /// answer. Counts one check, whatever it answers.
+    fn check(
+        &mut self,
+        alloc: Global,
+        path: &str,
+        bytes: &[u8],
+        unit: &Self::Unit,
+        answers: &[Option<&Self::Iface>],
+    ) -> Result<Vec<Fault>, AllocError>
+        requires small { length bytes.now ≤ largest_file }
+        requires unit { is_unit unit.now path.now bytes.now }
+        requires answers { AreAnswers (meaning.calls path.now bytes.now) (map (λ a. option_copied a) answers.now) }
+        ensures faults { IfOk result (λ fs. fs.items
+            ≡ meaning.faults path.now bytes.now (map (λ a. option_copied a) answers.now)) }
+        ensures checks { checks_of self.new ≡ raised (checks_of self.old) 1 }
+        ensures reads { reads_of self.new ≡ reads_of self.old };
+
+    /// The site of a call, by its number in the order of [`calls`](Lint::calls), from 0. Takes no memory.
+    fn site<'a>(&self, unit: &'a Self::Unit, call: usize) -> Site<'a>
+        requires { (p : List ℕ) × (b : List ℕ) × is_unit unit.now p b × (call < length (meaning.calls p b)) }
+        ensures { (p b : List ℕ) → is_unit unit.now p b → slice_get (meaning.sites p b) call ≡ Some (fault_of result) };
+
+    /// How many checks were made so far, up to the greatest count. Takes no memory.
+    fn checks(&self) -> u64
+        ensures { result ≡ checks_of self.now };
+
+    /// How many files were read so far, up to the greatest count. Takes no memory.
+    fn reads(&self) -> u64
+        ensures { result ≡ reads_of self.now };
+
+    /// Interfaces that compare equal are the same.
+    ghost exact: { (a b : Self.Iface) → Self.Iface.eq a b ≡ true → a ≡ b };
+
+    /// Each fault of a file lies in it, for every path, all bytes that a file of a folder may have, and all answers.
+    ghost inside: { (p b : List ℕ) (given : List (Option Self.Iface)) → length b ≤ largest_file →
+        AllByRecursion (λ fault. LiesIn (length b) fault.span) (meaning.faults p b given) };
+
+    /// Each call of a file has one site, for every path and all bytes.
+    ghost sited: { (p b : List ℕ) → length (meaning.sites p b) ≡ length (meaning.calls p b) };
+
+    /// Each site of a file lies in it, for every path and all bytes that a file of a folder may have.
+    ghost sites_inside: { (p b : List ℕ) → length b ≤ largest_file →
+        AllByRecursion (λ site. LiesIn (length b) site.span) (meaning.sites p b) };
+
+    /// The faults of a file are in the order of reports, each once, for every path, all bytes and all answers.
+    ghost ordered: { (p b : List ℕ) (given : List (Option Self.Iface)) →
+        IsStrictlySortedBy fault_cmp (meaning.faults p b given) };
+}

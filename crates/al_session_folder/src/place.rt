@@ -1,0 +1,35 @@
+//! Places among the files, which stand in order of path.
+
+ghost use Rattle.std.specs.Prelude.{◌≡◌, ◌<◌, Some, length, slice_get, string_bytes};
+ghost use Rattle.std.specs.List.Sorted.{IsStrictlySortedBy};
+ghost use Rattle.std.specs.Ordering.{nat_cmp};
+ghost use Rattle.std.specs.Cmp.Lexicographic.{slice_cmp};
+ghost use Rattle.al_session_folder.specs.Folder.{paths_of};
+ghost use Rattle.al_session_folder.specs.Private.Place.{place_of};
+ghost use Rattle.al_session_folder.specs.Kept.{folder_of};
+
+use crate::kept::{Files, KeptFile};
+use std::cmp::Ordering;
+
+/// The index at which a path stands among the files, as `Ok`, or at which it would go, as `Err`.
+pub fn place_in<U, I>(files: &Files<U, I>, path: &str) -> Result<usize, usize>
+    requires { IsStrictlySortedBy (slice_cmp nat_cmp) (paths_of (folder_of files.now.entries)) }
+    ensures { result ≡ place_of (paths_of (folder_of files.now.entries)) path.now }
+{
+    files.binary_search_by(
+        |name: &String, _file: &KeptFile<U, I>| -> Ordering
+            ensures { result ≡ slice_cmp nat_cmp (string_bytes name.now) path.entry.now }
+        { name.as_str().cmp(path) },
+    )
+}
+
+/// The file at an index, and its path.
+pub fn file_number<U, I>(files: &Files<U, I>, index: usize) -> (&String, &KeptFile<U, I>)
+    requires { index < length files.now.entries }
+    ensures { slice_get files.now.entries index ≡ Some (result.0.now, result.1.now) }
+{
+    match files.get_index(index) {
+        Some(found) => found,
+        None => unreachable!(),
+    }
+}

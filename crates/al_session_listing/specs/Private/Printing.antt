@@ -1,0 +1,65 @@
+-- Faults that are joined for a report, and printed.
+use Rattle.std.specs.Prelude.{◌≡◌, ℕ, ◌≤◌, ◌<◌, ◌==◌, Bool, cond, List, [], ◌++◌, length, slice_get, slice_index_or}
+use Rattle.std.specs.Prelude.{Some, String, Vec, string_bytes}
+use Rattle.std.specs.Borrow.{Bor}
+use Rattle.std.specs.Global.{Global}
+use Rattle.std.specs.List.{AllByRecursion, flat_map}
+use Rattle.al_base.specs.FaultLists.{fault_list}
+use Rattle.al_base.specs.declared.faults.Fault.{Fault}
+use Rattle.al_base.specs.LineStarts.{line_starts}
+use Rattle.al_text.specs.Snippets.{fault_text}
+use Rattle.al_base.specs.Spans.{LiesIn}
+use Rattle.al_base.specs.Limits.{largest_file}
+use Rattle.al_session_folder.specs.Meaning.{Meaning}
+use Rattle.al_session_folder.specs.Folder.{Folder}
+use Rattle.al_session_folder.specs.Loops.{loop_faults, reported}
+use Rattle.al_session_folder.specs.declared.kept.KeptFile.{KeptFile}
+use Rattle.al_session_folder.specs.Kept.{Files, folder_of, referred}
+
+-- a file's own faults and those of its calls that lead back to it, in the order of reports, each once; none where no call does
+abbrev pub joined_faults : List Fault → List Fault → List Fault
+joined_faults own loops = cond (length loops == 0) [] (fault_list (own ++ loops))
+
+-- the faults that are listed of a kept file: those that were joined, or else its own
+abbrev pub listed : {U I : Type 0} → KeptFile U I → List (Bor Fault) → List Fault
+listed file joined = cond (length joined == 0) file.faults.items (referred joined)
+
+-- what a report prints of these faults of a kept file
+abbrev pub lines_of : {U I : Type 0} → Bool → List ℕ → KeptFile U I → List Fault → List ℕ
+lines_of oneline path file faults = flat_map (fault_text oneline path file.bytes.items) faults
+
+-- what it prints of the file with this number
+abbrev pub numbered_lines : {U I : Type 0} → Bool → Meaning I → Folder → ℕ × (String Global × KeptFile U I) → List ℕ
+numbered_lines oneline m f x = lines_of oneline (string_bytes x.1.0) x.1.1 (reported m f x.0 (string_bytes x.1.0) x.1.1.bytes.items)
+
+-- A kept file of which these faults can be printed: they lie in it.
+pub record IsPrintable {U I : Type 0} (file : KeptFile U I) (faults : List Fault) : Type 0 where
+  pub small : length file.bytes.items ≤ largest_file
+  pub lines : file.lines ≡ line_starts file.bytes.items
+  pub inside : AllByRecursion (λ fault. LiesIn (length file.bytes.items) fault.span) faults
+
+-- what a report lists of each file can be printed
+abbrev pub ArePrintable : {U I : Type 0} → Meaning I → Files U I → Type 0
+ArePrintable {U} {I} m files = (i : ℕ) (e : String Global × KeptFile U I) → slice_get files i ≡ Some e →
+    IsPrintable e.1 (reported m (folder_of files) i (string_bytes e.0) e.1.bytes.items)
+
+-- Each of so many elements is so, by its number.
+pub record AreNumbered {X : Type 0} (P : ℕ → X → Type 0) (count : ℕ) (all : List X) : Type 0 where
+  pub number : length all ≡ count
+  pub each : (i : ℕ) (x : X) → i < count → x ≡ slice_index_or all i x → P i x
+
+-- the faults of the calls that lead back to the file with this number
+abbrev pub IsLoops : {U I : Type 0} → Meaning I → Files U I → ℕ → Vec Fault Global → Type 0
+IsLoops {U} {I} m files i loops = (e : String Global × KeptFile U I) → slice_get files i ≡ Some e →
+    loops.items ≡ loop_faults m (folder_of files) i (string_bytes e.0) e.1.bytes.items
+
+abbrev pub AreLoops : {U I : Type 0} → Meaning I → Files U I → List (Vec Fault Global) → Type 0
+AreLoops m files all = AreNumbered (IsLoops m files) (length files) all
+
+-- the listed faults of the file with this number are those that a report lists
+abbrev pub IsListed : {U I : Type 0} → Meaning I → Files U I → ℕ → Vec (Bor Fault) Global → Type 0
+IsListed {U} {I} m files i joined = (e : String Global × KeptFile U I) → slice_get files i ≡ Some e →
+    listed e.1 joined.items ≡ reported m (folder_of files) i (string_bytes e.0) e.1.bytes.items
+
+abbrev pub AreListed : {U I : Type 0} → Meaning I → Files U I → List (Vec (Bor Fault) Global) → Type 0
+AreListed m files all = AreNumbered (IsListed m files) (length files) all

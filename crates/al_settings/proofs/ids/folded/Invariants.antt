@@ -1,8 +1,0 @@
-use Rattle.std.proofs.Common.{◌≡◌, take, map}
-use Rattle.al_settings.specs.Ids.{with_folded}
-use Rattle.al_reports.specs.Private.Views.{named_of}
-use Rattle.al_settings.specs.Private.Views.{folded_id}
-use Rattle.al_settings.proofs.ids.folded.Given as goal
-
-abbrev pub invariant-loop-id : goal.invariant-loop-id
-invariant-loop-id l = map folded_id l.found.items ≡ map with_folded (map named_of (take l.id-index l.ids))

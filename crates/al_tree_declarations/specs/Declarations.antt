@@ -1,0 +1,44 @@
+-- Inputs, secrets and outputs that a file declares, by their names.
+use Rattle.std.specs.Prelude.{ℕ, List, [], ◌∷◌, ◌++◌, Bool, false, codes, map, if◌then◌else◌, is_some}
+use Rattle.std.specs.List.{list_any}
+use Rattle.std.specs.Option.{option_map_or}
+use Rattle.std.specs.Str.{bytes_eq}
+use Rattle.al_scalar.specs.Scalar.{text_of}
+use Rattle.al_base.specs.Names.{same_name}
+use Rattle.al_yaml_tree.specs.Access.{scalar_in}
+use Rattle.al_yaml_tree.specs.Node.{Node}
+use Rattle.al_tree_shape.specs.Keys.{key_of}
+use Rattle.al_tree_shape.specs.Values.{entries_in, items_at, value_at, value_below}
+
+-- one of these texts is this name, but for ASCII case
+abbrev pub named_among : List (List ℕ) → List ℕ → Bool
+named_among ns n = list_any (λ m. same_name m n) ns
+
+-- of entries with equal names the first, behind entries with these names
+abbrev pub first_named : List (List ℕ) → List (Node × Node) → List (Node × Node)
+first_named seen [] = []
+first_named seen (e ∷ es) = (if named_among seen (key_of e) then [] else e ∷ []) ++ first_named (seen ++ key_of e ∷ []) es
+
+-- what a mapping declares
+abbrev pub declared_in : Node → List (Node × Node)
+declared_in n = first_named [] (entries_in n)
+
+abbrev pub declared_below : List (List ℕ) → Node → List (Node × Node)
+declared_below ks n = option_map_or declared_in (value_below ks n) []
+
+abbrev pub names_of : List (Node × Node) → List (List ℕ)
+names_of = map key_of
+
+abbrev pub has_value : List ℕ → Node → Bool
+has_value k n = is_some (value_at k n)
+
+-- a scalar under a path of keys has this text, null or not
+abbrev pub says : List (List ℕ) → List ℕ → Node → Bool
+says ks text n = option_map_or (λ v. option_map_or (λ s. bytes_eq (text_of s) text) (scalar_in v) false) (value_below ks n) false
+
+abbrev pub is_composite : Node → Bool
+is_composite = says (codes "runs" ∷ codes "using" ∷ []) (codes "composite")
+
+-- the steps that an action runs
+abbrev pub action_steps : Node → List Node
+action_steps root = option_map_or (items_at (codes "steps")) (value_at (codes "runs") root) []

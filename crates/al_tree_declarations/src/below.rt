@@ -1,0 +1,65 @@
+//! Values below paths of keys.
+ghost use Rattle.std.specs.Prelude.{◌≡◌, ◌∷◌, [], map, option_map};
+ghost use Rattle.al_tree_declarations.specs.Declarations as declarations;
+ghost use Rattle.al_tree_declarations.specs.Declarations.{says};
+ghost use Rattle.al_tree_shape.specs.Values.{value_below};
+ghost use Rattle.al_yaml_tree.specs.View.{view};
+
+use al_tree_shape::{items_under, value};
+use al_yaml_tree::Node;
+
+/// The value below two keys, each of which stands in a mapping; of equal keys the first counts.
+pub fn value_below_two<'a>(node: &'a Node, first: &str, second: &str) -> Option<&'a Node>
+    ensures { option_map (λ n. view n.now) result ≡ value_below (first.now ∷ second.now ∷ []) (view node.now) }
+{
+    value(value(node, first)?, second)
+}
+
+/// The value below three keys.
+pub fn value_below_three<'a>(
+    node: &'a Node,
+    first: &str,
+    second: &str,
+    third: &str,
+) -> Option<&'a Node>
+    ensures { option_map (λ n. view n.now) result ≡ value_below (first.now ∷ second.now ∷ third.now ∷ []) (view node.now) }
+{
+    value_below_two(value(node, first)?, second, third)
+}
+
+/// Whether a node has a value under a key, null or not.
+pub fn has_value(node: &Node, key: &str) -> bool
+    ensures { result ≡ declarations.has_value key.now (view node.now) }
+{
+    value(node, key).is_some()
+}
+
+/// Whether a node is a scalar with a text.
+fn has_text(node: &Node, text: &str) -> bool
+    ensures { result ≡ says [] text.now (view node.now) }
+{
+    match node.scalar() {
+        Some(scalar) => scalar.text() == text.as_bytes(),
+        None => false,
+    }
+}
+
+/// Whether the root of an action says that it is composite.
+pub fn is_composite(root: &Node) -> bool
+    ensures { result ≡ declarations.is_composite (view root.now) }
+{
+    match value_below_two(root, "runs", "using") {
+        Some(node) => has_text(node, "composite"),
+        None => false,
+    }
+}
+
+/// The steps of an action, in order; none where it runs none.
+pub fn action_steps(root: &Node) -> &[Node]
+    ensures { map view result.now ≡ declarations.action_steps (view root.now) }
+{
+    match value(root, "runs") {
+        Some(runs) => items_under(runs, "steps"),
+        None => &[],
+    }
+}

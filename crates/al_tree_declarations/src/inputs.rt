@@ -1,0 +1,52 @@
+//! The types that inputs are declared with.
+ghost use Rattle.std.specs.Prelude.{◌≡◌};
+ghost use Rattle.al_tree_declarations.specs.Inputs as inputs;
+ghost use Rattle.al_tree_declarations.specs.Inputs.{input_named};
+ghost use Rattle.al_types.specs.TypeViews.{ty_of};
+ghost use Rattle.al_yaml_tree.specs.View.{view};
+
+use al_tree_shape::text_under;
+use al_types::Ty;
+use al_yaml_tree::Node;
+
+/// The type of an input, as far as expressions tell types apart.
+#[derive(Clone, Copy, Debug, PartialEq, Eq)]
+pub enum InputType {
+    Boolean,
+    Number,
+    String,
+}
+
+/// The type of this name. Any other text is a string's, as `choice` and `environment` are.
+fn type_named(text: &[u8]) -> InputType
+    ensures { result ≡ input_named text.now }
+{
+    if text == b"boolean".as_slice() {
+        InputType::Boolean
+    } else if text == b"number".as_slice() {
+        InputType::Number
+    } else {
+        InputType::String
+    }
+}
+
+/// The type under `type` in what declares an input; without one it is a string.
+pub fn input_of(node: &Node) -> InputType
+    ensures { result ≡ inputs.input_of (view node.now) }
+{
+    match text_under(node, "type") {
+        Some(text) => type_named(text.scalar.text()),
+        None => InputType::String,
+    }
+}
+
+/// The type of expressions that an input has.
+pub fn type_of(input: InputType) -> Ty
+    ensures { ty_of result ≡ inputs.input_type input }
+{
+    match input {
+        InputType::Boolean => Ty::Bool,
+        InputType::Number => Ty::Number,
+        InputType::String => Ty::String,
+    }
+}

@@ -1,0 +1,46 @@
+//! What a mapping declares.
+ghost use Rattle.std.specs.Prelude.{◌≡◌, [], map, option_map, IfOk};
+ghost use Rattle.std.specs.Option.{option_map_or};
+ghost use Rattle.al_tree_declarations.specs.Declarations as declarations;
+ghost use Rattle.al_tree_shape.specs.Values.{member_of};
+ghost use Rattle.al_yaml_tree.specs.View.{view};
+
+use crate::name_sets::NameSet;
+use al_tree_shape::{Member, key_text, members};
+use al_yaml_tree::Node;
+use std::alloc::{AllocError, Global};
+
+/// Of members with equal names the first.
+#[tactic(auto, using(crate::proofs::NameLemmas::named_more))]
+fn first_named<'a>(alloc: Global, members: &[Member<'a>]) -> Result<Vec<Member<'a>>, AllocError>
+    ensures { IfOk result (λ v. map member_of v.items ≡ declarations.first_named [] (map member_of members.now)) }
+{
+    let mut names = NameSet::new(alloc);
+    let mut found = Vec::new(alloc);
+    for member in members {
+        if names.insert(alloc, key_text(member.key))? {
+            found.push(*member)?;
+        }
+    }
+    Ok(found)
+}
+
+/// What a mapping declares: its entries in order, of equal names the first; of another node nothing.
+///
+/// Fails with `AllocError` when out of memory.
+pub fn declared_in(alloc: Global, node: &Node) -> Result<Vec<Member<'_>>, AllocError>
+    ensures { IfOk result (λ v. map member_of v.items ≡ declarations.declared_in (view node.now)) }
+{
+    first_named(alloc, members(alloc, node)?.as_slice())
+}
+
+/// What a mapping declares, where there is one. Fails with `AllocError` when out of memory.
+pub fn declared_at(alloc: Global, node: Option<&Node>) -> Result<Vec<Member<'_>>, AllocError>
+    ensures { IfOk result
+        (λ v. map member_of v.items ≡ option_map_or declarations.declared_in (option_map (λ n. view n.now) node.entry) []) }
+{
+    match node {
+        Some(node) => declared_in(alloc, node),
+        None => Ok(Vec::new(alloc)),
+    }
+}

@@ -1,0 +1,204 @@
+-- What a stack of open block collections stands for, and how contracts speak of it.
+use Rattle.std.specs.Prelude.{◌≡◌, ℕ, suc, ◌+◌, ◌<◌, ◌≤◌, List, length, map, Bool, true, Option, Some, None, Result, Ok, Err}
+use Rattle.al_scalar.specs.Line.{Line}
+use Rattle.al_scalar.specs.Private.Places.{lines_at, text_at}
+use Rattle.al_scalar.specs.Scalar.{ScalarRead}
+use Rattle.al_scalar.specs.Private.Contract.{read_of}
+use Rattle.al_yaml_tree.specs.Node.{Node, Nodes, Entries, sequence, mapping, with_item, with_entry, scalar_node}
+use Rattle.al_yaml_tree.specs.Reading.{Reading, Part, part, spanned}
+use Rattle.al_yaml_tree.specs.Content as content
+use Rattle.al_yaml_tree.specs.Flow.{flow_collection}
+use Rattle.al_yaml_tree.specs.Keys.{Key}
+use Rattle.al_yaml_tree.specs.Blocks.{BlockReader, sequence_entries, sequence_rest, mapping_entries, mapping_rest, block_node, bare_node}
+use Rattle.al_yaml_parts.specs.Private.BlockReads.{IsKeyBehind, IsTabInside, key_seen, slot_of}
+use Rattle.al_yaml_parts.specs.Private.Answers.{Mark, answered, noting}
+use Rattle.al_yaml_parts.specs.Private.Answers.{mark_of}
+use Rattle.al_yaml_parts.specs.Private.Places.{next_of, IsLineFrom}
+use Rattle.al_yaml_parts.specs.Private.Reads.{State, run, Stops, IsBehind, part_of}
+use Rattle.al_yaml_tree.specs.View.{view, entry_view, nodes_of, entries_of}
+use Rattle.al_yaml_parts.specs.declared.faults.ReadError.{ReadError}
+use Rattle.al_yaml_parts.specs.declared.part.Part as code
+use Rattle.al_yaml_parts.specs.declared.content.Next.{Next}
+use Rattle.al_yaml_parts.specs.declared.content.Next.TheVariants as next
+use Rattle.al_yaml_parts.specs.declared.slots.Slot as slot
+use Rattle.al_yaml.specs.declared.block.BlockOpen as open_type
+use Rattle.al_yaml.specs.declared.block.BlockOpen.TheVariants as open_code
+use Rattle.al_yaml_parts.specs.declared.frames.BlockWaiting as waiting_type
+use Rattle.al_yaml_parts.specs.declared.frames.BlockWaiting.TheVariants as waiting_code
+use Rattle.al_yaml_parts.specs.declared.frames.BlockFrame as frame_type
+use Rattle.al_yaml.specs.declared.block.BlockTask as task_type
+use Rattle.al_yaml.specs.declared.block.PartBefore as before_type
+use Rattle.al_yaml.specs.declared.block.BlockTask.TheVariants as task
+
+-- What was read of an open block collection, up to a dash or a key.
+pub data BlockOpen : Type 0 where
+  items : Bool → Nodes → BlockOpen
+  entries : Entries → Key → BlockOpen
+
+-- What a block collection waits with while a node in it is read.
+pub data BlockWaiting : Type 0 where
+  item : Bool → Nodes → BlockWaiting
+  value : Entries → ScalarRead → BlockWaiting
+
+pub record BlockFrame : Type 0 where
+  pub start : ℕ
+  pub column : ℕ
+  pub mark : Option Mark
+  pub waiting : BlockWaiting
+
+-- An open collection from here on. bound is what the nodes in it are read with, turns bounds what is still read.
+abbrev pub block_rest : ℕ → ℕ → ℕ → ℕ → ℕ → BlockOpen → List Line → Reading (Part Node)
+block_rest turns bound depth start column (items in_mapping done) ls =
+    spanned sequence start (sequence_entries (block_node bound) (flow_collection (suc bound)) turns in_mapping column depth done ls)
+block_rest turns bound depth start column (entries done key) ls =
+    spanned mapping start (mapping_entries (block_node bound) (flow_collection (suc bound)) turns column depth done key)
+
+-- the same from behind the node that it waited for
+abbrev pub block_waits : ℕ → ℕ → ℕ → ℕ → ℕ → BlockWaiting → Part Node → Reading (Part Node)
+block_waits turns bound depth start column (item in_mapping done) x =
+    spanned sequence start (sequence_rest (flow_collection (suc bound))
+    (λ left. sequence_entries (block_node bound) (flow_collection (suc bound)) turns in_mapping column depth
+    (with_item done x.value) left) in_mapping column depth (part (with_item done x.value) x.end x.left))
+block_waits turns bound depth start column (value done k) x =
+    spanned mapping start (mapping_rest (flow_collection (suc bound))
+    (λ key. mapping_entries (block_node bound) (flow_collection (suc bound)) turns column depth
+    (with_entry done (scalar_node k) x.value) key) column depth
+    (part (with_entry done (scalar_node k) x.value) x.end x.left))
+
+-- ---- as the code has them
+
+abbrev pub block_open_of : List ℕ → open_type.BlockOpen → BlockOpen
+block_open_of bytes (open_code.Items in_mapping v) = items in_mapping (nodes_of (map view v.items))
+block_open_of bytes (open_code.Entries v key) = entries (entries_of (map entry_view v.items)) (key_seen bytes key)
+
+abbrev pub block_waiting_of : List ℕ → waiting_type.BlockWaiting → BlockWaiting
+block_waiting_of bytes (waiting_code.Item in_mapping v) = item in_mapping (nodes_of (map view v.items))
+block_waiting_of bytes (waiting_code.Value v read) = value (entries_of (map entry_view v.items)) (read_of bytes read)
+
+abbrev pub block_frame_of : List ℕ → frame_type.BlockFrame → BlockFrame
+block_frame_of bytes f =
+    let begun = f.begun in
+    let waiting = block_waiting_of bytes f.waiting in
+    record { start = begun.start.at; column = begun.start.column; mark = mark_of bytes begun.anchor; waiting = waiting }
+
+-- what reads a node from its first character on, or from behind its anchor
+abbrev pub node_reader : ℕ → Option ℕ → BlockReader
+node_reader bound None = block_node bound
+node_reader bound (Some at) = bare_node bound
+
+-- where a node may begin
+pub record IsNodeAt (bytes : List ℕ) (s : slot.Slot) (col at : ℕ) : Type 0 where
+  pub inside : at ≤ length bytes
+  pub column : col ≤ at
+  pub within : s.within ≤ at + 1
+  pub empty : s.empty ≤ length bytes
+  pub tab : IsTabInside (length bytes) s.spot
+
+abbrev pub IsNextInside : ℕ → Next → Type 0
+IsNextInside size next.Ended = Unit {0}
+IsNextInside size (next.Line indent at) = (at ≤ size) × (indent ≤ at)
+
+-- a line begins at an offset
+abbrev pub IsNextAt : Next → ℕ → Type 0
+IsNextAt next.Ended at = ⊥
+IsNextAt (next.Line indent first) at = at ≡ first
+
+-- the next content line behind a part
+abbrev pub IsNextBehind : List ℕ → code.Part → Next → Type 0
+IsNextBehind bytes p x = (content.content (lines_at bytes p.next) ≡ Ok (next_of bytes x)) × IsNextInside (length bytes) x
+    × IsLineFrom p.next (length bytes) x
+
+-- ---- a node: it was read whole, a collection begins, or it stands behind an anchor
+
+abbrev pub Begins : List ℕ → ℕ → ℕ → Reading (Part Node) → State → Result task_type.BlockTask ReadError → State → Type 0
+Begins bytes bound depth reading before (Ok (task.Read p)) after = run before reading ≡ Ok (part_of bytes p, after)
+Begins bytes bound depth reading before (Ok (task.Inside start anchor has at)) after =
+    run before reading
+    ≡ noting (mark_of bytes anchor)
+    (run after (block_rest (suc bound) bound (depth + 1) start.at start.column (block_open_of bytes has) (lines_at bytes at)))
+Begins bytes bound depth reading before (Ok (task.Node s p anchor)) after =
+    run before reading
+    ≡ noting (mark_of bytes anchor) (run after (node_reader (suc bound) anchor (slot_of s) depth p.column (lines_at bytes p.at)))
+Begins bytes bound depth reading before (Ok (task.Found r)) after = run before reading ≡ Ok (part_of bytes r.part, after)
+Begins bytes bound depth reading before (Err e) after = Stops reading before e
+
+-- a node in a collection that begins at an offset was read, and the line behind it
+pub record IsReadBefore (bytes : List ℕ) (r : before_type.PartBefore) : Type 0 where
+  pub inside : r.part.next ≤ length bytes
+  pub end : r.part.end ≤ length bytes
+  pub next : IsNextBehind bytes r.part r.next
+
+-- a part that was found from an offset on, with the line behind it
+abbrev pub IsFoundPart : List ℕ → ℕ → before_type.PartBefore → Type 0
+IsFoundPart bytes from r = IsBehind bytes from r.part × IsNextBehind bytes r.part r.next
+
+-- what stands behind a dash, a colon or an anchor: a node, or the empty node, which was read
+abbrev pub FindsBlock : List ℕ → BlockReader → Option ℕ → ℕ → Reading (Part Node) → State → Result task_type.BlockTask ReadError → State →
+    Type 0
+FindsBlock bytes node anchor depth reading before (Ok (task.Node s p own)) after =
+    (own ≡ anchor) × (run before reading ≡ run after (node (slot_of s) depth p.column (lines_at bytes p.at)))
+FindsBlock bytes node anchor depth reading before (Ok (task.Found r)) after =
+    noting (mark_of bytes anchor) (run before reading) ≡ Ok (part_of bytes r.part, after)
+FindsBlock bytes node anchor depth reading before (Ok (task.Read p)) after = ⊥
+FindsBlock bytes node anchor depth reading before (Ok (task.Inside start a has at)) after = ⊥
+FindsBlock bytes node anchor depth reading before (Err e) after = Stops reading before e
+
+-- ---- where it lies
+
+abbrev pub IsOpenAt : List ℕ → ℕ → ℕ → open_type.BlockOpen → Type 0
+IsOpenAt bytes column at (open_code.Items in_mapping v) = (content.is_dash (text_at bytes at) ≡ true) × (at < length bytes) × (column ≤ at)
+IsOpenAt bytes column at (open_code.Entries v key) = IsKeyBehind bytes at key × (column ≤ at)
+
+abbrev pub IsBegun : List ℕ → ℕ → ℕ → task_type.BlockTask → Type 0
+IsBegun bytes from depth (task.Read p) = IsBehind bytes from p
+IsBegun bytes from depth (task.Inside start anchor has at) =
+    (start.at ≡ from) × (at ≡ from) × (depth ≤ 64) × IsOpenAt bytes start.column at has
+IsBegun bytes from depth (task.Node s p anchor) = IsNodeAt bytes s p.column p.at × (from < p.at)
+IsBegun bytes from depth (task.Found r) = IsBehind bytes from r.part × IsNextBehind bytes r.part r.next
+
+abbrev pub IsFoundFrom : List ℕ → ℕ → task_type.BlockTask → Type 0
+IsFoundFrom bytes from (task.Node s p anchor) = IsNodeAt bytes s p.column p.at × (from ≤ p.at)
+IsFoundFrom bytes from (task.Found r) = IsFoundPart bytes from r
+IsFoundFrom bytes from (task.Read p) = ⊥
+IsFoundFrom bytes from (task.Inside start anchor has at) = ⊥
+
+-- ---- a collection goes on: with what it waits and for what, and behind the node that it waited for
+
+abbrev pub EntersWith : List ℕ → ℕ → ℕ → ℕ → ℕ → ℕ → Reading (Part Node) → State → waiting_type.BlockWaiting → task_type.BlockTask
+    → State → Type 0
+EntersWith bytes bound turns depth start column reading before w (task.Node s p anchor) after =
+    (anchor ≡ None) × (run before reading ≡ answered (run after (block_node bound (slot_of s) depth p.column (lines_at bytes p.at)))
+    (block_waits turns bound depth start column (block_waiting_of bytes w)))
+EntersWith bytes bound turns depth start column reading before w (task.Found r) after =
+    run before reading
+    ≡ run after (block_waits turns bound depth start column (block_waiting_of bytes w) (part_of bytes r.part))
+EntersWith bytes bound turns depth start column reading before w (task.Read p) after = ⊥
+EntersWith bytes bound turns depth start column reading before w (task.Inside s anchor has at) after = ⊥
+
+abbrev pub Enters : List ℕ → ℕ → ℕ → ℕ → ℕ → ℕ → Reading (Part Node) → State →
+    Result (waiting_type.BlockWaiting × task_type.BlockTask) ReadError → State → Type 0
+Enters bytes bound turns depth start column reading before (Ok r) after =
+    EntersWith bytes bound turns depth start column reading before r.0 r.1 after
+Enters bytes bound turns depth start column reading before (Err e) after = Stops reading before e
+
+abbrev pub ResumesBlock : List ℕ → ℕ → ℕ → ℕ → ℕ → ℕ → Option ℕ → BlockWaiting → Part Node → State
+    → Result task_type.BlockTask ReadError → State → Type 0
+ResumesBlock bytes bound turns depth start column mark w x before (Ok (task.Inside s anchor has at)) after =
+    (s.at ≡ start) × (s.column ≡ column) × (anchor ≡ mark)
+    × (run before (block_waits turns bound depth start column w x)
+    ≡ run after (block_rest turns bound depth start column (block_open_of bytes has) (lines_at bytes at)))
+ResumesBlock bytes bound turns depth start column mark w x before (Ok (task.Found r)) after =
+    noting (mark_of bytes mark) (run before (block_waits turns bound depth start column w x)) ≡ Ok (part_of bytes r.part, after)
+ResumesBlock bytes bound turns depth start column mark w x before (Ok (task.Read p)) after = ⊥
+ResumesBlock bytes bound turns depth start column mark w x before (Ok (task.Node s p anchor)) after = ⊥
+ResumesBlock bytes bound turns depth start column mark w x before (Err e) after =
+    Stops (block_waits turns bound depth start column w x) before e
+
+abbrev pub IsEntered : List ℕ → ℕ → waiting_type.BlockWaiting × task_type.BlockTask → Type 0
+IsEntered bytes at r = IsFoundFrom bytes (suc at) r.1
+
+abbrev pub IsResumed : List ℕ → ℕ → task_type.BlockTask → Type 0
+IsResumed bytes from (task.Inside s anchor has at) = IsOpenAt bytes s.column at has × (from ≤ at)
+IsResumed bytes from (task.Found r) = IsFoundPart bytes from r
+IsResumed bytes from (task.Read p) = ⊥
+IsResumed bytes from (task.Node s p anchor) = ⊥

@@ -1,0 +1,114 @@
+-- How contracts speak of open flow collections.
+use Rattle.std.specs.Prelude.{◌≡◌, ℕ, suc, ◌+◌, ◌<◌, ◌≤◌, List, [], ◌∷◌, length, map, true, Option, Some, None, Result, Ok, Err}
+use Rattle.al_scalar.specs.Private.Contract.{read_of}
+use Rattle.al_scalar.specs.Line.{begins}
+use Rattle.al_scalar.specs.Private.Places.{lines_at, text_at}
+use Rattle.al_scalar.specs.Scalar.{span}
+use Rattle.al_scalar.specs.declared.scalars.ScalarRead.{ScalarRead}
+use Rattle.al_yaml_tree.specs.Node as tree
+use Rattle.al_yaml_tree.specs.Reading.{Reading, Part, part}
+use Rattle.al_yaml_tree.specs.Flow.{CollectionReader}
+use Rattle.al_yaml_tree.specs.Flow as flow
+use Rattle.al_yaml.specs.Private.Frames as frames
+use Rattle.al_yaml.specs.Private.Frames.{open_rest, waiting_rest}
+use Rattle.al_yaml_parts.specs.Private.Answers.{Answer, answered, noting}
+use Rattle.al_yaml_parts.specs.Private.Reads.{State, run, Stops}
+use Rattle.al_yaml_tree.specs.View.{view, entry_view, nodes_of, entries_of}
+use Rattle.al_yaml_parts.specs.Private.FlowReads.{IsBracket}
+use Rattle.al_yaml_parts.specs.Private.Answers.{mark_of}
+use Rattle.al_yaml_parts.specs.declared.faults.ReadError.{ReadError}
+use Rattle.al_yaml_parts.specs.declared.frames.Open.{Open}
+use Rattle.al_yaml_parts.specs.declared.frames.Open.TheVariants as open_code
+use Rattle.al_yaml_parts.specs.declared.frames.FlowFrame.{FlowFrame}
+use Rattle.al_yaml.specs.declared.flow.After.{After}
+use Rattle.al_yaml.specs.declared.flow.After.TheVariants as after
+use Rattle.al_yaml.specs.declared.flow.FlowStep.{FlowStep}
+use Rattle.al_yaml.specs.declared.flow.FlowStep.TheVariants as step
+
+abbrev pub open_of : Open → frames.Open
+open_of (open_code.Items v) = frames.items (nodes_of (map view v.items))
+open_of (open_code.Entries m) = frames.entries (entries_of (map entry_view m.entries.items))
+
+-- what waits in a mapping for the collection whose bracket stands at an offset
+abbrev pub mapping_waiting : List ℕ → ℕ → tree.Entries → Option ScalarRead → frames.Waiting
+mapping_waiting bytes at es (Some read) = frames.value es (read_of bytes read)
+mapping_waiting bytes at es None = frames.key at
+
+-- what waits for it in any collection
+abbrev pub waiting_of : List ℕ → ℕ → Open → frames.Waiting
+waiting_of bytes at (open_code.Items v) = frames.item (nodes_of (map view v.items))
+waiting_of bytes at (open_code.Entries m) = mapping_waiting bytes at (entries_of (map entry_view m.entries.items)) m.waits
+
+abbrev pub frame_of : List ℕ → FlowFrame → frames.Frame
+frame_of bytes f = record { opening = f.opening; mark = mark_of bytes f.inner.anchor; waiting = waiting_of bytes f.inner.at f.has }
+
+-- the collection that was read from its bracket up to behind its closer
+abbrev pub closed_of : ℕ → frames.Open → ℕ → tree.Node
+closed_of opening (frames.items ns) end = tree.sequence ns (span opening end)
+closed_of opening (frames.entries es) end = tree.mapping es (span opening end)
+
+-- ---- a step of an open collection, and what comes behind a node in it
+
+abbrev pub after_of : List ℕ → After → flow.After
+after_of bytes (after.GoesOn next) = flow.goes_on (lines_at bytes next)
+after_of bytes (after.Closes next) = flow.closes next (lines_at bytes next)
+
+abbrev pub IsAfter : ℕ → ℕ → After → Type 0
+IsAfter at size (after.GoesOn next) = (at < next) × (next ≤ size)
+IsAfter at size (after.Closes next) = (at < next) × (next ≤ size)
+
+-- reading goes on in a collection behind a comma, or ends with its closer
+abbrev pub GoesOn : List ℕ → ℕ → ℕ → (CollectionReader → ℕ → Answer (Part tree.Node)) → frames.Open → After → State → Type 0
+GoesOn bytes depth opening now has (after.GoesOn at) s =
+    (c : CollectionReader) (turns : ℕ) → now c turns ≡ run s (open_rest c turns depth opening has (lines_at bytes at))
+GoesOn bytes depth opening now has (after.Closes end) s =
+    (c : CollectionReader) (turns : ℕ) → now c turns ≡ Ok (part (closed_of opening has end) end (lines_at bytes end), s)
+
+-- what a collection is from its bracket on, with nothing read in it
+abbrev pub Opens : List ℕ → ℕ → ℕ → State → frames.Open → After → State → Type 0
+Opens bytes depth at s has (after.GoesOn inside) t =
+    (bound : ℕ) → run s (flow.flow_collection (suc bound) depth (lines_at bytes at))
+    ≡ run t (open_rest (flow.flow_collection bound) (suc bound) (depth + 1) at has (lines_at bytes inside))
+Opens bytes depth at s has (after.Closes end) t =
+    (bound : ℕ) → run s (flow.flow_collection (suc bound) depth (lines_at bytes at))
+    ≡ Ok (part (closed_of at has end) end (lines_at bytes end), t)
+
+-- what stands first in it
+abbrev pub IsFirst : List ℕ → ℕ → ℕ → After → Type 0
+IsFirst bytes close at (after.GoesOn inside) = inside ≡ at
+IsFirst bytes close at (after.Closes end) = (end ≡ at + 1) × (true ≡ begins close (text_at bytes at))
+
+abbrev pub Steps : List ℕ → ℕ → ℕ → (CollectionReader → ℕ → Reading (Part tree.Node)) → State → Open
+    → Result FlowStep ReadError → State → Type 0
+Steps bytes depth opening reading before has (Ok (step.Behind next)) s =
+    GoesOn bytes depth opening (λ c turns. run before (reading c (suc turns))) (open_of has) next s
+Steps bytes depth opening reading before has (Ok (step.Opens b)) s =
+    (c : CollectionReader) (turns : ℕ) → run before (reading c (suc turns))
+    ≡ answered (noting (mark_of bytes b.anchor) (run s (c depth (lines_at bytes b.at))))
+    (waiting_rest c turns depth opening (waiting_of bytes b.at has))
+Steps bytes depth opening reading before has (Err e) s = (c : CollectionReader) (turns : ℕ) → Stops (reading c (suc turns)) before e
+
+abbrev pub Resumes : List ℕ → ℕ → ℕ → frames.Waiting → Part tree.Node → State → frames.Open → Result After ReadError → Type 0
+Resumes bytes depth opening w x s has (Ok next) =
+    GoesOn bytes depth opening (λ c turns. run s (waiting_rest c turns depth opening w x)) has next s
+Resumes bytes depth opening w x s has (Err e) = (c : CollectionReader) (turns : ℕ) → Stops (waiting_rest c turns depth opening w x) s e
+
+-- ---- where they lie
+
+-- the offset from which on is read, or behind the closer
+abbrev pub after_at : After → ℕ
+after_at (after.GoesOn at) = at
+after_at (after.Closes end) = end
+
+-- what stands behind a node that is in its collection lies behind an offset
+abbrev pub IsPut : ℕ → ℕ → After → Type 0
+IsPut size from next = (from < after_at next) × (after_at next ≤ size)
+
+abbrev pub IsStep : List ℕ → ℕ → FlowStep → Type 0
+IsStep bytes at (step.Behind next) = IsPut (length bytes) at next
+IsStep bytes at (step.Opens b) = IsBracket bytes at b.at
+
+-- the collections that are open begin in the file
+abbrev pub AreOpen : ℕ → List FlowFrame → Type 0
+AreOpen size [] = Unit {0}
+AreOpen size (f ∷ fs) = (f.opening < size) × (f.inner.at < size) × AreOpen size fs

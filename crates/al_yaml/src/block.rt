@@ -1,0 +1,394 @@
+//! Nodes in block context, read forward: the loop over the open block collections, and its steps.
+
+ghost use Rattle.al_scalar.specs.Private.Contract.{read_of};
+ghost use Rattle.al_yaml.specs.Private.BlockFrames as frames;
+ghost use Rattle.al_yaml.specs.Private.BlockFrames.{Enters, FindsBlock, IsEntered, IsFoundFrom, IsNextAt, IsNodeAt};
+ghost use Rattle.al_yaml.specs.Private.BlockFrames.{IsNextInside, IsOpenAt, IsReadBefore, IsResumed, ResumesBlock};
+ghost use Rattle.al_yaml.specs.Private.BlockFrames.{block_open_of, block_rest, block_waiting_of};
+ghost use Rattle.al_yaml_parts.specs.Private.BlockReads.{IsTabInside, slot_of};
+ghost use Rattle.al_yaml_tree.specs.Blocks as block;
+ghost use Rattle.al_yaml_tree.specs.Content as content;
+ghost use Rattle.al_yaml_parts.specs.Private.Files.{left_at, size};
+ghost use Rattle.al_yaml_parts.specs.Private.Places.{Shows, next_of, option_lines};
+ghost use Rattle.al_yaml_parts.specs.Private.Reads.{IsBehind, IsRead, IsStopInside, part_of, state_of};
+ghost use Rattle.al_yaml_parts.specs.Stacks.{HasRoom, depth_in};
+ghost use Rattle.al_yaml_tree.specs.View.{entries_of, entry_view, nodes_of, view};
+ghost use Rattle.std.specs.Prelude.{IfErr, IfOk, IfSome, [], length, map, suc, true, ℕ, ◌+◌, ◌<◌, ◌≡◌, ◌≤◌};
+
+use crate::block_nodes::read_node;
+use crate::entries::{entry_key, no_entry};
+use al_base::YamlCode;
+use al_scalar::lines::blanks_end;
+use al_scalar::{FaultAt, ScalarRead};
+use al_yaml_parts::content::{Next, is_dash, is_skipped, next_content};
+use al_yaml_parts::faults::ReadError;
+use al_yaml_parts::file::{File, Progress};
+use al_yaml_parts::flow_nodes::completed;
+use al_yaml_parts::frames::{BlockFrame, BlockStart, BlockWaiting};
+use al_yaml_parts::keys::Key;
+use al_yaml_parts::limits::State;
+use al_yaml_parts::lines::{characters, next_line};
+use al_yaml_parts::part::{Part, mapping_part, sequence_part};
+use al_yaml_parts::scalars::empty_part;
+use al_yaml_parts::slots::{Cursor, Slot, Spot, is_deeper, spot_behind};
+use al_yaml_tree::{Entry, Node, entry_of, scalar_node};
+
+/// What was read of an open block collection: of a sequence the items before a dash, and whether it is the value of a
+/// mapping's entry; of a mapping the entries before a key, and the key.
+#[derive(Drop)]
+pub enum BlockOpen {
+    Items(bool, Vec<Node>),
+    Entries(Vec<Entry>, Key),
+}
+
+/// A node that was read, and the next content line behind it.
+#[derive(Drop)]
+pub struct PartBefore {
+    pub part: Part,
+    pub next: Next,
+}
+
+/// What is to be read next: a node, from its first character on, or from behind its anchor; the innermost collection, from a dash or
+/// a key on; what stands behind a node that was read, where the next content line was found or not yet.
+#[derive(Drop)]
+pub enum BlockTask {
+    Node {
+        slot: Slot,
+        start: Cursor,
+        anchor: Option<usize>,
+    },
+    Inside {
+        start: Cursor,
+        anchor: Option<usize>,
+        has: BlockOpen,
+        at: usize,
+    },
+    Read(Part),
+    Found(PartBefore),
+}
+
+/// Finds the node behind a dash, a colon or an anchor: on the line, or else below it; or reads the empty node.
+#[inline(always)]
+pub fn find_rest(
+    file: &File,
+    state: &mut State,
+    slot: Slot,
+    from: Cursor,
+    rest: usize,
+    anchor: Option<usize>,
+) -> Result<BlockTask, ReadError>
+    requires order { from.at ≤ rest }
+    requires inside { rest ≤ size file.now }
+    requires line { content.same_line (left_at file.now from.at) (left_at file.now rest) ≡ true }
+    requires column { from.column ≤ from.at }
+    requires within { slot.within ≤ rest + 1 }
+    requires empty { slot.empty ≤ size file.now }
+    requires tab { IsTabInside (size file.now) slot.spot }
+    ensures fault { IfErr result (IsStopInside (size file.now)) }
+    ensures is { (node : block.BlockReader) (depth : ℕ) → FindsBlock file.now.bytes.now node anchor depth
+        (block.rest_node node (slot_of slot) depth from.column (left_at file.now from.at)
+        (left_at file.now rest)) (state_of state.old) result (state_of state.new) }
+    ensures within { IfOk result (λ task. IsFoundFrom file.now.bytes.now rest task) }
+{
+    if is_skipped(file.bytes, rest) {
+        return find_below(file, state, slot, next_line(file.bytes, rest), anchor);
+    }
+    let at = blanks_end(file.bytes, rest);
+    let spot = spot_behind(file.bytes, rest, slot.spot);
+    let column = from.column + characters(file.bytes, from.at, at);
+    Ok(BlockTask::Node {
+        slot: Slot { spot, ..slot },
+        start: Cursor { at, column },
+        anchor,
+    })
+}
+
+/// Finds the node on the next content line if that holds it, or else reads the empty node.
+fn find_below(
+    file: &File,
+    state: &mut State,
+    slot: Slot,
+    at: usize,
+    anchor: Option<usize>,
+) -> Result<BlockTask, ReadError>
+    requires inside { at ≤ size file.now }
+    requires within { slot.within ≤ at + 1 }
+    requires empty { slot.empty ≤ size file.now }
+    ensures fault { IfErr result (IsStopInside (size file.now)) }
+    ensures is { (node : block.BlockReader) (depth : ℕ) → FindsBlock file.now.bytes.now node anchor depth
+        (block.node_below node (slot_of slot) depth (left_at file.now at)) (state_of state.old) result (state_of state.new) }
+    ensures within { IfOk result (λ task. IsFoundFrom file.now.bytes.now at task) }
+{
+    let found = next_content(file.bytes, at)?;
+    let Next::Line { indent, at: first } = found else {
+        let empty = empty_part(file, state, slot.empty, at)?;
+        let part = completed(file, state, anchor, empty)?;
+        return Ok(BlockTask::Found(PartBefore { part, next: found }));
+    };
+    if !is_deeper(file.bytes, slot, indent, first) {
+        let empty = empty_part(file, state, slot.empty, at)?;
+        let part = completed(file, state, anchor, empty)?;
+        return Ok(BlockTask::Found(PartBefore { part, next: found }));
+    }
+    Ok(BlockTask::Node {
+        slot: Slot {
+            spot: Spot::OwnLine,
+            ..slot
+        },
+        start: Cursor {
+            at: first,
+            column: indent,
+        },
+        anchor,
+    })
+}
+
+/// Goes on with the innermost collection from a dash or a key on: what it waits with, and the node that it waits for.
+fn enter(
+    file: &File,
+    state: &mut State,
+    start: Cursor,
+    has: BlockOpen,
+    at: usize,
+) -> Result<(BlockWaiting, BlockTask), ReadError>
+    requires has { IsOpenAt file.now.bytes.now start.column at has }
+    ensures fault { IfErr result (IsStopInside (size file.now)) }
+    ensures within { IfOk result (λ r. IsEntered file.now.bytes.now at r) }
+    ensures is { (bound turns depth : ℕ) → Enters file.now.bytes.now bound turns depth start.at start.column
+        (block_rest (suc turns) bound depth start.at start.column (block_open_of file.now.bytes.now has)
+        (left_at file.now at)) (state_of state.old) result (state_of state.new) }
+{
+    match has {
+        BlockOpen::Items(in_mapping, items) => {
+            let slot = Slot {
+                spot: Spot::Compact(None),
+                within: start.column + 1,
+                in_mapping: false,
+                empty: at + 1,
+            };
+            let from = Cursor {
+                at,
+                column: start.column,
+            };
+            let task = find_rest(file, state, slot, from, at + 1, None)?;
+            Ok((BlockWaiting::Item(in_mapping, items), task))
+        }
+        BlockOpen::Entries(entries, key) => {
+            let behind = key.behind;
+            let slot = Slot {
+                spot: Spot::BehindKey,
+                within: start.column + 1,
+                in_mapping: true,
+                empty: behind,
+            };
+            let from = Cursor {
+                at: behind,
+                column: 0,
+            };
+            let task = find_rest(file, state, slot, from, behind, None)?;
+            Ok((BlockWaiting::Value(entries, key.read), task))
+        }
+    }
+}
+
+/// The next entry of a collection in a column on the next content line, if the collection goes on.
+fn entry_on(bytes: &[u8], column: usize, next: Next) -> Result<Option<usize>, FaultAt>
+    requires { IsNextInside (length bytes.now) next }
+    ensures fault { IfErr result (λ f. f.at ≤ length bytes.now) }
+    ensures is { Shows (option_lines bytes.now) (block.next_found column (next_of bytes.now next)) result }
+    ensures inside { IfOk result (λ found. IfSome found (λ at. at ≤ length bytes.now)) }
+    ensures column { IfOk result (λ found. IfSome found (λ at. column ≤ at)) }
+    ensures here { IfOk result (λ found. IfSome found (IsNextAt next)) }
+{
+    let (indent, at) = match next {
+        Next::Ended => return Ok(None),
+        Next::Line { indent, at } => (indent, at),
+    };
+    if indent == column {
+        return Ok(Some(at));
+    }
+    if indent < column {
+        return Ok(None);
+    }
+    Err(FaultAt {
+        code: YamlCode::WrongIndentation,
+        at,
+    })
+}
+
+/// Goes on behind an item that was read in a sequence.
+fn put_block_item(
+    file: &File,
+    progress: &mut Progress,
+    begun: BlockStart,
+    in_mapping: bool,
+    items: Vec<Node>,
+    read: PartBefore,
+) -> Result<BlockTask, ReadError>
+    requires start { begun.start.at ≤ size file.now }
+    requires read { IsReadBefore file.now.bytes.now read }
+    requires room { HasRoom progress.old.stack }
+    ensures fault { IfErr result (IsStopInside (size file.now)) }
+    ensures is { (bound turns : ℕ) → size file.now < suc bound + read.part.next
+        → ResumesBlock file.now.bytes.now bound turns (depth_in progress.old.stack + 1) begun.start.at begun.start.column begun.anchor
+        (frames.item in_mapping (nodes_of (map view items.items))) (part_of file.now.bytes.now read.part)
+        (state_of progress.old.state) result (state_of progress.new.state) }
+    ensures within { IfOk result (λ task. IsResumed file.now.bytes.now read.part.next task) }
+    ensures same { IfOk result (λ _. progress.new.stack ≡ progress.old.stack) }
+{
+    let PartBefore { part, next } = read;
+    let mut items = items;
+    items.push(part.node)?;
+    let Some(at) = entry_on(file.bytes, begun.start.column, next)? else {
+        let part = sequence_part(items, begun.start.at, part.end, part.next);
+        let part = completed(file, &mut progress.state, begun.anchor, part)?;
+        return Ok(BlockTask::Found(PartBefore { part, next }));
+    };
+    if is_dash(file.bytes, at) {
+        return Ok(BlockTask::Inside {
+            start: begun.start,
+            anchor: begun.anchor,
+            has: BlockOpen::Items(in_mapping, items),
+            at,
+        });
+    }
+    if in_mapping {
+        let part = sequence_part(items, begun.start.at, part.end, part.next);
+        let part = completed(file, &mut progress.state, begun.anchor, part)?;
+        return Ok(BlockTask::Found(PartBefore { part, next }));
+    }
+    no_entry(file, progress, at)?;
+    Ok(BlockTask::Inside {
+        start: begun.start,
+        anchor: begun.anchor,
+        has: BlockOpen::Items(in_mapping, items),
+        at,
+    })
+}
+
+/// Goes on behind a value that was read in a mapping.
+fn put_block_entry(
+    file: &File,
+    progress: &mut Progress,
+    begun: BlockStart,
+    entries: Vec<Entry>,
+    key: ScalarRead,
+    read: PartBefore,
+) -> Result<BlockTask, ReadError>
+    requires start { begun.start.at ≤ size file.now }
+    requires read { IsReadBefore file.now.bytes.now read }
+    requires room { HasRoom progress.old.stack }
+    ensures fault { IfErr result (IsStopInside (size file.now)) }
+    ensures is { (bound turns : ℕ) → size file.now < suc bound + read.part.next
+        → ResumesBlock file.now.bytes.now bound turns (depth_in progress.old.stack + 1) begun.start.at begun.start.column begun.anchor
+        (frames.value (entries_of (map entry_view entries.items)) (read_of file.now.bytes.now key))
+        (part_of file.now.bytes.now read.part) (state_of progress.old.state) result (state_of progress.new.state) }
+    ensures within { IfOk result (λ task. IsResumed file.now.bytes.now read.part.next task) }
+    ensures same { IfOk result (λ _. progress.new.stack ≡ progress.old.stack) }
+{
+    let PartBefore { part, next } = read;
+    let mut entries = entries;
+    let key = scalar_node(key.scalar, key.span);
+    entries.push(entry_of(key, part.node))?;
+    let Some(at) = entry_on(file.bytes, begun.start.column, next)? else {
+        let part = mapping_part(entries, begun.start.at, part.end, part.next);
+        let part = completed(file, &mut progress.state, begun.anchor, part)?;
+        return Ok(BlockTask::Found(PartBefore { part, next }));
+    };
+    let key = entry_key(file, progress, at)?;
+    Ok(BlockTask::Inside {
+        start: begun.start,
+        anchor: begun.anchor,
+        has: BlockOpen::Entries(entries, key),
+        at,
+    })
+}
+
+/// Goes on behind a node that was read in a collection which waited for it.
+fn resume_block(
+    file: &File,
+    progress: &mut Progress,
+    frame: BlockFrame,
+    read: PartBefore,
+) -> Result<BlockTask, ReadError>
+    requires start { frame.begun.start.at ≤ size file.now }
+    requires read { IsReadBefore file.now.bytes.now read }
+    requires room { HasRoom progress.old.stack }
+    ensures fault { IfErr result (IsStopInside (size file.now)) }
+    ensures is { (bound turns : ℕ) → size file.now < suc bound + read.part.next
+        → ResumesBlock file.now.bytes.now bound turns (depth_in progress.old.stack + 1) frame.begun.start.at
+        frame.begun.start.column frame.begun.anchor (block_waiting_of file.now.bytes.now frame.waiting)
+        (part_of file.now.bytes.now read.part) (state_of progress.old.state) result (state_of progress.new.state) }
+    ensures within { IfOk result (λ task. IsResumed file.now.bytes.now read.part.next task) }
+    ensures same { IfOk result (λ _. progress.new.stack ≡ progress.old.stack) }
+{
+    let BlockFrame { begun, waiting } = frame;
+    match waiting {
+        BlockWaiting::Item(in_mapping, items) => {
+            put_block_item(file, progress, begun, in_mapping, items, read)
+        }
+        BlockWaiting::Value(entries, key) => {
+            put_block_entry(file, progress, begun, entries, key, read)
+        }
+    }
+}
+
+/// Reads a node in block context, from its first character on.
+///
+/// The collections that are open in it stand on the stack, which is empty at first.
+pub fn read_block_node(
+    file: &File,
+    progress: &mut Progress,
+    slot: Slot,
+    start: Cursor,
+) -> Result<Part, ReadError>
+    requires node { IsNodeAt file.now.bytes.now slot start.column start.at }
+    requires outside { progress.old.stack.flows ≡ [] }
+    requires none { progress.old.stack.blocks ≡ [] }
+    ensures fault { IfErr result (IsStopInside (size file.now)) }
+    ensures is { (bound : ℕ) → size file.now < bound + start.at → IsRead (part_of file.now.bytes.now)
+        (block.block_node bound (slot_of slot) 1 start.column (left_at file.now start.at))
+        (state_of progress.old.state) result (state_of progress.new.state) }
+    ensures within { IfOk result (λ part. IsBehind file.now.bytes.now start.at part) }
+{
+    let mut task = BlockTask::Node {
+        slot,
+        start,
+        anchor: None,
+    };
+    'nodes: loop {
+        match task {
+            BlockTask::Node {
+                slot,
+                start: from,
+                anchor,
+            } => {
+                task = read_node(file, progress, slot, from, anchor)?;
+            }
+            BlockTask::Inside {
+                start,
+                anchor,
+                has,
+                at: from,
+            } => {
+                let (waiting, inner) = enter(file, &mut progress.state, start, has, from)?;
+                let begun = BlockStart { start, anchor };
+                progress.stack.push_block(BlockFrame { begun, waiting });
+                task = inner;
+            }
+            BlockTask::Read(part) => {
+                if progress.stack.len() == 0 {
+                    return Ok(part);
+                }
+                let next = next_content(file.bytes, part.next)?;
+                task = BlockTask::Found(PartBefore { part, next });
+            }
+            BlockTask::Found(read) => {
+                let Some(frame) = progress.stack.pop_block() else {
+                    return Ok(read.part);
+                };
+                task = resume_block(file, progress, frame, read)?;
+            }
+        }
+    }
+}

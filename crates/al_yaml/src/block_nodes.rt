@@ -1,0 +1,265 @@
+//! Nodes in block context that are read whole, and collections that begin.
+
+ghost use Rattle.al_scalar.specs.Private.Places.{lines_at, text_at};
+ghost use Rattle.al_yaml.specs.Private.BlockFrames.{Begins, IsBegun, IsNodeAt, node_reader};
+ghost use Rattle.al_yaml_parts.specs.Private.Answers.{completing};
+ghost use Rattle.al_yaml_parts.specs.Private.BlockReads.{IsKeyBehind, IsTabInside, key_seen, slot_of, spot_of};
+ghost use Rattle.al_yaml_tree.specs.Blocks as block;
+ghost use Rattle.al_yaml_tree.specs.Content as content;
+ghost use Rattle.al_yaml_parts.specs.Private.Files.{left_at, size};
+ghost use Rattle.al_yaml_tree.specs.Flow as flow;
+ghost use Rattle.al_yaml_tree.specs.Keys as keys;
+ghost use Rattle.al_yaml_parts.specs.Private.Reads.{IsBehind, IsRead, IsStopInside, part_of, state_of};
+ghost use Rattle.al_yaml_parts.specs.Stacks.{depth_in};
+ghost use Rattle.std.specs.Prelude.{IfErr, IfOk, [], length, not, suc, true, ℕ, ◌&&◌, ◌+◌, ◌<◌, ◌||◌, ◌≡◌, ◌≤◌};
+
+use crate::block::{BlockOpen, BlockTask, find_rest};
+use crate::flow::read_flow_collection;
+use al_base::YamlCode;
+use al_scalar::FaultAt;
+use al_scalar::lines::begins;
+use al_yaml_parts::anchors::{has_no_name, property_end};
+use al_yaml_parts::content::{is_dash, line_ended};
+use al_yaml_parts::faults::ReadError;
+use al_yaml_parts::file::{File, Progress};
+use al_yaml_parts::flow_nodes::{completed, read_alias};
+use al_yaml_parts::keys::{Key, has_colon, is_on_key, is_short_key, key_at};
+use al_yaml_parts::lines::same_line;
+use al_yaml_parts::part::Part;
+use al_yaml_parts::scalars::read_line_scalar;
+use al_yaml_parts::slots::{Cursor, Slot, Spot, is_behind_key, tab_before};
+use al_yaml_parts::starts::{block_fault, is_block_start, is_flow_start, is_property};
+
+/// Whether a scalar that stands here is no key: a block scalar, or a value on its key's line.
+fn is_no_key(bytes: &[u8], spot: Spot, at: usize) -> bool
+    requires { at ≤ length bytes.now }
+    ensures { result ≡ (keys.is_block_start (text_at bytes.now at) || block.is_behind_key (spot_of spot)) }
+{
+    is_block_start(bytes, at) || is_behind_key(spot)
+}
+
+/// Whether a colon behind a flow collection would make it a key.
+fn is_refused_key(bytes: &[u8], spot: Spot, next: usize) -> bool
+    requires { next ≤ length bytes.now }
+    ensures { result ≡ (not (block.is_behind_key (spot_of spot)) && keys.has_colon (lines_at bytes.now next)) }
+{
+    if is_behind_key(spot) {
+        return false;
+    }
+    has_colon(bytes, next)
+}
+
+/// Reads a flow collection in block context with the rest of its line.
+fn read_line_flow(
+    file: &File,
+    progress: &mut Progress,
+    spot: Spot,
+    at: usize,
+) -> Result<Part, ReadError>
+    requires inside { at < size file.now }
+    requires bracket { content.is_flow_start (text_at file.now.bytes.now at) ≡ true }
+    requires outside { progress.old.stack.flows ≡ [] }
+    ensures fault { IfErr result (IsStopInside (size file.now)) }
+    ensures is { (bound : ℕ) → size file.now < bound + at → IsRead (part_of file.now.bytes.now) (block.flow_at (flow.flow_collection bound)
+        (spot_of spot) (depth_in progress.old.stack) (left_at file.now at))
+        (state_of progress.old.state) result (state_of progress.new.state) }
+    ensures within { IfOk result (λ part. IsBehind file.now.bytes.now at part) }
+    ensures same { IfOk result (λ _. progress.new.stack ≡ progress.old.stack) }
+{
+    let depth = progress.stack.depth();
+    let part = read_flow_collection(file, progress, depth, at)?;
+    if is_refused_key(file.bytes, spot, part.next) {
+        return Err(ReadError::Fault(FaultAt {
+            code: YamlCode::WrongKey,
+            at,
+        }));
+    }
+    let next = line_ended(file.bytes, part.next)?;
+    Ok(Part {
+        node: part.node,
+        end: part.end,
+        next,
+    })
+}
+
+/// Reads a node in block context, from its first character on, if it is no block collection; else it begins the
+/// collection.
+pub fn read_node(
+    file: &File,
+    progress: &mut Progress,
+    slot: Slot,
+    start: Cursor,
+    anchor: Option<usize>,
+) -> Result<BlockTask, ReadError>
+    requires outside { progress.old.stack.flows ≡ [] }
+    requires node { IsNodeAt file.now.bytes.now slot start.column start.at }
+    ensures fault { IfErr result (IsStopInside (size file.now)) }
+    ensures is { (bound : ℕ) → size file.now < suc bound + start.at → Begins file.now.bytes.now bound (depth_in progress.old.stack)
+        (completing file.now.bytes.now anchor (node_reader (suc bound) anchor (slot_of slot) (depth_in progress.old.stack) start.column
+        (left_at file.now start.at))) (state_of progress.old.state) result (state_of progress.new.state) }
+    ensures within { IfOk result (λ task. IsBegun file.now.bytes.now start.at (depth_in progress.old.stack) task) }
+    ensures same { IfOk result (λ _. progress.new.stack ≡ progress.old.stack) }
+{
+    if is_property(file.bytes, start.at) {
+        return read_property(file, progress, slot, start, anchor);
+    }
+    if is_dash(file.bytes, start.at) {
+        return begin_sequence(file, progress, slot, start, anchor);
+    }
+    if let Some(code) = block_fault(file.bytes, start.at) {
+        return Err(ReadError::Fault(FaultAt { code, at: start.at }));
+    }
+    if is_flow_start(file.bytes, start.at) {
+        let part = read_line_flow(file, progress, slot.spot, start.at)?;
+        let part = completed(file, &mut progress.state, anchor, part)?;
+        return Ok(BlockTask::Read(part));
+    }
+    if is_no_key(file.bytes, slot.spot, start.at) {
+        let part = read_line_scalar(file, &mut progress.state, slot.within, start.at)?;
+        let part = completed(file, &mut progress.state, anchor, part)?;
+        return Ok(BlockTask::Read(part));
+    }
+    let Some(key) = key_at(file, start.at)? else {
+        let part = read_line_scalar(file, &mut progress.state, slot.within, start.at)?;
+        let part = completed(file, &mut progress.state, anchor, part)?;
+        return Ok(BlockTask::Read(part));
+    };
+    begin_mapping(file, progress, slot.spot, start, anchor, key)
+}
+
+/// Reads an alias, or finds the node behind an anchor. Behind an anchor neither stands.
+fn read_property(
+    file: &File,
+    progress: &mut Progress,
+    slot: Slot,
+    start: Cursor,
+    anchor: Option<usize>,
+) -> Result<BlockTask, ReadError>
+    requires outside { progress.old.stack.flows ≡ [] }
+    requires node { IsNodeAt file.now.bytes.now slot start.column start.at }
+    requires property { content.is_property (text_at file.now.bytes.now start.at) ≡ true }
+    ensures fault { IfErr result (IsStopInside (size file.now)) }
+    ensures is { (bound : ℕ) → Begins file.now.bytes.now bound (depth_in progress.old.stack)
+        (completing file.now.bytes.now anchor (node_reader (suc bound) anchor (slot_of slot) (depth_in progress.old.stack) start.column
+        (left_at file.now start.at))) (state_of progress.old.state) result (state_of progress.new.state) }
+    ensures within { IfOk result (λ task. IsBegun file.now.bytes.now start.at (depth_in progress.old.stack) task) }
+    ensures same { IfOk result (λ _. progress.new.stack ≡ progress.old.stack) }
+{
+    let unexpected = ReadError::Fault(FaultAt {
+        code: YamlCode::UnexpectedCharacter,
+        at: start.at,
+    });
+    if anchor.is_some() {
+        return Err(unexpected);
+    }
+    if has_no_name(file.bytes, start.at) {
+        return Err(unexpected);
+    }
+    if !is_behind_key(slot.spot) && is_on_key(file, start.at)? {
+        return Err(ReadError::Fault(FaultAt {
+            code: YamlCode::AnchorOrAlias,
+            at: start.at,
+        }));
+    }
+    if begins(file.bytes, start.at, b'*') {
+        let depth = progress.stack.depth();
+        let part = read_alias(file, &mut progress.state, start.at, depth)?;
+        let next = line_ended(file.bytes, part.next)?;
+        return Ok(BlockTask::Read(Part {
+            node: part.node,
+            end: part.end,
+            next,
+        }));
+    }
+    let rest = property_end(file.bytes, start.at);
+    find_rest(file, &mut progress.state, slot, start, rest, Some(start.at))
+}
+
+/// Begins the sequence whose first dash stands at an offset.
+fn begin_sequence(
+    file: &File,
+    progress: &mut Progress,
+    slot: Slot,
+    start: Cursor,
+    anchor: Option<usize>,
+) -> Result<BlockTask, ReadError>
+    requires dash { content.is_dash (text_at file.now.bytes.now start.at) ≡ true }
+    requires inside { start.at < size file.now }
+    requires node { IsNodeAt file.now.bytes.now slot start.column start.at }
+    requires outside { progress.old.stack.flows ≡ [] }
+    ensures fault { IfErr result (IsStopInside (size file.now)) }
+    ensures is { (bound : ℕ) → Begins file.now.bytes.now bound (depth_in progress.old.stack) (completing file.now.bytes.now anchor
+        (block.block_sequence (block.block_node bound) (flow.flow_collection (suc bound)) (suc bound) (slot_of slot)
+        (depth_in progress.old.stack) start.column (left_at file.now start.at)))
+        (state_of progress.old.state) result (state_of progress.new.state) }
+    ensures within { IfOk result (λ task. IsBegun file.now.bytes.now start.at (depth_in progress.old.stack) task) }
+    ensures same { IfOk result (λ _. progress.new.stack ≡ progress.old.stack) }
+{
+    if is_behind_key(slot.spot) {
+        return Err(ReadError::Fault(FaultAt {
+            code: YamlCode::UnexpectedCharacter,
+            at: start.at,
+        }));
+    }
+    if let Some(tab) = tab_before(slot.spot) {
+        return Err(ReadError::Fault(FaultAt {
+            code: YamlCode::TabInIndentation,
+            at: tab,
+        }));
+    }
+    let depth = progress.stack.depth();
+    progress.state.start(start.at, 1, depth)?;
+    Ok(BlockTask::Inside {
+        start,
+        anchor,
+        has: BlockOpen::Items(slot.in_mapping, Vec::new(file.alloc)),
+        at: start.at,
+    })
+}
+
+/// Begins the mapping whose first key was read from an offset on.
+fn begin_mapping(
+    file: &File,
+    progress: &mut Progress,
+    spot: Spot,
+    start: Cursor,
+    anchor: Option<usize>,
+    key: Key,
+) -> Result<BlockTask, ReadError>
+    requires key { IsKeyBehind file.now.bytes.now start.at key }
+    requires column { start.column ≤ start.at }
+    requires tab { IsTabInside (size file.now) spot }
+    requires outside { progress.old.stack.flows ≡ [] }
+    ensures fault { IfErr result (IsStopInside (size file.now)) }
+    ensures is { (bound : ℕ) → Begins file.now.bytes.now bound (depth_in progress.old.stack) (completing file.now.bytes.now anchor
+        (block.block_mapping (block.block_node bound) (flow.flow_collection (suc bound)) (suc bound) (spot_of spot)
+        (depth_in progress.old.stack) start.column (left_at file.now start.at) (key_seen file.now.bytes.now key)))
+        (state_of progress.old.state) result (state_of progress.new.state) }
+    ensures within { IfOk result (λ task. IsBegun file.now.bytes.now start.at (depth_in progress.old.stack) task) }
+    ensures same { IfOk result (λ _. progress.new.stack ≡ progress.old.stack) }
+{
+    let wrong = ReadError::Fault(FaultAt {
+        code: YamlCode::WrongKey,
+        at: start.at,
+    });
+    if !same_line(file.bytes, start.at, key.read.next) {
+        return Err(wrong);
+    }
+    if let Some(tab) = tab_before(spot) {
+        return Err(ReadError::Fault(FaultAt {
+            code: YamlCode::TabInIndentation,
+            at: tab,
+        }));
+    }
+    if !is_short_key(file.bytes, start.at, &key.read) {
+        return Err(wrong);
+    }
+    let depth = progress.stack.depth();
+    progress.state.start(start.at, 2, depth)?;
+    Ok(BlockTask::Inside {
+        start,
+        anchor,
+        has: BlockOpen::Entries(Vec::new(file.alloc), key),
+        at: start.at,
+    })
+}

@@ -1,0 +1,421 @@
+//! Flow collections, read forward: the loop over the open ones, and its steps.
+
+ghost use Rattle.al_scalar.specs.Line as line;
+ghost use Rattle.al_scalar.specs.Private.Contract.{read_of};
+ghost use Rattle.al_scalar.specs.Private.Places.{lines_at, text_at};
+ghost use Rattle.al_yaml_tree.specs.Content as content;
+ghost use Rattle.al_yaml_parts.specs.Private.Files.{left_at, size};
+ghost use Rattle.al_yaml_tree.specs.Flow as flow;
+ghost use Rattle.al_yaml.specs.Private.FlowFrames.{IsFirst, IsPut, IsStep, Opens, Resumes, Steps};
+ghost use Rattle.al_yaml.specs.Private.FlowFrames.{after_at, closed_of, open_of, waiting_of};
+ghost use Rattle.al_yaml.specs.Private.Frames as frames;
+ghost use Rattle.al_yaml.specs.Private.Frames.{open_rest};
+ghost use Rattle.al_yaml_tree.specs.Limits.{broken_limit};
+ghost use Rattle.al_yaml_parts.specs.Private.Places.{Shows};
+ghost use Rattle.al_yaml_tree.specs.Reading.{start_of};
+ghost use Rattle.al_yaml_parts.specs.Private.Reads as reads;
+ghost use Rattle.al_yaml_parts.specs.Private.Reads.{IsBehind, IsRead, IsStopInside, counted, part_of, state_of};
+ghost use Rattle.al_yaml.specs.Private.FlowFrames.{IsAfter, after_of};
+ghost use Rattle.al_yaml_tree.specs.View.{entries_of, entry_view, nodes_of, view};
+ghost use Rattle.al_yaml_parts.specs.declared.frames.Open.TheVariants as open_code;
+ghost use Rattle.std.specs.Prelude.{IfErr, IfOk, None, [], false, length, map, true, ℕ, ◌+◌, ◌<◌, ◌^◌, ◌∷◌, ◌≡◌, ◌≤◌};
+
+use al_base::YamlCode;
+use al_scalar::lines::begins;
+use al_scalar::{FaultAt, ScalarRead};
+use al_yaml_parts::content::gap;
+use al_yaml_parts::faults::ReadError;
+use al_yaml_parts::file::{File, Progress};
+use al_yaml_parts::flow_nodes::{
+    Bracket, Found, FoundKey, completed, read_flow_key, read_flow_property, read_flow_scalar,
+    read_flow_value,
+};
+use al_yaml_parts::frames::{FlowFrame, Open, OpenMapping};
+use al_yaml_parts::limits::State;
+use al_yaml_parts::lines::is_text_end;
+use al_yaml_parts::part::{Part, mapping_part, sequence_part};
+use al_yaml_parts::starts::{is_flow_start, is_property};
+use al_yaml_tree::{Entry, Node, entry_of, scalar_node};
+
+/// What stands behind an item: a comma, with the offset of what follows it, or the closer, with the offset behind it.
+#[derive(Clone, Copy)]
+pub enum After {
+    GoesOn(usize),
+    Closes(usize),
+}
+
+/// How far one step reads: to what stands behind a node, or to the bracket of a collection inside.
+#[derive(Clone, Copy)]
+pub enum FlowStep {
+    Behind(After),
+    Opens(Bracket),
+}
+
+/// What stands behind an item or entry and the gap behind it.
+#[inline(always)]
+fn after_item(bytes: &[u8], opening: usize, close: u8, at: usize) -> Result<After, FaultAt>
+    requires inside { at ≤ length bytes.now }
+    requires opening { opening ≤ length bytes.now }
+    ensures fault { IfErr result (λ f. f.at ≤ length bytes.now) }
+    ensures is { Shows (after_of bytes.now) (flow.after_item opening close (lines_at bytes.now at)) result }
+    ensures after { IfOk result (λ after. IsAfter at (length bytes.now) after) }
+{
+    if is_text_end(bytes, at) {
+        return Err(FaultAt {
+            code: YamlCode::UnclosedFlow,
+            at: opening,
+        });
+    }
+    if begins(bytes, at, b',') {
+        return Ok(After::GoesOn(gap(bytes, at + 1)));
+    }
+    if begins(bytes, at, close) {
+        return Ok(After::Closes(at + 1));
+    }
+    Err(FaultAt {
+        code: YamlCode::UnexpectedCharacter,
+        at,
+    })
+}
+
+/// Puts an item that was read into its sequence, and reads what stands behind it.
+#[inline(always)]
+fn put_item(
+    file: &File,
+    opening: usize,
+    items: &mut Vec<Node>,
+    part: Part,
+) -> Result<After, ReadError>
+    requires inside { part.next ≤ size file.now }
+    requires opening { opening ≤ size file.now }
+    ensures fault { IfErr result (IsStopInside (size file.now)) }
+    ensures is { (depth : ℕ) (s : reads.State) →
+        Resumes file.now.bytes.now depth opening (frames.item (nodes_of (map view items.old.items)))
+        (part_of file.now.bytes.now part) s (frames.items (nodes_of (map view items.new.items))) result }
+    ensures within { IfOk result (IsPut (size file.now) part.next) }
+{
+    items.push(part.node)?;
+    Ok(after_item(file.bytes, opening, b']', gap(file.bytes, part.next))?)
+}
+
+/// Puts an entry whose value was read into its mapping, and reads what stands behind it.
+#[inline(always)]
+fn put_entry(
+    file: &File,
+    opening: usize,
+    entries: &mut Vec<Entry>,
+    key: ScalarRead,
+    part: Part,
+) -> Result<After, ReadError>
+    requires inside { part.next ≤ size file.now }
+    requires opening { opening ≤ size file.now }
+    ensures fault { IfErr result (IsStopInside (size file.now)) }
+    ensures is { (depth : ℕ) (s : reads.State) → Resumes file.now.bytes.now depth opening
+        (frames.value (entries_of (map entry_view entries.old.items)) (read_of file.now.bytes.now key))
+        (part_of file.now.bytes.now part) s (frames.entries (entries_of (map entry_view entries.new.items))) result }
+    ensures within { IfOk result (IsPut (size file.now) part.next) }
+{
+    let key = scalar_node(key.scalar, key.span);
+    entries.push(entry_of(key, part.node))?;
+    Ok(after_item(file.bytes, opening, b'}', gap(file.bytes, part.next))?)
+}
+
+/// Reads an item that begins with an anchor or is an alias, to what stands behind it or to a bracket.
+fn read_property_item(
+    file: &File,
+    state: &mut State,
+    opening: usize,
+    items: &mut Vec<Node>,
+    at: usize,
+    depth: u32,
+) -> Result<FlowStep, ReadError>
+    requires inside { at ≤ size file.now }
+    requires opening { opening ≤ size file.now }
+    requires property { content.is_property (text_at file.now.bytes.now at) ≡ true }
+    requires solid { false ≡ line.is_empty (text_at file.now.bytes.now at) }
+    requires other { false ≡ line.begins 93 (text_at file.now.bytes.now at) }
+    ensures fault { IfErr result (IsStopInside (size file.now)) }
+    ensures is { Steps file.now.bytes.now depth opening (λ c t. open_rest c t depth opening
+        (frames.items (nodes_of (map view items.old.items))) (left_at file.now at)) (state_of state.old) (open_code.Items items.new)
+        result (state_of state.new) }
+    ensures within { IfOk result (IsStep file.now.bytes.now at) }
+{
+    match read_flow_property(file, state, opening, None, at, depth)? {
+        Found::Node(part) => Ok(FlowStep::Behind(put_item(file, opening, items, part)?)),
+        Found::Opens(bracket) => Ok(FlowStep::Opens(bracket)),
+    }
+}
+
+/// Reads an open sequence to what stands behind its next item, to its closer or to a bracket in it.
+fn read_item(
+    file: &File,
+    state: &mut State,
+    opening: usize,
+    items: &mut Vec<Node>,
+    at: usize,
+    depth: u32,
+) -> Result<FlowStep, ReadError>
+    requires inside { at ≤ size file.now }
+    requires opening { opening ≤ size file.now }
+    ensures fault { IfErr result (IsStopInside (size file.now)) }
+    ensures is { Steps file.now.bytes.now depth opening (λ c t. open_rest c t depth opening
+        (frames.items (nodes_of (map view items.old.items))) (left_at file.now at)) (state_of state.old) (open_code.Items items.new)
+        result (state_of state.new) }
+    ensures within { IfOk result (IsStep file.now.bytes.now at) }
+{
+    if is_text_end(file.bytes, at) {
+        return Err(ReadError::Fault(FaultAt {
+            code: YamlCode::UnclosedFlow,
+            at: opening,
+        }));
+    }
+    if begins(file.bytes, at, b']') {
+        return Ok(FlowStep::Behind(After::Closes(at + 1)));
+    }
+    // a bracket has no fault, and is neither anchor nor alias
+    if is_flow_start(file.bytes, at) {
+        return Ok(FlowStep::Opens(Bracket { at, anchor: None }));
+    }
+    if is_property(file.bytes, at) {
+        return read_property_item(file, state, opening, items, at, depth);
+    }
+    let part = read_flow_scalar(file, state, at)?;
+    Ok(FlowStep::Behind(put_item(file, opening, items, part)?))
+}
+
+/// Reads an open mapping to what stands behind its next entry, to its closer or to a bracket in it.
+#[inline(never)]
+fn read_entry(
+    file: &File,
+    state: &mut State,
+    opening: usize,
+    mapping: &mut OpenMapping,
+    at: usize,
+    depth: u32,
+) -> Result<FlowStep, ReadError>
+    requires inside { at ≤ size file.now }
+    requires opening { opening ≤ size file.now }
+    ensures fault { IfErr result (IsStopInside (size file.now)) }
+    ensures is { Steps file.now.bytes.now depth opening (λ c t. open_rest c t depth opening
+        (frames.entries (entries_of (map entry_view mapping.old.entries.items))) (left_at file.now at)) (state_of state.old)
+        (open_code.Entries mapping.new) result (state_of state.new) }
+    ensures within { IfOk result (IsStep file.now.bytes.now at) }
+{
+    if is_text_end(file.bytes, at) {
+        return Err(ReadError::Fault(FaultAt {
+            code: YamlCode::UnclosedFlow,
+            at: opening,
+        }));
+    }
+    if begins(file.bytes, at, b'}') {
+        return Ok(FlowStep::Behind(After::Closes(at + 1)));
+    }
+    let key = match read_flow_key(file, state, at)? {
+        FoundKey::Key(key) => key,
+        FoundKey::Opens => {
+            mapping.waits = None;
+            return Ok(FlowStep::Opens(Bracket { at, anchor: None }));
+        }
+    };
+    match read_flow_value(file, state, opening, &key, depth)? {
+        Found::Node(part) => Ok(FlowStep::Behind(put_entry(
+            file,
+            opening,
+            &mut mapping.entries,
+            key.read,
+            part,
+        )?)),
+        Found::Opens(bracket) => {
+            mapping.waits = Some(key.read);
+            Ok(FlowStep::Opens(bracket))
+        }
+    }
+}
+
+/// Reads an open collection to what stands behind the next node in it, to its closer or to a bracket in it.
+fn read_inside(
+    file: &File,
+    state: &mut State,
+    opening: usize,
+    has: &mut Open,
+    at: usize,
+    depth: u32,
+) -> Result<FlowStep, ReadError>
+    requires inside { at ≤ size file.now }
+    requires opening { opening ≤ size file.now }
+    ensures fault { IfErr result (IsStopInside (size file.now)) }
+    ensures is { Steps file.now.bytes.now depth opening
+        (λ c t. open_rest c t depth opening (open_of has.old) (left_at file.now at))
+        (state_of state.old) has.new result (state_of state.new) }
+    ensures within { IfOk result (IsStep file.now.bytes.now at) }
+{
+    match has {
+        Open::Items(items) => read_item(file, state, opening, items, at, depth),
+        Open::Entries(mapping) => read_entry(file, state, opening, mapping, at, depth),
+    }
+}
+
+/// Hands a collection that was read to the one that waited for it, and reads what stands behind it.
+#[inline(always)]
+fn resume(
+    file: &File,
+    opening: usize,
+    has: &mut Open,
+    at: usize,
+    part: Part,
+) -> Result<After, ReadError>
+    requires inside { part.next ≤ size file.now }
+    requires opening { opening ≤ size file.now }
+    requires at { at ≤ size file.now }
+    ensures fault { IfErr result (IsStopInside (size file.now)) }
+    ensures is { (depth : ℕ) (s : reads.State) →
+        Resumes file.now.bytes.now depth opening (waiting_of file.now.bytes.now at has.old)
+        (part_of file.now.bytes.now part) s (open_of has.new) result }
+    ensures within { IfOk result (IsPut (size file.now) part.next) }
+{
+    match has {
+        Open::Items(items) => put_item(file, opening, items, part),
+        Open::Entries(mapping) => match mapping.waits.take() {
+            Some(key) => put_entry(file, opening, &mut mapping.entries, key, part),
+            None => Err(ReadError::Fault(FaultAt {
+                code: YamlCode::WrongKey,
+                at,
+            })),
+        },
+    }
+}
+
+/// What stands first in a collection: its closer, or an item or entry.
+fn first_inside(bytes: &[u8], close: u8, at: usize) -> After
+    requires inside { at ≤ length bytes.now }
+    ensures is { IsFirst bytes.now close at result }
+    ensures from { at ≤ after_at result }
+    ensures inside { after_at result ≤ length bytes.now }
+{
+    if begins(bytes, at, close) {
+        return After::Closes(at + 1);
+    }
+    After::GoesOn(at)
+}
+
+/// The collection whose bracket or brace stands at an offset, with nothing in it yet, and what stands first in it.
+#[inline(always)]
+fn open_at(file: &File, at: usize) -> (Open, After)
+    requires inside { at < size file.now }
+    requires bracket { content.is_flow_start (text_at file.now.bytes.now at) ≡ true }
+    ensures is { (depth : ℕ) (s t : reads.State) → broken_limit s.nodes s.text (start_of at 1 depth ∷ []) ≡ None → t ≡ counted 1 s →
+        Opens file.now.bytes.now depth at s (open_of result.0) result.1 t }
+    ensures from { at < after_at result.1 }
+    ensures end { after_at result.1 ≤ size file.now }
+{
+    let inside = gap(file.bytes, at + 1);
+    if begins(file.bytes, at, b'[') {
+        return (
+            Open::Items(Vec::new(file.alloc)),
+            first_inside(file.bytes, b']', inside),
+        );
+    }
+    (
+        Open::Entries(OpenMapping {
+            entries: Vec::new(file.alloc),
+            waits: None,
+        }),
+        first_inside(file.bytes, b'}', inside),
+    )
+}
+
+/// The collection that was read from its bracket up to behind its closer.
+#[inline(always)]
+fn closed_part(opening: usize, has: Open, end: usize) -> Part
+    requires start { opening < 2 ^ 32 }
+    requires end { end < 2 ^ 32 }
+    ensures node { view result.node ≡ closed_of opening (open_of has) end }
+    ensures end { result.end ≡ end }
+    ensures next { result.next ≡ end }
+{
+    match has {
+        Open::Items(items) => sequence_part(items, opening, end, end),
+        Open::Entries(mapping) => mapping_part(mapping.entries, opening, end, end),
+    }
+}
+
+/// Reads the flow collection whose bracket or brace stands at an offset.
+///
+/// The collections that are open in it stand on the stack while one inside them is read.
+pub fn read_flow_collection(
+    file: &File,
+    progress: &mut Progress,
+    depth: u32,
+    at: usize,
+) -> Result<Part, ReadError>
+    requires inside { at < size file.now }
+    requires bracket { content.is_flow_start (text_at file.now.bytes.now at) ≡ true }
+    requires depth { depth ≤ 65 }
+    requires outside { progress.old.stack.flows ≡ [] }
+    requires room { length progress.old.stack.blocks ≤ depth }
+    ensures fault { IfErr result (IsStopInside (size file.now)) }
+    ensures is { (bound : ℕ) → size file.now < bound + at →
+        IsRead (part_of file.now.bytes.now) (flow.flow_collection bound depth (left_at file.now at))
+        (state_of progress.old.state) result (state_of progress.new.state) }
+    ensures within { IfOk result (λ part. IsBehind file.now.bytes.now at part) }
+    ensures same { IfOk result (λ _. progress.new.stack ≡ progress.old.stack) }
+{
+    progress.state.start(at, 1, depth)?;
+    let outside = progress.stack.len();
+    let (mut has, mut next) = open_at(file, at);
+    let mut opening = at;
+    'nodes: loop {
+        let from = match next {
+            After::Closes(end) => {
+                let part = closed_part(opening, has, end);
+                // what is open outside isn't moved
+                if progress.stack.len() == outside {
+                    return Ok(part);
+                }
+                let Some(frame) = progress.stack.pop_flow() else {
+                    return Ok(part);
+                };
+                opening = frame.opening;
+                has = frame.has;
+                let part = completed(file, &mut progress.state, frame.inner.anchor, part)?;
+                next = resume(file, opening, &mut has, frame.inner.at, part)?;
+                continue 'nodes;
+            }
+            After::GoesOn(from) => from,
+        };
+        let inner = depth + 1 + (progress.stack.len() - outside) as u32;
+        let bracket = match read_inside(
+            file,
+            &mut progress.state,
+            opening,
+            &mut has,
+            from,
+            inner,
+        )? {
+            FlowStep::Behind(after) => {
+                next = after;
+                continue 'nodes;
+            }
+            FlowStep::Opens(bracket) => bracket,
+        };
+        progress.state.start(bracket.at, 1, inner)?;
+        let (nothing, first) = open_at(file, bracket.at);
+        match first {
+            After::Closes(end) => {
+                let part = closed_part(bracket.at, nothing, end);
+                let part = completed(file, &mut progress.state, bracket.anchor, part)?;
+                next = resume(file, opening, &mut has, bracket.at, part)?;
+            }
+            After::GoesOn(inside) => {
+                progress.stack.push_flow(FlowFrame {
+                    opening,
+                    has,
+                    inner: bracket,
+                });
+                opening = bracket.at;
+                has = nothing;
+                next = After::GoesOn(inside);
+            }
+        }
+    }
+}

@@ -1,0 +1,66 @@
+-- How nodes lie that are read one behind another.
+use Rattle.std.proofs.Common.{ℕ, ◌≤◌, arith}
+use Rattle.al_base.specs.declared.faults.Span.{Span}
+use Rattle.al_scalar.proofs.PlacedLemmas.{placed-wider}
+use Rattle.al_yaml_tree.specs.Node.{Node, Nodes, Entries, scalar, sequence, mapping, no_nodes, item, no_entries, entry, span_of, with_item, with_entry}
+use Rattle.al_yaml_tree.specs.Spans.{IsBetween, IsPlacedIn, ArePlacedIn, EntriesPlacedIn}
+
+-- ---- wider bounds
+
+module _ (size : ℕ) where
+  pub bounds_in : (low high : ℕ) (n : Node) → IsPlacedIn size low high n → IsBetween low high (span_of n)
+  bounds_in low high (scalar s at) h = h.0
+  bounds_in low high (sequence ns at) h = h.0
+  bounds_in low high (mapping es at) h = h.0
+
+  between-wider : (low high low' high' : ℕ) (at : Span) → low' ≤ low → high ≤ high' → IsBetween low high at → IsBetween low' high' at
+  between-wider low high low' high' at a b h = record { from = omega (arith, h.from); ordered = h.ordered; to = omega (arith, h.to) }
+
+  pub wider_in : (low high low' high' : ℕ) (n : Node) → low' ≤ low → high ≤ high' → IsPlacedIn size low high n → IsPlacedIn size low' high' n
+  wider_in low high low' high' (scalar s at) a b h = (between-wider low high low' high' at a b h.0, h.1)
+  wider_in low high low' high' (sequence ns at) a b h = (between-wider low high low' high' at a b h.0, h.1)
+  wider_in low high low' high' (mapping es at) a b h = (between-wider low high low' high' at a b h.0, h.1)
+
+  pub items-wider : (low high high' : ℕ) (ns : Nodes) → high ≤ high' → ArePlacedIn size low high ns → ArePlacedIn size low high' ns
+  items-wider low high high' no_nodes b h = tt
+  items-wider low high high' (item n ns) b h = (wider_in low high low high' n (omega arith) b h.0, items-wider (span_of n).end high high' ns b h.1)
+
+  pub entries-wider : (low high high' : ℕ) (es : Entries) → high ≤ high' → EntriesPlacedIn size low high es → EntriesPlacedIn size low high' es
+  entries-wider low high high' no_entries b h = tt
+  entries-wider low high high' (entry k v es) b h =
+      (wider_in low high low high' k (omega arith) b h.0, wider_in (span_of k).end high (span_of k).end high' v (omega arith) b h.1, entries-wider (span_of v).end high high' es b h.2)
+
+  -- ---- one more behind those that end before an offset
+
+  pub behind-item : (low at high : ℕ) (ns : Nodes) (n : Node) → low ≤ at → at ≤ high → ArePlacedIn size low at ns → IsPlacedIn size at high n → ArePlacedIn size low high (with_item ns n)
+  behind-item low at high no_nodes n a b h x = (wider_in at high low high n a (omega arith) x, tt)
+  behind-item low at high (item m ms) n a b h x = (wider_in low at low high m (omega arith) b h.0, behind-item (span_of m).end at high ms n (bounds_in low at m h.0).to b h.1 x)
+
+  pub behind-entry : (low at high : ℕ) (es : Entries) (k v : Node) → low ≤ at → at ≤ high → EntriesPlacedIn size low at es → IsPlacedIn size at high k → IsPlacedIn size (span_of k).end high v
+      → EntriesPlacedIn size low high (with_entry es k v)
+  behind-entry low at high no_entries k v a b h x y = (wider_in at high low high k a (omega arith) x, y, tt)
+  behind-entry low at high (entry l w es) k v a b h x y = (
+    wider_in low at low high l (omega arith) b h.0,
+    wider_in (span_of l).end at (span_of l).end high w (omega arith) b h.1,
+    behind-entry (span_of w).end at high es k v (bounds_in (span_of l).end at w h.1).to b h.2 x y,
+  )
+
+  pub over : (low high : ℕ) (n : Node) → IsPlacedIn size low high n → low ≤ high
+  over low high n h = let b = bounds_in low high n h in omega (arith, b.from, b.ordered, b.to)
+
+-- ---- a file of more bytes
+
+module _ (size more : ℕ) (a : size ≤ more) where
+  mutual
+    pub placed-more : (low high : ℕ) (n : Node) → IsPlacedIn size low high n → IsPlacedIn more low high n
+    placed-more low high (scalar s at) h = (h.0, placed-wider size more s at a h.1)
+    placed-more low high (sequence ns at) h = (h.0, items_placed-more at.start at.end ns h.1)
+    placed-more low high (mapping es at) h = (h.0, entries_placed-more at.start at.end es h.1)
+
+    items_placed-more : (low high : ℕ) (ns : Nodes) → ArePlacedIn size low high ns → ArePlacedIn more low high ns
+    items_placed-more low high no_nodes h = tt
+    items_placed-more low high (item n ns) h = (placed-more low high n h.0, items_placed-more (span_of n).end high ns h.1)
+
+    entries_placed-more : (low high : ℕ) (es : Entries) → EntriesPlacedIn size low high es → EntriesPlacedIn more low high es
+    entries_placed-more low high no_entries h = tt
+    entries_placed-more low high (entry k v es) h = (placed-more low high k h.0, placed-more (span_of k).end high v h.1, entries_placed-more (span_of v).end high es h.2)

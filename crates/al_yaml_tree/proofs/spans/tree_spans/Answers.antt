@@ -1,0 +1,13 @@
+use Rattle.al_yaml_tree.proofs.LaidRoot.{tree-laid_in, tree-inside, tree-from, tree-laid}
+use Rattle.al_yaml_tree.proofs.SpanRoot.{tree-nested, tree-within}
+use Rattle.al_yaml_tree.proofs.spans.tree_spans.Goals as goal
+
+pub returns : goal.returns
+returns c = record {
+  tree = tree-laid_in;
+  inside = tree-inside;
+  laid = tree-laid;
+  from = tree-from;
+  nested = tree-nested;
+  within = tree-within;
+}

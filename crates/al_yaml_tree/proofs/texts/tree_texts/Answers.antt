@@ -1,0 +1,5 @@
+use Rattle.al_yaml_tree.proofs.TextRoot.{tree-text}
+use Rattle.al_yaml_tree.proofs.texts.tree_texts.Goals as goal
+
+pub returns : goal.returns
+returns c = tree-text

@@ -1,0 +1,248 @@
+-- Block nodes (YAML 1.2.2, 8.2).
+use Rattle.std.specs.Prelude.{ℕ, zero, suc, ◌+◌, List, Bool, true, false, not, ◌&&◌, ◌||◌, ◌==◌, nat_le}
+use Rattle.std.specs.Prelude.{nat_lt, if◌then◌else◌, Option, Some, None, Result, Ok, Err}
+use Rattle.al_base.specs.declared.codes.YamlCode.TheVariants as yaml
+use Rattle.al_base.specs.Ascii as ascii
+use Rattle.al_scalar.specs.Line.{Cell, Line, start, begins, blanks_dropped}
+use Rattle.al_scalar.specs.Places.{first_text}
+use Rattle.al_scalar.specs.Taken.{Fault, fault}
+use Rattle.al_scalar.specs.Plain.{block}
+use Rattle.al_scalar.specs.Scalar.{scalar_at}
+use Rattle.al_yaml_tree.specs.Node.{Node, Nodes, Entries, sequence, mapping, no_nodes, with_item, no_entries, with_entry, scalar_node}
+use Rattle.al_yaml_tree.specs.Reading.{Reading, gives, fails, given, starting_scalar, starting_mapping}
+use Rattle.al_yaml_tree.specs.Reading.{starting_collection, anchored, alias, Part, part, spanned, ◌>>=◌}
+use Rattle.al_yaml_tree.specs.Content.{Next, ended, at_line, is_skipped, content, line_ended, whole_lines, behind, is_dash, tab_among}
+use Rattle.al_yaml_tree.specs.Content.{block_fault, unless, is_flow_start, is_property, anchor_name, behind_name, has_no_name, same_line}
+use Rattle.al_yaml_tree.specs.Content.{characters, is_short_key}
+use Rattle.al_yaml_tree.specs.Flow.{CollectionReader, empty_node, flow_collection}
+use Rattle.al_yaml_tree.specs.Keys.{Key, key_at, has_colon, is_block_start, is_on_key, no_entry, entry_key}
+
+-- Where a node begins: on a line of its own; behind a dash, an anchor or both, with the first tab before it; behind a
+-- key on its line.
+pub data Spot : Type 0 where
+  own_line : Spot
+  compact : Option ℕ → Spot
+  behind_key : Spot
+
+-- What surrounds a node: its spot; the least indent of its further lines, one more than that of the enclosing
+-- collection and 0 at the root; whether it is the value of a mapping's entry; where an empty node would stand in its
+-- place.
+pub record Slot : Type 0 where
+  pub spot : Spot
+  pub within : ℕ
+  pub in_mapping : Bool
+  pub empty : ℕ
+
+abbrev pub at_spot : Spot → Slot → Slot
+at_spot spot s = record { spot = spot; within = s.within; in_mapping = s.in_mapping; empty = s.empty }
+
+-- Reads the node of this depth at the first character, which stands in this column.
+abbrev pub BlockReader : Type 0
+BlockReader = Slot → ℕ → ℕ → List Line → Reading (Part Node)
+
+abbrev pub is_behind_key : Spot → Bool
+is_behind_key behind_key = true
+is_behind_key _ = false
+
+-- the tab before a compact collection
+abbrev pub tab_before : Spot → Option ℕ
+tab_before (compact tab) = tab
+tab_before _ = None
+
+abbrev pub unless_at : {A : Type 0} → Option ℕ → Reading A → Reading A
+unless_at (Some at) r = fails yaml.TabInIndentation at
+unless_at None r = r
+
+abbrev pub unless_tab : {A : Type 0} → Spot → Reading A → Reading A
+unless_tab spot r = unless_at (tab_before spot) r
+
+-- the spot behind blanks on the line
+abbrev pub spot_behind : List Cell → Spot → Spot
+spot_behind text own_line = compact (tab_among text)
+spot_behind text (compact None) = compact (tab_among text)
+spot_behind text spot = spot
+
+-- whether a content line holds the node: one deeper than what encloses it, or a sequence at the indent of its key
+abbrev pub is_deeper : Slot → ℕ → List Line → Bool
+is_deeper slot i left = nat_le slot.within i || (slot.in_mapping && (i + 1 == slot.within) && is_dash (first_text left))
+
+-- the node on the next content line, if it holds it, or else the empty node
+abbrev pub node_found : BlockReader → Slot → ℕ → List Line → Next → Reading (Part Node)
+node_found node slot depth ls ended = empty_node slot.empty ls
+node_found node slot depth ls (at_line i left) = if is_deeper slot i left then node (at_spot own_line slot) depth i left
+    else empty_node slot.empty ls
+
+abbrev pub node_below : BlockReader → Slot → ℕ → List Line → Reading (Part Node)
+node_below node slot depth ls = do
+  found ← given (content ls)
+  node_found node slot depth ls found
+
+-- The node behind a dash, a colon or an anchor; the column is that of ls, of which rest is left.
+abbrev pub rest_node : BlockReader → Slot → ℕ → ℕ → List Line → List Line → Reading (Part Node)
+rest_node node slot depth column ls rest =
+    let left = blanks_dropped rest in
+    if is_skipped (first_text rest) then node_below node slot depth (whole_lines rest)
+    else node (at_spot (spot_behind (first_text rest) slot.spot) slot) depth (column + characters (start left) (first_text ls)) left
+
+-- The next entry of a collection in the column, if there is one: a line with less indent closes the collection.
+abbrev pub next_found : ℕ → Next → Result (Option (List Line)) Fault
+next_found column ended = Ok None
+next_found column (at_line i left) =
+    if i == column then Ok (Some left) else (if nat_lt i column then Ok None else fault yaml.WrongIndentation (start left))
+
+abbrev pub next_from : ℕ → Result Next Fault → Result (Option (List Line)) Fault
+next_from column (Err e) = Err e
+next_from column (Ok found) = next_found column found
+
+abbrev pub next_at : ℕ → List Line → Result (Option (List Line)) Fault
+next_at column ls = next_from column (content ls)
+
+-- An entry of a sequence (8.2.1): what stands behind its dash.
+abbrev pub entry_slot : ℕ → ℕ → Slot
+entry_slot column at = record { spot = compact None; within = column + 1; in_mapping = false; empty = at }
+
+abbrev pub sequence_entry : BlockReader → ℕ → ℕ → List Line → Reading (Part Node)
+sequence_entry node column depth ls = rest_node node (entry_slot column (start (behind 1 ls))) depth column ls (behind 1 ls)
+
+-- The rest of a sequence, given all its items so far and the part that the last one was; more reads from the next dash
+-- on. A line at its indent that has no dash closes it if it is the value of a mapping's entry.
+abbrev pub sequence_next : CollectionReader → (List Line → Reading (Part Nodes)) → Bool → ℕ → Part Nodes → Option (List Line) →
+    Reading (Part Nodes)
+sequence_next collection more in_mapping depth closed None = gives closed
+sequence_next collection more in_mapping depth closed (Some left) =
+    if is_dash (first_text left) then more left else (if in_mapping then gives closed else no_entry collection depth left)
+
+abbrev pub sequence_rest : CollectionReader → (List Line → Reading (Part Nodes)) → Bool → ℕ → ℕ → Part Nodes → Reading (Part Nodes)
+sequence_rest collection more in_mapping column depth done = do
+  found ← given (next_at column done.left)
+  sequence_next collection more in_mapping depth done found
+
+-- The entries of a sequence behind those done, from a dash on. turns bounds their number.
+unfoldable pub sequence_entries : BlockReader → CollectionReader → ℕ → Bool → ℕ → ℕ → Nodes → List Line → Reading (Part Nodes)
+sequence_entries node collection zero in_mapping column depth done ls = fails yaml.UnexpectedCharacter 0
+sequence_entries node collection (suc turns) in_mapping column depth done ls = do
+  x ← sequence_entry node column depth ls
+  sequence_rest collection
+      (λ left. sequence_entries node collection turns in_mapping column depth (with_item done x.value) left) in_mapping column depth
+      (part (with_item done x.value) x.end x.left)
+
+-- A value (8.2.2): what stands behind its key's colon.
+abbrev pub value_slot : ℕ → ℕ → Slot
+value_slot column at = record { spot = behind_key; within = column + 1; in_mapping = true; empty = at }
+
+abbrev pub mapping_value : BlockReader → ℕ → ℕ → Key → Reading (Part Node)
+mapping_value node column depth key = rest_node node (value_slot column (start key.behind)) depth 0 key.behind key.behind
+
+-- The rest of a mapping, given all its entries so far and the part that the last one was; more reads from behind the
+-- next key on.
+abbrev pub mapping_next : CollectionReader → (Key → Reading (Part Entries)) → ℕ → Part Entries → Option (List Line) → Reading (Part Entries)
+mapping_next collection more depth closed None = gives closed
+mapping_next collection more depth closed (Some left) = entry_key collection depth left >>= more
+
+abbrev pub mapping_rest : CollectionReader → (Key → Reading (Part Entries)) → ℕ → ℕ → Part Entries → Reading (Part Entries)
+mapping_rest collection more column depth done = do
+  found ← given (next_at column done.left)
+  mapping_next collection more depth done found
+
+-- The entries of a mapping behind those done, from behind a key on.
+unfoldable pub mapping_entries : BlockReader → CollectionReader → ℕ → ℕ → ℕ → Entries → Key → Reading (Part Entries)
+mapping_entries node collection zero column depth done key = fails yaml.UnexpectedCharacter 0
+mapping_entries node collection (suc turns) column depth done key = do
+  x ← mapping_value node column depth key
+  mapping_rest collection
+      (λ k. mapping_entries node collection turns column depth (with_entry done (scalar_node key.scalar) x.value) k) column depth
+      (part (with_entry done (scalar_node key.scalar) x.value) x.end x.left)
+
+-- what is left behind a scalar: a block scalar ends with its last line
+abbrev pub scalar_left : List Line → List Line → Result (List Line) Fault
+scalar_left ls left = if is_block_start (first_text ls) then Ok left else line_ended left
+
+-- a scalar, and the whole lines behind its line
+abbrev pub scalar_node_at : ℕ → List Line → Reading (Part Node)
+scalar_node_at within ls =
+    starting_scalar (start ls) (do
+      r ← given (scalar_at (block within) ls)
+      left ← given (scalar_left ls r.left)
+      gives (part (scalar_node r) r.span.end left))
+
+-- The rest of a line, given the flow collection just read on it: no colon may stand there that would make it a key.
+abbrev pub flow_rest : Spot → ℕ → Part Node → Reading (Part Node)
+flow_rest spot at x =
+    if not (is_behind_key spot) && has_colon x.left then fails yaml.WrongKey at
+    else (do
+      left ← given (line_ended x.left)
+      gives (part x.value x.end left))
+
+-- a flow collection in block context
+abbrev pub flow_at : CollectionReader → Spot → ℕ → List Line → Reading (Part Node)
+flow_at collection spot depth ls = do
+  x ← collection depth ls
+  flow_rest spot (start ls) x
+
+abbrev pub block_sequence : BlockReader → CollectionReader → ℕ → BlockReader
+block_sequence node collection turns slot depth column ls =
+    let at = start ls in
+    if is_behind_key slot.spot then fails yaml.UnexpectedCharacter at
+    else unless_tab slot.spot (starting_collection at depth (
+    spanned sequence at (sequence_entries node collection turns slot.in_mapping column (depth + 1) no_nodes ls)))
+
+-- a mapping whose first key was read
+abbrev pub block_mapping : BlockReader → CollectionReader → ℕ → Spot → ℕ → ℕ → List Line → Key → Reading (Part Node)
+block_mapping node collection turns spot depth column ls key =
+    let at = start ls in
+    if not (same_line ls key.scalar.left) then fails yaml.WrongKey at
+    else unless_tab spot (
+    if not (is_short_key ls key.scalar) then fails yaml.WrongKey at
+    else starting_mapping at depth (
+    spanned mapping at (mapping_entries node collection turns column (depth + 1) no_entries key)))
+
+-- a mapping if a key was found, or else a scalar
+abbrev pub keyed_node : BlockReader → CollectionReader → ℕ → Slot → ℕ → ℕ → List Line → Option Key → Reading (Part Node)
+keyed_node node collection turns slot depth column ls None = scalar_node_at slot.within ls
+keyed_node node collection turns slot depth column ls (Some key) = block_mapping node collection turns slot.spot depth column ls key
+
+-- a node without properties
+unfoldable pub block_content : BlockReader → CollectionReader → ℕ → BlockReader
+block_content node collection turns slot depth column ls =
+    let at = start ls in
+    if is_dash (first_text ls) then block_sequence node collection turns slot depth column ls
+    else unless (block_fault (first_text ls)) at (
+    if is_property (first_text ls) then fails yaml.UnexpectedCharacter at
+    else (if is_flow_start (first_text ls) then flow_at collection slot.spot depth ls
+    else (if is_block_start (first_text ls) || is_behind_key slot.spot then scalar_node_at slot.within ls
+    else (do
+      found ← given (key_at ls)
+      keyed_node node collection turns slot depth column ls found))))
+
+-- an alias, or an anchor and its node (6.9.2, 7.1)
+unfoldable pub block_property : BlockReader → BlockReader
+block_property content slot depth column ls =
+    let at = start ls in
+    let name = anchor_name ls in
+    let rest = behind_name ls in
+    if has_no_name ls then fails yaml.UnexpectedCharacter at
+    else (if not (is_behind_key slot.spot) && is_on_key ls then fails yaml.AnchorOrAlias at
+    else (if begins ascii.asterisk (first_text ls)
+    then (do
+      n ← alias name at depth
+      left ← given (line_ended rest)
+      gives (part n (start rest) left))
+    else (do
+      x ← rest_node content slot depth column ls rest
+      anchored (record { name = name; at = at; node = x.value }) x)))
+
+abbrev pub block_node_over : BlockReader → CollectionReader → ℕ → BlockReader
+block_node_over node collection turns slot depth column ls =
+    if is_property (first_text ls) then block_property (block_content node collection turns) slot depth column ls
+    else block_content node collection turns slot depth column ls
+
+-- Nodes nested less deep than the bound, each with fewer parts; the file's length and one is always enough.
+unfoldable pub block_node : ℕ → BlockReader
+block_node zero slot depth column ls = fails yaml.UnexpectedCharacter 0
+block_node (suc bound) slot depth column ls =
+    block_node_over (block_node bound) (flow_collection (suc bound)) (suc bound) slot depth column ls
+
+-- a node of such a bound without properties
+abbrev pub bare_node : ℕ → BlockReader
+bare_node zero slot depth column ls = fails yaml.UnexpectedCharacter 0
+bare_node (suc bound) slot depth column ls = block_content (block_node bound) (flow_collection (suc bound)) (suc bound) slot depth column ls

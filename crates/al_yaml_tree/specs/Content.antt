@@ -1,0 +1,162 @@
+-- Content lines, comments and document markers (YAML 1.2.2, 6.6, 6.7, 9.1), anchor names (6.9.2), and what a node's
+-- first character forbids (5.3).
+use Rattle.std.specs.Prelude.{ℕ, ◌+◌, List, [], ◌∷◌, length, map, drop, Bool, true, false, ◌&&◌, ◌||◌, ◌==◌, nat_le, nat_lt}
+use Rattle.std.specs.Prelude.{if◌then◌else◌, Option, Some, None, Result, Ok}
+use Rattle.al_base.specs.declared.codes.YamlCode.{YamlCode}
+use Rattle.al_base.specs.declared.codes.YamlCode.TheVariants as yaml
+use Rattle.al_base.specs.Ascii as ascii
+use Rattle.al_base.specs.Limits.{longest_key}
+use Rattle.al_scalar.specs.Line.{Cell, Line, start, cut, is_blank, indent, is_empty, is_all_blank, begins, begins_blank}
+use Rattle.al_scalar.specs.Line.{is_blank_or_end, is_comment, is_document_marker, blanks_dropped, spaces_dropped}
+use Rattle.al_scalar.specs.Places.{first_text, first_end}
+use Rattle.al_scalar.specs.Taken.{Fault, fault}
+use Rattle.al_scalar.specs.Plain.{is_flow_indicator, begins_flow_indicator}
+use Rattle.al_scalar.specs.Block.{at_end}
+use Rattle.al_scalar.specs.Scalar.{ScalarRead}
+use Rattle.al_yaml_tree.specs.Reading.{Reading, fails}
+
+-- What is left is never without a line: behind the file's last line stands its empty end.
+abbrev pub lines_behind : Line → List Line → List Line
+lines_behind l ls = if l.last then at_end l else ls
+
+-- the whole lines behind the first one
+abbrev pub whole_lines : List Line → List Line
+whole_lines [] = []
+whole_lines (l ∷ ls) = lines_behind l ls
+
+-- the lines behind k cells of the first
+abbrev pub behind : ℕ → List Line → List Line
+behind k [] = []
+behind k (l ∷ ls) = cut (drop k l.text) l ls
+
+-- The next content line of the document: its indent, and the lines from its first character on.
+pub data Next : Type 0 where
+  ended : Next
+  at_line : ℕ → List Line → Next
+
+-- a blank line, or a comment (6.6)
+abbrev pub is_skipped : List Cell → Bool
+is_skipped text = is_all_blank text || is_comment text
+
+-- The first content line of whole lines. A document marker ends the document (9.1.2), and no tab stands between the
+-- indent and the content (6.1).
+abbrev pub content_line : List Line → Result Next Fault
+content_line ls =
+    let left = spaces_dropped ls in
+    if is_document_marker (first_text ls) then Ok ended
+    else (if begins ascii.tab (first_text left) then fault yaml.TabInIndentation (start left)
+    else Ok (at_line (indent (first_text ls)) left))
+
+abbrev pub content : List Line → Result Next Fault
+content [] = Ok ended
+content (l ∷ ls) =
+    let below = content ls in
+    if is_skipped l.text then (if l.last then Ok ended else below) else content_line (l ∷ ls)
+
+-- only blanks, and a comment after a blank
+abbrev pub ends_line : List Cell → Bool
+ends_line text = is_all_blank text || (begins_blank text && is_comment text)
+
+-- Behind a node on its line nothing else may stand. Gives the whole lines left.
+abbrev pub line_ended : List Line → Result (List Line) Fault
+line_ended ls = if ends_line (first_text ls) then Ok (whole_lines ls) else fault yaml.UnexpectedCharacter (start (blanks_dropped ls))
+
+-- the dash of a block sequence's entry (8.2.1)
+abbrev pub is_dash : List Cell → Bool
+is_dash [] = false
+is_dash (c ∷ cs) = (c.0 == ascii.dash) && is_blank_or_end cs
+
+-- the first tab among the leading blanks
+abbrev pub tab_among : List Cell → Option ℕ
+tab_among [] = None
+tab_among (c ∷ cs) =
+    let more = tab_among cs in
+    if c.0 == ascii.tab then Some c.1 else (if is_blank c then more else None)
+
+-- What a node's first character forbids, in both contexts: tags, explicit keys, and what begins no node.
+abbrev pub is_reserved : ℕ → Bool
+is_reserved b =
+    (b == ascii.comma) || (b == ascii.close_bracket) || (b == ascii.close_brace) || (b == ascii.percent) || (b == ascii.at_sign)
+    || (b == ascii.backtick)
+
+-- alone says that a blank or the line's end stands behind the character
+abbrev pub start_fault : ℕ → Bool → Option YamlCode
+start_fault b alone =
+    if b == ascii.exclamation then Some yaml.Tag
+    else (if (b == ascii.question) && alone then Some yaml.ExplicitKey
+    else (if (b == ascii.colon) && alone then Some yaml.UnexpectedCharacter
+    else (if is_reserved b then Some yaml.UnexpectedCharacter else None)))
+
+abbrev pub block_fault : List Cell → Option YamlCode
+block_fault [] = None
+block_fault (c ∷ cs) = start_fault c.0 (is_blank_or_end cs)
+
+-- in a flow collection also these; closed says that a flow indicator stands behind the character
+abbrev pub is_flow_misplaced : ℕ → Bool → Bool → Bool
+is_flow_misplaced b alone closed =
+    if (b == ascii.bar) || (b == ascii.greater) || (b == ascii.hash) then true
+    else (if b == ascii.dash then alone || closed else ((b == ascii.question) || (b == ascii.colon)) && closed)
+
+abbrev pub or_misplaced : Option YamlCode → Bool → Option YamlCode
+or_misplaced (Some code) misplaced = Some code
+or_misplaced None misplaced = if misplaced then Some yaml.UnexpectedCharacter else None
+
+abbrev pub flow_fault : List Cell → Option YamlCode
+flow_fault [] = None
+flow_fault (c ∷ cs) =
+    or_misplaced (start_fault c.0 (is_blank_or_end cs)) (is_flow_misplaced c.0 (is_blank_or_end cs) (begins_flow_indicator cs))
+
+-- goes on where the first character is allowed
+abbrev pub unless : {A : Type 0} → Option YamlCode → ℕ → Reading A → Reading A
+unless None at r = r
+unless (Some code) at r = fails code at
+
+abbrev pub is_flow_start : List Cell → Bool
+is_flow_start cs = begins ascii.open_bracket cs || begins ascii.open_brace cs
+
+abbrev pub is_quote : List Cell → Bool
+is_quote cs = begins ascii.single_quote cs || begins ascii.double_quote cs
+
+-- the indicator of an anchor (6.9.2) or of an alias (7.1)
+abbrev pub is_property : List Cell → Bool
+is_property cs = begins ascii.ampersand cs || begins ascii.asterisk cs
+
+-- the name behind the indicator (6.9.2, ns-anchor-name), up to a blank, the line's end or a flow indicator
+abbrev pub anchor_cells : List Cell → List Cell
+anchor_cells [] = []
+anchor_cells (c ∷ cs) =
+    let more = anchor_cells cs in
+    if is_blank c || is_flow_indicator c.0 then [] else c ∷ more
+
+-- where a name ends
+abbrev pub ends_name : List Cell → Bool
+ends_name cs = is_blank_or_end cs || begins_flow_indicator cs
+
+abbrev pub anchor_name : List Line → List ℕ
+anchor_name ls = map (λ (c : Cell). c.0) (anchor_cells (drop 1 (first_text ls)))
+
+-- the lines behind the name of an anchor or alias
+abbrev pub behind_name : List Line → List Line
+behind_name ls = behind (length (anchor_cells (drop 1 (first_text ls))) + 1) ls
+
+abbrev pub has_no_name : List Line → Bool
+has_no_name ls = is_empty (anchor_cells (drop 1 (first_text ls)))
+
+-- Whether two rests are of the same line.
+abbrev pub same_line : List Line → List Line → Bool
+same_line xs ys = first_end xs == first_end ys
+
+-- characters before the offset
+abbrev pub characters : ℕ → List Cell → ℕ
+characters end [] = 0
+characters end (c ∷ cs) =
+    let more = characters end cs in
+    if nat_le end c.1 then 0 else (if nat_le 128 c.0 && nat_lt c.0 192 then more else more + 1)
+
+-- A key has at most 1,024 characters (7.4, implicit keys).
+abbrev pub is_short_key : List Line → ScalarRead → Bool
+is_short_key ls r = nat_le (characters r.span.end (first_text ls)) longest_key
+
+-- and it stands on one line
+abbrev pub is_simple_key : List Line → ScalarRead → Bool
+is_simple_key ls r = same_line ls r.left && is_short_key ls r

@@ -1,0 +1,89 @@
+-- A document (YAML 1.2.2, 9.1).
+use Rattle.std.specs.Prelude.{ℕ, suc, List, [], ◌∷◌, length, false, if◌then◌else◌, Some, None, Result, Ok, Err}
+use Rattle.al_base.specs.declared.codes.YamlCode.TheVariants as yaml
+use Rattle.al_base.specs.Ascii as ascii
+use Rattle.al_scalar.specs.Line.{Line, start, begins, is_marker, dot, blanks_dropped, spaces_dropped}
+use Rattle.al_scalar.specs.Places.{first_text}
+use Rattle.al_scalar.specs.Taken.{Fault, fault}
+use Rattle.al_scalar.specs.Block.{at_end}
+use Rattle.al_yaml_tree.specs.Node.{Node}
+use Rattle.al_yaml_tree.specs.Limits.{limited}
+use Rattle.al_yaml_tree.specs.Bytes.{byte_fault, file_lines}
+use Rattle.al_yaml_tree.specs.Reading.{Start, HaveNoAlias, Reading, nothing_known, gives, given, Part, ◌>>=◌}
+use Rattle.al_yaml_tree.specs.Content.{Next, ended, at_line, is_skipped, content, line_ended, behind}
+use Rattle.al_yaml_tree.specs.Flow.{empty_node}
+use Rattle.al_yaml_tree.specs.Blocks.{Slot, own_line, block_node}
+
+-- The whole lines from the first content line on, behind the marker `---` if that is one. No directive stands there
+-- (6.8).
+abbrev pub first_line : List Line → Result (List Line) Fault
+first_line ls =
+    if begins ascii.percent (first_text ls) then fault yaml.Directive (start ls)
+    else (if is_marker ascii.dash (first_text ls) then line_ended (behind 3 ls) else Ok ls)
+
+abbrev pub document_start : List Line → Result (List Line) Fault
+document_start [] = Ok []
+document_start (l ∷ ls) =
+    let below = document_start ls in
+    if is_skipped l.text then (if l.last then Ok (at_end l) else below) else first_line (l ∷ ls)
+
+-- Behind `...` no content stands.
+abbrev pub ended_behind : List Line → Result (Unit {0}) Fault
+ended_behind [] = Ok tt
+ended_behind (l ∷ ls) =
+    let below = ended_behind ls in
+    if is_skipped l.text then (if l.last then Ok tt else below) else fault yaml.SecondDocument (start (blanks_dropped (l ∷ ls)))
+
+-- Behind the root only `...` may stand.
+abbrev pub last_line : List Line → Result (Unit {0}) Fault
+last_line ls =
+    let left = spaces_dropped ls in
+    if is_marker ascii.dash (first_text ls) then fault yaml.SecondDocument (start ls)
+    else (if is_marker dot (first_text ls) then ended_behind (behind 3 ls)
+    else (if begins ascii.tab (first_text left) then fault yaml.TabInIndentation (start left)
+    else fault yaml.WrongIndentation (start left)))
+
+abbrev pub document_end : List Line → Result (Unit {0}) Fault
+document_end [] = Ok tt
+document_end (l ∷ ls) =
+    let below = document_end ls in
+    if is_skipped l.text then (if l.last then Ok tt else below) else last_line (l ∷ ls)
+
+abbrev pub root_slot : ℕ → Slot
+root_slot size = record { spot = own_line; within = 0; in_mapping = false; empty = size }
+
+-- The root: the node on the first content line, or else an empty node at the file's end.
+abbrev pub root_found : ℕ → List Line → Next → Reading (Part Node)
+root_found size ls ended = empty_node size ls
+root_found size ls (at_line i left) = block_node (suc size) (root_slot size) 1 i left
+
+abbrev pub root : ℕ → List Line → Reading (Part Node)
+root size ls = do
+  found ← given (content ls)
+  root_found size ls found
+
+abbrev pub document : ℕ → List Line → Reading Node
+document size ls = do
+  left ← given (document_start ls)
+  x ← root size left
+  rest ← given (document_end x.left)
+  gives x.value
+
+-- The tree that a file is whose bytes have no fault, or its first fault.
+abbrev pub document_of : List ℕ → Result Node Fault
+document_of bs = limited (document (length bs) (file_lines bs) nothing_known)
+
+-- The tree that a file is, or its first fault.
+abbrev pub tree_of : List ℕ → Result Node Fault
+tree_of bs =
+    elim (byte_fault bs) [
+      | Some f ↦ Err f
+      | None ↦ document_of bs
+    ]
+
+-- the starts of a file, and that none of them is an alias's
+abbrev pub starts_of : List ℕ → List Start
+starts_of bs = (document (length bs) (file_lines bs) nothing_known).starts
+
+abbrev pub HasNoAlias : List ℕ → Type 0
+HasNoAlias bs = HaveNoAlias (starts_of bs)

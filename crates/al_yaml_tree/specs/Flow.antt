@@ -1,0 +1,203 @@
+-- Flow collections (YAML 1.2.2, 7.4) and what stands in them.
+use Rattle.std.specs.Prelude.{ℕ, zero, suc, ◌+◌, List, [], ◌∷◌, Bool, true, false, not, ◌&&◌}
+use Rattle.std.specs.Prelude.{◌||◌, if◌then◌else◌, Option, Some, None, Result, Ok}
+use Rattle.al_base.specs.declared.codes.YamlCode.TheVariants as yaml
+use Rattle.al_base.specs.Ascii as ascii
+use Rattle.al_scalar.specs.Line.{Cell, Line, start, cut, after_blanks, is_empty, begins, begins_blank, blanks_dropped}
+use Rattle.al_scalar.specs.Places.{first_text}
+use Rattle.al_scalar.specs.Taken.{Fault, fault}
+use Rattle.al_scalar.specs.Plain.{flow, is_value_colon}
+use Rattle.al_scalar.specs.Block.{at_end}
+use Rattle.al_scalar.specs.Scalar.{ScalarRead, scalar_at, empty_scalar, span}
+use Rattle.al_yaml_tree.specs.Node.{Node, Nodes, Entries, scalar, sequence, mapping, no_nodes, with_item, no_entries, with_entry, scalar_node}
+use Rattle.al_yaml_tree.specs.Reading.{Reading, gives, fails, given, starting_scalar, starting_collection}
+use Rattle.al_yaml_tree.specs.Reading.{anchored, alias, Part, part, spanned, ◌>>=◌}
+use Rattle.al_yaml_tree.specs.Content.{behind, flow_fault, unless, is_flow_start, is_quote, is_property}
+use Rattle.al_yaml_tree.specs.Content.{anchor_name, behind_name, has_no_name, same_line, is_simple_key}
+
+-- What surrounds a node in a flow collection: the collection's opening bracket, and where an empty node would stand
+-- in its place, if one may.
+pub record FlowSlot : Type 0 where
+  pub opening : ℕ
+  pub empty : Option ℕ
+
+-- Reads the node of this depth at the first character.
+abbrev pub FlowReader : Type 0
+FlowReader = FlowSlot → ℕ → List Line → Reading (Part Node)
+
+-- Reads the flow collection of this depth whose bracket begins the lines.
+abbrev pub CollectionReader : Type 0
+CollectionReader = ℕ → List Line → Reading (Part Node)
+
+-- what a gap takes to its end: a line without text but blanks, or a comment after a blank or at a line's start
+abbrev pub is_gap_line : Bool → List Cell → Bool
+is_gap_line at_start text = is_empty (after_blanks text) || (begins ascii.hash (after_blanks text) && (at_start || begins_blank text))
+
+-- Blanks, breaks and comments are skipped (6.7). Behind them no text is left at the file's end alone.
+abbrev pub gap : Bool → List Line → List Line
+gap at_start [] = []
+gap at_start (l ∷ ls) =
+    let below = gap true ls in
+    if is_gap_line at_start l.text then (if l.last then at_end l else below) else cut (after_blanks l.text) l ls
+
+-- whether the file ends behind a gap
+abbrev pub is_file_end : List Line → Bool
+is_file_end ls = is_empty (first_text ls)
+
+-- an empty node at a place
+abbrev pub empty_node : ℕ → List Line → Reading (Part Node)
+empty_node at left = starting_scalar at (gives (part (scalar (empty_scalar at) (span at at)) at left))
+
+-- What stands behind an item: a comma, with the lines of what follows it, or the closing bracket with its end.
+pub data After : Type 0 where
+  goes_on : List Line → After
+  closes : ℕ → List Line → After
+
+abbrev pub after_item : ℕ → ℕ → List Line → Result After Fault
+after_item opening close ls =
+    if is_file_end ls then fault yaml.UnclosedFlow opening
+    else (if begins ascii.comma (first_text ls) then Ok (goes_on (gap false (behind 1 ls)))
+    else (if begins close (first_text ls) then Ok (closes (start ls + 1) (behind 1 ls))
+    else fault yaml.UnexpectedCharacter (start ls)))
+
+-- The rest of a sequence, given all its items so far and the lines behind the last one; more reads further items.
+abbrev pub flow_items_rest : (List Line → Reading (Part Nodes)) → ℕ → Nodes → List Line → Reading (Part Nodes)
+flow_items_rest more opening done left = do
+  found ← given (after_item opening ascii.close_bracket (gap false left))
+  elim found [ goes_on next ↦ more next | closes end next ↦ gives (part done end next) ]
+
+-- Items behind those done, from the first character of an item or the closer. turns bounds their number.
+unfoldable pub flow_items : FlowReader → ℕ → ℕ → ℕ → Nodes → List Line → Reading (Part Nodes)
+flow_items node zero opening depth done ls = fails yaml.UnexpectedCharacter 0
+flow_items node (suc turns) opening depth done ls =
+    if is_file_end ls then fails yaml.UnclosedFlow opening
+    else (if begins ascii.close_bracket (first_text ls) then gives (part done (start ls + 1) (behind 1 ls))
+    else (do
+      x ← node (record { opening = opening; empty = None }) depth ls
+      flow_items_rest (λ left. flow_items node turns opening depth (with_item done x.value) left) opening (with_item done x.value) x.left))
+
+-- The lines behind a key's colon, if one stands on its line. Behind a quoted key it needs nothing behind it.
+abbrev pub is_key_colon : Bool → List Line → Bool
+is_key_colon after_quote ls = (after_quote && begins ascii.colon (first_text ls)) || is_value_colon flow (after_blanks (first_text ls))
+
+abbrev pub behind_colon : Bool → List Line → Option (List Line)
+behind_colon after_quote ls = if is_key_colon after_quote ls then Some (behind 1 (blanks_dropped ls)) else None
+
+-- A value: empty before a comma or the closer.
+abbrev pub flow_value : FlowReader → FlowSlot → ℕ → List Line → Reading (Part Node)
+flow_value node slot depth ls =
+    if is_file_end ls then fails yaml.UnclosedFlow slot.opening
+    else (if begins ascii.comma (first_text ls) || begins ascii.close_brace (first_text ls)
+    then elim slot.empty [ None ↦ fails yaml.UnexpectedCharacter (start ls) | Some at ↦ empty_node at ls ]
+    else node slot depth ls)
+
+-- A key, and the lines behind its colon if it has one.
+pub record FlowKey : Type 0 where
+  pub scalar : ScalarRead
+  pub behind : Option (List Line)
+
+-- whether a colon begins a later line
+abbrev pub is_late_colon : List Line → Bool
+is_late_colon left = begins ascii.colon (first_text (gap false left)) && not (same_line left (gap false left))
+
+-- The lines behind the colon of the key that a scalar is, which stands on one line. A colon that begins a later line is
+-- refused at the key.
+abbrev pub unless_late : List Line → ScalarRead → Option (List Line) → Result (Option (List Line)) Fault
+unless_late ls r (Some left) = Ok (Some left)
+unless_late ls r None = if is_late_colon r.left then fault yaml.WrongKey (start ls) else Ok None
+
+abbrev pub key_colon : List Line → ScalarRead → Result (Option (List Line)) Fault
+key_colon ls r = if not (is_simple_key ls r) then fault yaml.WrongKey (start ls)
+    else unless_late ls r (behind_colon (is_quote (first_text ls)) r.left)
+
+abbrev pub flow_key_of : List Line → ScalarRead → Reading FlowKey
+flow_key_of ls r = do
+  colon ← given (key_colon ls r)
+  starting_scalar (start ls) (gives (record { scalar = r; behind = colon }))
+
+unfoldable pub flow_key : CollectionReader → ℕ → List Line → Reading FlowKey
+flow_key collection depth ls =
+    let at = start ls in
+    unless (flow_fault (first_text ls)) at (
+    if is_property (first_text ls) then fails (if has_no_name ls then yaml.UnexpectedCharacter else yaml.AnchorOrAlias) at
+    else (if is_flow_start (first_text ls) then (do
+      x ← collection depth ls
+      fails yaml.WrongKey at)
+    else (do
+      r ← given (scalar_at flow ls)
+      flow_key_of ls r)))
+
+-- The value of an entry, given its key; without a colon it is empty.
+unfoldable pub flow_entry_value : FlowReader → ℕ → ℕ → FlowKey → Reading (Part Node)
+flow_entry_value node opening depth key =
+    elim key.behind [
+      | None ↦ empty_node key.scalar.span.end key.scalar.left
+      | Some left ↦ flow_value node (record { opening = opening; empty = Some (start left) }) depth (gap false left)
+    ]
+
+-- The rest of a mapping, given all its entries so far and the lines behind the last one; more reads further entries.
+abbrev pub flow_entries_rest : (List Line → Reading (Part Entries)) → ℕ → Entries → List Line → Reading (Part Entries)
+flow_entries_rest more opening done left = do
+  found ← given (after_item opening ascii.close_brace (gap false left))
+  elim found [ goes_on next ↦ more next | closes end next ↦ gives (part done end next) ]
+
+-- Entries behind those done, from the first character of an entry or the closer.
+unfoldable pub flow_entries : FlowReader → CollectionReader → ℕ → ℕ → ℕ → Entries → List Line → Reading (Part Entries)
+flow_entries node collection zero opening depth done ls = fails yaml.UnexpectedCharacter 0
+flow_entries node collection (suc turns) opening depth done ls =
+    if is_file_end ls then fails yaml.UnclosedFlow opening
+    else (if begins ascii.close_brace (first_text ls) then gives (part done (start ls + 1) (behind 1 ls))
+    else (do
+      key ← flow_key collection depth ls
+      x ← flow_entry_value node opening depth key
+      flow_entries_rest (λ left. flow_entries node collection turns opening depth
+          (with_entry done (scalar_node key.scalar) x.value) left) opening
+          (with_entry done (scalar_node key.scalar) x.value) x.left))
+
+-- a flow collection, whose bracket begins the lines, with what reads nodes and collections in it
+abbrev pub flow_collection_over : FlowReader → CollectionReader → ℕ → ℕ → List Line → Reading (Part Node)
+flow_collection_over node collection turns depth ls =
+    let at = start ls in
+    let inside = gap false (behind 1 ls) in
+    starting_collection at depth (
+    if begins ascii.open_bracket (first_text ls)
+    then spanned sequence at (flow_items node turns at (depth + 1) no_nodes inside)
+    else spanned mapping at (flow_entries node collection turns at (depth + 1) no_entries inside))
+
+-- a node without properties
+unfoldable pub flow_content : CollectionReader → FlowSlot → ℕ → List Line → Reading (Part Node)
+flow_content collection slot depth ls =
+    unless (flow_fault (first_text ls)) (start ls) (
+    if is_property (first_text ls) then fails yaml.UnexpectedCharacter (start ls)
+    else (if is_flow_start (first_text ls) then collection depth ls
+    else starting_scalar (start ls) (do
+      r ← given (scalar_at flow ls)
+      gives (part (scalar_node r) r.span.end r.left))))
+
+-- an alias, or an anchor and its node (6.9.2, 7.1)
+unfoldable pub flow_property : CollectionReader → FlowSlot → ℕ → List Line → Reading (Part Node)
+flow_property collection slot depth ls =
+    let at = start ls in
+    let name = anchor_name ls in
+    let rest = behind_name ls in
+    if has_no_name ls then fails yaml.UnexpectedCharacter at
+    else (if begins ascii.asterisk (first_text ls)
+    then (do
+      n ← alias name at depth
+      gives (part n (start rest) rest))
+    else (do
+      x ← flow_value (flow_content collection) slot depth (gap false rest)
+      anchored (record { name = name; at = at; node = x.value }) x))
+
+-- a node in a flow collection
+abbrev pub flow_node_over : CollectionReader → FlowReader
+flow_node_over collection slot depth ls =
+    if is_property (first_text ls) then flow_property collection slot depth ls
+    else flow_content collection slot depth ls
+
+-- Collections nested less deep than the bound, each with fewer parts; the file's length and one is always enough.
+unfoldable pub flow_collection : ℕ → CollectionReader
+flow_collection zero depth ls = fails yaml.UnexpectedCharacter 0
+flow_collection (suc bound) depth ls =
+    let inner = flow_collection bound in
+    flow_collection_over (flow_node_over inner) inner (suc bound) depth ls

@@ -1,0 +1,16 @@
+pub mod Node
+pub mod Reading
+pub mod Limits
+pub mod Content
+pub mod Flow
+pub mod Keys
+pub mod Blocks
+pub mod Bytes
+pub mod Document
+pub mod View
+pub mod Access
+pub mod ByteFaults
+pub mod Spans
+pub mod Texts
+pub mod Laws
+pub mod Rows

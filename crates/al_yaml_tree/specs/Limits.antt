@@ -1,0 +1,46 @@
+-- The limits on nodes, on text behind aliases and on nesting, which are the profile's own.
+use Rattle.std.specs.Prelude.{ℕ, ◌+◌, List, [], ◌∷◌, ◌||◌, min, nat_lt, if◌then◌else◌, Option, Some, None, Result, Err}
+use Rattle.al_base.specs.declared.codes.YamlCode.TheVariants as yaml
+use Rattle.al_scalar.specs.Taken.{Fault}
+use Rattle.al_yaml_tree.specs.Reading.{Start, Outcome}
+
+abbrev pub max_nodes : ℕ
+max_nodes = 100000
+
+abbrev pub max_text : ℕ
+max_text = 1048576
+
+abbrev pub max_depth : ℕ
+max_depth = 64
+
+-- a count in 32 bits, which stays at its greatest value
+abbrev pub most_counted : ℕ → ℕ
+most_counted n = min n 4294967295
+
+-- The first start that breaks a limit, after so many nodes and so many bytes of text behind aliases; at one place
+-- too many nodes, or too much text, come before too deep a nesting.
+abbrev pub broken_limit : ℕ → ℕ → List Start → Option Fault
+broken_limit nodes text [] = None
+broken_limit nodes text (s ∷ ss) =
+    let below = broken_limit (nodes + s.nodes) (text + s.text) ss in
+    if nat_lt max_nodes (nodes + s.nodes) || nat_lt max_text (text + s.text) then Some (record { code = yaml.TooManyNodes; at = s.at })
+    else (if nat_lt max_depth s.depth then Some (record { code = yaml.NestingTooDeep; at = s.at }) else below)
+
+abbrev pub nodes_listed : List Start → ℕ
+nodes_listed [] = 0
+nodes_listed (s ∷ ss) = s.nodes + nodes_listed ss
+
+abbrev pub text_listed : List Start → ℕ
+text_listed [] = 0
+text_listed (s ∷ ss) = s.text + text_listed ss
+
+-- the first broken limit, which stands before every later fault, or else the answer
+abbrev pub unless_broken : {A : Type 0} → Option Fault → Result A Fault → Result A Fault
+unless_broken None r = r
+unless_broken (Some f) r = Err f
+
+abbrev pub limited_from : {A : Type 0} → ℕ → ℕ → Outcome A → Result A Fault
+limited_from nodes text o = unless_broken (broken_limit nodes text o.starts) o.answer
+
+abbrev pub limited : {A : Type 0} → Outcome A → Result A Fault
+limited o = limited_from 0 0 o

@@ -1,0 +1,142 @@
+-- What reading nodes gives: the starts of nodes in reading order, then a value or the first fault. On the way it
+-- knows the anchors of the nodes that are complete.
+use Rattle.std.specs.Prelude.{◌≡◌, ℕ, zero, suc, ◌+◌, List, [], ◌∷◌, ◌++◌, Bool, true, false}
+use Rattle.std.specs.Prelude.{nat_lt, if◌then◌else◌, Option, Some, None, Result, Ok, Err}
+use Rattle.std.specs.Str.{bytes_eq}
+use Rattle.al_base.specs.declared.codes.YamlCode.{YamlCode}
+use Rattle.al_base.specs.declared.codes.YamlCode.TheVariants as yaml
+use Rattle.al_scalar.specs.Line.{Line}
+use Rattle.al_scalar.specs.Taken.{Fault}
+use Rattle.al_scalar.specs.Scalar.{span}
+use Rattle.al_base.specs.declared.faults.Span.{Span}
+use Rattle.al_yaml_tree.specs.Node.{Node, nodes_in, text_in, levels_in}
+
+-- A start of so many nodes at a place: one, but two for a block mapping and its first key, and all those of its node
+-- for an alias, which also counts the bytes of their texts. The depth is that of the deepest collection that starts
+-- there, 0 if none does; alias says whether it is an alias's.
+pub record Start : Type 0 where
+  pub at : ℕ
+  pub nodes : ℕ
+  pub text : ℕ
+  pub depth : ℕ
+  pub alias : Bool
+
+abbrev pub HaveNoAlias : List Start → Type 0
+HaveNoAlias [] = Unit {0}
+HaveNoAlias (s ∷ ss) = (s.alias ≡ false) × HaveNoAlias ss
+
+-- An anchored node (6.9.2) that is complete, and where its indicator & stands.
+pub record Anchor : Type 0 where
+  pub name : List ℕ
+  pub at : ℕ
+  pub node : Node
+
+-- The anchors of the nodes that are complete: by its name, the one that an alias refers to (7.1).
+abbrev pub Known : Type 0
+Known = List ℕ → Option Anchor
+
+-- no anchor
+abbrev pub nothing_known : Known
+nothing_known name = None
+
+pub record Outcome (A : Type 0) : Type 0 where
+  pub starts : List Start
+  pub answer : Result A Fault
+  pub known : Known
+
+abbrev pub Reading : Type 0 → Type 0
+Reading A = Known → Outcome A
+
+abbrev pub gives : {A : Type 0} → A → Reading A
+gives x known = record { starts = []; answer = Ok x; known = known }
+
+abbrev pub fails : {A : Type 0} → YamlCode → ℕ → Reading A
+fails code at known = record { starts = []; answer = Err (record { code = code; at = at }); known = known }
+
+abbrev pub given : {A : Type 0} → Result A Fault → Reading A
+given r known = record { starts = []; answer = r; known = known }
+
+-- what is read after starts
+abbrev pub after : {A : Type 0} → List Start → Outcome A → Outcome A
+after ss o = record { starts = ss ++ o.starts; answer = o.answer; known = o.known }
+
+-- what is read next, if there was no fault
+abbrev pub next : {A B : Type 0} → Outcome A → (A → Reading B) → Outcome B
+next o f = elim o.answer [
+  | Err e ↦ record { starts = o.starts; answer = Err e; known = o.known }
+  | Ok x ↦ after o.starts (f x o.known)
+]
+
+infixl 10 ◌>>=◌
+abbrev pub ◌>>=◌ : {A B : Type 0} → Reading A → (A → Reading B) → Reading B
+◌>>=◌ r f known = next (r known) f
+
+-- a start before what is read there
+abbrev pub listed : {A : Type 0} → Start → Reading A → Reading A
+listed s r known = after (s ∷ []) (r known)
+
+abbrev pub start_with : ℕ → ℕ → ℕ → ℕ → Start
+start_with at nodes text depth = record { at = at; nodes = nodes; text = text; depth = depth; alias = false }
+
+abbrev pub start_of : ℕ → ℕ → ℕ → Start
+start_of at nodes depth = start_with at nodes 0 depth
+
+-- a scalar, or an empty node
+abbrev pub starting_scalar : {A : Type 0} → ℕ → Reading A → Reading A
+starting_scalar at r = listed (start_of at 1 0) r
+
+abbrev pub starting_collection : {A : Type 0} → ℕ → ℕ → Reading A → Reading A
+starting_collection at depth r = listed (start_of at 1 depth) r
+
+-- a block mapping with its first key
+abbrev pub starting_mapping : {A : Type 0} → ℕ → ℕ → Reading A → Reading A
+starting_mapping at depth r = listed (start_of at 2 depth) r
+
+-- whether an anchor stands behind an offset
+abbrev pub is_later : ℕ → Option Anchor → Bool
+is_later at None = false
+is_later at (Some a) = nat_lt at a.at
+
+-- of two anchors of a name the one whose & stands later: an alias refers to the latest (7.1)
+abbrev pub later_of : Anchor → Option Anchor → Option Anchor
+later_of a o = if is_later a.at o then o else Some a
+
+-- one more anchor, which may have the name of an earlier one (7.1)
+abbrev pub with_anchor : Anchor → Known → Known
+with_anchor a known name = if bytes_eq a.name name then later_of a (known name) else known name
+
+-- A node is complete with its anchor (6.9.2).
+abbrev pub anchored : {A : Type 0} → Anchor → A → Reading A
+anchored a x known = record { starts = []; answer = Ok x; known = with_anchor a known }
+
+-- the depth of the deepest collection in a node whose own depth is this, 0 if it is a scalar
+abbrev pub deepest : ℕ → ℕ → ℕ
+deepest depth zero = 0
+deepest depth (suc levels) = depth + levels
+
+-- An alias starts, at its indicator *, all nodes of its node (7.1), which have the depths that they have there.
+abbrev pub alias_start : ℕ → ℕ → Node → Start
+alias_start at depth n =
+    record { at = at; nodes = nodes_in n; text = text_in n; depth = deepest depth (levels_in n); alias = true }
+
+-- an alias of an anchor that was found, or of none (7.1)
+abbrev pub alias_of : Option Anchor → ℕ → ℕ → Reading Node
+alias_of None at depth = fails yaml.UnknownAlias at
+alias_of (Some a) at depth = listed (alias_start at depth a.node) (gives a.node)
+
+-- An alias (7.1) stands for the node of its anchor, with the spans of that node.
+abbrev pub alias : List ℕ → ℕ → ℕ → Reading Node
+alias name at depth known = alias_of (known name) at depth known
+
+-- What was read, where its written form ends, and the lines left.
+pub record Part (A : Type 0) : Type 0 where
+  pub value : A
+  pub end : ℕ
+  pub left : List Line
+
+abbrev pub part : {A : Type 0} → A → ℕ → List Line → Part A
+part value end left = record { value = value; end = end; left = left }
+
+-- a collection from its start to its end
+abbrev pub spanned : {A : Type 0} → (A → Span → Node) → ℕ → Reading (Part A) → Reading (Part Node)
+spanned f at r = r >>= (λ p. gives (part (f p.value (span at p.end)) p.end p.left))

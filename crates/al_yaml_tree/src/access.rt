@@ -1,0 +1,69 @@
+//! What a node is, asked of it.
+
+ghost use Rattle.al_scalar.specs.Scalar.{text_of};
+ghost use Rattle.std.specs.Option.{option_copied};
+ghost use Rattle.std.specs.Prelude.{◌≡◌, map, option_map};
+ghost use Rattle.al_yaml_tree.specs.Access.{mapping_in, scalar_in, sequence_in};
+ghost use Rattle.al_yaml_tree.specs.Node.{span_of};
+ghost use Rattle.al_yaml_tree.specs.Texts.{HasTexts};
+ghost use Rattle.al_yaml_tree.specs.View.{entry_view, view};
+
+use crate::node::{Entry, Kind, Node};
+use al_base::Span;
+use al_scalar::Scalar;
+
+impl Node {
+    /// The span of the written form.
+    pub fn span(&self) -> Span
+        ensures { result ≡ span_of (view self.now) }
+    {
+        match &self.kind {
+            Kind::Scalar(_) | Kind::Sequence(_) | Kind::Mapping(_) => self.span,
+            Kind::Shared(node) => node.span(),
+        }
+    }
+
+    /// The scalar that the node is.
+    pub fn scalar(&self) -> Option<&Scalar>
+        ensures { option_copied result ≡ scalar_in (view self.now) }
+    {
+        match &self.kind {
+            Kind::Scalar(scalar) => Some(scalar),
+            Kind::Sequence(_) | Kind::Mapping(_) => None,
+            Kind::Shared(node) => node.scalar(),
+        }
+    }
+
+    /// The text of the scalar that the node is, as `read_yaml` gives it: UTF-8.
+    pub fn text(&self) -> Option<&str>
+        requires { HasTexts (view self.now) }
+        ensures { option_map (λ t. t.now) result ≡ option_map text_of (scalar_in (view self.now)) }
+    {
+        match self.scalar() {
+            Some(scalar) => Some(scalar.as_str()),
+            None => None,
+        }
+    }
+
+    /// The items of the sequence that the node is.
+    pub fn sequence(&self) -> Option<&[Node]>
+        ensures { option_map (λ v. map view v.now) result ≡ sequence_in (view self.now) }
+    {
+        match &self.kind {
+            Kind::Sequence(items) => Some(items.as_slice()),
+            Kind::Scalar(_) | Kind::Mapping(_) => None,
+            Kind::Shared(node) => node.sequence(),
+        }
+    }
+
+    /// The entries of the mapping that the node is.
+    pub fn mapping(&self) -> Option<&[Entry]>
+        ensures { option_map (λ v. map entry_view v.now) result ≡ mapping_in (view self.now) }
+    {
+        match &self.kind {
+            Kind::Mapping(entries) => Some(entries.as_slice()),
+            Kind::Scalar(_) | Kind::Sequence(_) => None,
+            Kind::Shared(node) => node.mapping(),
+        }
+    }
+}

@@ -1,0 +1,16 @@
+//! YAML documents: the tree of nodes that a file is, as the definitions give it, and laws over them.
+#![tactic(auto)]
+
+mod access;
+mod node;
+mod spans;
+mod texts;
+mod worked;
+
+pub use node::{
+    Doc, Entry, Kind, Node, entry_of, mapping_node, scalar_node, sequence_node, sharable,
+    shared_node,
+};
+pub use spans::tree_spans;
+pub use texts::tree_texts;
+pub use worked::rows;

@@ -1,0 +1,97 @@
+//! The tree of nodes.
+
+ghost use Rattle.al_yaml_tree.specs.Node as tree;
+ghost use Rattle.al_yaml_tree.specs.View.{entries_of, entry_view, nodes_of, view};
+ghost use Rattle.std.specs.Prelude.{IfOk, map, ◌≡◌};
+
+use al_base::Span;
+use al_scalar::Scalar;
+use std::alloc::{AllocError, Global};
+use std::rc::Rc;
+
+/// A node (YAML 1.2.2, 3.2.1.1) and the span of its written form.
+#[cycle(node)]
+#[derive(Drop)]
+pub struct Node {
+    pub kind: Kind,
+    pub span: Span,
+}
+
+/// What a node is, with what stands in it. A node with an anchor is shared by its own place and those of its aliases; what
+/// is shared has the span of the written form.
+#[cycle(node)]
+#[derive(Drop)]
+pub enum Kind {
+    Scalar(Scalar),
+    Sequence(Vec<Node>),
+    Mapping(Vec<Entry>),
+    Shared(Rc<Node>),
+}
+
+/// A key of a mapping, and its value.
+#[cycle(node)]
+#[derive(Drop)]
+pub struct Entry {
+    pub key: Node,
+    pub value: Node,
+}
+
+/// A document, which has one root.
+#[derive(Drop)]
+pub struct Doc {
+    pub root: Node,
+}
+
+/// The node that a scalar is.
+pub fn scalar_node(scalar: Scalar, span: Span) -> Node
+    ensures { view result ≡ tree.scalar scalar span }
+{
+    Node {
+        kind: Kind::Scalar(scalar),
+        span,
+    }
+}
+
+/// The node that a sequence of these items is.
+pub fn sequence_node(items: Vec<Node>, span: Span) -> Node
+    ensures { view result ≡ tree.sequence (nodes_of (map view items.items)) span }
+{
+    Node {
+        kind: Kind::Sequence(items),
+        span,
+    }
+}
+
+/// The node that a mapping of these entries is.
+pub fn mapping_node(entries: Vec<Entry>, span: Span) -> Node
+    ensures { view result ≡ tree.mapping (entries_of (map entry_view entries.items)) span }
+{
+    Node {
+        kind: Kind::Mapping(entries),
+        span,
+    }
+}
+
+/// A node that is shared. Fails with `AllocError` where it has too many owners.
+pub fn shared_node(node: &Rc<Node>) -> Result<Node, AllocError>
+    ensures { IfOk result (λ n. view n ≡ view node.now.value) }
+{
+    Ok(Node {
+        span: node.span,
+        kind: Kind::Shared(node.clone()?),
+    })
+}
+
+/// A node that can be shared. Fails with `AllocError` when out of memory.
+pub fn sharable(alloc: Global, node: Node) -> Result<Rc<Node>, AllocError>
+    ensures { IfOk result (λ n. n.value ≡ node) }
+{
+    Ok(Rc::new(alloc, node)?)
+}
+
+/// An entry of this key and this value.
+pub fn entry_of(key: Node, value: Node) -> Entry
+    ensures { entry_view result ≡ (view key, view value) }
+{
+    Entry { key, value }
+}

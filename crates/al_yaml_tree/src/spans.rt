@@ -1,0 +1,22 @@
+//! A law over the definitions: where the nodes of a tree and the first fault of a file lie.
+
+ghost use Rattle.al_yaml_tree.specs.Document.{HasNoAlias, tree_of};
+ghost use Rattle.al_yaml_tree.specs.Spans.{AreFrom, IsInside, IsLaid, IsPlacedIn, IsWithin};
+ghost use Rattle.al_yaml_tree.specs.Laws.{IsTreeLaid};
+ghost use Rattle.std.specs.Prelude.{◌≤◌, IfOk, List, length, ℕ};
+ghost use Rattle.al_base.specs.Limits.{largest_file};
+
+/// A law over the definitions: whatever the bytes of a file, the nodes of its tree lie in it, those behind an alias at its anchor, with
+/// each byte of each text; and its first fault lies in it. In a file in which no alias is read each node lies in the one around it and
+/// behind those before it. It does nothing when it runs.
+pub fn tree_spans()
+    ensures tree { (bytes : List ℕ) → IsTreeLaid bytes (tree_of bytes) }
+    ensures inside { (bytes : List ℕ) → IfOk (tree_of bytes) (IsInside (length bytes)) }
+    ensures laid { (bytes : List ℕ) → length bytes ≤ largest_file
+        → IfOk (tree_of bytes) (IsLaid (length bytes)) }
+    ensures from { (bytes : List ℕ) → IfOk (tree_of bytes) (AreFrom (length bytes)) }
+    ensures nested { (bytes : List ℕ) → HasNoAlias bytes
+        → IfOk (tree_of bytes) (IsPlacedIn (length bytes) 0 (length bytes)) }
+    ensures within { (bytes : List ℕ) → length bytes ≤ largest_file → HasNoAlias bytes
+        → IfOk (tree_of bytes) (IsWithin 0 (length bytes)) }
+{}
