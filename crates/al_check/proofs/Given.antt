@@ -17,10 +17,10 @@ use Rattle.al_session_folder.specs.declared.lint.Target.{Target}
 use Rattle.al_tree.specs.Files.{kind_in, root_of}
 use Rattle.al_tree.specs.declared.files.FileKind.{FileKind}
 use Rattle.al_tree.specs.declared.files.Tree.{Tree}
-use Rattle.al_check_uses.proofs.CallLists.{kept_faults, kept_targets}
-use Rattle.al_check_uses.specs.Uses as uses
-use Rattle.al_check_uses.specs.Uses.{calls_in, loop_faults, sites_in, target_in, that_uses}
-use Rattle.al_check_uses.specs.declared.calls.Call.{Call}
+use Rattle.al_check_interfaces.proofs.CallLists.{kept_faults, kept_targets}
+use Rattle.al_check_interfaces.specs.Uses as uses
+use Rattle.al_check_interfaces.specs.Uses.{calls_in, loop_faults, sites_in, target_in, that_uses}
+use Rattle.al_check_interfaces.specs.declared.calls.Call.{Call}
 use Rattle.al_check.specs.Calling.{file_interface, file_targets, interface_given, shown_by, shown_read, targets_given, targets_of, targets_read}
 use Rattle.al_check.specs.Reading.{CallsGiven, IsGiven, IsRead}
 use Rattle.al_check.specs.Sites.{file_sites, sites_given}

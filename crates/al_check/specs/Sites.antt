@@ -5,7 +5,7 @@ use Rattle.al_scalar.specs.Taken as yaml
 use Rattle.al_yaml_tree.specs.Document.{tree_of}
 use Rattle.al_yaml_tree.specs.Node.{Node}
 use Rattle.al_tree.specs.declared.files.FileKind.{FileKind}
-use Rattle.al_check_uses.specs.Uses.{calls_in, loop_faults}
+use Rattle.al_check_interfaces.specs.Uses.{calls_in, loop_faults}
 
 abbrev pub sites_given : FileKind → Result Node yaml.Fault → List Fault
 sites_given kind (Ok root) = loop_faults (calls_in kind root)

@@ -9,8 +9,7 @@ ghost use Rattle.al_session_folder.specs.Sites.{fault_of};
 
 use crate::files::{ReadFile, file_faults, file_interface, file_targets, read_file};
 use al_base::{Args, Fault};
-use al_check_interfaces::Interface;
-use al_check_uses::Call;
+use al_check_interfaces::{Call, Interface};
 use al_session_folder::{Lint, Site, Target};
 use al_tree::{file_kind, is_action, is_workflow};
 use std::alloc::{AllocError, Global};

@@ -9,12 +9,12 @@ use Rattle.al_base.specs.declared.faults.Span.{Span}
 use Rattle.al_session_folder.specs.declared.lint.Target.{Target}
 use Rattle.al_scalar.specs.Scalar.{Scalar}
 use Rattle.al_yaml_tree.specs.Node.{Node}
-use Rattle.al_tree_shape.specs.Values.{text_at}
+use Rattle.al_tree.specs.Values.{text_at}
 use Rattle.al_tree.specs.declared.files.FileKind.{FileKind}
 use Rattle.al_check_interfaces.specs.declared.interfaces.Interface.{Interface}
-use Rattle.al_check_uses.specs.Kept.{AreCallsOf, Kept, kept, seen}
-use Rattle.al_check_uses.specs.Uses.{Call, Site, call_at, call_by, calls_in, sites_in, target_in, that_uses}
-use Rattle.al_check_uses.specs.declared.calls.Call as code
+use Rattle.al_check_interfaces.specs.Kept.{AreCallsOf, Kept, kept, seen}
+use Rattle.al_check_interfaces.specs.Uses.{Call, Site, call_at, call_by, calls_in, sites_in, target_in, that_uses}
+use Rattle.al_check_interfaces.specs.declared.calls.Call as code
 use Rattle.al_check_calls.specs.Answers.{Answered, answered, answered_by, first_answer}
 use Rattle.al_check_calls.specs.Private.AnswerViews.{answered_at, call_of_site}
 

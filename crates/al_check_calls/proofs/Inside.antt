@@ -14,8 +14,8 @@ use Rattle.al_types.specs.Types.{Type'}
 use Rattle.al_scalar.specs.Scalar.{Scalar}
 use Rattle.al_yaml_tree.specs.Node.{Node, scalar, sequence, mapping, span_of}
 use Rattle.al_yaml_tree.specs.Spans.{IsInside}
-use Rattle.al_tree_shape.specs.Keys.{key_of}
-use Rattle.al_tree_shape.specs.Values.{entries_at}
+use Rattle.al_tree.specs.Keys.{key_of}
+use Rattle.al_tree.specs.Values.{entries_at}
 use Rattle.al_check_interfaces.specs.Parameters.{is_parameter}
 use Rattle.al_check_interfaces.specs.Kinds.{parameters_of}
 use Rattle.al_check_interfaces.specs.declared.interfaces.Interface.{Interface}
@@ -24,11 +24,11 @@ use Rattle.al_check_interfaces.specs.declared.interfaces.Parameter.{Parameter}
 use Rattle.al_check_interfaces.specs.declared.interfaces.ParameterKind.{ParameterKind}
 use Rattle.al_check_interfaces.specs.declared.interfaces.ParameterKind.TheVariants.{Input, Secret}
 use Rattle.al_check_interfaces.specs.declared.interfaces.Signature.{Signature}
-use Rattle.al_check_uses.specs.Uses.{Call, calls_in, target_in}
+use Rattle.al_check_interfaces.specs.Uses.{Call, calls_in, target_in}
 use Rattle.al_session_folder.specs.declared.lint.Target.{Target}
-use Rattle.al_check_uses.proofs.Inside.{AtLies, calls_lie, inside_kept}
+use Rattle.al_check_interfaces.proofs.Inside.{AtLies, calls_lie, inside_kept}
 use Rattle.al_base.proofs.Elements.{each_both, each_either, each_of}
-use Rattle.al_check_uses.proofs.Parts.{entries_kept}
+use Rattle.al_check_interfaces.proofs.Parts.{entries_kept}
 use Rattle.al_check_calls.specs.Answers.{Answered, Typing, answered, answered_by, answered_faults, first_answer, values_in}
 use Rattle.al_check_calls.specs.CallFaults.{Given, Names, absent_faults, at_uses, call_faults, called_name, called_signature, caller_of, fault}
 use Rattle.al_check_calls.specs.CallFaults.{given_by, given_names, is_callable, is_missing, is_right, is_taken, missing_code, missing_name}

@@ -18,7 +18,7 @@ use Rattle.al_base.specs.contracts.faults.SpanPartialEq.TheImpl as span_eq
 use Rattle.al_base.specs.declared.codes.Code.TheVariants as kind_of_code
 use Rattle.al_base.specs.declared.faults.Fault.{Fault}
 use Rattle.al_yaml_tree.specs.Node.{Node, span_of}
-use Rattle.al_tree_shape.specs.Keys.{key_of}
+use Rattle.al_tree.specs.Keys.{key_of}
 use Rattle.al_check_interfaces.specs.Kinds.{parameters_of}
 use Rattle.al_check_interfaces.specs.Parameters.{has_parameter}
 use Rattle.al_check_calls.specs.CallFaults.{given_by, is_free_for, undefined_code, undefined_name}

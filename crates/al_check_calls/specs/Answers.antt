@@ -9,7 +9,7 @@ use Rattle.al_yaml_tree.specs.Node.{Node}
 use Rattle.al_tree.specs.declared.files.FileKind.{FileKind}
 use Rattle.al_check_interfaces.specs.declared.interfaces.Interface.{Interface}
 use Rattle.al_check_interfaces.specs.declared.interfaces.ParameterKind.TheVariants.{Input}
-use Rattle.al_check_uses.specs.Uses.{Call, Site, calls_in, target_in}
+use Rattle.al_check_interfaces.specs.Uses.{Call, Site, calls_in, target_in}
 use Rattle.al_check_calls.specs.CallFaults.{Given, call_faults, given_by, values_of}
 
 -- a call of a file of the folder with its answer, the next of the answers, which stand in the order of these calls

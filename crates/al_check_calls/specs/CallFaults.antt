@@ -16,8 +16,8 @@ use Rattle.al_scalar.specs.Scalar.{Scalar, text_of}
 use Rattle.al_types.specs.Types.{Type', Any, assignable_type}
 use Rattle.al_yaml_tree.specs.Access.{scalar_in}
 use Rattle.al_yaml_tree.specs.Node.{Node, span_of}
-use Rattle.al_tree_shape.specs.Keys.{key_of}
-use Rattle.al_tree_shape.specs.Values.{entries_at, text_at}
+use Rattle.al_tree.specs.Keys.{key_of}
+use Rattle.al_tree.specs.Values.{entries_at, text_at}
 use Rattle.al_tree_declarations.specs.Declarations.{named_among, names_of}
 use Rattle.al_tree_declarations.specs.Inputs.{input_type}
 use Rattle.al_tree_declarations.specs.declared.inputs.InputType.{InputType}
@@ -32,8 +32,8 @@ use Rattle.al_check_interfaces.specs.declared.interfaces.ParameterKind.TheVarian
 use Rattle.al_check_interfaces.specs.declared.interfaces.Role.{Role}
 use Rattle.al_check_interfaces.specs.declared.interfaces.Role.TheVariants as role
 use Rattle.al_check_interfaces.specs.declared.interfaces.Signature.{Signature}
-use Rattle.al_check_uses.specs.Uses as uses
-use Rattle.al_check_uses.specs.Uses.{Call}
+use Rattle.al_check_interfaces.specs.Uses as uses
+use Rattle.al_check_interfaces.specs.Uses.{Call}
 
 abbrev pub caller_of : Call → Caller
 caller_of c = uses.caller_of c.site

@@ -5,14 +5,13 @@ ghost use Rattle.std.specs.Option.{option_copied};
 ghost use Rattle.al_check_calls.specs.Answers as answering;
 ghost use Rattle.al_check_calls.specs.Private.AnswerViews.{answered_at, answered_of, call_of, call_of_site};
 ghost use Rattle.al_tree.specs.declared.files.FileKind.{FileKind};
-ghost use Rattle.al_check_uses.specs.Kept.{AreCallsOf};
-ghost use Rattle.al_check_uses.specs.Private.CallViews.{site_of};
-ghost use Rattle.al_check_uses.specs.Uses as uses;
+ghost use Rattle.al_check_interfaces.specs.Kept.{AreCallsOf};
+ghost use Rattle.al_check_interfaces.specs.Private.CallViews.{site_of};
+ghost use Rattle.al_check_interfaces.specs.Uses as uses;
 ghost use Rattle.al_yaml_tree.specs.Node.{Node};
 
-use al_check_interfaces::Interface;
-use al_check_uses::{Call, Site};
-use al_tree_shape::{ScalarNode, text_under};
+use al_check_interfaces::{Call, Interface, Site};
+use al_tree::{ScalarNode, text_under};
 use std::alloc::{AllocError, Global};
 
 /// A call of a file of the folder, where it stands.

@@ -5,7 +5,7 @@ ghost use Rattle.std.specs.Option.{option_copied};
 ghost use Rattle.al_check_calls.specs.CallFaults as faults;
 ghost use Rattle.al_check_calls.specs.Private.AnswerViews.{answered_of, call_of, compared_of};
 ghost use Rattle.al_check_calls.specs.Private.Comparing as comparing;
-ghost use Rattle.al_tree_shape.specs.Values.{member_of};
+ghost use Rattle.al_tree.specs.Values.{member_of};
 ghost use Rattle.al_yaml_tree.specs.View.{view};
 
 use crate::answers::{Answered, SiteCall};
@@ -13,7 +13,7 @@ use crate::calls::called_signature;
 use crate::reports::{caller_of, uses_text};
 use al_base::Caller;
 use al_check_interfaces::{ParameterKind, Signature};
-use al_tree_shape::{Member, members_under, text_under};
+use al_tree::{Member, members_under, text_under};
 use al_yaml_tree::Node;
 use std::alloc::{AllocError, Global};
 

@@ -2,7 +2,7 @@
 ghost use Rattle.al_check_calls.specs.Rows.Folders as file;
 ghost use Rattle.al_check_calls.specs.Rows.Folders.{faults_of, faults_with, found, shown_by};
 ghost use Rattle.al_check_interfaces.specs.declared.interfaces.Interface.TheVariants.{Unreadable};
-ghost use Rattle.al_tree_shape.specs.Rows.Files.{at};
+ghost use Rattle.al_tree.specs.Rows.Files.{at};
 ghost use Rattle.al_base.specs.declared.codes.CallCode.TheVariants as code;
 ghost use Rattle.al_base.specs.declared.codes.Caller.TheVariants as by;
 ghost use Rattle.al_tree.specs.declared.files.FileKind.TheVariants as kind;

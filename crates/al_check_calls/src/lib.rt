@@ -13,7 +13,7 @@ mod reports;
 mod undefined;
 mod values;
 
-pub use al_tree_shape::members_under;
+pub use al_tree::members_under;
 pub use answers::{Answered, SiteCall, with_answers};
 pub use calls::check_call;
 pub use examples::rows;

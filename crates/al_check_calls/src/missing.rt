@@ -9,14 +9,14 @@ ghost use Rattle.al_check_calls.specs.Private.AnswerViews.{compared_of};
 ghost use Rattle.al_check_calls.specs.Private.Comparing as comparing;
 ghost use Rattle.al_check_calls.specs.Private.Comparing.{HaveOneSignature, IsSaid, TellSignatures};
 ghost use Rattle.al_tree_declarations.specs.Private.NameSets.{holds};
-ghost use Rattle.al_tree_shape.specs.Values.{member_of};
+ghost use Rattle.al_tree.specs.Values.{member_of};
 
 use crate::comparisons::{Comparison, call_alike, given_by};
 use crate::reports::{Report, called_name, caller_of, report_two, uses_span};
 use al_base::{CallCode, Caller, Fault};
 use al_check_interfaces::{Parameter, ParameterKind};
+use al_tree::{Member, key_text};
 use al_tree_declarations::NameSet;
-use al_tree_shape::{Member, key_text};
 use std::alloc::{AllocError, Global};
 
 /// A call, and the names that it gives.

@@ -5,8 +5,7 @@ ghost use Rattle.al_check_calls.specs.Private.AnswerViews.{call_of};
 
 use crate::answers::SiteCall;
 use al_base::{Args, CallCode, Caller, Code, Fault, Span};
-use al_check_interfaces::Signature;
-use al_check_uses::caller_of as caller_of_site;
+use al_check_interfaces::{Signature, caller_of as caller_of_site};
 use std::alloc::{AllocError, Global};
 
 /// A fault of a call that names two texts.

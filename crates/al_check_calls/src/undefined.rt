@@ -8,14 +8,14 @@ ghost use Rattle.al_check_calls.specs.CallFaults as faults;
 ghost use Rattle.al_check_calls.specs.Private.AnswerViews.{compared_of, name_of};
 ghost use Rattle.al_check_calls.specs.Private.Comparing as comparing;
 ghost use Rattle.al_check_calls.specs.Private.Comparing.{AreThere, HaveOneSignature, TellSignatures, TellSignaturesBy};
-ghost use Rattle.al_tree_shape.specs.Values.{member_of};
+ghost use Rattle.al_tree.specs.Values.{member_of};
 
 use crate::comparisons::{Comparison, call_alike, given_by};
 use crate::reports::{Report, called_name, caller_of, report_two, uses_text};
 use al_base::{CallCode, Caller, Fault};
 use al_check_interfaces::ParameterKind;
+use al_tree::{Member, key_text};
 use al_tree_declarations::is_named_among;
-use al_tree_shape::{Member, key_text};
 use std::alloc::{AllocError, Global};
 
 /// A name that a call gives.

@@ -2,7 +2,7 @@
 ghost use Rattle.std.specs.Prelude.{◌≡◌, ◌++◌, map, OnOk};
 ghost use Rattle.std.specs.Option.{option_copied};
 ghost use Rattle.al_base.specs.declared.codes.Caller.TheVariants as by;
-ghost use Rattle.al_tree_shape.specs.Values.{member_of};
+ghost use Rattle.al_tree.specs.Values.{member_of};
 ghost use Rattle.al_types.specs.TypeViews.{ty_of};
 ghost use Rattle.al_check_calls.specs.CallFaults as faults;
 ghost use Rattle.al_check_calls.specs.Private.AnswerViews.{call_of, given_of};
@@ -11,8 +11,8 @@ use crate::answers::SiteCall;
 use crate::reports::{Report, report_two};
 use al_base::{CallCode, Fault};
 use al_check_interfaces::{Parameter, Parameters, Signature};
+use al_tree::{Member, key_text};
 use al_tree_declarations::{InputType, type_of};
-use al_tree_shape::{Member, key_text};
 use al_types::{Ty, assignable};
 use std::alloc::{AllocError, Global};
 

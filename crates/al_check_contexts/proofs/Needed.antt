@@ -13,7 +13,7 @@ use Rattle.al_types.specs.TypeViews.{ty_of}
 use Rattle.al_types.specs.Types.{Type'}
 use Rattle.al_types.specs.declared.types.Ty.{Ty}
 use Rattle.al_yaml_tree.specs.Node.{Node}
-use Rattle.al_tree_shape.specs.Keys.{key_of}
+use Rattle.al_tree.specs.Keys.{key_of}
 use Rattle.std.proofs.Math.ListN.{get_or-map}
 use Rattle.std.proofs.lemmas.List.{drop_more, get_or-map as get_or-any}
 use Rattle.al_types.specs.Positions.{first_at}

@@ -2,7 +2,7 @@
 use Rattle.std.proofs.Common.{◌≡◌, [], ap, sym, map, ◌∙◌, None, Vec}
 use Rattle.std.specs.Prelude.{codes}
 use Rattle.std.specs.declared.alloc.Global.{Global}
-use Rattle.al_tree_shape.specs.Values.{value_at}
+use Rattle.al_tree.specs.Values.{value_at}
 use Rattle.al_types.specs.Types.{ArrayOf, Any, or_any}
 use Rattle.al_yaml_tree.specs.View.{entries_of, entry_view, nodes_of, view}
 use Rattle.al_yaml_tree.specs.declared.node.Entry.{Entry}

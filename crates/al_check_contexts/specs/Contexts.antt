@@ -10,8 +10,8 @@ use Rattle.al_types.specs.Types.{Type', Any, String}
 use Rattle.al_types.specs.declared.names.Context.{Context}
 use Rattle.al_types.specs.declared.names.Context.TheVariants as context
 use Rattle.al_yaml_tree.specs.Node.{Node}
-use Rattle.al_tree_shape.specs.Keys.{key_of}
-use Rattle.al_tree_shape.specs.Values.{entries_at, items_at, text_at, texts_at}
+use Rattle.al_tree.specs.Keys.{key_of}
+use Rattle.al_tree.specs.Values.{entries_at, items_at, text_at, texts_at}
 use Rattle.al_tree.specs.Files.{jobs_of}
 use Rattle.al_tree.specs.declared.files.FileKind.{FileKind}
 use Rattle.al_tree.specs.declared.files.FileKind.TheVariants as kind

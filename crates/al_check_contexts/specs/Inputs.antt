@@ -2,7 +2,7 @@
 use Rattle.std.specs.Prelude.{ℕ, List, [], ◌∷◌, codes, map}
 use Rattle.al_types.specs.Types.{Type'}
 use Rattle.al_yaml_tree.specs.Node.{Node}
-use Rattle.al_tree_shape.specs.Keys.{key_of}
+use Rattle.al_tree.specs.Keys.{key_of}
 use Rattle.al_tree_declarations.specs.Declarations.{declared_below, names_of}
 use Rattle.al_tree_declarations.specs.Inputs.{input_of, input_type}
 use Rattle.al_types.specs.Strings.{named_strings}

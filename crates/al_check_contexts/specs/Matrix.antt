@@ -9,10 +9,10 @@ use Rattle.al_rules_formats.specs.Chunks.{is_lone_chunk}
 use Rattle.al_rules_formats.specs.declared.chunks.Around.TheVariants.{Nothing}
 use Rattle.al_types.specs.Types.{Type', Any, Null, Number, Bool', String, ArrayOf, fuse_type, or_any}
 use Rattle.al_yaml_tree.specs.Node.{Node, Nodes, Entries, scalar, sequence, mapping, no_nodes, item, no_entries, entry}
-use Rattle.al_tree_shape.specs.Faults.{has_chunk}
-use Rattle.al_tree_shape.specs.Keys.{key_of, key_text}
-use Rattle.al_tree_shape.specs.Names.{is_combination_key}
-use Rattle.al_tree_shape.specs.Values.{entries_in, items_in, value_at, value_below}
+use Rattle.al_tree.specs.Faults.{has_chunk}
+use Rattle.al_tree.specs.Keys.{key_of, key_text}
+use Rattle.al_tree.specs.Names.{is_combination_key}
+use Rattle.al_tree.specs.Values.{entries_in, items_in, value_at, value_below}
 use Rattle.al_check_contexts.specs.Objects.{loose_any, strictly}
 use Rattle.al_types.specs.Puts.{Typed, firsts, put, put_all, put_new}
 

@@ -2,15 +2,14 @@
 ghost use Rattle.std.specs.Prelude.{◌≡◌, IfOk, map};
 ghost use Rattle.al_check_contexts.specs.Private.Environment.{inputs_in};
 ghost use Rattle.al_check_contexts.specs.Inputs as inputs;
-ghost use Rattle.al_tree_shape.specs.Values.{member_of};
+ghost use Rattle.al_tree.specs.Values.{member_of};
 ghost use Rattle.al_types.specs.TypeViews.{ty_of};
 ghost use Rattle.al_types.specs.Private.TypeParts.{field_of};
 ghost use Rattle.al_yaml_tree.specs.View.{view};
 
 use crate::objects::key_texts;
-use al_tree::FileKind;
+use al_tree::{FileKind, Member, key_text, value};
 use al_tree_declarations::{declared_at, input_of, object_of_names, type_of, value_below_three};
-use al_tree_shape::{Member, key_text, value};
 use al_types::{Field, FieldList, Ty};
 use al_yaml_tree::Node;
 use std::alloc::{AllocError, Global};

@@ -6,7 +6,7 @@ ghost use Rattle.al_check_contexts.specs.Matrix as matrix;
 ghost use Rattle.al_check_contexts.specs.Matrix.{class_type, entries_types, include_all, items_type, row_field, rows_of};
 ghost use Rattle.al_check_contexts.specs.Objects.{strictly};
 ghost use Rattle.al_types.specs.Puts.{put_all, put_new};
-ghost use Rattle.al_tree_shape.specs.Values.{member_of, value_at};
+ghost use Rattle.al_tree.specs.Values.{member_of, value_at};
 ghost use Rattle.al_types.specs.TypeViews.{ty_of};
 ghost use Rattle.al_types.specs.Private.TypeParts.{field_of};
 ghost use Rattle.al_yaml_tree.specs.View.{entries_of, entry_view, nodes_of, view};
@@ -14,10 +14,10 @@ ghost use Rattle.al_yaml_tree.specs.View.{entries_of, entry_view, nodes_of, view
 use crate::objects::loose_any;
 use al_rules_formats::{Around, is_lone_chunk};
 use al_scalar::{Class, Scalar};
-use al_tree_declarations::value_below_two;
-use al_tree_shape::{
+use al_tree::{
     Member, contains_chunk, is_combination_key, items, key_of, key_text, members, value,
 };
+use al_tree_declarations::value_below_two;
 use al_types::{Field, FieldList, Ty, any_if_none, fuse, joined};
 use al_yaml_tree::{Entry, Kind, Node};
 use std::alloc::{AllocError, Global};

@@ -3,7 +3,7 @@ ghost use Rattle.std.specs.Prelude.{◌≡◌, ◌<◌, IfOk, OnOk, length, map}
 ghost use Rattle.std.specs.Option.{option_to_list};
 ghost use Rattle.al_types.specs.TypeViews.{ty_of};
 ghost use Rattle.al_types.specs.Private.TypeParts.{field_of};
-ghost use Rattle.al_tree_shape.specs.Values.{member_of, scalar_node_of};
+ghost use Rattle.al_tree.specs.Values.{member_of, scalar_node_of};
 ghost use Rattle.al_yaml_tree.specs.View.{view};
 ghost use Rattle.al_check_contexts.specs.Contexts.{needed, needed_by, needs_type_of};
 ghost use Rattle.al_check_contexts.specs.Private.Grown.{with_fields};
@@ -17,7 +17,7 @@ use crate::jobs::{ShownJob, shown_job, with_job};
 use crate::known::Outputs;
 use crate::like_fields::Included;
 use crate::objects::no_fields;
-use al_tree_shape::{ScalarNode, texts_under};
+use al_tree::{ScalarNode, texts_under};
 use al_types::{Field, Ty, copy};
 use al_yaml_tree::Node;
 use std::alloc::{AllocError, Global};

@@ -1,14 +1,14 @@
 //! Object types, made of names with their types.
 ghost use Rattle.std.specs.Prelude.{◌≡◌, ◌++◌, ◌∷◌, [], IfOk, OnOk, map};
 ghost use Rattle.al_tree_declarations.specs.Declarations.{names_of};
-ghost use Rattle.al_tree_shape.specs.Values.{member_of};
+ghost use Rattle.al_tree.specs.Values.{member_of};
 ghost use Rattle.al_types.specs.Strings.{strings};
 ghost use Rattle.al_types.specs.TypeViews.{ty_of};
 ghost use Rattle.al_types.specs.Private.TypeParts.{field_of};
 ghost use Rattle.al_check_contexts.specs.Objects as objects;
 ghost use Rattle.al_check_contexts.specs.Objects.{loosely, strictly};
 
-use al_tree_shape::{Member, key_text};
+use al_tree::{Member, key_text};
 use al_types::{Field, Ty, object_of_fields};
 use std::alloc::{AllocError, Global};
 

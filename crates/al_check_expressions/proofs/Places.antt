@@ -14,11 +14,11 @@ use Rattle.al_yaml_tree.specs.Access.{entries}
 use Rattle.al_yaml_tree.specs.Node.{Node, Nodes, Entries, scalar, sequence, mapping, no_nodes, item, no_entries, entry}
 use Rattle.al_yaml_tree.specs.Spans.{AreFrom, AreLaid, EntriesFrom, EntriesLaid, IsLaid, ItemsFrom}
 use Rattle.al_yaml_tree.specs.Texts.{EntriesHaveTexts, HasTexts, HaveTexts}
-use Rattle.al_tree_shape.specs.Faults.{Standing, repeated, unexpected, ignored, expected, standing, refined}
-use Rattle.al_tree_shape.specs.Keys.{key_text, keys_in}
-use Rattle.al_tree_shape.specs.Names.{among}
-use Rattle.al_tree_shape.specs.Table.{Keys, rule}
-use Rattle.al_tree_shape.specs.declared.table.Shape.{Shape}
+use Rattle.al_tree.specs.Faults.{Standing, repeated, unexpected, ignored, expected, standing, refined}
+use Rattle.al_tree.specs.Keys.{key_text, keys_in}
+use Rattle.al_tree.specs.Names.{among}
+use Rattle.al_tree.specs.Table.{Keys, rule}
+use Rattle.al_tree.specs.declared.table.Shape.{Shape}
 use Rattle.al_tree.specs.Files.{shape_of}
 use Rattle.al_tree.specs.declared.files.FileKind.{FileKind}
 use Rattle.al_check_places.specs.Places.{Place, entry_places, fits, has_expression, place_at, place_of, placed, placed_entries, placed_items, places_of, rule_or_any, takes_scalars_only}

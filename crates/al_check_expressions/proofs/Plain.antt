@@ -5,7 +5,7 @@ use Rattle.std.specs.List.{starts_with}
 use Rattle.std.specs.Prelude.{codes, nat_eq, option_map}
 use Rattle.al_expr_grammar.specs.Chunks.{opens, before_opening, with_opening, chunks_within, chunks_of, no_chunks}
 use Rattle.al_scalar.specs.Scalar.{text_of}
-use Rattle.al_tree_shape.specs.Faults.{has_chunk}
+use Rattle.al_tree.specs.Faults.{has_chunk}
 use Rattle.al_types.specs.Scopes.{Scope}
 use Rattle.al_check_places.specs.Places.{Place}
 use Rattle.al_check_expressions.specs.Contents.{chunked_faults, content_faults, moved, place_faults}

@@ -14,7 +14,7 @@ use Rattle.al_expr_grammar.specs.Tree.{Tree}
 use Rattle.al_types.specs.Scopes.{Scope}
 use Rattle.al_types.specs.Types.{Type', is_collection}
 use Rattle.al_meaning.specs.Meaning.{faults_in, meaning_of, type_in}
-use Rattle.al_tree_shape.specs.Faults.{has_chunk}
+use Rattle.al_tree.specs.Faults.{has_chunk}
 use Rattle.al_check_places.specs.Places.{Place}
 use Rattle.al_check_expressions.specs.Spelled.{tree_of_content}
 

@@ -12,13 +12,13 @@ use Rattle.al_yaml_tree.specs.Node.{Node, Nodes, Entries, scalar, sequence, mapp
 use Rattle.al_yaml_tree.specs.Spans.{AreLaid, EntriesLaid, IsLaid}
 use Rattle.al_yaml_tree.specs.Texts.{EntriesHaveTexts, HasTexts, HaveTexts}
 use Rattle.al_yaml_tree.specs.View.{view}
-use Rattle.al_tree_shape.specs.Values.{entries_at, member_of}
-use Rattle.al_tree_shape.specs.declared.values.Member.{Member}
+use Rattle.al_tree.specs.Values.{entries_at, member_of}
+use Rattle.al_tree.specs.declared.values.Member.{Member}
 use Rattle.al_tree.specs.declared.files.FileKind.{FileKind}
 use Rattle.al_check_expressions.proofs.Places.{readable}
 use Rattle.al_check_interfaces.specs.declared.interfaces.Interface.{Interface}
-use Rattle.al_check_uses.specs.Uses.{Call, calls_in, target_in}
-use Rattle.al_check_uses.proofs.Parts.{IsKept, calls_kept, entries_kept}
+use Rattle.al_check_interfaces.specs.Uses.{Call, calls_in, target_in}
+use Rattle.al_check_interfaces.proofs.Parts.{IsKept, calls_kept, entries_kept}
 use Rattle.al_check_calls.specs.Private.AnswerViews.{answered_of}
 use Rattle.al_session_folder.specs.declared.lint.Target.{Target}
 use Rattle.al_check_calls.specs.Answers.{Answered, answered, answered_by, first_answer}

@@ -9,11 +9,11 @@ use Rattle.al_session_folder.specs.Meaning.{AreAnswers}
 use Rattle.al_session_folder.specs.declared.lint.Target.{Target}
 use Rattle.al_scalar.specs.Scalar.{Scalar}
 use Rattle.al_yaml_tree.specs.Node.{Node}
-use Rattle.al_tree_shape.specs.Values.{text_at}
+use Rattle.al_tree.specs.Values.{text_at}
 use Rattle.al_tree.specs.declared.files.FileKind.{FileKind}
 use Rattle.al_check_interfaces.specs.declared.interfaces.Interface.{Interface}
-use Rattle.al_check_uses.specs.Forms.{form_by}
-use Rattle.al_check_uses.specs.Uses.{Call, Site, call_at, call_by, calls_in, sites_in, target_in, targets_of}
+use Rattle.al_check_interfaces.specs.Forms.{form_by}
+use Rattle.al_check_interfaces.specs.Uses.{Call, Site, call_at, call_by, calls_in, sites_in, target_in, targets_of}
 use Rattle.al_check_calls.specs.Answers.{Answered, answered, answered_by, first_answer}
 use Rattle.al_check_calls.specs.CallFaults.{caller_of}
 use Rattle.al_check_calls.specs.Private.AnswerViews.{answered_of}

@@ -6,7 +6,7 @@ use Rattle.al_base.specs.Limits.{longest_text}
 use Rattle.al_scalar.specs.Scalar.{Scalar, text_of}
 use Rattle.al_types.specs.Types.{Type'}
 use Rattle.al_yaml_tree.specs.Node.{Node, Nodes, Entries, scalar, sequence, mapping, no_nodes, item, no_entries, entry, span_of}
-use Rattle.al_tree_shape.specs.Keys.{key_text}
+use Rattle.al_tree.specs.Keys.{key_text}
 use Rattle.al_tree.specs.declared.files.FileKind.{FileKind}
 use Rattle.al_tree.specs.declared.files.FileKind.TheVariants as kind
 use Rattle.al_check_places.specs.Places.{Place, place_at}
@@ -16,7 +16,7 @@ use Rattle.al_check_contexts.specs.Contexts.{Known}
 use Rattle.al_check_contexts.specs.Scopes.{scope_at}
 use Rattle.al_check_expressions.specs.FileExpressions.{expression_faults}
 use Rattle.al_check_interfaces.specs.declared.interfaces.Interface.{Interface}
-use Rattle.al_check_uses.specs.Uses.{calls_in}
+use Rattle.al_check_interfaces.specs.Uses.{calls_in}
 use Rattle.al_check_calls.specs.Answers.{Answered, Typing, answered, answered_faults}
 use Rattle.al_check_calls.specs.Outputs.{outputs_behind}
 use Rattle.al_check_file_calls.specs.Types.{scalar_type}

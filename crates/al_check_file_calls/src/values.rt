@@ -9,7 +9,7 @@ ghost use Rattle.al_check_file_calls.specs.FileCalls as file_calls;
 ghost use Rattle.al_check_file_calls.specs.FileCalls.{AreShort, type_in_job, typing};
 ghost use Rattle.al_check_calls.specs.Answers.{values_in};
 ghost use Rattle.al_check_places.specs.Places.{place_of};
-ghost use Rattle.al_tree_shape.specs.Values.{member_of};
+ghost use Rattle.al_tree.specs.Values.{member_of};
 ghost use Rattle.al_types.specs.TypeViews.{ty_of};
 ghost use Rattle.al_yaml_tree.specs.View.{view};
 
@@ -19,7 +19,7 @@ use al_check_contexts::{Env, File};
 use al_check_expressions::go_to;
 use al_check_places::{Place, Position, Section, Seen, available};
 use al_scalar::Scalar;
-use al_tree_shape::{Member, key_text};
+use al_tree::{Member, key_text};
 use al_types::Ty;
 use al_yaml_tree::Node;
 use std::alloc::{AllocError, Global};

@@ -1,3 +1,8 @@
+pub mod Inside
+pub mod Parts
+pub mod Cuts
+pub mod Paths
+pub mod CallLists
 pub mod Exact
 pub mod Places
 pub mod Positions

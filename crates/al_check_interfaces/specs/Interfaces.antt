@@ -9,8 +9,8 @@ use Rattle.al_scalar.specs.Scalar.{Scalar, text_of}
 use Rattle.al_base.specs.Names.{same_name}
 use Rattle.al_yaml_tree.specs.Access.{scalar_in}
 use Rattle.al_yaml_tree.specs.Node.{Node, scalar, sequence, mapping}
-use Rattle.al_tree_shape.specs.Keys.{key_of}
-use Rattle.al_tree_shape.specs.Values.{text_at, texts_in, value_at}
+use Rattle.al_tree.specs.Keys.{key_of}
+use Rattle.al_tree.specs.Values.{text_at, texts_in, value_at}
 use Rattle.al_tree.specs.declared.files.FileKind.{FileKind}
 use Rattle.al_tree.specs.declared.files.FileKind.TheVariants as kind
 use Rattle.al_tree_declarations.specs.Declarations.{declared_below, has_value, is_composite, names_of}

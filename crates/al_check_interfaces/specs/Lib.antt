@@ -1,5 +1,9 @@
+pub mod Forms
+pub mod Uses
+pub mod Kept
+pub mod Laws
+pub mod Private
 pub mod Interfaces
 pub mod Parameters
 pub mod Kinds
 pub mod Equality
-pub mod Private

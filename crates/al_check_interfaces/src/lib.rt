@@ -1,13 +1,23 @@
-//! What a file of the folder shows to the files that call it: its interface, whose equality is exact.
+//! What files of the folder show one another: a file's interface, whose equality is exact, and its calls, where a `uses` stands, what its
+//! text names, and which of them name a file of the folder.
 #![tactic(auto)]
 
+mod calls;
 mod equality;
+mod examples;
+mod forms;
 mod interfaces;
+mod laws;
 mod lists;
 mod signatures;
+mod sites;
 
 pub use al_tree_declarations::{Name, NameList};
+pub use calls::{Call, calls_by};
 pub use equality::equal_interfaces;
+pub use examples::rows;
 pub use interfaces::{Interface, Parameter, ParameterKind, Role, Signature};
+pub use laws::calls_of_trees;
 pub use lists::Parameters;
 pub use signatures::interface_of;
+pub use sites::{Site, caller_of, sites_in};

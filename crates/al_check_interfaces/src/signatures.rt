@@ -4,18 +4,17 @@ ghost use Rattle.std.specs.List.{list_any};
 ghost use Rattle.std.specs.Option.{option_map_or};
 ghost use Rattle.al_tree_declarations.specs.Declarations.{declared_in, names_of};
 ghost use Rattle.al_scalar.specs.Scalar.{text_of};
-ghost use Rattle.al_tree_shape.specs.Values.{member_of, scalar_node_of};
+ghost use Rattle.al_tree.specs.Values.{member_of, scalar_node_of};
 ghost use Rattle.al_yaml_tree.specs.View.{view};
 ghost use Rattle.al_check_interfaces.specs.Interfaces as interfaces;
 
 use crate::interfaces::{Interface, Parameter, Role, Signature};
 use crate::lists::Parameters;
 use al_base::is_same_name;
-use al_tree::FileKind;
+use al_tree::{FileKind, Member, ScalarNode, key_text, text_under, texts, value};
 use al_tree_declarations::{
     InputType, Name, NameList, declared_at, has_value, input_of, is_composite, value_below_three,
 };
-use al_tree_shape::{Member, ScalarNode, key_text, text_under, texts, value};
 use al_yaml_tree::Node;
 use std::alloc::{AllocError, Global};
 

@@ -8,7 +8,7 @@ use Rattle.std.specs.Str.{bytes_eq}
 use Rattle.al_check_places.specs.Availability.{any, begins, fits, key}
 use Rattle.al_check_places.specs.Places.{fits as fits_rule, has_expression, place_at, scalar_places, takes_scalars_only}
 use Rattle.al_scalar.specs.Scalar.{Scalar}
-use Rattle.al_tree_shape.specs.Table.{Rule}
+use Rattle.al_tree.specs.Table.{Rule}
 use Rattle.al_base.specs.declared.faults.Span.{Span}
 use Rattle.al_tree.specs.declared.files.FileKind.{FileKind}
 use Rattle.al_check_places.specs.Private.Endings.{is_condition_key}

@@ -2,11 +2,11 @@
 use Rattle.std.proofs.Common.{◌≡◌, ℕ, Bool, true, false, List, [], ◌∷◌, ◌++◌, ap, refl, ◌∙◌, Option, Some, None}
 use Rattle.al_yaml_tree.specs.Node.{Node}
 use Rattle.al_yaml_tree.specs.View.{entries_of}
-use Rattle.al_tree_shape.specs.Faults.{Standing, unexpected, expected, clash_with, field_at, field_standing, first, if_it, other_standing, standing}
-use Rattle.al_tree_shape.specs.Keys.{key_of}
-use Rattle.al_tree_shape.specs.Names.{among}
-use Rattle.al_tree_shape.specs.Table.{Field, Keys, no_keys, free, keys, Others, wrong, wrong_beside, unchecked, events}
-use Rattle.al_tree_shape.specs.declared.table.Shape.{Shape}
+use Rattle.al_tree.specs.Faults.{Standing, unexpected, expected, clash_with, field_at, field_standing, first, if_it, other_standing, standing}
+use Rattle.al_tree.specs.Keys.{key_of}
+use Rattle.al_tree.specs.Names.{among}
+use Rattle.al_tree.specs.Table.{Field, Keys, no_keys, free, keys, Others, wrong, wrong_beside, unchecked, events}
+use Rattle.al_tree.specs.declared.table.Shape.{Shape}
 use Rattle.al_tree.specs.declared.files.FileKind.{FileKind}
 use Rattle.al_check_places.specs.Places.{Place, entry_places, placed, placed_entries}
 use Rattle.al_check_places.specs.Ways.{WayStep, under}

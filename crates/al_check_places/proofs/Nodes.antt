@@ -7,11 +7,11 @@ use Rattle.al_yaml_tree.specs.declared.node.Entry.{Entry}
 use Rattle.al_yaml_tree.specs.declared.node.Kind.TheVariants.{Mapping, Sequence}
 use Rattle.al_yaml_tree.specs.declared.node.Node.{Node}
 use Rattle.al_yaml_tree.proofs.ViewLemmas.{entries_again, view_mapping, view_sequence}
-use Rattle.al_tree_shape.specs.Faults.{refined}
-use Rattle.al_tree_shape.specs.Keys.{keys_in}
-use Rattle.al_tree_shape.specs.Names.{among}
-use Rattle.al_tree_shape.specs.Table.{rule}
-use Rattle.al_tree_shape.specs.declared.table.Shape.{Shape}
+use Rattle.al_tree.specs.Faults.{refined}
+use Rattle.al_tree.specs.Keys.{keys_in}
+use Rattle.al_tree.specs.Names.{among}
+use Rattle.al_tree.specs.Table.{rule}
+use Rattle.al_tree.specs.declared.table.Shape.{Shape}
 use Rattle.al_tree.specs.declared.files.FileKind.{FileKind}
 use Rattle.al_check_places.specs.Places.{placed, placed_entries, placed_items, rule_or_any}
 use Rattle.al_check_places.specs.Ways.{WayStep}

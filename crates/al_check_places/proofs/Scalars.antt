@@ -9,11 +9,11 @@ use Rattle.al_yaml_tree.specs.Access.{entries}
 use Rattle.al_yaml_tree.specs.Node.{Node, Nodes, Entries, scalar, sequence, mapping, no_nodes, item, no_entries, entry}
 use Rattle.al_yaml_tree.specs.Spans.{AreLaid, EntriesLaid, IsLaid}
 use Rattle.al_yaml_tree.specs.Texts.{EntriesHaveTexts, HasTexts, HaveTexts}
-use Rattle.al_tree_shape.specs.Faults.{Standing, repeated, unexpected, ignored, expected, refined, standing}
-use Rattle.al_tree_shape.specs.Keys.{key_text, keys_in}
-use Rattle.al_tree_shape.specs.Names.{among}
-use Rattle.al_tree_shape.specs.Table.{Keys, Rule, rule}
-use Rattle.al_tree_shape.specs.declared.table.Shape.{Shape}
+use Rattle.al_tree.specs.Faults.{Standing, repeated, unexpected, ignored, expected, refined, standing}
+use Rattle.al_tree.specs.Keys.{key_text, keys_in}
+use Rattle.al_tree.specs.Names.{among}
+use Rattle.al_tree.specs.Table.{Keys, Rule, rule}
+use Rattle.al_tree.specs.declared.table.Shape.{Shape}
 use Rattle.al_tree.specs.Files.{shape_of}
 use Rattle.al_tree.specs.declared.files.FileKind.{FileKind}
 use Rattle.al_check_places.specs.Laws.{Lies, PlacesHaveTexts, PlacesLie}

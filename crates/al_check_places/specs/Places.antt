@@ -7,13 +7,13 @@ use Rattle.al_base.specs.declared.faults.Span.{Span}
 use Rattle.al_scalar.specs.Scalar.{Scalar, text_of}
 use Rattle.al_yaml_tree.specs.Access.{entries}
 use Rattle.al_yaml_tree.specs.Node.{Node, Nodes, Entries, scalar, sequence, mapping, no_nodes, item, no_entries, entry}
-use Rattle.al_tree_shape.specs.Faults.{Standing, repeated, unexpected, ignored, expected, standing, refined, scalar_fault, has_chunk, is_null}
-use Rattle.al_tree_shape.specs.Keys.{key_text, keys_in}
-use Rattle.al_tree_shape.specs.Names.{among}
-use Rattle.al_tree_shape.specs.Table.{Rule, Keys, no_keys, free, keys, rule}
-use Rattle.al_tree_shape.specs.declared.table.Shape.{Shape}
-use Rattle.al_tree_shape.specs.declared.table.Shape.TheVariants.{Any}
-use Rattle.al_tree_shape.specs.declared.table.ScalarSet.TheVariants.{AnyScalar}
+use Rattle.al_tree.specs.Faults.{Standing, repeated, unexpected, ignored, expected, standing, refined, scalar_fault, has_chunk, is_null}
+use Rattle.al_tree.specs.Keys.{key_text, keys_in}
+use Rattle.al_tree.specs.Names.{among}
+use Rattle.al_tree.specs.Table.{Rule, Keys, no_keys, free, keys, rule}
+use Rattle.al_tree.specs.declared.table.Shape.{Shape}
+use Rattle.al_tree.specs.declared.table.Shape.TheVariants.{Any}
+use Rattle.al_tree.specs.declared.table.ScalarSet.TheVariants.{AnyScalar}
 use Rattle.al_tree.specs.Files.{shape_of}
 use Rattle.al_tree.specs.declared.files.FileKind.{FileKind}
 use Rattle.al_tree.specs.declared.files.FileKind.TheVariants as kind

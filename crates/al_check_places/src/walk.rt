@@ -1,9 +1,9 @@
 //! The walk that finds the scalars that have expressions.
 ghost use Rattle.std.specs.Prelude.{◌≡◌, ◌++◌, ◌∷◌, [], false, map, option_map, IfOk, IsTrue, OnOk};
-ghost use Rattle.al_tree_shape.specs.Faults.{standing_view};
-ghost use Rattle.al_tree_shape.specs.Keys.{key_of as key_in, keys_in};
-ghost use Rattle.al_tree_shape.specs.Names.{among};
-ghost use Rattle.al_tree_shape.specs.Table.{keys_view, rule_view, rule as table_rule};
+ghost use Rattle.al_tree.specs.Faults.{standing_view};
+ghost use Rattle.al_tree.specs.Keys.{key_of as key_in, keys_in};
+ghost use Rattle.al_tree.specs.Names.{among};
+ghost use Rattle.al_tree.specs.Table.{keys_view, rule_view, rule as table_rule};
 ghost use Rattle.al_check_places.specs.Availability.{row_of};
 ghost use Rattle.al_check_places.specs.Places as places;
 ghost use Rattle.al_check_places.specs.Places.{available_at, entry_places, place_of, placed, placed_entries};
@@ -17,10 +17,9 @@ use crate::table::{Row, available};
 use crate::ways::{WayStep, ends_as_condition, is_checked, is_condition, is_script, keys};
 use al_base::Span;
 use al_scalar::Scalar;
-use al_tree::FileKind;
-use al_tree_shape::{
-    KeySet, Keys, Rule, ScalarNode, ScalarSet, Shape, Standing, contains_chunk, is_null_scalar,
-    key_of, refine, rule_of, scalar_fault, standing_of,
+use al_tree::{
+    FileKind, KeySet, Keys, Rule, ScalarNode, ScalarSet, Shape, Standing, contains_chunk,
+    is_null_scalar, key_of, refine, rule_of, scalar_fault, standing_of,
 };
 use al_yaml_tree::{Entry, Kind, Node};
 use std::alloc::{AllocError, Global};
@@ -234,7 +233,7 @@ fn find_items<'a>(
 }
 
 /// Adds the places of the entries of a mapping that takes these keys.
-#[tactic(auto, using(al_tree_shape::proofs::KeyLemmas::among_more))]
+#[tactic(auto, using(al_tree::proofs::KeyLemmas::among_more))]
 #[cycle(finds)]
 fn find_entries<'a>(
     alloc: Global,

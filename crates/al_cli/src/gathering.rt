@@ -1,9 +1,9 @@
 //! The files that a run without a script lints: those that are asked for, and those that they call.
 
+use crate::Words;
 use crate::disk::{Disk, DiskError, Entry, SystemFolder, WORKFLOWS};
 use al_base::{Path, path_fault, shown};
 use al_check::Actions;
-use al_cli_words::Words;
 use al_session::{Refused, SessionBuilder, Target};
 use std::alloc::{AllocError, AllocFailed, Global};
 use std::collections::BTreeSet;

@@ -1,3 +1,4 @@
+pub mod EventSpans
 pub mod NeedLemmas
 pub mod Joining
 pub mod FileLemmas

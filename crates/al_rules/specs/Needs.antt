@@ -4,7 +4,7 @@ use Rattle.std.specs.List.{flat_map, filter_map, enumerate_from}
 use Rattle.al_base.specs.declared.codes.RuleCode.TheVariants.{NeedsCycle, UndefinedJob}
 use Rattle.al_base.specs.declared.faults.Fault.{Fault}
 use Rattle.al_yaml_tree.specs.Node.{Node}
-use Rattle.al_tree_shape.specs.Values.{texts_at}
+use Rattle.al_tree.specs.Values.{texts_at}
 use Rattle.al_base.specs.Names.{same_name}
 use Rattle.al_types.specs.Positions.{first_at}
 use Rattle.al_graph.specs.Graphs.{Walk}

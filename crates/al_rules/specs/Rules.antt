@@ -9,14 +9,14 @@ use Rattle.al_base.specs.declared.faults.Fault.{Fault}
 use Rattle.al_yaml_tree.specs.Access.{scalar_in}
 use Rattle.al_yaml_tree.specs.Node.{Node, span_of}
 use Rattle.al_yaml_tree.specs.View.{view}
-use Rattle.al_tree_shape.specs.Names.{among}
-use Rattle.al_tree_shape.specs.Values.{entries_at, items_at, key_at, text_at, text_below, value_at, value_below}
+use Rattle.al_tree.specs.Names.{among}
+use Rattle.al_tree.specs.Values.{entries_at, items_at, key_at, text_at, text_below, value_at, value_below}
 use Rattle.al_tree.specs.Files.{jobs_of}
 use Rattle.al_tree.specs.declared.files.FileKind.{FileKind}
 use Rattle.al_tree.specs.declared.files.FileKind.TheVariants as kind
 use Rattle.al_tree.specs.declared.files.Tree.{Tree}
 use Rattle.al_tree.specs.declared.files.Tree.TheVariants as tree
-use Rattle.al_rules_events.specs.Events.{on_faults}
+use Rattle.al_rules.specs.Events.{on_faults}
 use Rattle.al_rules_settings.specs.Ids.{ids_faults}
 use Rattle.al_rules_settings.specs.Matrix.{matrix_faults}
 use Rattle.al_rules.specs.Needs.{IsNeedsFaults, keys_of}

@@ -4,7 +4,7 @@ ghost use Rattle.al_rules.specs.Rules.{action_faults, composite_faults, hooks_fa
 ghost use Rattle.al_rules.specs.Rules.{scalar_of_value, using_faults};
 ghost use Rattle.al_rules_reports.specs.Private.Views.{named_of};
 ghost use Rattle.al_base.specs.Growth.{BeginsWith};
-ghost use Rattle.al_tree_shape.specs.Values.{entries_at, member_of, value_at};
+ghost use Rattle.al_tree.specs.Values.{entries_at, member_of, value_at};
 ghost use Rattle.al_yaml_tree.specs.View.{view};
 ghost use Rattle.std.specs.List.{flat_map};
 ghost use Rattle.std.specs.Prelude.{◌≡◌, ◌++◌, codes, map, option_and_then, option_map, OnOk};

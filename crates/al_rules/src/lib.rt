@@ -1,14 +1,18 @@
-//! Rules of workflows and actions that a file breaks by itself.
+//! Rules of workflows and actions that a file breaks by itself, those of what stands under `on` among them: events, activity types,
+//! filters, schedules, and the types of inputs.
 #![tactic(auto)]
 
 mod actions;
+mod events;
 mod examples;
 mod files;
 mod laws;
+mod names;
 mod needs;
 mod sections;
 mod workflows;
 
+pub use events::check_on;
 pub use examples::rows;
 pub use files::rules;
 pub use laws::spans;

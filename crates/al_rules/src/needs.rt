@@ -10,7 +10,7 @@ ghost use Rattle.al_rules_reports.specs.Private.Views.{named_of};
 ghost use Rattle.al_rules.specs.Private.Views.{need_of};
 ghost use Rattle.al_rules_reports.specs.Words.{of_key, of_scalar};
 ghost use Rattle.al_base.specs.Growth.{BeginsWith};
-ghost use Rattle.al_tree_shape.specs.Values.{member_of, scalar_node_of};
+ghost use Rattle.al_tree.specs.Values.{member_of, scalar_node_of};
 ghost use Rattle.std.specs.List.{filter_map};
 ghost use Rattle.std.specs.Prelude.{◌≡◌, ◌++◌, map, slice_index_or, IfOk, OnOk, None};
 

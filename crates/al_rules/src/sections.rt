@@ -4,7 +4,7 @@ ghost use Rattle.al_rules.specs.Rules.{container_faults, containers_faults, job_
 ghost use Rattle.al_rules.specs.Rules.{settings_faults, step_faults, step_ids, steps_faults};
 ghost use Rattle.al_rules_reports.specs.Private.Views.{named_of};
 ghost use Rattle.al_base.specs.Growth.{BeginsWith};
-ghost use Rattle.al_tree_shape.specs.Values.{entries_at, member_of, scalar_node_of, text_below, value_at, value_below};
+ghost use Rattle.al_tree.specs.Values.{entries_at, member_of, scalar_node_of, text_below, value_at, value_below};
 ghost use Rattle.al_yaml_tree.specs.View.{view};
 ghost use Rattle.std.specs.List.{flat_map};
 ghost use Rattle.std.specs.Option.{option_map_or};

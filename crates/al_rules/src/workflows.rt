@@ -1,17 +1,17 @@
 //! Workflows.
 
-ghost use Rattle.al_rules_events.specs.Events.{on_faults};
+ghost use Rattle.al_rules.specs.Events.{on_faults};
 ghost use Rattle.al_rules.specs.Rules.{AddsJobs, AddsWorkflow};
 ghost use Rattle.al_base.specs.Growth.{BeginsWith};
-ghost use Rattle.al_tree_shape.specs.Values.{member_of, value_at};
+ghost use Rattle.al_tree.specs.Values.{member_of, value_at};
 ghost use Rattle.al_yaml_tree.specs.View.{view};
 ghost use Rattle.std.specs.Option.{option_map_or};
 ghost use Rattle.std.specs.Prelude.{◌≡◌, ◌++◌, [], codes, map, OnOk};
 
+use crate::check_on;
 use crate::needs::{check_needs, keys_of};
 use crate::sections::{check_each_job, check_section};
 use al_base::Fault;
-use al_rules_events::check_on;
 use al_rules_settings::check_ids;
 use al_tree::{Member, members_under, value};
 use al_yaml_tree::Node;

@@ -14,9 +14,9 @@ use Rattle.al_yaml_tree.proofs.LaidLemmas.{laid-span}
 use Rattle.al_yaml_tree.specs.Access.{entries, mapping_in, nodes, scalar_in, sequence_in}
 use Rattle.al_yaml_tree.specs.Node.{Node, Nodes, Entries, scalar, sequence, mapping, no_nodes, item, no_entries, entry, span_of}
 use Rattle.al_yaml_tree.specs.Spans.{AreLaid, EntriesLaid, IsLaid}
-use Rattle.al_tree_shape.proofs.Lists.{firsts_kept}
-use Rattle.al_tree_shape.specs.Faults.{is_key, is_null, value_in}
-use Rattle.al_tree_shape.specs.Values.{entries_at, entries_in, firsts, items_at, items_in, key_at, key_in, text_at, text_below, text_in, texts_at, texts_in, unless_null, value_at, value_below}
+use Rattle.al_tree.proofs.Lists.{firsts_kept}
+use Rattle.al_tree.specs.Faults.{is_key, is_null, value_in}
+use Rattle.al_tree.specs.Values.{entries_at, entries_in, firsts, items_at, items_in, key_at, key_in, text_at, text_below, text_in, texts_at, texts_in, unless_null, value_at, value_below}
 use Rattle.al_rules_reports.specs.Words.{Named, about, fault, of_key, of_scalar, unless}
 
 abbrev pub Lies : ℕ → Fault → Type 0

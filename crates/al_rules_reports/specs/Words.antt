@@ -7,8 +7,8 @@ use Rattle.al_base.specs.declared.faults.Fault.{Fault}
 use Rattle.al_base.specs.declared.faults.Span.{Span}
 use Rattle.al_scalar.specs.Scalar.{Scalar, text_of}
 use Rattle.al_yaml_tree.specs.Node.{Node, span_of}
-use Rattle.al_tree_shape.specs.Keys.{key_text}
-use Rattle.al_tree_shape.specs.Names.{among}
+use Rattle.al_tree.specs.Keys.{key_text}
+use Rattle.al_tree.specs.Names.{among}
 
 -- a text of a file, and where it stands
 pub record Named : Type 0 where

@@ -9,8 +9,8 @@ use Rattle.al_base.specs.declared.faults.Span.{Span}
 use Rattle.al_rules_formats.specs.Names.{is_id, is_variable}
 use Rattle.al_scalar.specs.Scalar.{Scalar, text_of}
 use Rattle.al_yaml_tree.specs.Node.{Node, span_of}
-use Rattle.al_tree_shape.specs.Names.{among}
-use Rattle.al_tree_shape.specs.Values.{entries_at, entries_in, items_at, text_in, value_at, value_below}
+use Rattle.al_tree.specs.Names.{among}
+use Rattle.al_tree.specs.Values.{entries_at, entries_in, items_at, text_in, value_at, value_below}
 use Rattle.al_rules_settings.specs.Ids.{id_faults, ids_faults, repeated_faults, with_folded}
 use Rattle.al_rules_settings.specs.Matrix.{exclude_faults, exclude_keys, excludes_faults, is_dynamic, is_mapping, is_null_node, is_row_value, matrix_faults, row_faults, row_names, shape_faults}
 use Rattle.al_rules_settings.specs.Names.{permissions, scope_values, whole_values}

@@ -3,7 +3,7 @@ use Rattle.std.specs.Prelude.{ℕ, List, [], ◌∷◌, ◌++◌, not, map}
 use Rattle.std.specs.List.{flat_map}
 use Rattle.al_base.specs.declared.codes.RuleCode.TheVariants.{RepeatedId, WrongId}
 use Rattle.al_base.specs.declared.faults.Fault.{Fault}
-use Rattle.al_tree_shape.specs.Names.{among}
+use Rattle.al_tree.specs.Names.{among}
 use Rattle.al_rules_formats.specs.Names.{is_id}
 use Rattle.al_base.specs.Names.{folded}
 use Rattle.al_rules_reports.specs.Words.{Named, unless}

@@ -8,9 +8,9 @@ use Rattle.al_base.specs.declared.faults.Span.{Span}
 use Rattle.al_scalar.specs.Scalar.{text_of}
 use Rattle.al_yaml_tree.specs.Access.{nodes, scalar_in}
 use Rattle.al_yaml_tree.specs.Node.{Node, scalar, sequence, mapping, span_of}
-use Rattle.al_tree_shape.specs.Faults.{has_chunk, is_null}
-use Rattle.al_tree_shape.specs.Names.{among, is_combination_key}
-use Rattle.al_tree_shape.specs.Values.{entries_in, items_at}
+use Rattle.al_tree.specs.Faults.{has_chunk, is_null}
+use Rattle.al_tree.specs.Names.{among, is_combination_key}
+use Rattle.al_tree.specs.Values.{entries_in, items_at}
 use Rattle.al_base.specs.Names.{folded}
 use Rattle.al_rules_settings.specs.Ids.{with_folded}
 use Rattle.al_rules_reports.specs.Words.{Named, fault, of_key, unless}

@@ -9,9 +9,9 @@ use Rattle.al_base.specs.declared.faults.Span.{Span}
 use Rattle.al_scalar.specs.Scalar.{Scalar, text_of}
 use Rattle.al_yaml_tree.specs.Access.{scalar_in}
 use Rattle.al_yaml_tree.specs.Node.{Node, span_of}
-use Rattle.al_tree_shape.specs.Faults.{has_chunk, is_null}
-use Rattle.al_tree_shape.specs.Names.{among}
-use Rattle.al_tree_shape.specs.Values.{value_at, value_below, text_in, entries_in, entries_at}
+use Rattle.al_tree.specs.Faults.{has_chunk, is_null}
+use Rattle.al_tree.specs.Names.{among}
+use Rattle.al_tree.specs.Values.{value_at, value_below, text_in, entries_in, entries_at}
 use Rattle.al_rules_formats.specs.Chunks.{is_lone_chunk}
 use Rattle.al_rules_formats.specs.Names.{is_variable}
 use Rattle.al_rules_formats.specs.Texts.{has_part}

@@ -47,7 +47,7 @@ fn check_each(alloc: Global, ids: &[Named<'_>], out: &mut Vec<Fault>) -> Result<
 }
 
 /// Adds the ids that are repeated.
-#[tactic(auto, using(al_base::proofs::Growing::growth, al_tree_shape::proofs::KeyLemmas::among_more))]
+#[tactic(auto, using(al_base::proofs::Growing::growth, al_tree::proofs::KeyLemmas::among_more))]
 fn check_repeated(
     alloc: Global,
     ids: &[FoldedId<'_>],

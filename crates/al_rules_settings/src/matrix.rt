@@ -8,9 +8,9 @@ ghost use Rattle.al_rules_reports.specs.Private.Views.{named_of};
 ghost use Rattle.al_rules_settings.specs.Private.Views.{folded_id};
 ghost use Rattle.al_rules_reports.specs.Words.{of_key, unless};
 ghost use Rattle.al_base.specs.Growth.{BeginsWith};
-ghost use Rattle.al_tree_shape.specs.Keys.{holds};
-ghost use Rattle.al_tree_shape.specs.Names.{among};
-ghost use Rattle.al_tree_shape.specs.Values.{entries_in, member_of};
+ghost use Rattle.al_tree.specs.Keys.{holds};
+ghost use Rattle.al_tree.specs.Names.{among};
+ghost use Rattle.al_tree.specs.Values.{entries_in, member_of};
 ghost use Rattle.al_base.specs.declared.codes.RuleCode.TheVariants.{UnknownMatrixRow};
 ghost use Rattle.al_yaml_tree.specs.View.{view};
 ghost use Rattle.std.specs.List.{flat_map, list_all};
@@ -163,7 +163,7 @@ fn names_of(alloc: Global, rows: &[Member<'_>]) -> Result<Vec<Vec<u8>>, AllocErr
 }
 
 /// Texts as a set.
-#[tactic(auto, using(al_tree_shape::proofs::KeyLemmas::among_more))]
+#[tactic(auto, using(al_tree::proofs::KeyLemmas::among_more))]
 fn set_of(alloc: Global, names: &[Vec<u8>]) -> Result<KeySet<'_>, AllocError>
     ensures { IfOk result (λ s. holds s ≡ among (map (λ t. t.items) names.now)) }
 {

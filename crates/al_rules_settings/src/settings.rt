@@ -8,8 +8,8 @@ ghost use Rattle.al_rules_settings.specs.Settings.{permission_faults, permission
 ghost use Rattle.al_rules_settings.specs.Settings.{variable_faults};
 ghost use Rattle.al_base.specs.Growth.{BeginsWith};
 ghost use Rattle.al_scalar.specs.Scalar.{text_of};
-ghost use Rattle.al_tree_shape.specs.Faults.{is_null};
-ghost use Rattle.al_tree_shape.specs.Values.{member_of, scalar_node_of, value_below};
+ghost use Rattle.al_tree.specs.Faults.{is_null};
+ghost use Rattle.al_tree.specs.Values.{member_of, scalar_node_of, value_below};
 ghost use Rattle.al_yaml_tree.specs.View.{view};
 ghost use Rattle.std.specs.List.{flat_map};
 ghost use Rattle.std.specs.Prelude.{◌≡◌, ◌++◌, ◌||◌, [], ◌∷◌, codes, false, map, option_map, IfOk, OnOk};

@@ -25,7 +25,7 @@ use Rattle.al_session_folder.proofs.Places.{gap, length-folder_of}
 use Rattle.al_session_folder.proofs.Views.{after_same, all_in, bytes_kept, bytes_self, kept_at}
 use Rattle.al_session_folder.proofs.Affecting.{changed_sorted}
 use Rattle.al_session.specs.Builder.{AreLoaded}
-use Rattle.al_session_listing.specs.Checked.{AllChecked}
+use Rattle.al_session_folder.specs.Checked.{AllChecked}
 use Rattle.al_session.specs.Session.{AreLinted}
 use Rattle.al_session.specs.Private.Lists.{with_lists}
 use Rattle.al_session.proofs.Giving.{all_checked, folder_of-with_lists, kept-with_lists}

@@ -4,7 +4,7 @@ use Rattle.al_base.specs.Counted.{raised}
 use Rattle.al_session_folder.specs.Meaning.{IsUpTo, Meaning}
 use Rattle.al_session_folder.specs.Folder.{Folder, bytes_at, put_refusal}
 use Rattle.al_session_folder.specs.Kept.{Files, folder_of, Callers, IsIndex, AreKept}
-use Rattle.al_session_listing.specs.Checked.{AllChecked}
+use Rattle.al_session_folder.specs.Checked.{AllChecked}
 
 -- What contracts see of a session: its folder, and its linter's two counts.
 pub record SessionState : Type 0 where

@@ -9,7 +9,7 @@ ghost use Rattle.al_session_folder.specs.Folder.{bytes_at, paths_of, put_refusal
 ghost use Rattle.al_session_folder.specs.Kept.{folder_of, AreKept};
 ghost use Rattle.al_session_folder.specs.Meaning.{IsUpTo};
 ghost use Rattle.al_session.specs.Builder.{AreLoaded};
-ghost use Rattle.al_session_listing.specs.Checked.{AllChecked};
+ghost use Rattle.al_session_folder.specs.Checked.{AllChecked};
 
 use crate::edit::{insert_file, read_file, replace_file, set_faults};
 use crate::refused::put_refused;

@@ -19,15 +19,17 @@ ghost use Rattle.al_session_folder.specs.Meaning.{IsUpTo};
 ghost use Rattle.al_base.specs.Counted.{raised};
 ghost use Rattle.al_session_folder.specs.Kept.{folder_of};
 ghost use Rattle.al_session_folder.specs.Missing.{missing_in};
-ghost use Rattle.al_session_listing.specs.Report.{status_of, report_of};
+ghost use Rattle.al_session_folder.specs.Report.{status_of, report_of};
 ghost use Rattle.al_session.specs.Session.{AreLinted, ReadsForPut};
 
 use crate::calls::{find_graph, found_graph};
 use crate::edit::{put_file, remove_file};
 use crate::refused::put_refused;
 use al_base::{Fault, Output, Path, Stop, path_fault};
-use al_session_folder::{CallGraph, Callers, Files, Lint, Paths, Refused, missing_paths};
-use al_session_listing::{find_loops, has_faults, has_loops, join_files, write_files};
+use al_session_folder::{
+    CallGraph, Callers, Files, Lint, Paths, Refused, find_loops, has_faults, has_loops, join_files,
+    missing_paths, write_files,
+};
 use indexmap::IndexMap;
 use std::alloc::{AllocError, Global};
 use std::io::Write;

@@ -1,5 +1,6 @@
 //! A folder of files that may call one another, as a session keeps it: what is asked of their linter, the files as they
-//! were read, the index of their callers, which of them a change affects, and which calls lead back to their own file.
+//! were read, the index of their callers, which of them a change affects, which calls lead back to their own file, and what a report and a
+//! status tell of each file.
 #![tactic(auto)]
 
 mod affected;
@@ -7,22 +8,26 @@ mod callers;
 mod calls;
 mod check;
 mod directions;
+mod joining;
 mod kept;
 mod lint;
 mod loops;
 mod missing;
 mod paths;
 mod place;
+mod report;
 mod same_calls;
 
 pub use affected::affected_paths;
 pub use callers::{drop_callers, index_calls, reindex};
 pub use calls::calls_of;
 pub use check::{check_path, check_paths};
+pub use joining::{find_loops, has_loops, join_files};
 pub use kept::{Callers, Calls, Files, KeptFile};
 pub use lint::{Lint, Refused, Site, Target};
 pub use loops::{CallGraph, call_graph, is_on_loop, loop_faults};
 pub use missing::missing_paths;
 pub use paths::Paths;
 pub use place::{file_number, place_in};
+pub use report::{has_faults, write_files};
 pub use same_calls::has_same_calls;

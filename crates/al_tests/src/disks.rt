@@ -1,7 +1,6 @@
 //! Which files a run takes from a disk, and in which order.
 
-use al_cli::{Disk, DiskError, Entry, load_from};
-use al_cli_words::Words;
+use al_cli::{Disk, DiskError, Entry, Words, load_from};
 use std::alloc::Global;
 use std::collections::BTreeSet;
 

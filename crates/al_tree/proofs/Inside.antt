@@ -7,8 +7,8 @@ use Rattle.al_base.specs.declared.faults.Fault.{Fault}
 use Rattle.al_base.proofs.FaultLists.{AllByRecursion-fault_list}
 use Rattle.al_yaml_tree.specs.Node.{Node}
 use Rattle.al_yaml_tree.specs.Spans.{IsInside}
-use Rattle.al_tree_shape.specs.Faults.{root_faults}
-use Rattle.al_tree_shape.proofs.Inside.{root_lies}
+use Rattle.al_tree.specs.Faults.{root_faults}
+use Rattle.al_tree.proofs.ShapeSpans.{root_lies}
 use Rattle.al_tree.specs.Files.{key_faults, shape_of}
 use Rattle.al_tree.specs.declared.files.FileKind.{FileKind}
 

@@ -1,1 +1,5 @@
+pub mod Lists
+pub mod KeyLemmas
+pub mod Shapes
+pub mod ShapeSpans
 pub mod Inside

@@ -4,10 +4,10 @@ use Rattle.al_base.specs.FaultLists.{fault_list}
 use Rattle.al_base.specs.declared.faults.Fault.{Fault}
 use Rattle.al_yaml_tree.specs.Node.{Node}
 use Rattle.al_yaml_tree.specs.View.{view}
-use Rattle.al_tree_shape.specs.Faults.{root_faults}
-use Rattle.al_tree_shape.specs.Values.{entries_at}
-use Rattle.al_tree_shape.specs.declared.table.Shape.{Shape}
-use Rattle.al_tree_shape.specs.declared.table.Shape.TheVariants as shape
+use Rattle.al_tree.specs.Faults.{root_faults}
+use Rattle.al_tree.specs.Values.{entries_at}
+use Rattle.al_tree.specs.declared.table.Shape.{Shape}
+use Rattle.al_tree.specs.declared.table.Shape.TheVariants as shape
 use Rattle.al_tree.specs.declared.files.FileKind.{FileKind}
 use Rattle.al_tree.specs.declared.files.FileKind.TheVariants as kind
 use Rattle.al_tree.specs.declared.files.Tree.{Tree}

@@ -1,7 +1,8 @@
-pub use Rattle.al_tree_shape.specs.Faults
-pub use Rattle.al_tree_shape.specs.Keys
-pub use Rattle.al_tree_shape.specs.Names
-pub use Rattle.al_tree_shape.specs.Table
-pub use Rattle.al_tree_shape.specs.Values
+pub mod Names
+pub mod Table
+pub mod Keys
+pub mod Faults
+pub mod Values
+pub mod Rows
 pub mod Files
 pub mod Kinds

@@ -1,14 +1,14 @@
 //! A document taken as a workflow or an action, and its faults of keys and shapes.
 
-ghost use Rattle.al_tree_shape.specs.Faults.{root_faults};
+ghost use Rattle.al_tree.specs.Faults.{root_faults};
 ghost use Rattle.al_base.specs.Growth.{SameSet};
-ghost use Rattle.al_tree_shape.specs.declared.table.Shape.TheVariants.{Action as ActionShape, Workflow as WorkflowShape};
+ghost use Rattle.al_tree.specs.declared.table.Shape.TheVariants.{Action as ActionShape, Workflow as WorkflowShape};
 ghost use Rattle.al_tree.specs.Files.{key_faults, kind_in, root_of, shape_of};
 ghost use Rattle.al_yaml_tree.specs.View.{view};
 ghost use Rattle.std.specs.Prelude.{◌≡◌, IfOk};
 
+use crate::{Shape, shape_faults};
 use al_base::{Fault, ordered};
-use al_tree_shape::{Shape, shape_faults};
 use al_yaml_tree::{Doc, Node};
 use std::alloc::{AllocError, Global};
 

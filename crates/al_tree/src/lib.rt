@@ -1,17 +1,32 @@
 //! Workflows and actions: which files are, their trees, and what in a tree breaks the syntax.
 //!
-//! The table of the syntax, and what stands under a key of any node (`text_under(step, "shell")`), are those of `al_tree_shape`, which this
-//! crate hands on.
+//! The syntax is a table of sections (`rule_of`); `text_under(step, "shell")` is what stands under a key of any node.
 #![tactic(auto)]
 
+mod check;
+mod entries;
+mod examples;
 mod files;
+mod keys;
 mod kinds;
+mod names;
+mod reports;
+mod scalars;
+mod sections;
+mod standings;
+mod table;
+mod values;
 
-pub use al_tree_shape::{
-    Clash, KeySet, Keys, Member, Need, Others, Row, Rule, ScalarNode, ScalarSet, Shape,
-    contains_chunk, is_among, is_combination_key, is_event, is_null_scalar, items, items_under,
-    key, key_of, key_text, members, members_under, rule_of, shape_faults, text, text_under, texts,
+pub use check::shape_faults;
+pub use examples::rows;
+pub use files::{Action, FileKind, Tree, Workflow, document_faults, read_action, read_workflow};
+pub use keys::{KeySet, key_of, key_text};
+pub use kinds::{file_kind, is_action, is_workflow, is_workflow_name};
+pub use names::{is_among, is_combination_key, is_event};
+pub use scalars::{contains_chunk, is_null_scalar, scalar_fault};
+pub use standings::{Standing, refine, standing_of};
+pub use table::{Clash, Keys, Need, Others, Row, Rule, ScalarSet, Shape, rule_of};
+pub use values::{
+    Member, ScalarNode, items, items_under, key, members, members_under, text, text_under, texts,
     texts_under, value,
 };
-pub use files::{Action, FileKind, Tree, Workflow, document_faults, read_action, read_workflow};
-pub use kinds::{file_kind, is_action, is_workflow, is_workflow_name};

@@ -11,7 +11,7 @@ use Rattle.std.proofs.lemmas.Bool.Decides.{Decides-like, same_from_decides}
 use Rattle.std.proofs.lemmas.List.{nil_from_length}
 use Rattle.std.proofs.lemmas.Map.Text.{is_eq-slice_cmp}
 use Rattle.std.proofs.lemmas.Slice.Eq.{bytes_eq-Decides}
-use Rattle.al_tree_shape.proofs.KeyLemmas.{or_comm}
+use Rattle.al_tree.proofs.KeyLemmas.{or_comm}
 use Rattle.al_base.specs.Names.{folded, same_name}
 use Rattle.al_tree_declarations.specs.Declarations.{named_among}
 use Rattle.al_tree_declarations.specs.Private.NameSets.{and_name, holds}

@@ -7,8 +7,8 @@ use Rattle.al_scalar.specs.Scalar.{text_of}
 use Rattle.al_base.specs.Names.{same_name}
 use Rattle.al_yaml_tree.specs.Access.{scalar_in}
 use Rattle.al_yaml_tree.specs.Node.{Node}
-use Rattle.al_tree_shape.specs.Keys.{key_of}
-use Rattle.al_tree_shape.specs.Values.{entries_in, items_at, value_at, value_below}
+use Rattle.al_tree.specs.Keys.{key_of}
+use Rattle.al_tree.specs.Values.{entries_in, items_at, value_at, value_below}
 
 -- one of these texts is this name, but for ASCII case
 abbrev pub named_among : List (List ℕ) → List ℕ → Bool

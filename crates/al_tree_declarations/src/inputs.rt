@@ -5,7 +5,7 @@ ghost use Rattle.al_tree_declarations.specs.Inputs.{input_named};
 ghost use Rattle.al_types.specs.TypeViews.{ty_of};
 ghost use Rattle.al_yaml_tree.specs.View.{view};
 
-use al_tree_shape::text_under;
+use al_tree::text_under;
 use al_types::Ty;
 use al_yaml_tree::Node;
 

@@ -2,11 +2,11 @@
 ghost use Rattle.std.specs.Prelude.{◌≡◌, [], map, option_map, IfOk};
 ghost use Rattle.std.specs.Option.{option_map_or};
 ghost use Rattle.al_tree_declarations.specs.Declarations as declarations;
-ghost use Rattle.al_tree_shape.specs.Values.{member_of};
+ghost use Rattle.al_tree.specs.Values.{member_of};
 ghost use Rattle.al_yaml_tree.specs.View.{view};
 
 use crate::name_sets::NameSet;
-use al_tree_shape::{Member, key_text, members};
+use al_tree::{Member, key_text, members};
 use al_yaml_tree::Node;
 use std::alloc::{AllocError, Global};
 

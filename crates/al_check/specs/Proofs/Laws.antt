@@ -4,7 +4,7 @@ use Rattle.std.specs.List.{AllByRecursion, cons_option, flat_map}
 use Rattle.std.proofs.Common.{ap, refl}
 use Rattle.std.proofs.lemmas.List.Elements.{recursion_from_All}
 use Rattle.al_scalar.specs.Taken as yaml
-use Rattle.al_tree_shape.proofs.Inside.{root_lies}
+use Rattle.al_tree.proofs.ShapeSpans.{root_lies}
 use Rattle.std.specs.List.Sorted.{IsStrictlySortedBy}
 use Rattle.al_base.proofs.FaultLists.{AllByRecursion-fault_list, IsStrictlySortedBy-fault_list}
 use Rattle.al_base.specs.FaultLists.{fault_cmp}
@@ -22,10 +22,10 @@ use Rattle.al_check_expressions.proofs.Inside.{expression_faults_lie}
 use Rattle.al_check_expressions.specs.FileExpressions.{expression_faults}
 use Rattle.al_base.proofs.Elements.{each_of}
 use Rattle.al_base.specs.declared.codes.CallCode.TheVariants.{LeadsBack}
-use Rattle.al_check_uses.specs.Uses.{Call, calls_in, loop_faults, target_in, targets_of, that_uses, wrong_by, wrong_uses}
-use Rattle.al_check_uses.specs.declared.forms.Form.{Form}
-use Rattle.al_check_uses.specs.declared.forms.Form.TheVariants.{Local, Other, Wrong}
-use Rattle.al_check_uses.proofs.Inside.{calls_lie}
+use Rattle.al_check_interfaces.specs.Uses.{Call, calls_in, loop_faults, target_in, targets_of, that_uses, wrong_by, wrong_uses}
+use Rattle.al_check_interfaces.specs.declared.forms.Form.{Form}
+use Rattle.al_check_interfaces.specs.declared.forms.Form.TheVariants.{Local, Other, Wrong}
+use Rattle.al_check_interfaces.proofs.Inside.{calls_lie}
 use Rattle.al_session_folder.specs.declared.lint.Target.{Target}
 use Rattle.al_check.specs.Calling.{file_targets, targets_given}
 use Rattle.al_check.specs.Sites.{file_sites, sites_given}
@@ -34,7 +34,7 @@ use Rattle.al_check_calls.specs.Answers.{Answered, answered}
 use Rattle.al_check_file_calls.specs.FileCalls.{behind_faults, call_faults, known_by, typing}
 use Rattle.al_meaning.proofs.Inside.{both_lie}
 use Rattle.al_rules.proofs.Lying.{rules_lie}
-use Rattle.al_tree_shape.specs.Faults.{root_faults}
+use Rattle.al_tree.specs.Faults.{root_faults}
 use Rattle.al_check.specs.FileFaults.{Answers, document_faults, faults_given, file_faults, found_in, own_faults, printed, wrong_uses_in}
 use Rattle.al_check.specs.RuleFaults.{rule_faults}
 use Rattle.al_check.specs.Proofs.RuleSets.{rules_hold}

@@ -2,11 +2,11 @@
 use Rattle.std.specs.Prelude.{ℕ, List, [], ◌∷◌, drop, Option, option_and_then, option_map, slice_get}
 use Rattle.std.specs.List.{cons_option}
 use Rattle.std.specs.Option.{option_copied}
-use Rattle.al_tree_shape.specs.Values.{member_of, scalar_node_of}
+use Rattle.al_tree.specs.Values.{member_of, scalar_node_of}
 use Rattle.al_types.specs.TypeViews.{ty_of}
 use Rattle.al_check_interfaces.specs.declared.interfaces.Interface.{Interface}
-use Rattle.al_check_uses.specs.Private.CallViews.{site_of}
-use Rattle.al_check_uses.specs.Uses.{Call, Site, call_at, call_by}
+use Rattle.al_check_interfaces.specs.Private.CallViews.{site_of}
+use Rattle.al_check_interfaces.specs.Uses.{Call, Site, call_at, call_by}
 use Rattle.al_check_calls.specs.Answers.{Answered, answered_by, first_answer}
 use Rattle.al_check_calls.specs.CallFaults.{Given}
 use Rattle.al_check_calls.specs.Private.Comparing.{Comparison, GivenName}

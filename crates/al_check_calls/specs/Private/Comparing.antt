@@ -8,7 +8,7 @@ use Rattle.al_base.specs.contracts.faults.SpanPartialEq.TheImpl as span
 use Rattle.al_base.specs.declared.codes.Caller.{Caller}
 use Rattle.al_base.specs.declared.faults.Fault.{Fault}
 use Rattle.al_yaml_tree.specs.Node.{Node, span_of}
-use Rattle.al_tree_shape.specs.Keys.{key_of}
+use Rattle.al_tree.specs.Keys.{key_of}
 use Rattle.al_check_interfaces.specs.Kinds.{parameters_of}
 use Rattle.al_check_interfaces.specs.Parameters.{mandatory_of}
 use Rattle.al_check_interfaces.specs.contracts.interfaces.ParameterKindPartialEq.TheImpl as kinds
@@ -17,7 +17,7 @@ use Rattle.al_check_interfaces.specs.declared.interfaces.Parameter.{Parameter}
 use Rattle.al_check_interfaces.specs.declared.interfaces.ParameterKind.{ParameterKind}
 use Rattle.al_check_interfaces.specs.declared.interfaces.ParameterKind.TheVariants.{Input, Secret}
 use Rattle.al_check_interfaces.specs.declared.interfaces.Signature.{Signature}
-use Rattle.al_check_uses.specs.Uses.{Call}
+use Rattle.al_check_interfaces.specs.Uses.{Call}
 use Rattle.al_check_calls.specs.Answers.{Answered, Typing, values_in}
 use Rattle.al_check_calls.specs.CallFaults.{called_name, caller_of, fault, given_by, given_names, missing_code, missing_names, name_faults}
 use Rattle.al_check_calls.specs.CallFaults.{names_against, signature_for, undefined_name, undefined_names, uses_faults, value_faults}

@@ -8,7 +8,7 @@ use Rattle.al_base.specs.declared.faults.Span.{Span}
 use Rattle.al_scalar.specs.declared.styles.Class.TheVariants.{Bool as BoolClass, Int}
 use Rattle.al_types.specs.Types.{Type', Any}
 use Rattle.al_yaml_tree.specs.Node.{Node, sequence, mapping, no_nodes, item, no_entries, entry}
-use Rattle.al_tree_shape.specs.Rows.Files.{at, plain, word}
+use Rattle.al_tree.specs.Rows.Files.{at, plain, word}
 use Rattle.al_tree.specs.declared.files.FileKind.{FileKind}
 use Rattle.al_tree.specs.declared.files.FileKind.TheVariants as kind
 use Rattle.al_check_interfaces.specs.Interfaces.{interface_of}

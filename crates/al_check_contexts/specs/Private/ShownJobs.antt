@@ -4,7 +4,7 @@ use Rattle.al_types.specs.Private.TypeParts.{field_of}
 use Rattle.al_types.specs.Strings.{named_strings}
 use Rattle.al_types.specs.Types.{Type'}
 use Rattle.al_yaml_tree.specs.Node.{Node}
-use Rattle.al_tree_shape.specs.Values.{entries_at}
+use Rattle.al_tree.specs.Values.{entries_at}
 use Rattle.al_tree_declarations.specs.Declarations.{names_of}
 use Rattle.al_check_contexts.specs.Contexts.{Known, call_outputs, job_field}
 use Rattle.al_types.specs.Puts.{Typed}

@@ -2,7 +2,7 @@
 use Rattle.std.specs.Prelude.{◌≡◌, map, option_map}
 use Rattle.al_types.specs.TypeViews.{ty_of}
 use Rattle.al_yaml_tree.specs.View.{view}
-use Rattle.al_tree_shape.specs.Values.{member_of}
+use Rattle.al_tree.specs.Values.{member_of}
 use Rattle.al_tree.specs.Files.{jobs_of}
 use Rattle.al_check_places.specs.Positions.{before, section_view}
 use Rattle.al_check_contexts.specs.Answered.{known_of}

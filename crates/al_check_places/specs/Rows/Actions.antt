@@ -3,7 +3,7 @@ use Rattle.std.specs.Prelude.{[], ◌∷◌, codes}
 use Rattle.al_scalar.specs.declared.styles.Class.TheVariants.{Null, Bool as BoolClass, Str}
 use Rattle.al_scalar.specs.declared.styles.Style.TheVariants.{SingleQuoted, DoubleQuoted}
 use Rattle.al_yaml_tree.specs.Node.{Node, sequence, mapping, no_nodes, item, no_entries, entry}
-use Rattle.al_tree_shape.specs.Rows.Files.{at}
+use Rattle.al_tree.specs.Rows.Files.{at}
 use Rattle.al_check_places.specs.Rows.Words.{run, text, plain, word}
 
 abbrev pub file_2 : Node

@@ -4,8 +4,8 @@ use Rattle.al_base.specs.declared.codes.Code.TheVariants as code
 use Rattle.al_base.specs.declared.codes.RuleCode.{RuleCode}
 use Rattle.al_base.specs.declared.faults.Fault.{Fault}
 use Rattle.al_base.specs.declared.faults.Span.{Span}
-use Rattle.al_tree_shape.specs.declared.values.ScalarNode.{ScalarNode}
-use Rattle.al_tree_shape.specs.Values.{scalar_node_of}
+use Rattle.al_tree.specs.declared.values.ScalarNode.{ScalarNode}
+use Rattle.al_tree.specs.Values.{scalar_node_of}
 use Rattle.al_rules_reports.specs.Words.{Named, of_scalar}
 use Rattle.al_rules_reports.specs.declared.reports.Named as rust
 

@@ -1,7 +1,7 @@
 use Rattle.std.proofs.Common.{◌++◌, ◌∙◌, ap, ◌≡◌, ◌≤◌, length, sym, subst}
 use Rattle.std.specs.Prelude.{Ok}
 use Rattle.al_base.specs.Growth.{SameSet}
-use Rattle.al_tree_shape.specs.Faults.{root_faults}
+use Rattle.al_tree.specs.Faults.{root_faults}
 use Rattle.al_yaml_tree.proofs.LaidLemmas.{laid-higher}
 use Rattle.al_yaml_tree.specs.Document.{tree_of}
 use Rattle.al_yaml_tree.specs.Spans.{AreFrom, IsInside, IsLaid}

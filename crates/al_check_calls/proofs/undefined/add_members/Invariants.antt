@@ -1,5 +1,5 @@
 use Rattle.std.proofs.Common.{◌≡◌, ◌++◌, drop, map}
-use Rattle.al_tree_shape.specs.Values.{member_of}
+use Rattle.al_tree.specs.Values.{member_of}
 use Rattle.al_check_calls.specs.Private.AnswerViews.{compared_of, name_of}
 use Rattle.al_check_calls.specs.Private.Comparing.{name_by}
 use Rattle.al_check_calls.proofs.undefined.add_members.Given as goal

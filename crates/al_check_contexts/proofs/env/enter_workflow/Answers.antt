@@ -1,6 +1,6 @@
 use Rattle.std.proofs.Common.{ap, ◌∙◌, map, option_map, rules}
 use Rattle.al_types.specs.TypeViews.{ty_of}
-use Rattle.al_tree_shape.specs.Values.{member_of}
+use Rattle.al_tree.specs.Values.{member_of}
 use Rattle.al_check_places.specs.Positions.{section_view}
 use Rattle.al_yaml_tree.specs.View.{view}
 use Rattle.al_check_contexts.specs.Contexts.{needs_type_of, type_in_job}

@@ -1,5 +1,5 @@
 use Rattle.std.proofs.Common.{ap, sym, ◌∙◌, option_map}
-use Rattle.al_tree_shape.specs.Values.{member_of}
+use Rattle.al_tree.specs.Values.{member_of}
 use Rattle.al_check_contexts.specs.Contexts.{type_in_job}
 use Rattle.al_check_contexts.specs.Fixed.{strategy_type}
 use Rattle.al_check_contexts.proofs.Sections.{kept_strategy}

@@ -1,6 +1,6 @@
 use Rattle.std.proofs.Common.{◌≡◌, ◌++◌, drop, map}
 use Rattle.al_types.specs.Private.TypeParts.{field_of}
-use Rattle.al_tree_shape.specs.Values.{member_of}
+use Rattle.al_tree.specs.Values.{member_of}
 use Rattle.al_check_contexts.specs.Inputs.{input_field}
 use Rattle.al_check_contexts.proofs.inputs.input_fields.Given as goal
 

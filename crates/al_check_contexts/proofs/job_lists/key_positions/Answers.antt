@@ -2,8 +2,8 @@ use Rattle.std.proofs.Common.{◌≡◌, ◌∙◌, ap, rules}
 use Rattle.std.specs.Str.{bytes_eq}
 use Rattle.al_types.specs.Private.Positions.{and_text_at, text_position}
 use Rattle.al_types.proofs.PositionLemmas.{position_next}
-use Rattle.al_tree_shape.specs.Keys.{key_of}
-use Rattle.al_tree_shape.specs.Values.{member_of}
+use Rattle.al_tree.specs.Keys.{key_of}
+use Rattle.al_tree.specs.Values.{member_of}
 use Rattle.al_check_contexts.proofs.job_lists.key_positions.Goals as goal
 
 pub loop-i-preserved : goal.loop-i-preserved

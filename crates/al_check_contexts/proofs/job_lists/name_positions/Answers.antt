@@ -1,8 +1,8 @@
 use Rattle.std.proofs.Common.{◌≡◌, ◌∙◌, ap, rules}
 use Rattle.al_types.specs.Private.Positions.{and_name_at, name_position}
 use Rattle.al_types.proofs.PositionLemmas.{position_next}
-use Rattle.al_tree_shape.specs.Keys.{key_of}
-use Rattle.al_tree_shape.specs.Values.{member_of}
+use Rattle.al_tree.specs.Keys.{key_of}
+use Rattle.al_tree.specs.Values.{member_of}
 use Rattle.al_base.specs.Names.{same_name}
 use Rattle.al_check_contexts.proofs.job_lists.name_positions.Goals as goal
 

@@ -1,6 +1,6 @@
 use Rattle.std.proofs.Common.{◌∙◌, [], ap, sym, arith, map}
 use Rattle.std.proofs.lemmas.List.{drop_all}
-use Rattle.al_tree_shape.specs.Values.{member_of}
+use Rattle.al_tree.specs.Values.{member_of}
 use Rattle.al_types.specs.Private.TypeParts.{field_of}
 use Rattle.al_types.specs.TypeViews.{ty_of}
 use Rattle.al_check_contexts.specs.Contexts.{job_field}

@@ -1,5 +1,5 @@
 use Rattle.std.proofs.Common.{◌≡◌, [], drop, map}
-use Rattle.al_tree_shape.specs.Values.{member_of}
+use Rattle.al_tree.specs.Values.{member_of}
 use Rattle.al_types.specs.TypeViews.{ty_of}
 use Rattle.al_check_contexts.specs.Contexts.{job_field}
 use Rattle.al_check_contexts.specs.Objects.{strictly}

@@ -1,6 +1,6 @@
 use Rattle.std.proofs.Common.{◌≡◌, [], drop, map}
 use Rattle.std.specs.List.{filter_map}
-use Rattle.al_tree_shape.specs.Values.{member_of}
+use Rattle.al_tree.specs.Values.{member_of}
 use Rattle.al_types.specs.Private.TypeParts.{field_of}
 use Rattle.al_check_contexts.specs.Matrix.{row_field}
 use Rattle.al_types.specs.Puts.{put_all, put_new}

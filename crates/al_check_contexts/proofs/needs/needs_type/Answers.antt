@@ -1,7 +1,7 @@
 use Rattle.std.proofs.Common.{map, ◌∙◌, [], ap, sym, arith}
 use Rattle.std.proofs.lemmas.List.{drop_all}
 use Rattle.std.specs.List.{filter_map}
-use Rattle.al_tree_shape.specs.Values.{member_of, scalar_node_of}
+use Rattle.al_tree.specs.Values.{member_of, scalar_node_of}
 use Rattle.al_types.specs.Puts.{firsts}
 use Rattle.al_types.specs.TypeViews.{ty_of}
 use Rattle.al_check_contexts.specs.Contexts.{needed_by}

@@ -1,6 +1,6 @@
 use Rattle.std.proofs.Common.{◌≡◌, [], drop, map}
 use Rattle.std.specs.List.{filter_map}
-use Rattle.al_tree_shape.specs.Values.{member_of, scalar_node_of}
+use Rattle.al_tree.specs.Values.{member_of, scalar_node_of}
 use Rattle.al_types.specs.TypeViews.{ty_of}
 use Rattle.al_check_contexts.specs.Contexts.{needed_by}
 use Rattle.al_check_contexts.specs.Objects.{strictly}

@@ -2,8 +2,8 @@ use Rattle.std.proofs.Common.{◌≡◌, sym, ap, ◌∙◌, map, Some}
 use Rattle.std.specs.Option.{option_to_list}
 use Rattle.al_types.proofs.PositionLemmas.{found_within}
 use Rattle.al_types.specs.TypeViews.{ty_of}
-use Rattle.al_tree_shape.specs.Keys.{key_of}
-use Rattle.al_tree_shape.specs.Values.{member_of}
+use Rattle.al_tree.specs.Keys.{key_of}
+use Rattle.al_tree.specs.Values.{member_of}
 use Rattle.al_base.specs.Names.{same_name}
 use Rattle.al_check_contexts.specs.Private.Grown.{with_fields}
 use Rattle.al_check_contexts.specs.Private.JobPositions.{named_at}

@@ -1,5 +1,5 @@
 use Rattle.std.proofs.Common.{◌≡◌, ◌++◌, drop, map}
-use Rattle.al_tree_shape.specs.Values.{member_of}
+use Rattle.al_tree.specs.Values.{member_of}
 use Rattle.al_tree_declarations.specs.Declarations.{names_of}
 use Rattle.al_check_contexts.proofs.objects.key_texts.Given as goal
 

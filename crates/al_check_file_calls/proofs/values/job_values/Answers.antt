@@ -3,7 +3,7 @@ use Rattle.std.specs.Prelude.{IfOk, codes}
 use Rattle.al_check_calls.specs.Private.AnswerViews.{given_of}
 use Rattle.al_check_calls.specs.CallFaults.{values_of}
 use Rattle.al_check_contexts.specs.Answered.{known_of}
-use Rattle.al_tree_shape.specs.Values.{entries_at, member_of}
+use Rattle.al_tree.specs.Values.{entries_at, member_of}
 use Rattle.al_yaml_tree.specs.View.{view}
 use Rattle.al_check_file_calls.specs.FileCalls.{type_in_job}
 use Rattle.al_check_file_calls.proofs.Short.{members_short}

@@ -2,7 +2,7 @@ use Rattle.std.proofs.Common.{◌≡◌, ap, sym, ◌∙◌, subst, IfOk, Some}
 use Rattle.std.specs.Option.{option_copied, option_map_or}
 use Rattle.al_check_contexts.specs.Answered.{known_of}
 use Rattle.al_check_contexts.specs.Scopes.{scope_at}
-use Rattle.al_tree_shape.specs.Values.{member_of}
+use Rattle.al_tree.specs.Values.{member_of}
 use Rattle.al_types.specs.Types.{Any}
 use Rattle.al_types.specs.TypeViews.{ty_of}
 use Rattle.al_yaml_tree.specs.Access.{scalar_in}

@@ -4,7 +4,7 @@ use Rattle.al_check_calls.specs.CallFaults.{values_of}
 use Rattle.al_check_contexts.specs.Answered.{known_of}
 use Rattle.al_check_contexts.specs.Private.Standing.{Stands}
 use Rattle.al_check_file_calls.specs.FileCalls.{type_in_job}
-use Rattle.al_tree_shape.specs.Values.{member_of}
+use Rattle.al_tree.specs.Values.{member_of}
 use Rattle.al_yaml_tree.specs.View.{view}
 use Rattle.al_check_file_calls.proofs.values.values_given.Given as goal
 

@@ -1,6 +1,6 @@
 use Rattle.std.proofs.Common.{◌≡◌, ◌++◌, drop, map}
-use Rattle.al_tree_shape.specs.Keys.{key_of}
-use Rattle.al_tree_shape.specs.Values.{member_of}
+use Rattle.al_tree.specs.Keys.{key_of}
+use Rattle.al_tree.specs.Values.{member_of}
 use Rattle.al_check_interfaces.proofs.signatures.names.Given as goal
 
 abbrev pub invariant-loop-member : goal.invariant-loop-member

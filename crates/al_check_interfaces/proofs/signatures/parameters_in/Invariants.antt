@@ -1,5 +1,5 @@
 use Rattle.std.proofs.Common.{◌≡◌, ◌++◌, drop, map}
-use Rattle.al_tree_shape.specs.Values.{member_of}
+use Rattle.al_tree.specs.Values.{member_of}
 use Rattle.al_check_interfaces.specs.Interfaces.{parameter}
 use Rattle.al_check_interfaces.proofs.signatures.parameters_in.Given as goal
 

@@ -1,11 +1,11 @@
 use Rattle.std.proofs.Common.{◌≡◌, ℕ, ◌+◌, List, [], ◌∷◌, ◌++◌, false, add-one, ap, append_assoc, drop, drop-cons, get_or, map, sym, take, ◌∙◌}
 use Rattle.std.proofs.lemmas.List.{map-append, map_more}
 use Rattle.al_yaml_tree.specs.View.{entries_of, entry_view}
-use Rattle.al_tree_shape.proofs.KeyLemmas.{among_more}
-use Rattle.al_tree_shape.specs.Faults.{refined, standing, standing_view}
-use Rattle.al_tree_shape.specs.Keys.{and_text, key_of, keys_in}
-use Rattle.al_tree_shape.specs.Names.{among}
-use Rattle.al_tree_shape.specs.Table.{keys_view, rule, rule_view}
+use Rattle.al_tree.proofs.KeyLemmas.{among_more}
+use Rattle.al_tree.specs.Faults.{refined, standing, standing_view}
+use Rattle.al_tree.specs.Keys.{and_text, key_of, keys_in}
+use Rattle.al_tree.specs.Names.{among}
+use Rattle.al_tree.specs.Table.{keys_view, rule, rule_view}
 use Rattle.al_check_places.specs.Places.{Place, entry_places, place_of, placed, placed_entries, rule_or_any}
 use Rattle.al_check_places.specs.Ways.{WayStep, step_of, under}
 use Rattle.al_check_places.proofs.Entries.{placed_next}

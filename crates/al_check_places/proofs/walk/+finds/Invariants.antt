@@ -1,8 +1,8 @@
 use Rattle.std.proofs.Common.{◌≡◌, ◌++◌, [], take, drop, map}
 use Rattle.al_yaml_tree.specs.View.{entries_of, entry_view, nodes_of, view}
-use Rattle.al_tree_shape.specs.Keys.{holds, keys_in}
-use Rattle.al_tree_shape.specs.Names.{among}
-use Rattle.al_tree_shape.specs.Table.{keys_view}
+use Rattle.al_tree.specs.Keys.{holds, keys_in}
+use Rattle.al_tree.specs.Names.{among}
+use Rattle.al_tree.specs.Table.{keys_view}
 use Rattle.al_check_places.specs.Places.{place_of, placed_entries, placed_items}
 use Rattle.al_check_places.specs.Ways.{step_of}
 use Rattle.al_check_places.proofs.walk.+finds.Given as goal

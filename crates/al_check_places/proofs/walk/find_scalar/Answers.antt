@@ -1,5 +1,5 @@
 use Rattle.std.proofs.Common.{◌++◌, ap, append-nil, map, sym, ◌∙◌}
-use Rattle.al_tree_shape.specs.Table.{rule}
+use Rattle.al_tree.specs.Table.{rule}
 use Rattle.al_check_places.specs.Places.{place_of, rule_or_any}
 use Rattle.al_check_places.specs.Ways.{step_of}
 use Rattle.al_check_places.proofs.Endings.{without_expression}

@@ -1,6 +1,6 @@
 use Rattle.std.proofs.Common.{ap, map, sym, ◌∙◌}
 use Rattle.al_scalar.specs.Scalar.{text_of}
-use Rattle.al_tree_shape.specs.Faults.{has_chunk}
+use Rattle.al_tree.specs.Faults.{has_chunk}
 use Rattle.al_check_places.specs.Ways.{conditions, is_one, keys_of, step_of}
 use Rattle.al_check_places.proofs.Endings.{only_a_condition}
 use Rattle.al_check_places.proofs.walk.may_have_expression.Goals as goal

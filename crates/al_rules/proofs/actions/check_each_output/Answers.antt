@@ -1,5 +1,5 @@
 use Rattle.std.proofs.Common.{◌≤◌, arith, length}
-use Rattle.al_tree_shape.specs.Values.{member_of}
+use Rattle.al_tree.specs.Values.{member_of}
 use Rattle.al_rules.specs.Rules.{output_faults}
 use Rattle.al_base.proofs.Growing.{begins_trans}
 use Rattle.al_rules.proofs.Turns.{added_all, added_next}

@@ -3,9 +3,9 @@ use Rattle.al_base.specs.Names.{same_name}
 use Rattle.al_types.specs.Private.Positions.{and_name_at, name_position}
 use Rattle.al_types.proofs.PositionLemmas.{position_next}
 use Rattle.al_rules_reports.specs.Words.{Named, of_key}
-use Rattle.al_tree_shape.specs.Keys.{key_of}
-use Rattle.al_tree_shape.specs.Values.{member_of}
-use Rattle.al_tree_shape.specs.declared.values.Member.{Member}
+use Rattle.al_tree.specs.Keys.{key_of}
+use Rattle.al_tree.specs.Values.{member_of}
+use Rattle.al_tree.specs.declared.values.Member.{Member}
 use Rattle.al_rules.proofs.needs.positions_by.Goals as goal
 
 pub loop-i-preserved : goal.loop-i-preserved

@@ -1,7 +1,7 @@
 use Rattle.std.proofs.Common.{◌≡◌, ◌++◌, drop, map}
 use Rattle.al_base.specs.Growth.{BeginsWith}
 use Rattle.std.specs.List.{flat_map}
-use Rattle.al_tree_shape.specs.Keys.{holds}
+use Rattle.al_tree.specs.Keys.{holds}
 use Rattle.al_base.specs.declared.codes.RuleCode.TheVariants.{UnknownMatrixRow}
 use Rattle.al_rules_settings.specs.Private.Views.{folded_id}
 use Rattle.al_rules_reports.specs.Words.{unless}

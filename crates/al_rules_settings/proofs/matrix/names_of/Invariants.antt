@@ -1,5 +1,5 @@
 use Rattle.std.proofs.Common.{◌≡◌, ◌++◌, drop, map}
-use Rattle.al_tree_shape.specs.Values.{member_of}
+use Rattle.al_tree.specs.Values.{member_of}
 use Rattle.al_rules_settings.specs.Matrix.{row_names}
 use Rattle.al_rules_settings.proofs.matrix.names_of.Given as goal
 

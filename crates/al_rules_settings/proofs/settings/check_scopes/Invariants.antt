@@ -1,7 +1,7 @@
 use Rattle.std.proofs.Common.{◌≡◌, ◌++◌, drop, map}
 use Rattle.al_base.specs.Growth.{BeginsWith}
 use Rattle.std.specs.List.{flat_map}
-use Rattle.al_tree_shape.specs.Values.{member_of}
+use Rattle.al_tree.specs.Values.{member_of}
 use Rattle.al_rules_settings.specs.Settings.{permission_faults}
 use Rattle.al_rules_settings.proofs.settings.check_scopes.Given as goal
 

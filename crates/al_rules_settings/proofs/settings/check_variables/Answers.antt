@@ -1,8 +1,8 @@
 use Rattle.std.proofs.Common.{◌++◌, ◌+◌, ap, append_assoc, append-nil, arith, drop, map, sym, ◌∙◌}
 use Rattle.std.proofs.lemmas.List.{at_drop_all}
 use Rattle.std.specs.List.{flat_map}
-use Rattle.al_tree_shape.proofs.Lists.{left_next}
-use Rattle.al_tree_shape.specs.Values.{member_of}
+use Rattle.al_tree.proofs.Lists.{left_next}
+use Rattle.al_tree.specs.Values.{member_of}
 use Rattle.al_rules_settings.specs.Settings.{variable_faults}
 use Rattle.al_base.proofs.Growing.{begins_trans}
 use Rattle.al_rules_settings.proofs.settings.check_variables.Goals as goal

@@ -1,7 +1,7 @@
 use Rattle.std.proofs.Common.{◌≡◌, ◌++◌, [], take, drop, map}
 use Rattle.al_tree_declarations.specs.Declarations.{first_named, named_among, names_of}
 use Rattle.al_tree_declarations.specs.Private.NameSets.{holds}
-use Rattle.al_tree_shape.specs.Values.{member_of}
+use Rattle.al_tree.specs.Values.{member_of}
 use Rattle.al_tree_declarations.proofs.mappings.first_named.Given as goal
 
 -- the names so far, and what was found with what of the rest no name before it equals

@@ -2,8 +2,8 @@ use Rattle.std.proofs.Common.{◌≡◌, ap, sym, ◌∙◌, map, Some, None, ar
 use Rattle.std.specs.Str.{bytes_eq}
 use Rattle.al_types.proofs.PositionLemmas.{found_nowhere, found_there, found_within}
 use Rattle.al_check_places.specs.Positions.{section_view}
-use Rattle.al_tree_shape.specs.Keys.{key_of}
-use Rattle.al_tree_shape.specs.Values.{member_of}
+use Rattle.al_tree.specs.Keys.{key_of}
+use Rattle.al_tree.specs.Values.{member_of}
 use Rattle.al_check_contexts.specs.Contexts.{job_among}
 use Rattle.al_check_contexts.specs.Private.JobPositions.{key_at}
 use Rattle.al_check_contexts.proofs.job_lists.JobList.job_of.Goals as goal

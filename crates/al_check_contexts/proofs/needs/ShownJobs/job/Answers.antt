@@ -1,6 +1,6 @@
 use Rattle.std.proofs.Common.{◌≡◌, ◌∙◌, subst, map, Some}
 use Rattle.std.proofs.lemmas.List.{length-set}
-use Rattle.al_tree_shape.specs.Values.{member_of}
+use Rattle.al_tree.specs.Values.{member_of}
 use Rattle.al_check_contexts.specs.Private.Lookups.{known_by}
 use Rattle.al_check_contexts.specs.Private.ShownJobs.{IsKept}
 use Rattle.al_check_contexts.proofs.Needed.{kept_again, made_at, set_kept}

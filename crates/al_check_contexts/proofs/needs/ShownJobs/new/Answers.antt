@@ -1,6 +1,6 @@
 use Rattle.std.proofs.Common.{◌∙◌, ap, arith, subst, sym, length, map, rules}
 use Rattle.std.proofs.lemmas.List.{length-map}
-use Rattle.al_tree_shape.specs.Values.{member_of}
+use Rattle.al_tree.specs.Values.{member_of}
 use Rattle.al_check_contexts.specs.Private.ShownJobs.{AreKept, IsKept}
 use Rattle.al_check_contexts.proofs.Needed.{none_kept, push_kept}
 use Rattle.al_check_contexts.proofs.needs.ShownJobs.new.Goals as goal

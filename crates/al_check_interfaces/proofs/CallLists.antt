@@ -1,0 +1,89 @@
+-- The calls of sites, a site further.
+use Rattle.std.proofs.Common.{◌≡◌, ◌<◌, ◌+◌, ◌∙◌, ℕ, List, [], ◌∷◌, ◌++◌, Option, Some, None, ap, append-nil, append_assoc, get_or, length, map, refl, slice_get, sym, take}
+use Rattle.std.specs.Prelude.{option_and_then, option_map}
+use Rattle.std.specs.List.{cons_option, filter_map, flat_map}
+use Rattle.std.specs.Option.{option_map_or}
+use Rattle.std.proofs.lemmas.List.{map-append, take_more}
+use Rattle.std.proofs.lemmas.Option.{slice_get-get_or, slice_get-map}
+use Rattle.al_base.specs.declared.codes.CallCode.TheVariants as code
+use Rattle.al_base.specs.declared.faults.Fault.{Fault}
+use Rattle.al_session_folder.specs.declared.lint.Target.{Target}
+use Rattle.al_check_interfaces.specs.Kept.{Kept, kept, seen}
+use Rattle.al_check_interfaces.specs.Uses.{Call, Site, loop_fault, loop_faults, target_in, targets_of, that_uses}
+use Rattle.al_check_interfaces.specs.declared.calls.Call as code_calls
+use Rattle.al_check_interfaces.specs.declared.forms.Form.TheVariants.{Local}
+
+pub made_more : {X Y : Type 0} (f : X → Option Y) (xs : List X) (x : X) → filter_map f (xs ++ x ∷ []) ≡ filter_map f xs ++ cons_option (f x) []
+made_more f [] x = refl
+made_more f (y ∷ xs) x = put (f y) (made_more f xs x)
+  where
+    put : (o : Option _) → filter_map f (xs ++ x ∷ []) ≡ filter_map f xs ++ cons_option (f x) [] →
+        cons_option o (filter_map f (xs ++ x ∷ [])) ≡ cons_option o (filter_map f xs) ++ cons_option (f x) []
+    put None h = h
+    put (Some z) h = ap (λ l. z ∷ l) h
+
+made_of_made : {X Y : Type 0} (g : X → Option Y) (xs : List X) (o : Option X) → filter_map g (xs ++ cons_option o []) ≡ filter_map g xs ++ cons_option (option_and_then g o) []
+made_of_made g xs None = ap (filter_map g) (append-nil xs) ∙ sym (append-nil (filter_map g xs))
+made_of_made g xs (Some x) = made_more g xs x
+
+all_of_made : {X Y : Type 0} (g : X → List Y) (xs : List X) (o : Option X) → flat_map g (xs ++ cons_option o []) ≡ flat_map g xs ++ option_map_or g o []
+all_of_made g [] None = refl
+all_of_made g [] (Some x) = append-nil (g x)
+all_of_made g (y ∷ xs) o = ap (λ l. g y ++ l) (all_of_made g xs o) ∙ sym (append_assoc (g y) (flat_map g xs) (option_map_or g o []))
+
+module _ {A X Y : Type 0} (v : A → X) (f : X → Option Y) (xs : List A) (i : ℕ) (x : A) (room : i < length xs) (is : x ≡ get_or xs i x) where
+  taken : filter_map f (map v (take (i + 1) xs)) ≡ filter_map f (map v (take i xs)) ++ cons_option (f (v x)) []
+  taken =
+      ap (λ l. filter_map f (map v l)) (take_more xs i x room ∙ ap (λ y. take i xs ++ y ∷ []) (sym is)) ∙ ap (filter_map f) (map-append v (take i xs) (x ∷ []))
+      ∙ made_more f (map v (take i xs)) (v x)
+
+  -- of what is made of what is made of each
+  pub kept_more : {Z : Type 0} (g : Y → Option Z) (old new : List Z) → old ≡ filter_map g (filter_map f (map v (take i xs))) → new ≡ old ++ cons_option (option_and_then g (f (v x))) [] →
+      new ≡ filter_map g (filter_map f (map v (take (i + 1) xs)))
+  kept_more g old new o n =
+      n ∙ ap (λ l. l ++ cons_option (option_and_then g (f (v x))) []) o ∙ sym (made_of_made g (filter_map f (map v (take i xs))) (f (v x))) ∙ ap (filter_map g) (sym taken)
+
+  pub all_more : {Z : Type 0} (g : Y → List Z) (before old new : List Z) → old ≡ before ++ flat_map g (filter_map f (map v (take i xs))) → new ≡ old ++ option_map_or g (f (v x)) [] →
+      new ≡ before ++ flat_map g (filter_map f (map v (take (i + 1) xs)))
+  all_more g before old new o n =
+      n ∙ ap (λ l. l ++ option_map_or g (f (v x)) []) o ∙ append_assoc before (flat_map g (filter_map f (map v (take i xs)))) (option_map_or g (f (v x)) [])
+      ∙ ap (λ l. before ++ l) (sym (all_of_made g (filter_map f (map v (take i xs))) (f (v x))) ∙ ap (flat_map g) (sym taken))
+
+pub at_number : {A X : Type 0} (v : A → X) (xs : List A) (i : ℕ) (x : A) → i < length xs → x ≡ get_or xs i x → slice_get (map v xs) i ≡ Some (v x)
+at_number v xs i x room is = slice_get-map v xs i ∙ ap (option_map v) (slice_get-get_or xs i x room ∙ ap Some (sym is))
+
+-- a call that is kept
+pub local_added : (c : Call) (t : Target) (number : ℕ) (fault : Fault) (all : List Site) (old new : List code_calls.Call) → c.form ≡ Local t → slice_get all number ≡ Some c.site →
+    fault ≡ that_uses code.LeadsBack c → new ≡ old ++ record { site = number; target = t; fault = fault } ∷ [] → map (seen all) new ≡ map (seen all) old ++ cons_option (kept c) []
+local_added c t number fault all old new form at said more =
+    ap (map (seen all)) more ∙ map-append (seen all) old (record { site = number; target = t; fault = fault } ∷ []) ∙ (λ i. map (seen all) old ++ (at i, t, said i) ∷ [])
+    ∙ ap (λ f. map (seen all) old ++ cons_option (option_map (λ x. (Some c.site, x, that_uses code.LeadsBack c)) (target_in f)) []) (sym form)
+
+-- what kept calls call, and what is said of them
+of_kept : {X : Type 0} (f : Kept → X) (g : Call → Option X) → ((c : Call) → option_map f (kept c) ≡ g c) → (cs : List Call) → map f (filter_map kept cs) ≡ filter_map g cs
+of_kept f g h [] = refl
+of_kept f g h (c ∷ cs) = put (kept c) (of_kept f g h cs) ∙ ap (λ o. cons_option o (filter_map g cs)) (h c)
+  where
+    put : (o : Option Kept) → map f (filter_map kept cs) ≡ filter_map g cs → map f (cons_option o (filter_map kept cs)) ≡ cons_option (option_map f o) (filter_map g cs)
+    put None rest = rest
+    put (Some k) rest = ap (λ l. f k ∷ l) rest
+
+map_seen : {X : Type 0} (f : Kept → X) (all : List Site) (calls : List code_calls.Call) → map f (map (seen all) calls) ≡ map (λ c. f (seen all c)) calls
+map_seen f all [] = refl
+map_seen f all (c ∷ calls) = ap (λ l. f (seen all c) ∷ l) (map_seen f all calls)
+
+module _ (all : List Site) (cs : List Call) (calls : List code_calls.Call) (are : map (seen all) calls ≡ filter_map kept cs) where
+  pub kept_targets : map (λ c. c.target) calls ≡ targets_of cs
+  kept_targets = sym (map_seen (λ k. k.1) all calls) ∙ ap (map (λ k. k.1)) are ∙ of_kept (λ k. k.1) (λ c. target_in c.form) (λ c. by (target_in c.form) c) cs
+    where
+      by : (o : Option Target) (c : Call) → option_map (λ (k : Kept). k.1) (option_map (λ t. (Some c.site, t, that_uses code.LeadsBack c)) o) ≡ o
+      by None c = refl
+      by (Some t) c = refl
+
+  pub kept_faults : map (λ c. c.fault) calls ≡ loop_faults cs
+  kept_faults = sym (map_seen (λ k. k.2) all calls) ∙ ap (map (λ k. k.2)) are ∙ of_kept (λ k. k.2) loop_fault (λ c. by (target_in c.form) c) cs
+    where
+      by : (o : Option Target) (c : Call) → option_map (λ (k : Kept). k.2) (option_map (λ t. (Some c.site, t, that_uses code.LeadsBack c)) o)
+          ≡ option_map (λ t. that_uses code.LeadsBack c) o
+      by None c = refl
+      by (Some t) c = refl

@@ -1,0 +1,28 @@
+-- The calls of a file lie in it.
+use Rattle.std.specs.Prelude.{ℕ}
+use Rattle.std.specs.List.{AllByRecursion}
+use Rattle.al_base.specs.Spans.{LiesIn}
+use Rattle.al_base.specs.declared.faults.Span.{Span}
+use Rattle.al_scalar.specs.Scalar.{Scalar}
+use Rattle.al_yaml_tree.specs.Access.{entries, nodes}
+use Rattle.al_yaml_tree.specs.Node.{Nodes, Entries, no_nodes, item, no_entries, entry}
+use Rattle.al_yaml_tree.specs.Spans.{IsInside, AreInside, EntriesInside}
+use Rattle.al_check_interfaces.specs.Laws.{CallsLie}
+use Rattle.al_check_interfaces.proofs.Parts.{IsKept, calls_kept}
+
+items_inside : (size : ℕ) (ns : Nodes) → AreInside size ns → AllByRecursion (IsInside size) (nodes ns)
+items_inside size no_nodes i = tt
+items_inside size (item n ns) i = (i.0, items_inside size ns i.1)
+
+pairs_inside : (size : ℕ) (es : Entries) → EntriesInside size es → AllByRecursion (λ e. IsInside size e.0 × IsInside size e.1) (entries es)
+pairs_inside size no_entries i = tt
+pairs_inside size (entry k v es) i = ((i.0, i.1), pairs_inside size es i.2)
+
+pub inside_kept : (size : ℕ) → IsKept (IsInside size)
+inside_kept size = record { items = λ ns at i. items_inside size ns i.1; pairs = λ es at i. pairs_inside size es i.1 }
+
+abbrev pub AtLies : ℕ → Scalar × Span → Type 0
+AtLies size t = LiesIn size t.1
+
+pub calls_lie : CallsLie
+calls_lie size kind root i = calls_kept (IsInside size) (AtLies size) (inside_kept size) (λ s at p. p) (LiesIn size) (λ t p. p) kind root i

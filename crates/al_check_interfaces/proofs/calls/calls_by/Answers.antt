@@ -1,0 +1,18 @@
+use Rattle.std.proofs.Common.{map}
+use Rattle.al_check_interfaces.specs.Kept.{kept, seen}
+use Rattle.al_check_interfaces.specs.Private.CallViews.{site_of}
+use Rattle.al_check_interfaces.specs.Uses.{call_at, wrong_uses}
+use Rattle.al_check_interfaces.proofs.CallLists.{all_more, at_number, kept_more}
+use Rattle.al_check_interfaces.proofs.calls.calls_by.Goals as goal
+
+pub loop-number-preserved : goal.loop-number-preserved
+loop-number-preserved c =
+    let sites = c.args.sites.now in
+    let all = map site_of sites in
+    record {
+      calls = kept_more site_of call_at sites c.loop-number.number c.index-sites-number.result c.loop-number-test.true c.index-sites-number.is kept
+          (map (seen all) c.loop-number.calls.items) (map (seen all) c.add_call.new.calls.items) c.loop-number.invariant.calls
+          (c.in_ok-add_call.ensures.calls all (at_number site_of sites c.loop-number.number c.index-sites-number.result c.loop-number-test.true c.index-sites-number.is));
+      faults = all_more site_of call_at sites c.loop-number.number c.index-sites-number.result c.loop-number-test.true c.index-sites-number.is wrong_uses
+          c.args.out.now.items c.loop-number.out.items c.add_call.new.out.items c.loop-number.invariant.faults c.in_ok-add_call.ensures.faults;
+    }

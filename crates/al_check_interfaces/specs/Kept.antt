@@ -1,0 +1,25 @@
+-- The calls of files of the folder, as reading a file keeps them.
+use Rattle.std.specs.Prelude.{◌≡◌, List, Option, Some, map, option_map, slice_get}
+use Rattle.std.specs.List.{filter_map}
+use Rattle.al_base.specs.declared.codes.CallCode.TheVariants as code
+use Rattle.al_base.specs.declared.faults.Fault.{Fault}
+use Rattle.al_session_folder.specs.declared.lint.Target.{Target}
+use Rattle.al_tree.specs.declared.files.FileKind.{FileKind}
+use Rattle.al_yaml_tree.specs.Node.{Node}
+use Rattle.al_check_interfaces.specs.Uses.{Call, Site, calls_in, sites_in, target_in, that_uses}
+use Rattle.al_check_interfaces.specs.declared.calls.Call as code_calls
+
+-- who calls, what, and what is said of it where it leads back to its file
+abbrev pub Kept : Type 0
+Kept = Option Site × Target × Fault
+
+-- a call that is kept, by the sites of its file
+abbrev pub seen : List Site → code_calls.Call → Kept
+seen sites k = (slice_get sites k.site, k.target, k.fault)
+
+abbrev pub kept : Call → Option Kept
+kept c = option_map (λ t. (Some c.site, t, that_uses code.LeadsBack c)) (target_in c.form)
+
+-- these are the calls of files of the folder that a file's sites make, in order
+abbrev pub AreCallsOf : FileKind → Node → List code_calls.Call → Type 0
+AreCallsOf kind root calls = map (seen (sites_in kind root)) calls ≡ filter_map kept (calls_in kind root)

@@ -1,0 +1,17 @@
+-- What the program's sites stand for.
+use Rattle.std.specs.Prelude.{ℕ, List, Option, option_and_then, option_map}
+use Rattle.std.specs.Borrow.{Bor}
+use Rattle.al_yaml_tree.specs.View.{view}
+use Rattle.al_check_interfaces.specs.Kept.{Kept, kept}
+use Rattle.al_check_interfaces.specs.Uses.{Site, call_at}
+use Rattle.al_check_interfaces.specs.declared.sites.Site as code_sites
+
+abbrev pub bytes_of : Option (Bor (List ℕ)) → Option (List ℕ)
+bytes_of o = option_map (λ b. b.now) o
+
+abbrev pub site_of : code_sites.Site → Site
+site_of s = record { job = bytes_of s.job; step = s.step; node = view s.node.now }
+
+-- what is kept of a site
+abbrev pub kept_at : Site → Option Kept
+kept_at s = option_and_then kept (call_at s)

@@ -1,0 +1,94 @@
+-- The calls of a file: the steps and the jobs that may call, what the text of their `uses` names, and which name a file of the folder.
+use Rattle.std.specs.Prelude.{ℕ, List, [], ◌∷◌, codes, map, Option, Some, None, is_some, option_map, if◌then◌else◌}
+use Rattle.std.specs.List.{flat_map, filter_map, enumerate_from}
+use Rattle.std.specs.Str.Lossy.{utf8_lossy}
+use Rattle.al_base.specs.declared.codes.CallCode.{CallCode}
+use Rattle.al_base.specs.declared.codes.CallCode.TheVariants as code
+use Rattle.al_base.specs.declared.codes.Caller.{Caller}
+use Rattle.al_base.specs.declared.codes.Caller.TheVariants as caller
+use Rattle.al_base.specs.declared.codes.Code.TheVariants as kind_of_code
+use Rattle.al_base.specs.declared.faults.Fault.{Fault}
+use Rattle.al_base.specs.declared.faults.Span.{Span}
+use Rattle.al_scalar.specs.Scalar.{Scalar, text_of}
+use Rattle.al_yaml_tree.specs.Node.{Node}
+use Rattle.al_session_folder.specs.declared.lint.Target.{Target}
+use Rattle.al_tree.specs.Keys.{key_of}
+use Rattle.al_tree.specs.Values.{items_at, text_at}
+use Rattle.al_tree.specs.Files.{jobs_of}
+use Rattle.al_tree.specs.declared.files.FileKind.{FileKind}
+use Rattle.al_tree.specs.declared.files.FileKind.TheVariants as kind
+use Rattle.al_tree_declarations.specs.Declarations.{action_steps, is_composite}
+use Rattle.al_check_interfaces.specs.Forms.{form_by}
+use Rattle.al_check_interfaces.specs.declared.forms.Form.{Form}
+use Rattle.al_check_interfaces.specs.declared.forms.Form.TheVariants.{Local, Other, Wrong}
+
+-- a job, by the text of its key, or a step, by its number and by its job, none in an action
+pub record Site : Type 0 where
+  pub job : Option (List ℕ)
+  pub step : Option ℕ
+  pub node : Node
+
+abbrev pub caller_of : Site → Caller
+caller_of s = if is_some s.step then caller.Step else caller.Job
+
+abbrev pub step_site : Option (List ℕ) → ℕ × Node → Site
+step_site job s = record { job = job; step = Some s.0; node = s.1 }
+
+abbrev pub step_sites : Option (List ℕ) → List Node → List Site
+step_sites job steps = map (step_site job) (enumerate_from 0 steps)
+
+abbrev pub job_site : Node × Node → Site
+job_site j = record { job = Some (key_of j); step = None; node = j.1 }
+
+abbrev pub job_sites : Node × Node → List Site
+job_sites j = job_site j ∷ step_sites (Some (key_of j)) (items_at (codes "steps") j.1)
+
+-- the jobs of a workflow, each before its steps, or the steps of a composite action
+abbrev pub sites_in : FileKind → Node → List Site
+sites_in kind.Workflow root = flat_map job_sites (jobs_of root)
+sites_in kind.Action root = if is_composite root then step_sites None (action_steps root) else []
+
+-- a call: who calls, the text of `uses` with its span, and what that names
+pub record Call : Type 0 where
+  pub site : Site
+  pub at : Span
+  pub text : List ℕ
+  pub form : Form
+
+abbrev pub call_by : Site → Scalar × Span → Call
+call_by s t = record { site = s; at = t.1; text = text_of t.0; form = form_by (caller_of s) (text_of t.0) }
+
+abbrev pub call_at : Site → Option Call
+call_at s = option_map (call_by s) (text_at (codes "uses") s.node)
+
+abbrev pub calls_in : FileKind → Node → List Call
+calls_in kind root = filter_map call_at (sites_in kind root)
+
+-- a fault at `uses` that names its text
+abbrev pub that_uses : CallCode → Call → Fault
+that_uses f c = record { span = c.at; code = kind_of_code.Call f (caller_of c.site); args = utf8_lossy c.text ∷ [] }
+
+-- C7
+abbrev pub wrong_by : Form → Call → List Fault
+wrong_by Wrong c = that_uses code.WrongUses c ∷ []
+wrong_by Other c = []
+wrong_by (Local t) c = []
+
+abbrev pub wrong_uses : Call → List Fault
+wrong_uses c = wrong_by c.form c
+
+abbrev pub target_in : Form → Option Target
+target_in (Local t) = Some t
+target_in Other = None
+target_in Wrong = None
+
+-- the targets of the calls of files of the folder, in order
+abbrev pub targets_of : List Call → List Target
+targets_of = filter_map (λ c. target_in c.form)
+
+-- what is said of such a call where it leads back to its own file, C9, and of all in order
+abbrev pub loop_fault : Call → Option Fault
+loop_fault c = option_map (λ t. that_uses code.LeadsBack c) (target_in c.form)
+
+abbrev pub loop_faults : List Call → List Fault
+loop_faults = filter_map loop_fault

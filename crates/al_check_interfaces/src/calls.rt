@@ -1,0 +1,128 @@
+//! The calls of a file, as reading finds them.
+ghost use Rattle.std.specs.Prelude.{◌≡◌, ◌++◌, [], map, slice_get, IfOk, List, OnOk, Some};
+ghost use Rattle.std.specs.List.{cons_option, filter_map, flat_map};
+ghost use Rattle.std.specs.Option.{option_map_or};
+ghost use Rattle.al_tree.specs.Values.{scalar_node_of};
+ghost use Rattle.al_check_interfaces.specs.Forms as forms;
+ghost use Rattle.al_check_interfaces.specs.Kept.{kept, seen};
+ghost use Rattle.al_check_interfaces.specs.Private.CallViews.{kept_at, site_of};
+ghost use Rattle.al_check_interfaces.specs.Uses as calling;
+
+use crate::forms::{Form, job_form, step_form};
+use crate::sites::{Site, caller_of};
+use al_base::{Args, CallCode, Caller, Code, Fault};
+use al_session_folder::Target;
+use al_tree::{ScalarNode, text_under};
+use std::alloc::{AllocError, Global};
+
+/// A call of a file of the folder.
+#[derive(Drop)]
+pub struct Call {
+    /// The number of the step or the job that calls, among those of its file.
+    pub site: usize,
+    /// What it calls.
+    pub target: Target,
+    /// What is said of it where it leads back to its own file: C9, at its `uses`, with its text.
+    pub fault: Fault,
+}
+
+/// What a `uses` is.
+fn form(alloc: Global, caller: Caller, text: &[u8]) -> Result<Form, AllocError>
+    ensures { IfOk result (λ f. f ≡ forms.form_by caller text.now) }
+{
+    match caller {
+        Caller::Step => step_form(alloc, text),
+        Caller::Job => job_form(alloc, text),
+    }
+}
+
+/// A fault at a `uses` that names its text.
+fn that_uses(
+    alloc: Global,
+    code: CallCode,
+    caller: Caller,
+    uses: ScalarNode<'_>,
+) -> Result<Fault, AllocError>
+    ensures { (s : calling.Site) → calling.caller_of s ≡ caller
+        → IfOk result (λ f. f ≡ calling.that_uses code (calling.call_by s (scalar_node_of uses.entry))) }
+{
+    Ok(Fault {
+        span: uses.span,
+        code: Code::Call(code, caller),
+        args: Args::one_lossy(alloc, uses.scalar.text())?,
+    })
+}
+
+/// Adds the call by a `uses`, if it names a file of the folder, or the fault of one that is wrong.
+fn add_uses(
+    alloc: Global,
+    number: usize,
+    site: Site<'_>,
+    uses: ScalarNode<'_>,
+    calls: &mut Vec<Call>,
+    out: &mut Vec<Fault>,
+) -> Result<(), AllocError>
+    ensures calls { OnOk result ((all : List calling.Site) → slice_get all number ≡ Some (site_of site.entry)
+        → map (seen all) calls.new.items ≡ map (seen all) calls.old.items
+        ++ cons_option (kept (calling.call_by (site_of site.entry) (scalar_node_of uses.entry))) []) }
+    ensures faults { OnOk result (out.new.items ≡ out.old.items
+        ++ calling.wrong_uses (calling.call_by (site_of site.entry) (scalar_node_of uses.entry))) }
+{
+    let caller = caller_of(site);
+    match form(alloc, caller, uses.scalar.text())? {
+        Form::Local(target) => {
+            let fault = that_uses(alloc, CallCode::LeadsBack, caller, uses)?;
+            calls.push(Call {
+                site: number,
+                target,
+                fault,
+            })?;
+            Ok(())
+        }
+        Form::Other => Ok(()),
+        Form::Wrong => {
+            out.push(that_uses(alloc, CallCode::WrongUses, caller, uses)?)?;
+            Ok(())
+        }
+    }
+}
+
+/// Adds the call of a step or a job, where a scalar that is not null stands under `uses`.
+fn add_call(
+    alloc: Global,
+    number: usize,
+    site: Site<'_>,
+    calls: &mut Vec<Call>,
+    out: &mut Vec<Fault>,
+) -> Result<(), AllocError>
+    ensures calls { OnOk result ((all : List calling.Site) → slice_get all number ≡ Some (site_of site.entry)
+        → map (seen all) calls.new.items ≡ map (seen all) calls.old.items ++ cons_option (kept_at (site_of site.entry)) []) }
+    ensures faults { OnOk result (out.new.items ≡ out.old.items
+        ++ option_map_or calling.wrong_uses (calling.call_at (site_of site.entry)) []) }
+{
+    match text_under(site.node, "uses") {
+        None => Ok(()),
+        Some(uses) => add_uses(alloc, number, site, uses, calls, out),
+    }
+}
+
+/// The calls of files of the folder, of these steps and jobs of a file, in order. Adds the faults of a `uses` that names nothing, C7, which
+/// depend on no other file.
+///
+/// Fails with `AllocError` when out of memory.
+pub fn calls_by(
+    alloc: Global,
+    sites: &[Site<'_>],
+    out: &mut Vec<Fault>,
+) -> Result<Vec<Call>, AllocError>
+    ensures calls { IfOk result (λ v. map (seen (map site_of sites.now)) v.items
+        ≡ filter_map kept (filter_map calling.call_at (map site_of sites.now))) }
+    ensures faults { OnOk result (out.new.items ≡ out.old.items
+        ++ flat_map calling.wrong_uses (filter_map calling.call_at (map site_of sites.now))) }
+{
+    let mut calls = Vec::new(alloc);
+    for number in 0..sites.len() {
+        add_call(alloc, number, sites[number], &mut calls, out)?;
+    }
+    Ok(calls)
+}

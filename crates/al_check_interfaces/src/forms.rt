@@ -1,0 +1,254 @@
+//! What a `uses` names.
+ghost use Rattle.std.specs.Prelude.{◌≡◌, [], ◌∷◌, ◌++◌, ◌&&◌, drop, map, IfOk};
+ghost use Rattle.std.specs.List.{list_all};
+ghost use Rattle.al_base.specs.Paths.{parts};
+ghost use Rattle.al_check_interfaces.specs.Forms as forms;
+
+use al_base::{Caller, Path, PathFault};
+use al_session_folder::Target;
+use al_tree::{contains_chunk, is_workflow_name};
+use std::alloc::{AllocError, Global};
+
+/// What the text of a `uses` names.
+#[derive(Drop)]
+pub(crate) enum Form {
+    /// A file of the folder, by the paths of which the first that is there answers.
+    Local(Target),
+    /// Something else: an image, an action or a workflow of another repository, a folder that can't hold a file.
+    Other,
+    /// Nothing: it is no right `uses`.
+    Wrong,
+}
+
+/// The parts between slashes. Fails with `AllocError` when out of memory.
+fn parts_of(alloc: Global, text: &[u8]) -> Result<Vec<&[u8]>, AllocError>
+    ensures { IfOk result (λ v. map (λ p. p.now) v.items ≡ parts text.now) }
+{
+    text.split(|b| *b == b'/').collect(alloc)
+}
+
+fn is_workflow_path(first: &[u8], second: &[u8], file: &[u8]) -> bool
+    ensures { result ≡ forms.is_workflow_path first.now second.now file.now }
+{
+    first == b".github".as_slice() && second == b"workflows".as_slice() && is_workflow_name(file)
+}
+
+/// Whether these are the parts of a workflow's path.
+fn is_workflow_parts(parts: &[&[u8]]) -> bool
+    ensures { result ≡ forms.is_workflow_parts (map (λ p. p.now) parts.now) }
+{
+    match parts {
+        [first, second, file] => is_workflow_path(first, second, file),
+        _ => false,
+    }
+}
+
+/// Whether the parts behind the first two, of which one is apart, are those of a workflow's path.
+fn is_workflow_behind(done: &[&[u8]], last: &[u8]) -> bool
+    ensures { result ≡ forms.is_workflow_parts (drop 2 (map (λ p. p.now) done.now ++ last.now ∷ [])) }
+{
+    match done {
+        [_, _, first, second] => is_workflow_path(first, second, last),
+        _ => false,
+    }
+}
+
+/// Whether complete parts, of which it is known whether all are texts, and the one behind them are a workflow of another repository.
+#[tactic(auto, using(crate::proofs::Cuts::all_more))]
+fn is_remote_workflow(done: &[&[u8]], whole: bool, last: &[u8]) -> bool
+    requires { whole ≡ list_all forms.is_some_text (map (λ p. p.now) done.now) }
+    ensures { result ≡ forms.is_remote_workflow (map (λ p. p.now) done.now ++ last.now ∷ []) }
+{
+    are_texts(whole, last) && is_workflow_behind(done, last)
+}
+
+fn is_remote_action(done: &[&[u8]], whole: bool, last: &[u8]) -> bool
+    requires { whole ≡ list_all forms.is_some_text (map (λ p. p.now) done.now) }
+    ensures { result ≡ forms.is_remote_action (map (λ p. p.now) done.now ++ last.now ∷ []) }
+{
+    whole && !last.is_empty() && !done.is_empty()
+}
+
+fn is_remote(caller: Caller, done: &[&[u8]], whole: bool, last: &[u8]) -> bool
+    requires { whole ≡ list_all forms.is_some_text (map (λ p. p.now) done.now) }
+    ensures { result ≡ forms.is_remote caller (map (λ p. p.now) done.now ++ last.now ∷ []) }
+{
+    match caller {
+        Caller::Step => is_remote_action(done, whole, last),
+        Caller::Job => is_remote_workflow(done, whole, last),
+    }
+}
+
+/// Whether this byte cuts a REF off, and the parts before it may be named.
+fn is_cut(caller: Caller, done: &[&[u8]], whole: bool, last: &[u8], byte: u8, rest: &[u8]) -> bool
+    requires { whole ≡ list_all forms.is_some_text (map (λ p. p.now) done.now) }
+    ensures { result ≡ forms.is_cut (forms.is_remote caller) (map (λ p. p.now) done.now ++ last.now ∷ []) byte rest.now }
+{
+    if byte != b'@' {
+        return false;
+    }
+    if rest.is_empty() {
+        return false;
+    }
+    is_remote(caller, done, whole, last)
+}
+
+/// Whether parts, of which it is known whether all are texts, and one more are texts.
+fn are_texts(whole: bool, part: &[u8]) -> bool
+    ensures { result ≡ (whole && forms.is_some_text part.now) }
+{
+    whole && !part.is_empty()
+}
+
+/// Whether some byte of a text does. Goes forward once, with the parts that are complete.
+fn is_some_cut(alloc: Global, caller: Caller, text: &[u8]) -> Result<bool, AllocError>
+    ensures { IfOk result (λ b. b ≡ forms.is_some_cut (forms.is_remote caller) text.now) }
+{
+    let mut done = Vec::new(alloc);
+    let mut whole = true;
+    let mut start = 0;
+    for (i, byte) in text.iter().enumerate() {
+        let last = &text[start..i];
+        if *byte == b'/' {
+            whole = are_texts(whole, last);
+            done.push(last)?;
+            start = i + 1;
+        } else if is_cut(caller, done.as_slice(), whole, last, *byte, &text[i + 1..]) {
+            return Ok(true);
+        }
+    }
+    Ok(false)
+}
+
+fn remote(alloc: Global, caller: Caller, text: &[u8]) -> Result<Form, AllocError>
+    ensures { IfOk result (λ f. f ≡ forms.remote caller text.now) }
+{
+    if is_some_cut(alloc, caller, text)? {
+        Ok(Form::Other)
+    } else {
+        Ok(Form::Wrong)
+    }
+}
+
+/// The path with these bytes, if they are one; bytes that aren't UTF-8, as no text of a file is, are none. Fails with `AllocError` when
+/// out of memory.
+#[tactic(auto, using(crate::proofs::Paths::no_text, crate::proofs::Paths::as_text))]
+fn path_in(alloc: Global, bytes: &[u8]) -> Result<Option<Path>, AllocError>
+    ensures { IfOk result (λ p. p ≡ forms.path_in bytes.now) }
+{
+    match std::str::from_utf8(bytes) {
+        Err(_) => Ok(None),
+        Ok(text) => match Path::new(alloc, text) {
+            Ok(path) => Ok(Some(path)),
+            Err(PathFault::Memory) => Err(AllocError),
+            Err(_) => Ok(None),
+        },
+    }
+}
+
+/// A folder without the slash that ends it.
+fn folder_of(rest: &[u8]) -> &[u8]
+    ensures { result.now ≡ forms.folder_of rest.now }
+{
+    if rest.ends_with(b"/") {
+        &rest[..rest.len() - 1]
+    } else {
+        rest
+    }
+}
+
+/// The text of a file's path: below a folder, or in the root.
+fn in_folder(alloc: Global, folder: &[u8], file: &[u8]) -> Result<Vec<u8>, AllocError>
+    ensures { IfOk result (λ v. v.items ≡ forms.in_folder folder.now file.now) }
+{
+    let mut path = Vec::from_slice(alloc, folder)?;
+    if !folder.is_empty() {
+        path.push(b'/')?;
+    }
+    path.extend_from_slice(file)?;
+    Ok(path)
+}
+
+/// The path of a file in a folder, if it is one.
+fn file_in(alloc: Global, folder: &[u8], file: &[u8]) -> Result<Option<Path>, AllocError>
+    ensures { IfOk result (λ p. p ≡ forms.file_in folder.now file.now) }
+{
+    let path = in_folder(alloc, folder, file)?;
+    path_in(alloc, path.as_slice())
+}
+
+/// Both candidates, if they are paths.
+fn first_of(first: Option<Path>, second: Option<Path>) -> Form
+    ensures { result ≡ forms.first_of first second }
+{
+    match first {
+        None => Form::Other,
+        Some(first) => match second {
+            None => Form::Other,
+            Some(second) => Form::Local(Target::FirstOf(first, second)),
+        },
+    }
+}
+
+fn local_step(alloc: Global, folder: &[u8]) -> Result<Form, AllocError>
+    ensures { IfOk result (λ f. f ≡ forms.local_step folder.now) }
+{
+    let first = file_in(alloc, folder, b"action.yml")?;
+    let second = file_in(alloc, folder, b"action.yaml")?;
+    Ok(first_of(first, second))
+}
+
+fn is_image(text: &[u8]) -> bool
+    ensures { result ≡ forms.is_image text.now }
+{
+    text.starts_with(b"docker://") && text.len() > 9
+}
+
+/// What a step's `uses` is.
+pub(crate) fn step_form(alloc: Global, text: &[u8]) -> Result<Form, AllocError>
+    ensures { IfOk result (λ f. f ≡ forms.step_form text.now) }
+{
+    if contains_chunk(text) {
+        return Ok(Form::Wrong);
+    }
+    if text.starts_with(b"./") {
+        return local_step(alloc, folder_of(&text[2..]));
+    }
+    if is_image(text) {
+        return Ok(Form::Other);
+    }
+    remote(alloc, Caller::Step, text)
+}
+
+fn only(path: Option<Path>) -> Form
+    ensures { result ≡ forms.only path }
+{
+    match path {
+        Some(path) => Form::Local(Target::Only(path)),
+        None => Form::Wrong,
+    }
+}
+
+fn local_job(alloc: Global, rest: &[u8]) -> Result<Form, AllocError>
+    ensures { IfOk result (λ f. f ≡ forms.local_job rest.now) }
+{
+    let parts = parts_of(alloc, rest)?;
+    if is_workflow_parts(parts.as_slice()) {
+        Ok(only(path_in(alloc, rest)?))
+    } else {
+        Ok(Form::Wrong)
+    }
+}
+
+/// What a job's `uses` is.
+pub(crate) fn job_form(alloc: Global, text: &[u8]) -> Result<Form, AllocError>
+    ensures { IfOk result (λ f. f ≡ forms.job_form text.now) }
+{
+    if contains_chunk(text) {
+        return Ok(Form::Wrong);
+    }
+    if text.starts_with(b"./") {
+        return local_job(alloc, &text[2..]);
+    }
+    remote(alloc, Caller::Job, text)
+}

@@ -1,0 +1,45 @@
+-- What the command line's matches ask for.
+use Rattle.std.proofs.Common.{◌≡◌, ◌≢◌, true, false, List, [], ◌∷◌, map, Option, None, Some, Result, Ok, Err, refl, sym, subst, inl, inr}
+use Rattle.std.specs.Prelude.{option_map, is_some, OnOk}
+use Rattle.std.specs.Borrow.{Bor}
+use Rattle.clap.specs.Words.{HasKind, IsAmong, Text, kind_of}
+use Rattle.clap.specs.declared.error.Error.{Error}
+use Rattle.al_cli.specs.Words.{IsNoRun, IsSaidAs, IsUsage, kinds_in, rows_in}
+use Rattle.al_cli.specs.declared.words.Usage.{Usage}
+use Rattle.al_cli.specs.declared.words.Usage.TheVariants as usage
+
+abbrev text_of : Bor Text → Text
+text_of t = t.now
+
+pub some_root : (o : Option (Bor Text)) (r : Option Text) → option_map (λ t. t.now) o ≡ r → is_some o ≡ true → r ≢ None
+some_root None r e t = λ h. cc
+some_root (Some x) r e t = λ h. cc
+
+pub no_root : (o : Option (Bor Text)) (r : Option Text) → option_map (λ t. t.now) o ≡ r → is_some o ≡ false → r ≡ None
+no_root None r e t = sym e
+no_root (Some x) r e t = cc
+
+pub some_files : (xs : List (Bor Text)) (r : List Text) → map (λ t. t.now) xs ≡ r → xs ≢ [] → r ≢ []
+some_files [] r e some = λ h. some refl
+some_files (x ∷ xs) r e some = λ h. cc
+
+-- what a wrong command line is said as
+pub said : (words : List Text) (e : Error) (u : Usage) → HasKind (kinds_in words) e → IsSaidAs (kind_of e) u → IsUsage words u
+said words e usage.Session has spoken = absurd spoken
+said words e (usage.Help text) (inl memory) spoken = absurd cc
+said words e (usage.Help text) (inr among) spoken = subst (λ k. IsAmong k (kinds_in words)) spoken among
+said words e (usage.Clap text) (inl memory) spoken = absurd (spoken.1 memory)
+said words e (usage.Clap text) (inr among) spoken = (kind_of e, spoken.0, among)
+said words e usage.Memory has spoken = tt
+
+-- why right words ask for no run
+pub not_run : (words : List Text) (u : Usage) → kinds_in words ≡ [] → IsNoRun (rows_in words) u → IsUsage words u
+not_run words usage.Session right why = (right, why)
+not_run words (usage.Help text) right why = absurd why
+not_run words (usage.Clap text) right why = absurd why
+not_run words usage.Memory right why = tt
+
+-- what holds anyway
+pub on_ok : {T S : Type 0} (r : Result T S) {P : Type 0} → P → OnOk r P
+on_ok (Ok x) p = p
+on_ok (Err e) p = tt

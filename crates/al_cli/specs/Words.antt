@@ -1,0 +1,88 @@
+-- The command line: its options as clap's definitions take them, and what its words ask for.
+use Rattle.std.specs.Prelude.{◌≡◌, ◌≢◌, ◌⊎◌, Bool, true, false, List, [], Option, Some, None, map, unwrap_or, codes}
+use Rattle.clap.specs.Words.{App, IsAmong, Kinds, Row, Rule, Text, all_of, fault_of, first_of, one_of, matches_of, new_app, new_rule}
+use Rattle.clap.specs.Words.{with_rule}
+use Rattle.clap.specs.Simple.{on_top}
+use Rattle.clap.specs.declared.builder.action.ArgAction.TheVariants.{Append, Help, SetTrue}
+use Rattle.clap.specs.declared.error.kind.ErrorKind.{ErrorKind}
+use Rattle.clap.specs.declared.error.kind.ErrorKind.TheVariants.{DisplayHelp, OutOfMemory}
+use Rattle.al_cli.specs.declared.words.Words.{Words}
+use Rattle.al_cli.specs.declared.words.Usage.{Usage}
+use Rattle.al_cli.specs.declared.words.Usage.TheVariants as usage
+
+abbrev pub oneline_rule : Rule
+oneline_rule = record (new_rule (codes "oneline")) { long = Some (codes "oneline"); action = Some SetTrue }
+
+abbrev pub root_rule : Rule
+root_rule = record (new_rule (codes "root")) { long = Some (codes "root"); value_names = 1 }
+
+abbrev pub session_rule : Rule
+session_rule = record (new_rule (codes "session")) { long = Some (codes "session"); action = Some SetTrue }
+
+abbrev pub help_rule : Rule
+help_rule = record (new_rule (codes "help")) { long = Some (codes "help"); action = Some Help }
+
+abbrev pub file_rule : Rule
+file_rule = record (new_rule (codes "file")) { action = Some Append; value_names = 1 }
+
+-- there is no `-h`: `--help` is an option of its own
+abbrev pub bare_app : App
+bare_app = on_top (λ s. record s { disable_help_flag = true }) (new_app (codes "actionlint"))
+
+-- `actionlint [--oneline] [--root DIR] [--session] [--help] [FILE]...`
+abbrev pub linter_app : App
+linter_app = with_rule (with_rule (with_rule (with_rule (with_rule bare_app oneline_rule) root_rule) session_rule) help_rule) file_rule
+
+-- what clap finds in these words, of which the first is the program's name
+unfoldable pub rows_in : List Text → List Row
+rows_in words = matches_of linter_app words
+
+-- a flag is as the text of its value says
+pub record IsFlag (text : Option Text) (flag : Bool) : Type 0 where
+  pub unset : text ≡ None → flag ≡ false
+  pub on : text ≡ Some (codes "true") → flag ≡ true
+  pub off : text ≡ Some (codes "false") → flag ≡ false
+
+abbrev pub root_in : List Row → Option Text
+root_in rows = first_of (codes "root") rows
+
+abbrev pub files_in : List Row → List Text
+files_in rows = unwrap_or (all_of (codes "file") rows) []
+
+-- what these matches ask for: the flags, DIR and the FILEs are theirs, and a script has neither files nor DIR
+pub record AsksFor (rows : List Row) (words : Words) : Type 0 where
+  pub oneline : IsFlag (one_of (codes "oneline") rows) words.oneline
+  pub session : IsFlag (one_of (codes "session") rows) words.session
+  pub root : words.root.now ≡ unwrap_or (root_in rows) (codes ".")
+  pub files : map (λ file. file.now) words.files.items ≡ files_in rows
+  pub alone : words.session ≡ true → (root_in rows ≡ None) × (files_in rows ≡ [])
+
+-- `--session` stands beside files or `--root`
+pub record AreBeside (rows : List Row) : Type 0 where
+  pub session : IsFlag (one_of (codes "session") rows) true
+  pub beside : (root_in rows ≢ None) ⊎ (files_in rows ≢ [])
+
+-- the kinds of what clap may answer in place of matches; none where the words ask for a run
+unfoldable pub kinds_in : List Text → Kinds
+kinds_in words = fault_of linter_app words
+
+-- what an answer of this kind is said as
+abbrev pub IsSaidAs : ErrorKind → Usage → Type 0
+IsSaidAs kind usage.Session = ⊥
+IsSaidAs kind (usage.Help text) = kind ≡ DisplayHelp
+IsSaidAs kind (usage.Clap text) = (kind ≢ DisplayHelp) × (kind ≢ OutOfMemory)
+IsSaidAs kind usage.Memory = Unit {0}
+
+-- why matches ask for no run
+abbrev pub IsNoRun : List Row → Usage → Type 0
+IsNoRun rows usage.Session = AreBeside rows
+IsNoRun rows (usage.Help text) = ⊥
+IsNoRun rows (usage.Clap text) = ⊥
+IsNoRun rows usage.Memory = Unit {0}
+
+-- why words ask for no run: side by side stands what can't; they ask for help; they are wrong in another way; or memory ran out
+abbrev pub IsUsage : List Text → Usage → Type 0
+IsUsage words usage.Session = (kinds_in words ≡ []) × AreBeside (rows_in words)
+IsUsage words (usage.Help text) = IsAmong DisplayHelp (kinds_in words)
+IsUsage words (usage.Clap text) = (kind : ErrorKind) × (kind ≢ DisplayHelp) × IsAmong kind (kinds_in words)
+IsUsage words usage.Memory = Unit {0}

@@ -1,0 +1,25 @@
+//! Worked command lines, computed by the definitions.
+
+ghost use Rattle.std.specs.Prelude.{◌≡◌, [], ◌∷◌, Some, codes};
+ghost use Rattle.clap.specs.Words.{one_of};
+ghost use Rattle.al_cli.specs.Words.{files_in, kinds_in, root_in, rows_in};
+ghost use Rattle.clap.specs.declared.error.kind.ErrorKind.TheVariants.{DisplayHelp, InvalidValue, UnknownArgument};
+
+/// What is found in some command lines, as the definitions give it. Does nothing.
+pub fn rows()
+    ensures none { kinds_in (codes "actionlint" ∷ []) ≡ [] }
+    ensures all { kinds_in (codes "actionlint" ∷ codes "--oneline" ∷ codes "--root" ∷ codes "d" ∷ codes "a/action.yml" ∷ []) ≡ [] }
+    ensures root { root_in (rows_in (codes "actionlint" ∷ codes "--root" ∷ codes "d" ∷ codes "a/action.yml" ∷ [])) ≡ Some (codes "d") }
+    ensures files { files_in (rows_in (codes "actionlint" ∷ codes "--root" ∷ codes "d" ∷ codes "a/action.yml" ∷ []))
+        ≡ codes "a/action.yml" ∷ [] }
+    // a single minus is a file
+    ensures minus { kinds_in (codes "actionlint" ∷ codes "-" ∷ []) ≡ [] }
+    ensures minus_file { files_in (rows_in (codes "actionlint" ∷ codes "-" ∷ [])) ≡ codes "-" ∷ [] }
+    ensures beside { kinds_in (codes "actionlint" ∷ codes "--session" ∷ codes "a/action.yml" ∷ []) ≡ [] }
+    ensures session { one_of (codes "session") (rows_in (codes "actionlint" ∷ codes "--session" ∷ [])) ≡ Some (codes "true") }
+    ensures help { kinds_in (codes "actionlint" ∷ codes "--help" ∷ []) ≡ DisplayHelp ∷ [] }
+    ensures help_first { kinds_in (codes "actionlint" ∷ codes "--oneline" ∷ codes "--help" ∷ codes "x" ∷ []) ≡ DisplayHelp ∷ [] }
+    ensures short { kinds_in (codes "actionlint" ∷ codes "-h" ∷ []) ≡ UnknownArgument ∷ [] }
+    ensures unknown { kinds_in (codes "actionlint" ∷ codes "--bogus" ∷ []) ≡ UnknownArgument ∷ [] }
+    ensures no_folder { kinds_in (codes "actionlint" ∷ codes "--root" ∷ []) ≡ InvalidValue ∷ [] }
+{}

@@ -1,0 +1,85 @@
+-- Each fault of what stands under `on` lies in the file that the tree was read from.
+use Rattle.std.specs.Prelude.{ℕ, not, List, [], ◌∷◌, codes, Option, Some, None}
+use Rattle.std.specs.List.{flat_map}
+use Rattle.std.specs.Option.{option_map_or}
+use Rattle.std.specs.Str.{bytes_eq}
+use Rattle.al_base.specs.declared.codes.RuleCode.TheVariants.{ScheduleTooOften, UnknownActivity, UnknownEvent, UnknownInputType, WrongPattern, WrongSchedule}
+use Rattle.al_base.specs.declared.faults.Span.{Span}
+use Rattle.al_rules_formats.specs.Patterns.{is_pattern}
+use Rattle.al_rules_formats.specs.Schedules.{is_too_often, schedule_of}
+use Rattle.al_rules_formats.specs.declared.patterns.Filter.{Filter}
+use Rattle.al_rules_formats.specs.declared.patterns.Filter.TheVariants.{Names, Paths}
+use Rattle.al_rules_formats.specs.declared.schedules.Item.{Item}
+use Rattle.al_scalar.specs.Scalar.{Scalar, text_of}
+use Rattle.al_yaml_tree.specs.Node.{Node}
+use Rattle.al_tree.specs.Names.{among, is_event}
+use Rattle.al_tree.specs.Values.{entries_at, entries_in, items_in, text_at, texts_at, texts_in}
+use Rattle.al_rules.specs.Events.{activity_faults, cron_faults, event_faults, filter_faults, filters_faults, input_faults, inputs_faults}
+use Rattle.al_rules.specs.Events.{name_faults, named_faults, on_faults, pattern_faults, schedule_faults, type_faults}
+use Rattle.al_rules.specs.Names.{activities_of, call_types, dispatch_types}
+use Rattle.al_rules_reports.specs.Words.{Named, of_key, of_scalar, unless_among}
+use Rattle.al_base.proofs.Elements.{each_of, map_or}
+use Rattle.al_rules_reports.proofs.Inside.{Are, Fine, Lies, NameLies, Pair, Text, about_lies, both, entries_at_fine, entries_in_fine}
+use Rattle.al_rules_reports.proofs.Inside.{items_in_fine, or_lies, span_lies, text_at_fine, texts_at_fine, texts_in_fine, unless_lies}
+
+module _ (size : ℕ) where
+  activity : (types : List (List ℕ)) (s : Scalar × Span) → Text size s → Are size (activity_faults types s)
+  activity types s t = unless_lies size (among types (text_of s.0)) UnknownActivity (of_scalar s) t.place
+
+  types_of : (o : Option (List (List ℕ))) (event : Node) → Fine size event → Are size (option_map_or (λ types. flat_map (activity_faults types) (texts_at (codes "types") event)) o [])
+  types_of None event f = tt
+  types_of (Some types) event f = each_of (Text size) (Lies size) (activity_faults types) (activity types) (texts_at (codes "types") event) (texts_at_fine size (codes "types") event f)
+
+  types_lie : (name : List ℕ) (event : Node) → Fine size event → Are size (type_faults name event)
+  types_lie name event f = types_of (activities_of name) event f
+
+  pattern : (filter : Filter) (n : Named) → NameLies size n → Are size (pattern_faults filter n)
+  pattern filter n p = unless_lies size (is_pattern filter n.text) WrongPattern n p
+
+  filter_lies : (filter : Filter) (event : Node) (key : List ℕ) → Fine size event → Are size (filter_faults filter event key)
+  filter_lies filter event key f =
+      each_of (Text size) (Lies size) (λ s. pattern_faults filter (of_scalar s)) (λ s t. pattern filter (of_scalar s) t.place) (texts_at key event) (texts_at_fine size key event f)
+
+  keys_lie : (filter : Filter) (event : Node) → Fine size event → (keys : List (List ℕ)) → Are size (flat_map (filter_faults filter event) keys)
+  keys_lie filter event f [] = tt
+  keys_lie filter event f (k ∷ ks) = both size (filter_faults filter event k) (flat_map (filter_faults filter event) ks) (filter_lies filter event k f) (keys_lie filter event f ks)
+
+  filters_lie : (event : Node) → Fine size event → Are size (filters_faults event)
+  filters_lie event f =
+      both size (flat_map (filter_faults Names event) (codes "branches" ∷ codes "branches-ignore" ∷ codes "tags" ∷ codes "tags-ignore" ∷ []))
+      (flat_map (filter_faults Paths event) (codes "paths" ∷ codes "paths-ignore" ∷ []))
+      (keys_lie Names event f (codes "branches" ∷ codes "branches-ignore" ∷ codes "tags" ∷ codes "tags-ignore" ∷ [])) (keys_lie Paths event f (codes "paths" ∷ codes "paths-ignore" ∷ []))
+
+  schedule_lies : (o : Option (List Item)) (n : Named) → NameLies size n → Are size (schedule_faults o n)
+  schedule_lies None n p = about_lies size WrongSchedule n p
+  schedule_lies (Some items) n p = unless_lies size (not (is_too_often items)) ScheduleTooOften n p
+
+  cron_lies : (entry : Node) → Fine size entry → Are size (cron_faults entry)
+  cron_lies entry f =
+      map_or (Text size) (Lies size) (λ s. schedule_faults (schedule_of (of_scalar s).text) (of_scalar s)) (λ s t. schedule_lies (schedule_of (text_of s.0)) (of_scalar s) t.place)
+      (text_at (codes "cron") entry) (text_at_fine size (codes "cron") entry f)
+
+  input_lies : (types : List (List ℕ)) (m : Node × Node) → Pair size m → Are size (input_faults types m)
+  input_lies types m p =
+      map_or (Text size) (Lies size) (λ s. unless_among UnknownInputType types (of_scalar s)) (λ s t. unless_lies size (among types (text_of s.0)) UnknownInputType (of_scalar s) t.place)
+      (text_at (codes "type") m.1) (text_at_fine size (codes "type") m.1 p.1)
+
+  inputs_lie : (types : List (List ℕ)) (event : Node) → Fine size event → Are size (inputs_faults types event)
+  inputs_lie types event f = each_of (Pair size) (Lies size) (input_faults types) (input_lies types) (entries_at (codes "inputs") event) (entries_at_fine size (codes "inputs") event f)
+
+  event_lies : (name : List ℕ) (event : Node) → Fine size event → Are size (event_faults name event)
+  event_lies name event f =
+      or_lies size (bytes_eq name (codes "schedule")) _ _ (each_of (Fine size) (Lies size) cron_faults cron_lies (items_in event) (items_in_fine size event f))
+      (or_lies size (bytes_eq name (codes "workflow_call")) _ _ (inputs_lie call_types event f)
+      (or_lies size (bytes_eq name (codes "workflow_dispatch")) _ _ (inputs_lie dispatch_types event f)
+      (or_lies size (bytes_eq name (codes "image_version")) [] _ tt (both size (type_faults name event) (filters_faults event) (types_lie name event f) (filters_lie event f)))))
+
+  named_lies : (m : Node × Node) → Pair size m → Are size (named_faults m)
+  named_lies m p =
+      or_lies size (is_event (of_key m.0).text) _ _ (event_lies (of_key m.0).text m.1 p.1) (about_lies size UnknownEvent (of_key m.0) (span_lies size m.0 p.0))
+
+  pub on_lies : (on : Node) → Fine size on → Are size (on_faults on)
+  on_lies on f =
+      both size (flat_map (λ s. name_faults (of_scalar s)) (texts_in on)) (flat_map named_faults (entries_in on))
+      (each_of (Text size) (Lies size) (λ s. name_faults (of_scalar s)) (λ s t. unless_lies size (is_event (text_of s.0)) UnknownEvent (of_scalar s) t.place) (texts_in on) (texts_in_fine size on f))
+      (each_of (Pair size) (Lies size) named_faults named_lies (entries_in on) (entries_in_fine size on f))

@@ -1,0 +1,298 @@
+-- The faults that a report lists: each file's own, and those of its calls that lead back to it.
+use Rattle.std.proofs.Common.{◌≤◌, ◌≡◌, ◌<◌, ℕ, zero, suc, ◌+◌, Bool, true, false, cond, not, List, [], ◌∷◌, ◌++◌, length}
+use Rattle.std.proofs.Common.{get_or, Option, Some, None, String, slice_get, refl, sym, ◌∙◌, ap, subst, ◌||◌, arith, length-append, ⊎_elim}
+use Rattle.std.specs.Prelude.{string_bytes}
+use Rattle.std.specs.Bool.{◌==◌}
+use Rattle.std.specs.Borrow.{Bor}
+use Rattle.std.specs.Global.{Global}
+use Rattle.std.specs.List.{AllByRecursion, dedup, dedup_from, enumerate_from, flat_map, list_any}
+use Rattle.std.specs.List.Sorted.{IsPermutation, IsSorted, IsStrictlySortedBy}
+use Rattle.std.specs.Option.{unwrap_or}
+use Rattle.std.specs.Ordering.{is_lt, match_ordering}
+use Rattle.std.specs.declared.cmp.Ordering.{Ordering}
+use Rattle.std.specs.declared.cmp.Ordering.TheVariants.{Less, Equal, Greater}
+use Rattle.std.proofs.lemmas.Bool.Decides.{nat_tests}
+use Rattle.std.proofs.lemmas.Bool.{cases_lt}
+use Rattle.std.proofs.lemmas.List.{get_or-append-add, get_or-map, get_or_append_left, length-map}
+use Rattle.std.proofs.lemmas.List.Sorted.{IsPermutation-append_comm, IsPermutation-map}
+use Rattle.al_base.proofs.FaultLists.{AllByRecursion-fault_list, derived_is, derived_ties, fault_cmp_same, fault_cmp_total, fault_list-permutation, fault_list-sorted}
+use Rattle.al_base.proofs.InOrder.{dedup-in_order}
+use Rattle.al_base.specs.contracts.faults.FaultOrd.TheImpl as derived
+use Rattle.al_base.specs.contracts.faults.FaultPartialEq.TheImpl as derived_eq
+use Rattle.al_base.specs.FaultLists.{fault_cmp, fault_list}
+use Rattle.al_base.specs.InOrder.{in_order, with_one}
+use Rattle.al_text.specs.Snippets.{fault_text}
+use Rattle.al_base.specs.Spans.{LiesIn}
+use Rattle.al_base.specs.declared.faults.Fault.{Fault}
+use Rattle.al_session_folder.specs.Meaning.{Meaning}
+use Rattle.al_session_folder.specs.Folder.{Folder, answers, faults_in}
+use Rattle.al_session_folder.specs.Kept.{Files, folder_of, referred, AllKept}
+use Rattle.al_session_folder.specs.Loops.{calls_graph, called, leads_back, fault_if, loop_faults, looping, reported}
+use Rattle.al_session_folder.specs.declared.kept.KeptFile.{KeptFile}
+use Rattle.al_session_folder.specs.declared.lint.Target.{Target}
+use Rattle.al_session_folder.proofs.Looping.{kept_number}
+use Rattle.al_session_folder.specs.Report.{status_of, report_of}
+use Rattle.al_session_folder.specs.Checked.{AllChecked}
+use Rattle.al_session_folder.specs.Private.Printing.{AreNumbered, ArePrintable, joined_faults, listed, numbered_lines}
+use Rattle.al_session_folder.proofs.Reports.{any_fault}
+
+-- ---- faults that are joined
+
+-- the faults of a kept file with this number
+pub checked_number : {U I : Type 0} (m : Meaning I) (f : Folder) (files : Files U I) (i : ℕ) (e : String Global × KeptFile U I) → AllChecked m f files → slice_get files i ≡ Some e →
+    e.1.faults.items ≡ faults_in m f (string_bytes e.0) e.1.bytes.items
+checked_number m f [] i e h at = absurd (wrong at)
+  where
+    wrong : None ≡ Some e → ⊥
+    wrong h = cc
+checked_number m f (x ∷ xs) zero e h at = subst (λ y. y.1.faults.items ≡ faults_in m f (string_bytes y.0) y.1.bytes.items) (ap (λ o. unwrap_or o x) at) h.0
+checked_number m f (x ∷ xs) (suc i) e h at = checked_number m f xs i e h.1 at
+
+module _ {I : Type 0} (m : Meaning I) (ordered : (p b : List ℕ) (given : List (Option I)) → IsStrictlySortedBy fault_cmp (m.faults p b given)) (f : Folder) where
+  -- where no call leads back, a file's own faults are listed
+  pub own_reported : (i : ℕ) (p b : List ℕ) (faults : List Fault) → faults ≡ faults_in m f p b → loop_faults m f i p b ≡ [] → faults ≡ reported m f i p b
+  unfolding reported faults_in
+  own_reported i p b faults is none =
+      is ∙ sym (ap (λ l. fault_list (l ++ m.faults p b (answers m f p b))) none ∙ fault_list-sorted (m.faults p b (answers m f p b)) (ordered p b (answers m f p b)))
+
+-- ---- they lie in the file
+
+all_one : {X : Type 0} (P : X → Type 0) (xs ys : List X) → AllByRecursion P xs → AllByRecursion P ys → AllByRecursion P (xs ++ ys)
+all_one P [] ys a b = b
+all_one P (x ∷ xs) ys a b = (a.0, all_one P xs ys a.1 b)
+
+module _ {I : Type 0} (m : Meaning I) (f : Folder) (i : ℕ) (size : ℕ) where
+  one_inside : (t : Bool) (s : Fault) → LiesIn size s.span → AllByRecursion (λ (fault : Fault). LiesIn size fault.span) (fault_if t s)
+  one_inside true s h = (h, tt)
+  one_inside false s h = tt
+
+  looping_inside : (ts : List Target) (ss : List Fault) → AllByRecursion (λ (s : Fault). LiesIn size s.span) ss →
+      AllByRecursion (λ (fault : Fault). LiesIn size fault.span) (looping (calls_graph m f) f i ts ss)
+  looping_inside [] ss h = tt
+  looping_inside (t ∷ ts) [] h = tt
+  looping_inside (t ∷ ts) (s ∷ ss) h =
+      all_one _ (fault_if (leads_back (calls_graph m f) i (called f t)) s) (looping (calls_graph m f) f i ts ss)
+      (one_inside (leads_back (calls_graph m f) i (called f t)) s h.0) (looping_inside ts ss h.1)
+
+module _ {I : Type 0} (m : Meaning I)
+    (inside : (p b : List ℕ) (given : List (Option I)) → length b ≤ 1048576 → AllByRecursion (λ (fault : Fault). LiesIn (length b) fault.span) (m.faults p b given))
+    (sites : (p b : List ℕ) → length b ≤ 1048576 → AllByRecursion (λ (s : Fault). LiesIn (length b) s.span) (m.sites p b)) where
+  reported_inside : (f : Folder) (i : ℕ) (p b : List ℕ) → length b ≤ 1048576 → AllByRecursion (λ (fault : Fault). LiesIn (length b) fault.span) (reported m f i p b)
+  unfolding reported faults_in
+  reported_inside f i p b small =
+      AllByRecursion-fault_list (λ (fault : Fault). LiesIn (length b) fault.span) (loop_faults m f i p b ++ m.faults p b (answers m f p b))
+      (all_one _ (loop_faults m f i p b) (m.faults p b (answers m f p b)) (looping_inside m f i (length b) (m.calls p b) (m.sites p b) (sites p b small)) (inside p b (answers m f p b) small))
+
+  pub printable : {U : Type 0} (is_unit : U → List ℕ → List ℕ → Type 0) (files : Files U I) → AllKept m is_unit files → ArePrintable m files
+  printable is_unit files kept i e at =
+      let one = kept_number m is_unit files i e kept at in
+      record { small = one.small; lines = one.lines; inside = reported_inside (folder_of files) i (string_bytes e.0) e.1.bytes.items one.small }
+
+-- ---- the report
+
+lines_from : {U I : Type 0} (m : Meaning I) (f : Folder) (oneline : Bool) (n : ℕ) (es : Files U I) →
+    flat_map (numbered_lines oneline m f) (enumerate_from n es)
+    ≡ flat_map (λ x. flat_map (fault_text oneline x.1.0 x.1.1) (reported m f x.0 x.1.0 x.1.1)) (enumerate_from n (folder_of es))
+lines_from m f oneline n [] = refl
+lines_from m f oneline n (e ∷ es) =
+    ap (λ l. flat_map (fault_text oneline (string_bytes e.0) e.1.bytes.items) (reported m f n (string_bytes e.0) e.1.bytes.items) ++ l) (lines_from m f oneline (n + 1) es)
+
+pub report_is : {U I : Type 0} (m : Meaning I) (files : Files U I) (oneline : Bool) →
+    flat_map (numbered_lines oneline m (folder_of files)) (enumerate_from 0 files) ≡ report_of oneline m (folder_of files)
+unfolding report_of
+report_is m files oneline = lines_from m (folder_of files) oneline 0 files
+
+-- ---- the status
+
+some_list : (x : Fault) (xs : List Fault) → not (length (x ∷ xs) == 0) ≡ true
+some_list x xs = ap not (apart (length xs))
+  where
+    apart : (n : ℕ) → (suc n == 0) ≡ false
+    apart n = grind (arith, nat_tests)
+
+none_of : {X : Type 0} (xs : List X) → (length xs == 0) ≡ true → xs ≡ []
+none_of [] e = refl
+none_of (x ∷ xs) e = absurd (apart (length xs) e)
+  where
+    apart : (n : ℕ) → (suc n == 0) ≡ true → ⊥
+    apart n h = grind (arith, nat_tests)
+
+put_some : (x : Fault) (ys : List Fault) → not (length (with_one fault_cmp x ys) == 0) ≡ true
+put_some x [] = some_list x []
+put_some x (y ∷ ys) = by (fault_cmp x y)
+  where
+    by : (o : Ordering) → not (length (match_ordering o (x ∷ y ∷ ys) (y ∷ ys) (y ∷ with_one fault_cmp x ys)) == 0) ≡ true
+    by Less = some_list x (y ∷ ys)
+    by Equal = some_list y ys
+    by Greater = some_list y (with_one fault_cmp x ys)
+
+some_in_order : (xs : List Fault) → not (length (in_order fault_cmp xs) == 0) ≡ not (length xs == 0)
+some_in_order [] = refl
+some_in_order (x ∷ xs) = put_some x (in_order fault_cmp xs) ∙ sym (some_list x xs)
+
+some_of_both : (a b : List Fault) → not (length (a ++ b) == 0) ≡ (not (length a == 0) || not (length b == 0))
+some_of_both [] b = refl
+some_of_both (x ∷ a) b = some_list x (a ++ b) ∙ sym (ap (λ t. t || not (length b == 0)) (some_list x a))
+
+either_any : {X : Type 0} (P Q R : X → Bool) (xs : List X) → ((x : X) → R x ≡ (P x || Q x)) → list_any R xs ≡ (list_any P xs || list_any Q xs)
+either_any P Q R [] h = refl
+either_any P Q R (x ∷ xs) h = ap (λ b. b || list_any R xs) (h x) ∙ ap (λ b. (P x || Q x) || b) (either_any P Q R xs h) ∙ four (P x) (Q x) (list_any P xs) (list_any Q xs)
+  where
+    four : (a b c d : Bool) → ((a || b) || (c || d)) ≡ ((a || c) || (b || d))
+    four true b c d = refl
+    four false true true d = refl
+    four false true false d = refl
+    four false false c d = refl
+
+any_numbered : {X : Type 0} (P : X → Bool) (n : ℕ) (xs : List X) → list_any (λ (x : ℕ × X). P x.1) (enumerate_from n xs) ≡ list_any P xs
+any_numbered P n [] = refl
+any_numbered P n (x ∷ xs) = ap (λ b. P x || b) (any_numbered P (n + 1) xs)
+
+module _ {U I : Type 0} (m : Meaning I) (files : Files U I) (checked : AllChecked m (folder_of files) files) where
+  abbrev LoopAt : ℕ × (List ℕ × List ℕ) → Bool
+  LoopAt x = not (length (loop_faults m (folder_of files) x.0 x.1.0 x.1.1) == 0)
+
+  any_reported : list_any (λ (x : ℕ × (List ℕ × List ℕ)). not (length (reported m (folder_of files) x.0 x.1.0 x.1.1) == 0)) (enumerate_from 0 (folder_of files))
+      ≡ (list_any LoopAt (enumerate_from 0 (folder_of files)) || list_any (λ (e : String Global × KeptFile U I). not (length e.1.faults.items == 0)) files)
+  unfolding reported
+  any_reported =
+      either_any LoopAt (λ x. not (length (faults_in m (folder_of files) x.1.0 x.1.1) == 0)) _ (enumerate_from 0 (folder_of files))
+      (λ x. some_in_order (loop_faults m (folder_of files) x.0 x.1.0 x.1.1 ++ faults_in m (folder_of files) x.1.0 x.1.1)
+      ∙ some_of_both (loop_faults m (folder_of files) x.0 x.1.0 x.1.1) (faults_in m (folder_of files) x.1.0 x.1.1))
+      ∙ ap (λ b. list_any LoopAt (enumerate_from 0 (folder_of files)) || b)
+      (any_numbered (λ (e : List ℕ × List ℕ). not (length (faults_in m (folder_of files) e.0 e.1) == 0)) 0 (folder_of files) ∙ sym (any_fault m (folder_of files) files checked))
+
+  pub status_faults : list_any (λ (e : String Global × KeptFile U I). not (length e.1.faults.items == 0)) files ≡ true → 1 ≡ status_of m (folder_of files)
+  unfolding status_of
+  status_faults h = sym (ap (λ b. cond b 1 0) (any_reported ∙ ap (λ b. list_any LoopAt (enumerate_from 0 (folder_of files)) || b) h ∙ or_true (list_any LoopAt (enumerate_from 0 (folder_of files)))))
+    where
+      or_true : (b : Bool) → (b || true) ≡ true
+      or_true true = refl
+      or_true false = refl
+
+  pub status_loops : (some : Bool) → list_any (λ (e : String Global × KeptFile U I). not (length e.1.faults.items == 0)) files ≡ false → some ≡ list_any LoopAt (enumerate_from 0 (folder_of files)) →
+      cond some 1 0 ≡ status_of m (folder_of files)
+  unfolding status_of
+  status_loops some h s = ap (λ b. cond b 1 0) (s ∙ sym (any_reported ∙ ap (λ b. list_any LoopAt (enumerate_from 0 (folder_of files)) || b) h
+      ∙ or_false (list_any LoopAt (enumerate_from 0 (folder_of files)))))
+    where
+      or_false : (b : Bool) → (b || false) ≡ b
+      or_false true = refl
+      or_false false = refl
+
+-- ---- faults in order by references to them
+
+module _ (E : Fault → Fault → Bool) where
+  dedup_from_referred : (k : Bor Fault) (xs : List (Bor Fault)) → referred (dedup_from (λ (x y : Bor Fault). E x.now y.now) k xs) ≡ dedup_from E k.now (referred xs)
+  dedup_from_referred k [] = refl
+  dedup_from_referred k (x ∷ xs) = by (E x.now k.now) (dedup_from_referred k xs) (dedup_from_referred x xs)
+    where
+      by : (b : Bool) → referred (dedup_from (λ (x y : Bor Fault). E x.now y.now) k xs) ≡ dedup_from E k.now (referred xs)
+          → referred (dedup_from (λ (x y : Bor Fault). E x.now y.now) x xs) ≡ dedup_from E x.now (referred xs)
+          → referred (cond b (dedup_from (λ (x y : Bor Fault). E x.now y.now) k xs) (k ∷ dedup_from (λ (x y : Bor Fault). E x.now y.now) x xs))
+          ≡ cond b (dedup_from E k.now (referred xs)) (k.now ∷ dedup_from E x.now (referred xs))
+      by true left right = left
+      by false left right = ap (λ l. k.now ∷ l) right
+
+  dedup_referred : (xs : List (Bor Fault)) → referred (dedup (λ (x y : Bor Fault). E x.now y.now) xs) ≡ dedup E (referred xs)
+  dedup_referred [] = refl
+  dedup_referred (x ∷ xs) = dedup_from_referred x xs
+
+sorted_referred : (xs : List (Bor Fault)) → IsSorted (λ x y. fault_cmp x.now y.now) xs → IsSorted fault_cmp (referred xs)
+sorted_referred [] s k d low high = absurd (omega (arith, high))
+sorted_referred (y ∷ ys) s k d low high =
+    let n : length (referred (y ∷ ys)) ≡ length (y ∷ ys) = length-map (y ∷ ys) (λ (r : Bor Fault). r.now) in
+    let next : get_or (referred (y ∷ ys)) (k + 1) d ≡ (get_or (y ∷ ys) (k + 1) y).now = get_or-map (λ (r : Bor Fault). r.now) (y ∷ ys) (k + 1) y d (omega (arith, n, high)) in
+    let here : get_or (referred (y ∷ ys)) k d ≡ (get_or (y ∷ ys) k y).now = get_or-map (λ (r : Bor Fault). r.now) (y ∷ ys) k y d (omega (arith, n, high)) in
+    ap (λ v. is_lt (fault_cmp v (get_or (referred (y ∷ ys)) k d))) next ∙ ap (λ v. is_lt (fault_cmp (get_or (y ∷ ys) (k + 1) y).now v)) here ∙ s k y low (omega (arith, n, high))
+
+pub ordered_referred : (xs sorted out : List (Bor Fault)) → IsPermutation xs sorted → IsSorted (λ x y. derived.ghosts.cmp x.now y.now) sorted →
+    out ≡ dedup (λ (x y : Bor Fault). derived_eq.ghosts.eq x.now y.now) sorted → referred out ≡ fault_list (referred xs)
+ordered_referred xs sorted out moved by_cmp is =
+    let order : IsSorted (λ (x y : Bor Fault). fault_cmp x.now y.now) sorted =
+    subst (λ (cmp : Fault → Fault → Ordering). IsSorted (λ (x y : Bor Fault). cmp x.now y.now) sorted) (λ i x y. derived_is x y i) by_cmp in
+    ap referred is ∙ dedup_referred derived_eq.ghosts.eq sorted
+    ∙ dedup-in_order fault_cmp_total fault_cmp_same derived_eq.ghosts.eq derived_ties (referred xs) (referred sorted) (IsPermutation-map (λ (r : Bor Fault). r.now) xs sorted moved)
+    (sorted_referred sorted order)
+
+-- what is printed of each fault that is referred to
+pub flat_map-referred : (f : Fault → List ℕ) (xs : List (Bor Fault)) → flat_map (λ (r : Bor Fault). f r.now) xs ≡ flat_map f (referred xs)
+flat_map-referred f [] = refl
+flat_map-referred f (x ∷ xs) = ap (λ l. f x.now ++ l) (flat_map-referred f xs)
+
+pub all-referred : (P : Fault → Type 0) (xs : List (Bor Fault)) (i : ℕ) (r : Bor Fault) → AllByRecursion P (referred xs) → i < length xs → r ≡ get_or xs i r → P r.now
+all-referred P [] i r all lt is = absurd (omega (arith, lt))
+all-referred P (x ∷ xs) zero r all lt is = subst (λ (y : Bor Fault). P y.now) (sym is) all.0
+all-referred P (x ∷ xs) (suc i) r all lt is = all-referred P xs i r all.1 (omega (arith, lt)) is
+
+-- a list of the program joins the file's own faults to those of its loops
+pub listed_both : {U I : Type 0} (m : Meaning I) (files : Files U I) (i : ℕ) (e : String Global × KeptFile U I) (all : List Fault)
+    (list : List (Bor Fault)) → AllChecked m (folder_of files) files → slice_get files i ≡ Some e →
+    all ≡ e.1.faults.items ++ loop_faults m (folder_of files) i (string_bytes e.0) e.1.bytes.items → referred list ≡ fault_list all →
+    referred list ≡ reported m (folder_of files) i (string_bytes e.0) e.1.bytes.items
+unfolding reported
+listed_both m files i e all list checked at a o =
+    let own = faults_in m (folder_of files) (string_bytes e.0) e.1.bytes.items in
+    let looping = loop_faults m (folder_of files) i (string_bytes e.0) e.1.bytes.items in
+    o ∙ ap fault_list (a ∙ ap (λ x. x ++ looping) (checked_number m (folder_of files) files i e checked at))
+    ∙ fault_list-permutation (own ++ looping) (looping ++ own) (IsPermutation-append_comm own looping)
+
+-- what is listed of a file
+module _ {U I : Type 0} (m : Meaning I) (ordered : (p b : List ℕ) (given : List (Option I)) → IsStrictlySortedBy fault_cmp (m.faults p b given)) (files : Files U I) (i : ℕ)
+    (e : String Global × KeptFile U I) (own loops : List Fault) (joined : List (Bor Fault)) (checked : AllChecked m (folder_of files) files) (at : slice_get files i ≡ Some e)
+    (is : own ≡ e.1.faults.items) (all : loops ≡ loop_faults m (folder_of files) i (string_bytes e.0) e.1.bytes.items) (now : referred joined ≡ joined_faults own loops) where
+  none_listed : loops ≡ [] → listed e.1 joined ≡ reported m (folder_of files) i (string_bytes e.0) e.1.bytes.items
+  none_listed none =
+      let empty : referred joined ≡ [] = now ∙ ap (joined_faults own) none in
+      let n : length (referred joined) ≡ length joined = length-map joined (λ (r : Bor Fault). r.now) in
+      let no : (length joined == 0) ≡ true = ap (λ k. k == 0) (sym n ∙ ap length empty) in
+      ap (λ b. cond b e.1.faults.items (referred joined)) no
+      ∙ own_reported m ordered (folder_of files) i (string_bytes e.0) e.1.bytes.items e.1.faults.items (checked_number m (folder_of files) files i e checked at) (sym all ∙ none)
+
+  some_listed : (length loops == 0) ≡ false → listed e.1 joined ≡ reported m (folder_of files) i (string_bytes e.0) e.1.bytes.items
+  some_listed some =
+      let put : referred joined ≡ fault_list (own ++ loops) = now ∙ ap (λ b. cond b [] (fault_list (own ++ loops))) some in
+      let n : length (referred joined) ≡ length joined = length-map joined (λ (r : Bor Fault). r.now) in
+      let told : not (length joined == 0) ≡ true =
+      ap (λ k. not (k == 0)) (sym n ∙ ap length put) ∙ some_in_order (own ++ loops) ∙ some_of_both own loops ∙ ap (λ b. not (length own == 0) || not b) some ∙ or_true (not (length own == 0)) in
+      ap (λ b. cond b e.1.faults.items (referred joined)) (other (length joined == 0) told)
+      ∙ listed_both m files i e (own ++ loops) joined checked at (ap (λ l. l ++ loops) is ∙ ap (λ l. e.1.faults.items ++ l) all) put
+    where
+      or_true : (b : Bool) → (b || true) ≡ true
+      or_true true = refl
+      or_true false = refl
+
+      other : (b : Bool) → not b ≡ true → b ≡ false
+      other false h = refl
+      other true h = absurd (wrong h)
+        where
+          wrong : false ≡ true → ⊥
+          wrong h = cc
+
+  pub listed_is : listed e.1 joined ≡ reported m (folder_of files) i (string_bytes e.0) e.1.bytes.items
+  listed_is = by (length loops == 0) refl
+    where
+      by : (b : Bool) → (length loops == 0) ≡ b → listed e.1 joined ≡ reported m (folder_of files) i (string_bytes e.0) e.1.bytes.items
+      by true none = none_listed (none_of loops none)
+      by false some = some_listed some
+
+-- ---- elements by their numbers
+
+module _ {X : Type 0} (P : ℕ → X → Type 0) where
+  pub numbered_none : (all : List X) → all ≡ [] → AreNumbered P 0 all
+  numbered_none all none = record { number = ap length none; each = λ i x below is. absurd (omega (arith, below)) }
+
+  pub numbered_more : (n : ℕ) (old new : List X) (x : X) → AreNumbered P n old → P n x → new ≡ old ++ x ∷ [] → AreNumbered P (n + 1) new
+  numbered_more n old new x are one more = record {
+    number = let all = length-append old (x ∷ []) in let before = are.number in omega (arith, ap length more, all, before);
+    each = λ i y below is.
+        ⊎_elim
+        (λ lt. let inside : i < length old = let before = are.number in omega (arith, lt, before) in
+        are.each i y lt (is ∙ ap (λ l. get_or l i y) more ∙ get_or_append_left old (x ∷ []) y i inside))
+        (λ past. let before = are.number in
+        let same : n ≡ i = omega (arith, past, below) in
+        let at : i ≡ length old + 0 = omega (arith, same, before) in
+        let last : y ≡ x = is ∙ ap (λ l. get_or l i y) more ∙ ap (λ k. get_or (old ++ x ∷ []) k y) at ∙ get_or-append-add old (x ∷ []) 0 y in
+        subst (λ k. P k y) same (subst (P n) (sym last) one))
+        (cases_lt i n);
+  }

@@ -1,0 +1,49 @@
+use Rattle.std.proofs.Common.{arith, ◌∙◌, ap, length, subst, List, ℕ}
+use Rattle.std.specs.Io.KnownBytes.{Appends}
+use Rattle.std.specs.List.{flat_map}
+use Rattle.std.proofs.lemmas.List.{take_all}
+use Rattle.std.proofs.lemmas.Result.{err_from_is_err_and}
+use Rattle.al_base.specs.Counted.{AppendsPrefix}
+use Rattle.al_base.specs.declared.faults.Fault.{Fault}
+use Rattle.al_base.specs.Spans.{LiesIn}
+use Rattle.al_base.proofs.Bytes.{Appends-next, AppendsPrefix-next}
+use Rattle.al_text.specs.Snippets.{fault_text}
+use Rattle.al_session_folder.proofs.ListedFaults.{all-referred, flat_map-referred}
+use Rattle.al_session_folder.proofs.report.write_referred.Goals as goal
+
+pub location_after-location-requires-clause-within : goal.location_after-location-requires-clause-within
+location_after-location-requires-clause-within g c =
+    let in_file = all-referred (λ (fault : Fault). LiesIn (length c.args.bytes.now) fault.span) c.args.faults.now c.loop-fault.fault-index c.fault-item.result c.requires.within
+    (omega (arith, c.loop-fault-test.true)) c.fault-item.is in
+    let start = in_file.ordered in let end = in_file.inside in omega (arith, start, end)
+
+pub write_fault_at-requires-clause-within : goal.write_fault_at-requires-clause-within
+write_fault_at-requires-clause-within g c =
+    all-referred (λ (fault : Fault). LiesIn (length c.args.bytes.now) fault.span) c.args.faults.now c.loop-fault.fault-index c.fault-item.result c.requires.within
+    (omega (arith, c.loop-fault-test.true)) c.fault-item.is
+
+pub returns-in_err-write_fault_at-clause-prefix : goal.returns-in_err-write_fault_at-clause-prefix
+returns-in_err-write_fault_at-clause-prefix g c =
+    let p = err_from_is_err_and c.from_residual.result c.from_residual.ensures.1 in
+    let front = AppendsPrefix-next (λ r. fault_text c.args.oneline c.args.path.now c.args.bytes.now r.now) c.args.faults.now c.loop-fault.fault-index
+    c.fault-item.result (omega (arith, c.loop-fault-test.true)) c.fault-item.is _ _ _ c.loop-fault.invariant.appended
+    c.in_err-write_fault_at.ensures.prefix in
+    rw p.1 (subst (λ (l : List ℕ). AppendsPrefix (g.W.Write.contents c.args.writer.now.inner) (g.W.Write.contents c.write_fault_at.new.writer.inner) l)
+    (flat_map-referred (fault_text c.args.oneline c.args.path.now c.args.bytes.now) c.args.faults.now) front)
+
+pub loop-fault-preserved : goal.loop-fault-preserved
+loop-fault-preserved g c = record {
+  appended = Appends-next (λ r. fault_text c.args.oneline c.args.path.now c.args.bytes.now r.now) c.args.faults.now c.loop-fault.fault-index
+      c.fault-item.result (omega (arith, c.loop-fault-test.true)) c.fault-item.is _ _ _ c.loop-fault.invariant.appended
+      c.in_ok-write_fault_at.ensures.all;
+  unfailed = c.in_ok-write_fault_at.ensures.failures ∙ c.loop-fault.invariant.unfailed;
+  line = c.location_after-location.ensures.line;
+  column = c.location_after-location.ensures.column;
+  start = c.location_after-location.ensures.start;
+}
+
+pub returns-clause-all : goal.returns-clause-all
+returns-clause-all g c =
+    let whole = ap (flat_map (λ r. fault_text c.args.oneline c.args.path.now c.args.bytes.now r.now)) (take_all c.loop-fault.fault-index c.args.faults.now (omega (arith, c.loop-fault-test.false)))
+    ∙ flat_map-referred (fault_text c.args.oneline c.args.path.now c.args.bytes.now) c.args.faults.now in
+    subst (λ (l : List ℕ). Appends (g.W.Write.contents c.args.writer.now.inner) (g.W.Write.contents c.loop-fault.writer.inner) l) whole c.loop-fault.invariant.appended

@@ -1,0 +1,111 @@
+//! The faults of calls that lead back to their own file, joined with the file's others.
+
+ghost use Rattle.std.specs.Prelude.{◌≡◌, ◌++◌, ◌==◌, IfOk, OnOk, length, not};
+ghost use Rattle.std.specs.List.{enumerate_from, list_any};
+ghost use Rattle.al_base.specs.FaultLists.{fault_list};
+ghost use Rattle.al_session_folder.specs.Kept.{AreKept, folder_of, referred};
+ghost use Rattle.al_session_folder.specs.Loops as loops;
+ghost use Rattle.al_session_folder.specs.Private.CallGraphs.{IsCallGraph};
+ghost use Rattle.al_session_folder.specs.Checked.{AllChecked};
+ghost use Rattle.al_session_folder.specs.Private.Printing.{AreListed, AreLoops, joined_faults};
+
+use al_base::Fault;
+use al_session_folder::{CallGraph, Files, Lint, file_number, is_on_loop, loop_faults};
+use std::alloc::{AllocError, Global};
+
+// Adds references to faults.
+fn add_references<'a>(faults: &'a [Fault], out: &mut Vec<&'a Fault>) -> Result<(), AllocError>
+    ensures { OnOk result (referred out.new.items ≡ referred out.old.items ++ faults.now) }
+{
+    for fault in faults {
+        out.push(fault)?;
+    }
+    Ok(())
+}
+
+// Puts the faults that are referred to in the order of reports, each once.
+fn put_in_order(faults: &mut Vec<&Fault>)
+    ensures { referred faults.new.items ≡ fault_list (referred faults.old.items) }
+{
+    faults.sort_unstable();
+    faults.dedup();
+}
+
+// A file's own faults and those of its calls that lead back to it, in the order of reports, each once; none where no call does.
+fn join_faults<'a>(
+    alloc: Global,
+    own: &'a [Fault],
+    loops: &'a [Fault],
+) -> Result<Vec<&'a Fault>, AllocError>
+    ensures { IfOk result (λ joined. referred joined.items ≡ joined_faults own.now loops.now) }
+{
+    let mut joined = Vec::new(alloc);
+    if loops.is_empty() {
+        return Ok(joined);
+    }
+    // The file's own faults are in order, and few stand behind its first call: so they are put in order fastest from the front.
+    add_references(own, &mut joined)?;
+    add_references(loops, &mut joined)?;
+    put_in_order(&mut joined);
+    Ok(joined)
+}
+
+/// The faults of the calls that lead back to their own file, for each file in order.
+///
+/// # Errors
+///
+/// [`AllocError`] where memory ran out.
+pub fn find_loops<L: Lint>(
+    lint: &L,
+    alloc: Global,
+    files: &Files<L::Unit, L::Iface>,
+    calls: &CallGraph,
+) -> Result<Vec<Vec<Fault>>, AllocError>
+    requires kept { AreKept L.meaning L.is_unit files.now.entries }
+    requires calls { IsCallGraph L.meaning (folder_of files.now.entries) calls.now.graph.items calls.now.labels.items }
+    ensures { IfOk result (λ loops. AreLoops L.meaning files.now.entries loops.items) }
+{
+    let mut loops = Vec::with_capacity(alloc, files.len())?;
+    for index in 0..files.len() {
+        loops.push(loop_faults(lint, alloc, files, calls, index)?)?;
+    }
+    Ok(loops)
+}
+
+/// What a report lists of each file in order, by these faults of calls that lead back to it; none where there are no such: then its own
+/// faults are listed.
+///
+/// # Errors
+///
+/// [`AllocError`] where memory ran out.
+pub fn join_files<'a, L: Lint>(
+    alloc: Global,
+    files: &'a Files<L::Unit, L::Iface>,
+    loops: &'a [Vec<Fault>],
+) -> Result<Vec<Vec<&'a Fault>>, AllocError>
+    requires checked { AllChecked L.meaning (folder_of files.now.entries) files.now.entries }
+    requires loops { AreLoops L.meaning files.now.entries loops.now }
+    ensures { IfOk result (λ joined. AreListed L.meaning files.now.entries joined.items) }
+{
+    let mut joined = Vec::with_capacity(alloc, files.len())?;
+    for index in 0..files.len() {
+        let (_, file) = file_number(files, index);
+        joined.push(join_faults(alloc, &file.faults, &loops[index])?)?;
+    }
+    Ok(joined)
+}
+
+/// Whether a call of a file leads back to it. Takes no memory.
+pub fn has_loops<L: Lint>(files: &Files<L::Unit, L::Iface>, calls: &CallGraph) -> bool
+    requires { IsCallGraph L.meaning (folder_of files.now.entries) calls.now.graph.items calls.now.labels.items }
+    ensures { result ≡ list_any (λ x. not (length
+        (loops.loop_faults L.meaning (folder_of files.now.entries) x.0 x.1.0 x.1.1) == 0))
+        (enumerate_from 0 (folder_of files.now.entries)) }
+{
+    for index in 0..files.len() {
+        if is_on_loop::<L>(files, calls, index) {
+            return true;
+        }
+    }
+    false
+}

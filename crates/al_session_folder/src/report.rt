@@ -1,0 +1,131 @@
+//! What is printed of a folder's files.
+
+ghost use Rattle.std.specs.Prelude.{◌≡◌, ◌≤◌, not, length, ◌==◌, OnOk, OnErr, IsOkUnless};
+ghost use Rattle.std.specs.List.{AllByRecursion, enumerate_from, flat_map, list_any};
+ghost use Rattle.std.specs.Io.KnownBytes.{Appends};
+ghost use Rattle.al_base.specs.Counted.{HasRisen, AppendsPrefix};
+ghost use Rattle.al_base.specs.Limits.{largest_file};
+ghost use Rattle.al_base.specs.LineStarts.{line_starts};
+ghost use Rattle.al_base.specs.Spans.{LiesIn};
+ghost use Rattle.al_text.specs.Snippets.{fault_text};
+ghost use Rattle.al_base.specs.Streams.{bytes_written, write_failures};
+ghost use Rattle.al_session_folder.specs.Kept.{folder_of, referred};
+ghost use Rattle.al_session_folder.specs.Private.Printing.{AreListed, ArePrintable, IsPrintable, lines_of, listed, numbered_lines};
+
+use al_base::{Fault, Lines, Location, Output, Stop};
+use al_session_folder::{Files, KeptFile, Lint, file_number};
+use al_text::{write_fault_at, write_faults};
+use std::io::Write;
+
+/// Whether a file has a fault of its own. Takes no memory.
+pub fn has_faults<U, I>(files: &Files<U, I>) -> bool
+    ensures { result ≡ list_any (λ e. not (length e.1.faults.items == 0)) files.now.entries }
+{
+    for index in 0..files.len() {
+        let (_, file) = file_number(files, index);
+        if !is_clean(file) {
+            return true;
+        }
+    }
+    false
+}
+
+// Whether a file has no fault.
+fn is_clean<U, I>(file: &KeptFile<U, I>) -> bool
+    ensures { result ≡ (length file.now.faults.items == 0) }
+{
+    file.faults.is_empty()
+}
+
+/// Writes the faults that a report lists of all files, file by file in order of path: each as its line, and its snippet unless `oneline` is
+/// asked for. What is listed is what [`join_files`](crate::join_files) joined. Takes no memory.
+///
+/// # Errors
+///
+/// [`Stop::WriteFault`] where the writer failed, which then holds a prefix of what was to be written. No other stop is answered.
+pub fn write_files<L: Lint, W: Write>(
+    writer: &mut Output<W>,
+    files: &Files<L::Unit, L::Iface>,
+    joined: &[Vec<&Fault>],
+    oneline: bool,
+) -> Result<(), Stop>
+    requires listed { AreListed L.meaning files.now.entries joined.now }
+    requires printable { ArePrintable L.meaning files.now.entries }
+    ensures all { OnOk result (Appends (bytes_written W.contents writer.old) (bytes_written W.contents writer.new)
+        (flat_map (numbered_lines oneline L.meaning (folder_of files.now.entries)) (enumerate_from 0 files.now.entries))) }
+    ensures prefix { OnErr result (AppendsPrefix (bytes_written W.contents writer.old) (bytes_written W.contents writer.new)
+        (flat_map (numbered_lines oneline L.meaning (folder_of files.now.entries)) (enumerate_from 0 files.now.entries))) }
+    ensures failures { OnOk result (write_failures writer.new ≡ write_failures writer.old) }
+    ensures failed { OnErr result (HasRisen (write_failures writer.old) (write_failures writer.new)) }
+    ensures err { IsOkUnless result Stop.WriteFault }
+{
+    for index in 0..files.len() {
+        let (path, file) = file_number(files, index);
+        write_file(writer, path.as_str(), file, &joined[index], oneline)?;
+    }
+    Ok(())
+}
+
+// Writes the listed faults of one file: those that were joined, or its own where none were.
+fn write_file<U, I, W: Write>(
+    writer: &mut Output<W>,
+    path: &str,
+    file: &KeptFile<U, I>,
+    joined: &[&Fault],
+    oneline: bool,
+) -> Result<(), Stop>
+    requires { IsPrintable file.now (listed file.now joined.now) }
+    ensures all { OnOk result (Appends (bytes_written W.contents writer.old) (bytes_written W.contents writer.new)
+        (lines_of oneline path.now file.now (listed file.now joined.now))) }
+    ensures prefix { OnErr result (AppendsPrefix (bytes_written W.contents writer.old) (bytes_written W.contents writer.new)
+        (lines_of oneline path.now file.now (listed file.now joined.now))) }
+    ensures failures { OnOk result (write_failures writer.new ≡ write_failures writer.old) }
+    ensures failed { OnErr result (HasRisen (write_failures writer.old) (write_failures writer.new)) }
+    ensures err { IsOkUnless result Stop.WriteFault }
+{
+    if !joined.is_empty() {
+        return write_referred(writer, &file.lines, path, &file.bytes, joined, oneline);
+    }
+    write_faults(
+        writer,
+        &file.lines,
+        path,
+        &file.bytes,
+        &file.faults,
+        oneline,
+    )
+}
+
+// Writes faults of a file that are referred to, as `write_faults` writes those of one list.
+fn write_referred<W: Write>(
+    writer: &mut Output<W>,
+    lines: &Lines,
+    path: &str,
+    bytes: &[u8],
+    faults: &[&Fault],
+    oneline: bool,
+) -> Result<(), Stop>
+    requires made { lines.now ≡ line_starts bytes.now }
+    requires within { AllByRecursion (λ fault. LiesIn (length bytes.now) fault.span) (referred faults.now) }
+    requires small { length bytes.now ≤ largest_file }
+    ensures all { OnOk result (Appends (bytes_written W.contents writer.old) (bytes_written W.contents writer.new)
+        (flat_map (fault_text oneline path.now bytes.now) (referred faults.now))) }
+    ensures prefix { OnErr result (AppendsPrefix (bytes_written W.contents writer.old) (bytes_written W.contents writer.new)
+        (flat_map (fault_text oneline path.now bytes.now) (referred faults.now))) }
+    ensures failures { OnOk result (write_failures writer.new ≡ write_failures writer.old) }
+    ensures failed { OnErr result (HasRisen (write_failures writer.old) (write_failures writer.new)) }
+    ensures err { IsOkUnless result Stop.WriteFault }
+{
+    let mut at = 0;
+    let mut location = Location {
+        line: 1,
+        column: 1,
+        start: 0,
+    };
+    for fault in faults {
+        location = lines.location_after(bytes, at, location, fault.span.start);
+        at = fault.span.start;
+        write_fault_at(writer, path, bytes, *fault, location, oneline)?;
+    }
+    Ok(())
+}

@@ -1,0 +1,228 @@
+-- The faults of a node that doesn't fit its shape.
+use Rattle.std.specs.Prelude.{ℕ, List, [], ◌∷◌, ◌++◌, ◌==◌, Bool, true, false, codes, map, Option, Some, None, ◌||◌, ◌&&◌, not}
+use Rattle.std.specs.Prelude.{if◌then◌else◌, find, nat_eq, length, option_map, option_and_then}
+use Rattle.std.specs.List.{flat_map, starts_with}
+use Rattle.std.specs.Option.{option_map_or}
+use Rattle.std.specs.Str.{bytes_eq}
+use Rattle.std.specs.Str.Lossy.{utf8_lossy}
+use Rattle.al_scalar.specs.Scalar.{Scalar, text_of}
+use Rattle.al_scalar.specs.declared.styles.Class.{Class}
+use Rattle.al_scalar.specs.declared.styles.Class.TheVariants as class
+use Rattle.al_scalar.specs.declared.styles.Style.{Style}
+use Rattle.al_scalar.specs.declared.styles.Style.TheVariants as style
+use Rattle.al_base.specs.declared.codes.Code.TheVariants as code
+use Rattle.al_base.specs.declared.codes.KeyCode as codes_key
+use Rattle.al_base.specs.declared.codes.KeyCode.TheVariants.{Unexpected, Missing, Repeated, WrongKind, WrongType, NotBeside, EmptyFile}
+use Rattle.al_base.specs.declared.faults.Fault.{Fault}
+use Rattle.al_base.specs.declared.faults.Span.{Span}
+use Rattle.al_yaml_tree.specs.Access.{entries, scalar_in}
+use Rattle.al_yaml_tree.specs.Node.{Node, Nodes, Entries, scalar, sequence, mapping, no_nodes, item, no_entries, entry, span_of}
+use Rattle.al_tree.specs.Keys.{key_of, key_text, keys_in}
+use Rattle.al_tree.specs.Names.{among, is_event}
+use Rattle.al_tree.specs.Table.{Field, Rule, Keys, no_keys, free, keys, rule, Need, optional, required, unless, Clash, never, after}
+use Rattle.al_tree.specs.Table.{beside, Others, wrong, wrong_beside, unchecked, events}
+use Rattle.al_tree.specs.declared.standings.Standing as rust
+use Rattle.al_tree.specs.declared.table.Shape.{Shape}
+use Rattle.al_tree.specs.declared.table.Shape.TheVariants.{On, Jobs, Job, Event, Any, Runs, NodeRuns, CompositeRuns, DockerRuns}
+use Rattle.al_tree.specs.declared.table.ScalarSet.{ScalarSet}
+use Rattle.al_tree.specs.declared.table.ScalarSet.TheVariants.{NoScalar, AnyScalar, NotNull, Bools, Numbers, Chunks}
+
+-- A fault that names these texts. Its arguments are UTF-8: bytes that aren't, of which reading a file gives none, are U+FFFD.
+abbrev pub fault : codes_key.KeyCode → Span → List (List ℕ) → Fault
+fault key at texts = record { span = at; code = code.Key key; args = map utf8_lossy texts }
+
+abbrev pub one_fault : codes_key.KeyCode → Span → List ℕ → List Fault
+one_fault key at text = fault key at (text ∷ []) ∷ []
+
+-- the text has a `${{`
+abbrev pub has_chunk : List ℕ → Bool
+has_chunk [] = false
+has_chunk (b ∷ bs) = starts_with nat_eq (b ∷ bs) (codes "${{") || has_chunk bs
+
+abbrev pub is_null_class : Class → Bool
+is_null_class class.Null = true
+is_null_class _ = false
+
+abbrev pub is_null : Scalar → Bool
+is_null s = is_null_class s.class
+
+abbrev pub is_bool_class : Class → Bool
+is_bool_class class.Bool = true
+is_bool_class _ = false
+
+abbrev pub is_number_class : Class → Bool
+is_number_class class.Int = true
+is_number_class class.Float = true
+is_number_class _ = false
+
+abbrev pub is_plain : Style → Bool
+is_plain style.Plain = true
+is_plain _ = false
+
+abbrev pub is_key : List ℕ → Node × Node → Bool
+is_key k e = bytes_eq (key_of e) k
+
+-- the value of the first entry with a key
+abbrev pub value_in : List ℕ → List (Node × Node) → Option Node
+value_in k es = option_map (λ e. e.1) (find (is_key k) es)
+
+abbrev pub unless_taken : Bool → codes_key.KeyCode → Option codes_key.KeyCode
+unless_taken taken key = if taken then None else Some key
+
+-- A scalar that isn't taken: of a wrong class where some scalars are taken, else of a wrong kind.
+abbrev pub scalar_fault : ScalarSet → Scalar → Option codes_key.KeyCode
+scalar_fault AnyScalar s = None
+scalar_fault NoScalar s = Some WrongKind
+scalar_fault NotNull s = unless_taken (not (is_null s)) WrongType
+scalar_fault Bools s = unless_taken (is_bool_class s.class || has_chunk (text_of s)) WrongType
+scalar_fault Numbers s = unless_taken (is_number_class s.class || has_chunk (text_of s)) WrongType
+scalar_fault Chunks s = unless_taken (has_chunk (text_of s)) WrongKind
+
+abbrev pub fault_if_any : Option codes_key.KeyCode → List ℕ → Span → List Fault
+fault_if_any None above at = []
+fault_if_any (Some key) above at = one_fault key at above
+
+-- `runs` by what `using` says; where that is nothing known, only `using` is checked
+abbrev pub runs_of : List ℕ → Shape
+runs_of using =
+    if among (codes "node12" ∷ codes "node16" ∷ codes "node20" ∷ codes "node24" ∷ []) using then NodeRuns
+    else (if bytes_eq using (codes "composite") then CompositeRuns
+    else (if bytes_eq using (codes "docker") then DockerRuns
+    else Runs))
+
+abbrev pub refined : Shape → List (Node × Node) → Shape
+refined Runs es = option_map_or (λ s. runs_of (text_of s)) (option_and_then scalar_in (value_in (codes "using") es)) Runs
+refined s es = s
+
+-- every key but `on`, `jobs` and a job's own takes null
+abbrev pub takes_null : Shape → Bool
+takes_null On = false
+takes_null Jobs = false
+takes_null Job = false
+takes_null _ = true
+
+-- A mapping's keys as a test. Whether a key is needed beside them:
+abbrev pub is_needed : Need → (List ℕ → Bool) → Bool
+is_needed optional all = false
+is_needed required all = true
+is_needed (unless k) all = not (all k)
+
+-- a key that is needed, and doesn't stand in the mapping that has this span
+abbrev pub missing_fault : Span → (List ℕ → Bool) → Field → List Fault
+missing_fault at all f =
+    if is_needed f.need all && not (all f.key) then one_fault Missing (record { start = at.start; end = at.start }) f.key else []
+
+abbrev pub missing_faults : Span → (List ℕ → Bool) → List Field → List Fault
+missing_faults at all = flat_map (missing_fault at all)
+
+abbrev pub if_it : (List ℕ → Bool) → List ℕ → Option (List ℕ)
+if_it test k = if test k then Some k else None
+
+-- the key that a key cannot stand beside, if it is among those that were seen, or among all
+abbrev pub clash_with : Clash → (List ℕ → Bool) → (List ℕ → Bool) → Option (List ℕ)
+clash_with never seen all = None
+clash_with (after k) seen all = if_it seen k
+clash_with (beside k) seen all = if_it all k
+
+-- How an entry stands in its mapping: its key repeats an earlier one; is no key of the mapping; isn't looked at;
+-- or its value should have a shape. A text is a key that is there and beside which it cannot stand.
+pub data Standing : Type 0 where
+  repeated : Standing
+  unexpected : Option (List ℕ) → Standing
+  ignored : Standing
+  expected : Shape → Option (List ℕ) → Standing
+
+-- the first of equal keys counts
+abbrev pub first : Bool → Standing → Standing
+first true s = repeated
+first false s = s
+
+abbrev pub event_shape : List ℕ → Shape
+event_shape k = if is_event k then Event else Any
+
+abbrev pub other_standing : Others → (List ℕ → Bool) → (List ℕ → Bool) → List ℕ → Standing
+other_standing wrong seen all k = first (seen k) (unexpected None)
+other_standing (wrong_beside u) seen all k = first (seen k) (unexpected (if_it all u))
+other_standing unchecked seen all k = ignored
+other_standing events seen all k = first (seen k) (expected (event_shape k) None)
+
+abbrev pub field_at : List ℕ → List Field → Option Field
+field_at k fs = find (λ f. bytes_eq f.key k) fs
+
+abbrev pub field_standing : Option Field → Others → (List ℕ → Bool) → (List ℕ → Bool) → List ℕ → Standing
+field_standing None others seen all k = other_standing others seen all k
+field_standing (Some f) others seen all k = first (seen k) (expected f.shape (clash_with f.clash seen all))
+
+-- how an entry with a key stands behind the keys that were seen, in a mapping with all these
+abbrev pub standing : Keys → (List ℕ → Bool) → (List ℕ → Bool) → List ℕ → Standing
+standing no_keys seen all k = ignored
+standing (free s) seen all k = first (seen k) (expected s None)
+standing (keys others fs) seen all k = field_standing (field_at k fs) others seen all k
+
+abbrev pub beside_faults : Option (List ℕ) → Node → List Fault
+beside_faults None key = []
+beside_faults (Some other) key = fault NotBeside (span_of key) (key_text key ∷ other ∷ []) ∷ []
+
+-- of an entry, given what its value has as a node of a shape
+abbrev pub entry_faults : Standing → Node → (Shape → List Fault) → List Fault
+entry_faults repeated key value = one_fault Repeated (span_of key) (key_text key)
+entry_faults (unexpected other) key value = one_fault Unexpected (span_of key) (key_text key) ++ beside_faults other key
+entry_faults ignored key value = []
+entry_faults (expected s other) key value = beside_faults other key ++ value s
+
+abbrev pub scalar_faults : Option Rule → List ℕ → Scalar → Span → List Fault
+scalar_faults None above s at = []
+scalar_faults (Some r) above s at = fault_if_any (scalar_fault r.scalars s) above at
+
+-- of a sequence, given what its items have as nodes of a shape
+abbrev pub sequence_faults : Option Rule → List Fault → (Shape → List Fault) → List Fault
+sequence_faults None misfit items = []
+sequence_faults (Some r) misfit items = option_map_or items r.items misfit
+
+-- of a mapping with these keys, given what its entries have
+abbrev pub keyed_faults : Keys → List ℕ → (List ℕ → Bool) → Span → (Keys → List Fault) → List Fault
+keyed_faults no_keys above all at inside = one_fault WrongKind at above
+keyed_faults (free s) above all at inside = inside (free s)
+keyed_faults (keys others fs) above all at inside = missing_faults at all fs ++ inside (keys others fs)
+
+abbrev pub mapping_faults : Option Rule → List ℕ → (List ℕ → Bool) → Span → (Keys → List Fault) → List Fault
+mapping_faults None above all at inside = []
+mapping_faults (Some r) above all at inside = keyed_faults r.keys_of above all at inside
+
+abbrev mutual
+  -- the faults of a node below a key, where it should have a shape and may be null or not
+  pub faults : Shape → Bool → List ℕ → Node → List Fault
+  faults shape null above (scalar s at) = if is_null s && null then [] else scalar_faults (rule shape) above s at
+  faults shape null above (sequence ns at) = sequence_faults (rule shape) (one_fault WrongKind at above) (λ s. items_faults s above ns)
+  faults shape null above (mapping es at) =
+      mapping_faults (rule (refined shape (entries es))) above (among (keys_in (entries es))) at
+      (λ ks. entries_faults ks [] (among (keys_in (entries es))) es)
+
+  -- of the items of a sequence below a key
+  pub items_faults : Shape → List ℕ → Nodes → List Fault
+  items_faults s above no_nodes = []
+  items_faults s above (item n ns) = faults s false above n ++ items_faults s above ns
+
+  -- of entries behind others with the keys that were seen, in a mapping with all these
+  pub entries_faults : Keys → List (List ℕ) → (List ℕ → Bool) → Entries → List Fault
+  entries_faults ks seen all no_entries = []
+  entries_faults ks seen all (entry k v es) =
+      entry_faults (standing ks (among seen) all (key_text k)) k (λ s. faults s (takes_null s) (key_text k) v)
+      ++ entries_faults ks (seen ++ key_text k ∷ []) all es
+
+-- nothing was written
+abbrev pub is_empty : Node → Bool
+is_empty (scalar s at) = is_plain s.style && (length s.cells == 0)
+is_empty (sequence ns at) = false
+is_empty (mapping es at) = false
+
+-- the faults of a file's root
+abbrev pub root_faults : Shape → Node → List Fault
+root_faults s n = if is_empty n then fault EmptyFile (record { start = 0; end = 0 }) [] ∷ [] else faults s false (codes "file") n
+
+-- what the program's `Standing` stands for
+abbrev pub standing_view : rust.Standing → Standing
+standing_view rust.TheVariants.Repeated = repeated
+standing_view (rust.TheVariants.Unexpected other) = unexpected (option_map (λ k. k.now) other)
+standing_view rust.TheVariants.Ignored = ignored
+standing_view (rust.TheVariants.Expected s other) = expected s (option_map (λ k. k.now) other)

@@ -1,0 +1,77 @@
+-- What stands under a key of a node. A value of a wrong kind is as if it weren't there.
+use Rattle.std.specs.Prelude.{ℕ, List, [], ◌∷◌, ◌++◌, Option, Some, None, find, option_and_then, option_map, if◌then◌else◌}
+use Rattle.std.specs.List.{filter_map}
+use Rattle.std.specs.Option.{option_map_or, option_to_list}
+use Rattle.al_base.specs.declared.faults.Span.{Span}
+use Rattle.al_scalar.specs.Scalar.{Scalar}
+use Rattle.al_yaml_tree.specs.Access.{mapping_in, scalar_in, sequence_in}
+use Rattle.al_yaml_tree.specs.Node.{Node, span_of}
+use Rattle.al_yaml_tree.specs.View.{view}
+use Rattle.al_tree.specs.Faults.{is_key, is_null, value_in}
+use Rattle.al_tree.specs.Keys.{key_of}
+use Rattle.al_tree.specs.Names.{among}
+use Rattle.al_tree.specs.declared.values.Member.{Member}
+use Rattle.al_tree.specs.declared.values.ScalarNode.{ScalarNode}
+
+-- the entries whose keys no earlier one has, behind entries with the keys that were seen
+abbrev pub firsts : List (List ℕ) → List (Node × Node) → List (Node × Node)
+firsts seen [] = []
+firsts seen (e ∷ es) = (if among seen (key_of e) then [] else e ∷ []) ++ firsts (seen ++ key_of e ∷ []) es
+
+-- the entries of a mapping, of equal keys the first; else none
+abbrev pub entries_in : Node → List (Node × Node)
+entries_in n = option_map_or (firsts []) (mapping_in n) []
+
+-- the items of a sequence, else none
+abbrev pub items_in : Node → List Node
+items_in n = option_map_or (λ ns. ns) (sequence_in n) []
+
+-- the node of a key where it first stands
+abbrev pub key_in : List ℕ → List (Node × Node) → Option Node
+key_in k es = option_map (λ e. e.0) (find (is_key k) es)
+
+abbrev pub key_at : List ℕ → Node → Option Node
+key_at k n = option_and_then (key_in k) (mapping_in n)
+
+-- the value of the first entry with a key
+abbrev pub value_at : List ℕ → Node → Option Node
+value_at k n = option_and_then (value_in k) (mapping_in n)
+
+-- the value below a path of keys
+abbrev pub value_below : List (List ℕ) → Node → Option Node
+value_below [] n = Some n
+value_below (k ∷ ks) n = option_and_then (value_below ks) (value_at k n)
+
+abbrev pub unless_null : Scalar → Option Scalar
+unless_null s = if is_null s then None else Some s
+
+-- a scalar that isn't null, with the span of its written form
+abbrev pub text_in : Node → Option (Scalar × Span)
+text_in n = option_map (λ s. (s, span_of n)) (option_and_then unless_null (scalar_in n))
+
+abbrev pub text_at : List ℕ → Node → Option (Scalar × Span)
+text_at k n = option_and_then text_in (value_at k n)
+
+abbrev pub text_below : List (List ℕ) → Node → Option (Scalar × Span)
+text_below ks n = option_and_then text_in (value_below ks n)
+
+-- what a scalar or a sequence of scalars says
+abbrev pub texts_in : Node → List (Scalar × Span)
+texts_in n = option_map_or (filter_map text_in) (sequence_in n) (option_to_list (text_in n))
+
+-- the entries, the items and the texts under a key
+abbrev pub entries_at : List ℕ → Node → List (Node × Node)
+entries_at k n = option_map_or entries_in (value_at k n) []
+
+abbrev pub items_at : List ℕ → Node → List Node
+items_at k n = option_map_or items_in (value_at k n) []
+
+abbrev pub texts_at : List ℕ → Node → List (Scalar × Span)
+texts_at k n = option_map_or texts_in (value_at k n) []
+
+-- what the program's views of a scalar and of an entry stand for
+abbrev pub scalar_node_of : ScalarNode → Scalar × Span
+scalar_node_of s = (s.scalar.now, s.span)
+
+abbrev pub member_of : Member → Node × Node
+member_of m = (view m.key.now, view m.value.now)

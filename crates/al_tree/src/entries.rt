@@ -1,0 +1,61 @@
+//! The first entry of a mapping with a key.
+
+ghost use Rattle.al_tree.specs.Faults.{is_key, value_in};
+ghost use Rattle.al_tree.specs.Values.{key_in};
+ghost use Rattle.al_yaml_tree.specs.Access.{scalar_in};
+ghost use Rattle.al_yaml_tree.specs.View.{entry_view, view};
+ghost use Rattle.std.specs.Option.{option_copied};
+ghost use Rattle.std.specs.Prelude.{◌≡◌, find, map, option_and_then, option_map};
+
+use crate::keys::key_of;
+use al_scalar::Scalar;
+use al_yaml_tree::{Entry, Node};
+
+/// The key of an entry.
+#[tactic(auto, using(al_yaml_tree::proofs::ViewLemmas::entry_parts))]
+fn key_node(entry: &Entry) -> &Node
+    ensures { view result.now ≡ (entry_view entry.now).0 }
+{
+    &entry.key
+}
+
+/// The value of an entry.
+#[tactic(auto, using(al_yaml_tree::proofs::ViewLemmas::entry_parts))]
+fn value_of(entry: &Entry) -> &Node
+    ensures { view result.now ≡ (entry_view entry.now).1 }
+{
+    &entry.value
+}
+
+/// The first entry with a key.
+fn entry_among<'a>(entries: &'a [Entry], key: &str) -> Option<&'a Entry>
+    ensures { option_map (λ e. entry_view e.now) result ≡ find (is_key key.now) (map entry_view entries.now) }
+{
+    for entry in entries {
+        if key_of(entry) == key.as_bytes() {
+            return Some(entry);
+        }
+    }
+    None
+}
+
+/// The node of a key where it first stands.
+pub(crate) fn key_among<'a>(entries: &'a [Entry], key: &str) -> Option<&'a Node>
+    ensures { option_map (λ n. view n.now) result ≡ key_in key.now (map entry_view entries.now) }
+{
+    Some(key_node(entry_among(entries, key)?))
+}
+
+/// The value of the first entry with a key.
+pub(crate) fn value_among<'a>(entries: &'a [Entry], key: &str) -> Option<&'a Node>
+    ensures { option_map (λ n. view n.now) result ≡ value_in key.now (map entry_view entries.now) }
+{
+    Some(value_of(entry_among(entries, key)?))
+}
+
+/// The scalar that the first entry with a key has as its value.
+pub(crate) fn scalar_among<'a>(entries: &'a [Entry], key: &str) -> Option<&'a Scalar>
+    ensures { option_copied result ≡ option_and_then scalar_in (value_in key.now (map entry_view entries.now)) }
+{
+    value_among(entries, key)?.scalar()
+}

@@ -1,0 +1,158 @@
+//! How a key stands in its mapping: known, unknown, given twice or beside one that excludes it.
+
+ghost use Rattle.al_tree.specs.Faults.{clash_with, event_shape as event, field_at, if_it, is_needed as needed, other_standing, refined};
+ghost use Rattle.al_tree.specs.Faults.{runs_of as runs, standing as stands, standing_view, takes_null as null_taken};
+ghost use Rattle.al_tree.specs.Keys.{holds};
+ghost use Rattle.al_tree.specs.Table.{clash_of, field_of, keys_view, need_of, others_of};
+ghost use Rattle.al_yaml_tree.specs.View.{entry_view};
+ghost use Rattle.std.specs.Prelude.{◌≡◌, map, option_map};
+
+use crate::entries::scalar_among;
+use crate::keys::KeySet;
+use crate::names::{is_among, is_event};
+use crate::table::{Clash, Keys, Need, Others, Row, Shape};
+use al_yaml_tree::Entry;
+
+/// The section that `runs` is, by what `using` says.
+fn runs_of(using_text: &[u8]) -> Shape
+    ensures { result ≡ runs using_text.now }
+{
+    if is_among(using_text, &["node12", "node16", "node20", "node24"]) {
+        Shape::NodeRuns
+    } else if using_text == "composite".as_bytes() {
+        Shape::CompositeRuns
+    } else if using_text == "docker".as_bytes() {
+        Shape::DockerRuns
+    } else {
+        Shape::Runs
+    }
+}
+
+/// The shape of a mapping with these entries, which for `runs` depends on one of its keys.
+pub fn refine(shape: Shape, entries: &[Entry]) -> Shape
+    ensures { result ≡ refined shape (map entry_view entries.now) }
+{
+    match shape {
+        Shape::Runs => match scalar_among(entries, "using") {
+            Some(scalar) => runs_of(scalar.text()),
+            None => Shape::Runs,
+        },
+        _ => shape,
+    }
+}
+
+/// Whether the value of a key may be null where it should have a shape.
+pub(crate) fn takes_null(shape: Shape) -> bool
+    ensures { result ≡ null_taken shape }
+{
+    !matches!(shape, Shape::On | Shape::Jobs | Shape::Job)
+}
+
+/// The row of a key.
+fn row_at<'a>(rows: &'a [Row], key: &[u8]) -> Option<&'a Row>
+    ensures { option_map (λ r. field_of r.now) result ≡ field_at key.now (map field_of rows.now) }
+{
+    for row in rows {
+        if row.key.as_bytes() == key {
+            return Some(row);
+        }
+    }
+    None
+}
+
+/// Whether a key has to stand in a mapping with these keys.
+pub(crate) fn is_needed(need: Need, all: &KeySet<'_>) -> bool
+    ensures { result ≡ needed (need_of need) (holds all.now) }
+{
+    match need {
+        Need::May => false,
+        Need::Must => true,
+        Need::Unless(other) => !all.contains(other.as_bytes()),
+    }
+}
+
+/// How an entry stands in its mapping. A text is a key that is there and beside which it cannot stand.
+#[derive(Clone, Copy)]
+pub enum Standing {
+    Repeated,
+    Unexpected(Option<&'static str>),
+    Ignored,
+    Expected(Shape, Option<&'static str>),
+}
+
+/// A key, if it is in a set.
+fn if_in(set: &KeySet<'_>, key: &'static str) -> Option<&'static str>
+    ensures { option_map (λ k. k.now) result ≡ if_it (holds set.now) key.now }
+{
+    if set.contains(key.as_bytes()) {
+        Some(key)
+    } else {
+        None
+    }
+}
+
+/// The key that a key cannot stand beside, if it is there.
+fn clash(clash: Clash, seen: &KeySet<'_>, all: &KeySet<'_>) -> Option<&'static str>
+    ensures { option_map (λ k. k.now) result ≡ clash_with (clash_of clash) (holds seen.now) (holds all.now) }
+{
+    match clash {
+        Clash::Never => None,
+        Clash::After(other) => if_in(seen, other),
+        Clash::Beside(other) => if_in(all, other),
+    }
+}
+
+/// The shape of an event's filters; that of any value where there is no such event.
+fn event_shape(key: &[u8]) -> Shape
+    ensures { result ≡ event key.now }
+{
+    if is_event(key) {
+        Shape::Event
+    } else {
+        Shape::Any
+    }
+}
+
+/// How an entry without a row stands.
+fn standing_without_row<'a>(
+    others: Others,
+    seen: &KeySet<'a>,
+    all: &KeySet<'_>,
+    key: &'a [u8],
+) -> Standing
+    ensures { standing_view result ≡ other_standing (others_of others) (holds seen.now) (holds all.now) key.now }
+{
+    match others {
+        Others::Unchecked => Standing::Ignored,
+        _ if seen.contains(key) => Standing::Repeated,
+        Others::Wrong => Standing::Unexpected(None),
+        Others::WrongBeside(other) => Standing::Unexpected(if_in(all, other)),
+        Others::Events => Standing::Expected(event_shape(key), None),
+    }
+}
+
+/// How an entry with a key stands behind the keys that were seen, in a mapping with all these.
+pub fn standing_of<'a>(keys: Keys, seen: &KeySet<'a>, all: &KeySet<'_>, key: &'a [u8]) -> Standing
+    ensures { standing_view result ≡ stands (keys_view keys) (holds seen.now) (holds all.now) key.now }
+{
+    match keys {
+        Keys::No => Standing::Ignored,
+        Keys::Free(shape) => {
+            if seen.contains(key) {
+                Standing::Repeated
+            } else {
+                Standing::Expected(shape, None)
+            }
+        }
+        Keys::These(rows, others) => match row_at(rows, key) {
+            None => standing_without_row(others, seen, all, key),
+            Some(row) => {
+                if seen.contains(key) {
+                    Standing::Repeated
+                } else {
+                    Standing::Expected(row.shape, clash(row.clash, seen, all))
+                }
+            }
+        },
+    }
+}

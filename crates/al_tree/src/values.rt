@@ -1,0 +1,187 @@
+//! Items, values and texts of nodes, where they have the kind that is asked for.
+
+ghost use Rattle.al_tree.specs.Values.{entries_at, entries_in, firsts, items_at, items_in, key_at, member_of, text_at, text_in};
+ghost use Rattle.al_tree.specs.Values.{texts_at, texts_in, unless_null, value_at, scalar_node_of};
+ghost use Rattle.al_yaml_tree.specs.View.{entry_view, view};
+ghost use Rattle.std.specs.List.{filter_map};
+ghost use Rattle.std.specs.Option.{option_copied};
+ghost use Rattle.std.specs.Prelude.{◌≡◌, [], map, option_map, IfOk};
+
+use crate::entries::{key_among, value_among};
+use crate::keys::{KeySet, key_of};
+use crate::scalars::is_null_scalar;
+use al_base::Span;
+use al_scalar::Scalar;
+use al_yaml_tree::{Entry, Node};
+use std::alloc::{AllocError, Global};
+use std::slice;
+
+/// The items of a sequence, else none.
+pub fn items(node: &Node) -> &[Node]
+    ensures { map view result.now ≡ items_in (view node.now) }
+{
+    match node.sequence() {
+        Some(items) => items,
+        None => &[],
+    }
+}
+
+/// The value of the first entry with a key; none where the node is no mapping.
+pub fn value<'a>(node: &'a Node, key: &str) -> Option<&'a Node>
+    ensures { option_map (λ n. view n.now) result ≡ value_at key.now (view node.now) }
+{
+    value_among(node.mapping()?, key)
+}
+
+/// The node of a key where it first stands; none where the node is no mapping.
+pub fn key<'a>(node: &'a Node, key: &str) -> Option<&'a Node>
+    ensures { option_map (λ n. view n.now) result ≡ key_at key.now (view node.now) }
+{
+    key_among(node.mapping()?, key)
+}
+
+/// A scalar that isn't null.
+fn unless_null_scalar(scalar: &Scalar) -> Option<&Scalar>
+    ensures { option_copied result ≡ unless_null scalar.now }
+{
+    if is_null_scalar(scalar) {
+        None
+    } else {
+        Some(scalar)
+    }
+}
+
+/// A scalar, and the span of its written form.
+#[derive(Clone, Copy)]
+pub struct ScalarNode<'a> {
+    pub scalar: &'a Scalar,
+    pub span: Span,
+}
+
+/// The scalar that a node is, unless it is null.
+pub fn text(node: &Node) -> Option<ScalarNode<'_>>
+    ensures { option_map scalar_node_of result ≡ text_in (view node.now) }
+{
+    let scalar = unless_null_scalar(node.scalar()?)?;
+    Some(ScalarNode {
+        scalar,
+        span: node.span(),
+    })
+}
+
+/// The scalar under a key, unless it is null.
+pub fn text_under<'a>(node: &'a Node, key: &str) -> Option<ScalarNode<'a>>
+    ensures { option_map scalar_node_of result ≡ text_at key.now (view node.now) }
+{
+    text(value(node, key)?)
+}
+
+/// What a scalar or a sequence of scalars says: those that aren't null, in order.
+///
+/// Fails with `AllocError` when out of memory.
+pub fn texts(alloc: Global, node: &Node) -> Result<Vec<ScalarNode<'_>>, AllocError>
+    ensures { IfOk result (λ v. map scalar_node_of v.items ≡ texts_in (view node.now)) }
+{
+    match node.sequence() {
+        Some(items) => item_texts(alloc, items),
+        None => item_texts(alloc, slice::from_ref(node)),
+    }
+}
+
+/// The scalars among some nodes, without those that are null.
+fn item_texts(alloc: Global, nodes: &[Node]) -> Result<Vec<ScalarNode<'_>>, AllocError>
+    ensures { IfOk result (λ v. map scalar_node_of v.items ≡ filter_map text_in (map view nodes.now)) }
+{
+    let mut found = Vec::new(alloc);
+    for node in nodes {
+        if let Some(scalar) = text(node) {
+            found.push(scalar)?;
+        }
+    }
+    Ok(found)
+}
+
+/// What stands under a key as a scalar or a sequence of scalars. Fails with `AllocError` when out of memory.
+pub fn texts_under<'a>(
+    alloc: Global,
+    node: &'a Node,
+    key: &str,
+) -> Result<Vec<ScalarNode<'a>>, AllocError>
+    ensures { IfOk result (λ v. map scalar_node_of v.items ≡ texts_at key.now (view node.now)) }
+{
+    match value(node, key) {
+        Some(node) => texts(alloc, node),
+        None => Ok(Vec::new(alloc)),
+    }
+}
+
+/// The items of the sequence under a key.
+pub fn items_under<'a>(node: &'a Node, key: &str) -> &'a [Node]
+    ensures { map view result.now ≡ items_at key.now (view node.now) }
+{
+    match value(node, key) {
+        Some(sequence) => items(sequence),
+        None => &[],
+    }
+}
+
+/// A key of a mapping and its value.
+#[derive(Clone, Copy)]
+pub struct Member<'a> {
+    pub key: &'a Node,
+    pub value: &'a Node,
+}
+
+/// The entries of a mapping in order, of equal keys the first; none where the node is no mapping.
+///
+/// Fails with `AllocError` when out of memory.
+pub fn members(alloc: Global, node: &Node) -> Result<Vec<Member<'_>>, AllocError>
+    ensures { IfOk result (λ v. map member_of v.items ≡ entries_in (view node.now)) }
+{
+    match node.mapping() {
+        Some(entries) => first_members(alloc, entries),
+        None => Ok(Vec::new(alloc)),
+    }
+}
+
+/// The entries of the mapping under a key in order, of equal keys the first; none where there is no mapping.
+///
+/// Fails with `AllocError` when out of memory.
+pub fn members_under<'a>(
+    alloc: Global,
+    node: &'a Node,
+    key: &str,
+) -> Result<Vec<Member<'a>>, AllocError>
+    ensures { IfOk result (λ v. map member_of v.items ≡ entries_at key.now (view node.now)) }
+{
+    match value(node, key) {
+        Some(mapping) => members(alloc, mapping),
+        None => Ok(Vec::new(alloc)),
+    }
+}
+
+/// An entry as a member.
+#[tactic(auto, using(al_yaml_tree::proofs::ViewLemmas::entry_parts))]
+fn as_member(entry: &Entry) -> Member<'_>
+    ensures { member_of result ≡ entry_view entry.now }
+{
+    Member {
+        key: &entry.key,
+        value: &entry.value,
+    }
+}
+
+/// The entries with a key that no earlier one has.
+fn first_members(alloc: Global, entries: &[Entry]) -> Result<Vec<Member<'_>>, AllocError>
+    ensures { IfOk result (λ v. map member_of v.items ≡ firsts [] (map entry_view entries.now)) }
+{
+    let mut seen = KeySet::new(alloc);
+    let mut firsts = Vec::new(alloc);
+    for entry in entries {
+        let is_new = seen.insert_new(key_of(entry))?;
+        if is_new {
+            firsts.push(as_member(entry))?;
+        }
+    }
+    Ok(firsts)
+}

@@ -1,4 +1,0 @@
-pub mod Lists
-pub mod KeyLemmas
-pub mod Shapes
-pub mod Inside

@@ -1,9 +1,0 @@
-use Rattle.std.proofs.Common.{◌≡◌, ◌++◌, take, map}
-use Rattle.al_tree_shape.specs.Faults.{missing_faults}
-use Rattle.al_tree_shape.specs.Keys.{holds}
-use Rattle.al_tree_shape.specs.Table.{field_of}
-use Rattle.al_tree_shape.proofs.check.check_missing.Given as goal
-
-abbrev pub invariant-loop-row : goal.invariant-loop-row
-invariant-loop-row l =
-    l.out.items ≡ l.fn.out.items ++ missing_faults l.fn.at (holds l.all) (map field_of (take l.row-index l.rows))

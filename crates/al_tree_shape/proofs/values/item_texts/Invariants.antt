@@ -1,9 +1,0 @@
-use Rattle.std.proofs.Common.{◌≡◌, ◌++◌, drop, map}
-use Rattle.std.specs.List.{filter_map}
-use Rattle.al_yaml_tree.specs.View.{view}
-use Rattle.al_tree_shape.specs.Values.{text_in, scalar_node_of}
-use Rattle.al_tree_shape.proofs.values.item_texts.Given as goal
-
--- those found so far, and those that are left
-abbrev pub invariant-loop-node : goal.invariant-loop-node
-invariant-loop-node l = map scalar_node_of l.found.items ++ filter_map text_in (map view (drop l.node-index l.nodes)) ≡ filter_map text_in (map view l.nodes)

@@ -1,6 +1,0 @@
-pub mod Names
-pub mod Table
-pub mod Keys
-pub mod Faults
-pub mod Values
-pub mod Rows
