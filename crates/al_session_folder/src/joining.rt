@@ -9,8 +9,8 @@ ghost use Rattle.al_session_folder.specs.Private.CallGraphs.{IsCallGraph};
 ghost use Rattle.al_session_folder.specs.Checked.{AllChecked};
 ghost use Rattle.al_session_folder.specs.Private.Printing.{AreListed, AreLoops, joined_faults};
 
+use crate::{CallGraph, Files, Lint, file_number, is_on_loop, loop_faults};
 use al_base::Fault;
-use al_session_folder::{CallGraph, Files, Lint, file_number, is_on_loop, loop_faults};
 use std::alloc::{AllocError, Global};
 
 // Adds references to faults.

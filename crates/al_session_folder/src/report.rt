@@ -12,8 +12,8 @@ ghost use Rattle.al_base.specs.Streams.{bytes_written, write_failures};
 ghost use Rattle.al_session_folder.specs.Kept.{folder_of, referred};
 ghost use Rattle.al_session_folder.specs.Private.Printing.{AreListed, ArePrintable, IsPrintable, lines_of, listed, numbered_lines};
 
+use crate::{Files, KeptFile, Lint, file_number};
 use al_base::{Fault, Lines, Location, Output, Stop};
-use al_session_folder::{Files, KeptFile, Lint, file_number};
 use al_text::{write_fault_at, write_faults};
 use std::io::Write;
 
