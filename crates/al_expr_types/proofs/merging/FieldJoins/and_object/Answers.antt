@@ -1,0 +1,24 @@
+use Rattle.std.proofs.Common.{◌∙◌, ap, take}
+use Rattle.std.specs.List.{list_all}
+use Rattle.al_types.specs.Types.{field_at, fields_of, fuse_optional, optional}
+use Rattle.al_expr_types.specs.Merging.{found_in}
+use Rattle.al_expr_types.specs.Names.{names_in}
+use Rattle.al_expr_types.specs.Types.{is_below, named_types}
+use Rattle.al_expr_types.proofs.Below.{all_taken, left_of}
+use Rattle.al_expr_types.proofs.merging.FieldJoins.and_object.Goals as goal
+
+pub returns-clause-found : goal.returns-clause-found
+returns-clause-found c = λ ms.
+    let f = c.args.fields.now in
+    let types = c.as_slice.ensures.value ∙ ap (λ m. m.types.items) c.deref-map.ensures in
+    c.in_ok-merged.ensures.found ms
+    ∙ (λ d n. fuse_optional (found_in ms c.args.self n)
+    (optional (field_at n (fields_of (named_types ms (names_in (c.deref-map.ensures d).names) (take f.count (types d)))))))
+
+pub returns-clause-below : goal.returns-clause-below
+returns-clause-below c = λ k h g.
+    let f = c.args.fields.now in
+    let types = c.as_slice.ensures.value ∙ ap (λ m. m.types.items) c.deref-map.ensures in
+    let first = ap (λ xs. list_all (is_below k) (take f.count xs)) types
+    ∙ all_taken (is_below k) f.count f.map.value.types.items (left_of (list_all (is_below k) f.map.value.types.items) _ h) in
+    c.in_ok-merged.ensures.below k first g

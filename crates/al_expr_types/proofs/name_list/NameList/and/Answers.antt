@@ -1,0 +1,19 @@
+use Rattle.std.proofs.Common.{◌≡◌, ◌∷◌, ◌++◌, ◌∙◌, [], ap, sym, map, length, arith}
+use Rattle.std.proofs.lemmas.List.{length-map, map-append}
+use Rattle.al_types.specs.Positions.{name_place}
+use Rattle.al_types.proofs.AddedFields.{placed_new}
+use Rattle.al_expr_types.specs.Names.{names_listed}
+use Rattle.al_expr_types.proofs.name_list.NameList.and.Goals as goal
+
+pub invariant_of-result : goal.invariant_of-result
+invariant_of-result c =
+    let items = c.args.self.names.items in
+    let ns = names_listed c.args.self in
+    let long : c.len.result ≡ length ns = omega (arith, length-map items (λ n. n.items), c.len.ensures, c.args.self.names.ok.0) in
+    let all : map (λ n. n.items) c.push.new.self.items ≡ ns ++ c.args.name.now ∷ [] =
+    ap (map (λ n. n.items)) c.in_ok-push.ensures.items ∙ map-append (λ n. n.items) items (c.in_ok-from_slice.field-0 ∷ [])
+    ∙ ap (λ n. ns ++ n ∷ []) c.in_ok-from_slice.ensures.items in
+    record {
+      indexed = placed_new c.args.self.positions c.insert.new.self ns c.args.name.now c.len.result c.args.self.indexed long c.in_ok-is_new.ensures.positions
+          ∙ ap name_place (sym all);
+    }

@@ -1,0 +1,39 @@
+use Rattle.std.proofs.Common.{◌≤◌, ◌∙◌, ap, arith, length, map, sym, take}
+use Rattle.std.proofs.lemmas.List.{length-take}
+use Rattle.std.specs.List.{list_all}
+use Rattle.al_types.specs.Types.{fuse_optional}
+use Rattle.al_expr_types.specs.Joining.{join_in}
+use Rattle.al_expr_types.specs.Parts.{part_in}
+use Rattle.al_expr_types.specs.Names.{names_in}
+use Rattle.al_expr_types.specs.Types.{common_of, fields_parts, is_below, is_rest_below, rest_in, type_in}
+use Rattle.al_expr_types.proofs.Below.{all_taken, left_of, right_of}
+use Rattle.al_expr_types.proofs.Gathering.{common_zipped, fields_then_rest}
+use Rattle.al_expr_types.proofs.objects.Fields.gather.Goals as goal
+
+pub returns-in_ok-named-in-Named-clause-below : goal.returns-in_ok-named-in-Named-clause-below
+returns-in_ok-named-in-Named-clause-below c = λ n h k.
+    let ts = c.args.self.now.map.value.types.items in
+    let types = ap (λ f. list_all (is_below n) f.types.items) c.deref.ensures ∙ left_of (list_all (is_below n) ts) _ h in
+    c.in_ok-named-in-Named.ensures.below n (c.in_ok-found-in-Named.ensures.below n types) k
+
+pub returns-in_ok-more-in-All-clause-part : goal.returns-in_ok-more-in-All-clause-part
+returns-in_ok-more-in-All-clause-part c = λ ms.
+    let f = c.args.self.now in
+    let ts = f.map.value.types.items in
+    let ns = names_in f.map.value.names in
+    let start = join_in ms c.args.sofar in
+    let few : length (take f.count ts) ≤ length ns = omega (arith, length-take f.count ts, f.map.value.even) in
+    let all = c.in_ok-all-in-All.ensures.part ms
+    ∙ ap (λ xs. fuse_optional start (common_of (map (type_in ms) (take f.count xs)))) (c.as_slice.ensures.value ∙ ap (λ m. m.types.items) c.deref-in-All.ensures)
+    ∙ ap (fuse_optional start) (sym (common_zipped (type_in ms) ns (take f.count ts) few)) in
+    fields_then_rest start (join_in ms c.in_ok-all-in-All.all) (join_in ms c.in_ok-more-in-All.more) _ (rest_in ms f.rest) all
+    (c.in_ok-more-in-All.ensures.part ms)
+    ∙ ap (λ p. fuse_optional start (part_in p (fields_parts ms f))) (sym c.in-All.is)
+
+pub returns-in_ok-more-in-All-clause-below : goal.returns-in_ok-more-in-All-clause-below
+returns-in_ok-more-in-All-clause-below c = λ n h k.
+    let f = c.args.self.now in
+    let ts = f.map.value.types.items in
+    let types = ap (λ xs. list_all (is_below n) (take f.count xs)) (c.as_slice.ensures.value ∙ ap (λ m. m.types.items) c.deref-in-All.ensures)
+    ∙ all_taken (is_below n) f.count ts (left_of (list_all (is_below n) ts) _ h) in
+    c.in_ok-more-in-All.ensures.below n (right_of (list_all (is_below n) ts) (is_rest_below n f.rest) h) (c.in_ok-all-in-All.ensures.below n types k)

@@ -1,0 +1,67 @@
+use Rattle.std.proofs.Common.{◌≡◌, ◌<◌, ◌∙◌, ap, arith, get_or, length, refl, subst, sym, true}
+use Rattle.std.proofs.lemmas.List.{get_or_default}
+use Rattle.std.specs.Prelude.{IfSome, nat_lt, option_map}
+use Rattle.al_base.proofs.Growing.{begins_trans}
+use Rattle.al_types.specs.Types.{option_of}
+use Rattle.al_types.proofs.FuseLaws.{optional_back}
+use Rattle.al_expr_types.specs.Types.{are_below, parts_of_all, type_in}
+use Rattle.al_expr_types.proofs.Below.{all_at, less}
+use Rattle.al_expr_types.proofs.Gathering.{rest_is}
+use Rattle.al_expr_types.proofs.Keeping.{kept_answer, longer, same_there}
+use Rattle.al_expr_types.proofs.types.Types.+commons.Goals as goal
+
+pub common-gather-requires : goal.common-gather-requires
+common-gather-requires t c =
+    let le = longer c.make_commons.new.self.objects.items c.args.self.now.objects.items c.make_commons.ensures in
+    omega (arith, c.requires, le)
+
+pub common-join_type-requires : goal.common-join_type-requires
+common-join_type-requires t c = c.in_ok-all-in-Unknown.ensures.below refl
+
+pub common-set_mark-requires : goal.common-set_mark-requires
+common-set_mark-requires t c =
+    let middle = c.make_commons.new.self.objects.items in
+    let after = c.join_type.new.self.objects.items in
+    let made = c.in_ok-common-in-Unknown in
+    let all = c.in_ok-all-in-Unknown in
+    let le = longer middle c.args.self.now.objects.items c.make_commons.ensures in
+    let more = longer after middle made.ensures.kept in
+    let there : c.args.n < length middle = omega (arith, c.requires, le) in (
+      omega (arith, there, more),
+      made.ensures.known,
+      rest_is (parts_of_all after) made.common ∙ made.ensures.ty ∙ all.ensures.part ∙ ap (λ p. p.2) (sym (same_there after middle c.args.n made.ensures.kept there)),
+    )
+
+pub common-returns-in-Common-clause-ty : goal.common-returns-in-Common-clause-ty
+common-returns-in-Common-clause-ty t c =
+    kept_answer c.args.self.now.objects.items c.args.n c.in-Common.common
+    (c.args.self.now.right c.args.n c.in-Common.common (sym c.mark.ensures ∙ c.in-Common.is))
+
+pub common-returns-in_ok-common-in-Unknown-clause-ty : goal.common-returns-in_ok-common-in-Unknown-clause-ty
+common-returns-in_ok-common-in-Unknown-clause-ty t c =
+    let before = c.args.self.now.objects.items in
+    let middle = c.make_commons.new.self.objects.items in
+    let after = c.join_type.new.self.objects.items in
+    let made = c.in_ok-common-in-Unknown in
+    ap (λ os. option_map (type_in (parts_of_all os.items)) made.common) c.set_mark.ensures ∙ sym (optional_back (option_map (type_in (parts_of_all after)) made.common))
+    ∙ ap option_of (made.ensures.ty ∙ c.in_ok-all-in-Unknown.ensures.part ∙ ap (λ p. p.2) (same_there middle before c.args.n c.make_commons.ensures c.requires))
+
+pub common-returns-in-Common-clause-known : goal.common-returns-in-Common-clause-known
+common-returns-in-Common-clause-known t c = (c.args.self.now.right c.args.n c.in-Common.common (sym c.mark.ensures ∙ c.in-Common.is)).1
+
+pub make_commons-common-requires-in-loop-m : goal.make_commons-common-requires-in-loop-m
+make_commons-common-requires-in-loop-m t c =
+    let os = c.args.self.now.objects.items in
+    let n = c.args.n in
+    let ns = c.as_slice-m-items.result.now in
+    let i = c.loop-m.m-index in
+    let m = get_or ns i 0 in
+    let below = ap (are_below n) c.as_slice-m-items.ensures.value ∙ subst (λ o. IfSome o (λ v. are_below n v.items ≡ true)) c.in-Some-2.is c.in_ok-of.ensures in
+    let lt : m < n = less m n (all_at (λ k. nat_lt k n) ns i m c.loop-m-test.true (get_or_default ns i 0 m c.loop-m-test.true) below) in
+    let le = longer c.loop-m.self.objects.items os c.loop-m.invariant in
+    (omega (arith, lt, c.decreases), omega (arith, lt, c.requires, le))
+
+pub make_commons-loop-m-preserved : goal.make_commons-loop-m-preserved
+make_commons-loop-m-preserved t c =
+    begins_trans (parts_of_all c.args.self.now.objects.items) (parts_of_all c.loop-m.self.objects.items) (parts_of_all c.common-in-loop-m.new.self.objects.items)
+    c.loop-m.invariant c.common-in-loop-m.ensures.kept

@@ -1,0 +1,125 @@
+use Rattle.std.proofs.Common.{◌<◌, ◌∙◌, ap, arith, get_or, length, map, sym}
+use Rattle.std.proofs.lemmas.List.{get_or_default, take_all}
+use Rattle.std.specs.Prelude.{nat_lt}
+use Rattle.al_types.specs.Types.{fuse_optional}
+use Rattle.al_types.specs.TypeViews.{fused}
+use Rattle.al_expr_types.specs.Joining.{join_in}
+use Rattle.al_expr_types.specs.Parts.{part_in}
+use Rattle.al_expr_types.specs.Tables.{objects_of}
+use Rattle.al_expr_types.specs.Types.{common_of, are_below, are_fields_below, extension_parts, is_object_below, object_in, object_parts, own_types, type_in}
+use Rattle.al_expr_types.specs.declared.objects.Object.TheVariants as object
+use Rattle.al_expr_types.proofs.Below.{all_at, left_of, less, object_wider, right_of}
+use Rattle.al_expr_types.proofs.Gathering.{fields_then_rest, gathered_next, gathered_none}
+use Rattle.al_expr_types.proofs.Tables.{order_at, read}
+use Rattle.al_expr_types.proofs.types.Types.+gathering.Goals as goal
+
+pub gather-loop-m-init : goal.gather-loop-m-init
+gather-loop-m-init t c = record {
+  part = gathered_none c.args.part (join_in (objects_of c.args.self.now) c.args.sofar);
+  below = λ h. h;
+}
+
+pub gather-gather-requires-in-loop-m : goal.gather-gather-requires-in-loop-m
+gather-gather-requires-in-loop-m t c =
+    let os = c.args.self.now.objects.items in
+    let n = c.args.n in
+    let ns = c.as_slice-m-items.result.now in
+    let i = c.loop-m.m-index in
+    let m = get_or ns i 0 in
+    let h = order_at 0 n os n c.index.result.now c.args.self.now.ordered c.requires c.index.ensures (omega arith) in
+    let all = ap (are_below n) c.as_slice-m-items.ensures.value ∙ sym (ap (is_object_below n) c.in-Common.is) ∙ h in
+    let lt : m < n = less m n (all_at (λ k. nat_lt k n) ns i m c.loop-m-test.true (get_or_default ns i 0 m c.loop-m-test.true) all) in
+    (omega (arith, lt, c.decreases), omega (arith, lt, c.requires))
+
+pub gather-loop-m-preserved : goal.gather-loop-m-preserved
+gather-loop-m-preserved t c =
+    let ns = c.as_slice-m-items.result.now in
+    let i = c.loop-m.m-index in
+    let m = get_or ns i 0 in
+    let ms = objects_of c.args.self.now in
+    record {
+      part = gathered_next c.args.part (object_in ms) ns i m (join_in ms c.args.sofar) (join_in ms c.loop-m.all) (join_in ms c.in_ok-all-in-Common.all)
+          c.loop-m-test.true (get_or_default ns i 0 m c.loop-m-test.true) c.loop-m.invariant.part c.in_ok-all-in-Common.ensures.part;
+      below = λ h. c.in_ok-all-in-Common.ensures.below (c.loop-m.invariant.below h);
+    }
+
+pub gather-returns-in_ok-gathered-in-Fields-clause-part : goal.gather-returns-in_ok-gathered-in-Fields-clause-part
+gather-returns-in_ok-gathered-in-Fields-clause-part t c =
+    let os = c.args.self.now.objects.items in
+    let ms = objects_of c.args.self.now in
+    let there = read os c.args.n c.index.result.now c.args.self.now.ordered c.requires c.index.ensures in
+    c.in_ok-gathered-in-Fields.ensures.part ms
+    ∙ ap (λ o. fuse_optional (join_in ms c.args.sofar) (part_in c.args.part (object_parts ms o))) (sym c.in-Fields.is)
+    ∙ ap (λ p. fuse_optional (join_in ms c.args.sofar) (part_in c.args.part p)) (sym there)
+
+pub gather-returns-in_ok-gathered-in-Fields-clause-below : goal.gather-returns-in_ok-gathered-in-Fields-clause-below
+gather-returns-in_ok-gathered-in-Fields-clause-below t c =
+    let os = c.args.self.now.objects.items in
+    let n = c.args.n in
+    let h = order_at 0 n os n c.index.result.now c.args.self.now.ordered c.requires c.index.ensures (omega arith) in
+    let wide = object_wider n (length os) (omega (arith, c.requires)) c.index.result.now h in
+    c.in_ok-gathered-in-Fields.ensures.below (length os) (ap (is_object_below (length os)) (sym c.in-Fields.is) ∙ wide)
+
+pub gather-returns-in_ok-gathered-in-Strings-clause-part : goal.gather-returns-in_ok-gathered-in-Strings-clause-part
+gather-returns-in_ok-gathered-in-Strings-clause-part t c =
+    let os = c.args.self.now.objects.items in
+    let ms = objects_of c.args.self.now in
+    let there = read os c.args.n c.index.result.now c.args.self.now.ordered c.requires c.index.ensures in
+    c.in_ok-gathered-in-Strings.ensures.part ms
+    ∙ ap (λ o. fuse_optional (join_in ms c.args.sofar) (part_in c.args.part (object_parts ms o))) (sym c.in-Strings.is)
+    ∙ ap (λ p. fuse_optional (join_in ms c.args.sofar) (part_in c.args.part p)) (sym there)
+
+pub gather-returns-after-loop-m-clause-part : goal.gather-returns-after-loop-m-clause-part
+gather-returns-after-loop-m-clause-part t c =
+    let os = c.args.self.now.objects.items in
+    let ms = objects_of c.args.self.now in
+    let ns = c.as_slice-m-items.result.now in
+    let there = read os c.args.n c.index.result.now c.args.self.now.ordered c.requires c.index.ensures in
+    let all = take_all c.loop-m.m-index ns (omega (arith, c.loop-m-test.false)) in
+    c.loop-m.invariant.part
+    ∙ ap (λ l. fuse_optional (join_in ms c.args.sofar) (part_in c.args.part (fused (map (object_in ms) l)))) (all ∙ c.as_slice-m-items.ensures.value)
+    ∙ ap (λ o. fuse_optional (join_in ms c.args.sofar) (part_in c.args.part (object_parts ms o))) (sym c.in-Common.is)
+    ∙ ap (λ p. fuse_optional (join_in ms c.args.sofar) (part_in c.args.part p)) (sym there)
+
+pub gather-gather_extension-requires : goal.gather-gather_extension-requires
+gather-gather_extension-requires t c =
+    let os = c.args.self.now.objects.items in
+    let n = c.args.n in
+    let e = c.in-Extension.extension in
+    let h = order_at 0 n os n c.index.result.now c.args.self.now.ordered c.requires c.index.ensures (omega arith) in
+    let below = sym (ap (is_object_below n) c.in-Extension.is) ∙ h in
+    let lt : e.base.object < n = less e.base.object n (right_of (are_fields_below n e.fields) _ below) in
+    (omega (arith, lt, c.decreases), object_wider n (length os) (omega (arith, c.requires)) (object.Extension e) below)
+
+pub gather-returns-in_ok-gathered-in-Extension-clause-part : goal.gather-returns-in_ok-gathered-in-Extension-clause-part
+gather-returns-in_ok-gathered-in-Extension-clause-part t c =
+    let os = c.args.self.now.objects.items in
+    let ms = objects_of c.args.self.now in
+    let there = read os c.args.n c.index.result.now c.args.self.now.ordered c.requires c.index.ensures in
+    c.in_ok-gathered-in-Extension.ensures.part
+    ∙ ap (λ o. fuse_optional (join_in ms c.args.sofar) (part_in c.args.part (object_parts ms o))) (sym c.in-Extension.is)
+    ∙ ap (λ p. fuse_optional (join_in ms c.args.sofar) (part_in c.args.part p)) (sym there)
+
+pub gather_extension-gather-requires : goal.gather_extension-gather-requires
+gather_extension-gather-requires t c =
+    let e = c.args.extension.now in
+    let len = length c.args.self.now.objects.items in
+    let lt : e.base.object < len = less e.base.object len (right_of (are_fields_below len e.fields) _ c.requires) in
+    (omega (arith, c.decreases), lt)
+
+pub gather_extension-returns-in_ok-all-in-All-clause-part : goal.gather_extension-returns-in_ok-all-in-All-clause-part
+gather_extension-returns-in_ok-all-in-All-clause-part t c =
+    let e = c.args.extension.now in
+    let ms = objects_of c.args.self.now in
+    let start = join_in ms c.args.sofar in
+    let own = common_of (map (type_in ms) (own_types e)) in
+    let base = c.in_ok-of_base-in-All.ensures.part ∙ ap (λ p. fuse_optional start (part_in p (object_in ms e.base.object))) c.in-All.is in
+    fields_then_rest start (join_in ms c.in_ok-of_base-in-All.of_base) (join_in ms c.in_ok-all-in-All.all) (object_in ms e.base.object).2 own base
+    (c.in_ok-all-in-All.ensures.part ms)
+    ∙ ap (λ p. fuse_optional start (part_in p (extension_parts ms e))) (sym c.in-All.is)
+
+pub gather_extension-returns-in_ok-all-in-All-clause-below : goal.gather_extension-returns-in_ok-all-in-All-clause-below
+gather_extension-returns-in_ok-all-in-All-clause-below t c = λ h.
+    let e = c.args.extension.now in
+    let len = length c.args.self.now.objects.items in
+    c.in_ok-all-in-All.ensures.below len (left_of (are_fields_below len e.fields) _ c.requires) (c.in_ok-of_base-in-All.ensures.below h)

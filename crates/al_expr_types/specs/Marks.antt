@@ -1,0 +1,38 @@
+-- What is kept of objects: what all fields of one, and the type of others, have in common.
+use Rattle.std.specs.Prelude.{◌≡◌, ◌<◌, ℕ, List, length, get_or, true, Option}
+use Rattle.std.specs.Coded.{×_prop, Π_prop, →_prop, le_prop}
+use mathlib.Core.Bool.{Bool-set}
+use mathlib.Core.HLevel.{×₃_prop, →_set}
+use Rattle.al_expr_types.specs.Sets.{Optional-set}
+use Rattle.al_expr_types.specs.Types.{are_fields_below, fields_parts, is_rest_below, object_in, parts_of_all, rest_in}
+use Rattle.al_expr_types.specs.declared.marks.Index.{Index}
+use Rattle.al_expr_types.specs.declared.marks.Index.TheVariants as index
+use Rattle.al_expr_types.specs.declared.marks.Mark.{Mark}
+use Rattle.al_expr_types.specs.declared.marks.Mark.TheVariants as mark
+use Rattle.al_expr_types.specs.declared.objects.Fields.{Fields}
+use Rattle.al_expr_types.specs.declared.objects.Object.{Object}
+use Rattle.al_expr_types.specs.declared.ty.Ty.{Ty}
+
+abbrev pub IsCommon : List Object → ℕ → Option Ty → Type 0
+IsCommon os n t = (n < length os) × (is_rest_below (length os) t ≡ true) × (rest_in (parts_of_all os) t ≡ (object_in (parts_of_all os) n).2)
+
+-- the fields of an object by their names, and the type of others
+abbrev pub IsIndex : List Object → ℕ → Fields → Type 0
+IsIndex os n f =
+    let ms = parts_of_all os in
+    ((n < length os) × (are_fields_below (length os) f ≡ true))
+    × (((fields_parts ms f).0 ≡ (object_in ms n).0) × ((fields_parts ms f).1 ≡ (object_in ms n).1))
+
+-- what is kept is so
+abbrev pub AreRight : List Object → List Mark → Type 0
+AreRight os ks = (n : ℕ) (t : Option Ty) → get_or ks n mark.Unknown ≡ mark.Common t → IsCommon os n t
+
+pub AreRight-prop : (os : List Object) (ks : List Mark) → IsProp (AreRight os ks)
+AreRight-prop os ks = Π_prop (λ n. Π_prop (λ t. →_prop (×₃_prop le_prop (Bool-set _ _) (Optional-set _ _))))
+
+abbrev pub AreIndexed : List Object → List Index → Type 0
+AreIndexed os is = (n : ℕ) (f : Fields) → get_or is n (index.Looks 0) ≡ index.Fields f → IsIndex os n f
+
+pub AreIndexed-prop : (os : List Object) (is : List Index) → IsProp (AreIndexed os is)
+AreIndexed-prop os is =
+    Π_prop (λ n. Π_prop (λ f. →_prop (×_prop (×_prop le_prop (Bool-set _ _)) (×_prop (→_set Optional-set _ _) (Optional-set _ _)))))

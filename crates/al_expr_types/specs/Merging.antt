@@ -1,0 +1,38 @@
+-- Objects that are made one: what a name finds.
+use Rattle.std.specs.Prelude.{ℕ, List, get_or, Bool, false, nat_eq, Option, Some, None, if◌then◌else◌}
+use Rattle.std.specs.List.{list_all}
+use Rattle.al_base.specs.Names.{same_name}
+use Rattle.al_types.specs.Positions.{name_place}
+use Rattle.al_types.specs.Types.{Optional, Parts, fuse_optional}
+use Rattle.al_expr_types.specs.Joining.{is_join_below, join_in}
+use Rattle.al_expr_types.specs.Names.{names_in}
+use Rattle.al_expr_types.specs.declared.joining.Join.{Join}
+use Rattle.al_expr_types.specs.declared.joining.Join.TheVariants as join
+use Rattle.al_expr_types.specs.declared.merging.FieldJoins.{FieldJoins}
+
+-- what stands at a place, nothing where there is none
+abbrev pub slot : List Join → Option ℕ → Join
+slot js None = join.Nothing
+slot js (Some i) = get_or js i join.Nothing
+
+abbrev pub slot_in : List Parts → List Join → Option ℕ → Optional
+slot_in ms js o = join_in ms (slot js o)
+
+abbrev pub found_in : List Parts → FieldJoins → List ℕ → Optional
+found_in ms m n = slot_in ms m.joins.items (name_place (names_in m.names) n)
+
+abbrev pub are_joins_below : ℕ → FieldJoins → Bool
+are_joins_below k m = list_all (is_join_below k) m.joins.items
+
+-- with one more type of a name
+abbrev pub and_named : (List ℕ → Optional) → List ℕ → Optional → List ℕ → Optional
+and_named at name more n = if same_name name n then fuse_optional (at n) more else at n
+
+-- whether a name's place is this one
+abbrev pub is_placed : Option ℕ → ℕ → Bool
+is_placed None i = false
+is_placed (Some k) i = nat_eq k i
+
+-- with one more type of the name at a position of some names, where it is the first of its name
+abbrev pub and_placed : (List ℕ → Optional) → List (List ℕ) → ℕ → Optional → List ℕ → Optional
+and_placed at ns i more n = if is_placed (name_place ns n) i then fuse_optional (at n) more else at n

@@ -1,0 +1,78 @@
+//! Fields, found by their names.
+
+ghost use Rattle.std.specs.Prelude.{◌≡◌, length};
+ghost use Rattle.al_expr_types.specs.Names.{names_in};
+
+use crate::names::Names;
+use crate::ty::Ty;
+use std::alloc::{AllocError, Global};
+
+/// The names of fields, each once, and their types in the same order.
+#[derive(Drop)]
+pub struct FieldMap<'a> {
+    pub(crate) names: Names<'a>,
+    pub(crate) types: Vec<Ty>,
+    ghost even: { length (names_in names) ≡ length types.items },
+}
+
+impl<'a> FieldMap<'a> {
+    ghost use Rattle.std.specs.Prelude.{◌∷◌, ◌++◌, [], List, IfOk, if◌then◌else◌, is_none, option_map, slice_get, take, true, ℕ};
+    ghost use Rattle.al_types.specs.Positions.{name_place};
+    ghost use Rattle.al_types.specs.Types.{Parts, field_at, fields_of};
+    ghost use Rattle.al_expr_types.specs.Types.{is_below, is_rest_below, named_types, type_in};
+    ghost use Rattle.std.specs.List.{list_all};
+
+    /// No fields. Takes no memory.
+    pub fn new(alloc: Global) -> FieldMap<'a>
+        ensures names { names_in result.names ≡ [] }
+        ensures types { result.types.items ≡ [] }
+    {
+        FieldMap {
+            names: Names::new(alloc),
+            types: Vec::new(alloc),
+        }
+    }
+
+    /// The fields, and one more behind them unless one has its name. Fails with `AllocError` where it is out of memory, as below.
+    pub fn and(self, alloc: Global, name: &'a [u8], ty: Ty) -> Result<FieldMap<'a>, AllocError>
+        ensures names { IfOk result (λ f. names_in f.names ≡ (if is_none (name_place (names_in self.entry.names) name.now)
+            then names_in self.entry.names ++ name.now ∷ [] else names_in self.entry.names)) }
+        ensures types { IfOk result (λ f. f.types.items ≡ (if is_none (name_place (names_in self.entry.names) name.now)
+            then self.entry.types.items ++ ty ∷ [] else self.entry.types.items)) }
+    {
+        let mut types = self.types;
+        let (names, is_new) = self.names.and(alloc, name)?;
+        if is_new {
+            types.push(ty)?;
+            return Ok(FieldMap { names, types });
+        }
+        Ok(FieldMap { names, types })
+    }
+
+    /// The type at a position, where it is one of the first so many.
+    fn type_at(&self, i: usize, count: usize) -> Option<Ty>
+        ensures ty { result ≡ slice_get (take count self.now.types.items) i }
+        ensures below { (k : ℕ) → list_all (is_below k) self.now.types.items ≡ true → is_rest_below k result ≡ true }
+    {
+        if i >= count {
+            return None;
+        }
+        if i >= self.types.len() {
+            return None;
+        }
+        Some(self.types[i])
+    }
+
+    /// The type of the field of a name, in any ASCII case, where it is one of the first so many.
+    pub fn get(&self, alloc: Global, name: &[u8], count: usize) -> Result<Option<Ty>, AllocError>
+        ensures ty { IfOk result (λ found. (ms : List Parts) → option_map (type_in ms) found
+            ≡ field_at name.now (fields_of (named_types ms (names_in self.now.names) (take count self.now.types.items)))) }
+        ensures below { IfOk result (λ found. (k : ℕ) → list_all (is_below k) self.now.types.items ≡ true → is_rest_below k found ≡ true) }
+    {
+        let position = self.names.position(alloc, name)?;
+        match position {
+            Some(i) => Ok(self.type_at(i, count)),
+            None => Ok(None),
+        }
+    }
+}

@@ -1,0 +1,136 @@
+//! Objects made one: by names, for those that are looked through often.
+
+ghost use Rattle.std.specs.Prelude.{◌≡◌, ◌<◌, IfOk, length, map, true};
+ghost use Rattle.std.specs.List.{list_all};
+ghost use Rattle.al_base.specs.Growth.{BeginsWith};
+ghost use Rattle.al_types.specs.Types.{Present, fuse_optional};
+ghost use Rattle.al_expr_types.specs.Joining.{join_in};
+ghost use Rattle.al_expr_types.specs.Marks.{IsIndex};
+ghost use Rattle.al_expr_types.specs.Merging.{are_joins_below, found_in};
+ghost use Rattle.al_expr_types.specs.Tables.{objects_of, type_at};
+ghost use Rattle.al_expr_types.specs.Types.{is_below, object_in};
+
+use crate::joining::Join;
+use crate::merging::FieldJoins;
+use crate::objects::{Fields, Object};
+use crate::parts::Part;
+use crate::ty::Ty;
+use crate::types::Types;
+use std::alloc::AllocError;
+
+impl<'a> Types<'a> {
+    /// Names with the fields of an object.
+    #[cycle(merging)]
+    fn merge(&self, n: u32, sofar: FieldJoins<'a>) -> Result<FieldJoins<'a>, AllocError>
+        requires { n < length self.now.objects.items }
+        ensures found { IfOk result (λ m. found_in (objects_of self.now) m
+            ≡ λ name. fuse_optional (found_in (objects_of self.now) sofar.entry name) ((object_in (objects_of self.now) n).0 name)) }
+        ensures below { IfOk result (λ m. are_joins_below (length self.now.objects.items) sofar.entry ≡ true
+            → are_joins_below (length self.now.objects.items) m ≡ true) }
+    {
+        if let Some(index) = self.index_of(n) {
+            let indexed = sofar.and_object(self.alloc, index)?;
+            return Ok(indexed);
+        }
+        match &self.objects[n as usize] {
+            Object::Fields(fields) => {
+                let merged = sofar.and_object(self.alloc, fields)?;
+                Ok(merged)
+            }
+            Object::Extension(extension) => {
+                let merged = sofar.and_object(self.alloc, &extension.fields)?;
+                Ok(merged)
+            }
+            Object::Strings(names) => {
+                let merged = sofar.and_strings(self.alloc, names)?;
+                Ok(merged)
+            }
+            Object::Common(of) => {
+                let mut all = sofar;
+                for m in of.as_slice() {
+                    let more = self.merge(*m, all)?;
+                    all = more;
+                }
+                Ok(all)
+            }
+        }
+    }
+
+    /// The types of what fields have in common.
+    fn types_of(&mut self, merging: &FieldJoins<'a>) -> Result<Vec<Ty>, AllocError>
+        requires { are_joins_below (length self.old.objects.items) merging.now ≡ true }
+        ensures types { IfOk result (λ v. map (λ t. Present (type_at self.new t)) v.items
+            ≡ map (join_in (objects_of self.old)) merging.now.joins.items) }
+        ensures known { IfOk result (λ v. list_all (is_below (length self.new.objects.items)) v.items ≡ true) }
+        ensures kept { BeginsWith (objects_of self.new) (objects_of self.old) }
+    {
+        let mut types = Vec::new(self.alloc);
+        for join in merging.as_slice() {
+            let copy = join.copy(self.alloc)?;
+            let made = self.join_type(copy)?;
+            match made {
+                Some(ty) => types.push(ty)?,
+                // Each name has a type.
+                None => return Err(AllocError),
+            }
+        }
+        Ok(types)
+    }
+
+    /// The fields of an object by their names, and the type of others: as one list.
+    pub fn index(&mut self, n: u32) -> Result<Fields<'a>, AllocError>
+        requires { n < length self.old.objects.items }
+        ensures index { IfOk result (λ f. IsIndex self.new.objects.items n f) }
+        ensures kept { BeginsWith (objects_of self.new) (objects_of self.old) }
+    {
+        let merging = self.merge(n, FieldJoins::new(self.alloc))?;
+        let others = self.gather(n, Part::Rest, Join::Nothing)?;
+        let types = self.types_of(&merging)?;
+        let rest = self.join_type(others)?;
+        let fields = Fields::of(self.alloc, merging.into_names(), types, rest)?;
+        Ok(fields)
+    }
+
+    /// How many fields an object has by its index or of its own.
+    fn field_count(&self, n: u32) -> usize
+        requires { n < length self.now.objects.items }
+    {
+        if let Some(index) = self.index_of(n) {
+            return index.count;
+        }
+        match &self.objects[n as usize] {
+            Object::Fields(fields) => fields.count,
+            Object::Extension(extension) => extension.fields.count,
+            Object::Strings(names) => names.len(),
+            Object::Common(_) => 0,
+        }
+    }
+
+    /// How many objects are looked through for a field of one, and how many fields these have. Makes the indexes of those that were looked
+    /// through often enough to pay for it.
+    pub(crate) fn prepare(&mut self, n: u32) -> Result<(usize, usize), AllocError>
+        requires { n < length self.old.objects.items }
+        ensures kept { BeginsWith (objects_of self.new) (objects_of self.old) }
+    {
+        let size = self.field_count(n);
+        if self.index_of(n).is_some() {
+            return Ok((1, size));
+        }
+        let Some(of) = self.members(n)? else {
+            return Ok((1, size));
+        };
+        let mut looked = 1_usize;
+        let mut fields = 0_usize;
+        for m in of.as_slice() {
+            let (objects, more) = self.prepare(*m)?;
+            looked = looked.saturating_add(objects);
+            fields = fields.saturating_add(more);
+        }
+        if self.is_due(n, looked, fields) {
+            let index = self.index(n)?;
+            self.set_index(n, index);
+            return Ok((1, fields));
+        }
+        Ok((looked, fields))
+    }
+}

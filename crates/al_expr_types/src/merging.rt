@@ -1,0 +1,202 @@
+//! What the fields of each name have in common, of objects that are made one.
+
+ghost use Rattle.std.specs.Prelude.{◌≡◌, length};
+ghost use Rattle.al_expr_types.specs.Names.{names_in};
+
+use crate::joining::Join;
+use crate::name_list::NameList;
+use crate::names::Names;
+use crate::objects::Fields;
+use crate::ty::Ty;
+use std::alloc::{AllocError, Global};
+use std::mem::replace;
+
+/// Names, each once, and what the fields of each have in common.
+#[derive(Drop)]
+pub struct FieldJoins<'a> {
+    names: Names<'a>,
+    joins: Vec<Join>,
+    ghost even: { length (names_in names) ≡ length joins.items },
+}
+
+impl<'a> FieldJoins<'a> {
+    ghost use Rattle.std.specs.Prelude.{◌≤◌, None, Some, List, IfOk, OnOk, if◌then◌else◌, true, ℕ};
+    ghost use Rattle.std.specs.List.{list_all};
+    ghost use Rattle.al_expr_types.specs.Names.{names_listed};
+    ghost use Rattle.al_types.specs.Strings.{strings};
+    ghost use Rattle.al_types.specs.Positions.{name_place};
+    ghost use Rattle.al_types.specs.Types.{Absent, Parts, Present, field_at, fields_of, fuse_optional, optional};
+    ghost use Rattle.al_expr_types.specs.Joining.{is_join_below, join_in};
+    ghost use Rattle.al_expr_types.specs.Merging.{and_named, are_joins_below, found_in};
+    ghost use Rattle.al_expr_types.specs.Types.{are_fields_below, fields_parts, is_below, named_types, type_in};
+
+    /// No names. Takes no memory.
+    pub fn new(alloc: Global) -> FieldJoins<'a>
+        ensures found { (ms : List Parts) → found_in ms result ≡ λ n. Absent }
+        ensures below { (k : ℕ) → are_joins_below k result ≡ true }
+    {
+        FieldJoins {
+            names: Names::new(alloc),
+            joins: Vec::new(alloc),
+        }
+    }
+
+    pub(crate) fn as_slice(&self) -> &[Join]
+        ensures { result.now ≡ self.now.joins.items }
+    {
+        self.joins.as_slice()
+    }
+
+    pub(crate) fn into_names(self) -> Names<'a>
+        ensures { names_in result ≡ names_in self.entry.names }
+    {
+        self.names
+    }
+
+    /// Joins a type into a place. Where memory is wanting, what stood there is lost.
+    fn join_into(alloc: Global, slot: &mut Join, ty: Ty) -> Result<(), AllocError>
+        ensures ty { OnOk result ((ms : List Parts) → join_in ms slot.new ≡ fuse_optional (join_in ms slot.old) (Present (type_in ms ty))) }
+        ensures below { OnOk result ((k : ℕ) → is_join_below k slot.old ≡ true → is_below k ty ≡ true → is_join_below k slot.new ≡ true) }
+    {
+        let old = replace(slot, Join::Nothing);
+        let more = old.and(alloc, ty)?;
+        *slot = more;
+        Ok(())
+    }
+
+    /// The same names, where a type is joined with what stands at the place of one.
+    fn join_at(
+        self,
+        alloc: Global,
+        name: &[u8],
+        i: usize,
+        ty: Ty,
+    ) -> Result<FieldJoins<'a>, AllocError>
+        requires { name_place (names_in self.names) name.now ≡ Some i }
+        ensures found { IfOk result (λ m. (ms : List Parts) → found_in ms m
+            ≡ and_named (found_in ms self.entry) name.now (Present (type_in ms ty))) }
+        ensures below { IfOk result (λ m. (k : ℕ) → are_joins_below k self.entry
+            ≡ true → is_below k ty ≡ true → are_joins_below k m ≡ true) }
+    {
+        let names = self.names;
+        let mut joins = self.joins;
+        FieldJoins::join_into(alloc, &mut joins[i], ty)?;
+        Ok(FieldJoins { names, joins })
+    }
+
+    /// The names, and one more that isn't there, with its type.
+    fn push(self, alloc: Global, name: &'a [u8], ty: Ty) -> Result<FieldJoins<'a>, AllocError>
+        requires { name_place (names_in self.names) name.now ≡ None }
+        ensures found { IfOk result (λ m. (ms : List Parts) → found_in ms m
+            ≡ and_named (found_in ms self.entry) name.now (Present (type_in ms ty))) }
+        ensures below { IfOk result (λ m. (k : ℕ) → are_joins_below k self.entry
+            ≡ true → is_below k ty ≡ true → are_joins_below k m ≡ true) }
+    {
+        let mut joins = self.joins;
+        let (names, is_new) = self.names.and(alloc, name)?;
+        if !is_new {
+            return Err(AllocError);
+        }
+        joins.push(Join::One(ty))?;
+        Ok(FieldJoins { names, joins })
+    }
+
+    /// The names with one more type: fused with what the fields of its name have in common, where there are some.
+    pub fn and(self, alloc: Global, name: &'a [u8], ty: Ty) -> Result<FieldJoins<'a>, AllocError>
+        ensures found { IfOk result (λ m. (ms : List Parts) → found_in ms m
+            ≡ and_named (found_in ms self.entry) name.now (Present (type_in ms ty))) }
+        ensures below { IfOk result (λ m. (k : ℕ) → are_joins_below k self.entry
+            ≡ true → is_below k ty ≡ true → are_joins_below k m ≡ true) }
+    {
+        let position = self.names.position(alloc, name)?;
+        match position {
+            Some(i) => {
+                let more = self.join_at(alloc, name, i, ty)?;
+                Ok(more)
+            }
+            None => {
+                let more = self.push(alloc, name, ty)?;
+                Ok(more)
+            }
+        }
+    }
+
+    /// The names with the field of a name, where it is the first of that name.
+    fn and_first(
+        self,
+        alloc: Global,
+        name: &'a [u8],
+        is_first: bool,
+        ty: Ty,
+    ) -> Result<FieldJoins<'a>, AllocError>
+        ensures found { IfOk result (λ m. (ms : List Parts)
+            → found_in ms m
+            ≡ (if is_first then and_named (found_in ms self.entry) name.now (Present (type_in ms ty)) else found_in ms self.entry)) }
+        ensures below { IfOk result (λ m. (k : ℕ) → are_joins_below k self.entry
+            ≡ true → is_below k ty ≡ true → are_joins_below k m ≡ true) }
+    {
+        if is_first {
+            let more = self.and(alloc, name, ty)?;
+            return Ok(more);
+        }
+        Ok(self)
+    }
+
+    /// The names with some fields.
+    pub(crate) fn and_fields(
+        self,
+        alloc: Global,
+        names: &Names<'a>,
+        types: &[Ty],
+    ) -> Result<FieldJoins<'a>, AllocError>
+        requires { length types.now ≤ length (names_in names.now) }
+        ensures found { IfOk result (λ m. (ms : List Parts) → found_in ms m
+            ≡ λ n. fuse_optional (found_in ms self.entry n)
+            (optional (field_at n (fields_of (named_types ms (names_in names.now) types.now))))) }
+        ensures below { IfOk result (λ m. (k : ℕ) → list_all (is_below k) types.now ≡ true → are_joins_below k self.entry ≡ true
+            → are_joins_below k m ≡ true) }
+    {
+        let mut all = self;
+        for (i, ty) in types.iter().enumerate() {
+            let is_first = names.is_first(alloc, i)?;
+            let more = all.and_first(alloc, names.at(i), is_first, *ty)?;
+            all = more;
+        }
+        Ok(all)
+    }
+
+    /// The names with strings of these names.
+    pub(crate) fn and_strings(
+        self,
+        alloc: Global,
+        names: &'a NameList,
+    ) -> Result<FieldJoins<'a>, AllocError>
+        ensures found { IfOk result (λ m. (ms : List Parts) → found_in ms m
+            ≡ λ n. fuse_optional (found_in ms self.entry n) (optional (field_at n (fields_of (strings (names_listed names.now)))))) }
+        ensures below { IfOk result (λ m. (k : ℕ) → are_joins_below k self.entry ≡ true → are_joins_below k m ≡ true) }
+    {
+        let mut all = self;
+        for i in 0..names.len() {
+            let is_first = names.is_first(alloc, i)?;
+            let more = all.and_first(alloc, names.at(i), is_first, Ty::STRING)?;
+            all = more;
+        }
+        Ok(all)
+    }
+
+    /// The names with the fields of an object.
+    pub(crate) fn and_object(
+        self,
+        alloc: Global,
+        fields: &Fields<'a>,
+    ) -> Result<FieldJoins<'a>, AllocError>
+        ensures found { IfOk result (λ m. (ms : List Parts) → found_in ms m
+            ≡ λ n. fuse_optional (found_in ms self.entry n) ((fields_parts ms fields.now).0 n)) }
+        ensures below { IfOk result (λ m. (k : ℕ) → are_fields_below k fields.now ≡ true → are_joins_below k self.entry ≡ true
+            → are_joins_below k m ≡ true) }
+    {
+        let map = &*fields.map;
+        let merged = self.and_fields(alloc, &map.names, &map.types.as_slice()[..fields.count])?;
+        Ok(merged)
+    }
+}

@@ -1,0 +1,72 @@
+//! What an object is made of.
+
+ghost use Rattle.std.specs.Prelude.{◌≤◌, length};
+
+use crate::fields::FieldMap;
+use crate::name_list::NameList;
+use crate::names::Names;
+use crate::ty::Ty;
+use std::alloc::{AllocError, Global};
+use std::rc::Rc;
+
+/// The first so many of some fields, and the type of every field beside them, where there may be others. Prefixes share the fields.
+#[derive(Drop)]
+pub struct Fields<'a> {
+    pub map: Rc<FieldMap<'a>>,
+    pub count: usize,
+    pub rest: Option<Ty>,
+    ghost inside: { count ≤ length map.value.types.items },
+}
+
+impl<'a> Fields<'a> {
+    ghost use Rattle.std.specs.Prelude.{◌≡◌, List, IfOk, true, ℕ};
+    ghost use Rattle.std.specs.List.{list_all};
+    ghost use Rattle.al_types.specs.Types.{Parts, field_at, fields_of, optional};
+    ghost use Rattle.al_expr_types.specs.Names.{names_in};
+    ghost use Rattle.al_expr_types.specs.Types.{are_fields_below, fields_parts, is_below, is_rest_below, named_types, rest_in};
+
+    /// All fields of these names and types. Fails with `AllocError` where it is out of memory.
+    pub(crate) fn of(
+        alloc: Global,
+        names: Names<'a>,
+        types: Vec<Ty>,
+        rest: Option<Ty>,
+    ) -> Result<Fields<'a>, AllocError>
+        requires { length (names_in names) ≡ length types.items }
+        ensures named { IfOk result (λ f. (ms : List Parts) → (fields_parts ms f).0
+            ≡ λ n. optional (field_at n (fields_of (named_types ms (names_in names.entry) types.items)))) }
+        ensures rest { IfOk result (λ f. (ms : List Parts) → (fields_parts ms f).1 ≡ rest_in ms rest) }
+        ensures below { IfOk result (λ f. (k : ℕ) → list_all (is_below k) types.items ≡ true → is_rest_below k rest ≡ true
+            → are_fields_below k f ≡ true) }
+    {
+        let count = types.len();
+        let map = Rc::new(alloc, FieldMap { names, types })?;
+        Ok(Fields { map, count, rest })
+    }
+}
+
+/// An object of the first so many fields of a map.
+#[derive(Clone, Copy)]
+pub struct Prefix {
+    pub object: u32,
+    pub count: usize,
+}
+
+/// Fields of which an earlier object has the first ones: what all of them have in common is what those have, and the types behind them.
+#[derive(Drop)]
+pub struct Extension<'a> {
+    pub fields: Fields<'a>,
+    pub base: Prefix,
+    ghost longer: { base.count ≤ fields.count },
+}
+
+/// An object. The numbers in it are those of earlier objects.
+#[derive(Drop)]
+pub enum Object<'a> {
+    Fields(Fields<'a>),
+    Extension(Extension<'a>),
+    /// Strings of these names: the outputs behind a call, which aren't copied.
+    Strings(&'a NameList),
+    /// What objects have in common.
+    Common(Vec<u32>),
+}

@@ -1,0 +1,322 @@
+//! What is asked of a type: the type of a property, and of `.*`.
+
+ghost use Rattle.std.specs.Prelude.{◌≡◌, ◌<◌, List, IfOk, IfSome, length, map, not, option_map, true, ℕ};
+ghost use Rattle.al_base.specs.Growth.{BeginsWith};
+ghost use Rattle.al_types.specs.Private.TypeParts.{string_unless};
+ghost use Rattle.al_types.specs.Types.{Parts, fuse_optional, object_type, option_of, property_in};
+ghost use Rattle.al_expr_types.specs.Joining.{is_join_below, join_in};
+ghost use Rattle.al_expr_types.specs.Names.{names_listed};
+ghost use Rattle.al_expr_types.specs.Parts.{part_in};
+ghost use Rattle.al_expr_types.specs.Tables.{objects_of, type_at};
+ghost use Rattle.al_expr_types.specs.Types.{common_of, are_below, are_fields_below, extension_parts, fields_parts};
+ghost use Rattle.al_expr_types.specs.Types.{is_below, is_object_below, is_rest_below};
+ghost use Rattle.al_expr_types.specs.Types.{object_in, own_types, rest_in, strings_parts, type_in};
+ghost use Rattle.al_expr_types.specs.declared.objects.Object.TheVariants as object;
+ghost use Rattle.std.specs.List.{list_all};
+
+use crate::joining::Join;
+use crate::marks::Mark;
+use crate::name_list::NameList;
+use crate::objects::{Extension, Fields, Object};
+use crate::parts::Part;
+use crate::ty::Ty;
+use crate::types::Types;
+use std::alloc::{AllocError, Global};
+
+/// What types have in common with those so far. Fails with `AllocError` where it is out of memory, as all here.
+fn and_all(alloc: Global, types: &[Ty], sofar: Join) -> Result<Join, AllocError>
+    ensures part { IfOk result (λ j. (ms : List Parts)
+        → join_in ms j ≡ fuse_optional (join_in ms sofar) (common_of (map (type_in ms) types.now))) }
+    ensures below { IfOk result (λ j. (n : ℕ) → list_all (is_below n) types.now ≡ true → is_join_below n sofar ≡ true
+        → is_join_below n j ≡ true) }
+{
+    let mut all = sofar;
+    for ty in types {
+        all = all.and(alloc, *ty)?;
+    }
+    Ok(all)
+}
+
+/// What a type, where there is one, has in common with those so far.
+fn and_one(alloc: Global, ty: Option<Ty>, sofar: Join) -> Result<Join, AllocError>
+    ensures part { IfOk result (λ j. (ms : List Parts) → join_in ms j ≡ fuse_optional (join_in ms sofar) (rest_in ms ty)) }
+    ensures below { IfOk result (λ j. (n : ℕ) → is_rest_below n ty ≡ true → is_join_below n sofar ≡ true
+        → is_join_below n j ≡ true) }
+{
+    match ty {
+        Some(ty) => sofar.and(alloc, ty),
+        None => Ok(sofar),
+    }
+}
+
+impl Fields<'_> {
+    /// What a part of them has in common with types so far.
+    fn gather(&self, alloc: Global, part: Part<'_>, sofar: Join) -> Result<Join, AllocError>
+        ensures part { IfOk result (λ j. (ms : List Parts)
+            → join_in ms j ≡ fuse_optional (join_in ms sofar) (part_in part.entry (fields_parts ms self.now))) }
+        ensures below { IfOk result (λ j. (n : ℕ) → are_fields_below n self.now ≡ true → is_join_below n sofar ≡ true
+            → is_join_below n j ≡ true) }
+    {
+        match part {
+            Part::Named(name) => {
+                let found = self.map.get(alloc, name, self.count)?;
+                let named = and_one(alloc, found, sofar)?;
+                Ok(named)
+            }
+            Part::Rest => {
+                let rest = and_one(alloc, self.rest, sofar)?;
+                Ok(rest)
+            }
+            Part::All => {
+                let all = and_all(alloc, &self.map.types.as_slice()[..self.count], sofar)?;
+                let more = and_one(alloc, self.rest, all)?;
+                Ok(more)
+            }
+        }
+    }
+}
+
+impl Extension<'_> {
+    /// What the fields behind the base have in common with types so far.
+    fn gather_own(&self, alloc: Global, sofar: Join) -> Result<Join, AllocError>
+        ensures part { IfOk result (λ j. (ms : List Parts)
+            → join_in ms j ≡ fuse_optional (join_in ms sofar) (common_of (map (type_in ms) (own_types self.now)))) }
+        ensures below { IfOk result (λ j. (n : ℕ) → are_fields_below n self.now.fields ≡ true → is_join_below n sofar ≡ true
+            → is_join_below n j ≡ true) }
+    {
+        let types = self.fields.map.types.as_slice();
+        let own = &types[self.base.count..self.fields.count];
+        let all = and_all(alloc, own, sofar)?;
+        Ok(all)
+    }
+}
+
+/// Whether a part of an object of strings is one.
+fn has_string(alloc: Global, names: &NameList, part: Part<'_>) -> Result<bool, AllocError>
+    ensures { IfOk result (λ b. part_in part.entry (strings_parts (names_listed names.now)) ≡ string_unless (not b)) }
+{
+    match part {
+        Part::Named(name) => {
+            let position = names.position(alloc, name)?;
+            Ok(position.is_some())
+        }
+        Part::Rest => Ok(false),
+        Part::All => Ok(names.len() > 0),
+    }
+}
+
+/// What a part of an object of strings has in common with types so far.
+fn gather_strings(
+    alloc: Global,
+    names: &NameList,
+    part: Part<'_>,
+    sofar: Join,
+) -> Result<Join, AllocError>
+    ensures part { IfOk result (λ j. (ms : List Parts)
+        → join_in ms j ≡ fuse_optional (join_in ms sofar) (part_in part.entry (strings_parts (names_listed names.now)))) }
+    ensures below { IfOk result (λ j. (n : ℕ) → is_join_below n sofar ≡ true → is_join_below n j ≡ true) }
+{
+    if has_string(alloc, names, part)? {
+        return sofar.and(alloc, Ty::STRING);
+    }
+    Ok(sofar)
+}
+
+impl<'a> Types<'a> {
+    /// The index of an object, where it was made and the part can be read from it.
+    fn index_for(&self, n: u32, part: Part<'_>) -> Option<&Fields<'a>>
+        ensures part { IfSome result (λ f. part_in part.entry (fields_parts (objects_of self.now) f.now)
+            ≡ part_in part.entry (object_in (objects_of self.now) n)) }
+        ensures below { IfSome result (λ f. are_fields_below (length self.now.objects.items) f.now ≡ true) }
+    {
+        match part {
+            Part::Named(_) => self.index_of(n),
+            Part::Rest => self.index_of(n),
+            Part::All => None,
+        }
+    }
+
+    /// What all fields of an object have in common, where it is kept and the part is that.
+    fn common_for(&self, n: u32, part: Part<'_>) -> Option<Option<Ty>>
+        ensures part { IfSome result (λ t. rest_in (objects_of self.now) t ≡ part_in part.entry (object_in (objects_of self.now) n)) }
+        ensures below { IfSome result (λ t. is_rest_below (length self.now.objects.items) t ≡ true) }
+    {
+        match part {
+            Part::Named(_) => None,
+            Part::Rest => None,
+            Part::All => match self.mark(n) {
+                Mark::Common(common) => Some(common),
+                Mark::Unknown => None,
+            },
+        }
+    }
+
+    /// What a part of fields that extend those of an object has in common with types so far.
+    #[cycle(gathering)]
+    fn gather_extension(
+        &self,
+        extension: &Extension<'a>,
+        part: Part<'_>,
+        sofar: Join,
+    ) -> Result<Join, AllocError>
+        requires { is_object_below (length self.now.objects.items) (object.Extension extension.now) ≡ true }
+        ensures part { IfOk result (λ j. join_in (objects_of self.now) j
+            ≡ fuse_optional (join_in (objects_of self.now) sofar)
+            (part_in part.entry (extension_parts (objects_of self.now) extension.now))) }
+        ensures below { IfOk result (λ j. is_join_below (length self.now.objects.items) sofar ≡ true
+            → is_join_below (length self.now.objects.items) j ≡ true) }
+    {
+        match part {
+            Part::All => {
+                let of_base = self.gather(extension.base.object, part, sofar)?;
+                let all = extension.gather_own(self.alloc, of_base)?;
+                Ok(all)
+            }
+            Part::Named(_) => {
+                let named = extension.fields.gather(self.alloc, part, sofar)?;
+                Ok(named)
+            }
+            Part::Rest => {
+                let rest = extension.fields.gather(self.alloc, part, sofar)?;
+                Ok(rest)
+            }
+        }
+    }
+
+    /// What a part of an object has in common with types so far.
+    #[cycle(gathering)]
+    pub(crate) fn gather(&self, n: u32, part: Part<'_>, sofar: Join) -> Result<Join, AllocError>
+        requires { n < length self.now.objects.items }
+        ensures part { IfOk result (λ j. join_in (objects_of self.now) j
+            ≡ fuse_optional (join_in (objects_of self.now) sofar) (part_in part.entry (object_in (objects_of self.now) n))) }
+        ensures below { IfOk result (λ j. is_join_below (length self.now.objects.items) sofar ≡ true
+            → is_join_below (length self.now.objects.items) j ≡ true) }
+    {
+        if let Some(index) = self.index_for(n, part) {
+            let indexed = index.gather(self.alloc, part, sofar)?;
+            return Ok(indexed);
+        }
+        if let Some(common) = self.common_for(n, part) {
+            let known = and_one(self.alloc, common, sofar)?;
+            return Ok(known);
+        }
+        match &self.objects[n as usize] {
+            Object::Fields(fields) => {
+                let gathered = fields.gather(self.alloc, part, sofar)?;
+                Ok(gathered)
+            }
+            Object::Extension(extension) => {
+                let gathered = self.gather_extension(extension, part, sofar)?;
+                Ok(gathered)
+            }
+            Object::Strings(names) => {
+                let gathered = gather_strings(self.alloc, names, part, sofar)?;
+                Ok(gathered)
+            }
+            Object::Common(of) => {
+                let mut all = sofar;
+                for m in of.as_slice() {
+                    all = self.gather(*m, part, all)?;
+                }
+                Ok(all)
+            }
+        }
+    }
+
+    /// The type of a property of an object: of the field of its name, else of other fields, where there may be others.
+    pub fn property(&mut self, n: u32, name: &[u8]) -> Result<Option<Ty>, AllocError>
+        requires { n < length self.old.objects.items }
+        ensures ty { IfOk result (λ t. option_map (type_at self.new) t
+            ≡ property_in name.now (object_type (object_in (objects_of self.old) n))) }
+        ensures known { IfOk result (λ t. is_rest_below (length self.new.objects.items) t ≡ true) }
+        ensures kept { BeginsWith (objects_of self.new) (objects_of self.old) }
+    {
+        self.prepare(n)?;
+        let found = self.find(n, name)?;
+        Ok(found)
+    }
+
+    /// The type of a property of an object, by what is kept of it.
+    fn find(&mut self, n: u32, name: &[u8]) -> Result<Option<Ty>, AllocError>
+        requires { n < length self.old.objects.items }
+        ensures ty { IfOk result (λ t. option_map (type_at self.new) t
+            ≡ property_in name.now (object_type (object_in (objects_of self.old) n))) }
+        ensures known { IfOk result (λ t. is_rest_below (length self.new.objects.items) t ≡ true) }
+        ensures kept { BeginsWith (objects_of self.new) (objects_of self.old) }
+    {
+        let named = self.gather(n, Part::Named(name), Join::Nothing)?;
+        if !named.is_nothing() {
+            return self.join_type(named);
+        }
+        let rest = self.gather(n, Part::Rest, Join::Nothing)?;
+        self.join_type(rest)
+    }
+
+    /// The numbers of the objects that it is made of, where it is what objects have in common.
+    pub(crate) fn members(&self, n: u32) -> Result<Option<Vec<u32>>, AllocError>
+        requires { n < length self.now.objects.items }
+        ensures { IfOk result (λ of. IfSome of (λ v. are_below n v.items ≡ true)) }
+    {
+        match &self.objects[n as usize] {
+            Object::Common(of) => {
+                let numbers = Vec::from_slice(self.alloc, of.as_slice())?;
+                Ok(Some(numbers))
+            }
+            Object::Fields(_) => Ok(None),
+            Object::Extension(_) => Ok(None),
+            Object::Strings(_) => Ok(None),
+        }
+    }
+
+    /// The number of the object whose fields it extends, where it does.
+    fn base(&self, n: u32) -> Option<u32>
+        requires { n < length self.now.objects.items }
+        ensures { IfSome result (λ m. m < n) }
+    {
+        match &self.objects[n as usize] {
+            Object::Extension(extension) => Some(extension.base.object),
+            Object::Fields(_) => None,
+            Object::Strings(_) => None,
+            Object::Common(_) => None,
+        }
+    }
+
+    /// Makes what all fields of each object have in common that one is made of.
+    #[cycle(commons)]
+    fn make_commons(&mut self, n: u32) -> Result<(), AllocError>
+        requires { n < length self.old.objects.items }
+        ensures { BeginsWith (objects_of self.new) (objects_of self.old) }
+    {
+        if let Some(base) = self.base(n) {
+            self.common(base)?;
+            return Ok(());
+        }
+        let Some(of) = self.members(n)? else {
+            return Ok(());
+        };
+        for m in of.as_slice() {
+            self.common(*m)?;
+        }
+        Ok(())
+    }
+
+    /// What all fields of an object, and the type of others, have in common: made once.
+    #[cycle(commons)]
+    pub fn common(&mut self, n: u32) -> Result<Option<Ty>, AllocError>
+        requires { n < length self.old.objects.items }
+        ensures ty { IfOk result (λ t. option_map (type_at self.new) t ≡ option_of (object_in (objects_of self.old) n).2) }
+        ensures known { IfOk result (λ t. is_rest_below (length self.new.objects.items) t ≡ true) }
+        ensures kept { BeginsWith (objects_of self.new) (objects_of self.old) }
+    {
+        match self.mark(n) {
+            Mark::Common(common) => Ok(common),
+            Mark::Unknown => {
+                self.make_commons(n)?;
+                let all = self.gather(n, Part::All, Join::Nothing)?;
+                let common = self.join_type(all)?;
+                self.set_mark(n, common);
+                Ok(common)
+            }
+        }
+    }
+}

@@ -1,0 +1,184 @@
+//! Types as they are passed on: numbers, which are copied.
+
+ghost use Rattle.std.specs.Prelude.{◌≡◌, List, MatchOption, false, nat_lt, ℕ};
+ghost use Rattle.al_types.specs.Types.{ArrayOf, Parts, assignable_type, is_array};
+ghost use Rattle.al_types.specs.Private.TypeParts.{form_of};
+ghost use Rattle.al_expr_types.specs.Types.{base_type, fuse_scalars, is_any, is_below, scalar_type, type_in};
+ghost use Rattle.al_expr_types.specs.declared.ty.Base.TheVariants as base;
+
+use al_types::Form;
+
+/// A type without parts.
+#[derive(Clone, Copy, PartialEq, Eq, Debug)]
+pub enum Scalar {
+    Any,
+    Null,
+    Number,
+    Bool,
+    String,
+}
+
+/// A type that is no array.
+#[derive(Clone, Copy, PartialEq, Eq, Debug)]
+pub enum Base {
+    Scalar(Scalar),
+    /// An object, by its number in the file's `Types`.
+    Object(u32),
+}
+
+/// A type: one that is no array, in so many arrays.
+#[derive(Clone, Copy, PartialEq, Eq, Debug)]
+pub struct Ty {
+    pub arrays: u32,
+    pub of: Base,
+}
+
+impl Scalar {
+    /// What two have in common.
+    pub fn fuse(self, other: Scalar) -> Scalar
+        ensures { result ≡ fuse_scalars self other }
+    {
+        match self {
+            Scalar::Any => Scalar::Any,
+            Scalar::Null => match other {
+                Scalar::Null => Scalar::Null,
+                Scalar::Any | Scalar::Number | Scalar::Bool | Scalar::String => Scalar::Any,
+            },
+            Scalar::Number => match other {
+                Scalar::Number => Scalar::Number,
+                Scalar::Bool | Scalar::String => Scalar::String,
+                Scalar::Any | Scalar::Null => Scalar::Any,
+            },
+            Scalar::Bool => match other {
+                Scalar::Bool => Scalar::Bool,
+                Scalar::Number | Scalar::String => Scalar::String,
+                Scalar::Any | Scalar::Null => Scalar::Any,
+            },
+            Scalar::String => match other {
+                Scalar::Number | Scalar::Bool | Scalar::String => Scalar::String,
+                Scalar::Any | Scalar::Null => Scalar::Any,
+            },
+        }
+    }
+
+    fn is_any(self) -> bool
+        ensures { result ≡ is_any (base.Scalar self) }
+    {
+        matches!(self, Scalar::Any)
+    }
+
+    /// Whether a value of this type may stand where one of the other is wanted: any with each, each with itself, all but any with a string.
+    fn is_assignable_to(self, to: Scalar) -> bool
+        ensures { result ≡ assignable_type (scalar_type self) (scalar_type to) }
+    {
+        match self {
+            Scalar::Any => true,
+            Scalar::Null => matches!(to, Scalar::Any | Scalar::Null | Scalar::String),
+            Scalar::Number => matches!(to, Scalar::Any | Scalar::Number | Scalar::String),
+            Scalar::Bool => matches!(to, Scalar::Any | Scalar::Bool | Scalar::String),
+            Scalar::String => matches!(to, Scalar::Any | Scalar::String),
+        }
+    }
+
+    /// The outermost form.
+    pub fn form(self) -> Form
+        ensures { (ms : List Parts) → result ≡ form_of (base_type ms (base.Scalar self)) }
+    {
+        match self {
+            Scalar::Any => Form::Any,
+            Scalar::Null => Form::Null,
+            Scalar::Number => Form::Number,
+            Scalar::Bool => Form::Bool,
+            Scalar::String => Form::String,
+        }
+    }
+}
+
+impl Base {
+    /// Whether it is any.
+    fn is_any(self) -> bool
+        ensures { result ≡ is_any self }
+    {
+        matches!(self, Base::Scalar(Scalar::Any))
+    }
+
+    /// Whether a value of this type may stand where one of the other is wanted.
+    fn is_assignable_to(self, to: Base) -> bool
+        ensures { (ms : List Parts) → result ≡ assignable_type (base_type ms self) (base_type ms to) }
+    {
+        match self {
+            Base::Object(_) => match to {
+                Base::Object(_) => true,
+                Base::Scalar(scalar) => scalar.is_any(),
+            },
+            Base::Scalar(from) => match to {
+                Base::Object(_) => from.is_any(),
+                Base::Scalar(to) => from.is_assignable_to(to),
+            },
+        }
+    }
+}
+
+impl Ty {
+    pub const ANY: Ty = Ty {
+        arrays: 0,
+        of: Base::Scalar(Scalar::Any),
+    };
+
+    pub const STRING: Ty = Ty {
+        arrays: 0,
+        of: Base::Scalar(Scalar::String),
+    };
+
+    /// The type of an object, by its number.
+    pub fn object(number: u32) -> Ty
+        ensures ty { (ms : List Parts) → type_in ms result ≡ base_type ms (base.Object number) }
+        ensures below { (k : ℕ) → is_below k result ≡ nat_lt number k }
+    {
+        Ty {
+            arrays: 0,
+            of: Base::Object(number),
+        }
+    }
+
+    /// The outermost form.
+    pub fn form(self) -> Form
+        ensures { (ms : List Parts) → result ≡ form_of (type_in ms self) }
+    {
+        if self.arrays > 0 {
+            return Form::Array;
+        }
+        match self.of {
+            Base::Scalar(scalar) => scalar.form(),
+            Base::Object(_) => Form::Object,
+        }
+    }
+
+    /// The type of the elements of an array.
+    pub fn element(self) -> Option<Ty>
+        ensures { (ms : List Parts) → MatchOption result (is_array (type_in ms self) ≡ false)
+            (λ t. type_in ms self ≡ ArrayOf (type_in ms t)) }
+    {
+        if self.arrays == 0 {
+            return None;
+        }
+        Some(Ty {
+            arrays: self.arrays - 1,
+            of: self.of,
+        })
+    }
+
+    /// Whether a value of this type may stand where one of the other is wanted: any goes with every type, a scalar with itself, null,
+    /// number and bool with a string, arrays by their elements, and an object with an object.
+    pub fn is_assignable_to(self, to: Ty) -> bool
+        ensures { (ms : List Parts) → result ≡ assignable_type (type_in ms self) (type_in ms to) }
+    {
+        if self.arrays < to.arrays {
+            return self.of.is_any();
+        }
+        if to.arrays < self.arrays {
+            return to.of.is_any();
+        }
+        self.of.is_assignable_to(to.of)
+    }
+}

@@ -1,0 +1,198 @@
+//! The table of a file's objects, and the types that are made of them.
+
+ghost use Rattle.std.specs.Prelude.{◌≡◌, true};
+ghost use Rattle.al_expr_types.specs.Marks.{AreIndexed, AreIndexed-prop, AreRight, AreRight-prop};
+ghost use Rattle.al_expr_types.specs.Types.{are_in_order};
+
+use crate::joining::Join;
+use crate::marks::{Index, Mark};
+use crate::name_list::NameList;
+use crate::objects::{Fields, Object};
+use crate::ty::{Base, Ty};
+use std::alloc::{AllocError, Global};
+
+/// The objects of a file, each made once and named by its number. Later ones are made of earlier ones, so to add one changes no other.
+#[derive(Drop)]
+pub struct Types<'a> {
+    pub(crate) alloc: Global,
+    pub(crate) objects: Vec<Object<'a>>,
+    marks: Vec<Mark>,
+    indexes: Vec<Index<'a>>,
+    ghost ordered: { are_in_order 0 objects.items ≡ true },
+    ghost right: { AreRight objects.items marks.items } by { AreRight-prop objects.items marks.items },
+    ghost indexed: { AreIndexed objects.items indexes.items } by { AreIndexed-prop objects.items indexes.items },
+}
+
+/// So often a field may be looked at before the index is made.
+const OFTEN: usize = 2;
+
+impl<'a> Types<'a> {
+    ghost use Rattle.std.specs.Prelude.{◌∷◌, ◌++◌, ◌<◌, [], IfOk, IfSome, OnOk, get_or, length, option_map};
+    ghost use Rattle.al_expr_types.specs.declared.objects.Object.TheVariants as object;
+    ghost use Rattle.al_expr_types.specs.Marks.{IsCommon, IsIndex};
+    ghost use Rattle.al_expr_types.specs.declared.marks.Mark.TheVariants as mark;
+    ghost use Rattle.al_base.specs.Growth.{BeginsWith};
+    ghost use Rattle.al_types.specs.Strings.{named_strings};
+    ghost use Rattle.al_types.specs.Types.{fuse_type, object_type, option_of, optional, or_any};
+    ghost use Rattle.al_expr_types.specs.Joining.{is_join_below, join_in};
+    ghost use Rattle.al_expr_types.specs.Names.{names_listed};
+    ghost use Rattle.al_expr_types.specs.Tables.{is_known, objects_of, type_at};
+    ghost use Rattle.al_expr_types.specs.Types.{fields_parts, is_object_below, is_rest_below, object_in, object_parts};
+
+    /// No objects. Takes no memory.
+    pub fn new(alloc: Global) -> Types<'a>
+        ensures { objects_of result ≡ [] }
+    {
+        Types {
+            alloc,
+            objects: Vec::new(alloc),
+            marks: Vec::new(alloc),
+            indexes: Vec::new(alloc),
+        }
+    }
+
+    /// Adds an object, and answers its number. Fails with `AllocError` where it is out of memory, as all here.
+    pub(crate) fn push(&mut self, object: Object<'a>) -> Result<u32, AllocError>
+        requires { is_object_below (length self.old.objects.items) object ≡ true }
+        ensures objects { OnOk result (objects_of self.new ≡ objects_of self.old ++ object_parts (objects_of self.old) object.entry ∷ []) }
+        ensures number { IfOk result (λ n. object_in (objects_of self.new) n ≡ object_parts (objects_of self.old) object.entry) }
+        ensures there { IfOk result (λ n. n < length self.new.objects.items) }
+        ensures kept { BeginsWith (objects_of self.new) (objects_of self.old) }
+    {
+        if self.objects.len() > u32::MAX as usize {
+            return Err(AllocError);
+        }
+        let number = self.objects.len() as u32;
+        self.objects.push(object)?;
+        self.marks.push(Mark::Unknown)?;
+        self.indexes.push(Index::Looks(0))?;
+        Ok(number)
+    }
+
+    /// What is kept of an object.
+    pub(crate) fn mark(&self, n: u32) -> Mark
+        ensures { result ≡ get_or self.now.marks.items n mark.Unknown }
+    {
+        if n as usize >= self.marks.len() {
+            return Mark::Unknown;
+        }
+        self.marks[n as usize]
+    }
+
+    /// Keeps the index of an object.
+    pub(crate) fn set_index(&mut self, n: u32, index: Fields<'a>)
+        requires { IsIndex self.old.objects.items n index }
+        ensures { (self.new).objects ≡ (self.old).objects }
+    {
+        if (n as usize) < self.indexes.len() {
+            self.indexes[n as usize] = Index::Fields(index);
+        }
+    }
+
+    /// Whether an object was looked through so often that an index, made from all its fields, pays.
+    pub(crate) fn is_due(&mut self, n: u32, looked: usize, all: usize) -> bool
+        ensures { (self.new).objects ≡ (self.old).objects }
+    {
+        if n as usize >= self.indexes.len() {
+            return false;
+        }
+        let before = match &self.indexes[n as usize] {
+            Index::Fields(_) => return false,
+            Index::Looks(before) => *before,
+        };
+        let more = before.saturating_add(looked);
+        self.indexes[n as usize] = Index::Looks(more);
+        more / OFTEN >= all
+    }
+
+    /// The index of an object, where it was made.
+    pub(crate) fn index_of(&self, n: u32) -> Option<&Fields<'a>>
+        ensures { IfSome result (λ f. IsIndex self.now.objects.items n f.now) }
+    {
+        if n as usize >= self.indexes.len() {
+            return None;
+        }
+        match &self.indexes[n as usize] {
+            Index::Fields(fields) => Some(fields),
+            Index::Looks(_) => None,
+        }
+    }
+
+    /// Keeps what all fields of an object have in common.
+    pub(crate) fn set_mark(&mut self, n: u32, common: Option<Ty>)
+        requires { IsCommon self.old.objects.items n common }
+        ensures { (self.new).objects ≡ (self.old).objects }
+    {
+        if (n as usize) < self.marks.len() {
+            self.marks[n as usize] = Mark::Common(common);
+        }
+    }
+
+    /// The type of an object of fields.
+    pub fn fields(&mut self, fields: Fields<'a>) -> Result<Ty, AllocError>
+        requires { is_object_below (length self.old.objects.items) (object.Fields fields) ≡ true }
+        ensures ty { IfOk result (λ t. type_at self.new t ≡ object_type (fields_parts (objects_of self.old) fields.entry)) }
+        ensures known { IfOk result (λ t. is_known self.new t ≡ true) }
+        ensures kept { BeginsWith (objects_of self.new) (objects_of self.old) }
+    {
+        let number = self.push(Object::Fields(fields))?;
+        Ok(Ty::object(number))
+    }
+
+    /// The type of an object whose fields are strings of these names, and no others.
+    pub fn strings(&mut self, names: &'a NameList) -> Result<Ty, AllocError>
+        ensures ty { IfOk result (λ t. type_at self.new t ≡ named_strings (names_listed names.entry.now)) }
+        ensures known { IfOk result (λ t. is_known self.new t ≡ true) }
+        ensures kept { BeginsWith (objects_of self.new) (objects_of self.old) }
+    {
+        let number = self.push(Object::Strings(names))?;
+        Ok(Ty::object(number))
+    }
+
+    /// The type that types have in common, where there are some.
+    pub fn join_type(&mut self, join: Join) -> Result<Option<Ty>, AllocError>
+        requires { is_join_below (length self.old.objects.items) join ≡ true }
+        ensures ty { IfOk result (λ t. optional (option_map (type_at self.new) t) ≡ join_in (objects_of self.old) join) }
+        ensures known { IfOk result (λ t. is_rest_below (length self.new.objects.items) t ≡ true) }
+        ensures kept { BeginsWith (objects_of self.new) (objects_of self.old) }
+    {
+        match join {
+            Join::Nothing => Ok(None),
+            Join::One(ty) => Ok(Some(ty)),
+            Join::Objects(join) => {
+                let number = self.push(Object::Common(join.objects))?;
+                Ok(Some(Ty {
+                    arrays: join.arrays,
+                    of: Base::Object(number),
+                }))
+            }
+        }
+    }
+
+    /// The type that types have in common, any where there are none.
+    pub fn type_or_any(&mut self, join: Join) -> Result<Ty, AllocError>
+        requires { is_join_below (length self.old.objects.items) join ≡ true }
+        ensures ty { IfOk result (λ t. type_at self.new t ≡ or_any (option_of (join_in (objects_of self.old) join))) }
+        ensures known { IfOk result (λ t. is_known self.new t ≡ true) }
+        ensures kept { BeginsWith (objects_of self.new) (objects_of self.old) }
+    {
+        let ty = self.join_type(join)?;
+        match ty {
+            Some(ty) => Ok(ty),
+            None => Ok(Ty::ANY),
+        }
+    }
+
+    /// What two types have in common.
+    pub fn join(&mut self, a: Ty, b: Ty) -> Result<Ty, AllocError>
+        requires a { is_known self.old a ≡ true }
+        requires b { is_known self.old b ≡ true }
+        ensures ty { IfOk result (λ t. type_at self.new t ≡ fuse_type (type_at self.old a) (type_at self.old b)) }
+        ensures known { IfOk result (λ t. is_known self.new t ≡ true) }
+        ensures kept { BeginsWith (objects_of self.new) (objects_of self.old) }
+    {
+        let both = Join::One(a).and(self.alloc, b)?;
+        let ty = self.type_or_any(both)?;
+        Ok(ty)
+    }
+}

@@ -1,8 +1,0 @@
-use Rattle.std.proofs.Common.{ap}
-use Rattle.al_types.specs.Types.{Present}
-use Rattle.al_type_table.specs.Types.{arrays_of}
-use Rattle.al_type_table.proofs.Joins.{same_object}
-use Rattle.al_type_table.proofs.joining.join_objects.Goals as goal
-
-pub returns-then-m-n-clause-ty : goal.returns-then-m-n-clause-ty
-returns-then-m-n-clause-ty c = λ ms. ap (λ t. Present (arrays_of c.args.arrays t)) (same_object ms c.args.m c.args.n c.if-m-n.true)

@@ -1,9 +1,0 @@
-use Rattle.std.proofs.Common.{◌≡◌, ◌∙◌, arith, sym, zero}
-use Rattle.al_types.specs.Private.TypeParts.{form_of}
-use Rattle.al_type_table.specs.Types.{arrays_of, base_type}
-use Rattle.al_type_table.proofs.ty.Ty.form.Goals as goal
-
-pub returns-in-Scalar : goal.returns-in-Scalar
-returns-in-Scalar c = λ ms.
-    let none : zero ≡ c.args.self.arrays = omega (arith, c.if-self-gt0.false) in
-    c.form.ensures ms ∙ (λ d. form_of (arrays_of (none d) (base_type ms (sym c.in-Scalar.is d))))
