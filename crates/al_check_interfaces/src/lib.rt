@@ -3,6 +3,7 @@
 #![tactic(auto)]
 
 mod calls;
+mod copies;
 mod equality;
 mod examples;
 mod forms;

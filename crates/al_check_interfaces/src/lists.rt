@@ -104,6 +104,13 @@ impl Parameters {
         })
     }
 
+    /// All of them.
+    pub(crate) fn as_slice(&self) -> &[Parameter]
+        ensures { result.now ≡ self.now }
+    {
+        self.parameters.as_slice()
+    }
+
     /// Those that each call has to give. Fails with `AllocError` when out of memory.
     pub fn mandatory(&self, alloc: Global) -> Result<Vec<&Parameter>, AllocError>
         ensures { IfOk result (λ v. map (λ p. p.now) v.items ≡ mandatory_of self.now) }

@@ -1,0 +1,96 @@
+//! Copies of interfaces, with memory of their own.
+ghost use Rattle.std.specs.Prelude.{◌≡◌, IfOk};
+
+use crate::interfaces::{Interface, Parameter, Signature};
+use crate::lists::Parameters;
+use al_tree_declarations::{Name, NameList};
+use std::alloc::{AllocError, Global};
+
+fn copy_of_name(alloc: Global, name: &Name) -> Result<Name, AllocError>
+    ensures { IfOk result (λ copy. copy ≡ name.now) }
+{
+    Name::new(alloc, name.as_bytes())
+}
+
+/// The name of an interface, where it has one.
+fn copy_of_title(alloc: Global, name: &Option<Name>) -> Result<Option<Name>, AllocError>
+    ensures { IfOk result (λ copy. copy ≡ name.now) }
+{
+    match name {
+        Some(name) => Ok(Some(copy_of_name(alloc, name)?)),
+        None => Ok(None),
+    }
+}
+
+fn copies_of_names(alloc: Global, names: &[Name]) -> Result<Vec<Name>, AllocError>
+    ensures { IfOk result (λ copies. copies.items ≡ names.now) }
+{
+    let mut copies = Vec::new(alloc);
+    for name in names {
+        copies.push(copy_of_name(alloc, name)?)?;
+    }
+    Ok(copies)
+}
+
+fn copy_of_list(alloc: Global, list: &NameList) -> Result<NameList, AllocError>
+    ensures { IfOk result (λ copy. copy ≡ list.now) }
+{
+    NameList::new(alloc, copies_of_names(alloc, list.as_slice())?)
+}
+
+fn copy_of_parameter(alloc: Global, parameter: &Parameter) -> Result<Parameter, AllocError>
+    ensures { IfOk result (λ copy. copy ≡ parameter.now) }
+{
+    Ok(Parameter {
+        name: copy_of_name(alloc, &parameter.name)?,
+        required: parameter.required,
+        has_default: parameter.has_default,
+        takes: parameter.takes,
+    })
+}
+
+fn copies_of_all(alloc: Global, parameters: &[Parameter]) -> Result<Vec<Parameter>, AllocError>
+    ensures { IfOk result (λ copies. copies.items ≡ parameters.now) }
+{
+    let mut copies = Vec::new(alloc);
+    for parameter in parameters {
+        copies.push(copy_of_parameter(alloc, parameter)?)?;
+    }
+    Ok(copies)
+}
+
+fn copy_of_parameters(alloc: Global, parameters: &Parameters) -> Result<Parameters, AllocError>
+    ensures { IfOk result (λ copy. copy ≡ parameters.now) }
+{
+    Parameters::new(alloc, copies_of_all(alloc, parameters.as_slice())?)
+}
+
+fn copy_of_signature(alloc: Global, signature: &Signature) -> Result<Signature, AllocError>
+    ensures { IfOk result (λ copy. copy ≡ signature.now) }
+{
+    Ok(Signature {
+        name: copy_of_title(alloc, &signature.name)?,
+        role: signature.role,
+        inputs: copy_of_parameters(alloc, &signature.inputs)?,
+        secrets: copy_of_parameters(alloc, &signature.secrets)?,
+        outputs: copy_of_list(alloc, &signature.outputs)?,
+    })
+}
+
+impl Interface {
+    /// A copy, with memory of its own.
+    ///
+    /// # Errors
+    ///
+    /// [`AllocError`] where memory ran out.
+    pub fn copy(&self, alloc: Global) -> Result<Interface, AllocError>
+        ensures { IfOk result (λ copy. copy ≡ self.now) }
+    {
+        match self {
+            Interface::Unreadable => Ok(Interface::Unreadable),
+            Interface::Readable(signature) => {
+                Ok(Interface::Readable(copy_of_signature(alloc, signature)?))
+            }
+        }
+    }
+}
