@@ -14,7 +14,7 @@ import sys
 
 ROW = re.compile(r"^\| `(\w+)` \| (.*) \| ?(.*?) ?\|$")
 PROGRAM = "actionlint"
-COLOURS = ["#dbe9f6", "#dff0d8", "#fde9c9", "#f6dbe2", "#e6e0f3", "#d9f0ef", "#eeeeee"]
+COLOURS = ["#dbe9f6", "#dff0d8", "#fde9c9", "#f6dbe2", "#e6e0f3", "#d9f0ef", "#eeeeee", "#f3efc4", "#e3d5c8", "#d3dcd0"]
 HEAD = """\
 // The crates of the program, each above those that it stands on. Made from crates.txt by tests/architecture_page.py.
 digraph layers {
