@@ -80,12 +80,12 @@ def repaired_files(entry: fault_entries.Entry) -> list[str]:
 def names(crates: Path) -> dict[str, list[str]]:
     """The lists of names, each sorted."""
     settings = definitions(crates / "al_rules_settings/specs/Names.antt")
-    events = definitions(crates / "al_rules_events/specs/Names.antt")
-    shape = (crates / "al_tree_shape/specs/Table.antt").read_text(encoding="utf-8")
+    events = definitions(crates / "al_rules/specs/Names.antt")
+    shape = (crates / "al_tree/specs/Table.antt").read_text(encoding="utf-8")
     types = definitions(crates / "al_types/specs/Names.antt")
     objects = definitions(crates / "al_check_contexts/specs/Contexts.antt")
     lists = {
-        "events": NAME.findall(definitions(crates / "al_tree_shape/specs/Names.antt")["event_names"]),
+        "events": NAME.findall(definitions(crates / "al_tree/specs/Names.antt")["event_names"]),
         # The rows are pairs of lists, each ended by `[]`: events, and their types.
         "activity types": [name for types_of in events["activities"].split("[]")[1::2] for name in NAME.findall(types_of)],
         "input types": NAME.findall(events["dispatch_types"]),
@@ -112,9 +112,9 @@ def syntax(top: Path) -> dict[str, dict | list]:
                 for heading, body in MEANINGS_SECTION.findall((top / "docs/MEANINGS.md").read_text(encoding="utf-8"))}
     rows = contexts_page.availability_rows((crates / "al_check_places/specs/Availability.antt").read_text(encoding="utf-8"))
     return {
-        "shapes": shapes((crates / "al_tree_shape/specs/Table.antt").read_text(encoding="utf-8"), meanings),
+        "shapes": shapes((crates / "al_tree/specs/Table.antt").read_text(encoding="utf-8"), meanings),
         "activity types": activity_types(crates),
-        "call input types": lists_page.names_of((crates / "al_rules_events/specs/Names.antt").read_text(encoding="utf-8"), "call_types"),
+        "call input types": lists_page.names_of((crates / "al_rules/specs/Names.antt").read_text(encoding="utf-8"), "call_types"),
         "permission values": {name: lists_page.names_of((crates / "al_rules_settings/specs/Names.antt").read_text(encoding="utf-8"), name)
                               for name in ("scope_values", "whole_values")},
         "places": {path: {"contexts": contexts, "functions": functions} for path, contexts, functions in rows},
@@ -165,7 +165,7 @@ def activity_types(crates: Path) -> dict[str, list[str]]:
 
 
 def lists_sections(crates: Path) -> dict[str, str]:
-    return syntax_page.tables_of((crates / "al_tree_shape/specs/Table.antt").read_text(encoding="utf-8"))
+    return syntax_page.tables_of((crates / "al_tree/specs/Table.antt").read_text(encoding="utf-8"))
 
 
 def fixed_contexts(crates: Path) -> dict[str, dict]:

@@ -42,8 +42,8 @@ def keys_of(table):
 
 def events(top, sections):
     """Each event, its activity types, and what may stand below it."""
-    names = names_of((top / "al_tree_shape/specs/Names.antt").read_text(), "event_names")
-    rows = (top / "al_rules_events/specs/Names.antt").read_text()
+    names = names_of((top / "al_tree/specs/Names.antt").read_text(), "event_names")
+    rows = (top / "al_rules/specs/Names.antt").read_text()
     table = rows[rows.index("activities ="):rows.index("abbrev pub activities_of")]
     types = {}
     for left, right in re.findall(r'((?:codes "\w+"\s*∷\s*)+)\[\],\s*((?:codes "\w+"\s*∷\s*)+)\[\]', table):
@@ -63,7 +63,7 @@ def filters(sections):
 
 def input_types(top):
     """The types that inputs have."""
-    text = (top / "al_rules_events/specs/Names.antt").read_text()
+    text = (top / "al_rules/specs/Names.antt").read_text()
     lists = (("workflow_call", "call_types"), ("workflow_dispatch", "dispatch_types"))
     rows = "".join(f"| `{event}` | {quoted(names_of(text, name))} |\n" for event, name in lists)
     return "| Inputs of | Types |\n|---|---|\n" + rows
@@ -137,7 +137,7 @@ def untrusted(top):
 def lists(top):
     """All tables of the page."""
     crates = top / "crates"
-    sections = tables_of((crates / "al_tree_shape/specs/Table.antt").read_text())
+    sections = tables_of((crates / "al_tree/specs/Table.antt").read_text())
     return [
         events(crates, sections), filters(sections), input_types(crates), *settings(crates), usings(crates), section_keys(sections),
         contexts(crates), *places(crates), functions(crates), untrusted(crates),
