@@ -1,9 +1,9 @@
 """Compares docs/PROVED.md with the crates, and README.md's table with it: proved_page.py TOP.
 
 Each clause that the table of promises names stands on the function that it names, and README.md's table has just the promises that have
-a number. Each crate of crates.txt that the program stands on, and `toy`, has a section; what an item of a section speaks of is a public item
-of that crate, and the clauses in brackets behind it are its own; a definition's file that a section names is there. Where the kit's `rt` is
-on the PATH, the logic that is trusted is the one by which that kit proves. Prints what isn't so.
+a number. Each crate of crates.txt that the program stands on, and `toy`, has rows in the table of crates; what a row is of is a public item
+of its crate, and the clauses in brackets behind it are its own; a definition's file that a row names is there. Where the kit's `rt` is on
+the PATH, the logic that is trusted is the one by which that kit proves. Prints what isn't so.
 """
 
 import pathlib
@@ -16,8 +16,7 @@ from architecture_page import PROGRAM, all_below, crates_in
 
 ROW = re.compile(r"^\| (\d?) ?\| (.*) \| (.*) \|$", re.MULTILINE)
 EXTRACT = re.compile(r"^\| (\d) \| (.*) \|$", re.MULTILINE)
-SECTION = re.compile(r"^### `(\w+)`\n(.*?)(?=^###? |\Z)", re.DOTALL | re.MULTILINE)
-BULLET = re.compile(r"^- (.*?)(?=^- |\Z)", re.DOTALL | re.MULTILINE)
+OF_CRATE = re.compile(r"^\| (?:`(\w+)`)? ?\| (`.*?) \| (.*) \|$", re.MULTILINE)
 ITEM = re.compile(r"^\s*(?:pub )?(?:fn|struct|enum|trait|type) (\w+)", re.MULTILINE)
 FUNCTION = re.compile(r"^( *)pub fn (\w+)(.*?)^\1(?:\{|$)", re.DOTALL | re.MULTILINE)
 LAWS = re.compile(r"^impl Lint for Actions \{(.*?)^\}", re.DOTALL | re.MULTILINE)
@@ -60,25 +59,26 @@ def items_of(source):
     return found
 
 
-def spoken_of(bullet):
-    """Of each part of an item of a section that names something before a colon, these names and the clauses in brackets behind them."""
-    for part in re.split(r"(?:^|[;.] )(?=`)", " ".join(bullet.split())):
-        head, colon, _ = part.partition(": ")
-        if colon:
-            clauses = {it for names in CLAUSES.findall(head) for it in re.findall(r"\w+", names)}
-            yield [it.split("::")[-1] for it in re.findall(r"`([\w:]+)`", CLAUSES.sub("", head))], clauses
+def rows_of(page):
+    """The rows of each crate: what each is of, and what it says."""
+    found, crate = {}, None
+    for name, items, text in OF_CRATE.findall(page.partition("## Crate by crate")[2].partition("\n## ")[0]):
+        crate = name or crate
+        found.setdefault(crate, []).append((items, text))
+    return found
 
 
-def wrong_in(crate, body):
-    """What a crate's section says that isn't so."""
+def wrong_in(crate, rows):
+    """What a crate's rows say that isn't so."""
     source = sources(crate)
-    there, clauses_of, bullets = items_of(source), contracts(source), BULLET.findall(body)
-    found = [] if bullets else ["says nothing"]
-    for names, clauses in (it for bullet in bullets for it in spoken_of(bullet)):
-        found += [f"there is no {it}" for it in names if it not in there]
+    there, clauses_of = items_of(source), contracts(source)
+    for items, text in rows:
+        clauses = {it for names in CLAUSES.findall(items) for it in re.findall(r"\w+", names)}
+        names = [it.split("::")[-1] for it in re.findall(r"`([\w:]+)`", CLAUSES.sub("", items))]
         have = {clause for it in names for one in clauses_of.get(it, []) for clause in one}
-        found += [f"{', '.join(names)} have no clause {it}" for it in sorted(clauses - have)]
-    return found + [f"there is no {it}" for it in re.findall(r"`(specs/[\w/]+\.antt)`", body) if not (crate / it).exists()]
+        yield from (f"there is no {it}" for it in names if it not in there)
+        yield from (f"{', '.join(names)} have no clause {it}" for it in sorted(clauses - have))
+        yield from (f"there is no {it}" for it in re.findall(r"`(specs/[\w/]+\.antt)`", text) if not (crate / it).exists())
 
 
 def differences(top):
@@ -91,11 +91,11 @@ def differences(top):
     readme = (top / "README.md").read_text(encoding="utf-8").partition("## What it promises")[2].partition("\n## ")[0]
     if not numbered or EXTRACT.findall(readme) != numbered:
         found.append("README.md has other promises than those with a number")
-    crates, listed = crates_in((top / "crates.txt").read_text(encoding="utf-8")), dict(SECTION.findall(page))
+    crates, listed = crates_in((top / "crates.txt").read_text(encoding="utf-8")), rows_of(page)
     wanted = {it for it in all_below(crates, PROGRAM) if it != PROGRAM} | {"toy"}
-    found += [f"no section for {it}" for it in sorted(wanted - set(listed))]
+    found += [f"no row of {it}" for it in sorted(wanted - set(listed))]
     found += [f"no crate {it}" for it in sorted(set(listed) - set(crates))]
-    found += [f"{name}: {it}" for name, body in listed.items() for it in wrong_in(top / "crates" / name, body)]
+    found += [f"{name}: {it}" for name, of_crate in listed.items() for it in wrong_in(top / "crates" / name, of_crate)]
     if shutil.which("rt"):
         version = subprocess.run(["rt", "version"], capture_output=True, text=True, check=True).stdout.strip()
         found += [] if LOGIC.findall(page) == LOGIC.findall(version) != [] else [f"what is trusted is {version}"]
