@@ -1,5 +1,5 @@
 """Checks the links between pages: links.py TOP. Each leads to a file that is there, and to a heading of that page. What a page names in code
-by its path, `crate/specs/File.antt` or `tests/file.py`, is there too.
+by its path, `crate/specs/File.antt` or `tests/file.py`, is there too, and docs/README.md leads to each page of docs/.
 """
 
 import pathlib
@@ -47,6 +47,14 @@ def absent_paths(top):
                 yield f"{page.relative_to(top)}: there is no {path}"
 
 
+def unlisted(top):
+    """The pages of docs/ to which docs/README.md doesn't lead."""
+    listed = {link.partition("#")[0] for link in LINK.findall((top / "docs/README.md").read_text(encoding="utf-8"))}
+    for page in sorted((top / "docs").glob("*.md")):
+        if page.name not in {*listed, "README.md"}:
+            yield f"docs/README.md doesn't lead to {page.name}"
+
+
 def broken_links(top):
     """The links of all pages below a folder that lead nowhere."""
     found = []
@@ -65,7 +73,7 @@ def broken_links(top):
 
 def main(folder):
     top = pathlib.Path(folder)
-    if wrong := [*broken_links(top), *absent_paths(top)]:
+    if wrong := [*broken_links(top), *absent_paths(top), *unlisted(top)]:
         sys.exit("\n".join(wrong))
 
 
