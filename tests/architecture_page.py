@@ -3,7 +3,8 @@
 Each crate of crates.txt has one row in the page's table of crates, whose last column lists the crates and libraries that it stands on, and
 each of the program stands in one row of the table of public ones. docs/layers.dot is the picture of the program's crates in graphviz's
 language, each above those that it stands on, coloured by that row. docs/layers.svg, as graphviz's `dot` draws it, has exactly its nodes and
-arrows. With `--write` the column and both files are written anew, for which `dot` has to be there (Debian's graphviz).
+arrows. With `--write` the column and both files are written anew, for which `dot` has to be there (Debian's graphviz). The table of what the
+gate costs, on docs/PROVING.md, has rows of crates of crates.txt alone.
 """
 
 import html
@@ -111,7 +112,8 @@ def differences(top):
     grouped = [name for name, _ in groups]
     found = [f"{it} has {rows.count(it)} rows" for it in crates if rows.count(it) != 1]
     found += [f"{it} stands {grouped.count(it)} times beside a public crate" for it in shown_in(crates) if grouped.count(it) != 1]
-    found += [f"there is no crate {it}" for it in sorted({*rows, *grouped} - set(crates))]
+    measured = re.findall(r"^\| `(\w+)` \| [\d,]+ \|", read(top / "docs/PROVING.md"), re.MULTILINE)
+    found += [f"there is no crate {it}" for it in sorted({*rows, *grouped, *measured} - set(crates))]
     if found:
         return found
     dot, svg = read(top / "docs/layers.dot"), read(top / "docs/layers.svg")
