@@ -56,21 +56,17 @@ def faults(docs: Path) -> list[dict]:
     rows = []
     for entry in fault_entries.entries(docs):
         local = lambda markdown: LINK_IN_PAGE.sub(rf"]({entry.page}\1)", markdown)
-        repair = "\n\n".join([entry.repair, *repaired_files(entry)])
+        repair = "\n\n".join([entry.repair, *repaired_files(TOP / "tests/faults" / entry.code)])
         rows.append({"code": entry.code, "message": entry.message, "page": entry.page, "anchor": entry.anchor,
                      "text": local(entry.what), "why": local(entry.why), "repair": local(repair)})
     return rows
 
 
-def repaired_files(entry: fault_entries.Entry) -> list[str]:
-    """The repaired file as Markdown, and before it the other files of its folder, by their paths; none where the page shows none."""
-    shown = []
-    for example in entry.examples:
-        if example.text == entry.repaired and not example.report:
-            for path, data in example.files[:-1]:
-                shown += [f"`{path}`:", f"```yaml\n{data.decode()}```"]
-            return [*shown, f"```yaml\n{example.text}```"]
-    return shown
+def repaired_files(case: Path) -> list[str]:
+    """The repaired file of a fault's case as Markdown, and before it the other files of its folder, by their paths."""
+    files = fault_entries.files_of(case.with_name(f"{case.name}-repaired"))
+    shown = [f"`{path}`:\n\n```yaml\n{data.decode()}```" for path, data in list(files.items())[:-1]]
+    return [*shown, f"```yaml\n{list(files.values())[-1].decode()}```"]
 
 
 def names(crates: Path) -> dict[str, list[str]]:
