@@ -21,8 +21,7 @@ import lists_page
 
 OUT = Path(__file__).resolve().parent / "actionlint_client"
 LINK_IN_PAGE = re.compile(r"\]\((#[^)]*)\)")
-MEANINGS_SECTION = re.compile(r"^##+ (.+)\n((?:(?!#).*\n)*)", re.M)
-MEANINGS_ROW = re.compile(r"^\| `([^`]+)` \| (.+) \|$", re.M)
+MEANINGS_ROW = re.compile(r"^\| (?:\*([^*]+)\* )?\| `([^`]+)` \| (.+) \|$", re.M)
 UNCHECKED = " (unchecked)"
 # Where the sections stand that the linter doesn't check: below which key of a shape, and whether names of one's own come between.
 UNCHECKED_PLACES = {("Job", "environment"): ("Environment", False), ("Job", "services"): ("Container", True),
@@ -100,8 +99,10 @@ def names(crates: Path) -> dict[str, list[str]]:
 def syntax(top: Path) -> dict[str, dict | list]:
     """What each shape of a value takes, the rows of the table of places, contexts, functions, activity types, and meanings by list."""
     crates = top / "crates"
-    meanings = {heading.lower(): dict(MEANINGS_ROW.findall(body))
-                for heading, body in MEANINGS_SECTION.findall((top / "docs/MEANINGS.md").read_text(encoding="utf-8"))}
+    meanings, heading = {}, ""
+    for begun, name, meaning in MEANINGS_ROW.findall((top / "docs/MEANINGS.md").read_text(encoding="utf-8")):
+        heading = begun or heading
+        meanings.setdefault(heading, {})[name] = meaning
     rows = lists_page.availability_rows(crates)
     return {
         "shapes": shapes((crates / lists_page.SHAPES).read_text(encoding="utf-8"), meanings),
