@@ -121,8 +121,8 @@ def link(entry, text):
 
 def by_code(listed):
     """The table of codes."""
-    rows = ((subject, ", ".join(link(entry, entry.code) for entry in listed if entry.code[0] == letter)) for letter, subject in SUBJECTS.items())
-    return BY_CODE + "".join(f"| {subject} | {links} |\n" for subject, links in rows)
+    links = {letter: ", ".join(link(entry, entry.code) for entry in listed if entry.code[0] == letter) for letter in SUBJECTS}
+    return BY_CODE + "".join(f"| {subject} | {links[letter]} |\n" for letter, subject in SUBJECTS.items())
 
 
 def in_order(message):

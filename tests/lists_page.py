@@ -25,7 +25,8 @@ NAME = re.compile(r'codes "([^"]+)"')
 EQUATION = re.compile(r"^rule (\w+) = (.*?)(?=^rule |^-- |\Z)", re.DOTALL | re.MULTILINE)
 FIELD = re.compile(r"(may|must|not_after|not_beside|must_unless_after|must_unless_beside)((?: \(codes \"[^\"]+\"\))+) (\w+)")
 OTHERS = re.compile(r"keys (?:\((wrong_beside) \(codes \"([^\"]+)\"\)\)|(wrong|events|unchecked)) \(")
-SCALARS = {"AnyScalar": "text", "NotNull": "text that is not null", "Bools": "flag", "Numbers": "number", "Chunks": "expression", "NoScalar": None}
+SCALARS = {"AnyScalar": "text", "NotNull": "text that is not null", "Bools": "flag", "Numbers": "number", "Chunks": "expression",
+           "NoScalar": None}
 FORMS = {
     "scalar": ("scalars",),
     "scalar_or": ("scalars", "keys"),
@@ -163,7 +164,8 @@ def events(crates):
 def input_types(crates):
     """The types that inputs have."""
     text = (crates / ACTIVITIES).read_text()
-    rows = [(f"`{event}`", quoted(names_of(text, name))) for event, name in (("workflow_call", "call_types"), ("workflow_dispatch", "dispatch_types"))]
+    lists = (("workflow_call", "call_types"), ("workflow_dispatch", "dispatch_types"))
+    rows = [(f"`{event}`", quoted(names_of(text, name))) for event, name in lists]
     return table_of(("Inputs of", "Types"), rows)
 
 
@@ -282,7 +284,7 @@ def untrusted(crates):
 def lists(crates):
     """All tables of the page."""
     takes = table_of(("Function", "Takes", "Gives"), [(f"`{name}`", *row) for name, row in functions(crates).items()])
-    return [section_keys(crates), events(crates), input_types(crates), settings(crates), contexts(crates), places(crates), takes, untrusted(crates)]
+    return [it(crates) for it in (section_keys, events, input_types, settings, contexts, places)] + [takes, untrusted(crates)]
 
 
 def main(folder, *write):
