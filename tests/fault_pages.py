@@ -1,9 +1,9 @@
-"""Compares the pages of faults with the code, the definitions and the cases of tests/faults: fault_pages.py TOP LETTERS.
+"""Compares the pages of faults with the code, the definitions and the cases of tests/faults: fault_pages.py TOP [--write].
 
-Each fault code of al_base names its identifier (`/// K2: ..`) and has its message in al_text's table; each whose identifier begins
-with one of LETTERS (the kinds of faults that the program prints) has one entry on a page docs/FAULTS*.md (tests/fault_entries.py), with
-that message, why it matters, its repair, and a repair whose lines are those of its cases. docs/FAULTS.md has indexes by code and by message,
-which a third word `--write` writes anew, and a table of the definitions that decide each fault, which must exist.
+Each fault code of al_base names its identifier (`/// K2: ..`), has its message in al_text's table, and has one entry on a page
+docs/FAULTS*.md (tests/fault_entries.py) with that message, why it matters, its repair, and a repair whose lines are those of its cases.
+docs/FAULTS.md has indexes by code and by message, which `--write` writes anew, and a table of the definitions that decide each fault, which
+must exist.
 """
 
 import pathlib
@@ -144,11 +144,11 @@ def compare_index(top, head, wanted, write):
     if write and stands:
         path.write_text(text.replace(stands[0], wanted))
     elif not stands or stands[0] != wanted:
-        return ["an index of docs/FAULTS.md isn't that of the entries: fault_pages.py TOP LETTERS --write writes it"]
+        return ["an index of docs/FAULTS.md isn't that of the entries: fault_pages.py TOP --write writes it"]
     return []
 
 
-def wrong_codes(every, wordings, found, letters):
+def wrong_codes(every, wordings, found):
     """What the codes and the entries differ in."""
     if len(every) < 76:
         yield f"only {len(every)} codes name their identifier"
@@ -157,22 +157,21 @@ def wrong_codes(every, wordings, found, letters):
         if words is None:
             yield f"{name}: the table of messages has no row for {variant}"
         elif name not in found:
-            if name[0] in letters:
-                yield f"{name} has no entry"
+            yield f"{name} has no entry"
         elif not shown_in(words, found[name].message):
             yield f"{name}: its entry has another message than the table"
     for name in found.keys() - {name for name, _ in every}:
         yield f"{name} is no fault code"
 
 
-def main(folder, letters, *write):
+def main(folder, *write):
     top = pathlib.Path(folder)
     listed = entries(top / "docs")
     found = {entry.code: entry for entry in listed}
     every = codes(top)
     wordings, kinds = tables(top)
     wrong = [f"{entry.code} has two entries" for entry in listed if found[entry.code] is not entry]
-    wrong += wrong_codes(every, wordings, found, letters)
+    wrong += wrong_codes(every, wordings, found)
     wrong += [f"{entry.code} {why}" for entry in listed for why in wrong_of(top, entry)]
     wrong += wrong_definitions(top, found.keys())
     printed = {name: ["workflow-call"] if name in OF_JOBS else kinds.get((name[0], variant)) for name, variant in every}

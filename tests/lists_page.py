@@ -1,4 +1,4 @@
-"""Checks that the tables of docs/LISTS.md are those of the definitions: lists_page.py TOP. With a second word `--write` they are written anew.
+"""Compares the tables of docs/LISTS.md with the definitions, or writes them: lists_page.py TOP [--write].
 
 Each list is a table of the page, found by its head. clients/make_tables.py reads the definitions by the same functions.
 """
