@@ -19,6 +19,7 @@ AVAILABILITY = "al_check_places/specs/Availability.antt"
 FUNCTION_NAMES = "al_types/specs/Names.antt"
 SIGNATURES = "al_types/specs/Signatures.antt"
 UNTRUSTED = "al_meaning/specs/Untrusted.antt"
+LIMITS = "al_base/specs/Limits.antt"
 
 NAME = re.compile(r'codes "([^"]+)"')
 # Of the table of shapes: an equation, a field, and what other keys are.
@@ -51,6 +52,22 @@ WANTED = {
 FUNCTION = re.compile(r'^function_name function\.(\w+) = codes "(\w+)"', re.MULTILINE)
 SIGNATURE = re.compile(r"^signature function\.(\w+) = giving \(?(\w+)((?: wants\.\w+)*)\)? returns\.(\w+)$", re.MULTILINE)
 PARAMETERS = {"Zero": "", "One": "{0}", "Two": "{0}, {1}", "OneOrTwo": "{0}, optional {1}", "OneOrMore": "{0}, {1}.."}
+# What each limit counts, and what says that it is broken.
+LIMITED = {
+    "largest_file": ("bytes of a file", "E3"),
+    "most_files": ("files of a folder", "E4"),
+    "longest_path": ("bytes of a path", "E1"),
+    "most_nodes": ("nodes of a file, those that aliases stand for counted at each alias", "Y15"),
+    "most_alias_text": ("bytes of text in the nodes that aliases stand for, texts of keys too", "Y15"),
+    "deepest_collection": ("collections inside one another, the root counted", "Y14"),
+    "longest_key": ("characters of a key as written", "Y17"),
+    "longest_text": ("bytes of a text that may have expressions", "no file gives more"),
+    "longest_expression": ("bytes of an expression", "X5"),
+    "deepest_expression": ("brackets and `!` of an expression inside one another", "X6"),
+    "longest_line": ("bytes of a command's line in a script", "`bad command`"),
+    "most_reads": ("reads of a script", "S4"),
+    "largest_read": ("bytes that a read of a script asks for", ""),
+}
 
 
 def quoted(names):
@@ -281,10 +298,18 @@ def untrusted(crates):
     return table_of(("Untrusted texts",), [(quoted(".".join(NAME.findall(line)) for line in body.splitlines()[1:]),)])
 
 
+def limits(crates):
+    """The limits of the product."""
+    found = dict(re.findall(r"^(\w+) = ([0-9]+)$", (crates / LIMITS).read_text(), re.MULTILINE))
+    if found.keys() != LIMITED.keys():
+        sys.exit(f"limits without words, or words without a limit: {', '.join(found.keys() ^ LIMITED.keys())}")
+    return table_of(("What", "At most", "More is"), [(LIMITED[name][0], f"{int(number):,}", LIMITED[name][1]) for name, number in found.items()])
+
+
 def lists(crates):
     """All tables of the page."""
     takes = table_of(("Function", "Takes", "Gives"), [(f"`{name}`", *row) for name, row in functions(crates).items()])
-    return [it(crates) for it in (section_keys, events, input_types, settings, contexts, places)] + [takes, untrusted(crates)]
+    return [it(crates) for it in (section_keys, events, input_types, settings, contexts, places)] + [takes, untrusted(crates), limits(crates)]
 
 
 def main(folder, *write):
