@@ -78,7 +78,8 @@ def quoted(names):
 def table_of(head, rows):
     """A table of Markdown."""
     lines = [" | ".join(head), "|".join(["---"] * len(head)), *(" | ".join(row) for row in rows)]
-    return "".join(f"|{line}|\n" if line.startswith("---") else f"| {line} |\n".replace("|  |", "| |").replace("|  |", "| |") for line in lines)
+    shown = (f"|{line}|\n" if line.startswith("---") else f"| {line} |\n" for line in lines)
+    return "".join(re.sub(r"\|  (?=\|)", "| ", line) for line in shown)
 
 
 def names_of(text, name):
@@ -303,7 +304,8 @@ def limits(crates):
     found = dict(re.findall(r"^(\w+) = ([0-9]+)$", (crates / LIMITS).read_text(), re.MULTILINE))
     if found.keys() != LIMITED.keys():
         sys.exit(f"limits without words, or words without a limit: {', '.join(found.keys() ^ LIMITED.keys())}")
-    return table_of(("What", "At most", "More is"), [(LIMITED[name][0], f"{int(number):,}", LIMITED[name][1]) for name, number in found.items()])
+    rows = [(LIMITED[name][0], f"{int(number):,}", LIMITED[name][1]) for name, number in found.items()]
+    return table_of(("What", "At most", "More is"), rows)
 
 
 def lists(crates):
