@@ -1,6 +1,7 @@
 """Compares docs/EDITS.md with the edits that the gate leaves to the hand: edits_page.py TOP.
 
-Its table names each file of crates/*/more-edits/ behind the name of its crate, and each edit named as what shows another is there.
+Its table names each file of crates/*/more-edits/ after the name of its crate. What it names as showing an edit is there: edits of the gate,
+tests of a crate, cases, and files of tests/.
 """
 
 import pathlib
@@ -9,6 +10,18 @@ import sys
 
 ROW = re.compile(r"^\| (?:(\w+) )?\| (`\w+`(?:, `\w+`)*) \| (.*) \|$", re.MULTILINE)
 BY = re.compile(r"\bedits? ((?:`\w+`(?: \(`\w+`\))?(?:, | and )?)+)")
+TESTS = re.compile(r"tests? ((?:`\w+`(?:, | and )?)+) of `(\w+)`")
+
+
+def absent(top, shown):
+    """The tests, cases and files that a row names and that aren't there."""
+    for names, crate in TESTS.findall(shown):
+        source = "".join(it.read_text() for it in (top / "crates" / crate / "src").glob("*.rt"))
+        yield from (f"test {it} of {crate}" for it in re.findall(r"`(\w+)`", names) if not re.search(rf"\b{it}\b", source))
+    for case in re.findall(r"cases? `([\w-]+)`", shown):
+        if not any((top / "tests" / folder / case).exists() for folder in ("cases", "faults", "yaml-trees", "expressions", "chunks")):
+            yield f"case {case}"
+    yield from (it for it in re.findall(r"`(tests/[\w./-]+)`", shown) if not (top / it).exists())
 
 
 def main(folder):
@@ -21,6 +34,7 @@ def main(folder):
         named |= {(crate, it) for it in re.findall(r"`(\w+)`", edits)}
         others = {name for it in BY.findall(shown) for name in re.findall(r"`(\w+)`", re.sub(r" \(`\w+`\)", "", it))}
         wrong += [f"{crate}: {it} is no edit of the gate" for it in sorted(others - kept)]
+        wrong += [f"{crate}: there is no {it}" for it in absent(top, shown)]
     wrong += [f"{crate}: there is no {name}" for crate, name in sorted(named - there)]
     wrong += [f"{crate}: {name} is not named" for crate, name in sorted(there - named)]
     if wrong or not there:
