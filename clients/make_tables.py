@@ -28,9 +28,6 @@ UNCHECKED_PLACES = {("Job", "environment"): ("Environment", False), ("Job", "ser
                     ("Container", "credentials"): ("Credentials", False), ("Strategy", "matrix"): ("Matrix", False),
                     ("Action", "inputs"): ("ActionInput", True), ("Action", "outputs"): ("ActionOutput", True),
                     ("Action", "branding"): ("Branding", False)}
-# A field of a section: of several names the last one is its key, and the others are those beside which it can't stand.
-FIELD = re.compile(r'\b(?:may|must|not_after|not_beside|must_unless_after|must_unless_beside)'
-                   r'(?: \(codes "[^"]+"\))*? \(codes "([^"]+)"\) [A-Z]')
 
 
 def main(words: list[str]) -> int:
@@ -80,7 +77,7 @@ def names(crates: Path) -> dict[str, list[str]]:
         # The rows are pairs of lists, each ended by `[]`: events, and their types.
         "activity types": [name for types_of in events["activities"].split("[]")[1::2] for name in lists_page.NAME.findall(types_of)],
         "input types": lists_page.NAME.findall(events["dispatch_types"]),
-        "keys": FIELD.findall(shape),
+        "keys": [lists_page.NAME.findall(names_of_field)[-1] for _, names_of_field, _ in lists_page.FIELD.findall(shape)],
         "contexts": lists_page.NAME.findall(types["context_name"]),
         "functions": lists_page.NAME.findall(types["function_name"]),
         "properties": lists_page.NAME.findall((crates / lists_page.FIXED).read_text(encoding="utf-8"))
