@@ -10,7 +10,8 @@ use Rattle.al_expr_grammar.specs.Tree as tree
 use Rattle.al_expr_grammar.specs.Grammar.{Binary, Primary}
 use Rattle.al_expr_grammar.specs.Private.Parsed.{Parsed, Refused, StepRefused, ArgumentsPart, ArgumentsRead, ArgumentsRefused, IsStray, NoClose, NoComma, NoBang}
 use Rattle.al_expr_grammar.proofs.Shape.{NoCall}
-use Rattle.al_expr_grammar.proofs.Rules.{NoStar, NoCloseIndex, EndsArguments, group_stray, index_stray, star_stray, call_refused, call_read, call_stray, argument_refused, arguments_begin, arguments_go_on}
+use Rattle.al_expr_grammar.proofs.Rules.{NoStar, NoCloseIndex, EndsArguments, group_stray, index_stray, star_stray}
+use Rattle.al_expr_grammar.proofs.Rules.{call_refused, call_read, call_stray, argument_refused, arguments_begin, arguments_go_on}
 
 -- No token of this kind comes first.
 abbrev pub Lacks : TokenKind → List TokenKind → Type 0

@@ -3,7 +3,8 @@ use Rattle.std.specs.Prelude.{ℕ}
 use Rattle.al_base.specs.declared.faults.Span.{Span}
 use Rattle.al_expr_grammar.specs.Tokens.{span}
 use Rattle.al_expr_grammar.specs.Tree as tree
-use Rattle.al_expr_grammar.specs.Tree.{Tree, Constant, Named, Call, Group, Negated, Path, Chain, Steps, NoStep, PropertyThen, AllThen, IndexThen}
+use Rattle.al_expr_grammar.specs.Tree.{Tree, Constant, Named, Call, Group, Negated, Path}
+use Rattle.al_expr_grammar.specs.Tree.{Chain, Steps, NoStep, PropertyThen, AllThen, IndexThen}
 use Rattle.al_expr_grammar.specs.Tree.{StepTree, Operands, NoOperand, OperandThen}
 
 -- from the start of one place to the end of another

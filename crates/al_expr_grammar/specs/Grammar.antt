@@ -6,7 +6,8 @@ use Rattle.al_base.specs.declared.faults.Span.{Span}
 use Rattle.al_expr_grammar.specs.declared.token.Keyword.{Keyword}
 use Rattle.al_expr_grammar.specs.declared.token.TokenKind.TheVariants as kind
 use Rattle.al_expr_grammar.specs.Lexeme.{Lexeme, lexeme}
-use Rattle.al_expr_grammar.specs.Tree.{Sign, sign, Tree, Constant, Number, Text, Named, Call, Group, Negated, Path, Chain, StepTree, Property}
+use Rattle.al_expr_grammar.specs.Tree.{Sign, sign, Tree, Constant, Number, Text, Named}
+use Rattle.al_expr_grammar.specs.Tree.{Call, Group, Negated, Path, Chain, StepTree, Property}
 use Rattle.al_expr_grammar.specs.Tree.{All, Index, steps_of, operands_of, arguments_of}
 
 -- the levels of the grammar

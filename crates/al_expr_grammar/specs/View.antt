@@ -5,7 +5,8 @@ use Rattle.al_expr_grammar.specs.declared.ast.PathStep.{PathStep}
 use Rattle.al_expr_grammar.specs.declared.ast.Operand.{Operand}
 use Rattle.al_expr_grammar.specs.declared.ast.Expr.TheOpen as layer
 use Rattle.al_expr_grammar.specs.declared.ast.Expr.TheFolds.{fold-Expr, fold-PathStep, fold-Operand}
-use Rattle.al_expr_grammar.specs.Tree.{Sign, sign, Tree, Constant, Number, Text, Named, Call, Group, Negated, Path, Chain, StepTree, Property}
+use Rattle.al_expr_grammar.specs.Tree.{Sign, sign, Tree, Constant, Number, Text, Named}
+use Rattle.al_expr_grammar.specs.Tree.{Call, Group, Negated, Path, Chain, StepTree, Property}
 use Rattle.al_expr_grammar.specs.Tree.{All, Index, steps_of, operands_of, arguments_of}
 
 abbrev pub expr_layer : layer.Expr-F Tree StepTree (Sign × Tree) → Tree

@@ -6,7 +6,8 @@ ghost use Rattle.al_expr_grammar.specs.Tokens.{begins_name, goes_on_name, is_bla
 ghost use Rattle.al_base.specs.Ascii as ascii;
 ghost use Rattle.al_base.specs.FirstBytes.{begins_with};
 ghost use Rattle.al_base.specs.Limits.{longest_text};
-ghost use Rattle.al_expr_grammar.specs.Tokens.{word_kind, text_tail, text_read, name_read, number_read, number_len, read, tokens_of, AllRead};
+ghost use Rattle.al_expr_grammar.specs.Tokens.{word_kind, text_tail, text_read, name_read, number_read};
+ghost use Rattle.al_expr_grammar.specs.Tokens.{number_len, read, tokens_of, AllRead};
 ghost use Rattle.al_expr_grammar.specs.Tokens.{last_quote};
 ghost use Rattle.al_expr_grammar.specs.Private.TokenStates.{unread, Fits};
 ghost use Rattle.al_expr_grammar.specs.Private.TextTails.{tail_from};

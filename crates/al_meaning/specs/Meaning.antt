@@ -23,7 +23,8 @@ use Rattle.al_meaning.specs.Literals.{literal_text, type_of_keyword}
 use Rattle.al_meaning.specs.Untrusted.{untrusted_chains, chain_among, part_of_index, with_dots}
 use Rattle.al_expr_grammar.specs.Tree as tree
 use Rattle.al_expr_grammar.specs.Tree.{Tree, sign, Constant, Named, Call, Group, Negated, Path, Chain, StepTree, Steps, NoStep}
-use Rattle.al_expr_grammar.specs.Tree.{PropertyThen, AllThen, IndexThen, Operands, NoOperand, OperandThen, Arguments, NoArgument, ArgumentThen}
+use Rattle.al_expr_grammar.specs.Tree.{PropertyThen, AllThen, IndexThen, Operands, NoOperand}
+use Rattle.al_expr_grammar.specs.Tree.{OperandThen, Arguments, NoArgument, ArgumentThen}
 
 -- a type with the faults found on the way
 pub data Typed : Type 0 where

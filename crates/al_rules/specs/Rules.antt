@@ -20,7 +20,8 @@ use Rattle.al_rules.specs.Events.{on_faults}
 use Rattle.al_rules_settings.specs.Ids.{ids_faults}
 use Rattle.al_rules_settings.specs.Matrix.{matrix_faults}
 use Rattle.al_rules.specs.Needs.{IsNeedsFaults, keys_of}
-use Rattle.al_rules_settings.specs.Settings.{condition_faults, credentials_faults, env_faults, permissions_faults, script_faults, shell_faults}
+use Rattle.al_rules_settings.specs.Settings.{condition_faults, credentials_faults, env_faults}
+use Rattle.al_rules_settings.specs.Settings.{permissions_faults, script_faults, shell_faults}
 use Rattle.al_rules_reports.specs.Words.{Named, about, fault, of_key, of_scalar}
 
 -- of a step

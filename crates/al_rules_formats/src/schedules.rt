@@ -2,7 +2,8 @@
 
 ghost use Rattle.al_rules_formats.specs.Schedules as spec;
 ghost use Rattle.al_rules_formats.specs.Schedules.{all_of, are_close as close, field_of, from_to as numbers_from_to, head_of, is_empty};
-ghost use Rattle.al_rules_formats.specs.Schedules.{is_field as field_is_right, is_just_below, is_too_often as too_often, item_of, minute_set};
+ghost use Rattle.al_rules_formats.specs.Schedules.{is_field as field_is_right, is_just_below, is_too_often as too_often};
+ghost use Rattle.al_rules_formats.specs.Schedules.{item_of, minute_set};
 ghost use Rattle.al_rules_formats.specs.Schedules.{minutes_in, name_in, number_in as in_range_number, number_of, picks as item_picks};
 ghost use Rattle.al_rules_formats.specs.Schedules.{schedule_of, value_in, words};
 ghost use Rattle.al_rules_formats.specs.Texts.{pieces};

@@ -1,7 +1,8 @@
 //! Filter patterns and schedules that were worked out by hand, computed by the definitions.
 ghost use Rattle.al_rules_formats.specs.Rows.Patterns.{right_names, right_paths, wrong_names, wrong_paths};
 ghost use Rattle.al_rules_formats.specs.Patterns.{is_right};
-ghost use Rattle.al_rules_formats.specs.Rows.Schedules.{every, frequent_schedules, right_schedules, runs_seldom, runs_too_often, wrong_schedules};
+ghost use Rattle.al_rules_formats.specs.Rows.Schedules.{every, frequent_schedules, right_schedules};
+ghost use Rattle.al_rules_formats.specs.Rows.Schedules.{runs_seldom, runs_too_often, wrong_schedules};
 ghost use Rattle.al_base.specs.Ascii.{comma};
 ghost use Rattle.al_rules_formats.specs.Schedules.{minute_set, number_of, schedule_of};
 ghost use Rattle.al_rules_formats.specs.Texts.{pieces};

@@ -3,7 +3,8 @@
 ghost use Rattle.al_rules_settings.specs.Matrix.{are_combinations as all_combinations, exclude_faults, exclude_keys, excludes_faults};
 ghost use Rattle.al_rules_settings.specs.Matrix.{is_combination as combination, is_dynamic as dynamic};
 ghost use Rattle.al_rules_settings.specs.Matrix.{is_mapping as mapping, is_null_node as null_node, is_row_value as row_value};
-ghost use Rattle.al_rules_settings.specs.Matrix.{is_sequence as sequence, mapping_faults, matrix_faults, row_faults, row_names, shape_faults};
+ghost use Rattle.al_rules_settings.specs.Matrix.{is_sequence as sequence, mapping_faults, matrix_faults};
+ghost use Rattle.al_rules_settings.specs.Matrix.{row_faults, row_names, shape_faults};
 ghost use Rattle.al_rules_reports.specs.Private.Views.{named_of};
 ghost use Rattle.al_rules_settings.specs.Private.Views.{folded_id};
 ghost use Rattle.al_rules_reports.specs.Words.{of_key, unless};

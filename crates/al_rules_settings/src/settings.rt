@@ -3,7 +3,8 @@
 ghost use Rattle.al_rules_formats.specs.Chunks.{is_lone_chunk as lone_chunk};
 ghost use Rattle.al_rules_formats.specs.declared.chunks.Around.TheVariants.{Nothing};
 ghost use Rattle.al_rules_settings.specs.Settings.{all_permissions_faults, condition_faults, credentials_faults, env_faults};
-ghost use Rattle.al_rules_settings.specs.Settings.{is_always_true as always_true, is_password as password, is_shell as shell, password_faults};
+ghost use Rattle.al_rules_settings.specs.Settings.{is_always_true as always_true, is_password as password};
+ghost use Rattle.al_rules_settings.specs.Settings.{is_shell as shell, password_faults};
 ghost use Rattle.al_rules_settings.specs.Settings.{permission_faults, permissions_faults, script_faults, shell_faults, value_faults};
 ghost use Rattle.al_rules_settings.specs.Settings.{variable_faults};
 ghost use Rattle.al_base.specs.Growth.{BeginsWith};

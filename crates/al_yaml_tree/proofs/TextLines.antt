@@ -10,7 +10,8 @@ use Rattle.al_scalar.specs.Taken.{Fault}
 use Rattle.al_scalar.proofs.OffsetLemmas.{choose}
 use Rattle.al_scalar.proofs.Utf8Lemmas.{AreUtf8, bytes_of, split-before, split-behind, keeps-blanks, equal-ascii, either, both-left, blank-ascii}
 use Rattle.al_scalar.proofs.Utf8Texts.{IsText, behind-text, both-right, indicator-ascii}
-use Rattle.al_yaml_tree.specs.Content.{Next, ended, at_line, is_skipped, content_line, content, ends_line, line_ended, whole_lines, behind, is_dash, is_flow_start, is_property, anchor_cells, behind_name}
+use Rattle.al_yaml_tree.specs.Content.{Next, ended, at_line, is_skipped, content_line, content, ends_line, line_ended}
+use Rattle.al_yaml_tree.specs.Content.{whole_lines, behind, is_dash, is_flow_start, is_property, anchor_cells, behind_name}
 use Rattle.al_yaml_tree.specs.Flow.{is_gap_line, gap}
 use Rattle.al_yaml_tree.specs.Document.{first_line, document_start}
 use Rattle.al_yaml_tree.proofs.ByteTexts.{equal}

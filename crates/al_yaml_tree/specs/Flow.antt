@@ -9,7 +9,8 @@ use Rattle.al_scalar.specs.Taken.{Fault, fault}
 use Rattle.al_scalar.specs.Plain.{flow, is_value_colon}
 use Rattle.al_scalar.specs.Block.{at_end}
 use Rattle.al_scalar.specs.Scalar.{ScalarRead, scalar_at, empty_scalar, span}
-use Rattle.al_yaml_tree.specs.Node.{Node, Nodes, Entries, scalar, sequence, mapping, no_nodes, with_item, no_entries, with_entry, scalar_node}
+use Rattle.al_yaml_tree.specs.Node.{Node, Nodes, Entries, scalar, sequence, mapping}
+use Rattle.al_yaml_tree.specs.Node.{no_nodes, with_item, no_entries, with_entry, scalar_node}
 use Rattle.al_yaml_tree.specs.Reading.{Reading, gives, fails, given, starting_scalar, starting_collection}
 use Rattle.al_yaml_tree.specs.Reading.{anchored, alias, Part, part, spanned, ◌>>=◌}
 use Rattle.al_yaml_tree.specs.Content.{behind, flow_fault, unless, is_flow_start, is_quote, is_property}

@@ -31,7 +31,7 @@ pub tokens-preserved : goal.tokens-preserved
 tokens-preserved c =
     let f = rw c.as_bytes.ensures.value at c.in-Token.ensures.fits in
     let r = rw c.as_bytes.ensures.value at c.in-Token.ensures.value in
-    let front = c.split_at.ensures.prefix in
+    let front = c.split_at.ensures.front in
     let back = c.split_at.ensures.back in
     let boundary = ends_char c.tokens.rest.now c.in-Token.len c.tokens.invariant.text f.0 f.1 f.2 in
     record {
