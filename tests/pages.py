@@ -1,42 +1,43 @@
-"""Runs the tests that compare pages and sources with one another, which need neither the kit nor the built program: pages.py TOP [--write].
+"""Compares the pages with the sources: pages.py TOP [--write]. With `--write` what follows from the sources is written anew first.
 
-Prints one line for each, as the tests of the program do, and what it says where something isn't so. With `--write` what follows from the
-sources is written anew first, by those that can.
+Runs fault_pages.py, links.py, each NAME_page.py of this folder that doesn't need the built program, tidy.py and case_copies.py; those that
+can write say `--write` in their first line. Prints a line for each, and what is wrong. Ends with 0 where all were as expected.
 """
 
 import pathlib
 import subprocess
 import sys
 
-from running import report, results
-
 HERE = pathlib.Path(__file__).resolve().parent
-PLACES = "crates/al_check_places/specs"
-CONTEXTS = "crates/al_check_contexts/specs"
-# what writes its page where it is asked to
-WRITING = [
-    ["syntax_page.py", "crates/al_tree/specs/Table.antt", "docs/SYNTAX.md"],
-    ["contexts_page.py", PLACES, CONTEXTS, "docs/CONTEXTS.md"],
-    ["lists_page.py", "."],
-    ["fault_pages.py", ".", "YKGXC"],
-    ["reading_page.py", "."],
-    ["architecture_page.py", "."],
-]
-OTHERS = [
-    ["proved_page.py", "."],
-    ["edits_page.py", "."],
-    ["links.py", "."],
-    ["case_copies.py", "tests/cases", "tests/yaml-trees", "tests/expressions", "tests/chunks"],
-    ["tidy.py", ".", "src", "specs", "proofs", "heads", "names", "kinds"],
-]
+PAGES = sorted({"fault_pages.py", "links.py", *(it.name for it in HERE.glob("*_page.py"))} - {"command_line_page.py"})
+TIDY = ["src", "specs", "proofs", "heads", "names", "kinds"]
+CASES = ["cases", "yaml-trees", "expressions", "chunks"]
 
 
-def main(folder, *write):
-    for script, *words in WRITING + OTHERS:
-        added = list(write) if [script, *words] in WRITING else []
-        ran = subprocess.run([sys.executable, HERE / script, *words, *added], cwd=folder, capture_output=True, text=True, check=False)
-        report(script, ran.returncode, (ran.stdout + ran.stderr).splitlines() if ran.returncode else [])
-    return 1 if results["wrong"] else 0
+def run(script, *words):
+    """Runs a script: its status, and what it printed."""
+    ran = subprocess.run([sys.executable, HERE / script, *words], stdout=subprocess.PIPE, stderr=subprocess.STDOUT, check=False)
+    return ran.returncode, ran.stdout.decode()
+
+
+def can_write(script):
+    """Whether a script can write its page anew."""
+    return "--write" in (HERE / script).read_text(encoding="utf-8").splitlines()[0]
+
+
+def main(top, *words):
+    results = []
+    for script in PAGES if "--write" in words else []:
+        if can_write(script):
+            run(script, top, "--write")
+    runs = {script: [top] for script in PAGES}
+    runs |= {"tidy.py": [top, *TIDY], "case_copies.py": [str(pathlib.Path(top) / "tests" / it) for it in CASES]}
+    for script, its in runs.items():
+        status, said = run(script, *its)
+        print(f"case={script} output={'wrong' if status else 'expected'} status={status}")
+        print(said, end="")
+        results.append(status)
+    return 1 if any(results) else 0
 
 
 if __name__ == "__main__":
