@@ -4,13 +4,14 @@ crates/actionlint. BEFORE is a program of another version, which takes its turns
 It needs a C compiler, libyaml with its headers (Debian's libyaml-dev) and valgrind. Each file is put into a session that reports; the peer
 reads it and keeps nothing. Times are the least processor time of several runs that take turns, start of the process included; instructions
 are counted by callgrind, since times on a shared machine move by half. Folders are linted without a word, beside the peer on all of their
-bytes at once.
+bytes at once; and beside yamllint on the same files, where Debian's package of it is installed.
 """
 
 import functools
 import pathlib
 import re
 import resource
+import shutil
 import subprocess
 import sys
 import tempfile
@@ -18,6 +19,8 @@ import tempfile
 from common import SESSION, TOP, WORKFLOW, least_in_turns, program, put_commands
 
 RUNS = 9
+YAMLLINT_RUNS = 3
+YAMLLINT = ["yamllint", "--config-data", "relaxed", ".github/workflows"]
 JOB = """  job{n}:
     name: Build and test, part {n}
     runs-on: ${{{{ matrix.os }}}}
@@ -135,6 +138,16 @@ def compare(name, commands, files, folder=None):
     print(f"{name:42} {len(files[0]):9} {theirs:8.3f}s {counted[0]:8.1f}M{cells}", flush=True)
 
 
+def compare_with_yamllint(program_path, made):
+    """Prints what this program and yamllint take for the same folders."""
+    print(f"\n{'folder':42} {'bytes':>9} {'yamllint':>9} {'this':>9} {'ratio':>6}")
+    for count, jobs_of_each in ((1, 5), (1, 1_336), (200, 5)):
+        folder = pathlib.Path(made) / f"yamllint-{count}-{jobs_of_each}"
+        size = len(fill(folder, count, jobs_of_each))
+        theirs, ours = least_in_turns(YAMLLINT_RUNS, [functools.partial(seconds, command, b"", folder) for command in (YAMLLINT, [program_path])])
+        print(f"{count:,} workflows of {jobs_of_each:,} jobs {size:9} {theirs:8.3f}s {ours:8.3f}s {theirs / ours:6.0f}", flush=True)
+
+
 def main():
     """Prints a table: for each shape the peer, this program and the one before."""
     programs = [program("actionlint"), *(pathlib.Path(it).resolve() for it in sys.argv[1:])]
@@ -150,6 +163,8 @@ def main():
             folder = pathlib.Path(made) / str(count)
             text = fill(folder, count, jobs_of_each)
             compare(f"a folder of {count:,} workflows", [[events], *([it] for it in programs)], [text, *(b"" for _ in programs)], folder)
+        if shutil.which(YAMLLINT[0]):
+            compare_with_yamllint(programs[0], made)
 
 
 if __name__ == "__main__":

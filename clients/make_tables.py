@@ -16,26 +16,18 @@ from pathlib import Path
 
 TOP = Path(__file__).resolve().parent.parent
 sys.path.insert(0, str(TOP / "tests"))
-import contexts_page
 import fault_entries
 import lists_page
-import syntax_page
 
 OUT = Path(__file__).resolve().parent / "actionlint_client"
 LINK_IN_PAGE = re.compile(r"\]\((#[^)]*)\)")
-NAME = re.compile(r'codes "([^"]+)"')
-MEANINGS_SECTION = re.compile(r"^##+ (.+)\n((?:(?!#).*\n)*)", re.M)
-MEANINGS_ROW = re.compile(r"^\| `([^`]+)` \| (.+) \|$", re.M)
-FUNCTION_ROW = re.compile(r"^\| `(\w+)` \|(.*)\| (\w+) \|$", re.M)
+MEANINGS_ROW = re.compile(r"^\| (?:\*([^*]+)\* )?\| `([^`]+)` \| (.+) \|$", re.M)
 UNCHECKED = " (unchecked)"
 # Where the sections stand that the linter doesn't check: below which key of a shape, and whether names of one's own come between.
 UNCHECKED_PLACES = {("Job", "environment"): ("Environment", False), ("Job", "services"): ("Container", True),
                     ("Container", "credentials"): ("Credentials", False), ("Strategy", "matrix"): ("Matrix", False),
                     ("Action", "inputs"): ("ActionInput", True), ("Action", "outputs"): ("ActionOutput", True),
                     ("Action", "branding"): ("Branding", False)}
-# A field of a section: of several names the last one is its key, and the others are those beside which it can't stand.
-FIELD = re.compile(r'\b(?:may|must|not_after|not_beside|must_unless_after|must_unless_beside)'
-                   r'(?: \(codes "[^"]+"\))*? \(codes "([^"]+)"\) [A-Z]')
 
 
 def main(words: list[str]) -> int:
@@ -60,44 +52,40 @@ def faults(docs: Path) -> list[dict]:
     rows = []
     for entry in fault_entries.entries(docs):
         local = lambda markdown: LINK_IN_PAGE.sub(rf"]({entry.page}\1)", markdown)
-        repair = "\n\n".join([entry.repair, *repaired_files(entry)])
+        repair = "\n\n".join([entry.repair, *repaired_files(TOP / "tests/faults" / entry.code)])
         rows.append({"code": entry.code, "message": entry.message, "page": entry.page, "anchor": entry.anchor,
                      "text": local(entry.what), "why": local(entry.why), "repair": local(repair)})
     return rows
 
 
-def repaired_files(entry: fault_entries.Entry) -> list[str]:
-    """The repaired file as Markdown, and before it the other files of its folder, by their paths; none where the page shows none."""
-    shown = []
-    for example in entry.examples:
-        if example.text == entry.repaired and not example.report:
-            for path, data in example.files[:-1]:
-                shown += [f"`{path}`:", f"```yaml\n{data.decode()}```"]
-            return [*shown, f"```yaml\n{example.text}```"]
-    return shown
+def repaired_files(case: Path) -> list[str]:
+    """The repaired file of a fault's case as Markdown, and before it the other files of its folder, by their paths."""
+    files = fault_entries.files_of(case.with_name(f"{case.name}-repaired"))
+    shown = [f"`{path}`:\n\n```yaml\n{data.decode()}```" for path, data in list(files.items())[:-1]]
+    return [*shown, f"```yaml\n{list(files.values())[-1].decode()}```"]
 
 
 def names(crates: Path) -> dict[str, list[str]]:
     """The lists of names, each sorted."""
-    settings = definitions(crates / "al_rules_settings/specs/Names.antt")
-    events = definitions(crates / "al_rules/specs/Names.antt")
-    shape = (crates / "al_tree/specs/Table.antt").read_text(encoding="utf-8")
-    types = definitions(crates / "al_types/specs/Names.antt")
+    settings = definitions(crates / lists_page.SETTINGS)
+    events = definitions(crates / lists_page.ACTIVITIES)
+    shape = (crates / lists_page.SHAPES).read_text(encoding="utf-8")
+    types = definitions(crates / lists_page.FUNCTION_NAMES)
     objects = definitions(crates / "al_check_contexts/specs/Contexts.antt")
     lists = {
-        "events": NAME.findall(definitions(crates / "al_tree/specs/Names.antt")["event_names"]),
+        "events": lists_page.NAME.findall(definitions(crates / lists_page.EVENTS)["event_names"]),
         # The rows are pairs of lists, each ended by `[]`: events, and their types.
-        "activity types": [name for types_of in events["activities"].split("[]")[1::2] for name in NAME.findall(types_of)],
-        "input types": NAME.findall(events["dispatch_types"]),
-        "keys": FIELD.findall(shape),
-        "contexts": NAME.findall(types["context_name"]),
-        "functions": NAME.findall(types["function_name"]),
-        "properties": NAME.findall((crates / "al_check_contexts/specs/Fixed.antt").read_text(encoding="utf-8"))
+        "activity types": [name for types_of in events["activities"].split("[]")[1::2] for name in lists_page.NAME.findall(types_of)],
+        "input types": lists_page.NAME.findall(events["dispatch_types"]),
+        "keys": [lists_page.NAME.findall(names_of_field)[-1] for _, names_of_field, _ in lists_page.FIELD.findall(shape)],
+        "contexts": lists_page.NAME.findall(types["context_name"]),
+        "functions": lists_page.NAME.findall(types["function_name"]),
+        "properties": lists_page.NAME.findall((crates / lists_page.FIXED).read_text(encoding="utf-8"))
         + re.findall(r'\(codes "([^"]+)", ', objects["step_type"] + objects["job_field"]),
-        "shells": NAME.findall(settings["shells"]),
-        "permission scopes": NAME.findall(settings["permissions"]),
-        "permission values": NAME.findall(settings["scope_values"] + settings["whole_values"]),
-        "using": usings(crates / "al_rules/specs/Rules.antt"),
+        "shells": lists_page.NAME.findall(settings["shells"]),
+        "permission scopes": lists_page.NAME.findall(settings["permissions"]),
+        "permission values": lists_page.NAME.findall(settings["scope_values"] + settings["whole_values"]),
+        "using": usings(crates / lists_page.USINGS),
     }
     empty = [name for name, found in lists.items() if not found]
     if empty:
@@ -108,18 +96,21 @@ def names(crates: Path) -> dict[str, list[str]]:
 def syntax(top: Path) -> dict[str, dict | list]:
     """What each shape of a value takes, the rows of the table of places, contexts, functions, activity types, and meanings by list."""
     crates = top / "crates"
-    meanings = {heading.lower(): dict(MEANINGS_ROW.findall(body))
-                for heading, body in MEANINGS_SECTION.findall((top / "docs/MEANINGS.md").read_text(encoding="utf-8"))}
-    rows = contexts_page.availability_rows((crates / "al_check_places/specs/Availability.antt").read_text(encoding="utf-8"))
+    meanings, heading = {}, ""
+    for begun, name, meaning in MEANINGS_ROW.findall((top / "docs/MEANINGS.md").read_text(encoding="utf-8")):
+        heading = begun or heading
+        meanings.setdefault(heading, {})[name] = meaning
+    rows = lists_page.availability_rows(crates)
     return {
-        "shapes": shapes((crates / "al_tree/specs/Table.antt").read_text(encoding="utf-8"), meanings),
-        "activity types": activity_types(crates),
-        "call input types": lists_page.names_of((crates / "al_rules/specs/Names.antt").read_text(encoding="utf-8"), "call_types"),
-        "permission values": {name: lists_page.names_of((crates / "al_rules_settings/specs/Names.antt").read_text(encoding="utf-8"), name)
+        "shapes": shapes((crates / lists_page.SHAPES).read_text(encoding="utf-8"), meanings),
+        "activity types": {name: types for name, types in lists_page.activity_types(crates).items() if types},
+        "call input types": lists_page.names_of((crates / lists_page.ACTIVITIES).read_text(encoding="utf-8"), "call_types"),
+        "permission values": {name: lists_page.names_of((crates / lists_page.SETTINGS).read_text(encoding="utf-8"), name)
                               for name in ("scope_values", "whole_values")},
         "places": {path: {"contexts": contexts, "functions": functions} for path, contexts, functions in rows},
-        "contexts": fixed_contexts(crates),
-        "functions": functions(crates),
+        "contexts": {name: {"properties": fields_of, "strict": others == "none"}
+                     for name, (fields_of, others) in lists_page.fixed_contexts(crates).items()},
+        "functions": {name: {"takes": takes, "gives": gives} for name, (takes, gives) in lists_page.functions(crates).items()},
         "meanings": {heading.removesuffix(UNCHECKED): found for heading, found in meanings.items() if found},
     }
 
@@ -127,13 +118,13 @@ def syntax(top: Path) -> dict[str, dict | list]:
 def shapes(text: str, meanings: dict[str, dict]) -> dict[str, dict]:
     """Of each shape which scalars and items it takes, and its keys: those of a section, or free ones with values of a shape."""
     found: dict[str, dict] = {}
-    for name, right in syntax_page.EQUATION.findall(text):
-        parts = {"scalars": "AnyScalar", "items": "Any", "keys": None} if right.strip() == "None" else syntax_page.parts_of(right.strip())
+    for name, right in lists_page.EQUATION.findall(text):
+        parts = {"scalars": "AnyScalar", "items": "Any", "keys": None} if right.strip() == "None" else lists_page.parts_of(right.strip())
         keys = parts["keys"] or ""
         free = re.fullmatch(r"\(free (\w+)\)", keys)
         shape = {"scalars": parts["scalars"], "items": parts["items"], "free": free[1] if free else None}
         if keys and not free:
-            shape |= {"section": syntax_page.name_of(name), "others": syntax_page.OTHERS.search(keys)[3] or "wrong",
+            shape |= {"section": lists_page.name_of(name), "others": lists_page.OTHERS.search(keys)[3] or "wrong",
                       "keys": {row.pop("key"): row for row in fields(keys, name)}}
         found[name] = shape
     for heading, rows in meanings.items():
@@ -151,34 +142,11 @@ def shapes(text: str, meanings: dict[str, dict]) -> dict[str, dict]:
 def fields(keys: str, shape: str) -> list[dict]:
     """The fields of a section: `need` is True, None, or the key that stands in its place; `clash` the key that it can't stand beside."""
     rows = []
-    for form, names_of_field, value in syntax_page.FIELD.findall(keys):
-        *others, key = NAME.findall(names_of_field)
+    for form, names_of_field, value in lists_page.FIELD.findall(keys):
+        *others, key = lists_page.NAME.findall(names_of_field)
         need = True if form == "must" else others[0] if form.startswith("must_unless") else None
         rows.append({"key": key, "shape": value, "need": need, "clash": others[0] if others else None})
     return rows
-
-
-def activity_types(crates: Path) -> dict[str, list[str]]:
-    """Of each event that has some its activity types, in the order of the table."""
-    cells = (row.split(" | ") for row in lists_page.ROW.findall(lists_page.events(crates, lists_sections(crates))))
-    return {cell[0].strip("`"): re.findall(r"`([^`]+)`", cell[1]) for cell in cells if len(cell) == 3 and "`" in cell[1]}
-
-
-def lists_sections(crates: Path) -> dict[str, str]:
-    return syntax_page.tables_of((crates / "al_tree/specs/Table.antt").read_text(encoding="utf-8"))
-
-
-def fixed_contexts(crates: Path) -> dict[str, dict]:
-    """The contexts that are the same in every file: the properties with their types, and whether there are others."""
-    table = contexts_page.fixed((crates / "al_check_contexts/specs/Fixed.antt").read_text(encoding="utf-8"))
-    return {cells[0].strip("`"): {"properties": dict(re.findall(r"`([^`]+)` (\w+)", cells[1])), "strict": cells[2] == "none"}
-            for cells in (row.split(" | ") for row in lists_page.ROW.findall(table)[1:])}
-
-
-def functions(crates: Path) -> dict[str, dict]:
-    """What each function takes and gives, in the words of docs/LISTS.md."""
-    rows = FUNCTION_ROW.findall(lists_page.functions(crates))
-    return {name: {"takes": takes.strip(), "gives": gives} for name, takes, gives in rows}
 
 
 def definitions(file: Path) -> dict[str, str]:
@@ -192,7 +160,7 @@ def definitions(file: Path) -> dict[str, str]:
 def usings(file: Path) -> list[str]:
     """What `using` takes: the versions of Node, and the two other kinds."""
     found = definitions(file)
-    return NAME.findall(found["node_usings"] + found["using_faults"])
+    return lists_page.NAME.findall(found["node_usings"] + found["using_faults"])
 
 
 if __name__ == "__main__":

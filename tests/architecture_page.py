@@ -1,9 +1,10 @@
 """Compares docs/ARCHITECTURE.md with crates.txt: architecture_page.py TOP [--write].
 
-Each crate of crates.txt has one row in the page's tables, whose last column lists the crates and libraries that it stands on.
-docs/layers.dot is the picture of the program's crates in graphviz's language, each above those that it stands on, coloured by the
-heading that its row stands under. docs/layers.svg, as graphviz's `dot` draws it, has exactly its nodes and arrows. With `--write` the
-column and both files are written anew, for which `dot` has to be there (Debian's graphviz).
+Each crate of crates.txt has one row in the page's table of crates, whose last column lists the crates and libraries that it stands on, and
+each of the program stands in one row of the table of public ones. docs/layers.dot is the picture of the program's crates in graphviz's
+language, each above those that it stands on, coloured by that row. docs/layers.svg, as graphviz's `dot` draws it, has exactly its nodes and
+arrows. With `--write` the column and both files are written anew, for which `dot` has to be there (Debian's graphviz). The table of what the
+gate costs, on docs/PROVING.md, has rows of crates of crates.txt alone.
 """
 
 import html
@@ -13,8 +14,10 @@ import subprocess
 import sys
 
 ROW = re.compile(r"^\| `(\w+)` \| (.*) \| ?(.*?) ?\|$")
+PUBLIC = "| Public | With it | Cut by |"
+TABLE = "| Crate | Does | Stands on |"
 PROGRAM = "actionlint"
-COLOURS = ["#dbe9f6", "#dff0d8", "#fde9c9", "#f6dbe2", "#e6e0f3", "#d9f0ef", "#eeeeee"]
+COLOURS = ["#dbe9f6", "#dff0d8", "#fde9c9", "#f6dbe2", "#e6e0f3", "#d9f0ef", "#eeeeee", "#f3efc4", "#e3d5c8"]
 HEAD = """\
 // The crates of the program, each above those that it stands on. Made from crates.txt by tests/architecture_page.py.
 digraph layers {
@@ -31,14 +34,15 @@ def crates_in(text):
 
 
 def rows_of(page):
-    """Each crate's heading, by the page's tables."""
-    found, heading = {}, None
-    for line in page.splitlines():
-        if line.startswith("### "):
-            heading = line[4:]
-        elif match := ROW.match(line):
-            found.setdefault(match[1], []).append(heading)
-    return found
+    """The crates of the page's table of crates, in its order."""
+    return [match[1] for line in page[page.index(TABLE) :].splitlines() if (match := ROW.match(line))]
+
+
+def groups_of(page):
+    """For each crate of the table of public ones the row that it stands in."""
+    lines = page[page.index(PUBLIC) : page.index(TABLE)].splitlines()
+    rows = [re.findall(r"`(\w+)`", "".join(line.split("|")[1:3])) for line in lines if line.startswith("| `")]
+    return [(name, number) for number, names in enumerate(rows) for name in names]
 
 
 def with_columns(page, crates):
@@ -51,7 +55,8 @@ def with_columns(page, crates):
         below = ", ".join(f"`{it}`" for it in crates[match[1]])
         return f"| `{match[1]}` | {match[2]} | {below} |" if below else f"| `{match[1]}` | {match[2]} | |"
 
-    return "".join(row(line) + "\n" for line in page.splitlines())
+    head, table = page[: page.index(TABLE)], page[page.index(TABLE) :]
+    return head + "".join(row(line) + "\n" for line in table.splitlines())
 
 
 def all_below(crates, name):
@@ -70,11 +75,15 @@ def arrows_of(crates, name):
     return [it for it in below if not any(it in all_below(crates, other) for other in below)]
 
 
-def dot_of(crates, headings):
+def shown_in(crates):
+    """The program's crates."""
+    return [it for it in crates if it == PROGRAM or it in all_below(crates, PROGRAM)]
+
+
+def dot_of(crates, groups):
     """The picture in graphviz's language."""
-    shown = [it for it in crates if it == PROGRAM or it in all_below(crates, PROGRAM)]
-    order = list(dict.fromkeys(it for names in headings.values() for it in names))
-    lines = [f'  {it} [fillcolor="{COLOURS[order.index(headings[it][0]) % len(COLOURS)]}"]\n' for it in shown]
+    shown, of = shown_in(crates), dict(groups)
+    lines = [f'  {it} [fillcolor="{COLOURS[of[it]]}"]\n' for it in shown]
     lines += [f"  {it} -> {below}\n" for it in shown for below in arrows_of(crates, it)]
     return HEAD + "".join(lines) + "}\n"
 
@@ -99,15 +108,17 @@ def read(path):
 def differences(top):
     """What of the page and its picture isn't as crates.txt has it."""
     crates, page = crates_in(read(top / "crates.txt")), read(top / "docs/ARCHITECTURE.md")
-    headings = rows_of(page)
-    found = [f"{it} has no row" for it in crates if it not in headings]
-    found += [f"{it} has {len(names)} rows" for it, names in headings.items() if len(names) != 1]
-    found += [f"there is no crate {it}" for it in headings if it not in crates]
+    rows, groups = rows_of(page), groups_of(page)
+    grouped = [name for name, _ in groups]
+    found = [f"{it} has {rows.count(it)} rows" for it in crates if rows.count(it) != 1]
+    found += [f"{it} stands {grouped.count(it)} times beside a public crate" for it in shown_in(crates) if grouped.count(it) != 1]
+    measured = re.findall(r"^\| `(\w+)` \| [\d,]+ \|", read(top / "docs/PROVING.md"), re.MULTILINE)
+    found += [f"there is no crate {it}" for it in sorted({*rows, *grouped, *measured} - set(crates))]
     if found:
         return found
     dot, svg = read(top / "docs/layers.dot"), read(top / "docs/layers.svg")
     found += [] if page == with_columns(page, crates) else ["a row stands on other crates than crates.txt says"]
-    found += [] if dot == dot_of(crates, headings) else ["docs/layers.dot isn't the one of crates.txt"]
+    found += [] if dot == dot_of(crates, groups) else ["docs/layers.dot isn't the one of crates.txt"]
     found += [] if drawn_in(svg) == titles_of(dot) and titles_of(dot) else ["docs/layers.svg isn't the drawing of docs/layers.dot"]
     return found
 
@@ -117,7 +128,7 @@ def write(top):
     crates, path = crates_in(read(top / "crates.txt")), top / "docs/ARCHITECTURE.md"
     path.write_text(with_columns(read(path), crates), encoding="utf-8")
     dot = top / "docs/layers.dot"
-    dot.write_text(dot_of(crates, rows_of(read(path))), encoding="utf-8")
+    dot.write_text(dot_of(crates, groups_of(read(path))), encoding="utf-8")
     subprocess.run(["dot", "-Tsvg", "-o", top / "docs/layers.svg", dot], check=True)
 
 

@@ -1,7 +1,7 @@
 """What pages and examples call clean is nothing that GitHub refuses: clean_examples.py TOP.
 
-Looks at each file of docs/FAULTS*.md that is clean or stands beside one that is, the files that pages show as ones (`file=`), the folders
-of examples/ that have no fault and the workflow of clients/github. The linter itself says nothing of what is looked for here (README, "What it doesn't
+Looks at the files of each case of tests/faults whose report is clean, the files that pages show as ones (`file=`), the folders of
+examples/ that have no fault and the workflow of clients/github. The linter itself says nothing of what is looked for here (README, "What it doesn't
 do"), so that an example could be without fault and still be refused. Needs python3-yaml; without it the case is skipped.
 """
 
@@ -10,7 +10,8 @@ import pathlib
 import re
 import sys
 
-from fault_entries import entries
+from fault_entries import files_of, report_of
+from run_cases import cases_in
 
 DEBIAN_PACKAGES = "/usr/lib/python3/dist-packages"
 BLOCK = re.compile(r"^```yaml file=(\S+)\n(.*?)^```$", re.DOTALL | re.MULTILINE)
@@ -157,10 +158,9 @@ def refusals(path, tree):
 
 def files(top):
     """Each file that is called clean: where it stands, its path, its bytes."""
-    for entry in entries(top / "docs"):
-        for number, example in enumerate(entry.examples, start=1):
-            if not example.report:
-                yield from ((f"{entry.page}: {entry.code}, example {number}", path, data) for path, data in example.files)
+    for case in cases_in(top / "tests/faults"):
+        if not report_of(case):
+            yield from ((f"tests/faults: {case.name}", path, data) for path, data in files_of(case).items())
     for page in [*top.glob("*.md"), *(top / "docs").glob("*.md")]:
         for path, text in BLOCK.findall(page.read_text()):
             yield page.name, path, text.encode()

@@ -1,15 +1,11 @@
-"""Runs of the program that reach its code: the folders of examples/, the scripts of tests/cases, the examples of docs/FAULTS*.md, command
-lines that are right and wrong, and files that are refused. All run in the repository's folder."""
+"""Runs of the program that reach its code: the folders of examples/, the scripts of tests/cases and tests/faults, command lines that are right and wrong, and files that are refused. All run in the repository's folder."""
 
 import pathlib
-import tempfile
 
-import fault_cases
 from run_cases import words_of
 from running import SCRIPT, WORKFLOWS
 
 TOP = pathlib.Path(__file__).resolve().parent.parent
-PAGES = ["FAULTS", "FAULTS-YAML", "FAULTS-RULES", "FAULTS-EXPRESSIONS", "FAULTS-CALLS"]
 CALLS = ["--root", "examples/calls"]
 COMMAND_LINES = {
     "help": ["--help"],
@@ -54,9 +50,6 @@ def all_runs(folder):
     runs = {f"examples/{it.name}": (["--root", f"examples/{it.name}"], b"") for it in sorted((TOP / "examples").iterdir()) if it.is_dir()}
     runs |= {f"words/{name}": (words, b"") for name, words in COMMAND_LINES.items()}
     runs |= refused_files(folder)
-    runs |= scripts_in(TOP / "tests" / "cases", "tests/cases")
-    for page in PAGES:
-        with tempfile.TemporaryDirectory() as made:
-            fault_cases.main(TOP / "docs" / f"{page}.md", pathlib.Path(made) / "cases")
-            runs |= scripts_in(pathlib.Path(made) / "cases", f"docs/{page}")
+    for name in ("cases", "faults"):
+        runs |= scripts_in(TOP / "tests" / name, f"tests/{name}")
     return runs

@@ -1,35 +1,41 @@
 """Compares docs/EDITS.md with the edits that the gate leaves to the hand: edits_page.py TOP.
 
-Its tables name each file of crates/*/more-edits/ below the heading of its crate, and each edit named as what shows another is there.
+Its table names each file of crates/*/more-edits/ after the name of its crate. What it names as showing an edit is there: edits of the gate,
+tests of a crate, cases, and files of tests/.
 """
 
 import pathlib
 import re
 import sys
 
+ROW = re.compile(r"^\| (?:(\w+) )?\| (`\w+`(?:, `\w+`)*) \| (.*) \|$", re.MULTILINE)
+BY = re.compile(r"\bedits? ((?:`\w+`(?: \(`\w+`\))?(?:, | and )?)+)")
+TESTS = re.compile(r"tests? ((?:`\w+`(?:, | and )?)+) of `(\w+)`")
 
-def sections(page):
-    """The crates of each heading and the cells of its table's rows."""
-    for part in page.split("\n## ")[1:]:
-        heading, _, body = part.partition("\n")
-        rows = [line.strip("| ").split(" | ") for line in body.splitlines() if line.startswith("| `")]
-        yield heading.split(", "), rows
+
+def absent(top, shown):
+    """The tests, cases and files that a row names and that aren't there."""
+    for names, crate in TESTS.findall(shown):
+        source = "".join(it.read_text() for it in (top / "crates" / crate / "src").glob("*.rt"))
+        yield from (f"test {it} of {crate}" for it in re.findall(r"`(\w+)`", names) if not re.search(rf"\b{it}\b", source))
+    for case in re.findall(r"cases? `([\w-]+)`", shown):
+        if not any((top / "tests" / folder / case).exists() for folder in ("cases", "faults", "yaml-trees", "expressions", "chunks")):
+            yield f"case {case}"
+    yield from (it for it in re.findall(r"`(tests/[\w./-]+)`", shown) if not (top / it).exists())
 
 
 def main(folder):
     top = pathlib.Path(folder)
     kept = {it.stem for it in (top / "crates").glob("*/must-fail/*.edit")}
-    wrong, there = [], {(it.parts[-3], it.stem) for it in (top / "crates").glob("*/more-edits/*.edit")}
-    named = set()
-    for crates, rows in sections((top / "docs/EDITS.md").read_text()):
-        here = {it for it in there if it[0] in crates}
-        for edits, shown in rows:
-            names = set(re.findall(r"`(\w+)`", edits))
-            wrong += [f"{crates[0]}: there is no {it}" for it in sorted(names - {name for _, name in here})]
-            named |= {it for it in here if it[1] in names}
-            by = re.findall(r"\bedits? ((?:`\w+`(?: \(`\w+`\))?(?:, | and )?)+)", shown)
-            others = {name for it in by for name in re.findall(r"`(\w+)`", re.sub(r" \(`\w+`\)", "", it))}
-            wrong += [f"{crates[0]}: {it} is no edit of the gate" for it in sorted(others - kept)]
+    there = {(it.parts[-3], it.stem) for it in (top / "crates").glob("*/more-edits/*.edit")}
+    wrong, named, crate = [], set(), None
+    for begun, edits, shown in ROW.findall((top / "docs/EDITS.md").read_text()):
+        crate = begun or crate
+        named |= {(crate, it) for it in re.findall(r"`(\w+)`", edits)}
+        others = {name for it in BY.findall(shown) for name in re.findall(r"`(\w+)`", re.sub(r" \(`\w+`\)", "", it))}
+        wrong += [f"{crate}: {it} is no edit of the gate" for it in sorted(others - kept)]
+        wrong += [f"{crate}: there is no {it}" for it in absent(top, shown)]
+    wrong += [f"{crate}: there is no {name}" for crate, name in sorted(named - there)]
     wrong += [f"{crate}: {name} is not named" for crate, name in sorted(there - named)]
     if wrong or not there:
         sys.exit("\n".join(wrong) or "no edits")

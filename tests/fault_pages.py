@@ -1,23 +1,27 @@
-"""Compares the pages of faults with the code and the definitions: fault_pages.py TOP LETTERS.
+"""Compares the pages of faults with the code, the definitions and the cases of tests/faults: fault_pages.py TOP [--write].
 
-Each fault code of al_base names its identifier (`/// K2: ..`) and has its message in al_text's table; each whose identifier begins
-with one of LETTERS (the kinds of faults that the program prints) has one entry on a page docs/FAULTS*.md (tests/fault_entries.py), with
-that message. Each entry says why the fault matters and how it is repaired, and which definitions decide it: after
-`crate/specs/File.antt`, a colon and the names, each in backquotes. The file must exist below crates/ and define each of the names.
-docs/FAULTS.md has an index of the messages; with a third word `--write` it is written anew.
+Each fault code of al_base names its identifier (`/// K2: ..`), has its message in al_text's table, and has one entry on a page
+docs/FAULTS*.md (tests/fault_entries.py) with that message, why it matters, its repair, and a repair whose lines are those of its cases.
+docs/FAULTS.md has indexes by code and by message, which `--write` writes anew, and a table of the definitions that decide each fault, which
+must exist.
 """
 
 import pathlib
 import re
 import sys
 
-from fault_entries import Wrong, entries
+from fault_entries import entries, files_of, report_of
 
 CODE = re.compile(r"/// ([YKGXC][0-9]+): .*\n\s+([A-Za-z0-9]+),")
-DECIDED = re.compile(r"`(\w+/specs/\w+\.antt)`:((?:\s+`\w+`,?)+)")
+DECIDED = re.compile(r"^\| `(\w+/specs/\w+\.antt)` \| (.*) \|$", re.MULTILINE)
 LETTERS = {"Y": "yaml", "K": "key", "G": "rule", "X": "expression", "C": "call"}
+SUBJECTS = {"Y": "the file isn't YAML as this program reads it", "K": "keys and values that GitHub's syntax doesn't have",
+            "G": "what GitHub refuses, or takes and never does", "X": "what stands in `${{ .. }}` and in conditions",
+            "C": "calls of the folder's actions and workflows"}
 OF_JOBS = {"C1", "C4", "C5", "C6"}  # faults that only a job's call has
-INDEX = "| Message | KIND | Entry |\n|---|---|---|\n"
+BY_CODE = "| Faults of | Entries |\n|---|---|\n"
+BY_MESSAGE = "| Message | KIND | Entry |\n|---|---|---|\n"
+FILE = re.compile(r"\+\+\+ (\S+\.ya?ml)")
 
 
 def codes(top):
@@ -50,53 +54,101 @@ def shown_in(words, message):
     return True
 
 
-def undefined(top, body):
-    """What the definitions that an entry names lack."""
-    named = DECIDED.findall(body)
-    if not named:
-        yield "names no definition"
-    for file, names in named:
-        path = top / "crates" / file
-        text = path.read_text() if path.is_file() else ""
-        for name in re.findall(r"`(\w+)`", names):
-            if not re.search(rf"^\s*(abbrev |unfoldable )?(pub )?{name}\b.* :|^(pub )?(data|record) {name}\b", text, re.MULTILINE):
-                yield f"names {name}, which {file} doesn't define"
+def like(parts):
+    """A pattern for a text of these parts with any text between them."""
+    return re.compile(".*".join(map(re.escape, parts)), re.DOTALL)
+
+
+def have(shown, data):
+    """Whether the lines of a repair stand in a file, in order."""
+    at, lines = 0, data.decode(errors="replace").replace("\r", "\n").split("\n")
+    for line in shown:
+        pattern = like(line.split("…"))
+        at = next((number + 1 for number in range(at, len(lines)) if pattern.fullmatch(lines[number])), None)
+        if at is None:
+            return False
+    return True
+
+
+def wrong_repair(top, entry):
+    """What of an entry's repair its two cases don't have."""
+    before, after = top / "tests/faults" / entry.code, top / "tests/faults" / f"{entry.code}-repaired"
+    if not before.exists() or not after.exists():
+        yield "has no case in tests/faults, or none that is repaired"
+        return
+    report = report_of(before)
+    messages = {re.sub(r"^.*?:\d+:\d+: (.*) \[[\w-]+\]$", r"\1", line) for line in report}
+    if not any(like(re.split(r"\{[01]\}", entry.message)).fullmatch(message) for message in messages) or report_of(after):
+        yield "isn't in the report of its case, or the repaired one isn't clean"
+    if {line[3:-3] for line in entry.shown if line.startswith("@@")} != messages:
+        yield f"shows other messages than {messages}"
+    files, path = {}, report[0].split(":")[0] if report else ""
+    for line in entry.shown:
+        path = FILE.fullmatch(line)[1] if FILE.fullmatch(line) else path
+        if not FILE.fullmatch(line) and not line.startswith("@@"):
+            files.setdefault(path, []).append(line)
+    for path, lines in files.items():
+        if not have([line[1:] for line in lines if line[0] != "+"], files_of(before).get(path, b"")):
+            yield f"shows other lines of {path} than its case has"
+        if not have([line[1:] for line in lines if line[0] != "-"], files_of(after).get(path, b"")):
+            yield f"shows other lines of {path} than the repaired case has"
 
 
 def wrong_of(top, entry):
     """What an entry lacks, whatever its fault is."""
     if not entry.what or not entry.why or not entry.repair:
         yield "doesn't say what it is, why it matters and its repair"
-    yield from undefined(top, entry.body)
+    yield from wrong_repair(top, entry)
+
+
+def wrong_definitions(top, found):
+    """The definitions that decide faults and aren't there, and the faults that none decides."""
+    decided = set()
+    for file, row in DECIDED.findall((top / "docs/FAULTS.md").read_text()):
+        path = top / "crates" / file
+        text = path.read_text() if path.is_file() else ""
+        decided |= set(re.findall(r"\b[YKGXC][0-9]+\b", re.sub(r"`\w+`", "", row)))
+        for name in re.findall(r"`(\w+)`", row):
+            if not re.search(rf"^\s*(abbrev |unfoldable )?(pub )?{name}\b.* :|^(pub )?(data|record) {name}\b", text, re.MULTILINE):
+                yield f"docs/FAULTS.md names {name}, which {file} doesn't define"
+    yield from (f"docs/FAULTS.md names no definition that decides {code}" for code in sorted(found - decided))
+
+
+def link(entry, text):
+    """A link to an entry from docs/FAULTS.md."""
+    return f"[{text}]({'' if entry.page == 'FAULTS.md' else entry.page}#{entry.anchor})"
+
+
+def by_code(listed):
+    """The table of codes."""
+    links = {letter: ", ".join(link(entry, entry.code) for entry in listed if entry.code[0] == letter) for letter in SUBJECTS}
+    return BY_CODE + "".join(f"| {subject} | {links[letter]} |\n" for letter, subject in SUBJECTS.items())
 
 
 def in_order(message):
-    """By what the index is sorted: the letters of a message without its arguments."""
+    """By what the index of messages is sorted: the letters of a message without its arguments."""
     return re.sub(r"[^a-z ]", "", re.sub(r"\{[01]\}", "", message).lower()).split()
 
 
-def index(found, kinds):
+def by_message(listed, kinds):
     """The table of messages, in their order."""
-    rows = ""
-    for entry in sorted(found.values(), key=lambda entry: in_order(entry.message)):
-        link = f"[{entry.code}]({'' if entry.page == 'FAULTS.md' else entry.page}#{entry.anchor})"
-        rows += f"| `{entry.message}` | {', '.join(kinds.get(entry.code, []))} | {link} |\n"
-    return INDEX + rows
+    rows = sorted(listed, key=lambda entry: in_order(entry.message))
+    return BY_MESSAGE + "".join(f"| `{entry.message}` | {', '.join(kinds.get(entry.code, []))} | {link(entry, entry.code)} |\n" for entry in rows)
 
 
-def compare_index(top, wanted, write):
-    """Compares the index of docs/FAULTS.md, or writes it."""
+def compare_index(top, head, wanted, write):
+    """Compares an index of docs/FAULTS.md, or writes it."""
     path = top / "docs" / "FAULTS.md"
     text = path.read_text()
-    stands = re.search(re.escape(INDEX) + r"(?:\|.*\n)*", text)
+    stands = re.search(re.escape(head) + r"(?:\|.*\n)*", text)
     if write and stands:
         path.write_text(text.replace(stands[0], wanted))
     elif not stands or stands[0] != wanted:
-        return ["the index of docs/FAULTS.md isn't that of the entries: fault_pages.py TOP LETTERS --write writes it"]
+        return ["an index of docs/FAULTS.md isn't that of the entries: fault_pages.py TOP --write writes it"]
     return []
 
 
-def wrong_codes(every, wordings, found, letters):
+def wrong_codes(every, wordings, found):
     """What the codes and the entries differ in."""
     if len(every) < 76:
         yield f"only {len(every)} codes name their identifier"
@@ -105,28 +157,26 @@ def wrong_codes(every, wordings, found, letters):
         if words is None:
             yield f"{name}: the table of messages has no row for {variant}"
         elif name not in found:
-            if name[0] in letters:
-                yield f"{name} has no entry"
+            yield f"{name} has no entry"
         elif not shown_in(words, found[name].message):
             yield f"{name}: its entry has another message than the table"
     for name in found.keys() - {name for name, _ in every}:
         yield f"{name} is no fault code"
 
 
-def main(folder, letters, *write):
+def main(folder, *write):
     top = pathlib.Path(folder)
-    try:
-        listed = entries(top / "docs")
-    except Wrong as wrong:
-        sys.exit(str(wrong))
+    listed = entries(top / "docs")
     found = {entry.code: entry for entry in listed}
     every = codes(top)
     wordings, kinds = tables(top)
     wrong = [f"{entry.code} has two entries" for entry in listed if found[entry.code] is not entry]
-    wrong += wrong_codes(every, wordings, found, letters)
+    wrong += wrong_codes(every, wordings, found)
     wrong += [f"{entry.code} {why}" for entry in listed for why in wrong_of(top, entry)]
+    wrong += wrong_definitions(top, found.keys())
     printed = {name: ["workflow-call"] if name in OF_JOBS else kinds.get((name[0], variant)) for name, variant in every}
-    wrong += compare_index(top, index(found, printed), write)
+    wrong += compare_index(top, BY_CODE, by_code(listed), write)
+    wrong += compare_index(top, BY_MESSAGE, by_message(listed, printed), write)
     if wrong:
         sys.exit("\n".join(wrong))
 

@@ -1,10 +1,15 @@
-"""Checks the links between pages: links.py TOP. Each leads to a file that is there, and to a heading of that page."""
+"""Checks the links between pages: links.py TOP. Each leads to a file that is there, and to a heading of that page. What a page names in code
+by its path, `crate/specs/File.antt` or `tests/file.py`, is there too, and docs/README.md leads to each page of docs/.
+"""
 
 import pathlib
 import re
 import sys
 
 LINK = re.compile(r"!?\[[^\]]*\]\(([^()\s]+)\)")
+PATH = re.compile(r"`([\w.-]+/[\w*.{},/-]+)`")
+PLACES = {"specs", "src", "proofs", "must-fail", "more-edits"}
+FOLDERS = {"bench", "clients", "crates", "docs", "examples", "tests", "tools"}
 CODE = re.compile(r"^```.*?^```$|`[^`\n]*`", re.DOTALL | re.MULTILINE)
 
 
@@ -26,11 +31,34 @@ def anchors_of(text):
     return set(found)
 
 
+def pages(top):
+    """All pages below a folder."""
+    return sorted([*top.glob("*.md"), *(top / "docs").glob("**/*.md"), *(top / "clients").glob("**/*.md"), *(top / "tests").glob("*.md")])
+
+
+def absent_paths(top):
+    """What pages name by its path and isn't there: below a crate, or below a folder at the top."""
+    crates = {it.name for it in (top / "crates").iterdir()}
+    for page in pages(top):
+        for path in sorted(set(PATH.findall(page.read_text(encoding="utf-8")))):
+            first, second = path.split("/")[:2]
+            within = top / "crates" if first.startswith("al_") and second in PLACES or first in crates else top
+            if (within != top or first in FOLDERS) and not any([*within.glob(path.rstrip("/")), *within.glob(path + ".*")]):
+                yield f"{page.relative_to(top)}: there is no {path}"
+
+
+def unlisted(top):
+    """The pages of docs/ to which docs/README.md doesn't lead."""
+    listed = {link.partition("#")[0] for link in LINK.findall((top / "docs/README.md").read_text(encoding="utf-8"))}
+    for page in sorted((top / "docs").glob("*.md")):
+        if page.name not in {*listed, "README.md"}:
+            yield f"docs/README.md doesn't lead to {page.name}"
+
+
 def broken_links(top):
     """The links of all pages below a folder that lead nowhere."""
     found = []
-    pages = [*top.glob("*.md"), *(top / "docs").glob("**/*.md"), *(top / "clients").glob("**/*.md"), *(top / "tests").glob("*.md")]
-    for page in sorted(pages):
+    for page in pages(top):
         for link in LINK.findall(without_code(page.read_text(encoding="utf-8"))):
             if re.match(r"[a-z]+:", link):
                 continue
@@ -44,7 +72,8 @@ def broken_links(top):
 
 
 def main(folder):
-    if wrong := broken_links(pathlib.Path(folder)):
+    top = pathlib.Path(folder)
+    if wrong := [*broken_links(top), *absent_paths(top), *unlisted(top)]:
         sys.exit("\n".join(wrong))
 
 

@@ -1,16 +1,47 @@
-"""Checks that the lists of docs/LISTS.md are those of the definitions: lists_page.py TOP. With a second word `--write` they are written anew.
+"""Compares the tables of docs/LISTS.md with the definitions, or writes them: lists_page.py TOP [--write].
 
-Each list is a table of the page, found by its head.
+Each list is a table of the page, found by its head. clients/make_tables.py reads the definitions by the same functions.
 """
 
+import itertools
 import pathlib
 import re
 import sys
 
-from contexts_page import NAME, availability_rows, fixed
-from syntax_page import tables_of
+# Where the definitions stand, below crates/.
+SHAPES = "al_tree/specs/Table.antt"
+EVENTS = "al_tree/specs/Names.antt"
+ACTIVITIES = "al_rules/specs/Names.antt"
+SETTINGS = "al_rules_settings/specs/Names.antt"
+USINGS = "al_rules/specs/Rules.antt"
+FIXED = "al_check_contexts/specs/Fixed.antt"
+AVAILABILITY = "al_check_places/specs/Availability.antt"
+FUNCTION_NAMES = "al_types/specs/Names.antt"
+SIGNATURES = "al_types/specs/Signatures.antt"
+UNTRUSTED = "al_meaning/specs/Untrusted.antt"
+LIMITS = "al_base/specs/Limits.antt"
 
-ROW = re.compile(r"^\| (.*) \|$", re.MULTILINE)
+NAME = re.compile(r'codes "([^"]+)"')
+# Of the table of shapes: an equation, a field, and what other keys are.
+EQUATION = re.compile(r"^rule (\w+) = (.*?)(?=^rule |^-- |\Z)", re.DOTALL | re.MULTILINE)
+FIELD = re.compile(r"(may|must|not_after|not_beside|must_unless_after|must_unless_beside)((?: \(codes \"[^\"]+\"\))+) (\w+)")
+OTHERS = re.compile(r"keys (?:\((wrong_beside) \(codes \"([^\"]+)\"\)\)|(wrong|events|unchecked)) \(")
+SCALARS = {"AnyScalar": "text", "NotNull": "text that is not null", "Bools": "flag", "Numbers": "number", "Chunks": "expression",
+           "NoScalar": None}
+FORMS = {
+    "scalar": ("scalars",),
+    "scalar_or": ("scalars", "keys"),
+    "scalar_or_list": ("scalars", "items"),
+    "scalar_list_or": ("scalars", "items", "keys"),
+    "list_of": ("items",),
+    "mapping": ("keys",),
+}
+OTHER_KEYS = {"wrong": [], "events": [("any other", "an *event* where it is the name of one, else anything", "")],
+              "unchecked": [("any other", "anything, and repeated keys too", "")]}
+# Of the table of places: a row, and a list that rows name.
+PLACE = re.compile(r"(?:^| ∷ )(row|job_row|step_row) ")
+LIST = re.compile(r"^(of_\w+|status) = (.+)$", re.MULTILINE)
+TYPES = {"Any": "any", "Bool'": "bool", "Number": "number", "String": "string"}
 WANTED = {
     "Any": "any",
     "NotObject": "any but object",
@@ -21,11 +52,34 @@ WANTED = {
 FUNCTION = re.compile(r'^function_name function\.(\w+) = codes "(\w+)"', re.MULTILINE)
 SIGNATURE = re.compile(r"^signature function\.(\w+) = giving \(?(\w+)((?: wants\.\w+)*)\)? returns\.(\w+)$", re.MULTILINE)
 PARAMETERS = {"Zero": "", "One": "{0}", "Two": "{0}, {1}", "OneOrTwo": "{0}, optional {1}", "OneOrMore": "{0}, {1}.."}
+# What each limit counts, and what says that it is broken.
+LIMITED = {
+    "largest_file": ("bytes of a file", "E3"),
+    "most_files": ("files of a folder", "E4"),
+    "longest_path": ("bytes of a path", "E1"),
+    "most_nodes": ("nodes of a file, those that aliases stand for counted at each alias", "Y15"),
+    "most_alias_text": ("bytes of text in the nodes that aliases stand for, texts of keys too", "Y15"),
+    "deepest_collection": ("collections inside one another, the root counted", "Y14"),
+    "longest_key": ("characters of a key as written", "Y17"),
+    "longest_text": ("bytes of a text that may have expressions", "no file gives more"),
+    "longest_expression": ("bytes of an expression", "X5"),
+    "deepest_expression": ("brackets and `!` of an expression inside one another", "X6"),
+    "longest_line": ("bytes of a command's line in a script", "`bad command`"),
+    "most_reads": ("reads of a script", "S4"),
+    "largest_read": ("bytes that a read of a script asks for", ""),
+}
 
 
 def quoted(names):
     """Names in backquotes."""
     return ", ".join(f"`{name}`" for name in names)
+
+
+def table_of(head, rows):
+    """A table of Markdown."""
+    lines = [" | ".join(head), "|".join(["---"] * len(head)), *(" | ".join(row) for row in rows)]
+    shown = (f"|{line}|\n" if line.startswith("---") else f"| {line} |\n" for line in lines)
+    return "".join(re.sub(r"\|  (?=\|)", "| ", line) for line in shown)
 
 
 def names_of(text, name):
@@ -34,121 +88,236 @@ def names_of(text, name):
     return NAME.findall(found[1]) if found else sys.exit(f"the list {name} isn't read")
 
 
-def keys_of(table):
-    """The keys of a section's table on docs/SYNTAX.md, in bold where they have to stand."""
-    cells = [row.split(" | ")[0] for row in ROW.findall(table)[1:]]
-    return ", ".join(re.sub(r"^(`[^`]*`) \*\*!\*\*", r"**\1**", cell) for cell in cells)
+def name_of(shape):
+    """The words of a shape's name."""
+    return " ".join(re.findall(r"[A-Z][a-z]*", shape)).lower()
 
 
-def events(top, sections):
-    """Each event, its activity types, and what may stand below it."""
-    names = names_of((top / "al_tree/specs/Names.antt").read_text(), "event_names")
-    rows = (top / "al_rules/specs/Names.antt").read_text()
-    table = rows[rows.index("activities ="):rows.index("abbrev pub activities_of")]
+def parts_of(text):
+    """The parts of an equation's right side: which scalars, items and mappings are taken."""
+    form, rest = text.split(None, 1)
+    parts = {"scalars": "NoScalar", "items": None, "keys": None}
+    for part in FORMS[form]:
+        if part == "keys":
+            parts["keys"] = rest.strip()
+        else:
+            parts[part], _, rest = rest.partition(" ")
+            parts[part] = parts[part].strip()
+    return parts
+
+
+def value_of(shape, rules):
+    """What a shape takes, in words."""
+    if rules[shape] is None:
+        return "anything"
+    parts, kinds = rules[shape], []
+    if SCALARS[parts["scalars"]]:
+        kinds.append(SCALARS[parts["scalars"]])
+    if parts["items"]:
+        kinds.append("a list of " + value_of(parts["items"], rules))
+    free = re.fullmatch(r"\(free (\w+)\)", parts["keys"] or "")
+    if free:
+        kinds.append("a mapping with any keys of " + value_of(free[1], rules))
+    elif parts["keys"]:
+        kinds.append(f"*{name_of(shape)}*")
+    return ", or ".join(kinds)
+
+
+def row_of(form, keys, shape, rules):
+    """A key's row: itself, with a mark where it has to stand, what it takes, and where it can stand."""
+    others, key = keys[:-1], keys[-1]
+    shown = f"**`{key}`**" if form.startswith("must") else f"`{key}`"
+    needed = f" unless there is `{others[0]}`" if form.startswith("must_unless") else ""
+    where = "not after" if form.endswith("after") else "not beside"
+    return shown + needed, value_of(shape, rules), f"{where} `{others[0]}`" if others else ""
+
+
+def sections_of(text):
+    """The rows of each section, a shape that is a mapping with keys of its own, by its name."""
+    rules = {name: None if right.strip() == "None" else parts_of(right.strip()) for name, right in EQUATION.findall(text)}
+    sections = {}
+    for shape, parts in rules.items():
+        if not parts or not parts["keys"] or parts["keys"].startswith("(free"):
+            continue
+        beside, other, plain = OTHERS.search(parts["keys"]).groups()
+        fields = FIELD.findall(parts["keys"])
+        if len(fields) != parts["keys"].count("∷") - parts["keys"].count("∷ []") + 1 - (0 if fields else 1):
+            sys.exit(f"{shape}: a field of the table isn't read")
+        rows = [row_of(form, NAME.findall(keys), value, rules) for form, keys, value in fields]
+        sections[name_of(shape)] = rows + ([("any other", "none", f"not beside `{other}`")] if beside else OTHER_KEYS[plain])
+    return sections
+
+
+def section_keys(crates):
+    """The keys of each section, what each takes, and where it can stand; of neighbours that take the same one row."""
+    rows = []
+    for name, found in sections_of((crates / SHAPES).read_text()).items():
+        for number, (same, keys) in enumerate(itertools.groupby(found, key=lambda row: row[1:])):
+            rows.append((f"*{name}*" if number == 0 else "", ", ".join(row[0] for row in keys), *same))
+    return table_of(("Section", "Key", "Value", "Where"), rows)
+
+
+def activity_types(crates):
+    """Each event with its activity types, in the order of the names."""
+    names = names_of((crates / EVENTS).read_text(), "event_names")
+    text = (crates / ACTIVITIES).read_text()
+    table = text[text.index("activities ="):text.index("abbrev pub activities_of")]
     types = {}
     for left, right in re.findall(r'((?:codes "\w+"\s*∷\s*)+)\[\],\s*((?:codes "\w+"\s*∷\s*)+)\[\]', table):
         types |= dict.fromkeys(NAME.findall(left), NAME.findall(right))
     if sum(map(len, types.values())) < 100 or set(types) - set(names):
         sys.exit("a row of activity types isn't read")
-    below = {"schedule": "cron", "workflow_dispatch": "dispatch", "workflow_call": "call"}
-    keys = {"image_version": "anything", **{name: keys_of(sections[section]) for name, section in below.items()}}
-    rows = "".join(f"| `{name}` | {quoted(types.get(name, []))} | {keys.get(name, 'filters')} |\n" for name in sorted(names))
-    return "| Event | Activity types | Keys below it |\n|---|---|---|\n" + rows.replace("|  |", "| |")
+    return {name: types.get(name, []) for name in sorted(names)}
 
 
-def filters(sections):
-    """The keys below every other event."""
-    return "| Filters |\n|---|\n| " + keys_of(sections["event"]) + " |\n"
+def events(crates):
+    """The events with activity types, those with the same ones together, and last all others."""
+    found = {}
+    for name, types in activity_types(crates).items():
+        found.setdefault(tuple(types), []).append(name)
+    rows = [(quoted(names), quoted(types)) for types, names in sorted(found.items(), key=lambda it: (not it[0], it[1]))]
+    return table_of(("Events", "Activity types"), rows)
 
 
-def input_types(top):
+def input_types(crates):
     """The types that inputs have."""
-    text = (top / "al_rules/specs/Names.antt").read_text()
+    text = (crates / ACTIVITIES).read_text()
     lists = (("workflow_call", "call_types"), ("workflow_dispatch", "dispatch_types"))
-    rows = "".join(f"| `{event}` | {quoted(names_of(text, name))} |\n" for event, name in lists)
-    return "| Inputs of | Types |\n|---|---|\n" + rows
+    rows = [(f"`{event}`", quoted(names_of(text, name))) for event, name in lists]
+    return table_of(("Inputs of", "Types"), rows)
 
 
-def settings(top):
-    """Permissions with their values, and shells."""
-    text = (top / "al_rules_settings/specs/Names.antt").read_text()
-    cells = " | ".join(quoted(names_of(text, name)) for name in ("permissions", "scope_values", "whole_values"))
-    yield f"| Scopes | Values of a scope | Values of `permissions` as a whole |\n|---|---|---|\n| {cells} |\n"
-    yield f"| Shells |\n|---|\n| {quoted(names_of(text, 'shells'))} |\n"
+def settings(crates):
+    """Permissions with their values, shells, and kinds of actions."""
+    text, rules = (crates / SETTINGS).read_text(), (crates / USINGS).read_text()
+    usings = [*names_of(rules, "node_usings"), *re.findall(r'bytes_eq using_name\.text \(codes "(\w+)"\)', rules)]
+    lists = {"`permissions`, its scopes": "permissions", "`permissions`, a scope": "scope_values", "`permissions` as a whole": "whole_values",
+             "`shell`": "shells"}
+    rows = [(key, quoted(names_of(text, name))) for key, name in lists.items()]
+    return table_of(("Key", "Names"), [*rows, ("`using`", quoted(usings))])
 
 
-def usings(top):
-    """The values of `using`."""
-    text = (top / "al_rules/specs/Rules.antt").read_text()
-    others = re.findall(r'bytes_eq using_name\.text \(codes "(\w+)"\)', text)
-    return "| Kinds of actions |\n|---|\n| " + quoted([*names_of(text, "node_usings"), *others]) + " |\n"
+def fixed_contexts(crates):
+    """The contexts that are the same in every file: the properties with their types, and the type of others."""
+    text = (crates / FIXED).read_text()
+    lists = dict(re.findall(r"^(\w+_names) =\n((?:    .*\n)+)", text, re.MULTILINE))
+    found = {}
+    for context, right in re.findall(r"^(\w+)_type =((?:\n? .+)+)", text, re.MULTILINE):
+        right = " ".join(right.split())
+        fields = {name: TYPES[of] for name, of in re.findall(r'\(codes "([^"]+)", ([\w\']+)\)', right)}
+        for body in re.findall(r"strings (\w+|\([^)]*\))", right):
+            fields |= dict.fromkeys(NAME.findall(lists.get(body, body)), "string")
+        found[context] = fields, TYPES[right.split()[-1]] if right.startswith("loosely") else "none"
+    if len(found) != len(re.findall(r"^abbrev pub \w+_type", text, re.MULTILINE)):
+        sys.exit("a type isn't read")
+    return found
 
 
-def section_keys(sections):
-    """The keys of each section."""
-    rows = "".join(f"| [{name}](SYNTAX.md#{name.replace(' ', '-')}) | {keys_of(table)} |\n" for name, table in sections.items())
-    return "| Section | Keys |\n|---|---|\n" + rows
-
-
-def contexts(top):
-    """The properties of the contexts that are the same in every file, those of one type together."""
-    rows = ""
-    table = fixed((top / "al_check_contexts/specs/Fixed.antt").read_text())
-    for cells in (row.split(" | ") for row in ROW.findall(table)[1:]):
+def contexts(crates):
+    """The same as a table, properties of one type together."""
+    rows = []
+    for context, (fields, others) in fixed_contexts(crates).items():
         by_type = {}
-        for name, of in re.findall(r"(`[^`]+`) (\w+)", cells[1]):
+        for name, of in fields.items():
             by_type.setdefault(of, []).append(name)
-        rows += f"| {cells[0]} | {'; '.join(f'{of}: ' + ', '.join(found) for of, found in sorted(by_type.items()))} | {cells[2]} |\n"
-    return "| Context | Properties, by their types | Others |\n|---|---|---|\n" + rows
+        rows.append((f"`{context}`", "; ".join(f"{of}: {quoted(names)}" for of, names in sorted(by_type.items())), others))
+    return table_of(("Context", "Properties, by their types", "Others"), rows)
 
 
-def places(top):
-    """Of each context and each special function the rows of the table of places that have it."""
-    rows = availability_rows((top / "al_check_places/specs/Availability.antt").read_text())
-    for column, what in ((1, "Context"), (2, "Special function")):
-        found = {}
-        for row in rows:
-            for name in row[column]:
-                found.setdefault(name, []).append(row[0])
-        lines = "".join(f"| `{name}` | {quoted(paths)} |\n" for name, paths in found.items())
-        yield f"| {what} | Rows of the table of places that have it |\n|---|---|\n" + lines
+def arguments_of(text):
+    """The parts of a call's arguments: words, and what stands in brackets."""
+    parts, depth, word = [], 0, ""
+    for sign in text + " ":
+        depth += sign in "([" and 1 or (sign in ")]" and -1 or 0)
+        if sign == " " and depth == 0:
+            if word:
+                parts.append(word)
+            word = ""
+        else:
+            word += sign
+    return parts
 
 
-def functions(top):
-    """What each function takes and gives."""
-    names = dict(FUNCTION.findall((top / "al_types/specs/Names.antt").read_text()))
-    rows, count = "", 0
-    for variant, form, arguments, gives in SIGNATURE.findall((top / "al_types/specs/Signatures.antt").read_text()):
+def names_in(text, lists):
+    """The names of a list, those of the lists that it begins with too."""
+    found = []
+    for word in re.findall(r"[\w]+", text):
+        found += lists.get(word, [word] if word[0].isupper() else [])
+    return found
+
+
+def path_of(form, text):
+    """A path of keys, where `*` stands for any."""
+    keys = [named or "*" for named in re.findall(r'codes "([^"]+)"|(?<!\w)any(?!\w)', text)]
+    return ".".join({"row": [], "job_row": ["jobs", "*"], "step_row": ["jobs", "*", "steps"]}[form] + keys)
+
+
+def availability_rows(crates):
+    """Each path in the order of the table of places, with the contexts and the special functions that it has."""
+    text, lists = (crates / AVAILABILITY).read_text(), {}
+    for name, right in LIST.findall(text):
+        lists[name] = names_in(right, lists)
+    start = text.index("\ntable =\n") + len("\ntable =\n")
+    # A row may stand on several lines.
+    before, *found = PLACE.split(" ".join(text[start : text.index("\n    ∷ []", start)].split()))
+    rows = []
+    for form, rest in zip(found[::2], found[1::2]):
+        parts = arguments_of(rest)
+        if len(parts) != 3:
+            sys.exit(f"a row of the table isn't read: {form} {rest}")
+        path, shown, special = parts
+        functions_of = [{"HashFiles": "hashFiles"}.get(name, name.lower()) for name in names_in(special, lists)]
+        rows.append((path_of(form, path), [name.lower() for name in names_in(shown, lists)], functions_of))
+    if before or not rows:
+        sys.exit("a row of the table isn't read")
+    return rows
+
+
+def places(crates):
+    """The paths that have the same contexts and special functions together."""
+    found = {}
+    for path, shown, special in availability_rows(crates):
+        found.setdefault((", ".join(shown), ", ".join(special)), []).append(path)
+    return table_of(("Places", "Contexts", "Special functions"), [(quoted(paths), *both) for both, paths in found.items()])
+
+
+def functions(crates):
+    """Of each function what it takes and gives."""
+    names, found = dict(FUNCTION.findall((crates / FUNCTION_NAMES).read_text())), {}
+    for variant, form, arguments, gives in SIGNATURE.findall((crates / SIGNATURES).read_text()):
         wanted = [WANTED[it] for it in re.findall(r"wants\.(\w+)", arguments)]
-        rows += f"| `{names[variant]}` | {PARAMETERS[form].format(*wanted)} | {gives.lower()} |\n".replace("|  |", "| |")
-        count += 1
-    if count != len(names):
+        found[names[variant]] = PARAMETERS[form].format(*wanted), gives.lower()
+    if len(found) != len(names):
         sys.exit("a signature isn't read")
-    return "| Function | Takes | Gives |\n|---|---|---|\n" + rows
+    return found
 
 
-def untrusted(top):
+def untrusted(crates):
     """The texts that anybody can write."""
-    text = (top / "al_meaning/specs/Untrusted.antt").read_text()
+    text = (crates / UNTRUSTED).read_text()
     body = text[text.index("untrusted_chains =\n"):text.index("    []\n")]
-    return "| Untrusted texts |\n|---|\n" + "".join(f"| `{'.'.join(NAME.findall(line))}` |\n" for line in body.splitlines()[1:])
+    return table_of(("Untrusted texts",), [(quoted(".".join(NAME.findall(line)) for line in body.splitlines()[1:]),)])
 
 
-def lists(top):
+def limits(crates):
+    """The limits of the product."""
+    found = dict(re.findall(r"^(\w+) = ([0-9]+)$", (crates / LIMITS).read_text(), re.MULTILINE))
+    if found.keys() != LIMITED.keys():
+        sys.exit(f"limits without words, or words without a limit: {', '.join(found.keys() ^ LIMITED.keys())}")
+    rows = [(LIMITED[name][0], f"{int(number):,}", LIMITED[name][1]) for name, number in found.items()]
+    return table_of(("What", "At most", "More is"), rows)
+
+
+def lists(crates):
     """All tables of the page."""
-    crates = top / "crates"
-    sections = tables_of((crates / "al_tree/specs/Table.antt").read_text())
-    return [
-        events(crates, sections), filters(sections), input_types(crates), *settings(crates), usings(crates), section_keys(sections),
-        contexts(crates), *places(crates), functions(crates), untrusted(crates),
-    ]
+    takes = table_of(("Function", "Takes", "Gives"), [(f"`{name}`", *row) for name, row in functions(crates).items()])
+    return [it(crates) for it in (section_keys, events, input_types, settings, contexts, places)] + [takes, untrusted(crates), limits(crates)]
 
 
 def main(folder, *write):
-    top = pathlib.Path(folder)
-    path = top / "docs" / "LISTS.md"
+    path = pathlib.Path(folder) / "docs" / "LISTS.md"
     text = path.read_text()
-    for table in lists(top):
+    for table in lists(pathlib.Path(folder) / "crates"):
         head = "".join(table.splitlines(True)[:2])
         stands = re.search(re.escape(head) + r"(?:\|.*\n)*", text)
         if not stands:

@@ -1,8 +1,9 @@
-"""Compares docs/PROVED.md with the crates: proved_page.py TOP.
+"""Compares docs/PROVED.md with the crates, and README.md's table with it: proved_page.py TOP.
 
-Each crate of crates.txt that the program stands on, and `toy`, has a section; what a bullet of a section names before its first colon or
-full stop is a public item of that crate; a definition's file that a section names is there; and where the kit's `rt` is on the PATH, the
-logic that is trusted is the one by which that kit proves, whichever kit of that logic it is. Prints what isn't so.
+Each clause that the table of promises names stands on the function that it names, and README.md's table has just the promises that have
+a number. Each crate of crates.txt that the program stands on, and `toy`, has rows in the table of crates; what a row is of is a public item
+of its crate, and the clauses in brackets behind it are its own; a definition's file that a row names is there. Where the kit's `rt` is on
+the PATH, the logic that is trusted is the one by which that kit proves. Prints what isn't so.
 """
 
 import pathlib
@@ -13,43 +14,88 @@ import sys
 
 from architecture_page import PROGRAM, all_below, crates_in
 
-SECTION = re.compile(r"^### `(\w+)`\n(.*?)(?=^###? |\Z)", re.DOTALL | re.MULTILINE)
-BULLET = re.compile(r"^- (.*?)(?=^- |\Z)", re.DOTALL | re.MULTILINE)
+ROW = re.compile(r"^\| (\d?) ?\| (.*) \| (.*) \|$", re.MULTILINE)
+EXTRACT = re.compile(r"^\| (\d) \| (.*) \|$", re.MULTILINE)
+OF_CRATE = re.compile(r"^\| (?:`(\w+)`)? ?\| (`.*?) \| (.*) \|$", re.MULTILINE)
 ITEM = re.compile(r"^\s*(?:pub )?(?:fn|struct|enum|trait|type) (\w+)", re.MULTILINE)
+FUNCTION = re.compile(r"^( *)pub fn (\w+)(.*?)^\1(?:\{|$)", re.DOTALL | re.MULTILINE)
+LAWS = re.compile(r"^impl Lint for Actions \{(.*?)^\}", re.DOTALL | re.MULTILINE)
+CLAUSE = re.compile(r"\b(?:ensures|ghost) (\w+) (?:\{|=)")
+NAME = re.compile(r"`(?:\w+::)?([\w ]+)`")
+CLAUSES = re.compile(r" \((`\w+`(?:, `\w+`)*)\)")
 LOGIC = re.compile(r"\blogic ([0-9a-f]{16})\b")
 
 
-def items_of(crate):
+def sources(crate):
+    """The sources of a crate, as one text."""
+    return "\n".join(it.read_text(encoding="utf-8") for it in sorted(crate.glob("src/**/*.rt")))
+
+
+def contracts(source):
+    """The names of the clauses of each function, of equal names each."""
+    found = {}
+    for match in FUNCTION.finditer(source):
+        found.setdefault(match[2], []).append(set(CLAUSE.findall(match[3])))
+    for match in LAWS.finditer(source):
+        found.setdefault("impl Lint for Actions", []).append(set(CLAUSE.findall(match[1])))
+    return found
+
+
+def missing(named, found):
+    """What a cell names that isn't there: of each of its parts the functions stand before a colon, their clauses behind it."""
+    for part in named.split(";"):
+        functions, _, clauses = part.partition(": ")
+        wanted = set(NAME.findall(clauses))
+        for function in NAME.findall(functions):
+            if not any(wanted <= names for names in found.get(function, [])):
+                yield f"no contract has {function}: {', '.join(sorted(wanted)) or 'no such function'}"
+
+
+def items_of(source):
     """What the sources of a crate declare or hand on."""
-    source = "\n".join(it.read_text(encoding="utf-8") for it in crate.glob("src/**/*.rt"))
     found = set(ITEM.findall(source))
     for names in re.findall(r"^pub use [\w:]+::\{?([\w, \n]+)\}?;", source, re.MULTILINE):
         found.update(re.findall(r"\w+", names))
     return found
 
 
-def named_in(bullet):
-    """The items that a bullet begins with: those in code before its first colon."""
-    head = re.split(r": |\. ", bullet, maxsplit=1)[0]
-    return [it.split("::")[-1] for it in re.findall(r"`([\w:]+)`", head)] if not head.startswith("That ") else []
+def rows_of(page):
+    """The rows of each crate: what each is of, and what it says."""
+    found, crate = {}, None
+    for name, items, text in OF_CRATE.findall(page.partition("## Crate by crate")[2].partition("\n## ")[0]):
+        crate = name or crate
+        found.setdefault(crate, []).append((items, text))
+    return found
+
+
+def wrong_in(crate, rows):
+    """What a crate's rows say that isn't so."""
+    source = sources(crate)
+    there, clauses_of = items_of(source), contracts(source)
+    for items, text in rows:
+        clauses = {it for names in CLAUSES.findall(items) for it in re.findall(r"\w+", names)}
+        names = [it.split("::")[-1] for it in re.findall(r"`([\w:]+)`", CLAUSES.sub("", items))]
+        have = {clause for it in names for one in clauses_of.get(it, []) for clause in one}
+        yield from (f"there is no {it}" for it in names if it not in there)
+        yield from (f"{', '.join(names)} have no clause {it}" for it in sorted(clauses - have))
+        yield from (f"there is no {it}" for it in re.findall(r"`(specs/[\w/]+\.antt)`", text) if not (crate / it).exists())
 
 
 def differences(top):
-    """What the page says that isn't so."""
+    """What the pages say that isn't so."""
     page = (top / "docs/PROVED.md").read_text(encoding="utf-8")
-    crates = crates_in((top / "crates.txt").read_text(encoding="utf-8"))
-    sections = dict(SECTION.findall(page))
+    rows = ROW.findall(page[: page.index("## Crate by crate")])
+    known = contracts("\n".join(sources(it) for it in sorted((top / "crates").glob("al_*"))))
+    found = [it for _, _, named in rows for it in missing(named, known)]
+    numbered = [(number, promise) for number, promise, _ in rows if number]
+    readme = (top / "README.md").read_text(encoding="utf-8").partition("## What it promises")[2].partition("\n## ")[0]
+    if not numbered or EXTRACT.findall(readme) != numbered:
+        found.append("README.md has other promises than those with a number")
+    crates, listed = crates_in((top / "crates.txt").read_text(encoding="utf-8")), rows_of(page)
     wanted = {it for it in all_below(crates, PROGRAM) if it != PROGRAM} | {"toy"}
-    found = [f"no section for {it}" for it in sorted(wanted - set(sections))]
-    found += [f"no crate {it}" for it in sorted(set(sections) - set(crates))]
-    for name, body in sections.items():
-        crate = top / "crates" / name
-        there = items_of(crate)
-        bullets = BULLET.findall(body)
-        found += [] if bullets else [f"{name}: says nothing"]
-        found += [f"{name}: there is no {it}" for bullet in bullets for it in named_in(bullet) if it not in there and it != "Node"]
-        paths = re.findall(r"`(specs/[\w/]+\.antt)`", body)
-        found += [f"{name}: there is no {it}" for it in paths if not (crate / it).exists()]
+    found += [f"no row of {it}" for it in sorted(wanted - set(listed))]
+    found += [f"no crate {it}" for it in sorted(set(listed) - set(crates))]
+    found += [f"{name}: {it}" for name, of_crate in listed.items() for it in wrong_in(top / "crates" / name, of_crate)]
     if shutil.which("rt"):
         version = subprocess.run(["rt", "version"], capture_output=True, text=True, check=True).stdout.strip()
         found += [] if LOGIC.findall(page) == LOGIC.findall(version) != [] else [f"what is trusted is {version}"]

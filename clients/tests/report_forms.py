@@ -196,7 +196,7 @@ def links_in_json_lines(program: str) -> None:
 def explain(program: str) -> None:
     """The entry of a code; another text is a wrong word."""
     status, said, errors = run(program, "/", "--explain", "x13")
-    assert (status, errors) == (0, "") and said.startswith('X13: property ".." is not defined\n\nA property that an object'), said
+    assert (status, errors) == (0, "") and said.startswith('X13: property ".." is not defined\n\n'), said
     assert "\n\nRepair: Write a property" in said and "\n    on: push\n" in said and "```" not in said and "](" not in said, said
     assert all(run(program, "/", "--explain", code)[0] == 0 for code in ("Y1", "K7", "C9"))
     assert run(program, "/", "--explain", "X99") == (2, "", "actionlint-report: 'X99' is no code of a fault\n")

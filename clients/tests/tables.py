@@ -19,7 +19,7 @@ from repositories import CLIENTS, TOP
 CASES = Cases("tables")
 FAULT_LINE = re.compile(rb"^[^ :\n][^:\n]*:[0-9]+:[0-9]+: .*\[[a-z-]+\]$", re.M)
 CODE = re.compile(r"/// ([YKGXC][0-9]+): ")
-SECTION_ROW = re.compile(r"^\| \[([\w ]+)\]\(SYNTAX\.md#[\w-]+\) \| (.*) \|$", re.M)
+SECTION_ROW = re.compile(r"^\| (?:\*([^*]+)\* )?\| ([^|]+) \| [^|]+ \|[^|]*\|$", re.M)
 LEAST_LINES = 1_000
 
 
@@ -90,9 +90,12 @@ def shapes_are_known(program: str) -> None:
         below = [shape["items"], shape["free"], *(row["shape"] for row in shape.get("keys", {}).values())]
         assert all(one is None or one in shapes for one in below), (name, below)
     page = (TOP / "docs/LISTS.md").read_text(encoding="utf-8")
-    rows = {match[1]: set(re.findall(r"`([^`]+)`(?! (?:\*\*)? ?unless)", match[2])) for match in SECTION_ROW.finditer(page)}
+    rows, section = {}, None
+    for name, keys in SECTION_ROW.findall(page[page.index("| Section |"):].split("\n\n", 1)[0]):
+        section = name or section
+        rows.setdefault(section, set()).update(re.findall(r"`([^`]+)`", keys))
     known = {shape["section"]: set(shape["keys"]) for shape in shapes.values() if shape.get("section")}
-    assert len(rows) >= 20 and all(keys <= known[section] | {"uses"} for section, keys in rows.items()), rows
+    assert len(rows) >= 20 and all(rows[section] - {"uses"} == known[section] - {"uses"} for section in rows), rows
 
 
 if __name__ == "__main__":

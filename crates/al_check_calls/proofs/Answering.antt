@@ -40,7 +40,7 @@ all_at_sites (s ∷ sites) = put IsAtSite (call_at s) (filter_map call_at sites)
 abbrev with_answer : List (Option Interface) → Call → Answered
 with_answer answers c = answered_by c (first_answer answers)
 
-answered_of_kept : List Kept → List (Option Interface) → List Answered
+abbrev answered_of_kept : List Kept → List (Option Interface) → List Answered
 answered_of_kept [] answers = []
 answered_of_kept (k ∷ ks) answers = cons_option (option_map (with_answer answers) (option_and_then call_at k.0)) (answered_of_kept ks (drop 1 answers))
 

@@ -12,10 +12,10 @@ mod wordings;
 mod examples;
 
 pub use al_base::{
-    Args, CallCode, Caller, Code, ExpressionCode, Fault, Input, KeyCode, Lines, Output, Path,
-    PathFault, RuleCode, Span, Stop, YamlCode, add_copies, fault_lists, ordered, path_fault,
-    position, rows,
+    Args, CallCode, Caller, Code, ExpressionCode, Fault, Input, KeyCode, Lines, Location, Output,
+    Path, PathFault, RuleCode, Span, Stop, YamlCode, add_copies, fault_lists, first_control,
+    is_char_start, is_same_name, limits, location_of, ordered, path_fault, position, rows, shown,
 };
 pub use examples::snippet_rows;
-pub use printing::{write_fault, write_fault_at, write_faults};
+pub use printing::{WriteFault, write_fault, write_fault_at, write_faults};
 pub use wordings::kind;

@@ -1,0 +1,44 @@
+"""Compares the pages with the sources: pages.py TOP [--write]. With `--write` what follows from the sources is written anew first.
+
+Runs fault_pages.py, links.py, each NAME_page.py of this folder that doesn't need the built program, tidy.py and case_copies.py; those that
+can write say `--write` in their first line. Prints a line for each, and what is wrong. Ends with 0 where all were as expected.
+"""
+
+import pathlib
+import subprocess
+import sys
+
+HERE = pathlib.Path(__file__).resolve().parent
+PAGES = sorted({"fault_pages.py", "links.py", *(it.name for it in HERE.glob("*_page.py"))} - {"command_line_page.py"})
+TIDY = ["src", "specs", "proofs", "heads", "names", "kinds"]
+CASES = ["cases", "yaml-trees", "expressions", "chunks"]
+
+
+def run(script, *words):
+    """Runs a script: its status, and what it printed."""
+    ran = subprocess.run([sys.executable, HERE / script, *words], stdout=subprocess.PIPE, stderr=subprocess.STDOUT, check=False)
+    return ran.returncode, ran.stdout.decode()
+
+
+def can_write(script):
+    """Whether a script can write its page anew."""
+    return "--write" in (HERE / script).read_text(encoding="utf-8").splitlines()[0]
+
+
+def main(top, *words):
+    results = []
+    for script in PAGES if "--write" in words else []:
+        if can_write(script):
+            run(script, top, "--write")
+    runs = {script: [top] for script in PAGES}
+    runs |= {"tidy.py": [top, *TIDY], "case_copies.py": [str(pathlib.Path(top) / "tests" / it) for it in CASES]}
+    for script, its in runs.items():
+        status, said = run(script, *its)
+        print(f"case={script} output={'wrong' if status else 'expected'} status={status}")
+        print(said, end="")
+        results.append(status)
+    return 1 if any(results) else 0
+
+
+if __name__ == "__main__":
+    sys.exit(main(*sys.argv[1:]))
