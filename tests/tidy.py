@@ -1,10 +1,9 @@
 """Checks the layout of the crates: tidy.py TOP WHAT.. [--write].
 
 WHAT is `src` or `specs` (no line is longer than 140 characters), `proofs` (none is longer than 200), `heads` (each module of lemmas says at
-its head what it serves, or has a row on docs/PROVING.md that does), `kinds` (no definition uses words of private contracts,
-`specs/Private`, neither uses worked rows, `specs/Rows`, and none of them uses proofs, also those of `specs/Proofs`) or `names` (each name
-that a `use` line brings in stands somewhere else in its file). With `--write` the names that don't are taken out; then `rt fmt` and
-`rt check` are to be run in each crate that has changed.
+its head what it serves), `kinds` (no definition uses words of private contracts, `specs/Private`, neither uses worked rows, `specs/Rows`,
+and none of them uses proofs, also those of `specs/Proofs`) or `names` (each name that a `use` line brings in stands somewhere else in its
+file). With `--write` the names that don't are taken out; then `rt fmt` and `rt check` are to be run in each crate that has changed.
 """
 
 import pathlib
@@ -43,18 +42,10 @@ def long_lines(top, folder):
 
 
 def headless(top):
-    """The modules of lemmas that don't say what they serve, and those that do and have a row on docs/PROVING.md besides."""
-    page = (top / "docs/PROVING.md").read_text(encoding="utf-8").partition("## Lemma modules")[2].partition("\n## ")[0]
-    named, crate = set(), None
-    for cells in re.findall(r"^\| (?:`(\w+)`)? ?\| `(\w+)` \|", page, re.MULTILINE):
-        crate = cells[0] or crate
-        named.add(f"crates/{crate}/proofs/{cells[1]}.antt")
+    """The modules of lemmas that don't say at their head what they serve."""
     for file in sorted(it for it in top.glob("crates/*/proofs/*.antt") if it.stem != "Lib"):
-        place = str(file.relative_to(top))
-        if file.read_text(encoding="utf-8").startswith("--") == (place in named):
-            yield f"{place} says at its head what it serves, as docs/PROVING.md does" if place in named else f"{place} doesn't say what it serves"
-        named.discard(place)
-    yield from (f"docs/PROVING.md names {it}, which isn't there" for it in sorted(named))
+        if not file.read_text(encoding="utf-8").startswith("--"):
+            yield f"{file.relative_to(top)} doesn't say what it serves"
 
 
 def kind_of(parts):

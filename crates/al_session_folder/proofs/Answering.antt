@@ -1,3 +1,4 @@
+-- The answers of calls, call after call.
 use Rattle.std.proofs.Common.{◌≡◌, ℕ, ◌+◌, ◌<◌, List, [], ◌∷◌, ◌++◌, Option, Some, None, refl, sym, ◌∙◌, ap, map, take, length, get_or, arith}
 use Rattle.std.proofs.lemmas.List.{map_push, map_more}
 use Rattle.al_base.specs.declared.faults.Fault.{Fault}

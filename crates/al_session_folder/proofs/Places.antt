@@ -1,3 +1,4 @@
+-- Files in order of path, and the place of a path among them.
 use Rattle.std.proofs.Common.{◌≡◌, ℕ, zero, suc, ◌<◌, ◌≤◌, List, [], ◌∷◌, length, map, set, Some, None, Result, Ok, Err, refl, sym, ◌∙◌, ap, subst, arith, slice_get, String}
 use Rattle.std.specs.Prelude.{string_bytes}
 use Rattle.std.specs.Global.{Global}
