@@ -10,11 +10,11 @@ ghost use Rattle.al_check_contexts.specs.Private.Standing.{Stands};
 ghost use Rattle.al_check_calls.specs.FileCalls.{AreShort, call_faults, typing};
 ghost use Rattle.al_yaml_tree.specs.View.{view};
 
-use al_base::Fault;
 use crate::answers::Answered;
 use crate::calls::check_call;
 use crate::names::check_names;
 use crate::values::job_values;
+use al_base::Fault;
 use al_check_contexts::{Env, File};
 use std::alloc::{AllocError, Global};
 

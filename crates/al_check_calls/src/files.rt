@@ -81,10 +81,10 @@ pub struct Calling<'a> {
 ///
 /// Offsets of the file's nodes are at most 1,048,576, and its texts are UTF-8. Fails with `AllocError` when out of memory; the list is
 /// then as it was.
-pub fn behind_faults(
+pub fn behind_faults<'a>(
     alloc: Global,
-    file: Calling<'_>,
-    answers: &[Option<&Interface>],
+    file: Calling<'a>,
+    answers: &[Option<&'a Interface>],
     out: &mut Vec<Fault>,
 ) -> Result<(), AllocError>
     requires laid { IsLaid largest_file (view file.root.now) }
