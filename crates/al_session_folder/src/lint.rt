@@ -13,6 +13,7 @@ ghost use Rattle.al_base.specs.Counted.{raised};
 
 use al_base::{Code, Fault, Path, Span};
 use std::alloc::{AllocError, Global};
+use thiserror::Error;
 
 /// What a file calls: the paths of which the first that is in the folder answers.
 #[derive(Drop)]
@@ -59,19 +60,25 @@ pub struct Site<'a> {
 }
 
 /// Why an edit is refused, in the order in which the reasons are looked for.
-#[derive(Clone, Copy, Debug, Drop, PartialEq, Eq)]
+#[derive(Clone, Copy, Debug, Drop, PartialEq, Eq, Error)]
 pub enum Refused {
     /// E1: the text is no path.
+    #[error("no path of a folder (E1)")]
     BadPath,
     /// E2: the linter accepts no file with this path.
+    #[error("no file of this path is linted (E2)")]
     NotAccepted,
     /// E3: the file has more than 1,048,576 bytes.
+    #[error("more than 1,048,576 bytes (E3)")]
     TooLarge,
     /// E4: the folder has 4,096 files, none of them with this path.
+    #[error("4,096 other files are there (E4)")]
     Full,
     /// E5: no file has this path.
+    #[error("no such file (E5)")]
     NoSuchFile,
     /// E6: memory ran out.
+    #[error("out of memory (E6)")]
     Memory,
 }
 
