@@ -24,7 +24,10 @@ use Rattle.al_check_interfaces.specs.declared.calls.Call.{Call}
 use Rattle.al_check.specs.Calling.{file_interface, file_targets, interface_given, shown_by, shown_read, targets_given, targets_of, targets_read}
 use Rattle.al_check.specs.Reading.{CallsGiven, IsGiven, IsRead}
 use Rattle.al_check.specs.Sites.{file_sites, sites_given}
+use Rattle.al_check.specs.Units.{HasCalls, IsUnit, calls_kept, interface_kept}
 use Rattle.al_check.specs.declared.files.ReadFile.{ReadFile}
+use Rattle.al_check.specs.declared.units.Unit.{Unit}
+use Rattle.al_check.specs.declared.units.Unit.TheVariants as unit
 
 targets_are : (kind : FileKind) (bytes : List ℕ) (read : Result Tree YamlFault) → IsGiven kind bytes read → targets_read read ≡ file_targets kind bytes
 targets_are kind bytes (Ok t) is = ap (λ k. targets_given k (Ok (root_of t))) is.kind_is ∙ ap (targets_given kind) (sym is.root_is)
@@ -59,18 +62,27 @@ faults_in kind bytes (Err fault) calls is none = ap (map (λ c. c.fault)) none �
 faults_kept : (file : ReadFile) (kind : FileKind) (bytes : List ℕ) → IsRead file kind bytes → map (λ c. c.fault) file.calls.items ≡ file_sites kind bytes
 faults_kept file kind bytes is = faults_in kind bytes file.tree file.calls.items is.given is.calls
 
-pub call_inside : (file : ReadFile) (kind : FileKind) (bytes : List ℕ) (call : ℕ) → IsRead file kind bytes → call < length (file_targets kind bytes) → call < length file.calls.items
-call_inside file kind bytes call is lt =
-    let kept : length (map (λ c. c.target) file.calls.items) ≡ length (file_targets kind bytes) = ap length (targets_kept file kind bytes is) in
-    let all : length (map (λ c. c.target) file.calls.items) ≡ length file.calls.items = length-map file.calls.items (λ c. c.target) in
+-- what is kept of a file has its calls
+pub calls_kept_of : (unit : Unit) (kind : FileKind) (bytes : List ℕ) → IsUnit unit kind bytes → HasCalls (calls_kept unit) kind bytes
+calls_kept_of (unit.Whole file) kind bytes is = record { targets = targets_kept file kind bytes is; sites = faults_kept file kind bytes is }
+calls_kept_of (unit.Brief brief) kind bytes is = is.calls
+
+pub interface_kept_of : (unit : Unit) (kind : FileKind) (bytes : List ℕ) → IsUnit unit kind bytes → interface_kept unit ≡ file_interface kind bytes
+interface_kept_of (unit.Whole file) kind bytes is = interface_shown file kind bytes is
+interface_kept_of (unit.Brief brief) kind bytes is = is.interface
+
+pub call_inside : (calls : List Call) (kind : FileKind) (bytes : List ℕ) (call : ℕ) → HasCalls calls kind bytes → call < length (file_targets kind bytes) → call < length calls
+call_inside calls kind bytes call has lt =
+    let kept : length (map (λ c. c.target) calls) ≡ length (file_targets kind bytes) = ap length has.targets in
+    let all : length (map (λ c. c.target) calls) ≡ length calls = length-map calls (λ c. c.target) in
     omega (arith, lt, kept, all)
 
 -- the fault of a call with this number is kept
-pub site_kept : (file : ReadFile) (kind : FileKind) (bytes : List ℕ) (call : ℕ) (found : Call) → IsRead file kind bytes → found ≡ get_or file.calls.items call found →
-    call < length file.calls.items → slice_get (file_sites kind bytes) call ≡ Some found.fault
-site_kept file kind bytes call found is read lt =
-    ap (λ l. slice_get l call) (sym (faults_kept file kind bytes is)) ∙ slice_get-map (λ c. c.fault) file.calls.items call
-    ∙ ap (option_map (λ c. c.fault)) (slice_get-get_or file.calls.items call found lt ∙ ap Some (sym read))
+pub site_kept : (calls : List Call) (kind : FileKind) (bytes : List ℕ) (call : ℕ) (found : Call) → HasCalls calls kind bytes → found ≡ get_or calls call found →
+    call < length calls → slice_get (file_sites kind bytes) call ≡ Some found.fault
+site_kept calls kind bytes call found has read lt =
+    ap (λ l. slice_get l call) (sym has.sites) ∙ slice_get-map (λ c. c.fault) calls call
+    ∙ ap (option_map (λ c. c.fault)) (slice_get-get_or calls call found lt ∙ ap Some (sym read))
 
 -- it names one text
 pub record IsNamed (fault : Fault) : Type 0 where
@@ -89,9 +101,9 @@ sites_named : (kind : FileKind) (read : Result Node yaml.Fault) → AllByRecursi
 sites_named kind (Ok root) = loops_named (calls_in kind root)
 sites_named kind (Err fault) = tt
 
-pub site_named : (file : ReadFile) (kind : FileKind) (bytes : List ℕ) (call : ℕ) (found : Call) → IsRead file kind bytes → found ≡ get_or file.calls.items call found →
-    call < length file.calls.items → IsNamed found.fault
-site_named file kind bytes call found is read lt =
-    let there = mapped_in (λ c. c.fault) file.calls.items call found lt read in
+pub site_named : (calls : List Call) (kind : FileKind) (bytes : List ℕ) (call : ℕ) (found : Call) → HasCalls calls kind bytes → found ≡ get_or calls call found →
+    call < length calls → IsNamed found.fault
+site_named calls kind bytes call found has read lt =
+    let there = mapped_in (λ c. c.fault) calls call found lt read in
     All-contains IsNamed (file_sites kind bytes) found.fault (All-from_recursion IsNamed (file_sites kind bytes) (sites_named kind (tree_of bytes)))
-    (subst (λ l. Contains l found.fault) (faults_kept file kind bytes is) there)
+    (subst (λ l. Contains l found.fault) has.sites there)

@@ -14,7 +14,7 @@ ghost use Rattle.al_check_interfaces.specs.Interfaces as interfaces;
 ghost use Rattle.al_check_interfaces.specs.Kept.{AreCallsOf};
 ghost use Rattle.al_check_interfaces.specs.Uses as uses;
 ghost use Rattle.al_session_folder.specs.Meaning.{AreAnswers};
-ghost use Rattle.al_check_calls.specs.FileCalls as calls;
+ghost use Rattle.al_check_calls.specs.FileCalls as file_calls;
 ghost use Rattle.al_check.specs.FileFaults as faults;
 ghost use Rattle.al_check.specs.Calling as calling;
 ghost use Rattle.al_check.specs.Calling.{shown_by};
@@ -130,7 +130,7 @@ fn add_behind(
     requires answers { AreAnswers (uses.targets_of (uses.calls_in (kind_in tree.now) (root_of tree.now)))
         (map (λ a. option_copied a) answers.now) }
     ensures { OnOk result (SameSet out.new.items (out.old.items
-        ++ calls.behind_faults (kind_in tree.now) (root_of tree.now) (map (λ a. option_copied a) answers.now))) }
+        ++ file_calls.behind_faults (kind_in tree.now) (root_of tree.now) (map (λ a. option_copied a) answers.now))) }
 {
     let file = Calling {
         kind: tree.kind(),
@@ -202,7 +202,7 @@ pub(crate) fn file_faults(
 }
 
 /// What these calls call.
-fn targets(alloc: Global, calls: &[Call]) -> Result<Vec<Target>, AllocError>
+pub(crate) fn targets(alloc: Global, calls: &[Call]) -> Result<Vec<Target>, AllocError>
     ensures { IfOk result (λ found. found.items ≡ map (λ c. c.target) calls.now) }
 {
     let mut found = Vec::new(alloc);
@@ -210,14 +210,6 @@ fn targets(alloc: Global, calls: &[Call]) -> Result<Vec<Target>, AllocError>
         found.push(call.target.copy(alloc)?)?;
     }
     Ok(found)
-}
-
-/// The files of the folder that a file calls, in order.
-pub(crate) fn file_targets(alloc: Global, file: &ReadFile) -> Result<Vec<Target>, AllocError>
-    ensures { (kind : FileKind) (bytes : List ℕ) → IsRead file.now kind bytes
-        → IfOk result (λ found. found.items ≡ calling.file_targets kind bytes) }
-{
-    targets(alloc, file.calls.as_slice())
 }
 
 /// What a document shows to its callers.

@@ -2,12 +2,13 @@
 ghost use Rattle.std.specs.Prelude.{◌≡◌, ◌∷◌, [], ℕ, List, Option};
 ghost use Rattle.al_tree.specs.Kinds.{file_kind};
 ghost use Rattle.al_check.specs.Linting.{linting};
-ghost use Rattle.al_check.specs.Reading.{IsRead};
+ghost use Rattle.al_check.specs.Units.{IsUnit};
 ghost use Rattle.al_check_interfaces.proofs.Exact.{exact};
 ghost use Rattle.al_check.specs.Proofs.Laws.{each_sited, faults_inside, faults_ordered, sites_inside};
 ghost use Rattle.al_session_folder.specs.Sites.{fault_of};
 
-use crate::files::{ReadFile, file_faults, file_interface, file_targets, read_file};
+use crate::files::read_file;
+use crate::units::{Unit, brief_of, call_at, unit_faults, unit_interface, unit_targets};
 use al_base::{Args, Fault};
 use al_check_interfaces::{Call, Interface};
 use al_session_folder::{Lint, Site, Target};
@@ -35,15 +36,20 @@ fn site_of(call: &Call) -> Site<'_>
     }
 }
 
+// The bytes of the files of which a linter for one report keeps the trees.
+const KEPT_BYTES: usize = 2_097_152;
+
 /// The linter of workflows and actions, with its counts.
 #[derive(Drop)]
 pub struct Actions {
     checks: u64,
     reads: u64,
+    // The bytes of files whose trees may still be kept; `None` where all are.
+    room: Option<usize>,
 }
 
 impl Actions {
-    /// A linter that has read and checked nothing. Takes no memory.
+    /// A linter that has read and checked nothing. It keeps all that it reads, as a session needs that takes edits. Takes no memory.
     pub fn new() -> Actions
         ensures checks { result.checks ≡ 0 }
         ensures reads { result.reads ≡ 0 }
@@ -51,18 +57,48 @@ impl Actions {
         Actions {
             checks: 0,
             reads: 0,
+            room: None,
         }
+    }
+
+    /// A linter that has read and checked nothing, for one report of a folder. It keeps the trees of the first files that it reads, up to
+    /// 2,097,152 bytes of them; of the files behind these it keeps what a report and their callers need, and reads them again to check
+    /// them, which isn't counted. Takes no memory.
+    pub fn for_one_report() -> Actions
+        ensures checks { result.checks ≡ 0 }
+        ensures reads { result.reads ≡ 0 }
+    {
+        Actions {
+            checks: 0,
+            reads: 0,
+            room: Some(KEPT_BYTES),
+        }
+    }
+
+    // Whether the tree of a file of so many bytes is kept, which then takes their room.
+    fn keeps_tree(&mut self, bytes: usize) -> bool
+        ensures checks { self.new.checks ≡ self.old.checks }
+        ensures reads { self.new.reads ≡ self.old.reads }
+    {
+        let Some(room) = self.room else {
+            return true;
+        };
+        if bytes > room {
+            return false;
+        }
+        self.room = Some(room - bytes);
+        true
     }
 }
 
 impl Lint for Actions {
-    type Unit = ReadFile;
+    type Unit = Unit;
 
     type Iface = Interface;
 
     ghost meaning = { linting };
 
-    ghost is_unit = { λ unit path bytes. IsRead unit (file_kind path) bytes };
+    ghost is_unit = { λ unit path bytes. IsUnit unit (file_kind path) bytes };
 
     ghost checks_of = { λ lint. lint.checks };
 
@@ -72,17 +108,22 @@ impl Lint for Actions {
         is_workflow(path.as_bytes()) || is_action(path.as_bytes())
     }
 
-    fn read(&mut self, alloc: Global, path: &str, bytes: &[u8]) -> Result<ReadFile, AllocError> {
+    fn read(&mut self, alloc: Global, path: &str, bytes: &[u8]) -> Result<Unit, AllocError> {
         self.reads = self.reads.saturating_add(1);
-        read_file(alloc, file_kind(path.as_bytes()), bytes)
+        let file = read_file(alloc, file_kind(path.as_bytes()), bytes)?;
+        if self.keeps_tree(bytes.len()) {
+            Ok(Unit::Whole(file))
+        } else {
+            Ok(Unit::Brief(brief_of(alloc, file)?))
+        }
     }
 
-    fn iface(&self, alloc: Global, path: &str, unit: &ReadFile) -> Result<Interface, AllocError> {
-        file_interface(alloc, unit)
+    fn iface(&self, alloc: Global, path: &str, unit: &Unit) -> Result<Interface, AllocError> {
+        unit_interface(alloc, unit)
     }
 
-    fn calls(&self, alloc: Global, path: &str, unit: &ReadFile) -> Result<Vec<Target>, AllocError> {
-        file_targets(alloc, unit)
+    fn calls(&self, alloc: Global, path: &str, unit: &Unit) -> Result<Vec<Target>, AllocError> {
+        unit_targets(alloc, unit)
     }
 
     fn check(
@@ -90,15 +131,15 @@ impl Lint for Actions {
         alloc: Global,
         path: &str,
         bytes: &[u8],
-        unit: &ReadFile,
+        unit: &Unit,
         answers: &[Option<&Interface>],
     ) -> Result<Vec<Fault>, AllocError> {
         self.checks = self.checks.saturating_add(1);
-        file_faults(alloc, file_kind(path.as_bytes()), bytes, unit, answers)
+        unit_faults(alloc, file_kind(path.as_bytes()), bytes, unit, answers)
     }
 
-    fn site<'a>(&self, unit: &'a ReadFile, call: usize) -> Site<'a> {
-        site_of(&unit.calls[call])
+    fn site<'a>(&self, unit: &'a Unit, call: usize) -> Site<'a> {
+        site_of(call_at(unit, call))
     }
 
     fn checks(&self) -> u64 {

@@ -164,7 +164,7 @@ impl Gathering {
     fn new(alloc: Global) -> Gathering {
         Gathering {
             alloc,
-            files: Loaded::new(alloc, Actions::new()),
+            files: Loaded::new(alloc, Actions::for_one_report()),
             taken: Vec::new(alloc),
             candidates: Candidates::new(alloc),
             outside: Vec::new(alloc),

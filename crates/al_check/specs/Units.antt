@@ -1,0 +1,33 @@
+-- What is kept of a file that was read.
+use Rattle.std.specs.Prelude.{◌≡◌, ℕ, List, map}
+use Rattle.al_base.specs.declared.faults.Fault.{Fault}
+use Rattle.al_tree.specs.declared.files.FileKind.{FileKind}
+use Rattle.al_check_interfaces.specs.declared.calls.Call.{Call}
+use Rattle.al_check_interfaces.specs.declared.interfaces.Interface.{Interface}
+use Rattle.al_check.specs.Calling.{file_interface, file_targets, shown_by}
+use Rattle.al_check.specs.Reading.{IsRead}
+use Rattle.al_check.specs.Sites.{file_sites}
+use Rattle.al_check.specs.declared.units.Brief.{Brief}
+use Rattle.al_check.specs.declared.units.Unit.{Unit}
+use Rattle.al_check.specs.declared.units.Unit.TheVariants as unit
+
+-- these are the calls of files of the folder that a file of this kind with these bytes has
+pub record HasCalls (calls : List Call) (kind : FileKind) (bytes : List ℕ) : Type 0 where
+  pub targets : map (λ c. c.target) calls ≡ file_targets kind bytes
+  pub sites : map (λ c. c.fault) calls ≡ file_sites kind bytes
+
+pub record IsBriefOf (brief : Brief) (kind : FileKind) (bytes : List ℕ) : Type 0 where
+  pub interface : brief.interface ≡ file_interface kind bytes
+  pub calls : HasCalls brief.calls.items kind bytes
+
+abbrev pub IsUnit : Unit → FileKind → List ℕ → Type 0
+IsUnit (unit.Whole file) kind bytes = IsRead file kind bytes
+IsUnit (unit.Brief brief) kind bytes = IsBriefOf brief kind bytes
+
+abbrev pub calls_kept : Unit → List Call
+calls_kept (unit.Whole file) = file.calls.items
+calls_kept (unit.Brief brief) = brief.calls.items
+
+abbrev pub interface_kept : Unit → Interface
+interface_kept (unit.Whole file) = shown_by file
+interface_kept (unit.Brief brief) = brief.interface
