@@ -14,7 +14,7 @@ ghost use Rattle.al_check_interfaces.specs.Interfaces as interfaces;
 ghost use Rattle.al_check_interfaces.specs.Kept.{AreCallsOf};
 ghost use Rattle.al_check_interfaces.specs.Uses as uses;
 ghost use Rattle.al_session_folder.specs.Meaning.{AreAnswers};
-ghost use Rattle.al_check_file_calls.specs.FileCalls as calls;
+ghost use Rattle.al_check_calls.specs.FileCalls as calls;
 ghost use Rattle.al_check.specs.FileFaults as faults;
 ghost use Rattle.al_check.specs.Calling as calling;
 ghost use Rattle.al_check.specs.Calling.{shown_by};
@@ -25,7 +25,7 @@ ghost use Rattle.al_check.specs.RuleFaults.{rule_faults};
 
 use crate::printing::printed;
 use al_base::{Args, Code, Fault, add_copies, ordered};
-use al_check_file_calls::{Calling, behind_faults};
+use al_check_calls::{Calling, behind_faults};
 use al_check_interfaces::{Call, Interface, calls_by, interface_of, sites_in};
 use al_rules::rules;
 use al_scalar::YamlFault;

@@ -50,16 +50,16 @@ span_exact a b h =
 pub likeness : (q r : Comparison) → call_alike q r ≡ true → CallAlike q r
 likeness q r h =
     let by = caller_eq.ghosts.eq (caller_of q.call) (caller_of r.call) in
-    let text = bytes_eq (q.call.text) (r.call.text) in
+    let text = bytes_eq q.call.text r.call.text in
     let p = and_parts (kind_eq.ghosts.eq q.kind r.kind) (by && text) h in
     let t = and_parts by text p.1 in
-    record { kind = kind_exact _ _ p.0; by = caller_exact _ _ t.0; text = (bytes_eq-Decides (q.call.text) (r.call.text)).0 t.1 }
+    record { kind = kind_exact _ _ p.0; by = caller_exact _ _ t.0; text = (bytes_eq-Decides q.call.text r.call.text).0 t.1 }
 
 -- ---- what is told
 
 module _ (answer : Caller → List ℕ → Option Interface) where
   abbrev IsTold : Comparison → Type 0
-  IsTold q = callable_signature (caller_of q.call) (answer (caller_of q.call) (q.call.text)) ≡ Some q.signature
+  IsTold q = callable_signature (caller_of q.call) (answer (caller_of q.call) q.call.text) ≡ Some q.signature
 
   told_if : (k : ParameterKind) (c : Call) (b : Bool) (o : Option Signature) → callable_signature (caller_of c) (answer (caller_of c) c.text) ≡ o →
       IfSome (option_map (compared_with k c) (cond b o None)) IsTold
@@ -68,7 +68,7 @@ module _ (answer : Caller → List ℕ → Option Interface) where
   told_if k c true (Some s) is = is
 
   abbrev IsToldBy : Answered → Type 0
-  IsToldBy a = a.answer ≡ answer (caller_of a.call) (a.call.text)
+  IsToldBy a = a.answer ≡ answer (caller_of a.call) a.call.text
 
   one_told : (k : ParameterKind) (a : Answered) → IsToldBy a → IfSome (comparison_of k a) IsTold
   one_told k a is =
@@ -87,8 +87,8 @@ module _ (answer : Caller → List ℕ → Option Interface) where
 
   pair_told : (q r : Comparison) → IsTold q → IsTold r → HaveOneSignature q r
   pair_told q r a b by text =
-      let same : callable_signature (caller_of q.call) (answer (caller_of q.call) (q.call.text))
-      ≡ callable_signature (caller_of r.call) (answer (caller_of r.call) (r.call.text)) =
+      let same : callable_signature (caller_of q.call) (answer (caller_of q.call) q.call.text)
+      ≡ callable_signature (caller_of r.call) (answer (caller_of r.call) r.call.text) =
       λ i. callable_signature (by i) (answer (by i) (text i)) in
       cc
 

@@ -79,7 +79,7 @@ called_signature c answer = callable_signature (caller_of c) answer
 
 -- how the called file is named: by its `name`, else by the text of `uses`
 abbrev pub called_name : Call → Signature → List ℕ
-called_name c s = option_map_or (λ n. n) s.name (c.text)
+called_name c s = option_map_or (λ n. n) s.name c.text
 
 -- a test of names
 abbrev pub Names : Type 0

@@ -4,3 +4,5 @@ pub mod Laws
 pub mod Outputs
 pub mod Private
 pub mod Rows
+pub mod Types
+pub mod FileCalls

@@ -16,18 +16,18 @@ use std::alloc::{AllocError, Global};
 
 /// A call of a file of the folder, where it stands.
 #[derive(Clone, Copy)]
-pub struct SiteCall<'a> {
+pub(crate) struct SiteCall<'a> {
     /// The step or the job that calls.
-    pub site: Site<'a>,
+    pub(crate) site: Site<'a>,
     /// The value of its `uses`.
-    pub uses: ScalarNode<'a>,
+    pub(crate) uses: ScalarNode<'a>,
 }
 
 /// A call of a file of the folder and what answers it: the interface of the first of the files that it names which is there, or none.
 #[derive(Clone, Copy)]
-pub struct Answered<'a> {
-    pub call: SiteCall<'a>,
-    pub answer: Option<&'a Interface>,
+pub(crate) struct Answered<'a> {
+    pub(crate) call: SiteCall<'a>,
+    pub(crate) answer: Option<&'a Interface>,
 }
 
 /// The first of the answers.
@@ -112,7 +112,7 @@ fn answered_at<'a>(
 /// The calls of files of the folder that a file has, with their answers in order. They are by the sites of the file.
 ///
 /// Fails with `AllocError` when out of memory.
-pub fn with_answers<'a>(
+pub(crate) fn with_answers<'a>(
     alloc: Global,
     sites: &[Site<'a>],
     calls: &[Call],

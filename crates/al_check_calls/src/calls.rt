@@ -6,7 +6,7 @@ ghost use Rattle.al_check_calls.specs.Private.AnswerViews.{call_of, given_of};
 
 use crate::answers::SiteCall;
 use crate::reports::{caller_of, report_uses};
-use crate::values::{Value, check_values};
+use crate::wrong_types::{Value, check_values};
 use al_base::{CallCode, Caller, Fault};
 use al_check_interfaces::{Interface, Role, Signature};
 use std::alloc::{AllocError, Global};
@@ -85,7 +85,7 @@ fn check_uses(
 /// that it names is there), and what a job gives under `with`, each value with its type. Of a step no values are looked at.
 ///
 /// Fails with `AllocError` when out of memory.
-pub fn check_call(
+pub(crate) fn check_call(
     alloc: Global,
     call: SiteCall<'_>,
     values: &[Value<'_>],

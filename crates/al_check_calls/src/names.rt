@@ -16,7 +16,7 @@ use std::alloc::{AllocError, Global};
 /// for each `uses`.
 ///
 /// Fails with `AllocError` when out of memory.
-pub fn check_names(
+pub(crate) fn check_names(
     alloc: Global,
     answered: &[Answered<'_>],
     out: &mut Vec<Fault>,

@@ -21,7 +21,7 @@ fn has_outputs(caller: Caller, role: Role) -> bool
 
 /// The names of the outputs of the step or the job that calls, as its answer shows them: those of a composite action to a step, those
 /// of a callable workflow to a job. None where nothing is known of them.
-pub fn outputs_of<'a>(answered: Answered<'a>) -> Option<&'a NameList>
+pub(crate) fn outputs_of<'a>(answered: Answered<'a>) -> Option<&'a NameList>
     ensures { option_copied result ≡ outputs_behind (answered_of answered.entry) }
 {
     match answered.answer {

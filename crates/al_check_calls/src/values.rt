@@ -1,114 +1,122 @@
-//! The types of what a job gives to the workflow that it calls: C4.
-ghost use Rattle.std.specs.Prelude.{◌≡◌, ◌++◌, map, OnOk};
+//! What a job gives under `with`, each value with its type.
+ghost use Rattle.std.specs.Prelude.{◌≡◌, map, All, IfOk, OnOk};
 ghost use Rattle.std.specs.Option.{option_copied};
-ghost use Rattle.al_base.specs.declared.codes.Caller.TheVariants as by;
+ghost use Rattle.al_check_calls.specs.Private.AnswerViews.{call_of, given_of};
+ghost use Rattle.al_check_calls.specs.CallFaults.{given_type, values_of};
+ghost use Rattle.al_check_contexts.specs.Answered.{known_of};
+ghost use Rattle.al_check_contexts.specs.Private.Standing.{Stands};
+ghost use Rattle.al_check_calls.specs.FileCalls as file_calls;
+ghost use Rattle.al_check_calls.specs.FileCalls.{AreShort, type_in_job, typing};
+ghost use Rattle.al_check_calls.specs.Answers.{values_in};
+ghost use Rattle.al_check_places.specs.Places.{place_of};
 ghost use Rattle.al_tree.specs.Values.{member_of};
 ghost use Rattle.al_types.specs.TypeViews.{ty_of};
-ghost use Rattle.al_check_calls.specs.CallFaults as faults;
-ghost use Rattle.al_check_calls.specs.Private.AnswerViews.{call_of, given_of};
+ghost use Rattle.al_yaml_tree.specs.View.{view};
 
 use crate::answers::SiteCall;
-use crate::reports::{Report, report_two};
-use al_base::{CallCode, Fault};
-use al_check_interfaces::{Parameter, Parameters, Signature};
-use al_tree::{Member, key_text};
-use al_tree_declarations::{InputType, type_of};
-use al_types::{Ty, assignable};
+use crate::types::scalar_type;
+use crate::wrong_types::Value;
+use al_check_contexts::{Env, File};
+use al_check_expressions::go_to;
+use al_check_places::{Place, Position, Section, Seen, available};
+use al_scalar::Scalar;
+use al_tree::{Member, key_text, members_under};
+use al_types::Ty;
+use al_yaml_tree::Node;
 use std::alloc::{AllocError, Global};
 
-/// What is given under a name, and its type.
-#[derive(Drop)]
-pub struct Value<'a> {
-    pub member: Member<'a>,
-    pub ty: Ty,
-}
-
-fn type_name(takes: InputType) -> &'static [u8]
-    ensures { result.now ≡ faults.type_name takes }
+/// Where the value of a key of a job's `with` stands.
+fn place_of_value<'a>(job: &'a [u8], key: &'a Node, scalar: &'a Scalar) -> Place<'a>
+    ensures { place_of result ≡ file_calls.place_of_value job.now (view key.now) scalar.now }
 {
-    match takes {
-        InputType::Boolean => b"boolean",
-        InputType::Number => b"number",
-        InputType::String => b"string",
+    Place {
+        scalar,
+        span: key.span(),
+        is_scalar_only: true,
+        available: available(&[b"jobs".as_slice(), job, b"with".as_slice(), key_text(key)]),
+        is_condition: false,
+        is_script: false,
+        position: Position {
+            section: Section::Job(job),
+            seen: Seen::Nothing,
+        },
     }
 }
 
-fn is_right(ty: &Ty, takes: InputType) -> bool
-    ensures { result ≡ faults.is_right (ty_of ty.now) takes }
-{
-    assignable(ty, &type_of(takes))
-}
-
-fn check_type(
+/// The type of what is given under a key: of what is no scalar any.
+fn value_type<'a>(
     alloc: Global,
-    call: SiteCall<'_>,
-    value: &Value<'_>,
-    input: &Parameter,
-    out: &mut Vec<Fault>,
-) -> Result<(), AllocError>
-    ensures { OnOk result
-        (out.new.items ≡ out.old.items ++ faults.type_faults (call_of call.entry) (member_of value.now.member)
-        (ty_of value.now.ty) input.now) }
+    file: File<'a>,
+    env: &mut Env<'a>,
+    job: &'a [u8],
+    member: Member<'a>,
+) -> Result<Ty, AllocError>
+    requires stands { Stands file env.old }
+    requires short { AreShort (member_of member).1 }
+    ensures stands { OnOk result (Stands file.entry env.new) }
+    ensures ty { IfOk result (λ t. ty_of t
+        ≡ given_type (type_in_job (file.entry).kind (known_of (file.entry).known) (view (file.entry).root.now) job.entry.now)
+        (member_of member.entry)) }
 {
-    if is_right(&value.ty, input.takes) {
-        return Ok(());
-    }
-    let report = Report {
-        code: CallCode::WrongInput,
-        span: value.member.value.span(),
-        first: input.name.as_bytes(),
-        second: type_name(input.takes),
-    };
-    report_two(alloc, call, report, out)
-}
-
-/// C4.
-fn check_value(
-    alloc: Global,
-    call: SiteCall<'_>,
-    inputs: &Parameters,
-    value: &Value<'_>,
-    out: &mut Vec<Fault>,
-) -> Result<(), AllocError>
-    ensures { OnOk result (out.new.items ≡ out.old.items ++ faults.wrong_input (call_of call.entry) inputs.now (given_of value.now)) }
-{
-    let name = key_text(value.member.key);
-    match inputs.named(alloc, name)? {
-        Some(input) => check_type(alloc, call, value, input, out),
-        None => Ok(()),
+    match member.value.scalar() {
+        None => Ok(Ty::Any),
+        Some(scalar) => {
+            go_to(alloc, file, env, place_of_value(job, member.key, scalar))?;
+            scalar_type(alloc, &env.scope, scalar)
+        }
     }
 }
 
-/// C4 of all values, against what a file shows.
-fn check_all(
+/// What a job gives under these keys, each value with its type. The environment goes to where they stand.
+fn values_given<'a>(
     alloc: Global,
-    call: SiteCall<'_>,
-    values: &[Value<'_>],
-    signature: &Signature,
-    out: &mut Vec<Fault>,
-) -> Result<(), AllocError>
-    ensures { OnOk result
-        (out.new.items ≡ out.old.items ++ faults.wrong_inputs (call_of call.entry) (map given_of values.now) signature.now) }
+    file: File<'a>,
+    env: &mut Env<'a>,
+    job: &'a [u8],
+    given: &[Member<'a>],
+) -> Result<Vec<Value<'a>>, AllocError>
+    requires stands { Stands file env.old }
+    requires short { All (λ m. AreShort (member_of m).1) given.now }
+    ensures stands { OnOk result (Stands file.entry env.new) }
+    ensures values { IfOk result (λ v. map given_of v.items
+        ≡ values_of (type_in_job (file.entry).kind (known_of (file.entry).known) (view (file.entry).root.now) job.entry.now)
+        (map member_of given.now)) }
 {
-    for value in values {
-        check_value(alloc, call, &signature.inputs, value, out)?;
+    let mut values = Vec::new(alloc);
+    for member in given {
+        let ty = value_type(alloc, file, env, job, *member)?;
+        values.push(Value {
+            member: *member,
+            ty,
+        })?;
     }
-    Ok(())
+    Ok(values)
 }
 
-/// C4 of what a job gives, against what the called file shows, if it may be called.
-pub(crate) fn check_values(
-    alloc: Global,
-    call: SiteCall<'_>,
-    values: &[Value<'_>],
-    signature: Option<&Signature>,
-    out: &mut Vec<Fault>,
-) -> Result<(), AllocError>
-    ensures { OnOk result (out.new.items ≡ out.old.items
-        ++ faults.values_against by.Job (call_of call.entry) (map given_of values.now) (option_copied signature.entry)) }
+/// The text of a job's key; empty where there is none.
+fn text_or_empty<'a>(text: Option<&'a [u8]>) -> &'a [u8]
+    ensures { result.now ≡ file_calls.text_or_empty (option_copied text.entry) }
 {
-    match signature {
-        None => Ok(()),
-        Some(signature) => check_all(alloc, call, values, signature, out),
+    match text {
+        None => &[],
+        Some(text) => text,
     }
+}
+
+/// What a job's call gives, each value with its type. The environment goes to where the values stand.
+pub(crate) fn job_values<'a>(
+    alloc: Global,
+    file: File<'a>,
+    env: &mut Env<'a>,
+    call: SiteCall<'a>,
+) -> Result<Vec<Value<'a>>, AllocError>
+    requires stands { Stands file env.old }
+    requires short { AreShort (view call.site.node.now) }
+    ensures stands { OnOk result (Stands file.entry env.new) }
+    ensures values { IfOk result (λ v. map given_of v.items
+        ≡ values_in (typing (file.entry).kind (known_of (file.entry).known) (view (file.entry).root.now)) (call_of call.entry)) }
+{
+    let given = members_under(alloc, call.site.node, "with")?;
+    let job = text_or_empty(call.site.job);
+    values_given(alloc, file, env, job, given.as_slice())
 }

@@ -31,7 +31,7 @@ use Rattle.al_check.specs.Calling.{file_targets, targets_given}
 use Rattle.al_check.specs.Sites.{file_sites, sites_given}
 use Rattle.al_check_calls.proofs.Inside.{call_faults_lie}
 use Rattle.al_check_calls.specs.Answers.{Answered, answered}
-use Rattle.al_check_file_calls.specs.FileCalls.{behind_faults, call_faults, known_by, typing}
+use Rattle.al_check_calls.specs.FileCalls.{behind_faults, call_faults, known_by, typing}
 use Rattle.al_meaning.proofs.Inside.{both_lie}
 use Rattle.al_rules.proofs.Lying.{rules_lie}
 use Rattle.al_tree.specs.Faults.{root_faults}

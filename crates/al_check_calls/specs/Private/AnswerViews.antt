@@ -14,7 +14,7 @@ use Rattle.al_check_calls.specs.declared.answers.Answered as code_answers
 use Rattle.al_check_calls.specs.declared.answers.SiteCall as code_calls
 use Rattle.al_check_calls.specs.declared.comparisons.Comparison as code_comparisons
 use Rattle.al_check_calls.specs.declared.undefined.GivenName as code_names
-use Rattle.al_check_calls.specs.declared.values.Value as code_values
+use Rattle.al_check_calls.specs.declared.wrong_types.Value as code_values
 
 abbrev pub given_of : code_values.Value → Given
 given_of v = (member_of v.member, ty_of v.ty)

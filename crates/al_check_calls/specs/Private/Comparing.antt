@@ -65,13 +65,13 @@ TellSignatures qs = (q r : Comparison) → Contains qs q → Contains qs r → H
 -- calls whose answers are told so
 pub record AreToldByUses (found : List Answered) : Type 0 where
   pub answer : Caller → List ℕ → Option Interface
-  pub told : AllByRecursion (λ a. a.answer ≡ answer (caller_of a.call) (a.call.text)) found
+  pub told : AllByRecursion (λ a. a.answer ≡ answer (caller_of a.call) a.call.text) found
 
 -- steps, or jobs, that call by one text
 abbrev pub call_alike : Comparison → Comparison → Bool
 call_alike q r =
     kinds.ghosts.eq q.kind r.kind
-    && (caller.ghosts.eq (caller_of q.call) (caller_of r.call) && bytes_eq (q.call.text) (r.call.text))
+    && (caller.ghosts.eq (caller_of q.call) (caller_of r.call) && bytes_eq q.call.text r.call.text)
 
 pub record CallAlike (q r : Comparison) : Type 0 where
   pub kind : q.kind ≡ r.kind

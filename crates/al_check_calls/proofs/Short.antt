@@ -1,0 +1,102 @@
+-- The texts of a file that was read are short, and so are those of the nodes that call.
+use Rattle.std.proofs.Common.{◌≡◌, ℕ, List, [], ◌∷◌, map, Option, Some, None, option_map, sym, subst}
+use Rattle.std.specs.Prelude.{All}
+use Rattle.std.specs.List.{AllByRecursion, cons_option}
+use Rattle.std.specs.Option.{option_map_or}
+use Rattle.std.proofs.Common.{drop}
+use Rattle.std.proofs.lemmas.List.Elements.{All-from_recursion}
+use Rattle.al_base.specs.declared.faults.Span.{Span}
+use Rattle.al_scalar.specs.Scalar.{Scalar}
+use Rattle.al_yaml_tree.specs.Access.{entries, nodes}
+use Rattle.al_yaml_tree.specs.Node.{Node, Nodes, Entries, scalar, sequence, mapping, no_nodes, item, no_entries, entry}
+use Rattle.al_yaml_tree.specs.Spans.{AreLaid, EntriesLaid, IsLaid}
+use Rattle.al_yaml_tree.specs.Texts.{EntriesHaveTexts, HasTexts, HaveTexts}
+use Rattle.al_yaml_tree.specs.View.{view}
+use Rattle.al_tree.specs.Values.{entries_at, member_of}
+use Rattle.al_tree.specs.declared.values.Member.{Member}
+use Rattle.al_tree.specs.declared.files.FileKind.{FileKind}
+use Rattle.al_check_expressions.proofs.Places.{readable}
+use Rattle.al_check_interfaces.specs.declared.interfaces.Interface.{Interface}
+use Rattle.al_check_interfaces.specs.Uses.{Call, calls_in, target_in}
+use Rattle.al_check_interfaces.proofs.Parts.{IsKept, calls_kept, entries_kept}
+use Rattle.al_check_calls.specs.Private.AnswerViews.{answered_of}
+use Rattle.al_session_folder.specs.declared.lint.Target.{Target}
+use Rattle.al_check_calls.specs.Answers.{Answered, answered, answered_by, first_answer}
+use Rattle.al_check_calls.specs.declared.answers.Answered as code
+use Rattle.al_check_calls.specs.FileCalls.{AreShort, EntriesShort, ItemsShort}
+
+mutual
+  short_all : (n : Node) → IsLaid 1048576 n → HasTexts n → AreShort n
+  short_all (scalar s at) w t = (t, (readable s at w.1 (w.0).inside).0)
+  short_all (sequence ns at) w t = short_items ns w.1 t
+  short_all (mapping es at) w t = short_entries es w.1 t
+
+  short_items : (ns : Nodes) → AreLaid 1048576 ns → HaveTexts ns → ItemsShort ns
+  short_items no_nodes w t = tt
+  short_items (item n ns) w t = (short_all n w.0 t.0, short_items ns w.1 t.1)
+
+  short_entries : (es : Entries) → EntriesLaid 1048576 es → EntriesHaveTexts es → EntriesShort es
+  short_entries no_entries w t = tt
+  short_entries (entry k v es) w t = (short_all k w.0 t.0, short_all v w.1 t.1, short_entries es w.2 t.2)
+
+-- ---- what a node has, the nodes in it have
+
+items_short : (ns : Nodes) → ItemsShort ns → AllByRecursion AreShort (nodes ns)
+items_short no_nodes h = tt
+items_short (item n ns) h = (h.0, items_short ns h.1)
+
+pairs_short : (es : Entries) → EntriesShort es → AllByRecursion (λ e. AreShort e.0 × AreShort e.1) (entries es)
+pairs_short no_entries h = tt
+pairs_short (entry k v es) h = ((h.0, h.1), pairs_short es h.2)
+
+short_kept : IsKept AreShort
+short_kept = record { items = λ ns at h. items_short ns h; pairs = λ es at h. pairs_short es h }
+
+abbrev AnyScalar : Scalar × Span → Type 0
+AnyScalar t = Unit {0}
+
+abbrev CallIsShort : Call → Type 0
+CallIsShort c = Unit {0} × AreShort c.site.node
+
+calls_short : (k : FileKind) (root : Node) → AreShort root → AllByRecursion CallIsShort (calls_in k root)
+calls_short k root h = calls_kept AreShort AnyScalar short_kept (λ s at p. tt) (λ at. Unit {0}) (λ t p. tt) k root h
+
+abbrev AnsweredIsShort : Answered → Type 0
+AnsweredIsShort a = AreShort a.call.site.node
+
+put_short : (c : Call) (o : Option Target) (answer : Option Interface) (rest : List Answered) → AreShort c.site.node → AllByRecursion AnsweredIsShort rest →
+    AllByRecursion AnsweredIsShort (cons_option (option_map (λ t. answered_by c answer) o) rest)
+put_short c None answer rest h hs = hs
+put_short c (Some t) answer rest h hs = (h, hs)
+
+answered_short : (cs : List Call) (answers : List (Option Interface)) → AllByRecursion CallIsShort cs → AllByRecursion AnsweredIsShort (answered cs answers)
+answered_short [] answers h = tt
+answered_short (c ∷ cs) answers h =
+    let others = option_map_or (λ t. drop 1 answers) (target_in c.form) answers in
+    put_short c (target_in c.form) (first_answer answers) (answered cs others) (h.0).1 (answered_short cs others h.1)
+
+calls_back : (as' : List code.Answered) → AllByRecursion AnsweredIsShort (map answered_of as') →
+    AllByRecursion (λ (a : code.Answered). AreShort (view a.call.site.node.now)) as'
+calls_back [] h = tt
+calls_back (a ∷ as') h = (h.0, calls_back as' h.1)
+
+-- of the calls that the code has found, with their answers
+pub all_short : (as' : List code.Answered) (k : FileKind) (root : Node) (answers : List (Option Interface)) →
+    map answered_of as' ≡ answered (calls_in k root) answers → IsLaid 1048576 root → HasTexts root → All (λ (a : code.Answered). AreShort (view a.call.site.node.now)) as'
+all_short as' k root answers e w t =
+    let there = answered_short (calls_in k root) answers (calls_short k root (short_all root w t)) in
+    All-from_recursion (λ (a : code.Answered). AreShort (view a.call.site.node.now)) as'
+    (calls_back as' (subst (AllByRecursion AnsweredIsShort) (sym e) there))
+
+abbrev PairIsShort : Node × Node → Type 0
+PairIsShort e = AreShort e.0 × AreShort e.1
+
+members_back : (ms : List Member) → AllByRecursion PairIsShort (map member_of ms) → AllByRecursion (λ (m : Member). AreShort (member_of m).1) ms
+members_back [] h = tt
+members_back (m ∷ ms) h = ((h.0).1, members_back ms h.1)
+
+-- of the members that the code has found under a key of a node
+pub members_short : (ms : List Member) (k : List ℕ) (n : Node) → map member_of ms ≡ entries_at k n → AreShort n → All (λ (m : Member). AreShort (member_of m).1) ms
+members_short ms k n e h =
+    All-from_recursion (λ (m : Member). AreShort (member_of m).1) ms
+    (members_back ms (subst (AllByRecursion PairIsShort) (sym e) (entries_kept AreShort AnyScalar short_kept (λ s at p. tt) k n h)))

@@ -1,0 +1,7 @@
+use Rattle.std.proofs.Common.{◌∙◌}
+use Rattle.al_check_calls.specs.Private.KnownLists.{position_of}
+use Rattle.al_check_calls.proofs.known.Lists.found.Goals as goal
+
+pub returns : goal.returns
+unfolding position_of
+returns c = c.copied.ensures ∙ c.get.ensures.value

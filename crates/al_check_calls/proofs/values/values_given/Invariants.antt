@@ -1,0 +1,15 @@
+use Rattle.std.proofs.Common.{◌≡◌, ◌++◌, drop, map}
+use Rattle.al_check_calls.specs.Private.AnswerViews.{given_of}
+use Rattle.al_check_calls.specs.CallFaults.{values_of}
+use Rattle.al_check_contexts.specs.Answered.{known_of}
+use Rattle.al_check_contexts.specs.Private.Standing.{Stands}
+use Rattle.al_check_calls.specs.FileCalls.{type_in_job}
+use Rattle.al_tree.specs.Values.{member_of}
+use Rattle.al_yaml_tree.specs.View.{view}
+use Rattle.al_check_calls.proofs.values.values_given.Given as goal
+
+abbrev pub invariant-loop-member : goal.invariant-loop-member
+invariant-loop-member l =
+    Stands l.file l.env
+    × (map given_of l.values.items ++ values_of (type_in_job l.file.kind (known_of l.file.known) (view l.file.root.now) l.job) (map member_of (drop l.member-index l.given))
+    ≡ values_of (type_in_job l.file.kind (known_of l.file.known) (view l.file.root.now) l.job) (map member_of l.given))

@@ -1,0 +1,106 @@
+//! The faults of a file that depend on what answers its calls.
+ghost use Rattle.std.specs.Prelude.{◌≡◌, ◌++◌, map, All, IfOk, OnErr, OnOk};
+ghost use Rattle.std.specs.Option.{option_copied};
+ghost use Rattle.al_check_calls.specs.Private.AnswerViews.{answered_of};
+ghost use Rattle.al_check_calls.specs.FileCalls as file_calls;
+ghost use Rattle.al_check_calls.specs.FileCalls.{AreShort};
+ghost use Rattle.al_check_calls.specs.Private.Comparing.{AreToldByUses};
+ghost use Rattle.al_session_folder.specs.Meaning.{AreAnswers};
+ghost use Rattle.al_check_expressions.specs.FileExpressions as expressions;
+ghost use Rattle.al_check_contexts.specs.Answered.{known_of};
+ghost use Rattle.al_base.specs.Growth.{SameSet};
+ghost use Rattle.al_base.specs.Limits.{largest_file};
+ghost use Rattle.al_check_interfaces.specs.Kept.{AreCallsOf};
+ghost use Rattle.al_check_interfaces.specs.Uses as uses;
+ghost use Rattle.al_yaml_tree.specs.Spans.{IsLaid};
+ghost use Rattle.al_yaml_tree.specs.Texts.{HasTexts};
+ghost use Rattle.al_yaml_tree.specs.View.{view};
+
+use crate::answers::{Answered, with_answers};
+use crate::faults::check_calls;
+use crate::known::known_behind;
+use al_base::Fault;
+use al_check_contexts::{Env, File};
+use al_check_expressions::expression_faults;
+use al_check_interfaces::{Call, Interface, sites_in};
+use al_tree::FileKind;
+use al_yaml_tree::Node;
+use std::alloc::{AllocError, Global};
+
+/// The faults of a file's expressions and of these calls of it, by what is known of the outputs behind them.
+fn known_faults<'a>(
+    alloc: Global,
+    file: File<'a>,
+    answered: &[Answered<'a>],
+) -> Result<Vec<Fault>, AllocError>
+    requires laid { IsLaid largest_file (view file.root.now) }
+    requires texts { HasTexts (view file.root.now) }
+    requires short { All (λ a. AreShort (view a.call.site.node.now)) answered.now }
+    requires answers { AreToldByUses (map answered_of answered.now) }
+    ensures { let kind = (file.entry).kind in let known = known_of (file.entry).known in let root = view (file.entry).root.now in
+        IfOk result (λ found. SameSet found.items (expressions.expression_faults kind known root
+        ++ file_calls.call_faults kind known root (map answered_of answered.now))) }
+{
+    let mut env = Env::new(alloc, file)?;
+    let mut found = Vec::new(alloc);
+    expression_faults(alloc, file, &mut env, &mut found)?;
+    check_calls(alloc, file, &mut env, answered, &mut found)?;
+    Ok(found)
+}
+
+/// The faults of a file's expressions and of these calls of it, with their answers.
+fn faults_by<'a>(
+    alloc: Global,
+    kind: FileKind,
+    root: &'a Node,
+    answered: &[Answered<'a>],
+) -> Result<Vec<Fault>, AllocError>
+    requires laid { IsLaid largest_file (view root.now) }
+    requires texts { HasTexts (view root.now) }
+    requires short { All (λ a. AreShort (view a.call.site.node.now)) answered.now }
+    requires answers { AreToldByUses (map answered_of answered.now) }
+    ensures { IfOk result (λ found. SameSet found.items (file_calls.faults_by kind (view root.now) (map answered_of answered.now))) }
+{
+    let known = known_behind(alloc, answered)?;
+    let found = known_faults(alloc, known.file(kind, root), answered)?;
+    Ok(found)
+}
+
+/// A file that calls: what it is, its tree, and its calls of files of the folder, as reading found them.
+#[derive(Clone, Copy)]
+pub struct Calling<'a> {
+    pub kind: FileKind,
+    pub root: &'a Node,
+    pub calls: &'a [Call],
+}
+
+/// Adds the faults of a file that depend on what answers its calls, X1 to X20 and C1 to C6 and C8: those of its expressions, which see the
+/// outputs that answers make known, and those of its calls. The answers are those of the calls of files of the folder, in order: what
+/// the file that answers shows, or none where none of the files that a call names, its candidates, is there. Calls with the same
+/// candidates have the same answer. Of equal faults, as calls behind aliases have, at least one is added.
+///
+/// Offsets of the file's nodes are at most 1,048,576, and its texts are UTF-8. Fails with `AllocError` when out of memory; the list is
+/// then as it was.
+pub fn behind_faults<'a>(
+    alloc: Global,
+    file: Calling<'a>,
+    answers: &[Option<&'a Interface>],
+    out: &mut Vec<Fault>,
+) -> Result<(), AllocError>
+    requires laid { IsLaid largest_file (view file.root.now) }
+    requires texts { HasTexts (view file.root.now) }
+    requires calls { AreCallsOf file.kind (view file.root.now) file.calls.now }
+    requires answers { AreAnswers (uses.targets_of (uses.calls_in file.kind (view file.root.now)))
+        (map (λ a. option_copied a) answers.now) }
+    ensures faults { OnOk result (SameSet out.new.items (out.old.items
+        ++ file_calls.behind_faults (file.entry).kind (view (file.entry).root.now) (map (λ a. option_copied a) answers.now))) }
+    ensures unchanged { OnErr result (out.new.items ≡ out.old.items) }
+{
+    let sites = sites_in(alloc, file.kind, file.root)?;
+    let answered = with_answers(alloc, sites.as_slice(), file.calls, answers)?;
+    let mut found = faults_by(alloc, file.kind, file.root, answered.as_slice())?;
+    // The few faults that are there move behind those found, which can be millions.
+    found.append(out)?;
+    *out = found;
+    Ok(())
+}

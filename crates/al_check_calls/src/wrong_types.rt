@@ -1,0 +1,114 @@
+//! The types of what a job gives to the workflow that it calls: C4.
+ghost use Rattle.std.specs.Prelude.{◌≡◌, ◌++◌, map, OnOk};
+ghost use Rattle.std.specs.Option.{option_copied};
+ghost use Rattle.al_base.specs.declared.codes.Caller.TheVariants as by;
+ghost use Rattle.al_tree.specs.Values.{member_of};
+ghost use Rattle.al_types.specs.TypeViews.{ty_of};
+ghost use Rattle.al_check_calls.specs.CallFaults as faults;
+ghost use Rattle.al_check_calls.specs.Private.AnswerViews.{call_of, given_of};
+
+use crate::answers::SiteCall;
+use crate::reports::{Report, report_two};
+use al_base::{CallCode, Fault};
+use al_check_interfaces::{Parameter, Parameters, Signature};
+use al_tree::{Member, key_text};
+use al_tree_declarations::{InputType, type_of};
+use al_types::{Ty, assignable};
+use std::alloc::{AllocError, Global};
+
+/// What is given under a name, and its type.
+#[derive(Drop)]
+pub(crate) struct Value<'a> {
+    pub(crate) member: Member<'a>,
+    pub(crate) ty: Ty,
+}
+
+fn type_name(takes: InputType) -> &'static [u8]
+    ensures { result.now ≡ faults.type_name takes }
+{
+    match takes {
+        InputType::Boolean => b"boolean",
+        InputType::Number => b"number",
+        InputType::String => b"string",
+    }
+}
+
+fn is_right(ty: &Ty, takes: InputType) -> bool
+    ensures { result ≡ faults.is_right (ty_of ty.now) takes }
+{
+    assignable(ty, &type_of(takes))
+}
+
+fn check_type(
+    alloc: Global,
+    call: SiteCall<'_>,
+    value: &Value<'_>,
+    input: &Parameter,
+    out: &mut Vec<Fault>,
+) -> Result<(), AllocError>
+    ensures { OnOk result
+        (out.new.items ≡ out.old.items ++ faults.type_faults (call_of call.entry) (member_of value.now.member)
+        (ty_of value.now.ty) input.now) }
+{
+    if is_right(&value.ty, input.takes) {
+        return Ok(());
+    }
+    let report = Report {
+        code: CallCode::WrongInput,
+        span: value.member.value.span(),
+        first: input.name.as_bytes(),
+        second: type_name(input.takes),
+    };
+    report_two(alloc, call, report, out)
+}
+
+/// C4.
+fn check_value(
+    alloc: Global,
+    call: SiteCall<'_>,
+    inputs: &Parameters,
+    value: &Value<'_>,
+    out: &mut Vec<Fault>,
+) -> Result<(), AllocError>
+    ensures { OnOk result (out.new.items ≡ out.old.items ++ faults.wrong_input (call_of call.entry) inputs.now (given_of value.now)) }
+{
+    let name = key_text(value.member.key);
+    match inputs.named(alloc, name)? {
+        Some(input) => check_type(alloc, call, value, input, out),
+        None => Ok(()),
+    }
+}
+
+/// C4 of all values, against what a file shows.
+fn check_all(
+    alloc: Global,
+    call: SiteCall<'_>,
+    values: &[Value<'_>],
+    signature: &Signature,
+    out: &mut Vec<Fault>,
+) -> Result<(), AllocError>
+    ensures { OnOk result
+        (out.new.items ≡ out.old.items ++ faults.wrong_inputs (call_of call.entry) (map given_of values.now) signature.now) }
+{
+    for value in values {
+        check_value(alloc, call, &signature.inputs, value, out)?;
+    }
+    Ok(())
+}
+
+/// C4 of what a job gives, against what the called file shows, if it may be called.
+pub(crate) fn check_values(
+    alloc: Global,
+    call: SiteCall<'_>,
+    values: &[Value<'_>],
+    signature: Option<&Signature>,
+    out: &mut Vec<Fault>,
+) -> Result<(), AllocError>
+    ensures { OnOk result (out.new.items ≡ out.old.items
+        ++ faults.values_against by.Job (call_of call.entry) (map given_of values.now) (option_copied signature.entry)) }
+{
+    match signature {
+        None => Ok(()),
+        Some(signature) => check_all(alloc, call, values, signature, out),
+    }
+}

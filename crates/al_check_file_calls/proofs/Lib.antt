@@ -1,4 +1,0 @@
-pub mod Lone
-pub mod Short
-pub mod Told
-pub mod KnownLists

@@ -1,3 +1,0 @@
-pub mod Types
-pub mod FileCalls
-pub mod Private
