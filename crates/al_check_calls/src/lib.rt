@@ -1,5 +1,5 @@
-//! The faults of a file that depend on what it calls: those of its calls, given what the called files show, with the types of what jobs give,
-//! and those of its expressions, which see the outputs that answers make known.
+//! The faults of a file that depend on what it calls: those of its calls, given what the called files show, with the types of what jobs
+//! give, and those of its expressions, which see the outputs that answers make known.
 #![tactic(auto)]
 
 mod answers;

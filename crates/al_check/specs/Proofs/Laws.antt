@@ -1,6 +1,6 @@
 -- What holds of every file: each of its faults lies in it, and they are in the order of reports, each once.
 use Rattle.std.specs.Prelude.{◌≡◌, suc, Option, Some, None, option_map, ◌≤◌, ℕ, List, [], ◌∷◌, ◌++◌, length, map, Ok, Err, Result, IfOk}
-use Rattle.std.specs.List.{AllByRecursion, cons_option, flat_map}
+use Rattle.std.specs.List.{AllByRecursion, cons_option}
 use Rattle.std.proofs.Common.{ap, refl}
 use Rattle.std.proofs.lemmas.List.Elements.{recursion_from_All}
 use Rattle.al_scalar.specs.Taken as yaml
@@ -20,12 +20,9 @@ use Rattle.al_yaml_tree.proofs.LaidRoot.{tree-from, tree-inside, tree-laid, tree
 use Rattle.al_yaml_tree.specs.Laws.{IsTreeLaid}
 use Rattle.al_check_expressions.proofs.Inside.{expression_faults_lie}
 use Rattle.al_check_expressions.specs.FileExpressions.{expression_faults}
-use Rattle.al_base.proofs.Elements.{each_of}
 use Rattle.al_base.specs.declared.codes.CallCode.TheVariants.{LeadsBack}
-use Rattle.al_check_interfaces.specs.Uses.{Call, calls_in, loop_faults, target_in, targets_of, that_uses, wrong_by, wrong_uses}
-use Rattle.al_check_interfaces.specs.declared.forms.Form.{Form}
-use Rattle.al_check_interfaces.specs.declared.forms.Form.TheVariants.{Local, Other, Wrong}
-use Rattle.al_check_interfaces.proofs.Inside.{calls_lie}
+use Rattle.al_check_interfaces.specs.Uses.{Call, calls_in, loop_faults, target_in, targets_of, that_uses}
+use Rattle.al_check_interfaces.proofs.Inside.{calls_lie, wrong_uses_lie}
 use Rattle.al_session_folder.specs.declared.lint.Target.{Target}
 use Rattle.al_check.specs.Calling.{file_targets, targets_given}
 use Rattle.al_check.specs.Sites.{file_sites, sites_given}
@@ -48,14 +45,6 @@ printed_lie size (f ∷ fs) l = (l.0, printed_lie size fs l.1)
 
 abbrev CallLies : ℕ → Call → Type 0
 CallLies size c = LiesIn size c.at × IsInside size c.site.node
-
-wrong_uses_lie : (size : ℕ) (cs : List Call) → AllByRecursion (CallLies size) cs → AllLie size (flat_map wrong_uses cs)
-wrong_uses_lie size cs h = each_of (CallLies size) (λ (f : Fault). LiesIn size f.span) wrong_uses (λ c p. by c.form c p) cs h
-  where
-    by : (f : Form) (c : Call) → CallLies size c → AllLie size (wrong_by f c)
-    by Wrong c p = (p.0, tt)
-    by Other c p = tt
-    by (Local t) c p = tt
 
 module _ (size : ℕ) (kind : FileKind) (root : Node) (i : IsInside size root) (w : IsLaid size root) (f : AreFrom size root)
     (answers : Answers) where
