@@ -1,5 +1,5 @@
 -- Numbers of objects that are there: in longer tables too, and what they stand for there.
-use Rattle.std.proofs.Common.{◌≡◌, ◌-◌, ◌<◌, ◌≤◌, ℕ, List, [], ◌∷◌, ◌++◌, map, drop, take, length, get_or, zero, suc, Bool, true, false, Option, Some, None, refl, ap, ◌∙◌, arith}
+use Rattle.std.proofs.Common.{◌≡◌, ◌<◌, ◌≤◌, ℕ, List, [], ◌∷◌, ◌++◌, map, take, length, get_or, zero, suc, Bool, true, false, Option, Some, None, refl, ap, ◌∙◌, arith}
 use Rattle.std.proofs.lemmas.List.{get_or_append_left}
 use Rattle.std.proofs.lemmas.Bool.Decides.{nat_tests}
 use Rattle.std.specs.Prelude.{◌&&◌, nat_lt, zip}
@@ -7,12 +7,11 @@ use Rattle.std.specs.List.{list_all}
 use Rattle.al_types.specs.Types.{Parts, Present, fields_of, fuse_optional, object_type, parts_with}
 use Rattle.al_types.specs.TypeViews.{fused}
 use Rattle.al_expr_types.specs.Names.{names_in}
-use Rattle.al_expr_types.specs.Types.{common_of, are_below, are_fields_below, arrays_of, base_type, fields_parts, is_base_below, is_below, is_object_below, is_rest_below, no_parts}
-use Rattle.al_expr_types.specs.Types.{object_in, object_parts, own_types, rest_in, type_in}
+use Rattle.al_expr_types.specs.Types.{common_of, are_below, are_fields_below, arrays_of, base_type, fields_parts, is_base_below, is_below, is_extended_below, is_object_below, is_rest_below, no_parts}
+use Rattle.al_expr_types.specs.Types.{object_in, object_parts, rest_in, type_in}
 use Rattle.al_expr_types.specs.declared.ty.Base.{Base}
 use Rattle.al_expr_types.specs.declared.ty.Base.TheVariants as base
 use Rattle.al_expr_types.specs.declared.ty.Ty.{Ty}
-use Rattle.al_expr_types.specs.declared.objects.Extension.{Extension}
 use Rattle.al_expr_types.specs.declared.objects.Fields.{Fields}
 use Rattle.al_expr_types.specs.declared.objects.Object.{Object}
 use Rattle.al_expr_types.specs.declared.objects.Object.TheVariants as object
@@ -42,11 +41,6 @@ module _ {X : Type 0} where
   all_taken test (suc n) [] h = refl
   all_taken test (suc n) (x ∷ xs) h =
       both_are (test x) _ (left_of (test x) _ h) (all_taken test n xs (right_of (test x) (list_all test xs) h))
-
-  pub all_dropped : (test : X → Bool) (n : ℕ) (xs : List X) → list_all test xs ≡ true → list_all test (drop n xs) ≡ true
-  all_dropped test zero xs h = h
-  all_dropped test (suc n) [] h = refl
-  all_dropped test (suc n) (x ∷ xs) h = all_dropped test n xs (right_of (test x) (list_all test xs) h)
 
   pub all_weaker : (test other : X → Bool) → ((x : X) → test x ≡ true → other x ≡ true) → (xs : List X) → list_all test xs ≡ true → list_all other xs ≡ true
   all_weaker test other each [] h = refl
@@ -87,8 +81,11 @@ fields_wider m n le f h =
 pub object_wider : (m n : ℕ) → m ≤ n → (o : Object) → is_object_below m o ≡ true → is_object_below n o ≡ true
 object_wider m n le (object.Fields f) h = fields_wider m n le f h
 object_wider m n le (object.Extension e) h =
-    let lt : e.base.object < m = less e.base.object m (right_of (are_fields_below m e.fields) _ h) in
-    both_are (are_fields_below n e.fields) _ (fields_wider m n le e.fields (left_of (are_fields_below m e.fields) _ h)) (is_less e.base.object n (omega (arith, lt, le)))
+    let own = right_of (are_fields_below m e.fields) (is_extended_below m e) h in
+    let lt : e.base.object < m = less e.base.object m (left_of (nat_lt e.base.object m) _ own) in
+    both_are (are_fields_below n e.fields) _ (fields_wider m n le e.fields (left_of (are_fields_below m e.fields) _ h))
+    (both_are (nat_lt e.base.object n) _ (is_less e.base.object n (omega (arith, lt, le)))
+    (all_weaker (is_below m) (is_below n) (below_wider m n le) e.own.items (right_of (nat_lt e.base.object m) _ own)))
 object_wider m n le (object.Strings ns) h = refl
 object_wider m n le (object.Common ns) h = numbers_wider m n le ns.items h
 
@@ -122,19 +119,13 @@ fields_kept ms more f h =
     let rest = rest_kept ms more f.rest (right_of (list_all (is_below (length ms)) ts) (is_rest_below (length ms) f.rest) h) in
     λ d. parts_with (fields_of (zip (names_in f.map.value.names) (types d))) (rest d)
 
-pub own_below : (n : ℕ) (e : Extension) → are_fields_below n e.fields ≡ true → list_all (is_below n) (own_types e) ≡ true
-own_below n e h =
-    let ts = e.fields.map.value.types.items in
-    all_taken (is_below n) (e.fields.count - e.base.count) (drop e.base.count ts)
-    (all_dropped (is_below n) e.base.count ts (left_of (list_all (is_below n) ts) _ h))
-
 pub parts_kept : (ms more : List Parts) (o : Object) → is_object_below (length ms) o ≡ true → object_parts (ms ++ more) o ≡ object_parts ms o
 parts_kept ms more (object.Fields f) h = fields_kept ms more f h
 parts_kept ms more (object.Extension e) h =
-    let below = left_of (are_fields_below (length ms) e.fields) _ h in
-    let fields = fields_kept ms more e.fields below in
-    let base = object_kept ms more e.base.object (right_of (are_fields_below (length ms) e.fields) (nat_lt e.base.object (length ms)) h) in
-    let own = types_kept ms more (own_types e) (own_below (length ms) e below) in
+    let fields = fields_kept ms more e.fields (left_of (are_fields_below (length ms) e.fields) _ h) in
+    let behind = right_of (are_fields_below (length ms) e.fields) (is_extended_below (length ms) e) h in
+    let base = object_kept ms more e.base.object (left_of (nat_lt e.base.object (length ms)) _ behind) in
+    let own = types_kept ms more e.own.items (right_of (nat_lt e.base.object (length ms)) _ behind) in
     λ d. ((fields d).0, (fields d).1, fuse_optional (base d).2 (common_of (own d)))
 parts_kept ms more (object.Strings ns) h = refl
 parts_kept ms more (object.Common ns) h = ap fused (objects_kept ms more ns.items h)

@@ -34,7 +34,7 @@ asked_last x (Present t) rest e h = absurd cc
 
 -- ---- fields one after another
 
-common_push : (xs : List Type') (t : Type') → common_of (xs ++ t ∷ []) ≡ fuse_optional (common_of xs) (Present t)
+pub common_push : (xs : List Type') (t : Type') → common_of (xs ++ t ∷ []) ≡ fuse_optional (common_of xs) (Present t)
 common_push [] t = refl
 common_push (x ∷ xs) t = ap (fuse_optional (Present x)) (common_push xs t) ∙ sym (optional_assoc (Present x) (common_of xs) (Present t))
 

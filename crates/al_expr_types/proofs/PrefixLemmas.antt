@@ -1,15 +1,14 @@
 -- Prefixes of the fields of a map: what all have in common is what those of the base have, and the types behind them.
-use Rattle.std.proofs.Common.{◌≡◌, ◌+◌, ◌-◌, ◌≤◌, ℕ, List, [], ◌∷◌, ◌++◌, map, drop, take, length, Bool, true, Option, Some, None, refl, sym, ap, subst, ◌∙◌, arith}
-use Rattle.std.proofs.Math.Seq.{take-add}
-use Rattle.std.proofs.lemmas.List.{length-take, map-append}
+use Rattle.std.proofs.Common.{◌≡◌, ◌+◌, ◌<◌, ◌≤◌, ℕ, zero, suc, List, [], ◌∷◌, ◌++◌, get_or, map, take, length, Bool, true, Option, Some, None, refl, sym, ap, subst, ◌∙◌, arith}
+use Rattle.std.proofs.lemmas.List.{length-take, map-append, take_more}
 use Rattle.std.specs.List.{list_all}
-use Rattle.std.specs.Prelude.{◌&&◌, zip}
+use Rattle.std.specs.Prelude.{Contains, ◌&&◌, zip}
 use Rattle.al_base.specs.Growth.{BeginsWith}
-use Rattle.al_types.specs.Types.{Type', Absent, Parts, Present, common_in, fields_of, fuse_optional, parts_with}
-use Rattle.al_types.proofs.FuseLaws.{nothing_last, optional_assoc}
+use Rattle.al_types.specs.Types.{Type', Absent, Optional, Parts, Present, common_in, fields_of, fuse_optional, parts_with}
+use Rattle.al_types.proofs.FuseLaws.{last_turned, nothing_last, optional_assoc, optional_same}
 use Rattle.al_expr_types.specs.Names.{names_in}
 use Rattle.al_expr_types.specs.Prefixes.{HasPrefix, prefix_parts}
-use Rattle.al_expr_types.specs.Types.{common_of, are_fields_below, fields_parts, is_below, is_rest_below, named_types, object_in, parts_by, parts_of_all, rest_in, type_in, types_behind}
+use Rattle.al_expr_types.specs.Types.{common_of, are_fields_below, fields_parts, is_below, is_rest_below, named_types, object_in, parts_by, parts_of_all, rest_in, type_in}
 use Rattle.al_expr_types.specs.declared.fields.FieldMap.{FieldMap}
 use Rattle.al_expr_types.specs.declared.objects.Fields.{Fields}
 use Rattle.al_expr_types.specs.declared.objects.Object.{Object}
@@ -17,24 +16,49 @@ use Rattle.al_expr_types.specs.declared.objects.Prefix.{Prefix}
 use Rattle.al_expr_types.specs.declared.ty.Ty.{Ty}
 use Rattle.al_expr_types.specs.declared.types.Types.{Types}
 use Rattle.al_expr_types.proofs.Below.{all_taken, all_weaker, below_wider, both_are, types_kept}
-use Rattle.al_expr_types.proofs.Gathering.{common_zipped}
+use Rattle.al_expr_types.proofs.Gathering.{common_push, common_zipped}
 use Rattle.al_expr_types.proofs.Keeping.{longer, same_there}
 use Rattle.al_expr_types.proofs.Tables.{length_after}
 
--- types one after another
-common_append : (xs ys : List Type') → common_of (xs ++ ys) ≡ fuse_optional (common_of xs) (common_of ys)
-common_append [] ys = refl
-common_append (x ∷ xs) ys = ap (fuse_optional (Present x)) (common_append xs ys) ∙ sym (optional_assoc (Present x) (common_of xs) (common_of ys))
+-- one type more
+common_more : (g : Ty → Type') (ts : List Ty) (t : Ty) → common_of (map g (ts ++ t ∷ [])) ≡ fuse_optional (common_of (map g ts)) (Present (g t))
+common_more g ts t = ap common_of (map-append g ts (t ∷ [])) ∙ common_push (map g ts) (g t)
 
-taken_behind : {X : Type 0} (j k : ℕ) (xs : List X) → j ≤ k → take j xs ++ take (k - j) (drop j xs) ≡ take k xs
-taken_behind j k xs le = let e : k ≡ j + (k - j) = omega (arith, le) in sym (ap (λ n. take n xs) e ∙ take-add j (k - j) xs)
+-- one that is among them
+common_held : (g : Ty → Type') (ts : List Ty) (t : Ty) (k : ℕ) → k < length ts → get_or ts k t ≡ t →
+    fuse_optional (common_of (map g ts)) (Present (g t)) ≡ common_of (map g ts)
+common_held g [] t k lt e = absurd (omega (arith, lt))
+common_held g (u ∷ ts) t zero lt e =
+    let all : Optional = common_of (map g ts) in
+    last_turned (Present (g u)) all (Present (g t)) ∙ ap (λ v. fuse_optional (fuse_optional (Present (g u)) (Present (g v))) all) (sym e)
+    ∙ ap (λ o. fuse_optional o all) (optional_same (Present (g u)))
+common_held g (u ∷ ts) t (suc k) lt e =
+    optional_assoc (Present (g u)) (common_of (map g ts)) (Present (g t)) ∙ ap (fuse_optional (Present (g u))) (common_held g ts t k (omega (arith, lt)) e)
 
--- what a prefix of some types has in common, by a shorter one
-common_split : (g : Ty → Type') (j k : ℕ) (ts : List Ty) → j ≤ k →
-    fuse_optional (common_of (map g (take j ts))) (common_of (map g (take (k - j) (drop j ts)))) ≡ common_of (map g (take k ts))
-common_split g j k ts le =
-    sym (common_append (map g (take j ts)) (map g (take (k - j) (drop j ts)))) ∙ ap common_of (sym (map-append g (take j ts) (take (k - j) (drop j ts))))
-    ∙ ap (λ us. common_of (map g us)) (taken_behind j k ts le)
+-- ---- what the first types have in common, by fewer of them and types behind these
+
+taken_more : (g : Ty → Type') (ts : List Ty) (i : ℕ) (t : Ty) → i < length ts → t ≡ get_or ts i t →
+    common_of (map g (take (i + 1) ts)) ≡ fuse_optional (common_of (map g (take i ts))) (Present (g t))
+taken_more g ts i t lt e =
+    ap (λ us. common_of (map g us)) (take_more ts i t lt) ∙ ap (λ u. common_of (map g (take i ts ++ u ∷ []))) (sym e) ∙ common_more g (take i ts) t
+
+abbrev pub IsBehind : List Ty → ℕ → List Ty → ℕ → Type 0
+IsBehind ts j own i =
+    (ms : List Parts) → fuse_optional (common_of (map (type_in ms) (take j ts))) (common_of (map (type_in ms) own)) ≡ common_of (map (type_in ms) (take i ts))
+
+pub behind_none : (ts : List Ty) (j : ℕ) → IsBehind ts j [] j
+behind_none ts j = λ ms. nothing_last (common_of (map (type_in ms) (take j ts)))
+
+pub behind_more : (ts own new : List Ty) (j i : ℕ) (t : Ty) → i < length ts → t ≡ get_or ts i t → new ≡ own ++ t ∷ [] → IsBehind ts j own i → IsBehind ts j new (i + 1)
+behind_more ts own new j i t lt e is h = λ ms.
+    let g = type_in ms in
+    let first : Optional = common_of (map g (take j ts)) in
+    ap (λ us. fuse_optional first (common_of (map g us))) is ∙ ap (fuse_optional first) (common_more g own t)
+    ∙ sym (optional_assoc first (common_of (map g own)) (Present (g t))) ∙ ap (λ o. fuse_optional o (Present (g t))) (h ms) ∙ sym (taken_more g ts i t lt e)
+
+pub behind_same : (ts own : List Ty) (j i : ℕ) (t : Ty) → i < length ts → t ≡ get_or ts i t → Contains (take i ts) t → IsBehind ts j own i → IsBehind ts j own (i + 1)
+behind_same ts own j i t lt e held h = λ ms.
+    h ms ∙ sym (common_held (type_in ms) (take i ts) t held.0 held.1 held.2) ∙ sym (taken_more (type_in ms) ts i t lt e)
 
 -- what all fields of a prefix have in common
 prefix_common : (ms : List Parts) (m : FieldMap) (k : ℕ) → (prefix_parts ms m k).2 ≡ common_of (map (type_in ms) (take k m.types.items))
@@ -49,16 +73,12 @@ pub prefix_is : (ms : List Parts) (f : Fields) (m : FieldMap) (k : ℕ) → f.ma
 prefix_is ms f m k e n r = λ d. parts_with (fields_of (named_types ms (names_in (e d).names) (take (n d) (e d).types.items))) (rest_in ms (r d))
 
 -- fields by a prefix are what they are without it
-pub same_by : (ms : List Parts) (f : Fields) (b : Prefix) (m : FieldMap) (k : ℕ) → f.map.value ≡ m → f.count ≡ k → f.rest ≡ None → b.count ≤ k →
-    object_in ms b.object ≡ prefix_parts ms m b.count → parts_by ms f b ≡ prefix_parts ms m k
-same_by ms f b m k at n r le base =
+pub same_by : (ms : List Parts) (f : Fields) (b : Prefix) (own : List Ty) (m : FieldMap) (k : ℕ) → f.map.value ≡ m → f.count ≡ k → f.rest ≡ None →
+    IsBehind m.types.items b.count own k → object_in ms b.object ≡ prefix_parts ms m b.count → parts_by ms f b own ≡ prefix_parts ms m k
+same_by ms f b own m k at n r behind base =
     let same = prefix_is ms f m k at n r in
-    let behind : List Ty = take (k - b.count) (drop b.count m.types.items) in
-    let own : common_of (map (type_in ms) (types_behind f b)) ≡ common_of (map (type_in ms) behind) =
-    λ d. common_of (map (type_in ms) (take (n d - b.count) (drop b.count (at d).types.items))) in
-    let all : fuse_optional (object_in ms b.object).2 (common_of (map (type_in ms) (types_behind f b))) ≡ (prefix_parts ms m k).2 =
-    (λ d. fuse_optional (base d).2 (own d)) ∙ ap (λ o. fuse_optional o (common_of (map (type_in ms) behind))) (prefix_common ms m b.count)
-    ∙ common_split (type_in ms) b.count k m.types.items le ∙ sym (prefix_common ms m k) in
+    let all : fuse_optional (object_in ms b.object).2 (common_of (map (type_in ms) own)) ≡ (prefix_parts ms m k).2 =
+    ap (λ o. fuse_optional o (common_of (map (type_in ms) own))) (ap (λ p. p.2) base ∙ prefix_common ms m b.count) ∙ behind ms ∙ sym (prefix_common ms m k) in
     λ d. ((same d).0, (same d).1, all d)
 
 -- fields whose types are there

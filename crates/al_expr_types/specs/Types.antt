@@ -1,5 +1,5 @@
 -- Types by numbers: what each stands for, object after object.
-use Rattle.std.specs.Prelude.{ℕ, zero, suc, ◌-◌, List, [], ◌∷◌, ◌++◌, map, drop, take, zip}
+use Rattle.std.specs.Prelude.{ℕ, zero, suc, List, [], ◌∷◌, ◌++◌, map, take, zip}
 use Rattle.std.specs.Prelude.{get_or, Bool, true, false, ◌&&◌, nat_lt, Option, Some, None}
 use Rattle.std.specs.List.{list_all}
 use Rattle.al_types.specs.Types.{Type', Any, Null, Number, Bool', String, ArrayOf, NoField, Optional, Absent, Present, Parts, fields_of}
@@ -79,21 +79,14 @@ abbrev pub common_of : List Type' → Optional
 common_of [] = Absent
 common_of (t ∷ ts) = fuse_optional (Present t) (common_of ts)
 
--- the types of the fields behind those of a prefix
-abbrev pub types_behind : Fields → Prefix → List Ty
-types_behind f b = take (f.count - b.count) (drop b.count f.map.value.types.items)
-
--- fields, by what a prefix of them has in common
-abbrev pub parts_by : List Parts → Fields → Prefix → Parts
-parts_by ms f b =
+-- fields, by what a prefix of them has in common and by types behind it
+abbrev pub parts_by : List Parts → Fields → Prefix → List Ty → Parts
+parts_by ms f b own =
     let p = fields_parts ms f in
-    (p.0, p.1, fuse_optional (object_in ms b.object).2 (common_of (map (type_in ms) (types_behind f b))))
-
-abbrev pub own_types : Extension → List Ty
-own_types e = types_behind e.fields e.base
+    (p.0, p.1, fuse_optional (object_in ms b.object).2 (common_of (map (type_in ms) own)))
 
 abbrev pub extension_parts : List Parts → Extension → Parts
-extension_parts ms e = parts_by ms e.fields e.base
+extension_parts ms e = parts_by ms e.fields e.base e.own.items
 
 -- strings of these names
 abbrev pub strings_parts : List (List ℕ) → Parts
@@ -133,9 +126,13 @@ are_below n ms = list_all (λ m. nat_lt m n) ms
 abbrev pub are_fields_below : ℕ → Fields → Bool
 are_fields_below n f = list_all (is_below n) f.map.value.types.items && is_rest_below n f.rest
 
+-- what fields extend
+abbrev pub is_extended_below : ℕ → Extension → Bool
+is_extended_below n e = nat_lt e.base.object n && list_all (is_below n) e.own.items
+
 abbrev pub is_object_below : ℕ → Object → Bool
 is_object_below n (object.Fields f) = are_fields_below n f
-is_object_below n (object.Extension e) = are_fields_below n e.fields && nat_lt e.base.object n
+is_object_below n (object.Extension e) = are_fields_below n e.fields && is_extended_below n e
 is_object_below n (object.Strings ns) = true
 is_object_below n (object.Common ns) = are_below n ns.items
 

@@ -52,12 +52,14 @@ pub struct Prefix {
     pub count: usize,
 }
 
-/// Fields of which an earlier object has the first ones: what all of them have in common is what those have, and the types behind them.
+/// Fields of which an earlier object has the first ones: what all of them have in common is what those have, and the types that come behind
+/// them.
 #[derive(Drop)]
 pub struct Extension<'a> {
     pub fields: Fields<'a>,
     pub base: Prefix,
-    ghost longer: { base.count ≤ fields.count },
+    /// The types behind the base, without objects that stand before.
+    pub own: Vec<Ty>,
 }
 
 /// An object. The numbers in it are those of earlier objects.

@@ -1,40 +1,134 @@
 //! Prefixes of the fields of a map, as the steps before each step of a job are of all its steps.
 
-ghost use Rattle.std.specs.Prelude.{◌≡◌, ◌<◌, ◌≤◌, None, Some, IfOk, OnOk, length, true};
+ghost use Rattle.std.specs.Prelude.{◌≡◌, ◌<◌, ◌≤◌, Contains, List, None, Some, IfOk, IsTrue, OnOk, length, map, take, true, ℕ};
 ghost use Rattle.std.specs.List.{list_all};
 ghost use Rattle.al_base.specs.Growth.{BeginsWith};
-ghost use Rattle.al_types.specs.Types.{object_type};
+ghost use Rattle.al_types.specs.Types.{Parts, fuse_optional, object_type};
+ghost use Rattle.al_expr_types.specs.Types.{common_of, is_below, type_in};
 
 use crate::fields::FieldMap;
 use crate::objects::{Extension, Fields, Object, Prefix};
-use crate::ty::Ty;
+use crate::ty::{Base, Ty};
 use crate::types::Types;
 use std::alloc::{AllocError, Global};
+use std::collections::BTreeMap;
 use std::rc::Rc;
 
 /// The fields of a map whose prefixes are asked for, as a rule the shorter ones first. What all fields of a prefix have in common goes by
-/// that of a base, a prefix with less than `BLOCK` fields fewer, so it takes no time that grows with the prefix.
+/// that of a base, a prefix with less than `BLOCK` fields fewer, and by the types that come behind it, so it takes no time that grows with
+/// the prefix.
 #[derive(Drop)]
 pub struct Prefixes<'a> {
     map: Rc<FieldMap<'a>>,
+    /// For each type of the map the position at which its object first stands. Only time and memory depend on it.
+    firsts: Vec<usize>,
     base: Option<Prefix>,
 }
 
 /// So many fields stand between two bases.
 const BLOCK: usize = 64;
 
+/// For each of some types the position at which its object first stands, or its own where it is none. Fails with `AllocError` where it is
+/// out of memory, as all here.
+fn first_positions(alloc: Global, types: &[Ty]) -> Result<Vec<usize>, AllocError> {
+    let mut firsts = Vec::new(alloc);
+    let mut places: BTreeMap<u32, usize> = BTreeMap::new(alloc);
+    for (i, ty) in types.iter().enumerate() {
+        let first = match ty.of {
+            Base::Object(n) => match places.get(&n) {
+                Some(first) => *first,
+                None => {
+                    places.insert(n, i)?;
+                    i
+                }
+            },
+            Base::Scalar(_) => i,
+        };
+        firsts.push(first)?;
+    }
+    Ok(firsts)
+}
+
+/// Whether two types are one object, in as many arrays.
+fn are_one_object(a: Ty, b: Ty) -> bool
+    ensures { IsTrue result → a ≡ b }
+{
+    let Base::Object(m) = a.of else {
+        return false;
+    };
+    let Base::Object(n) = b.of else {
+        return false;
+    };
+    if a.arrays != b.arrays {
+        return false;
+    }
+    m == n
+}
+
+/// Whether this object stands at a position.
+fn stands_at(types: &[Ty], i: usize, ty: Ty) -> bool
+    ensures { IsTrue result → Contains types.now ty }
+{
+    if i >= types.len() {
+        return false;
+    }
+    are_one_object(types[i], ty)
+}
+
+/// Whether an object stands before a position. Where it isn't found it is taken twice.
+fn stands_before(types: &[Ty], firsts: &[usize], i: usize, ty: Ty) -> bool
+    requires { i ≤ length types.now }
+    ensures { IsTrue result → Contains (take i types.now) ty }
+{
+    if i >= firsts.len() {
+        return false;
+    }
+    let before = &types[..i];
+    stands_at(before, firsts[i], ty)
+}
+
+/// The types from one position to another, without objects that stand before.
+fn new_types(
+    alloc: Global,
+    types: &[Ty],
+    firsts: &[usize],
+    from: usize,
+    to: usize,
+) -> Result<Vec<Ty>, AllocError>
+    requires from { from ≤ to }
+    requires to { to ≤ length types.now }
+    ensures part { IfOk result (λ own. (ms : List Parts)
+        → fuse_optional (common_of (map (type_in ms) (take from types.now))) (common_of (map (type_in ms) own.items))
+        ≡ common_of (map (type_in ms) (take to types.now))) }
+    ensures below { IfOk result (λ own. (k : ℕ) → list_all (is_below k) types.now ≡ true → list_all (is_below k) own.items ≡ true) }
+{
+    let mut own = Vec::new(alloc);
+    for i in from..to {
+        let ty = types[i];
+        if !stands_before(types, firsts, i, ty) {
+            own.push(ty)?;
+        }
+    }
+    Ok(own)
+}
+
 impl<'a> Prefixes<'a> {
     ghost use Rattle.al_expr_types.specs.Prefixes.{HasPrefix, IsShorter, map_in, prefix_parts};
     ghost use Rattle.al_expr_types.specs.Tables.{is_known, objects_of, type_at};
-    ghost use Rattle.al_expr_types.specs.Types.{is_below, object_in};
+    ghost use Rattle.al_expr_types.specs.Types.{object_in};
 
-    /// The fields of a map. Fails with `AllocError` where it is out of memory, as all here.
+    /// The fields of a map.
     pub fn new(alloc: Global, map: FieldMap<'a>) -> Result<Prefixes<'a>, AllocError>
         ensures map { IfOk result (λ p. map_in p ≡ map.entry) }
         ensures base { IfOk result (λ p. p.base ≡ None) }
     {
+        let firsts = first_positions(alloc, map.types.as_slice())?;
         let map = Rc::new(alloc, map)?;
-        Ok(Prefixes { map, base: None })
+        Ok(Prefixes {
+            map,
+            firsts,
+            base: None,
+        })
     }
 
     /// The first so many fields.
@@ -71,7 +165,9 @@ impl<'a> Prefixes<'a> {
         let fields = self.fields(count)?;
         match base {
             Some(base) => {
-                let n = types.push(Object::Extension(Extension { fields, base }))?;
+                let all = self.map.types.as_slice();
+                let own = new_types(types.alloc, all, self.firsts.as_slice(), base.count, count)?;
+                let n = types.push(Object::Extension(Extension { fields, base, own }))?;
                 Ok(n)
             }
             None => {

@@ -10,7 +10,7 @@ ghost use Rattle.al_expr_types.specs.Parts.{part_in};
 ghost use Rattle.al_expr_types.specs.Tables.{objects_of, type_at};
 ghost use Rattle.al_expr_types.specs.Types.{common_of, are_below, are_fields_below, extension_parts, fields_parts};
 ghost use Rattle.al_expr_types.specs.Types.{is_below, is_object_below, is_rest_below};
-ghost use Rattle.al_expr_types.specs.Types.{object_in, own_types, rest_in, strings_parts, type_in};
+ghost use Rattle.al_expr_types.specs.Types.{object_in, rest_in, strings_parts, type_in};
 ghost use Rattle.al_expr_types.specs.declared.objects.Object.TheVariants as object;
 ghost use Rattle.std.specs.List.{list_all};
 
@@ -77,16 +77,14 @@ impl Fields<'_> {
 }
 
 impl Extension<'_> {
-    /// What the fields behind the base have in common with types so far.
+    /// What the types behind the base have in common with types so far.
     fn gather_own(&self, alloc: Global, sofar: Join) -> Result<Join, AllocError>
         ensures part { IfOk result (λ j. (ms : List Parts)
-            → join_in ms j ≡ fuse_optional (join_in ms sofar) (common_of (map (type_in ms) (own_types self.now)))) }
-        ensures below { IfOk result (λ j. (n : ℕ) → are_fields_below n self.now.fields ≡ true → is_join_below n sofar ≡ true
+            → join_in ms j ≡ fuse_optional (join_in ms sofar) (common_of (map (type_in ms) self.now.own.items))) }
+        ensures below { IfOk result (λ j. (n : ℕ) → list_all (is_below n) self.now.own.items ≡ true → is_join_below n sofar ≡ true
             → is_join_below n j ≡ true) }
     {
-        let types = self.fields.map.types.as_slice();
-        let own = &types[self.base.count..self.fields.count];
-        let all = and_all(alloc, own, sofar)?;
+        let all = and_all(alloc, self.own.as_slice(), sofar)?;
         Ok(all)
     }
 }

@@ -6,7 +6,7 @@ use Rattle.al_types.specs.TypeViews.{fused}
 use Rattle.al_expr_types.specs.Joining.{join_in}
 use Rattle.al_expr_types.specs.Parts.{part_in}
 use Rattle.al_expr_types.specs.Tables.{objects_of}
-use Rattle.al_expr_types.specs.Types.{common_of, are_below, are_fields_below, extension_parts, is_object_below, object_in, object_parts, own_types, type_in}
+use Rattle.al_expr_types.specs.Types.{common_of, are_below, are_fields_below, extension_parts, is_extended_below, is_object_below, object_in, object_parts, type_in}
 use Rattle.al_expr_types.specs.declared.objects.Object.TheVariants as object
 use Rattle.al_expr_types.proofs.Below.{all_at, left_of, less, object_wider, right_of}
 use Rattle.al_expr_types.proofs.Gathering.{fields_then_rest, gathered_next, gathered_none}
@@ -88,7 +88,8 @@ gather-gather_extension-requires t c =
     let e = c.in-Extension.extension in
     let h = order_at 0 n os n c.index.result.now c.args.self.now.ordered c.requires c.index.ensures (omega arith) in
     let below = sym (ap (is_object_below n) c.in-Extension.is) ∙ h in
-    let lt : e.base.object < n = less e.base.object n (right_of (are_fields_below n e.fields) _ below) in
+    let behind = right_of (are_fields_below n e.fields) (is_extended_below n e) below in
+    let lt : e.base.object < n = less e.base.object n (left_of (nat_lt e.base.object n) _ behind) in
     (omega (arith, lt, c.decreases), object_wider n (length os) (omega (arith, c.requires)) (object.Extension e) below)
 
 pub gather-returns-in_ok-gathered-in-Extension-clause-part : goal.gather-returns-in_ok-gathered-in-Extension-clause-part
@@ -104,7 +105,8 @@ pub gather_extension-gather-requires : goal.gather_extension-gather-requires
 gather_extension-gather-requires t c =
     let e = c.args.extension.now in
     let len = length c.args.self.now.objects.items in
-    let lt : e.base.object < len = less e.base.object len (right_of (are_fields_below len e.fields) _ c.requires) in
+    let behind = right_of (are_fields_below len e.fields) (is_extended_below len e) c.requires in
+    let lt : e.base.object < len = less e.base.object len (left_of (nat_lt e.base.object len) _ behind) in
     (omega (arith, c.decreases), lt)
 
 pub gather_extension-returns-in_ok-all-in-All-clause-part : goal.gather_extension-returns-in_ok-all-in-All-clause-part
@@ -112,7 +114,7 @@ gather_extension-returns-in_ok-all-in-All-clause-part t c =
     let e = c.args.extension.now in
     let ms = objects_of c.args.self.now in
     let start = join_in ms c.args.sofar in
-    let own = common_of (map (type_in ms) (own_types e)) in
+    let own = common_of (map (type_in ms) e.own.items) in
     let base = c.in_ok-of_base-in-All.ensures.part ∙ ap (λ p. fuse_optional start (part_in p (object_in ms e.base.object))) c.in-All.is in
     fields_then_rest start (join_in ms c.in_ok-of_base-in-All.of_base) (join_in ms c.in_ok-all-in-All.all) (object_in ms e.base.object).2 own base
     (c.in_ok-all-in-All.ensures.part ms)
@@ -122,4 +124,5 @@ pub gather_extension-returns-in_ok-all-in-All-clause-below : goal.gather_extensi
 gather_extension-returns-in_ok-all-in-All-clause-below t c = λ h.
     let e = c.args.extension.now in
     let len = length c.args.self.now.objects.items in
-    c.in_ok-all-in-All.ensures.below len (left_of (are_fields_below len e.fields) _ c.requires) (c.in_ok-of_base-in-All.ensures.below h)
+    let behind = right_of (are_fields_below len e.fields) (is_extended_below len e) c.requires in
+    c.in_ok-all-in-All.ensures.below len (right_of (nat_lt e.base.object len) _ behind) (c.in_ok-of_base-in-All.ensures.below h)

@@ -1,6 +1,7 @@
 use Rattle.std.proofs.Common.{◌∙◌, ap, arith, sym}
-use Rattle.al_expr_types.specs.Types.{are_fields_below, is_object_below}
-use Rattle.al_expr_types.proofs.Below.{less, right_of}
+use Rattle.std.specs.Prelude.{nat_lt}
+use Rattle.al_expr_types.specs.Types.{are_fields_below, is_extended_below, is_object_below}
+use Rattle.al_expr_types.proofs.Below.{left_of, less, right_of}
 use Rattle.al_expr_types.proofs.Tables.{order_at}
 use Rattle.al_expr_types.proofs.types.Types.base.Goals as goal
 
@@ -10,4 +11,5 @@ returns-in-Extension c =
     let n = c.args.n in
     let e = c.in-Extension.extension in
     let h = order_at 0 n os n c.index.result.now c.args.self.now.ordered c.requires c.index.ensures (omega arith) in
-    less e.base.object n (right_of (are_fields_below n e.fields) _ (sym (ap (is_object_below n) c.in-Extension.is) ∙ h))
+    let behind = right_of (are_fields_below n e.fields) (is_extended_below n e) (sym (ap (is_object_below n) c.in-Extension.is) ∙ h) in
+    less e.base.object n (left_of (nat_lt e.base.object n) _ behind)

@@ -1,0 +1,65 @@
+-- Steps from types in arrays, from scalars, and by forms.
+use Rattle.std.proofs.Common.{◌≡◌, ◌+◌, ℕ, zero, suc, List, [], true, false, refl, ap, ◌∙◌, arith}
+use Rattle.al_base.specs.declared.faults.Fault.{Fault}
+use Rattle.al_base.specs.declared.faults.Span.{Span}
+use Rattle.al_types.specs.Types.{Type', Any, Null, Number, Bool', String, ArrayOf, ObjectOf}
+use Rattle.al_expr_types.specs.Types.{arrays_of, scalar_type}
+use Rattle.al_expr_types.specs.declared.ty.Scalar.{Scalar}
+use Rattle.al_expr_types.specs.declared.ty.Scalar.TheVariants as scalar
+use Rattle.al_meaning.specs.Meaning.{Typed, typed, behind, array_of, property_of, all_of, index_of, element_at, not_indexable}
+use Rattle.al_expr_typing.specs.Steps.{is_index}
+
+abbrev pub in_arrays : ℕ → Typed → Typed
+in_arrays n (typed t fs) = typed (arrays_of n t) fs
+
+in_none : (x : Typed) → x ≡ in_arrays zero x
+in_none (typed t fs) = refl
+
+in_one_more : (k : ℕ) (x : Typed) → array_of (in_arrays k x) ≡ in_arrays (suc k) x
+in_one_more k (typed t fs) = refl
+
+pub behind_arrays : (k : ℕ) (old : List Fault) (x : Typed) → in_arrays k (behind old x) ≡ behind old (in_arrays k x)
+behind_arrays k old (typed t fs) = refl
+
+pub property_arrays : (k : ℕ) (n : List ℕ) (at whole : Span) (t : Type') → property_of n at whole (arrays_of k t) ≡ in_arrays k (property_of n at whole t)
+property_arrays zero n at whole t = in_none (property_of n at whole t)
+property_arrays (suc k) n at whole t = ap array_of (property_arrays k n at whole t) ∙ in_one_more k (property_of n at whole t)
+
+pub arrays_more : (j k : ℕ) (t : Type') → arrays_of (j + k) t ≡ arrays_of j (arrays_of k t)
+arrays_more zero k t = ap (λ n. arrays_of n t) (omega arith)
+arrays_more (suc j) k t =
+    let e : suc j + k ≡ suc (j + k) = omega arith in ap (λ n. arrays_of n t) e ∙ ap (arrays_of 1) (arrays_more j k t)
+
+pub scalar_property : (n : List ℕ) (at whole : Span) (s : Scalar) → property_of n at whole (scalar_type s) ≡ all_of whole (scalar_type s)
+scalar_property n at whole scalar.Any = refl
+scalar_property n at whole scalar.Null = refl
+scalar_property n at whole scalar.Number = refl
+scalar_property n at whole scalar.Bool = refl
+scalar_property n at whole scalar.String = refl
+
+pub scalar_index : (whole : Span) (s : Scalar) (i : Type') → index_of whole (scalar_type s) i ≡ all_of whole (scalar_type s)
+scalar_index whole scalar.Any i = refl
+scalar_index whole scalar.Null i = refl
+scalar_index whole scalar.Number i = refl
+scalar_index whole scalar.Bool i = refl
+scalar_index whole scalar.String i = refl
+
+pub ruleset scalar_steps = (scalar_property, scalar_index)
+
+pub element_if : (whole : Span) (t i : Type') → is_index i ≡ true → element_at whole t i ≡ typed t []
+element_if whole t Any h = refl
+element_if whole t Number h = refl
+element_if whole t Null h = absurd cc
+element_if whole t Bool' h = absurd cc
+element_if whole t String h = absurd cc
+element_if whole t (ArrayOf a) h = absurd cc
+element_if whole t (ObjectOf f r x) h = absurd cc
+
+pub element_unless : (whole : Span) (t i : Type') → is_index i ≡ false → element_at whole t i ≡ not_indexable whole
+element_unless whole t Any h = absurd cc
+element_unless whole t Number h = absurd cc
+element_unless whole t Null h = refl
+element_unless whole t Bool' h = refl
+element_unless whole t String h = refl
+element_unless whole t (ArrayOf a) h = refl
+element_unless whole t (ObjectOf f r x) h = refl

@@ -1,0 +1,134 @@
+-- The states of the code that reads a format text tell which arguments it names.
+use Rattle.std.proofs.Common.{◌≡◌, ◌≤◌, ℕ, zero, suc, ◌+◌, ◌*◌, ◌-◌, List, [], ◌∷◌, length, drop, refl, sym, ap, ◌∙◌, arith, Bool, true, false, cond, nat_lt, ◌==◌, Option, None}
+use Rattle.std.specs.Int.Digits.{number_from_digits_after}
+use Rattle.std.specs.Prelude.{map, slice_set}
+use Rattle.al_base.specs.Ascii as ascii
+use Rattle.al_base.specs.Digits.{decimal, digit_of}
+use Rattle.al_base.specs.FirstBytes.{begins_with}
+use Rattle.al_expr_grammar.specs.Tokens.{is_digit}
+use Rattle.al_expr_typing.specs.declared.placeholders.PlaceholderState.TheVariants.{Outside, BehindOpening, InIndex, BehindClosing}
+use Rattle.al_expr_typing.specs.declared.placeholders.Turn.{Turn}
+use Rattle.al_expr_typing.specs.declared.placeholders.Turn.TheVariants.{To, Names, Wrong}
+use Rattle.al_meaning.specs.Placeholders.{Piece, Plain, Argument, NoPiece, digits_of, behind_digits, index_of, piece_of, used_with, used_within}
+use Rattle.al_expr_typing.specs.Private.PlaceholderStates.{turned, used_from}
+
+-- what is read behind a piece
+abbrev behind : List Bool → Piece → Option (List Bool)
+behind used p = used_with (used_from Outside) used p
+
+-- one more byte leads to a turn
+abbrev goes : List Bool → List ℕ → Turn → Option (List Bool)
+goes used bs t = turned t used (λ p now. used_from p now bs)
+
+-- the number that digits write behind those that wrote n
+abbrev number_on : ℕ → List ℕ → ℕ
+number_on n ds = number_from_digits_after 10 n (map digit_of ds)
+
+-- an index that has digits already
+abbrev index_behind : ℕ → List ℕ → List ℕ → Piece
+index_behind n ds rest = cond (begins_with ascii.close_brace rest) (Argument (number_on n ds) (drop 1 rest)) NoPiece
+
+index_at : (used : List Bool) (n b : ℕ) (bs : List ℕ) (digit closing : Bool) → (b == ascii.close_brace) ≡ closing
+    → used_from (InIndex (10 * n + (b - ascii.digit_zero))) used bs ≡ behind used (index_behind (10 * n + (b - ascii.digit_zero)) (digits_of bs) (behind_digits bs))
+    → goes used bs (cond digit (To (InIndex (10 * n + (b - ascii.digit_zero)))) (cond closing (Names n) Wrong))
+    ≡ behind used (index_behind n (cond digit (b ∷ digits_of bs) []) (cond digit (behind_digits bs) (b ∷ bs)))
+index_at used n b bs true closing e f =
+    let same : 10 * n + (b - ascii.digit_zero) ≡ n * 10 + (b - ascii.digit_zero) = omega arith in
+    f ∙ ap (λ m. behind used (index_behind m (digits_of bs) (behind_digits bs))) same
+index_at used n b bs false true e f = sym (ap (λ t. behind used (cond t (Argument n bs) NoPiece)) e)
+index_at used n b bs false false e f = sym (ap (λ t. behind used (cond t (Argument n bs) NoPiece)) e)
+
+index : (used : List Bool) (n : ℕ) (bs : List ℕ) → used_from (InIndex n) used bs ≡ behind used (index_behind n (digits_of bs) (behind_digits bs))
+index used n [] = refl
+index used n (b ∷ bs) = index_at used n b bs (is_digit b) (b == ascii.close_brace) refl (index used (10 * n + (b - ascii.digit_zero)) bs)
+
+opening_at : (used : List Bool) (b : ℕ) (bs : List ℕ) (opens digit : Bool)
+    → goes used bs (cond opens (To Outside) (cond digit (To (InIndex (b - ascii.digit_zero))) Wrong))
+    ≡ behind used (cond opens (Plain bs) (index_of (cond digit (b ∷ digits_of bs) []) (cond digit (behind_digits bs) (b ∷ bs))))
+opening_at used b bs true digit = refl
+opening_at used b bs false true =
+    let e : b - ascii.digit_zero ≡ 0 * 10 + (b - ascii.digit_zero) = omega arith in
+    index used (b - ascii.digit_zero) bs ∙ ap (λ n. behind used (index_behind n (digits_of bs) (behind_digits bs))) e
+opening_at used b bs false false = refl
+
+-- behind a `{`
+opening : (used : List Bool) (bs : List ℕ) → used_from BehindOpening used bs
+    ≡ behind used (cond (begins_with ascii.open_brace bs) (Plain (drop 1 bs)) (index_of (digits_of bs) (behind_digits bs)))
+opening used [] = refl
+opening used (b ∷ bs) = opening_at used b bs (b == ascii.open_brace) (is_digit b)
+
+closing_at : (used : List Bool) (bs : List ℕ) (closes : Bool) → goes used bs (cond closes (To Outside) Wrong) ≡ behind used (cond closes (Plain bs) NoPiece)
+closing_at used bs true = refl
+closing_at used bs false = refl
+
+-- behind a `}`
+closing : (used : List Bool) (bs : List ℕ) → used_from BehindClosing used bs ≡ behind used (cond (begins_with ascii.close_brace bs) (Plain (drop 1 bs)) NoPiece)
+closing used [] = refl
+closing used (b ∷ bs) = closing_at used bs (b == ascii.close_brace)
+
+piece_at : (used : List Bool) (bs : List ℕ) (opens closes : Bool)
+    → goes used bs (cond opens (To BehindOpening) (cond closes (To BehindClosing) (To Outside)))
+    ≡ behind used (cond opens (cond (begins_with ascii.open_brace bs) (Plain (drop 1 bs)) (index_of (digits_of bs) (behind_digits bs)))
+    (cond closes (cond (begins_with ascii.close_brace bs) (Plain (drop 1 bs)) NoPiece) (Plain bs)))
+piece_at used bs true closes = opening used bs
+piece_at used bs false true = closing used bs
+piece_at used bs false false = refl
+
+piece : (used : List Bool) (b : ℕ) (bs : List ℕ) → used_from Outside used (b ∷ bs) ≡ behind used (piece_of (b ∷ bs))
+piece used b bs = piece_at used bs (b == ascii.open_brace) (b == ascii.close_brace)
+
+-- ---- what stands behind a piece is shorter
+
+abbrev IsWithin : ℕ → Piece → Type 0
+IsWithin n NoPiece = Unit {0}
+IsWithin n (Plain rest) = length rest ≤ n
+IsWithin n (Argument k rest) = length rest ≤ n
+
+within_cond : (t : Bool) (p q : Piece) (n : ℕ) → IsWithin n p → IsWithin n q → IsWithin n (cond t p q)
+within_cond true p q n f g = f
+within_cond false p q n f g = g
+
+drop_within : (bs : List ℕ) (n : ℕ) → length bs ≤ n → length (drop 1 bs) ≤ n
+drop_within [] n h = h
+drop_within (b ∷ bs) n h = omega arith
+
+later_within : (digit : Bool) (b : ℕ) (bs : List ℕ) (n : ℕ) → length (behind_digits bs) ≤ n → suc (length bs) ≤ n → length (cond digit (behind_digits bs) (b ∷ bs)) ≤ n
+later_within true b bs n f h = f
+later_within false b bs n f h = h
+
+digits_within : (bs : List ℕ) (n : ℕ) → length bs ≤ n → length (behind_digits bs) ≤ n
+digits_within [] n h = h
+digits_within (b ∷ bs) n h = later_within (is_digit b) b bs n (digits_within bs n (omega arith)) h
+
+index_within : (ds rest : List ℕ) (n : ℕ) → length rest ≤ n → IsWithin n (index_of ds rest)
+index_within [] rest n h = tt
+index_within (d ∷ ds) rest n h = within_cond (begins_with ascii.close_brace rest) (Argument (decimal (d ∷ ds)) (drop 1 rest)) NoPiece n (drop_within rest n h) tt
+
+piece_within : (b : ℕ) (bs : List ℕ) (n : ℕ) → length bs ≤ n → IsWithin n (piece_of (b ∷ bs))
+piece_within b bs n h =
+    within_cond (b == ascii.open_brace) _ _ n
+    (within_cond (begins_with ascii.open_brace bs) _ _ n (drop_within bs n h) (index_within (digits_of bs) (behind_digits bs) n (digits_within bs n h)))
+    (within_cond (b == ascii.close_brace) _ _ n (within_cond (begins_with ascii.close_brace bs) _ _ n (drop_within bs n h) tt) h)
+
+-- ---- piece after piece
+
+abbrev AreWithin : ℕ → Type 0
+AreWithin n = (used : List Bool) (bs : List ℕ) → length bs ≤ n → used_from Outside used bs ≡ used_within n used bs
+
+same_cond : (t : Bool) (x y : Option (List Bool)) → x ≡ y → cond t x None ≡ cond t y None
+same_cond true x y e = e
+same_cond false x y e = refl
+
+further : (n : ℕ) (used : List Bool) (p : Piece) → IsWithin n p → AreWithin n → behind used p ≡ used_with (used_within n) used p
+further n used NoPiece h f = refl
+further n used (Plain rest) h f = f used rest h
+further n used (Argument k rest) h f = same_cond (nat_lt k (length used)) _ _ (f (slice_set used k true) rest h)
+
+within : (n : ℕ) → AreWithin n
+within zero used [] h = refl
+within (suc n) used [] h = refl
+within zero used (b ∷ bs) h = absurd (omega arith)
+within (suc n) used (b ∷ bs) h = piece used b bs ∙ further n used (piece_of (b ∷ bs)) (piece_within b bs n (omega arith)) (λ u cs k. within n u cs k)
+
+pub states_tell : (used : List Bool) (text : List ℕ) → used_from Outside used text ≡ used_within (length text) used text
+states_tell used text = within (length text) used text (omega arith)

@@ -1,0 +1,12 @@
+use Rattle.std.proofs.Common.{◌≡◌, ◌++◌, map, drop, string_bytes}
+use Rattle.al_expr_typing.specs.Arguments.{argument_at}
+use Rattle.al_base.specs.Growth.{BeginsWith}
+use Rattle.al_meaning.specs.Meaning.{wrong_arguments}
+use Rattle.al_expr_typing.proofs.calls.check_types.Given as goal
+
+abbrev pub invariant-loop-index : goal.invariant-loop-index
+invariant-loop-index l = record {
+  begins : BeginsWith l.out.items l.initial.out.items;
+  so_far : l.out.items ++ wrong_arguments (string_bytes l.name.text) l.parameters l.index (map (argument_at l.types) (drop l.index l.arguments))
+      ≡ l.initial.out.items ++ wrong_arguments (string_bytes l.name.text) l.parameters 0 (map (argument_at l.types) l.arguments);
+}

@@ -1,0 +1,16 @@
+use Rattle.std.proofs.Common.{◌∙◌, ap, sym}
+use Rattle.al_expr_types.specs.Tables.{objects_of}
+use Rattle.al_expr_types.specs.Types.{base_type}
+use Rattle.al_meaning.specs.Meaning.{behind, property_of, typed}
+use Rattle.al_expr_typing.proofs.Forms.{behind_arrays, in_arrays, property_arrays}
+use Rattle.al_expr_typing.proofs.steps.property.Goals as goal
+
+pub returns-clause-ok : goal.returns-clause-ok
+returns-clause-ok c =
+    let old = c.args.out.now.items in
+    let k = c.args.ty.arrays in
+    let base = base_type (objects_of c.args.types.now) c.args.ty.of in
+    let of = property_of c.args.name.now c.args.at c.args.whole base in
+    ap (λ t. typed t c.base_property.new.out.items) (c.in_ok-all.ensures.ty (objects_of c.base_property.new.types))
+    ∙ ap (in_arrays k) c.in_ok-of.ensures.ok ∙ behind_arrays k old of
+    ∙ ap (behind old) (sym (property_arrays k c.args.name.now c.args.at c.args.whole base))

@@ -1,0 +1,39 @@
+use Rattle.std.proofs.Common.{[], ◌++◌, sym, ap, ◌∙◌}
+use Rattle.std.specs.Prelude.{not}
+use Rattle.al_base.specs.declared.codes.ExpressionCode.TheVariants as code
+use Rattle.al_expr_grammar.specs.Refusal.{fault}
+use Rattle.al_meaning.specs.Comparison.{comparable_types}
+use Rattle.al_meaning.specs.Meaning.{typed, give}
+use Rattle.al_expr_types.specs.Joining.{join_in}
+use Rattle.al_expr_types.specs.Tables.{objects_of, type_at}
+use Rattle.al_expr_typing.specs.Chains.{type_so_far}
+use Rattle.al_expr_typing.proofs.ChainLemmas.{chosen, compared, more_fused, more_present}
+use Rattle.al_expr_typing.proofs.Shown.{type_stays}
+use Rattle.al_expr_typing.proofs.typing.operation.Goals as goal
+
+pub returns-then-is_logic-clause-ok : goal.returns-then-is_logic-clause-ok
+returns-then-is_logic-clause-ok c =
+    let types = c.args.types.now in
+    let ms = objects_of types in
+    let all = c.args.sofar in
+    let u = type_at types c.args.other in
+    let fused = more_fused (join_in ms all) (join_in ms c.in_ok-more.more) u c.requires.present (c.in_ok-more.ensures.ty ms) in
+    chosen c.args.operand.now.operator c.args.operand.now.at (type_so_far types all) u _ c.args.out.now.items (sym c.is_logic.ensures ∙ c.if-is_logic.true) fused
+
+pub returns-then-is_logic-clause-present : goal.returns-then-is_logic-clause-present
+returns-then-is_logic-clause-present c =
+    let ms = objects_of c.args.types.now in
+    more_present (join_in ms c.args.sofar) _ (type_at c.args.types.now c.args.other) c.requires.present (c.in_ok-more.ensures.ty ms)
+
+pub returns-clause-ok : goal.returns-clause-ok
+returns-clause-ok c =
+    let old = c.args.types.now in
+    let new = c.type_or_any.new.self in
+    let out = c.args.out.now.items in
+    let after = c.check_comparison.new.out.items in
+    let first = c.in_ok-first.ensures.ty in
+    let other = type_stays new old c.args.other c.in_ok-first.ensures.kept c.requires.other in
+    let faults = c.in_ok-check_comparison.ensures.ok
+    ∙ (λ d. out ++ give (not (comparable_types c.args.operand.now.operator (first d) (other d))) (fault code.NotComparable c.args.operand.now.at [])) in
+    ap (λ t. typed t after) (c.scalar.ensures.ty (objects_of new))
+    ∙ compared c.args.operand.now.operator c.args.operand.now.at (type_so_far old c.args.sofar) (type_at old c.args.other) out after (sym c.is_logic.ensures ∙ c.if-is_logic.false) faults

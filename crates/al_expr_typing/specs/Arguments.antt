@@ -1,0 +1,15 @@
+-- What clauses see of a call's arguments.
+use Rattle.std.specs.Prelude.{List, Bool}
+use Rattle.std.specs.List.{list_all}
+use Rattle.al_base.specs.declared.faults.Span.{Span}
+use Rattle.al_expr_typing.specs.declared.calls.Argument.{Argument}
+use Rattle.al_types.specs.Types.{Type'}
+use Rattle.al_expr_types.specs.Tables.{is_known, type_at}
+use Rattle.al_expr_types.specs.declared.types.Types.{Types}
+
+abbrev pub argument_at : Types → Argument → (Type' × Span)
+argument_at types a = (type_at types a.ty, a.span)
+
+-- whether each argument's type is one of the table
+abbrev pub are_known : Types → List Argument → Bool
+are_known types as' = list_all (λ a. is_known types a.ty) as'

@@ -1,0 +1,20 @@
+-- Words of private contracts: the states of the code that reads a text literal. What its value is, `Literals` says; that the two agree,
+-- `proofs/LiteralLemmas`.
+use Rattle.std.specs.Prelude.{ℕ, List, [], ◌∷◌, ◌++◌, if◌then◌else◌}
+use Rattle.al_meaning.specs.Literals.{is_quote}
+use Rattle.al_expr_typing.specs.declared.literals.Quoting.{Quoting}
+use Rattle.al_expr_typing.specs.declared.literals.Quoting.TheVariants.{Opening, Inside, BehindQuote}
+
+-- What a character adds to the value: the opening quote nothing, nor the first of two quotes, nor the closing one.
+abbrev pub adds : Quoting → ℕ → List ℕ
+adds Opening c = []
+adds Inside c = if is_quote c then [] else c ∷ []
+adds BehindQuote c = c ∷ []
+
+abbrev pub moves : Quoting → ℕ → Quoting
+moves Inside c = if is_quote c then BehindQuote else Inside
+moves _ c = Inside
+
+abbrev pub unquoted_from : Quoting → List ℕ → List ℕ
+unquoted_from q [] = []
+unquoted_from q (c ∷ cs) = adds q c ++ unquoted_from (moves q c) cs

@@ -1,0 +1,96 @@
+//! The value of a text literal.
+
+ghost use Rattle.std.specs.Prelude.{◌≡◌, ◌++◌, IfOk, OnOk, option_map, string_bytes};
+ghost use Rattle.std.specs.List.{flat_map};
+ghost use Rattle.std.specs.Char.{encode_utf8};
+ghost use Rattle.al_meaning.specs.Literals.{literal_text, text_value, type_of_keyword};
+ghost use Rattle.al_expr_typing.specs.Private.QuotingStates.{adds, moves};
+ghost use Rattle.al_expr_typing.specs.Private.LiteralViews.{literal_of};
+ghost use Rattle.al_expr_types.specs.Types.{scalar_type};
+ghost use Rattle.al_expr_grammar.specs.View.{tree_of};
+
+use al_base::Span;
+use al_expr_grammar::{Expr, Keyword};
+use al_expr_types::Scalar;
+use std::alloc::{AllocError, Global};
+
+/// The value of a text literal, and the place of the literal, its quotes included.
+#[derive(Drop)]
+pub struct Literal {
+    pub value: String,
+    pub span: Span,
+}
+
+/// Where the reader of a text literal stands.
+#[derive(Clone, Copy)]
+pub(crate) enum Quoting {
+    Opening,
+    Inside,
+    BehindQuote,
+}
+
+/// The value of a text literal, in brackets or not: none where the expression is no such literal.
+#[tactic(auto, using(al_expr_grammar::proofs::TreeViews::tree_views))]
+pub(crate) fn literal_text(alloc: Global, expr: &Expr) -> Result<Option<Literal>, AllocError>
+    ensures { IfOk result (λ l. option_map literal_of l ≡ literal_text (tree_of expr.now)) }
+{
+    match expr {
+        Expr::Text(word) => {
+            let value = text_value(alloc, word.text.as_str())?;
+            Ok(Some(Literal {
+                value,
+                span: word.span,
+            }))
+        }
+        Expr::Group(inner, _, _) => literal_text(alloc, inner),
+        Expr::Keyword(_, _)
+        | Expr::Number(_)
+        | Expr::Name(_)
+        | Expr::Call(_, _, _)
+        | Expr::Not(_, _)
+        | Expr::Path(_, _)
+        | Expr::Chain(_, _) => Ok(None),
+    }
+}
+
+/// The text between the quotes of a literal, a doubled quote as one.
+fn text_value(alloc: Global, literal: &str) -> Result<String, AllocError>
+    ensures { IfOk result (λ s. string_bytes s ≡ text_value literal.now) }
+{
+    let mut value = String::new(alloc);
+    let mut quoting = Quoting::Opening;
+    for ch in literal.chars() {
+        add(quoting, ch, &mut value)?;
+        quoting = moves(quoting, ch);
+    }
+    Ok(value)
+}
+
+fn add(quoting: Quoting, ch: char, value: &mut String) -> Result<(), AllocError>
+    ensures { OnOk result (string_bytes value.new ≡ string_bytes value.old ++ flat_map encode_utf8 (adds quoting ch)) }
+{
+    match quoting {
+        Quoting::Opening => Ok(()),
+        Quoting::Inside if ch == '\'' => Ok(()),
+        Quoting::Inside | Quoting::BehindQuote => value.push(ch),
+    }
+}
+
+fn moves(quoting: Quoting, ch: char) -> Quoting
+    ensures { result ≡ moves quoting ch }
+{
+    match quoting {
+        Quoting::Inside if ch == '\'' => Quoting::BehindQuote,
+        Quoting::Opening | Quoting::Inside | Quoting::BehindQuote => Quoting::Inside,
+    }
+}
+
+/// The type of `null`, `true` or `false`.
+pub(crate) fn type_of_keyword(keyword: Keyword) -> Scalar
+    ensures { scalar_type result ≡ type_of_keyword keyword }
+{
+    match keyword {
+        Keyword::Null => Scalar::Null,
+        Keyword::True | Keyword::False => Scalar::Bool,
+    }
+}

@@ -1,0 +1,534 @@
+//! The type of an expression, and the faults found on the way.
+
+ghost use Rattle.std.specs.Prelude.{◌≡◌, ◌++◌, ◌||◌, ◌&&◌, not, [], List, IfOk, OnOk, None, map, string_bytes, option_map, true, ℕ};
+ghost use Rattle.al_base.specs.declared.codes.ExpressionCode.TheVariants as code;
+ghost use Rattle.al_expr_grammar.specs.Refusal.{fault};
+ghost use Rattle.al_meaning.specs.Comparison.{comparable_types};
+ghost use Rattle.al_expr_typing.specs.Arguments.{are_known, argument_at};
+ghost use Rattle.al_expr_typing.specs.Chains.{has_operand, is_join_known, type_so_far};
+ghost use Rattle.al_expr_typing.specs.Scopes.{IsShown, scope_at};
+ghost use Rattle.al_types.specs.Types.{Parts};
+ghost use Rattle.al_expr_types.specs.Types.{is_below, scalar_type};
+ghost use Rattle.al_expr_types.specs.Types as numbers;
+ghost use Rattle.al_expr_types.specs.Tables.{is_known, objects_of, type_at};
+ghost use Rattle.al_base.specs.Growth.{BeginsWith};
+ghost use Rattle.al_meaning.specs.Meaning.{typed, type_in, faults_in, behind, meaning_of, walked, chained, meanings, operated, is_logic};
+ghost use Rattle.al_meaning.specs.Meaning.{begins_logic, give, untrusted, all_typed, all_behind, stepped, indexed, base_name};
+ghost use Rattle.al_meaning.specs.Meaning as meaning;
+ghost use Rattle.al_meaning.specs.Literals.{literal_text};
+ghost use Rattle.al_types.specs.Names.{context_of, function_of};
+ghost use Rattle.al_expr_grammar.specs.Tree.{steps_of, operands_of, arguments_of};
+ghost use Rattle.al_expr_grammar.specs.View.{tree_of, step_of, operand_of};
+
+use crate::calls::{Argument, Callee, called, is_test};
+use crate::comparison::comparable;
+use crate::literals::{literal_text, type_of_keyword};
+use crate::reports::{report_plain, report_text};
+use crate::scope::Scope;
+use crate::steps::{all, element, property};
+use crate::untrusted::untrusted_chain;
+use al_base::{ExpressionCode, Fault, Span};
+use al_expr_grammar::{Expr, Operand, Operator, PathStep, Word, across, extent, path_extent};
+use al_expr_types::{Base, Join, Scalar, Ty, Types};
+use al_types::{Context, Function};
+use std::alloc::{AllocError, Global};
+
+/// The type of an expression under a scope, with the faults in it added to `out` in the order in which it is read:
+/// X7 to X17 and X19. Spans are places in the expression's content. Where it is out of memory, `out` begins with what
+/// it held. Recursion goes no deeper than the expression's nesting.
+pub fn type_of(
+    alloc: Global,
+    types: &mut Types<'_>,
+    env: &Scope,
+    expr: &Expr,
+    out: &mut Vec<Fault>,
+) -> Result<Ty, AllocError>
+    requires { IsShown types.old env.now }
+    ensures ty { IfOk result (λ t. type_at types.new t ≡ type_in (meaning_of (scope_at types.old env.now) (tree_of expr.now))) }
+    ensures faults { OnOk result (out.new.items ≡ out.old.items ++ faults_in (meaning_of (scope_at types.old env.now) (tree_of expr.now))) }
+    ensures known { IfOk result (λ t. is_known types.new t ≡ true) }
+    ensures kept { BeginsWith (objects_of types.new) (objects_of types.old) }
+    ensures begins { BeginsWith out.new.items out.old.items }
+{
+    let around = Surroundings {
+        scope: env,
+        safe: false,
+    };
+    let ty = expression(alloc, types, around, expr, out)?;
+    Ok(ty)
+}
+
+// What an expression stands in.
+#[derive(Clone, Copy)]
+struct Surroundings<'s> {
+    scope: &'s Scope,
+    // Whether untrusted text does no harm there.
+    safe: bool,
+}
+
+#[tactic(auto, using(al_base::proofs::Growing::growth, crate::proofs::Shown::shown))]
+#[cycle(typing)]
+fn expression(
+    alloc: Global,
+    types: &mut Types<'_>,
+    around: Surroundings<'_>,
+    expr: &Expr,
+    out: &mut Vec<Fault>,
+) -> Result<Ty, AllocError>
+    requires shown { IsShown types.old around.scope.now }
+    ensures ok { IfOk result (λ t. typed (type_at types.new t) out.new.items ≡ behind out.old.items
+        (meaning.meaning (scope_at types.old (around.entry).scope.now) (around.entry).safe (tree_of expr.now))) }
+    ensures known { IfOk result (λ t. is_known types.new t ≡ true) }
+    ensures shown { IsShown types.new (around.entry).scope.now }
+    ensures kept { BeginsWith (objects_of types.new) (objects_of types.old) }
+    ensures begins { BeginsWith out.new.items out.old.items }
+{
+    match expr {
+        Expr::Keyword(keyword, _) => Ok(scalar(type_of_keyword(*keyword))),
+        Expr::Number(_) => Ok(scalar(Scalar::Number)),
+        Expr::Text(_) => Ok(Ty::STRING),
+        Expr::Name(word) => named(alloc, types, around.scope, word, out),
+        Expr::Group(inner, _, _) => expression(alloc, types, around, inner, out),
+        Expr::Not(_, operand) => {
+            let tested = Surroundings {
+                safe: true,
+                ..around
+            };
+            let _ty = expression(alloc, types, tested, operand, out)?;
+            Ok(scalar(Scalar::Bool))
+        }
+        Expr::Call(name, arguments, _) => call(alloc, types, around, name, arguments, out),
+        Expr::Path(base, steps) => {
+            let start = expression(alloc, types, around, base, out)?;
+            let ty = walk(alloc, types, around, steps, start, out)?;
+            check_untrusted(alloc, is_exposed(around), base, steps, out)?;
+            Ok(ty)
+        }
+        Expr::Chain(first, operands) => {
+            let compared = Surroundings {
+                safe: is_compared(around.safe, operands),
+                ..around
+            };
+            let start = expression(alloc, types, compared, first, out)?;
+            let ty = operations(alloc, types, compared, operands, start, out)?;
+            Ok(ty)
+        }
+    }
+}
+
+// The type of a scalar.
+pub(crate) fn scalar(of: Scalar) -> Ty
+    ensures ty { (ms : List Parts) → numbers.type_in ms result ≡ scalar_type of }
+    ensures known { (k : ℕ) → is_below k result ≡ true }
+{
+    Ty {
+        arrays: 0,
+        of: Base::Scalar(of),
+    }
+}
+
+// The type of a call, from the types of its arguments.
+#[tactic(auto, using(al_base::proofs::Growing::growth, crate::proofs::Shown::shown))]
+#[cycle(typing)]
+fn call(
+    alloc: Global,
+    types: &mut Types<'_>,
+    around: Surroundings<'_>,
+    name: &Word,
+    arguments: &[Expr],
+    out: &mut Vec<Fault>,
+) -> Result<Ty, AllocError>
+    requires shown { IsShown types.old around.scope.now }
+    ensures ok { IfOk result (λ t. typed (type_at types.new t) out.new.items ≡ behind out.old.items
+        (meaning.called (scope_at types.old (around.entry).scope.now) (string_bytes name.now.text) name.now.span
+        (function_of (string_bytes name.now.text)) (arguments_of (map tree_of arguments.now)) (meanings (scope_at types.old
+        (around.entry).scope.now)
+        ((around.entry).safe || meaning.is_test (function_of (string_bytes name.now.text))) (arguments_of (map tree_of arguments.now))))) }
+    ensures known { IfOk result (λ t. is_known types.new t ≡ true) }
+    ensures shown { IsShown types.new (around.entry).scope.now }
+    ensures kept { BeginsWith (objects_of types.new) (objects_of types.old) }
+    ensures begins { BeginsWith out.new.items out.old.items }
+{
+    let function = Function::named(name.text.as_str());
+    let tested = Surroundings {
+        safe: is_tested(around.safe, function),
+        ..around
+    };
+    let given = typed_arguments(alloc, types, tested, arguments, out)?;
+    let callee = Callee { name, function };
+    let ty = called(alloc, types, around.scope, callee, arguments, &given, out)?;
+    Ok(ty)
+}
+
+fn is_tested(safe: bool, function: Option<Function>) -> bool
+    ensures { result ≡ (safe || meaning.is_test function) }
+{
+    safe || is_test(function)
+}
+
+fn is_compared(safe: bool, operands: &[Operand]) -> bool
+    ensures { result ≡ (safe || not (begins_logic (operands_of (map operand_of operands.now)))) }
+{
+    safe || !begins_logic(operands)
+}
+
+fn is_exposed(around: Surroundings<'_>) -> bool
+    ensures { result ≡ ((around.entry).scope.now.in_run && not (around.entry).safe) }
+{
+    around.scope.in_run && !around.safe
+}
+
+#[tactic(auto, using(al_base::proofs::Growing::growth, al_meaning::proofs::TypedSteps::typing))]
+fn named(
+    alloc: Global,
+    types: &Types<'_>,
+    scope: &Scope,
+    word: &Word,
+    out: &mut Vec<Fault>,
+) -> Result<Ty, AllocError>
+    requires { IsShown types.now scope.now }
+    ensures ok { IfOk result (λ t. typed (type_at types.now t) out.new.items ≡ behind out.old.items
+        (meaning.named (scope_at types.now scope.now) (string_bytes word.now.text) word.now.span (context_of
+        (string_bytes word.now.text)))) }
+    ensures known { IfOk result (λ t. is_known types.now t ≡ true) }
+    ensures begins { BeginsWith out.new.items out.old.items }
+{
+    let name = word.text.as_str();
+    let code = match Context::named(name) {
+        Some(context) => {
+            if scope.contexts.contains(context) {
+                return Ok(scope.types.get(context));
+            }
+            ExpressionCode::UnavailableContext
+        }
+        None => ExpressionCode::UndefinedContext,
+    };
+    report_text(alloc, out, code, word.span, name)?;
+    Ok(Ty::ANY)
+}
+
+// The type behind the steps of a path, from the type before them.
+#[tactic(auto, using(al_base::proofs::Growing::growth, crate::proofs::Shown::shown))]
+#[cycle(typing)]
+fn walk(
+    alloc: Global,
+    types: &mut Types<'_>,
+    around: Surroundings<'_>,
+    steps: &[PathStep],
+    start: Ty,
+    out: &mut Vec<Fault>,
+) -> Result<Ty, AllocError>
+    requires shown { IsShown types.old around.scope.now }
+    requires known { is_known types.old start ≡ true }
+    ensures ok { IfOk result (λ t. typed (type_at types.new t) out.new.items ≡ behind out.old.items
+        (walked (scope_at types.old (around.entry).scope.now) (around.entry).safe (steps_of (map step_of steps.now))
+        (type_at types.old start))) }
+    ensures known { IfOk result (λ t. is_known types.new t ≡ true) }
+    ensures shown { IsShown types.new (around.entry).scope.now }
+    ensures kept { BeginsWith (objects_of types.new) (objects_of types.old) }
+    ensures begins { BeginsWith out.new.items out.old.items }
+{
+    let mut here = start;
+    for step in steps {
+        let next = step_from(alloc, types, around, step, here, out)?;
+        here = next;
+    }
+    Ok(here)
+}
+
+// The type behind one step of a path.
+#[tactic(auto, using(al_base::proofs::Growing::growth, crate::proofs::Shown::shown))]
+#[cycle(typing)]
+fn step_from(
+    alloc: Global,
+    types: &mut Types<'_>,
+    around: Surroundings<'_>,
+    step: &PathStep,
+    here: Ty,
+    out: &mut Vec<Fault>,
+) -> Result<Ty, AllocError>
+    requires shown { IsShown types.old around.scope.now }
+    requires known { is_known types.old here ≡ true }
+    ensures ok { IfOk result (λ t. typed (type_at types.new t) out.new.items ≡ behind out.old.items
+        (stepped (scope_at types.old (around.entry).scope.now) (around.entry).safe (step_of step.now) (type_at types.old here))) }
+    ensures known { IfOk result (λ t. is_known types.new t ≡ true) }
+    ensures shown { IsShown types.new (around.entry).scope.now }
+    ensures kept { BeginsWith (objects_of types.new) (objects_of types.old) }
+    ensures begins { BeginsWith out.new.items out.old.items }
+{
+    match step {
+        PathStep::Property(dot, name) => property(
+            alloc,
+            types,
+            here,
+            name.text.as_str(),
+            name.span,
+            across(*dot, name.span),
+            out,
+        ),
+        PathStep::All(first, last) => all(types, here, across(*first, *last), out),
+        PathStep::Index(open, index, close) => index_from(
+            alloc,
+            types,
+            around,
+            index,
+            across(*open, *close),
+            here,
+            out,
+        ),
+    }
+}
+
+// The type behind an index: a property where it is a text literal, else an element.
+#[tactic(auto, using(al_base::proofs::Growing::growth, crate::proofs::Shown::shown))]
+#[cycle(typing)]
+fn index_from(
+    alloc: Global,
+    types: &mut Types<'_>,
+    around: Surroundings<'_>,
+    index: &Expr,
+    whole: Span,
+    here: Ty,
+    out: &mut Vec<Fault>,
+) -> Result<Ty, AllocError>
+    requires shown { IsShown types.old around.scope.now }
+    requires known { is_known types.old here ≡ true }
+    ensures ok { IfOk result (λ t. typed (type_at types.new t) out.new.items ≡ behind out.old.items
+        (indexed (literal_text (tree_of index.now)) whole (type_at types.old here)
+        (meaning.meaning (scope_at types.old (around.entry).scope.now) (around.entry).safe (tree_of index.now)))) }
+    ensures known { IfOk result (λ t. is_known types.new t ≡ true) }
+    ensures shown { IsShown types.new (around.entry).scope.now }
+    ensures kept { BeginsWith (objects_of types.new) (objects_of types.old) }
+    ensures begins { BeginsWith out.new.items out.old.items }
+{
+    let literal = literal_text(alloc, index)?;
+    match literal {
+        Some(name) => property(
+            alloc,
+            types,
+            here,
+            name.value.as_str(),
+            name.span,
+            whole,
+            out,
+        ),
+        None => {
+            let of = element_from(alloc, types, around, index, whole, here, out)?;
+            Ok(of)
+        }
+    }
+}
+
+// The type of the element that an index tells.
+#[tactic(auto, using(al_base::proofs::Growing::growth, crate::proofs::Shown::shown))]
+#[cycle(typing)]
+fn element_from(
+    alloc: Global,
+    types: &mut Types<'_>,
+    around: Surroundings<'_>,
+    index: &Expr,
+    whole: Span,
+    ty: Ty,
+    out: &mut Vec<Fault>,
+) -> Result<Ty, AllocError>
+    requires shown { IsShown types.old around.scope.now }
+    requires known { is_known types.old ty ≡ true }
+    ensures ok { IfOk result (λ t. typed (type_at types.new t) out.new.items ≡ behind out.old.items
+        (indexed None whole (type_at types.old ty) (meaning.meaning (scope_at types.old (around.entry).scope.now) (around.entry).safe
+        (tree_of index.now)))) }
+    ensures known { IfOk result (λ t. is_known types.new t ≡ true) }
+    ensures shown { IsShown types.new (around.entry).scope.now }
+    ensures kept { BeginsWith (objects_of types.new) (objects_of types.old) }
+    ensures begins { BeginsWith out.new.items out.old.items }
+{
+    let by = expression(alloc, types, around, index, out)?;
+    let of = element(ty, by, whole, out)?;
+    Ok(of)
+}
+
+// The type of the operators of one level and their operands, from the type of the first operand.
+#[tactic(auto, using(al_base::proofs::Growing::growth, crate::proofs::Shown::shown))]
+#[cycle(typing)]
+fn operations(
+    alloc: Global,
+    types: &mut Types<'_>,
+    around: Surroundings<'_>,
+    operands: &[Operand],
+    start: Ty,
+    out: &mut Vec<Fault>,
+) -> Result<Ty, AllocError>
+    requires shown { IsShown types.old around.scope.now }
+    requires known { is_known types.old start ≡ true }
+    ensures ok { IfOk result (λ t. typed (type_at types.new t) out.new.items ≡ behind out.old.items
+        (chained (scope_at types.old (around.entry).scope.now) (around.entry).safe (operands_of (map operand_of operands.now))
+        (type_at types.old start))) }
+    ensures known { IfOk result (λ t. is_known types.new t ≡ true) }
+    ensures shown { IsShown types.new (around.entry).scope.now }
+    ensures kept { BeginsWith (objects_of types.new) (objects_of types.old) }
+    ensures begins { BeginsWith out.new.items out.old.items }
+{
+    let mut all = Join::One(start);
+    for operand in operands {
+        let other = expression(alloc, types, around, &operand.expr, out)?;
+        let more = operation(alloc, types, operand, all, other, out)?;
+        all = more;
+    }
+    let ty = types.type_or_any(all)?;
+    Ok(ty)
+}
+
+// The operands so far, with an operator more and the type of its operand. What the branches of `||` and `&&` have in common becomes a type
+// at their end, so that a long chain makes one object.
+#[tactic(auto, using(al_base::proofs::Growing::growth))]
+fn operation(
+    alloc: Global,
+    types: &mut Types<'_>,
+    operand: &Operand,
+    sofar: Join,
+    other: Ty,
+    out: &mut Vec<Fault>,
+) -> Result<Join, AllocError>
+    requires below { is_join_known types.old sofar ≡ true }
+    requires present { has_operand types.old sofar ≡ true }
+    requires other { is_known types.old other ≡ true }
+    ensures ok { IfOk result (λ j. typed (type_so_far types.new j) out.new.items ≡ behind out.old.items
+        (operated operand.now.operator operand.now.at (type_so_far types.old sofar) (type_at types.old other))) }
+    ensures below { IfOk result (λ j. is_join_known types.new j ≡ true) }
+    ensures present { IfOk result (λ j. has_operand types.new j ≡ true) }
+    ensures kept { BeginsWith (objects_of types.new) (objects_of types.old) }
+    ensures begins { BeginsWith out.new.items out.old.items }
+{
+    if is_logic(operand.operator) {
+        let more = sofar.and(alloc, other)?;
+        return Ok(more);
+    }
+    let first = types.type_or_any(sofar)?;
+    check_comparison(types, operand, first, other, out)?;
+    Ok(Join::One(scalar(Scalar::Bool)))
+}
+
+#[tactic(auto, using(al_base::proofs::Growing::growth))]
+fn check_comparison(
+    types: &Types<'_>,
+    operand: &Operand,
+    a: Ty,
+    b: Ty,
+    out: &mut Vec<Fault>,
+) -> Result<(), AllocError>
+    ensures ok { OnOk result (out.new.items ≡ out.old.items
+        ++ give (not (comparable_types operand.now.operator (type_at types.now a) (type_at types.now b)))
+        (fault code.NotComparable operand.now.at [])) }
+    ensures begins { BeginsWith out.new.items out.old.items }
+{
+    if !comparable(operand.operator, a, b) {
+        report_plain(out, ExpressionCode::NotComparable, operand.at)?;
+    }
+    Ok(())
+}
+
+fn is_logic(operator: Operator) -> bool
+    ensures { result ≡ is_logic operator }
+{
+    match operator {
+        Operator::Or => true,
+        Operator::And => true,
+        Operator::Equal => false,
+        Operator::NotEqual => false,
+        Operator::Less => false,
+        Operator::LessEqual => false,
+        Operator::Greater => false,
+        Operator::GreaterEqual => false,
+    }
+}
+
+/// Whether operators choose between their operands, so that these are branches. All operators of a level are of one kind, so the first
+/// tells.
+#[tactic(auto, using(al_expr_grammar::proofs::TreeViews::operand_view))]
+pub(crate) fn begins_logic(operands: &[Operand]) -> bool
+    ensures { result ≡ begins_logic (operands_of (map operand_of operands.now)) }
+{
+    match operands {
+        [first, ..] => is_logic(first.operator),
+        [] => false,
+    }
+}
+
+// The types and places of arguments.
+#[tactic(auto, using(al_base::proofs::Growing::growth, crate::proofs::Shown::shown))]
+#[cycle(typing)]
+fn typed_arguments(
+    alloc: Global,
+    types: &mut Types<'_>,
+    around: Surroundings<'_>,
+    exprs: &[Expr],
+    out: &mut Vec<Fault>,
+) -> Result<Vec<Argument>, AllocError>
+    requires shown { IsShown types.old around.scope.now }
+    ensures ok { IfOk result (λ v. all_typed (map (argument_at types.new) v.items) out.new.items ≡ all_behind [] out.old.items
+        (meanings (scope_at types.old (around.entry).scope.now) (around.entry).safe (arguments_of (map tree_of exprs.now)))) }
+    ensures known { IfOk result (λ v. are_known types.new v.items ≡ true) }
+    ensures shown { IsShown types.new (around.entry).scope.now }
+    ensures kept { BeginsWith (objects_of types.new) (objects_of types.old) }
+    ensures begins { BeginsWith out.new.items out.old.items }
+{
+    let mut arguments = Vec::new(alloc);
+    for expr in exprs {
+        let ty = expression(alloc, types, around, expr, out)?;
+        arguments.push(Argument {
+            ty,
+            span: extent(expr),
+        })?;
+    }
+    Ok(arguments)
+}
+
+// Adds the fault of a path that is an untrusted chain, where its text could do harm.
+#[tactic(auto, using(al_base::proofs::Growing::growth, al_meaning::proofs::Paths::parts))]
+fn check_untrusted(
+    alloc: Global,
+    exposed: bool,
+    base: &Expr,
+    steps: &[PathStep],
+    out: &mut Vec<Fault>,
+) -> Result<(), AllocError>
+    ensures ok { OnOk result (out.new.items ≡ out.old.items ++ untrusted exposed (tree_of base.now) (steps_of (map step_of steps.now))) }
+    ensures begins { BeginsWith out.new.items out.old.items }
+{
+    if !exposed {
+        return Ok(());
+    }
+    let Some(name) = base_name(base) else {
+        return Ok(());
+    };
+    let chain = untrusted_chain(alloc, name, steps)?;
+    match chain {
+        Some(chain) => {
+            report_text(
+                alloc,
+                out,
+                ExpressionCode::Untrusted,
+                path_extent(base, steps),
+                chain.as_str(),
+            )
+        }
+        None => Ok(()),
+    }
+}
+
+// The name that a path begins with: a bracket ends a chain.
+#[tactic(auto, using(al_expr_grammar::proofs::TreeViews::tree_views))]
+fn base_name(base: &Expr) -> Option<&str>
+    ensures { option_map (λ n. n.now) result ≡ base_name (tree_of base.now) }
+{
+    match base {
+        Expr::Name(word) => Some(word.text.as_str()),
+        Expr::Keyword(_, _) => None,
+        Expr::Number(_) => None,
+        Expr::Text(_) => None,
+        Expr::Call(_, _, _) => None,
+        Expr::Group(_, _, _) => None,
+        Expr::Not(_, _) => None,
+        Expr::Path(_, _) => None,
+        Expr::Chain(_, _) => None,
+    }
+}

@@ -1,0 +1,136 @@
+//! Paths to what an outsider can write, which must not go into a script.
+
+ghost use Rattle.std.specs.Prelude.{◌≡◌, ◌∷◌, IfOk, length, map, option_map, string_bytes};
+ghost use Rattle.al_meaning.specs.Untrusted.{untrusted_chains, part_of, same_parts, chain_among, with_dots};
+ghost use Rattle.al_base.specs.Names.{same_name};
+ghost use Rattle.al_expr_grammar.specs.View.{step_of};
+
+use crate::literals::literal_text;
+use al_base::is_same_name;
+use al_expr_grammar::PathStep;
+use std::alloc::{AllocError, Global};
+
+type Parts = &'static [&'static str];
+
+/// Chains whose text comes from outside, as whoever opened an issue or named a branch wrote it.
+const UNTRUSTED: [Parts; 18] = [
+    &["github", "head_ref"],
+    &["github", "event", "issue", "title"],
+    &["github", "event", "issue", "body"],
+    &["github", "event", "pull_request", "title"],
+    &["github", "event", "pull_request", "body"],
+    &["github", "event", "pull_request", "head", "ref"],
+    &["github", "event", "pull_request", "head", "label"],
+    &["github", "event", "comment", "body"],
+    &["github", "event", "review", "body"],
+    &["github", "event", "discussion", "title"],
+    &["github", "event", "discussion", "body"],
+    &["github", "event", "pages", "*", "page_name"],
+    &["github", "event", "commits", "*", "message"],
+    &["github", "event", "commits", "*", "author", "name"],
+    &["github", "event", "commits", "*", "author", "email"],
+    &["github", "event", "head_commit", "message"],
+    &["github", "event", "head_commit", "author", "name"],
+    &["github", "event", "head_commit", "author", "email"],
+];
+
+/// The untrusted chain that a name with these steps behind it is, with dots between its parts.
+pub(crate) fn untrusted_chain(
+    alloc: Global,
+    name: &str,
+    steps: &[PathStep],
+) -> Result<Option<String>, AllocError>
+    ensures { IfOk result (λ c. option_map string_bytes c ≡ option_map with_dots
+        (chain_among untrusted_chains (name.now ∷ map part_of (map step_of steps.now)))) }
+{
+    let found = find_chain(alloc, &UNTRUSTED, name, steps)?;
+    let text = chain_text(alloc, found)?;
+    Ok(text)
+}
+
+fn chain_text(alloc: Global, chain: Option<Parts>) -> Result<Option<String>, AllocError>
+    ensures { IfOk result (λ c. option_map string_bytes c ≡ option_map with_dots (option_map (λ p. map (λ q. q.now) p.now) chain.entry)) }
+{
+    match chain {
+        Some(parts) => Ok(Some(with_dots(alloc, parts)?)),
+        None => Ok(None),
+    }
+}
+
+fn find_chain<'c>(
+    alloc: Global,
+    chains: &'c [Parts],
+    name: &str,
+    steps: &[PathStep],
+) -> Result<Option<Parts>, AllocError>
+    ensures { IfOk result (λ c. option_map (λ p. map (λ q. q.now) p.now) c
+        ≡ chain_among (map (λ p. map (λ q. q.now) p.now) chains.now) (name.now ∷ map part_of (map step_of steps.now))) }
+{
+    for chain in chains {
+        if is_chain(alloc, chain, name, steps)? {
+            return Ok(Some(*chain));
+        }
+    }
+    Ok(None)
+}
+
+fn is_chain(
+    alloc: Global,
+    chain: &[&str],
+    name: &str,
+    steps: &[PathStep],
+) -> Result<bool, AllocError>
+    ensures { IfOk result (λ b. b ≡ same_parts (map (λ p. p.now) chain.now) (name.now ∷ map part_of (map step_of steps.now))) }
+{
+    let [first, rest @ ..] = chain else {
+        return Ok(false);
+    };
+    if rest.len() != steps.len() {
+        return Ok(false);
+    }
+    if !is_same_name(first.as_bytes(), name.as_bytes()) {
+        return Ok(false);
+    }
+    are_parts(alloc, rest, steps)
+}
+
+fn are_parts(alloc: Global, parts: &[&str], steps: &[PathStep]) -> Result<bool, AllocError>
+    requires { length parts.now ≡ length steps.now }
+    ensures { IfOk result (λ b. b ≡ same_parts (map (λ p. p.now) parts.now) (map part_of (map step_of steps.now))) }
+{
+    for (index, step) in steps.iter().enumerate() {
+        if !is_part(alloc, parts[index], step)? {
+            return Ok(false);
+        }
+    }
+    Ok(true)
+}
+
+#[tactic(auto, using(al_expr_grammar::proofs::TreeViews::step_views))]
+fn is_part(alloc: Global, part: &str, step: &PathStep) -> Result<bool, AllocError>
+    ensures { IfOk result (λ b. b ≡ same_name part.now (part_of (step_of step.now))) }
+{
+    let part = part.as_bytes();
+    match step {
+        PathStep::Property(_, name) => Ok(is_same_name(part, name.text.as_bytes())),
+        PathStep::All(_, _) => Ok(is_same_name(part, b"*")),
+        PathStep::Index(_, index, _) => match literal_text(alloc, index)? {
+            Some(literal) => Ok(is_same_name(part, literal.value.as_bytes())),
+            None => Ok(is_same_name(part, b"*")),
+        },
+    }
+}
+
+fn with_dots(alloc: Global, parts: &[&str]) -> Result<String, AllocError>
+    ensures { IfOk result (λ s. string_bytes s ≡ with_dots (map (λ p. p.now) parts.now)) }
+{
+    let [first, rest @ ..] = parts else {
+        return Ok(String::new(alloc));
+    };
+    let mut text = String::from_str(alloc, first)?;
+    for part in rest {
+        text.push_str(".")?;
+        text.push_str(part)?;
+    }
+    Ok(text)
+}
