@@ -1,6 +1,5 @@
 -- What is kept of a file that was read.
 use Rattle.std.specs.Prelude.{◌≡◌, ℕ, List, map}
-use Rattle.al_base.specs.declared.faults.Fault.{Fault}
 use Rattle.al_tree.specs.declared.files.FileKind.{FileKind}
 use Rattle.al_check_interfaces.specs.declared.calls.Call.{Call}
 use Rattle.al_check_interfaces.specs.declared.interfaces.Interface.{Interface}

@@ -1,4 +1,4 @@
-use Rattle.std.proofs.Common.{◌≡◌, ◌∙◌}
+use Rattle.std.proofs.Common.{◌∙◌}
 use Rattle.al_check.proofs.Given.{calls_kept_of, interface_shown}
 use Rattle.al_check.specs.declared.units.Unit.TheVariants as unit
 use Rattle.al_check.proofs.units.brief_of.Goals as goal
