@@ -1,9 +1,11 @@
 -- What a place makes available, by a table of types.
-use Rattle.std.specs.Prelude.{◌≡◌, true}
+use Rattle.std.specs.Prelude.{◌≡◌, List, true}
 use Rattle.al_types.specs.Scopes.{Scope, is_allowed, is_available}
 use Rattle.al_types.specs.declared.names.Context.{Context}
 use Rattle.al_types.specs.declared.names.Context.TheVariants as context
-use Rattle.al_expr_types.specs.Tables.{is_known, type_at}
+use Rattle.al_types.specs.Types.{Parts}
+use Rattle.al_expr_types.specs.Tables.{is_known, objects_of}
+use Rattle.al_expr_types.specs.Types.{type_in}
 use Rattle.al_expr_types.specs.declared.ty.Ty.{Ty}
 use Rattle.al_expr_types.specs.declared.types.Types.{Types}
 use Rattle.al_expr_typing.specs.declared.scope.ContextTypes.{ContextTypes}
@@ -23,14 +25,17 @@ number_of ts context.Steps = ts.steps
 number_of ts context.Matrix = ts.matrix
 number_of ts context.Inputs = ts.inputs
 
-abbrev pub scope_at : Types → code.Scope → Scope
-scope_at types s =
+abbrev pub scope_in : List Parts → code.Scope → Scope
+scope_in ms s =
     record {
-      types = λ c. type_at types (number_of s.types c);
+      types = λ c. type_in ms (number_of s.types c);
       available = is_available s.contexts;
       allowed = is_allowed s.functions;
       in_run = s.in_run;
     }
+
+abbrev pub scope_at : Types → code.Scope → Scope
+scope_at types s = scope_in (objects_of types) s
 
 -- each context's type is one of the table
 pub record IsShown (types : Types) (s : code.Scope) : Type 0 where

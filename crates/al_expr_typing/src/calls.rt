@@ -7,13 +7,12 @@ ghost use Rattle.al_meaning.specs.Meaning.{placeholder_faults, unused};
 ghost use Rattle.al_meaning.specs.Meaning as meaning;
 ghost use Rattle.al_meaning.specs.Placeholders.{used_arguments};
 ghost use Rattle.al_expr_grammar.specs.Refusal.{fault};
-ghost use Rattle.al_expr_typing.specs.Arguments.{argument_at};
+ghost use Rattle.al_expr_typing.specs.Arguments.{argument_in};
 ghost use Rattle.al_types.specs.Scopes.{is_allowed};
-ghost use Rattle.al_expr_typing.specs.Scopes.{scope_at};
+ghost use Rattle.al_expr_typing.specs.Scopes.{scope_in};
 ghost use Rattle.al_types.specs.Signatures.{accepts, returned_type, wanted};
 ghost use Rattle.al_expr_grammar.specs.Tree.{arguments_of};
 ghost use Rattle.al_types.specs.Types.{Parts, is_array, is_object};
-ghost use Rattle.al_expr_types.specs.Tables.{is_known, type_at};
 ghost use Rattle.al_expr_types.specs.Types.{is_below, type_in};
 ghost use Rattle.al_expr_grammar.specs.View.{tree_of};
 ghost use Rattle.std.specs.Fmt.{decimal};
@@ -27,7 +26,7 @@ use crate::scope::Scope;
 use crate::typing::scalar;
 use al_base::{Args, ExpressionCode, Fault, Span};
 use al_expr_grammar::{Expr, Word};
-use al_expr_types::{Scalar, Ty, Types};
+use al_expr_types::{Scalar, Ty};
 use al_types::{Form, Function, Parameters, Returned, Wanted};
 use std::alloc::{AllocError, Global};
 
@@ -71,18 +70,17 @@ pub(crate) fn is_test(function: Option<Function>) -> bool
 #[tactic(auto, using(al_base::proofs::Growing::growth))]
 pub(crate) fn called(
     alloc: Global,
-    types: &Types<'_>,
     scope: &Scope,
     callee: Callee<'_>,
     exprs: &[Expr],
     arguments: &[Argument],
     out: &mut Vec<Fault>,
 ) -> Result<Ty, AllocError>
-    ensures ok { IfOk result (λ t. typed (type_at types.now t) out.new.items ≡ behind out.old.items
-        (called_with (scope_at types.now scope.now) (string_bytes (callee.entry).name.now.text) (callee.entry).name.now.span
+    ensures ok { IfOk result (λ t. (ms : List Parts) → typed (type_in ms t) out.new.items ≡ behind out.old.items
+        (called_with (scope_in ms scope.now) (string_bytes (callee.entry).name.now.text) (callee.entry).name.now.span
         (callee.entry).function
-        (arguments_of (map tree_of exprs.now)) (map (argument_at types.now) arguments.now))) }
-    ensures known { IfOk result (λ t. is_known types.now t ≡ true) }
+        (arguments_of (map tree_of exprs.now)) (map (argument_in ms) arguments.now))) }
+    ensures known { IfOk result (λ t. (k : ℕ) → is_below k t ≡ true) }
     ensures begins { BeginsWith out.new.items out.old.items }
 {
     let name = callee.name;
@@ -98,8 +96,8 @@ pub(crate) fn called(
     };
     check_available(alloc, scope, name, function, out)?;
     let signature = function.signature();
-    check_arguments(alloc, types, name, signature.parameters, arguments, out)?;
-    check_format(alloc, types, function, exprs, arguments, out)?;
+    check_arguments(alloc, name, signature.parameters, arguments, out)?;
+    check_format(alloc, function, exprs, arguments, out)?;
     Ok(returned_type(signature.returned))
 }
 
@@ -130,18 +128,17 @@ fn check_available(
 #[tactic(auto, using(al_base::proofs::Growing::growth))]
 fn check_arguments(
     alloc: Global,
-    types: &Types<'_>,
     name: &Word,
     parameters: Parameters,
     arguments: &[Argument],
     out: &mut Vec<Fault>,
 ) -> Result<(), AllocError>
-    ensures ok { OnOk result (out.new.items ≡ out.old.items ++
-        argument_faults (string_bytes name.now.text) name.now.span parameters (map (argument_at types.now) arguments.now)) }
+    ensures ok { OnOk result ((ms : List Parts) → out.new.items ≡ out.old.items ++
+        argument_faults (string_bytes name.now.text) name.now.span parameters (map (argument_in ms) arguments.now)) }
     ensures begins { BeginsWith out.new.items out.old.items }
 {
     if parameters.takes(arguments.len()) {
-        check_types(alloc, types, name, parameters, arguments, out)
+        check_types(alloc, name, parameters, arguments, out)
     } else {
         report_text(
             alloc,
@@ -156,18 +153,17 @@ fn check_arguments(
 #[tactic(auto, using(al_base::proofs::Growing::growth))]
 fn check_types(
     alloc: Global,
-    types: &Types<'_>,
     name: &Word,
     parameters: Parameters,
     arguments: &[Argument],
     out: &mut Vec<Fault>,
 ) -> Result<(), AllocError>
-    ensures ok { OnOk result (out.new.items ≡ out.old.items ++
-        wrong_arguments (string_bytes name.now.text) parameters 0 (map (argument_at types.now) arguments.now)) }
+    ensures ok { OnOk result ((ms : List Parts) → out.new.items ≡ out.old.items ++
+        wrong_arguments (string_bytes name.now.text) parameters 0 (map (argument_in ms) arguments.now)) }
     ensures begins { BeginsWith out.new.items out.old.items }
 {
     for (index, argument) in arguments.iter().enumerate() {
-        check_type(alloc, types, name, parameters, index, argument, out)?;
+        check_type(alloc, name, parameters, index, argument, out)?;
     }
     Ok(())
 }
@@ -175,7 +171,6 @@ fn check_types(
 #[tactic(auto, using(al_base::proofs::Growing::growth))]
 fn check_type(
     alloc: Global,
-    types: &Types<'_>,
     name: &Word,
     parameters: Parameters,
     index: usize,
@@ -183,8 +178,8 @@ fn check_type(
     out: &mut Vec<Fault>,
 ) -> Result<(), AllocError>
     requires { index + 2 < 2 ^ 64 }
-    ensures ok { OnOk result (out.new.items ≡ out.old.items ++
-        give (not (accepts (wanted parameters index) (type_at types.now argument.now.ty)))
+    ensures ok { OnOk result ((ms : List Parts) → out.new.items ≡ out.old.items ++
+        give (not (accepts (wanted parameters index) (type_in ms argument.now.ty)))
         (fault code.ArgumentType argument.now.span (decimal (index + 1) ∷ string_bytes name.now.text ∷ []))) }
     ensures begins { BeginsWith out.new.items out.old.items }
 {
@@ -199,14 +194,13 @@ fn check_type(
 #[tactic(auto, using(al_base::proofs::Growing::growth))]
 fn check_format(
     alloc: Global,
-    types: &Types<'_>,
     function: Function,
     exprs: &[Expr],
     arguments: &[Argument],
     out: &mut Vec<Fault>,
 ) -> Result<(), AllocError>
-    ensures ok { OnOk result (out.new.items ≡ out.old.items ++
-        format_faults function (arguments_of (map tree_of exprs.now)) (map (argument_at types.now) arguments.now)) }
+    ensures ok { OnOk result ((ms : List Parts) → out.new.items ≡ out.old.items ++
+        format_faults function (arguments_of (map tree_of exprs.now)) (map (argument_in ms) arguments.now)) }
     ensures begins { BeginsWith out.new.items out.old.items }
 {
     if function != Function::Format {
@@ -216,19 +210,13 @@ fn check_format(
         return Ok(());
     };
     match literal_text(alloc, first)? {
-        Some(literal) => check_placeholders(
-            alloc,
-            types,
-            &literal,
-            behind_first(types, arguments),
-            out,
-        ),
+        Some(literal) => check_placeholders(alloc, &literal, behind_first(arguments), out),
         None => Ok(()),
     }
 }
 
-fn behind_first<'g>(types: &Types<'_>, arguments: &'g [Argument]) -> &'g [Argument]
-    ensures { map (argument_at types.now) result.now ≡ meaning.rest_of (map (argument_at types.now) arguments.now) }
+fn behind_first(arguments: &[Argument]) -> &[Argument]
+    ensures { (ms : List Parts) → map (argument_in ms) result.now ≡ meaning.rest_of (map (argument_in ms) arguments.now) }
 {
     match arguments {
         [] => &[],
@@ -239,18 +227,17 @@ fn behind_first<'g>(types: &Types<'_>, arguments: &'g [Argument]) -> &'g [Argume
 #[tactic(auto, using(al_base::proofs::Growing::growth))]
 fn check_placeholders(
     alloc: Global,
-    types: &Types<'_>,
     literal: &Literal,
     arguments: &[Argument],
     out: &mut Vec<Fault>,
 ) -> Result<(), AllocError>
-    ensures ok { OnOk result (out.new.items ≡ out.old.items ++
+    ensures ok { OnOk result ((ms : List Parts) → out.new.items ≡ out.old.items ++
         placeholder_faults literal.now.span (used_arguments (length arguments.now) (string_bytes literal.now.value))
-        (map (argument_at types.now) arguments.now)) }
+        (map (argument_in ms) arguments.now)) }
     ensures begins { BeginsWith out.new.items out.old.items }
 {
     match used_arguments(alloc, literal.value.as_str(), arguments.len())? {
-        Some(used) => check_used(alloc, types, &used, arguments, out),
+        Some(used) => check_used(alloc, &used, arguments, out),
         None => report_plain(out, ExpressionCode::WrongPlaceholder, literal.span),
     }
 }
@@ -258,12 +245,12 @@ fn check_placeholders(
 #[tactic(auto, using(al_base::proofs::Growing::growth))]
 fn check_used(
     alloc: Global,
-    types: &Types<'_>,
     used: &[bool],
     arguments: &[Argument],
     out: &mut Vec<Fault>,
 ) -> Result<(), AllocError>
-    ensures ok { OnOk result (out.new.items ≡ out.old.items ++ unused 0 used.now (map (argument_at types.now) arguments.now)) }
+    ensures ok { OnOk result ((ms : List Parts) → out.new.items ≡ out.old.items
+        ++ unused 0 used.now (map (argument_in ms) arguments.now)) }
     ensures begins { BeginsWith out.new.items out.old.items }
 {
     for (index, argument) in arguments.iter().enumerate() {

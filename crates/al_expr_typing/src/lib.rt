@@ -2,6 +2,7 @@
 #![tactic(auto)]
 
 mod calls;
+mod chains;
 mod comparison;
 mod literals;
 mod placeholders;

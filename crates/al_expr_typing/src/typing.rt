@@ -1,19 +1,15 @@
 //! The type of an expression, and the faults found on the way.
 
 ghost use Rattle.std.specs.Prelude.{◌≡◌, ◌++◌, ◌||◌, ◌&&◌, not, [], List, IfOk, OnOk, None, map, string_bytes, option_map, true, ℕ};
-ghost use Rattle.al_base.specs.declared.codes.ExpressionCode.TheVariants as code;
-ghost use Rattle.al_expr_grammar.specs.Refusal.{fault};
-ghost use Rattle.al_meaning.specs.Comparison.{comparable_types};
 ghost use Rattle.al_expr_typing.specs.Arguments.{are_known, argument_at};
-ghost use Rattle.al_expr_typing.specs.Chains.{has_operand, is_join_known, type_so_far};
-ghost use Rattle.al_expr_typing.specs.Scopes.{IsShown, scope_at};
+ghost use Rattle.al_expr_typing.specs.Scopes.{IsShown, scope_at, scope_in};
 ghost use Rattle.al_types.specs.Types.{Parts};
 ghost use Rattle.al_expr_types.specs.Types.{is_below, scalar_type};
 ghost use Rattle.al_expr_types.specs.Types as numbers;
 ghost use Rattle.al_expr_types.specs.Tables.{is_known, objects_of, type_at};
 ghost use Rattle.al_base.specs.Growth.{BeginsWith};
-ghost use Rattle.al_meaning.specs.Meaning.{typed, type_in, faults_in, behind, meaning_of, walked, chained, meanings, operated, is_logic};
-ghost use Rattle.al_meaning.specs.Meaning.{begins_logic, give, untrusted, all_typed, all_behind, stepped, indexed, base_name};
+ghost use Rattle.al_meaning.specs.Meaning.{typed, type_in, faults_in, behind, meaning_of, walked, chained, meanings};
+ghost use Rattle.al_meaning.specs.Meaning.{begins_logic, untrusted, all_typed, all_behind, stepped, indexed, base_name};
 ghost use Rattle.al_meaning.specs.Meaning as meaning;
 ghost use Rattle.al_meaning.specs.Literals.{literal_text};
 ghost use Rattle.al_types.specs.Names.{context_of, function_of};
@@ -21,14 +17,14 @@ ghost use Rattle.al_expr_grammar.specs.Tree.{steps_of, operands_of, arguments_of
 ghost use Rattle.al_expr_grammar.specs.View.{tree_of, step_of, operand_of};
 
 use crate::calls::{Argument, Callee, called, is_test};
-use crate::comparison::comparable;
+use crate::chains::{begins_logic, operation};
 use crate::literals::{literal_text, type_of_keyword};
-use crate::reports::{report_plain, report_text};
+use crate::reports::report_text;
 use crate::scope::Scope;
 use crate::steps::{all, element, property};
 use crate::untrusted::untrusted_chain;
 use al_base::{ExpressionCode, Fault, Span};
-use al_expr_grammar::{Expr, Operand, Operator, PathStep, Word, across, extent, path_extent};
+use al_expr_grammar::{Expr, Operand, PathStep, Word, across, extent, path_extent};
 use al_expr_types::{Base, Join, Scalar, Ty, Types};
 use al_types::{Context, Function};
 use std::alloc::{AllocError, Global};
@@ -87,7 +83,10 @@ fn expression(
         Expr::Keyword(keyword, _) => Ok(scalar(type_of_keyword(*keyword))),
         Expr::Number(_) => Ok(scalar(Scalar::Number)),
         Expr::Text(_) => Ok(Ty::STRING),
-        Expr::Name(word) => named(alloc, types, around.scope, word, out),
+        Expr::Name(word) => {
+            let ty = named(alloc, around.scope, word, out)?;
+            Ok(ty)
+        }
         Expr::Group(inner, _, _) => expression(alloc, types, around, inner, out),
         Expr::Not(_, operand) => {
             let tested = Surroundings {
@@ -156,7 +155,7 @@ fn call(
     };
     let given = typed_arguments(alloc, types, tested, arguments, out)?;
     let callee = Callee { name, function };
-    let ty = called(alloc, types, around.scope, callee, arguments, &given, out)?;
+    let ty = called(alloc, around.scope, callee, arguments, &given, out)?;
     Ok(ty)
 }
 
@@ -179,18 +178,11 @@ fn is_exposed(around: Surroundings<'_>) -> bool
 }
 
 #[tactic(auto, using(al_base::proofs::Growing::growth, al_meaning::proofs::TypedSteps::typing))]
-fn named(
-    alloc: Global,
-    types: &Types<'_>,
-    scope: &Scope,
-    word: &Word,
-    out: &mut Vec<Fault>,
-) -> Result<Ty, AllocError>
-    requires { IsShown types.now scope.now }
-    ensures ok { IfOk result (λ t. typed (type_at types.now t) out.new.items ≡ behind out.old.items
-        (meaning.named (scope_at types.now scope.now) (string_bytes word.now.text) word.now.span (context_of
+fn named(alloc: Global, scope: &Scope, word: &Word, out: &mut Vec<Fault>) -> Result<Ty, AllocError>
+    ensures ok { IfOk result (λ t. (ms : List Parts) → typed (numbers.type_in ms t) out.new.items ≡ behind out.old.items
+        (meaning.named (scope_in ms scope.now) (string_bytes word.now.text) word.now.span (context_of
         (string_bytes word.now.text)))) }
-    ensures known { IfOk result (λ t. is_known types.now t ≡ true) }
+    ensures known { IfOk result (λ t. (types : Types) → IsShown types scope.now → is_known types t ≡ true) }
     ensures begins { BeginsWith out.new.items out.old.items }
 {
     let name = word.text.as_str();
@@ -375,82 +367,6 @@ fn operations(
     }
     let ty = types.type_or_any(all)?;
     Ok(ty)
-}
-
-// The operands so far, with an operator more and the type of its operand. What the branches of `||` and `&&` have in common becomes a type
-// at their end, so that a long chain makes one object.
-#[tactic(auto, using(al_base::proofs::Growing::growth))]
-fn operation(
-    alloc: Global,
-    types: &mut Types<'_>,
-    operand: &Operand,
-    sofar: Join,
-    other: Ty,
-    out: &mut Vec<Fault>,
-) -> Result<Join, AllocError>
-    requires below { is_join_known types.old sofar ≡ true }
-    requires present { has_operand types.old sofar ≡ true }
-    requires other { is_known types.old other ≡ true }
-    ensures ok { IfOk result (λ j. typed (type_so_far types.new j) out.new.items ≡ behind out.old.items
-        (operated operand.now.operator operand.now.at (type_so_far types.old sofar) (type_at types.old other))) }
-    ensures below { IfOk result (λ j. is_join_known types.new j ≡ true) }
-    ensures present { IfOk result (λ j. has_operand types.new j ≡ true) }
-    ensures kept { BeginsWith (objects_of types.new) (objects_of types.old) }
-    ensures begins { BeginsWith out.new.items out.old.items }
-{
-    if is_logic(operand.operator) {
-        let more = sofar.and(alloc, other)?;
-        return Ok(more);
-    }
-    let first = types.type_or_any(sofar)?;
-    check_comparison(types, operand, first, other, out)?;
-    Ok(Join::One(scalar(Scalar::Bool)))
-}
-
-#[tactic(auto, using(al_base::proofs::Growing::growth))]
-fn check_comparison(
-    types: &Types<'_>,
-    operand: &Operand,
-    a: Ty,
-    b: Ty,
-    out: &mut Vec<Fault>,
-) -> Result<(), AllocError>
-    ensures ok { OnOk result (out.new.items ≡ out.old.items
-        ++ give (not (comparable_types operand.now.operator (type_at types.now a) (type_at types.now b)))
-        (fault code.NotComparable operand.now.at [])) }
-    ensures begins { BeginsWith out.new.items out.old.items }
-{
-    if !comparable(operand.operator, a, b) {
-        report_plain(out, ExpressionCode::NotComparable, operand.at)?;
-    }
-    Ok(())
-}
-
-fn is_logic(operator: Operator) -> bool
-    ensures { result ≡ is_logic operator }
-{
-    match operator {
-        Operator::Or => true,
-        Operator::And => true,
-        Operator::Equal => false,
-        Operator::NotEqual => false,
-        Operator::Less => false,
-        Operator::LessEqual => false,
-        Operator::Greater => false,
-        Operator::GreaterEqual => false,
-    }
-}
-
-/// Whether operators choose between their operands, so that these are branches. All operators of a level are of one kind, so the first
-/// tells.
-#[tactic(auto, using(al_expr_grammar::proofs::TreeViews::operand_view))]
-pub(crate) fn begins_logic(operands: &[Operand]) -> bool
-    ensures { result ≡ begins_logic (operands_of (map operand_of operands.now)) }
-{
-    match operands {
-        [first, ..] => is_logic(first.operator),
-        [] => false,
-    }
 }
 
 // The types and places of arguments.

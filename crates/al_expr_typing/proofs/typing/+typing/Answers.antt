@@ -41,10 +41,13 @@ expression-returns-in-Text-clause-ok t c =
     let e = ap tree_of c.in-Text.is ∙ tree_of-Text c.in-Text.field-0 in
     rw e (unchanged String c.args.out.now.items)
 
-pub expression-returns-in-Name-clause-ok : goal.expression-returns-in-Name-clause-ok
-expression-returns-in-Name-clause-ok t c =
+pub expression-returns-in_ok-ty-in-Name-clause-ok : goal.expression-returns-in_ok-ty-in-Name-clause-ok
+expression-returns-in_ok-ty-in-Name-clause-ok t c =
     let e = ap tree_of c.in-Name.is ∙ tree_of-Name c.in-Name.word in
-    rw e c.named.ensures.ok
+    rw e (c.in_ok-ty-in-Name.ensures.ok (objects_of c.args.types.now))
+
+pub expression-returns-in_ok-ty-in-Name-clause-known : goal.expression-returns-in_ok-ty-in-Name-clause-known
+expression-returns-in_ok-ty-in-Name-clause-known t c = c.in_ok-ty-in-Name.ensures.known c.args.types.now c.requires.shown
 
 pub expression-returns-in-Group-clause-ok : goal.expression-returns-in-Group-clause-ok
 expression-returns-in-Group-clause-ok t c =
@@ -98,7 +101,7 @@ call-returns-clause-ok t c =
     let mid = c.typed_arguments.new.types in
     let f : c.named-function.result ≡ function_of (string_bytes c.args.name.now.text) = c.named-function.ensures ∙ ap function_of c.as_str.ensures.value in
     let g = rw (c.is_tested.ensures, f) at c.in_ok-given.ensures.ok in
-    let h = rw (f, c.deref.ensures.value) at c.in_ok-ty.ensures.ok in
+    let h = rw (f, c.deref.ensures.value) at c.in_ok-ty.ensures.ok (objects_of mid) in
     let name = string_bytes c.args.name.now.text in
     let ts = arguments_of (map tree_of c.args.arguments.now) in
     let s = ap (λ sc. behind c.typed_arguments.new.out.items (called_with sc name c.args.name.now.span (function_of name) ts (map (argument_at mid) c.in_ok-given.given.items)))
@@ -262,6 +265,9 @@ expression-returns-in_ok-ty-in-Chain-clause-kept t c = begins_trans _ _ _ c.in_o
 
 pub call-returns-clause-begins : goal.call-returns-clause-begins
 call-returns-clause-begins t c = begins_trans _ _ _ c.in_ok-given.ensures.begins c.in_ok-ty.ensures.begins
+
+pub call-returns-clause-known : goal.call-returns-clause-known
+call-returns-clause-known t c = c.in_ok-ty.ensures.known (length c.typed_arguments.new.types.objects.items)
 
 pub call-returns-in_err-ty-clause-begins : goal.call-returns-in_err-ty-clause-begins
 call-returns-in_err-ty-clause-begins t c = begins_trans _ _ _ c.in_ok-given.ensures.begins c.called.ensures.begins

@@ -1,7 +1,7 @@
 use Rattle.std.proofs.Common.{◌≡◌, ◌∷◌, drop, arith}
 use Rattle.al_expr_grammar.proofs.RestItems.{rest_item}
 use Rattle.al_expr_grammar.proofs.TreeViews.{operand_view}
-use Rattle.al_expr_typing.proofs.typing.begins_logic.Goals as goal
+use Rattle.al_expr_typing.proofs.chains.begins_logic.Goals as goal
 
 pub returns-in-len1-up : goal.returns-in-len1-up
 returns-in-len1-up c =

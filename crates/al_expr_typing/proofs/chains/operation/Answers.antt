@@ -9,7 +9,7 @@ use Rattle.al_expr_types.specs.Tables.{objects_of, type_at}
 use Rattle.al_expr_typing.specs.Chains.{type_so_far}
 use Rattle.al_expr_typing.proofs.ChainLemmas.{chosen, compared, more_fused, more_present}
 use Rattle.al_expr_typing.proofs.Shown.{type_stays}
-use Rattle.al_expr_typing.proofs.typing.operation.Goals as goal
+use Rattle.al_expr_typing.proofs.chains.operation.Goals as goal
 
 pub returns-then-is_logic-clause-ok : goal.returns-then-is_logic-clause-ok
 returns-then-is_logic-clause-ok c =
@@ -33,7 +33,7 @@ returns-clause-ok c =
     let after = c.check_comparison.new.out.items in
     let first = c.in_ok-first.ensures.ty in
     let other = type_stays new old c.args.other c.in_ok-first.ensures.kept c.requires.other in
-    let faults = c.in_ok-check_comparison.ensures.ok
+    let faults = c.in_ok-check_comparison.ensures.ok (objects_of new)
     ∙ (λ d. out ++ give (not (comparable_types c.args.operand.now.operator (first d) (other d))) (fault code.NotComparable c.args.operand.now.at [])) in
     ap (λ t. typed t after) (c.scalar.ensures.ty (objects_of new))
     ∙ compared c.args.operand.now.operator c.args.operand.now.at (type_so_far old c.args.sofar) (type_at old c.args.other) out after (sym c.is_logic.ensures ∙ c.if-is_logic.false) faults

@@ -1,0 +1,92 @@
+//! Chains of operators of one level.
+
+ghost use Rattle.std.specs.Prelude.{◌≡◌, ◌++◌, not, [], List, IfOk, OnOk, map, true};
+ghost use Rattle.al_base.specs.Growth.{BeginsWith};
+ghost use Rattle.al_base.specs.declared.codes.ExpressionCode.TheVariants as code;
+ghost use Rattle.al_expr_grammar.specs.Refusal.{fault};
+ghost use Rattle.al_expr_grammar.specs.Tree.{operands_of};
+ghost use Rattle.al_expr_grammar.specs.View.{operand_of};
+ghost use Rattle.al_meaning.specs.Comparison.{comparable_types};
+ghost use Rattle.al_meaning.specs.Meaning.{begins_logic, behind, give, is_logic, operated, typed};
+ghost use Rattle.al_expr_types.specs.Tables.{is_known, objects_of, type_at};
+ghost use Rattle.al_expr_types.specs.Types.{type_in};
+ghost use Rattle.al_types.specs.Types.{Parts};
+ghost use Rattle.al_expr_typing.specs.Chains.{has_operand, is_join_known, type_so_far};
+
+use crate::comparison::comparable;
+use crate::reports::report_plain;
+use crate::typing::scalar;
+use al_base::{ExpressionCode, Fault};
+use al_expr_grammar::{Operand, Operator};
+use al_expr_types::{Join, Scalar, Ty, Types};
+use std::alloc::{AllocError, Global};
+
+/// The operands so far, with an operator more and the type of its operand. What the branches of `||` and `&&` have in common becomes a type
+/// at their end, so that a long chain makes one object.
+#[tactic(auto, using(al_base::proofs::Growing::growth))]
+pub(crate) fn operation(
+    alloc: Global,
+    types: &mut Types<'_>,
+    operand: &Operand,
+    sofar: Join,
+    other: Ty,
+    out: &mut Vec<Fault>,
+) -> Result<Join, AllocError>
+    requires below { is_join_known types.old sofar ≡ true }
+    requires present { has_operand types.old sofar ≡ true }
+    requires other { is_known types.old other ≡ true }
+    ensures ok { IfOk result (λ j. typed (type_so_far types.new j) out.new.items ≡ behind out.old.items
+        (operated operand.now.operator operand.now.at (type_so_far types.old sofar) (type_at types.old other))) }
+    ensures below { IfOk result (λ j. is_join_known types.new j ≡ true) }
+    ensures present { IfOk result (λ j. has_operand types.new j ≡ true) }
+    ensures kept { BeginsWith (objects_of types.new) (objects_of types.old) }
+    ensures begins { BeginsWith out.new.items out.old.items }
+{
+    if is_logic(operand.operator) {
+        let more = sofar.and(alloc, other)?;
+        return Ok(more);
+    }
+    let first = types.type_or_any(sofar)?;
+    check_comparison(operand, first, other, out)?;
+    Ok(Join::One(scalar(Scalar::Bool)))
+}
+
+#[tactic(auto, using(al_base::proofs::Growing::growth))]
+fn check_comparison(operand: &Operand, a: Ty, b: Ty, out: &mut Vec<Fault>) -> Result<(), AllocError>
+    ensures ok { OnOk result ((ms : List Parts) → out.new.items ≡ out.old.items
+        ++ give (not (comparable_types operand.now.operator (type_in ms a) (type_in ms b)))
+        (fault code.NotComparable operand.now.at [])) }
+    ensures begins { BeginsWith out.new.items out.old.items }
+{
+    if !comparable(operand.operator, a, b) {
+        report_plain(out, ExpressionCode::NotComparable, operand.at)?;
+    }
+    Ok(())
+}
+
+fn is_logic(operator: Operator) -> bool
+    ensures { result ≡ is_logic operator }
+{
+    match operator {
+        Operator::Or => true,
+        Operator::And => true,
+        Operator::Equal => false,
+        Operator::NotEqual => false,
+        Operator::Less => false,
+        Operator::LessEqual => false,
+        Operator::Greater => false,
+        Operator::GreaterEqual => false,
+    }
+}
+
+/// Whether operators choose between their operands, so that these are branches. All operators of a level are of one kind, so the first
+/// tells.
+#[tactic(auto, using(al_expr_grammar::proofs::TreeViews::operand_view))]
+pub(crate) fn begins_logic(operands: &[Operand]) -> bool
+    ensures { result ≡ begins_logic (operands_of (map operand_of operands.now)) }
+{
+    match operands {
+        [first, ..] => is_logic(first.operator),
+        [] => false,
+    }
+}
