@@ -2,8 +2,10 @@
 #![tactic(auto)]
 
 use al_base::{Input, Output, Stop};
-use al_cli::{Loaded, Unread, Usage, WaitingOutput, Words, lint_loaded, load, parse_words};
-use al_cli_scripts::{number_of, run_session};
+use al_cli::{
+    Loaded, Unread, Usage, WaitingOutput, Words, lint_loaded, load, number_of, parse_words,
+    run_session,
+};
 use al_session::Refused;
 use std::io::{BufWriter, ErrorKind, Write};
 use std::process::ExitCode;

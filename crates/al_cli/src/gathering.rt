@@ -8,6 +8,7 @@ use al_session::{Refused, SessionBuilder, Target};
 use std::alloc::{AllocError, AllocFailed, Global};
 use std::collections::BTreeSet;
 use std::rt::Files;
+use thiserror::Error;
 
 /// Files that were read, and not checked yet.
 pub type Loaded = SessionBuilder<Actions>;
@@ -23,13 +24,16 @@ pub struct Gathered {
 }
 
 /// Why files were not gathered. A path is as a fatal line has it, with a `?` for each control character.
-#[derive(Drop)]
+#[derive(Debug, Drop, Error)]
 pub enum Unread {
     /// The file or folder at this path can't be read.
+    #[error("cannot read {0}")]
     Unreadable(String),
     /// The file at this path was refused.
+    #[error("{0}: {1}")]
     Refused(String, Refused),
     /// Memory ran out.
+    #[error("out of memory")]
     Memory,
 }
 

@@ -1,8 +1,12 @@
 //! Which files a run takes from a disk, and in which order.
 
-use al_cli::{Disk, DiskError, Entry, Words, load_from};
-use std::alloc::Global;
+use al_cli::{Disk, DiskError, Entry, Gathered, Unread, Words, gather, load_from};
+use al_session::Refused;
+use std::alloc::{AllocError, Global};
 use std::collections::BTreeSet;
+use std::fs;
+use std::rt::Files as DiskFiles;
+use std::test::Fail;
 
 // A folder's files, by their paths and bytes.
 type Files = &'static [(&'static str, &'static [u8])];
@@ -128,4 +132,97 @@ fn are_read_of_a_folder(alloc: Global) -> bool {
 #[test]
 fn called_files_are_read_once_in_order(rt: HostRuntime) {
     assert!(rt; are_read_of_a_folder(rt.alloc()));
+}
+
+fn named<'a>(alloc: Global, files: &[&'a str]) -> Result<Words<'a>, AllocError> {
+    let files = Vec::from_slice(alloc, files)?;
+    Ok(Words {
+        oneline: false,
+        session: false,
+        root: ".",
+        files,
+    })
+}
+
+// Whether the files of these paths were taken, and none was checked: the session that is made of them checks each of its files once.
+fn are_taken(gathered: Gathered, paths: &[&str]) -> Result<bool, AllocError> {
+    for path in paths {
+        if gathered.files.bytes(path).is_none() {
+            return Ok(false);
+        }
+    }
+    let session = gathered.files.build()?;
+    Ok(session.meter() == paths.len() as u64)
+}
+
+// Two files that are named, of which the first calls another.
+fn takes_named(alloc: Global) -> Result<bool, AllocError> {
+    let mut disk = Held {
+        files: folder(),
+        asked: Vec::new(alloc),
+    };
+    let words = named(alloc, &["./x/action.yml", "z/action.yml"])?;
+    match load_from(alloc, &mut disk, &words) {
+        Ok(gathered) => are_taken(gathered, &["x/action.yml", "w/action.yaml", "z/action.yml"]),
+        Err(_) => Ok(false),
+    }
+}
+
+#[test]
+fn named_and_called_files_are_taken(rt: HostRuntime) -> Result<(), AllocError> {
+    assert!(rt; takes_named(rt.alloc())?);
+    Ok(())
+}
+
+const LARGE: &str = "al_tests_folder/action.yml";
+
+// A comment of so many bytes.
+fn comment(alloc: Global, length: u32) -> Result<Vec<u8>, AllocError> {
+    let mut bytes = Vec::new(alloc);
+    for _ in 0..length {
+        bytes.push(b'#')?;
+    }
+    Ok(bytes)
+}
+
+fn write_large<R: DiskFiles + AllocGlobal>(rt: &R, length: u32) -> Result<(), Fail> {
+    let _ = fs::remove_dir_all(rt, "al_tests_folder");
+    fs::create_dir(rt, "al_tests_folder")?;
+    let bytes = comment(rt.alloc(), length)?;
+    fs::write(rt, LARGE, bytes.as_slice())?;
+    Ok(())
+}
+
+// Which answer a run has whose one file is the large one.
+#[derive(Clone, Copy, PartialEq, Eq)]
+enum Answer {
+    Taken(usize),
+    TooLarge,
+    Other,
+}
+
+fn answer_to_large<R: DiskFiles + AllocGlobal + Clone + Drop>(
+    rt: &R,
+) -> Result<Answer, AllocError> {
+    let words = named(rt.alloc(), &[LARGE])?;
+    match gather(rt, rt.alloc(), &words) {
+        Ok(files) => match files.as_slice() {
+            [(_, bytes)] => Ok(Answer::Taken(bytes.len())),
+            _ => Ok(Answer::Other),
+        },
+        Err(Unread::Refused(path, Refused::TooLarge)) if path.as_str() == LARGE => {
+            Ok(Answer::TooLarge)
+        }
+        Err(_) => Ok(Answer::Other),
+    }
+}
+
+#[test]
+fn a_large_file_of_the_disk_is_not_cut(rt: HostRuntime) -> Result<(), Fail> {
+    write_large(&rt, 1_048_576)?;
+    assert!(rt; answer_to_large(&rt)? == Answer::Taken(1_048_576));
+    write_large(&rt, 1_048_577)?;
+    assert!(rt; answer_to_large(&rt)? == Answer::TooLarge);
+    fs::remove_dir_all(&rt, "al_tests_folder")?;
+    Ok(())
 }

@@ -1,0 +1,194 @@
+//! `al_expr`: tokens, trees, chunks and signatures.
+
+use al_expr::{
+    Chunk, Expr, Operand, Operator, Parameters, PathStep, Returned, Signature, TokenKind, Wanted,
+    Word, chunks, lex, parse_expr, signature_of,
+};
+use al_text::{Code, ExpressionCode, Fault};
+use std::alloc::{AllocError, Global};
+
+static FAULTS: [(&str, ExpressionCode, u32); 9] = [
+    ("", ExpressionCode::EndsEarly, 0),
+    ("1 2", ExpressionCode::UnexpectedToken, 2),
+    ("a.", ExpressionCode::EndsEarly, 2),
+    ("f(,a)", ExpressionCode::UnexpectedToken, 2),
+    ("a[*", ExpressionCode::EndsEarly, 3),
+    ("[1]", ExpressionCode::UnexpectedToken, 0),
+    ("true(", ExpressionCode::UnexpectedToken, 4),
+    ("a # b", ExpressionCode::BadCharacter, 2),
+    ("'ab", ExpressionCode::UnclosedText, 0),
+];
+
+fn faults() -> &'static [(&'static str, ExpressionCode, u32)] {
+    &FAULTS
+}
+
+fn is_fault(fault: &Fault, code: ExpressionCode, start: u32) -> bool {
+    fault.code == Code::Expression(code) && fault.span.start == start
+}
+
+fn has_fault(
+    alloc: Global,
+    content: &str,
+    code: ExpressionCode,
+    start: u32,
+) -> Result<bool, AllocError> {
+    match parse_expr(alloc, content)? {
+        Ok(_) => Ok(false),
+        Err(fault) => Ok(is_fault(&fault, code, start)),
+    }
+}
+
+#[test]
+fn faults_of_contents(rt: HostRuntime) -> Result<(), AllocError> {
+    for (content, code, start) in faults() {
+        assert!(rt; has_fault(rt.alloc(), content, *code, *start)?);
+    }
+    Ok(())
+}
+
+fn is_word(word: &Word, text: &str) -> bool {
+    word.text.as_str() == text
+}
+
+fn is_name(expr: &Expr, text: &str) -> bool {
+    match expr {
+        Expr::Name(word) => is_word(word, text),
+        _ => false,
+    }
+}
+
+/// Whether it is the property `b` of `a`.
+fn is_property(expr: &Expr) -> bool {
+    match expr {
+        Expr::Path(base, steps) => match steps.as_slice() {
+            [PathStep::Property(_, word)] => is_name(base, "a") && is_word(word, "b"),
+            _ => false,
+        },
+        _ => false,
+    }
+}
+
+fn is_equal_to_text(operand: &Operand) -> bool {
+    match &operand.expr {
+        Expr::Text(word) => operand.operator == Operator::Equal && is_word(word, "'x'"),
+        _ => false,
+    }
+}
+
+fn is_comparison(expr: &Expr) -> bool {
+    match expr {
+        Expr::Chain(first, more) => match more.as_slice() {
+            [only] => is_property(first) && is_equal_to_text(only),
+            _ => false,
+        },
+        _ => false,
+    }
+}
+
+fn is_and_not(operand: &Operand) -> bool {
+    match &operand.expr {
+        Expr::Not(_, negated) => operand.operator == Operator::And && is_name(negated, "c"),
+        _ => false,
+    }
+}
+
+fn is_conjunction(expr: &Expr) -> bool {
+    match expr {
+        Expr::Chain(first, more) => match more.as_slice() {
+            [only] => is_comparison(first) && is_and_not(only),
+            _ => false,
+        },
+        _ => false,
+    }
+}
+
+fn is_read(alloc: Global, content: &str) -> Result<bool, AllocError> {
+    match parse_expr(alloc, content)? {
+        Ok(expr) => Ok(is_conjunction(&expr)),
+        Err(_) => Ok(false),
+    }
+}
+
+#[test]
+fn operators_bind_by_their_levels(rt: HostRuntime) -> Result<(), AllocError> {
+    assert!(rt; is_read(rt.alloc(), "a.b == 'x' && !c")?);
+    Ok(())
+}
+
+fn kinds_of(alloc: Global, content: &str) -> Result<Vec<TokenKind>, AllocError> {
+    let mut kinds = Vec::new(alloc);
+    if content.len() > 4_194_304 {
+        return Ok(kinds);
+    }
+    if let Ok(tokens) = lex(alloc, content)? {
+        for token in &tokens {
+            kinds.push(token.kind)?;
+        }
+    }
+    Ok(kinds)
+}
+
+static NEGATED: [TokenKind; 3] = [TokenKind::Bang, TokenKind::Name, TokenKind::Dot];
+
+fn negated() -> &'static [TokenKind] {
+    &NEGATED
+}
+
+#[test]
+fn tokens(rt: HostRuntime) -> Result<(), AllocError> {
+    let kinds = kinds_of(rt.alloc(), "! c.")?;
+    assert!(rt; kinds.as_slice() == negated());
+    Ok(())
+}
+
+fn is_chunk(found: &[Chunk], content: &str, start: u32, end: u32) -> bool {
+    match found {
+        [only] => only.content == content && (only.span.start, only.span.end) == (start, end),
+        _ => false,
+    }
+}
+
+/// Whether a text has one chunk, of the bytes 5 to 12, and no fault.
+fn has_one_chunk(alloc: Global, text: &str) -> Result<bool, AllocError> {
+    if text.len() > 4_194_304 {
+        return Ok(false);
+    }
+    let (found, fault) = chunks(alloc, text)?;
+    Ok(fault.is_none() && is_chunk(&found, " 'x}}' ", 5, 12))
+}
+
+#[test]
+fn a_chunk_ends_outside_quotes(rt: HostRuntime) -> Result<(), AllocError> {
+    assert!(rt; has_one_chunk(rt.alloc(), "a ${{ 'x}}' }} b")?);
+    Ok(())
+}
+
+static SIGNATURES: [(&str, Option<Signature>); 3] = [
+    (
+        "startswith",
+        Some(Signature {
+            parameters: Parameters::Two(Wanted::String, Wanted::String),
+            returned: Returned::Bool,
+        }),
+    ),
+    (
+        "toJSON",
+        Some(Signature {
+            parameters: Parameters::One(Wanted::Any),
+            returned: Returned::String,
+        }),
+    ),
+    ("toXML", None),
+];
+
+fn signatures() -> &'static [(&'static str, Option<Signature>)] {
+    &SIGNATURES
+}
+
+#[test]
+fn signatures_by_name(rt: HostRuntime) {
+    for (name, wanted) in signatures() {
+        assert!(rt; signature_of(name) == *wanted);
+    }
+}

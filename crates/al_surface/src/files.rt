@@ -1,0 +1,36 @@
+//! Files that several tests lint.
+
+// The functions without a contract tell a test's proof nothing: none computes what a call does with a file.
+
+pub(crate) const CALLER: &str = ".github/workflows/c.yml";
+
+pub(crate) const ACTION: &str = "a/action.yml";
+
+/// A workflow whose step calls the action.
+pub(crate) fn caller() -> &'static [u8] {
+    b"on: push
+jobs:
+  a:
+    runs-on: ubuntu-latest
+    steps:
+      - uses: ./a
+"
+}
+
+/// An action with a required input.
+pub(crate) fn action() -> &'static [u8] {
+    b"name: A
+description: d
+inputs:
+  who:
+    required: true
+runs:
+  using: node20
+  main: m.js
+"
+}
+
+/// The report of the two, without snippets.
+pub(crate) fn missing_input() -> &'static [u8] {
+    b".github/workflows/c.yml:6:15: required input \"who\" of \"A\" is missing [action]\n"
+}

@@ -1,0 +1,136 @@
+//! `al_check`: the linter by itself.
+
+use crate::files::{ACTION, action};
+use al_check::{Actions, Answers, Env, File, Iface, Parameters, Role};
+use al_expr::{Context, Form};
+use al_session::{Lint, Target};
+use al_text::{CallCode, Caller, Code};
+use al_tree::{FileKind, Tree, read_workflow};
+use al_yaml::{Doc, read_yaml};
+use std::alloc::{AllocError, Global};
+
+/// The most bytes of a file.
+const MOST: usize = 1_048_576;
+
+const LOOP: &str = ".github/workflows/r.yml";
+
+fn calls_itself() -> &'static [u8] {
+    b"on:\n  workflow_call:\njobs:\n  a:\n    uses: ./.github/workflows/r.yml\n"
+}
+
+fn has_required(alloc: Global, inputs: &Parameters) -> Result<bool, AllocError> {
+    match inputs.named(alloc, b"WHO")? {
+        Some(input) => Ok(input.required && !input.has_default),
+        None => Ok(false),
+    }
+}
+
+fn shows_required(alloc: Global, iface: &Iface) -> Result<bool, AllocError> {
+    match iface {
+        Iface::Readable(shown) => Ok(
+            shown.role == Role::Action && has_required(alloc, &shown.inputs)?,
+        ),
+        Iface::Unreadable => Ok(false),
+    }
+}
+
+/// Whether the linter shows of an action what it is to its callers, by one read and no check.
+fn shows(alloc: Global, lint: &mut Actions, path: &str, bytes: &[u8]) -> Result<bool, AllocError> {
+    if bytes.len() > MOST {
+        return Ok(false);
+    }
+    let unit = lint.read(alloc, path, bytes)?;
+    let iface = lint.iface(alloc, path, &unit)?;
+    Ok(shows_required(alloc, &iface)? && (lint.reads(), lint.checks()) == (1, 0))
+}
+
+fn calls_path(calls: &[Target], path: &str) -> bool {
+    match calls {
+        [Target::Only(called)] => called.as_str() == path,
+        _ => false,
+    }
+}
+
+/// Whether a file's one call is of itself, with what is said of it.
+fn leads_back(
+    alloc: Global,
+    lint: &mut Actions,
+    path: &str,
+    bytes: &[u8],
+) -> Result<bool, AllocError> {
+    if bytes.len() > MOST {
+        return Ok(false);
+    }
+    let unit = lint.read(alloc, path, bytes)?;
+    let calls = lint.calls(alloc, path, &unit)?;
+    if calls.is_empty() {
+        return Ok(false);
+    }
+    let site = lint.site(&unit, 0);
+    Ok(
+        calls_path(&calls, path)
+            && site.code == Code::Call(CallCode::LeadsBack, Caller::Job)
+            && site.span.start == 42
+            && site.text == "./.github/workflows/r.yml",
+    )
+}
+
+fn takes_both(lint: &Actions) -> bool {
+    lint.accepts(LOOP) && lint.accepts(ACTION) && !lint.accepts("x.yml")
+}
+
+fn lints(alloc: Global) -> Result<bool, AllocError> {
+    let mut lint = Actions::new();
+    Ok(
+        takes_both(&lint)
+            && shows(alloc, &mut lint, ACTION, action())?
+            && leads_back(alloc, &mut lint, LOOP, calls_itself())?,
+    )
+}
+
+#[test]
+fn a_linter_by_itself(rt: HostRuntime) -> Result<(), AllocError> {
+    assert!(rt; lints(rt.alloc())?);
+    Ok(())
+}
+
+/// The document that a file is. None has a fault as YAML or is too long to be read.
+fn document(alloc: Global, file: &[u8]) -> Result<Doc, AllocError> {
+    if file.len() > MOST {
+        return Err(AllocError);
+    }
+    match read_yaml(alloc, file)? {
+        Ok(doc) => Ok(doc),
+        Err(_) => Err(AllocError),
+    }
+}
+
+/// Nothing is known of the outputs behind any call.
+fn nothing_known() -> Answers<'static> {
+    Answers {
+        answers: &[],
+        lists: &[],
+    }
+}
+
+/// Whether `secrets` is an object outside the jobs of a workflow, where an expression at no place yet can name none.
+fn knows_secrets(alloc: Global, tree: &Tree, known: Answers<'_>) -> Result<bool, AllocError> {
+    let kind = tree.kind();
+    let root = tree.root();
+    let env = Env::new(alloc, File { kind, root, known })?;
+    Ok(
+        env.scope.types.get(Context::Secrets).form() == Form::Object
+            && !env.scope.contexts.contains(Context::Secrets),
+    )
+}
+
+fn has_contexts(alloc: Global, file: &[u8]) -> Result<bool, AllocError> {
+    let (workflow, _) = read_workflow(alloc, document(alloc, file)?)?;
+    knows_secrets(alloc, &Tree::Workflow(workflow), nothing_known())
+}
+
+#[test]
+fn contexts_of_a_file(rt: HostRuntime) -> Result<(), AllocError> {
+    assert!(rt; has_contexts(rt.alloc(), calls_itself())?);
+    Ok(())
+}

@@ -1,0 +1,99 @@
+//! `al_session`: a folder that is edited, linted by `al_check`.
+
+use crate::files::{ACTION, CALLER, action, caller, missing_input};
+use al_check::Actions;
+use al_session::{Edit, Refused, Session};
+use al_text::{Output, Path, Stop};
+use std::alloc::{AllocError, Global};
+
+fn are_paths(paths: &[Path], wanted: &[&str]) -> bool {
+    paths.len() == wanted.len()
+        && paths
+            .iter()
+            .zip(wanted)
+            .all(|(path, text)| path.as_str() == *text)
+}
+
+fn rechecks(edit: &Result<Edit, Refused>, wanted: &[&str]) -> bool {
+    match edit {
+        Ok(edit) => are_paths(edit.rechecked.as_slice(), wanted),
+        Err(_) => false,
+    }
+}
+
+fn puts(session: &mut Session<Actions>, path: &str, bytes: &[u8], wanted: &[&str]) -> bool {
+    let edit: Result<Edit, Refused> = session.put(path, bytes);
+    rechecks(&edit, wanted)
+}
+
+fn deletes(session: &mut Session<Actions>, path: &str, wanted: &[&str]) -> bool {
+    let edit: Result<Edit, Refused> = session.delete(path);
+    rechecks(&edit, wanted)
+}
+
+fn misses(session: &Session<Actions>, wanted: &[&str]) -> Result<bool, AllocError> {
+    Ok(are_paths(&session.missing()?, wanted))
+}
+
+fn reports(alloc: Global, session: &mut Session<Actions>, wanted: &[u8]) -> Result<bool, Stop> {
+    let mut bytes = Vec::new(alloc);
+    session.report(&mut Output::new(&mut bytes), true)?;
+    let status: u8 = session.status()?;
+    Ok(bytes.as_slice() == wanted && (status == 1) == !wanted.is_empty())
+}
+
+fn has_file(session: &Session<Actions>, path: &str, bytes: &[u8], faults: usize) -> bool {
+    match (session.bytes(path), session.faults(path)) {
+        (Some(found), Some(list)) => found == bytes && list.len() == faults,
+        _ => false,
+    }
+}
+
+fn has_both(session: &Session<Actions>) -> bool {
+    has_file(session, CALLER, caller(), 1) && has_file(session, ACTION, action(), 0)
+}
+
+fn follows_edits(alloc: Global, session: &mut Session<Actions>) -> Result<bool, Stop> {
+    Ok(
+        puts(session, CALLER, caller(), &[CALLER])
+            && reports(alloc, session, b"")?
+            && misses(session, &["a/action.yaml", ACTION])?
+            && puts(session, ACTION, action(), &[CALLER, ACTION])
+            && reports(alloc, session, missing_input())?
+            && has_both(session)
+            && session.meter() == 3
+            && deletes(session, ACTION, &[CALLER])
+            && reports(alloc, session, b"")?
+            && session.bytes(ACTION).is_none(),
+    )
+}
+
+fn refuses(session: &mut Session<Actions>, path: &str, wanted: Refused) -> bool {
+    match session.put(path, b"") {
+        Ok(_) => false,
+        Err(refused) => refused == wanted,
+    }
+}
+
+fn refuses_delete(session: &mut Session<Actions>, path: &str) -> bool {
+    match session.delete(path) {
+        Ok(_) => false,
+        Err(refused) => refused == Refused::NoSuchFile,
+    }
+}
+
+fn follows(alloc: Global) -> Result<bool, Stop> {
+    let mut session = Session::open(alloc, Actions::new());
+    Ok(
+        follows_edits(alloc, &mut session)?
+            && refuses(&mut session, "../x.yml", Refused::BadPath)
+            && refuses(&mut session, "x.yml", Refused::NotAccepted)
+            && refuses_delete(&mut session, ".github/workflows/z.yml"),
+    )
+}
+
+#[test]
+fn an_edited_folder(rt: HostRuntime) -> Result<(), Stop> {
+    assert!(rt; follows(rt.alloc())?);
+    Ok(())
+}

@@ -1,0 +1,99 @@
+//! `al_tree` and `al_rules`: workflows, actions, and their faults of keys and of rules.
+
+use al_rules::rules;
+use al_text::{Code, Fault, KeyCode, RuleCode, ordered};
+use al_tree::{Tree, read_action, read_workflow};
+use al_yaml::{Doc, read_yaml};
+use std::alloc::{AllocError, Global};
+
+// A fault's code, and where its span starts.
+type Told = (Code, u32);
+
+fn are_told(found: &[Fault], wanted: &[Told]) -> bool {
+    found.len() == wanted.len()
+        && found
+            .iter()
+            .zip(wanted)
+            .all(|(fault, told)| (fault.code, fault.span.start) == *told)
+}
+
+/// The document that a file is. None has a fault as YAML or is too long to be read.
+fn document(alloc: Global, file: &[u8]) -> Result<Doc, AllocError> {
+    if file.len() > 1_048_576 {
+        return Err(AllocError);
+    }
+    match read_yaml(alloc, file)? {
+        Ok(doc) => Ok(doc),
+        Err(_) => Err(AllocError),
+    }
+}
+
+fn step_without_work() -> &'static [u8] {
+    b"on: push\njobs:\n  a:\n    steps:\n      - nam: x\n"
+}
+
+// A step begins in line 5, a job's keys in line 4.
+static OF_THE_STEP: [Told; 3] = [
+    (Code::Key(KeyCode::Missing), 24),
+    (Code::Key(KeyCode::Missing), 39),
+    (Code::Key(KeyCode::Unexpected), 39),
+];
+
+fn of_the_step() -> &'static [Told] {
+    &OF_THE_STEP
+}
+
+fn composite() -> &'static [u8] {
+    b"name: A\nruns:\n  using: composite\n"
+}
+
+static OF_THE_ACTION: [Told; 2] = [
+    (Code::Key(KeyCode::Missing), 0),
+    (Code::Key(KeyCode::Missing), 16),
+];
+
+fn of_the_action() -> &'static [Told] {
+    &OF_THE_ACTION
+}
+
+fn breaks_workflow(alloc: Global, file: &[u8], wanted: &[Told]) -> Result<bool, AllocError> {
+    let (_, faults) = read_workflow(alloc, document(alloc, file)?)?;
+    Ok(are_told(&ordered(faults), wanted))
+}
+
+fn breaks_action(alloc: Global, file: &[u8], wanted: &[Told]) -> Result<bool, AllocError> {
+    let (_, faults) = read_action(alloc, document(alloc, file)?)?;
+    Ok(are_told(&ordered(faults), wanted))
+}
+
+#[test]
+fn keys_and_values(rt: HostRuntime) -> Result<(), AllocError> {
+    assert!(rt; breaks_workflow(rt.alloc(), step_without_work(), of_the_step())?);
+    assert!(rt; breaks_action(rt.alloc(), composite(), of_the_action())?);
+    Ok(())
+}
+
+fn often() -> &'static [u8] {
+    b"on:\n  schedule:\n    - cron: '0,3 * * * *'\njobs: {}\n"
+}
+
+static OF_THE_SCHEDULE: [Told; 1] = [(Code::Rule(RuleCode::ScheduleTooOften), 28)];
+
+fn of_the_schedule() -> &'static [Told] {
+    &OF_THE_SCHEDULE
+}
+
+/// The faults of a workflow's rules alone.
+fn rules_of(alloc: Global, file: &[u8]) -> Result<Vec<Fault>, AllocError> {
+    let (workflow, _) = read_workflow(alloc, document(alloc, file)?)?;
+    let mut out = Vec::new(alloc);
+    rules(alloc, &Tree::Workflow(workflow), &mut out)?;
+    Ok(out)
+}
+
+#[test]
+fn rules_of_a_file(rt: HostRuntime) -> Result<(), AllocError> {
+    let found = rules_of(rt.alloc(), often())?;
+    assert!(rt; are_told(&found, of_the_schedule()));
+    Ok(())
+}

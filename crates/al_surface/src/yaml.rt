@@ -1,0 +1,181 @@
+//! `al_scalar` and `al_yaml`: scalars, trees, and the first fault of a file.
+
+use al_scalar::{ScalarContext, ScalarRead, read_scalar};
+use al_text::YamlCode;
+use al_yaml::{Class, Doc, Kind, Node, Scalar, Style, YamlFault, read_yaml};
+use std::alloc::{AllocError, Global};
+
+/// The most bytes of a file.
+const MOST: usize = 1_048_576;
+
+/// A quoted scalar at the fourth byte of a file, its text, the offset of each byte and of its end, and where the rest begins.
+struct Row {
+    file: &'static [u8],
+    style: Style,
+    text: &'static [u8],
+    offsets: &'static [u32],
+    next: usize,
+}
+
+static ROWS: [Row; 2] = [
+    Row {
+        file: b"a: 'it''s'\n",
+        style: Style::SingleQuoted,
+        text: b"it's",
+        offsets: &[4, 5, 6, 8, 10],
+        next: 10,
+    },
+    Row {
+        file: b"a: \"x\\u00e9\"\n",
+        style: Style::DoubleQuoted,
+        text: b"x\xc3\xa9",
+        offsets: &[4, 5, 5, 12],
+        next: 12,
+    },
+];
+
+fn quoted() -> &'static [Row] {
+    &ROWS
+}
+
+fn comes_from(scalar: &Scalar, offsets: &[u32]) -> bool {
+    if offsets.len() != scalar.text().len() + 1 {
+        return false;
+    }
+    for (index, offset) in offsets.iter().enumerate() {
+        if index > scalar.text().len() || scalar.locate(index) != *offset {
+            return false;
+        }
+    }
+    true
+}
+
+fn is_as_told(read: &ScalarRead, row: &Row) -> bool {
+    read.scalar.style() == row.style
+        && read.scalar.class() == Class::Str
+        && read.scalar.text() == row.text
+        && comes_from(&read.scalar, row.offsets)
+        && read.span.start == 3
+        && read.next == row.next
+}
+
+fn reads_scalar(alloc: Global, row: &Row) -> Result<bool, AllocError> {
+    if row.file.len() > MOST || row.file.len() < 3 {
+        return Ok(false);
+    }
+    match read_scalar(alloc, row.file, 3, ScalarContext::Flow)? {
+        Ok(read) => Ok(is_as_told(&read, row)),
+        Err(_) => Ok(false),
+    }
+}
+
+#[test]
+fn quoted_scalars(rt: HostRuntime) -> Result<(), AllocError> {
+    for row in quoted() {
+        assert!(rt; reads_scalar(rt.alloc(), row)?);
+    }
+    Ok(())
+}
+
+/// What reading a file answers; out of memory for one that is too long to be read.
+fn read(alloc: Global, file: &[u8]) -> Result<Result<Doc, YamlFault>, AllocError> {
+    if file.len() > MOST {
+        return Err(AllocError);
+    }
+    read_yaml(alloc, file)
+}
+
+static FAULTS: [(&[u8], YamlCode, u32); 10] = [
+    (b"a: b: c\n", YamlCode::UnexpectedCharacter, 4),
+    (b"a:\n\tb: c\n", YamlCode::TabInIndentation, 3),
+    (b"a: 'b\n", YamlCode::UnclosedQuote, 3),
+    (b"a: [b, c\n", YamlCode::UnclosedFlow, 3),
+    (b"a: |10\n  x\n", YamlCode::WrongBlockHeader, 5),
+    (b"a: b\n c: d\n", YamlCode::UnexpectedCharacter, 7),
+    (b"a:\n  b: 1\n c: 2\n", YamlCode::WrongIndentation, 11),
+    (b"---\na: 1\n...\nb: 2\n", YamlCode::SecondDocument, 13),
+    (b"a: \xff", YamlCode::NotUtf8, 3),
+    (b"a: &a [*a]\n", YamlCode::UnknownAlias, 7),
+];
+
+fn faults() -> &'static [(&'static [u8], YamlCode, u32)] {
+    &FAULTS
+}
+
+fn has_fault(alloc: Global, file: &[u8], code: YamlCode, start: u32) -> Result<bool, AllocError> {
+    match read(alloc, file)? {
+        Ok(_) => Ok(false),
+        Err(fault) => Ok(fault.code == code && fault.span.start == start),
+    }
+}
+
+#[test]
+fn first_faults(rt: HostRuntime) -> Result<(), AllocError> {
+    for (file, code, start) in faults() {
+        assert!(rt; has_fault(rt.alloc(), file, *code, *start)?);
+    }
+    Ok(())
+}
+
+fn five_values() -> &'static [u8] {
+    b"v: [3.10, 0x1F, .5, ~, yes]\n"
+}
+
+static CLASSES: [Class; 5] = [
+    Class::Float,
+    Class::Int,
+    Class::Float,
+    Class::Null,
+    Class::Str,
+];
+
+fn classes() -> &'static [Class] {
+    &CLASSES
+}
+
+fn is_of_class(node: &Node, class: Class) -> bool {
+    match &node.kind {
+        Kind::Scalar(scalar) => scalar.class() == class,
+        _ => false,
+    }
+}
+
+fn are_of_classes(node: &Node, wanted: &[Class]) -> bool {
+    match &node.kind {
+        Kind::Sequence(items) => {
+            items.len() == wanted.len()
+                && items
+                    .iter()
+                    .zip(wanted)
+                    .all(|(item, class)| is_of_class(item, *class))
+        }
+        _ => false,
+    }
+}
+
+/// Whether the value of the first entry has items of these classes, from the bracket to the bracket.
+fn holds(root: &Node, wanted: &[Class]) -> bool {
+    match &root.kind {
+        Kind::Mapping(entries) => match entries.first() {
+            Some(entry) => {
+                (entry.value.span.start, entry.value.span.end) == (3, 27)
+                    && are_of_classes(&entry.value, wanted)
+            }
+            None => false,
+        },
+        _ => false,
+    }
+}
+
+fn has_classes(alloc: Global, file: &[u8], wanted: &[Class]) -> Result<bool, AllocError> {
+    match read(alloc, file)? {
+        Ok(doc) => Ok(holds(&doc.root, wanted)),
+        Err(_) => Ok(false),
+    }
+}
+
+#[test]
+fn classes_of_scalars(rt: HostRuntime) -> Result<(), AllocError> {
+    assert!(rt; has_classes(rt.alloc(), five_values(), classes())?);
+    Ok(())
+}
