@@ -25,7 +25,8 @@ BREAKS = r"\s.,;:(){}\[\]\"⌜⌝"
 # words as the definitions have them, and as the code has them
 WORDS = {".antt": [re.compile(f"[^{BREAKS}]+")], ".rt": [re.compile(f"[^{BREAKS}]+"), re.compile(r"\w+")]}
 # what uses these doesn't name them: a trait's methods, and lines of `do`
-UNSEEN = {"BufRead", "Context", "Error", "FromStr", "Hash", "Iterator", "MetadataExt", "Model", "OpenFile", "Read", "Write", "_", "◌>>=◌"}
+UNSEEN = {"BufRead", "Context", "Error", "FromStr", "Hash", "Iterator", "Lint", "MetadataExt", "Model", "OpenFile", "Read", "Write", "WriteFault", "_",
+          "◌>>=◌"}
 
 
 def files_of(top, folder):

@@ -5,7 +5,7 @@ use al_check::{Actions, Answers, Env, File, Iface, Parameters, Role};
 use al_expr::{Context, Form};
 use al_session::{Lint, Target};
 use al_text::{CallCode, Caller, Code};
-use al_tree::{FileKind, Tree, read_workflow};
+use al_tree::{Tree, read_workflow};
 use al_yaml::{Doc, read_yaml};
 use std::alloc::{AllocError, Global};
 

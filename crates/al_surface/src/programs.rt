@@ -4,7 +4,7 @@ use crate::files::{CALLER, action, caller, missing_input};
 use al_cli::{Fatal, Unread, Usage, Words, gather, lint_all, parse_words, run_session};
 use al_session::Refused;
 use al_text::{Input, Output, Path, Stop};
-use std::alloc::{AllocError, Global};
+use std::alloc::Global;
 use std::fs;
 use std::rt::Files;
 use std::test::Fail;
