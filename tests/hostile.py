@@ -330,17 +330,24 @@ def calls_of_absent_files(place):
     place.case("33000-calls-of-absent-actions", 0, NO, NO, ["--oneline"], limits=held_to(NO))
 
 
-def folder_of_links(place):
-    """Links to one file of 300 KB, of whose 99,900 empty mappings each is a fault: the trees of all files stay until the report, so that
-    memory runs out where they are many, and then nothing is printed."""
-    steps = STEPS.replace(b"    steps:\n", b"    steps: [" + b",".join([b"{}"] * 99_900) + b"]\n")
-    place.fresh({"kept/a.yml": steps}, folders=[WORKFLOWS])
+def linked(place, text):
+    """Puts a file, and a hundred links to it among the workflows."""
+    place.fresh({"kept/a.yml": text}, folders=[WORKFLOWS])
     for number in range(100):
         os.symlink("../../kept/a.yml", os.path.join(place.folder, WORKFLOWS, f"{number:03}.yml"))
+
+
+def folder_of_links(place):
+    """Links to one large file. The trees of the first two megabytes of files stay until the report, and no others do. What a report lists
+    stays: memory runs out where each of a hundred files has 99,900 faults, and then nothing is printed."""
+    linked(place, STEPS.replace(b"    steps:\n", b"    steps: [" + b",".join([b"{}"] * 99_900) + b"]\n"))
     few = [f"{WORKFLOWS}/{number:03}.yml" for number in range(4)]
     counted = lambda out: out.count(b"\n") == 4 * 99_900
     place.case("four-links-to-a-file-of-300-kilobytes", 1, counted, NO, ["--oneline", *few], limits=held_to(NO))
     place.case("100-links-to-a-file-of-300-kilobytes", 3, NO, line(b"out of memory"), ["--oneline"], limits=held_to(NO))
+    numbers = b"    strategy: {matrix: {n: [" + b",".join([b"1"] * 99_000) + b"]}}\n"
+    linked(place, STEPS.replace(b"    steps:\n", numbers + b"    steps:\n      - run: make\n"))
+    place.case("100-links-to-a-file-of-99000-numbers", 0, NO, NO, ["--oneline"], limits=held_to(NO))
 
 
 # ---- input

@@ -1,5 +1,6 @@
 //! Which files a run takes from a disk, and in which order.
 
+use al_base::Path;
 use al_cli::{Disk, DiskError, Entry, Gathered, Unread, Words, gather, load_from};
 use al_session::Refused;
 use std::alloc::{AllocError, Global};
@@ -201,19 +202,27 @@ enum Answer {
     Other,
 }
 
+fn answer_with(files: &[(Path, Vec<u8>)]) -> Answer {
+    match files {
+        [(_, bytes)] => Answer::Taken(bytes.len()),
+        _ => Answer::Other,
+    }
+}
+
+fn answer_without(unread: &Unread) -> Answer {
+    match unread {
+        Unread::Refused(path, Refused::TooLarge) if path.as_str() == LARGE => Answer::TooLarge,
+        _ => Answer::Other,
+    }
+}
+
 fn answer_to_large<R: DiskFiles + AllocGlobal + Clone + Drop>(
     rt: &R,
 ) -> Result<Answer, AllocError> {
     let words = named(rt.alloc(), &[LARGE])?;
     match gather(rt, rt.alloc(), &words) {
-        Ok(files) => match files.as_slice() {
-            [(_, bytes)] => Ok(Answer::Taken(bytes.len())),
-            _ => Ok(Answer::Other),
-        },
-        Err(Unread::Refused(path, Refused::TooLarge)) if path.as_str() == LARGE => {
-            Ok(Answer::TooLarge)
-        }
-        Err(_) => Ok(Answer::Other),
+        Ok(files) => Ok(answer_with(files.as_slice())),
+        Err(unread) => Ok(answer_without(&unread)),
     }
 }
 
