@@ -4,7 +4,6 @@ use crate::files::{ACTION, action};
 use al_check::{Actions, Answers, Env, File, Iface, Parameters, Role};
 use al_expr::{Context, Form};
 use al_session::{Lint, Target};
-use al_text::{CallCode, Caller, Code};
 use al_tree::{Tree, read_workflow};
 use al_yaml::{Doc, read_yaml};
 use std::alloc::{AllocError, Global};
@@ -51,7 +50,7 @@ fn calls_path(calls: &[Target], path: &str) -> bool {
     }
 }
 
-/// Whether a file's one call is of itself, with what is said of it.
+/// Whether a file's one call is of itself.
 fn leads_back(
     alloc: Global,
     lint: &mut Actions,
@@ -63,16 +62,7 @@ fn leads_back(
     }
     let unit = lint.read(alloc, path, bytes)?;
     let calls = lint.calls(alloc, path, &unit)?;
-    if calls.is_empty() {
-        return Ok(false);
-    }
-    let site = lint.site(&unit, 0);
-    Ok(
-        calls_path(&calls, path)
-            && site.code == Code::Call(CallCode::LeadsBack, Caller::Job)
-            && site.span.start == 42
-            && site.text == "./.github/workflows/r.yml",
-    )
+    Ok(calls_path(&calls, path))
 }
 
 fn takes_both(lint: &Actions) -> bool {
