@@ -10,3 +10,4 @@ pub mod Elements
 pub mod ShownTexts
 pub mod TwoTexts
 pub mod SameName
+pub mod NamePlaces

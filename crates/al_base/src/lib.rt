@@ -2,7 +2,7 @@
 //!
 //! - faults, in `codes`, `args`, `faults`, `lists` and `copies`: a span, a code and the texts of a message; their order, and a file's
 //!   list of them
-//! - names in which case does not count, in `names`
+//! - names in which case does not count, in `names`, and where texts and names first stand in a list, in `name_positions`
 //! - paths, in `paths`: which texts name a file of a folder
 //! - control bytes of texts that are printed, in `controls`
 //! - positions, in `positions` and `lines`: the line and the column of an offset
@@ -20,6 +20,7 @@ mod faults;
 pub mod limits;
 mod lines;
 mod lists;
+mod name_positions;
 mod names;
 mod paths;
 mod positions;
@@ -37,6 +38,7 @@ pub use examples::rows;
 pub use faults::{Fault, Span};
 pub use lines::Lines;
 pub use lists::{fault_lists, ordered};
+pub use name_positions::{NamePositions, TextPositions, in_lower_case};
 pub use names::is_same_name;
 pub use paths::{Path, PathFault, path_fault};
 pub use positions::{Location, is_char_start, location_of, position};

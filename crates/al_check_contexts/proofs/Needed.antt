@@ -16,8 +16,8 @@ use Rattle.al_yaml_tree.specs.Node.{Node}
 use Rattle.al_tree.specs.Keys.{key_of}
 use Rattle.std.proofs.Math.ListN.{get_or-map}
 use Rattle.std.proofs.lemmas.List.{drop_more, get_or-map as get_or-any}
-use Rattle.al_types.specs.Positions.{first_at}
-use Rattle.al_types.proofs.PositionLemmas.{find_first, first_within}
+use Rattle.al_base.specs.NamePlaces.{first_at}
+use Rattle.al_base.proofs.NamePlaces.{find_first, first_within}
 use Rattle.al_check_contexts.specs.Contexts.{Known, job_field, needed}
 use Rattle.al_types.specs.Puts.{Typed}
 use Rattle.al_check_contexts.specs.Private.Grown.{with_fields}

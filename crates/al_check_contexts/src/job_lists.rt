@@ -1,6 +1,6 @@
 //! The jobs of a workflow, found by their keys.
 ghost use Rattle.std.specs.Prelude.{◌≡◌, IfOk, map, option_map};
-ghost use Rattle.al_types.specs.Private.Positions.{name_position, text_position};
+ghost use Rattle.al_base.specs.NamePlaces.{name_position, text_position};
 ghost use Rattle.al_check_places.specs.Positions.{section_view};
 ghost use Rattle.al_tree.specs.Values.{member_of};
 ghost use Rattle.al_tree.specs.Files.{jobs_of};
@@ -10,7 +10,7 @@ ghost use Rattle.al_check_contexts.specs.Private.JobPositions.{key_at, named_at}
 
 use al_check_places::Section;
 use al_tree::{Member, key_text, members_under};
-use al_types::{NamePositions, TextPositions};
+use al_base::{NamePositions, TextPositions};
 use al_yaml_tree::Node;
 use std::alloc::{AllocError, Global};
 

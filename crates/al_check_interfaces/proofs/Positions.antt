@@ -4,9 +4,9 @@ use Rattle.std.proofs.lemmas.List.{length-take, take_more}
 use Rattle.std.specs.Prelude.{find, if◌then◌else◌}
 use Rattle.std.specs.Option.{option_or}
 use Rattle.al_base.specs.Names.{same_name}
-use Rattle.al_types.specs.Positions.{first_at}
-use Rattle.al_types.specs.Private.Positions.{and_name_at}
-use Rattle.al_types.proofs.PositionLemmas.{find_first, first_more, first_within, found_nowhere}
+use Rattle.al_base.specs.NamePlaces.{first_at}
+use Rattle.al_base.specs.NamePlaces.{and_name_at}
+use Rattle.al_base.proofs.NamePlaces.{find_first, first_more, first_within, found_nowhere}
 use Rattle.al_tree_declarations.specs.Declarations.{named_among}
 use Rattle.al_check_interfaces.specs.Private.Names.{has_name, positions_by}
 

@@ -1,13 +1,13 @@
 //! The parameters of an interface. Where their names stand, and which of them each call has to give, is made ready once for all calls.
 ghost use Rattle.std.specs.Prelude.{◌≡◌, ◌<◌, find, length, map, slice_index_or, IfOk};
 ghost use Rattle.std.specs.Option.{option_copied};
-ghost use Rattle.al_types.specs.Private.Positions.{name_position};
+ghost use Rattle.al_base.specs.NamePlaces.{name_position};
 ghost use Rattle.al_check_interfaces.specs.Parameters.{has_parameter, is_mandatory, is_parameter, mandatory_of};
 ghost use Rattle.al_check_interfaces.specs.Private.Names.{positions_by};
 ghost use Rattle.al_check_interfaces.specs.Private.Places.{StandAt};
 
 use crate::interfaces::Parameter;
-use al_types::NamePositions;
+use al_base::NamePositions;
 use std::alloc::{AllocError, Global};
 use std::marker::Model;
 
@@ -22,7 +22,7 @@ pub struct Parameters {
 
 impl Model for Parameters {
     ghost use Rattle.std.specs.Prelude.{◌≡◌, List};
-    ghost use Rattle.al_types.specs.Private.Positions.{name_position};
+    ghost use Rattle.al_base.specs.NamePlaces.{name_position};
     ghost use Rattle.al_check_interfaces.specs.declared.interfaces.Parameter.{Parameter};
     ghost use Rattle.al_check_interfaces.specs.Parameters.{mandatory_of};
     ghost use Rattle.al_check_interfaces.specs.Private.Names.{positions_by};

@@ -76,7 +76,7 @@ fn next_put<'a>(bytes: &'a [u8], end: usize, path: &'a str, length: usize) -> Ne
 
 // The first LF, where the line before it isn't too long.
 fn find_break(bytes: &[u8]) -> Option<usize>
-    ensures { MatchOption result (HasNoBreak (take 2049 bytes.now))
+    ensures { MatchOption result (HasNoBreak (take (longest_line + 1) bytes.now))
         (λ end. (end < length bytes.now) × (end ≤ longest_line) × HasNoBreak (take end bytes.now) × (slice_index bytes.now end ≡ 10)) }
 {
     first_break(&bytes[..bytes.len().min(LONGEST_LINE + 1)])

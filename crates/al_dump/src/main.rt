@@ -93,7 +93,7 @@ fn scalar_line(alloc: Global, file: &[u8]) -> Result<String, AllocError> {
     if file.len() > LARGEST_FILE {
         return Ok(line);
     }
-    match read_scalar(alloc, file, 0, ScalarContext::Block(0))? {
+    match read_scalar(alloc, file, 0, ScalarContext::BlockFromIndent(0))? {
         Ok(read) => {
             line.push_str("{\"tree\":")?;
             push_scalar(alloc, &mut line, &read.scalar, read.span)?;

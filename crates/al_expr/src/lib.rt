@@ -10,7 +10,7 @@ pub use al_expr_grammar::{
 pub use al_meaning::{comparable, type_of};
 pub use al_types::{
     Context, ContextSet, ContextTypes, Field, FieldNames, Form, Function, FunctionSet, Fused,
-    Listing, NamePositions, NamedFields, Object, Parameters, Returned, Scope, Signature, Ty,
+    Listing, NamedFields, Object, Parameters, Returned, Scope, Signature, Ty,
     Wanted, assignable, copy, fuse, object_of_fields, signature_of,
 };
 

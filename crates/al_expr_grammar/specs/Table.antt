@@ -1,5 +1,6 @@
 -- Which token may come next, and the first fault.
 use Rattle.std.specs.Prelude.{ℕ, suc, ◌+◌, List, [], ◌∷◌, length, Bool, nat_lt, if◌then◌else◌}
+use Rattle.al_base.specs.Limits.{deepest_expression}
 use Rattle.al_expr_grammar.specs.declared.token.TokenKind.{TokenKind}
 use Rattle.al_expr_grammar.specs.declared.token.TokenKind.TheVariants.{Name, Keyword, Number, Text, Open, Close, OpenIndex, CloseIndex, Dot}
 use Rattle.al_expr_grammar.specs.declared.token.TokenKind.TheVariants.{Comma, Star, Bang, Infix}
@@ -105,7 +106,7 @@ onward (Deeper m k st) room left go = if room then go m k st else TooDeep left
 -- the verdict on the tokens, in a mode with so many negations in the innermost bracket, and the open brackets
 abbrev pub scan : Mode → ℕ → List Frame → List TokenKind → Verdict
 scan m k st [] = finish m st
-scan m k st (t ∷ ts) = onward (step m k st t) (nat_lt (k + outside st) 50) (suc (length ts)) (λ m' k' st'. scan m' k' st' ts)
+scan m k st (t ∷ ts) = onward (step m k st t) (nat_lt (k + outside st) deepest_expression) (suc (length ts)) (λ m' k' st'. scan m' k' st' ts)
 
 abbrev pub verdict_of : List TokenKind → Verdict
 verdict_of ts = scan E 0 [] ts

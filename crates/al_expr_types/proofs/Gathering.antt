@@ -3,7 +3,7 @@ use Rattle.std.proofs.Common.{◌≡◌, ◌+◌, ◌<◌, ◌≤◌, ℕ, List,
 use Rattle.std.proofs.lemmas.Bool.Decides.{nat_tests}
 use Rattle.std.proofs.lemmas.List.{map-append, take_more}
 use Rattle.std.specs.Prelude.{is_some, nat_eq, nat_lt, not, option_map, zip}
-use Rattle.al_types.specs.Positions.{name_place}
+use Rattle.al_base.specs.NamePlaces.{name_place}
 use Rattle.al_types.specs.Strings.{strings}
 use Rattle.al_types.proofs.StringFields.{common_strings, string_at}
 use Rattle.al_types.specs.MoreFields.{is_present}

@@ -3,7 +3,7 @@ use Rattle.std.proofs.Common.{◌≡◌, ◌∙◌, ℕ, List, [], ◌∷◌, ma
 use Rattle.std.specs.List.{list_all}
 use Rattle.std.specs.Prelude.{option_and_then, slice_get}
 use Rattle.al_base.specs.Growth.{BeginsWith}
-use Rattle.al_types.specs.Positions.{name_place}
+use Rattle.al_base.specs.NamePlaces.{name_place}
 use Rattle.al_types.specs.Types.{Type', Absent, Present, Parts, field_at, fields_of, optional}
 use Rattle.al_types.proofs.FieldsByName.{found_by_name}
 use Rattle.al_expr_types.specs.Joining.{join_in}

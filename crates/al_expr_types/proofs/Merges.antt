@@ -9,13 +9,13 @@ use Rattle.std.specs.Prelude.{if◌then◌else◌, nat_eq, nat_lt, option_and_th
 use Rattle.al_expr_types.proofs.Below.{both_are, is_less, left_of, right_of}
 use Rattle.std.specs.Str.{bytes_eq}
 use Rattle.al_base.specs.Names.{folded, same_name}
-use Rattle.al_types.specs.Positions.{first_at, name_place}
+use Rattle.al_base.specs.NamePlaces.{first_at, name_place}
 use Rattle.al_types.specs.Strings.{strings}
 use Rattle.al_types.specs.Types.{Type', String, Optional, Absent, Parts, Present, field_at, fields_of, fuse_optional, optional}
 use Rattle.al_types.proofs.FieldsByName.{found_by_name}
 use Rattle.al_types.proofs.FuseLaws.{nothing_last}
 use Rattle.al_types.proofs.StringFields.{string_at}
-use Rattle.al_types.proofs.PositionLemmas.{first_more, first_within}
+use Rattle.al_base.proofs.NamePlaces.{first_more, first_within}
 use Rattle.al_expr_types.specs.Joining.{join_in}
 use Rattle.al_expr_types.specs.Merging.{and_named, and_placed, is_placed, slot, slot_in}
 use Rattle.al_expr_types.specs.declared.joining.Join.{Join}

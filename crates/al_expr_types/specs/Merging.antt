@@ -2,7 +2,7 @@
 use Rattle.std.specs.Prelude.{ℕ, List, get_or, Bool, false, nat_eq, Option, Some, None, if◌then◌else◌}
 use Rattle.std.specs.List.{list_all}
 use Rattle.al_base.specs.Names.{same_name}
-use Rattle.al_types.specs.Positions.{name_place}
+use Rattle.al_base.specs.NamePlaces.{name_place}
 use Rattle.al_types.specs.Types.{Optional, Parts, fuse_optional}
 use Rattle.al_expr_types.specs.Joining.{is_join_below, join_in}
 use Rattle.al_expr_types.specs.Names.{names_in}

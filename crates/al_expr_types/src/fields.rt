@@ -17,7 +17,7 @@ pub struct FieldMap<'a> {
 
 impl<'a> FieldMap<'a> {
     ghost use Rattle.std.specs.Prelude.{◌∷◌, ◌++◌, [], List, IfOk, if◌then◌else◌, is_none, option_map, slice_get, take, true, ℕ};
-    ghost use Rattle.al_types.specs.Positions.{name_place};
+    ghost use Rattle.al_base.specs.NamePlaces.{name_place};
     ghost use Rattle.al_types.specs.Types.{Parts, field_at, fields_of};
     ghost use Rattle.al_expr_types.specs.Types.{is_below, is_rest_below, named_types, type_in};
     ghost use Rattle.std.specs.List.{list_all};

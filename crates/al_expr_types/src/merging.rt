@@ -24,7 +24,7 @@ impl<'a> FieldJoins<'a> {
     ghost use Rattle.std.specs.List.{list_all};
     ghost use Rattle.al_expr_types.specs.Names.{names_listed};
     ghost use Rattle.al_types.specs.Strings.{strings};
-    ghost use Rattle.al_types.specs.Positions.{name_place};
+    ghost use Rattle.al_base.specs.NamePlaces.{name_place};
     ghost use Rattle.al_types.specs.Types.{Absent, Parts, Present, field_at, fields_of, fuse_optional, optional};
     ghost use Rattle.al_expr_types.specs.Joining.{is_join_below, join_in};
     ghost use Rattle.al_expr_types.specs.Merging.{and_named, are_joins_below, found_in};

@@ -1,11 +1,11 @@
 //! The names of outputs behind a call, which are kept with the file that declares them.
 
 ghost use Rattle.std.specs.Prelude.{◌≡◌, ◌++◌, ◌∷◌, [], IfOk, if◌then◌else◌, is_none, map};
-ghost use Rattle.al_types.specs.Positions.{name_place};
-ghost use Rattle.al_types.specs.Private.Positions.{IsNameIndex};
+ghost use Rattle.al_base.specs.NamePlaces.{name_place};
+ghost use Rattle.al_base.specs.NamePlaces.{IsNameIndex};
 
 use crate::names::Names;
-use al_types::NamePositions;
+use al_base::NamePositions;
 use std::alloc::{AllocError, Global};
 
 /// Names in order, each once but for ASCII case, and where each stands among them. It owns them, so that types of many files can share it.

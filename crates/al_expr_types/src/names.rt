@@ -1,10 +1,10 @@
 //! The names of fields, found in a map.
 
 ghost use Rattle.std.specs.Prelude.{◌≡◌, ◌++◌, ◌∷◌, [], IfOk, if◌then◌else◌, is_none, map};
-ghost use Rattle.al_types.specs.Positions.{name_place};
-ghost use Rattle.al_types.specs.Private.Positions.{IsNameIndex};
+ghost use Rattle.al_base.specs.NamePlaces.{name_place};
+ghost use Rattle.al_base.specs.NamePlaces.{IsNameIndex};
 
-use al_types::NamePositions;
+use al_base::NamePositions;
 use std::alloc::{AllocError, Global};
 
 /// The names of fields in order, each once but for ASCII case, and where each stands among them. A file lends them.

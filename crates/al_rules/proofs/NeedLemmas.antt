@@ -21,7 +21,7 @@ use Rattle.al_rules.specs.Needs.{AddsAllNeeds, AddsNeeds, AreNeedsFaults, undefi
 use Rattle.al_rules.specs.Needs.{IsNeedFaults, Need, all_needs, cycle_fault, keys_of, named_by, needs_in, needs_lists, needs_of}
 use Rattle.al_rules.specs.Needs.{position_in}
 use Rattle.al_base.specs.Names.{same_name}
-use Rattle.al_types.proofs.PositionLemmas.{first_within}
+use Rattle.al_base.proofs.NamePlaces.{first_within}
 use Rattle.al_rules_reports.specs.Words.{Named, of_key, of_scalar}
 
 enumerated : {X : Type 0} (i : ℕ) (xs : List X) (y : X) → enumerate_from i (xs ++ y ∷ []) ≡ enumerate_from i xs ++ (i + length xs, y) ∷ []

@@ -6,7 +6,7 @@ use Rattle.al_base.specs.declared.faults.Fault.{Fault}
 use Rattle.al_yaml_tree.specs.Node.{Node}
 use Rattle.al_tree.specs.Values.{texts_at}
 use Rattle.al_base.specs.Names.{same_name}
-use Rattle.al_types.specs.Positions.{first_at}
+use Rattle.al_base.specs.NamePlaces.{first_at}
 use Rattle.al_graph.specs.Graphs.{Walk}
 use Rattle.al_rules_reports.specs.Words.{Named, about, fault, of_key, of_scalar}
 

@@ -1,6 +1,6 @@
 //! What jobs need.
 
-ghost use Rattle.al_types.specs.Private.Positions.{name_position};
+ghost use Rattle.al_base.specs.NamePlaces.{name_position};
 ghost use Rattle.al_graph.specs.Graphs.{edges_of};
 ghost use Rattle.al_rules.specs.Needs.{AddsAllNeeds, all_needs, keys_of as keys_of_all, named_by, needs_in, needs_lists};
 ghost use Rattle.al_rules.specs.Needs.{position_in};
@@ -18,7 +18,7 @@ use al_base::{Fault, RuleCode};
 use al_graph::strongly_connected_components;
 use al_rules_reports::{Named, named_key, named_text, report, report_two};
 use al_tree::{Member, ScalarNode, key_text, texts_under};
-use al_types::NamePositions;
+use al_base::NamePositions;
 use std::alloc::{AllocError, Global};
 
 /// An entry of `needs`: its text, and the position and the key of its job.

@@ -2,8 +2,8 @@
 use Rattle.std.proofs.Common.{◌≡◌, ℕ, ◌+◌, List, [], ◌∷◌, length, drop, refl, sym, ap, ◌∙◌, Bool, true, false, cond, Option, None, Result, Ok, Err}
 use Rattle.al_scalar.specs.Line.{Cell, Line, place}
 use Rattle.al_scalar.specs.Taken.{Fault, Taken, ◌>>=◌, with_text}
-use Rattle.al_scalar.specs.Places.{first_text, first_end}
-use Rattle.al_scalar.specs.Private.Places.{lines_at, broken_line, SameLine, first_last, later}
+use Rattle.al_scalar.specs.Places.{first_text, first_end, lines_at}
+use Rattle.al_scalar.specs.Private.Places.{broken_line, SameLine, first_last, later}
 use Rattle.al_scalar.specs.Block.{Chomping, Header, Rows, header, content_indent, rows_at, block_scalar}
 use Rattle.al_scalar.specs.Private.BlockRead.{rest, is_said}
 use Rattle.al_scalar.proofs.SingleLemmas.{has_line, cell_at, lines-at_end, lines_at-some, IsInside}

@@ -4,7 +4,8 @@ use Rattle.std.proofs.Math.Nat.{pow-le-pow_right}
 use Rattle.std.proofs.Math.Seq.{take-append-add}
 use Rattle.al_scalar.specs.Line.{Cell}
 use Rattle.al_scalar.specs.Quoted.{hex_digit, hex_push, hex_value}
-use Rattle.al_scalar.specs.Private.Places.{text_at, cells_between}
+use Rattle.al_scalar.specs.Places.{text_at}
+use Rattle.al_scalar.specs.Private.Places.{cells_between}
 use Rattle.al_scalar.specs.Private.Double.{Between}
 use Rattle.al_scalar.proofs.BlockLemmas.{length-cells_between}
 use Rattle.al_scalar.proofs.LineLemmas.{cells_between-more, cells_between-none}

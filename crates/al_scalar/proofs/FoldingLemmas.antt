@@ -3,7 +3,8 @@ use Rattle.std.proofs.Common.{◌≡◌, ◌≢◌, ℕ, ◌+◌, ◌<◌, ◌�
 use Rattle.std.proofs.Common.{append-nil, Bool, true, false, not, ◌&&◌, cond, inl, inr, ◌⊎◌, eq-or-lt_of_le}
 use Rattle.al_scalar.specs.Line.{Cell, Line, with_cell, cut, after_blanks, is_empty}
 use Rattle.al_scalar.specs.Taken.{feeds}
-use Rattle.al_scalar.specs.Private.Places.{lines_at, cells_between, with_cells_before, AreBlank, IsBlankByte, IsBreakAt, broken_line}
+use Rattle.al_scalar.specs.Places.{lines_at}
+use Rattle.al_scalar.specs.Private.Places.{cells_between, with_cells_before, AreBlank, IsBlankByte, IsBreakAt, broken_line}
 use Rattle.al_scalar.specs.Private.PlainLines.{is_blank_line, empty_ends, break_left}
 use Rattle.al_scalar.specs.Private.Folding.{solid_lines}
 use Rattle.al_scalar.proofs.LineLemmas.{lines_at-other}

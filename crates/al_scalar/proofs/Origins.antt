@@ -1,7 +1,8 @@
 -- Each byte of a scalar's text comes from the file that the scalar was read from.
 use Rattle.std.proofs.Common.{ℕ, ◌<◌, ◌≤◌, List, length, arith, Bool, true, false, if◌then◌else◌, Result, Ok, Err, IfOk}
 use Rattle.std.proofs.lemmas.List.{length-map}
-use Rattle.al_scalar.specs.Private.Contract.{GivesIn, LiesBehind}
+use Rattle.al_scalar.specs.ReadScalar.{LiesBehind}
+use Rattle.al_scalar.specs.Private.Contract.{GivesIn}
 use Rattle.al_scalar.specs.Line.{Cell}
 use Rattle.al_scalar.specs.Offsets.{IsFrom, IsPlaced, is_block, reach}
 use Rattle.al_scalar.specs.Plain.{Context}

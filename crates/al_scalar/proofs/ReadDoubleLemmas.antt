@@ -3,7 +3,8 @@ use Rattle.std.proofs.Common.{◌≡◌, ℕ, List, ◌++◌, refl, sym, ap, ◌
 use Rattle.al_scalar.specs.Line.{Cell}
 use Rattle.al_scalar.specs.Taken.{Fault, Taken, before}
 use Rattle.al_scalar.specs.Quoted.{double_part, quoted, double_quoted}
-use Rattle.al_scalar.specs.Private.Places.{lines_at, later}
+use Rattle.al_scalar.specs.Places.{lines_at}
+use Rattle.al_scalar.specs.Private.Places.{later}
 use Rattle.al_scalar.specs.Private.PlainLines.{empty_ends, break_left}
 use Rattle.al_scalar.specs.Private.Folding.{solid_lines}
 use Rattle.al_scalar.specs.Private.Double.{ReadsOn, read_behind}

@@ -74,9 +74,6 @@ pub record BlockLine : Type 0 where
   pub text : List Cell
   pub break : List ℕ
 
-abbrev pub break_of : Line → List ℕ
-break_of l = if l.last then [] else l.end ∷ []
-
 -- The row that a line is, None where it ends the scalar. found says that the line that gave the indent has come.
 abbrev pub row_of : Option ℕ → Bool → List Cell → Option (List Cell)
 row_of None found text = if is_all_blank text then Some [] else None

@@ -1,7 +1,8 @@
 //! Double-quoted scalars and their escapes (YAML 1.2.2, 5.7 and 7.3.1).
 
 ghost use Rattle.std.specs.Prelude.{◌≡◌, ◌+◌, ◌<◌, ◌≤◌, ◌^◌, ◌++◌, suc, length, IfOk, IfSome, slice_index, IsTrue, ◌↔◌, Some, None};
-ghost use Rattle.al_scalar.specs.Private.Places.{lines_at, cells_between};
+ghost use Rattle.al_scalar.specs.Places.{lines_at};
+ghost use Rattle.al_scalar.specs.Private.Places.{cells_between};
 ghost use Rattle.al_scalar.specs.Quoted.{double_quoted, written, lookup, escape_table, digits_table, hex_digit};
 ghost use Rattle.al_scalar.specs.Private.Reads.{Gives, StaysWithin};
 ghost use Rattle.al_scalar.specs.Private.Double.{IsMarkByte, ReadsOn, EndsRun, GivesMark, GivesDigits};

@@ -5,9 +5,11 @@ ghost use Rattle.al_scalar.specs.Characters.{character_at, character_length};
 ghost use Rattle.al_base.specs.Positions.{begins_char};
 
 use al_base::{Span, YamlCode};
+use thiserror::Error;
 
 /// What is wrong with a file as YAML, and the character that it is at; at the file's end an empty span.
-#[derive(Clone, Copy, PartialEq, Eq, Debug)]
+#[derive(Clone, Copy, PartialEq, Eq, Debug, Error)]
+#[error("wrong YAML at byte {}: {code:?}", .span.start)]
 pub struct YamlFault {
     pub code: YamlCode,
     pub span: Span,

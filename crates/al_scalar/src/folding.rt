@@ -1,7 +1,8 @@
 //! Breaks inside quoted scalars (YAML 1.2.2, 6.5 and 7.3.1).
 
 ghost use Rattle.std.specs.Prelude.{◌≡◌, ◌<◌, ◌≤◌, ◌^◌, ◌++◌, length, IfOk};
-ghost use Rattle.al_scalar.specs.Private.Places.{lines_at, later, IsLineEnd};
+ghost use Rattle.al_scalar.specs.Places.{lines_at};
+ghost use Rattle.al_scalar.specs.Private.Places.{later, IsLineEnd};
 ghost use Rattle.al_scalar.specs.Private.PlainLines.{empty_ends, break_left};
 ghost use Rattle.al_scalar.specs.Private.Folding.{solid_lines};
 ghost use Rattle.al_base.specs.Growth.{BeginsWith};

@@ -4,7 +4,7 @@ ghost use Rattle.std.specs.Prelude.{◌≡◌, ◌≤◌, IfSome, length};
 ghost use Rattle.al_scalar.specs.Block.{after_digit, after_sign, header, is_digit as block_digit};
 ghost use Rattle.al_scalar.specs.Block.{is_sign as block_sign, chomping_of as chomping_by};
 ghost use Rattle.al_scalar.specs.Private.BlockRead.{Indicates, EndsHeader, kind};
-ghost use Rattle.al_scalar.specs.Private.Places.{text_at};
+ghost use Rattle.al_scalar.specs.Places.{text_at};
 
 use crate::lines::{blanks_end, first_byte, is_line_end};
 

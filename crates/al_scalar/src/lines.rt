@@ -2,8 +2,8 @@
 
 ghost use Rattle.std.specs.Prelude.{◌≡◌, ◌≢◌, ◌∷◌, ◌+◌, ◌<◌, ◌≤◌, length, IsTrue, ◌↔◌, slice_index};
 ghost use Rattle.al_scalar.specs.Line as line;
-ghost use Rattle.al_scalar.specs.Places.{first_end};
-ghost use Rattle.al_scalar.specs.Private.Places.{lines_at, text_at, cells_between, with_cells_before, broken_line, AreBlank};
+ghost use Rattle.al_scalar.specs.Places.{first_end, lines_at, text_at};
+ghost use Rattle.al_scalar.specs.Private.Places.{cells_between, with_cells_before, broken_line, AreBlank};
 ghost use Rattle.al_scalar.specs.Private.Places.{AreSpaces, IsBlankByte, IsLineEnd, IsBreakAt, OnLine, BlankTo, FirstByte};
 
 /// Whether no text of the line is left at an offset.

@@ -12,9 +12,9 @@ use std::marker::Model;
 /// Where a node that is a scalar stands.
 #[derive(Clone, Copy, PartialEq, Eq, Debug)]
 pub enum ScalarContext {
-    /// In block context. The number, one more than the indent of the collection around it and 0 at the root, is the least
-    /// indent of a plain scalar's further lines and of a block scalar's content.
-    Block(u32),
+    /// In block context. Further lines of a plain scalar, and a block scalar's content, are indented by at least so many
+    /// columns: one more than the collection around it, 0 at the root.
+    BlockFromIndent(u32),
     /// In a flow collection.
     Flow,
     /// Nothing stands there: an empty node.

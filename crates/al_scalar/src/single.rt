@@ -1,7 +1,7 @@
 //! Single-quoted scalars (YAML 1.2.2, 7.3.2).
 
 ghost use Rattle.std.specs.Prelude.{◌≡◌, ◌+◌, ◌<◌, ◌≤◌, ◌^◌, ◌++◌, suc, length, IsTrue, IfOk, slice_index};
-ghost use Rattle.al_scalar.specs.Private.Places.{lines_at};
+ghost use Rattle.al_scalar.specs.Places.{lines_at};
 ghost use Rattle.al_scalar.specs.Quoted.{single_quoted};
 ghost use Rattle.al_scalar.specs.Private.Reads.{Gives, StaysWithin};
 ghost use Rattle.al_scalar.specs.Private.Single.{part_at, StopsSo, StopsFrom};

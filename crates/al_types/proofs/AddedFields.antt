@@ -3,17 +3,17 @@ use Rattle.std.proofs.Common.{◌≡◌, ◌+◌, ℕ, List, [], ◌∷◌, ◌+
 use Rattle.std.specs.Prelude.{if◌then◌else◌, is_none, is_some, zip}
 use Rattle.al_base.specs.Names.{same_name}
 use Rattle.al_types.specs.MoreFields.{is_present, with_field}
-use Rattle.al_types.specs.Positions.{name_place}
+use Rattle.al_base.specs.NamePlaces.{name_place}
 use Rattle.al_types.specs.Types.{Type', Optional, Absent, Present, Fields, NoField, FieldThen, field_at, fields_of, fuse_type, has_field, object_type}
 use Rattle.al_types.specs.Types.{ObjectOf, fuse_optional, object_with, option_of, optional}
 use Rattle.al_types.specs.TypeViews.{parts_by_names}
 use Rattle.al_types.specs.FusedFields.{both, fuse_fields, join_fields, with_other}
 use Rattle.al_types.specs.Private.Joined.{and_field}
-use Rattle.al_types.specs.Private.Positions.{IsNameIndex, and_name_at, name_position}
-use Rattle.al_types.specs.declared.positions.NamePositions.{NamePositions}
+use Rattle.al_base.specs.NamePlaces.{IsNameIndex, and_name_at, name_position}
+use Rattle.al_base.specs.declared.name_positions.NamePositions.{NamePositions}
 use Rattle.al_types.proofs.FuseLaws.{common_optional, nothing_last}
 use Rattle.al_types.proofs.JoinedFields.{at_both, has_field_at, joined_parts, same_turned}
-use Rattle.al_types.proofs.PositionLemmas.{first_more}
+use Rattle.al_base.proofs.NamePlaces.{first_more}
 
 -- ---- fields that are looked through
 

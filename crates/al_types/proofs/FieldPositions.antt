@@ -4,10 +4,11 @@ use Rattle.std.specs.Option.{option_or}
 use Rattle.std.specs.Prelude.{if◌then◌else◌}
 use Rattle.al_base.specs.Names.{same_name}
 use Rattle.al_types.specs.declared.types.Field.{Field}
-use Rattle.al_types.specs.Positions.{field_position, first_at}
+use Rattle.al_base.specs.NamePlaces.{first_at}
+use Rattle.al_types.specs.Positions.{field_position}
 use Rattle.al_types.specs.Types.{Type', Optional, Fields, NoField, FieldThen, field_at, fields_of, option_of, optional, or_else}
 use Rattle.al_types.specs.Private.TypeParts.{field_of}
-use Rattle.al_types.proofs.PositionLemmas.{position_next}
+use Rattle.al_base.proofs.NamePlaces.{position_next}
 
 abbrev is_named : List ℕ → List ℕ × Type' → Bool
 is_named n f = same_name f.0 n

@@ -4,7 +4,8 @@ use Rattle.std.proofs.Common.{Bool, true, false, Option, Some, None, option_map}
 use Rattle.std.proofs.lemmas.Grind.{common_steps}
 use Rattle.std.specs.Prelude.{if◌then◌else◌, option_and_then, slice_get, zip}
 use Rattle.al_base.specs.Names.{same_name}
-use Rattle.al_types.specs.Positions.{field_position, name_place}
+use Rattle.al_base.specs.NamePlaces.{name_place}
+use Rattle.al_types.specs.Positions.{field_position}
 use Rattle.al_types.specs.Types.{Type', Present, Fields, NoField, FieldThen, common_in, field_at, fields_of, fuse_optional}
 use Rattle.al_types.specs.Private.TypeParts.{common_of, named_types}
 

@@ -4,7 +4,6 @@ pub mod FuseLaws
 pub mod FusedForms
 pub mod JoinedFields
 pub mod FusedObjects
-pub mod PositionLemmas
 pub mod StringFields
 pub mod FieldPositions
 pub mod FieldsByName

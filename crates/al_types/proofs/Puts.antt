@@ -3,9 +3,9 @@ use Rattle.std.proofs.Common.{◌≡◌, ℕ, ◌+◌, List, [], ◌∷◌, ◌+
 use Rattle.std.specs.Prelude.{if◌then◌else◌, is_none, Result, Ok, Err, IsOk, OnOk, is_ok}
 use Rattle.al_base.specs.Names.{same_name}
 use Rattle.al_types.specs.Types.{Type', fuse_type}
-use Rattle.al_types.specs.Private.Positions.{and_name_at, name_position}
-use Rattle.al_types.specs.declared.positions.NamePositions.{NamePositions}
-use Rattle.al_types.proofs.PositionLemmas.{first_more, name_kept}
+use Rattle.al_base.specs.NamePlaces.{and_name_at, name_position}
+use Rattle.al_base.specs.declared.name_positions.NamePositions.{NamePositions}
+use Rattle.al_base.proofs.NamePlaces.{first_more, name_kept}
 use Rattle.al_types.specs.Puts.{Typed, put, put_new}
 use Rattle.al_types.specs.Private.Indexes.{IsIndex, name_at, named_as}
 

@@ -10,7 +10,7 @@ use crate::finding::field_positions;
 use crate::fusing::fuse;
 use crate::joining::{DEPTH, joined_fields};
 use crate::named_fields::{object_by_names, object_with_joined_common};
-use crate::positions::NamePositions;
+use al_base::NamePositions;
 use crate::types::{Field, Ty};
 use std::alloc::{AllocError, Global};
 use std::mem::replace;

@@ -1,10 +1,10 @@
 //! Names of fields, found by a map.
 
 ghost use Rattle.std.specs.Prelude.{◌≡◌, ◌++◌, ◌∷◌, [], IfOk, if◌then◌else◌, is_none, map, string_bytes};
-ghost use Rattle.al_types.specs.Positions.{name_place};
-ghost use Rattle.al_types.specs.Private.Positions.{IsNameIndex};
+ghost use Rattle.al_base.specs.NamePlaces.{name_place};
+ghost use Rattle.al_base.specs.NamePlaces.{IsNameIndex};
 
-use crate::positions::NamePositions;
+use al_base::NamePositions;
 use std::alloc::{AllocError, Global};
 
 /// The names of fields in order, and where each first stands among them: so one is found in time that grows with the logarithm of

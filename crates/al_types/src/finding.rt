@@ -7,7 +7,7 @@ ghost use Rattle.al_types.specs.Private.Positions.{IsFieldIndex};
 ghost use Rattle.al_types.specs.Private.TypeParts.{field_of};
 
 use crate::objects::FEW;
-use crate::positions::NamePositions;
+use al_base::NamePositions;
 use crate::types::{Field, field_among};
 use std::alloc::{AllocError, Global};
 

@@ -14,7 +14,6 @@ mod named_fields;
 mod names;
 mod objects;
 mod owning;
-mod positions;
 mod properties;
 mod relations;
 mod scope;
@@ -33,7 +32,6 @@ pub use named_fields::{object_by_names, object_of_named, object_with_common, oth
 pub use names::{Context, Function};
 pub use objects::{object_of_fields, object_of_strings};
 pub use owning::unshared;
-pub use positions::{NamePositions, TextPositions, in_lower_case};
 pub use properties::Property;
 pub use relations::assignable;
 pub use scope::{ContextSet, ContextTypes, FunctionSet, Scope};

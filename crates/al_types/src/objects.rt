@@ -5,12 +5,12 @@ ghost use Rattle.al_types.specs.Properties.{property_type};
 ghost use Rattle.al_types.specs.Strings.{named_strings, strings};
 ghost use Rattle.al_types.specs.Types.{field_at, fields_of, object_with, option_of, optional, property_in};
 ghost use Rattle.al_types.specs.TypeViews.{ty_of, object_of, names_in, parts_of};
-ghost use Rattle.al_types.specs.Private.Positions.{IsNameIndex};
+ghost use Rattle.al_base.specs.NamePlaces.{IsNameIndex};
 ghost use Rattle.al_types.specs.Private.TypeParts.{field_of, rest_of};
 
 use crate::field_names::FieldNames;
 use crate::named_fields::other_of;
-use crate::positions::NamePositions;
+use al_base::NamePositions;
 use crate::properties::{Property, lent};
 use crate::types::{Field, Listing, Object, Ty, copy};
 use std::alloc::{AllocError, Global};

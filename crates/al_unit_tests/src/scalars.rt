@@ -20,7 +20,7 @@ static CASES: [Case; 8] = [
     Case {
         file: b"a: 'it''s'\n",
         at: 3,
-        place: ScalarContext::Block(1),
+        place: ScalarContext::BlockFromIndent(1),
         style: Style::SingleQuoted,
         class: Class::Str,
         text: b"it's",
@@ -30,7 +30,7 @@ static CASES: [Case; 8] = [
     Case {
         file: b"a: \"x\\u00e9\"\n",
         at: 3,
-        place: ScalarContext::Block(1),
+        place: ScalarContext::BlockFromIndent(1),
         style: Style::DoubleQuoted,
         class: Class::Str,
         text: b"x\xc3\xa9",
@@ -40,7 +40,7 @@ static CASES: [Case; 8] = [
     Case {
         file: b"a: >\n  b\n  c\n\n  d\n",
         at: 3,
-        place: ScalarContext::Block(1),
+        place: ScalarContext::BlockFromIndent(1),
         style: Style::Folded,
         class: Class::Str,
         text: b"b c\nd\n",
@@ -50,7 +50,7 @@ static CASES: [Case; 8] = [
     Case {
         file: b"a: |+\r\n b\r\n\r\nc: d\r\n",
         at: 3,
-        place: ScalarContext::Block(1),
+        place: ScalarContext::BlockFromIndent(1),
         style: Style::Literal,
         class: Class::Str,
         text: b"b\n\n",
@@ -70,7 +70,7 @@ static CASES: [Case; 8] = [
     Case {
         file: b"- \xc3\xa9\r  b\r",
         at: 2,
-        place: ScalarContext::Block(1),
+        place: ScalarContext::BlockFromIndent(1),
         style: Style::Plain,
         class: Class::Str,
         text: b"\xc3\xa9 b",
@@ -80,7 +80,7 @@ static CASES: [Case; 8] = [
     Case {
         file: b"0x1F",
         at: 0,
-        place: ScalarContext::Block(0),
+        place: ScalarContext::BlockFromIndent(0),
         style: Style::Plain,
         class: Class::Int,
         text: b"0x1F",
@@ -167,7 +167,7 @@ fn finds(alloc: Global, row: &Faulty) -> Result<bool, AllocError> {
     if *at > file.len() || file.len() > 1_048_576 {
         return Ok(false);
     }
-    match read_scalar(alloc, file, *at, ScalarContext::Block(1))? {
+    match read_scalar(alloc, file, *at, ScalarContext::BlockFromIndent(1))? {
         Ok(_) => Ok(false),
         Err(fault) => Ok(
             fault.code == *code && fault.span.start == *start && fault.span.end == *end,
@@ -188,7 +188,7 @@ fn length_of_text(alloc: Global, file: &[u8]) -> Result<Option<usize>, AllocErro
     if file.len() > 1_048_576 {
         return Ok(None);
     }
-    match read_scalar(alloc, file, 0, ScalarContext::Block(0))? {
+    match read_scalar(alloc, file, 0, ScalarContext::BlockFromIndent(0))? {
         Ok(read) => Ok(Some(read.scalar.text().len())),
         Err(_) => Ok(None),
     }

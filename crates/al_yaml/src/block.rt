@@ -1,6 +1,6 @@
 //! Nodes in block context, read forward: the loop over the open block collections, and its steps.
 
-ghost use Rattle.al_scalar.specs.Private.Contract.{read_of};
+ghost use Rattle.al_scalar.specs.ReadScalar.{read_of};
 ghost use Rattle.al_yaml.specs.Private.BlockFrames as frames;
 ghost use Rattle.al_yaml.specs.Private.BlockFrames.{Enters, FindsBlock, IsEntered, IsFoundFrom, IsNextAt, IsNodeAt};
 ghost use Rattle.al_yaml.specs.Private.BlockFrames.{IsNextInside, IsOpenAt, IsReadBefore, IsResumed, ResumesBlock};

@@ -1,6 +1,6 @@
 //! Nodes in block context that are read whole, and collections that begin.
 
-ghost use Rattle.al_scalar.specs.Private.Places.{lines_at, text_at};
+ghost use Rattle.al_scalar.specs.Places.{lines_at, text_at};
 ghost use Rattle.al_yaml.specs.Private.BlockFrames.{Begins, IsBegun, IsNodeAt, node_reader};
 ghost use Rattle.al_yaml_parts.specs.Private.Answers.{completing};
 ghost use Rattle.al_yaml_parts.specs.Private.BlockReads.{IsKeyBehind, IsTabInside, key_seen, slot_of, spot_of};

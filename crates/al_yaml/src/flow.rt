@@ -1,8 +1,8 @@
 //! Flow collections, read forward: the loop over the open ones, and its steps.
 
 ghost use Rattle.al_scalar.specs.Line as line;
-ghost use Rattle.al_scalar.specs.Private.Contract.{read_of};
-ghost use Rattle.al_scalar.specs.Private.Places.{lines_at, text_at};
+ghost use Rattle.al_scalar.specs.ReadScalar.{read_of};
+ghost use Rattle.al_scalar.specs.Places.{lines_at, text_at};
 ghost use Rattle.al_yaml_tree.specs.Content as content;
 ghost use Rattle.al_yaml_parts.specs.Private.Files.{left_at, size};
 ghost use Rattle.al_yaml_tree.specs.Flow as flow;

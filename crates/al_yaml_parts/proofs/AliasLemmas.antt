@@ -6,7 +6,7 @@ use Rattle.al_scalar.specs.Taken.{Fault}
 use Rattle.al_yaml_tree.specs.Limits.{broken_limit, most_counted}
 use Rattle.al_yaml_tree.specs.Node.{Node, nodes_in, text_in, levels_in}
 use Rattle.al_scalar.specs.Line.{start}
-use Rattle.al_scalar.specs.Private.Places.{lines_at}
+use Rattle.al_scalar.specs.Places.{lines_at}
 use Rattle.al_scalar.proofs.RestLemmas.{start-at}
 use Rattle.al_yaml_tree.specs.Content.{anchor_name, behind_name}
 use Rattle.al_yaml_parts.specs.Private.Reads.{alias_part}

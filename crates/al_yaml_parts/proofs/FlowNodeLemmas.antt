@@ -4,7 +4,7 @@ use Rattle.al_base.specs.declared.codes.YamlCode.{YamlCode}
 use Rattle.al_base.specs.declared.codes.YamlCode.TheVariants as yaml
 use Rattle.std.proofs.lemmas.Bool.{eqb-true}
 use Rattle.al_scalar.specs.Line.{Cell, Line, start, begins, is_empty}
-use Rattle.al_scalar.specs.Private.Places.{lines_at, text_at}
+use Rattle.al_scalar.specs.Places.{lines_at, text_at}
 use Rattle.al_scalar.specs.Taken.{Fault, fault}
 use Rattle.al_scalar.specs.Scalar.{ScalarRead}
 use Rattle.al_yaml_tree.specs.Node as tree

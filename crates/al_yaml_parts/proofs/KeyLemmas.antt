@@ -4,8 +4,8 @@ use Rattle.std.specs.Prelude.{nat_le, nat_lt}
 use Rattle.std.proofs.lemmas.Grind.{common_steps}
 use Rattle.al_scalar.proofs.FoldLemmas.{end-with_return}
 use Rattle.al_scalar.specs.Line.{Cell, Line, lines, is_break, with_cell, with_return, begins, begins_blank, after_blanks, is_blank_or_end, blanks_dropped}
-use Rattle.al_scalar.specs.Places.{first_text, first_end}
-use Rattle.al_scalar.specs.Private.Places.{lines_at, text_at, IsBreakByte, IsLineEnd}
+use Rattle.al_scalar.specs.Places.{first_text, first_end, lines_at, text_at}
+use Rattle.al_scalar.specs.Private.Places.{IsBreakByte, IsLineEnd}
 use Rattle.std.proofs.Common.{zero}
 use Rattle.std.proofs.lemmas.Bool.{eqb-true}
 use Rattle.al_scalar.specs.Plain.{Context, flow, block, is_value_colon, ends_key, begins_flow_indicator}

@@ -3,10 +3,10 @@ use Rattle.std.proofs.Common.{◌≡◌, ℕ, zero, suc, ◌+◌, ◌-◌, ◌<�
 use Rattle.std.proofs.Common.{true, false, Option, Some, None, Result, Ok, Err, IfOk}
 use Rattle.std.proofs.lemmas.List.{get_or-take}
 use Rattle.std.proofs.lemmas.List.{length-take}
-use Rattle.al_scalar.specs.Private.Contract.{read_of}
+use Rattle.al_scalar.specs.ReadScalar.{read_of}
 use Rattle.al_scalar.specs.Line.{Cell, Line, with_cell}
-use Rattle.al_scalar.specs.Places.{first_text, first_end}
-use Rattle.al_scalar.specs.Private.Places.{lines_at, text_at, IsLineEnd}
+use Rattle.al_scalar.specs.Places.{first_text, first_end, lines_at, text_at}
+use Rattle.al_scalar.specs.Private.Places.{IsLineEnd}
 use Rattle.al_scalar.specs.Plain.{block}
 use Rattle.al_scalar.specs.Scalar as value
 use Rattle.al_scalar.specs.Scalar.{scalar_at}

@@ -4,8 +4,8 @@ use Rattle.al_base.specs.declared.faults.Span.{Span}
 use Rattle.al_scalar.specs.Line.{Line}
 use Rattle.al_scalar.specs.Scalar as value
 use Rattle.al_scalar.specs.Scalar.{span}
-use Rattle.al_scalar.specs.Private.Places.{lines_at}
-use Rattle.al_scalar.specs.Private.Contract.{read_of}
+use Rattle.al_scalar.specs.Places.{lines_at}
+use Rattle.al_scalar.specs.ReadScalar.{read_of}
 use Rattle.al_scalar.specs.declared.scalars.ScalarRead.{ScalarRead}
 use Rattle.al_yaml_tree.specs.Flow.{empty_node}
 use Rattle.al_yaml_parts.specs.declared.part.Part as code

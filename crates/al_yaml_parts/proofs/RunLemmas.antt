@@ -4,7 +4,8 @@ use Rattle.std.specs.Prelude.{nat_lt}
 use Rattle.al_base.specs.declared.codes.YamlCode.{YamlCode}
 use Rattle.al_scalar.specs.Taken.{Fault}
 use Rattle.al_yaml_tree.specs.Reading.{Start, start_of, start_with, Anchor, anchored, with_anchor, nothing_known, listed, Known, Outcome, Reading, gives, fails, given, after, next, ◌>>=◌}
-use Rattle.al_yaml_tree.specs.Limits.{broken_limit, unless_broken, limited, nodes_listed, text_listed, max_nodes, max_text, max_depth}
+use Rattle.al_yaml_tree.specs.Limits.{broken_limit, unless_broken, limited, nodes_listed, text_listed}
+use Rattle.al_base.specs.Limits.{deepest_collection, most_alias_text, most_nodes}
 use Rattle.al_yaml_parts.specs.Private.Reads.{State, finished, state_after, run_outcome, run, counted, noted, at_start}
 
 limit-none : (a d : Bool) (e f : Fault) (below below' rest : Option Fault) → cond a (Some e) (cond d (Some f) below) ≡ None
@@ -28,14 +29,14 @@ broken_limit-append n t [] ys h =
 broken_limit-append n t (s ∷ ss) ys h =
     let e : n + (s.nodes + nodes_listed ss) ≡ (n + s.nodes) + nodes_listed ss = omega arith in
     let d : t + (s.text + text_listed ss) ≡ (t + s.text) + text_listed ss = omega arith in
-    rw (e, d) (limit-none (nat_lt max_nodes (n + s.nodes) || nat_lt max_text (t + s.text)) (nat_lt max_depth s.depth) _ _
+    rw (e, d) (limit-none (nat_lt most_nodes (n + s.nodes) || nat_lt most_alias_text (t + s.text)) (nat_lt deepest_collection s.depth) _ _
     (broken_limit (n + s.nodes) (t + s.text) ss) (broken_limit (n + s.nodes) (t + s.text) (ss ++ ys)) _ h (λ k. broken_limit-append (n + s.nodes) (t + s.text) ss ys k))
 
 -- a limit that is broken stays so
 broken_limit-stays : (n t : ℕ) (xs ys : List Start) (x : Fault) → broken_limit n t xs ≡ Some x → broken_limit n t (xs ++ ys) ≡ Some x
 broken_limit-stays n t [] ys x h = cc
 broken_limit-stays n t (s ∷ ss) ys x h =
-    limit-some (nat_lt max_nodes (n + s.nodes) || nat_lt max_text (t + s.text)) (nat_lt max_depth s.depth) _ _ x
+    limit-some (nat_lt most_nodes (n + s.nodes) || nat_lt most_alias_text (t + s.text)) (nat_lt deepest_collection s.depth) _ _ x
     (broken_limit (n + s.nodes) (t + s.text) ss) (broken_limit (n + s.nodes) (t + s.text) (ss ++ ys)) h (λ k. broken_limit-stays (n + s.nodes) (t + s.text) ss ys x k)
 
 nodes_listed-append : (xs ys : List Start) → nodes_listed (xs ++ ys) ≡ nodes_listed xs + nodes_listed ys

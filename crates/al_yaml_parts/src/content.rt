@@ -1,7 +1,7 @@
 //! Content lines, and the gaps between what stands in flow collections.
 
 ghost use Rattle.al_scalar.specs.Line as line;
-ghost use Rattle.al_scalar.specs.Private.Places.{lines_at, text_at};
+ghost use Rattle.al_scalar.specs.Places.{lines_at, text_at};
 ghost use Rattle.al_yaml_tree.specs.Content as content;
 ghost use Rattle.al_yaml_tree.specs.Flow as flow;
 ghost use Rattle.al_yaml_parts.specs.Private.Places.{IsLineFrom, Shows, next_of};

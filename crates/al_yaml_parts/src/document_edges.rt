@@ -1,6 +1,6 @@
 //! What stands round a document's root.
 
-ghost use Rattle.al_scalar.specs.Private.Places.{lines_at, text_at};
+ghost use Rattle.al_scalar.specs.Places.{lines_at, text_at};
 ghost use Rattle.al_yaml_tree.specs.Content as content;
 ghost use Rattle.al_yaml_tree.specs.Document as document;
 ghost use Rattle.al_yaml_parts.specs.Private.DocumentLines.{IsBehindMarker, text_line};

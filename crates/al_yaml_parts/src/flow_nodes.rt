@@ -1,8 +1,8 @@
 //! Nodes and keys in flow collections that are read whole, and brackets that stand where one is due.
 
-ghost use Rattle.al_scalar.specs.Private.Contract.{read_of};
+ghost use Rattle.al_scalar.specs.ReadScalar.{read_of};
 ghost use Rattle.al_scalar.specs.Line as line;
-ghost use Rattle.al_scalar.specs.Private.Places.{lines_at, text_at};
+ghost use Rattle.al_scalar.specs.Places.{lines_at, text_at};
 ghost use Rattle.al_yaml_parts.specs.Private.Files.{left_at, size};
 ghost use Rattle.al_yaml_tree.specs.Flow as flow;
 ghost use Rattle.al_base.specs.declared.codes.YamlCode.TheVariants as yaml;

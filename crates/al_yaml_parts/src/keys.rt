@@ -1,8 +1,8 @@
 //! Keys: what may be one, and the colon behind it.
 
-ghost use Rattle.al_scalar.specs.Private.Contract.{read_of};
+ghost use Rattle.al_scalar.specs.ReadScalar.{read_of};
 ghost use Rattle.al_scalar.specs.Line as line;
-ghost use Rattle.al_scalar.specs.Private.Places.{lines_at, text_at};
+ghost use Rattle.al_scalar.specs.Places.{lines_at, text_at};
 ghost use Rattle.al_scalar.specs.Plain as plain;
 ghost use Rattle.al_yaml_parts.specs.Private.BlockReads.{IsOptionKey, option_key};
 ghost use Rattle.al_yaml_tree.specs.Content as content;
@@ -161,7 +161,7 @@ fn plain_on_line(
     ensures is { Answers (read_of bytes.now) (keys.plain_on_line (lines_at bytes.now at)) result }
     ensures inside { IfOk result (λ read. IsReadInside bytes.now at read) }
 {
-    scalar_at(alloc, &bytes[..end], at, ScalarContext::Block(0))
+    scalar_at(alloc, &bytes[..end], at, ScalarContext::BlockFromIndent(0))
 }
 
 /// Reads a scalar as far as it tells whether a key begins here: a quoted one whole, a plain one on its line.
@@ -172,7 +172,7 @@ fn key_scalar(file: &File, at: usize) -> Result<ScalarRead, ReadError>
     ensures inside { IfOk result (λ read. IsReadInside file.now.bytes.now at read) }
 {
     if is_quote(file.bytes, at) {
-        return scalar_at(file.alloc, file.bytes, at, ScalarContext::Block(0));
+        return scalar_at(file.alloc, file.bytes, at, ScalarContext::BlockFromIndent(0));
     }
     plain_on_line(file.alloc, file.bytes, at, line_end(file.bytes, at))
 }

@@ -1,7 +1,7 @@
 //! Scalars and empty nodes, and where they end.
 
-ghost use Rattle.al_scalar.specs.Private.Contract.{read_of, reading_at};
-ghost use Rattle.al_scalar.specs.Private.Places.{lines_at};
+ghost use Rattle.al_scalar.specs.ReadScalar.{read_of, reading_at};
+ghost use Rattle.al_scalar.specs.Places.{lines_at};
 ghost use Rattle.al_yaml_tree.specs.Blocks as block;
 ghost use Rattle.al_yaml_parts.specs.Private.Files.{left_at, size};
 ghost use Rattle.al_yaml_tree.specs.Flow as flow;
@@ -107,7 +107,7 @@ pub fn read_line_scalar(
         file.alloc,
         file.bytes,
         at,
-        ScalarContext::Block(within as u32),
+        ScalarContext::BlockFromIndent(within as u32),
     )?;
     let next = scalar_left(file.bytes, at, read.next)?;
     Ok(scalar_part(read, next))

@@ -10,7 +10,8 @@ use Rattle.al_yaml_tree.specs.Bytes.{following, is_well_formed, ill_formed_at, i
 use Rattle.al_yaml_tree.specs.ByteFaults.{span_among}
 use Rattle.al_yaml_tree.specs.Content.{Next, ended, at_line, content}
 use Rattle.al_yaml_tree.specs.Document.{document_start, document_end, root_slot, root_found, root, document, document_of, tree_of}
-use Rattle.al_yaml_tree.specs.Limits.{max_nodes, max_text, max_depth, broken_limit, unless_broken}
+use Rattle.al_base.specs.Limits.{deepest_collection, most_alias_text, most_nodes}
+use Rattle.al_yaml_tree.specs.Limits.{broken_limit, unless_broken}
 use Rattle.al_yaml_tree.specs.Node.{Node}
 use Rattle.al_yaml_tree.specs.Reading.{Start, nothing_known, gives, given, Part, ◌>>=◌}
 use Rattle.al_yaml_tree.specs.Laws.{IsTreeLaid}
@@ -65,8 +66,8 @@ module _ (size : ℕ) where
   limit-in : (nodes text : ℕ) (ss : List Start) → StartsIn size ss → FaultIn (broken_limit nodes text ss)
   limit-in nodes text [] h = tt
   limit-in nodes text (s ∷ ss) h =
-      choose FaultIn (nat_lt max_nodes (nodes + s.nodes) || nat_lt max_text (text + s.text)) (λ _. h.0)
-      (λ _. choose FaultIn (nat_lt max_depth s.depth) (λ _. h.0) (λ _. limit-in (nodes + s.nodes) (text + s.text) ss h.1))
+      choose FaultIn (nat_lt most_nodes (nodes + s.nodes) || nat_lt most_alias_text (text + s.text)) (λ _. h.0)
+      (λ _. choose FaultIn (nat_lt deepest_collection s.depth) (λ _. h.0) (λ _. limit-in (nodes + s.nodes) (text + s.text) ss h.1))
 
   limited-in : (o : Option Fault) (r : Result Node Fault) → FaultIn o → Answers size ValueIn r → Answers size ValueIn (unless_broken o r)
   limited-in None r f h = h

@@ -1,17 +1,9 @@
 -- The limits on nodes, on text behind aliases and on nesting, which are the profile's own.
 use Rattle.std.specs.Prelude.{ℕ, ◌+◌, List, [], ◌∷◌, ◌||◌, min, nat_lt, if◌then◌else◌, Option, Some, None, Result, Err}
+use Rattle.al_base.specs.Limits.{deepest_collection, most_alias_text, most_nodes}
 use Rattle.al_base.specs.declared.codes.YamlCode.TheVariants as yaml
 use Rattle.al_scalar.specs.Taken.{Fault}
 use Rattle.al_yaml_tree.specs.Reading.{Start, Outcome}
-
-abbrev pub max_nodes : ℕ
-max_nodes = 100000
-
-abbrev pub max_text : ℕ
-max_text = 1048576
-
-abbrev pub max_depth : ℕ
-max_depth = 64
 
 -- a count in 32 bits, which stays at its greatest value
 abbrev pub most_counted : ℕ → ℕ
@@ -23,8 +15,8 @@ abbrev pub broken_limit : ℕ → ℕ → List Start → Option Fault
 broken_limit nodes text [] = None
 broken_limit nodes text (s ∷ ss) =
     let below = broken_limit (nodes + s.nodes) (text + s.text) ss in
-    if nat_lt max_nodes (nodes + s.nodes) || nat_lt max_text (text + s.text) then Some (record { code = yaml.TooManyNodes; at = s.at })
-    else (if nat_lt max_depth s.depth then Some (record { code = yaml.NestingTooDeep; at = s.at }) else below)
+    if nat_lt most_nodes (nodes + s.nodes) || nat_lt most_alias_text (text + s.text) then Some (record { code = yaml.TooManyNodes; at = s.at })
+    else (if nat_lt deepest_collection s.depth then Some (record { code = yaml.NestingTooDeep; at = s.at }) else below)
 
 abbrev pub nodes_listed : List Start → ℕ
 nodes_listed [] = 0

@@ -36,12 +36,6 @@ abbrev mutual
 abbrev pub IsWithin : ℕ → ℕ → Node → Type 0
 IsWithin low high n = IsPlacedIn largest_file low high n
 
-abbrev pub AreInOrder : ℕ → ℕ → Nodes → Type 0
-AreInOrder low high ns = ArePlacedIn largest_file low high ns
-
-abbrev pub EntriesInOrder : ℕ → ℕ → Entries → Type 0
-EntriesInOrder low high es = EntriesPlacedIn largest_file low high es
-
 -- each span of a node lies in a file of this many bytes
 abbrev mutual
   pub IsInside : ℕ → Node → Type 0

@@ -4,7 +4,7 @@ use Rattle.std.specs.Str.{bytes_eq}
 use Rattle.al_base.specs.Names.{same_name}
 use Rattle.al_yaml_tree.specs.Node.{Node}
 use Rattle.al_tree.specs.Keys.{key_of}
-use Rattle.al_types.specs.Positions.{first_at}
+use Rattle.al_base.specs.NamePlaces.{first_at}
 
 -- by a key
 abbrev pub key_at : List (Node × Node) → List ℕ → Option ℕ

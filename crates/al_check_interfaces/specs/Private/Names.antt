@@ -1,7 +1,7 @@
 -- Where parameters stand by their names.
 use Rattle.std.specs.Prelude.{ℕ, List, Bool, Option}
 use Rattle.al_base.specs.Names.{same_name}
-use Rattle.al_types.specs.Positions.{first_at}
+use Rattle.al_base.specs.NamePlaces.{first_at}
 
 abbrev pub has_name : {A : Type 0} → (A → List ℕ) → List ℕ → A → Bool
 has_name name_of name x = same_name (name_of x) name

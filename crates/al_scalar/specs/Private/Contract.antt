@@ -1,40 +1,13 @@
--- What `read_scalar` answers.
-use Rattle.std.specs.Prelude.{◌≡◌, ◌≤◌, ℕ, List, length, Result, Ok, Err}
+-- What is read in block context or in a flow collection.
+use Rattle.std.specs.Prelude.{◌≡◌, ℕ, List, Result, Ok, Err}
 use Rattle.al_scalar.specs.Characters.{character_at}
-use Rattle.al_scalar.specs.Line.{Line}
-use Rattle.al_scalar.specs.Taken.{Fault}
+use Rattle.al_scalar.specs.Places.{lines_at}
 use Rattle.al_scalar.specs.Plain as plain
+use Rattle.al_scalar.specs.ReadScalar.{placed_fault, read_of}
 use Rattle.al_scalar.specs.Scalar as value
-use Rattle.al_scalar.specs.Private.Places.{lines_at}
-use Rattle.al_scalar.specs.declared.scalars.ScalarContext.{ScalarContext}
-use Rattle.al_scalar.specs.declared.scalars.ScalarContext.TheVariants as places
-use Rattle.al_scalar.specs.declared.scalars.ScalarRead.{ScalarRead}
 use Rattle.al_scalar.specs.declared.faults.YamlFault.{YamlFault}
+use Rattle.al_scalar.specs.declared.scalars.ScalarRead.{ScalarRead}
 
--- what is read of the lines at a place
-abbrev pub reading_at : ScalarContext → List Line → Result value.ScalarRead Fault
-reading_at (places.Block within) ls = value.scalar_at (plain.block within) ls
-reading_at places.Flow ls = value.scalar_at plain.flow ls
-reading_at places.Empty ls = Ok (value.empty_at ls)
-
-abbrev pub read_of : List ℕ → ScalarRead → value.ScalarRead
-read_of bytes r = record { scalar = r.scalar; span = r.span; left = lines_at bytes r.next }
-
--- a fault with a span, as the definitions tell it: by the character that it is at
-abbrev pub placed_fault : YamlFault → Fault
-placed_fault f = record { code = f.code; at = f.span.start }
-
-abbrev pub GivesScalar : List ℕ → ℕ → ScalarContext → Result ScalarRead YamlFault → Type 0
-GivesScalar bytes at place (Ok r) = reading_at place (lines_at bytes at) ≡ Ok (read_of bytes r)
-GivesScalar bytes at place (Err f) =
-    (reading_at place (lines_at bytes at) ≡ Err (placed_fault f)) × (f.span ≡ character_at bytes f.span.start)
-
--- in block context or in a flow collection
 abbrev pub GivesIn : List ℕ → ℕ → plain.Context → Result ScalarRead YamlFault → Type 0
 GivesIn bytes at p (Ok r) = value.scalar_at p (lines_at bytes at) ≡ Ok (read_of bytes r)
 GivesIn bytes at p (Err f) = (value.scalar_at p (lines_at bytes at) ≡ Err (placed_fault f)) × (f.span ≡ character_at bytes f.span.start)
-
--- the scalar begins at the offset, and ends before what is left, within the file; a fault is not before it
-abbrev pub LiesBehind : List ℕ → ℕ → Result ScalarRead YamlFault → Type 0
-LiesBehind bytes at (Ok r) = (r.span.start ≡ at) × (at ≤ r.span.end) × (r.span.end ≤ r.next) × (r.next ≤ length bytes)
-LiesBehind bytes at (Err f) = (at ≤ f.span.start) × (f.span.start ≤ length bytes)

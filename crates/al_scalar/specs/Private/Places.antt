@@ -2,11 +2,8 @@
 use Rattle.std.specs.Prelude.{◌≡◌, ◌⊎◌, ℕ, zero, suc, ◌-◌, ◌<◌, ◌≤◌, List, [], ◌∷◌, ◌++◌, length, slice_index, drop, Option, Some}
 use Rattle.std.specs.Prelude.{None, ◌+◌, Bool, true, false}
 use Rattle.al_base.specs.Ascii as ascii
-use Rattle.al_scalar.specs.Line.{Cell, Line, lines, cut, is_all_blank}
-use Rattle.al_scalar.specs.Places.{first_end, first_text}
-
-abbrev pub lines_at : List ℕ → ℕ → List Line
-lines_at bytes at = lines at (drop at bytes)
+use Rattle.al_scalar.specs.Line.{Cell, Line, cut, is_all_blank}
+use Rattle.al_scalar.specs.Places.{first_end, lines_at, text_at}
 
 -- so many bytes from an offset on, with their offsets
 abbrev pub cells_at : List ℕ → ℕ → ℕ → List Cell
@@ -28,9 +25,6 @@ first_last (l ∷ ls) = l.last
 abbrev pub later : List Line → List Line
 later [] = []
 later (l ∷ ls) = ls
-
-abbrev pub text_at : List ℕ → ℕ → List Cell
-text_at bytes at = first_text (lines_at bytes at)
 
 -- two rests of the same line
 pub record SameLine (xs ys : List Line) : Type 0 where

@@ -4,8 +4,8 @@ use Rattle.std.specs.Prelude.{ℕ, List, [], ◌∷◌, Bool, true, false, not, 
 use Rattle.al_scalar.specs.Line.{Cell, Line, after_blanks, is_empty, is_all_blank}
 use Rattle.al_scalar.specs.Taken.{Fault, Taken, feeds, folded_break}
 use Rattle.al_scalar.specs.Plain.{Context, flow, block, plain_part, plain_lines}
-use Rattle.al_scalar.specs.Places.{first_text, first_end}
-use Rattle.al_scalar.specs.Private.Places.{lines_at, cells_between, text_at, later}
+use Rattle.al_scalar.specs.Places.{first_text, first_end, lines_at, text_at}
+use Rattle.al_scalar.specs.Private.Places.{cells_between, later}
 use Rattle.al_scalar.specs.declared.plain.PlainContext.{PlainContext}
 use Rattle.al_scalar.specs.declared.plain.PlainContext.TheVariants as contexts
 

@@ -1,6 +1,6 @@
 -- What a reader of one style answers, against what its definition takes from the lines.
 use Rattle.std.specs.Prelude.{◌≡◌, ◌≤◌, ℕ, List, length, Result, Ok, Err}
-use Rattle.al_scalar.specs.Private.Places.{lines_at}
+use Rattle.al_scalar.specs.Places.{lines_at}
 use Rattle.al_scalar.specs.Taken as lines
 use Rattle.al_scalar.specs.declared.reads.Taken.{Taken}
 use Rattle.al_scalar.specs.declared.faults.FaultAt.{FaultAt}

@@ -1,9 +1,9 @@
 -- Where names stand among fields.
 use Rattle.std.specs.Prelude.{◌≡◌, ℕ, List, Bool, Option}
 use Rattle.al_base.specs.Names.{same_name}
-use Rattle.al_types.specs.Positions.{first_at}
-use Rattle.al_types.specs.Private.Positions.{name_position}
-use Rattle.al_types.specs.declared.positions.NamePositions.{NamePositions}
+use Rattle.al_base.specs.NamePlaces.{first_at}
+use Rattle.al_base.specs.NamePlaces.{name_position}
+use Rattle.al_base.specs.declared.name_positions.NamePositions.{NamePositions}
 use Rattle.al_types.specs.Puts.{Typed}
 
 abbrev pub named_as : List ℕ → Typed → Bool

@@ -1,36 +1,10 @@
--- Where texts and names stand, by the maps that are kept.
-use Rattle.std.specs.Prelude.{◌≡◌, ℕ, List, Option, Some, None, if◌then◌else◌}
-use Rattle.std.specs.BTreeMap.{get_by}
-use Rattle.std.specs.Cmp.Lexicographic.{slice_cmp}
-use Rattle.std.specs.Ordering.{nat_cmp}
-use Rattle.std.specs.Option.{option_or}
-use Rattle.std.specs.Str.{bytes_eq}
-use Rattle.al_base.specs.Names.{folded, same_name}
-use Rattle.al_types.specs.Positions.{field_position, name_place}
+-- Where names stand among fields, by the maps that are kept.
+use Rattle.std.specs.Prelude.{◌≡◌}
+use Rattle.al_base.specs.NamePlaces.{name_position}
+use Rattle.al_base.specs.declared.name_positions.NamePositions.{NamePositions}
+use Rattle.al_types.specs.Positions.{field_position}
 use Rattle.al_types.specs.Types.{Fields}
-use Rattle.al_types.specs.declared.positions.NamePositions.{NamePositions}
-use Rattle.al_types.specs.declared.positions.TextPositions.{TextPositions}
-
--- where a text first stands
-unfoldable pub text_position : TextPositions → List ℕ → Option ℕ
-text_position p text = get_by (λ k. slice_cmp nat_cmp text k.items) p.positions
-
--- where a name first stands
-unfoldable pub name_position : NamePositions → List ℕ → Option ℕ
-name_position p name = text_position p.texts (folded name)
-
--- positions, and that of one more text, which counts where it had none
-abbrev pub and_text_at : (List ℕ → Option ℕ) → List ℕ → ℕ → List ℕ → Option ℕ
-and_text_at position more i text = option_or (position text) (if bytes_eq more text then Some i else None)
-
--- likewise of one more name
-abbrev pub and_name_at : (List ℕ → Option ℕ) → List ℕ → ℕ → List ℕ → Option ℕ
-and_name_at position more i name = option_or (position name) (if same_name more name then Some i else None)
 
 -- positions that tell of each name where it first stands among fields
 abbrev pub IsFieldIndex : NamePositions → Fields → Type 0
 IsFieldIndex p fs = name_position p ≡ field_position fs
-
--- positions that tell of each name where it first stands among names
-abbrev pub IsNameIndex : NamePositions → List (List ℕ) → Type 0
-IsNameIndex p ns = name_position p ≡ name_place ns

@@ -1,9 +1,9 @@
 -- What a stack of open block collections stands for, and how contracts speak of it.
 use Rattle.std.specs.Prelude.{◌≡◌, ℕ, suc, ◌+◌, ◌<◌, ◌≤◌, List, length, map, Bool, true, Option, Some, None, Result, Ok, Err}
 use Rattle.al_scalar.specs.Line.{Line}
-use Rattle.al_scalar.specs.Private.Places.{lines_at, text_at}
+use Rattle.al_scalar.specs.Places.{lines_at, text_at}
 use Rattle.al_scalar.specs.Scalar.{ScalarRead}
-use Rattle.al_scalar.specs.Private.Contract.{read_of}
+use Rattle.al_scalar.specs.ReadScalar.{read_of}
 use Rattle.al_yaml_tree.specs.Node.{Node, Nodes, Entries, sequence, mapping, with_item, with_entry, scalar_node}
 use Rattle.al_yaml_tree.specs.Reading.{Reading, Part, part, spanned}
 use Rattle.al_yaml_tree.specs.Content as content

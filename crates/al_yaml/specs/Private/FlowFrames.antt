@@ -1,8 +1,8 @@
 -- How contracts speak of open flow collections.
 use Rattle.std.specs.Prelude.{◌≡◌, ℕ, suc, ◌+◌, ◌<◌, ◌≤◌, List, [], ◌∷◌, length, map, true, Option, Some, None, Result, Ok, Err}
-use Rattle.al_scalar.specs.Private.Contract.{read_of}
+use Rattle.al_scalar.specs.ReadScalar.{read_of}
 use Rattle.al_scalar.specs.Line.{begins}
-use Rattle.al_scalar.specs.Private.Places.{lines_at, text_at}
+use Rattle.al_scalar.specs.Places.{lines_at, text_at}
 use Rattle.al_scalar.specs.Scalar.{span}
 use Rattle.al_scalar.specs.declared.scalars.ScalarRead.{ScalarRead}
 use Rattle.al_yaml_tree.specs.Node as tree

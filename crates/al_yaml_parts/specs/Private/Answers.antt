@@ -1,6 +1,6 @@
 -- What reading ends with, and nodes that are complete with their anchors.
 use Rattle.std.specs.Prelude.{ℕ, List, Option, Some, None, option_map, Result, Ok, Err}
-use Rattle.al_scalar.specs.Private.Places.{lines_at}
+use Rattle.al_scalar.specs.Places.{lines_at}
 use Rattle.al_scalar.specs.Taken.{Fault}
 use Rattle.al_yaml_tree.specs.Content.{anchor_name}
 use Rattle.al_yaml_tree.specs.Node.{Node}

@@ -1,7 +1,7 @@
 -- How contracts speak of keys and slots of block collections.
 use Rattle.std.specs.Prelude.{ℕ, ◌<◌, ◌≤◌, List, length, Option, Some, None, IfSome}
-use Rattle.al_scalar.specs.Private.Contract.{read_of}
-use Rattle.al_scalar.specs.Private.Places.{lines_at}
+use Rattle.al_scalar.specs.ReadScalar.{read_of}
+use Rattle.al_scalar.specs.Places.{lines_at}
 use Rattle.al_yaml_tree.specs.Keys as keys
 use Rattle.al_yaml_parts.specs.Private.Places.{IsReadInside}
 use Rattle.al_yaml_tree.specs.Blocks as block

@@ -1,7 +1,7 @@
 -- How contracts speak of a file: how long it is, and the lines that are left from an offset on.
 use Rattle.std.specs.Prelude.{ℕ, List, length}
 use Rattle.al_scalar.specs.Line.{Line}
-use Rattle.al_scalar.specs.Private.Places.{lines_at}
+use Rattle.al_scalar.specs.Places.{lines_at}
 use Rattle.al_yaml_parts.specs.declared.file.File.{File}
 
 abbrev pub size : File → ℕ

@@ -1,8 +1,8 @@
 -- How contracts speak of keys and nodes of flow collections that are read up to a bracket.
 use Rattle.std.specs.Prelude.{◌≡◌, ℕ, ◌<◌, ◌≤◌, List, length, true, Option, Some, None, Result, Ok, Err}
 use Rattle.al_base.specs.declared.codes.YamlCode.TheVariants as yaml
-use Rattle.al_scalar.specs.Private.Contract.{read_of}
-use Rattle.al_scalar.specs.Private.Places.{lines_at, text_at}
+use Rattle.al_scalar.specs.ReadScalar.{read_of}
+use Rattle.al_scalar.specs.Places.{lines_at, text_at}
 use Rattle.al_yaml_tree.specs.Node as tree
 use Rattle.al_yaml_tree.specs.Content as content
 use Rattle.al_yaml_tree.specs.Reading.{Reading, Part, fails, ◌>>=◌}

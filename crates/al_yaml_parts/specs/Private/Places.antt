@@ -2,8 +2,8 @@
 use Rattle.std.specs.Prelude.{◌≡◌, ℕ, ◌<◌, ◌≤◌, List, length, Option, Some, None, Result, Ok, Err}
 use Rattle.al_scalar.specs.Line.{Line}
 use Rattle.al_scalar.specs.Offsets.{IsPlaced}
-use Rattle.al_scalar.specs.Places.{first_end}
-use Rattle.al_scalar.specs.Private.Places.{IsLineEnd, lines_at}
+use Rattle.al_scalar.specs.Places.{first_end, lines_at}
+use Rattle.al_scalar.specs.Private.Places.{IsLineEnd}
 use Rattle.al_scalar.specs.Taken.{Fault}
 use Rattle.al_scalar.specs.declared.scalars.ScalarRead.{ScalarRead}
 use Rattle.al_yaml_tree.specs.Content as content

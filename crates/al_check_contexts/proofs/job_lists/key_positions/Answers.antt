@@ -1,7 +1,7 @@
 use Rattle.std.proofs.Common.{◌≡◌, ◌∙◌, ap, rules}
 use Rattle.std.specs.Str.{bytes_eq}
-use Rattle.al_types.specs.Private.Positions.{and_text_at, text_position}
-use Rattle.al_types.proofs.PositionLemmas.{position_next}
+use Rattle.al_base.specs.NamePlaces.{and_text_at, text_position}
+use Rattle.al_base.proofs.NamePlaces.{position_next}
 use Rattle.al_tree.specs.Keys.{key_of}
 use Rattle.al_tree.specs.Values.{member_of}
 use Rattle.al_check_contexts.proofs.job_lists.key_positions.Goals as goal

@@ -1,5 +1,5 @@
 use Rattle.std.proofs.Common.{◌≡◌, map, take}
-use Rattle.al_types.specs.Private.Positions.{text_position}
+use Rattle.al_base.specs.NamePlaces.{text_position}
 use Rattle.al_tree.specs.Values.{member_of}
 use Rattle.al_check_contexts.specs.Private.JobPositions.{key_at}
 use Rattle.al_check_contexts.proofs.job_lists.key_positions.Given as goal

@@ -1,6 +1,6 @@
 use Rattle.std.proofs.Common.{◌≡◌, sym, ap, ◌∙◌, map, Some}
 use Rattle.std.specs.Option.{option_to_list}
-use Rattle.al_types.proofs.PositionLemmas.{found_within}
+use Rattle.al_base.proofs.NamePlaces.{found_within}
 use Rattle.al_types.specs.TypeViews.{ty_of}
 use Rattle.al_tree.specs.Keys.{key_of}
 use Rattle.al_tree.specs.Values.{member_of}

@@ -1,5 +1,5 @@
 use Rattle.std.proofs.Common.{ap, ◌∙◌}
-use Rattle.al_types.specs.Private.Positions.{and_name_at, name_position}
+use Rattle.al_base.specs.NamePlaces.{and_name_at, name_position}
 use Rattle.al_check_interfaces.proofs.Positions.{positions_more}
 use Rattle.al_check_interfaces.proofs.lists.positions_of.Goals as goal
 

@@ -1,5 +1,5 @@
 use Rattle.std.proofs.Common.{◌≡◌, take}
-use Rattle.al_types.specs.Private.Positions.{name_position}
+use Rattle.al_base.specs.NamePlaces.{name_position}
 use Rattle.al_check_interfaces.specs.Private.Names.{positions_by}
 use Rattle.al_check_interfaces.proofs.lists.positions_of.Given as goal
 

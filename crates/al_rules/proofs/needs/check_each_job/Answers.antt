@@ -1,7 +1,7 @@
 use Rattle.std.proofs.Common.{◌≤◌, append-nil, arith, length, refl, sym}
 use Rattle.al_base.proofs.Growing.{begins_same, begins_trans}
 use Rattle.al_tree.specs.Values.{member_of}
-use Rattle.al_types.specs.Private.Positions.{name_position}
+use Rattle.al_base.specs.NamePlaces.{name_position}
 use Rattle.al_rules.proofs.NeedLemmas.{found_end, found_next}
 use Rattle.al_rules.proofs.needs.check_each_job.Goals as goal
 

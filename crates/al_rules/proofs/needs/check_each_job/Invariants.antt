@@ -1,7 +1,7 @@
 use Rattle.std.proofs.Common.{◌≡◌, ◌++◌, take, map}
 use Rattle.al_base.specs.Growth.{BeginsWith}
 use Rattle.al_tree.specs.Values.{member_of}
-use Rattle.al_types.specs.Private.Positions.{name_position}
+use Rattle.al_base.specs.NamePlaces.{name_position}
 use Rattle.al_rules.specs.Needs.{all_needs}
 use Rattle.al_rules.specs.Private.Components.{labelled_faults}
 use Rattle.al_rules.proofs.needs.check_each_job.Given as goal

@@ -1,6 +1,6 @@
 use Rattle.std.proofs.Common.{◌≡◌, ◌++◌, drop, map}
 use Rattle.al_base.specs.Growth.{BeginsWith}
-use Rattle.al_types.specs.Private.Positions.{name_position}
+use Rattle.al_base.specs.NamePlaces.{name_position}
 use Rattle.al_rules.specs.Private.Components.{labelled_faults}
 use Rattle.al_rules.specs.Private.Views.{need_of}
 use Rattle.al_rules.proofs.needs.check_entries.Given as goal

@@ -1,6 +1,6 @@
 use Rattle.std.proofs.Common.{◌≡◌, ◌++◌, ap, map, ◌∙◌}
 use Rattle.al_tree.specs.Values.{member_of, scalar_node_of}
-use Rattle.al_types.specs.Private.Positions.{name_position}
+use Rattle.al_base.specs.NamePlaces.{name_position}
 use Rattle.al_rules_reports.specs.Private.Views.{named_of}
 use Rattle.al_rules.specs.Private.Components.{labelled_faults}
 use Rattle.al_rules.specs.Private.Views.{need_of}

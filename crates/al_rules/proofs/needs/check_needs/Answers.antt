@@ -2,7 +2,7 @@ use Rattle.std.proofs.Common.{◌≡◌, ◌++◌, ◌∙◌, ap, map, sym}
 use Rattle.std.proofs.lemmas.Simd.{map-map}
 use Rattle.al_rules_reports.specs.Words.{of_key}
 use Rattle.al_graph.specs.Graphs.{edges_of}
-use Rattle.al_types.specs.Private.Positions.{name_position}
+use Rattle.al_base.specs.NamePlaces.{name_position}
 use Rattle.al_tree.specs.Values.{member_of}
 use Rattle.al_rules.specs.Needs.{all_needs, keys_of, needs_lists, position_in}
 use Rattle.al_rules.specs.Private.Components.{labelled_faults}

@@ -1,5 +1,5 @@
 use Rattle.std.proofs.Common.{sym}
-use Rattle.al_scalar.specs.Private.Places.{text_at}
+use Rattle.al_scalar.specs.Places.{text_at}
 use Rattle.al_scalar.proofs.BlockLemmas.{indent_from-yes, indent_from-no}
 use Rattle.al_scalar.proofs.block.indent_of.Goals as goal
 

@@ -1,8 +1,7 @@
 use Rattle.al_base.specs.declared.codes.YamlCode.TheVariants.{WrongBlockHeader}
 use Rattle.std.proofs.Common.{◌∙◌, ◌≤◌, Some, None, IfSome, Ok, length, ap, subst, arith}
 use Rattle.al_scalar.specs.Taken.{Taken}
-use Rattle.al_scalar.specs.Places.{first_text}
-use Rattle.al_scalar.specs.Private.Places.{lines_at}
+use Rattle.al_scalar.specs.Places.{first_text, lines_at}
 use Rattle.al_scalar.specs.Block.{header_end, content_indent}
 use Rattle.al_scalar.specs.Private.BlockRead.{EndsHeader, header_of, kind, is_said}
 use Rattle.al_scalar.proofs.SingleLemmas.{is_inside}

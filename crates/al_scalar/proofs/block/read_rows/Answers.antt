@@ -1,6 +1,6 @@
 use Rattle.std.proofs.Common.{◌-◌, ◌<◌, Some, None, ap, sym, subst, arith, length}
 use Rattle.al_scalar.specs.Taken.{with_text}
-use Rattle.al_scalar.specs.Private.Places.{lines_at}
+use Rattle.al_scalar.specs.Places.{lines_at}
 use Rattle.al_scalar.specs.Private.BlockRead.{RowStarts, rest_of, last_row, kind}
 use Rattle.al_scalar.proofs.RowLemmas.{rows-last, rows-more}
 use Rattle.al_scalar.proofs.block.read_rows.Goals as goal

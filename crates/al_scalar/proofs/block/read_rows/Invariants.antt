@@ -1,6 +1,6 @@
 use Rattle.std.proofs.Common.{length, ◌-◌, ◌≡◌, ◌≤◌, [], None}
 use Rattle.al_scalar.specs.Taken.{with_text}
-use Rattle.al_scalar.specs.Private.Places.{lines_at}
+use Rattle.al_scalar.specs.Places.{lines_at}
 use Rattle.al_scalar.specs.Private.BlockRead.{rest_of, last_row}
 use Rattle.al_scalar.proofs.block.read_rows.Given as goal
 

@@ -1,7 +1,7 @@
 use Rattle.std.proofs.Common.{length, ◌-◌, ◌≡◌, ◌≤◌, ◌<◌, suc}
 use Rattle.al_scalar.specs.Taken.{before}
 use Rattle.al_scalar.specs.Quoted.{double_quoted}
-use Rattle.al_scalar.specs.Private.Places.{lines_at}
+use Rattle.al_scalar.specs.Places.{lines_at}
 use Rattle.al_scalar.proofs.double.read_double.Given as goal
 
 abbrev pub invariant-runs : goal.invariant-runs

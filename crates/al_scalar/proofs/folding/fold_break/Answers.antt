@@ -1,6 +1,6 @@
 use Rattle.std.proofs.Common.{◌∙◌, arith}
 use Rattle.al_base.proofs.Growing.{begins_by, begins_trans}
-use Rattle.al_scalar.specs.Private.Places.{lines_at}
+use Rattle.al_scalar.specs.Places.{lines_at}
 use Rattle.al_scalar.specs.Private.PlainLines.{empty_ends}
 use Rattle.al_scalar.proofs.SingleLemmas.{never}
 use Rattle.al_scalar.proofs.FoldingLemmas.{stops, lines-more, ends-more, given-space, given-none, given-more}

@@ -1,7 +1,7 @@
 use Rattle.std.proofs.Common.{length, ◌-◌, ◌≡◌, ◌≤◌}
 use Rattle.al_scalar.specs.Taken.{before}
 use Rattle.al_scalar.specs.Plain.{plain}
-use Rattle.al_scalar.specs.Private.Places.{lines_at}
+use Rattle.al_scalar.specs.Places.{lines_at}
 use Rattle.al_scalar.specs.Private.PlainLines.{context_of, after_part}
 use Rattle.al_scalar.proofs.plain.read_plain.Given as goal
 

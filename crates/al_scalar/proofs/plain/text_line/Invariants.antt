@@ -1,5 +1,5 @@
 use Rattle.std.proofs.Common.{length, ◌-◌, ◌≡◌, ◌≤◌}
-use Rattle.al_scalar.specs.Private.Places.{lines_at}
+use Rattle.al_scalar.specs.Places.{lines_at}
 use Rattle.al_scalar.specs.Private.PlainLines.{text_lines}
 use Rattle.al_scalar.proofs.plain.text_line.Given as goal
 

@@ -1,6 +1,6 @@
 use Rattle.std.proofs.Common.{◌∙◌, Ok, Err, subst}
 use Rattle.al_scalar.specs.Characters.{character_at}
-use Rattle.al_scalar.specs.Private.Places.{lines_at}
+use Rattle.al_scalar.specs.Places.{lines_at}
 use Rattle.al_scalar.specs.Private.PlainLines.{context_of}
 use Rattle.al_scalar.specs.Private.Reads.{Gives}
 use Rattle.al_scalar.specs.Scalar.{taken_as}

@@ -1,7 +1,7 @@
 use Rattle.std.proofs.Common.{◌∙◌, ◌-◌, ◌<◌, List, Ok, length, ap, sym, subst, arith}
 use Rattle.al_scalar.specs.Line.{Cell}
 use Rattle.al_scalar.specs.Taken.{before}
-use Rattle.al_scalar.specs.Private.Places.{lines_at}
+use Rattle.al_scalar.specs.Places.{lines_at}
 use Rattle.al_scalar.specs.Private.Single.{StopsSo, StopsFrom}
 use Rattle.al_scalar.specs.declared.single.LineStop.TheVariants.{Closed, Broken}
 use Rattle.al_scalar.proofs.SingleLemmas.{lines_at-some}

@@ -1,7 +1,7 @@
 use Rattle.std.proofs.Common.{length, ◌-◌, ◌≡◌, ◌≤◌, ◌<◌, suc}
 use Rattle.al_scalar.specs.Taken.{before}
 use Rattle.al_scalar.specs.Quoted.{single_quoted}
-use Rattle.al_scalar.specs.Private.Places.{lines_at}
+use Rattle.al_scalar.specs.Places.{lines_at}
 use Rattle.al_scalar.proofs.single.read_single.Given as goal
 
 abbrev pub invariant-text_lines : goal.invariant-text_lines

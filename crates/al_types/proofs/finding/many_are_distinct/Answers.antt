@@ -3,7 +3,7 @@ use Rattle.std.specs.Prelude.{is_none}
 use Rattle.al_types.specs.Positions.{field_position}
 use Rattle.al_types.specs.Types.{fields_of}
 use Rattle.al_types.specs.FusedFields.{are_distinct}
-use Rattle.al_types.specs.Private.Positions.{and_name_at, name_position}
+use Rattle.al_base.specs.NamePlaces.{and_name_at, name_position}
 use Rattle.al_types.specs.Private.TypeParts.{field_of}
 use Rattle.al_types.proofs.Commons.{distinct_next, no_place, nowhere_had}
 use Rattle.al_types.proofs.FieldPositions.{fields_next}

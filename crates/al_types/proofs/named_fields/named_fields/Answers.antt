@@ -1,7 +1,7 @@
 use Rattle.std.proofs.Common.{◌≡◌, ◌∙◌, ap, sym, map, List, ℕ}
 use Rattle.std.proofs.lemmas.Simd.{map-map}
 use Rattle.std.specs.Prelude.{string_bytes, zip}
-use Rattle.al_types.specs.Positions.{name_place}
+use Rattle.al_base.specs.NamePlaces.{name_place}
 use Rattle.al_types.specs.Types.{Type', fields_of, object_type}
 use Rattle.al_types.specs.TypeViews.{parts_by_names, ty_of}
 use Rattle.al_types.specs.Private.TypeParts.{field_of, rest_of}

@@ -1,8 +1,8 @@
 use Rattle.std.proofs.Common.{◌∙◌, ap}
 use Rattle.std.specs.Prelude.{string_bytes}
 use Rattle.al_base.specs.Names.{same_name}
-use Rattle.al_types.specs.Private.Positions.{and_name_at, name_position}
-use Rattle.al_types.proofs.PositionLemmas.{position_next}
+use Rattle.al_base.specs.NamePlaces.{and_name_at, name_position}
+use Rattle.al_base.proofs.NamePlaces.{position_next}
 use Rattle.al_types.proofs.objects.places_of.Goals as goal
 
 pub loop-i-preserved : goal.loop-i-preserved

@@ -1,5 +1,5 @@
 use Rattle.std.proofs.Common.{◌≡◌, ◌∙◌, ap, sym, Some, None, option_map}
-use Rattle.al_types.specs.Positions.{name_place}
+use Rattle.al_base.specs.NamePlaces.{name_place}
 use Rattle.al_types.specs.Types.{String}
 use Rattle.al_types.specs.TypeViews.{names_in}
 use Rattle.al_types.proofs.StringFields.{string_at}

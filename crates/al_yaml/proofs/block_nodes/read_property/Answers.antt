@@ -1,6 +1,6 @@
 use Rattle.std.proofs.Common.{◌≡◌, suc, ap, sym, ◌∙◌, false, not, ◌&&◌}
 use Rattle.std.proofs.lemmas.Result.{err_from_is_err_and}
-use Rattle.al_scalar.specs.Private.Places.{lines_at}
+use Rattle.al_scalar.specs.Places.{lines_at}
 use Rattle.al_yaml_tree.specs.Blocks.{block_node, is_behind_key, rest_node}
 use Rattle.al_yaml.specs.Private.BlockFrames.{node_reader}
 use Rattle.al_yaml_parts.specs.Private.BlockReads.{slot_of}

@@ -1,5 +1,5 @@
 use Rattle.std.proofs.Common.{length, ◌-◌, ◌≡◌, ◌≤◌, false}
-use Rattle.al_scalar.specs.Private.Places.{lines_at}
+use Rattle.al_scalar.specs.Places.{lines_at}
 use Rattle.al_yaml_tree.specs.Flow.{gap}
 use Rattle.al_yaml_parts.proofs.content.gap.Given as goal
 

@@ -1,6 +1,6 @@
 use Rattle.std.proofs.Common.{List, Result, subst, sym, arith}
 use Rattle.al_scalar.specs.Line.{Line}
-use Rattle.al_scalar.specs.Private.Places.{lines_at}
+use Rattle.al_scalar.specs.Places.{lines_at}
 use Rattle.al_scalar.specs.Taken.{Fault}
 use Rattle.al_yaml_parts.specs.Private.Places.{Shows}
 use Rattle.al_yaml_parts.proofs.DocumentLemmas.{start-file_end, start-here}

@@ -1,5 +1,5 @@
 use Rattle.std.proofs.Common.{◌≡◌, ◌≤◌, ◌-◌, length}
-use Rattle.al_scalar.specs.Private.Places.{lines_at}
+use Rattle.al_scalar.specs.Places.{lines_at}
 use Rattle.al_yaml_parts.specs.Private.DocumentLines.{text_line}
 use Rattle.al_yaml_parts.proofs.document_edges.next_text_line.Given as goal
 

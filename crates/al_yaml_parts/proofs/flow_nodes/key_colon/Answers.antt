@@ -1,7 +1,7 @@
 use Rattle.std.proofs.Common.{ap, sym, ◌∙◌}
-use Rattle.al_scalar.specs.Private.Places.{lines_at}
+use Rattle.al_scalar.specs.Places.{lines_at}
 use Rattle.al_yaml_tree.specs.Flow.{behind_colon}
-use Rattle.al_scalar.specs.Private.Contract.{read_of}
+use Rattle.al_scalar.specs.ReadScalar.{read_of}
 use Rattle.al_yaml_parts.proofs.FlowNodeLemmas.{key-not_simple, key-late}
 use Rattle.al_yaml_parts.proofs.flow_nodes.key_colon.Goals as goal
 

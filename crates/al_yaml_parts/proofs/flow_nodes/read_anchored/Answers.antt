@@ -1,6 +1,6 @@
 use Rattle.std.proofs.Common.{ap, ◌∙◌, arith}
 use Rattle.std.proofs.lemmas.Result.{err_from_is_err_and}
-use Rattle.al_scalar.specs.Private.Places.{lines_at}
+use Rattle.al_scalar.specs.Places.{lines_at}
 use Rattle.al_yaml_tree.specs.Flow.{empty_node, flow_content, flow_value}
 use Rattle.al_yaml_parts.specs.Private.FlowReads.{flow_slot}
 use Rattle.al_yaml_parts.specs.Private.Reads.{run, state_of}

@@ -1,4 +1,4 @@
-use Rattle.al_scalar.specs.Private.Places.{lines_at}
+use Rattle.al_scalar.specs.Places.{lines_at}
 use Rattle.al_yaml_tree.specs.Flow.{flow_content, flow_node_over, flow_property}
 use Rattle.al_yaml_parts.specs.Private.FlowReads.{flow_slot}
 use Rattle.al_yaml_parts.specs.Private.Reads.{state_of}

@@ -1,6 +1,6 @@
 use Rattle.std.proofs.Common.{ap, ◌∙◌, Some}
 use Rattle.std.proofs.lemmas.Result.{err_from_is_err_and}
-use Rattle.al_scalar.specs.Private.Places.{lines_at}
+use Rattle.al_scalar.specs.Places.{lines_at}
 use Rattle.al_yaml_tree.specs.Flow.{CollectionReader, flow_content, flow_property, flow_value}
 use Rattle.al_yaml_parts.specs.Private.Answers.{completing, mark_of}
 use Rattle.al_yaml_parts.specs.Private.FlowReads.{flow_slot}

@@ -1,6 +1,6 @@
 use Rattle.std.proofs.Common.{ap, ◌∙◌}
 use Rattle.std.proofs.lemmas.Result.{err_from_is_err_and}
-use Rattle.al_scalar.specs.Private.Places.{lines_at}
+use Rattle.al_scalar.specs.Places.{lines_at}
 use Rattle.al_scalar.specs.Plain.{flow}
 use Rattle.al_scalar.specs.Scalar.{scalar_at}
 use Rattle.al_yaml_tree.specs.Flow.{flow_content}

@@ -1,7 +1,7 @@
 use Rattle.std.proofs.Common.{ap, ◌∙◌, Some}
 use Rattle.std.proofs.lemmas.Result.{err_from_is_err_and}
-use Rattle.al_scalar.specs.Private.Contract.{read_of}
-use Rattle.al_scalar.specs.Private.Places.{lines_at}
+use Rattle.al_scalar.specs.ReadScalar.{read_of}
+use Rattle.al_scalar.specs.Places.{lines_at}
 use Rattle.al_yaml_tree.specs.Flow.{FlowSlot, empty_node, flow_entry_value, flow_node_over}
 use Rattle.al_yaml_parts.specs.Private.Reads.{run, state_of}
 use Rattle.al_yaml_parts.specs.Private.FlowReads.{flow_key_of}

@@ -1,7 +1,7 @@
 use Rattle.std.proofs.Common.{Some, None}
 use Rattle.std.proofs.lemmas.Result.{err_from_is_err_and}
-use Rattle.al_scalar.specs.Private.Places.{lines_at}
-use Rattle.al_scalar.specs.Private.Contract.{read_of}
+use Rattle.al_scalar.specs.Places.{lines_at}
+use Rattle.al_scalar.specs.ReadScalar.{read_of}
 use Rattle.al_yaml_tree.specs.Keys.{key_scalar}
 use Rattle.al_yaml_parts.proofs.LineReadLemmas.{key-stops, key-given}
 use Rattle.al_yaml_parts.proofs.keys.key_at.Goals as goal

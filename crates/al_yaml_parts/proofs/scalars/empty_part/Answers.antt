@@ -1,5 +1,5 @@
 use Rattle.std.proofs.lemmas.Result.{err_from_is_err_and}
-use Rattle.al_scalar.specs.Private.Places.{lines_at}
+use Rattle.al_scalar.specs.Places.{lines_at}
 use Rattle.al_scalar.specs.Scalar.{empty_at}
 use Rattle.al_yaml_parts.specs.Private.Places.{fault_of}
 use Rattle.al_yaml_parts.specs.Private.Reads.{state_of}

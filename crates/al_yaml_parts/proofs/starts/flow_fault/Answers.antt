@@ -2,7 +2,7 @@ use Rattle.std.proofs.Common.{◌≡◌, ◌∙◌, ◌+◌, ℕ, List, length, 
 use Rattle.al_base.specs.declared.codes.YamlCode.{YamlCode}
 use Rattle.al_base.specs.declared.codes.YamlCode.TheVariants as yaml
 use Rattle.al_scalar.specs.Line.{is_empty, is_blank_or_end}
-use Rattle.al_scalar.specs.Private.Places.{text_at}
+use Rattle.al_scalar.specs.Places.{text_at}
 use Rattle.al_scalar.specs.Plain.{begins_flow_indicator}
 use Rattle.al_yaml_tree.specs.Content.{flow_fault, start_fault, is_flow_misplaced, or_misplaced}
 use Rattle.al_yaml_parts.proofs.LineLemmas.{first_cell}

@@ -1,5 +1,5 @@
 use Rattle.std.proofs.Common.{List, ap, is_some, ◌∙◌}
-use Rattle.al_types.specs.Private.Positions.{name_position}
+use Rattle.al_base.specs.NamePlaces.{name_position}
 use Rattle.al_check_interfaces.specs.declared.interfaces.Parameter.{Parameter}
 use Rattle.al_check_interfaces.specs.Parameters.{has_parameter}
 use Rattle.al_check_interfaces.proofs.Positions.{is_named}

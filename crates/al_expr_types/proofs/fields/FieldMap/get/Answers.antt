@@ -1,5 +1,5 @@
 use Rattle.std.proofs.Common.{◌≡◌, ◌∙◌, ap, sym, take, Some, None, option_map}
-use Rattle.al_types.specs.Positions.{name_place}
+use Rattle.al_base.specs.NamePlaces.{name_place}
 use Rattle.al_types.proofs.FieldsByName.{found_nowhere, found_there}
 use Rattle.al_expr_types.specs.Names.{names_in}
 use Rattle.al_expr_types.specs.Types.{type_in}

@@ -1,6 +1,6 @@
 use Rattle.std.proofs.Common.{◌≡◌, ℕ, List, get_or, true}
 use Rattle.std.specs.List.{list_all}
-use Rattle.al_types.specs.Positions.{name_place}
+use Rattle.al_base.specs.NamePlaces.{name_place}
 use Rattle.al_types.specs.Types.{Parts, Present, fuse_optional}
 use Rattle.al_expr_types.specs.Merging.{are_joins_below, found_in}
 use Rattle.al_expr_types.specs.Names.{names_in}

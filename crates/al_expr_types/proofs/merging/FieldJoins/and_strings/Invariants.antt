@@ -1,5 +1,5 @@
 use Rattle.std.proofs.Common.{◌≡◌, ℕ, List, true}
-use Rattle.al_types.specs.Positions.{name_place}
+use Rattle.al_base.specs.NamePlaces.{name_place}
 use Rattle.al_types.specs.Types.{Parts, Present, String, fuse_optional}
 use Rattle.al_expr_types.specs.Merging.{are_joins_below, found_in}
 use Rattle.al_expr_types.specs.Names.{names_listed}

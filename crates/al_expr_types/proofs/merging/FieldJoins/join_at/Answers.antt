@@ -1,7 +1,7 @@
 use Rattle.std.proofs.Common.{◌<◌, ◌∙◌, ap, arith, length}
 use Rattle.std.proofs.lemmas.List.{get_or_default}
 use Rattle.al_base.specs.Names.{same_name}
-use Rattle.al_types.proofs.PositionLemmas.{first_within}
+use Rattle.al_base.proofs.NamePlaces.{first_within}
 use Rattle.al_types.specs.Types.{Present, fuse_optional}
 use Rattle.al_expr_types.specs.Joining.{is_join_below, join_in}
 use Rattle.al_expr_types.specs.Names.{names_in}

@@ -1,5 +1,5 @@
 use Rattle.std.proofs.Common.{◌∙◌}
-use Rattle.al_types.specs.Positions.{name_place}
+use Rattle.al_base.specs.NamePlaces.{name_place}
 use Rattle.al_expr_types.specs.Merging.{slot_in}
 use Rattle.al_expr_types.specs.Names.{names_in}
 use Rattle.al_expr_types.specs.declared.joining.Join.TheVariants as joined

@@ -1,6 +1,6 @@
 use Rattle.std.proofs.Common.{◌≡◌, ◌∷◌, ◌++◌, ◌∙◌, [], ap, sym, map, length, arith}
 use Rattle.std.proofs.lemmas.List.{length-map, map-append}
-use Rattle.al_types.specs.Positions.{name_place}
+use Rattle.al_base.specs.NamePlaces.{name_place}
 use Rattle.al_types.proofs.AddedFields.{placed_new}
 use Rattle.al_expr_types.specs.Names.{names_listed}
 use Rattle.al_expr_types.proofs.name_list.NameList.and.Goals as goal

@@ -4,7 +4,7 @@ use Rattle.std.specs.Cmp.Lexicographic.{slice_cmp}
 use Rattle.std.specs.Ordering.{nat_cmp}
 use Rattle.al_tree_declarations.specs.Private.NameSets.{holds}
 use Rattle.al_tree_declarations.proofs.NameLemmas.{as_it_was, inserted}
-use Rattle.al_types.proofs.PositionLemmas.{on_err}
+use Rattle.al_base.proofs.NamePlaces.{on_err}
 use Rattle.al_tree_declarations.proofs.name_sets.NameSet.insert.Goals as goal
 
 pub returns-clause-set : goal.returns-clause-set

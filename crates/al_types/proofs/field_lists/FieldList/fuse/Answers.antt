@@ -2,8 +2,8 @@ use Rattle.std.proofs.Common.{◌≡◌, ap, sym, subst, ◌∙◌, map, List, S
 use Rattle.std.proofs.lemmas.List.{map-set}
 use Rattle.std.proofs.Math.ListN.{get_or-map}
 use Rattle.std.specs.Prelude.{OnOk}
-use Rattle.al_types.specs.Private.Positions.{name_position}
-use Rattle.al_types.proofs.PositionLemmas.{found_within}
+use Rattle.al_base.specs.NamePlaces.{name_position}
+use Rattle.al_base.proofs.NamePlaces.{found_within}
 use Rattle.al_types.specs.Private.TypeParts.{field_of}
 use Rattle.al_types.specs.Puts.{Typed}
 use Rattle.al_types.specs.Private.Indexes.{name_at, named_as}

@@ -1,7 +1,7 @@
 use Rattle.std.proofs.Common.{◌≡◌, ◌∷◌, ◌++◌, ◌∙◌, [], ap, sym, map, length, arith}
 use Rattle.std.proofs.lemmas.List.{length-map, map-append}
 use Rattle.std.specs.Prelude.{is_none, string_bytes}
-use Rattle.al_types.specs.Positions.{name_place}
+use Rattle.al_base.specs.NamePlaces.{name_place}
 use Rattle.al_types.specs.TypeViews.{names_in}
 use Rattle.al_types.proofs.AddedFields.{placed_new}
 use Rattle.al_types.proofs.field_names.FieldNames.and_name.Goals as goal

@@ -1,5 +1,5 @@
 use Rattle.std.proofs.Common.{◌≡◌, ◌∙◌, ap, sym, Some, None}
-use Rattle.al_types.specs.Positions.{name_place}
+use Rattle.al_base.specs.NamePlaces.{name_place}
 use Rattle.al_types.specs.TypeViews.{names_in, ty_of}
 use Rattle.al_types.proofs.FieldsByName.{found_nowhere, found_there}
 use Rattle.al_types.proofs.types.NamedFields.indexed_field.Goals as goal

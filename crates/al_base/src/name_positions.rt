@@ -1,7 +1,7 @@
 //! Where texts and names first stand in a list.
 ghost use Rattle.std.specs.Prelude.{◌≡◌, None, is_none, IfOk, OnErr, OnOk};
 ghost use Rattle.al_base.specs.Names.{folded};
-ghost use Rattle.al_types.specs.Private.Positions.{and_name_at, and_text_at, name_position, text_position};
+ghost use Rattle.al_base.specs.NamePlaces.{and_name_at, and_text_at, name_position, text_position};
 
 use std::alloc::{AllocError, Global};
 use std::collections::BTreeMap;

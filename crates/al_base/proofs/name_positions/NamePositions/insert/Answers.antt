@@ -1,8 +1,8 @@
 use Rattle.std.proofs.Common.{ap, ◌∙◌}
 use Rattle.std.specs.Prelude.{is_none}
-use Rattle.al_types.specs.Private.Positions.{and_text_at, name_position, text_position}
-use Rattle.al_types.proofs.PositionLemmas.{name_added, on_err, same_names}
-use Rattle.al_types.proofs.positions.NamePositions.insert.Goals as goal
+use Rattle.al_base.specs.NamePlaces.{and_text_at, name_position, text_position}
+use Rattle.al_base.proofs.NamePlaces.{name_added, on_err, same_names}
+use Rattle.al_base.proofs.name_positions.NamePositions.insert.Goals as goal
 
 pub returns-clause-positions : goal.returns-clause-positions
 returns-clause-positions c =

@@ -1,6 +1,6 @@
 use Rattle.al_base.specs.Names.{folded}
-use Rattle.al_types.specs.Private.Positions.{name_position}
-use Rattle.al_types.proofs.positions.NamePositions.new.Goals as goal
+use Rattle.al_base.specs.NamePlaces.{name_position}
+use Rattle.al_base.proofs.name_positions.NamePositions.new.Goals as goal
 
 pub returns : goal.returns
 unfolding name_position

@@ -13,10 +13,10 @@ use Rattle.std.proofs.lemmas.List.{length-map, length-take, map-append, take_mor
 use Rattle.std.proofs.lemmas.Map.Text.{is_eq-slice_cmp}
 use Rattle.std.specs.Option.{option_or}
 use Rattle.al_base.specs.Names.{folded, same_name}
-use Rattle.al_types.specs.Positions.{first_at}
-use Rattle.al_types.specs.Private.Positions.{and_name_at, and_text_at, name_position, text_position}
-use Rattle.al_types.specs.declared.positions.NamePositions.{NamePositions}
-use Rattle.al_types.specs.declared.positions.TextPositions.{TextPositions}
+use Rattle.al_base.specs.NamePlaces.{first_at}
+use Rattle.al_base.specs.NamePlaces.{and_name_at, and_text_at, name_position, text_position}
+use Rattle.al_base.specs.declared.name_positions.NamePositions.{NamePositions}
+use Rattle.al_base.specs.declared.name_positions.TextPositions.{TextPositions}
 
 abbrev at_text : List ℕ → Vec ℕ → Bool
 at_text text = is_at (λ k. slice_cmp nat_cmp text k.items)

@@ -2,8 +2,8 @@ use Rattle.std.specs.BTreeMap.{is_at}
 use Rattle.std.specs.Cmp.Lexicographic.{slice_cmp}
 use Rattle.std.specs.Map.{lookup}
 use Rattle.std.specs.Ordering.{nat_cmp}
-use Rattle.al_types.specs.Private.Positions.{text_position}
-use Rattle.al_types.proofs.positions.TextPositions.new.Goals as goal
+use Rattle.al_base.specs.NamePlaces.{text_position}
+use Rattle.al_base.proofs.name_positions.TextPositions.new.Goals as goal
 
 pub returns : goal.returns
 unfolding text_position

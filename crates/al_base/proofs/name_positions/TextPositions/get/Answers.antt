@@ -1,6 +1,6 @@
 use Rattle.std.proofs.Common.{◌∙◌}
-use Rattle.al_types.specs.Private.Positions.{text_position}
-use Rattle.al_types.proofs.positions.TextPositions.get.Goals as goal
+use Rattle.al_base.specs.NamePlaces.{text_position}
+use Rattle.al_base.proofs.name_positions.TextPositions.get.Goals as goal
 
 pub returns : goal.returns
 unfolding text_position

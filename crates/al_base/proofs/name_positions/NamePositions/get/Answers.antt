@@ -1,6 +1,6 @@
 use Rattle.std.proofs.Common.{ap, ◌∙◌}
-use Rattle.al_types.specs.Private.Positions.{name_position, text_position}
-use Rattle.al_types.proofs.positions.NamePositions.get.Goals as goal
+use Rattle.al_base.specs.NamePlaces.{name_position, text_position}
+use Rattle.al_base.proofs.name_positions.NamePositions.get.Goals as goal
 
 pub returns : goal.returns
 unfolding name_position

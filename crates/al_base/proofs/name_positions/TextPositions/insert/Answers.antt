@@ -1,8 +1,8 @@
 use Rattle.std.proofs.Common.{rules, sym, ◌∙◌}
 use Rattle.std.specs.BTreeMap.Entry.{map_with_value}
-use Rattle.al_types.specs.Private.Positions.{text_position}
-use Rattle.al_types.proofs.PositionLemmas.{added, on_err, none_there, same_texts, text_kept}
-use Rattle.al_types.proofs.positions.TextPositions.insert.Goals as goal
+use Rattle.al_base.specs.NamePlaces.{text_position}
+use Rattle.al_base.proofs.NamePlaces.{added, on_err, none_there, same_texts, text_kept}
+use Rattle.al_base.proofs.name_positions.TextPositions.insert.Goals as goal
 
 pub returns-in_err-self-clause-as_before : goal.returns-in_err-self-clause-as_before
 returns-in_err-self-clause-as_before c =
