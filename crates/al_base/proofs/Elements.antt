@@ -1,9 +1,7 @@
 -- What holds of each element of a list or of an option, through maps and searches.
 use Rattle.std.specs.Prelude.{Bool, true, false, List, [], ◌∷◌, ◌++◌, map, Option, Some, None, IfSome, find, option_and_then, option_map}
-use Rattle.std.proofs.Common.{◌≡◌, ◌<◌, ◌+◌, ◌∙◌, ℕ, zero, suc, ap, arith, cond, get_or, length, subst, sym, take}
-use Rattle.std.proofs.lemmas.List.{take_more}
-use Rattle.std.proofs.lemmas.List.Elements.{All-append}
-use Rattle.std.specs.List.{All, AllByRecursion, cons_option, filter_map, flat_map}
+use Rattle.std.proofs.Common.{◌+◌, cond}
+use Rattle.std.specs.List.{AllByRecursion, cons_option, filter_map, flat_map}
 use Rattle.std.specs.Option.{option_map_or, option_to_list}
 
 pub each_both : {X : Type 0} (P : X → Type 0) (xs ys : List X) → AllByRecursion P xs → AllByRecursion P ys → AllByRecursion P (xs ++ ys)
@@ -53,12 +51,3 @@ map_some P Q f h (Some x) p = h x p
 pub to_list : {X : Type 0} (P : X → Type 0) (o : Option X) → IfSome o P → AllByRecursion P (option_to_list o)
 to_list P None p = tt
 to_list P (Some x) p = (p, tt)
-
-All-one : {X : Type 0} (P : X → Type 0) (x : X) → P x → All P (x ∷ [])
-All-one P x h zero d lt = h
-All-one P x h (suc k) d lt = absurd (omega (arith, lt))
-
--- what holds of the first elements holds of one more, if of the next
-pub All-next : {X : Type 0} (P : X → Type 0) (xs : List X) (i : ℕ) (x : X) → i < length xs → x ≡ get_or xs i x → P x → All P (take i xs) → All P (take (i + 1) xs)
-All-next P xs i x within read h all =
-    subst (All P) (sym (take_more xs i x within ∙ ap (λ y. take i xs ++ y ∷ []) (sym read))) (All-append P (take i xs) (x ∷ []) all (All-one P x h))

@@ -173,7 +173,7 @@ pub enum CallCode {
     WrongUses,
     /// C8: a file that cannot be called there.
     NotCallable,
-    /// C9: a call that leads back to its file.
+    /// C9: a call on a call cycle.
     LeadsBack,
 }
 

@@ -1,4 +1,4 @@
--- What is said of a file's calls of files of the folder where they lead back to it.
+-- What is said of a file's calls of files of the folder where they are on a call cycle.
 use Rattle.std.specs.Prelude.{ℕ, List, [], Result, Ok, Err}
 use Rattle.al_base.specs.declared.faults.Fault.{Fault}
 use Rattle.al_scalar.specs.Taken as yaml

@@ -25,7 +25,7 @@ fn first_text(args: &Args) -> &str
     }
 }
 
-/// What is said of a call that leads back to its file.
+/// What is said of a call on a call cycle.
 fn site_of(call: &Call) -> Site<'_>
     ensures { (text : List ℕ) → call.now.fault.args ≡ text ∷ [] → fault_of result ≡ call.now.fault }
 {

@@ -1,5 +1,5 @@
 -- What is known of outputs, found by place: answers put one in front of another.
-use Rattle.std.proofs.Common.{◌≡◌, ◌<◌, ◌≤◌, ◌+◌, ℕ, List, [], refl, sym, ap, ◌∙◌, Bool, true, false, ◌&&◌, cond, Option, Some, None, option_map, Bor, arith}
+use Rattle.std.proofs.Common.{◌≡◌, ◌<◌, ◌+◌, ℕ, List, [], refl, sym, ap, ◌∙◌, Bool, true, false, ◌&&◌, cond, Option, Some, None, option_map, Bor, arith}
 use Rattle.std.proofs.Common.{drop, get_or, length, map}
 use Rattle.std.proofs.lemmas.Bool.Decides.{nat_tests}
 use Rattle.std.proofs.lemmas.List.{drop_more, length-map}
@@ -15,8 +15,8 @@ use Rattle.std.specs.Slice.{IsItemAt}
 use Rattle.std.specs.Str.{bytes_eq}
 use Rattle.std.specs.declared.cmp.Ordering.{Ordering}
 use Rattle.std.specs.declared.cmp.Ordering.TheVariants.{Less, Equal, Greater}
-use Rattle.al_check_contexts.specs.Answered.{Behind, behind_of, is_at, known_in}
-use Rattle.al_check_contexts.specs.Private.Lookups.{Found, and_found, found_at, known_by, list_at, names_by}
+use Rattle.al_check_contexts.specs.Answered.{Behind, behind_of, is_at}
+use Rattle.al_check_contexts.specs.Private.Lookups.{Found, and_found, found_at, list_at, names_by}
 use Rattle.al_check_contexts.specs.declared.known.Answer.{Answer}
 use Rattle.al_check_contexts.specs.declared.known.Outputs.{Outputs}
 
@@ -109,9 +109,6 @@ list_found lists i None item = sym (slice_get_past (map (λ l. l.now) lists) i (
 list_found lists i (Some x) item =
     sym (slice_get-map (λ l. l.now) lists i ∙ ap (option_map (λ l. l.now)) (slice_get_read lists (length lists) i x.now refl item.3.0 item.1))
 
-pub none_past : (lists : List (Bor (List (List ℕ)))) (i : ℕ) → length lists ≤ i → None ≡ slice_get (map (λ l. l.now) lists) i
-none_past lists i past = sym (slice_get_past (map (λ l. l.now) lists) i (rw length-map past))
-
 -- ---- an answer put in front
 
 chosen : {V W : Type 0} (f : V → W) (b : Bool) (v : V) (o : Option V) → option_map f (cond b (Some v) o) ≡ (if b then Some (f v) else option_map f o)
@@ -138,11 +135,6 @@ found_in bs job step = option_map (λ b. b.names) (find (is_at job step) bs)
 flat : (o : Option Behind) → option_and_then (λ names. names) (option_map (λ x. x.names) o) ≡ option_and_then (λ x. x.names) o
 flat None = refl
 flat (Some b) = refl
-
-pub known_found : (o : Outputs) (bs : List Behind) → found_at o ≡ found_in bs → known_by o ≡ known_in bs
-known_found o bs e =
-    ap (λ (f : Found). record { of_step = λ job i. option_and_then (λ names. names) (f job (Some i)); of_job = λ job. option_and_then (λ names. names) (f (Some job) None) }) e
-    ∙ λ d. record { of_step = λ job i. flat (find (is_at job (Some i)) bs) d; of_job = λ job. flat (find (is_at (Some job) None) bs) d }
 
 -- one answer more, in front
 pub found_more : (lists : List (List (List ℕ))) (answers : List Answer) (i k : ℕ) (d : Answer) (old new : Found) → i < length answers → k ≡ i + 1 →

@@ -90,9 +90,6 @@ of_action f ts s t k h =
       matrix = h.matrix ∙ ap (λ x. matrix_in x root s) k ∙ sym (ap (λ x. matrix_in x root t) k);
     }
 
-pub owner_of_action : (k : FileKind) (root : Node) (s t : Section) → k ≡ kind.Action → owner_in k root s ≡ owner_in k root t
-owner_of_action k root s t e = ap (λ x. owner_in x root s) e ∙ sym (ap (λ x. owner_in x root t) e)
-
 steps_of_job : (known : Known) (seen : Seen) (job : Option (Node × Node)) →
     owned known (option_map owner_of job) seen ≡ type_in_job (λ j. steps_type known (Some (key_of j)) (items_at (codes "steps") j.1) seen) job
 steps_of_job known seen None = refl

@@ -8,9 +8,9 @@ ghost use Rattle.al_yaml_tree.specs.View.{view};
 ghost use Rattle.al_check_contexts.specs.Contexts.{job_among};
 ghost use Rattle.al_check_contexts.specs.Private.JobPositions.{key_at, named_at};
 
+use al_base::{NamePositions, TextPositions};
 use al_check_places::Section;
 use al_tree::{Member, key_text, members_under};
-use al_base::{NamePositions, TextPositions};
 use al_yaml_tree::Node;
 use std::alloc::{AllocError, Global};
 

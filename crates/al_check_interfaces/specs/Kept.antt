@@ -9,7 +9,7 @@ use Rattle.al_yaml_tree.specs.Node.{Node}
 use Rattle.al_check_interfaces.specs.Uses.{Call, Site, calls_in, sites_in, target_in, that_uses}
 use Rattle.al_check_interfaces.specs.declared.calls.Call as code_calls
 
--- who calls, what, and what is said of it where it leads back to its file
+-- who calls, what, and what is said of it where it is on a call cycle
 abbrev pub Kept : Type 0
 Kept = Option Site × Target × Fault
 

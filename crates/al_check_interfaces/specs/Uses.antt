@@ -86,7 +86,7 @@ target_in Wrong = None
 abbrev pub targets_of : List Call → List Target
 targets_of = filter_map (λ c. target_in c.form)
 
--- what is said of such a call where it leads back to its own file, C9, and of all in order
+-- what is said of such a call where it is on a call cycle, C9, and of all in order
 abbrev pub loop_fault : Call → Option Fault
 loop_fault c = option_map (λ t. that_uses code.LeadsBack c) (target_in c.form)
 

@@ -22,7 +22,7 @@ pub struct Call {
     pub site: usize,
     /// What it calls.
     pub target: Target,
-    /// What is said of it where it leads back to its own file: C9, at its `uses`, with its text.
+    /// What is said of it where it is on a call cycle: C9, at its `uses`, with its text.
     pub fault: Fault,
 }
 

@@ -35,10 +35,6 @@ last_unique k (c ∷ p) (d ∷ q) x y a b e =
     let more = last_unique k p q x y a b rest in
     let f : p ≡ q = more.0 in (cc, more.1)
 
--- digits are above 47
-AreDigits : List ℕ → Type 0
-AreDigits ds = All (λ b. 48 ≤ b) ds
-
 digits_high : (n : ℕ) → n < 2 ^ 64 → All (λ b. 48 ≤ b) (decimal n)
 digits_high n h = decimal_by_steps (λ _ ds. All (λ b. 48 ≤ b) ds)
     (λ m _. All-cons (λ b. 48 ≤ b) (48 + m) [] (omega arith) (All-nil _))

@@ -10,8 +10,8 @@ pub use al_expr_grammar::{
 pub use al_meaning::{comparable, type_of};
 pub use al_types::{
     Context, ContextSet, ContextTypes, Field, FieldNames, Form, Function, FunctionSet, Fused,
-    Listing, NamedFields, Object, Parameters, Returned, Scope, Signature, Ty,
-    Wanted, assignable, copy, fuse, object_of_fields, signature_of,
+    Listing, NamedFields, Object, Parameters, Returned, Scope, Signature, Ty, Wanted, assignable,
+    copy, fuse, object_of_fields, signature_of,
 };
 
 #[cfg(test)]

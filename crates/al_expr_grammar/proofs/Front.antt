@@ -2,13 +2,13 @@
 use Rattle.std.proofs.Common.{◌≡◌, ◌≢◌, ℕ, ◌+◌, List, [], ◌∷◌, ◌++◌, refl, ap}
 use Rattle.al_base.specs.declared.faults.Span.{Span}
 use Rattle.al_expr_grammar.specs.declared.token.TokenKind.{TokenKind}
-use Rattle.al_expr_grammar.specs.declared.token.TokenKind.TheVariants.{Name, Open, Close, OpenIndex, CloseIndex, Comma, Star, Bang}
+use Rattle.al_expr_grammar.specs.declared.token.TokenKind.TheVariants.{Name, Open, Close, OpenIndex, CloseIndex, Comma, Star}
 use Rattle.al_expr_grammar.specs.declared.parser.ParseError.{ParseError}
 use Rattle.al_expr_grammar.specs.Lexeme.{Lexeme, lexeme, kinds}
 use Rattle.al_expr_grammar.specs.Tree.{Tree, arguments_of}
 use Rattle.al_expr_grammar.specs.Tree as tree
 use Rattle.al_expr_grammar.specs.Grammar.{Binary, Primary}
-use Rattle.al_expr_grammar.specs.Private.Parsed.{Parsed, Refused, StepRefused, ArgumentsPart, ArgumentsRead, ArgumentsRefused, IsStray, NoClose, NoComma, NoBang}
+use Rattle.al_expr_grammar.specs.Private.Parsed.{Parsed, Refused, StepRefused, ArgumentsPart, ArgumentsRead, ArgumentsRefused, IsStray, NoClose, NoComma}
 use Rattle.al_expr_grammar.proofs.Shape.{NoCall}
 use Rattle.al_expr_grammar.proofs.Rules.{NoStar, NoCloseIndex, EndsArguments, group_stray, index_stray, star_stray}
 use Rattle.al_expr_grammar.proofs.Rules.{call_refused, call_read, call_stray, argument_refused, arguments_begin, arguments_go_on}
@@ -41,11 +41,6 @@ pub no_comma : (ts : List TokenKind) → Lacks Comma ts → NoComma ts
 no_comma [] h = tt
 no_comma (Comma ∷ ts) h = absurd (h ts refl)
 no_comma (t ∷ ts) h = tt
-
-pub no_bang : (ts : List TokenKind) → Lacks Bang ts → NoBang ts
-no_bang [] h = tt
-no_bang (Bang ∷ ts) h = absurd (h ts refl)
-no_bang (t ∷ ts) h = tt
 
 pub ends_arguments : (ts : List TokenKind) → NoComma ts → NoClose ts → EndsArguments ts
 ends_arguments [] c h = tt

@@ -4,7 +4,7 @@ use Rattle.std.specs.Prelude.{slice_index}
 use Rattle.std.specs.Str.{IsUtf8, IsCharBoundary}
 use Rattle.std.proofs.lemmas.Str.{IsCharBoundary-after_ascii}
 use Rattle.al_expr_grammar.specs.declared.token.TokenKind.{TokenKind}
-use Rattle.al_expr_grammar.specs.declared.lexer.Read.TheVariants.{Blank, Token}
+use Rattle.al_expr_grammar.specs.declared.lexer.Read.TheVariants.{Token}
 use Rattle.al_expr_grammar.specs.Lexeme.{Lexeme, lexeme}
 use Rattle.al_expr_grammar.specs.Private.TokenStates.{behind, continue_with, tokens_from}
 use Rattle.al_expr_grammar.specs.Tokens.{Lexed, AllRead, Bad, Unclosed, read, then_token, span}
@@ -13,13 +13,6 @@ pub skipped : (n at : ℕ) (bs : List ℕ) → n ≤ length bs → tokens_from n
 skipped zero at bs h = sym (ap (λ a. tokens_from 0 a bs) (add-zero at))
 skipped (suc n) at [] h = absurd (omega arith)
 skipped (suc n) at (b ∷ bs) h = let e : (at + 1) + n ≡ at + suc n = omega arith in skipped n (at + 1) bs (omega arith) ∙ ap (λ a. tokens_from 0 a (drop n bs)) e
-
-blank_step : (at b : ℕ) (bs : List ℕ) → Blank ≡ read (b ∷ bs) → tokens_from 0 at (b ∷ bs) ≡ tokens_from 0 (at + 1) bs
-blank_step at b bs r = ap (λ x. continue_with x at (b ∷ bs) (λ skip. tokens_from skip (at + 1) bs)) (sym r)
-
-pub blank_read : (at : ℕ) (bs : List ℕ) → 0 < length bs → Blank ≡ read bs → tokens_from 0 at bs ≡ tokens_from 0 (at + 1) (drop 1 bs)
-blank_read at [] h r = absurd (omega arith)
-blank_read at (b ∷ bs) h r = blank_step at b bs r
 
 token_step : (at n b : ℕ) (k : TokenKind) (bs : List ℕ) → Token k (suc n) ≡ read (b ∷ bs) → n ≤ length bs →
     tokens_from 0 at (b ∷ bs) ≡ then_token (lexeme k (b ∷ take n bs) (span at (at + suc n))) (tokens_from 0 (at + suc n) (drop n bs))

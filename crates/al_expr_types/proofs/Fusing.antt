@@ -96,10 +96,6 @@ fuse_uneven (suc j) (suc k) m x y h g n e =
 
 -- ---- objects
 
--- two
-pub two_fused : (p q : Parts) → fuse_type (object_type p) (object_type q) ≡ object_type (fused (p ∷ q ∷ []))
-two_fused p q = refl
-
 -- one more
 pub fused_push : (f : ℕ → Parts) (ns : List ℕ) (n : ℕ) → fused (map f (ns ++ n ∷ [])) ≡ fuse_parts (fused (map f ns)) (f n)
 fused_push f ns n = ap fused (map-append f ns (n ∷ [])) ∙ fused_one_more (map f ns) (f n)

@@ -1,5 +1,5 @@
 -- Parts of objects that are gathered, object after object and field after field.
-use Rattle.std.proofs.Common.{◌≡◌, ◌+◌, ◌<◌, ◌≤◌, ℕ, List, [], ◌∷◌, ◌++◌, map, take, length, get_or, true, false, Option, Some, None, refl, sym, ap, ◌∙◌, arith}
+use Rattle.std.proofs.Common.{◌≡◌, ◌+◌, ◌<◌, ◌≤◌, ℕ, List, [], ◌∷◌, ◌++◌, map, take, length, get_or, false, Option, Some, None, refl, sym, ap, ◌∙◌, arith}
 use Rattle.std.proofs.lemmas.Bool.Decides.{nat_tests}
 use Rattle.std.proofs.lemmas.List.{map-append, take_more}
 use Rattle.std.specs.Prelude.{is_some, nat_eq, nat_lt, not, option_map, zip}
@@ -22,11 +22,6 @@ use Rattle.al_expr_types.specs.declared.parts.Part.TheVariants as part
 pub rest_is : (ms : List Parts) (o : Option Ty) → rest_in ms o ≡ optional (option_map (type_in ms) o)
 rest_is ms None = refl
 rest_is ms (Some t) = refl
-
--- a property that a field has, and one that none has
-pub asked_first : (x : Option Type') (at rest : Optional) → optional x ≡ at → is_present at ≡ true → x ≡ option_of (or_else at rest)
-asked_first x Absent rest e h = absurd cc
-asked_first x (Present t) rest e h = sym (optional_back x) ∙ ap option_of e
 
 pub asked_last : (x : Option Type') (at rest : Optional) → optional x ≡ rest → is_present at ≡ false → x ≡ option_of (or_else at rest)
 asked_last x Absent rest e h = sym (optional_back x) ∙ ap option_of e

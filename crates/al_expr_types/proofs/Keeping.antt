@@ -6,8 +6,8 @@ use Rattle.std.proofs.lemmas.Bool.{cases_eq}
 use Rattle.std.specs.Prelude.{if◌then◌else◌, option_map}
 use Rattle.al_base.proofs.Growing.{begins_same}
 use Rattle.al_base.specs.Growth.{BeginsWith}
-use Rattle.al_types.specs.Types.{Parts, Optional, Present, object_type, option_of, optional}
-use Rattle.al_types.proofs.FuseLaws.{option_back, optional_back}
+use Rattle.al_types.specs.Types.{Parts, Optional, Present, object_type, option_of}
+use Rattle.al_types.proofs.FuseLaws.{optional_back}
 use Rattle.al_types.specs.TypeViews.{fused}
 use Rattle.al_expr_types.specs.Joining.{is_join_below, join_in}
 use Rattle.al_expr_types.specs.declared.joining.Join.{Join}
@@ -108,10 +108,6 @@ pub joined_wider : (m n : ℕ) → m ≤ n → (j : Join) → is_join_below m j 
 joined_wider m n le joined.Nothing h = refl
 joined_wider m n le (joined.One t) h = below_wider m n le t h
 joined_wider m n le (joined.Objects s) h = numbers_wider m n le s.objects.items h
-
--- what is answered, as what may be there
-pub answer_is : (ms : List Parts) (t : Option Ty) (o : Optional) → option_map (type_in ms) t ≡ option_of o → rest_in ms t ≡ o
-answer_is ms t o e = rest_is ms t ∙ ap optional e ∙ option_back o
 
 -- one type more that is made of what was joined, in a table that grows
 pub made_next : (entry now next : List Object) (js : List Join) (i : ℕ) (j : Join) (ts new : List Ty) (t : Ty) →

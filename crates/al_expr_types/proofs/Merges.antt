@@ -180,10 +180,6 @@ pub upto_next : (T : ℕ → Optional) (o : Option ℕ) (i : ℕ) (sofar new sta
 upto_next T None i sofar new start old step = step ∙ old
 upto_next T (Some k) i sofar new start old step = upto_step T k i sofar new start (nat_eq k i) refl old step
 
-pub upto_none : (T : ℕ → Optional) (o : Option ℕ) (start : Optional) → start ≡ fuse_optional start (upto T o 0)
-upto_none T None start = sym (nothing_last start)
-upto_none T (Some k) start = let less : nat_lt k 0 ≡ false = grind (arith, nat_tests) in sym (ap (λ c. fuse_optional start (if c then T k else Absent)) less ∙ nothing_last start)
-
 -- all of them are what a name finds
 upto_all : {X : Type 0} (g : X → Type') (xs : List X) (d : X) (k m : ℕ) → m ≡ length xs → (if nat_lt k m then Present (g (get_or xs k d)) else Absent) ≡ optional (slice_get (map g xs) k)
 upto_all g [] d k m e = let less : nat_lt k m ≡ false = grind (arith, nat_tests) in ap (λ c. if c then Present (g d) else Absent) less

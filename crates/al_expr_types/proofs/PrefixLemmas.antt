@@ -1,21 +1,21 @@
 -- Prefixes of the fields of a map: what all have in common is what those of the base have, and the types behind them.
-use Rattle.std.proofs.Common.{◌≡◌, ◌+◌, ◌<◌, ◌≤◌, ℕ, zero, suc, List, [], ◌∷◌, ◌++◌, get_or, map, take, length, Bool, true, Option, Some, None, refl, sym, ap, subst, ◌∙◌, arith}
+use Rattle.std.proofs.Common.{◌≡◌, ◌+◌, ◌<◌, ◌≤◌, ℕ, zero, suc, List, [], ◌∷◌, ◌++◌, get_or, map, take, length, true, Option, Some, None, sym, ap, subst, ◌∙◌, arith}
 use Rattle.std.proofs.lemmas.List.{length-take, map-append, take_more}
 use Rattle.std.specs.List.{list_all}
-use Rattle.std.specs.Prelude.{Contains, ◌&&◌, zip}
+use Rattle.std.specs.Prelude.{Contains, zip}
 use Rattle.al_base.specs.Growth.{BeginsWith}
 use Rattle.al_types.specs.Types.{Type', Absent, Optional, Parts, Present, common_in, fields_of, fuse_optional, parts_with}
 use Rattle.al_types.proofs.FuseLaws.{last_turned, nothing_last, optional_assoc, optional_same}
 use Rattle.al_expr_types.specs.Names.{names_in}
 use Rattle.al_expr_types.specs.Prefixes.{HasPrefix, prefix_parts}
-use Rattle.al_expr_types.specs.Types.{common_of, are_fields_below, fields_parts, is_below, is_rest_below, named_types, object_in, parts_by, parts_of_all, rest_in, type_in}
+use Rattle.al_expr_types.specs.Types.{common_of, fields_parts, is_below, named_types, object_in, parts_by, parts_of_all, rest_in, type_in}
 use Rattle.al_expr_types.specs.declared.fields.FieldMap.{FieldMap}
 use Rattle.al_expr_types.specs.declared.objects.Fields.{Fields}
 use Rattle.al_expr_types.specs.declared.objects.Object.{Object}
 use Rattle.al_expr_types.specs.declared.objects.Prefix.{Prefix}
 use Rattle.al_expr_types.specs.declared.ty.Ty.{Ty}
 use Rattle.al_expr_types.specs.declared.types.Types.{Types}
-use Rattle.al_expr_types.proofs.Below.{all_taken, all_weaker, below_wider, both_are, types_kept}
+use Rattle.al_expr_types.proofs.Below.{all_taken, all_weaker, below_wider, types_kept}
 use Rattle.al_expr_types.proofs.Gathering.{common_push, common_zipped}
 use Rattle.al_expr_types.proofs.Keeping.{longer, same_there}
 use Rattle.al_expr_types.proofs.Tables.{length_after}
@@ -80,13 +80,6 @@ same_by ms f b own m k at n r behind base =
     let all : fuse_optional (object_in ms b.object).2 (common_of (map (type_in ms) own)) ≡ (prefix_parts ms m k).2 =
     ap (λ o. fuse_optional o (common_of (map (type_in ms) own))) (ap (λ p. p.2) base ∙ prefix_common ms m b.count) ∙ behind ms ∙ sym (prefix_common ms m k) in
     λ d. ((same d).0, (same d).1, all d)
-
--- fields whose types are there
-pub fields_there : (n : ℕ) (f : Fields) (m : FieldMap) → f.map.value ≡ m → f.rest ≡ None → list_all (is_below n) m.types.items ≡ true → are_fields_below n f ≡ true
-fields_there n f m e r h = (λ d. are_rest n (e d) (r d)) ∙ both_are (list_all (is_below n) m.types.items) true h refl
-  where
-    are_rest : ℕ → FieldMap → Option Ty → Bool
-    are_rest n m r = list_all (is_below n) m.types.items && is_rest_below n r
 
 -- ---- in longer tables
 

@@ -1,13 +1,12 @@
 -- Steps from types in arrays, from scalars, and by forms.
-use Rattle.std.proofs.Common.{◌≡◌, ◌+◌, ℕ, zero, suc, List, [], true, false, refl, ap, ◌∙◌, arith}
+use Rattle.std.proofs.Common.{◌≡◌, ◌+◌, ℕ, zero, suc, List, refl, ap, ◌∙◌, arith}
 use Rattle.al_base.specs.declared.faults.Fault.{Fault}
 use Rattle.al_base.specs.declared.faults.Span.{Span}
-use Rattle.al_types.specs.Types.{Type', Any, Null, Number, Bool', String, ArrayOf, ObjectOf}
+use Rattle.al_types.specs.Types.{Type', Any, Null, Number, String}
 use Rattle.al_expr_types.specs.Types.{arrays_of, scalar_type}
 use Rattle.al_expr_types.specs.declared.ty.Scalar.{Scalar}
 use Rattle.al_expr_types.specs.declared.ty.Scalar.TheVariants as scalar
-use Rattle.al_meaning.specs.Meaning.{Typed, typed, behind, array_of, property_of, all_of, index_of, element_at, not_indexable}
-use Rattle.al_expr_typing.specs.Steps.{is_index}
+use Rattle.al_meaning.specs.Meaning.{Typed, typed, behind, array_of, property_of, all_of, index_of}
 
 abbrev pub in_arrays : ℕ → Typed → Typed
 in_arrays n (typed t fs) = typed (arrays_of n t) fs
@@ -45,21 +44,3 @@ scalar_index whole scalar.Bool i = refl
 scalar_index whole scalar.String i = refl
 
 pub ruleset scalar_steps = (scalar_property, scalar_index)
-
-pub element_if : (whole : Span) (t i : Type') → is_index i ≡ true → element_at whole t i ≡ typed t []
-element_if whole t Any h = refl
-element_if whole t Number h = refl
-element_if whole t Null h = absurd cc
-element_if whole t Bool' h = absurd cc
-element_if whole t String h = absurd cc
-element_if whole t (ArrayOf a) h = absurd cc
-element_if whole t (ObjectOf f r x) h = absurd cc
-
-pub element_unless : (whole : Span) (t i : Type') → is_index i ≡ false → element_at whole t i ≡ not_indexable whole
-element_unless whole t Any h = absurd cc
-element_unless whole t Number h = absurd cc
-element_unless whole t Null h = refl
-element_unless whole t Bool' h = refl
-element_unless whole t String h = refl
-element_unless whole t (ArrayOf a) h = refl
-element_unless whole t (ObjectOf f r x) h = refl

@@ -1,9 +1,9 @@
 -- Labels that are given one after another, and what they say in the end.
-use Rattle.std.proofs.Common.{◌≡◌, ℕ, zero, suc, ◌+◌, ◌<◌, ◌≤◌, List, [], ◌∷◌, ◌++◌, length, get_or, set, take, replicate, refl, sym, subst}
+use Rattle.std.proofs.Common.{◌≡◌, ℕ, zero, suc, ◌+◌, ◌<◌, ◌≤◌, List, [], ◌∷◌, ◌++◌, length, get_or, set, take, refl, sym, subst}
 use Rattle.std.proofs.Common.{ap, ◌∙◌, arith, ⊎_elim, inl, inr, length-append, Option, Some, None, true, false, is_none, is_some}
 use Rattle.std.specs.Prelude.{Contains, ◌↔◌}
 use Rattle.std.specs.Option.{unwrap_or}
-use Rattle.std.proofs.lemmas.List.{length-set, get_or-set_other, get_or-set_same, take_more, length-replicate, get_or-replicate, get_or_past}
+use Rattle.std.proofs.lemmas.List.{length-set, get_or-set_other, get_or-set_same, take_more, get_or_past}
 use Rattle.std.proofs.lemmas.List.Elements.{Contains-append_left, Contains-append_right, Contains-append_cases}
 use Rattle.std.proofs.lemmas.List.Sums.{sum_by-set}
 use Rattle.std.proofs.lemmas.Bool.{cases_eq, cases_lt}
@@ -22,19 +22,6 @@ not_both l o n s = wrong (sym n ∙ s)
   where
     wrong : None ≡ Some l → ⊥
     wrong h = cc
-
--- no node, a node that had a label, and one that had none
-pub labels_none : (label : ℕ) (labels : List (Option ℕ)) (found : List ℕ) → Labels [] label labels labels found found
-labels_none label labels found = record {
-  size = refl;
-  all = λ k h. absurd (none_in k h);
-  kept = λ k l e. e;
-  only = λ k l e. inl e;
-  listed = λ k l e. inl e;
-  list_kept = λ k h. h;
-  list_only = λ k h. inl h;
-  count = refl;
-}
 
 pub labels_again : (label : ℕ) (labels : List (Option ℕ)) (j l : ℕ) (found : List ℕ) → label_at labels j ≡ Some l → Labels (j ∷ []) label labels labels found found
 labels_again label labels j l found was = record {
@@ -239,26 +226,6 @@ module _ (graph : List (List ℕ)) (order : List ℕ) where
             let same : lj.0 ≡ m.0 = omega (arith, up, down, back_is) in
             lj.1 ∙ ap Some same ∙ sym m.1,
       )
-
-abbrev the_none : Option ℕ
-the_none = None
-
-none_labelled : (n k : ℕ) → label_at (replicate n None) k ≡ None
-none_labelled n k = ⊎_elim (λ h. get_or-replicate n k None None h) (λ h. get_or_past (replicate n None) k None (omega (arith, length-replicate n (the_none), h))) (cases_lt k n)
-
-pub labelling_fresh : (graph : List (List ℕ)) (order : List ℕ) (labels : List (Option ℕ)) → labels ≡ replicate (length graph) None → IsLabelling graph order labels (length order) []
-labelling_fresh graph order labels e =
-    let no : (k l : ℕ) → label_at labels k ≡ Some l → ⊥ = λ k l s. not_both l (label_at labels k) (ap (λ ls. label_at ls k) e ∙ none_labelled (length graph) k) s in
-    record {
-      size = ap length e ∙ length-replicate (length graph) None;
-      low = λ k l s. absurd (no k l s);
-      high = λ k l s. absurd (no k l s);
-      done = λ i low high. absurd (omega (arith, low, high));
-      closed = λ j k l edge s. absurd (no j l s);
-      opened = λ k c. absurd (none_in k c);
-      reached = λ k l s. absurd (no k l s);
-      leads = λ k l s. absurd (no k l s);
-    }
 
 pub labelling_skip : (graph : List (List ℕ)) (order : List ℕ) (labels : List (Option ℕ)) (at l : ℕ) → label_at labels (node_at order at) ≡ Some l →
     IsLabelling graph order labels (at + 1) [] → IsLabelling graph order labels at []

@@ -1,9 +1,9 @@
 -- Steps of a search that finishes nodes.
 use Rattle.std.proofs.Common.{◌≡◌, ℕ, zero, suc, ◌+◌, ◌*◌, ◌<◌, ◌≤◌, List, [], ◌∷◌, ◌++◌, Bool, true, false, length, get_or, set, refl, sym}
-use Rattle.std.proofs.Common.{subst, ap, ◌∙◌, arith, ◌⊎◌, ⊎_elim, inl, inr, sum_by, replicate}
+use Rattle.std.proofs.Common.{subst, ap, ◌∙◌, arith, ◌⊎◌, ⊎_elim, inl, inr, sum_by}
 use Rattle.std.specs.List.{AllByRecursion}
 use Rattle.std.specs.Prelude.{Contains}
-use Rattle.std.proofs.lemmas.List.{length-set, get_or-set_other, get_or-set_same, length-replicate, get_or-replicate, get_or_past}
+use Rattle.std.proofs.lemmas.List.{length-set, get_or-set_other, get_or-set_same, get_or_past}
 use Rattle.std.proofs.lemmas.List.Sums.{sum_by-set, sum_by-append}
 use Rattle.std.proofs.Math.Nat.{suc-mul}
 use Rattle.std.proofs.lemmas.List.Elements.{Contains-append_left, Contains-append_right, Contains-append_cases, Contains-get_or}
@@ -255,17 +255,6 @@ cost_enter graph seen frames w next rest lt fresh =
     let d = one_of_sum graph next in
     omega (arith, times, a, b, c, d)
 
-pub cost_pass : (graph : List (List ℕ)) (seen : List Bool) (frames : List (ℕ × List ℕ)) (w next : ℕ) (rest : List ℕ) →
-    cost graph seen (frames ++ (w, rest) ∷ []) < cost graph seen (frames ++ (w, next ∷ rest) ∷ [])
-cost_pass graph seen frames w next rest =
-    let b = sum_by-append frame_cost frames ((w, rest) ∷ []) in
-    let c = sum_by-append frame_cost frames ((w, next ∷ rest) ∷ []) in
-    omega (arith, b, c)
-
-pub cost_finish : (graph : List (List ℕ)) (seen : List Bool) (frames : List (ℕ × List ℕ)) (f : ℕ × List ℕ) →
-    cost graph seen frames < cost graph seen (frames ++ f ∷ [])
-cost_finish graph seen frames f = let b = sum_by-append frame_cost frames (f ∷ []) in omega (arith, b)
-
 -- the steps of the program, by what it finds
 abbrev Step : List (List ℕ) → List Bool → List (ℕ × List ℕ) → List ℕ → ℕ → List ℕ → Type 0
 Step graph seen frames order w nodes = IsSearch graph seen (frames ++ (w, nodes) ∷ []) order
@@ -320,30 +309,6 @@ step_start graph seen now none after order w lt fresh n e a s =
       subst W (sym n) (get_or-set_same seen w true false inside),
     )
 
--- nothing was seen
-none_seen : (n k : ℕ) → get_or (replicate n false) k false ≡ false
-none_seen n k = ⊎_elim (λ h. get_or-replicate n k false false h) (λ h. get_or_past (replicate n false) k false (omega (arith, length-replicate n false, h))) (cases_lt k n)
-
-pub search_fresh : (graph : List (List ℕ)) (seen : List Bool) (order : List ℕ) → seen ≡ replicate (length graph) false → order ≡ [] →
-    IsSearch graph seen [] order
-search_fresh graph seen order e o =
-    let no : (k : ℕ) → Marked seen k → ⊥ = λ k m. unseen graph seen k (ap (λ s. get_or s k false) e ∙ none_seen (length graph) k) m in
-    let none : (k : ℕ) → Contains order k → ⊥ = λ k c. none_in k (subst (λ (l : List ℕ). Contains l k) o c) in
-    record {
-      begun = record {
-        size = ap length e ∙ length-replicate (length graph) false;
-        listed = λ k m. absurd (no k m);
-        entered = λ k c. absurd (none_in k c);
-        finished = λ k c. absurd (none k c);
-        closed = λ j k c e. absurd (none j c);
-        edges = tt;
-        chain = tt;
-        pending = λ a c k ac lt e in_ns. absurd (none_in k in_ns);
-        nested = λ a b c ac cb lt e. absurd (let empty : length order ≡ 0 = ap length o in omega (arith, lt, empty));
-      };
-      looked = tt;
-    }
-
 -- all was seen
 pub search_done : (graph : List (List ℕ)) (seen : List Bool) (order : List ℕ) (n : ℕ) → n ≡ length graph → ((k : ℕ) → k < n → Marked seen k) →
     IsSearch graph seen [] order → IsFinished graph order
@@ -355,7 +320,3 @@ search_done graph seen order n e all s = record {
   where
     inside_of : (k : ℕ) → Marked seen k → k < length graph
     inside_of k m = ⊎_elim (λ h. let size = s.begun.size in omega (arith, h, size)) (λ h. absurd (cc (get_or_past seen k false h, m))) (cases_lt k (length seen))
-
-pub no_frames : (graph : List (List ℕ)) (seen : List Bool) (frames : List (ℕ × List ℕ)) (order : List ℕ) → length frames ≡ 0 → IsSearch graph seen frames order → IsSearch graph seen [] order
-no_frames graph seen [] order e s = s
-no_frames graph seen (f ∷ fs) order e s = absurd (omega (arith, e))

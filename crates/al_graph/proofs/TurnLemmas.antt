@@ -45,13 +45,6 @@ edge_pushed graph from to old new lt is e =
     edge_added (edges_of graph) (edges_of (set graph from new)) from to inside
     (map-set (λ (v : Vec ℕ Global). v.items) graph from new ∙ ap (λ l. set (edges_of graph) from l) (e ∙ ap (λ l. l ++ to ∷ []) (sym (edges_at graph from old lt is))))
 
-pub edges_none : (to : ℕ) (graph : List (List ℕ)) → AddsEdges [] to graph graph
-edges_none to graph = record {
-  kept = λ j k e. e;
-  all = λ j c. absurd (none_in j c);
-  only = λ j k e. inl e;
-}
-
 edges_more : (xs ys : List ℕ) (to : ℕ) (a b c : List (List ℕ)) → AddsEdges xs to a b → AddsEdges ys to b c → AddsEdges (xs ++ ys) to a c
 edges_more xs ys to a b c one two = record {
   kept = λ j k e. two.kept j k (one.kept j k e);
@@ -73,13 +66,6 @@ none_at : (n k : ℕ) → get_or (replicate n no_edges) k [] ≡ []
 none_at n k =
     let len : length (replicate n no_edges) ≡ n = length-replicate n no_edges in
     ⊎_elim (λ h. get_or-replicate n k no_edges [] h) (λ h. let past : length (replicate n no_edges) ≤ k = omega (arith, len, h) in get_or_past (replicate n no_edges) k [] past) (cases_lt k n)
-
-pub turned_none : (graph : List (List ℕ)) (n : ℕ) → TurnedTo 0 graph (replicate n no_edges)
-turned_none graph n =
-    record {
-      all = λ j k lt e. absurd (omega (arith, lt));
-      only = λ j k e. absurd (none_in j (subst (In j) (none_at n k) e));
-    }
 
 pub turned_next : (graph a b : List (List ℕ)) (i : ℕ) (nodes : List ℕ) → nodes ≡ get_or graph i [] → TurnedTo i graph a → AddsEdges nodes i a b → TurnedTo (i + 1) graph b
 turned_next graph a b i nodes is t m = record {

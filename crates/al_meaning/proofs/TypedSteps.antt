@@ -10,9 +10,9 @@ use Rattle.al_types.specs.declared.types.Fused.{Fused}
 use Rattle.al_types.specs.declared.types.Object.{Object}
 use Rattle.al_types.specs.declared.types.Ty as rust
 use Rattle.al_expr_grammar.specs.Refusal.{fault}
-use Rattle.al_types.specs.Types.{Type', Any, ArrayOf, option_of, or_any, property_in}
-use Rattle.al_types.specs.TypeViews.{ty_of, fused_of, object_of, parts_of, parts_of_fused}
-use Rattle.al_meaning.specs.Meaning.{Typed, typed, behind, before, and_then, array_of, or_fault, property_of, all_of, index_of, element_at, not_indexable}
+use Rattle.al_types.specs.Types.{Type', Any, property_in}
+use Rattle.al_types.specs.TypeViews.{ty_of}
+use Rattle.al_meaning.specs.Meaning.{Typed, typed, behind, before, and_then, array_of, or_fault, property_of, index_of, element_at, not_indexable}
 
 pub unchanged : (t : Type') (old : List Fault) → typed t old ≡ behind old (typed t [])
 unchanged t old = ap (typed t) (sym (append-nil old))
@@ -54,11 +54,5 @@ property_of_object n at whole b = refl
 pub property_of_fused : (n : List ℕ) (at whole : Span) (b : Box Fused Global) → property_of n at whole (ty_of (rust.Fused b))
     ≡ or_fault (fault code.UndefinedProperty at (n ∷ [])) (property_in n (ty_of (rust.Fused b)))
 property_of_fused n at whole b = refl
-
-pub all_of_object : (whole : Span) (o : Object) → all_of whole (object_of o) ≡ typed (ArrayOf (or_any (option_of (parts_of o).2))) []
-all_of_object whole o = refl
-
-pub all_of_fused : (whole : Span) (f : Fused) → all_of whole (fused_of f) ≡ typed (ArrayOf (or_any (option_of (parts_of_fused f).2))) []
-all_of_fused whole f = refl
 
 pub ruleset object_steps = (element_at_object, element_at_fused, index_of_object, index_of_fused, property_of_object, property_of_fused)

@@ -6,7 +6,10 @@ ghost use Rattle.al_types.specs.Private.TypeParts.{field_of, named_object, rest_
 
 use crate::paths::Paths;
 use crate::scans::{Move, first_scan};
-use al_types::{Field, NamedFields, Object, Ty, joined_to, object_of_fields, object_of_named, object_with_common, unshared};
+use al_types::{
+    Field, NamedFields, Object, Ty, joined_to, object_of_fields, object_of_named,
+    object_with_common, unshared,
+};
 use std::alloc::{AllocError, Global};
 use std::mem::replace;
 use std::rc::Rc;

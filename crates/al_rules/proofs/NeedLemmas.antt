@@ -46,7 +46,7 @@ module _ (position : List ℕ → Option ℕ) (Leads : ℕ → ℕ → Type 0) w
   more _ ms _ gs (and_need n ns first rest one are) b =
       subst (AreNeedsFaults position Leads (n ∷ ns ++ ms)) (sym (append_assoc first rest gs)) (and_need n (ns ++ ms) first (rest ++ gs) one (more ns ms rest gs are b))
 
--- a need that is led to by an edge leads back just where it has the label of the job that needs it
+-- a need that an edge leads to is on a cycle just where it has the label of the job that needs it
 module _ (position : List ℕ → Option ℕ) (graph : List (List ℕ)) (labels : List (Option ℕ))
     (exact : (j k : ℕ) → j < length graph → k < length graph
     → (get_or labels j None ≡ get_or labels k None) ↔ StronglyConnected graph j k)

@@ -45,7 +45,7 @@ all_needs jobs = flat_map needs_in (enumerate_from 0 jobs)
 abbrev pub cycle_fault : Need → Fault
 cycle_fault n = fault NeedsCycle n.text.span (n.key.text ∷ n.text.text ∷ [])
 
--- What an entry gives: a job that isn't there; one from which a walk of needs leads back to this job; nothing.
+-- What an entry gives: a job that isn't there; one from which a walk of needs comes back to this job; nothing.
 pub data IsNeedFaults (Leads : ℕ → ℕ → Type 0) (n : Need) : Option ℕ → List Fault → Type 0 where
   undefined_job : IsNeedFaults Leads n None (about UndefinedJob n.text)
   leads_back : (j : ℕ) → Leads j n.job → IsNeedFaults Leads n (Some j) (cycle_fault n ∷ [])
@@ -72,7 +72,7 @@ abbrev pub AddsAllNeeds : List (Node × Node) → List Fault → List Fault → 
 AddsAllNeeds jobs old new =
     let position = position_in (keys_of jobs) in AddsNeeds position (Walk (needs_lists position jobs)) (all_needs jobs) old new
 
--- To compute rows with: what an entry gives, where a test says from which jobs a walk leads back
+-- To compute rows with: what an entry gives, where a test says from which jobs a walk comes back
 abbrev pub tested_faults : (ℕ → Bool) → Need → Option ℕ → List Fault
 tested_faults leads n None = about UndefinedJob n.text
 tested_faults leads n (Some j) = if leads j then cycle_fault n ∷ [] else []

@@ -14,11 +14,10 @@ ghost use Rattle.al_tree.specs.Values.{member_of, scalar_node_of};
 ghost use Rattle.std.specs.List.{filter_map};
 ghost use Rattle.std.specs.Prelude.{◌≡◌, ◌++◌, map, slice_index_or, IfOk, OnOk, None};
 
-use al_base::{Fault, RuleCode};
+use al_base::{Fault, NamePositions, RuleCode};
 use al_graph::strongly_connected_components;
 use al_rules_reports::{Named, named_key, named_text, report, report_two};
 use al_tree::{Member, ScalarNode, key_text, texts_under};
-use al_base::NamePositions;
 use std::alloc::{AllocError, Global};
 
 /// An entry of `needs`: its text, and the position and the key of its job.
@@ -221,7 +220,7 @@ fn check_each_job(
 
 /// Adds the faults of what jobs need.
 ///
-/// An entry is in a cycle where the job that it names leads back: where both are in one strongly connected component. So it takes time in
+/// An entry is on a cycle where both are in one strongly connected component. So it takes time in
 /// proportion to jobs and entries, but for finding each name.
 #[tactic(auto, using(al_base::proofs::Growing::growth))]
 pub(crate) fn check_needs(

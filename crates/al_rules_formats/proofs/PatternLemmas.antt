@@ -26,10 +26,6 @@ closed right behind = then_done (cond right (behind_one behind) None)
 abbrev goes : List ℕ → Option State → Bool
 goes cs next = is_done (option_and_then (λ s. read_all s cs) next)
 
-never_closed : (t : Bool) → closed t [] ≡ false
-never_closed true = refl
-never_closed false = refl
-
 not_dash : (a c : ℕ) (cs : List ℕ) → (c == ascii.dash) ≡ false → ascends 0 (a ∷ c ∷ cs) ≡ ascends 0 (c ∷ cs)
 not_dash a c [] h = refl
 not_dash a c (d ∷ cs) h = ap (λ t. cond t (nat_le a d && ascends 0 cs) (ascends 0 (c ∷ d ∷ cs))) h

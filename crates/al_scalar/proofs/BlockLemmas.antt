@@ -1,6 +1,6 @@
 -- Block scalars: lines against offsets.
 use Rattle.std.proofs.Common.{◌≡◌, ◌≢◌, ℕ, zero, suc, ◌+◌, ◌-◌, ◌<◌, ◌≤◌, List, [], ◌∷◌, ◌++◌, length, drop, slice_index, refl, sym, ap}
-use Rattle.std.proofs.Common.{subst, ◌∙◌, arith, append-nil, Bool, true, false, cond, inl, inr, ◌⊎◌, Option, Some, None, eq-eqb, is_some}
+use Rattle.std.proofs.Common.{subst, ◌∙◌, arith, true, false, cond, inl, inr, ◌⊎◌, Option, Some, None, eq-eqb, is_some}
 use Rattle.std.proofs.Math.Nat.{eq-or-lt_of_le, le_of_lt}
 use Rattle.std.proofs.lemmas.Grind.{common_steps}
 use Rattle.al_scalar.specs.Block.{row_of, found_indent}
@@ -28,11 +28,6 @@ pub run-more : (bytes : List ℕ) (at i : ℕ) → at ≤ i → IsInside bytes i
 run-more bytes at i order here run =
     subst (λ cs. RunBefore cs (lines_at bytes at) (lines_at bytes (i + 1))) (sym (cells_between-more bytes at i order))
     (run_then (cells_between bytes at i) ((slice_index bytes i, i) ∷ []) run (cell_at bytes i here.inside here.not_feed here.not_return))
-
--- a line that ends behind a run
-pub text-run_end : (bytes : List ℕ) (at end : ℕ) (run : List Cell) → end ≤ length bytes → IsLineEnd bytes end → RunBefore run (lines_at bytes at) (lines_at bytes end)
-    → first_text (lines_at bytes at) ≡ run
-text-run_end bytes at end run h e r = r.text ∙ ap (λ t. run ++ t) (text-line_end bytes end h e) ∙ append-nil run
 
 -- what is left of a line: nothing, or a byte
 pub begins-cell : (bytes : List ℕ) (i : ℕ) → IsInside bytes i → first_text (lines_at bytes i) ≡ (slice_index bytes i, i) ∷ first_text (lines_at bytes (i + 1))
@@ -105,19 +100,6 @@ row-blank m text h e = grind (arith, common_steps, h, e)
 
 pub row-none : (m : ℕ) (text : List Cell) → (m ≤ indent text → ⊥) → is_all_blank text ≡ false → row_of (Some m) true text ≡ None
 row-none m text h e = grind (arith, common_steps, h, e)
-
-pub row-found : (m : ℕ) (b : Bool) (text : List Cell) → is_all_blank text ≡ false → row_of (Some m) b text ≡ row_of (Some m) true text
-row-found m b text e = grind (arith, common_steps, e)
-
-pub row-before : (m : Option ℕ) (text : List Cell) → is_all_blank text ≡ true → row_of m false text ≡ Some []
-row-before None text e = grind (arith, common_steps, e)
-row-before (Some m) text e = grind (arith, common_steps, e)
-
-pub row-free : (b : Bool) (text : List Cell) → is_all_blank text ≡ true → row_of None b text ≡ Some []
-row-free b text e = grind (arith, common_steps, e)
-
-pub row-free_none : (b : Bool) (text : List Cell) → is_all_blank text ≡ false → row_of None b text ≡ None
-row-free_none b text e = grind (arith, common_steps, e)
 
 -- ---- the content indent
 

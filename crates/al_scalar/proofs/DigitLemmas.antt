@@ -8,7 +8,7 @@ use Rattle.al_scalar.specs.Places.{text_at}
 use Rattle.al_scalar.specs.Private.Places.{cells_between}
 use Rattle.al_scalar.specs.Private.Double.{Between}
 use Rattle.al_scalar.proofs.BlockLemmas.{length-cells_between}
-use Rattle.al_scalar.proofs.LineLemmas.{cells_between-more, cells_between-none}
+use Rattle.al_scalar.proofs.LineLemmas.{cells_between-more}
 use Rattle.al_scalar.proofs.SingleLemmas.{cell_at, same_then, IsInside}
 
 -- ---- the value of digits
@@ -38,13 +38,6 @@ pub digit-more : (w d k : ℕ) → w < 16 ^ k → d < 16 → 16 * w + d < 16 ^ s
 digit-more w d k h m = omega (arith, h, m)
 
 -- ---- against offsets
-
-pub between-none : (bytes : List ℕ) (from : ℕ) → from ≤ length bytes → Between bytes from from
-between-none bytes from h = (
-  record { from = omega arith; inside = h; same = record { end = refl; last = refl; later = refl } },
-  ap
-      (λ cs. cs ++ text_at bytes from) (sym (cells_between-none bytes from)),
-)
 
 pub between-more : (bytes : List ℕ) (from i : ℕ) → Between bytes from i → IsInside bytes i → Between bytes from (i + 1)
 between-more bytes from i b h =

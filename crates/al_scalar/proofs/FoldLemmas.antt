@@ -75,14 +75,6 @@ quoted-broken q (x ∷ xs) h k e =
     line_given-at q (single_part 0 x.text) broken x xs (λ b. single_lines q b xs) e
     ∙ ap (λ z. cond z (fault UnclosedQuote q) (before (single_part 0 x.text).text (single_lines q (Some x.end) xs))) k
 
--- a line that the file's end ends
-pub quoted-open : (q : ℕ) (xs : List Line) → has_line xs ≡ true → first_last xs ≡ true → (single_part 0 (first_text xs)).stop ≡ broken
-    → single_quoted q xs ≡ Err (record { code = UnclosedQuote; at = q })
-quoted-open q [] h k e = cc
-quoted-open q (x ∷ xs) h k e =
-    line_given-at q (single_part 0 x.text) broken x xs (λ b. single_lines q b xs) e
-    ∙ ap (λ z. cond z (fault UnclosedQuote q) (before (single_part 0 x.text).text (single_lines q (Some x.end) xs))) k
-
 -- ---- against offsets
 
 -- a place that is no line's end and no blank

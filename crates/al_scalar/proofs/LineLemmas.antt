@@ -29,10 +29,6 @@ pub with_cells_before-more : (cs : List Cell) (c : Cell) (ls : List Line) → wi
 with_cells_before-more cs c [] = refl
 with_cells_before-more cs c (l ∷ ls) = ap (λ t. cut t l ls) (append_assoc cs (c ∷ []) l.text)
 
-pub with_cells_before-none : (ls : List Line) → with_cells_before [] ls ≡ ls
-with_cells_before-none [] = refl
-with_cells_before-none (l ∷ ls) = refl
-
 -- a byte that is no part of a break
 pub lines_at-other : (bytes : List ℕ) (i : ℕ) → i < length bytes → slice_index bytes i ≢ 10 → slice_index bytes i ≢ 13
     → lines_at bytes i ≡ with_cell (slice_index bytes i, i) (lines_at bytes (i + 1))

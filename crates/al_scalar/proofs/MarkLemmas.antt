@@ -121,9 +121,6 @@ module _ (bytes : List ℕ) (at : ℕ) (h : at < length bytes) (e : slice_index 
     double-skip (d ∷ ds) rest = double-skip ds rest
 
     module _ (count : ℕ) (f : lookup (slice_index bytes (at + 1)) escape_table ≡ None) (g : lookup (slice_index bytes (at + 1)) digits_table ≡ Some count) where
-      digits_at : List Cell
-      digits_at = take count (text_at bytes (at + 1 + 1))
-
       number-part : double_part 0 (text_at bytes at) ≡ hex_escape at count (take count (text_at bytes (at + 1 + 1)))
           (hex_value 0 (take count (text_at bytes (at + 1 + 1))))
           (double_part (1 + count) ((slice_index bytes (at + 1), at + 1) ∷ text_at bytes (at + 1 + 1)))

@@ -20,12 +20,6 @@ module _ (bytes : List ℕ) (i b : ℕ) (inside : i ≤ length bytes) where
 
 -- ---- markers
 
-marker-first : (b : ℕ) (t : List Cell) → false ≡ begins b t → false ≡ is_marker b t
-marker-first b [] h = refl
-marker-first b (c ∷ []) h = refl
-marker-first b (c ∷ d ∷ []) h = refl
-marker-first b (c ∷ d ∷ e ∷ cs) h = ap (λ x. x && (d.0 == b) && (e.0 == b) && is_blank_or_end cs) h
-
 and-false_at : (x y z : Bool) → false ≡ (x && false && y && z)
 and-false_at true y z = refl
 and-false_at false y z = refl
@@ -49,9 +43,6 @@ marker-all b c d e cs h k m =
     ap (λ x. x && true && true && is_blank_or_end cs) h ∙ ap (λ x. (c.0 == b) && x && true && is_blank_or_end cs) k ∙ ap (λ x. (c.0 == b) && (d.0 == b) && x && is_blank_or_end cs) m
 
 module _ (bytes : List ℕ) (i b : ℕ) (inside : i ≤ length bytes) where
-  pub marker_at-first : false ≡ begins b (text_at bytes i) → false ≡ is_marker b (text_at bytes i)
-  marker_at-first h = marker-first b (text_at bytes i) h
-
   module _ (one : true ≡ begins b (text_at bytes i)) where
     first_cell : text_at bytes i ≡ (slice_index bytes i, i) ∷ text_at bytes (i + 1)
     first_cell = text_at-cell bytes i inside (begins-inside bytes i b inside one)

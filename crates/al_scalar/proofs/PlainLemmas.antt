@@ -210,9 +210,6 @@ module _ (bytes : List ℕ) (i : ℕ) (w : IsWordAt bytes i) where
   pub same_word : SameLine (lines_at bytes i) (lines_at bytes (i + 1))
   same_word = (cell_at bytes i w.0 (word-feed (slice_index bytes i) w.1) (word-return (slice_index bytes i) w.1)).same
 
-pub part_none : (p : Context) (f : Bool) (bytes : List ℕ) (at : ℕ) → plain_part p f (text_at bytes at) ≡ in_front (cells_between bytes at at) (plain_part p f (text_at bytes at))
-part_none p f bytes at = ap (λ t. in_front t (plain_part p f (text_at bytes at))) (sym (cells_between-none bytes at))
-
 -- ---- the tests at an offset
 
 module _ (p : Context) (bytes : List ℕ) (i : ℕ) (inside : i ≤ length bytes) where
@@ -220,9 +217,6 @@ module _ (p : Context) (bytes : List ℕ) (i : ℕ) (inside : i ≤ length bytes
   ends_key-cell x h e =
       let cell = text_at-cell bytes i inside (λ k. never (h ∙ sym (blank_or_end-end bytes i inside k))) in
       e ∙ sym (ap (λ t. is_flow p && begins_flow_indicator t) cell) ∙ ap (λ b. b || (is_flow p && begins_flow_indicator (text_at bytes i))) h
-
-  pub value_colon-end : IsLineEnd bytes i → false ≡ is_value_colon p (text_at bytes i)
-  value_colon-end k = sym (ap (is_value_colon p) (text-line_end bytes i inside k))
 
   pub ends-end : (f : Bool) → IsLineEnd bytes i → true ≡ ends_plain p f (text_at bytes i)
   ends-end f k = sym (ap (ends_plain p f) (text-line_end bytes i inside k))
@@ -246,7 +240,3 @@ module _ (p : Context) (bytes : List ℕ) (i : ℕ) (inside : i ≤ length bytes
 
     pub ends_at-other : (f x : Bool) → slice_index bytes i ≢ 58 → slice_index bytes i ≢ 35 → x ≡ (is_flow p && is_flow_indicator (slice_index bytes i)) → x ≡ ends_plain p f (text_at bytes i)
     ends_at-other f x n m h = h ∙ sym (ends-other p f (slice_index bytes i, i) (text_at bytes (i + 1)) n m) ∙ sym (ap (ends_plain p f) (text_at-cell bytes i inside k))
-
--- a first character that no blank is and that the scalar doesn't end before
-pub part-begins : (p : Context) (c : Cell) (cs : List Cell) → (IsBlankByte c.0 → ⊥) → ends_plain p false (c ∷ cs) ≡ false → is_empty (plain_part p false (c ∷ cs)).0 ≡ false
-part-begins p c cs n e = ap (λ (x : List Cell × List Cell). is_empty x.0) (part-step p false false false c cs (plain_part p false cs) e (is_blank-no c n) refl)

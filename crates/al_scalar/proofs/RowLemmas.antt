@@ -3,7 +3,7 @@ use Rattle.std.proofs.Common.{◌≡◌, ℕ, zero, suc, ◌+◌, ◌-◌, ◌<�
 use Rattle.std.proofs.Common.{append_assoc, append-nil, Bool, true, false, not, ◌||◌, cond, IsTrue, ◌↔◌, Option, Some, None}
 use Rattle.al_scalar.specs.Line.{Cell, Line, is_empty, is_all_blank, begins_blank, is_blank}
 use Rattle.al_scalar.specs.Taken.{Taken, feeds, with_text}
-use Rattle.al_scalar.specs.Block.{last_end, Chomping, strip, clip, keep, BlockLine, Rows, with_row, at_end, row_of, rows_at, rows_end, is_spaced, own_break, between_rows, joint, chomped, text_after}
+use Rattle.al_scalar.specs.Block.{last_end, Chomping, strip, clip, keep, BlockLine, Rows, with_row, at_end, row_of, rows_at, rows_end, is_spaced, between_rows, joint, chomped, text_after}
 use Rattle.al_scalar.specs.Places.{first_text, first_end, lines_at}
 use Rattle.al_scalar.specs.Private.Places.{cells_at, cells_between, IsBlankByte, broken_line, SameLine, first_last, later}
 use Rattle.al_scalar.specs.Private.BlockRead.{row_like, rest, last_line}
@@ -32,10 +32,6 @@ spaced-like true break = refl
 spaced-like false break = refl
 
 -- ---- one row added
-
-pub row-empty : (lit : Bool) (k : Chomping) (last : Option BlockLine) (es : List ℕ) (r : BlockLine) (rs : List BlockLine) → r.text ≡ []
-    → text_after lit k last es (r ∷ rs) ≡ text_after lit k last (es ++ r.break) rs
-row-empty lit k last es r rs e = ap (λ t. cond (is_empty t) (text_after lit k last (es ++ r.break) rs) (joint lit last es r ++ r.text ++ text_after lit k (Some r) [] rs)) e
 
 -- a row with text, whose first byte is a blank or not
 pub row-text : (new mid : List Cell) (lit : Bool) (k : Chomping) (last : Option BlockLine) (es : List ℕ) (text : List Cell) (break : List ℕ) (rs : List BlockLine) (old : List Cell) (b : Bool)
@@ -109,10 +105,6 @@ rows_at-last m found l ls t e f =
     ap (λ o. stepped o l ls below) e
     ∙ ap (λ b. cond b (record { rows = record { text = t; break = [] } ∷ []; left = at_end l }) (with_row (record { text = t; break = l.end ∷ [] }) below)) f
 
-rows_at-none : (m : Option ℕ) (found : Bool) (l : Line) (ls : List Line) → row_of m found l.text ≡ None
-    → rows_at m found (l ∷ ls) ≡ record { rows = []; left = l ∷ ls }
-rows_at-none m found l ls e = ap (λ o. stepped o l ls (rows_at m (found || not (is_all_blank l.text)) ls)) e
-
 abbrev pub of_rows : Bool → Chomping → Option BlockLine → List ℕ → ℕ → Rows → Taken
 of_rows lit k last es end rs = record { text = text_after lit k last es rs.rows; end = rows_end end rs.rows; left = rs.left }
 
@@ -128,23 +120,11 @@ pub rest-last : (lit : Bool) (k : Chomping) (m : Option ℕ) (found : Bool) (las
 rest-last lit k m found last es end [] t h e f = cc
 rest-last lit k m found last es end (l ∷ ls) t h e f = ap (of_rows lit k last es end) (rows_at-last m found l ls t e f)
 
-pub rest-none : (lit : Bool) (k : Chomping) (m : Option ℕ) (found : Bool) (last : Option BlockLine) (es : List ℕ) (end : ℕ) (xs : List Line) → has_line xs ≡ true
-    → row_of m found (first_text xs) ≡ None → rest lit k m found last es end xs ≡ record { text = chomped k (own_break last) es; end = end; left = xs }
-rest-none lit k m found last es end [] h e = cc
-rest-none lit k m found last es end (l ∷ ls) h e = ap (of_rows lit k last es end) (rows_at-none m found l ls e)
-
 pub is_blank-of : (c : Cell) (b : Bool) → (IsTrue b ↔ IsBlankByte c.0) → is_blank c ≡ b
 is_blank-of c true h = is_blank-yes c (h.0 refl)
 is_blank-of c false h = is_blank-no c (λ k. never (h.1 k))
 
 -- ---- the steps of the loop over the lines
-
-pub rows-none : {x : Taken} (new text : List Cell) (lit : Bool) (k : Chomping) (m : Option ℕ) (found : Bool) (last : Option BlockLine) (es : List ℕ) (end : ℕ) (bytes : List ℕ) (i : ℕ)
-    → x ≡ with_text text (rest lit k m found last es end (lines_at bytes i)) → row_of m found (first_text (lines_at bytes i)) ≡ None
-    → new ≡ text ++ chomped k (own_break last) es → x ≡ record { text = new; end = end; left = lines_at bytes i }
-rows-none new text lit k m found last es end bytes i e r g =
-    e ∙ ap (with_text text) (rest-none lit k m found last es end (lines_at bytes i) (lines_at-some bytes i) r)
-    ∙ ap (λ t. record { text = t; end = end; left = lines_at bytes i }) (sym g)
 
 pub rows-last : {x : Taken} (new text : List Cell) (lit : Bool) (k : Chomping) (m : Option ℕ) (found : Bool) (last : Option BlockLine) (es : List ℕ) (end to : ℕ) (bytes : List ℕ) (i from stop : ℕ)
     → x ≡ with_text text (rest lit k m found last es end (lines_at bytes i)) → row_of m found (first_text (lines_at bytes i)) ≡ Some (first_text (lines_at bytes from))

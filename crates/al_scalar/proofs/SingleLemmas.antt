@@ -145,10 +145,6 @@ text-line_end-cases bytes i (inr l) k = rw (drop-cons bytes i 0) (text-break i (
 pub text-line_end : (bytes : List ℕ) (i : ℕ) → i ≤ length bytes → IsLineEnd bytes i → first_text (lines_at bytes i) ≡ []
 text-line_end bytes i h k = text-line_end-cases bytes i (eq-or-lt_of_le h) k
 
-begins-with_return : (at : ℕ) (ls : List Line) → begins 39 (first_text (with_return at ls)) ≡ begins 39 (first_text ls)
-begins-with_return at [] = refl
-begins-with_return at (l ∷ ls) = refl
-
 begins-cell : (at b : ℕ) (ls : List Line) → b ≢ 39 → begins 39 (first_text (with_cell (b, at) ls)) ≡ false
 begins-cell at b [] n = refl
 begins-cell at b (l ∷ ls) n = grind (arith, common_steps, n)

@@ -47,8 +47,8 @@ pub struct Edit {
 ///
 /// Contracts see its folder, a list of paths and bytes in order of path, and its linter's two counts. What
 /// [`faults`](Session::faults), [`status`](Session::status), [`report`](Session::report) and
-/// [`missing`](Session::missing) answer is defined by that folder alone. The report and the status tell the calls that lead back to
-/// their own file too, which one edit can change for files that it doesn't check again.
+/// [`missing`](Session::missing) answer is defined by that folder alone. The report and the status tell the calls on a call cycle
+/// too, which one edit can change for files that it doesn't check again.
 #[derive(Drop)]
 pub struct Session<L: Lint> {
     alloc: Global,
@@ -267,7 +267,7 @@ impl<L: Lint> Session<L> {
         }
     }
 
-    /// 0 where no file has a fault and no call leads back to its own file, and else 1. Takes memory only where no file has a fault and the
+    /// 0 where no file has a fault and no call is on a call cycle, and else 1. Takes memory only where no file has a fault and the
     /// graph of calls isn't known, and then keeps that graph.
     ///
     /// # Errors
@@ -288,7 +288,7 @@ impl<L: Lint> Session<L> {
         Ok(0)
     }
 
-    /// Writes the faults of all files, and those of calls that lead back to their own file, file by file in order of path: each as its
+    /// Writes the faults of all files, and those of calls on a call cycle, file by file in order of path: each as its
     /// line, and the line of the file at which it starts, with marks under its span, unless `oneline` is asked for. The graph of calls is
     /// found if it isn't known, and kept for the next report.
     ///

@@ -1,4 +1,4 @@
--- The faults that a report lists: each file's own, and those of its calls that lead back to it.
+-- The faults that a report lists: each file's own, and those of its calls on a call cycle.
 use Rattle.std.proofs.Common.{◌≤◌, ◌≡◌, ◌<◌, ℕ, zero, suc, ◌+◌, Bool, true, false, cond, not, List, [], ◌∷◌, ◌++◌, length}
 use Rattle.std.proofs.Common.{get_or, Option, Some, None, String, slice_get, refl, sym, ◌∙◌, ap, subst, ◌||◌, arith, length-append, ⊎_elim}
 use Rattle.std.specs.Prelude.{string_bytes}
@@ -49,7 +49,7 @@ checked_number m f (x ∷ xs) zero e h at = subst (λ y. y.1.faults.items ≡ fa
 checked_number m f (x ∷ xs) (suc i) e h at = checked_number m f xs i e h.1 at
 
 module _ {I : Type 0} (m : Meaning I) (ordered : (p b : List ℕ) (given : List (Option I)) → IsStrictlySortedBy fault_cmp (m.faults p b given)) (f : Folder) where
-  -- where no call leads back, a file's own faults are listed
+  -- where no call is on a cycle, a file's own faults are listed
   pub own_reported : (i : ℕ) (p b : List ℕ) (faults : List Fault) → faults ≡ faults_in m f p b → loop_faults m f i p b ≡ [] → faults ≡ reported m f i p b
   unfolding reported faults_in
   own_reported i p b faults is none =

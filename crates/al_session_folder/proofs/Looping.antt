@@ -1,4 +1,4 @@
--- Which calls lead back to their own file.
+-- Which calls are on a call cycle.
 use Rattle.std.proofs.Common.{◌≡◌, ℕ, zero, suc, ◌+◌, ◌<◌, ◌≤◌, Bool, true, false, cond, not, List, [], ◌∷◌, ◌++◌, length, map}
 use Rattle.std.proofs.Common.{get_or, drop, take, Option, Some, None, String, Vec, slice_get, refl, sym, ◌∙◌, ◌||◌, ap, subst, arith, append_assoc, append-nil, nat_lt, nat_eq}
 use Rattle.std.proofs.Common.{⊎_elim, inl, inr}
@@ -160,7 +160,7 @@ module _ {U I : Type 0} (files : Files U I) where
       ap (λ (o : Option (String Global × KeptFile U I)). (unwrap_or o x).1.calls.go_backward) (sym is) ∙ quiet)
       (cases_lt n k)
 
--- ---- calls that lead back
+-- ---- calls on a cycle
 
 same_truth : (r s : Bool) → (r ≡ true → s ≡ true) → (s ≡ true → r ≡ true) → r ≡ s
 same_truth true true f g = refl
@@ -366,7 +366,7 @@ module _ {U I : Type 0} (m : Meaning I) (is_unit : U → List ℕ → List ℕ �
       leads_behind F kept.ordered y p b at (omega (arith, inside, paths_number)) (m.calls p b) z (sym one.calls.backward ∙ none y e past there.1)
       (subst (λ ns. Contains ns z) (at_file m F y p b at) edge)
 
-  -- the part has each call that leads back
+  -- the part has each call on a cycle
   has_loops : (first end : ℕ) → NoneForward files first → NoneBackward files end → (j k : ℕ) → Edge G j k → Walk G k j → Edge (part_of first end G) j k
   has_loops first end low high j k e w = ⊎_elim
       (λ lt. absurd (no_loop_before G first (goes_back first low) j k lt e w))
@@ -415,7 +415,7 @@ module _ {U I : Type 0} (m : Meaning I) (is_unit : U → List ℕ → List ℕ �
             longer : length seen ≤ j → length G ≤ j
             longer past = omega (arith, past, seen_number, l)
 
--- ---- files none of whose calls leads back
+-- ---- files none of whose calls is on a cycle
 
 none_has : {X : Type 0} (T : X → Bool) (xs : List X) (x : X) → list_any T xs ≡ false → Contains xs x → T x ≡ false
 none_has T [] x h c = absurd (let below : c.0 < 0 = c.1 in omega (arith, below))
@@ -430,7 +430,7 @@ none_has T (y ∷ ys) x h c = by (T y) refl c.0 c.1 c.2 (λ rest at. none_has T 
     by false a (suc i) lt e more = more (sym (ap (λ b. b || list_any T ys) a) ∙ h) (i, omega (arith, lt), e)
 
 module _ (graph : List (List ℕ)) (f : Folder) (i : ℕ) where
-  -- where nothing that these calls lead to leads back
+  -- where nothing that these calls lead to is on a cycle
   no_loops : (ts : List Target) (ss : List Fault) → ((k : ℕ) → Contains (filter_map (called f) ts) k → leads graph k i ≡ false) → looping graph f i ts ss ≡ []
   no_loops [] ss h = refl
   no_loops (t ∷ ts) [] h = refl
@@ -446,7 +446,7 @@ module _ (graph : List (List ℕ)) (f : Folder) (i : ℕ) where
           ∙ ap (λ b. fault_if b s ++ looping graph f i ts ss) (h k (put_first (called f) (called f t) k (filter_map (called f) ts) a))
           ∙ more (λ j c. h j (put_behind (called f) (called f t) j (filter_map (called f) ts) c))
 
--- ---- files with a call that leads back
+-- ---- files with a call on a cycle
 
 none_any : {X : Type 0} (T : X → Bool) (xs : List X) → ((x : X) → Contains xs x → T x ≡ false) → list_any T xs ≡ false
 none_any T [] h = refl
@@ -465,7 +465,7 @@ module _ (graph : List (List ℕ)) (f : Folder) (i : ℕ) where
       wrong : x ∷ a ++ b ≡ [] → ⊥
       wrong h = cc
 
-  -- where no call leads back, none of the files that these calls lead to does
+  -- where no call is on a cycle, none of the files that these calls lead to does
   none_of_calls : (ts : List Target) (ss : List Fault) → length ss ≡ length ts → looping graph f i ts ss ≡ [] → AllByRecursion (λ t. (k : ℕ) → called f t ≡ Some k → leads graph k i ≡ false) ts
   none_of_calls [] ss n e = tt
   none_of_calls (t ∷ ts) [] n e = absurd (let wrong : 0 ≡ length (t ∷ ts) = n in omega (arith, wrong))

@@ -105,11 +105,6 @@ module _ (f : Folder) where
       ∙ ap (filter (is_absent f)) (flat_map-append candidates (take i ts) (t ∷ []) ∙ ap (λ l. flat_map candidates (take i ts) ++ l) (append-nil (candidates t)))
       ∙ filter-append (is_absent f) (flat_map candidates (take i ts)) (candidates t)
 
-  -- two candidates are put one after the other
-  pub absent_two : (ps : List (List ℕ)) (p q : List ℕ)
-      → with_paths (with_paths ps (filter (is_absent f) (p ∷ []))) (filter (is_absent f) (q ∷ [])) ≡ with_paths ps (filter (is_absent f) (p ∷ q ∷ []))
-  absent_two ps p q = sym (with_paths-append ps (filter (is_absent f) (p ∷ [])) (filter (is_absent f) (q ∷ []))) ∙ sym (ap (with_paths ps) (filter-append (is_absent f) (p ∷ []) (q ∷ [])))
-
   -- those of one call more
   pub next_absent : (ps so_far more : List (List ℕ)) (ts : List Target) (i : ℕ) (t : Target) → i < length ts → t ≡ get_or ts i t
       → so_far ≡ with_paths ps (absent_candidates f (take i ts)) → more ≡ with_paths so_far (filter (is_absent f) (candidates t))
@@ -159,9 +154,6 @@ absent_by {U} {I} files p t h = by (file_at files p) refl
       where
         no : true ≡ false → ⊥
         no h = cc
-
-    wrong2 : {A : Type 0} → false ≡ true → A
-    wrong2 h = wrong (sym h)
 
     by : (o : Option (KeptFile U I)) → file_at files p ≡ o → filter (is_absent (folder_of files)) (p ∷ []) ≡ cond t [] (p ∷ [])
     by None a = absent_absent (folder_of files) p (bytes_kept files p ∙ ap (option_map (λ file. file.bytes.items)) a) ∙ ap (λ b. cond b [] (p ∷ [])) (sym (ap is_some a) ∙ h)

@@ -95,9 +95,6 @@ module _ (p : List ℕ) where
     pub puts : (b : List ℕ) → insert es i (p, b) ≡ with_file es p b
     pub lacks : IsStrictlySortedBy (slice_cmp nat_cmp) (paths_of es) → NonePasses (is_at (slice_cmp nat_cmp p)) es
 
-  no_paths : IsStrictlySortedBy (slice_cmp nat_cmp) [] → Unit {0}
-  no_paths s = tt
-
   pub first_below : (e : List ℕ × List ℕ) (es : Folder) → IsStrictlySortedBy (slice_cmp nat_cmp) (paths_of (e ∷ es)) → AllByRecursion (λ y. slice_cmp nat_cmp e.0 y ≡ Less) (paths_of es)
   unfolding IsStrictlySortedBy
   first_below e es s = s.0

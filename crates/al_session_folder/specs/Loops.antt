@@ -1,4 +1,4 @@
--- Calls that lead back to their own file, at once or over calls of further files.
+-- Call cycles: calls that come back to their own file, at once or by calls of further files.
 use Rattle.std.specs.Prelude.{ℕ, Bool, false, List, [], ◌∷◌, ◌++◌, Option, Some, None, bytes_eq, map}
 use Rattle.std.specs.Prelude.{if◌then◌else◌}
 use Rattle.std.specs.List.{filter_map, position}
@@ -26,7 +26,7 @@ called f t = number_among f (candidates t)
 abbrev pub calls_graph : {I : Type 0} → Meaning I → Folder → List (List ℕ)
 calls_graph m f = map (λ e. filter_map (called f) (m.calls e.0 e.1)) f
 
--- whether a call of the file with this number leads back to it: the file that it leads to is that file, or further calls lead there
+-- whether a call of the file with this number is on a call cycle: the file that it leads to is that file, or further calls lead there
 abbrev pub leads_back : List (List ℕ) → ℕ → Option ℕ → Bool
 leads_back graph file None = false
 leads_back graph file (Some to) = leads graph to file
@@ -35,7 +35,7 @@ leads_back graph file (Some to) = leads graph to file
 abbrev pub fault_if : Bool → Fault → List Fault
 fault_if looping fault = if looping then fault ∷ [] else []
 
--- of these calls of the file with this number, those that lead back to it
+-- of these calls of the file with this number, those on a call cycle
 abbrev pub looping : List (List ℕ) → Folder → ℕ → List Target → List Fault → List Fault
 looping graph f file [] sites = []
 looping graph f file (t ∷ ts) [] = []
@@ -44,6 +44,6 @@ looping graph f file (t ∷ ts) (s ∷ ss) = fault_if (leads_back graph file (ca
 abbrev pub loop_faults : {I : Type 0} → Meaning I → Folder → ℕ → List ℕ → List ℕ → List Fault
 loop_faults m f file p b = looping (calls_graph m f) f file (m.calls p b) (m.sites p b)
 
--- a file's faults as reports list them: its own, and those of its calls that lead back to it, in order, each once
+-- a file's faults as reports list them: its own, and those of its calls on a call cycle, in order, each once
 unfoldable pub reported : {I : Type 0} → Meaning I → Folder → ℕ → List ℕ → List ℕ → List Fault
 reported m f file p b = fault_list (loop_faults m f file p b ++ faults_in m f p b)

@@ -15,7 +15,7 @@ pub record Meaning (I : Type 0) : Type 0 where
   pub interface : List ℕ → List ℕ → I
   -- the faults of a file in order, each once, by its path, its bytes and the answer of each of its calls
   pub faults : List ℕ → List ℕ → List (Option I) → List Fault
-  -- what is said of each call of a file where it leads back to it, in order, by its path and bytes
+  -- what is said of each call of a file where it is on a call cycle, in order, by its path and bytes
   pub sites : List ℕ → List ℕ → List Fault
 
 -- the paths that may answer a call, the first one first

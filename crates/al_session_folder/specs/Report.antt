@@ -6,7 +6,7 @@ use Rattle.al_session_folder.specs.Meaning.{Meaning}
 use Rattle.al_session_folder.specs.Folder.{Folder}
 use Rattle.al_session_folder.specs.Loops.{reported}
 
--- 0 where no file has a fault, nor a call that leads back to it, and else 1
+-- 0 where no file has a fault, nor a call on a call cycle, and else 1
 unfoldable pub status_of : {I : Type 0} → Meaning I → Folder → ℕ
 status_of m f = if list_any (λ x. not (length (reported m f x.0 x.1.0 x.1.1) == 0)) (enumerate_from 0 f) then 1 else 0
 

@@ -1,4 +1,4 @@
-//! The faults of calls that lead back to their own file, joined with the file's others.
+//! The faults of calls on a call cycle, joined with the file's others.
 
 ghost use Rattle.std.specs.Prelude.{◌≡◌, ◌++◌, ◌==◌, IfOk, OnOk, length, not};
 ghost use Rattle.std.specs.List.{enumerate_from, list_any};
@@ -31,7 +31,7 @@ fn put_in_order(faults: &mut Vec<&Fault>)
     faults.dedup();
 }
 
-// A file's own faults and those of its calls that lead back to it, in the order of reports, each once; none where no call does.
+// A file's own faults and those of its calls on a call cycle, in the order of reports, each once; none where no call does.
 fn join_faults<'a>(
     alloc: Global,
     own: &'a [Fault],
@@ -50,7 +50,7 @@ fn join_faults<'a>(
     Ok(joined)
 }
 
-/// The faults of the calls that lead back to their own file, for each file in order.
+/// The faults of the calls on a call cycle, for each file in order.
 ///
 /// # Errors
 ///
@@ -72,7 +72,7 @@ pub fn find_loops<L: Lint>(
     Ok(loops)
 }
 
-/// What a report lists of each file in order, by these faults of calls that lead back to it; none where there are no such: then its own
+/// What a report lists of each file in order, by these faults of calls on a call cycle; none where there are no such: then its own
 /// faults are listed.
 ///
 /// # Errors
@@ -95,7 +95,7 @@ pub fn join_files<'a, L: Lint>(
     Ok(joined)
 }
 
-/// Whether a call of a file leads back to it. Takes no memory.
+/// Whether a call of a file is on a call cycle. Takes no memory.
 pub fn has_loops<L: Lint>(files: &Files<L::Unit, L::Iface>, calls: &CallGraph) -> bool
     requires { IsCallGraph L.meaning (folder_of files.now.entries) calls.now.graph.items calls.now.labels.items }
     ensures { result ≡ list_any (λ x. not (length

@@ -48,7 +48,7 @@ fn copy_of(alloc: Global, path: &Path) -> Result<Path, AllocError>
     Path::new(alloc, path.as_str()).map_err(|_| AllocError)
 }
 
-/// Where a call stands, and what is said where it leads back to its own file.
+/// Where a call stands, and what is said where it is on a call cycle.
 #[derive(Clone, Copy)]
 pub struct Site<'a> {
     /// The code of the fault that such a call gives.

@@ -1,4 +1,4 @@
-//! Calls that lead back to their own file.
+//! Call cycles.
 
 ghost use Rattle.std.specs.Prelude.{◌≡◌, ◌<◌, ◌+◌, ◌++◌, ◌&&◌, ◌==◌, [], ℕ, List, None, Some, Contains, cond, length, not, true};
 ghost use Rattle.std.specs.Prelude.{nat_eq, nat_le, nat_lt, slice_get, slice_index_or};
@@ -19,11 +19,11 @@ use al_base::{Args, Fault, Path};
 use al_graph::strongly_connected_components;
 use std::alloc::{AllocError, Global};
 
-/// The calls between the files of a folder, which are known by their numbers in order of path, as far as they can lead back. It depends on
-/// the paths of the files and on their calls, and on nothing else of them.
+/// The calls between the files of a folder, which are known by their numbers in order of path, as far as they can be
+/// on a cycle. It depends on the paths of the files and on their calls, and on nothing else of them.
 #[derive(Drop)]
 pub struct CallGraph {
-    // For each file the numbers of the files that its calls lead to, or none where no call of the file can lead back.
+    // For each file the numbers of the files that its calls lead to, or none where no call of the file can be on a cycle.
     graph: Vec<Vec<usize>>,
     // Of each file a label, the same for two files that these calls lead between just where they lead from each to the other.
     labels: Vec<Option<usize>>,
@@ -85,7 +85,7 @@ fn all_called<U, I>(
 }
 
 /// The number of the first file that calls its own path or one behind it, or how many files there are. Calls of the files before it go back
-/// in the order of paths, and so do all calls that they lead to: none leads back to its own file.
+/// in the order of paths, and so do all calls that they lead to: none is on a cycle.
 fn first_forward<U, I>(files: &Files<U, I>) -> usize
     ensures { NoneForward files.now.entries result }
 {
@@ -152,10 +152,10 @@ fn calls_graph<L: Lint>(
     Ok(graph)
 }
 
-/// The calls between the files, as far as they can lead back, with the strongly connected components of their graph.
+/// The calls between the files, as far as they can be on a cycle, with the strongly connected components of their graph.
 ///
 /// Takes time in proportion to the files and calls, and looks each candidate of a call up by hash, but for those of files whose calls can't
-/// lead back: where all calls of the files before one go back in the order of paths, or all calls of the files from one on go on.
+/// be on a cycle: where all calls of the files before one go back in the order of paths, or all calls of the files from one on go on.
 ///
 /// # Errors
 ///
@@ -219,7 +219,7 @@ fn called_again<U, I>(
     }
 }
 
-/// Whether a call of the file with this number leads back to it, by the number of the file that the call leads to.
+/// Whether a call of the file with this number is on a call cycle, by the number of the file that the call leads to.
 fn leads_back(labels: &[Option<usize>], index: usize, to: Option<usize>) -> bool
     requires index { index < length labels.now }
     requires to { IfSome to (λ number. number < length labels.now) }
@@ -231,7 +231,7 @@ fn leads_back(labels: &[Option<usize>], index: usize, to: Option<usize>) -> bool
     }
 }
 
-/// Whether a call of the file with this number leads back to it: whether one leads to a file in its strongly connected component. No file
+/// Whether a call of the file with this number is on a call cycle: whether one leads to a file in its strongly connected component. No file
 /// is looked at.
 pub fn is_on_loop<L: Lint>(
     files: &Files<L::Unit, L::Iface>,
@@ -248,7 +248,7 @@ pub fn is_on_loop<L: Lint>(
     has_label_of(row, &calls.labels, index)
 }
 
-/// What is said of a call that leads back to its own file.
+/// What is said of a call on a call cycle.
 fn fault_of(alloc: Global, site: Site<'_>) -> Result<Fault, AllocError>
     ensures { IfOk result (λ fault. fault ≡ fault_of site.entry) }
 {
@@ -259,7 +259,7 @@ fn fault_of(alloc: Global, site: Site<'_>) -> Result<Fault, AllocError>
     })
 }
 
-/// Adds the fault of a call, if it leads back.
+/// Adds the fault of a call, if it is on a cycle.
 fn add_fault_if(
     alloc: Global,
     leads_back: bool,
@@ -274,7 +274,7 @@ fn add_fault_if(
     Ok(())
 }
 
-/// The faults of the calls of a file with this number that lead back to it, in the order of the calls.
+/// The faults of the calls of a file with this number that are on a call cycle, in the order of the calls.
 fn faults_of_calls<L: Lint>(
     lint: &L,
     alloc: Global,
@@ -301,8 +301,8 @@ fn faults_of_calls<L: Lint>(
     Ok(faults)
 }
 
-/// The faults of the calls of the file with this number that lead back to it, in the order of the calls. No candidate is looked up of a
-/// file each of whose calls leads to a file, nor of one none of whose calls leads back.
+/// The faults of the calls of the file with this number that are on a call cycle, in their order. No candidate is looked up of a
+/// file each of whose calls leads to a file, nor of one none of whose calls is on a cycle.
 ///
 /// # Errors
 ///

@@ -117,7 +117,7 @@ fn is_of(
     }
 }
 
-// What the reports were: how many there were, how many had faults, and how many told of a call that leads back.
+// What the reports were: how many there were, how many had faults, and how many told of a call on a call cycle.
 #[derive(Clone, Copy, PartialEq, Eq)]
 struct Seen {
     reports: u32,

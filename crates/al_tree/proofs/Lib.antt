@@ -2,4 +2,3 @@ pub mod Lists
 pub mod KeyLemmas
 pub mod Shapes
 pub mod ShapeSpans
-pub mod Inside

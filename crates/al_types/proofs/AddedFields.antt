@@ -5,7 +5,7 @@ use Rattle.al_base.specs.Names.{same_name}
 use Rattle.al_types.specs.MoreFields.{is_present, with_field}
 use Rattle.al_base.specs.NamePlaces.{name_place}
 use Rattle.al_types.specs.Types.{Type', Optional, Absent, Present, Fields, NoField, FieldThen, field_at, fields_of, fuse_type, has_field, object_type}
-use Rattle.al_types.specs.Types.{ObjectOf, fuse_optional, object_with, option_of, optional}
+use Rattle.al_types.specs.Types.{ObjectOf, fuse_optional, object_with, optional}
 use Rattle.al_types.specs.TypeViews.{parts_by_names}
 use Rattle.al_types.specs.FusedFields.{both, fuse_fields, join_fields, with_other}
 use Rattle.al_types.specs.Private.Joined.{and_field}
@@ -83,11 +83,6 @@ behind fs f h =
 present_at : (o : Option Type') → is_present (optional o) ≡ is_some o
 present_at None = refl
 present_at (Some t) = refl
-
--- a type that may be there is found where it is
-pub some_present : (o : Optional) → is_some (option_of o) ≡ is_present o
-some_present Absent = refl
-some_present (Present t) = refl
 
 grown_step : (has : Bool) (t grown new : Type') → (has ≡ true → grown ≡ t) → (has ≡ false → grown ≡ new) → grown ≡ (if has then t else new)
 grown_step true t grown new h k = h refl

@@ -1,11 +1,11 @@
 -- Objects that the code fuses: one more, others behind them, one alone, and several as one.
-use Rattle.std.proofs.Common.{◌≡◌, ◌<◌, ◌+◌, ℕ, length, get_or, take, List, [], ◌∷◌, ◌++◌, map, Option, Some, None, sym, ap, ◌∙◌}
+use Rattle.std.proofs.Common.{◌≡◌, ◌<◌, ◌+◌, ℕ, length, get_or, take, List, [], ◌∷◌, ◌++◌, map, Option, sym, ap, ◌∙◌}
 use Rattle.std.proofs.lemmas.List.{map-append, take_more}
 use Rattle.std.specs.Global.{Global}
 use Rattle.std.specs.declared.rc.Rc.{Rc}
 use Rattle.al_types.specs.declared.types.Fused.{Fused}
 use Rattle.al_types.specs.declared.types.Object.{Object}
-use Rattle.al_types.specs.Types.{Type', Optional, Absent, Present, Parts, fuse_optional, fuse_type, object_type, option_of, or_else}
+use Rattle.al_types.specs.Types.{Type', Optional, Parts, fuse_optional, fuse_type, object_type, option_of}
 use Rattle.al_types.specs.TypeViews.{fused, fused_of, fuse_parts, object_of, parts_of, shared_parts}
 use Rattle.al_types.specs.Private.TypeParts.{common_type}
 use Rattle.al_types.proofs.FuseLaws.{common_option, empty_first, fused_both, fused_one_more}
@@ -49,12 +49,3 @@ part_next part os i o old found new each h e old_is found_is new_is =
     new_is ∙ ap (λ x. common_type x found) old_is ∙ ap (common_type (option_of (part (fused (map shared_parts (take i os)))))) found_is
     ∙ sym (common_option (part (fused (map shared_parts (take i os)))) (part (parts_of o.value)))
     ∙ ap option_of (sym (each (fused (map shared_parts (take i os))) (parts_of o.value))) ∙ ap (λ p. option_of (part p)) (sym (next_object os i o h e))
-
--- a property that a field has, and one that none has
-pub field_first : (a b : Optional) (o found : Option Type') (t : Type') → found ≡ Some t → found ≡ option_of a → o ≡ Some t → o ≡ option_of (or_else a b)
-field_first Absent b o found t s f e = absurd cc
-field_first (Present u) b o found t s f e = e ∙ sym s ∙ f
-
-pub other_last : (a b : Optional) (o found : Option Type') → found ≡ None → found ≡ option_of a → o ≡ option_of b → o ≡ option_of (or_else a b)
-other_last Absent b o found s f e = e
-other_last (Present u) b o found s f e = absurd cc

@@ -10,8 +10,8 @@ use crate::finding::field_positions;
 use crate::fusing::fuse;
 use crate::joining::{DEPTH, joined_fields};
 use crate::named_fields::{object_by_names, object_with_joined_common};
-use al_base::NamePositions;
 use crate::types::{Field, Ty};
+use al_base::NamePositions;
 use std::alloc::{AllocError, Global};
 use std::mem::replace;
 

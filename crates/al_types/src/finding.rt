@@ -7,8 +7,8 @@ ghost use Rattle.al_types.specs.Private.Positions.{IsFieldIndex};
 ghost use Rattle.al_types.specs.Private.TypeParts.{field_of};
 
 use crate::objects::FEW;
-use al_base::NamePositions;
 use crate::types::{Field, field_among};
+use al_base::NamePositions;
 use std::alloc::{AllocError, Global};
 
 /// Where each name first stands among some fields. Fails with `AllocError` when out of memory.

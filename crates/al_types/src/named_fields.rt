@@ -15,9 +15,9 @@ use crate::finding::field_positions;
 use crate::fusing::fuse;
 use crate::joining::{COMMON_DEPTH, joined_common};
 use crate::objects::{FEW, object_of_fields};
-use al_base::NamePositions;
 use crate::properties::common_type;
 use crate::types::{Field, NamedFields, Object, Ty, copy};
+use al_base::NamePositions;
 use std::alloc::{AllocError, Global};
 use std::rc::Rc;
 

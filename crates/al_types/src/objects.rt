@@ -10,9 +10,9 @@ ghost use Rattle.al_types.specs.Private.TypeParts.{field_of, rest_of};
 
 use crate::field_names::FieldNames;
 use crate::named_fields::other_of;
-use al_base::NamePositions;
 use crate::properties::{Property, lent};
 use crate::types::{Field, Listing, Object, Ty, copy};
+use al_base::NamePositions;
 use std::alloc::{AllocError, Global};
 use std::rc::Rc;
 

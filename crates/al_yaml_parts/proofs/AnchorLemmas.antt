@@ -62,7 +62,3 @@ module _ (old : Anchors) (key : List ℕ) (a : Anchored) (later : is_later a.at 
   stays name y =
       let same = (bytes_decides key name).0 y in
       ap (λ b. cond b (known_of old name) (Some (anchor_seen key a))) (sym (ap (λ n. is_later a.at (known_of old n)) (sym same) ∙ later))
-
-  pub known-stays : known_of old ≡ with_anchor (anchor_seen key a) (known_of old)
-  known-stays = λ i name.
-      here_or_before (bytes_eq key name) (known_of old name) (known_of old name) (later_of (anchor_seen key a) (known_of old name)) (stays name) (λ n. refl) i

@@ -1,22 +1,18 @@
 -- Names of anchors against offsets.
 use Rattle.std.proofs.Common.{◌≡◌, ℕ, zero, suc, ◌+◌, ◌-◌, ◌<◌, ◌≤◌, List, [], ◌∷◌, ◌++◌, length, map, take, drop, slice_index, refl, sym, ap, ◌∙◌, arith, Bool, true, false, ◌||◌, ◌==◌, cond}
-use Rattle.std.proofs.lemmas.List.{append_assoc, drop_all}
+use Rattle.std.proofs.lemmas.List.{append_assoc}
 use Rattle.std.proofs.lemmas.Grind.{common_steps}
 use Rattle.std.proofs.Math.Seq.{drop-cons}
-use Rattle.al_scalar.specs.Line.{Cell, Line, cut, is_empty, is_blank, lines, with_cell}
-use Rattle.al_scalar.specs.Places.{first_end, first_text, lines_at, text_at}
+use Rattle.al_scalar.specs.Line.{Cell, Line, cut, is_empty, is_blank, with_cell}
+use Rattle.al_scalar.specs.Places.{first_end, lines_at, text_at}
 use Rattle.al_scalar.specs.Private.Places.{cells_at, cells_between, with_cells_before, IsLineEnd}
 use Rattle.al_scalar.specs.Plain.{is_flow_indicator}
 use Rattle.al_scalar.proofs.LineLemmas.{cells_between-more, with_cells_before-more}
 use Rattle.al_scalar.proofs.PlainLemmas.{text_at-cell}
 use Rattle.al_scalar.proofs.SingleLemmas.{is_inside, never, text-line_end}
 use Rattle.al_yaml_tree.specs.Content.{anchor_cells, anchor_name, behind, behind_name, ends_name, has_no_name, is_property, same_line}
-use Rattle.al_yaml_parts.proofs.Choices.{if-true, if-false}
+use Rattle.al_yaml_parts.proofs.Choices.{if-false}
 use Rattle.al_yaml_parts.proofs.LineLemmas.{first_cell, solid-lines}
-
-pub name-stops : (cs : List Cell) → true ≡ ends_name cs → anchor_cells cs ≡ []
-name-stops [] h = refl
-name-stops (c ∷ cs) h = if-true (is_blank c || is_flow_indicator c.0) _ _ h
 
 name-cell : (c : Cell) (cs : List Cell) → false ≡ ends_name (c ∷ cs) → anchor_cells (c ∷ cs) ≡ c ∷ anchor_cells cs
 name-cell c cs h = if-false (is_blank c || is_flow_indicator c.0) _ _ h
@@ -120,13 +116,6 @@ module _ (bytes : List ℕ) (at end : ℕ) (inside : at ≤ length bytes) (solid
       behind-more c n [] = refl
       behind-more c n (l ∷ ls) = ap (λ m. cut (drop m (c ∷ l.text)) l ls) (let e : n + 1 ≡ suc n = omega arith in e)
 
--- where a line ends, or the file, no name begins
-pub no_name-at_end : (bytes : List ℕ) (at : ℕ) → text_at bytes at ≡ [] → anchor_name (lines_at bytes at) ≡ []
-no_name-at_end bytes at h = ap (λ cs. map (λ (c : Cell). c.0) (anchor_cells (drop 1 cs))) h
-
-pub text-past : (bytes : List ℕ) (at : ℕ) → length bytes ≤ at → text_at bytes at ≡ []
-text-past bytes at h = ap (λ bs. first_text (lines at bs)) (drop_all at bytes h)
-
 no-cells : (cs : List Cell) → ends_name cs ≡ is_empty (anchor_cells cs)
 no-cells [] = refl
 no-cells (c ∷ cs) = by-end (is_blank c || is_flow_indicator c.0)
@@ -139,9 +128,6 @@ pub property-solid : (bytes : List ℕ) (at : ℕ) → at ≤ length bytes → i
 property-solid bytes at inside h e = never (ap is_property (sym (text-line_end bytes at inside e)) ∙ h)
 
 module _ (bytes : List ℕ) (at : ℕ) (inside : at ≤ length bytes) (property : is_property (text_at bytes at) ≡ true) where
-  pub property-inside : at < length bytes
-  property-inside = (is_inside bytes at inside (property-solid bytes at inside property)).inside
-
   pub no_name-is : ends_name (text_at bytes (at + 1)) ≡ has_no_name (lines_at bytes at)
   no_name-is = no-cells (text_at bytes (at + 1)) ∙ ap (λ cs. is_empty (anchor_cells (drop 1 cs))) (sym (text_at-cell bytes at inside (property-solid bytes at inside property)))
 

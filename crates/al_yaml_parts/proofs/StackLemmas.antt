@@ -11,6 +11,3 @@ frames-split (frame.Block f ∷ fs) = omega (arith, frames-split fs)
 
 pub opened-length : (fs : List Frame) (now : Opened) → opened_of fs ≡ now → length fs ≡ length now.flows + length now.blocks
 opened-length fs now e = frames-split fs ∙ ap (λ o. length o.flows + length o.blocks) e
-
-pub opened-same : (a b : Opened) → a.flows ≡ b.flows → a.blocks ≡ b.blocks → a ≡ b
-opened-same a b f g = ap (λ xs. record { flows = xs; blocks = a.blocks }) f ∙ ap (λ xs. record { flows = b.flows; blocks = xs }) g

@@ -4,7 +4,7 @@ use Rattle.al_yaml_tree.specs.Access.{nodes, entries}
 use Rattle.al_yaml_tree.specs.Limits.{most_counted}
 use Rattle.al_yaml_tree.specs.Node.{Node, Nodes, Entries, scalar, sequence, mapping, no_nodes, item, no_entries, entry, greater_of}
 use Rattle.al_yaml_tree.specs.Node.{nodes_in, nodes_in_items, nodes_in_entries, text_in, text_in_items, text_in_entries, levels_in, levels_in_items, levels_in_entries}
-use Rattle.al_yaml_parts.specs.Private.Sums.{IsOwn, IsSums, inside, members, own_level, own_text, within}
+use Rattle.al_yaml_parts.specs.Private.Sums.{IsOwn, inside, members, own_level, own_text, within}
 use Rattle.al_yaml_parts.specs.declared.sums.Sums.{Sums}
 
 greater-is : (m n : ℕ) → greater_of m n ≡ max m n
@@ -103,22 +103,6 @@ pub record IsCounting (n : Node) (s : Sums) (left : List (Node × ℕ)) : Type 0
   pub nodes : most_counted (s.nodes + nodes_left left) ≡ most_counted (nodes_in n)
   pub text : most_counted (s.text + text_left left) ≡ most_counted (text_in n)
   pub levels : most_counted (max s.levels (levels_left left)) ≡ most_counted (levels_in n)
-
-pub counting-first : (n : Node) (s : Sums) → s ≡ record { nodes = 0; text = 0; levels = 0 } → IsCounting n s ((n, 0) ∷ [])
-counting-first n s e =
-    let h : IsCounting n (record { nodes = 0; text = 0; levels = 0 }) ((n, 0) ∷ []) = record {
-      few = record { nodes = refl; text = refl; levels = refl };
-      nodes = omega arith;
-      text = omega arith;
-      levels = omega arith;
-    } in rw e h
-
-pub counting-done : (n : Node) (s : Sums) → IsCounting n s [] → IsSums n s
-counting-done n s h = record {
-  nodes = omega (arith, h.nodes, h.few.nodes);
-  text = omega (arith, h.text, h.few.text);
-  levels = omega (arith, h.levels, h.few.levels);
-}
 
 capped : (a x e : ℕ) → most_counted x ≡ most_counted e → most_counted (max a x) ≡ most_counted (max a e)
 capped a x e h = omega (arith, h)

@@ -172,7 +172,12 @@ fn key_scalar(file: &File, at: usize) -> Result<ScalarRead, ReadError>
     ensures inside { IfOk result (λ read. IsReadInside file.now.bytes.now at read) }
 {
     if is_quote(file.bytes, at) {
-        return scalar_at(file.alloc, file.bytes, at, ScalarContext::BlockFromIndent(0));
+        return scalar_at(
+            file.alloc,
+            file.bytes,
+            at,
+            ScalarContext::BlockFromIndent(0),
+        );
     }
     plain_on_line(file.alloc, file.bytes, at, line_end(file.bytes, at))
 }

@@ -1,8 +1,6 @@
 -- How a node is seen, by what it is.
 use Rattle.std.proofs.Common.{◌≡◌, List, [], ◌∷◌, refl, ap, map, sym, ◌∙◌, Vec}
 use Rattle.std.specs.declared.alloc.Global.{Global}
-use Rattle.std.specs.declared.rc.Rc.{Rc}
-use Rattle.al_scalar.specs.Scalar as scalars
 use Rattle.al_base.specs.declared.faults.Span.{Span}
 use Rattle.al_yaml_tree.specs.Access.{entries, nodes}
 use Rattle.al_yaml_tree.specs.Node as tree
@@ -10,7 +8,7 @@ use Rattle.al_yaml_tree.specs.View.{entries_of, entry_step, entry_view, kind_ste
 use Rattle.al_yaml_tree.specs.declared.node.Entry.{Entry, fold_out-Entry}
 use Rattle.al_yaml_tree.specs.declared.node.Kind.{Kind, fold-Kind, fold-roll-Kind}
 use Rattle.al_yaml_tree.specs.declared.node.Kind.TheOpen.{Kind-F}
-use Rattle.al_yaml_tree.specs.declared.node.Kind.TheVariants.{Mapping, Scalar, Sequence, Shared, rolls-Mapping, rolls-Scalar, rolls-Sequence, rolls-Shared}
+use Rattle.al_yaml_tree.specs.declared.node.Kind.TheVariants.{Mapping, Sequence, rolls-Mapping, rolls-Sequence}
 use Rattle.al_yaml_tree.specs.declared.node.Node.{Node, fold_out-Node}
 
 pub nodes_again : (ns : List tree.Node) → nodes (nodes_of ns) ≡ ns
@@ -40,14 +38,3 @@ pub view_mapping : (n : Node) (v : Vec Entry Global) → n.kind ≡ Mapping v �
 view_mapping n v e =
     view_kind n ∙ ap (λ k. kind_view k n.span) (e ∙ sym (rolls-Mapping v))
     ∙ ap (λ (f : Span → tree.Node). f n.span) (fold-roll-Kind (Span → tree.Node) (tree.Node × tree.Node) tree.Node kind_step entry_step node_step (Kind-F.Mapping v))
-
-pub view_scalar : (n : Node) (s : scalars.Scalar) → n.kind ≡ Scalar s → view n ≡ tree.scalar s n.span
-view_scalar n s e =
-    view_kind n ∙ ap (λ k. kind_view k n.span) (e ∙ sym (rolls-Scalar s))
-    ∙ ap (λ (f : Span → tree.Node). f n.span) (fold-roll-Kind (Span → tree.Node) (tree.Node × tree.Node) tree.Node kind_step entry_step node_step (Kind-F.Scalar s))
-
--- a node that is shared
-pub view_shared : (n : Node) (r : Rc Node Global) → n.kind ≡ Shared r → view n ≡ view r.value
-view_shared n r e =
-    view_kind n ∙ ap (λ k. kind_view k n.span) (e ∙ sym (rolls-Shared r))
-    ∙ ap (λ (f : Span → tree.Node). f n.span) (fold-roll-Kind (Span → tree.Node) (tree.Node × tree.Node) tree.Node kind_step entry_step node_step (Kind-F.Shared r))

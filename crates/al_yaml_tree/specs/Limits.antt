@@ -15,7 +15,8 @@ abbrev pub broken_limit : ℕ → ℕ → List Start → Option Fault
 broken_limit nodes text [] = None
 broken_limit nodes text (s ∷ ss) =
     let below = broken_limit (nodes + s.nodes) (text + s.text) ss in
-    if nat_lt most_nodes (nodes + s.nodes) || nat_lt most_alias_text (text + s.text) then Some (record { code = yaml.TooManyNodes; at = s.at })
+    if nat_lt most_nodes (nodes + s.nodes) || nat_lt most_alias_text (text + s.text)
+    then Some (record { code = yaml.TooManyNodes; at = s.at })
     else (if nat_lt deepest_collection s.depth then Some (record { code = yaml.NestingTooDeep; at = s.at }) else below)
 
 abbrev pub nodes_listed : List Start → ℕ

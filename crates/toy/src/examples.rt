@@ -1,4 +1,4 @@
-//! Worked rows of reports with calls that lead back to their own file.
+//! Worked rows of reports with call cycles.
 
 ghost use Rattle.std.specs.Prelude.{◌≡◌, [], ◌∷◌, ◌++◌, codes, true};
 ghost use Rattle.al_session.specs.Report.{report_of, status_of};

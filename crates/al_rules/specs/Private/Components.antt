@@ -13,6 +13,6 @@ has_label_of labels j k = option_eq nat_eq (slice_index_or labels j None) (slice
 abbrev pub labelled_fault : List (Option ℕ) → Need → Option ℕ → List Fault
 labelled_fault labels n named = tested_faults (λ j. has_label_of labels j n.job) n named
 
--- what entries give, where a job that is needed leads back just where it has the label of the one that needs it
+-- what entries give, where a job that is needed is on a cycle just where it has the label of the one that needs it
 abbrev pub labelled_faults : (List ℕ → Option ℕ) → List (Option ℕ) → List Need → List Fault
 labelled_faults position labels = flat_map (λ n. labelled_fault labels n (named_by position n.text))

@@ -1,4 +1,4 @@
--- The graph of calls, as far as calls can lead back, labels that tell which ones do, and what it depends on.
+-- The graph of calls, as far as calls can be on a cycle, labels that tell which ones do, and what it depends on.
 use Rattle.std.specs.Prelude.{ℕ, ◌≤◌, ◌<◌, ◌≡◌, ◌↔◌, ◌⊎◌, ◌&&◌, Bool, false, List, [], Option, Some, None, String, Vec}
 use Rattle.std.specs.Prelude.{bytes_eq, cond, length, map, nat_eq, nat_le, nat_lt, slice_get, slice_index_or}
 use Rattle.std.specs.Global.{Global}
@@ -36,12 +36,12 @@ abbrev pub IsCalledBy : List (List ℕ) → ℕ → Option ℕ → Type 0
 IsCalledBy graph file None = Unit {0}
 IsCalledBy graph file (Some to) = Edge graph file to
 
--- labels of files: that of a file is the same as that of one to which a call of it leads just where further calls lead back
+-- labels of files: that of a file is the same as that of one to which a call of it leads just where the call is on a cycle
 abbrev pub TellLoops : List (List ℕ) → List (Option ℕ) → Type 0
 TellLoops graph labels = (length labels ≡ length graph) × ((j k : ℕ) → Edge graph j k →
     (slice_index_or labels k None ≡ slice_index_or labels j None) ↔ Walk graph k j)
 
--- The program's graph of a folder's calls: it has those that lead back, and labels tell which ones they are.
+-- The program's graph of a folder's calls: it has those on a cycle, and labels tell which ones they are.
 pub record IsCallGraph {I : Type 0} (m : Meaning I) (f : Folder) (graph : List (Vec ℕ Global)) (labels : List (Option ℕ)) : Type 0 where
   pub size : length graph ≡ length f
   pub inside : (j k : ℕ) → Edge (edges_of graph) j k → k < length f

@@ -16,7 +16,7 @@ use Rattle.al_session_folder.specs.Loops.{loop_faults, reported}
 use Rattle.al_session_folder.specs.declared.kept.KeptFile.{KeptFile}
 use Rattle.al_session_folder.specs.Kept.{Files, folder_of, referred}
 
--- a file's own faults and those of its calls that lead back to it, in the order of reports, each once; none where no call does
+-- a file's own faults and those of its calls on a call cycle, in the order of reports, each once; none where no call does
 abbrev pub joined_faults : List Fault → List Fault → List Fault
 joined_faults own loops = cond (length loops == 0) [] (fault_list (own ++ loops))
 
@@ -48,7 +48,7 @@ pub record AreNumbered {X : Type 0} (P : ℕ → X → Type 0) (count : ℕ) (al
   pub number : length all ≡ count
   pub each : (i : ℕ) (x : X) → i < count → x ≡ slice_index_or all i x → P i x
 
--- the faults of the calls that lead back to the file with this number
+-- the faults of the calls of the file with this number that are on a call cycle
 abbrev pub IsLoops : {U I : Type 0} → Meaning I → Files U I → ℕ → Vec Fault Global → Type 0
 IsLoops {U} {I} m files i loops = (e : String Global × KeptFile U I) → slice_get files i ≡ Some e →
     loops.items ≡ loop_faults m (folder_of files) i (string_bytes e.0) e.1.bytes.items
