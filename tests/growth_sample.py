@@ -1,0 +1,86 @@
+"""Allocations of the linter, each refused in turn, as far as ./test has time for: growth_sample.py PROGRAM [TESTS].
+
+TESTS are the built tests of crates/al_tests, by default those of the clone. Needs a C compiler; without one each case is skipped. The whole
+of it, with the places that were refused, is tests/growths.py, by hand.
+
+- Ten edits in a session, with reports and statuses behind them, each of their growths refused: what is refused leaves all as it was, and is
+  accepted when it is made again.
+- The same edits as a script with a report behind each, each growth refused, and each with all behind it: the run says that memory ran
+  out, and its output is a prefix of the whole output.
+- The growths of one edit beside 1,000 files: at most 64 more than alone.
+- Of each run that tests/growth-runs names a few growths, spread over the run.
+"""
+
+import pathlib
+import shutil
+import sys
+import tempfile
+
+from corpus import TOP, all_runs
+from growths import BESIDE, CHOSEN, EDITS, MOST, TEN_EDITS, TESTS, Growths, growths_of_an_edit, in_turn, passes, stops
+from running import report
+
+FEW = 8
+CASES = ("ten-edits-in-a-session", "ten-edits-as-a-script", "growths-of-an-edit", "growths-of-other-runs")
+
+
+def spread(count):
+    """A few numbers from 1 to a count, the first and the last among them."""
+    return sorted({1 + it * (count - 1) // (FEW - 1) for it in range(FEW)}) if count > 0 else []
+
+
+def ten_edits_in_a_session(folder, tests):
+    """What differs where each growth of the test is refused in turn."""
+    done = Growths(folder, tests).each([EDITS], b"", ["%d"], passes)
+    return [f"wrong with growths {done.wrong} of {done.growths} refused"] if done.wrong or done.growths == 0 else []
+
+
+def ten_edits_as_a_script(growths, run):
+    """What differs where each growth of the script is refused, by itself and with all behind it."""
+    done = growths.each(*run, ["%d", "%d-"], stops)
+    return [f"wrong with growths {done.wrong} of {done.growths} refused, {done.stopped} stop"] if done.wrong or done.stopped == 0 else []
+
+
+def growths_of_one_edit(growths):
+    """What differs where an edit is made beside many files."""
+    alone, beside = growths_of_an_edit(growths, 0), growths_of_an_edit(growths, BESIDE)
+    return [] if 0 < alone and beside <= alone + MOST else [f"{alone} growths alone, {beside} beside {BESIDE} files"]
+
+
+def growths_of_other_runs(growths, runs):
+    """What differs where a few growths of each run are refused."""
+
+    def refuse(name):
+        words, stdin = runs[name]
+        whole = growths.run(words, stdin)
+        ways = [way % number for number in spread(whole.growths) for way in ("%d", "%d-")]
+        ran = [(way, growths.run(words, stdin, way)) for way in ways]
+        return [f"{name}: wrong with growth {way} refused" for way, it in ran if it.says() != whole.says() and not stops(it, whole)]
+
+    return [it for found in in_turn(refuse, CHOSEN.read_text().split("\n")[:-1]) for it in found]
+
+
+def main(words):
+    """Prints a line for each case; the status is 1 where one of them differs."""
+    program = pathlib.Path(words[0]).resolve()
+    tests = pathlib.Path(words[1]).resolve() if len(words) > 1 else TESTS
+    if shutil.which("cc") is None:
+        for name in CASES:
+            print(f"case={name} output=skipped status=- since cc isn't there")
+        return 0
+    with tempfile.TemporaryDirectory() as folder:
+        runs = all_runs(folder)
+        growths = Growths(folder, program)
+        found = (
+            ten_edits_in_a_session(folder, tests),
+            ten_edits_as_a_script(growths, runs[TEN_EDITS]),
+            growths_of_one_edit(growths),
+            growths_of_other_runs(growths, runs),
+        )
+    for name, differences in zip(CASES, found):
+        report(name, "-", differences)
+    return 1 if any(found) else 0
+
+
+if __name__ == "__main__":
+    sys.exit(main(sys.argv[1:]))
