@@ -19,7 +19,10 @@ PAGE = "docs/READING.md"
 MARK = "<!-- What follows is made by tests/reading_page.py. -->\n"
 # What is promised, and the crate, the file and the functions or blocks whose contracts say so.
 THEOREMS = (
-    ("R", "the tree of a file's bytes, or its one fault", (("al_yaml", "document.rt", ("pub fn read_yaml",)),)),
+    ("R", "a scalar, and the tree of a file's bytes, or the one fault", (
+        ("al_scalar", "reader.rt", ("pub fn read_scalar",)),
+        ("al_yaml", "document.rt", ("pub fn read_yaml",)),
+    )),
     ("P", "the chunks of a text, the tokens and the tree of an expression, or their fault", (
         ("al_expr_grammar", "chunk.rt", ("pub fn chunks",)),
         ("al_expr_grammar", "lexer.rt", ("pub fn lex",)),
@@ -50,13 +53,17 @@ def contract(source, opening):
 
 
 def roots_of(top, definitions, crate, file, openings):
-    """The definitions that the contracts name, and what clauses see of the crate's own types: their values, and not what holds of each."""
+    """The definitions that the contracts name, and what clauses see of the types that the crate hands on: their values, and not what holds of
+    each."""
+    handed_on = words_of((top / "crates" / crate / "src" / "lib.rt").read_text())
     source = (top / "crates" / crate / "src" / file).read_text()
     words = set().union(*(words_of(contract(source, it)) for it in openings))
     yield from definitions.named(words, *imports(source.splitlines()))
     for path in sorted((top / "crates" / crate / "src").rglob("*.rt")):
         text = path.read_text()
-        for match in re.finditer(r"^impl.* Model for .*?^\}", text, re.MULTILINE | re.DOTALL):
+        for match in re.finditer(r"^impl.* Model for (\w+).*?^\}", text, re.MULTILINE | re.DOTALL):
+            if match[1] not in handed_on:
+                continue
             inner, outer = imports(match[0].splitlines()), imports(text.splitlines())
             block = re.sub(r"ghost invariant = \{.*?\};", "", match[0], flags=re.DOTALL)
             words = set().union(*(words_of(line) for line in block.splitlines() if not USE.search(line)))
