@@ -10,19 +10,13 @@ import pathlib
 import re
 import sys
 
+sys.path.append(str(pathlib.Path(__file__).resolve().parent.parent / "clients"))
+from actionlint_client.stricter import takes_access, takes_filter
 from fault_entries import files_of, report_of
 from run_cases import cases_in
 
 DEBIAN_PACKAGES = "/usr/lib/python3/dist-packages"
 BLOCK = re.compile(r"^```yaml file=(\S+)\n(.*?)^```$", re.DOTALL | re.MULTILINE)
-# Which events take filters of branches, tags and paths.
-FILTERS = {
-    "push": {"branches", "tags", "paths"},
-    "pull_request": {"branches", "paths", "types"},
-    "pull_request_target": {"branches", "paths", "types"},
-    "workflow_run": {"branches", "types", "workflows"},
-}
-WITHOUT_TYPES = {"push", "create", "delete", "deployment", "deployment_status", "fork", "gollum", "page_build", "public", "status"}
 OWN_KEYS = {"schedule", "workflow_dispatch", "workflow_call"}
 NEEDS_A_VALUE = {"env", "with", "run", "runs-on", "on", "jobs", "steps", "uses", "shell", "outputs", "inputs", "secrets", "needs"}
 OF_A_RUN = {"shell", "working-directory"}
@@ -87,6 +81,8 @@ def general(tree):
             for name, inner in value.pairs:
                 if name in NEEDS_A_VALUE and not inner:
                     yield f"{name} is empty"
+                if key == "permissions" and not takes_access(name, inner):
+                    yield f"{name} takes no {inner}"
         elif key == "if" and isinstance(value, str) and "${{" in value and not re.fullmatch(r"\$\{\{[^}]*\}\}", value):
             yield f"the condition {value!r} is always true"
         elif isinstance(value, str) and re.search(r"\bcase\(", value):
@@ -97,8 +93,7 @@ def events(on):
     """What GitHub refuses under `on`."""
     for event, settings in on.pairs if isinstance(on, Mapping) else []:
         for name, value in settings.pairs if isinstance(settings, Mapping) and event not in OWN_KEYS else []:
-            allowed = FILTERS.get(event, set() if event in WITHOUT_TYPES else {"types"})
-            if name.removesuffix("-ignore") not in allowed:
+            if not takes_filter(event, name):
                 yield f"{event} takes no {name}"
             if isinstance(value, list) and value and all(isinstance(it, str) and it.startswith("!") for it in value):
                 yield f"{name} leaves out all"

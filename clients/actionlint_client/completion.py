@@ -11,6 +11,7 @@ from .names import names
 from .paths import is_workflow
 from .place import Place, Role, outline_of
 from .project import Project
+from .stricter import takes_access, takes_filter
 from .syntax import available, is_condition, key_of, meaning, section_at, shape_at, table, value_words
 from .tree import Node, Path, Point, Span
 
@@ -82,7 +83,8 @@ def offers(project: Project, file: str, point: Point) -> tuple[Span, list[Offer]
         return span, names_in_expression(cursor, before) if before else []
     found = [] if place.role is Role.VALUE else list(keys(cursor))
     if place.role is not Role.KEY:
-        found += values(cursor)
+        known = {offer.label for offer in found}
+        found += [offer for offer in values(cursor) if offer.label not in known]
     if is_behind_sign(project.lines(file)[point.line], place):
         found = [replace(offer, text=" " + offer.text) for offer in found]
     if key_of(place.path)[1] == "cron" and place.before[:1] not in ("'", '"'):
@@ -123,9 +125,13 @@ def keys(cursor: Cursor) -> Iterable[Offer]:
     place = cursor.place
     yield from _named_keys(cursor)
     shape = shape_at(cursor.file, place.path, cursor.levels)
+    if shape is not None and shape["items"] and not place.in_flow:
+        yield from _first_keys(place, table()["shapes"][shape["items"]])
     if shape is None or "keys" not in shape:
         return
     section, fields = shape["section"], shape["keys"]
+    if section == "event":
+        fields = {key: row for key, row in fields.items() if takes_filter(str(place.path[-1]), key)}
     barred = {row["clash"] for key, row in fields.items() if key in place.siblings}
     for key, row in fields.items():
         if key in place.siblings or key in barred or row["clash"] in place.siblings:
@@ -139,6 +145,15 @@ def keys(cursor: Cursor) -> Iterable[Offer]:
                     for event in names()["events"] if event not in place.siblings and event not in fields)
 
 
+def _first_keys(place: Place, shape: dict) -> Iterable[Offer]:
+    """The keys with which an entry of a list begins, each behind a dash."""
+    section = shape.get("section", "")
+    for key, row in (shape["keys"] if section else {}).items():
+        takes = value_words(table()["shapes"].get(row["shape"]))
+        text = "- " + _key_text(place, section, key)
+        yield Offer(key, "key", text, f"{takes}, begins an entry", meaning(section, key), 1 if row["need"] is None else 0)
+
+
 def _named_keys(cursor: Cursor) -> Iterable[Offer]:
     """Keys below one that takes free ones: scopes, inputs and secrets of what is called, rows."""
     place = cursor.place
@@ -147,7 +162,8 @@ def _named_keys(cursor: Cursor) -> Iterable[Offer]:
     if key == "permissions" and section in ("workflow", "job"):
         for scope in (one for one in names()["permission scopes"] if one not in place.siblings):
             text = _key_text(place, key, scope)
-            yield Offer(scope, "key", text if place.has_colon else text + "read", "scope", meaning("permissions", scope))
+            access = "read" if takes_access(scope, "read") else "write"
+            yield Offer(scope, "key", text if place.has_colon else text + access, "scope", meaning("permissions", scope))
     if key in ("with", "secrets") and section in ("step", "job"):
         callee = cursor.project.callee(cursor.texts(len(place.path) - 1).get("uses"), section == "job")
         tree = cursor.project.good_tree(callee) if callee else None
@@ -156,9 +172,10 @@ def _named_keys(cursor: Cursor) -> Iterable[Offer]:
             if one.name.lower() not in given:
                 yield _declared_key(place, one)
     if key == "exclude" and section == "matrix" and cursor.tree:
+        dash = "" if isinstance(place.path[-1], int) else "- "
         for row in files.matrix_rows(cursor.tree, str(place.path[1])):
             if row not in place.siblings:
-                yield Offer(row, "key", _key_text(place, key, row), "row of the matrix")
+                yield Offer(row, "key", dash + _key_text(place, key, row), "row of the matrix")
 
 
 def _declared_key(place: Place, one: files.Declaration) -> Offer:
@@ -206,7 +223,7 @@ def _fixed_values(cursor: Cursor, section: str, key: str | None, around: Path) -
     if key == "using":
         lists[section, key] = names()["using"], "kinds of actions", "kind"
     if around and around[-1] == "permissions" and cursor.section(around[:-1]) in ("workflow", "job"):
-        lists[section, key] = permissions["scope_values"], "permissions", "access"
+        lists[section, key] = [one for one in permissions["scope_values"] if takes_access(key or "", one)], "permissions", "access"
     if isinstance(cursor.place.path[-1] if cursor.place.path else None, int) and key == "permissions":
         return []
     known, heading, detail = lists.get((section, key), ((), "", ""))

@@ -175,15 +175,21 @@ PLACES = {
     "keys of a job": (JOB + "    |", {"runs-on", "uses", "strategy"}, {"needs", "on", "run"}),
     "keys beside uses": (JOB + "    uses: ./x\n    |", {"with", "secrets"}, {"runs-on", "steps", "env"}),
     "keys of a step": (JOB + "    steps:\n      - |", {"run", "uses", "name"}, {"runs-on"}),
+    "keys of a first step without a dash": (JOB + "    steps:\n      |", {"run", "uses", "name"}, {"runs-on"}),
+    "keys of a next step without a dash": (JOB + "    steps:\n      - run: x\n      us|", {"run", "uses"}, {"runs-on"}),
+    "keys of schedules without a dash": ("on:\n  schedule:\n    |\njobs: {}\n", {"cron"}, {"types"}),
     "keys of a step half typed": (JOB + "    steps:\n      - name: x\n        shel|\n  c:\n    runs-on: u\n", {"shell", "run"}, {"name"}),
     "keys in brackets": (JOB + "    steps: [{run: x, |}]\n", {"shell", "env"}, {"run", "uses"}),
     "events": ("on: |\njobs: {}\n", {"push", "pull_request"}, {"main"}),
     "events in a list": ("on: [push, pu|]\njobs: {}\n", {"pull_request"}, {"jobs"}),
     "events as keys": ("on:\n  push:\n  |\njobs: {}\n", {"issues", "schedule"}, {"push"}),
-    "filters": ("on:\n  push:\n    branches: x\n    |\njobs: {}\n", {"tags", "paths"}, {"branches", "branches-ignore"}),
+    "filters": ("on:\n  push:\n    branches: x\n    |\njobs: {}\n", {"tags", "paths"}, {"branches", "branches-ignore", "types"}),
+    "filters of another event": ("on:\n  issues:\n    |\njobs: {}\n", {"types"}, {"branches", "paths", "tags", "workflows"}),
+    "filters of runs of workflows": ("on:\n  workflow_run:\n    |\njobs: {}\n", {"types", "workflows", "branches-ignore"}, {"paths", "tags"}),
     "activity types": ("on:\n  issues:\n    types: [opened, |]\njobs: {}\n", {"closed", "typed"}, {"submitted"}),
     "scopes": ("on: push\npermissions:\n  |\njobs: {}\n", {"contents", "id-token"}, {"read"}),
     "access": ("on: push\npermissions:\n  contents: |\njobs: {}\n", {"read", "write", "none"}, {"read-all"}),
+    "access of a scope that takes less": ("on: push\npermissions: {id-token: |}\njobs: {}\n", {"write", "none"}, {"read"}),
     "all permissions": ("on: push\npermissions: |\njobs: {}\n", {"read-all"}, {"read"}),
     "shells": (JOB + "    steps:\n      - run: x\n        shell: |", {"bash", "pwsh"}, {"fish"}),
     "presets of cron": ("on:\n  schedule:\n    - cron: '|'\njobs: {}\n", {"0 0 * * *"}, set()),
@@ -248,6 +254,32 @@ def by_place(program: str) -> None:
         labels = [offer.label for offer in offered(text)]
         assert wanted <= set(labels), (what, wanted - set(labels), labels)
         assert not unwanted & set(labels), (what, unwanted & set(labels))
+
+
+@CASES.case
+def each_once(program: str) -> None:
+    """No name is offered twice at a place, also where it could be a key and a value."""
+    for what, text in {"events below their key": "on:\n  |\njobs: {}\n", **{what: text for what, (text, _, _) in PLACES.items()}}.items():
+        labels = [offer.label for offer in offered(text)]
+        assert len(set(labels)) == len(labels), (what, labels)
+
+
+@CASES.case
+def entries_have_dashes(program: str) -> None:
+    """Where the dash of an entry isn't there yet, it comes with the key, and the linter finds no fault there."""
+    head = "on:\n  push:\n  schedule:\n    - cron: '0 0 * * *'\n"
+    job = "jobs:\n  a:\n    runs-on: u\n    strategy:\n      matrix:\n        os: [a]\n        exclude:\n          - os: b\n    steps:\n      - run: x\n"
+    linter = Linter(program, FOLDER)
+    for line, label in (("    - cron: '0 0 * * *'", "cron"), ("          - os: b", "os"), ("      - run: x", "run"), ("      - run: x", "uses")):
+        text = (head + job).replace(line, line[:line.index("-")] + "|")
+        before = text[:text.index("|")]
+        changed = text.replace("|", "")
+        point = Point(before.count("\n"), len(before) - before.rfind("\n") - 1)
+        span, found = offers(project_of({**FOLDER, FILE: changed}), FILE, point)
+        offer = next(offer for offer in found if offer.label == label)
+        assert offer.text == f"- {label}: ", offer
+        value = {"cron": "'0 0 * * *'", "uses": "actions/checkout@v4"}.get(label, "a")
+        assert not linter.faults(FILE, put(changed, span, offer.text + value)[0]), (line, label)
 
 
 @CASES.case

@@ -147,6 +147,12 @@ WRONG_VERSIONS = {
         "completion.py", "if key in place.siblings or key in barred", "if key in barred", ("completion.py", "by_place")),
     "keys_that_clash_are_offered": WrongVersion(
         "completion.py", ' or row["clash"] in place.siblings', "", ("completion.py", "by_place")),
+    "all_filters_are_below_every_event": WrongVersion(
+        "completion.py", "if takes_filter(str(place.path[-1]), key)", "if key", ("completion.py", "by_place")),
+    "values_that_are_keys_are_offered_twice": WrongVersion(
+        "completion.py", "if offer.label not in known", "if offer.label", ("completion.py", "each_once")),
+    "an_entry_has_no_dash": WrongVersion(
+        "completion.py", 'text = "- " + _key_text', 'text = _key_text', ("completion.py", "entries_have_dashes")),
     "needs_may_make_a_cycle": WrongVersion(
         "completion.py", "files.dependents(tree, job) |", "{job} |", ("completion.py", "by_place")),
     "all_contexts_are_everywhere": WrongVersion(
