@@ -10,7 +10,8 @@ from typing import Iterable
 from .entries import argument_of, entry_of
 
 TABLE = Path(__file__).parent / "names.json"
-LEAST_LIKENESS = 0.6
+# Three fifths aren't enough: `main` would be like `matrix`.
+LEAST_LIKENESS = 0.61
 MAX_NAME_CHARACTERS = 100
 
 # Of which names the argument of a fault should have been one.

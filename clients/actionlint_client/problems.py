@@ -84,11 +84,11 @@ def _lacks_ref(problem: Problem, uses: str) -> bool:
 
 
 def _wants(wanted: str) -> Callable[..., bool]:
-    """Whether the key takes this alone, and what stands there isn't one, nor an entry of one."""
+    """Whether the key takes this alone. The value stands behind the key, or in the lines below it; an entry of it would stand behind a
+    dash, a bracket or a comma."""
     def fits(problem: Problem, key: str) -> bool:
-        start = problem.fault.column - 1
-        before, value = problem.line()[:start].rstrip(), problem.line()[start:]
-        return wanted_under(key) == wanted and before.endswith(":") and not value.startswith(("[", "{", "- "))
+        before = problem.line()[:problem.fault.column - 1].rstrip()
+        return bool(problem.line()) and wanted_under(key) == wanted and (not before or before.endswith(":"))
     return fits
 
 

@@ -185,7 +185,8 @@ PLACES = {
     "events as keys": ("on:\n  push:\n  |\njobs: {}\n", {"issues", "schedule"}, {"push"}),
     "filters": ("on:\n  push:\n    branches: x\n    |\njobs: {}\n", {"tags", "paths"}, {"branches", "branches-ignore", "types"}),
     "filters of another event": ("on:\n  issues:\n    |\njobs: {}\n", {"types"}, {"branches", "paths", "tags", "workflows"}),
-    "filters of runs of workflows": ("on:\n  workflow_run:\n    |\njobs: {}\n", {"types", "workflows", "branches-ignore"}, {"paths", "tags"}),
+    "filters of runs of workflows": ("on:\n  workflow_run:\n    |\njobs: {}\n", {"types", "workflows", "branches-ignore"},
+                                     {"paths", "tags"}),
     "activity types": ("on:\n  issues:\n    types: [opened, |]\njobs: {}\n", {"closed", "typed"}, {"submitted"}),
     "scopes": ("on: push\npermissions:\n  |\njobs: {}\n", {"contents", "id-token"}, {"read"}),
     "access": ("on: push\npermissions:\n  contents: |\njobs: {}\n", {"read", "write", "none"}, {"read-all"}),
@@ -267,11 +268,25 @@ def each_once(program: str) -> None:
 @CASES.case
 def entries_have_dashes(program: str) -> None:
     """Where the dash of an entry isn't there yet, it comes with the key, and the linter finds no fault there."""
-    head = "on:\n  push:\n  schedule:\n    - cron: '0 0 * * *'\n"
-    job = "jobs:\n  a:\n    runs-on: u\n    strategy:\n      matrix:\n        os: [a]\n        exclude:\n          - os: b\n    steps:\n      - run: x\n"
+    whole = """on:
+  push:
+  schedule:
+    - cron: '0 0 * * *'
+jobs:
+  a:
+    runs-on: u
+    strategy:
+      matrix:
+        os: [a]
+        exclude:
+          - os: b
+    steps:
+      - run: x
+"""
     linter = Linter(program, FOLDER)
-    for line, label in (("    - cron: '0 0 * * *'", "cron"), ("          - os: b", "os"), ("      - run: x", "run"), ("      - run: x", "uses")):
-        text = (head + job).replace(line, line[:line.index("-")] + "|")
+    for line, label in (("    - cron: '0 0 * * *'", "cron"), ("          - os: b", "os"), ("      - run: x", "run"),
+                        ("      - run: x", "uses")):
+        text = whole.replace(line, line[:line.index("-")] + "|")
         before = text[:text.index("|")]
         changed = text.replace("|", "")
         point = Point(before.count("\n"), len(before) - before.rfind("\n") - 1)

@@ -57,8 +57,9 @@ STEP = "on: push\njobs:\n  a:\n    runs-on: ubuntu-latest\n    steps:\n      - "
 ADVICE = {
     'on: {push: {branches: [**/x]}}\n': 'Y18: A text that begins with `*`, as a pattern of branches does, needs quotes.',
     "on: push\njobs:\n  a:\n    if: !cancelled()\n": "Y8: A text that begins with `!` needs quotes, as a pattern",
-    "on: push\nname: {x} y\n": "Y13: A text that begins with `[`, `{`, `@`, `%` or a backtick, or holds `: `, needs quotes, and",
-    "on: push\nname: a\n  b: c\n": "Y13: A text that begins with `[`, `{`, `@`, `%` or a backtick, or holds `: `, needs quotes, and",
+    "on: push\nname: {x} y\n": "Y13: A text that begins with `[`, `{`, `*`, `@`, `%` or a backtick, or holds `: `, needs quotes, and",
+    "on:\n  push:\n    branches:\n      - *\n": "Y13: A text that begins with `[`, `{`, `*`, `@`, `%` or a backtick, or holds `: `, needs",
+    "on: push\nname: a\n  b: c\n": "Y13: A text that begins with `[`, `{`, `*`, `@`, `%` or a backtick, or holds `: `, needs quotes, and",
     "on: push\n&x jobs: {}\n": "Y7: A text that begins with `*` or `&` needs quotes.",
     STEP + 'run: echo ${{ github.ref == "a" }}\n': "X1: A text stands in single quotes, a choice is written `TEST && THIS || THAT`, and equality `==`.",
     STEP + "run: echo ${{ needs.build.result }}\n": "X13: A job names in its own `needs` each job whose results it reads.",
@@ -68,6 +69,11 @@ ADVICE = {
     STEP + "uses: checkout\n": "C7: Write `OWNER/REPO@REF`, `./FOLDER` or `docker://IMAGE` for a step, `./.github/workflows/FILE` or",
     "on: {schedule: [{cron: '0 0 * *'}]}\njobs: {}\n": "G4: Write five fields: minute, hour, day of the month, month, day of the week.",
     "on: push\njobs:\n  a:\n    runs-on: x\n    steps: make\n": "K4: A list is wanted, each entry in a line with a dash.",
+    "on: push\njobs:\n  a:\n    runs-on: x\n    steps:\n      -run: make\n": "K4: A list is wanted, each entry in a line with a dash.",
+    "on: push\njobs:\n  a:\n    runs-on: x\n    steps:\n      run: make\n": "K4: A list is wanted, each entry in a line with a dash.",
+    "on: push\njobs: [make]\n": "K4: A mapping is wanted, in lines `KEY: VALUE`.",
+    "on: push\njobs:\n  - make\n": "K4: A mapping is wanted, in lines `KEY: VALUE`.",
+    "on: push\njobs:\n  a:\n    runs-on: x\n    steps:\n      - make\n": "K4: Write the value as its section takes it.",
     "on: push\njobs: make\n": "K4: A mapping is wanted, in lines `KEY: VALUE`.",
     "on: push\njobs:\n  a:\n    runs-on: x\n    steps: [make]\n": "K4: Write the value as its section takes it.",
     "on: push\njobs: {a: {runs-on: x, timeout-minutes: ten}}\n": "K5: A number is wanted, without quotes.",
@@ -113,6 +119,18 @@ def advice(program: str) -> None:
             found = [f"{lines[0].rpartition(', ')[2][:-1]}: " + " ".join(line.strip() for line in lines[3:] if "did you mean" not in line)
                      for lines in (one.splitlines() for one in paragraphs)]
             assert any(one.startswith(expected) for one in found), (file, expected, found)
+
+
+@CASES.case
+def near_names(program: str) -> None:
+    """The nearest name of a list, unless none is near."""
+    with tempfile.TemporaryDirectory(prefix="actionlint-test-") as folder:
+        for condition, near in (("sucess()", "success"), ("failed()", "failure"), ("gihub.ref == 'a'", "github"),
+                                ("github.ref == main", None), ("github.event_nam == 'a'", "event_name"), ("zzzzz()", None)):
+            write(folder, {FILE: STEP + f"{{run: x, if: {condition}}}\n"})
+            said = run(program, folder, "--form", "text")[1]
+            asked = [line.strip() for line in said.splitlines() if "did you mean" in line]
+            assert asked == ([f'did you mean "{near}"?'] if near else []), (condition, said)
 
 
 @CASES.case
