@@ -84,9 +84,18 @@ def required(what: str) -> Callable[[Case], Iterable[Repair]]:
             yield from _given(case, node, below, [one])
         if len(lacking) > 1:
             yield from _given(case, node, below, lacking)
-        if what == "secrets" and of_job and node.get("secrets") is None:
-            yield case.of("pass all secrets", next_entry(case, node, "uses", "secrets: inherit"))
+        if what == "secrets" and of_job:
+            yield from _all_secrets(case, node)
     return repairs
+
+
+def _all_secrets(case: Case, job: Node) -> Iterable[Repair]:
+    """All secrets of the caller where none are passed one by one."""
+    secrets = job.get("secrets")
+    if secrets is None:
+        yield case.of("pass all secrets", next_entry(case, job, "uses", "secrets: inherit"))
+    elif secrets.kind == "scalar" and secrets.value:
+        yield case.replace("pass all secrets", "inherit", secrets.span)
 
 
 def _given(case: Case, node: Node, below: str, declared: list[files.Declaration]) -> Iterable[Repair]:

@@ -93,7 +93,7 @@ def _single_quotes(text: str) -> str:
 
 def _operators(text: str) -> str:
     changed = _outside_texts(text, lambda part: WORDS.sub(lambda match: WORD_OPERATORS[match[1].lower()], part))
-    changed = _outside_texts(changed, lambda part: re.sub(r"===+", "==", part).replace("!==", "!=").replace("<>", "!="))
+    changed = _outside_texts(changed, lambda part: re.sub(r"===+", "==", part).replace("!==", "!=").replace("<>", "!=").replace("??", "||"))
     return _outside_texts(changed, lambda part: re.sub(r"! (?=\S)", "!", part))
 
 

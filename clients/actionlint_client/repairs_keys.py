@@ -1,6 +1,7 @@
 """Repairs of keys and values that GitHub's syntax doesn't have."""
 from __future__ import annotations
 
+import itertools
 import re
 from typing import Callable, Iterable
 
@@ -71,6 +72,19 @@ def part_of_value(case: Case) -> Iterable[Repair]:
         yield case.replace("put it in quotes", quoted(case.slice(span)), span)
 
 
+def step_of_keys(case: Case) -> Iterable[Repair]:
+    """The keys of a step that stand beside an empty `steps`, as its first step."""
+    here = case.key
+    names_ = here.parent.names() if here else []
+    if here is None or here.key is None or here.parent.is_flow or "steps" not in names_:
+        return
+    behind = here.parent.entries[names_.index("steps") + 1:]
+    steps = here.parent.get("steps")
+    if steps and steps.kind == "scalar" and not steps.value and behind and behind[0][0] is here.key:
+        step = [(key, value) for key, value in behind if key.value in table()["shapes"]["Step"]["keys"]]
+        yield case.of("make it a step", *_indented(case, step[:1], "- "), *_indented(case, step[1:], "  "))
+
+
 def deleted(case: Case) -> Iterable[Repair]:
     """The mapping without the key."""
     here = case.key
@@ -119,6 +133,7 @@ def other_kind(case: Case) -> Iterable[Repair]:
     here = case.value
     yield from _spaced_dashes(case)
     if case.arguments[0] == "jobs":
+        yield from _indented_jobs(case)
         yield from _first_job(case)
     if case.arguments[0] == "<<":
         yield from _without_merge(case)
@@ -194,14 +209,33 @@ def _indented_keys(case: Case, here: Found) -> Iterable[Repair]:
     """The keys of a job below it, where they stand beside it."""
     if here.value.value or is_within_flow(case, here.path):
         return
-    edits = []
     behind = [(key, value) for key, value in here.parent.entries if here.key and key.span.start > here.key.span.start]
-    for key, value in behind:
-        if key.value not in table()["shapes"]["Job"]["keys"]:
-            break
-        edits += [Edit(Span(Point(line, 0), Point(line, 0)), "  ") for line in range(key.span.start.line, last_line(value, case.lines) + 1)]
+    keys = itertools.takewhile(lambda entry: entry[0].value in table()["shapes"]["Job"]["keys"], behind)
+    edits = _indented(case, keys, "  ")
     if edits:
         yield case.of("indent the keys of the job", *edits)
+
+
+def _indented_jobs(case: Case) -> Iterable[Repair]:
+    """The jobs below `jobs`, where they stand beside it."""
+    tree, jobs = case.tree, case.at("jobs")
+    if tree is None or jobs is None or jobs.kind != "scalar" or jobs.value:
+        return
+    behind = tree.entries[tree.names().index("jobs") + 1:]
+    found = itertools.takewhile(lambda entry: entry[0].value not in table()["shapes"]["Workflow"]["keys"], behind)
+    edits = _indented(case, found, "  ")
+    if edits:
+        yield case.of("indent the jobs", *edits)
+
+
+def _indented(case: Case, entries: Iterable[tuple[Node, Node]], by: str) -> list[Edit]:
+    """Edits that put a text before the lines of entries: `- ` before the first line alone, and below it as many spaces."""
+    edits = []
+    for key, value in entries:
+        column = key.span.start.column if by.strip() else 0
+        lines = range(key.span.start.line, last_line(value, case.lines) + 1)
+        edits += [Edit(Span(Point(line, column), Point(line, column)), by if line == lines[0] else " " * len(by)) for line in lines]
+    return edits
 
 
 def _tight(case: Case, node: Node) -> Span:
@@ -306,7 +340,7 @@ def skeleton(case: Case) -> Iterable[Repair]:
 
 
 REPAIRS: dict[str, tuple[Callable[[Case], Iterable[Repair]], ...]] = {
-    "K1": (near_key, below_run, part_of_value, deleted),
+    "K1": (near_key, below_run, step_of_keys, part_of_value, deleted),
     "K2": (missing_key,),
     "K3": (another_job, deleted),
     "K4": (other_kind,),

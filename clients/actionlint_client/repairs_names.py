@@ -2,6 +2,7 @@
 from __future__ import annotations
 
 import re
+from dataclasses import replace
 from typing import Callable, Iterable
 
 from . import project as files
@@ -15,6 +16,8 @@ from .repairs_rules import POWERSHELLS
 from .syntax import table
 from .tree import Node, Path, Point, Span
 
+# Of so many properties each may be meant.
+FEW_NAMES = 3
 SUM_OF_NUMBERS = re.compile(r"([\w.-]+?)\s*([-+*/%])\s*([\w.-]+)")
 CALL_OF_TEXT = re.compile(r"(\w+)\(\s*([\w.-]+)\s*(?:,\s*'([^'|]*)'\s*,\s*'([^'|]*)'\s*)?\)")
 # Words that are often written for a property of `github`.
@@ -34,6 +37,8 @@ def near_name(case: Case) -> Iterable[Repair]:
     known = _properties_before(case) if case.code == "X13" else _scope_names(case)
     for name in dict.fromkeys([*near(wrong, known), *near(wrong, names()[LISTS[case.code]])]):
         yield case.replace(f'change to "{name}"', quote + name + quote)
+    if case.code == "X13" and len(known) <= FEW_NAMES:
+        yield from (replace(case.replace(f'change to "{name}"', quote + name + quote), is_last_resort=True) for name in known)
 
 
 def scope_of(case: Case) -> Scope | None:
@@ -76,8 +81,8 @@ def _chain_before(case: Case) -> tuple[str, ...]:
 
 
 def of_github(case: Case) -> Iterable[Repair]:
-    """A property of `github` without its context."""
-    name = case.arguments[0].lower()
+    """A property of `github` without its context, or by the variable of its name."""
+    name = case.arguments[0].lower().removeprefix("github_")
     name = OTHER_PROPERTIES.get(name, name)
     if name in table()["contexts"]["github"]["properties"]:
         yield case.replace(f"change to github.{name}", f"github.{name}")

@@ -42,8 +42,12 @@ def several_events(case: Case) -> Iterable[Repair]:
 
 
 def other_event(case: Case) -> Iterable[Repair]:
-    """The event that is meant by a word that is none."""
+    """The event that is meant by a word that is none; of `cron` with a time the schedule."""
     meant = OTHER_EVENTS.get(case.arguments[0].lower().replace("-", "_"))
+    here = case.key
+    if here and here.key and meant == "schedule" and here.value.kind == "scalar" and here.value.value:
+        text = "schedule: [{cron: %s}]" % quoted(here.value.value)
+        yield case.replace("make it a schedule", text, Span(here.key.span.start, here.value.span.end))
     if meant:
         yield in_its_quotes(case, meant)
 
@@ -64,12 +68,12 @@ def every_listed(case: Case) -> Iterable[Repair]:
 
 
 def pattern(case: Case) -> Iterable[Repair]:
-    """A pattern without `./` at its start, and without spaces in it."""
+    """A pattern without `./` or the signs of regular expressions at its ends, and without spaces in it."""
     here = case.value
     if here is None:
         return
     text = here.value.value
-    tries = [re.sub(r"^(!?)(?:\./)+", r"\1", text), re.sub(r"^(!?)/", r"\1", text), re.sub(r"\s+", "-", text.strip()), text.strip(),
+    tries = [re.sub(r"^(!?)(?:\./)+", r"\1", text), re.sub(r"^(!?)/", r"\1", text), re.sub(r"^\^|\$$", "", text), re.sub(r"\s+", "-", text.strip()), text.strip(),
              text + "]" if "[" in text else text, text.replace("\\", "/"), re.sub(r"[~^:]", "-", text), text.replace("[", "\\["),
              re.sub(r"^([+?])", r"\\\1", text)]
     for changed in dict.fromkeys(tries):
