@@ -49,6 +49,7 @@ class Session:
         self._stdin, self._stdout = self._child.stdin, self._child.stdout
         os.set_blocking(self._stdin.fileno(), False)
         self._unread = b""
+        self._is_reporting = False
 
     def put(self, path: str, data: bytes) -> str:
         """The reply: `ok N` or `refused EN`. The path must fit in a command's line."""
@@ -75,19 +76,24 @@ class Session:
         """The report before its status, in blocks. Who doesn't read them all has to stop the session, since the rest stands before any
         reply."""
         self._send(b"report\n")
+        self._is_reporting = True
         held, self._unread = self._unread, b""
         while not _ends_report(held):
             cut = max(len(held) - LONGEST_END, 0)
             if cut:
                 yield held[:cut]
             held = held[cut:] + self._read()
+        self._is_reporting = False
         if len(held) > len(LAST_LINES[0]):
             yield held[:-len(LAST_LINES[0])]
 
     def stop(self) -> int:
-        """Ends the linter, for which the end of its input suffices, and answers its status."""
+        """Ends the linter, for which the end of its input suffices, and answers its status. In the middle of a report it would say that it
+        couldn't write the rest."""
         if self._child.returncode is not None:
             return self._child.returncode
+        if self._is_reporting and self._child.poll() is None:
+            os.killpg(self._child.pid, signal.SIGKILL)
         self._stdin.close()
         self._stdout.close()
         try:

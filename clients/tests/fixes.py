@@ -8,6 +8,7 @@ from __future__ import annotations
 import os
 import random
 import sys
+import tempfile
 from collections import Counter
 from pathlib import Path
 
@@ -19,7 +20,7 @@ from actionlint_client.fixes import REPAIRS, Trial, fixes
 from actionlint_client.project import Project
 from actionlint_client.repair import replaced
 from actionlint_client.report import Fault, parse_report
-from actionlint_client.session import Session
+from actionlint_client.session import ReportTooLong, Session
 from cases import Cases
 from repositories import FILE, WORKFLOWS
 
@@ -345,6 +346,26 @@ def check_fix(program: str, folder: Folder, faults: list[Fault], fault: Fault, r
     before, after = count(faults), count(Folder(program, {**folder.texts, **changed}).faults())
     key = fault.path, fault.message
     assert after[key] < before[key] and not after - before, (repair.title, fault, folder.texts, changed)
+
+
+@CASES.case
+def a_report_that_is_too_long(program: str) -> None:
+    """A linter that is stopped in the middle of a report says nothing of that on standard error, which is the editor's."""
+    with tempfile.TemporaryFile() as said:
+        kept = os.dup(2)
+        os.dup2(said.fileno(), 2)
+        try:
+            session = Session([program], False, SECONDS)
+            session.put(FILE, b"{" + b",".join(b"k%d: 1" % number for number in range(1_000)) + b"}\n")
+            session.report(100_000)
+            raise AssertionError("the report is short")
+        except ReportTooLong:
+            pass
+        finally:
+            os.dup2(kept, 2)
+            os.close(kept)
+        said.seek(0)
+        assert said.read() == b"", said.read()
 
 
 @CASES.case

@@ -143,6 +143,8 @@ WRONG_VERSIONS = {
         "fixes.py", "trial.earlier = _counted(earlier)", "pass", ("fixes.py", "faults_that_come_back")),
     "a_trial_keeps_a_text": WrongVersion("fixes.py", "self._put(path, self.texts[path])\n            else:", "pass\n            else:",
                                          ("fixes.py", "a_trial")),
+    "a_report_is_cut_by_its_reader": WrongVersion(
+        "session.py", "if self._is_reporting and", "if False and", ("fixes.py", "a_report_that_is_too_long")),
     "keys_that_stand_are_offered": WrongVersion(
         "completion.py", "if key in place.siblings or key in barred", "if key in barred", ("completion.py", "by_place")),
     "keys_that_clash_are_offered": WrongVersion(
