@@ -6,6 +6,7 @@ program's help and its version, and what bash, zsh and fish complete is asked of
 mandoc, fish, zsh) is skipped. Prints one line for each case.
 """
 
+import gzip
 import os
 import pathlib
 import re
@@ -19,6 +20,10 @@ from running import CALLED, CALLER, MISSING_INPUT, WORKFLOWS, report, results
 
 WORDS = ["--oneline", "--root", "--session", "--help"]
 INSTALLED = "Package: libc6\nStatus: install ok installed\nArchitecture: amd64\nMaintainer: x\nVersion: {}\nDescription: x\n\n"
+LOG = re.compile(r"juzbrost-actionlint \([\d.]+\) unstable; urgency=medium\n\n  \* .+\n\n"
+                 r" -- .+ <.+>  \w{3}, \d\d \w{3} \d{4} \d\d:\d\d:\d\d \+0000\n")
+CLIENTS = ["README.md", "actionlint-lsp", "actionlint-report", "actionlint_client", "emacs", "github", "neovim", "vim",
+           "which-actionlint"]
 ENVIRONMENT = {"PATH": "/usr/sbin:/usr/bin:/sbin:/bin", "LC_ALL": "C.UTF-8"}
 
 
@@ -80,6 +85,16 @@ def control(package, version):
     wanted = ["Package: juzbrost-actionlint", f"Version: {version}", "Architecture: amd64", "Depends: libc6 (>= 2.34)",
               "Recommends: python3, python3-pylsp-jsonrpc, python3-yaml"]
     return [f"{it} is missing" for it in wanted if it not in said.splitlines()]
+
+
+def contents(package, version, room):
+    """The log of changes is one as Debian has it, with the version; and the clients are those alone that work without the repository."""
+    root = room / "unpacked"
+    wrong = failed(run(["dpkg-deb", "-x", package, root]))
+    log = gzip.decompress((root / "usr/share/doc/juzbrost-actionlint/changelog.gz").read_bytes()).decode()
+    wrong += [] if LOG.fullmatch(log) and f"({version})" in log else [f"the log is {log!r}"]
+    clients = sorted(it.name for it in (root / "usr/share/actionlint/clients").iterdir())
+    return wrong + ([] if clients == CLIENTS else [f"the clients are {clients}"])
 
 
 def manual_page(page, program, version):
@@ -159,6 +174,7 @@ def cases(program, room):
     other, wrong = made(second, program, room / "out-b")
     yield "package-of-the-same-bytes", wrong + ([] if package.read_bytes() == other.read_bytes() else ["the bytes differ"])
     yield "package-checksum", failed(run(["sha256sum", "-c", f"{package.name}.sha256"], cwd=package.parent))
+    yield "package-contents", contents(package, version, room)
     yield "package-installed", installed(package, scratch_root(room, "2.36-9"), room, version)
     yield "package-refused", refused(package, room)
     share = room / "put/share"
