@@ -22,7 +22,6 @@ from .folder import Folder, Program
 from .hover import Hover
 from .messages import END, Messages
 from .navigation import Navigation, RenameRefused
-from .program import WHICH, default_program
 from .repository import Repository
 from .symbols import Symbols
 from .uris import path_of
@@ -170,17 +169,6 @@ def _is_news(record: logging.LogRecord) -> bool:
     return not (record.exc_info and isinstance(record.exc_info[1], (JsonRpcMethodNotFound, RenameRefused)))
 
 
-def _options(words: list[str] | None) -> argparse.Namespace:
-    parser = argparse.ArgumentParser(prog="actionlint-lsp", description="A language server that shows the faults of actionlint.")
-    parser.add_argument("--program", default=default_program(), help=f"the linter (default: {WHICH})")
-    parser.add_argument("--docs", help="the address of the pages of faults, for links (default: the folder docs beside clients)")
-    parser.add_argument("--no-earlier-faults", action="store_true",
-                        help="while a file is no YAML, don't show beside that the faults that it had when it was last")
-    parser.add_argument("--log", help="a file for what goes wrong (default: standard error)")
-    parser.add_argument("--timeout", type=float, default=20.0, help="the seconds in which the linter has to answer (default: %(default)s)")
-    return parser.parse_args(words)
-
-
 def _default_docs() -> str | None:
     docs = Path(__file__).resolve().parents[2] / "docs"
     return docs.as_uri() if (docs / "FAULTS.md").exists() else None
@@ -195,8 +183,7 @@ def _take_all_descriptors() -> None:
         logging.warning("the limit of open files stays as it is: %s", error)
 
 
-def main(words: list[str] | None = None) -> int:
-    options = _options(words)
+def main(options: argparse.Namespace) -> int:
     _take_all_descriptors()
     logging.basicConfig(filename=options.log, level=logging.ERROR)
     logging.getLogger("pylsp_jsonrpc.endpoint").addFilter(_is_news)

@@ -22,6 +22,14 @@ CASES = Cases("lookup")
 WHERE = "--program or the variable ACTIONLINT names the linter"
 NONE = f"cannot start actionlint: there is none that runs here, beside the clients or on the PATH; {WHERE}"
 
+# Runs a program of Python that finds no library.
+WITHOUT_LIBRARIES = """
+import importlib.util, runpy, sys
+sys.argv = sys.argv[1:]
+importlib.util.find_spec = lambda name: None
+runpy.run_path(sys.argv[0], run_name="__main__")
+"""
+
 
 class Tree:
     """Copies of the clients below share/actionlint of a folder, with what may lie around them."""
@@ -141,6 +149,25 @@ def language_server(program: str) -> None:
     editor = opened()
     assert editor.texts(FILE) == [UNDEFINED] and not editor.messages, editor.messages
     editor.quit()
+    tree.remove()
+
+
+@CASES.case
+def options_of_the_server(program: str) -> None:
+    """Help and version need none of the libraries; without these one line names the packages. An editor may say `--stdio`."""
+    tree = Tree()
+    server = tree.top / "clients/actionlint-lsp"
+
+    def run(*words: str) -> tuple[int, str, str]:
+        done = subprocess.run([sys.executable, "-c", WITHOUT_LIBRARIES, server, *words], env=tree.environment, stdout=subprocess.PIPE,
+                              stderr=subprocess.PIPE, text=True, check=False)
+        return done.returncode, done.stdout, done.stderr
+    assert run("--help")[0] == 0 and "--no-earlier-faults" in run("--help")[1], run("--help")
+    assert run("--version")[:2] == (0, "actionlint-lsp without a version\n"), run("--version")
+    status, said, errors = run()
+    assert (status, said) == (3, "") and "apt-get install python3-pylsp-jsonrpc python3-yaml" in errors and errors.count("\n") == 1, errors
+    editor = Editor(program, os.fsencode(tree.room), words=("--stdio",))
+    assert editor.hello["result"]["serverInfo"]["name"] == "actionlint-lsp" and editor.quit() == 0
     tree.remove()
 
 

@@ -109,7 +109,7 @@ WRONG_VERSIONS = {
         "disk.py", "if not stat.S_ISREG(os.fstat(opened).st_mode):", "if False:",
         ("life.py", "what_changes_between_the_look_and_the_opening")),
     "the_limit_of_descriptors_stays": WrongVersion(
-        "server.py", "options = _options(words)\n    _take_all_descriptors()", "options = _options(words)",
+        "server.py", "-> int:\n    _take_all_descriptors()\n", "-> int:\n",
         ("life.py", "many_descriptors")),
     "pipes_are_waited_for_by_select": WrongVersion(
         "session.py", "return bool(waiting.poll(max(seconds, 0) * 1_000))",
