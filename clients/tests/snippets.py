@@ -24,7 +24,7 @@ from repositories import CLIENTS, FILE, FILES, TOP, UNDEFINED, WORKFLOWS, git, r
 
 CASES = Cases("snippets")
 PAGES = ("README.md", "docs/EDITORS.md", "docs/CI.md", "docs/COMMAND-LINE.md")
-FENCED = re.compile(r"(?:<!-- run: ([\w-]+) -->\n)?^```\w+\n(.*?)^```$", re.M | re.S)
+FENCED = re.compile(r"(?:<!-- run: ([\w-]+) -->\n)?^```\w+(?: file=\S+)?\n(.*?)^```$", re.M | re.S)
 SECONDS = 60
 EXPRESSION = re.compile(r"\$\{\{ ([\w.]+) \}\}")
 # What each editor does behind its snippet: opens the file, waits for the fault, and writes its messages.
@@ -142,6 +142,11 @@ def workflow(place: Place) -> None:
     (text,) = snippets()["workflow"]
     assert text == (CLIENTS / "github/example.yml").read_text(encoding="utf-8")
     run_workflow(place, text)
+
+
+@in_each_clone(CASES)
+def short_workflow(place: Place) -> None:
+    run_workflow(place, *snippets()["short-workflow"])
 
 
 @in_each_clone(CASES)
