@@ -38,11 +38,13 @@ class Offer:
 
 @dataclass(frozen=True)
 class Cursor:
-    """A place in a file, the tree around it, and the keys on the way to it."""
+    """A place in a file, the tree around it, and the keys on the way to it. A strict one takes what GitHub takes, another one all that the
+    linter does."""
 
     project: Project
     file: str
     place: Place
+    is_strict: bool = True
 
     @property
     def tree(self) -> Node | None:
@@ -61,13 +63,13 @@ class Cursor:
         return {key: text.strip("'\"") for key, text in found.items()}
 
 
-def cursor_at(project: Project, file: str, point: Point) -> Cursor:
-    return Cursor(project, file, outline_of(project.text(file)).place(point))
+def cursor_at(project: Project, file: str, point: Point, is_strict: bool = True) -> Cursor:
+    return Cursor(project, file, outline_of(project.text(file)).place(point), is_strict)
 
 
-def offers(project: Project, file: str, point: Point) -> tuple[Span, list[Offer]]:
-    """What can stand at a point, and the characters that it replaces."""
-    cursor = cursor_at(project, file, point)
+def offers(project: Project, file: str, point: Point, is_strict: bool = True) -> tuple[Span, list[Offer]]:
+    """What can stand at a point, and the characters that it replaces; `is_strict` is that of the cursor."""
+    cursor = cursor_at(project, file, point, is_strict)
     place = cursor.place
     if point < place.span.start:
         return place.span, []
@@ -130,7 +132,7 @@ def keys(cursor: Cursor) -> Iterable[Offer]:
     if shape is None or "keys" not in shape:
         return
     section, fields = shape["section"], shape["keys"]
-    if section == "event":
+    if section == "event" and cursor.is_strict:
         fields = {key: row for key, row in fields.items() if takes_filter(str(place.path[-1]), key)}
     barred = {row["clash"] for key, row in fields.items() if key in place.siblings}
     for key, row in fields.items():
@@ -223,11 +225,16 @@ def _fixed_values(cursor: Cursor, section: str, key: str | None, around: Path) -
     if key == "using":
         lists[section, key] = names()["using"], "kinds of actions", "kind"
     if around and around[-1] == "permissions" and cursor.section(around[:-1]) in ("workflow", "job"):
-        lists[section, key] = [one for one in permissions["scope_values"] if takes_access(key or "", one)], "permissions", "access"
+        lists[section, key] = _accesses(cursor, key or ""), "permissions", "access"
     if isinstance(cursor.place.path[-1] if cursor.place.path else None, int) and key == "permissions":
         return []
     known, heading, detail = lists.get((section, key), ((), "", ""))
     return [Offer(name, "value", name, detail, meaning(heading, name)) for name in known]
+
+
+def _accesses(cursor: Cursor, scope: str) -> list[str]:
+    """The accesses that a scope of `permissions` can have."""
+    return [one for one in table()["permission values"]["scope_values"] if takes_access(scope, one) or not cursor.is_strict]
 
 
 def _names_of_file(cursor: Cursor, section: str, key: str | None) -> list[Offer]:

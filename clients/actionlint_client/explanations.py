@@ -10,7 +10,7 @@ def explanation(project: Project, file: str, point: Point) -> tuple[Span, str] |
     """Markdown on the key, the value or the name in an expression at a point, and where that stands."""
     if point.line >= len(project.lines(file)):
         return None
-    span, found = offers(project, file, point)
+    span, found = offers(project, file, point, is_strict=False)
     name = project.lines(file)[span.start.line][span.start.column:span.end.column]
     same = [offer for offer in found if offer.label == name] or [offer for offer in found if offer.label.lower() == name.lower()]
     return (span, markdown_of(same[0])) if name and same else None

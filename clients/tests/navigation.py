@@ -188,6 +188,10 @@ def meanings(program: str) -> None:
         found = explanation(project, FILE, point_in(FOLDER[FILE], marked))
         assert found and found[1].startswith(head) and text in found[1], (marked, found)
     assert explanation(project, FILE, point_in(FOLDER[FILE], "        name: Li|st")) is None
+    for event, marked in (("issues", "    bran|ches: [a]"), ("push", "    ty|pes: [a]")):
+        text = f"on:\n  {event}:\n" + marked.replace("|", "")
+        found = explanation(project_of({FILE: text}), FILE, point_in(text, marked))
+        assert found and "start the workflow" in found[1], "also of what completion doesn't offer"
 
 
 @CASES.case

@@ -168,6 +168,8 @@ WRONG_VERSIONS = {
         "place.py", "block = (number, elements[-1].column) if is_block else None", "block = None", ("completion.py", "by_place")),
     "lists_may_not_stand_below_their_key": WrongVersion(
         "place.py", "is_dash and element.column == column and element.name is not None", "False", ("completion.py", "by_place")),
+    "what_is_not_offered_has_no_meaning": WrongVersion(
+        "explanations.py", ", is_strict=False", "", ("navigation.py", "meanings")),
     "callers_keep_the_old_name": WrongVersion(
         "references.py", "(callers(project, symbol.file) if not symbol.scope else [])", "[]", ("navigation.py", "places")),
     "anchors_of_one_name_are_one": WrongVersion(
