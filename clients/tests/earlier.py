@@ -155,14 +155,19 @@ def severities(program: str) -> None:
     """What breaks a run is an error; what GitHub only warns of, a warning. Each row has a known code and a reason."""
     commands = {"set-output": WARNING, "save-state": WARNING, "set-env": ERROR, "add-path": ERROR}
     script = "".join(f"      - run: echo '::{command}{' name=x' * (command != 'add-path')}::y'\n" for command in commands)
-    editor = start(program, {FILE: TEXT + script})
+    calls = "      - uses: ./a\n        with: {x: 1}\n  b:\n    uses: ./.github/workflows/b.yml\n    with: {y: 1}\n"
+    called = {"a/action.yml": "name: A\ndescription: d\nruns: {using: node20, main: m.js}\n",
+              ".github/workflows/b.yml": "on: workflow_call\njobs: {}\n"}
+    editor = start(program, {FILE: TEXT + script + calls, **called})
     found = {one["message"]: one["severity"] for one in editor.diagnostics()[FILE]}
     for command, severity in commands.items():
         assert found[f'command "{command}" is deprecated [deprecated-commands]'] == severity, found
     assert all(found[undefined(number)] == ERROR for number in range(11)), found
+    assert found['input "x" is not defined in "A" [action]'] == WARNING, found
+    assert found['input "y" is not defined in "./.github/workflows/b.yml" [workflow-call]'] == ERROR, found
     codes = {entry.code for entry in entries.entries()}
-    assert all(row.code in codes and row.arguments and row.reason for row in SEVERITIES)
-    assert severity_of("X13", 'property "set-output" is not defined') == ERROR
+    assert all(row.code in codes and row.reason for row in SEVERITIES)
+    assert severity_of("X13", Fault("a", 1, 1, 'property "set-output" is not defined', "expression", 1)) == ERROR
     end(editor)
 
 

@@ -139,6 +139,8 @@ WRONG_VERSIONS = {
         "files.py", "known if self._keeps_calls else NO_CALLS", "known", ("earlier.py", "switched_off")),
     "all_faults_are_errors": WrongVersion(
         "diagnostics.py", "return next((row.severity for", "return ERROR or next((row.severity for", ("earlier.py", "severities")),
+    "what_is_refused_is_a_warning": WrongVersion(
+        "diagnostics.py", "(self.code, self.kind) == (code, fault.kind)", "self.code == code", ("earlier.py", "severities")),
     "earlier_faults_may_not_come_back": WrongVersion(
         "fixes.py", "trial.earlier = _counted(earlier)", "pass", ("fixes.py", "faults_that_come_back")),
     "a_trial_keeps_a_text": WrongVersion("fixes.py", "self._put(path, self.texts[path])\n            else:", "pass\n            else:",
