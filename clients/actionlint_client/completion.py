@@ -83,6 +83,8 @@ def offers(project: Project, file: str, point: Point, is_strict: bool = True) ->
         typed = len(before.typed) if before else 0
         span = Span(Point(point.line, point.column - typed), Point(point.line, end))
         return span, names_in_expression(cursor, before) if before else []
+    if place.taken:
+        return place.span, []
     found = [] if place.role is Role.VALUE else list(keys(cursor))
     if place.role is not Role.KEY:
         known = {offer.label for offer in found}
@@ -193,6 +195,8 @@ def _key_text(place: Place, section: str, key: str) -> str:
     if place.has_colon:
         return key
     value = FIRST_VALUES.get((section, key), "")
+    if value.startswith("\n") and place.span.start.column:
+        value = ""
     return f"{key}:{value}" if value.startswith("\n") else f"{key}: {value}"
 
 

@@ -16,6 +16,8 @@ CHAIN = re.compile(rf"(?<![\w.'-]){NAME}(?:\s*\.\s*(?:{NAME}|\*)|\[\s*'[^']*'\s*
 LINK = re.compile(rf"({NAME}|\*)|\[\s*'([^']*)'\s*\]|\[[^\]']*\]")
 BEFORE_DOT = re.compile(rf"({CHAIN.pattern})\s*\.\s*({NAME})?$")
 BEFORE_WORD = re.compile(rf"(?<![\w.'-])({NAME})?$")
+# Where an operand has ended, an operator has to come before the next one.
+AFTER_OPERAND = re.compile(r"[\w')\].*-]\s*$")
 IN_BRACKET = re.compile(rf"({CHAIN.pattern})\[\s*'([^']*)$")
 MAX_LOOKED_AT = 2_000
 STRING = re.compile(r"'(?:[^']|'')*'")
@@ -47,7 +49,8 @@ def expression_before(text: str, is_condition: bool) -> str | None:
 
 
 def chain_before(expression: str) -> Before | None:
-    """The chain at the end of an expression, which is looked for in its last 2,000 characters; None inside a text."""
+    """The chain at the end of an expression, which is looked for in its last 2,000 characters; None inside a text, and where an operator
+    is wanted."""
     bare = STRING.sub(lambda match: "'" + "_" * (len(match[0]) - 2) + "'", expression)
     expression = expression[-MAX_LOOKED_AT:]
     if bare.count("'") % 2:
@@ -57,7 +60,9 @@ def chain_before(expression: str) -> Before | None:
     if dotted:
         return Before(links(dotted[1]), dotted[2] or "")
     word = BEFORE_WORD.search(bare[-MAX_LOOKED_AT:])
-    return Before((), word[1] or "") if word else None
+    if word is None or AFTER_OPERAND.search(bare[-MAX_LOOKED_AT:][:word.start()]):
+        return None
+    return Before((), word[1] or "")
 
 
 def expressions_in(text: str) -> Iterator[tuple[int, str]]:

@@ -11,6 +11,8 @@ from .tree import Path, Point, Span
 
 DASH = re.compile(r"-(?= |$)")
 KEY = re.compile(r"""(?:"((?:[^"\\]|\\.)*)" *|'((?:[^']|'')*)' *|([^\s\[\]{},"'|>%@`#&*!-][^#]*?|-[^\s#][^#]*?)):(?=\s|$)""")
+# What stands behind a key whose value is still to come, in the lines below.
+NO_VALUE = re.compile(r"(?:[&!]\S+\s*)*(?:#.*)?")
 BLOCK_SCALAR = re.compile(r"(?:[&!]\S+ +)*[|>][-+0-9]*\s*(?:#.*)?$")
 FLOW_TOKEN = re.compile(r"""\s+|\#[^\n]*|"(?:[^"\\]|\\.)*"?|'(?:[^']|'')*'?|[\[\]{},]|:(?=[\s,\[\]{}]|$)"""
                         r"""|(?:[^\s,\[\]{}:"'\#]|:(?=[^\s,\[\]{}]))(?:[^,\[\]{}:\n]|:(?=[^\s,\[\]{}]))*""")
@@ -32,7 +34,8 @@ class Role(Enum):
 class Place:
     """What stands under the cursor: a key of the mapping at `path`, or its value. `typed` is what stands of it before the cursor, and
     `before` all of the value's text up to there. `siblings` are the other keys of the mapping, or entries of the list, with the texts of
-    their values; `around` the same for each key of the path."""
+    their values; `around` the same for each key of the path. Below a key that has its value on its own line nothing begins: the place is
+    `taken`, though a text may go on there."""
 
     path: Path
     role: Role
@@ -44,6 +47,7 @@ class Place:
     around: tuple[dict[str, str], ...]
     has_colon: bool = False
     in_flow: bool = False
+    taken: bool = False
 
 
 class Element(NamedTuple):
@@ -110,6 +114,10 @@ class Outline:
         start += len(text[start:point.column]) - len(text[start:point.column].lstrip(" "))
         column = under.column if under else start
         path, around = self._way(point.line, before) if before else self._way_of_column(point.line, column)
+        begun = None if before else self._value_above(point.line, column)
+        if begun is not None:
+            span, word, typed = self._word(point, start)
+            return Place(path, Role.VALUE, span, word, typed, begun + text[start:point.column], {}, around, taken=True)
         siblings = self._keys_beside(point.line, column, False)
         if under and under.name is not None:
             end = under.end - 1
@@ -201,6 +209,17 @@ class Outline:
             if fitting:
                 return self._way(above, fitting, depth)
         return (), ()
+
+    def _value_above(self, number: int, column: int) -> str | None:
+        """The text of the value that begins on the line of the key to which a line that begins at a column belongs, up to that line; None
+        where none begins there."""
+        for above in range(number - 1, -1, -1):
+            line = self.lines[above]
+            if line.elements and line.elements[0].column < column:
+                if line.elements[-1].column >= column or NO_VALUE.fullmatch(line.rest):
+                    return None
+                return "\n".join([line.rest, *self.texts[above + 1:number], ""])
+        return None
 
     def _position(self, number: int, column: int) -> int:
         """How many dashes of the same list stand above."""

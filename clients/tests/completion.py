@@ -5,6 +5,7 @@
 """
 from __future__ import annotations
 
+import itertools
 import os
 import random
 import re
@@ -231,7 +232,17 @@ PLACES = {
     "a bracket is open": (JOB + "  c:\n    needs: [|\n    runs-on: u\n", {"a", "b"}, {"c"}),
     "a list at the column of its key": ("on: push\njobs:\n  a:\n    runs-on: u\n    steps:\n    - run: x\n      |", {"shell"}, {"run"}),
     "an expression over lines": (JOB + "    steps:\n      - run: |\n          echo ${{\n            github.r|", {"ref"}, set()),
+    "an expression over lines without a header": (JOB + "    if: github.ref == 'x' &&\n      |", {"github", "needs"}, {"name"}),
+    "braces over lines without a header": (JOB + "    name: x ${{ github.ref ==\n      github.r|", {"ref"}, {"name"}),
+    "where an operator is wanted": (JOB + "    if: always() |", set(), {"github", "always"}),
+    "where an operator is wanted over lines": (JOB + "    if: always()\n      |", set(), {"github", "always", "name"}),
+    "behind an operator": (JOB + "    if: always() && !|", {"github", "always"}, set()),
+    "an argument": (JOB + "    if: contains(github.ref, |", {"github"}, set()),
+    "below a value": (JOB + "    runs-on: u\n      |", set(), {"group", "name"}),
+    "below an entry in brackets": (JOB + "    steps:\n      - {run: x}\n        |", set(), {"name"}),
+    "below an anchor": (JOB + "    steps: &a\n      - &b\n        |", {"run", "name"}, set()),
     "no expressions in uses": (JOB + "    steps:\n      - uses: x@${{ |", set(), {"github"}),
+    "keys behind a script with a bracket": (JOB + "    steps:\n      - run: |\n          a: [\n        |", {"shell", "env"}, {"run"}),
     "nothing in a script": (JOB + "    steps:\n      - run: |\n          na|", set(), {"name", "github"}),
 }
 
@@ -380,6 +391,24 @@ def each_is_taken(program: str) -> None:
             count += 1
             check_put(linter, path, text, span, offer)
         linter.faults(path, whole)
+
+
+@CASES.case
+def each_is_taken_on_a_new_line(program: str) -> None:
+    """Between all lines of files without fault a new one is begun at each indent; what is offered there has no fault either."""
+    chance = random.Random(int(os.environ.get("SEED", "1")))
+    linter = Linter(program, FOLDER)
+    count = 0
+    for path, whole in FOLDER.items():
+        lines = whole.split("\n")
+        for number, indent in itertools.product(range(len(lines)), range(0, 14, 2)):
+            text = "\n".join([*lines[:number], " " * indent, *lines[number:]])
+            span, found = offers(project_of({**FOLDER, path: text}), path, Point(number, indent))
+            for offer in chance.sample(found, min(len(found), 2)):
+                count += 1
+                check_put(linter, path, text, span, offer)
+            linter.faults(path, whole)
+    assert count > PUTS / 2, count
 
 
 def check_put(linter: Linter, path: str, text: str, span: Span, offer: Offer) -> None:

@@ -155,6 +155,11 @@ WRONG_VERSIONS = {
         "completion.py", "if takes_filter(str(place.path[-1]), key)", "if key", ("completion.py", "by_place")),
     "values_that_are_keys_are_offered_twice": WrongVersion(
         "completion.py", "if offer.label not in known", "if offer.label", ("completion.py", "each_once")),
+    "keys_are_offered_below_values": WrongVersion(
+        "completion.py", "if place.taken:", "if False:", ("completion.py", "each_is_taken_on_a_new_line")),
+    "operands_stand_side_by_side": WrongVersion(
+        "expressions.py", "word is None or AFTER_OPERAND.search(bare[-MAX_LOOKED_AT:][:word.start()])", "word is None",
+        ("completion.py", "by_place")),
     "an_entry_has_no_dash": WrongVersion(
         "completion.py", 'text = "- " + _key_text', 'text = _key_text', ("completion.py", "entries_have_dashes")),
     "needs_may_make_a_cycle": WrongVersion(
