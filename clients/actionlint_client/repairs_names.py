@@ -249,7 +249,7 @@ def other_context(case: Case) -> Iterable[Repair]:
     if chain[0].lower() == "secrets" and is_workflow(case.file):
         yield from _by_env(case, chain, span)
     if case.job and case.scalar and case.scalar.path[2:] == ("if",):
-        yield from _moved_to_steps(case)
+        yield from _moved_to_steps(case, chain, span)
 
 
 def _value_of_variable(case: Case, name: str, span: Span) -> Iterable[Repair]:
@@ -270,8 +270,8 @@ def _by_env(case: Case, chain: tuple[str, ...], span: Span) -> Iterable[Repair]:
     job = case.at("jobs", case.job) if case.job else None
     if job is None or case.scalar is None or case.scalar.path[2:3] != ("steps",):
         return
-    name = re.sub(r"\W", "_", chain[1]).upper()
-    entry, edit = f"{name}: ${{{{ secrets.{chain[1]} }}}}", Edit(span, f"env.{name}")
+    name, entry = _secret_variable(chain)
+    edit = Edit(span, f"env.{name}")
     env = job.get("env")
     if env and env.entries:
         yield case.of(f'pass it by the variable "{name}"', first_entry(case, env, entry), edit)
@@ -279,15 +279,25 @@ def _by_env(case: Case, chain: tuple[str, ...], span: Span) -> Iterable[Repair]:
         yield case.of(f'pass it by the variable "{name}"', first_entry(case, job, f"env:\n  {entry}"), edit)
 
 
-def _moved_to_steps(case: Case) -> Iterable[Repair]:
-    """The condition of a job as that of each of its steps."""
+def _secret_variable(chain: tuple[str, ...]) -> tuple[str, str]:
+    """The name of a variable for a secret, and its entry."""
+    name = re.sub(r"\W", "_", chain[1]).upper()
+    return name, f"{name}: ${{{{ secrets.{chain[1]} }}}}"
+
+
+def _moved_to_steps(case: Case, chain: tuple[str, ...], span: Span) -> Iterable[Repair]:
+    """The condition of a job as that of each of its steps, where a variable of the job stands for a secret."""
     job = case.at("jobs", case.job or "")
     condition, steps = (job.key("if"), job.get("steps")) if job else (None, None)
     if not job or condition is None or steps is None or any(step.get("if") for step in steps.items):
         return
-    text = case.slice(job.get("if").span)
+    text, variable = case.slice(job.get("if").span), []
+    if chain[0].lower() == "secrets" and job.get("runs-on") and job.get("env") is None:
+        name, entry = _secret_variable(chain)
+        text = text.replace(case.slice(span), f"env.{name}")
+        variable = [next_entry(case, job, "runs-on", f"env: {{{entry}}}" if job.is_flow else f"env:\n  {entry}")]
     edits = [first_entry(case, step, f"if: {text}") for step in steps.items if step.kind == "mapping"]
-    yield case.of("put the condition on the steps", without_entry(case, job, condition), *edits)
+    yield case.of("put the condition on the steps", without_entry(case, job, condition), *variable, *edits)
 
 
 def moved_variable(case: Case) -> Iterable[Repair]:

@@ -178,6 +178,7 @@ SLIPS: dict[str, tuple] = {
     "a hash in a job": (JOB + "    env:\n      K: ${{ hashFiles('x') }}\n    steps:\n      - run: make\n",
                         "          K: ${{ hashFiles('x') }}"),
     "a secret in a condition": (STEP + "if: secrets.X != ''" + TAIL, "      X: ${{ secrets.X }}"),
+    "a secret in a job's condition": (JOB + "    if: secrets.X != ''\n    steps:\n      - run: make\n", "      - if: env.X != ''"),
     "an object in a text": (STEP + "run: echo ${{ job }}\n", "      - run: echo ${{ toJSON(job) }}"),
     "an index of a text": (STEP + "run: echo ${{ github.ref.x }}\n", "      - run: echo ${{ github.ref }}"),
     "too few arguments": (STEP + "if: contains(github.ref)" + TAIL, "      - if: contains(github.ref, '')"),
