@@ -30,9 +30,9 @@ FORMS: dict[str, type[Form]] = {
 
 def main(words: list[str] | None = None) -> int:
     options = _options(sys.argv[1:] if words is None else words)
-    if options.explain is not None:
-        return explain(options.explain)
     try:
+        if options.explain is not None:
+            return explain(options.explain)
         ignored = Ignored([*options.ignore, *(rule for file in options.ignore_file for rule in rules_in(file))])
         with report_output(options.out) as out:
             form, outcome = _report(options, ignored, out)
@@ -49,11 +49,12 @@ def main(words: list[str] | None = None) -> int:
 
 
 def explain(code: str) -> int:
-    """Prints the entry of a code, in any case of letters."""
+    """Prints the entry of a code, in any case of letters. OSError where it can't be written."""
     entry = next((entry for entry in entries() if entry.code == code.upper()), None)
     if entry is None:
         return _fail(f"{code!r} is no code of a fault", WRONG_WORDS)
-    print(explained(entry))
+    with report_output(None) as out:
+        out.write(explained(entry).encode() + b"\n")
     return 0
 
 

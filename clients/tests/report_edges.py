@@ -197,5 +197,19 @@ def output_that_does_not_block(program: str) -> None:
         assert child.wait(SECONDS) == 1
 
 
+@CASES.case
+def a_reader_that_goes(program: str) -> None:
+    """One line says that nobody reads the rest, of a report as of an entry; there is no other word of it."""
+    with tempfile.TemporaryDirectory(prefix="actionlint-test-") as folder:
+        write(folder, FILES)
+        for words in (["--explain", "X13"], ["--form", "text"], ["--form", "sarif"]):
+            reading, writing = os.pipe()
+            os.close(reading)
+            done = subprocess.run([sys.executable, REPORT, "--program", program, *words], cwd=folder, stdout=writing, stderr=subprocess.PIPE,
+                                  check=False)
+            os.close(writing)
+            assert (done.returncode, done.stderr) == (3, b"actionlint-report: write failed: Broken pipe\n"), (words, done)
+
+
 if __name__ == "__main__":
     sys.exit(CASES.run(sys.argv[1:]))
