@@ -8,9 +8,11 @@ from __future__ import annotations
 import json
 import os
 import resource
+import signal
 import subprocess
 import sys
 import tempfile
+import time
 
 from cases import Cases
 from repositories import CLIENTS, FILE, FILES, RIGHT, UNDEFINED, WORKFLOWS, write
@@ -195,6 +197,22 @@ def output_that_does_not_block(program: str) -> None:
         with open(read, encoding="utf-8") as opened:
             assert len(opened.readlines()) == 2_000
         assert child.wait(SECONDS) == 1
+
+
+@CASES.case
+def an_interrupt(program: str) -> None:
+    """It ends the program by the signal, without a word, and leaves no file."""
+    with tempfile.TemporaryDirectory(prefix="actionlint-test-") as folder:
+        write(folder, {**FILES, "slow": "#!/bin/sh\n: > started\nexec sleep 60\n"})
+        slow = os.path.join(folder, "slow")
+        os.chmod(slow, 0o755)
+        with subprocess.Popen([sys.executable, REPORT, "--program", slow, "--out", "x.sarif"], cwd=folder, stdout=subprocess.PIPE,
+                              stderr=subprocess.PIPE, start_new_session=True) as child:
+            while not os.path.exists(os.path.join(folder, "started")):
+                time.sleep(0.02)
+            os.killpg(child.pid, signal.SIGINT)
+            assert child.communicate(timeout=SECONDS) == (b"", b"") and child.returncode == -signal.SIGINT, child.returncode
+        assert sorted(os.listdir(folder)) == sorted({*(path.partition("/")[0] for path in FILES), "slow", "started"}), os.listdir(folder)
 
 
 @CASES.case
