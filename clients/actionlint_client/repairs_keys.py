@@ -9,6 +9,7 @@ from .names import names, near
 from .paths import is_workflow
 from .repair import Case, Edit, Found, Repair, first_entry, is_within_flow, next_entry, quoted, without_entry
 from .repairs_yaml import DASH_WITHOUT_SPACE
+from .stricter import takes_filter
 from .syntax import table
 from .tree import Node, Point, Span, last_line, walk
 
@@ -46,18 +47,34 @@ def in_its_quotes(case: Case, name: str) -> Repair:
     return case.replace(f'change to "{name}"', quote + name + quote)
 
 
-def below_run(case: Case) -> Iterable[Repair]:
-    """The keys of `defaults` one level deeper, below `run`."""
+def one_level_deeper(case: Case) -> Iterable[Repair]:
+    """The keys of `defaults` below `run`, and the rows of a matrix below `matrix`; of a job those of `defaults`."""
     here = case.key
-    if here and here.path[-2:-1] == ("defaults",) and here.path[-1] in table()["shapes"]["RunDefaults"]["keys"]:
-        entries = [(key, value) for key, value in here.parent.entries if key.value in table()["shapes"]["RunDefaults"]["keys"]]
-        texts = [case.slice(Span(key.span.start, value.span.end)) for key, value in entries]
-        span = Span(entries[0][0].span.start, entries[-1][1].span.end)
-        if here.parent.is_flow:
-            yield case.replace('put it below "run"', "run: {" + ", ".join(texts) + "}", span)
-        else:
-            indent = "\n" + " " * (entries[0][0].span.start.column + 2)
-            yield case.replace('put it below "run"', "run:" + indent + indent.join(texts), span)
+    if here is None:
+        return
+    of_run, of_strategy = (table()["shapes"][shape]["keys"] for shape in ("RunDefaults", "Strategy"))
+    if here.path[-2:-1] == ("defaults",) and here.path[-1] in of_run:
+        yield from _below(case, here, "run", lambda key: key in of_run)
+    elif here.path[-2:-1] == ("strategy",) and here.parent.get("matrix") is None:
+        yield from _below(case, here, "matrix", lambda key: key not in of_strategy)
+    elif here.key and case.job and len(here.path) == 3 and here.path[-1] in of_run and here.parent.get("defaults") is None:
+        span = Span(here.key.span.start, here.value.span.end)
+        yield case.replace('put it below "defaults"', "defaults: {run: {" + case.slice(span) + "}}", span)
+
+
+def _below(case: Case, here: Found, above: str, belongs: Callable[[str], bool]) -> Iterable[Repair]:
+    """Those entries around a key that belong below another key, which isn't there; they stand side by side."""
+    numbers = [number for number, (key, _) in enumerate(here.parent.entries) if belongs(key.value)]
+    if numbers != list(range(numbers[0], numbers[-1] + 1)):
+        return
+    entries = [here.parent.entries[number] for number in numbers]
+    texts = [case.slice(Span(key.span.start, _tight(case, value).end)) for key, value in entries]
+    span = Span(entries[0][0].span.start, _tight(case, entries[-1][1]).end)
+    if here.parent.is_flow:
+        yield case.replace(f'put it below "{above}"', f"{above}: {{" + ", ".join(texts) + "}", span)
+    else:
+        indent = "\n" + " " * (entries[0][0].span.start.column + 2)
+        yield case.replace(f'put it below "{above}"', f"{above}:" + indent + indent.join(text.replace("\n", "\n  ") for text in texts), span)
 
 
 def part_of_value(case: Case) -> Iterable[Repair]:
@@ -147,11 +164,12 @@ def other_kind(case: Case) -> Iterable[Repair]:
         pair = re.fullmatch(r"([\w-]+)[=:]\s*(.+)", value.value)
         if pair:
             yield case.replace("make it a mapping", "{%s: %s}" % (pair[1], quoted(pair[2])), value.span)
-    if value.kind == "mapping" and not value.is_flow:
+    if value.kind == "mapping":
         if all(not entry.value and entry.kind == "scalar" for _, entry in value.entries):
             keys = ", ".join(case.slice(key.span) for key, _ in value.entries)
             yield case.replace("make it a list", f"[{keys}]", _tight(case, value))
-        yield from as_list(case, value)
+        if not value.is_flow:
+            yield from as_list(case, value)
     if value.kind == "sequence":
         yield from as_mapping(case, value)
         yield from _scalars_as_other(case, here)
@@ -186,6 +204,8 @@ def _of_its_section(case: Case, here: Found) -> Iterable[Repair]:
         yield case.replace("make it a list of cron", cron if isinstance(here.path[-1], int) else f"[{cron}]", value.span)
     elif name == "schedule" and value.is_flow:
         yield case.replace("make it a list of cron", f"[{text}]", value.span)
+    elif here.path[:-1] == ("on",) and not value.entries:
+        yield from _settings_of_event(case, here)
     elif name == "steps" and is_text:
         yield case.replace("make it a list of steps", "[{run: %s}]" % quoted(value.value), value.span)
     elif name == "inputs" and value.kind == "sequence" and value.is_flow:
@@ -203,6 +223,17 @@ def _of_its_section(case: Case, here: Found) -> Iterable[Repair]:
         line = case.line_at(value.span.start.line)
         yield case.replace("add a script", (" " if line.rstrip().endswith("-") else "") + "run: echo",
                            Span(Point(value.span.start.line, len(line.rstrip())), Point(value.span.start.line, len(line))))
+
+
+def _settings_of_event(case: Case, here: Found) -> Iterable[Repair]:
+    """What stands behind an event as its activity types, or as its branches."""
+    event, value = str(here.path[-1]), here.value
+    items = value.items or [value]
+    is_of_types = {item.value for item in items} <= set(table()["activity types"].get(event, []))
+    key = "types" if is_of_types else "branches"
+    if here.key and all(item.value for item in items) and takes_filter(event, key):
+        texts = ", ".join(case.slice(item.span) for item in items)
+        yield case.replace(f'put it below "{key}"', f": {{{key}: [{texts}]}}", Span(here.key.span.end, _tight(case, value).end))
 
 
 def _indented_keys(case: Case, here: Found) -> Iterable[Repair]:
@@ -340,7 +371,7 @@ def skeleton(case: Case) -> Iterable[Repair]:
 
 
 REPAIRS: dict[str, tuple[Callable[[Case], Iterable[Repair]], ...]] = {
-    "K1": (near_key, below_run, step_of_keys, part_of_value, deleted),
+    "K1": (near_key, one_level_deeper, step_of_keys, part_of_value, deleted),
     "K2": (missing_key,),
     "K3": (another_job, deleted),
     "K4": (other_kind,),

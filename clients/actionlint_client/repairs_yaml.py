@@ -25,6 +25,14 @@ def with_quotes(case: Case) -> Iterable[Repair]:
     yield from _quoted_item(case)
 
 
+def as_schedule(case: Case) -> Iterable[Repair]:
+    """A schedule of every minute, which begins with a star, in quotes and as often as GitHub runs one."""
+    span = case.rest_span(case.span.start.line)
+    fields = case.slice(span).split() if span else []
+    if span and len(fields) == 5 and fields[0] == "*" and re.search(r"\bcron:\s*$", case.line[:span.start.column]):
+        yield case.replace("put it in quotes, every 5 minutes", quoted(" ".join(["*/5", *fields[1:]])), span)
+
+
 def _quoted_item(case: Case) -> Iterable[Repair]:
     """The entry of a list in brackets that has the fault, in quotes."""
     line, column = case.line, case.span.start.column
@@ -148,9 +156,11 @@ def script_in_lines(case: Case) -> Iterable[Repair]:
 
 
 def as_expression(case: Case) -> Iterable[Repair]:
-    """A condition that begins in double quotes, as it would in a shell, as an expression."""
+    """A condition that begins in double quotes, as it would in a shell, as an expression; and one whose braces have no dollar."""
     span = case.rest_span(case.span.start.line)
     text = case.slice(span) if span else ""
+    if span and text.startswith("{{") and text.endswith("}}"):
+        yield case.replace("write a dollar before the braces", "$" + text, span)
     if span and text.startswith('"') and "${{" in text:
         bare = re.sub(r'"?\$\{\{\s*(.*?)\s*\}\}"?', r"\1", text).replace('"', "'")
         yield case.replace("write it as an expression", "${{ " + bare + " }}", span)
@@ -259,9 +269,9 @@ REPAIRS: dict[str, tuple[Callable[[Case], Iterable[Repair]], ...]] = {
     "Y10": (with_quotes, without_line),
     "Y11": (without_line,),
     "Y12": (single_quotes,),
-    "Y13": (as_condition, as_expression, pair_below, script_in_lines, with_quotes, as_block, with_space, with_colon, closed_above,
+    "Y13": (as_condition, as_expression, as_schedule, pair_below, script_in_lines, with_quotes, as_block, with_space, with_colon, closed_above,
             moved_line, without_character),
     "Y16": (text_on_next_line,),
-    "Y17": (with_colon, with_quotes, quoted_key),
+    "Y17": (as_expression, with_colon, with_quotes, quoted_key),
     "Y18": (with_quotes,),
 }
