@@ -74,7 +74,8 @@ def _below(case: Case, here: Found, above: str, belongs: Callable[[str], bool]) 
         yield case.replace(f'put it below "{above}"', f"{above}: {{" + ", ".join(texts) + "}", span)
     else:
         indent = "\n" + " " * (entries[0][0].span.start.column + 2)
-        yield case.replace(f'put it below "{above}"', f"{above}:" + indent + indent.join(text.replace("\n", "\n  ") for text in texts), span)
+        lines = indent.join(text.replace("\n", "\n  ") for text in texts)
+        yield case.replace(f'put it below "{above}"', f"{above}:{indent}{lines}", span)
 
 
 def part_of_value(case: Case) -> Iterable[Repair]:

@@ -73,9 +73,9 @@ def pattern(case: Case) -> Iterable[Repair]:
     if here is None:
         return
     text = here.value.value
-    tries = [re.sub(r"^(!?)(?:\./)+", r"\1", text), re.sub(r"^(!?)/", r"\1", text), re.sub(r"^\^|\$$", "", text), re.sub(r"\s+", "-", text.strip()), text.strip(),
-             text + "]" if "[" in text else text, text.replace("\\", "/"), re.sub(r"[~^:]", "-", text), text.replace("[", "\\["),
-             re.sub(r"^([+?])", r"\\\1", text)]
+    tries = [re.sub(r"^(!?)(?:\./)+", r"\1", text), re.sub(r"^(!?)/", r"\1", text), re.sub(r"^\^|\$$", "", text),
+             re.sub(r"\s+", "-", text.strip()), text.strip(), text + "]" if "[" in text else text, text.replace("\\", "/"),
+             re.sub(r"[~^:]", "-", text), text.replace("[", "\\["), re.sub(r"^([+?])", r"\\\1", text)]
     for changed in dict.fromkeys(tries):
         if changed and changed != text:
             yield case.replace(f'change to "{changed}"', quoted(changed), here.value.span)
