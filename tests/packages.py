@@ -19,6 +19,12 @@ from release import clone, failed, run
 from running import CALLED, CALLER, MISSING_INPUT, WORKFLOWS, report, results
 
 WORDS = ["--oneline", "--root", "--session", "--help"]
+# Of what is on the pages, by command.
+PAGES = {
+    "actionlint": [*WORDS, "Takes commands from standard input", "actionlint --root \"$(git rev-parse --show-toplevel)\""],
+    "actionlint-report": ["--form", "--ignore CODE[:PATH]", "--shellcheck", "--version"],
+    "actionlint-lsp": ["--no-earlier-faults", "--timeout SECONDS", "--version"],
+}
 INSTALLED = "Package: libc6\nStatus: install ok installed\nArchitecture: amd64\nMaintainer: x\nVersion: {}\nDescription: x\n\n"
 LOG = re.compile(r"juzbrost-actionlint \([\d.]+\) unstable; urgency=medium\n\n  \* .+\n\n"
                  r" -- .+ <.+>  \w{3}, \d\d \w{3} \d{4} \d\d:\d\d:\d\d \+0000\n")
@@ -97,15 +103,15 @@ def contents(package, version, room):
     return wrong + ([] if clients == CLIENTS else [f"the clients are {clients}"])
 
 
-def manual_page(page, program, version):
-    """The page, as mandoc shows it: no warning, the program's words, and the version."""
+def manual_page(prefix, command, needed, version):
+    """A command's page, as mandoc shows it: no warning, words of the command's help, and the version."""
+    page = prefix / f"share/man/man1/{command}.1"
     lint = run(["mandoc", "-T", "lint", "-W", "warning", page])
     shown = run(["mandoc", "-T", "ascii", "-O", "width=300", page]).stdout.decode()
     text = re.sub(".\x08", "", shown)
-    help_text = run([program, "--help"]).stdout.decode()
-    needed = [*WORDS, version, "Takes commands from standard input", "actionlint --root \"$(git rev-parse --show-toplevel)\""]
-    assert all(it in help_text for it in needed if it != version)
-    return failed(lint) + [f"{it} is missing" for it in needed if it not in text]
+    help_text = run([prefix / "bin" / command, "--help"]).stdout.decode()
+    assert all(it in help_text for it in needed), help_text
+    return failed(lint) + [f"{it} is missing" for it in (*needed, f"{command} {version}") if it not in text]
 
 
 def bash_completes(file, typed, folder):
@@ -177,10 +183,11 @@ def cases(program, room):
     yield "package-contents", contents(package, version, room)
     yield "package-installed", installed(package, scratch_root(room, "2.36-9"), room, version)
     yield "package-refused", refused(package, room)
-    share = room / "put/share"
-    run([first / "release", "--program", program, "--install", share.parent]).check_returncode()
-    yield "manual-page", manual_page(share / "man/man1/actionlint.1", program, version) if shutil.which("mandoc") else None
-    for name, wrong in shells(share, room):
+    prefix = room / "put"
+    run([first / "release", "--program", program, "--install", prefix]).check_returncode()
+    for command, needed in PAGES.items():
+        yield f"manual-page-of-{command}", manual_page(prefix, command, needed, version) if shutil.which("mandoc") else None
+    for name, wrong in shells(prefix / "share", room):
         yield f"completed-by-{name}", wrong
 
 
