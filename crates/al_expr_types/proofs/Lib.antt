@@ -7,3 +7,4 @@ pub mod Keeping
 pub mod Merges
 pub mod Indexes
 pub mod PrefixLemmas
+pub mod OnceLemmas

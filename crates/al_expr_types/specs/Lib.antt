@@ -1,4 +1,5 @@
 pub mod Names
+pub mod Once
 pub mod Types
 pub mod Joining
 pub mod Tables

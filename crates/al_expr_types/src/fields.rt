@@ -16,7 +16,7 @@ pub struct FieldMap<'a> {
 }
 
 impl<'a> FieldMap<'a> {
-    ghost use Rattle.std.specs.Prelude.{◌∷◌, ◌++◌, [], List, IfOk, if◌then◌else◌, is_none, option_map, slice_get, take, true, ℕ};
+    ghost use Rattle.std.specs.Prelude.{◌∷◌, ◌++◌, ◌<◌, [], List, IfOk, get_or, if◌then◌else◌, is_none, option_map, slice_get, take, true, ℕ};
     ghost use Rattle.al_base.specs.NamePlaces.{name_place};
     ghost use Rattle.al_types.specs.Types.{Parts, field_at, fields_of};
     ghost use Rattle.al_expr_types.specs.Types.{is_below, is_rest_below, named_types, type_in};
@@ -47,6 +47,22 @@ impl<'a> FieldMap<'a> {
             return Ok(FieldMap { names, types });
         }
         Ok(FieldMap { names, types })
+    }
+
+    /// How many fields there are.
+    pub fn len(&self) -> usize
+        ensures { result ≡ length self.now.types.items }
+    {
+        self.types.len()
+    }
+
+    /// The name and the type at a position.
+    pub fn at(&self, i: usize) -> (&'a [u8], Ty)
+        requires { i < length self.now.types.items }
+        ensures name { result.0.now ≡ get_or (names_in self.now.names) i result.0.now }
+        ensures ty { result.1 ≡ get_or self.now.types.items i result.1 }
+    {
+        (self.names.at(i), self.types[i])
     }
 
     /// The type at a position, where it is one of the first so many.

@@ -1,8 +1,9 @@
 //! The names of outputs behind a call, which are kept with the file that declares them.
 
-ghost use Rattle.std.specs.Prelude.{◌≡◌, ◌++◌, ◌∷◌, [], IfOk, if◌then◌else◌, is_none, map};
+ghost use Rattle.std.specs.Prelude.{◌≡◌, ◌++◌, ◌∷◌, [], IfOk, if◌then◌else◌, is_none, map, true};
 ghost use Rattle.al_base.specs.NamePlaces.{name_place};
 ghost use Rattle.al_base.specs.NamePlaces.{IsNameIndex};
+ghost use Rattle.al_expr_types.specs.Once.{are_once};
 
 use crate::names::Names;
 use al_base::NamePositions;
@@ -14,6 +15,7 @@ pub struct NameList {
     names: Vec<Vec<u8>>,
     positions: NamePositions,
     ghost indexed: { IsNameIndex positions (map (λ n. n.items) names.items) },
+    ghost once: { are_once (map (λ n. n.items) names.items) ≡ true },
 }
 
 impl NameList {
@@ -32,7 +34,7 @@ impl NameList {
     }
 
     /// The name at a position.
-    pub(crate) fn at(&self, i: usize) -> &[u8]
+    pub fn at(&self, i: usize) -> &[u8]
         requires { i < length (names_listed self.now) }
         ensures { result.now ≡ get_or (names_listed self.now) i result.now }
     {

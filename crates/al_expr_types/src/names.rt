@@ -1,8 +1,9 @@
 //! The names of fields, found in a map.
 
-ghost use Rattle.std.specs.Prelude.{◌≡◌, ◌++◌, ◌∷◌, [], IfOk, if◌then◌else◌, is_none, map};
+ghost use Rattle.std.specs.Prelude.{◌≡◌, ◌++◌, ◌∷◌, [], IfOk, if◌then◌else◌, is_none, map, true};
 ghost use Rattle.al_base.specs.NamePlaces.{name_place};
 ghost use Rattle.al_base.specs.NamePlaces.{IsNameIndex};
+ghost use Rattle.al_expr_types.specs.Once.{are_once};
 
 use al_base::NamePositions;
 use std::alloc::{AllocError, Global};
@@ -13,6 +14,7 @@ pub struct Names<'a> {
     names: Vec<&'a [u8]>,
     positions: NamePositions,
     ghost indexed: { IsNameIndex positions (map (λ n. n.now) names.items) },
+    ghost once: { are_once (map (λ n. n.now) names.items) ≡ true },
 }
 
 impl<'a> Names<'a> {

@@ -69,6 +69,22 @@ impl<'a> Types<'a> {
         Ok(number)
     }
 
+    /// How many objects there are.
+    pub fn len(&self) -> usize
+        ensures { result ≡ length self.now.objects.items }
+    {
+        self.objects.len()
+    }
+
+    /// An object, by its number.
+    pub fn object(&self, n: u32) -> &Object<'a>
+        requires { n < length self.now.objects.items }
+        ensures object { object_in (objects_of self.now) n ≡ object_parts (objects_of self.now) result.now }
+        ensures below { is_object_below n result.now ≡ true }
+    {
+        &self.objects[n as usize]
+    }
+
     /// What is kept of an object.
     pub(crate) fn mark(&self, n: u32) -> Mark
         ensures { result ≡ get_or self.now.marks.items n mark.Unknown }

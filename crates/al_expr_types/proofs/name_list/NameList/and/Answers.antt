@@ -1,7 +1,10 @@
 use Rattle.std.proofs.Common.{◌≡◌, ◌∷◌, ◌++◌, ◌∙◌, [], ap, sym, map, length, arith}
 use Rattle.std.proofs.lemmas.List.{length-map, map-append}
+use Rattle.std.specs.Prelude.{is_none}
 use Rattle.al_base.specs.NamePlaces.{name_place}
 use Rattle.al_types.proofs.AddedFields.{placed_new}
+use Rattle.al_expr_types.specs.Once.{are_once}
+use Rattle.al_expr_types.proofs.OnceLemmas.{once_more}
 use Rattle.al_expr_types.specs.Names.{names_listed}
 use Rattle.al_expr_types.proofs.name_list.NameList.and.Goals as goal
 
@@ -16,4 +19,6 @@ invariant_of-result c =
     record {
       indexed = placed_new c.args.self.positions c.insert.new.self ns c.args.name.now c.len.result c.args.self.indexed long c.in_ok-is_new.ensures.positions
           ∙ ap name_place (sym all);
+      once = ap are_once all ∙ once_more ns c.args.name.now c.in_ok-is_new.is_new
+          (c.in_ok-is_new.ensures.is_new ∙ ap (λ f. is_none (f c.args.name.now)) c.args.self.indexed) c.if-is_new.true c.args.self.once;
     }

@@ -3,6 +3,8 @@ use Rattle.std.proofs.lemmas.List.{length-map, map-append}
 use Rattle.std.specs.Prelude.{is_none}
 use Rattle.al_base.specs.NamePlaces.{name_place}
 use Rattle.al_types.proofs.AddedFields.{placed_new}
+use Rattle.al_expr_types.specs.Once.{are_once}
+use Rattle.al_expr_types.proofs.OnceLemmas.{once_more}
 use Rattle.al_expr_types.specs.Names.{names_in}
 use Rattle.al_expr_types.proofs.names.Names.and.Goals as goal
 
@@ -16,6 +18,8 @@ invariant_of-result c =
     record {
       indexed = placed_new c.args.self.positions c.insert.new.self ns c.args.name.now c.len.result c.args.self.indexed long c.in_ok-is_new.ensures.positions
           ∙ ap name_place (sym all);
+      once = ap are_once all ∙ once_more ns c.args.name.now c.in_ok-is_new.is_new
+          (c.in_ok-is_new.ensures.is_new ∙ ap (λ f. is_none (f c.args.name.now)) c.args.self.indexed) c.if-is_new.true c.args.self.once;
     }
 
 pub returns-clause-is_new : goal.returns-clause-is_new

@@ -1,0 +1,4 @@
+pub mod Trees
+pub mod Listings
+pub mod Scopes
+pub mod Tables

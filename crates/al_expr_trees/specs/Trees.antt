@@ -1,0 +1,38 @@
+-- What clauses see of trees: the type that one stands for.
+use Rattle.std.specs.Prelude.{ℕ, List, [], ◌∷◌, Option, Some, None, Box, string_bytes}
+use Rattle.std.specs.Global.{Global}
+use Rattle.al_types.specs.Puts.{Typed, firsts}
+use Rattle.al_types.specs.Types.{Type', Any, Null, Number, Bool', String, ArrayOf, Optional, Absent, Present, Parts, fields_of, object_type, parts_with}
+use Rattle.al_expr_trees.specs.declared.trees.Ty.{Ty}
+use Rattle.al_expr_trees.specs.declared.trees.Ty as code
+use Rattle.al_expr_trees.specs.declared.trees.Field.{Field}
+use Rattle.al_expr_trees.specs.declared.trees.Ty.{Row_of-Field, end_of-Field, more_of-Field, Held-Ty-rest, None', Some'}
+
+-- an object of fields, of which the first of each name counts, and of others of a type where there may be others
+abbrev pub object_parts : List Typed → Optional → Parts
+object_parts ts rest = parts_with (fields_of (firsts ts)) rest
+
+abbrev mutual
+  pub ty_of : Ty → Type'
+  ty_of code.Any = Any
+  ty_of code.Null = Null
+  ty_of code.Number = Number
+  ty_of code.Bool = Bool'
+  ty_of code.String = String
+  ty_of (code.Array' p t) = ArrayOf (ty_of t)
+  ty_of (code.Object' shape fs rest) = object_type (object_parts (fields_in fs) (rest_in rest))
+
+  pub fields_in : {n : _} → Row_of-Field n → List Typed
+  fields_in end_of-Field = []
+  fields_in (more_of-Field name t fs) = (string_bytes name, ty_of t) ∷ fields_in fs
+
+  pub rest_in : Held-Ty-rest → Optional
+  rest_in None' = Absent
+  rest_in (Some' p t) = Present (ty_of t)
+
+abbrev pub field_of : Field → Typed
+field_of f = (string_bytes f.name, ty_of f.ty)
+
+abbrev pub rest_of : Option (Box Ty Global) → Optional
+rest_of None = Absent
+rest_of (Some b) = Present (ty_of b.value)
