@@ -1,8 +1,8 @@
 //! Tests of types and of the faults of meaning, by worked rows.
 
 use crate::{
-    ContextSet, ContextTypes, Field, Form, FunctionSet, Scope, Ty, assignable, fuse,
-    object_of_fields, parse_expr, signature_of, type_of,
+    ContextSet, ContextTypes, Field, Form, FunctionSet, Scope, Ty, assignable, fuse, parse_expr,
+    signature_of, type_of,
 };
 use al_base::{Code, ExpressionCode, Fault};
 use std::alloc::{AllocError, Global};
@@ -23,7 +23,7 @@ fn step_run(alloc: Global) -> Result<Scope, AllocError> {
     fields.push(field(alloc, "event", Ty::Any)?)?;
     Ok(Scope {
         types: ContextTypes {
-            github: object_of_fields(alloc, fields, None)?,
+            github: Ty::Object { fields, rest: None },
             env: Ty::Any,
             vars: Ty::Any,
             secrets: Ty::Any,

@@ -2,15 +2,19 @@
 use Rattle.std.specs.Prelude.{ℕ, List, [], ◌∷◌, Option, Some, None, Box, string_bytes}
 use Rattle.std.specs.Global.{Global}
 use Rattle.al_types.specs.Puts.{Typed, firsts}
-use Rattle.al_types.specs.Types.{Type', Any, Null, Number, Bool', String, ArrayOf, Optional, Absent, Present, Parts, fields_of, object_type, parts_with}
+use Rattle.al_types.specs.Types.{Type', Any, Null, Number, Bool', String, ArrayOf, Optional, Absent, Present, Parts, FieldThen, NoField, fields_of, object_type, parts_with}
 use Rattle.al_expr_trees.specs.declared.trees.Ty.{Ty}
 use Rattle.al_expr_trees.specs.declared.trees.Ty as code
 use Rattle.al_expr_trees.specs.declared.trees.Field.{Field}
-use Rattle.al_expr_trees.specs.declared.trees.Ty.{Row_of-Field, end_of-Field, more_of-Field, Held-Ty-rest, None', Some'}
+use Rattle.al_expr_trees.specs.declared.trees.Ty.{Row_of-Field, end_of-Field, more_of-Field, Held-Ty-Object-1, None', Some'}
 
 -- an object of fields, of which the first of each name counts, and of others of a type where there may be others
 abbrev pub object_parts : List Typed → Optional → Parts
 object_parts ts rest = parts_with (fields_of (firsts ts)) rest
+
+-- an object of one field
+abbrev pub field_parts : Typed → Parts
+field_parts f = parts_with (FieldThen f.0 f.1 NoField) Absent
 
 abbrev mutual
   pub ty_of : Ty → Type'
@@ -26,7 +30,7 @@ abbrev mutual
   fields_in end_of-Field = []
   fields_in (more_of-Field name t fs) = (string_bytes name, ty_of t) ∷ fields_in fs
 
-  pub rest_in : Held-Ty-rest → Optional
+  pub rest_in : Held-Ty-Object-1 → Optional
   rest_in None' = Absent
   rest_in (Some' p t) = Present (ty_of t)
 

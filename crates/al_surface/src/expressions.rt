@@ -1,8 +1,9 @@
-//! `al_expr`: tokens, trees, chunks and signatures.
+//! `al_expr`: tokens, trees, chunks, signatures and types.
 
 use al_expr::{
-    Chunk, Expr, Operand, Operator, Parameters, PathStep, Returned, Signature, TokenKind, Wanted,
-    Word, chunks, lex, parse_expr, signature_of,
+    Chunk, ContextSet, ContextTypes, Expr, FunctionSet, Operand, Operator, Parameters, PathStep,
+    Returned, Scope, Signature, TokenKind, Ty, Wanted, Word, assignable, chunks, fuse, lex,
+    parse_expr, signature_of, type_of,
 };
 use al_text::{Code, ExpressionCode, Fault};
 use std::alloc::{AllocError, Global};
@@ -191,4 +192,143 @@ fn signatures_by_name(rt: HostRuntime) {
     for (name, wanted) in signatures() {
         assert!(rt; signature_of(name) == *wanted);
     }
+}
+
+/// Whether a number and a string are a string, and null and a number are any.
+fn fuses(alloc: Global) -> Result<bool, AllocError> {
+    let text = fuse(alloc, Ty::Number, Ty::String)?;
+    let unknown = fuse(alloc, Ty::Null, Ty::Number)?;
+    Ok(matches!(text, Ty::String) && matches!(unknown, Ty::Any))
+}
+
+#[test]
+fn types_have_types_in_common(rt: HostRuntime) -> Result<(), AllocError> {
+    assert!(rt; fuses(rt.alloc())?);
+    Ok(())
+}
+
+#[test]
+fn types_stand_for_others(rt: HostRuntime) {
+    assert!(rt; assignable(&Ty::Bool, &Ty::String));
+    assert!(rt; !assignable(&Ty::String, &Ty::Number));
+}
+
+/// A place where `github`, an object without fields, is the only context, and no special function is available.
+fn scope(alloc: Global) -> Scope {
+    Scope {
+        types: ContextTypes {
+            github: Ty::Object {
+                fields: Vec::new(alloc),
+                rest: None,
+            },
+            env: Ty::Any,
+            vars: Ty::Any,
+            secrets: Ty::Any,
+            runner: Ty::Any,
+            job: Ty::Any,
+            strategy: Ty::Any,
+            needs: Ty::Any,
+            jobs: Ty::Any,
+            steps: Ty::Any,
+            matrix: Ty::Any,
+            inputs: Ty::Any,
+        },
+        contexts: ContextSet {
+            github: true,
+            env: false,
+            vars: false,
+            secrets: false,
+            runner: false,
+            job: false,
+            strategy: false,
+            needs: false,
+            jobs: false,
+            steps: false,
+            matrix: false,
+            inputs: false,
+        },
+        functions: FunctionSet {
+            hash_files: false,
+            success: false,
+            always: false,
+            cancelled: false,
+            failure: false,
+        },
+        in_run: false,
+    }
+}
+
+static TYPED: [(&str, ExpressionCode, Option<&str>, Option<&str>); 4] = [
+    (
+        "format('{0} {2}', 'a', 'b')",
+        ExpressionCode::WrongPlaceholder,
+        None,
+        None,
+    ),
+    (
+        "format('{0}', 'a', 'b')",
+        ExpressionCode::UnusedArgument,
+        Some("3"),
+        None,
+    ),
+    (
+        "startsWith('a')",
+        ExpressionCode::ArgumentCount,
+        Some("startsWith"),
+        None,
+    ),
+    (
+        "contains(github, 'a')",
+        ExpressionCode::ArgumentType,
+        Some("1"),
+        Some("contains"),
+    ),
+];
+
+fn typed() -> &'static [(
+    &'static str,
+    ExpressionCode,
+    Option<&'static str>,
+    Option<&'static str>,
+)] {
+    &TYPED
+}
+
+/// Whether an expression that was read has one fault when it is typed, of this code and these texts.
+fn has_one(
+    alloc: Global,
+    expr: &Expr,
+    code: ExpressionCode,
+    texts: (Option<&str>, Option<&str>),
+) -> Result<bool, AllocError> {
+    let mut out = Vec::new(alloc);
+    type_of(alloc, &scope(alloc), expr, &mut out)?;
+    Ok(match out.as_slice() {
+        [only] => {
+            only.code == Code::Expression(code)
+                && only.args.first() == texts.0
+                && only.args.second() == texts.1
+        }
+        _ => false,
+    })
+}
+
+fn is_typed(
+    alloc: Global,
+    content: &str,
+    code: ExpressionCode,
+    texts: (Option<&str>, Option<&str>),
+) -> Result<bool, AllocError> {
+    match parse_expr(alloc, content)? {
+        Ok(expr) => has_one(alloc, &expr, code, texts),
+        Err(_) => Ok(false),
+    }
+}
+
+#[test]
+fn faults_of_types(rt: HostRuntime) -> Result<(), AllocError> {
+    for (content, code, first, second) in typed() {
+        assert!(rt; is_typed(rt.alloc(), content, *code, (*first, *second))?);
+    }
+    Ok(())
 }

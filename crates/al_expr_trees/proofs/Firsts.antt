@@ -1,0 +1,93 @@
+-- Of fields the first of each name: of distinct ones all, and with one more behind them.
+use Rattle.std.proofs.Common.{◌≡◌, ◌+◌, ℕ, List, [], ◌∷◌, ◌++◌, append_assoc, append-nil, refl, sym, ap, ◌∙◌, Bool, true, false, ◌||◌, Option, Some, None, option_map}
+use Rattle.std.specs.Prelude.{if◌then◌else◌, is_none, is_some, not, ◌&&◌}
+use Rattle.al_base.specs.Names.{same_name}
+use Rattle.al_types.specs.FusedFields.{are_distinct}
+use Rattle.al_types.specs.Private.Indexes.{name_at}
+use Rattle.al_types.specs.Puts.{Typed, firsts, put_all, put_new}
+use Rattle.al_types.specs.Types.{Type', field_at, fields_of, has_field}
+use Rattle.al_types.proofs.GatheredFields.{firsts_found}
+use Rattle.al_types.proofs.JoinedFields.{first_apart, has_field_at, others_apart, same_turned}
+use Rattle.al_types.proofs.Puts.{put_new_behind, put_new_old}
+
+-- ---- where a name stands, and what it finds
+
+place_step : (b : Bool) (t : Type') (o : Option ℕ) (f : Option Type') → is_none o ≡ is_none f →
+    is_none (if b then Some 0 else option_map (λ i. i + 1) o) ≡ is_none (if b then Some t else f)
+place_step true t o f e = refl
+place_step false t None f e = e
+place_step false t (Some i) f e = e
+
+pub none_at : (ts : List Typed) (n : List ℕ) → is_none (name_at ts n) ≡ is_none (field_at n (fields_of ts))
+none_at [] n = refl
+none_at (q ∷ qs) n = place_step (same_name q.0 n) q.1 (name_at qs n) (field_at n (fields_of qs)) (none_at qs n)
+
+-- the same of those of which each is the first of its name
+pub none_first : (ts : List Typed) (n : List ℕ) → is_none (name_at (firsts ts) n) ≡ is_none (name_at ts n)
+none_first ts n = none_at (firsts ts) n ∙ ap is_none (firsts_found ts n) ∙ sym (none_at ts n)
+
+not_some : (f : Option Type') → is_none f ≡ not (is_some f)
+not_some None = refl
+not_some (Some t) = refl
+
+pub none_named : (ts : List Typed) (n : List ℕ) → is_none (name_at ts n) ≡ not (has_field n (fields_of ts))
+none_named ts n = none_at ts n ∙ not_some (field_at n (fields_of ts)) ∙ ap not (has_field_at n (fields_of ts))
+
+-- whether a search found none
+pub none_if : (o q : Option ℕ) (b r : Bool) → o ≡ q → is_some o ≡ not b → b ≡ r → is_none q ≡ r
+none_if None q true r e s h = ap is_none (sym e) ∙ h
+none_if None q false r e s h = absurd cc
+none_if (Some i) q true r e s h = absurd cc
+none_if (Some i) q false r e s h = ap is_none (sym e) ∙ h
+
+-- ---- one more
+
+put_last : (acc ts : List Typed) (p : Typed) → put_all put_new acc (ts ++ p ∷ []) ≡ put_new (put_all put_new acc ts) p
+put_last acc [] p = refl
+put_last acc (q ∷ ts) p = put_last (put_new acc q) ts p
+
+pub firsts_more : (ts : List Typed) (p : Typed) → firsts (ts ++ p ∷ []) ≡ put_new (firsts ts) p
+firsts_more ts p = put_last [] ts p
+
+-- whose name is new
+pub firsts_new : (ts : List Typed) (p : Typed) → is_none (name_at ts p.0) ≡ true → firsts (ts ++ p ∷ []) ≡ firsts ts ++ p ∷ []
+firsts_new ts p e = firsts_more ts p ∙ put_new_behind (firsts ts) p (none_first ts p.0 ∙ e)
+
+-- whose name is there
+pub firsts_old : (ts : List Typed) (p : Typed) → is_none (name_at ts p.0) ≡ false → firsts (ts ++ p ∷ []) ≡ firsts ts
+firsts_old ts p e = firsts_more ts p ∙ put_new_old (firsts ts) p (none_first ts p.0 ∙ e)
+
+-- ---- distinct ones
+
+neither : (a b : Bool) → a || b ≡ false → (a ≡ false) × (b ≡ false)
+neither true b e = absurd cc
+neither false b e = (refl, e)
+
+-- of distinct fields one has none of the names before it
+has_behind : (n : List ℕ) (ts us : List Typed) → has_field n (fields_of (ts ++ us)) ≡ has_field n (fields_of ts) || has_field n (fields_of us)
+has_behind n [] us = refl
+has_behind n (q ∷ ts) us = ap (λ b. same_name q.0 n || b) (has_behind n ts us) ∙ or_assoc (same_name q.0 n) (has_field n (fields_of ts)) (has_field n (fields_of us))
+  where
+    or_assoc : (a b c : Bool) → a || (b || c) ≡ (a || b) || c
+    or_assoc true b c = refl
+    or_assoc false b c = refl
+
+last_apart : (ts us : List Typed) (p : Typed) → are_distinct (fields_of (ts ++ p ∷ us)) ≡ true → has_field p.0 (fields_of ts) ≡ false
+last_apart [] us p d = refl
+last_apart (q ∷ ts) us p d =
+    let whole = fields_of (ts ++ p ∷ us) in
+    let none = sym (has_behind q.0 ts (p ∷ us)) ∙ first_apart (has_field q.0 whole) (are_distinct whole) d in
+    let behind = (neither (has_field q.0 (fields_of ts)) (has_field q.0 (fields_of (p ∷ us))) none).1 in
+    let other = (neither (same_name p.0 q.0) (has_field q.0 (fields_of us)) behind).0 in
+    let more = last_apart ts us p (others_apart (has_field q.0 whole) (are_distinct whole) d) in
+    λ i. (same_turned q.0 p.0 ∙ other) i || more i
+
+all_kept : (acc ts : List Typed) → are_distinct (fields_of (acc ++ ts)) ≡ true → put_all put_new acc ts ≡ acc ++ ts
+all_kept acc [] d = sym (append-nil acc)
+all_kept acc (p ∷ ts) d =
+    let new : put_new acc p ≡ acc ++ p ∷ [] = put_new_behind acc p (none_named acc p.0 ∙ ap not (last_apart acc ts p d)) in
+    let same : (acc ++ p ∷ []) ++ ts ≡ acc ++ p ∷ ts = append_assoc acc (p ∷ []) ts in
+    ap (λ xs. put_all put_new xs ts) new ∙ all_kept (acc ++ p ∷ []) ts (ap (λ xs. are_distinct (fields_of xs)) same ∙ d) ∙ same
+
+pub firsts_same : (ts : List Typed) → are_distinct (fields_of ts) ≡ true → firsts ts ≡ ts
+firsts_same ts d = all_kept [] ts d

@@ -1,0 +1,38 @@
+-- Where the first element stands that passes a test, by a search from the start.
+use Rattle.std.proofs.Common.{◌≡◌, ℕ, ◌+◌, ◌<◌, List, [], ◌∷◌, ◌++◌, map, take, length, get_or, zero, suc, sym, ap, ◌∙◌, Bool, true, false, Option, Some, None, option_map, arith}
+use Rattle.std.proofs.lemmas.List.{get_or_default}
+use Rattle.std.specs.Option.{option_or}
+use Rattle.std.specs.Prelude.{if◌then◌else◌}
+use Rattle.al_base.specs.NamePlaces.{first_at}
+use Rattle.al_base.proofs.NamePlaces.{first_more}
+use Rattle.al_expr_trees.proofs.Added.{mapped_more}
+
+here_step : (b : Bool) (o p : Option ℕ) (i : ℕ) → (if b then Some 0 else option_map (λ k. k + 1) o) ≡ None → (o ≡ None → p ≡ Some i) →
+    (if b then Some 0 else option_map (λ k. k + 1) p) ≡ Some (suc i)
+here_step true o p i n h = absurd cc
+here_step false (Some j) p i n h = absurd cc
+here_step false None p i n h =
+    let next : i + 1 ≡ suc i = omega arith in
+    ap (option_map (λ k. k + 1)) (h n) ∙ ap Some next
+
+-- the one at an index, where none before it passes
+pub found_here : {X A : Type 0} (g : X → A) (test : A → Bool) (xs : List X) (i : ℕ) (x : X) → i < length xs → x ≡ get_or xs i x →
+    first_at test (map g (take i xs)) ≡ None → test (g x) ≡ true → first_at test (map g xs) ≡ Some i
+found_here g test [] i x lt e n t = absurd (omega (arith, lt))
+found_here g test (y ∷ xs) zero x lt e n t =
+    ap (λ b. if b then Some 0 else option_map (λ k. k + 1) (first_at test (map g xs))) (ap (λ z. test (g z)) (sym e) ∙ t)
+found_here g test (y ∷ xs) (suc i) x lt e n t =
+    here_step (test (g y)) (first_at test (map g (take i xs))) (first_at test (map g xs)) i n
+    (λ m. found_here g test xs i x (omega (arith, lt)) e m t)
+
+-- none up to an index and none there
+pub missed_here : {X A : Type 0} (g : X → A) (test : A → Bool) (xs : List X) (i : ℕ) (x : X) → i < length xs → x ≡ get_or xs i x →
+    first_at test (map g (take i xs)) ≡ None → test (g x) ≡ false → first_at test (map g (take (i + 1) xs)) ≡ None
+missed_here g test xs i x lt e n t =
+    ap (first_at test) (mapped_more g xs i x lt e) ∙ first_more test (map g (take i xs)) (g x)
+    ∙ ap (λ o. option_or o (if test (g x) then Some (length (map g (take i xs))) else None)) n
+    ∙ ap (λ b. if b then Some (length (map g (take i xs))) else None) t
+
+-- two readings of one place
+pub same_got : {X : Type 0} (xs : List X) (i : ℕ) (x y : X) → i < length xs → x ≡ get_or xs i x → y ≡ get_or xs i y → x ≡ y
+same_got xs i x y lt e f = e ∙ get_or_default xs i x y lt ∙ sym f

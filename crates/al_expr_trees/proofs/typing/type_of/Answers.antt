@@ -1,0 +1,12 @@
+use Rattle.std.proofs.Common.{◌++◌, ◌∙◌, ap}
+use Rattle.al_expr_grammar.specs.View.{tree_of}
+use Rattle.al_meaning.specs.Meaning.{faults_in, meaning_of, type_in}
+use Rattle.al_expr_trees.proofs.typing.type_of.Goals as goal
+
+pub returns-clause-ty : goal.returns-clause-ty
+returns-clause-ty c =
+    c.in_ok-tree.ensures ∙ c.in_ok-ty.ensures.ty ∙ ap (λ sc. type_in (meaning_of sc (tree_of c.args.expr.now))) c.in_ok-scope.ensures.same
+
+pub returns-clause-faults : goal.returns-clause-faults
+returns-clause-faults c =
+    c.in_ok-ty.ensures.faults ∙ ap (λ sc. c.args.out.now.items ++ faults_in (meaning_of sc (tree_of c.args.expr.now))) c.in_ok-scope.ensures.same

@@ -1,0 +1,189 @@
+//! What two types have in common.
+
+ghost use Rattle.std.specs.Prelude.{◌≡◌, IfOk, Some, None, map};
+ghost use Rattle.al_types.specs.Private.Indexes.{name_at};
+ghost use Rattle.al_types.specs.Private.TypeParts.{fuse_with_form};
+ghost use Rattle.al_types.specs.TypeViews.{fuse_parts};
+ghost use Rattle.al_types.specs.Types.{Absent, ArrayOf, FieldThen, NoField, Parts, fuse_optional, fuse_type, object_type, parts_with};
+ghost use Rattle.al_expr_trees.specs.Listings.{parts_in};
+ghost use Rattle.al_expr_trees.specs.Trees.{field_of, field_parts, object_parts, rest_of, ty_of};
+
+use crate::copying::{copy, copy_field, copy_rest};
+use crate::listings::{Listing, position};
+use crate::trees::{Field, Ty};
+use al_types::Form;
+use std::alloc::{AllocError, Global};
+
+/// What two types have in common: any with any or null, itself with itself, a string for two other scalars, an array of what the elements
+/// have in common, and an object with all fields of both, those of one name fused, as are the types of other fields where both have one.
+/// Everything else is any. Fails only when out of memory.
+pub fn fuse(alloc: Global, a: Ty, b: Ty) -> Result<Ty, AllocError>
+    ensures { IfOk result (λ t. ty_of t ≡ fuse_type (ty_of a) (ty_of b)) }
+{
+    let ty = fuse_more(alloc, &b, &a)?;
+    Ok(ty)
+}
+
+// What a type has in common with one more.
+#[tactic(auto, using(al_types::proofs::FusedForms::by_form))]
+#[cycle(fusing)]
+fn fuse_more(alloc: Global, more: &Ty, ty: &Ty) -> Result<Ty, AllocError>
+    ensures { IfOk result (λ t. ty_of t ≡ fuse_type (ty_of ty.now) (ty_of more.now)) }
+{
+    match ty {
+        Ty::Any => Ok(Ty::Any),
+        Ty::Null => Ok(fuse_scalar(Form::Null, more.form())),
+        Ty::Number => Ok(fuse_scalar(Form::Number, more.form())),
+        Ty::Bool => Ok(fuse_scalar(Form::Bool, more.form())),
+        Ty::String => Ok(fuse_scalar(Form::String, more.form())),
+        Ty::Array(of) => match more {
+            Ty::Array(other) => {
+                let both = fuse_more(alloc, other, of)?;
+                Ok(Ty::Array(Box::new(alloc, both)?))
+            }
+            Ty::Any | Ty::Null | Ty::Number | Ty::Bool | Ty::String => Ok(Ty::Any),
+            Ty::Object { .. } => Ok(Ty::Any),
+        },
+        Ty::Object { fields, rest } => match more {
+            Ty::Object {
+                fields: others,
+                rest: other,
+            } => {
+                let first = Listing::of(alloc, fields, rest)?;
+                let both = add_fields(alloc, others, first)?;
+                let whole = add_rest(alloc, other, both)?;
+                Ok(whole.into_type())
+            }
+            Ty::Any | Ty::Null | Ty::Number | Ty::Bool | Ty::String => Ok(Ty::Any),
+            Ty::Array(_) => Ok(Ty::Any),
+        },
+    }
+}
+
+// A scalar with a type of this form.
+fn fuse_scalar(a: Form, b: Form) -> Ty
+    ensures { ty_of result ≡ fuse_with_form a b }
+{
+    match a {
+        Form::Null if b == Form::Null => Ty::Null,
+        Form::Number if b == Form::Number => Ty::Number,
+        Form::Bool if b == Form::Bool => Ty::Bool,
+        Form::Number | Form::Bool | Form::String => match b {
+            Form::Number | Form::Bool | Form::String => Ty::String,
+            Form::Any | Form::Null | Form::Array | Form::Object => Ty::Any,
+        },
+        Form::Any | Form::Null | Form::Array | Form::Object => Ty::Any,
+    }
+}
+
+/// What an object has in common with one more.
+pub(crate) fn add_object(
+    alloc: Global,
+    fields: &[Field],
+    rest: &Option<Box<Ty>>,
+    sofar: Listing,
+) -> Result<Listing, AllocError>
+    ensures { IfOk result (λ l. parts_in l ≡ fuse_parts (parts_in sofar) (object_parts (map field_of fields.now) (rest_of rest.now))) }
+{
+    let both = add_fields(alloc, fields, sofar)?;
+    let whole = add_rest(alloc, rest, both)?;
+    Ok(whole)
+}
+
+// The same of an object of these fields, and no others.
+#[cycle(fusing)]
+fn add_fields(alloc: Global, fields: &[Field], sofar: Listing) -> Result<Listing, AllocError>
+    ensures { IfOk result (λ l. parts_in l ≡ fuse_parts (parts_in sofar) (object_parts (map field_of fields.now) Absent)) }
+{
+    let mut all = sofar;
+    for (i, field) in fields.iter().enumerate() {
+        if position(&fields[..i], field.name.as_str()).is_none() {
+            let more = add_field(alloc, field, all)?;
+            all = more;
+        }
+    }
+    Ok(all)
+}
+
+// The same of an object of one field.
+#[cycle(fusing)]
+fn add_field(alloc: Global, field: &Field, sofar: Listing) -> Result<Listing, AllocError>
+    ensures { IfOk result (λ l. parts_in l ≡ fuse_parts (parts_in sofar) (field_parts (field_of field.now))) }
+{
+    match position(sofar.fields.as_slice(), field.name.as_str()) {
+        Some(i) => {
+            let both = fuse_at(alloc, field, i, sofar)?;
+            Ok(both)
+        }
+        None => {
+            let both = push(alloc, field, sofar)?;
+            Ok(both)
+        }
+    }
+}
+
+// The same where a field of its name stands at a position.
+#[cycle(fusing)]
+fn fuse_at(alloc: Global, field: &Field, i: usize, sofar: Listing) -> Result<Listing, AllocError>
+    requires { name_at (map field_of sofar.fields.items) (field_of field.now).0 ≡ Some i }
+    ensures { IfOk result (λ l. parts_in l ≡ fuse_parts (parts_in sofar) (field_parts (field_of field.now))) }
+{
+    let mut fields = sofar.fields;
+    let ty = fuse_more(alloc, &field.ty, &fields[i].ty)?;
+    fields[i].ty = ty;
+    Ok(Listing {
+        fields,
+        rest: sofar.rest,
+    })
+}
+
+// The same where no field has its name.
+fn push(alloc: Global, field: &Field, sofar: Listing) -> Result<Listing, AllocError>
+    requires { name_at (map field_of sofar.fields.items) (field_of field.now).0 ≡ None }
+    ensures { IfOk result (λ l. parts_in l ≡ fuse_parts (parts_in sofar) (field_parts (field_of field.now))) }
+{
+    let mut fields = sofar.fields;
+    let copy = copy_field(alloc, field)?;
+    fields.push(copy)?;
+    Ok(Listing {
+        fields,
+        rest: sofar.rest,
+    })
+}
+
+// The same of an object without fields of its own, and with others of a type where there may be others.
+#[cycle(fusing)]
+fn add_rest(alloc: Global, rest: &Option<Box<Ty>>, sofar: Listing) -> Result<Listing, AllocError>
+    ensures { IfOk result (λ l. parts_in l ≡ fuse_parts (parts_in sofar) (parts_with NoField (rest_of rest.now))) }
+{
+    let rest = fuse_rest(alloc, rest, &sofar.rest)?;
+    Ok(Listing {
+        fields: sofar.fields,
+        rest,
+    })
+}
+
+// What the types of other fields have in common, where there may be others.
+#[cycle(fusing)]
+fn fuse_rest(
+    alloc: Global,
+    more: &Option<Box<Ty>>,
+    rest: &Option<Box<Ty>>,
+) -> Result<Option<Box<Ty>>, AllocError>
+    ensures { IfOk result (λ r. rest_of r ≡ fuse_optional (rest_of rest.now) (rest_of more.now)) }
+{
+    let Some(other) = more else {
+        let same = copy_rest(alloc, rest)?;
+        return Ok(same);
+    };
+    match rest {
+        Some(ty) => {
+            let both = fuse_more(alloc, other, ty)?;
+            Ok(Some(Box::new(alloc, both)?))
+        }
+        None => {
+            let copy = copy(alloc, other)?;
+            Ok(Some(Box::new(alloc, copy)?))
+        }
+    }
+}

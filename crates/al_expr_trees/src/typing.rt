@@ -1,0 +1,37 @@
+//! The type of an expression.
+
+ghost use Rattle.std.specs.Prelude.{◌≡◌, ◌++◌, IfOk, OnOk};
+ghost use Rattle.al_base.specs.Growth.{BeginsWith};
+ghost use Rattle.al_expr_grammar.specs.View.{tree_of};
+ghost use Rattle.al_meaning.specs.Meaning.{faults_in, meaning_of, type_in};
+ghost use Rattle.al_expr_trees.specs.Scopes.{scope_of};
+ghost use Rattle.al_expr_trees.specs.Trees.{ty_of};
+
+use crate::adding::add_scope;
+use crate::scope::Scope;
+use crate::taking::tree_of;
+use crate::trees::Ty;
+use al_base::Fault;
+use al_expr_grammar::Expr;
+use al_expr_types::Types;
+use std::alloc::{AllocError, Global};
+
+/// The type of an expression under a scope, with the faults in it added to `out` in the order in which it is read:
+/// X7 to X17 and X19. Spans are places in the expression's content. Where it is out of memory, `out` begins with what
+/// it held. Recursion goes no deeper than the expression's nesting, and than the types of the scope.
+pub fn type_of(
+    alloc: Global,
+    env: &Scope,
+    expr: &Expr,
+    out: &mut Vec<Fault>,
+) -> Result<Ty, AllocError>
+    ensures ty { IfOk result (λ t. ty_of t ≡ type_in (meaning_of (scope_of env.now) (tree_of expr.now))) }
+    ensures faults { OnOk result (out.new.items ≡ out.old.items ++ faults_in (meaning_of (scope_of env.now) (tree_of expr.now))) }
+    ensures begins { BeginsWith out.new.items out.old.items }
+{
+    let mut types = Types::new(alloc);
+    let scope = add_scope(alloc, &mut types, env)?;
+    let ty = al_expr_typing::type_of(alloc, &mut types, &scope, expr, out)?;
+    let tree = tree_of(alloc, &types, ty)?;
+    Ok(tree)
+}
