@@ -88,9 +88,12 @@ taken_next g ns ts i n t h k e f =
     (λ d. zip ((take_more ns i n h ∙ ap (λ m. take i ns ++ m ∷ []) (sym e)) d) (mapped_more g ts i t k f d))
     ∙ zip_behind (take i ns) (map g (take i ts)) n (g t) long
 
-zip_nothing : {X Y : Type 0} (xs : List X) → zip xs ([] {A = Y}) ≡ []
+abbrev no_types : List Type'
+no_types = []
+
+zip_nothing : (ns : List (List ℕ)) → zip ns no_types ≡ []
 zip_nothing [] = refl
-zip_nothing (x ∷ xs) = refl
+zip_nothing (n ∷ ns) = refl
 
 -- as many names as there are types suffice
 pub zip_short : (k : ℕ) (ns : List (List ℕ)) (us : List Type') → length us ≤ k → zip (take k ns) us ≡ zip ns us
