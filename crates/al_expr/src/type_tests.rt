@@ -273,6 +273,85 @@ fn types(rt: HostRuntime) -> Result<(), Fail> {
     Ok(())
 }
 
+/// Whether a type is an object of fields of these names and forms, in their order, and of no others.
+fn is_object(ty: &Ty, wanted: &[(&str, Form)]) -> bool {
+    match ty {
+        Ty::Object { fields, rest } => rest.is_none() && are_fields(fields, wanted),
+        _ => false,
+    }
+}
+
+fn are_fields(fields: &[Field], wanted: &[(&str, Form)]) -> bool {
+    if fields.len() != wanted.len() {
+        return false;
+    }
+    for (field, (name, form)) in fields.iter().zip(wanted) {
+        if field.name.as_str() != *name || field.ty.form() != *form {
+            return false;
+        }
+    }
+    true
+}
+
+fn object(alloc: Global, first: Field, second: Field) -> Result<Ty, AllocError> {
+    let mut fields = Vec::new(alloc);
+    fields.push(first)?;
+    fields.push(second)?;
+    Ok(Ty::Object { fields, rest: None })
+}
+
+/// Two objects that both have a field of one name, in two cases of letters.
+fn fused_objects(alloc: Global) -> Result<Ty, AllocError> {
+    let a = object(
+        alloc,
+        field(alloc, "a", Ty::Number)?,
+        field(alloc, "B", Ty::String)?,
+    )?;
+    let b = object(
+        alloc,
+        field(alloc, "b", Ty::Bool)?,
+        field(alloc, "c", Ty::Null)?,
+    )?;
+    fuse(alloc, a, b)
+}
+
+static FUSED: [(&str, Form); 3] = [("a", Form::Number), ("B", Form::String), ("c", Form::Null)];
+
+fn fused_fields() -> &'static [(&'static str, Form)] {
+    &FUSED
+}
+
+#[test]
+fn objects_fuse_by_their_fields(rt: HostRuntime) -> Result<(), Fail> {
+    let both = fused_objects(rt.alloc())?;
+    assert!(rt; is_object(&both, fused_fields()));
+    Ok(())
+}
+
+static TAKEN: [(&str, Form); 2] = [("head_ref", Form::String), ("event", Form::Any)];
+
+fn taken_fields() -> &'static [(&'static str, Form)] {
+    &TAKEN
+}
+
+/// Whether the type of an expression is `github`'s.
+fn is_github(alloc: Global, content: &str) -> Result<bool, AllocError> {
+    let scope = step_run(alloc)?;
+    let Ok(expr) = parse_expr(alloc, content)? else {
+        return Ok(false);
+    };
+    let mut out = Vec::new(alloc);
+    let ty = type_of(alloc, &scope, &expr, &mut out)?;
+    Ok(is_object(&ty, taken_fields()))
+}
+
+#[test]
+fn contexts_are_taken_out_as_they_were(rt: HostRuntime) -> Result<(), Fail> {
+    assert!(rt; is_github(rt.alloc(), "github")?);
+    assert!(rt; is_github(rt.alloc(), "github || github")?);
+    Ok(())
+}
+
 /// `first`, and so many times `more`.
 fn repeated(alloc: Global, first: &str, more: &str, times: usize) -> Result<String, AllocError> {
     let mut content = String::from_str(alloc, first)?;
