@@ -1,18 +1,18 @@
 -- Objects that fields are added to, one after another.
-use Rattle.std.proofs.Common.{◌≡◌, ◌+◌, ℕ, ◌<◌, List, [], ◌∷◌, ◌++◌, map, take, length, get_or, set, refl, sym, ap, ◌∙◌, Bool, true, false, ◌||◌, Option, Some, None, arith, zero, suc}
+use Rattle.std.proofs.Common.{◌≡◌, ◌+◌, ℕ, ◌<◌, List, [], ◌∷◌, ◌++◌, map, take, length, get_or, refl, sym, ap, ◌∙◌, Bool, true, false, Option, Some, None}
 use Rattle.std.proofs.lemmas.List.{map-append, take_more}
 use Rattle.std.specs.Prelude.{if◌then◌else◌, is_none, is_some, not, ◌&&◌}
 use Rattle.al_base.specs.Names.{same_name}
 use Rattle.al_types.specs.FusedFields.{are_distinct}
 use Rattle.al_types.specs.Private.Indexes.{name_at}
 use Rattle.al_types.specs.Private.TypeParts.{common_type}
-use Rattle.al_types.specs.Puts.{Typed, firsts, put, put_new}
+use Rattle.al_types.specs.Puts.{Typed, firsts, put}
 use Rattle.al_types.specs.TypeViews.{fuse_parts}
 use Rattle.al_types.specs.Types.{Type', Optional, Absent, Present, Parts, FieldThen, NoField, common_in, field_at, fields_of, fuse_optional, fuse_type, has_field, optional, parts_with}
 use Rattle.al_types.proofs.FuseLaws.{common_optional, last_turned, nothing_last, optional_assoc, parts_assoc}
 use Rattle.al_types.proofs.GatheredFields.{found_put}
 use Rattle.al_types.proofs.JoinedFields.{first_apart, has_field_at, nothing_at, others_apart, same_turned}
-use Rattle.al_types.proofs.Puts.{put_behind, put_new_behind}
+use Rattle.al_types.proofs.Puts.{put_behind}
 use Rattle.al_expr_trees.specs.Trees.{field_parts, object_parts}
 use Rattle.al_expr_trees.proofs.Firsts.{firsts_more, firsts_old, none_first}
 

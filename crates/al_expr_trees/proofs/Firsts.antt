@@ -1,6 +1,6 @@
 -- Of fields the first of each name: of distinct ones all, and with one more behind them.
 use Rattle.std.proofs.Common.{◌≡◌, ◌+◌, ℕ, List, [], ◌∷◌, ◌++◌, append_assoc, append-nil, refl, sym, ap, ◌∙◌, Bool, true, false, ◌||◌, Option, Some, None, option_map}
-use Rattle.std.specs.Prelude.{if◌then◌else◌, is_none, is_some, not, ◌&&◌}
+use Rattle.std.specs.Prelude.{if◌then◌else◌, is_none, is_some, not}
 use Rattle.al_base.specs.Names.{same_name}
 use Rattle.al_types.specs.FusedFields.{are_distinct}
 use Rattle.al_types.specs.Private.Indexes.{name_at}

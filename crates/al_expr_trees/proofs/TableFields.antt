@@ -1,5 +1,5 @@
 -- Fields of a table, added and taken one after another.
-use Rattle.std.proofs.Common.{◌≡◌, ℕ, ◌+◌, ◌<◌, ◌≤◌, List, [], ◌∷◌, ◌++◌, map, take, length, get_or, refl, sym, ap, ◌∙◌, Bool, true, false, Option, Some, None, option_map, arith, zero, suc}
+use Rattle.std.proofs.Common.{◌≡◌, ℕ, ◌+◌, ◌<◌, ◌≤◌, List, [], ◌∷◌, ◌++◌, map, take, length, get_or, refl, sym, ap, ◌∙◌, Bool, true, false, Some, option_map, arith, zero, suc}
 use Rattle.std.proofs.lemmas.List.{map-append, length-map, length-take, take_more}
 use Rattle.std.specs.Prelude.{if◌then◌else◌, is_none, zip}
 use Rattle.std.specs.List.{list_all}
@@ -7,7 +7,7 @@ use Rattle.al_base.specs.Growth.{BeginsWith}
 use Rattle.al_base.specs.NamePlaces.{name_place}
 use Rattle.al_base.specs.Names.{same_name}
 use Rattle.al_types.specs.Private.Indexes.{name_at}
-use Rattle.al_types.specs.Puts.{Typed, put_new}
+use Rattle.al_types.specs.Puts.{put_new}
 use Rattle.al_types.specs.Types.{Type', Parts}
 use Rattle.al_types.proofs.Puts.{put_new_behind, put_new_old}
 use Rattle.al_expr_types.specs.Names.{names_in}

@@ -1,5 +1,5 @@
 -- Objects by their fields as a list.
-use Rattle.std.proofs.Common.{◌≡◌, List, ◌∷◌, map, refl, sym, ap, ◌∙◌, Option, Some, None}
+use Rattle.std.proofs.Common.{◌≡◌, ◌∷◌, map, refl, ap, ◌∙◌, Option, Some, None}
 use Rattle.std.specs.Global.{Global}
 use Rattle.std.specs.Prelude.{Box, Vec, string_bytes}
 use Rattle.al_types.specs.Types.{object_type}

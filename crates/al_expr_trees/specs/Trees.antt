@@ -1,8 +1,9 @@
 -- What clauses see of trees: the type that one stands for.
-use Rattle.std.specs.Prelude.{ℕ, List, [], ◌∷◌, Option, Some, None, Box, string_bytes}
+use Rattle.std.specs.Prelude.{List, [], ◌∷◌, Option, Some, None, Box, string_bytes}
 use Rattle.std.specs.Global.{Global}
 use Rattle.al_types.specs.Puts.{Typed, firsts}
-use Rattle.al_types.specs.Types.{Type', Any, Null, Number, Bool', String, ArrayOf, Optional, Absent, Present, Parts, FieldThen, NoField, fields_of, object_type, parts_with}
+use Rattle.al_types.specs.Types.{Type', Any, Null, Number, Bool', String, ArrayOf, Optional, Absent, Present, Parts}
+use Rattle.al_types.specs.Types.{FieldThen, NoField, fields_of, object_type, parts_with}
 use Rattle.al_expr_trees.specs.declared.trees.Ty.{Ty}
 use Rattle.al_expr_trees.specs.declared.trees.Ty as code
 use Rattle.al_expr_trees.specs.declared.trees.Field.{Field}

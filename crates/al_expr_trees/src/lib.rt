@@ -1,4 +1,5 @@
-//! Types of expressions as trees, for callers that keep no table of objects: each call puts its trees into a table, and takes the answer out.
+//! Types of expressions as trees, for callers that keep no table of objects: each call puts its trees into a table, and takes the answer
+//! out.
 #![tactic(auto)]
 
 mod adding;

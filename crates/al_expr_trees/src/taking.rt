@@ -1,8 +1,6 @@
 //! Trees taken out of a table.
 
 ghost use Rattle.std.specs.Prelude.{◌≡◌, ◌<◌, ◌≤◌, IfOk, length, map, take, true};
-ghost use Rattle.al_types.specs.Strings.{strings};
-ghost use Rattle.al_types.specs.Types.{Absent, fields_of, object_type, parts_with};
 ghost use Rattle.al_expr_types.specs.Names.{names_in, names_listed};
 ghost use Rattle.al_expr_types.specs.Tables.{is_known, objects_of, type_at};
 ghost use Rattle.al_expr_types.specs.Types.{are_fields_below, arrays_of, fields_parts, is_below, is_rest_below};

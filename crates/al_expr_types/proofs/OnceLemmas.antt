@@ -1,12 +1,12 @@
 -- Names of which no two are the same: with one more behind them, and as the names of fields.
-use Rattle.std.proofs.Common.{◌≡◌, ℕ, List, [], ◌∷◌, ◌++◌, map, refl, sym, ap, ◌∙◌, Bool, true, false, ◌||◌, Option, Some, None, option_map}
+use Rattle.std.proofs.Common.{◌≡◌, ℕ, List, [], ◌∷◌, ◌++◌, refl, sym, ap, ◌∙◌, Bool, true, false, ◌||◌, Option, Some, None, option_map}
 use Rattle.std.proofs.lemmas.List.{map-append}
-use Rattle.std.specs.Prelude.{if◌then◌else◌, is_none, is_some, not, ◌&&◌, zip}
+use Rattle.std.specs.Prelude.{is_none, is_some, not, ◌&&◌, zip}
 use Rattle.al_base.specs.Names.{same_name}
 use Rattle.al_types.specs.FusedFields.{are_distinct}
 use Rattle.al_base.specs.NamePlaces.{name_place}
 use Rattle.al_types.specs.Strings.{strings}
-use Rattle.al_types.specs.Types.{Type', String, FieldThen, NoField, fields_of, has_field}
+use Rattle.al_types.specs.Types.{Type', String, fields_of, has_field}
 use Rattle.al_types.proofs.JoinedFields.{distinct_more, first_apart, has_field_at, join_lists, others_apart}
 use Rattle.al_types.proofs.StringFields.{string_at}
 use Rattle.al_expr_types.specs.Once.{are_once}

@@ -16,7 +16,8 @@ pub struct FieldMap<'a> {
 }
 
 impl<'a> FieldMap<'a> {
-    ghost use Rattle.std.specs.Prelude.{◌∷◌, ◌++◌, ◌<◌, [], List, IfOk, get_or, if◌then◌else◌, is_none, option_map, slice_get, take, true, ℕ};
+    ghost use Rattle.std.specs.Prelude.{◌∷◌, ◌++◌, ◌<◌, [], List, IfOk, get_or, if◌then◌else◌, is_none};
+    ghost use Rattle.std.specs.Prelude.{option_map, slice_get, take, true, ℕ};
     ghost use Rattle.al_base.specs.NamePlaces.{name_place};
     ghost use Rattle.al_types.specs.Types.{Parts, field_at, fields_of};
     ghost use Rattle.al_expr_types.specs.Types.{is_below, is_rest_below, named_types, type_in};

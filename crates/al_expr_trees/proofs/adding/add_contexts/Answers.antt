@@ -12,7 +12,20 @@ use Rattle.al_expr_trees.proofs.adding.add_contexts.Goals as goal
 pub returns-clause-same : goal.returns-clause-same
 returns-clause-same c =
     let new = c.add-12.new.types in
-    let ns : numbers.ContextTypes = record { github = c.in_ok-github.github; env = c.in_ok-env.env; vars = c.in_ok-vars.vars; secrets = c.in_ok-secrets.secrets; runner = c.in_ok-runner.runner; job = c.in_ok-job.job; strategy = c.in_ok-strategy.strategy; needs = c.in_ok-needs.needs; jobs = c.in_ok-jobs.jobs; steps = c.in_ok-steps.steps; matrix = c.in_ok-matrix.matrix; inputs = c.in_ok-inputs.inputs } in
+    let ns : numbers.ContextTypes = record {
+      github = c.in_ok-github.github;
+      env = c.in_ok-env.env;
+      vars = c.in_ok-vars.vars;
+      secrets = c.in_ok-secrets.secrets;
+      runner = c.in_ok-runner.runner;
+      job = c.in_ok-job.job;
+      strategy = c.in_ok-strategy.strategy;
+      needs = c.in_ok-needs.needs;
+      jobs = c.in_ok-jobs.jobs;
+      steps = c.in_ok-steps.steps;
+      matrix = c.in_ok-matrix.matrix;
+      inputs = c.in_ok-inputs.inputs;
+    } in
     let b10 = c.in_ok-inputs.ensures.kept in
     let b9 = begins_trans _ _ _ c.in_ok-matrix.ensures.kept b10 in
     let b8 = begins_trans _ _ _ c.in_ok-steps.ensures.kept b9 in
@@ -43,7 +56,20 @@ returns-clause-same c =
 pub returns-clause-known : goal.returns-clause-known
 returns-clause-known c =
     let new = c.add-12.new.types in
-    let ns : numbers.ContextTypes = record { github = c.in_ok-github.github; env = c.in_ok-env.env; vars = c.in_ok-vars.vars; secrets = c.in_ok-secrets.secrets; runner = c.in_ok-runner.runner; job = c.in_ok-job.job; strategy = c.in_ok-strategy.strategy; needs = c.in_ok-needs.needs; jobs = c.in_ok-jobs.jobs; steps = c.in_ok-steps.steps; matrix = c.in_ok-matrix.matrix; inputs = c.in_ok-inputs.inputs } in
+    let ns : numbers.ContextTypes = record {
+      github = c.in_ok-github.github;
+      env = c.in_ok-env.env;
+      vars = c.in_ok-vars.vars;
+      secrets = c.in_ok-secrets.secrets;
+      runner = c.in_ok-runner.runner;
+      job = c.in_ok-job.job;
+      strategy = c.in_ok-strategy.strategy;
+      needs = c.in_ok-needs.needs;
+      jobs = c.in_ok-jobs.jobs;
+      steps = c.in_ok-steps.steps;
+      matrix = c.in_ok-matrix.matrix;
+      inputs = c.in_ok-inputs.inputs;
+    } in
     let b10 = c.in_ok-inputs.ensures.kept in
     let b9 = begins_trans _ _ _ c.in_ok-matrix.ensures.kept b10 in
     let b8 = begins_trans _ _ _ c.in_ok-steps.ensures.kept b9 in

@@ -1,10 +1,10 @@
-use Rattle.std.proofs.Common.{◌≡◌, ◌<◌, List, ◌∙◌, ap, arith, get_or, length, map, refl, set, sym, take}
+use Rattle.std.proofs.Common.{◌≡◌, List, ◌∙◌, ap, arith, get_or, map, refl, sym, take}
 use Rattle.std.proofs.lemmas.List.{map-set}
 use Rattle.std.proofs.Math.ListN.{get_or-map}
 use Rattle.al_base.proofs.NamePlaces.{found_within}
 use Rattle.al_types.specs.FusedFields.{are_distinct}
 use Rattle.al_types.specs.Private.Indexes.{name_at, named_as}
-use Rattle.al_types.specs.Puts.{Typed, put}
+use Rattle.al_types.specs.Puts.{Typed}
 use Rattle.al_types.specs.TypeViews.{fuse_parts}
 use Rattle.al_types.specs.Types.{Absent, Parts, fields_of, fuse_type, object_type, parts_with}
 use Rattle.al_types.proofs.Puts.{put_over}
@@ -30,7 +30,7 @@ add_fields-loop-i-preserved t c =
     let more = ap (λ us. fuse_parts start (object_parts us Absent)) (sym (mapped_more field_of c.args.fields.now c.loop-i.i x c.loop-i-test.true c.index-fields-i.is)) in
     let place : c.position.result ≡ name_at ts p.0 = c.position.ensures ∙ ap (name_at ts) c.as_str.ensures.value in
     elim c.if-is_none.branch [
-      add_fields-then-is_none+in_ok-more w ↦ ap parts_in w.all-is
+      | add_fields-then-is_none+in_ok-more w ↦ ap parts_in w.all-is
           ∙ added_first ts p start old (parts_in w.in_ok-more.more) (none_if _ _ _ _ place c.is_none.ensures w.if-is_none.true) c.loop-i.invariant w.in_ok-more.ensures
           ∙ more
       | add_fields-else-is_none w ↦ ap parts_in w.all-is

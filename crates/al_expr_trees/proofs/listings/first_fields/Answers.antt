@@ -17,7 +17,7 @@ loop-i-preserved c =
     let more = sym (ap firsts (mapped_more field_of c.args.fields.now c.loop-i.i x c.loop-i-test.true c.index-fields-i.is)) in
     let place : c.position.result ≡ name_at ts p.0 = c.position.ensures ∙ ap (name_at ts) c.as_str.ensures.value in
     elim c.if-is_none.branch [
-      then-is_none+in_ok-copy+in_ok-push w ↦ ap (λ v. map field_of v.items) w.all-is ∙ ap (map field_of) w.in_ok-push.ensures.items
+      | then-is_none+in_ok-copy+in_ok-push w ↦ ap (λ v. map field_of v.items) w.all-is ∙ ap (map field_of) w.in_ok-push.ensures.items
           ∙ map-append field_of old (w.in_ok-copy.copy ∷ []) ∙ (λ d. c.loop-i.invariant d ++ w.in_ok-copy.ensures d ∷ [])
           ∙ sym (firsts_new ts p (none_if _ _ _ _ place c.is_none.ensures w.if-is_none.true)) ∙ more
       | else-is_none w ↦ ap (λ v. map field_of v.items) w.all-is ∙ c.loop-i.invariant

@@ -1,4 +1,4 @@
-use Rattle.std.proofs.Common.{◌≡◌, ◌<◌, ◌∷◌, ◌++◌, [], List, ℕ, ◌∙◌, ap, arith, get_or, length, map, sym, take}
+use Rattle.std.proofs.Common.{◌≡◌, ◌<◌, ◌∷◌, ◌++◌, [], ℕ, ◌∙◌, ap, arith, get_or, length, map, sym, take}
 use Rattle.std.proofs.lemmas.List.{get_or_default, map-append}
 use Rattle.al_types.specs.FusedFields.{are_distinct}
 use Rattle.al_types.specs.TypeViews.{fuse_parts, fused}
