@@ -1,18 +1,29 @@
 //! The types of contexts, as the walk through a file goes on.
-
-ghost use Rattle.std.specs.Prelude.{◌≡◌, IfOk, OnOk};
+ghost use Rattle.std.specs.Prelude.{◌≡◌, IfOk, OnOk, IsTrue};
 ghost use Rattle.al_base.specs.Growth.{BeginsWith};
 ghost use Rattle.al_check_contexts.specs.Scopes as scopes;
 ghost use Rattle.al_check_places.specs.Places.{place_of};
+ghost use Rattle.al_check_places.specs.Positions.{before, seen_view, section_view};
 ghost use Rattle.al_check_scopes.specs.Answered.{known_of};
+ghost use Rattle.al_check_scopes.specs.Private.Lookups.{known_by};
 ghost use Rattle.al_check_scopes.specs.Private.Standing.{Stands};
+ghost use Rattle.al_check_scopes.specs.Private.Table.{Shows, table};
 ghost use Rattle.al_expr_types.specs.Tables.{objects_of};
 ghost use Rattle.al_expr_typing.specs.Scopes.{IsShown, scope_at};
+ghost use Rattle.al_tree.specs.declared.files.FileKind.TheVariants as kind;
 ghost use Rattle.al_yaml_tree.specs.View.{view};
 
-use crate::known::Answers;
-use al_check_places::Place;
-use al_expr_types::Types;
+use crate::caches::TypeCache;
+use crate::fixed::strategy;
+use crate::job_lists::JobList;
+use crate::jobs::JobTypes;
+use crate::known::{Answers, Outputs};
+use crate::scopes::{context_set, function_set};
+use crate::sections::{owned_steps, section_steps, section_types};
+use crate::start::{NO_CONTEXTS, NO_FUNCTIONS, first_owner, first_types};
+use crate::steps::StepFields;
+use al_check_places::{Place, Position, Section, Seen};
+use al_expr_types::{Ty, Types};
 use al_expr_typing::Scope;
 use al_tree::FileKind;
 use al_yaml_tree::Node;
@@ -26,30 +37,187 @@ pub struct File<'a> {
     pub known: Answers<'a>,
 }
 
-/// Steps, and the key of the job whose they are; none of an action's.
-#[derive(Clone, Copy)]
-pub struct Owner<'a> {
-    pub(crate) job: Option<&'a [u8]>,
-    pub(crate) steps: &'a [Node],
-}
-
 /// The types of contexts at a position, and the table that they are of. From one position to the next only those are made anew that change.
 #[derive(Drop)]
 pub struct Env<'a> {
+    section: Section<'a>,
+    seen: usize,
+    jobs: JobList<'a>,
+    /// What is known of the outputs behind calls.
+    outputs: Outputs<'a>,
+    /// The fields of `steps` in the section.
+    steps: StepFields<'a>,
+    /// The type of `strategy` in jobs.
+    strategy: Ty,
+    job_types: JobTypes,
+    /// The types of steps, by the position of the names of their outputs.
+    step_types: TypeCache,
     /// The file's types. Expressions may add objects.
     pub types: Types<'a>,
     /// What an expression can refer to at the place that `go_to` went to last.
     pub scope: Scope,
 }
 
+/// Whether two sections are the same.
+fn is_same_section(a: Section<'_>, b: Section<'_>) -> bool
+    ensures { IsTrue result → section_view a.entry ≡ section_view b.entry }
+{
+    match a {
+        Section::Apart => match b {
+            Section::Apart => true,
+            _ => false,
+        },
+        Section::On => match b {
+            Section::On => true,
+            _ => false,
+        },
+        Section::Job(x) => match b {
+            Section::Job(y) => x == y,
+            _ => false,
+        },
+    }
+}
+
+/// Goes on to another section of a workflow, where no step is seen.
+fn enter_workflow<'a>(
+    alloc: Global,
+    file: File<'a>,
+    env: &mut Env<'a>,
+    section: Section<'a>,
+) -> Result<(), AllocError>
+    requires kind { file.kind ≡ kind.Workflow }
+    requires stands { Stands file env.old }
+    ensures stands { OnOk result (Stands file.entry env.new) }
+    ensures same { OnOk result (section_view (env.new).section ≡ section_view section.entry) }
+    ensures kept { OnOk result (BeginsWith (objects_of (env.new).types) (objects_of (env.old).types)) }
+{
+    let job = env.jobs.job_of(section);
+    let made = section_types(
+        alloc,
+        &mut env.types,
+        &env.outputs,
+        &env.jobs,
+        &mut env.job_types,
+        env.strategy,
+        section,
+        job,
+    )?;
+    let mut steps = section_steps(
+        alloc,
+        &mut env.types,
+        &env.outputs,
+        &mut env.step_types,
+        job,
+    )?;
+    let none_seen = steps.first(&mut env.types, 0)?;
+    env.scope.types.strategy = made.strategy;
+    env.scope.types.needs = made.needs;
+    env.scope.types.jobs = made.jobs;
+    env.scope.types.matrix = made.matrix;
+    env.scope.types.steps = none_seen;
+    env.steps = steps;
+    env.seen = 0;
+    env.section = section;
+    Ok(())
+}
+
+/// Goes on to a section.
+fn enter<'a>(
+    alloc: Global,
+    file: File<'a>,
+    env: &mut Env<'a>,
+    section: Section<'a>,
+) -> Result<(), AllocError>
+    requires { Stands file env.old }
+    ensures stands { OnOk result (Stands file.entry env.new) }
+    ensures same { OnOk result (section_view (env.new).section ≡ section_view section.entry) }
+    ensures kept { OnOk result (BeginsWith (objects_of (env.new).types) (objects_of (env.old).types)) }
+{
+    if is_same_section(env.section, section) {
+        return Ok(());
+    }
+    match file.kind {
+        FileKind::Workflow => enter_workflow(alloc, file, env, section),
+        FileKind::Action => {
+            env.section = section;
+            Ok(())
+        }
+    }
+}
+
+/// Goes on to what is seen in the same section.
+fn see<'a>(file: File<'a>, env: &mut Env<'a>, seen: Seen) -> Result<(), AllocError>
+    requires { Stands file env.old }
+    ensures stands { OnOk result (Stands file.entry env.new) }
+    ensures same { OnOk result (section_view (env.new).section ≡ section_view (env.old).section) }
+    ensures shows { OnOk result (Shows (env.new).types (env.new).scope.types (table (file.entry).kind (known_by (env.new).outputs)
+        (view (file.entry).root.now) (section_view (env.old).section) (seen_view seen))) }
+    ensures kept { OnOk result (BeginsWith (objects_of (env.new).types) (objects_of (env.old).types)) }
+{
+    let count = env.steps.seen_count(seen);
+    if count == env.seen {
+        return Ok(());
+    }
+    let steps = env.steps.first(&mut env.types, count)?;
+    env.scope.types.steps = steps;
+    env.seen = count;
+    Ok(())
+}
+
+/// Goes on to a position of the file.
+fn go<'a>(
+    alloc: Global,
+    file: File<'a>,
+    env: &mut Env<'a>,
+    position: Position<'a>,
+) -> Result<(), AllocError>
+    requires { Stands file env.old }
+    ensures stands { OnOk result (Stands file.entry env.new) }
+    ensures shows { OnOk result (Shows (env.new).types (env.new).scope.types (table (file.entry).kind (known_of (file.entry).known)
+        (view (file.entry).root.now) (section_view (position.entry).section) (seen_view (position.entry).seen))) }
+    ensures kept { OnOk result (BeginsWith (objects_of (env.new).types) (objects_of (env.old).types)) }
+{
+    enter(alloc, file, env, position.section)?;
+    see(file, env, position.seen)?;
+    Ok(())
+}
+
 impl<'a> Env<'a> {
     /// The environment at the start of a file: outside its jobs, where no step is seen and nothing is available.
     ///
     /// Fails with `AllocError` when out of memory.
-    pub fn new(_alloc: Global, _file: File<'a>) -> Result<Env<'a>, AllocError>
-        ensures { IfOk result (λ e. Stands _file.entry e) }
+    pub fn new(alloc: Global, file: File<'a>) -> Result<Env<'a>, AllocError>
+        ensures { IfOk result (λ e. Stands file.entry e) }
     {
-        Err(AllocError)
+        let jobs = JobList::of(alloc, file.root)?;
+        let outputs = Outputs::of(alloc, file.known)?;
+        // The last position is that of outputs that aren't known.
+        let positions = outputs.unknown().saturating_add(1);
+        let job_types = JobTypes::new(alloc, positions, jobs.as_slice().len())?;
+        let mut step_types = TypeCache::new(alloc, positions)?;
+        let mut types = Types::new(alloc);
+        let owner = first_owner(file.kind, file.root);
+        let mut steps = owned_steps(alloc, &mut types, &outputs, &mut step_types, owner)?;
+        let none_seen = steps.first(&mut types, 0)?;
+        let contexts = first_types(alloc, &mut types, file.kind, file.root, none_seen)?;
+        let strategy = strategy(alloc, &mut types)?;
+        Ok(Env {
+            section: Section::Apart,
+            seen: 0,
+            jobs,
+            outputs,
+            steps,
+            strategy,
+            job_types,
+            step_types,
+            types,
+            scope: Scope {
+                types: contexts,
+                contexts: NO_CONTEXTS,
+                functions: NO_FUNCTIONS,
+                in_run: false,
+            },
+        })
     }
 
     /// Goes on to a place of the file: `scope` is then what an expression can refer to there. From one place to the next one of
@@ -58,17 +226,21 @@ impl<'a> Env<'a> {
     /// Fails with `AllocError` when out of memory; the environment isn't to be used any more then.
     pub fn go_to(
         &mut self,
-        _alloc: Global,
-        _file: File<'a>,
-        _place: Place<'a>,
+        alloc: Global,
+        file: File<'a>,
+        place: Place<'a>,
     ) -> Result<(), AllocError>
-        requires { Stands _file self.old }
-        ensures stands { OnOk result (Stands _file.entry self.new) }
+        requires { Stands file self.old }
+        ensures stands { OnOk result (Stands file.entry self.new) }
         ensures shown { OnOk result (IsShown (self.new).types (self.new).scope) }
-        ensures scope { OnOk result (scope_at (self.new).types (self.new).scope ≡ scopes.scope_at (_file.entry).kind
-            (known_of (_file.entry).known) (view (_file.entry).root.now) (place_of _place.entry)) }
+        ensures scope { OnOk result (scope_at (self.new).types (self.new).scope ≡ scopes.scope_at (file.entry).kind
+            (known_of (file.entry).known) (view (file.entry).root.now) (place_of place.entry)) }
         ensures kept { OnOk result (BeginsWith (objects_of (self.new).types) (objects_of (self.old).types)) }
     {
-        Err(AllocError)
+        go(alloc, file, self, place.position)?;
+        self.scope.contexts = context_set(file.kind, place.available);
+        self.scope.functions = function_set(file.kind, place.available, place.is_condition);
+        self.scope.in_run = place.is_script;
+        Ok(())
     }
 }

@@ -1,6 +1,13 @@
 //! What is known of the outputs behind calls.
+ghost use Rattle.std.specs.Prelude.{◌≡◌, IfOk, OnOk, length, option_and_then, option_map};
+ghost use Rattle.std.specs.Option.{option_copied};
+ghost use Rattle.al_check_scopes.specs.Answered.{behind_of, known_of};
+ghost use Rattle.al_check_scopes.specs.Private.Lookups.{and_found, found_at, known_by, list_at, lists_of, names_by};
+ghost use Rattle.al_expr_types.specs.Names.{names_listed};
 
 use al_expr_types::NameList;
+use std::alloc::{AllocError, Global};
+use std::collections::BTreeMap;
 
 /// What is known of the outputs behind a call: of a job by its key, of a step of a job by the job's key and the step's index, and of
 /// a step of an action by its index alone. Of the answers at one place the first counts.
@@ -23,4 +30,88 @@ pub struct Answers<'a> {
     pub answers: &'a [Answer<'a>],
     /// The lists of names that answers have positions in.
     pub lists: &'a [&'a NameList],
+}
+
+/// What answers make known, found by the place of the call.
+#[derive(Drop)]
+pub(crate) struct Outputs<'a> {
+    /// The positions of the names in `lists`.
+    positions: BTreeMap<(Option<&'a [u8]>, Option<usize>), Option<usize>>,
+    lists: &'a [&'a NameList],
+}
+
+impl<'a> Outputs<'a> {
+    /// What these answers make known. Fails with `AllocError` when out of memory.
+    pub(crate) fn of(alloc: Global, known: Answers<'a>) -> Result<Outputs<'a>, AllocError>
+        ensures { IfOk result (λ o. known_by o ≡ known_of known.entry) }
+    {
+        let mut outputs = Outputs {
+            positions: BTreeMap::new(alloc),
+            lists: known.lists,
+        };
+        let mut rest = known.answers.len();
+        while rest > 0 {
+            rest -= 1;
+            outputs.put(known.answers[rest])?;
+        }
+        Ok(outputs)
+    }
+
+    /// Puts an answer in front of the others.
+    fn put(&mut self, answer: Answer<'a>) -> Result<(), AllocError>
+        ensures found { OnOk result (found_at self.new ≡ and_found (behind_of (lists_of self.old) answer.entry) (found_at self.old)) }
+        ensures lists { (self.new).lists ≡ (self.old).lists }
+    {
+        self.positions
+            .insert((answer.job, answer.step), answer.names)?;
+        Ok(())
+    }
+
+    /// How many lists of names there are, which is the position of those that aren't known.
+    pub(crate) fn unknown(&self) -> usize
+        ensures { result ≡ length (lists_of self.now) }
+    {
+        self.lists.len()
+    }
+
+    /// This position, or `unknown`.
+    fn or_unknown(&self, position: Option<usize>) -> usize
+        ensures { list_at self.now result ≡ option_and_then (list_at self.now) position }
+    {
+        match position {
+            Some(i) => i,
+            None => self.unknown(),
+        }
+    }
+
+    /// The position of the names of the outputs behind a call, or `unknown`. Calls with one position have the same outputs.
+    fn position(&self, job: Option<&'a [u8]>, step: Option<usize>) -> usize
+        ensures { list_at self.now result ≡ names_by self.now (option_copied job.entry) step }
+    {
+        match self.positions.get(&(job, step)) {
+            Some(position) => self.or_unknown(*position),
+            None => self.unknown(),
+        }
+    }
+
+    /// The position of the names of a step's outputs, likewise.
+    pub(crate) fn position_of_step(&self, job: Option<&'a [u8]>, i: usize) -> usize
+        ensures { list_at self.now result ≡ (known_by self.now).of_step (option_copied job.entry) i }
+    {
+        self.position(job, Some(i))
+    }
+
+    /// The position of the names of a job's outputs, likewise.
+    pub(crate) fn position_of_job(&self, job: &'a [u8]) -> usize
+        ensures { list_at self.now result ≡ (known_by self.now).of_job job.entry.now }
+    {
+        self.position(Some(job), None)
+    }
+
+    /// The names at a position.
+    pub(crate) fn list(&self, position: usize) -> Option<&'a NameList>
+        ensures { option_map (λ l. names_listed l.now) result ≡ list_at self.now position }
+    {
+        self.lists.get(position).copied()
+    }
 }

@@ -2,8 +2,23 @@
 //! which contexts and special functions stand there.
 #![tactic(auto)]
 
+mod caches;
 mod env;
+mod field_lists;
+mod fixed;
+mod inputs;
+mod job_lists;
+mod jobs;
 mod known;
+mod matrix;
+mod objects;
+mod owners;
+mod scalars;
+mod scopes;
+mod sections;
+mod start;
+mod steps;
 
-pub use env::{Env, File, Owner};
+pub use env::{Env, File};
 pub use known::{Answer, Answers};
+pub use scalars::class_type_of;

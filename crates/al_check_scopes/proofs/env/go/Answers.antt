@@ -1,0 +1,22 @@
+use Rattle.std.proofs.Common.{subst}
+use Rattle.al_base.proofs.Growing.{begins_trans}
+use Rattle.al_check_places.specs.Positions.{section_view, seen_view}
+use Rattle.al_yaml_tree.specs.View.{view}
+use Rattle.al_expr_types.specs.Tables.{objects_of}
+use Rattle.al_check_scopes.specs.Private.Lookups.{known_by}
+use Rattle.al_check_scopes.specs.Private.Table.{Shows, table}
+use Rattle.al_check_scopes.proofs.env.go.Goals as goal
+
+pub returns-clause-shows : goal.returns-clause-shows
+returns-clause-shows c =
+    let now = c.see.new.env in
+    let kind = c.args.file.kind in
+    let root = view c.args.file.root.now in
+    let seen = seen_view c.args.position.seen in
+    subst (λ k. Shows now.types now.scope.types (table kind k root (section_view c.args.position.section) seen)) c.in_ok-see.ensures.stands.known
+    (subst (λ s. Shows now.types now.scope.types (table kind (known_by now.outputs) root s seen)) c.in_ok-enter.ensures.same c.in_ok-see.ensures.shows)
+
+pub returns-clause-kept : goal.returns-clause-kept
+returns-clause-kept c =
+    begins_trans (objects_of c.args.env.now.types) (objects_of c.enter.new.env.types) (objects_of c.see.new.env.types) c.in_ok-enter.ensures.kept
+    c.in_ok-see.ensures.kept

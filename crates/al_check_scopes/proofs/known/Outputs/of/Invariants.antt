@@ -1,0 +1,16 @@
+use Rattle.std.proofs.Common.{◌≡◌, ◌≤◌, drop, length, map}
+use Rattle.al_expr_types.specs.Names.{names_listed}
+use Rattle.al_check_scopes.specs.Answered.{behind_of}
+use Rattle.al_check_scopes.specs.Private.Lookups.{found_at}
+use Rattle.al_check_scopes.proofs.Found.{found_in}
+use Rattle.al_check_scopes.proofs.known.Outputs.of.Given as goal
+
+abbrev pub invariant-loop-rest : goal.invariant-loop-rest
+invariant-loop-rest l = record {
+  within : l.rest ≤ length l.known.answers.now;
+  lists : l.outputs.lists ≡ l.known.lists;
+  found : found_at l.outputs ≡ found_in (map (behind_of (map (λ n. names_listed n.now) l.known.lists.now)) (drop l.rest l.known.answers.now));
+}
+
+abbrev pub decreases-loop-rest : goal.decreases-loop-rest
+decreases-loop-rest l = l.rest

@@ -1,0 +1,107 @@
+//! The jobs of a workflow, found by their keys.
+ghost use Rattle.std.specs.Prelude.{◌≡◌, ◌<◌, IfOk, length, map, option_map, slice_get};
+ghost use Rattle.al_base.specs.NamePlaces.{name_position, text_position};
+ghost use Rattle.al_check_places.specs.Positions.{section_view};
+ghost use Rattle.al_tree.specs.Values.{member_of};
+ghost use Rattle.al_tree.specs.Files.{jobs_of};
+ghost use Rattle.al_yaml_tree.specs.View.{view};
+ghost use Rattle.al_check_contexts.specs.Contexts.{job_among};
+ghost use Rattle.al_check_contexts.specs.Private.JobPositions.{key_at, named_at};
+
+use al_base::{NamePositions, TextPositions};
+use al_check_places::Section;
+use al_tree::{Member, key_text, members_under};
+use al_yaml_tree::Node;
+use std::alloc::{AllocError, Global};
+
+/// The jobs of a workflow. Finding one takes time that grows with the logarithm of their number.
+#[derive(Drop)]
+pub(crate) struct JobList<'a> {
+    members: Vec<Member<'a>>,
+    /// Where each key stands.
+    keys: TextPositions,
+    /// Where each key first stands, without regard to ASCII case.
+    names: NamePositions,
+    ghost by_key: { text_position keys ≡ key_at (map member_of members.items) },
+    ghost by_name: { name_position names ≡ named_at (map member_of members.items) },
+}
+
+/// Where the keys of some members stand.
+fn key_positions(alloc: Global, members: &[Member<'_>]) -> Result<TextPositions, AllocError>
+    ensures { IfOk result (λ p. text_position p ≡ key_at (map member_of members.now)) }
+{
+    let mut keys = TextPositions::new(alloc);
+    for (i, member) in members.iter().enumerate() {
+        let key = Vec::from_slice(alloc, key_text(member.key))?;
+        let _ = keys.insert(key, i)?;
+    }
+    Ok(keys)
+}
+
+/// Where the keys of some members first stand, without regard to ASCII case.
+fn name_positions(alloc: Global, members: &[Member<'_>]) -> Result<NamePositions, AllocError>
+    ensures { IfOk result (λ p. name_position p ≡ named_at (map member_of members.now)) }
+{
+    let mut names = NamePositions::new(alloc);
+    for (i, member) in members.iter().enumerate() {
+        let _ = names.insert(alloc, key_text(member.key), i)?;
+    }
+    Ok(names)
+}
+
+impl<'a> JobList<'a> {
+    /// The jobs of a workflow. Fails with `AllocError` when out of memory.
+    pub(crate) fn of(alloc: Global, root: &'a Node) -> Result<JobList<'a>, AllocError>
+        ensures { IfOk result (λ l. map member_of l.members.items ≡ jobs_of (view root.now)) }
+    {
+        let members = members_under(alloc, root, "jobs")?;
+        let keys = key_positions(alloc, members.as_slice())?;
+        let names = name_positions(alloc, members.as_slice())?;
+        Ok(JobList {
+            members,
+            keys,
+            names,
+        })
+    }
+
+    /// The jobs in order.
+    pub(crate) fn as_slice(&self) -> &[Member<'a>]
+        ensures { map member_of result.now ≡ map member_of self.now.members.items }
+    {
+        self.members.as_slice()
+    }
+
+    /// The job at a position.
+    pub(crate) fn job_at(&self, i: usize) -> Member<'a>
+        requires { i < length self.now.members.items }
+        ensures { slice_get (map member_of self.now.members.items) i ≡ Some (member_of result) }
+    {
+        self.members[i]
+    }
+
+    /// The job of a section.
+    pub(crate) fn job_of(&self, section: Section<'_>) -> Option<Member<'a>>
+        ensures { option_map member_of result ≡ job_among (map member_of self.now.members.items) (section_view section.entry) }
+    {
+        match section {
+            Section::Apart => None,
+            Section::On => None,
+            Section::Job(key) => match self.keys.get(key) {
+                Some(i) => Some(self.members[i]),
+                None => None,
+            },
+        }
+    }
+
+    /// Where the first job of a name stands, in any ASCII case. Fails with `AllocError` when out of memory.
+    pub(crate) fn position_of(
+        &self,
+        alloc: Global,
+        name: &[u8],
+    ) -> Result<Option<usize>, AllocError>
+        ensures { IfOk result (λ i. i ≡ named_at (map member_of self.now.members.items) name.now) }
+    {
+        let i = self.names.get(alloc, name)?;
+        Ok(i)
+    }
+}

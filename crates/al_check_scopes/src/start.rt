@@ -1,0 +1,122 @@
+//! The types of contexts at the start of a file.
+ghost use Rattle.std.specs.Prelude.{◌≡◌, IfOk, OnOk, option_map};
+ghost use Rattle.al_base.specs.Growth.{BeginsWith};
+ghost use Rattle.al_check_contexts.specs.Contexts.{Known};
+ghost use Rattle.al_check_contexts.specs.Private.Environment.{owner_in};
+ghost use Rattle.al_check_places.specs.Positions.{apart, before};
+ghost use Rattle.al_check_scopes.specs.Private.Numbers.{Means};
+ghost use Rattle.al_check_scopes.specs.Private.Owners.{owner_view};
+ghost use Rattle.al_check_scopes.specs.Private.Table.{AreFixed, Shows, table};
+ghost use Rattle.al_expr_types.specs.Tables.{objects_of};
+ghost use Rattle.al_types.specs.declared.names.Context.TheVariants as context;
+ghost use Rattle.al_yaml_tree.specs.View.{view};
+
+use crate::fixed::{github, job, runner};
+use crate::inputs::inputs_type;
+use crate::objects::loose_strings;
+use crate::owners::Owner;
+use al_expr_types::{Ty, Types};
+use al_expr_typing::ContextTypes;
+use al_tree::FileKind;
+use al_tree_declarations::{action_steps, is_composite};
+use al_types::{ContextSet, FunctionSet};
+use al_yaml_tree::Node;
+use std::alloc::{AllocError, Global};
+
+pub(crate) const NO_CONTEXTS: ContextSet = ContextSet {
+    github: false,
+    env: false,
+    vars: false,
+    secrets: false,
+    runner: false,
+    job: false,
+    strategy: false,
+    needs: false,
+    jobs: false,
+    steps: false,
+    matrix: false,
+    inputs: false,
+};
+
+pub(crate) const NO_FUNCTIONS: FunctionSet = FunctionSet {
+    hash_files: false,
+    success: false,
+    always: false,
+    cancelled: false,
+    failure: false,
+};
+
+/// Whose steps are seen at the start of a file: those of a composite action, and of a workflow nobody's.
+pub(crate) fn first_owner(kind: FileKind, root: &Node) -> Option<Owner<'_>>
+    ensures { option_map owner_view result ≡ owner_in kind (view root.now) apart }
+{
+    match kind {
+        FileKind::Workflow => None,
+        FileKind::Action => {
+            if is_composite(root) {
+                Some(Owner {
+                    job: None,
+                    steps: action_steps(root),
+                })
+            } else {
+                None
+            }
+        }
+    }
+}
+
+/// The types of contexts that are the same in every file.
+#[derive(Clone, Copy)]
+pub(crate) struct FixedTypes {
+    pub(crate) github: Ty,
+    pub(crate) strings: Ty,
+    pub(crate) runner: Ty,
+    pub(crate) job: Ty,
+}
+
+/// The types of contexts that are the same in every file. Fails with `AllocError` when out of memory.
+fn fixed_types(alloc: Global, types: &mut Types<'_>) -> Result<FixedTypes, AllocError>
+    ensures fixed { IfOk result (λ ts. AreFixed types.new ts) }
+    ensures kept { OnOk result (BeginsWith (objects_of types.new) (objects_of types.old)) }
+{
+    let github = github(alloc, types)?;
+    let strings = loose_strings(alloc, types)?;
+    let runner = runner(alloc, types)?;
+    let job = job(alloc, types)?;
+    Ok(FixedTypes {
+        github,
+        strings,
+        runner,
+        job,
+    })
+}
+
+/// The types of contexts at the start of a file, with that of `steps`. Fails with `AllocError` when out of memory.
+pub(crate) fn first_types<'a>(
+    alloc: Global,
+    types: &mut Types<'a>,
+    kind: FileKind,
+    root: &'a Node,
+    steps: Ty,
+) -> Result<ContextTypes, AllocError>
+    ensures types { IfOk result (λ ts. (known : Known) → Means types.old steps (table kind known (view root.entry.now) apart (before 0) context.Steps)
+        → Shows types.new ts (table kind known (view root.entry.now) apart (before 0))) }
+    ensures kept { OnOk result (BeginsWith (objects_of types.new) (objects_of types.old)) }
+{
+    let fixed = fixed_types(alloc, types)?;
+    let inputs = inputs_type(alloc, types, kind, root)?;
+    Ok(ContextTypes {
+        github: fixed.github,
+        env: fixed.strings,
+        vars: fixed.strings,
+        secrets: fixed.strings,
+        runner: fixed.runner,
+        job: fixed.job,
+        strategy: Ty::ANY,
+        needs: Ty::ANY,
+        jobs: Ty::ANY,
+        steps,
+        matrix: Ty::ANY,
+        inputs,
+    })
+}
