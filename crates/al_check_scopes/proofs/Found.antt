@@ -15,11 +15,11 @@ use Rattle.std.specs.Slice.{IsItemAt}
 use Rattle.std.specs.Str.{bytes_eq}
 use Rattle.std.specs.declared.cmp.Ordering.{Ordering}
 use Rattle.std.specs.declared.cmp.Ordering.TheVariants.{Less, Equal, Greater}
-use Rattle.al_check_contexts.specs.Answered.{Behind, is_at, known_in}
+use Rattle.al_check_contexts.specs.Answered.{Behind, is_at}
 use Rattle.al_expr_types.specs.Names.{names_listed}
 use Rattle.al_expr_types.specs.declared.name_list.NameList.{NameList}
 use Rattle.al_check_scopes.specs.Answered.{behind_of}
-use Rattle.al_check_scopes.specs.Private.Lookups.{Found, and_found, found_at, known_by, list_at, names_by}
+use Rattle.al_check_scopes.specs.Private.Lookups.{Found, and_found, found_at, list_at, names_by}
 use Rattle.al_check_scopes.specs.declared.known.Answer.{Answer}
 use Rattle.al_check_scopes.specs.declared.known.Outputs.{Outputs}
 
@@ -143,11 +143,6 @@ found_in bs job step = option_map (λ b. b.names) (find (is_at job step) bs)
 flat : (o : Option Behind) → option_and_then (λ names. names) (option_map (λ x. x.names) o) ≡ option_and_then (λ x. x.names) o
 flat None = refl
 flat (Some b) = refl
-
-pub known_found : (o : Outputs) (bs : List Behind) → found_at o ≡ found_in bs → known_by o ≡ known_in bs
-known_found o bs e =
-    ap (λ (f : Found). record { of_step = λ job i. option_and_then (λ names. names) (f job (Some i)); of_job = λ job. option_and_then (λ names. names) (f (Some job) None) }) e
-    ∙ λ d. record { of_step = λ job i. flat (find (is_at job (Some i)) bs) d; of_job = λ job. flat (find (is_at (Some job) None) bs) d }
 
 -- one answer more, in front
 pub found_more : (lists : List (List (List ℕ))) (answers : List Answer) (i k : ℕ) (d : Answer) (old new : Found) → i < length answers → k ≡ i + 1 →

@@ -1,5 +1,5 @@
 -- The fields of `steps` by counts of steps: where the table has grown, and as steps are gone through.
-use Rattle.std.proofs.Common.{◌≡◌, ◌≢◌, ◌<◌, ◌≤◌, ◌+◌, ◌-◌, ⊎_elim, ℕ, List, [], ◌∷◌, ◌++◌, length, map, take, get_or, refl, sym, ap, subst, ◌∙◌, Option, Some, None, true, arith, zero, suc}
+use Rattle.std.proofs.Common.{◌≡◌, ◌≢◌, ◌<◌, ◌≤◌, ◌+◌, ⊎_elim, ℕ, List, [], ◌∷◌, ◌++◌, length, map, take, get_or, refl, sym, ap, subst, ◌∙◌, Option, Some, None, true, arith, zero, suc}
 use Rattle.std.proofs.Math.ListN.{get_or-map}
 use Rattle.std.proofs.Math.Seq.{get_or-append_seam}
 use Rattle.std.proofs.lemmas.Bool.{cases_eq}
@@ -11,7 +11,7 @@ use Rattle.std.specs.Prelude.{zip}
 use Rattle.al_base.specs.Growth.{BeginsWith}
 use Rattle.al_types.specs.Puts.{Typed, firsts, put_all, put_new}
 use Rattle.al_yaml_tree.specs.Node.{Node}
-use Rattle.al_check_places.specs.Positions.{before, every_step, no_step}
+use Rattle.al_check_places.specs.Positions.{before}
 use Rattle.al_check_contexts.specs.Contexts.{Known, step_field, steps_fields}
 use Rattle.al_check_contexts.specs.Objects.{strictly}
 use Rattle.al_check_contexts.specs.Private.Environment.{Owner, owned}
@@ -28,7 +28,7 @@ use Rattle.al_check_scopes.specs.Private.Numbers.{Means, fields_in, is_map_below
 use Rattle.al_check_scopes.specs.Private.Steps.{ArePrefixes, AreSteps, AreStepsOf, IsCount, first_fields}
 use Rattle.al_check_scopes.specs.declared.steps.StepFields.{StepFields}
 use Rattle.al_check_scopes.proofs.FieldLists.{firsts_kept, put_all_more}
-use Rattle.al_check_scopes.proofs.Numbers.{any, any_means, fields_stay}
+use Rattle.al_check_scopes.proofs.Numbers.{fields_stay}
 
 -- ---- in longer tables
 
@@ -53,24 +53,6 @@ steps_stay new old known None s b p h = h
 steps_stay new old known (Some o) s b p h = owned_steps_stay new old known o s b p h
 
 -- ---- how many are seen
-
-pub nothing_seen : (known : Known) (o : Option Owner) → owned known o no_step ≡ owned known o (before 0)
-nothing_seen known None = refl
-nothing_seen known (Some o) = refl
-
-pub all_seen : (types : Types) (known : Known) (o : Option Owner) (s : StepFields) (n : ℕ) → n ≡ length s.counts.items - 1 → AreStepsOf types known o s →
-    owned known o every_step ≡ owned known o (before n)
-all_seen types known None s n e h = refl
-all_seen types known (Some o) s n e h =
-    let k = h.all in
-    ap (λ ss. strictly (firsts (steps_fields known o.0 0 ss))) (sym (take_all n o.1 (omega (arith, e, k))))
-
-pub enough_seen : (types : Types) (known : Known) (o : Option Owner) (s : StepFields) (n m : ℕ) → n ≡ length s.counts.items - 1 → n ≤ m → AreStepsOf types known o s →
-    owned known o (before m) ≡ owned known o (before n)
-enough_seen types known None s n m e le h = refl
-enough_seen types known (Some o) s n m e le h =
-    let k = h.all in
-    ap (λ ss. strictly (firsts (steps_fields known o.0 0 ss))) (take_all m o.1 (omega (arith, e, k, le)) ∙ sym (take_all n o.1 (omega (arith, e, k))))
 
 -- ---- one step more
 
@@ -147,12 +129,6 @@ first_means new old known (Some o) s k n t lt e there is h =
       is = is ∙ ap strictly (first_zipped (type_in ms) n (names_in m.names) m.types.items ∙ ap (λ j. take j (fields_in ms m)) e ∙ (h.counts k lt).1);
     }
 
--- where `steps` is nobody's it is any
-pub any_without : (types : Types) (known : Known) (o : Option Owner) (s : StepFields) (k : ℕ) → s.counts.items ≡ [] → AreStepsOf types known o s →
-    Means types any (owned known o (before k))
-any_without types known None s k e h = any_means types
-any_without types known (Some o) s k e h = let no : length s.counts.items ≡ 0 = ap length e in let all = h.all in absurd (omega (arith, no, all))
-
 -- the same fields with another base
 pub steps_with : (types : Types) (known : Known) (o : Option Owner) (s : StepFields) (p : Prefixes) → map_in p ≡ map_in s.prefixes → AreStepsOf types known o s →
     AreStepsOf types known o (record s { prefixes = p })
@@ -169,11 +145,3 @@ prefixes_with types s p e b h = record {
   base = subst (λ m. HasPrefix types m p.base) (sym e) b;
   inside = λ k lt. subst (λ m. get_or s.counts.items k 0 ≤ length m.types.items) (sym e) (h.inside k lt);
 }
-
--- of no steps
-pub counts_first : (at : ℕ → List Typed) (cs : List ℕ) → cs ≡ 0 ∷ [] → at 0 ≡ [] → (k : ℕ) → k < length cs → IsCount (at 0) (get_or cs k 0) (at k)
-counts_first at cs e none k lt =
-    let len : length cs ≡ 1 = ap length e in
-    let here : k ≡ 0 = omega (arith, lt, len) in
-    let count : get_or cs k 0 ≡ 0 = ap (λ xs. get_or xs k 0) e ∙ ap (λ j. get_or (0 ∷ []) j 0) here in
-    subst (λ n. IsCount (at 0) n (at k)) (sym count) (omega arith, sym (ap at here ∙ none))

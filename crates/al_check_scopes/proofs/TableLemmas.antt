@@ -13,10 +13,10 @@ use Rattle.al_tree.specs.declared.files.FileKind.{FileKind}
 use Rattle.al_tree.specs.declared.files.FileKind.TheVariants as kind
 use Rattle.al_check_places.specs.Positions.{Position, Section, Seen, apart, before, in_job, in_on}
 use Rattle.al_tree_declarations.specs.Declarations.{action_steps, is_composite}
-use Rattle.al_check_contexts.specs.Contexts.{Known, job_among, job_in, jobs_seen, jobs_type_of, needs_type_of, steps_type, type_at, type_in_job}
+use Rattle.al_check_contexts.specs.Contexts.{Known, job_among, job_in, jobs_seen, needs_type_of, steps_type, type_at, type_in_job}
 use Rattle.al_check_contexts.specs.Fixed.{strategy_type}
 use Rattle.al_check_contexts.specs.Matrix.{matrix_type}
-use Rattle.al_check_contexts.specs.Private.Environment.{inputs_in, jobs_in, jobs_shown, matrix_in, needs_in, owned, owner_in, owner_of, shows_jobs, strategy_in}
+use Rattle.al_check_contexts.specs.Private.Environment.{inputs_in, jobs_in, jobs_shown, matrix_in, needs_in, owned, owner_in, owner_of, strategy_in}
 use Rattle.al_expr_types.specs.Tables.{objects_of}
 use Rattle.al_expr_types.specs.declared.ty.Ty.{Ty}
 use Rattle.al_expr_types.specs.declared.types.Types.{Types}
@@ -27,11 +27,6 @@ use Rattle.al_check_scopes.specs.Private.Table.{AreFixed, AreOfSection, Shows, t
 use Rattle.al_check_scopes.specs.declared.sections.SectionTypes.{SectionTypes}
 use Rattle.al_check_scopes.specs.declared.start.FixedTypes.{FixedTypes}
 use Rattle.al_check_scopes.proofs.Numbers.{any, any_means, means_as, means_stays}
-
-pub seen_if : (k : Known) (js : List (Node × Node)) (s : Section) → jobs_shown k js s ≡ (if shows_jobs s then jobs_type_of k js else Any)
-seen_if k js apart = refl
-seen_if k js in_on = refl
-seen_if k js (in_job key) = refl
 
 -- ---- the table is what the definitions say
 

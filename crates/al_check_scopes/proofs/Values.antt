@@ -1,51 +1,21 @@
 -- The types of nodes that the program holds as a sequence or a mapping, and what combinations add to a matrix.
-use Rattle.std.proofs.Common.{◌≡◌, ◌<◌, ◌+◌, ℕ, List, [], ◌∷◌, ◌++◌, Option, Some, None, true, false, ap, refl, sym, drop, get_or, length, map, take, ◌∙◌, Vec}
+use Rattle.std.proofs.Common.{◌≡◌, ◌<◌, ◌+◌, ℕ, List, [], ◌∷◌, ◌++◌, Option, Some, None, true, false, ap, refl, sym, drop, get_or, length, map, take, ◌∙◌}
 use Rattle.std.proofs.lemmas.List.{drop_more, map-append, take_more}
-use Rattle.std.specs.Prelude.{codes, if◌then◌else◌}
-use Rattle.std.specs.declared.alloc.Global.{Global}
+use Rattle.std.specs.Prelude.{if◌then◌else◌}
 use Rattle.al_tree.specs.Keys.{key_of, key_text}
 use Rattle.al_tree.specs.Names.{is_combination_key}
-use Rattle.al_tree.specs.Values.{value_at}
 use Rattle.al_types.specs.FusedFields.{are_distinct}
 use Rattle.al_types.specs.Puts.{Typed, put, put_all, put_new}
-use Rattle.al_types.specs.Types.{ArrayOf, Any, Optional, Present, Type', fields_of, fuse_optional, optional, option_of, or_any}
+use Rattle.al_types.specs.Types.{Optional, Present, Type', fields_of, fuse_optional, optional, option_of}
 use Rattle.al_types.proofs.FuseLaws.{option_back}
 use Rattle.al_types.proofs.GatheredFields.{firsts_distinct}
 use Rattle.al_yaml_tree.specs.Node.{Entries, Node, entry, mapping, no_entries, scalar, sequence}
 use Rattle.al_yaml_tree.specs.View.{entries_of, entry_view, nodes_of, view}
 use Rattle.al_yaml_tree.specs.declared.node.Entry as code_entry
-use Rattle.al_yaml_tree.specs.declared.node.Kind.TheVariants.{Mapping, Sequence}
-use Rattle.al_yaml_tree.specs.declared.node.Node as code
-use Rattle.al_yaml_tree.proofs.ViewLemmas.{entry_parts, view_mapping, view_sequence}
-use Rattle.al_check_contexts.specs.Matrix.{combination, entries_types, fused_with, include_all, included, items_type, matrix_of, node_type, row_field, row_type, rows_of}
+use Rattle.al_yaml_tree.proofs.ViewLemmas.{entry_parts}
+use Rattle.al_check_contexts.specs.Matrix.{combination, entries_types, fused_with, include_all, items_type, node_type, row_field, row_type}
 use Rattle.al_check_contexts.specs.Objects.{strictly}
 use Rattle.al_check_scopes.proofs.FieldLists.{put_together}
-
-pub type_of_sequence : (n : code.Node) (v : Vec code.Node Global) → n.kind ≡ Sequence v → node_type (view n) ≡ ArrayOf (or_any (items_type None (nodes_of (map view v.items))))
-type_of_sequence n v e = ap node_type (view_sequence n v e)
-
-pub type_of_mapping : (n : code.Node) (v : Vec code_entry.Entry Global) → n.kind ≡ Mapping v → node_type (view n) ≡ strictly (entries_types [] (entries_of (map entry_view v.items)))
-type_of_mapping n v e = ap node_type (view_mapping n v e)
-
-pub type_of_row : (n : code.Node) (v : Vec code.Node Global) → n.kind ≡ Sequence v → row_type (view n) ≡ or_any (items_type None (nodes_of (map view v.items)))
-type_of_row n v e = ap row_type (view_sequence n v e)
-
-pub row_of_mapping : (n : code.Node) (v : Vec code_entry.Entry Global) → n.kind ≡ Mapping v → row_type (view n) ≡ Any
-row_of_mapping n v e = ap row_type (view_mapping n v e)
-
-pub combination_of : (n : code.Node) (v : Vec code_entry.Entry Global) → n.kind ≡ Mapping v → combination (view n) ≡ entries_types [] (entries_of (map entry_view v.items))
-combination_of n v e = ap combination (view_mapping n v e)
-
-pub no_combination : (n : code.Node) (v : Vec code.Node Global) → n.kind ≡ Sequence v → combination (view n) ≡ []
-no_combination n v e = ap combination (view_sequence n v e)
-
-pub matrix_of_sequence : (n : code.Node) (v : Vec code.Node Global) → n.kind ≡ Sequence v → matrix_of (view n) ≡ strictly []
-matrix_of_sequence n v e = ap matrix_of (view_sequence n v e)
-
-pub matrix_of_mapping : (n : code.Node) (v : Vec code_entry.Entry Global) → n.kind ≡ Mapping v → matrix_of (view n) ≡ included (rows_of (view n)) (value_at (codes "include") (view n))
-matrix_of_mapping n v e =
-    let h = view_mapping n v e in
-    ap matrix_of h ∙ sym (ap (λ x. included (rows_of x) (value_at (codes "include") x)) h)
 
 -- ---- fields that entries are
 

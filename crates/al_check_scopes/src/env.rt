@@ -3,7 +3,7 @@ ghost use Rattle.std.specs.Prelude.{◌≡◌, IfOk, OnOk, IsTrue};
 ghost use Rattle.al_base.specs.Growth.{BeginsWith};
 ghost use Rattle.al_check_contexts.specs.Scopes as scopes;
 ghost use Rattle.al_check_places.specs.Places.{place_of};
-ghost use Rattle.al_check_places.specs.Positions.{before, seen_view, section_view};
+ghost use Rattle.al_check_places.specs.Positions.{seen_view, section_view};
 ghost use Rattle.al_check_scopes.specs.Answered.{known_of};
 ghost use Rattle.al_check_scopes.specs.Private.Lookups.{known_by};
 ghost use Rattle.al_check_scopes.specs.Private.Standing.{Stands};

@@ -1,5 +1,5 @@
 //! The types of `inputs`.
-ghost use Rattle.std.specs.Prelude.{◌≡◌, IfOk, OnOk, map};
+ghost use Rattle.std.specs.Prelude.{IfOk, OnOk, map};
 ghost use Rattle.al_base.specs.Growth.{BeginsWith};
 ghost use Rattle.al_check_contexts.specs.Inputs as inputs;
 ghost use Rattle.al_check_contexts.specs.Objects.{strictly};

@@ -93,7 +93,8 @@ fn called_type<'a>(
 
 /// What a job shows that calls no workflow.
 fn own_type<'a>(alloc: Global, types: &mut Types<'a>, job: Member<'a>) -> Result<Ty, AllocError>
-    ensures ty { IfOk result (λ t. Means types.new t (shown_with (named_strings (names_of (entries_at (codes "outputs") (view (job.entry).value.now)))))) }
+    ensures ty { IfOk result (λ t. Means types.new t
+        (shown_with (named_strings (names_of (entries_at (codes "outputs") (view (job.entry).value.now)))))) }
     ensures kept { OnOk result (BeginsWith (objects_of types.new) (objects_of types.old)) }
 {
     let entries = members_under(alloc, job.value, "outputs")?;
@@ -105,7 +106,8 @@ fn own_type<'a>(alloc: Global, types: &mut Types<'a>, job: Member<'a>) -> Result
 impl JobTypes {
     /// Nothing of so many calls and jobs.
     pub(crate) fn new(alloc: Global, calls: usize, jobs: usize) -> Result<JobTypes, AllocError>
-        ensures { IfOk result (λ m. (types : declared.Types) (known : outputs.Outputs) (js : List (tree.Node × tree.Node)) → KeepsJobs types known js m) }
+        ensures { IfOk result (λ m. (types : declared.Types) (known : outputs.Outputs) (js : List (tree.Node × tree.Node))
+            → KeepsJobs types known js m) }
     {
         let calls = TypeCache::new(alloc, calls)?;
         let shown = TypeCache::new(alloc, jobs)?;

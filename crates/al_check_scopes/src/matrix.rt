@@ -1,5 +1,5 @@
 //! The type of `matrix`.
-ghost use Rattle.std.specs.Prelude.{◌≡◌, [], codes, map, option_map, IfOk, IfSome, List, OnOk, None, length, true};
+ghost use Rattle.std.specs.Prelude.{◌≡◌, [], codes, map, option_map, IfOk, List, OnOk, None, true};
 ghost use Rattle.std.specs.List.{list_any};
 ghost use Rattle.std.specs.Option.{option_to_list};
 ghost use Rattle.al_base.specs.Growth.{BeginsWith};
@@ -7,10 +7,7 @@ ghost use Rattle.al_check_contexts.specs.Matrix as matrix;
 ghost use Rattle.al_check_contexts.specs.Matrix.{entries_types, include_all, items_type, row_field, rows_of};
 ghost use Rattle.al_check_contexts.specs.Objects.{strictly};
 ghost use Rattle.al_check_scopes.specs.Private.Numbers.{Lists, Means};
-ghost use Rattle.al_expr_types.specs.Joining.{is_join_below, join_in};
-ghost use Rattle.al_expr_types.specs.Tables.{is_known, objects_of, type_at};
-ghost use Rattle.al_expr_types.specs.Types as numbers;
-ghost use Rattle.al_expr_types.specs.Types.{arrays_of};
+ghost use Rattle.al_expr_types.specs.Tables.{is_known, objects_of};
 ghost use Rattle.al_expr_types.specs.declared.types.Types as declared;
 ghost use Rattle.al_tree.specs.Values.{member_of, value_at};
 ghost use Rattle.al_types.specs.Puts.{Typed, put_all, put_new};

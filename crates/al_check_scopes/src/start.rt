@@ -99,7 +99,8 @@ pub(crate) fn first_types<'a>(
     root: &'a Node,
     steps: Ty,
 ) -> Result<ContextTypes, AllocError>
-    ensures types { IfOk result (λ ts. (known : Known) → Means types.old steps (table kind known (view root.entry.now) apart (before 0) context.Steps)
+    ensures types { IfOk result (λ ts. (known : Known)
+        → Means types.old steps (table kind known (view root.entry.now) apart (before 0) context.Steps)
         → Shows types.new ts (table kind known (view root.entry.now) apart (before 0))) }
     ensures kept { OnOk result (BeginsWith (objects_of types.new) (objects_of types.old)) }
 {

@@ -21,4 +21,5 @@ returns-clause-ty c =
     let event = c.in_ok-event.ensures types [] Any (c.new.ensures types) (any_means types) in
     let both = c.in_ok-both.ensures types _ Bool' event (c.scalar.ensures types) in
     let named = c.in_ok-all.ensures types _ both in
-    means_as c.into_type.new.types c.in_ok-ty.ty _ _ (ap (λ ns. strictly (put_all put_new ((codes "event", Any) ∷ (codes "ref_protected", Bool') ∷ []) (strings ns))) c.github_names.ensures) (c.in_ok-ty.ensures.ty _ named)
+    let first = (codes "event", Any) ∷ (codes "ref_protected", Bool') ∷ [] in
+    means_as c.into_type.new.types c.in_ok-ty.ty _ _ (ap (λ ns. strictly (put_all put_new first (strings ns))) c.github_names.ensures) (c.in_ok-ty.ensures.ty _ named)

@@ -45,8 +45,8 @@ entries_type-loop-entry-preserved t c =
     let lists = lists_stay now before fields sofar made.kept (record { known = was.known; are = refl }) in
     let more = c.in_ok-more.ensures now sofar _ lists made.ty in
     record {
-      all = entries_next c.args.entries.now c.loop-entry.entry-index x sofar _ c.loop-entry-test.true c.entry-item.is (more.are ∙ ap (λ n. put_new sofar (n, node_type (view x.value))) (c.key_of.ensures ∙ ap key_of (entry_parts x)))
-          ∙ was.all;
+      all = entries_next c.args.entries.now c.loop-entry.entry-index x sofar _ c.loop-entry-test.true c.entry-item.is
+          (more.are ∙ ap (λ n. put_new sofar (n, node_type (view x.value))) (c.key_of.ensures ∙ ap key_of (entry_parts x))) ∙ was.all;
       known = more.known;
       kept = begins_trans (objects_of c.args.types.now) (objects_of before) (objects_of now) was.kept made.kept;
     }
