@@ -1,0 +1,99 @@
+//! All expressions of a file.
+#![tactic(auto, using(al_base::proofs::Growing::growth, al_check_scopes::proofs::Standing::standing))]
+
+ghost use Rattle.std.specs.List.{flat_map};
+ghost use Rattle.std.specs.Prelude.{◌≡◌, ◌++◌, ◌+◌, map, All, OnOk};
+ghost use Rattle.al_check_expressions.specs.FileExpressions as file;
+ghost use Rattle.al_check_expressions.specs.FileExpressions.{expression_faults as faults_in, faults_at};
+ghost use Rattle.al_check_expressions.specs.Inside.{IsReadable};
+ghost use Rattle.al_check_scopes.specs.Answered.{known_of};
+ghost use Rattle.al_check_scopes.specs.Private.Standing.{Stands};
+ghost use Rattle.al_expr_types.specs.Tables.{objects_of};
+ghost use Rattle.al_check_places.specs.Places.{place_of};
+ghost use Rattle.al_base.specs.Growth.{BeginsWith};
+ghost use Rattle.al_base.specs.Limits.{largest_file};
+ghost use Rattle.al_yaml_tree.specs.Spans.{IsLaid};
+ghost use Rattle.al_yaml_tree.specs.Texts.{HasTexts};
+ghost use Rattle.al_yaml_tree.specs.View.{view};
+
+use crate::contents::check_place;
+use al_base::Fault;
+use al_check_places::{Place, places};
+use al_check_scopes::{Env, File};
+use std::alloc::{AllocError, Global};
+
+/// Adds the faults of the expressions at a place, to which the environment goes on.
+fn check_at<'a>(
+    alloc: Global,
+    file: File<'a>,
+    env: &mut Env<'a>,
+    place: Place<'a>,
+    out: &mut Vec<Fault>,
+) -> Result<(), AllocError>
+    requires stands { Stands file env.old }
+    requires readable { IsReadable (place_of place) }
+    ensures stands { OnOk result (Stands file.entry env.new) }
+    ensures faults { OnOk result (out.new.items ≡ out.old.items
+        ++ faults_at (file.entry).kind (known_of (file.entry).known) (view (file.entry).root.now) (place_of place.entry)) }
+    ensures kept { OnOk result (BeginsWith (objects_of (env.new).types) (objects_of (env.old).types)) }
+    ensures begins { BeginsWith out.new.items out.old.items }
+{
+    env.go_to(alloc, file, place)?;
+    let scalar = place.scalar;
+    check_place(
+        alloc,
+        &mut env.types,
+        &env.scope,
+        &place,
+        scalar.as_str(),
+        out,
+    )?;
+    Ok(())
+}
+
+/// Adds the faults of the expressions at some places.
+fn check_each<'a>(
+    alloc: Global,
+    file: File<'a>,
+    env: &mut Env<'a>,
+    places: &[Place<'a>],
+    out: &mut Vec<Fault>,
+) -> Result<(), AllocError>
+    requires stands { Stands file env.old }
+    requires readable { All (λ p. IsReadable (place_of p)) places.now }
+    ensures stands { OnOk result (Stands file.entry env.new) }
+    ensures ok { OnOk result (out.new.items ≡ out.old.items
+        ++ flat_map (faults_at (file.entry).kind (known_of (file.entry).known) (view (file.entry).root.now))
+        (map place_of places.now)) }
+    ensures kept { OnOk result (BeginsWith (objects_of (env.new).types) (objects_of (env.old).types)) }
+    ensures begins { BeginsWith out.new.items out.old.items }
+{
+    for place in places {
+        check_at(alloc, file, env, *place, out)?;
+    }
+    Ok(())
+}
+
+/// Adds the faults of all expressions of a file, X1 to X20, each at its place in the file, given what is known of the outputs
+/// behind its calls. The environment goes on to the last place of an expression.
+///
+/// Offsets of the file's nodes are at most 1,048,576, and its texts are UTF-8. Fails with `AllocError` when out of memory; the list then
+/// begins with what it held.
+pub fn expression_faults<'a>(
+    alloc: Global,
+    file: File<'a>,
+    env: &mut Env<'a>,
+    out: &mut Vec<Fault>,
+) -> Result<(), AllocError>
+    requires stands { Stands file env.old }
+    requires laid { IsLaid largest_file (view file.root.now) }
+    requires texts { HasTexts (view file.root.now) }
+    ensures stands { OnOk result (Stands file.entry env.new) }
+    ensures ok { OnOk result (out.new.items ≡ out.old.items
+        ++ faults_in (file.entry).kind (known_of (file.entry).known) (view (file.entry).root.now)) }
+    ensures kept { OnOk result (BeginsWith (objects_of (env.new).types) (objects_of (env.old).types)) }
+    ensures begins { BeginsWith out.new.items out.old.items }
+{
+    let found = places(alloc, file.kind, file.root)?;
+    check_each(alloc, file, env, found.as_slice(), out)
+}
