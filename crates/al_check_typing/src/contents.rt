@@ -108,7 +108,8 @@ fn check_content(
     out: &mut Vec<Fault>,
 ) -> Result<(), AllocError>
     requires { IsShown types.old scope.now }
-    ensures ok { OnOk result (out.new.items ≡ out.old.items ++ content_faults (scope_at types.old scope.now) is_alone is_scalar_only content.now) }
+    ensures ok { OnOk result (out.new.items
+        ≡ out.old.items ++ content_faults (scope_at types.old scope.now) is_alone is_scalar_only content.now) }
     ensures kept { BeginsWith (objects_of types.new) (objects_of types.old) }
     ensures begins { BeginsWith out.new.items out.old.items }
 {
@@ -182,7 +183,8 @@ fn check_chunk(
     requires cut { IsCutFrom (text_of place.now.scalar.now) chunk.now }
     requires alone { is_alone ≡ is_one_chunk (text_of place.now.scalar.now) }
     ensures ok { OnOk result (out.new.items
-        ≡ out.old.items ++ chunk_faults (scope_at types.old scope.now) place.now.is_scalar_only place.now.scalar.now (span_of_chunk chunk.now)) }
+        ≡ out.old.items ++ chunk_faults (scope_at types.old scope.now) place.now.is_scalar_only place.now.scalar.now
+        (span_of_chunk chunk.now)) }
     ensures kept { BeginsWith (objects_of types.new) (objects_of types.old) }
     ensures begins { BeginsWith out.new.items out.old.items }
 {
@@ -214,7 +216,8 @@ fn check_each(
     requires cut { All (IsCutFrom (text_of place.now.scalar.now)) chunks.now }
     requires alone { is_alone ≡ is_one_chunk (text_of place.now.scalar.now) }
     ensures ok { OnOk result
-        (out.new.items ≡ out.old.items ++ flat_map (chunk_faults (scope_at types.old scope.now) place.now.is_scalar_only place.now.scalar.now)
+        (out.new.items ≡ out.old.items
+        ++ flat_map (chunk_faults (scope_at types.old scope.now) place.now.is_scalar_only place.now.scalar.now)
         (map span_of_chunk chunks.now)) }
     ensures kept { BeginsWith (objects_of types.new) (objects_of types.old) }
     ensures begins { BeginsWith out.new.items out.old.items }
