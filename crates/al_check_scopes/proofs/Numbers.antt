@@ -1,16 +1,16 @@
 -- What numbers stand for, where the table has grown; and lists of fields that grow by one.
-use Rattle.std.proofs.Common.{◌≡◌, ℕ, ◌+◌, List, [], ◌∷◌, ◌++◌, get_or, length, map, set, suc, take, zero, refl, sym, ap, ◌∙◌, Bool, true, false, Option, Some, None, option_map, arith}
-use Rattle.std.proofs.lemmas.List.{length-append, length-map, map-append, take_all}
+use Rattle.std.proofs.Common.{◌≡◌, ℕ, ◌+◌, List, [], ◌∷◌, ◌++◌, get_or, length, map, set, suc, zero, refl, sym, ap, ◌∙◌, Bool, true, false, Option, Some, None, option_map, arith}
+use Rattle.std.proofs.lemmas.List.{length-map, map-append}
 use Rattle.std.specs.List.{list_all}
-use Rattle.std.specs.Prelude.{IfSome, if◌then◌else◌, is_none, is_some, not, zip}
+use Rattle.std.specs.Prelude.{IfSome, if◌then◌else◌, is_none, zip}
 use Rattle.al_base.specs.Growth.{BeginsWith}
 use Rattle.al_base.specs.Names.{same_name}
 use Rattle.al_base.specs.NamePlaces.{name_place}
 use Rattle.al_types.specs.Puts.{Typed, put_new}
-use Rattle.al_types.specs.Types.{Any, Parts, String, Type', field_at, fields_of}
+use Rattle.al_types.specs.Types.{Any, Parts, String, Type'}
 use Rattle.al_expr_types.specs.Names.{names_in}
 use Rattle.al_expr_types.specs.Tables.{is_known, objects_of, type_at}
-use Rattle.al_expr_types.specs.Types.{is_below, named_types, type_in}
+use Rattle.al_expr_types.specs.Types.{is_below, type_in}
 use Rattle.al_expr_types.specs.declared.fields.FieldMap.{FieldMap}
 use Rattle.al_expr_types.specs.declared.ty.Base.TheVariants as base
 use Rattle.al_expr_types.specs.declared.ty.Scalar.TheVariants as scalar
