@@ -1,16 +1,16 @@
 -- What numbers stand for, where the table has grown; and lists of fields that grow by one.
-use Rattle.std.proofs.Common.{◌≡◌, ℕ, ◌+◌, List, [], ◌∷◌, ◌++◌, get_or, length, map, set, suc, take, zero, refl, sym, ap, ◌∙◌, Bool, true, false, Option, Some, None, option_map, arith}
-use Rattle.std.proofs.lemmas.List.{length-append, length-map, map-append, take_all}
+use Rattle.std.proofs.Common.{◌≡◌, ℕ, ◌+◌, List, [], ◌∷◌, ◌++◌, get_or, length, map, set, suc, zero, refl, sym, ap, ◌∙◌, Bool, true, false, Option, Some, None, option_map, arith}
+use Rattle.std.proofs.lemmas.List.{length-map, map-append}
 use Rattle.std.specs.List.{list_all}
-use Rattle.std.specs.Prelude.{IfSome, if◌then◌else◌, is_none, is_some, not, zip}
+use Rattle.std.specs.Prelude.{IfSome, if◌then◌else◌, is_none, zip}
 use Rattle.al_base.specs.Growth.{BeginsWith}
 use Rattle.al_base.specs.Names.{same_name}
 use Rattle.al_base.specs.NamePlaces.{name_place}
 use Rattle.al_types.specs.Puts.{Typed, put_new}
-use Rattle.al_types.specs.Types.{Any, Parts, String, Type', field_at, fields_of}
+use Rattle.al_types.specs.Types.{Any, Parts, String, Type'}
 use Rattle.al_expr_types.specs.Names.{names_in}
 use Rattle.al_expr_types.specs.Tables.{is_known, objects_of, type_at}
-use Rattle.al_expr_types.specs.Types.{is_below, named_types, type_in}
+use Rattle.al_expr_types.specs.Types.{is_below, type_in}
 use Rattle.al_expr_types.specs.declared.fields.FieldMap.{FieldMap}
 use Rattle.al_expr_types.specs.declared.ty.Base.TheVariants as base
 use Rattle.al_expr_types.specs.declared.ty.Scalar.TheVariants as scalar
@@ -100,18 +100,6 @@ and_field ms old new n t e f =
     ∙ ap (zip (if is_none (name_place ns n) then ns ++ n ∷ [] else ns)) (map_if (type_in ms) (is_none (name_place ns n)) old.types.items t)
     ∙ put_named ns us n (type_in ms t) (omega (arith, old.even, length-map old.types.items (type_in ms)))
 
-found_step : (b : Bool) (o : Option ℕ) (u : Type') (f : Option Type') → is_none f ≡ is_none o →
-    is_none (if b then Some u else f) ≡ is_none (if b then Some 0 else option_map (λ i. i + 1) o)
-found_step true o u f h = refl
-found_step false None u f h = h
-found_step false (Some i) u f h = h
-
--- a name is that of a field where it stands among the names
-pub is_field : (ns : List (List ℕ)) (us : List Type') (n : List ℕ) → length ns ≡ length us → is_none (field_at n (fields_of (zip ns us))) ≡ is_none (name_place ns n)
-is_field [] us n e = refl
-is_field (m ∷ ns) [] n e = absurd (omega (arith, e))
-is_field (m ∷ ns) (u ∷ us) n e = found_step (same_name m n) (name_place ns n) u (field_at n (fields_of (zip ns us))) (is_field ns us n (omega (arith, e)))
-
 all_if : {X : Type 0} (test : X → Bool) (b : Bool) (xs : List X) (x : X) → list_all test xs ≡ true → test x ≡ true →
     list_all test (if b then xs ++ x ∷ [] else xs) ≡ true
 all_if test true xs x h k = all_more test xs x h k
@@ -133,52 +121,17 @@ lists_more types old new n t ts m e f h k =
 
 -- ---- how many fields there are
 
-long_if : {X : Type 0} (b : Bool) (xs : List X) (x : X) → length (if b then xs ++ x ∷ [] else xs) ≡ (if b then length xs + 1 else length xs)
-long_if true xs x = length-append xs (x ∷ [])
-long_if false xs x = refl
-
-is_none_map : {X Y : Type 0} (f : X → Y) (o : Option X) → is_none (option_map f o) ≡ is_none o
-is_none_map f None = refl
-is_none_map f (Some x) = refl
-
-not_some : {X : Type 0} (o : Option X) → not (is_some o) ≡ is_none o
-not_some None = refl
-not_some (Some x) = refl
-
--- a name that is looked for among all fields is new where none is found
-pub is_new : (m : FieldMap) (n : List ℕ) (len : ℕ) (found : Option Ty) → len ≡ length m.types.items →
-    option_map (type_in []) found ≡ field_at n (fields_of (named_types [] (names_in m.names) (take len m.types.items))) →
-    not (is_some found) ≡ is_none (name_place (names_in m.names) n)
-is_new m n len found e h =
-    not_some found ∙ sym (is_none_map (type_in []) found) ∙ ap is_none h
-    ∙ ap (λ ts. is_none (field_at n (fields_of (named_types [] (names_in m.names) ts)))) (take_all len m.types.items (omega (arith, e)))
-    ∙ is_field (names_in m.names) (map (type_in []) m.types.items) n (omega (arith, m.even, length-map m.types.items (type_in [])))
-
-pub one_longer : (old : FieldMap) (new : List Ty) (n : List ℕ) (t : Ty) (len : ℕ) (b : Bool) → len ≡ length old.types.items →
-    new ≡ (if is_none (name_place (names_in old.names) n) then old.types.items ++ t ∷ [] else old.types.items) →
-    b ≡ is_none (name_place (names_in old.names) n) → b ≡ true → len + 1 ≡ length new
-one_longer old new n t len b e f is so =
-    ap (λ l. l + 1) e ∙ sym (ap (λ c. if c then length old.types.items + 1 else length old.types.items) (sym is ∙ so))
-    ∙ sym (long_if (is_none (name_place (names_in old.names) n)) old.types.items t) ∙ ap length (sym f)
-
-pub as_long : (old : FieldMap) (new : List Ty) (n : List ℕ) (t : Ty) (len : ℕ) (b : Bool) → len ≡ length old.types.items →
-    new ≡ (if is_none (name_place (names_in old.names) n) then old.types.items ++ t ∷ [] else old.types.items) →
-    b ≡ is_none (name_place (names_in old.names) n) → b ≡ false → len ≡ length new
-as_long old new n t len b e f is so =
-    e ∙ sym (ap (λ c. if c then length old.types.items + 1 else length old.types.items) (sym is ∙ so))
-    ∙ sym (long_if (is_none (name_place (names_in old.names) n)) old.types.items t) ∙ ap length (sym f)
-
 zip_long : (ns : List (List ℕ)) (us : List Type') → length ns ≡ length us → length (zip ns us) ≡ length us
 zip_long [] [] e = refl
 zip_long [] (u ∷ us) e = absurd (omega (arith, e))
 zip_long (n ∷ ns) [] e = refl
 zip_long (n ∷ ns) (u ∷ us) e = ap suc (zip_long ns us (omega (arith, e)))
 
-pub list_long : (types : Types) (l : FieldList) (ts : List Typed) → Lists types l ts → l.len ≡ length ts
+pub list_long : (types : Types) (l : FieldList) (ts : List Typed) → Lists types l ts → length l.map.types.items ≡ length ts
 list_long types l ts h =
     let us = map (type_in (objects_of types)) l.map.types.items in
     let same : length us ≡ length l.map.types.items = length-map l.map.types.items (type_in (objects_of types)) in
-    l.long ∙ sym (ap length (sym h.are) ∙ zip_long (names_in l.map.names) us (omega (arith, l.map.even, same)) ∙ same)
+    sym (ap length (sym h.are) ∙ zip_long (names_in l.map.names) us (omega (arith, l.map.even, same)) ∙ same)
 
 -- ---- what is kept by positions
 

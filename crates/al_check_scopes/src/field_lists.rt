@@ -1,21 +1,17 @@
 //! Lists of fields, of which objects are made.
 
-ghost use Rattle.std.specs.Prelude.{◌≡◌, length};
-
 use al_expr_types::{FieldMap, Fields, Ty, Types};
 use std::alloc::{AllocError, Global};
 use std::rc::Rc;
 
-/// Fields in order, of equal names the first, and how many there are.
+/// Fields in order, of equal names the first.
 #[derive(Drop)]
 pub(crate) struct FieldList<'a> {
     pub(crate) map: FieldMap<'a>,
-    pub(crate) len: usize,
-    ghost long: { len ≡ length map.types.items },
 }
 
 impl<'a> FieldList<'a> {
-    ghost use Rattle.std.specs.Prelude.{[], List, IfOk, OnOk, map, true};
+    ghost use Rattle.std.specs.Prelude.{◌≡◌, [], List, IfOk, OnOk, length, map, true};
     ghost use Rattle.al_base.specs.Growth.{BeginsWith};
     ghost use Rattle.al_types.specs.Puts.{Typed, put_all, put_new};
     ghost use Rattle.al_types.specs.Strings.{strings};
@@ -31,7 +27,6 @@ impl<'a> FieldList<'a> {
     {
         FieldList {
             map: FieldMap::new(alloc),
-            len: 0,
         }
     }
 
@@ -45,13 +40,8 @@ impl<'a> FieldList<'a> {
         ensures { IfOk result (λ l. (types : declared.Types) (ts : List Typed) (m : Type') → Lists types self.entry ts → Means types ty m
             → Lists types l (put_new ts (name.now, m))) }
     {
-        let len = self.len;
-        let found = self.map.get(alloc, name, len)?;
         let map = self.map.and(alloc, name, ty)?;
-        if found.is_none() {
-            return Ok(FieldList { map, len: len + 1 });
-        }
-        Ok(FieldList { map, len })
+        Ok(FieldList { map })
     }
 
     /// The fields, and strings of some names.
@@ -73,9 +63,9 @@ impl<'a> FieldList<'a> {
 
     /// How many fields there are.
     pub(crate) fn len(&self) -> usize
-        ensures { result ≡ (self.now).len }
+        ensures { result ≡ length (self.now).map.types.items }
     {
-        self.len
+        self.map.len()
     }
 
     /// The fields, found by their names.
@@ -98,7 +88,7 @@ impl<'a> FieldList<'a> {
             → Means types.new t (object_with (fields_of ts) (rest_in (objects_of types.old) rest))) }
         ensures kept { OnOk result (BeginsWith (objects_of types.new) (objects_of types.old)) }
     {
-        let count = self.len;
+        let count = self.map.len();
         let map = Rc::new(alloc, self.map)?;
         let ty = types.fields(Fields { map, count, rest })?;
         Ok(ty)

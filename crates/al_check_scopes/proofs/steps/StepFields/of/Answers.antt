@@ -60,5 +60,5 @@ returns-clause-prefixes c =
     record {
       below = ap (is_map_below (length types.objects.items)) same ∙ c.loop-i.invariant.fields.known;
       base = subst (HasPrefix types (map_in c.in_ok-prefixes.prefixes)) (sym c.in_ok-prefixes.ensures.base) tt;
-      inside = λ k lt. let few = (c.loop-i.invariant.counts k lt).0 in omega (arith, few, long, fields.long, as_many);
+      inside = λ k lt. let few = (c.loop-i.invariant.counts k lt).0 in omega (arith, few, long, as_many);
     }
