@@ -1,0 +1,139 @@
+//! The type of a scalar that is given to an input: that of its expression where it is one, else by its class.
+
+ghost use Rattle.std.specs.Prelude.{◌≡◌, ◌≤◌, ◌∷◌, [], List, length, map, true, All, IfOk, IsUtf8, ℕ};
+ghost use Rattle.al_base.specs.Growth.{BeginsWith};
+ghost use Rattle.al_base.specs.Limits.{longest_text};
+ghost use Rattle.al_check_calls.specs.Types as types;
+ghost use Rattle.al_check_contexts.specs.Matrix.{class_type};
+ghost use Rattle.al_expr_grammar.specs.Chunks.{IsCutFrom, chunks_of, span_of_chunk};
+ghost use Rattle.al_expr_types.specs.Tables.{is_known, objects_of, type_at};
+ghost use Rattle.al_expr_types.specs.Types.{is_below, type_in};
+ghost use Rattle.al_expr_typing.specs.Scopes.{IsShown, scope_at};
+ghost use Rattle.al_scalar.specs.Scalar.{text_of};
+ghost use Rattle.al_types.specs.Types.{Parts};
+
+use al_expr_grammar::{Chunk, chunks, grammar, parse_expr};
+use al_expr_types::{Base, Ty, Types};
+use al_expr_typing::{Scope, type_of};
+use al_scalar::{Class, Scalar};
+use al_tree::contains_chunk;
+use std::alloc::{AllocError, Global};
+
+/// The type of a scalar of a class.
+fn class_type_of(class: Class) -> Ty
+    ensures ty { (ms : List Parts) → type_in ms result ≡ class_type class }
+    ensures known { (k : ℕ) → is_below k result ≡ true }
+{
+    let scalar = match class {
+        Class::Null => al_expr_types::Scalar::Null,
+        Class::Bool => al_expr_types::Scalar::Bool,
+        Class::Int | Class::Float => al_expr_types::Scalar::Number,
+        Class::Str => al_expr_types::Scalar::String,
+    };
+    Ty {
+        arrays: 0,
+        of: Base::Scalar(scalar),
+    }
+}
+
+/// The type of the content of an expression: any where it has a fault of its own, which is told where the expression stands.
+#[tactic(auto, using(al_base::proofs::Growing::growth))]
+fn content_type(
+    alloc: Global,
+    table: &mut Types<'_>,
+    scope: &Scope,
+    content: &str,
+) -> Result<Ty, AllocError>
+    requires { IsShown table.old scope.now }
+    ensures ty { IfOk result (λ t. type_at table.new t ≡ types.content_type (scope_at table.old scope.now) content.now) }
+    ensures known { IfOk result (λ t. is_known table.new t ≡ true) }
+    ensures kept { BeginsWith (objects_of table.new) (objects_of table.old) }
+{
+    grammar();
+    match parse_expr(alloc, content)? {
+        Ok(expr) => {
+            let mut faults = Vec::new(alloc);
+            let ty = type_of(alloc, table, scope, &expr, &mut faults)?;
+            Ok(ty)
+        }
+        Err(_) => Ok(Ty::ANY),
+    }
+}
+
+/// The type of a text that isn't one expression: a string where it has expressions, else what its class says.
+fn text_type(scalar: &Scalar) -> Ty
+    ensures ty { (ms : List Parts) → type_in ms result ≡ types.text_type scalar.now }
+    ensures known { (k : ℕ) → is_below k result ≡ true }
+{
+    if contains_chunk(scalar.text()) {
+        Ty::STRING
+    } else {
+        class_type_of(scalar.class())
+    }
+}
+
+/// The type of a scalar whose text has one chunk.
+#[tactic(auto, using(al_base::proofs::Growing::growth))]
+fn chunk_type(
+    alloc: Global,
+    table: &mut Types<'_>,
+    scope: &Scope,
+    scalar: &Scalar,
+    chunk: &Chunk<'_>,
+) -> Result<Ty, AllocError>
+    requires shown { IsShown table.old scope.now }
+    requires cut { IsCutFrom (text_of scalar.now) chunk.now }
+    requires only { (chunks_of (text_of scalar.now)).chunks ≡ span_of_chunk chunk.now ∷ [] }
+    ensures ty { IfOk result (λ t. type_at table.new t ≡ types.scalar_type (scope_at table.old scope.now) scalar.now) }
+    ensures known { IfOk result (λ t. is_known table.new t ≡ true) }
+    ensures kept { BeginsWith (objects_of table.new) (objects_of table.old) }
+{
+    let len = scalar.text().len();
+    if chunk.span.start == 3 && chunk.span.end as usize + 2 == len {
+        content_type(alloc, table, scope, chunk.content)
+    } else {
+        Ok(text_type(scalar))
+    }
+}
+
+/// The type of a scalar whose text has these chunks.
+#[tactic(auto, using(al_base::proofs::Growing::growth, al_check_calls::proofs::Lone::by_class))]
+fn type_by_chunks(
+    alloc: Global,
+    table: &mut Types<'_>,
+    scope: &Scope,
+    scalar: &Scalar,
+    chunks: &[Chunk<'_>],
+) -> Result<Ty, AllocError>
+    requires shown { IsShown table.old scope.now }
+    requires cut { All (IsCutFrom (text_of scalar.now)) chunks.now }
+    requires found { map span_of_chunk chunks.now ≡ (chunks_of (text_of scalar.now)).chunks }
+    ensures ty { IfOk result (λ t. type_at table.new t ≡ types.scalar_type (scope_at table.old scope.now) scalar.now) }
+    ensures known { IfOk result (λ t. is_known table.new t ≡ true) }
+    ensures kept { BeginsWith (objects_of table.new) (objects_of table.old) }
+{
+    if chunks.len() == 1 {
+        chunk_type(alloc, table, scope, scalar, &chunks[0])
+    } else {
+        Ok(text_type(scalar))
+    }
+}
+
+/// The type of a scalar that is given to an input.
+#[tactic(auto, using(al_base::proofs::Growing::growth))]
+pub(crate) fn scalar_type(
+    alloc: Global,
+    table: &mut Types<'_>,
+    scope: &Scope,
+    scalar: &Scalar,
+) -> Result<Ty, AllocError>
+    requires shown { IsShown table.old scope.now }
+    requires utf8 { IsUtf8 (text_of scalar.now) }
+    requires small { length (text_of scalar.now) ≤ longest_text }
+    ensures ty { IfOk result (λ t. type_at table.new t ≡ types.scalar_type (scope_at table.old scope.now) scalar.now) }
+    ensures known { IfOk result (λ t. is_known table.new t ≡ true) }
+    ensures kept { BeginsWith (objects_of table.new) (objects_of table.old) }
+{
+    let (found, _) = chunks(alloc, scalar.as_str())?;
+    type_by_chunks(alloc, table, scope, scalar, found.as_slice())
+}
