@@ -206,8 +206,10 @@ def an_interrupt(program: str) -> None:
         write(folder, {**FILES, "slow": "#!/bin/sh\n: > started\nexec sleep 60\n"})
         slow = os.path.join(folder, "slow")
         os.chmod(slow, 0o755)
+        # (what runs in the background of a shell would pass on that it ignores interrupts)
         with subprocess.Popen([sys.executable, REPORT, "--program", slow, "--out", "x.sarif"], cwd=folder, stdout=subprocess.PIPE,
-                              stderr=subprocess.PIPE, start_new_session=True) as child:
+                              stderr=subprocess.PIPE, start_new_session=True,
+                              preexec_fn=lambda: signal.signal(signal.SIGINT, signal.SIG_DFL)) as child:
             while not os.path.exists(os.path.join(folder, "started")):
                 time.sleep(0.02)
             os.killpg(child.pid, signal.SIGINT)
