@@ -7,7 +7,7 @@ the program (tests/places.py) that they stand under.
 - A test of ten edits in a session (crates/al_tests) runs with each of its growths refused: each refused edit leaves all as it was, and
   is accepted when it is made again, and a report stops before its first byte or is whole.
 - The runs that tests/growth-runs names, the same edits as a script with a report behind each and the folders of examples/ among them,
-  with each growth refused, and with each and all behind it: a run says that memory ran out, and its output is a front of the whole. The
+  with each growth refused, and with each and all behind it: a run says that memory ran out, and its output is a prefix of the whole. The
   kit's `collect` asks for room ahead, and goes on without it: such a run is the whole one.
 - Each place of the project's crates that any run of tests/corpus.py reaches is one under which a growth of these runs was refused. With --choose the runs are
   chosen anew, and nothing else is done. How many places each crate has is printed, and those of the project's crates under which no growth
@@ -122,7 +122,7 @@ def passes(ran, _):
 
 
 def stops(ran, whole):
-    """Whether a run stopped for memory, its output a front of the whole."""
+    """Whether a run stopped for memory, its output a prefix of the whole."""
     return (ran.status, ran.errors) == (3, NO_MEMORY) and whole.out.startswith(ran.out)
 
 

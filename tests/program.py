@@ -452,7 +452,7 @@ def waiting_output(place):
 
 
 def memory(place):
-    """Under each limit of memory the answer is the whole one, or status 3 with a front of the output."""
+    """Under each limit of memory the answer is the whole one, or status 3 with a prefix of the output."""
     place.fresh()
     script = b"".join(put(f"{WORKFLOWS}/{number}.yml", CLEAN) for number in range(40))
     script += put(f"{WORKFLOWS}/a.yml", b"{}" * 30_000) + REPORT
