@@ -18,7 +18,7 @@ FIXED = "al_check_contexts/specs/Fixed.antt"
 AVAILABILITY = "al_check_places/specs/Availability.antt"
 FUNCTION_NAMES = "al_types/specs/Names.antt"
 SIGNATURES = "al_types/specs/Signatures.antt"
-UNTRUSTED = "al_meaning/specs/Untrusted.antt"
+UNTRUSTED = "al_expr_typing/specs/Untrusted.antt"
 LIMITS = "al_base/specs/Limits.antt"
 
 NAME = re.compile(r'codes "([^"]+)"')

@@ -28,7 +28,7 @@ THEOREMS = (
         ("al_expr_grammar", "lexer.rt", ("pub fn lex",)),
         ("al_expr_grammar", "expression.rt", ("pub fn parse_expr",)),
     )),
-    ("T", "the type of an expression, and its faults", (("al_meaning", "typing.rt", ("pub fn type_of",)),)),
+    ("T", "the type of an expression, and its faults", (("al_expr_trees", "typing.rt", ("pub fn type_of",)),)),
     ("U", "the faults by the rules of a tree", (("al_rules", "files.rt", ("pub fn rules",)),)),
     ("L", "what the linter finds in any file, and its laws", (("al_check", "lint.rt", ("impl Lint for Actions",)),)),
     ("E", "any edits, and then all as from scratch", (

@@ -196,7 +196,7 @@ fn is_plain(text: &str) -> bool
 }
 
 // The order of two texts, of which one that isn't there comes first.
-fn compared(one: Option<&str>, other: Option<&str>) -> Ordering
+fn compare_texts(one: Option<&str>, other: Option<&str>) -> Ordering
     ensures { result ≡ option_cmp (slice_cmp nat_cmp) (option_copied one.entry) (option_copied other.entry) }
 {
     match one {
@@ -262,8 +262,8 @@ impl Ord for Args {
     ghost matches_eq = { Prim.search (comparing, rules) };
 
     fn cmp(&self, other: &Args) -> Ordering {
-        match compared(self.first(), other.first()) {
-            Ordering::Equal => compared(self.second(), other.second()),
+        match compare_texts(self.first(), other.first()) {
+            Ordering::Equal => compare_texts(self.second(), other.second()),
             unequal => unequal,
         }
     }

@@ -6,7 +6,7 @@ use super::faults::Fault;
 use std::alloc::{AllocError, Global};
 
 // A copy of a fault.
-fn copied(alloc: Global, fault: &Fault) -> Result<Fault, AllocError>
+fn copy_of(alloc: Global, fault: &Fault) -> Result<Fault, AllocError>
     ensures { IfOk result (λ copy. copy ≡ fault.now) }
 {
     Ok(Fault {
@@ -26,7 +26,7 @@ pub fn add_copies(alloc: Global, faults: &[Fault], out: &mut Vec<Fault>) -> Resu
     ensures begins { BeginsWith out.new.items out.old.items }
 {
     for fault in faults {
-        out.push(copied(alloc, fault)?)?;
+        out.push(copy_of(alloc, fault)?)?;
     }
     Ok(())
 }

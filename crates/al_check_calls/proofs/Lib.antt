@@ -8,3 +8,4 @@ pub mod Lone
 pub mod Short
 pub mod Told
 pub mod KnownLists
+pub mod ValueTypes

@@ -7,7 +7,7 @@ use Rattle.std.proofs.Common.{drop}
 use Rattle.std.proofs.lemmas.List.Elements.{All-from_recursion}
 use Rattle.al_base.specs.declared.faults.Span.{Span}
 use Rattle.al_scalar.specs.Scalar.{Scalar}
-use Rattle.al_yaml_tree.specs.Access.{entries, nodes}
+use Rattle.al_yaml_tree.specs.Access.{entries, nodes, scalar_in}
 use Rattle.al_yaml_tree.specs.Node.{Node, Nodes, Entries, scalar, sequence, mapping, no_nodes, item, no_entries, entry}
 use Rattle.al_yaml_tree.specs.Spans.{AreLaid, EntriesLaid, IsLaid}
 use Rattle.al_yaml_tree.specs.Texts.{EntriesHaveTexts, HasTexts, HaveTexts}
@@ -23,7 +23,7 @@ use Rattle.al_check_calls.specs.Private.AnswerViews.{answered_of}
 use Rattle.al_session_folder.specs.declared.lint.Target.{Target}
 use Rattle.al_check_calls.specs.Answers.{Answered, answered, answered_by, first_answer}
 use Rattle.al_check_calls.specs.declared.answers.Answered as code
-use Rattle.al_check_calls.specs.FileCalls.{AreShort, EntriesShort, ItemsShort}
+use Rattle.al_check_calls.specs.FileCalls.{AreShort, EntriesShort, IsShort, ItemsShort}
 
 mutual
   short_all : (n : Node) → IsLaid 1048576 n → HasTexts n → AreShort n
@@ -100,3 +100,9 @@ pub members_short : (ms : List Member) (k : List ℕ) (n : Node) → map member_
 members_short ms k n e h =
     All-from_recursion (λ (m : Member). AreShort (member_of m).1) ms
     (members_back ms (subst (AllByRecursion PairIsShort) (sym e) (entries_kept AreShort AnyScalar short_kept (λ s at p. tt) k n h)))
+
+-- the scalar that a node is
+pub scalar_short : (n : Node) (s : Scalar) → scalar_in n ≡ Some s → AreShort n → IsShort s
+scalar_short (scalar t at) s e h = let same : t ≡ s = cc in subst IsShort same h
+scalar_short (sequence ns at) s e h = absurd cc
+scalar_short (mapping es at) s e h = absurd cc

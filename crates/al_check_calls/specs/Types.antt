@@ -5,7 +5,7 @@ use Rattle.al_scalar.specs.Scalar.{Scalar, text_of}
 use Rattle.al_expr_grammar.specs.Refusal.{fault_of_content}
 use Rattle.al_types.specs.Scopes.{Scope}
 use Rattle.al_types.specs.Types.{Type', Any, String}
-use Rattle.al_meaning.specs.Meaning.{meaning_of, type_in}
+use Rattle.al_expr_typing.specs.Meaning.{meaning_of, type_in}
 use Rattle.al_tree.specs.Faults.{has_chunk}
 use Rattle.al_check_contexts.specs.Matrix.{class_type}
 use Rattle.al_check_expressions.specs.Contents.{is_one_chunk}

@@ -1,8 +1,9 @@
 //! The faults of one call, but for those of names.
-ghost use Rattle.std.specs.Prelude.{◌≡◌, ◌++◌, map, OnOk};
+ghost use Rattle.std.specs.Prelude.{◌≡◌, ◌++◌, List, map, OnOk};
 ghost use Rattle.std.specs.Option.{option_copied};
 ghost use Rattle.al_check_calls.specs.CallFaults as faults;
-ghost use Rattle.al_check_calls.specs.Private.AnswerViews.{call_of, given_of};
+ghost use Rattle.al_check_calls.specs.Private.AnswerViews.{call_of, given_in};
+ghost use Rattle.al_types.specs.Types.{Parts};
 
 use crate::answers::SiteCall;
 use crate::reports::{caller_of, report_uses};
@@ -92,8 +93,9 @@ pub(crate) fn check_call(
     answer: Option<&Interface>,
     out: &mut Vec<Fault>,
 ) -> Result<(), AllocError>
-    ensures { OnOk result (out.new.items ≡ out.old.items ++ (faults.uses_faults (call_of call.entry) (option_copied answer.entry)
-        ++ faults.value_faults (call_of call.entry) (map given_of values.now) (option_copied answer.entry))) }
+    ensures { OnOk result ((ms : List Parts) → out.new.items ≡ out.old.items
+        ++ (faults.uses_faults (call_of call.entry) (option_copied answer.entry)
+        ++ faults.value_faults (call_of call.entry) (map (given_in ms) values.now) (option_copied answer.entry))) }
 {
     check_uses(alloc, call, answer, out)?;
     match caller_of(call) {

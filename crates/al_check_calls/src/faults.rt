@@ -39,7 +39,8 @@ fn check_job<'a>(
         values.as_slice(),
         answered.answer,
         out,
-    )
+    )?;
+    Ok(())
 }
 
 /// Adds the faults of a step's call, whose values have no types, but for those of names.

@@ -1,89 +1,124 @@
 //! The type of a scalar that is given to an input: that of its expression where it is one, else by its class.
-ghost use Rattle.std.specs.Prelude.{◌≡◌, ◌≤◌, ◌∷◌, [], length, map, All, IfOk, IsUtf8};
+ghost use Rattle.std.specs.Prelude.{◌≡◌, ◌≤◌, ◌∷◌, [], List, length, map, true, All, IfOk, IsUtf8, ℕ};
+ghost use Rattle.al_base.specs.Growth.{BeginsWith};
 ghost use Rattle.al_base.specs.Limits.{longest_text};
-ghost use Rattle.al_check_calls.specs.Types as types;
+ghost use Rattle.al_check_calls.specs.Types as meant;
 ghost use Rattle.al_expr_grammar.specs.Chunks.{IsCutFrom, chunks_of, span_of_chunk};
+ghost use Rattle.al_expr_types.specs.Tables.{is_known, objects_of, type_at};
+ghost use Rattle.al_expr_types.specs.Types.{is_below, type_in};
+ghost use Rattle.al_expr_typing.specs.Scopes.{IsShown, scope_at};
 ghost use Rattle.al_scalar.specs.Scalar.{text_of};
-ghost use Rattle.al_types.specs.Scopes.{scope_of};
-ghost use Rattle.al_types.specs.TypeViews.{ty_of};
+ghost use Rattle.al_types.specs.Types.{Parts};
 
 use al_check_contexts::class_type_of;
 use al_expr_grammar::{Chunk, chunks, grammar, parse_expr};
-use al_meaning::type_of;
+use al_expr_types::{Base, Ty, Types};
+use al_expr_typing::{Scope, type_of};
 use al_scalar::Scalar;
 use al_tree::contains_chunk;
-use al_types::{Scope, Ty};
 use std::alloc::{AllocError, Global};
 
 /// The type of the content of an expression: any where it has a fault of its own, which is told where the expression stands.
-fn content_type(alloc: Global, scope: &Scope, content: &str) -> Result<Ty, AllocError>
-    ensures { IfOk result (λ t. ty_of t ≡ types.content_type (scope_of scope.now) content.now) }
+#[tactic(auto, using(al_base::proofs::Growing::growth))]
+fn content_type(
+    alloc: Global,
+    types: &mut Types<'_>,
+    scope: &Scope,
+    content: &str,
+) -> Result<Ty, AllocError>
+    requires { IsShown types.old scope.now }
+    ensures ty { IfOk result (λ t. type_at types.new t ≡ meant.content_type (scope_at types.old scope.now) content.now) }
+    ensures known { IfOk result (λ t. is_known types.new t ≡ true) }
+    ensures kept { BeginsWith (objects_of types.new) (objects_of types.old) }
 {
     grammar();
     match parse_expr(alloc, content)? {
         Ok(expr) => {
             let mut faults = Vec::new(alloc);
-            type_of(alloc, scope, &expr, &mut faults)
+            let ty = type_of(alloc, types, scope, &expr, &mut faults)?;
+            Ok(ty)
         }
-        Err(_) => Ok(Ty::Any),
+        Err(_) => Ok(Ty::ANY),
     }
 }
 
 /// The type of a text that isn't one expression: a string where it has expressions, else what its class says.
 fn text_type(scalar: &Scalar) -> Ty
-    ensures { ty_of result ≡ types.text_type scalar.now }
+    ensures ty { (ms : List Parts) → type_in ms result ≡ meant.text_type scalar.now }
+    ensures known { (k : ℕ) → is_below k result ≡ true }
 {
     if contains_chunk(scalar.text()) {
-        Ty::String
-    } else {
-        class_type_of(scalar.class())
+        return Ty::STRING;
+    }
+    Ty {
+        arrays: 0,
+        of: Base::Scalar(class_type_of(scalar.class())),
     }
 }
 
 /// The type of a scalar whose text has one chunk.
+#[tactic(auto, using(al_base::proofs::Growing::growth))]
 fn chunk_type(
     alloc: Global,
+    types: &mut Types<'_>,
     scope: &Scope,
     scalar: &Scalar,
     chunk: &Chunk<'_>,
 ) -> Result<Ty, AllocError>
+    requires shown { IsShown types.old scope.now }
     requires cut { IsCutFrom (text_of scalar.now) chunk.now }
     requires only { (chunks_of (text_of scalar.now)).chunks ≡ span_of_chunk chunk.now ∷ [] }
-    ensures { IfOk result (λ t. ty_of t ≡ types.scalar_type (scope_of scope.now) scalar.now) }
+    ensures ty { IfOk result (λ t. type_at types.new t ≡ meant.scalar_type (scope_at types.old scope.now) scalar.now) }
+    ensures known { IfOk result (λ t. is_known types.new t ≡ true) }
+    ensures kept { BeginsWith (objects_of types.new) (objects_of types.old) }
 {
     let len = scalar.text().len();
     if chunk.span.start == 3 && chunk.span.end as usize + 2 == len {
-        content_type(alloc, scope, chunk.content)
-    } else {
-        Ok(text_type(scalar))
+        let ty = content_type(alloc, types, scope, chunk.content)?;
+        return Ok(ty);
     }
+    Ok(text_type(scalar))
 }
 
 /// The type of a scalar whose text has these chunks.
-#[tactic(auto, using(crate::proofs::Lone::by_class))]
+#[tactic(auto, using(al_base::proofs::Growing::growth, crate::proofs::Lone::by_class))]
 fn type_by_chunks(
     alloc: Global,
+    types: &mut Types<'_>,
     scope: &Scope,
     scalar: &Scalar,
     chunks: &[Chunk<'_>],
 ) -> Result<Ty, AllocError>
+    requires shown { IsShown types.old scope.now }
     requires cut { All (IsCutFrom (text_of scalar.now)) chunks.now }
     requires found { map span_of_chunk chunks.now ≡ (chunks_of (text_of scalar.now)).chunks }
-    ensures { IfOk result (λ t. ty_of t ≡ types.scalar_type (scope_of scope.now) scalar.now) }
+    ensures ty { IfOk result (λ t. type_at types.new t ≡ meant.scalar_type (scope_at types.old scope.now) scalar.now) }
+    ensures known { IfOk result (λ t. is_known types.new t ≡ true) }
+    ensures kept { BeginsWith (objects_of types.new) (objects_of types.old) }
 {
     if chunks.len() == 1 {
-        chunk_type(alloc, scope, scalar, &chunks[0])
-    } else {
-        Ok(text_type(scalar))
+        let ty = chunk_type(alloc, types, scope, scalar, &chunks[0])?;
+        return Ok(ty);
     }
+    Ok(text_type(scalar))
 }
 
 /// The type of a scalar that is given to an input.
-pub(crate) fn scalar_type(alloc: Global, scope: &Scope, scalar: &Scalar) -> Result<Ty, AllocError>
+#[tactic(auto, using(al_base::proofs::Growing::growth))]
+pub(crate) fn scalar_type(
+    alloc: Global,
+    types: &mut Types<'_>,
+    scope: &Scope,
+    scalar: &Scalar,
+) -> Result<Ty, AllocError>
+    requires shown { IsShown types.old scope.now }
     requires utf8 { IsUtf8 (text_of scalar.now) }
     requires small { length (text_of scalar.now) ≤ longest_text }
-    ensures { IfOk result (λ t. ty_of t ≡ types.scalar_type (scope_of scope.now) scalar.now) }
+    ensures ty { IfOk result (λ t. type_at types.new t ≡ meant.scalar_type (scope_at types.old scope.now) scalar.now) }
+    ensures known { IfOk result (λ t. is_known types.new t ≡ true) }
+    ensures kept { BeginsWith (objects_of types.new) (objects_of types.old) }
 {
     let (found, _) = chunks(alloc, scalar.as_str())?;
-    type_by_chunks(alloc, scope, scalar, found.as_slice())
+    let ty = type_by_chunks(alloc, types, scope, scalar, found.as_slice())?;
+    Ok(ty)
 }

@@ -1,7 +1,8 @@
 //! What a job gives under `with`, each value with its type.
-ghost use Rattle.std.specs.Prelude.{◌≡◌, map, All, IfOk, OnOk};
+ghost use Rattle.std.specs.Prelude.{◌≡◌, map, true, All, IfOk, OnOk};
 ghost use Rattle.std.specs.Option.{option_copied};
-ghost use Rattle.al_check_calls.specs.Private.AnswerViews.{call_of, given_of};
+ghost use Rattle.al_base.specs.Growth.{BeginsWith};
+ghost use Rattle.al_check_calls.specs.Private.AnswerViews.{are_values_known, call_of, given_at};
 ghost use Rattle.al_check_calls.specs.CallFaults.{given_type, values_of};
 ghost use Rattle.al_check_contexts.specs.Answered.{known_of};
 ghost use Rattle.al_check_contexts.specs.Private.Standing.{Stands};
@@ -9,19 +10,18 @@ ghost use Rattle.al_check_calls.specs.FileCalls as file_calls;
 ghost use Rattle.al_check_calls.specs.FileCalls.{AreShort, type_in_job, typing};
 ghost use Rattle.al_check_calls.specs.Answers.{values_in};
 ghost use Rattle.al_check_places.specs.Places.{place_of};
+ghost use Rattle.al_expr_types.specs.Tables.{is_known, objects_of, type_at};
 ghost use Rattle.al_tree.specs.Values.{member_of};
-ghost use Rattle.al_types.specs.TypeViews.{ty_of};
 ghost use Rattle.al_yaml_tree.specs.View.{view};
 
 use crate::answers::SiteCall;
 use crate::types::scalar_type;
 use crate::wrong_types::Value;
 use al_check_contexts::{Env, File};
-use al_check_expressions::go_to;
 use al_check_places::{Place, Position, Section, Seen, available};
+use al_expr_types::Ty;
 use al_scalar::Scalar;
 use al_tree::{Member, key_text, members_under};
-use al_types::Ty;
 use al_yaml_tree::Node;
 use std::alloc::{AllocError, Global};
 
@@ -44,6 +44,7 @@ fn place_of_value<'a>(job: &'a [u8], key: &'a Node, scalar: &'a Scalar) -> Place
 }
 
 /// The type of what is given under a key: of what is no scalar any.
+#[tactic(auto, using(al_base::proofs::Growing::growth, al_check_contexts::proofs::Standing::standing))]
 fn value_type<'a>(
     alloc: Global,
     file: File<'a>,
@@ -54,15 +55,18 @@ fn value_type<'a>(
     requires stands { Stands file env.old }
     requires short { AreShort (member_of member).1 }
     ensures stands { OnOk result (Stands file.entry env.new) }
-    ensures ty { IfOk result (λ t. ty_of t
+    ensures ty { IfOk result (λ t. type_at (env.new).types t
         ≡ given_type (type_in_job (file.entry).kind (known_of (file.entry).known) (view (file.entry).root.now) job.entry.now)
         (member_of member.entry)) }
+    ensures known { IfOk result (λ t. is_known (env.new).types t ≡ true) }
+    ensures kept { OnOk result (BeginsWith (objects_of (env.new).types) (objects_of (env.old).types)) }
 {
     match member.value.scalar() {
-        None => Ok(Ty::Any),
+        None => Ok(Ty::ANY),
         Some(scalar) => {
-            go_to(alloc, file, env, place_of_value(job, member.key, scalar))?;
-            scalar_type(alloc, &env.scope, scalar)
+            env.go_to(alloc, file, place_of_value(job, member.key, scalar))?;
+            let ty = scalar_type(alloc, &mut env.types, &env.scope, scalar)?;
+            Ok(ty)
         }
     }
 }
@@ -78,9 +82,10 @@ fn values_given<'a>(
     requires stands { Stands file env.old }
     requires short { All (λ m. AreShort (member_of m).1) given.now }
     ensures stands { OnOk result (Stands file.entry env.new) }
-    ensures values { IfOk result (λ v. map given_of v.items
+    ensures values { IfOk result (λ v. map (given_at (env.new).types) v.items
         ≡ values_of (type_in_job (file.entry).kind (known_of (file.entry).known) (view (file.entry).root.now) job.entry.now)
         (map member_of given.now)) }
+    ensures known { IfOk result (λ v. are_values_known (env.new).types v.items ≡ true) }
 {
     let mut values = Vec::new(alloc);
     for member in given {
@@ -113,10 +118,11 @@ pub(crate) fn job_values<'a>(
     requires stands { Stands file env.old }
     requires short { AreShort (view call.site.node.now) }
     ensures stands { OnOk result (Stands file.entry env.new) }
-    ensures values { IfOk result (λ v. map given_of v.items
+    ensures values { IfOk result (λ v. map (given_at (env.new).types) v.items
         ≡ values_in (typing (file.entry).kind (known_of (file.entry).known) (view (file.entry).root.now)) (call_of call.entry)) }
 {
     let given = members_under(alloc, call.site.node, "with")?;
     let job = text_or_empty(call.site.job);
-    values_given(alloc, file, env, job, given.as_slice())
+    let values = values_given(alloc, file, env, job, given.as_slice())?;
+    Ok(values)
 }

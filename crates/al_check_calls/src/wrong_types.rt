@@ -1,23 +1,25 @@
 //! The types of what a job gives to the workflow that it calls: C4.
-ghost use Rattle.std.specs.Prelude.{◌≡◌, ◌++◌, map, OnOk};
+ghost use Rattle.std.specs.Prelude.{◌≡◌, ◌++◌, List, map, OnOk};
 ghost use Rattle.std.specs.Option.{option_copied};
 ghost use Rattle.al_base.specs.declared.codes.Caller.TheVariants as by;
+ghost use Rattle.al_expr_types.specs.Types.{type_in};
 ghost use Rattle.al_tree.specs.Values.{member_of};
-ghost use Rattle.al_types.specs.TypeViews.{ty_of};
+ghost use Rattle.al_types.specs.Types.{Parts};
 ghost use Rattle.al_check_calls.specs.CallFaults as faults;
-ghost use Rattle.al_check_calls.specs.Private.AnswerViews.{call_of, given_of};
+ghost use Rattle.al_check_calls.specs.Private.AnswerViews.{call_of, given_in};
 
 use crate::answers::SiteCall;
 use crate::reports::{Report, report_two};
 use al_base::{CallCode, Fault};
+use al_check_contexts::type_of_input;
 use al_check_interfaces::{Parameter, Parameters, Signature};
+use al_expr_types::{Base, Ty};
 use al_tree::{Member, key_text};
-use al_tree_declarations::{InputType, type_of};
-use al_types::{Ty, assignable};
+use al_tree_declarations::InputType;
 use std::alloc::{AllocError, Global};
 
-/// What is given under a name, and its type.
-#[derive(Drop)]
+/// What is given under a name, and its type, of the file's table.
+#[derive(Clone, Copy)]
 pub(crate) struct Value<'a> {
     pub(crate) member: Member<'a>,
     pub(crate) ty: Ty,
@@ -33,10 +35,14 @@ fn type_name(takes: InputType) -> &'static [u8]
     }
 }
 
-fn is_right(ty: &Ty, takes: InputType) -> bool
-    ensures { result ≡ faults.is_right (ty_of ty.now) takes }
+fn is_right(ty: Ty, takes: InputType) -> bool
+    ensures { (ms : List Parts) → result ≡ faults.is_right (type_in ms ty) takes }
 {
-    assignable(ty, &type_of(takes))
+    let wanted = Ty {
+        arrays: 0,
+        of: Base::Scalar(type_of_input(takes)),
+    };
+    ty.is_assignable_to(wanted)
 }
 
 fn check_type(
@@ -46,11 +52,10 @@ fn check_type(
     input: &Parameter,
     out: &mut Vec<Fault>,
 ) -> Result<(), AllocError>
-    ensures { OnOk result
-        (out.new.items ≡ out.old.items ++ faults.type_faults (call_of call.entry) (member_of value.now.member)
-        (ty_of value.now.ty) input.now) }
+    ensures { OnOk result ((ms : List Parts) → out.new.items ≡ out.old.items
+        ++ faults.type_faults (call_of call.entry) (member_of value.now.member) (type_in ms value.now.ty) input.now) }
 {
-    if is_right(&value.ty, input.takes) {
+    if is_right(value.ty, input.takes) {
         return Ok(());
     }
     let report = Report {
@@ -70,7 +75,8 @@ fn check_value(
     value: &Value<'_>,
     out: &mut Vec<Fault>,
 ) -> Result<(), AllocError>
-    ensures { OnOk result (out.new.items ≡ out.old.items ++ faults.wrong_input (call_of call.entry) inputs.now (given_of value.now)) }
+    ensures { OnOk result ((ms : List Parts) → out.new.items ≡ out.old.items
+        ++ faults.wrong_input (call_of call.entry) inputs.now (given_in ms value.now)) }
 {
     let name = key_text(value.member.key);
     match inputs.named(alloc, name)? {
@@ -87,8 +93,8 @@ fn check_all(
     signature: &Signature,
     out: &mut Vec<Fault>,
 ) -> Result<(), AllocError>
-    ensures { OnOk result
-        (out.new.items ≡ out.old.items ++ faults.wrong_inputs (call_of call.entry) (map given_of values.now) signature.now) }
+    ensures { OnOk result ((ms : List Parts) → out.new.items ≡ out.old.items
+        ++ faults.wrong_inputs (call_of call.entry) (map (given_in ms) values.now) signature.now) }
 {
     for value in values {
         check_value(alloc, call, &signature.inputs, value, out)?;
@@ -104,8 +110,8 @@ pub(crate) fn check_values(
     signature: Option<&Signature>,
     out: &mut Vec<Fault>,
 ) -> Result<(), AllocError>
-    ensures { OnOk result (out.new.items ≡ out.old.items
-        ++ faults.values_against by.Job (call_of call.entry) (map given_of values.now) (option_copied signature.entry)) }
+    ensures { OnOk result ((ms : List Parts) → out.new.items ≡ out.old.items
+        ++ faults.values_against by.Job (call_of call.entry) (map (given_in ms) values.now) (option_copied signature.entry)) }
 {
     match signature {
         None => Ok(()),

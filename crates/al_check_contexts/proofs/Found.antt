@@ -15,7 +15,8 @@ use Rattle.std.specs.Slice.{IsItemAt}
 use Rattle.std.specs.Str.{bytes_eq}
 use Rattle.std.specs.declared.cmp.Ordering.{Ordering}
 use Rattle.std.specs.declared.cmp.Ordering.TheVariants.{Less, Equal, Greater}
-use Rattle.al_check_contexts.specs.Answered.{Behind, behind_of, is_at}
+use Rattle.al_check_contexts.specs.Answered.{Behind, is_at, behind_of}
+use Rattle.al_expr_types.specs.declared.name_list.NameList.{NameList}
 use Rattle.al_check_contexts.specs.Private.Lookups.{Found, and_found, found_at, list_at, names_by}
 use Rattle.al_check_contexts.specs.declared.known.Answer.{Answer}
 use Rattle.al_check_contexts.specs.declared.known.Outputs.{Outputs}
@@ -103,11 +104,16 @@ names_found o job step r e =
 
 -- ---- a list at a position
 
-pub list_found : (lists : List (Bor (List (List ℕ)))) (i : ℕ) (r : Option (Bor (Bor (List (List ℕ))))) → IsItemAt lists i r →
-    option_copied (option_map (λ x. x.now) r) ≡ slice_get (map (λ l. l.now) lists) i
+pub list_found : (lists : List (Bor NameList)) (i : ℕ) (r : Option (Bor (Bor NameList))) → IsItemAt lists i r →
+    option_map (λ l. l.now) (option_map (λ x. x.now) r) ≡ slice_get (map (λ l. l.now) lists) i
 list_found lists i None item = sym (slice_get_past (map (λ l. l.now) lists) i (rw length-map item.3))
 list_found lists i (Some x) item =
-    sym (slice_get-map (λ l. l.now) lists i ∙ ap (option_map (λ l. l.now)) (slice_get_read lists (length lists) i x.now refl item.3.0 item.1))
+    sym (slice_get-map (λ l. l.now) lists i
+    ∙ ap (option_map (λ l. l.now)) (slice_get_read lists (length lists) i x.now refl item.3.0 item.1))
+
+-- behind the lists none stands
+pub none_behind : (lists : List (List (List ℕ))) (i : ℕ) → i ≡ length lists → slice_get lists i ≡ None
+none_behind lists i e = slice_get_past lists i (omega (arith, e))
 
 -- ---- an answer put in front
 

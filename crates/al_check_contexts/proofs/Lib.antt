@@ -1,9 +1,10 @@
-pub mod Seen
-pub mod Sections
-pub mod Values
 pub mod Sets
-pub mod Outside
 pub mod Found
-pub mod LikeFields
-pub mod Needed
-pub mod Summaries
+pub mod Numbers
+pub mod FieldLists
+pub mod TableLemmas
+pub mod StepLemmas
+pub mod InputLemmas
+pub mod JobLemmas
+pub mod Values
+pub mod Standing

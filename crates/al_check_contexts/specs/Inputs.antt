@@ -1,13 +1,21 @@
 -- The types of `inputs` (GitHub, "Contexts reference", `inputs`).
 use Rattle.std.specs.Prelude.{ℕ, List, [], ◌∷◌, codes, map}
-use Rattle.al_types.specs.Types.{Type'}
+use Rattle.al_types.specs.Types.{Type', Number, Bool', String}
 use Rattle.al_yaml_tree.specs.Node.{Node}
 use Rattle.al_tree.specs.Keys.{key_of}
 use Rattle.al_tree_declarations.specs.Declarations.{declared_below, names_of}
-use Rattle.al_tree_declarations.specs.Inputs.{input_of, input_type}
+use Rattle.al_tree_declarations.specs.Inputs.{input_of}
+use Rattle.al_tree_declarations.specs.declared.inputs.InputType.{InputType}
+use Rattle.al_tree_declarations.specs.declared.inputs.InputType.TheVariants as input
 use Rattle.al_types.specs.Strings.{named_strings}
 use Rattle.al_check_contexts.specs.Objects.{strictly}
 use Rattle.al_types.specs.Puts.{Typed, put, put_all}
+
+-- the type of expressions that an input has
+abbrev pub input_type : InputType → Type'
+input_type input.Boolean = Bool'
+input_type input.Number = Number
+input_type input.String = String
 
 abbrev pub input_field : Node × Node → Typed
 input_field e = (key_of e, input_type (input_of e.1))

@@ -1,8 +1,10 @@
 -- Words that only contracts of private functions need: no definition of what the product means stands on them.
 pub mod Environment
-pub mod Grown
 pub mod JobPositions
-pub mod LikeFields
 pub mod Lookups
+pub mod Made
+pub mod Numbers
+pub mod Owners
 pub mod Standing
-pub mod ShownJobs
+pub mod Steps
+pub mod Table

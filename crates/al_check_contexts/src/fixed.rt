@@ -1,11 +1,14 @@
 //! The types of contexts that are the same in every file.
-ghost use Rattle.std.specs.Prelude.{◌≡◌, IfOk, map};
-ghost use Rattle.al_types.specs.TypeViews.{ty_of};
+ghost use Rattle.std.specs.Prelude.{◌≡◌, IfOk, OnOk, map};
+ghost use Rattle.al_base.specs.Growth.{BeginsWith};
 ghost use Rattle.al_check_contexts.specs.Fixed as fixed;
 ghost use Rattle.al_check_contexts.specs.Fixed.{github_type, job_type, runner_type, strategy_type};
+ghost use Rattle.al_check_contexts.specs.Private.Numbers.{Means};
+ghost use Rattle.al_expr_types.specs.Tables.{objects_of};
 
-use crate::objects::{add_field, add_strings, loose_of, strict_of};
-use al_types::Ty;
+use crate::field_lists::FieldList;
+use crate::scalars::scalar;
+use al_expr_types::{Scalar, Ty, Types};
 use std::alloc::{AllocError, Global};
 
 const GITHUB: &[&[u8]] = &[
@@ -76,39 +79,46 @@ fn runner_names() -> &'static [&'static [u8]]
 }
 
 /// The type of `github`. Fails with `AllocError` when out of memory, as all here.
-pub(crate) fn github(alloc: Global) -> Result<Ty, AllocError>
-    ensures { IfOk result (λ t. ty_of t ≡ github_type) }
+pub(crate) fn github(alloc: Global, types: &mut Types<'_>) -> Result<Ty, AllocError>
+    ensures ty { IfOk result (λ t. Means types.new t github_type) }
+    ensures kept { OnOk result (BeginsWith (objects_of types.new) (objects_of types.old)) }
 {
-    let mut fields = Vec::new(alloc);
-    add_field(alloc, &mut fields, b"event", Ty::Any)?;
-    add_field(alloc, &mut fields, b"ref_protected", Ty::Bool)?;
-    add_strings(alloc, &mut fields, github_names())?;
-    strict_of(alloc, fields)
+    let event = FieldList::new(alloc).and(alloc, b"event", Ty::ANY)?;
+    let both = event.and(alloc, b"ref_protected", scalar(Scalar::Bool))?;
+    let all = both.and_strings(alloc, github_names())?;
+    let ty = all.into_type(alloc, types, None)?;
+    Ok(ty)
 }
 
-pub(crate) fn runner(alloc: Global) -> Result<Ty, AllocError>
-    ensures { IfOk result (λ t. ty_of t ≡ runner_type) }
+/// The type of `runner`.
+pub(crate) fn runner(alloc: Global, types: &mut Types<'_>) -> Result<Ty, AllocError>
+    ensures ty { IfOk result (λ t. Means types.new t runner_type) }
+    ensures kept { OnOk result (BeginsWith (objects_of types.new) (objects_of types.old)) }
 {
-    let mut fields = Vec::new(alloc);
-    add_strings(alloc, &mut fields, runner_names())?;
-    loose_of(alloc, fields, Ty::Any)
+    let all = FieldList::new(alloc).and_strings(alloc, runner_names())?;
+    let ty = all.into_type(alloc, types, Some(Ty::ANY))?;
+    Ok(ty)
 }
 
-pub(crate) fn job(alloc: Global) -> Result<Ty, AllocError>
-    ensures { IfOk result (λ t. ty_of t ≡ job_type) }
+/// The type of `job`.
+pub(crate) fn job(alloc: Global, types: &mut Types<'_>) -> Result<Ty, AllocError>
+    ensures ty { IfOk result (λ t. Means types.new t job_type) }
+    ensures kept { OnOk result (BeginsWith (objects_of types.new) (objects_of types.old)) }
 {
-    let mut fields = Vec::new(alloc);
-    add_field(alloc, &mut fields, b"status", Ty::String)?;
-    loose_of(alloc, fields, Ty::Any)
+    let status = FieldList::new(alloc).and(alloc, b"status", Ty::STRING)?;
+    let ty = status.into_type(alloc, types, Some(Ty::ANY))?;
+    Ok(ty)
 }
 
-pub(crate) fn strategy(alloc: Global) -> Result<Ty, AllocError>
-    ensures { IfOk result (λ t. ty_of t ≡ strategy_type) }
+/// The type of `strategy` in a job.
+pub(crate) fn strategy(alloc: Global, types: &mut Types<'_>) -> Result<Ty, AllocError>
+    ensures ty { IfOk result (λ t. Means types.new t strategy_type) }
+    ensures kept { OnOk result (BeginsWith (objects_of types.new) (objects_of types.old)) }
 {
-    let mut fields = Vec::new(alloc);
-    add_field(alloc, &mut fields, b"fail-fast", Ty::Bool)?;
-    add_field(alloc, &mut fields, b"job-index", Ty::Number)?;
-    add_field(alloc, &mut fields, b"job-total", Ty::Number)?;
-    add_field(alloc, &mut fields, b"max-parallel", Ty::Number)?;
-    strict_of(alloc, fields)
+    let one = FieldList::new(alloc).and(alloc, b"fail-fast", scalar(Scalar::Bool))?;
+    let two = one.and(alloc, b"job-index", scalar(Scalar::Number))?;
+    let three = two.and(alloc, b"job-total", scalar(Scalar::Number))?;
+    let four = three.and(alloc, b"max-parallel", scalar(Scalar::Number))?;
+    let ty = four.into_type(alloc, types, None)?;
+    Ok(ty)
 }

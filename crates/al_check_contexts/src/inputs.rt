@@ -1,69 +1,91 @@
 //! The types of `inputs`.
-ghost use Rattle.std.specs.Prelude.{◌≡◌, IfOk, map};
-ghost use Rattle.al_check_contexts.specs.Private.Environment.{inputs_in};
+ghost use Rattle.std.specs.Prelude.{IfOk, OnOk, map};
+ghost use Rattle.al_base.specs.Growth.{BeginsWith};
 ghost use Rattle.al_check_contexts.specs.Inputs as inputs;
+ghost use Rattle.al_check_contexts.specs.Objects.{strictly};
+ghost use Rattle.al_check_contexts.specs.Private.Environment.{inputs_in};
+ghost use Rattle.al_check_contexts.specs.Private.Numbers.{Lists, Means};
+ghost use Rattle.al_expr_types.specs.Tables.{objects_of};
+ghost use Rattle.al_expr_types.specs.declared.types.Types as declared;
 ghost use Rattle.al_tree.specs.Values.{member_of};
-ghost use Rattle.al_types.specs.TypeViews.{ty_of};
-ghost use Rattle.al_types.specs.Private.TypeParts.{field_of};
+ghost use Rattle.al_types.specs.Puts.{firsts};
 ghost use Rattle.al_yaml_tree.specs.View.{view};
 
-use crate::objects::key_texts;
+use crate::field_lists::FieldList;
+use crate::objects::declared_strings;
+use crate::scalars::{scalar, type_of_input};
+use al_expr_types::{Ty, Types};
 use al_tree::{FileKind, Member, key_text, value};
-use al_tree_declarations::{declared_at, input_of, object_of_names, type_of, value_below_three};
-use al_types::{Field, FieldList, Ty};
+use al_tree_declarations::{declared_at, input_of, value_below_three};
 use al_yaml_tree::Node;
 use std::alloc::{AllocError, Global};
 
-/// The field that an input is. Fails with `AllocError` when out of memory, as all here.
-fn input_field(alloc: Global, input: Member<'_>) -> Result<Field, AllocError>
-    ensures { IfOk result (λ f. field_of f ≡ inputs.input_field (member_of input.entry)) }
+/// The fields that inputs are. Fails with `AllocError` when out of memory, as all here.
+fn input_fields<'a>(alloc: Global, entries: &[Member<'a>]) -> Result<FieldList<'a>, AllocError>
+    ensures { IfOk result (λ l. (types : declared.Types) → Lists types l (firsts (map inputs.input_field (map member_of entries.now)))) }
 {
-    Field::new(alloc, key_text(input.key), type_of(input_of(input.value)))
-}
-
-/// The fields that inputs are.
-fn input_fields(alloc: Global, declared: &[Member<'_>]) -> Result<Vec<Field>, AllocError>
-    ensures { IfOk result (λ v. map field_of v.items ≡ map inputs.input_field (map member_of declared.now)) }
-{
-    let mut fields = Vec::new(alloc);
-    for input in declared {
-        fields.push(input_field(alloc, *input)?)?;
+    let mut fields = FieldList::new(alloc);
+    for input in entries {
+        let ty = scalar(type_of_input(input_of(input.value)));
+        let more = fields.and(alloc, key_text(input.key), ty)?;
+        fields = more;
     }
     Ok(fields)
 }
 
-/// The inputs that an event of a workflow declares.
-fn event_inputs(alloc: Global, root: &Node, event: &str) -> Result<Vec<Field>, AllocError>
-    ensures { IfOk result (λ v. map field_of v.items ≡ inputs.event_inputs event.now (view root.now)) }
+/// The inputs that an event of a workflow declares, as an object.
+fn event_inputs<'a>(
+    alloc: Global,
+    types: &mut Types<'a>,
+    root: &'a Node,
+    event: &str,
+) -> Result<Ty, AllocError>
+    ensures ty { IfOk result (λ t. Means types.new t (strictly (firsts (inputs.event_inputs event.now (view root.entry.now))))) }
+    ensures kept { OnOk result (BeginsWith (objects_of types.new) (objects_of types.old)) }
 {
     let declared = declared_at(alloc, value_below_three(root, "on", event, "inputs"))?;
-    input_fields(alloc, declared.as_slice())
+    let fields = input_fields(alloc, declared.as_slice())?;
+    let ty = fields.into_type(alloc, types, None)?;
+    Ok(ty)
 }
 
-/// The type of `inputs` in a workflow.
-fn workflow_inputs(alloc: Global, root: &Node) -> Result<Ty, AllocError>
-    ensures { IfOk result (λ t. ty_of t ≡ inputs.workflow_inputs (view root.now)) }
+/// The type of `inputs` in a workflow: what an object of the inputs of a call and one of those of a dispatch have in common.
+fn workflow_inputs<'a>(
+    alloc: Global,
+    types: &mut Types<'a>,
+    root: &'a Node,
+) -> Result<Ty, AllocError>
+    ensures ty { IfOk result (λ t. Means types.new t (inputs.workflow_inputs (view root.entry.now))) }
+    ensures kept { OnOk result (BeginsWith (objects_of types.new) (objects_of types.old)) }
 {
-    let mut fields = FieldList::of(alloc, event_inputs(alloc, root, "workflow_call")?)?;
-    fields.fuse_all(alloc, event_inputs(alloc, root, "workflow_dispatch")?)?;
-    fields.into_ty(alloc)
+    let call = event_inputs(alloc, types, root, "workflow_call")?;
+    let dispatch = event_inputs(alloc, types, root, "workflow_dispatch")?;
+    let ty = types.join(call, dispatch)?;
+    Ok(ty)
 }
 
 /// The type of `inputs` in an action.
-fn action_inputs(alloc: Global, root: &Node) -> Result<Ty, AllocError>
-    ensures { IfOk result (λ t. ty_of t ≡ inputs.action_inputs (view root.now)) }
+fn action_inputs<'a>(alloc: Global, types: &mut Types<'a>, root: &'a Node) -> Result<Ty, AllocError>
+    ensures ty { IfOk result (λ t. Means types.new t (inputs.action_inputs (view root.entry.now))) }
+    ensures kept { OnOk result (BeginsWith (objects_of types.new) (objects_of types.old)) }
 {
     let declared = declared_at(alloc, value(root, "inputs"))?;
-    let names = key_texts(alloc, declared.as_slice())?;
-    object_of_names(alloc, names.as_slice())
+    let ty = declared_strings(alloc, types, declared.as_slice())?;
+    Ok(ty)
 }
 
 /// The type of `inputs` in a file.
-pub(crate) fn inputs_type(alloc: Global, kind: FileKind, root: &Node) -> Result<Ty, AllocError>
-    ensures { IfOk result (λ t. ty_of t ≡ inputs_in kind (view root.now)) }
+pub(crate) fn inputs_type<'a>(
+    alloc: Global,
+    types: &mut Types<'a>,
+    kind: FileKind,
+    root: &'a Node,
+) -> Result<Ty, AllocError>
+    ensures ty { IfOk result (λ t. Means types.new t (inputs_in kind (view root.entry.now))) }
+    ensures kept { OnOk result (BeginsWith (objects_of types.new) (objects_of types.old)) }
 {
     match kind {
-        FileKind::Workflow => workflow_inputs(alloc, root),
-        FileKind::Action => action_inputs(alloc, root),
+        FileKind::Workflow => workflow_inputs(alloc, types, root),
+        FileKind::Action => action_inputs(alloc, types, root),
     }
 }

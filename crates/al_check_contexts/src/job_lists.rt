@@ -1,5 +1,5 @@
 //! The jobs of a workflow, found by their keys.
-ghost use Rattle.std.specs.Prelude.{◌≡◌, IfOk, map, option_map};
+ghost use Rattle.std.specs.Prelude.{◌≡◌, ◌<◌, IfOk, length, map, option_map, slice_get};
 ghost use Rattle.al_base.specs.NamePlaces.{name_position, text_position};
 ghost use Rattle.al_check_places.specs.Positions.{section_view};
 ghost use Rattle.al_tree.specs.Values.{member_of};
@@ -69,6 +69,14 @@ impl<'a> JobList<'a> {
         ensures { map member_of result.now ≡ map member_of self.now.members.items }
     {
         self.members.as_slice()
+    }
+
+    /// The job at a position.
+    pub(crate) fn job_at(&self, i: usize) -> Member<'a>
+        requires { i < length self.now.members.items }
+        ensures { slice_get (map member_of self.now.members.items) i ≡ Some (member_of result) }
+    {
+        self.members[i]
     }
 
     /// The job of a section.

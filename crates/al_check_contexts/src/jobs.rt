@@ -1,149 +1,262 @@
-//! What a job shows to others, and the type of `jobs`.
-ghost use Rattle.std.specs.Prelude.{◌≡◌, ℕ, IfOk, Option, map};
-ghost use Rattle.std.specs.Option.{option_copied};
-ghost use Rattle.al_types.specs.MoreFields as types;
-ghost use Rattle.al_types.specs.TypeViews.{ty_of};
-ghost use Rattle.al_types.specs.Types.{Type'};
-ghost use Rattle.al_types.specs.Private.TypeParts.{field_of};
+//! What a job shows to others, made once a file, and the types of `jobs` and `needs`.
+ghost use Rattle.std.specs.Prelude.{◌≡◌, ◌<◌, IfOk, OnOk, List, codes, length, map, option_map, true};
+ghost use Rattle.std.specs.Option.{option_to_list};
+ghost use Rattle.al_base.specs.Growth.{BeginsWith};
+ghost use Rattle.al_check_contexts.specs.Contexts.{call_outputs, job_field, jobs_type_of, needed, needs_type_of};
+ghost use Rattle.al_check_contexts.specs.Private.Lookups.{called_at, known_by, shown_at, shown_with};
+ghost use Rattle.al_check_contexts.specs.Private.Made.{KeepsJobs};
+ghost use Rattle.al_check_contexts.specs.Private.Numbers.{Keeps, Lists, Means};
+ghost use Rattle.al_expr_types.specs.Tables.{is_known, objects_of, type_at};
+ghost use Rattle.al_expr_types.specs.declared.types.Types as declared;
+ghost use Rattle.al_check_contexts.specs.declared.known.Outputs as outputs;
 ghost use Rattle.al_tree.specs.Values.{entries_at, member_of};
+ghost use Rattle.al_tree_declarations.specs.Declarations.{names_of};
+ghost use Rattle.al_types.specs.Puts.{Typed, put_all, put_new};
+ghost use Rattle.al_types.specs.Strings.{named_strings};
+ghost use Rattle.al_yaml_tree.specs.Node as tree;
 ghost use Rattle.al_yaml_tree.specs.View.{view};
-ghost use Rattle.al_check_contexts.specs.Private.LikeFields.{AreIncluded, called_at};
-ghost use Rattle.al_check_contexts.specs.Private.Lookups.{known_by};
-ghost use Rattle.al_check_contexts.specs.Private.ShownJobs.{IsTyped, outputs_at};
-ghost use Rattle.al_check_contexts.specs.Contexts as contexts;
-ghost use Rattle.al_check_contexts.specs.Contexts.{call_outputs, jobs_type_of};
-ghost use Rattle.al_tree_declarations.specs.Declarations as declarations;
 
+use crate::caches::TypeCache;
+use crate::field_lists::FieldList;
 use crate::job_lists::JobList;
 use crate::known::Outputs;
-use crate::like_fields::{Included, with_field_at};
-use crate::objects::{add_field, key_texts, loose_any, no_fields, strict_of};
-use al_tree::{Member, key_text, members, value};
-use al_tree_declarations::{NameList, object_of_names};
-use al_types::{Field, Ty, copy, with_field};
+use crate::objects::{declared_strings, loose_any};
+use al_expr_types::{NameList, Ty, Types};
+use al_tree::{Member, key_text, members_under, texts_under};
+use al_tree_declarations::has_value;
 use al_yaml_tree::Node;
 use std::alloc::{AllocError, Global};
 
-/// Where the names of a job's outputs stand.
-#[derive(Clone, Copy)]
-pub(crate) enum OutputNames {
-    /// In the job itself.
-    Own,
-    /// Behind its call, at a position of what is known; none where nothing is.
-    Known(Option<usize>),
-}
-
-/// What a job shows to others.
+/// What jobs show to others, as far as it was asked for.
 #[derive(Drop)]
-pub(crate) struct ShownJob {
-    pub(crate) field: Field,
-    pub(crate) outputs: OutputNames,
+pub(crate) struct JobTypes {
+    /// By the position of the names of outputs, of jobs that call a workflow.
+    pub(crate) calls: TypeCache,
+    /// By the job's position.
+    pub(crate) shown: TypeCache,
+    /// The type of `jobs`.
+    pub(crate) all: Option<Ty>,
 }
 
-/// The names of what a mapping under a key declares.
-fn declared_names<'a>(alloc: Global, node: &'a Node, key: &str) -> Result<Vec<&'a [u8]>, AllocError>
-    ensures { IfOk result (λ v. map (λ n. n.now) v.items ≡ declarations.names_of (entries_at key.now (view node.now))) }
+/// What a job shows that has these outputs. Fails with `AllocError` when out of memory, as all here.
+fn shown_with(alloc: Global, types: &mut Types<'_>, outputs: Ty) -> Result<Ty, AllocError>
+    requires { is_known types.old outputs ≡ true }
+    ensures ty { IfOk result (λ t. Means types.new t (shown_with (type_at types.old outputs))) }
+    ensures kept { OnOk result (BeginsWith (objects_of types.new) (objects_of types.old)) }
 {
-    match value(node, key) {
-        None => Ok(Vec::new(alloc)),
-        Some(mapping) => {
-            let entries = members(alloc, mapping)?;
-            key_texts(alloc, entries.as_slice())
-        }
-    }
+    let result = FieldList::new(alloc).and(alloc, b"result", Ty::STRING)?;
+    let both = result.and(alloc, b"outputs", outputs)?;
+    let ty = both.into_type(alloc, types, None)?;
+    Ok(ty)
 }
 
 /// The type of the outputs of a job that calls a workflow, by what is known of them.
-fn call_outputs_type(alloc: Global, outputs: Option<&NameList>) -> Result<Ty, AllocError>
-    ensures { IfOk result (λ t. ty_of t ≡ call_outputs (option_copied outputs.entry)) }
+fn call_outputs_type<'a>(
+    alloc: Global,
+    types: &mut Types<'a>,
+    outputs: Option<&'a NameList>,
+) -> Result<Ty, AllocError>
+    ensures ty { IfOk result (λ t. Means types.new t (call_outputs (option_map (λ l. l.now) outputs.entry))) }
+    ensures kept { OnOk result (BeginsWith (objects_of types.new) (objects_of types.old)) }
 {
     match outputs {
-        None => loose_any(alloc),
-        Some(names) => copy(alloc, names.strings()),
-    }
-}
-
-/// Where the names of a job's outputs stand.
-fn output_names<'a>(known: &Outputs<'a>, job: Member<'a>) -> OutputNames
-    ensures { contexts.job_outputs (known_by known.now) (member_of job.entry) ≡ outputs_at known.now (member_of job.entry) result }
-{
-    if value(job.value, "uses").is_some() {
-        OutputNames::Known(known.position_of_job(key_text(job.key)))
-    } else {
-        OutputNames::Own
-    }
-}
-
-/// The type of a job's outputs, whose names stand there.
-fn outputs_type<'a>(
-    alloc: Global,
-    known: &Outputs<'a>,
-    job: Member<'a>,
-    names: OutputNames,
-) -> Result<Ty, AllocError>
-    ensures { IfOk result (λ t. ty_of t ≡ outputs_at known.now (member_of job.entry) names) }
-{
-    match names {
-        OutputNames::Own => {
-            let names = declared_names(alloc, job.value, "outputs")?;
-            object_of_names(alloc, names.as_slice())
+        None => loose_any(alloc, types),
+        Some(names) => {
+            let ty = types.strings(names)?;
+            Ok(ty)
         }
-        OutputNames::Known(position) => call_outputs_type(alloc, known.list(position)),
     }
 }
 
-/// What a job shows to others. Fails with `AllocError` when out of memory.
-pub(crate) fn shown_job<'a>(
+/// What a job that calls a workflow shows, by the position of the names of its outputs.
+fn called_type<'a>(
     alloc: Global,
+    types: &mut Types<'a>,
     known: &Outputs<'a>,
-    job: Member<'a>,
-) -> Result<ShownJob, AllocError>
-    ensures field { IfOk result (λ s. field_of s.field ≡ contexts.job_field (known_by known.now) (member_of job.entry)) }
-    ensures typed { IfOk result (λ s. IsTyped (called_at known.now) s) }
-{
-    let names = output_names(known, job);
-    let outputs = outputs_type(alloc, known, job, names)?;
-    let mut fields = Vec::new(alloc);
-    add_field(alloc, &mut fields, b"result", Ty::String)?;
-    add_field(alloc, &mut fields, b"outputs", outputs)?;
-    let ty = strict_of(alloc, fields)?;
-    Ok(ShownJob {
-        field: Field::new(alloc, key_text(job.key), ty)?,
-        outputs: names,
-    })
-}
-
-/// An object of what jobs show, and what a further job shows, unless one of its name is there. Fails with `AllocError` when out of memory.
-pub(crate) fn with_job(
-    alloc: Global,
-    ty: Ty,
-    included: &mut Included,
-    job: ShownJob,
+    made: &mut TypeCache,
+    position: usize,
 ) -> Result<Ty, AllocError>
-    ensures ty { IfOk result (λ t. (at : Option ℕ → Type') → IsTyped at job → AreIncluded at included.old (ty_of ty)
-        → ty_of t ≡ types.with_field (ty_of ty) (field_of job.field)) }
-    ensures included { IfOk result (λ t. (at : Option ℕ → Type') → IsTyped at job → AreIncluded at included.old (ty_of ty)
-        → AreIncluded at included.new (ty_of t)) }
+    requires { Keeps types.old (called_at known.now) made.old }
+    ensures ty { IfOk result (λ t. Means types.new t (called_at known.now position)) }
+    ensures keeps { OnOk result (Keeps types.new (called_at known.now) made.new) }
+    ensures kept { OnOk result (BeginsWith (objects_of types.new) (objects_of types.old)) }
 {
-    match job.outputs {
-        OutputNames::Own => with_field(alloc, ty, job.field),
-        OutputNames::Known(position) => with_field_at(alloc, ty, included, position, job.field),
+    if let Some(ty) = made.get(position) {
+        return Ok(ty);
     }
-}
-
-/// The type of `jobs`. Fails with `AllocError` when out of memory.
-pub(crate) fn jobs_type<'a>(
-    alloc: Global,
-    known: &Outputs<'a>,
-    jobs: &JobList<'a>,
-) -> Result<Ty, AllocError>
-    ensures { IfOk result (λ t. ty_of t ≡ jobs_type_of (known_by known.now) (map member_of jobs.now.members.items)) }
-{
-    let mut ty = no_fields(alloc)?;
-    let mut included = Included::new(alloc);
-    for job in jobs.as_slice() {
-        let shown = shown_job(alloc, known, *job)?;
-        ty = with_job(alloc, ty, &mut included, shown)?;
-    }
+    let outputs = call_outputs_type(alloc, types, known.list(position))?;
+    let ty = shown_with(alloc, types, outputs)?;
+    made.set(position, ty);
     Ok(ty)
+}
+
+/// What a job shows that calls no workflow.
+fn own_type<'a>(alloc: Global, types: &mut Types<'a>, job: Member<'a>) -> Result<Ty, AllocError>
+    ensures ty { IfOk result (λ t. Means types.new t
+        (shown_with (named_strings (names_of (entries_at (codes "outputs") (view (job.entry).value.now)))))) }
+    ensures kept { OnOk result (BeginsWith (objects_of types.new) (objects_of types.old)) }
+{
+    let entries = members_under(alloc, job.value, "outputs")?;
+    let outputs = declared_strings(alloc, types, entries.as_slice())?;
+    let ty = shown_with(alloc, types, outputs)?;
+    Ok(ty)
+}
+
+impl JobTypes {
+    /// Nothing of so many calls and jobs.
+    pub(crate) fn new(alloc: Global, calls: usize, jobs: usize) -> Result<JobTypes, AllocError>
+        ensures { IfOk result (λ m. (types : declared.Types) (known : outputs.Outputs) (js : List (tree.Node × tree.Node))
+            → KeepsJobs types known js m) }
+    {
+        let calls = TypeCache::new(alloc, calls)?;
+        let shown = TypeCache::new(alloc, jobs)?;
+        Ok(JobTypes {
+            calls,
+            shown,
+            all: None,
+        })
+    }
+
+    /// What a job shows.
+    fn type_of<'a>(
+        &mut self,
+        alloc: Global,
+        types: &mut Types<'a>,
+        known: &Outputs<'a>,
+        job: Member<'a>,
+    ) -> Result<Ty, AllocError>
+        requires { Keeps types.old (called_at known.now) (self.old).calls }
+        ensures ty { IfOk result (λ t. Means types.new t (job_field (known_by known.now) (member_of job.entry)).1) }
+        ensures keeps { OnOk result (Keeps types.new (called_at known.now) (self.new).calls) }
+        ensures shown { (self.new).shown ≡ (self.old).shown }
+        ensures all { (self.new).all ≡ (self.old).all }
+        ensures kept { OnOk result (BeginsWith (objects_of types.new) (objects_of types.old)) }
+    {
+        if has_value(job.value, "uses") {
+            let position = known.position_of_job(key_text(job.key));
+            let ty = called_type(alloc, types, known, &mut self.calls, position)?;
+            return Ok(ty);
+        }
+        let ty = own_type(alloc, types, job)?;
+        Ok(ty)
+    }
+
+    /// What the job at a position shows.
+    fn get<'a>(
+        &mut self,
+        alloc: Global,
+        types: &mut Types<'a>,
+        known: &Outputs<'a>,
+        jobs: &JobList<'a>,
+        i: usize,
+    ) -> Result<Ty, AllocError>
+        requires keeps { KeepsJobs types.old known.now (map member_of jobs.now.members.items) self.old }
+        requires inside { i < length jobs.now.members.items }
+        ensures ty { IfOk result (λ t. Means types.new t (shown_at known.now (map member_of jobs.now.members.items) i)) }
+        ensures keeps { OnOk result (KeepsJobs types.new known.now (map member_of jobs.now.members.items) self.new) }
+        ensures kept { OnOk result (BeginsWith (objects_of types.new) (objects_of types.old)) }
+    {
+        if let Some(ty) = self.shown.get(i) {
+            return Ok(ty);
+        }
+        let ty = self.type_of(alloc, types, known, jobs.job_at(i))?;
+        self.shown.set(i, ty);
+        Ok(ty)
+    }
+
+    /// An object of what all jobs show.
+    fn object_of_jobs<'a>(
+        &mut self,
+        alloc: Global,
+        types: &mut Types<'a>,
+        known: &Outputs<'a>,
+        jobs: &JobList<'a>,
+    ) -> Result<Ty, AllocError>
+        requires { KeepsJobs types.old known.now (map member_of jobs.now.members.items) self.old }
+        ensures ty { IfOk result (λ t. Means types.new t (jobs_type_of (known_by known.now) (map member_of jobs.now.members.items))) }
+        ensures keeps { OnOk result (KeepsJobs types.new known.now (map member_of jobs.now.members.items) self.new) }
+        ensures kept { OnOk result (BeginsWith (objects_of types.new) (objects_of types.old)) }
+    {
+        let mut fields = FieldList::new(alloc);
+        let members = jobs.as_slice();
+        for (i, job) in members.iter().enumerate() {
+            let ty = self.get(alloc, types, known, jobs, i)?;
+            let more = fields.and(alloc, key_text(job.key), ty)?;
+            fields = more;
+        }
+        let ty = fields.into_type(alloc, types, None)?;
+        Ok(ty)
+    }
+
+    /// The type of `jobs`, which is made once.
+    pub(crate) fn jobs_type<'a>(
+        &mut self,
+        alloc: Global,
+        types: &mut Types<'a>,
+        known: &Outputs<'a>,
+        jobs: &JobList<'a>,
+    ) -> Result<Ty, AllocError>
+        requires { KeepsJobs types.old known.now (map member_of jobs.now.members.items) self.old }
+        ensures ty { IfOk result (λ t. Means types.new t (jobs_type_of (known_by known.now) (map member_of jobs.now.members.items))) }
+        ensures keeps { OnOk result (KeepsJobs types.new known.now (map member_of jobs.now.members.items) self.new) }
+        ensures kept { OnOk result (BeginsWith (objects_of types.new) (objects_of types.old)) }
+    {
+        if let Some(ty) = self.all {
+            return Ok(ty);
+        }
+        let ty = self.object_of_jobs(alloc, types, known, jobs)?;
+        self.all = Some(ty);
+        Ok(ty)
+    }
+
+    /// Fields, and what the first job of a name shows, where there is one, unless a field has its name.
+    fn and_needed<'a>(
+        &mut self,
+        alloc: Global,
+        types: &mut Types<'a>,
+        known: &Outputs<'a>,
+        jobs: &JobList<'a>,
+        name: &[u8],
+        fields: FieldList<'a>,
+    ) -> Result<FieldList<'a>, AllocError>
+        requires { KeepsJobs types.old known.now (map member_of jobs.now.members.items) self.old }
+        ensures fields { IfOk result (λ l. (ts : List Typed) → Lists types.old fields.entry ts → Lists types.new l
+            (put_all put_new ts (option_to_list (needed (known_by known.now) (map member_of jobs.now.members.items) name.now)))) }
+        ensures keeps { OnOk result (KeepsJobs types.new known.now (map member_of jobs.now.members.items) self.new) }
+        ensures kept { OnOk result (BeginsWith (objects_of types.new) (objects_of types.old)) }
+    {
+        match jobs.position_of(alloc, name)? {
+            None => Ok(fields),
+            Some(i) => {
+                let ty = self.get(alloc, types, known, jobs, i)?;
+                let more = fields.and(alloc, key_text(jobs.job_at(i).key), ty)?;
+                Ok(more)
+            }
+        }
+    }
+
+    /// The type of `needs` in a job.
+    pub(crate) fn needs_type<'a>(
+        &mut self,
+        alloc: Global,
+        types: &mut Types<'a>,
+        known: &Outputs<'a>,
+        jobs: &JobList<'a>,
+        job: &'a Node,
+    ) -> Result<Ty, AllocError>
+        requires { KeepsJobs types.old known.now (map member_of jobs.now.members.items) self.old }
+        ensures ty { IfOk result (λ t. Means types.new t
+            (needs_type_of (known_by known.now) (map member_of jobs.now.members.items) (view job.entry.now))) }
+        ensures keeps { OnOk result (KeepsJobs types.new known.now (map member_of jobs.now.members.items) self.new) }
+        ensures kept { OnOk result (BeginsWith (objects_of types.new) (objects_of types.old)) }
+    {
+        let mut fields = FieldList::new(alloc);
+        let names = texts_under(alloc, job, "needs")?;
+        for name in names.as_slice() {
+            let more = self.and_needed(alloc, types, known, jobs, name.scalar.text(), fields)?;
+            fields = more;
+        }
+        let ty = fields.into_type(alloc, types, None)?;
+        Ok(ty)
+    }
 }

@@ -1,10 +1,10 @@
 //! What is known of the outputs behind calls.
-ghost use Rattle.std.specs.Prelude.{◌≡◌, ◌<◌, IfOk, IfSome, OnOk, length, option_and_then};
+ghost use Rattle.std.specs.Prelude.{◌≡◌, IfOk, OnOk, length, option_and_then, option_map};
 ghost use Rattle.std.specs.Option.{option_copied};
 ghost use Rattle.al_check_contexts.specs.Answered.{behind_of, known_of};
 ghost use Rattle.al_check_contexts.specs.Private.Lookups.{and_found, found_at, known_by, list_at, lists_of, names_by};
 
-use al_tree_declarations::NameList;
+use al_expr_types::NameList;
 use std::alloc::{AllocError, Global};
 use std::collections::BTreeMap;
 
@@ -21,8 +21,8 @@ pub struct Answer<'a> {
     pub names: Option<usize>,
 }
 
-/// What is known of the outputs behind the calls of a file. Calls with one position in `lists` have the same outputs, which is told
-/// without a look at the names.
+/// What is known of the outputs behind the calls of a file. Calls with one position in `lists` have the same outputs, of which the type
+/// is made once.
 #[derive(Clone, Copy)]
 pub struct Answers<'a> {
     /// The answers, in any order but for those at one place of a file.
@@ -66,51 +66,51 @@ impl<'a> Outputs<'a> {
         Ok(())
     }
 
-    /// This position, if a list stands there.
-    fn within(&self, position: Option<usize>) -> Option<usize>
-        ensures names { option_and_then (list_at self.now) result ≡ option_and_then (list_at self.now) position }
-        ensures there { IfSome result (λ i. i < length (lists_of self.now)) }
+    /// How many lists of names there are, which is the position of those that aren't known.
+    pub(crate) fn unknown(&self) -> usize
+        ensures { result ≡ length (lists_of self.now) }
+    {
+        self.lists.len()
+    }
+
+    /// This position, or `unknown`.
+    fn or_unknown(&self, position: Option<usize>) -> usize
+        ensures { list_at self.now result ≡ option_and_then (list_at self.now) position }
     {
         match position {
-            Some(i) => if i < self.lists.len() { Some(i) } else { None },
-            None => None,
+            Some(i) => i,
+            None => self.unknown(),
         }
     }
 
-    /// The position of the names of the outputs behind a call; none where nothing is known of them. A list stands at each position that is
-    /// answered, and calls with one position have the same outputs.
-    fn position(&self, job: Option<&'a [u8]>, step: Option<usize>) -> Option<usize>
-        ensures names { option_and_then (list_at self.now) result ≡ names_by self.now (option_copied job.entry) step }
-        ensures there { IfSome result (λ i. i < length (lists_of self.now)) }
+    /// The position of the names of the outputs behind a call, or `unknown`. Calls with one position have the same outputs.
+    fn position(&self, job: Option<&'a [u8]>, step: Option<usize>) -> usize
+        ensures { list_at self.now result ≡ names_by self.now (option_copied job.entry) step }
     {
         match self.positions.get(&(job, step)) {
-            Some(position) => self.within(*position),
-            None => None,
+            Some(position) => self.or_unknown(*position),
+            None => self.unknown(),
         }
     }
 
     /// The position of the names of a step's outputs, likewise.
-    pub(crate) fn position_of_step(&self, job: Option<&'a [u8]>, i: usize) -> Option<usize>
-        ensures names { option_and_then (list_at self.now) result ≡ (known_by self.now).of_step (option_copied job.entry) i }
-        ensures there { IfSome result (λ i. i < length (lists_of self.now)) }
+    pub(crate) fn position_of_step(&self, job: Option<&'a [u8]>, i: usize) -> usize
+        ensures { list_at self.now result ≡ (known_by self.now).of_step (option_copied job.entry) i }
     {
         self.position(job, Some(i))
     }
 
     /// The position of the names of a job's outputs, likewise.
-    pub(crate) fn position_of_job(&self, job: &'a [u8]) -> Option<usize>
-        ensures names { option_and_then (list_at self.now) result ≡ (known_by self.now).of_job job.entry.now }
+    pub(crate) fn position_of_job(&self, job: &'a [u8]) -> usize
+        ensures { list_at self.now result ≡ (known_by self.now).of_job job.entry.now }
     {
         self.position(Some(job), None)
     }
 
     /// The names at a position.
-    pub(crate) fn list(&self, position: Option<usize>) -> Option<&'a NameList>
-        ensures { option_copied result ≡ option_and_then (list_at self.now) position }
+    pub(crate) fn list(&self, position: usize) -> Option<&'a NameList>
+        ensures { option_map (λ l. l.now) result ≡ list_at self.now position }
     {
-        match position {
-            Some(i) => self.lists.get(i).copied(),
-            None => None,
-        }
+        self.lists.get(position).copied()
     }
 }

@@ -1,24 +1,26 @@
-//! What an expression can refer to at each place of a workflow or an action: the types of contexts, and which contexts and special
-//! functions stand there.
+//! What an expression can refer to at each place of a workflow or an action: the types of contexts, by the table of a file's types, and
+//! which contexts and special functions stand there.
 #![tactic(auto)]
 
+mod caches;
 mod env;
+mod field_lists;
 mod fixed;
 mod inputs;
 mod job_lists;
 mod jobs;
 mod known;
-mod like_fields;
 mod matrix;
-mod needs;
 mod objects;
-mod passes;
+mod owners;
+mod scalars;
 mod scopes;
+mod sections;
 mod start;
 mod steps;
 mod worked;
 
-pub use env::{Env, File, Owner};
+pub use env::{Env, File};
 pub use known::{Answer, Answers};
-pub use matrix::class_type_of;
+pub use scalars::{class_type_of, type_of_input};
 pub use worked::rows;

@@ -1,182 +1,201 @@
 //! The type of `matrix`.
-ghost use Rattle.std.specs.Prelude.{◌≡◌, [], codes, map, option_map, IfOk, OnOk};
+ghost use Rattle.std.specs.Prelude.{◌≡◌, [], codes, map, option_map, IfOk, List, OnOk, None, true};
 ghost use Rattle.std.specs.List.{list_any};
 ghost use Rattle.std.specs.Option.{option_to_list};
+ghost use Rattle.al_base.specs.Growth.{BeginsWith};
 ghost use Rattle.al_check_contexts.specs.Matrix as matrix;
-ghost use Rattle.al_check_contexts.specs.Matrix.{class_type, entries_types, include_all, items_type, row_field, rows_of};
+ghost use Rattle.al_check_contexts.specs.Matrix.{entries_types, include_all, items_type, row_field, rows_of};
 ghost use Rattle.al_check_contexts.specs.Objects.{strictly};
-ghost use Rattle.al_types.specs.Puts.{put_all, put_new};
+ghost use Rattle.al_check_contexts.specs.Private.Numbers.{Lists, Means};
+ghost use Rattle.al_expr_types.specs.Tables.{is_known, objects_of};
+ghost use Rattle.al_expr_types.specs.declared.types.Types as declared;
 ghost use Rattle.al_tree.specs.Values.{member_of, value_at};
-ghost use Rattle.al_types.specs.TypeViews.{ty_of};
-ghost use Rattle.al_types.specs.Private.TypeParts.{field_of};
+ghost use Rattle.al_types.specs.Puts.{Typed, put_all, put_new};
+ghost use Rattle.al_types.specs.Types.{ArrayOf, Type', or_any};
 ghost use Rattle.al_yaml_tree.specs.View.{entries_of, entry_view, nodes_of, view};
 
-use crate::objects::loose_any;
+use crate::field_lists::FieldList;
+use crate::objects::{loose_any, no_fields};
+use crate::scalars::{class_type_of, scalar as scalar_ty};
+use al_expr_types::{Join, Ty, Types};
 use al_rules_formats::{Around, is_lone_chunk};
-use al_scalar::{Class, Scalar};
+use al_scalar::Scalar;
 use al_tree::{
     Member, contains_chunk, is_combination_key, items, key_of, key_text, members, value,
 };
 use al_tree_declarations::value_below_two;
-use al_types::{Field, FieldList, Ty, any_if_none, fuse, joined};
 use al_yaml_tree::{Entry, Kind, Node};
 use std::alloc::{AllocError, Global};
 
-/// The type of a scalar of a class.
-pub fn class_type_of(class: Class) -> Ty
-    ensures { ty_of result ≡ class_type class }
-{
-    match class {
-        Class::Null => Ty::Null,
-        Class::Bool => Ty::Bool,
-        Class::Int | Class::Float => Ty::Number,
-        Class::Str => Ty::String,
-    }
-}
-
 /// The type of a scalar. Fails with `AllocError` when out of memory, as all here.
 fn scalar_type(alloc: Global, scalar: &Scalar) -> Result<Ty, AllocError>
-    ensures { IfOk result (λ t. ty_of t ≡ matrix.scalar_type scalar.now) }
+    ensures { IfOk result (λ t. (types : declared.Types) → Means types t (matrix.scalar_type scalar.now)) }
 {
     if !contains_chunk(scalar.text()) {
-        return Ok(class_type_of(scalar.class()));
+        return Ok(scalar_ty(class_type_of(scalar.class())));
     }
     if is_lone_chunk(alloc, Around::Nothing, scalar.text())? {
-        Ok(Ty::Any)
+        Ok(Ty::ANY)
     } else {
-        Ok(Ty::String)
+        Ok(Ty::STRING)
     }
 }
 
-/// What a type has in common with those before it, where there are some.
-fn fused_with(alloc: Global, sofar: Option<Ty>, ty: Ty) -> Result<Ty, AllocError>
-    ensures { IfOk result (λ t. ty_of t ≡ matrix.fused_with (option_map ty_of sofar) (ty_of ty)) }
+/// An array of a type.
+fn array_of(ty: Ty) -> Result<Ty, AllocError>
+    ensures { IfOk result (λ t. (types : declared.Types) (m : Type') → Means types ty m → Means types t (ArrayOf m)) }
 {
-    match sofar {
-        None => Ok(ty),
-        Some(old) => fuse(alloc, old, ty),
-    }
-}
-
-/// The same type, where there is one, so that a property is found in one look however many values it is of.
-fn joined_type(alloc: Global, ty: Option<Ty>) -> Result<Option<Ty>, AllocError>
-    ensures { IfOk result (λ t. option_map ty_of t ≡ option_map ty_of ty) }
-{
-    match ty {
-        None => Ok(None),
-        Some(ty) => Ok(Some(joined(alloc, ty)?)),
+    match ty.arrays.checked_add(1) {
+        Some(arrays) => Ok(Ty { arrays, of: ty.of }),
+        // No file has so many brackets.
+        None => Err(AllocError),
     }
 }
 
 /// The type of a value.
-#[tactic(auto, using(crate::proofs::Values::type_of_sequence, crate::proofs::Values::type_of_mapping))]
 #[cycle(values)]
-fn node_type(alloc: Global, node: &Node) -> Result<Ty, AllocError>
-    ensures { IfOk result (λ t. ty_of t ≡ matrix.node_type (view node.now)) }
+fn node_type<'a>(alloc: Global, types: &mut Types<'a>, node: &'a Node) -> Result<Ty, AllocError>
+    ensures ty { IfOk result (λ t. Means types.new t (matrix.node_type (view node.entry.now))) }
+    ensures kept { OnOk result (BeginsWith (objects_of types.new) (objects_of types.old)) }
 {
     match &node.kind {
-        Kind::Scalar(scalar) => scalar_type(alloc, scalar),
-        Kind::Sequence(nodes) => {
-            let ty = any_if_none(common_type(alloc, nodes.as_slice())?);
-            Ok(Ty::Array(Box::new(alloc, ty)?))
+        Kind::Scalar(scalar) => {
+            let ty = scalar_type(alloc, scalar)?;
+            Ok(ty)
         }
-        Kind::Mapping(entries) => mapping_type(alloc, entries.as_slice()),
-        Kind::Shared(inner) => node_type(alloc, inner),
+        Kind::Sequence(nodes) => {
+            let ty = items_type(alloc, types, nodes.as_slice())?;
+            let array = array_of(ty)?;
+            Ok(array)
+        }
+        Kind::Mapping(entries) => {
+            let ty = entries_type(alloc, types, entries.as_slice())?;
+            Ok(ty)
+        }
+        Kind::Shared(inner) => node_type(alloc, types, inner),
     }
 }
 
-/// The type of a mapping. What its values have in common is made one here, as many paths can lead to them.
-#[tactic(auto, using(crate::proofs::Values::type_of_mapping))]
+/// What values have in common; any of no values.
 #[cycle(values)]
-fn mapping_type(alloc: Global, entries: &[Entry]) -> Result<Ty, AllocError>
-    ensures { IfOk result (λ t. ty_of t ≡ strictly (entries_types [] (entries_of (map entry_view entries.now)))) }
+fn items_type<'a>(alloc: Global, types: &mut Types<'a>, nodes: &'a [Node]) -> Result<Ty, AllocError>
+    ensures ty { IfOk result (λ t. Means types.new t (or_any (items_type None (nodes_of (map view nodes.entry.now))))) }
+    ensures kept { OnOk result (BeginsWith (objects_of types.new) (objects_of types.old)) }
 {
-    entry_fields(alloc, entries)?.into_joined_ty(alloc)
-}
-
-/// What values have in common; none of no values.
-#[cycle(values)]
-fn common_type(alloc: Global, nodes: &[Node]) -> Result<Option<Ty>, AllocError>
-    ensures { IfOk result (λ t. option_map ty_of t ≡ items_type None (nodes_of (map view nodes.now))) }
-{
-    let mut sofar = None;
+    let mut all = Join::Nothing;
     for node in nodes {
-        let ty = node_type(alloc, node)?;
-        sofar = Some(fused_with(alloc, sofar, ty)?);
+        let ty = node_type(alloc, types, node)?;
+        let more = all.and(alloc, ty)?;
+        all = more;
     }
-    joined_type(alloc, sofar)
+    let ty = types.type_or_any(all)?;
+    Ok(ty)
 }
 
-/// The fields that entries are, of equal names the first.
-#[tactic(auto, using(al_yaml_tree::proofs::ViewLemmas::entry_parts))]
+/// The type of a mapping of these entries, of equal names the first.
 #[cycle(values)]
-fn entry_fields(alloc: Global, entries: &[Entry]) -> Result<FieldList, AllocError>
-    ensures { IfOk result (λ l. map field_of l.fields.items ≡ entries_types [] (entries_of (map entry_view entries.now))) }
+fn entries_type<'a>(
+    alloc: Global,
+    types: &mut Types<'a>,
+    entries: &'a [Entry],
+) -> Result<Ty, AllocError>
+    ensures ty { IfOk result (λ t. Means types.new t (strictly (entries_types [] (entries_of (map entry_view entries.entry.now))))) }
+    ensures kept { OnOk result (BeginsWith (objects_of types.new) (objects_of types.old)) }
 {
     let mut fields = FieldList::new(alloc);
     for entry in entries {
-        let ty = node_type(alloc, &entry.value)?;
-        fields.add(alloc, Field::new(alloc, key_of(entry), ty)?)?;
+        let ty = node_type(alloc, types, &entry.value)?;
+        let more = fields.and(alloc, key_of(entry), ty)?;
+        fields = more;
     }
-    Ok(fields)
+    let ty = fields.into_type(alloc, types, None)?;
+    Ok(ty)
 }
 
 /// The type of a row.
-#[tactic(auto, using(crate::proofs::Values::type_of_row))]
-fn row_type(alloc: Global, row: &Node) -> Result<Ty, AllocError>
-    ensures { IfOk result (λ t. ty_of t ≡ matrix.row_type (view row.now)) }
+fn row_type<'a>(alloc: Global, types: &mut Types<'a>, row: &'a Node) -> Result<Ty, AllocError>
+    ensures ty { IfOk result (λ t. Means types.new t (matrix.row_type (view row.entry.now))) }
+    ensures kept { OnOk result (BeginsWith (objects_of types.new) (objects_of types.old)) }
 {
     match &row.kind {
-        Kind::Sequence(nodes) => Ok(any_if_none(common_type(alloc, nodes.as_slice())?)),
-        Kind::Scalar(_) | Kind::Mapping(_) => Ok(Ty::Any),
-        Kind::Shared(inner) => row_type(alloc, inner),
+        Kind::Sequence(nodes) => {
+            let ty = items_type(alloc, types, nodes.as_slice())?;
+            Ok(ty)
+        }
+        Kind::Scalar(_) | Kind::Mapping(_) => Ok(Ty::ANY),
+        Kind::Shared(inner) => row_type(alloc, types, inner),
     }
 }
 
-/// Adds a row of a matrix, where the entry is one.
-fn add_row(alloc: Global, entry: Member<'_>, fields: &mut FieldList) -> Result<(), AllocError>
-    ensures { OnOk result (map field_of fields.new.fields.items ≡ put_all put_new (map field_of fields.old.fields.items)
-        (option_to_list (row_field (member_of entry.entry)))) }
+/// Rows, and that of an entry, where it is one.
+fn and_row<'a>(
+    alloc: Global,
+    types: &mut Types<'a>,
+    entry: Member<'a>,
+    rows: FieldList<'a>,
+) -> Result<FieldList<'a>, AllocError>
+    ensures fields { IfOk result (λ l. (ts : List Typed) → Lists types.old rows.entry ts
+        → Lists types.new l (put_all put_new ts (option_to_list (row_field (member_of entry.entry))))) }
+    ensures kept { OnOk result (BeginsWith (objects_of types.new) (objects_of types.old)) }
 {
     if is_combination_key(key_text(entry.key)) {
-        return Ok(());
+        return Ok(rows);
     }
-    let ty = row_type(alloc, entry.value)?;
-    fields.add(alloc, Field::new(alloc, key_text(entry.key), ty)?)
+    let ty = row_type(alloc, types, entry.value)?;
+    let more = rows.and(alloc, key_text(entry.key), ty)?;
+    Ok(more)
 }
 
-/// The rows of a matrix.
-fn rows(alloc: Global, node: &Node) -> Result<FieldList, AllocError>
-    ensures { IfOk result (λ l. map field_of l.fields.items ≡ rows_of (view node.now)) }
+/// An object of the rows of a matrix.
+fn rows_type<'a>(alloc: Global, types: &mut Types<'a>, node: &'a Node) -> Result<Ty, AllocError>
+    ensures ty { IfOk result (λ t. Means types.new t (strictly (rows_of (view node.entry.now)))) }
+    ensures kept { OnOk result (BeginsWith (objects_of types.new) (objects_of types.old)) }
 {
-    let mut fields = FieldList::new(alloc);
+    let mut rows = FieldList::new(alloc);
     let entries = members(alloc, node)?;
     for entry in entries.as_slice() {
-        add_row(alloc, *entry, &mut fields)?;
+        let more = and_row(alloc, types, *entry, rows)?;
+        rows = more;
     }
-    Ok(fields)
+    let ty = rows.into_type(alloc, types, None)?;
+    Ok(ty)
 }
 
-/// The entries of one combination.
-#[tactic(auto, using(crate::proofs::Values::combination_of))]
-fn combination(alloc: Global, node: &Node) -> Result<Vec<Field>, AllocError>
-    ensures { IfOk result (λ v. map field_of v.items ≡ matrix.combination (view node.now)) }
+/// An object of the entries of one combination; none where it has none.
+fn combination<'a>(alloc: Global, types: &mut Types<'a>, node: &'a Node) -> Result<Ty, AllocError>
+    ensures ty { IfOk result (λ t. Means types.new t (strictly (matrix.combination (view node.entry.now)))) }
+    ensures kept { OnOk result (BeginsWith (objects_of types.new) (objects_of types.old)) }
 {
     match &node.kind {
-        Kind::Mapping(entries) => Ok(entry_fields(alloc, entries.as_slice())?.into_fields()),
-        Kind::Scalar(_) | Kind::Sequence(_) => Ok(Vec::new(alloc)),
-        Kind::Shared(inner) => combination(alloc, inner),
+        Kind::Mapping(entries) => {
+            let ty = entries_type(alloc, types, entries.as_slice())?;
+            Ok(ty)
+        }
+        Kind::Scalar(_) | Kind::Sequence(_) => no_fields(alloc, types),
+        Kind::Shared(inner) => combination(alloc, types, inner),
     }
 }
 
-/// Adds what combinations add to a matrix.
-fn include(alloc: Global, nodes: &[Node], fields: &mut FieldList) -> Result<(), AllocError>
-    ensures { OnOk result (map field_of fields.new.fields.items ≡ include_all (map field_of fields.old.fields.items) (map view nodes.now)) }
+/// What an object of rows and one of each combination have in common: to combinations a matrix is an object as to its rows.
+fn include<'a>(
+    alloc: Global,
+    types: &mut Types<'a>,
+    rows: Ty,
+    nodes: &'a [Node],
+) -> Result<Ty, AllocError>
+    requires { is_known types.old rows ≡ true }
+    ensures ty { IfOk result (λ t. (ts : List Typed) → Means types.old rows (strictly ts)
+        → Means types.new t (strictly (include_all ts (map view nodes.entry.now)))) }
+    ensures kept { OnOk result (BeginsWith (objects_of types.new) (objects_of types.old)) }
 {
+    let mut all = Join::One(rows);
     for node in nodes {
-        fields.fuse_all(alloc, combination(alloc, node)?)?;
+        let ty = combination(alloc, types, node)?;
+        let more = all.and(alloc, ty)?;
+        all = more;
     }
-    Ok(())
+    let ty = types.type_or_any(all)?;
+    Ok(ty)
 }
 
 fn is_scalar(node: &Node) -> bool
@@ -203,60 +222,65 @@ fn is_open_include(node: &Node) -> bool
     is_scalar(node) || has_scalar(items(node))
 }
 
-/// A matrix without a row.
-fn no_rows(alloc: Global) -> Result<Ty, AllocError>
-    ensures { IfOk result (λ t. ty_of t ≡ strictly []) }
-{
-    FieldList::new(alloc).into_ty(alloc)
-}
-
 /// The type of a matrix of these rows.
-fn included(
+fn included<'a>(
     alloc: Global,
-    mut rows: FieldList,
-    combinations: Option<&Node>,
+    types: &mut Types<'a>,
+    rows: Ty,
+    combinations: Option<&'a Node>,
 ) -> Result<Ty, AllocError>
-    ensures { IfOk result (λ t. ty_of t ≡ matrix.included (map field_of rows.fields.items)
-        (option_map (λ n. view n.now) combinations.entry)) }
+    requires { is_known types.old rows ≡ true }
+    ensures ty { IfOk result (λ t. (ts : List Typed) → Means types.old rows (strictly ts)
+        → Means types.new t (matrix.included ts (option_map (λ n. view n.now) combinations.entry))) }
+    ensures kept { OnOk result (BeginsWith (objects_of types.new) (objects_of types.old)) }
 {
     match combinations {
-        None => rows.into_ty(alloc),
+        None => Ok(rows),
         Some(node) => {
             if is_open_include(node) {
-                return loose_any(alloc);
+                return loose_any(alloc, types);
             }
-            include(alloc, items(node), &mut rows)?;
-            // Joined once all combinations are in, so that each takes the time of its own fields alone.
-            rows.joined(alloc)?.into_ty(alloc)
+            let ty = include(alloc, types, rows, items(node))?;
+            Ok(ty)
         }
     }
 }
 
 /// The type of a matrix that is a mapping.
-fn mapped_matrix(alloc: Global, node: &Node) -> Result<Ty, AllocError>
-    ensures { IfOk result (λ t. ty_of t ≡ matrix.included (rows_of (view node.now)) (value_at (codes "include") (view node.now))) }
+fn mapped_matrix<'a>(alloc: Global, types: &mut Types<'a>, node: &'a Node) -> Result<Ty, AllocError>
+    ensures ty { IfOk result (λ t. Means types.new t
+        (matrix.included (rows_of (view node.entry.now)) (value_at (codes "include") (view node.entry.now)))) }
+    ensures kept { OnOk result (BeginsWith (objects_of types.new) (objects_of types.old)) }
 {
-    included(alloc, rows(alloc, node)?, value(node, "include"))
+    let rows = rows_type(alloc, types, node)?;
+    let ty = included(alloc, types, rows, value(node, "include"))?;
+    Ok(ty)
 }
 
 /// The type of a matrix.
-fn matrix_of(alloc: Global, node: &Node) -> Result<Ty, AllocError>
-    ensures { IfOk result (λ t. ty_of t ≡ matrix.matrix_of (view node.now)) }
+fn matrix_of<'a>(alloc: Global, types: &mut Types<'a>, node: &'a Node) -> Result<Ty, AllocError>
+    ensures ty { IfOk result (λ t. Means types.new t (matrix.matrix_of (view node.entry.now))) }
+    ensures kept { OnOk result (BeginsWith (objects_of types.new) (objects_of types.old)) }
 {
     match &node.kind {
-        Kind::Scalar(_) => loose_any(alloc),
-        Kind::Sequence(_) => no_rows(alloc),
-        Kind::Mapping(_) => mapped_matrix(alloc, node),
-        Kind::Shared(inner) => matrix_of(alloc, inner),
+        Kind::Scalar(_) => loose_any(alloc, types),
+        Kind::Sequence(_) => no_fields(alloc, types),
+        Kind::Mapping(_) => mapped_matrix(alloc, types, node),
+        Kind::Shared(inner) => matrix_of(alloc, types, inner),
     }
 }
 
 /// The type of `matrix` in a job: of a job without one an object without fields.
-pub(crate) fn matrix_type(alloc: Global, job: &Node) -> Result<Ty, AllocError>
-    ensures { IfOk result (λ t. ty_of t ≡ matrix.matrix_type (view job.now)) }
+pub(crate) fn matrix_type<'a>(
+    alloc: Global,
+    types: &mut Types<'a>,
+    job: &'a Node,
+) -> Result<Ty, AllocError>
+    ensures ty { IfOk result (λ t. Means types.new t (matrix.matrix_type (view job.entry.now))) }
+    ensures kept { OnOk result (BeginsWith (objects_of types.new) (objects_of types.old)) }
 {
     match value_below_two(job, "strategy", "matrix") {
-        None => no_rows(alloc),
-        Some(node) => matrix_of(alloc, node),
+        None => no_fields(alloc, types),
+        Some(node) => matrix_of(alloc, types, node),
     }
 }

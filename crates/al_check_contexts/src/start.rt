@@ -1,18 +1,25 @@
 //! The types of contexts at the start of a file.
 ghost use Rattle.std.specs.Prelude.{◌≡◌, IfOk, OnOk, option_map};
-ghost use Rattle.al_check_contexts.specs.Answered.{known_of};
-ghost use Rattle.al_check_contexts.specs.Private.Environment.{Fixed, OfSection, owned, owner_in, owner_view};
+ghost use Rattle.al_base.specs.Growth.{BeginsWith};
+ghost use Rattle.al_check_contexts.specs.Contexts.{Known};
+ghost use Rattle.al_check_contexts.specs.Private.Environment.{owner_in};
 ghost use Rattle.al_check_places.specs.Positions.{apart, before};
-ghost use Rattle.al_types.specs.TypeViews.{ty_of};
+ghost use Rattle.al_check_contexts.specs.Private.Numbers.{Means};
+ghost use Rattle.al_check_contexts.specs.Private.Owners.{owner_view};
+ghost use Rattle.al_check_contexts.specs.Private.Table.{AreFixed, Shows, table};
+ghost use Rattle.al_expr_types.specs.Tables.{objects_of};
+ghost use Rattle.al_types.specs.declared.names.Context.TheVariants as context;
 ghost use Rattle.al_yaml_tree.specs.View.{view};
 
-use crate::env::{File, Owner, start_steps};
 use crate::fixed::{github, job, runner};
 use crate::inputs::inputs_type;
 use crate::objects::loose_strings;
+use crate::owners::Owner;
+use al_expr_types::{Ty, Types};
+use al_expr_typing::ContextTypes;
 use al_tree::FileKind;
 use al_tree_declarations::{action_steps, is_composite};
-use al_types::{ContextSet, ContextTypes, FunctionSet, Ty};
+use al_types::{ContextSet, FunctionSet};
 use al_yaml_tree::Node;
 use std::alloc::{AllocError, Global};
 
@@ -58,48 +65,59 @@ pub(crate) fn first_owner(kind: FileKind, root: &Node) -> Option<Owner<'_>>
     }
 }
 
-/// Sets the types that are the same at every place of a file. Fails with `AllocError` when out of memory.
-fn set_fixed(alloc: Global, file: File<'_>, types: &mut ContextTypes) -> Result<(), AllocError>
-    ensures fixed { OnOk result (Fixed file.entry types.new) }
-    ensures section { OnOk result (OfSection file.entry types.old apart → OfSection file.entry types.new apart) }
-    ensures steps { OnOk result ((types.new).steps ≡ (types.old).steps) }
-{
-    types.github = github(alloc)?;
-    types.env = loose_strings(alloc)?;
-    types.vars = loose_strings(alloc)?;
-    types.secrets = loose_strings(alloc)?;
-    types.runner = runner(alloc)?;
-    types.job = job(alloc)?;
-    types.inputs = inputs_type(alloc, file.kind, file.root)?;
-    Ok(())
+/// The types of contexts that are the same in every file.
+#[derive(Clone, Copy)]
+pub(crate) struct FixedTypes {
+    pub(crate) github: Ty,
+    pub(crate) strings: Ty,
+    pub(crate) runner: Ty,
+    pub(crate) job: Ty,
 }
 
-/// The types of contexts at the start of a file. Fails with `AllocError` when out of memory.
-pub(crate) fn first_types(
-    alloc: Global,
-    file: File<'_>,
-    owner: Option<Owner<'_>>,
-) -> Result<ContextTypes, AllocError>
-    ensures fixed { IfOk result (λ ts. Fixed file.entry ts) }
-    ensures section { IfOk result (λ ts. OfSection file.entry ts apart) }
-    ensures steps { IfOk result (λ ts. ty_of ts.steps ≡ owned (known_of (file.entry).known) (option_map owner_view owner.entry)
-        (before 0)) }
+/// The types of contexts that are the same in every file. Fails with `AllocError` when out of memory.
+fn fixed_types(alloc: Global, types: &mut Types<'_>) -> Result<FixedTypes, AllocError>
+    ensures fixed { IfOk result (λ ts. AreFixed types.new ts) }
+    ensures kept { OnOk result (BeginsWith (objects_of types.new) (objects_of types.old)) }
 {
-    let steps = start_steps(alloc, owner)?;
-    let mut types = ContextTypes {
-        github: Ty::Any,
-        env: Ty::Any,
-        vars: Ty::Any,
-        secrets: Ty::Any,
-        runner: Ty::Any,
-        job: Ty::Any,
-        strategy: Ty::Any,
-        needs: Ty::Any,
-        jobs: Ty::Any,
+    let github = github(alloc, types)?;
+    let strings = loose_strings(alloc, types)?;
+    let runner = runner(alloc, types)?;
+    let job = job(alloc, types)?;
+    Ok(FixedTypes {
+        github,
+        strings,
+        runner,
+        job,
+    })
+}
+
+/// The types of contexts at the start of a file, with that of `steps`. Fails with `AllocError` when out of memory.
+pub(crate) fn first_types<'a>(
+    alloc: Global,
+    types: &mut Types<'a>,
+    kind: FileKind,
+    root: &'a Node,
+    steps: Ty,
+) -> Result<ContextTypes, AllocError>
+    ensures types { IfOk result (λ ts. (known : Known)
+        → Means types.old steps (table kind known (view root.entry.now) apart (before 0) context.Steps)
+        → Shows types.new ts (table kind known (view root.entry.now) apart (before 0))) }
+    ensures kept { OnOk result (BeginsWith (objects_of types.new) (objects_of types.old)) }
+{
+    let fixed = fixed_types(alloc, types)?;
+    let inputs = inputs_type(alloc, types, kind, root)?;
+    Ok(ContextTypes {
+        github: fixed.github,
+        env: fixed.strings,
+        vars: fixed.strings,
+        secrets: fixed.strings,
+        runner: fixed.runner,
+        job: fixed.job,
+        strategy: Ty::ANY,
+        needs: Ty::ANY,
+        jobs: Ty::ANY,
         steps,
-        matrix: Ty::Any,
-        inputs: Ty::Any,
-    };
-    set_fixed(alloc, file, &mut types)?;
-    Ok(types)
+        matrix: Ty::ANY,
+        inputs,
+    })
 }

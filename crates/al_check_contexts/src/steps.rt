@@ -1,156 +1,189 @@
-//! The type of `steps`.
-ghost use Rattle.std.specs.Prelude.{◌≡◌, ◌+◌, ◌<◌, ◌≤◌, ◌^◌, IfOk, length, map, take, Some};
+//! The type of `steps`: its fields are made once for all steps of a job or an action, and each step sees the first of them.
+ghost use Rattle.std.specs.Prelude.{◌≡◌, ◌-◌, ◌≤◌, IfOk, List, None, Option, OnOk, length, option_map, true};
 ghost use Rattle.std.specs.Option.{option_copied, option_to_list};
-ghost use Rattle.al_types.specs.TypeViews.{ty_of};
-ghost use Rattle.al_yaml_tree.specs.View.{view};
-ghost use Rattle.al_check_places.specs.Positions.{before, seen_view};
+ghost use Rattle.al_base.specs.Growth.{BeginsWith};
 ghost use Rattle.al_check_contexts.specs.Contexts as contexts;
-ghost use Rattle.al_check_contexts.specs.Contexts.{seen_of, step_field, steps_fields};
-ghost use Rattle.al_check_contexts.specs.Private.Environment.{owned, owner_view};
-ghost use Rattle.al_check_contexts.specs.Private.LikeFields.{AreIncluded, step_at};
-ghost use Rattle.al_check_contexts.specs.Private.Lookups.{known_by};
-ghost use Rattle.al_check_contexts.specs.Private.Grown.{with_fields};
+ghost use Rattle.al_check_contexts.specs.Contexts.{Known, step_field};
+ghost use Rattle.al_check_contexts.specs.Private.Environment as environment;
+ghost use Rattle.al_check_contexts.specs.Private.Environment.{owned};
+ghost use Rattle.al_check_places.specs.Positions.{before, seen_view};
+ghost use Rattle.al_check_contexts.specs.Private.Lookups.{known_by, step_at};
+ghost use Rattle.al_check_contexts.specs.Private.Numbers.{Keeps, Lists, Means};
+ghost use Rattle.al_check_contexts.specs.Private.Steps.{ArePrefixes, AreSteps, AreStepsOf};
+ghost use Rattle.al_check_contexts.specs.Private.Steps as specs;
+ghost use Rattle.al_check_contexts.specs.Private.Owners.{owner_view};
+ghost use Rattle.al_expr_types.specs.Tables.{is_known, objects_of, type_at};
+ghost use Rattle.al_expr_types.specs.declared.types.Types as declared;
+ghost use Rattle.al_types.specs.Puts.{Typed, put_all, put_new};
+ghost use Rattle.al_yaml_tree.specs.View.{view};
 
-use crate::env::Owner;
+use crate::caches::TypeCache;
+use crate::field_lists::FieldList;
 use crate::known::Outputs;
-use crate::like_fields::{Included, with_field_at};
-use crate::objects::{add_field, loose_strings, no_fields, strict_of};
+use crate::objects::loose_strings;
+use crate::owners::Owner;
 use al_check_places::Seen;
+use al_expr_types::{FieldMap, NameList, Prefixes, Ty, Types};
 use al_tree::text_under;
-use al_tree_declarations::NameList;
-use al_types::{Field, Ty, copy};
 use al_yaml_tree::Node;
 use std::alloc::{AllocError, Global};
 
+/// The fields of `steps` where all steps of a job or an action are seen, and how many of them are seen where fewer steps are.
+#[derive(Drop)]
+pub(crate) struct StepFields<'a> {
+    prefixes: Prefixes<'a>,
+    /// By the number of steps that are seen, from none to all. Where `steps` is nobody's there are no counts.
+    counts: Vec<usize>,
+}
+
+/// The type of a step that has these outputs. Fails with `AllocError` when out of memory, as all here.
+fn step_with(alloc: Global, types: &mut Types<'_>, outputs: Ty) -> Result<Ty, AllocError>
+    requires { is_known types.old outputs ≡ true }
+    ensures ty { IfOk result (λ t. Means types.new t (specs.step_with (type_at types.old outputs))) }
+    ensures kept { OnOk result (BeginsWith (objects_of types.new) (objects_of types.old)) }
+{
+    let one = FieldList::new(alloc).and(alloc, b"conclusion", Ty::STRING)?;
+    let two = one.and(alloc, b"outcome", Ty::STRING)?;
+    let three = two.and(alloc, b"outputs", outputs)?;
+    let ty = three.into_type(alloc, types, None)?;
+    Ok(ty)
+}
+
 /// The type of the outputs of a step, by what is known of them.
-fn outputs_type(alloc: Global, outputs: Option<&NameList>) -> Result<Ty, AllocError>
-    ensures { IfOk result (λ t. ty_of t ≡ contexts.step_outputs (option_copied outputs.entry)) }
+fn outputs_type<'a>(
+    alloc: Global,
+    types: &mut Types<'a>,
+    outputs: Option<&'a NameList>,
+) -> Result<Ty, AllocError>
+    ensures ty { IfOk result (λ t. Means types.new t (contexts.step_outputs (option_map (λ l. l.now) outputs.entry))) }
+    ensures kept { OnOk result (BeginsWith (objects_of types.new) (objects_of types.old)) }
 {
     match outputs {
-        None => loose_strings(alloc),
-        Some(names) => copy(alloc, names.strings()),
-    }
-}
-
-/// The type of a step, by what is known of its outputs.
-fn step_type(alloc: Global, outputs: Option<&NameList>) -> Result<Ty, AllocError>
-    ensures { IfOk result (λ t. ty_of t ≡ contexts.step_type (option_copied outputs.entry)) }
-{
-    let outputs = outputs_type(alloc, outputs)?;
-    let mut fields = Vec::new(alloc);
-    add_field(alloc, &mut fields, b"conclusion", Ty::String)?;
-    add_field(alloc, &mut fields, b"outcome", Ty::String)?;
-    add_field(alloc, &mut fields, b"outputs", outputs)?;
-    strict_of(alloc, fields)
-}
-
-/// The type of `steps` with a step more, where it has an id that no field has.
-fn with_step<'a>(
-    alloc: Global,
-    known: &Outputs<'a>,
-    job: Option<&'a [u8]>,
-    i: usize,
-    step: &Node,
-    shown: Ty,
-    included: &mut Included,
-) -> Result<Ty, AllocError>
-    requires { AreIncluded (step_at known.now) included.old (ty_of shown) }
-    ensures ty { IfOk result (λ t. ty_of t ≡ with_fields (ty_of shown) (option_to_list
-        (step_field (known_by known.now) (option_copied job.entry) (i, view step.now)))) }
-    ensures included { IfOk result (λ t. AreIncluded (step_at known.now) included.new (ty_of t)) }
-{
-    match text_under(step, "id") {
-        None => Ok(shown),
-        Some(id) => {
-            let position = known.position_of_step(job, i);
-            let ty = step_type(alloc, known.list(position))?;
-            let field = Field::new(alloc, id.scalar.text(), ty)?;
-            with_field_at(alloc, shown, included, position, field)
+        None => loose_strings(alloc, types),
+        Some(names) => {
+            let ty = types.strings(names)?;
+            Ok(ty)
         }
     }
 }
 
-/// The same with steps, the first of which has an index.
-fn with_steps<'a>(
+/// The type of a step, by the position of the names of its outputs. It is made once.
+fn step_type<'a>(
     alloc: Global,
+    types: &mut Types<'a>,
     known: &Outputs<'a>,
-    job: Option<&'a [u8]>,
-    from: usize,
-    steps: &[Node],
-    shown: Ty,
-    included: &mut Included,
+    made: &mut TypeCache,
+    position: usize,
 ) -> Result<Ty, AllocError>
-    requires bound { from + length steps.now < 2 ^ 64 }
-    requires included { AreIncluded (step_at known.now) included.old (ty_of shown) }
-    ensures ty { IfOk result (λ t. ty_of t ≡ with_fields (ty_of shown)
-        (steps_fields (known_by known.now) (option_copied job.entry) from (map view steps.now))) }
-    ensures included { IfOk result (λ t. AreIncluded (step_at known.now) included.new (ty_of t)) }
+    requires { Keeps types.old (step_at known.now) made.old }
+    ensures ty { IfOk result (λ t. Means types.new t (step_at known.now position)) }
+    ensures keeps { OnOk result (Keeps types.new (step_at known.now) made.new) }
+    ensures kept { OnOk result (BeginsWith (objects_of types.new) (objects_of types.old)) }
 {
-    let mut all = shown;
-    let mut i = from;
-    for step in steps {
-        all = with_step(alloc, known, job, i, step, all, included)?;
-        i += 1;
+    if let Some(ty) = made.get(position) {
+        return Ok(ty);
     }
-    Ok(all)
-}
-
-/// The type of `steps` where a count of steps is seen, from that where fewer of them are.
-fn with_more<'a>(
-    alloc: Global,
-    known: &Outputs<'a>,
-    owner: Owner<'a>,
-    shown: Ty,
-    included: &mut Included,
-    from: usize,
-    count: usize,
-) -> Result<Ty, AllocError>
-    requires shown { ty_of shown ≡ owned (known_by known.now) (Some (owner_view owner)) (before from) }
-    requires included { AreIncluded (step_at known.now) included.old (ty_of shown) }
-    requires order { from ≤ count }
-    requires inside { count ≤ length owner.steps.now }
-    ensures ty { IfOk result (λ t. ty_of t ≡ owned (known_by known.now) (Some (owner_view owner.entry)) (before count)) }
-    ensures included { IfOk result (λ t. AreIncluded (step_at known.now) included.new (ty_of t)) }
-{
-    let more = &owner.steps[from..count];
-    let ty = with_steps(alloc, known, owner.job, from, more, shown, included)?;
+    let outputs = outputs_type(alloc, types, known.list(position))?;
+    let ty = step_with(alloc, types, outputs)?;
+    made.set(position, ty);
     Ok(ty)
 }
 
-/// The type of `steps` where a count of steps is seen, from that where another count is. Steps that were seen are copied in no case:
-/// where there are more they are added, and where there are fewer all are made anew. Fails with `AllocError` when out of memory.
-pub(crate) fn seen_steps<'a>(
+/// Fields, and that of a step, where it has an id that no field has.
+fn and_step<'a>(
     alloc: Global,
+    types: &mut Types<'a>,
     known: &Outputs<'a>,
-    owner: Owner<'a>,
-    shown: Ty,
-    included: &mut Included,
-    from: usize,
-    count: usize,
-) -> Result<Ty, AllocError>
-    requires shown { ty_of shown ≡ owned (known_by known.now) (Some (owner_view owner)) (before from) }
-    requires included { AreIncluded (step_at known.now) included.old (ty_of shown) }
-    requires inside { count ≤ length owner.steps.now }
-    ensures ty { IfOk result (λ t. ty_of t ≡ owned (known_by known.now) (Some (owner_view owner.entry)) (before count)) }
-    ensures included { IfOk result (λ t. AreIncluded (step_at known.now) included.new (ty_of t)) }
+    made: &mut TypeCache,
+    job: Option<&'a [u8]>,
+    i: usize,
+    step: &'a Node,
+    fields: FieldList<'a>,
+) -> Result<FieldList<'a>, AllocError>
+    requires { Keeps types.old (step_at known.now) made.old }
+    ensures fields { IfOk result (λ l. (ts : List Typed) → Lists types.old fields.entry ts → Lists types.new l
+        (put_all put_new ts (option_to_list (step_field (known_by known.now) (option_copied job.entry) (i, view step.entry.now))))) }
+    ensures keeps { OnOk result (Keeps types.new (step_at known.now) made.new) }
+    ensures kept { OnOk result (BeginsWith (objects_of types.new) (objects_of types.old)) }
 {
-    if from <= count {
-        with_more(alloc, known, owner, shown, included, from, count)
-    } else {
-        *included = Included::new(alloc);
-        with_more(alloc, known, owner, no_fields(alloc)?, included, 0, count)
+    match text_under(step, "id") {
+        None => Ok(fields),
+        Some(id) => {
+            let position = known.position_of_step(job, i);
+            let ty = step_type(alloc, types, known, made, position)?;
+            let more = fields.and(alloc, id.scalar.text(), ty)?;
+            Ok(more)
+        }
     }
 }
 
-/// How many steps are seen.
-#[tactic(auto, using(crate::proofs::Seen::seen_take))]
-pub(crate) fn seen_count(seen: Seen, steps: &[Node]) -> usize
-    ensures count { seen_of (seen_view seen) (map view steps.now) ≡ take result (map view steps.now) }
-    ensures inside { result ≤ length steps.now }
-{
-    match seen {
-        Seen::Nothing => 0,
-        Seen::Before(n) => if n < steps.len() { n } else { steps.len() },
-        Seen::Everything => steps.len(),
+impl<'a> StepFields<'a> {
+    /// Where `steps` is nobody's.
+    pub(crate) fn none(alloc: Global) -> Result<StepFields<'a>, AllocError>
+        ensures steps { IfOk result (λ s. (types : declared.Types) (known : Known) → AreStepsOf types known None s) }
+        ensures prefixes { IfOk result (λ s. (types : declared.Types) → ArePrefixes types s) }
+    {
+        let prefixes = Prefixes::new(alloc, FieldMap::new(alloc))?;
+        let counts = Vec::new(alloc);
+        Ok(StepFields { prefixes, counts })
+    }
+
+    /// Those of some steps.
+    pub(crate) fn of(
+        alloc: Global,
+        types: &mut Types<'a>,
+        known: &Outputs<'a>,
+        made: &mut TypeCache,
+        owner: Owner<'a>,
+    ) -> Result<StepFields<'a>, AllocError>
+        requires { Keeps types.old (step_at known.now) made.old }
+        ensures steps { IfOk result (λ s. AreSteps types.new (known_by known.now) (owner_view owner.entry) s) }
+        ensures prefixes { IfOk result (λ s. ArePrefixes types.new s) }
+        ensures keeps { OnOk result (Keeps types.new (step_at known.now) made.new) }
+        ensures kept { OnOk result (BeginsWith (objects_of types.new) (objects_of types.old)) }
+    {
+        let mut fields = FieldList::new(alloc);
+        let mut counts = Vec::new(alloc);
+        counts.push(0)?;
+        let steps = owner.steps;
+        for (i, step) in steps.iter().enumerate() {
+            let more = and_step(alloc, types, known, made, owner.job, i, step, fields)?;
+            counts.push(more.len())?;
+            fields = more;
+        }
+        let prefixes = Prefixes::new(alloc, fields.into_map())?;
+        Ok(StepFields { prefixes, counts })
+    }
+
+    /// How many steps are seen.
+    pub(crate) fn seen_count(&self, seen: Seen) -> usize
+        ensures seen { (types : declared.Types) (known : Known) (o : Option environment.Owner) → AreStepsOf types known o self.now
+            → owned known o (seen_view seen) ≡ owned known o (before result) }
+        ensures inside { result ≤ length self.now.counts.items - 1 }
+    {
+        let all = self.counts.len().saturating_sub(1);
+        match seen {
+            Seen::Nothing => 0,
+            Seen::Before(n) => if n < all { n } else { all },
+            Seen::Everything => all,
+        }
+    }
+
+    /// The type of `steps` where so many are seen.
+    pub(crate) fn first(&mut self, types: &mut Types<'a>, count: usize) -> Result<Ty, AllocError>
+        requires prefixes { ArePrefixes types.old self.old }
+        requires inside { count ≤ length (self.old).counts.items - 1 }
+        ensures ty { IfOk result (λ t. (known : Known) (o : Option environment.Owner) → AreStepsOf types.old known o self.old
+            → Means types.new t (owned known o (before count))) }
+        ensures steps { OnOk result ((known : Known) (o : Option environment.Owner) → AreStepsOf types.old known o self.old
+            → AreStepsOf types.new known o self.new) }
+        ensures prefixes { OnOk result (ArePrefixes types.new self.new) }
+        ensures kept { OnOk result (BeginsWith (objects_of types.new) (objects_of types.old)) }
+    {
+        if self.counts.is_empty() {
+            return Ok(Ty::ANY);
+        }
+        let ty = self.prefixes.first(types, self.counts[count])?;
+        Ok(ty)
     }
 }

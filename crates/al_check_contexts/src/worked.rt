@@ -1,10 +1,10 @@
 //! Small files and the types of contexts in them, computed by the definitions.
 ghost use Rattle.al_check_contexts.specs.Rows.Actions as actions;
 ghost use Rattle.al_check_contexts.specs.Rows.Matrices as matrices;
-ghost use Rattle.al_check_contexts.specs.Rows.Words.{holds};
+ghost use Rattle.al_check_contexts.specs.Rows.Words.{holds, Any, ArrayOf, Bool', FieldThen, Loose, NoField, Number, ObjectOf, Strict};
+ghost use Rattle.al_check_contexts.specs.Rows.Words.{String};
 ghost use Rattle.al_check_contexts.specs.Rows.Workflows as workflows;
 ghost use Rattle.al_tree.specs.declared.files.FileKind.TheVariants as kind;
-ghost use Rattle.al_check_contexts.specs.Rows.Words.{Any, ArrayOf, Bool', FieldThen, Loose, NoField, Number, ObjectOf, Strict, String};
 ghost use Rattle.std.specs.Prelude.{◌≡◌, [], ◌∷◌, codes, true};
 
 /// The types of contexts at places of small files: where the place starts, the context, and its type. Does nothing.

@@ -23,8 +23,8 @@ use Rattle.al_expr_grammar.proofs.Inside.{TreeLies, chunks_lie, content_fault_li
 use Rattle.al_expr_grammar.proofs.Total.{Outcome, read, refused, all}
 use Rattle.al_types.specs.Scopes.{Scope}
 use Rattle.al_types.specs.Types.{Type', is_collection}
-use Rattle.al_meaning.specs.Meaning.{faults_in, meaning_of, type_in}
-use Rattle.al_meaning.proofs.Inside.{both_lie, meaning_lies}
+use Rattle.al_expr_typing.specs.Meaning.{faults_in, meaning_of, type_in}
+use Rattle.al_expr_typing.proofs.Inside.{both_lie, meaning_lies}
 use Rattle.al_yaml_tree.specs.Node.{Node}
 use Rattle.al_yaml_tree.specs.Spans.{AreFrom, IsLaid}
 use Rattle.al_tree.specs.declared.files.FileKind.{FileKind}

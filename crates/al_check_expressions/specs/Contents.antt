@@ -13,7 +13,7 @@ use Rattle.al_expr_grammar.specs.Refusal.{fault, fault_of_content}
 use Rattle.al_expr_grammar.specs.Tree.{Tree}
 use Rattle.al_types.specs.Scopes.{Scope}
 use Rattle.al_types.specs.Types.{Type', is_collection}
-use Rattle.al_meaning.specs.Meaning.{faults_in, meaning_of, type_in}
+use Rattle.al_expr_typing.specs.Meaning.{faults_in, meaning_of, type_in}
 use Rattle.al_tree.specs.Faults.{has_chunk}
 use Rattle.al_check_places.specs.Places.{Place}
 use Rattle.al_check_expressions.specs.Spelled.{tree_of_content}

@@ -1,11 +1,14 @@
 //! The expressions of one scalar: their faults, with their places in the file.
-#![tactic(auto, using(al_base::proofs::Growing::growth))]
+#![tactic(auto, using(al_base::proofs::Growing::growth, al_expr_typing::proofs::Shown::shown))]
 
 ghost use Rattle.std.specs.List.{flat_map};
-ghost use Rattle.std.specs.Prelude.{true, ◌≡◌, ◌++◌, ◌<◌, ◌≤◌, ◌^◌, length, map, All, OnOk};
+ghost use Rattle.std.specs.Prelude.{true, ◌≡◌, List, ◌++◌, ◌<◌, ◌≤◌, ◌^◌, length, map, All, OnOk};
 ghost use Rattle.al_scalar.specs.Scalar.{offset_of, text_of};
 ghost use Rattle.al_expr_grammar.specs.View.{tree_of};
-ghost use Rattle.al_types.specs.Scopes.{scope_of};
+ghost use Rattle.al_types.specs.Types.{Parts, is_collection};
+ghost use Rattle.al_expr_types.specs.Tables.{objects_of};
+ghost use Rattle.al_expr_types.specs.Types.{type_in};
+ghost use Rattle.al_expr_typing.specs.Scopes.{IsShown, scope_at};
 ghost use Rattle.al_check_expressions.specs.Contents as contents;
 ghost use Rattle.al_check_expressions.specs.Contents.{chunk_faults, chunked_faults, content_faults, is_one_chunk};
 ghost use Rattle.al_check_expressions.specs.Contents.{is_whole_span, moved, place_faults, tree_faults, HasRoom};
@@ -17,10 +20,11 @@ ghost use Rattle.al_base.specs.Limits.{longest_text};
 use al_base::{Args, Code, ExpressionCode, Fault, Span};
 use al_check_places::Place;
 use al_expr_grammar::{Chunk, Expr, chunks, extent, grammar, parse_expr};
-use al_meaning::type_of;
+use al_expr_types::{Ty, Types};
+use al_expr_typing::{Scope, type_of};
 use al_scalar::Scalar;
 use al_tree::contains_chunk;
-use al_types::Scope;
+use al_types::Form;
 use std::alloc::{AllocError, Global};
 
 /// The offset in the file of a place in a scalar's text; behind the text the end of the scalar.
@@ -51,21 +55,39 @@ fn located(scalar: &Scalar, i: usize, j: usize) -> Span
     }
 }
 
+/// Whether a type is an array or an object.
+fn is_collection(ty: Ty) -> bool
+    ensures { (ms : List Parts) → result ≡ is_collection (type_in ms ty) }
+{
+    match ty.form() {
+        Form::Array => true,
+        Form::Object => true,
+        Form::Any => false,
+        Form::Null => false,
+        Form::Number => false,
+        Form::Bool => false,
+        Form::String => false,
+    }
+}
+
 /// Adds the fault of a tree that is an object or array where none may stand, behind the faults of its meaning.
 fn check_tree(
     alloc: Global,
+    types: &mut Types<'_>,
     scope: &Scope,
     is_alone: bool,
     is_scalar_only: bool,
     expr: &Expr,
     out: &mut Vec<Fault>,
 ) -> Result<(), AllocError>
+    requires { IsShown types.old scope.now }
     ensures ok { OnOk result (out.new.items ≡ out.old.items
-        ++ tree_faults (scope_of scope.now) is_alone is_scalar_only (tree_of expr.now)) }
+        ++ tree_faults (scope_at types.old scope.now) is_alone is_scalar_only (tree_of expr.now)) }
+    ensures kept { BeginsWith (objects_of types.new) (objects_of types.old) }
     ensures begins { BeginsWith out.new.items out.old.items }
 {
-    let ty = type_of(alloc, scope, expr, out)?;
-    if ty.is_collection() && (!is_alone || is_scalar_only) {
+    let ty = type_of(alloc, types, scope, expr, out)?;
+    if is_collection(ty) && (!is_alone || is_scalar_only) {
         out.push(Fault {
             span: extent(expr),
             code: Code::Expression(ExpressionCode::NotText),
@@ -78,18 +100,22 @@ fn check_tree(
 /// Adds the faults of a content. Spans are places in it.
 fn check_content(
     alloc: Global,
+    types: &mut Types<'_>,
     scope: &Scope,
     is_alone: bool,
     is_scalar_only: bool,
     content: &str,
     out: &mut Vec<Fault>,
 ) -> Result<(), AllocError>
-    ensures ok { OnOk result (out.new.items ≡ out.old.items ++ content_faults (scope_of scope.now) is_alone is_scalar_only content.now) }
+    requires { IsShown types.old scope.now }
+    ensures ok { OnOk result (out.new.items
+        ≡ out.old.items ++ content_faults (scope_at types.old scope.now) is_alone is_scalar_only content.now) }
+    ensures kept { BeginsWith (objects_of types.new) (objects_of types.old) }
     ensures begins { BeginsWith out.new.items out.old.items }
 {
     grammar();
     match parse_expr(alloc, content)? {
-        Ok(expr) => check_tree(alloc, scope, is_alone, is_scalar_only, &expr, out),
+        Ok(expr) => check_tree(alloc, types, scope, is_alone, is_scalar_only, &expr, out),
         Err(fault) => {
             out.push(fault)?;
             Ok(())
@@ -145,22 +171,27 @@ fn is_one(len: usize, chunks: &[Chunk<'_>]) -> bool
 /// Adds the faults of a chunk of the text at a place.
 fn check_chunk(
     alloc: Global,
+    types: &mut Types<'_>,
     scope: &Scope,
     is_alone: bool,
     place: &Place<'_>,
     chunk: &Chunk<'_>,
     out: &mut Vec<Fault>,
 ) -> Result<(), AllocError>
+    requires shown { IsShown types.old scope.now }
     requires room { HasRoom place.now.scalar.now }
     requires cut { IsCutFrom (text_of place.now.scalar.now) chunk.now }
     requires alone { is_alone ≡ is_one_chunk (text_of place.now.scalar.now) }
     ensures ok { OnOk result (out.new.items
-        ≡ out.old.items ++ chunk_faults (scope_of scope.now) place.now.is_scalar_only place.now.scalar.now (span_of_chunk chunk.now)) }
+        ≡ out.old.items ++ chunk_faults (scope_at types.old scope.now) place.now.is_scalar_only place.now.scalar.now
+        (span_of_chunk chunk.now)) }
+    ensures kept { BeginsWith (objects_of types.new) (objects_of types.old) }
     ensures begins { BeginsWith out.new.items out.old.items }
 {
     let mut faults = Vec::new(alloc);
     check_content(
         alloc,
+        types,
         scope,
         is_alone,
         place.is_scalar_only,
@@ -173,22 +204,26 @@ fn check_chunk(
 /// Adds the faults of the chunks of the text at a place.
 fn check_each(
     alloc: Global,
+    types: &mut Types<'_>,
     scope: &Scope,
     is_alone: bool,
     place: &Place<'_>,
     chunks: &[Chunk<'_>],
     out: &mut Vec<Fault>,
 ) -> Result<(), AllocError>
+    requires shown { IsShown types.old scope.now }
     requires room { HasRoom place.now.scalar.now }
     requires cut { All (IsCutFrom (text_of place.now.scalar.now)) chunks.now }
     requires alone { is_alone ≡ is_one_chunk (text_of place.now.scalar.now) }
     ensures ok { OnOk result
-        (out.new.items ≡ out.old.items ++ flat_map (chunk_faults (scope_of scope.now) place.now.is_scalar_only place.now.scalar.now)
+        (out.new.items ≡ out.old.items
+        ++ flat_map (chunk_faults (scope_at types.old scope.now) place.now.is_scalar_only place.now.scalar.now)
         (map span_of_chunk chunks.now)) }
+    ensures kept { BeginsWith (objects_of types.new) (objects_of types.old) }
     ensures begins { BeginsWith out.new.items out.old.items }
 {
     for chunk in chunks {
-        check_chunk(alloc, scope, is_alone, place, chunk, out)?;
+        check_chunk(alloc, types, scope, is_alone, place, chunk, out)?;
     }
     Ok(())
 }
@@ -196,22 +231,25 @@ fn check_each(
 /// Adds the faults of the text at a place as chunks.
 fn check_chunks(
     alloc: Global,
+    types: &mut Types<'_>,
     scope: &Scope,
     place: &Place<'_>,
     text: &str,
     out: &mut Vec<Fault>,
 ) -> Result<(), AllocError>
+    requires shown { IsShown types.old scope.now }
     requires text { text.now ≡ text_of place.now.scalar.now }
     requires small { length text.now ≤ longest_text }
     requires room { HasRoom place.now.scalar.now }
     ensures ok { OnOk result
-        (out.new.items ≡ out.old.items ++ chunked_faults (scope_of scope.now) place.now.is_scalar_only place.now.scalar.now
+        (out.new.items ≡ out.old.items ++ chunked_faults (scope_at types.old scope.now) place.now.is_scalar_only place.now.scalar.now
         (chunks_of (text_of place.now.scalar.now))) }
+    ensures kept { BeginsWith (objects_of types.new) (objects_of types.old) }
     ensures begins { BeginsWith out.new.items out.old.items }
 {
     let (found, open) = chunks(alloc, text)?;
     let is_alone = is_one(text.len(), found.as_slice());
-    check_each(alloc, scope, is_alone, place, found.as_slice(), out)?;
+    check_each(alloc, types, scope, is_alone, place, found.as_slice(), out)?;
     match open {
         Some(fault) => {
             out.push(move_fault(place.scalar, 0, fault))?;
@@ -224,18 +262,29 @@ fn check_chunks(
 /// Adds the faults of a condition that is one expression.
 fn check_whole(
     alloc: Global,
+    types: &mut Types<'_>,
     scope: &Scope,
     place: &Place<'_>,
     text: &str,
     out: &mut Vec<Fault>,
 ) -> Result<(), AllocError>
+    requires shown { IsShown types.old scope.now }
     requires room { HasRoom place.now.scalar.now }
     ensures ok { OnOk result (out.new.items ≡ out.old.items
-        ++ map (moved place.now.scalar.now 0) (content_faults (scope_of scope.now) true place.now.is_scalar_only text.now)) }
+        ++ map (moved place.now.scalar.now 0) (content_faults (scope_at types.old scope.now) true place.now.is_scalar_only text.now)) }
+    ensures kept { BeginsWith (objects_of types.new) (objects_of types.old) }
     ensures begins { BeginsWith out.new.items out.old.items }
 {
     let mut faults = Vec::new(alloc);
-    check_content(alloc, scope, true, place.is_scalar_only, text, &mut faults)?;
+    check_content(
+        alloc,
+        types,
+        scope,
+        true,
+        place.is_scalar_only,
+        text,
+        &mut faults,
+    )?;
     move_faults(place.scalar, 0, faults, out)
 }
 
@@ -249,20 +298,23 @@ pub(crate) fn is_whole(place: &Place<'_>) -> bool
 /// Adds the faults of the expressions at a place, whose scalar has this text.
 pub(crate) fn check_place(
     alloc: Global,
+    types: &mut Types<'_>,
     scope: &Scope,
     place: &Place<'_>,
     text: &str,
     out: &mut Vec<Fault>,
 ) -> Result<(), AllocError>
+    requires shown { IsShown types.old scope.now }
     requires text { text.now ≡ text_of place.now.scalar.now }
     requires small { length text.now ≤ longest_text }
     requires room { HasRoom place.now.scalar.now }
-    ensures ok { OnOk result (out.new.items ≡ out.old.items ++ place_faults (scope_of scope.now) (place_of place.now)) }
+    ensures ok { OnOk result (out.new.items ≡ out.old.items ++ place_faults (scope_at types.old scope.now) (place_of place.now)) }
+    ensures kept { BeginsWith (objects_of types.new) (objects_of types.old) }
     ensures begins { BeginsWith out.new.items out.old.items }
 {
     if is_whole(place) {
-        check_whole(alloc, scope, place, text, out)
+        check_whole(alloc, types, scope, place, text, out)
     } else {
-        check_chunks(alloc, scope, place, text, out)
+        check_chunks(alloc, types, scope, place, text, out)
     }
 }

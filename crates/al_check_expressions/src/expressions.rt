@@ -1,60 +1,26 @@
 //! All expressions of a file.
-#![tactic(auto, using(al_base::proofs::Growing::growth))]
+#![tactic(auto, using(al_base::proofs::Growing::growth, al_check_contexts::proofs::Standing::standing))]
 
 ghost use Rattle.std.specs.List.{flat_map};
-ghost use Rattle.std.specs.Prelude.{◌≡◌, ◌≤◌, ◌++◌, ◌+◌, length, map, All, IsUtf8, OnOk};
+ghost use Rattle.std.specs.Prelude.{◌≡◌, ◌++◌, ◌+◌, map, All, OnOk};
 ghost use Rattle.al_check_expressions.specs.FileExpressions as file;
 ghost use Rattle.al_check_expressions.specs.FileExpressions.{expression_faults as faults_in, faults_at};
 ghost use Rattle.al_check_expressions.specs.Inside.{IsReadable};
 ghost use Rattle.al_check_contexts.specs.Answered.{known_of};
 ghost use Rattle.al_check_contexts.specs.Private.Standing.{Stands};
-ghost use Rattle.al_check_contexts.specs.Scopes.{scope_at};
-ghost use Rattle.al_types.specs.Scopes.{scope_of};
+ghost use Rattle.al_expr_types.specs.Tables.{objects_of};
 ghost use Rattle.al_check_places.specs.Places.{place_of};
-ghost use Rattle.al_scalar.specs.Scalar.{text_of};
 ghost use Rattle.al_base.specs.Growth.{BeginsWith};
-ghost use Rattle.al_base.specs.Limits.{largest_file, longest_text};
+ghost use Rattle.al_base.specs.Limits.{largest_file};
 ghost use Rattle.al_yaml_tree.specs.Spans.{IsLaid};
 ghost use Rattle.al_yaml_tree.specs.Texts.{HasTexts};
 ghost use Rattle.al_yaml_tree.specs.View.{view};
 
 use crate::contents::check_place;
-use crate::passes::note_paths;
 use al_base::Fault;
 use al_check_contexts::{Env, File};
 use al_check_places::{Place, places};
-use al_paths::Paths;
-use memchr::memchr;
 use std::alloc::{AllocError, Global};
-
-/// Goes on to a place of the file, as `Env::go_to` does, prepared for the paths that its expressions take from contexts: before they are
-/// typed, since many can stand in one text.
-///
-/// The text is UTF-8 of at most 4,194,304 bytes. Fails with `AllocError` when out of memory; the environment isn't to be used any more
-/// then.
-pub fn go_to<'a>(
-    alloc: Global,
-    file: File<'a>,
-    env: &mut Env<'a>,
-    place: Place<'a>,
-) -> Result<(), AllocError>
-    requires stands { Stands file env.old }
-    requires utf8 { IsUtf8 (text_of place.scalar.now) }
-    requires small { length (text_of place.scalar.now) ≤ longest_text }
-    ensures stands { OnOk result (Stands file.entry env.new) }
-    ensures scope { OnOk result (scope_of (env.new).scope ≡ scope_at (file.entry).kind (known_of (file.entry).known)
-        (view (file.entry).root.now) (place_of place.entry)) }
-{
-    env.go_to(alloc, file, place)?;
-    let scalar = place.scalar;
-    if memchr(b'*', scalar.text()).is_none() {
-        return Ok(());
-    }
-    let mut paths = Paths::new(alloc);
-    note_paths(alloc, &env.scope, &place, scalar.as_str(), &mut paths)?;
-    env.pass(alloc, &paths)?;
-    env.go_to(alloc, file, place)
-}
 
 /// Adds the faults of the expressions at a place, to which the environment goes on.
 fn check_at<'a>(
@@ -69,11 +35,19 @@ fn check_at<'a>(
     ensures stands { OnOk result (Stands file.entry env.new) }
     ensures faults { OnOk result (out.new.items ≡ out.old.items
         ++ faults_at (file.entry).kind (known_of (file.entry).known) (view (file.entry).root.now) (place_of place.entry)) }
+    ensures kept { OnOk result (BeginsWith (objects_of (env.new).types) (objects_of (env.old).types)) }
     ensures begins { BeginsWith out.new.items out.old.items }
 {
-    go_to(alloc, file, env, place)?;
+    env.go_to(alloc, file, place)?;
     let scalar = place.scalar;
-    check_place(alloc, &env.scope, &place, scalar.as_str(), out)?;
+    check_place(
+        alloc,
+        &mut env.types,
+        &env.scope,
+        &place,
+        scalar.as_str(),
+        out,
+    )?;
     Ok(())
 }
 
@@ -91,6 +65,7 @@ fn check_each<'a>(
     ensures ok { OnOk result (out.new.items ≡ out.old.items
         ++ flat_map (faults_at (file.entry).kind (known_of (file.entry).known) (view (file.entry).root.now))
         (map place_of places.now)) }
+    ensures kept { OnOk result (BeginsWith (objects_of (env.new).types) (objects_of (env.old).types)) }
     ensures begins { BeginsWith out.new.items out.old.items }
 {
     for place in places {
@@ -116,6 +91,7 @@ pub fn expression_faults<'a>(
     ensures stands { OnOk result (Stands file.entry env.new) }
     ensures ok { OnOk result (out.new.items ≡ out.old.items
         ++ faults_in (file.entry).kind (known_of (file.entry).known) (view (file.entry).root.now)) }
+    ensures kept { OnOk result (BeginsWith (objects_of (env.new).types) (objects_of (env.old).types)) }
     ensures begins { BeginsWith out.new.items out.old.items }
 {
     let found = places(alloc, file.kind, file.root)?;

@@ -1,10 +1,9 @@
-//! The expressions of workflows and actions: their faults, at their places in the file.
+//! The expressions of workflows and actions: their faults, at their places in the file. Types go by the table of the file.
 #![tactic(auto)]
 
 mod contents;
 mod expressions;
 mod law;
-mod passes;
 
-pub use expressions::{expression_faults, go_to};
+pub use expressions::expression_faults;
 pub use law::{all_lie_in_file, plain_texts_are_right, trees_are_spelled};

@@ -3,46 +3,24 @@ ghost use Rattle.std.specs.Prelude.{◌≡◌, IfOk};
 
 use crate::interfaces::{Interface, Parameter, Signature};
 use crate::lists::Parameters;
-use al_tree_declarations::{Name, NameList};
+use al_expr_types::Name;
 use std::alloc::{AllocError, Global};
-
-fn copy_of_name(alloc: Global, name: &Name) -> Result<Name, AllocError>
-    ensures { IfOk result (λ copy. copy ≡ name.now) }
-{
-    Name::new(alloc, name.as_bytes())
-}
 
 /// The name of an interface, where it has one.
 fn copy_of_title(alloc: Global, name: &Option<Name>) -> Result<Option<Name>, AllocError>
     ensures { IfOk result (λ copy. copy ≡ name.now) }
 {
     match name {
-        Some(name) => Ok(Some(copy_of_name(alloc, name)?)),
+        Some(name) => Ok(Some(name.copy(alloc)?)),
         None => Ok(None),
     }
-}
-
-fn copies_of_names(alloc: Global, names: &[Name]) -> Result<Vec<Name>, AllocError>
-    ensures { IfOk result (λ copies. copies.items ≡ names.now) }
-{
-    let mut copies = Vec::new(alloc);
-    for name in names {
-        copies.push(copy_of_name(alloc, name)?)?;
-    }
-    Ok(copies)
-}
-
-fn copy_of_list(alloc: Global, list: &NameList) -> Result<NameList, AllocError>
-    ensures { IfOk result (λ copy. copy ≡ list.now) }
-{
-    NameList::new(alloc, copies_of_names(alloc, list.as_slice())?)
 }
 
 fn copy_of_parameter(alloc: Global, parameter: &Parameter) -> Result<Parameter, AllocError>
     ensures { IfOk result (λ copy. copy ≡ parameter.now) }
 {
     Ok(Parameter {
-        name: copy_of_name(alloc, &parameter.name)?,
+        name: parameter.name.copy(alloc)?,
         required: parameter.required,
         has_default: parameter.has_default,
         takes: parameter.takes,
@@ -73,7 +51,7 @@ fn copy_of_signature(alloc: Global, signature: &Signature) -> Result<Signature, 
         role: signature.role,
         inputs: copy_of_parameters(alloc, &signature.inputs)?,
         secrets: copy_of_parameters(alloc, &signature.secrets)?,
-        outputs: copy_of_list(alloc, &signature.outputs)?,
+        outputs: signature.outputs.copy(alloc)?,
     })
 }
 

@@ -4,7 +4,8 @@ ghost use Rattle.std.specs.Prelude.{◌≡◌};
 ghost use Rattle.al_check_interfaces.specs.Kinds.{parameters_of};
 
 use crate::lists::Parameters;
-use al_tree_declarations::{InputType, Name, NameList};
+use al_expr_types::{Name, NameList};
+use al_tree_declarations::InputType;
 
 /// What a file is to its callers.
 #[derive(Clone, Copy, Debug, PartialEq, Eq)]

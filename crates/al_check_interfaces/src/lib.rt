@@ -13,7 +13,7 @@ mod lists;
 mod signatures;
 mod sites;
 
-pub use al_tree_declarations::{Name, NameList};
+pub use al_expr_types::{Name, NameList};
 pub use calls::{Call, calls_by};
 pub use equality::equal_interfaces;
 pub use examples::rows;

@@ -11,9 +11,10 @@ ghost use Rattle.al_check_interfaces.specs.Interfaces as interfaces;
 use crate::interfaces::{Interface, Parameter, Role, Signature};
 use crate::lists::Parameters;
 use al_base::is_same_name;
+use al_expr_types::{Name, NameList};
 use al_tree::{FileKind, Member, ScalarNode, key_text, text_under, texts, value};
 use al_tree_declarations::{
-    InputType, Name, NameList, declared_at, has_value, input_of, is_composite, value_below_three,
+    InputType, declared_at, has_value, input_of, is_composite, value_below_three,
 };
 use al_yaml_tree::Node;
 use std::alloc::{AllocError, Global};

@@ -7,7 +7,7 @@ use Rattle.al_types.specs.FusedFields.{are_distinct}
 use Rattle.al_types.specs.Private.Indexes.{name_at}
 use Rattle.al_types.specs.Private.TypeParts.{common_type}
 use Rattle.al_types.specs.Puts.{Typed, firsts, put}
-use Rattle.al_types.specs.TypeViews.{fuse_parts}
+use Rattle.al_types.specs.Fused.{fuse_parts}
 use Rattle.al_types.specs.Types.{Type', Optional, Absent, Present, Parts, FieldThen, NoField, common_in, field_at, fields_of, fuse_optional, fuse_type, has_field, optional, parts_with}
 use Rattle.al_types.proofs.FuseLaws.{common_optional, last_turned, nothing_last, optional_assoc, parts_assoc}
 use Rattle.al_types.proofs.GatheredFields.{found_put}

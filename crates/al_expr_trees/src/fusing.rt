@@ -3,7 +3,7 @@
 ghost use Rattle.std.specs.Prelude.{◌≡◌, IfOk, Some, None, map};
 ghost use Rattle.al_types.specs.Private.Indexes.{name_at};
 ghost use Rattle.al_types.specs.Private.TypeParts.{fuse_with_form};
-ghost use Rattle.al_types.specs.TypeViews.{fuse_parts};
+ghost use Rattle.al_types.specs.Fused.{fuse_parts};
 ghost use Rattle.al_types.specs.Types.{Absent, NoField, fuse_optional, fuse_type, parts_with};
 ghost use Rattle.al_expr_trees.specs.Listings.{parts_in};
 ghost use Rattle.al_expr_trees.specs.Trees.{field_of, field_parts, object_parts, rest_of, ty_of};

@@ -15,5 +15,6 @@ mod typing;
 pub use fusing::fuse;
 pub use relations::assignable;
 pub use scope::{ContextTypes, Scope};
+pub use taking::tree_of;
 pub use trees::{Field, Ty};
 pub use typing::type_of;

@@ -1,7 +1,7 @@
 //! Trees taken out of a table.
 
 ghost use Rattle.std.specs.Prelude.{◌≡◌, ◌<◌, ◌≤◌, IfOk, length, map, take, true};
-ghost use Rattle.al_expr_types.specs.Names.{names_in, names_listed};
+ghost use Rattle.al_expr_types.specs.Names.{names_in};
 ghost use Rattle.al_expr_types.specs.Tables.{is_known, objects_of, type_at};
 ghost use Rattle.al_expr_types.specs.Types.{are_fields_below, arrays_of, fields_parts, is_below, is_rest_below};
 ghost use Rattle.al_expr_types.specs.Types.{named_types, object_in, rest_in, scalar_type, strings_parts};
@@ -14,12 +14,8 @@ use crate::trees::{Field, Ty};
 use al_expr_types::{Base, Fields, NameList, Object, Scalar, Types};
 use std::alloc::{AllocError, Global};
 
-/// The tree of a type. Fails with `AllocError`, only when out of memory, as all here.
-pub(crate) fn tree_of(
-    alloc: Global,
-    types: &Types<'_>,
-    ty: al_expr_types::Ty,
-) -> Result<Ty, AllocError>
+/// The tree of a type of a table. Fails with `AllocError`, only when out of memory, as all here.
+pub fn tree_of(alloc: Global, types: &Types<'_>, ty: al_expr_types::Ty) -> Result<Ty, AllocError>
     requires { is_known types.now ty ≡ true }
     ensures { IfOk result (λ t. ty_of t ≡ type_at types.now ty) }
 {
@@ -182,12 +178,13 @@ fn named(alloc: Global, name: &[u8], ty: Ty) -> Result<Field, AllocError>
 
 // Strings of these names, and no others.
 fn strings_listing(alloc: Global, names: &NameList) -> Result<Listing, AllocError>
-    ensures { IfOk result (λ l. parts_in l ≡ strings_parts (names_listed names.now)) }
+    ensures { IfOk result (λ l. parts_in l ≡ strings_parts names.now) }
 {
     let mut fields = Vec::new(alloc);
     for i in 0..names.len() {
         let field = named(alloc, names.at(i), Ty::String)?;
         fields.push(field)?;
     }
-    Ok(Listing { fields, rest: None })
+    let listing = Listing::of(alloc, fields.as_slice(), &None)?;
+    Ok(listing)
 }

@@ -3,7 +3,7 @@
 ghost use Rattle.std.specs.Prelude.{◌≡◌, ◌++◌, IfOk, OnOk};
 ghost use Rattle.al_base.specs.Growth.{BeginsWith};
 ghost use Rattle.al_expr_grammar.specs.View.{tree_of};
-ghost use Rattle.al_meaning.specs.Meaning.{faults_in, meaning_of, type_in};
+ghost use Rattle.al_expr_typing.specs.Meaning.{faults_in, meaning_of, type_in};
 ghost use Rattle.al_expr_trees.specs.Scopes.{scope_of};
 ghost use Rattle.al_expr_trees.specs.Trees.{ty_of};
 

@@ -5,7 +5,7 @@ use Rattle.std.proofs.lemmas.Bool.Decides.{nat_tests}
 use Rattle.std.specs.Prelude.{◌&&◌, nat_lt, zip}
 use Rattle.std.specs.List.{list_all}
 use Rattle.al_types.specs.Types.{Parts, Present, fields_of, fuse_optional, object_type, parts_with}
-use Rattle.al_types.specs.TypeViews.{fused}
+use Rattle.al_types.specs.Fused.{fused}
 use Rattle.al_expr_types.specs.Names.{names_in}
 use Rattle.al_expr_types.specs.Types.{common_of, are_below, are_fields_below, arrays_of, base_type, fields_parts, is_base_below, is_below, is_extended_below, is_object_below, is_rest_below, no_parts}
 use Rattle.al_expr_types.specs.Types.{object_in, object_parts, rest_in, type_in}

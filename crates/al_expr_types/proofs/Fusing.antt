@@ -3,7 +3,7 @@ use Rattle.std.proofs.Common.{◌≡◌, ◌≢◌, ◌<◌, ℕ, List, [], ◌�
 use Rattle.std.proofs.lemmas.List.{map-append}
 use Rattle.std.specs.Prelude.{Contains, get_or}
 use Rattle.al_types.specs.Types.{Type', Any, Null, Number, Bool', String, ArrayOf, ObjectOf, Parts, assignable_type, fuse_type, is_array, object_type}
-use Rattle.al_types.specs.TypeViews.{fuse_parts, fused}
+use Rattle.al_types.specs.Fused.{fuse_parts, fused}
 use Rattle.al_types.proofs.FuseLaws.{fused_both, fused_one_more, optional_same, optional_turned, parts_assoc}
 use Rattle.al_expr_types.specs.Types.{arrays_of, base_type, fuse_scalars, is_any, scalar_type}
 use Rattle.al_expr_types.specs.declared.ty.Scalar.{Scalar}

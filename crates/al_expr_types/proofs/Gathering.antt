@@ -6,10 +6,10 @@ use Rattle.std.specs.Prelude.{is_some, nat_eq, nat_lt, not, option_map, zip}
 use Rattle.al_base.specs.NamePlaces.{name_place}
 use Rattle.al_types.specs.Strings.{strings}
 use Rattle.al_types.proofs.StringFields.{common_strings, string_at}
-use Rattle.al_types.specs.MoreFields.{is_present}
+use Rattle.al_types.specs.Presence.{is_present}
 use Rattle.al_types.specs.Private.TypeParts.{string_unless}
 use Rattle.al_types.specs.Types.{Type', String, Optional, Absent, Present, Parts, common_in, field_at, fields_of, fuse_optional, option_of, optional, or_else}
-use Rattle.al_types.specs.TypeViews.{fuse_parts, fused}
+use Rattle.al_types.specs.Fused.{fuse_parts, fused}
 use Rattle.al_types.proofs.FuseLaws.{fused_one_more, nothing_last, optional_assoc, optional_back}
 use Rattle.al_expr_types.specs.Parts.{part_in}
 use Rattle.al_expr_types.specs.Types.{common_of, no_parts, rest_in, type_in}

@@ -1,7 +1,7 @@
 -- Two types joined, by cases of their arrays and of what these hold.
 use Rattle.std.proofs.Common.{◌≡◌, ℕ, min, List, map, ◌∷◌, ◌++◌, [], refl, sym, ap, ◌∙◌}
 use Rattle.al_types.specs.Types.{Type', Any, Parts, fuse_type, object_type}
-use Rattle.al_types.specs.TypeViews.{fuse_parts, fused}
+use Rattle.al_types.specs.Fused.{fuse_parts, fused}
 use Rattle.al_types.proofs.FuseLaws.{fuse_same}
 use Rattle.al_expr_types.specs.Joining.{object_join_type}
 use Rattle.al_expr_types.specs.Types.{arrays_of, base_type, object_in, type_in}

@@ -8,7 +8,7 @@ use Rattle.al_base.proofs.Growing.{begins_same}
 use Rattle.al_base.specs.Growth.{BeginsWith}
 use Rattle.al_types.specs.Types.{Parts, Optional, Present, object_type, option_of}
 use Rattle.al_types.proofs.FuseLaws.{optional_back}
-use Rattle.al_types.specs.TypeViews.{fused}
+use Rattle.al_types.specs.Fused.{fused}
 use Rattle.al_expr_types.specs.Joining.{is_join_below, join_in}
 use Rattle.al_expr_types.specs.declared.joining.Join.{Join}
 use Rattle.al_expr_types.specs.declared.joining.Join.TheVariants as joined

@@ -1,7 +1,7 @@
 -- What types have in common, as far as they were taken.
 use Rattle.std.specs.Prelude.{ℕ, List, map, Bool, true}
 use Rattle.al_types.specs.Types.{Type', Optional, Absent, Present, Parts, object_type}
-use Rattle.al_types.specs.TypeViews.{fused}
+use Rattle.al_types.specs.Fused.{fused}
 use Rattle.al_expr_types.specs.Types.{are_below, arrays_of, is_below, object_in, type_in}
 use Rattle.al_expr_types.specs.declared.joining.Join.{Join}
 use Rattle.al_expr_types.specs.declared.joining.Join.TheVariants as join

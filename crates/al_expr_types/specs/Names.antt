@@ -1,10 +1,6 @@
 -- How names are seen: as their bytes.
 use Rattle.std.specs.Prelude.{ℕ, List, map}
-use Rattle.al_expr_types.specs.declared.name_list.NameList.{NameList}
 use Rattle.al_expr_types.specs.declared.names.Names.{Names}
 
 abbrev pub names_in : Names → List (List ℕ)
 names_in ns = map (λ n. n.now) ns.names.items
-
-abbrev pub names_listed : NameList → List (List ℕ)
-names_listed ns = map (λ n. n.items) ns.names.items

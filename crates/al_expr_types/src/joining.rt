@@ -1,9 +1,9 @@
 //! What types have in common, one after another.
 
 ghost use Rattle.std.specs.Prelude.{◌≡◌, ◌∷◌, ◌++◌, [], List, Contains, IfOk, IsTrue, map, nat_lt, not, true, ℕ};
-ghost use Rattle.al_types.specs.MoreFields.{is_present};
+ghost use Rattle.al_types.specs.Presence.{is_present};
 ghost use Rattle.al_types.specs.Types.{Any, Parts, Present, fuse_optional, fuse_type};
-ghost use Rattle.al_types.specs.TypeViews.{fuse_parts, fused};
+ghost use Rattle.al_types.specs.Fused.{fuse_parts, fused};
 ghost use Rattle.al_expr_types.specs.Joining.{is_join_below, join_in, object_join_type};
 ghost use Rattle.al_expr_types.specs.Types.{are_below, arrays_of, base_type, is_below, object_in, type_in};
 ghost use Rattle.al_expr_types.specs.declared.ty.Base.TheVariants as base;

@@ -19,7 +19,7 @@ mod types;
 pub use fields::FieldMap;
 pub use joining::{Join, ObjectJoin};
 pub use merging::FieldJoins;
-pub use name_list::NameList;
+pub use name_list::{Name, NameList};
 pub use names::Names;
 pub use objects::{Extension, Fields, Object, Prefix};
 pub use parts::Part;

@@ -22,7 +22,6 @@ pub struct FieldJoins<'a> {
 impl<'a> FieldJoins<'a> {
     ghost use Rattle.std.specs.Prelude.{◌≤◌, None, Some, List, IfOk, OnOk, if◌then◌else◌, true, ℕ};
     ghost use Rattle.std.specs.List.{list_all};
-    ghost use Rattle.al_expr_types.specs.Names.{names_listed};
     ghost use Rattle.al_types.specs.Strings.{strings};
     ghost use Rattle.al_base.specs.NamePlaces.{name_place};
     ghost use Rattle.al_types.specs.Types.{Absent, Parts, Present, field_at, fields_of, fuse_optional, optional};
@@ -172,7 +171,7 @@ impl<'a> FieldJoins<'a> {
         names: &'a NameList,
     ) -> Result<FieldJoins<'a>, AllocError>
         ensures found { IfOk result (λ m. (ms : List Parts) → found_in ms m
-            ≡ λ n. fuse_optional (found_in ms self.entry n) (optional (field_at n (fields_of (strings (names_listed names.now)))))) }
+            ≡ λ n. fuse_optional (found_in ms self.entry n) (optional (field_at n (fields_of (strings names.now))))) }
         ensures below { IfOk result (λ m. (k : ℕ) → are_joins_below k self.entry ≡ true → are_joins_below k m ≡ true) }
     {
         let mut all = self;

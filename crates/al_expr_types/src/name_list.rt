@@ -1,56 +1,170 @@
-//! The names of outputs behind a call, which are kept with the file that declares them.
+//! Names that are kept: texts that compare equal exactly where their bytes are the same, ASCII case and all.
 
-ghost use Rattle.std.specs.Prelude.{◌≡◌, ◌++◌, ◌∷◌, [], IfOk, if◌then◌else◌, is_none, map, true};
-ghost use Rattle.al_base.specs.NamePlaces.{name_place};
+ghost use Rattle.std.specs.Prelude.{◌≡◌, IfOk};
 ghost use Rattle.al_base.specs.NamePlaces.{IsNameIndex};
-ghost use Rattle.al_expr_types.specs.Once.{are_once};
 
 use crate::names::Names;
 use al_base::NamePositions;
 use std::alloc::{AllocError, Global};
+use std::convert::AsSlice;
+use std::marker::Model;
 
-/// Names in order, each once but for ASCII case, and where each stands among them. It owns them, so that types of many files can share it.
+/// A name. Contracts see its bytes.
+#[derive(Drop)]
+pub struct Name {
+    bytes: Vec<u8>,
+}
+
+impl Model for Name {
+    ghost use Rattle.std.specs.Prelude.{List, ℕ};
+
+    ghost Value = { List ℕ };
+
+    ghost view = { λ a. a.bytes.items };
+}
+
+impl Name {
+    /// The name with these bytes. Fails with `AllocError` when out of memory.
+    pub fn new(alloc: Global, bytes: &[u8]) -> Result<Name, AllocError>
+        ensures { IfOk result (λ n. n ≡ bytes.now) }
+    {
+        Ok(Name {
+            bytes: Vec::from_slice(alloc, bytes)?,
+        })
+    }
+
+    /// Its bytes.
+    pub fn as_bytes(&self) -> &[u8]
+        ensures { result.now ≡ self.now }
+    {
+        self.bytes.as_slice()
+    }
+
+    /// A copy, with memory of its own. Fails with `AllocError` when out of memory.
+    pub fn copy(&self, alloc: Global) -> Result<Name, AllocError>
+        ensures { IfOk result (λ copy. copy ≡ self.now) }
+    {
+        let copy = Name::new(alloc, self.as_bytes())?;
+        Ok(copy)
+    }
+}
+
+impl AsSlice<u8> for Name {
+    ghost items = { λ a. a };
+
+    fn as_slice(&self) -> &[u8] {
+        self.as_bytes()
+    }
+}
+
+impl PartialEq for Name {
+    ghost use Rattle.std.specs.Prelude.{bytes_eq};
+    ghost use Rattle.std.proofs.Common.{rules};
+    ghost use Rattle.std.specs.Cmp.Lexicographic.{nat_list_eq_equiv};
+
+    ghost eq = { bytes_eq };
+
+    ghost laws = { Prim.search (rules, nat_list_eq_equiv) };
+
+    fn eq(&self, other: &Name) -> bool {
+        self.bytes.as_slice() == other.bytes.as_slice()
+    }
+}
+
+impl Eq for Name {
+    ghost use Rattle.std.specs.Cmp.Lexicographic.{nat_list_eq_equiv};
+
+    ghost laws = { nat_list_eq_equiv };
+}
+
+/// Names in order, and where each stands among them. It owns them, so that types of many files can share it. Contracts see the list of
+/// their bytes.
 #[derive(Drop)]
 pub struct NameList {
-    names: Vec<Vec<u8>>,
+    names: Vec<Name>,
     positions: NamePositions,
-    ghost indexed: { IsNameIndex positions (map (λ n. n.items) names.items) },
-    ghost once: { are_once (map (λ n. n.items) names.items) ≡ true },
+}
+
+impl Model for NameList {
+    ghost use Rattle.std.specs.Prelude.{List, ℕ};
+    ghost use Rattle.al_base.specs.NamePlaces.{IsNameIndex};
+
+    ghost Value = { List (List ℕ) };
+
+    ghost view = { λ a. a.names.items };
+
+    ghost invariant = { λ a. IsNameIndex a.positions a.names.items };
+}
+
+/// Where each name first stands.
+fn positions_of(alloc: Global, names: &[Name]) -> Result<NamePositions, AllocError>
+    ensures { IfOk result (λ p. IsNameIndex p names.now) }
+{
+    let mut positions = NamePositions::new(alloc);
+    for (i, name) in names.iter().enumerate() {
+        let _ = positions.insert(alloc, name.as_bytes(), i)?;
+    }
+    Ok(positions)
+}
+
+/// Copies of names, each with memory of its own.
+fn copies_of(alloc: Global, names: &[Name]) -> Result<Vec<Name>, AllocError>
+    ensures { IfOk result (λ copies. copies.items ≡ names.now) }
+{
+    let mut copies = Vec::new(alloc);
+    for name in names {
+        copies.push(name.copy(alloc)?)?;
+    }
+    Ok(copies)
 }
 
 impl NameList {
-    ghost use Rattle.std.specs.Prelude.{◌<◌, get_or, length};
+    ghost use Rattle.std.specs.Prelude.{◌<◌, [], get_or, length};
+    ghost use Rattle.al_base.specs.NamePlaces.{name_place};
     ghost use Rattle.al_expr_types.specs.Merging.{is_placed};
-    ghost use Rattle.al_expr_types.specs.Names.{names_listed};
 
-    /// No names. Takes no memory.
-    pub fn new(alloc: Global) -> NameList
-        ensures { names_listed result ≡ [] }
+    /// The list of these names. Fails with `AllocError` when out of memory.
+    pub fn new(alloc: Global, names: Vec<Name>) -> Result<NameList, AllocError>
+        ensures { IfOk result (λ l. l ≡ names.items) }
     {
-        NameList {
-            names: Vec::new(alloc),
-            positions: NamePositions::new(alloc),
-        }
+        let positions = positions_of(alloc, names.as_slice())?;
+        Ok(NameList { names, positions })
+    }
+
+    /// The names.
+    pub fn as_slice(&self) -> &[Name]
+        ensures { result.now ≡ self.now }
+    {
+        self.names.as_slice()
+    }
+
+    /// A copy, with memory of its own. Fails with `AllocError` when out of memory.
+    pub fn copy(&self, alloc: Global) -> Result<NameList, AllocError>
+        ensures { IfOk result (λ copy. copy ≡ self.now) }
+    {
+        let names = copies_of(alloc, self.as_slice())?;
+        let copy = NameList::new(alloc, names)?;
+        Ok(copy)
     }
 
     /// The name at a position.
     pub fn at(&self, i: usize) -> &[u8]
-        requires { i < length (names_listed self.now) }
-        ensures { result.now ≡ get_or (names_listed self.now) i result.now }
+        requires { i < length self.now }
+        ensures { result.now ≡ get_or self.now i result.now }
     {
-        self.names[i].as_slice()
+        self.names[i].as_bytes()
     }
 
     /// How many names there are.
     pub fn len(&self) -> usize
-        ensures { result ≡ length (names_listed self.now) }
+        ensures { result ≡ length self.now }
     {
         self.names.len()
     }
 
     /// The position of a name, in any ASCII case. Fails with `AllocError` where it is out of memory, as below.
     pub fn position(&self, alloc: Global, name: &[u8]) -> Result<Option<usize>, AllocError>
-        ensures { IfOk result (λ i. i ≡ name_place (names_listed self.now) name.now) }
+        ensures { IfOk result (λ i. i ≡ name_place self.now name.now) }
     {
         let i = self.positions.get(alloc, name)?;
         Ok(i)
@@ -58,25 +172,30 @@ impl NameList {
 
     /// Whether the name at a position is the first of its name.
     pub(crate) fn is_first(&self, alloc: Global, i: usize) -> Result<bool, AllocError>
-        requires { i < length (names_listed self.now) }
-        ensures { IfOk result (λ b. b ≡ is_placed (name_place (names_listed self.now) (get_or (names_listed self.now) i [])) i) }
+        requires { i < length self.now }
+        ensures { IfOk result (λ b. b ≡ is_placed (name_place self.now (get_or self.now i [])) i) }
     {
         let position = self.position(alloc, self.at(i))?;
         Ok(Names::is_at(position, i))
     }
+}
 
-    /// The names, and a copy of one more behind them unless an equal one stands there.
-    pub fn and(self, alloc: Global, name: &[u8]) -> Result<NameList, AllocError>
-        ensures { IfOk result (λ l. names_listed l ≡ (if is_none (name_place (names_listed self) name.now)
-            then names_listed self ++ name.now ∷ [] else names_listed self)) }
-    {
-        let mut names = self.names;
-        let mut positions = self.positions;
-        let is_new = positions.insert(alloc, name, names.len())?;
-        if is_new {
-            names.push(Vec::from_slice(alloc, name)?)?;
-            return Ok(NameList { names, positions });
-        }
-        Ok(NameList { names, positions })
+impl PartialEq for NameList {
+    ghost use Rattle.std.specs.Prelude.{bytes_eq};
+    ghost use Rattle.std.specs.Cmp.{partial_equiv_from_equiv};
+    ghost use Rattle.std.specs.Cmp.Lexicographic.{pointwise, lists_equiv, nat_list_eq_equiv};
+
+    ghost eq = { pointwise bytes_eq };
+
+    ghost laws = { partial_equiv_from_equiv (lists_equiv nat_list_eq_equiv) };
+
+    fn eq(&self, other: &NameList) -> bool {
+        self.names.as_slice() == other.names.as_slice()
     }
+}
+
+impl Eq for NameList {
+    ghost use Rattle.std.specs.Cmp.Lexicographic.{lists_equiv, nat_list_eq_equiv};
+
+    ghost laws = { lists_equiv nat_list_eq_equiv };
 }

@@ -5,7 +5,6 @@ ghost use Rattle.al_base.specs.Growth.{BeginsWith};
 ghost use Rattle.al_types.specs.Private.TypeParts.{string_unless};
 ghost use Rattle.al_types.specs.Types.{Parts, fuse_optional, object_type, option_of, property_in};
 ghost use Rattle.al_expr_types.specs.Joining.{is_join_below, join_in};
-ghost use Rattle.al_expr_types.specs.Names.{names_listed};
 ghost use Rattle.al_expr_types.specs.Parts.{part_in};
 ghost use Rattle.al_expr_types.specs.Tables.{objects_of, type_at};
 ghost use Rattle.al_expr_types.specs.Types.{common_of, are_below, are_fields_below, extension_parts, fields_parts};
@@ -91,7 +90,7 @@ impl Extension<'_> {
 
 /// Whether a part of an object of strings is one.
 fn has_string(alloc: Global, names: &NameList, part: Part<'_>) -> Result<bool, AllocError>
-    ensures { IfOk result (λ b. part_in part.entry (strings_parts (names_listed names.now)) ≡ string_unless (not b)) }
+    ensures { IfOk result (λ b. part_in part.entry (strings_parts names.now) ≡ string_unless (not b)) }
 {
     match part {
         Part::Named(name) => {
@@ -111,7 +110,7 @@ fn gather_strings(
     sofar: Join,
 ) -> Result<Join, AllocError>
     ensures part { IfOk result (λ j. (ms : List Parts)
-        → join_in ms j ≡ fuse_optional (join_in ms sofar) (part_in part.entry (strings_parts (names_listed names.now)))) }
+        → join_in ms j ≡ fuse_optional (join_in ms sofar) (part_in part.entry (strings_parts names.now))) }
     ensures below { IfOk result (λ j. (n : ℕ) → is_join_below n sofar ≡ true → is_join_below n j ≡ true) }
 {
     if has_string(alloc, names, part)? {

@@ -35,7 +35,6 @@ impl<'a> Types<'a> {
     ghost use Rattle.al_types.specs.Strings.{named_strings};
     ghost use Rattle.al_types.specs.Types.{fuse_type, object_type, option_of, optional, or_any};
     ghost use Rattle.al_expr_types.specs.Joining.{is_join_below, join_in};
-    ghost use Rattle.al_expr_types.specs.Names.{names_listed};
     ghost use Rattle.al_expr_types.specs.Tables.{is_known, objects_of, type_at};
     ghost use Rattle.al_expr_types.specs.Types.{fields_parts, is_object_below, is_rest_below, object_in, object_parts};
 
@@ -157,7 +156,7 @@ impl<'a> Types<'a> {
 
     /// The type of an object whose fields are strings of these names, and no others.
     pub fn strings(&mut self, names: &'a NameList) -> Result<Ty, AllocError>
-        ensures ty { IfOk result (λ t. type_at self.new t ≡ named_strings (names_listed names.entry.now)) }
+        ensures ty { IfOk result (λ t. type_at self.new t ≡ named_strings names.entry.now) }
         ensures known { IfOk result (λ t. is_known self.new t ≡ true) }
         ensures kept { BeginsWith (objects_of self.new) (objects_of self.old) }
     {

@@ -7,10 +7,10 @@ use Rattle.al_base.specs.declared.faults.Fault.{Fault}
 use Rattle.al_base.specs.declared.faults.Span.{Span}
 use Rattle.al_expr_grammar.specs.Refusal.{fault}
 use Rattle.al_expr_grammar.specs.declared.token.Operator.{Operator}
-use Rattle.al_meaning.specs.Comparison.{comparable_types}
-use Rattle.al_meaning.specs.Meaning.{typed, behind, give, is_logic, operated}
-use Rattle.al_meaning.proofs.TypedSteps.{unchanged}
-use Rattle.al_types.specs.MoreFields.{is_present}
+use Rattle.al_expr_typing.specs.Comparison.{comparable_types}
+use Rattle.al_expr_typing.specs.Meaning.{typed, behind, give, is_logic, operated}
+use Rattle.al_expr_typing.proofs.TypedSteps.{unchanged}
+use Rattle.al_types.specs.Presence.{is_present}
 use Rattle.al_types.specs.Types.{Type', Bool', Optional, Absent, Present, fuse_optional, fuse_type, option_of, or_any}
 use Rattle.al_expr_types.specs.Tables.{objects_of}
 use Rattle.al_expr_types.specs.declared.joining.Join.{Join}

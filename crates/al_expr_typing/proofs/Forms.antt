@@ -6,7 +6,7 @@ use Rattle.al_types.specs.Types.{Type', Any, Null, Number, String}
 use Rattle.al_expr_types.specs.Types.{arrays_of, scalar_type}
 use Rattle.al_expr_types.specs.declared.ty.Scalar.{Scalar}
 use Rattle.al_expr_types.specs.declared.ty.Scalar.TheVariants as scalar
-use Rattle.al_meaning.specs.Meaning.{Typed, typed, behind, array_of, property_of, all_of, index_of}
+use Rattle.al_expr_typing.specs.Meaning.{Typed, typed, behind, array_of, property_of, all_of, index_of}
 
 abbrev pub in_arrays : ℕ → Typed → Typed
 in_arrays n (typed t fs) = typed (arrays_of n t) fs

@@ -1,3 +1,6 @@
+pub mod TypedSteps
+pub mod Paths
+pub mod Inside
 pub mod Shown
 pub mod Forms
 pub mod ChainLemmas

@@ -1,7 +1,7 @@
 -- The states of the code that reads a text literal give its value.
 use Rattle.std.proofs.Common.{◌≡◌, ℕ, List, [], ◌∷◌, ◌++◌, refl, ap, Bool, true, false, cond, drop, take}
 use Rattle.al_expr_typing.specs.declared.literals.Quoting.TheVariants.{Opening, Inside, BehindQuote}
-use Rattle.al_meaning.specs.Literals.{is_quote, unquoted}
+use Rattle.al_expr_typing.specs.Literals.{is_quote, unquoted}
 use Rattle.al_expr_typing.specs.Private.QuotingStates.{unquoted_from}
 
 -- what is left, inside and behind a quote

@@ -9,7 +9,7 @@ use Rattle.al_expr_grammar.specs.Tokens.{is_digit}
 use Rattle.al_expr_typing.specs.declared.placeholders.PlaceholderState.TheVariants.{Outside, BehindOpening, InIndex, BehindClosing}
 use Rattle.al_expr_typing.specs.declared.placeholders.Turn.{Turn}
 use Rattle.al_expr_typing.specs.declared.placeholders.Turn.TheVariants.{To, Names, Wrong}
-use Rattle.al_meaning.specs.Placeholders.{Piece, Plain, Argument, NoPiece, digits_of, behind_digits, index_of, piece_of, used_with, used_within}
+use Rattle.al_expr_typing.specs.Placeholders.{Piece, Plain, Argument, NoPiece, digits_of, behind_digits, index_of, piece_of, used_with, used_within}
 use Rattle.al_expr_typing.specs.Private.PlaceholderStates.{turned, used_from}
 
 -- what is read behind a piece

@@ -1,6 +1,6 @@
 -- The type of the operands of a chain so far.
 use Rattle.std.specs.Prelude.{length, Bool}
-use Rattle.al_types.specs.MoreFields.{is_present}
+use Rattle.al_types.specs.Presence.{is_present}
 use Rattle.al_types.specs.Types.{Type', option_of, or_any}
 use Rattle.al_expr_types.specs.Joining.{is_join_below, join_in}
 use Rattle.al_expr_types.specs.Tables.{objects_of}

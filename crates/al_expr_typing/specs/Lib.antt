@@ -1,3 +1,9 @@
+pub mod Untrusted
+pub mod Placeholders
+pub mod Literals
+pub mod Meaning
+pub mod Comparison
+pub mod Inside
 pub mod Scopes
 pub mod Steps
 pub mod Arguments

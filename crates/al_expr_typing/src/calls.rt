@@ -2,10 +2,10 @@
 
 ghost use Rattle.std.specs.Prelude.{◌≡◌, ◌++◌, ◌+◌, ◌^◌, ◌<◌, IfOk, OnOk, List, not, map, length, string_bytes, true, ◌∷◌, [], ℕ};
 ghost use Rattle.al_base.specs.Growth.{BeginsWith};
-ghost use Rattle.al_meaning.specs.Meaning.{typed, behind, give, is_test, called_with, argument_faults, wrong_arguments, format_faults};
-ghost use Rattle.al_meaning.specs.Meaning.{placeholder_faults, unused};
-ghost use Rattle.al_meaning.specs.Meaning as meaning;
-ghost use Rattle.al_meaning.specs.Placeholders.{used_arguments};
+ghost use Rattle.al_expr_typing.specs.Meaning.{typed, behind, give, is_test, called_with, argument_faults, wrong_arguments, format_faults};
+ghost use Rattle.al_expr_typing.specs.Meaning.{placeholder_faults, unused};
+ghost use Rattle.al_expr_typing.specs.Meaning as meaning;
+ghost use Rattle.al_expr_typing.specs.Placeholders.{used_arguments};
 ghost use Rattle.al_expr_grammar.specs.Refusal.{fault};
 ghost use Rattle.al_expr_typing.specs.Arguments.{argument_in};
 ghost use Rattle.al_types.specs.Scopes.{is_allowed};

@@ -6,8 +6,8 @@ ghost use Rattle.al_base.specs.declared.codes.ExpressionCode.TheVariants as code
 ghost use Rattle.al_expr_grammar.specs.Refusal.{fault};
 ghost use Rattle.al_expr_grammar.specs.Tree.{operands_of};
 ghost use Rattle.al_expr_grammar.specs.View.{operand_of};
-ghost use Rattle.al_meaning.specs.Comparison.{comparable_types};
-ghost use Rattle.al_meaning.specs.Meaning.{begins_logic, behind, give, is_logic, operated, typed};
+ghost use Rattle.al_expr_typing.specs.Comparison.{comparable_types};
+ghost use Rattle.al_expr_typing.specs.Meaning.{begins_logic, behind, give, is_logic, operated, typed};
 ghost use Rattle.al_expr_types.specs.Tables.{is_known, objects_of, type_at};
 ghost use Rattle.al_expr_types.specs.Types.{type_in};
 ghost use Rattle.al_types.specs.Types.{Parts};

@@ -1,7 +1,7 @@
 //! Which types an operator can compare.
 
 ghost use Rattle.std.specs.Prelude.{◌≡◌, List};
-ghost use Rattle.al_meaning.specs.Comparison.{comparable_types};
+ghost use Rattle.al_expr_typing.specs.Comparison.{comparable_types};
 ghost use Rattle.al_types.specs.Types.{Parts, is_collection, is_plain};
 ghost use Rattle.al_expr_types.specs.Types.{type_in};
 

@@ -4,6 +4,7 @@
 mod calls;
 mod chains;
 mod comparison;
+mod law;
 mod literals;
 mod placeholders;
 mod reports;
@@ -11,6 +12,9 @@ mod scope;
 mod steps;
 mod typing;
 mod untrusted;
+mod worked;
 
+pub use law::all_lie_in_content;
 pub use scope::{ContextTypes, Scope};
 pub use typing::type_of;
+pub use worked::{literal_rows, placeholder_rows};

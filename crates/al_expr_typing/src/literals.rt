@@ -3,7 +3,7 @@
 ghost use Rattle.std.specs.Prelude.{◌≡◌, ◌++◌, IfOk, OnOk, option_map, string_bytes};
 ghost use Rattle.std.specs.List.{flat_map};
 ghost use Rattle.std.specs.Char.{encode_utf8};
-ghost use Rattle.al_meaning.specs.Literals.{literal_text, text_value, type_of_keyword};
+ghost use Rattle.al_expr_typing.specs.Literals.{literal_text, text_value, type_of_keyword};
 ghost use Rattle.al_expr_typing.specs.Private.QuotingStates.{adds, moves};
 ghost use Rattle.al_expr_typing.specs.Private.LiteralViews.{literal_of};
 ghost use Rattle.al_expr_types.specs.Types.{scalar_type};

@@ -1,7 +1,7 @@
 //! The placeholders of a text for `format`.
 
 ghost use Rattle.std.specs.Prelude.{◌≡◌, ◌∷◌, ℕ, List, IfOk, MatchOption, option_map, None};
-ghost use Rattle.al_meaning.specs.Placeholders.{used_arguments};
+ghost use Rattle.al_expr_typing.specs.Placeholders.{used_arguments};
 ghost use Rattle.al_expr_typing.specs.Private.PlaceholderStates.{turn, used_from};
 ghost use Rattle.al_expr_typing.specs.Private.PlaceholderViews.{IsSmall};
 

@@ -4,8 +4,7 @@ ghost use Rattle.std.specs.Prelude.{◌≡◌, ◌<◌, ◌∷◌, [], IfOk, Lis
 ghost use Rattle.al_base.specs.Growth.{BeginsWith};
 ghost use Rattle.al_base.specs.declared.codes.ExpressionCode.TheVariants as code;
 ghost use Rattle.al_expr_grammar.specs.Refusal.{fault};
-ghost use Rattle.al_meaning.specs.Meaning.{typed, behind, or_fault, property_of, all_of, index_of, element_at};
-ghost use Rattle.al_meaning.specs.Meaning.{not_indexable};
+ghost use Rattle.al_expr_typing.specs.Meaning.{typed, behind, or_fault, property_of, all_of, index_of, element_at, not_indexable};
 ghost use Rattle.al_types.specs.Types.{ArrayOf, Parts, Type', object_type, or_any, property_in};
 ghost use Rattle.al_expr_typing.specs.Steps.{is_index};
 ghost use Rattle.al_expr_types.specs.Tables.{is_known, objects_of, type_at};
@@ -86,7 +85,7 @@ fn base_property(
 }
 
 // The same of an object: what it has by this name, else any with a fault.
-#[tactic(auto, using(al_base::proofs::Growing::growth, al_meaning::proofs::TypedSteps::typing))]
+#[tactic(auto, using(al_base::proofs::Growing::growth, crate::proofs::TypedSteps::typing))]
 fn object_property(
     alloc: Global,
     types: &mut Types<'_>,
@@ -114,7 +113,7 @@ fn object_property(
 }
 
 // The type of any step of a scalar: any of any, else none.
-#[tactic(auto, using(al_base::proofs::Growing::growth, al_meaning::proofs::TypedSteps::typing))]
+#[tactic(auto, using(al_base::proofs::Growing::growth, crate::proofs::TypedSteps::typing))]
 fn scalar_step(scalar: Scalar, whole: Span, out: &mut Vec<Fault>) -> Result<Ty, AllocError>
     ensures ok { IfOk result (λ t. (ms : List Parts) → typed (type_in ms t) out.new.items
         ≡ behind out.old.items (all_of whole (scalar_type scalar))) }
@@ -142,7 +141,7 @@ fn not_indexable(whole: Span, out: &mut Vec<Fault>) -> Result<Ty, AllocError>
 }
 
 /// The type of the element of a value of this type that an index of the type `by` names.
-#[tactic(auto, using(al_base::proofs::Growing::growth, al_meaning::proofs::TypedSteps::typing, crate::proofs::Forms::scalar_steps))]
+#[tactic(auto, using(al_base::proofs::Growing::growth, crate::proofs::TypedSteps::typing, crate::proofs::Forms::scalar_steps))]
 pub(crate) fn element(ty: Ty, by: Ty, whole: Span, out: &mut Vec<Fault>) -> Result<Ty, AllocError>
     ensures ok { IfOk result (λ t. (ms : List Parts) → typed (type_in ms t) out.new.items
         ≡ behind out.old.items (index_of whole (type_in ms ty) (type_in ms by))) }
@@ -162,7 +161,7 @@ pub(crate) fn element(ty: Ty, by: Ty, whole: Span, out: &mut Vec<Fault>) -> Resu
 }
 
 // The same of a type that is no array.
-#[tactic(auto, using(al_base::proofs::Growing::growth, al_meaning::proofs::TypedSteps::typing, crate::proofs::Forms::scalar_steps))]
+#[tactic(auto, using(al_base::proofs::Growing::growth, crate::proofs::TypedSteps::typing, crate::proofs::Forms::scalar_steps))]
 fn base_element(base: Base, whole: Span, out: &mut Vec<Fault>) -> Result<Ty, AllocError>
     ensures ok { IfOk result (λ t. (ms : List Parts) (i : Type') → typed (type_in ms t) out.new.items
         ≡ behind out.old.items (index_of whole (base_type ms base) i)) }
@@ -179,7 +178,7 @@ fn base_element(base: Base, whole: Span, out: &mut Vec<Fault>) -> Result<Ty, All
 }
 
 // The type of an element of an array, by an index of the type `by`.
-#[tactic(auto, using(al_base::proofs::Growing::growth, al_meaning::proofs::TypedSteps::typing, crate::proofs::Forms::scalar_steps))]
+#[tactic(auto, using(al_base::proofs::Growing::growth, crate::proofs::TypedSteps::typing, crate::proofs::Forms::scalar_steps))]
 fn element_of(of: Ty, by: Ty, whole: Span, out: &mut Vec<Fault>) -> Result<Ty, AllocError>
     ensures ok { IfOk result (λ t. (ms : List Parts) → typed (type_in ms t) out.new.items
         ≡ behind out.old.items (element_at whole (type_in ms of) (type_in ms by))) }
@@ -208,7 +207,7 @@ fn is_index(by: Ty) -> bool
 }
 
 /// The type of `.*` of a value of this type: an array of what its elements, or its fields, have in common.
-#[tactic(auto, using(al_base::proofs::Growing::growth, al_meaning::proofs::TypedSteps::typing))]
+#[tactic(auto, using(al_base::proofs::Growing::growth, crate::proofs::TypedSteps::typing))]
 pub(crate) fn all(
     types: &mut Types<'_>,
     ty: Ty,
@@ -230,7 +229,7 @@ pub(crate) fn all(
 }
 
 // The same of a type that is no array.
-#[tactic(auto, using(al_base::proofs::Growing::growth, al_meaning::proofs::TypedSteps::typing))]
+#[tactic(auto, using(al_base::proofs::Growing::growth, crate::proofs::TypedSteps::typing))]
 fn base_all(
     types: &mut Types<'_>,
     base: Base,

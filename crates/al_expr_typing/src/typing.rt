@@ -8,10 +8,10 @@ ghost use Rattle.al_expr_types.specs.Types.{is_below, scalar_type};
 ghost use Rattle.al_expr_types.specs.Types as numbers;
 ghost use Rattle.al_expr_types.specs.Tables.{is_known, objects_of, type_at};
 ghost use Rattle.al_base.specs.Growth.{BeginsWith};
-ghost use Rattle.al_meaning.specs.Meaning.{typed, type_in, faults_in, behind, meaning_of, walked, chained, meanings};
-ghost use Rattle.al_meaning.specs.Meaning.{begins_logic, untrusted, all_typed, all_behind, stepped, indexed, base_name};
-ghost use Rattle.al_meaning.specs.Meaning as meaning;
-ghost use Rattle.al_meaning.specs.Literals.{literal_text};
+ghost use Rattle.al_expr_typing.specs.Meaning.{typed, type_in, faults_in, behind, meaning_of, walked, chained, meanings};
+ghost use Rattle.al_expr_typing.specs.Meaning.{begins_logic, untrusted, all_typed, all_behind, stepped, indexed, base_name};
+ghost use Rattle.al_expr_typing.specs.Meaning as meaning;
+ghost use Rattle.al_expr_typing.specs.Literals.{literal_text};
 ghost use Rattle.al_types.specs.Names.{context_of, function_of};
 ghost use Rattle.al_expr_grammar.specs.Tree.{steps_of, operands_of, arguments_of};
 ghost use Rattle.al_expr_grammar.specs.View.{tree_of, step_of, operand_of};
@@ -177,7 +177,7 @@ fn is_exposed(around: Surroundings<'_>) -> bool
     around.scope.in_run && !around.safe
 }
 
-#[tactic(auto, using(al_base::proofs::Growing::growth, al_meaning::proofs::TypedSteps::typing))]
+#[tactic(auto, using(al_base::proofs::Growing::growth, crate::proofs::TypedSteps::typing))]
 fn named(alloc: Global, scope: &Scope, word: &Word, out: &mut Vec<Fault>) -> Result<Ty, AllocError>
     ensures ok { IfOk result (λ t. (ms : List Parts) → typed (numbers.type_in ms t) out.new.items ≡ behind out.old.items
         (meaning.named (scope_in ms scope.now) (string_bytes word.now.text) word.now.span (context_of
@@ -399,7 +399,7 @@ fn typed_arguments(
 }
 
 // Adds the fault of a path that is an untrusted chain, where its text could do harm.
-#[tactic(auto, using(al_base::proofs::Growing::growth, al_meaning::proofs::Paths::parts))]
+#[tactic(auto, using(al_base::proofs::Growing::growth, crate::proofs::Paths::parts))]
 fn check_untrusted(
     alloc: Global,
     exposed: bool,

@@ -1,7 +1,7 @@
 //! Paths to what an outsider can write, which must not go into a script.
 
 ghost use Rattle.std.specs.Prelude.{◌≡◌, ◌∷◌, IfOk, length, map, option_map, string_bytes};
-ghost use Rattle.al_meaning.specs.Untrusted.{untrusted_chains, part_of, same_parts, chain_among, with_dots};
+ghost use Rattle.al_expr_typing.specs.Untrusted.{untrusted_chains, part_of, same_parts, chain_among, with_dots};
 ghost use Rattle.al_base.specs.Names.{same_name};
 ghost use Rattle.al_expr_grammar.specs.View.{step_of};
 

@@ -7,7 +7,7 @@ use Rattle.std.proofs.lemmas.List.{length-set, get_or-set_other, get_or-set_same
 use Rattle.std.proofs.lemmas.List.Elements.{Contains-append_left, Contains-append_right, Contains-append_cases}
 use Rattle.std.proofs.lemmas.List.Sums.{sum_by-set}
 use Rattle.std.proofs.lemmas.Bool.{cases_eq, cases_lt}
-use Rattle.al_graph.specs.Graphs.{Edge, IsTurned, StronglyConnected, Walk, here, onward}
+use Rattle.al_graph.specs.Graphs.{Edge, IsTranspose, StronglyConnected, Walk, here, onward}
 use Rattle.al_graph.proofs.Lists.{is_one, none_in, one_is}
 use Rattle.al_graph.proofs.TurnLemmas.{turned_walk}
 use Rattle.al_graph.specs.Private.Finishing.{IsFinished, node_at}
@@ -253,15 +253,15 @@ no_waiting graph order labels at (x ∷ xs) e s = absurd (omega (arith, e))
 pub from_inside : (graph : List (List ℕ)) (j k : ℕ) → Edge graph j k → j < length graph
 from_inside graph j k e = ⊎_elim (λ h. h) (λ past. absurd (none_in k (subst (λ (ns : List ℕ). Contains ns k) (get_or_past graph j [] past) e))) (cases_lt j (length graph))
 
--- an order in which the nodes of the turned graph were finished
-pub turned_back : (graph back : List (List ℕ)) (order : List ℕ) → length back ≡ length graph → IsTurned graph back → IsFinished back order → IsBackward graph order
+-- an order in which the nodes of the transpose graph were finished
+pub turned_back : (graph back : List (List ℕ)) (order : List ℕ) → length back ≡ length graph → IsTranspose graph back → IsFinished back order → IsBackward graph order
 turned_back graph back order len t f = record {
   all = λ k lt. f.all k (omega (arith, lt, len));
   inside = λ k c. let below : k < length back = f.inside k c in omega (arith, below, len);
   nested = λ a b c ac cb lt e. turned_walk back graph (λ j k h. (t k j).1 h) (node_at order b) (node_at order c) (f.nested a b c ac cb lt ((t (node_at order b) (node_at order a)).0 e));
 }
 
-pub turned_inside : (graph back : List (List ℕ)) → length back ≡ length graph → IsTurned graph back → (j k : ℕ) → Edge back j k → k < length back
+pub turned_inside : (graph back : List (List ℕ)) → length back ≡ length graph → IsTranspose graph back → (j k : ℕ) → Edge back j k → k < length back
 turned_inside graph back len t j k e = let below : k < length graph = from_inside graph k j ((t k j).1 e) in omega (arith, below, len)
 
 -- by what the program finds

@@ -6,7 +6,7 @@ use Rattle.std.proofs.lemmas.List.{get_or-set_other, get_or-replicate, get_or_pa
 use Rattle.std.proofs.lemmas.List.Elements.{Contains-append_left, Contains-append_right, Contains-append_cases}
 use Rattle.std.proofs.lemmas.Grind.{get_or-set_at}
 use Rattle.std.proofs.lemmas.Bool.{cases_eq, cases_lt}
-use Rattle.al_graph.specs.Graphs.{AddsEdges, Edge, IsTurned, Walk, edges_of, here, onward}
+use Rattle.al_graph.specs.Graphs.{AddsEdges, Edge, IsTranspose, Walk, edges_of, here, onward}
 use Rattle.al_graph.proofs.Lists.{is_one, none_in, one_is, written}
 use Rattle.al_graph.proofs.Edges.{edges_at}
 
@@ -81,7 +81,7 @@ turned_next graph a b i nodes is t m = record {
       (m.only k j e);
 }
 
-pub turned_all : (graph other : List (List ℕ)) → TurnedTo (length graph) graph other → IsTurned graph other
+pub turned_all : (graph other : List (List ℕ)) → TurnedTo (length graph) graph other → IsTranspose graph other
 turned_all graph other t j k =
     (λ e. ⊎_elim (λ lt. t.all j k lt e) (λ past. absurd (none_in k (subst (In k) (get_or_past graph j [] past) e))) (cases_lt j (length graph)), λ e. (t.only j k e).1)
 
@@ -94,7 +94,7 @@ turned_write graph items begun after len i nodes b l a is t m =
     let Q : List (Vec ℕ Global) → Type 0 = λ g. TurnedTo i graph (edges_of g) in
     subst P (sym (written after items len (a ∙ ap length b) l)) (turned_next graph (edges_of begun) (edges_of after) i nodes is (subst Q (sym b) t) m)
 
-pub turned_end : (graph : List (Vec ℕ Global)) (other : List (List ℕ)) (i : ℕ) → i ≡ length graph → TurnedTo i (edges_of graph) other → IsTurned (edges_of graph) other
+pub turned_end : (graph : List (Vec ℕ Global)) (other : List (List ℕ)) (i : ℕ) → i ≡ length graph → TurnedTo i (edges_of graph) other → IsTranspose (edges_of graph) other
 turned_end graph other i e t =
     let len : length (edges_of graph) ≡ length graph = length-map graph _ in
     let P : ℕ → Type 0 = λ n. TurnedTo n (edges_of graph) other in

@@ -20,8 +20,8 @@ abbrev pub StronglyConnected : List (List ℕ) → ℕ → ℕ → Type 0
 StronglyConnected graph j k = Walk graph j k × Walk graph k j
 
 -- each edge of one graph is one of the other, the other way round
-abbrev pub IsTurned : List (List ℕ) → List (List ℕ) → Type 0
-IsTurned graph other = (j k : ℕ) → Edge graph j k ↔ Edge other k j
+abbrev pub IsTranspose : List (List ℕ) → List (List ℕ) → Type 0
+IsTranspose graph other = (j k : ℕ) → Edge graph j k ↔ Edge other k j
 
 -- edges from some nodes to one were added
 pub record AddsEdges (nodes : List ℕ) (to : ℕ) (old new : List (List ℕ)) : Type 0 where

@@ -9,7 +9,7 @@ ghost use Rattle.al_graph.specs.Graphs.{Edge, StronglyConnected, edges_of};
 ghost use Rattle.std.specs.Prelude.{◌≡◌, ℕ, ◌<◌, ◌+◌, ◌↔◌, ◌∷◌, [], None, length, slice_index_or, vec_len, Contains, IfOk, OnOk};
 
 use crate::finishing::finish_order;
-use crate::turning::turned;
+use crate::turning::transpose;
 use std::alloc::{AllocError, Global};
 
 /// Labels a node; one that had no label is added to a list.
@@ -121,7 +121,7 @@ pub fn strongly_connected_components(
     ensures exact { IfOk result (λ labels. (j k : ℕ) → j < length graph.now → k < length graph.now
         → (slice_index_or labels.items j None ≡ slice_index_or labels.items k None) ↔ StronglyConnected (edges_of graph.now) j k) }
 {
-    let back = turned(alloc, graph)?;
+    let back = transpose(alloc, graph)?;
     let order = finish_order(alloc, back.as_slice())?;
     let labels = label_all(alloc, graph, order.as_slice())?;
     Ok(labels)

@@ -8,4 +8,4 @@ mod turning;
 
 pub use labelling::strongly_connected_components;
 pub use laws::walk_laws;
-pub use turning::turned;
+pub use turning::transpose;

@@ -1,6 +1,6 @@
 //! Graphs with each edge the other way round.
 
-ghost use Rattle.al_graph.specs.Graphs.{AddsEdges, Edge, IsTurned, edges_of};
+ghost use Rattle.al_graph.specs.Graphs.{AddsEdges, Edge, IsTranspose, edges_of};
 ghost use Rattle.std.specs.Prelude.{◌≡◌, ℕ, ◌<◌, ◌∷◌, [], length, vec_len, replicate, Contains, IfOk, OnOk};
 
 use std::alloc::{AllocError, Global};
@@ -23,7 +23,7 @@ fn count_edges_to(nodes: &[usize], counts: &mut [usize])
     }
 }
 
-/// How many edges lead to each node: the room that its list in the turned graph takes. Nothing but that room depends on these numbers.
+/// How many edges lead to each node: the room that its list in the transpose takes. Nothing but that room depends on these numbers.
 fn edge_counts(alloc: Global, graph: &[Vec<usize>]) -> Result<Vec<usize>, AllocError>
     requires { (j k : ℕ) → Edge (edges_of graph.now) j k → k < length graph.now }
     ensures { IfOk result (λ counts. vec_len counts ≡ length graph.now) }
@@ -66,18 +66,18 @@ fn add_edges(from: &[usize], to: usize, graph: &mut [Vec<usize>]) -> Result<(), 
     Ok(())
 }
 
-/// The graph with the same nodes, and each edge the other way round.
+/// The transpose of a graph: the same nodes, and each edge the other way round.
 ///
 /// Takes time in proportion to the nodes and edges. Fails with `AllocError` when out of memory.
-pub fn turned(alloc: Global, graph: &[Vec<usize>]) -> Result<Vec<Vec<usize>>, AllocError>
+pub fn transpose(alloc: Global, graph: &[Vec<usize>]) -> Result<Vec<Vec<usize>>, AllocError>
     requires { (j k : ℕ) → Edge (edges_of graph.now) j k → k < length graph.now }
     ensures len { IfOk result (λ v. vec_len v ≡ length graph.now) }
-    ensures turned { IfOk result (λ v. IsTurned (edges_of graph.now) (edges_of v.items)) }
+    ensures transpose { IfOk result (λ v. IsTranspose (edges_of graph.now) (edges_of v.items)) }
 {
     let counts = edge_counts(alloc, graph)?;
-    let mut turned = without_edges(alloc, counts.as_slice())?;
+    let mut transpose = without_edges(alloc, counts.as_slice())?;
     for (node, nodes) in graph.iter().enumerate() {
-        add_edges(nodes.as_slice(), node, turned.as_mut_slice())?;
+        add_edges(nodes.as_slice(), node, transpose.as_mut_slice())?;
     }
-    Ok(turned)
+    Ok(transpose)
 }

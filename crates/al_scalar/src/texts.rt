@@ -259,7 +259,7 @@ pub struct ShortText {
 
 impl ShortText {
     /// The same text, in the form that takes any bytes. Fails with `AllocError` when out of memory.
-    fn lengthened(&self, alloc: Global) -> Result<LongText, AllocError>
+    fn to_long(&self, alloc: Global) -> Result<LongText, AllocError>
         requires { IsSound (Short self.now) }
         ensures { IfOk result (λ text. text ≡ short_cells self.now) }
     {
@@ -318,7 +318,7 @@ impl Text {
         match &mut self.form {
             Form::Long(text) => text.push(byte, at),
             Form::Short(short) => {
-                let mut text = short.lengthened(self.alloc)?;
+                let mut text = short.to_long(self.alloc)?;
                 text.push(byte, at)?;
                 self.form = Form::Long(Box::new(self.alloc, text)?);
                 Ok(())
@@ -346,7 +346,7 @@ impl Text {
         match &mut self.form {
             Form::Long(text) => text.push_run(file, from, to),
             Form::Short(short) => {
-                let mut text = short.lengthened(self.alloc)?;
+                let mut text = short.to_long(self.alloc)?;
                 text.push_run(file, from, to)?;
                 self.form = Form::Long(Box::new(self.alloc, text)?);
                 Ok(())
@@ -363,7 +363,7 @@ impl Text {
         match &mut self.form {
             Form::Long(text) => text.push_escape(decoded, at),
             Form::Short(short) => {
-                let mut text = short.lengthened(self.alloc)?;
+                let mut text = short.to_long(self.alloc)?;
                 text.push_escape(decoded, at)?;
                 self.form = Form::Long(Box::new(self.alloc, text)?);
                 Ok(())

@@ -1,5 +1,5 @@
 //! Public calls of the nine crates that others build on, each made once, by its name and with its parameters in their order, over these
-//! crates alone. Left out are a scalar in a block, and `check` and `site` of a linter.
+//! crates alone.
 #![tactic(auto)]
 
 #[cfg(test)]

@@ -3,7 +3,8 @@
 use crate::files::{ACTION, action};
 use al_check::{Actions, Answers, Env, File, Iface, Parameters, Role};
 use al_expr::{Context, Form};
-use al_session::{Lint, Target};
+use al_session::{Lint, Site, Target};
+use al_text::{CallCode, Code, Fault, KeyCode, Span};
 use al_tree::{Tree, read_workflow};
 use al_yaml::{Doc, read_yaml};
 use std::alloc::{AllocError, Global};
@@ -76,6 +77,72 @@ fn lints(alloc: Global) -> Result<bool, AllocError> {
             && shows(alloc, &mut lint, ACTION, action())?
             && leads_back(alloc, &mut lint, LOOP, calls_itself())?,
     )
+}
+
+/// Whether a call is that of a file that calls itself, on its fifth line.
+fn is_own_call(site: &Site<'_>) -> bool {
+    site.code == Code::Call(CallCode::LeadsBack)
+        && site.span == Span { start: 42, end: 67 }
+        && site.text == "./.github/workflows/r.yml"
+}
+
+/// Whether a file's first call is that one.
+fn has_own_call(
+    alloc: Global,
+    lint: &mut Actions,
+    path: &str,
+    bytes: &[u8],
+) -> Result<bool, AllocError> {
+    if bytes.len() > MOST {
+        return Ok(false);
+    }
+    let unit = lint.read(alloc, path, bytes)?;
+    let calls = lint.calls(alloc, path, &unit)?;
+    if calls.is_empty() {
+        return Ok(false);
+    }
+    let site = lint.site(&unit, 0);
+    Ok(is_own_call(&site))
+}
+
+#[test]
+fn the_site_of_a_call(rt: HostRuntime) -> Result<(), AllocError> {
+    assert!(rt; has_own_call(rt.alloc(), &mut Actions::new(), LOOP, calls_itself())?);
+    Ok(())
+}
+
+/// Whether these are the faults of a file that is empty but for a comment.
+fn are_of_comment(faults: &[Fault]) -> bool {
+    match faults {
+        [fault] => fault.code == Code::Key(KeyCode::EmptyFile)
+            && fault.span == Span { start: 0, end: 0 },
+        _ => false,
+    }
+}
+
+/// Whether the linter finds these faults in a file that calls nothing, by one check.
+fn finds_empty(
+    alloc: Global,
+    lint: &mut Actions,
+    path: &str,
+    bytes: &[u8],
+) -> Result<bool, AllocError> {
+    if bytes.len() > MOST {
+        return Ok(false);
+    }
+    let unit = lint.read(alloc, path, bytes)?;
+    let calls = lint.calls(alloc, path, &unit)?;
+    if !calls.is_empty() {
+        return Ok(false);
+    }
+    let faults = lint.check(alloc, path, bytes, &unit, &[])?;
+    Ok(are_of_comment(&faults) && (lint.reads(), lint.checks()) == (1, 1))
+}
+
+#[test]
+fn the_check_of_a_file(rt: HostRuntime) -> Result<(), AllocError> {
+    assert!(rt; finds_empty(rt.alloc(), &mut Actions::new(), LOOP, b"#")?);
+    Ok(())
 }
 
 #[test]

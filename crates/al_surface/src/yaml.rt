@@ -8,7 +8,8 @@ use std::alloc::{AllocError, Global};
 /// The most bytes of a file.
 const MOST: usize = 1_048_576;
 
-/// A quoted scalar at the fourth byte of a file, its text, the offset of each byte and of its end, and where the rest begins.
+/// A scalar of a mapping in block context at the fourth byte of a file: its text, the offset of each byte and of its end, and where the
+/// rest begins.
 struct Row {
     file: &'static [u8],
     style: Style,
@@ -17,7 +18,7 @@ struct Row {
     next: usize,
 }
 
-static ROWS: [Row; 2] = [
+static ROWS: [Row; 3] = [
     Row {
         file: b"a: 'it''s'\n",
         style: Style::SingleQuoted,
@@ -32,9 +33,16 @@ static ROWS: [Row; 2] = [
         offsets: &[4, 5, 5, 12],
         next: 12,
     },
+    Row {
+        file: b"a: >\n  b\n  c\n\n  d\n",
+        style: Style::Folded,
+        text: b"b c\nd\n",
+        offsets: &[7, 8, 11, 13, 16, 17, 17],
+        next: 18,
+    },
 ];
 
-fn quoted() -> &'static [Row] {
+fn scalars() -> &'static [Row] {
     &ROWS
 }
 
@@ -63,15 +71,15 @@ fn reads_scalar(alloc: Global, row: &Row) -> Result<bool, AllocError> {
     if row.file.len() > MOST || row.file.len() < 3 {
         return Ok(false);
     }
-    match read_scalar(alloc, row.file, 3, ScalarContext::Flow)? {
+    match read_scalar(alloc, row.file, 3, ScalarContext::BlockFromIndent(1))? {
         Ok(read) => Ok(is_as_told(&read, row)),
         Err(_) => Ok(false),
     }
 }
 
 #[test]
-fn quoted_scalars(rt: HostRuntime) -> Result<(), AllocError> {
-    for row in quoted() {
+fn scalars_by_themselves(rt: HostRuntime) -> Result<(), AllocError> {
+    for row in scalars() {
         assert!(rt; reads_scalar(rt.alloc(), row)?);
     }
     Ok(())

@@ -175,6 +175,28 @@ fn named_and_called_files_are_taken(rt: HostRuntime) -> Result<(), AllocError> {
     Ok(())
 }
 
+// Whether a run whose one file has this path stops at it, with no read, for this reason.
+fn is_refused_unread(alloc: Global, path: &str, wanted: Refused) -> Result<bool, AllocError> {
+    let mut disk = Held {
+        files: folder(),
+        asked: Vec::new(alloc),
+    };
+    let words = named(alloc, &[path])?;
+    match load_from(alloc, &mut disk, &words) {
+        Err(Unread::Refused(text, reason)) => {
+            Ok(text.as_str() == path && reason == wanted && disk.asked.is_empty())
+        }
+        _ => Ok(false),
+    }
+}
+
+#[test]
+fn refused_paths_are_not_read(rt: HostRuntime) -> Result<(), AllocError> {
+    assert!(rt; is_refused_unread(rt.alloc(), "../x.yml", Refused::BadPath)?);
+    assert!(rt; is_refused_unread(rt.alloc(), "z/x.yml", Refused::NotAccepted)?);
+    Ok(())
+}
+
 const LARGE: &str = "al_tests_folder/action.yml";
 
 // A comment of so many bytes.

@@ -51,7 +51,7 @@ fn no_failed_read_is_tried_again(rt: HostRuntime) {
 enum End {
     /// It has fewer calls, and puts out all replies.
     Whole,
-    /// It stops at that call, with a front of the replies.
+    /// It stops at that call, with a prefix of the replies.
     Stopped,
     Wrong,
 }

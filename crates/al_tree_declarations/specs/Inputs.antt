@@ -3,7 +3,6 @@ use Rattle.std.specs.Prelude.{ℕ, List, codes, if◌then◌else◌}
 use Rattle.std.specs.Option.{option_map_or}
 use Rattle.std.specs.Str.{bytes_eq}
 use Rattle.al_scalar.specs.Scalar.{text_of}
-use Rattle.al_types.specs.Types.{Type', Number, Bool', String}
 use Rattle.al_yaml_tree.specs.Node.{Node}
 use Rattle.al_tree.specs.Values.{text_at}
 use Rattle.al_tree_declarations.specs.declared.inputs.InputType.{InputType}
@@ -15,8 +14,3 @@ input_named t = if bytes_eq t (codes "boolean") then input.Boolean else if bytes
 
 abbrev pub input_of : Node → InputType
 input_of n = option_map_or (λ t. input_named (text_of t.0)) (text_at (codes "type") n) input.String
-
-abbrev pub input_type : InputType → Type'
-input_type input.Boolean = Bool'
-input_type input.Number = Number
-input_type input.String = String

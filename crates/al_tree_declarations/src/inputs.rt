@@ -2,11 +2,9 @@
 ghost use Rattle.std.specs.Prelude.{◌≡◌};
 ghost use Rattle.al_tree_declarations.specs.Inputs as inputs;
 ghost use Rattle.al_tree_declarations.specs.Inputs.{input_named};
-ghost use Rattle.al_types.specs.TypeViews.{ty_of};
 ghost use Rattle.al_yaml_tree.specs.View.{view};
 
 use al_tree::text_under;
-use al_types::Ty;
 use al_yaml_tree::Node;
 
 /// The type of an input, as far as expressions tell types apart.
@@ -37,16 +35,5 @@ pub fn input_of(node: &Node) -> InputType
     match text_under(node, "type") {
         Some(text) => type_named(text.scalar.text()),
         None => InputType::String,
-    }
-}
-
-/// The type of expressions that an input has.
-pub fn type_of(input: InputType) -> Ty
-    ensures { ty_of result ≡ inputs.input_type input }
-{
-    match input {
-        InputType::Boolean => Ty::Bool,
-        InputType::Number => Ty::Number,
-        InputType::String => Ty::String,
     }
 }

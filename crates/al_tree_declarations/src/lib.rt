@@ -5,13 +5,11 @@
 mod below;
 mod inputs;
 mod mappings;
-mod name_lists;
 mod name_sets;
 mod names;
 
 pub use below::{action_steps, has_value, is_composite, value_below_three, value_below_two};
-pub use inputs::{InputType, input_of, type_of};
+pub use inputs::{InputType, input_of};
 pub use mappings::{declared_at, declared_in};
-pub use name_lists::{Name, NameList, object_of_names};
 pub use name_sets::NameSet;
 pub use names::is_named_among;

@@ -3,7 +3,7 @@
 use Rattle.std.proofs.Common.{◌≡◌, List, [], ◌∷◌, ◌++◌, refl, sym, ap, ◌∙◌, Option, Some, None}
 use Rattle.al_types.specs.Types.{Type', Any, Null, Number, Bool', String, ArrayOf, ObjectOf, Optional, Absent, Present, NoField}
 use Rattle.al_types.specs.Types.{Parts, fuse_optional, fuse_type, option_of, optional, parts_with}
-use Rattle.al_types.specs.TypeViews.{fuse_parts, fused_with, fused}
+use Rattle.al_types.specs.Fused.{fuse_parts, fused_with, fused}
 use Rattle.al_types.specs.Private.TypeParts.{common_type}
 
 mutual

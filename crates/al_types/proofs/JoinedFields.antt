@@ -9,7 +9,7 @@ use Rattle.std.specs.Str.{bytes_eq}
 use Rattle.al_base.specs.Names.{folded, same_name}
 use Rattle.al_types.specs.Types.{Type', Fields, NoField, FieldThen, Optional, Absent, Present, common_in, field_at, fields_of, fuse_optional}
 use Rattle.al_types.specs.Types.{fuse_type, has_field, optional, parts_with}
-use Rattle.al_types.specs.TypeViews.{fuse_parts}
+use Rattle.al_types.specs.Fused.{fuse_parts}
 use Rattle.al_types.specs.FusedFields.{are_distinct, both, fuse_fields, join_fields, missing_fields, with_other}
 use Rattle.al_types.specs.Private.TypeParts.{common_type}
 use Rattle.al_types.proofs.FuseLaws.{common_optional, last_turned, middle_turned, optional_assoc, optional_same}

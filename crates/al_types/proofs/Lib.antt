@@ -1,13 +1,8 @@
-pub mod TypeForms
-pub mod TypeFields
 pub mod FuseLaws
 pub mod FusedForms
 pub mod JoinedFields
-pub mod FusedObjects
 pub mod StringFields
-pub mod FieldPositions
 pub mod FieldsByName
-pub mod Commons
-pub mod AddedFields
+pub mod AddedNames
 pub mod Puts
 pub mod GatheredFields

@@ -5,7 +5,9 @@ use Rattle.std.specs.Prelude.{if◌then◌else◌}
 use Rattle.al_base.specs.Names.{same_name}
 use Rattle.al_base.specs.NamePlaces.{name_place}
 use Rattle.al_types.specs.Strings.{strings}
-use Rattle.al_types.specs.Types.{Present, String, common_in, field_at, fields_of, fuse_optional}
+use Rattle.al_types.specs.Puts.{Typed, firsts, put_all, put_new}
+use Rattle.al_types.specs.Types.{Absent, Present, String, common_in, field_at, fields_of, fuse_optional, optional, parts_with}
+use Rattle.al_types.proofs.GatheredFields.{firsts_found}
 use Rattle.al_types.specs.Private.TypeParts.{string_unless}
 
 at_step : (b : Bool) (o : Option ℕ) → (if b then Some String else option_map (λ i. String) o)
@@ -32,3 +34,47 @@ common_strings (n ∷ ns) =
     let len : length (n ∷ ns) ≡ length ns + 1 = omega arith in
     ap (fuse_optional (Present String)) (common_strings ns) ∙ one_more (nat_eq (length ns) 0)
     ∙ ap string_unless (sym (ap (λ k. nat_eq k 0) len ∙ more_than_none (length ns)))
+
+-- ---- of equal names the first
+
+-- a name behind others, only where it isn't among them
+name_new : List (List ℕ) → List ℕ → List (List ℕ)
+name_new [] n = n ∷ []
+name_new (m ∷ ms) n = if same_name m n then m ∷ ms else m ∷ name_new ms n
+
+names_new : List (List ℕ) → List (List ℕ) → List (List ℕ)
+names_new ms [] = ms
+names_new ms (n ∷ ns) = names_new (name_new ms n) ns
+
+new_step : (b : Bool) (m : List ℕ) (ms more : List (List ℕ)) (ts : List Typed) → ts ≡ strings more →
+    (if b then (m, String) ∷ strings ms else (m, String) ∷ ts) ≡ strings (if b then m ∷ ms else m ∷ more)
+new_step true m ms more ts e = refl
+new_step false m ms more ts e = ap (λ us. (m, String) ∷ us) e
+
+strings_new : (ms : List (List ℕ)) (n : List ℕ) → put_new (strings ms) (n, String) ≡ strings (name_new ms n)
+strings_new [] n = refl
+strings_new (m ∷ ms) n = new_step (same_name m n) m ms (name_new ms n) (put_new (strings ms) (n, String)) (strings_new ms n)
+
+strings_put : (ms ns : List (List ℕ)) → put_all put_new (strings ms) (strings ns) ≡ strings (names_new ms ns)
+strings_put ms [] = refl
+strings_put ms (n ∷ ns) = ap (λ ts. put_all put_new ts (strings ns)) (strings_new ms n) ∙ strings_put (name_new ms n) ns
+
+mutual
+  some_string : (m : List ℕ) (ms ns : List (List ℕ)) → common_in (fields_of (strings (names_new (m ∷ ms) ns))) ≡ Present String
+  some_string m ms [] = common_strings (m ∷ ms)
+  some_string m ms (n ∷ ns) = either_string (same_name m n) m ms n ns
+
+  either_string : (b : Bool) (m : List ℕ) (ms : List (List ℕ)) (n : List ℕ) (ns : List (List ℕ)) →
+      common_in (fields_of (strings (names_new (if b then m ∷ ms else m ∷ name_new ms n) ns))) ≡ Present String
+  either_string true m ms n ns = some_string m ms ns
+  either_string false m ms n ns = some_string m (name_new ms n) ns
+
+names_common : (ns : List (List ℕ)) → common_in (fields_of (strings (names_new [] ns))) ≡ common_in (fields_of (strings ns))
+names_common [] = refl
+names_common (n ∷ ns) = some_string n [] ns ∙ sym (common_strings (n ∷ ns))
+
+-- an object of the first of each name is the one of all
+pub first_strings : (ns : List (List ℕ)) → parts_with (fields_of (firsts (strings ns))) Absent ≡ parts_with (fields_of (strings ns)) Absent
+first_strings ns =
+    let common = ap (λ ts. common_in (fields_of ts)) (strings_put [] ns) ∙ names_common ns in
+    λ d. ((λ n. optional (firsts_found (strings ns) n d)), Absent, fuse_optional (common d) Absent)

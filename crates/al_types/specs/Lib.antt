@@ -1,12 +1,10 @@
 pub mod Names
 pub mod Types
-pub mod TypeViews
-pub mod Positions
-pub mod MoreFields
+pub mod Fused
+pub mod Presence
 pub mod FusedFields
 pub mod Puts
 pub mod Signatures
 pub mod Strings
 pub mod Scopes
 pub mod Private
-pub mod Properties

@@ -1,6 +1,3 @@
 -- Words that only contracts of private functions need: no definition of what the product means stands on them.
 pub mod TypeParts
-pub mod Positions
-pub mod Joined
 pub mod Indexes
-pub mod Gathered

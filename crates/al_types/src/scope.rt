@@ -1,60 +1,9 @@
-//! What an expression can name at its place.
+//! Which contexts and functions there are at a place.
 
 ghost use Rattle.std.specs.Prelude.{◌≡◌};
-ghost use Rattle.al_types.specs.Scopes.{type_of_context, is_available, is_allowed};
-ghost use Rattle.al_types.specs.TypeViews.{ty_of};
+ghost use Rattle.al_types.specs.Scopes.{is_available, is_allowed};
 
 use crate::names::{Context, Function};
-use crate::types::Ty;
-
-/// What an expression can refer to at its place in a workflow or an action.
-#[derive(Drop)]
-pub struct Scope {
-    pub types: ContextTypes,
-    pub contexts: ContextSet,
-    pub functions: FunctionSet,
-    /// Whether the place is a step's `run`, where text from outside would become part of a script.
-    pub in_run: bool,
-}
-
-/// The type of each context.
-#[derive(Drop)]
-pub struct ContextTypes {
-    pub github: Ty,
-    pub env: Ty,
-    pub vars: Ty,
-    pub secrets: Ty,
-    pub runner: Ty,
-    pub job: Ty,
-    pub strategy: Ty,
-    pub needs: Ty,
-    pub jobs: Ty,
-    pub steps: Ty,
-    pub matrix: Ty,
-    pub inputs: Ty,
-}
-
-impl ContextTypes {
-    /// The type of a context.
-    pub fn get(&self, context: Context) -> &Ty
-        ensures { ty_of result.now ≡ type_of_context self.now context }
-    {
-        match context {
-            Context::Github => &self.github,
-            Context::Env => &self.env,
-            Context::Vars => &self.vars,
-            Context::Secrets => &self.secrets,
-            Context::Runner => &self.runner,
-            Context::Job => &self.job,
-            Context::Strategy => &self.strategy,
-            Context::Needs => &self.needs,
-            Context::Jobs => &self.jobs,
-            Context::Steps => &self.steps,
-            Context::Matrix => &self.matrix,
-            Context::Inputs => &self.inputs,
-        }
-    }
-}
 
 /// A set of contexts.
 #[derive(Clone, Copy, PartialEq, Eq, Debug)]

@@ -2,12 +2,9 @@
 
 ghost use Rattle.std.specs.Prelude.{◌≡◌, option_map};
 ghost use Rattle.al_types.specs.Names.{function_of};
-ghost use Rattle.al_types.specs.Signatures.{signature, takes, wanted, accepts, returned_type};
-ghost use Rattle.al_types.specs.TypeViews.{ty_of};
+ghost use Rattle.al_types.specs.Signatures.{signature, takes, wanted};
 
 use crate::names::Function;
-use crate::relations::assignable;
-use crate::types::{Form, Ty};
 
 /// What an argument of a function may be.
 #[derive(Clone, Copy, PartialEq, Eq, Debug)]
@@ -125,34 +122,6 @@ impl Parameters {
             Parameters::Two(first, more)
             | Parameters::OneOrTwo(first, more)
             | Parameters::OneOrMore(first, more) => if index == 0 { first } else { more },
-        }
-    }
-}
-
-impl Wanted {
-    /// Whether a value of this type may be the argument.
-    pub fn accepts(self, ty: &Ty) -> bool
-        ensures { result ≡ accepts self (ty_of ty.now) }
-    {
-        match self {
-            Wanted::Any => true,
-            Wanted::NotObject => ty.form() != Form::Object,
-            Wanted::NotCollection => !ty.is_collection(),
-            Wanted::String => assignable(ty, &Ty::String),
-            Wanted::ArrayOrString => ty.form() == Form::Array || assignable(ty, &Ty::String),
-        }
-    }
-}
-
-impl Returned {
-    /// The type of what is returned.
-    pub fn ty(self) -> Ty
-        ensures { ty_of result ≡ returned_type self }
-    {
-        match self {
-            Returned::Any => Ty::Any,
-            Returned::Bool => Ty::Bool,
-            Returned::String => Ty::String,
         }
     }
 }

@@ -4,9 +4,8 @@ use crate::files::document;
 use al_tree::{Member, key_text};
 use al_tree_declarations::{
     InputType, declared_at, declared_in, has_value, input_of, is_composite, is_named_among,
-    type_of, value_below_three, value_below_two,
+    value_below_three, value_below_two,
 };
-use al_types::Form;
 use al_yaml_tree::Node;
 use std::alloc::{AllocError, Global};
 
@@ -71,13 +70,6 @@ fn reads_inputs(alloc: Global) -> Result<bool, AllocError> {
 fn inputs(rt: HostRuntime) -> Result<(), AllocError> {
     assert!(rt; reads_inputs(rt.alloc())?);
     Ok(())
-}
-
-#[test]
-fn types(rt: HostRuntime) {
-    assert!(rt; type_of(InputType::Boolean).form() == Form::Bool);
-    assert!(rt; type_of(InputType::Number).form() == Form::Number);
-    assert!(rt; type_of(InputType::String).form() == Form::String);
 }
 
 fn count_of_declared(alloc: Global, root: &Node) -> Result<usize, AllocError> {

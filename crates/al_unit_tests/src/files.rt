@@ -1,5 +1,8 @@
 //! Files as their trees, and environments at places by their texts.
 
+ghost use Rattle.std.specs.Prelude.{IfOk, IfSome};
+ghost use Rattle.al_expr_typing.specs.Scopes.{IsShown};
+
 use al_check_contexts::{Answers, Env, File};
 use al_check_places::places;
 use al_yaml::read_yaml;
@@ -30,7 +33,9 @@ pub(crate) fn env_at<'a>(
     alloc: Global,
     file: File<'a>,
     text: &str,
-) -> Result<Option<Env<'a>>, AllocError> {
+) -> Result<Option<Env<'a>>, AllocError>
+    ensures { IfOk result (λ found. IfSome found (λ e. IsShown e.types e.scope)) }
+{
     let mut env = Env::new(alloc, file)?;
     let found = places(alloc, file.kind, file.root)?;
     for place in found.as_slice() {

@@ -1,6 +1,6 @@
 //! Graphs.
 
-use al_graph::{strongly_connected_components, turned};
+use al_graph::{strongly_connected_components, transpose};
 use std::alloc::AllocError;
 
 // Whether an edge leads from one node to another.
@@ -31,7 +31,7 @@ fn walks(rt: HostRuntime) -> Result<(), AllocError> {
     ] {
         assert_eq!(rt; labels[node] == labels[other], together);
     }
-    let other = turned(alloc, graph.as_slice())?;
+    let other = transpose(alloc, graph.as_slice())?;
     assert_eq!(rt; other.len(), 4);
     for (from, to) in [(1, 0), (2, 0), (2, 1), (1, 2), (0, 3)] {
         assert!(rt; leads(other.as_slice(), from, to));

@@ -3,8 +3,9 @@
 use crate::files::{document, env_at, nothing_known};
 use al_check_contexts::File;
 use al_check_places::{available, placed_scalars, rows};
+use al_expr_typing::Scope;
 use al_tree::FileKind;
-use al_types::{Context, ContextSet, Function, FunctionSet, Scope};
+use al_types::{Context, ContextSet, Function, FunctionSet};
 use std::alloc::{AllocError, Global};
 
 const WORKFLOW: &[u8] = b"name: '${{ anything }}'

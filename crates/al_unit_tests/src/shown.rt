@@ -1,10 +1,14 @@
 //! Types as texts, such as `{a: string, *: any}`, where `*` stands for every other field.
 
-use al_types::{Listing, NamedFields, Object, Ty, copy, joined};
+ghost use Rattle.std.specs.Prelude.{◌≡◌, true};
+ghost use Rattle.al_expr_types.specs.Tables.{is_known};
+
+use al_expr_trees::{Field, Ty, tree_of};
+use al_expr_types::Types;
 use std::alloc::{AllocError, Global};
 
 #[cycle(shown)]
-fn show(alloc: Global, ty: &Ty, out: &mut String) -> Result<(), AllocError> {
+fn show(ty: &Ty, out: &mut String) -> Result<(), AllocError> {
     match ty {
         Ty::Any => out.push_str("any"),
         Ty::Null => out.push_str("null"),
@@ -13,77 +17,54 @@ fn show(alloc: Global, ty: &Ty, out: &mut String) -> Result<(), AllocError> {
         Ty::String => out.push_str("string"),
         Ty::Array(of) => {
             out.push_str("[")?;
-            show(alloc, of, out)?;
+            show(of, out)?;
             out.push_str("]")
         }
-        Ty::Object(object) => show_object(alloc, object, out),
-        Ty::Fused(_) => out.push_str("{not joined}"),
+        Ty::Object { fields, rest } => {
+            out.push_str("{")?;
+            show_fields(fields, out)?;
+            show_rest(rest, fields.is_empty(), out)
+        }
     }
 }
 
 #[cycle(shown)]
-fn show_object(alloc: Global, object: &Object, out: &mut String) -> Result<(), AllocError> {
-    match object {
-        Object::Listed(listing) => show_listing(alloc, listing, out),
-        Object::Named(named) => show_named(alloc, named, out),
-        Object::Strings(_) => out.push_str("{many strings}"),
-    }
-}
-
-#[cycle(shown)]
-fn show_listing(alloc: Global, object: &Listing, out: &mut String) -> Result<(), AllocError> {
-    out.push_str("{")?;
+fn show_fields(fields: &[Field], out: &mut String) -> Result<(), AllocError> {
     let mut is_first = true;
-    for field in &object.fields {
+    for field in fields {
         if !is_first {
             out.push_str(", ")?;
         }
         is_first = false;
         out.push_str(field.name.as_str())?;
         out.push_str(": ")?;
-        show(alloc, &field.ty, out)?;
+        show(&field.ty, out)?;
     }
-    show_rest(alloc, &object.rest, is_first, out)
+    Ok(())
 }
 
 #[cycle(shown)]
-fn show_named(alloc: Global, object: &NamedFields, out: &mut String) -> Result<(), AllocError> {
-    out.push_str("{")?;
-    let names = object.names.as_slice();
-    for i in 0..object.types.len() {
-        if i > 0 {
-            out.push_str(", ")?;
-        }
-        if i < names.len() {
-            out.push_str(names[i].as_str())?;
-        }
-        out.push_str(": ")?;
-        show(alloc, &object.types[i], out)?;
-    }
-    show_rest(alloc, &object.rest, object.types.is_empty(), out)
-}
-
-#[cycle(shown)]
-fn show_rest(
-    alloc: Global,
-    rest: &Option<Box<Ty>>,
-    is_first: bool,
-    out: &mut String,
-) -> Result<(), AllocError> {
+fn show_rest(rest: &Option<Box<Ty>>, is_first: bool, out: &mut String) -> Result<(), AllocError> {
     if let Some(rest) = rest {
         if !is_first {
             out.push_str(", ")?;
         }
         out.push_str("*: ")?;
-        show(alloc, rest, out)?;
+        show(rest, out)?;
     }
     out.push_str("}")
 }
 
-/// A type as a text: of objects that are fused as the one that they are. Below that a context's type has none that aren't joined.
-pub(crate) fn shown(alloc: Global, ty: &Ty) -> Result<String, AllocError> {
+/// A type of a table as a text.
+pub(crate) fn shown(
+    alloc: Global,
+    types: &Types<'_>,
+    ty: al_expr_types::Ty,
+) -> Result<String, AllocError>
+    requires { is_known types.now ty ≡ true }
+{
     let mut out = String::new(alloc);
-    let ty = joined(alloc, copy(alloc, ty)?)?;
-    show(alloc, &ty, &mut out)?;
+    let tree = tree_of(alloc, types, ty)?;
+    show(&tree, &mut out)?;
     Ok(out)
 }

@@ -1,12 +1,14 @@
 //! The types of contexts at places of files.
 
+ghost use Rattle.al_expr_typing.specs.Scopes.{IsShown};
+
 use crate::files::{document, env_at, nothing_known};
 use crate::shown::shown;
 use al_check_contexts::{Answer, Answers, Env, File};
 use al_check_places::places;
+use al_expr_types::{Name, NameList};
 use al_tree::FileKind;
-use al_tree_declarations::{Name, NameList};
-use al_types::{Context, Ty};
+use al_types::Context;
 use std::alloc::{AllocError, Global};
 
 /// A place's text, a context, and its type there.
@@ -71,14 +73,18 @@ runs:
 const DOCKER: &[u8] = b"runs: {using: docker, image: '${{ in-docker }}'}
 ";
 
-fn is_shown(alloc: Global, ty: &Ty, text: &str) -> Result<bool, AllocError> {
-    Ok(shown(alloc, ty)?.as_str() == text)
+/// Whether the type of a context is shown so.
+fn is_shown(alloc: Global, env: &Env<'_>, context: Context, text: &str) -> Result<bool, AllocError>
+    requires { IsShown env.now.types env.now.scope }
+{
+    let ty = env.scope.types.get(context);
+    Ok(shown(alloc, &env.types, ty)?.as_str() == text)
 }
 
 fn has_type(alloc: Global, file: File<'_>, told: &Told) -> Result<bool, AllocError> {
     let (at, context, ty) = told;
     match env_at(alloc, file, at)? {
-        Some(env) => is_shown(alloc, env.scope.types.get(*context), ty),
+        Some(env) => is_shown(alloc, &env, *context, ty),
         None => Ok(false),
     }
 }
@@ -367,14 +373,19 @@ fn is_github(text: &str) -> bool {
         && text.ends_with(" workspace: string}")
 }
 
-fn shows_github(alloc: Global, env: &Env<'_>) -> Result<bool, AllocError> {
-    let github = shown(alloc, env.scope.types.get(Context::Github))?;
+fn shows_github(alloc: Global, env: &Env<'_>) -> Result<bool, AllocError>
+    requires { IsShown env.now.types env.now.scope }
+{
+    let ty = env.scope.types.get(Context::Github);
+    let github = shown(alloc, &env.types, ty)?;
     Ok(is_github(github.as_str()))
 }
 
 fn has_github(alloc: Global, file: File<'_>) -> Result<bool, AllocError> {
-    let env = Env::new(alloc, file)?;
-    shows_github(alloc, &env)
+    match env_at(alloc, file, "${{ in-docker }}")? {
+        Some(env) => shows_github(alloc, &env),
+        None => Ok(false),
+    }
 }
 
 fn count_of_places(alloc: Global, file: File<'_>) -> Result<usize, AllocError> {

@@ -23,7 +23,7 @@ use al_scalar::{FaultAt, ScalarRead};
 use al_yaml_parts::content::{Next, is_dash, is_skipped, next_content};
 use al_yaml_parts::faults::ReadError;
 use al_yaml_parts::file::{File, Progress};
-use al_yaml_parts::flow_nodes::completed;
+use al_yaml_parts::flow_nodes::complete;
 use al_yaml_parts::frames::{BlockFrame, BlockStart, BlockWaiting};
 use al_yaml_parts::keys::Key;
 use al_yaml_parts::limits::State;
@@ -122,12 +122,12 @@ fn find_below(
     let found = next_content(file.bytes, at)?;
     let Next::Line { indent, at: first } = found else {
         let empty = empty_part(file, state, slot.empty, at)?;
-        let part = completed(file, state, anchor, empty)?;
+        let part = complete(file, state, anchor, empty)?;
         return Ok(BlockTask::Found(PartBefore { part, next: found }));
     };
     if !is_deeper(file.bytes, slot, indent, first) {
         let empty = empty_part(file, state, slot.empty, at)?;
-        let part = completed(file, state, anchor, empty)?;
+        let part = complete(file, state, anchor, empty)?;
         return Ok(BlockTask::Found(PartBefore { part, next: found }));
     }
     Ok(BlockTask::Node {
@@ -241,7 +241,7 @@ fn put_block_item(
     items.push(part.node)?;
     let Some(at) = entry_on(file.bytes, begun.start.column, next)? else {
         let part = sequence_part(items, begun.start.at, part.end, part.next);
-        let part = completed(file, &mut progress.state, begun.anchor, part)?;
+        let part = complete(file, &mut progress.state, begun.anchor, part)?;
         return Ok(BlockTask::Found(PartBefore { part, next }));
     };
     if is_dash(file.bytes, at) {
@@ -254,7 +254,7 @@ fn put_block_item(
     }
     if in_mapping {
         let part = sequence_part(items, begun.start.at, part.end, part.next);
-        let part = completed(file, &mut progress.state, begun.anchor, part)?;
+        let part = complete(file, &mut progress.state, begun.anchor, part)?;
         return Ok(BlockTask::Found(PartBefore { part, next }));
     }
     no_entry(file, progress, at)?;
@@ -292,7 +292,7 @@ fn put_block_entry(
     entries.push(entry_of(key, part.node))?;
     let Some(at) = entry_on(file.bytes, begun.start.column, next)? else {
         let part = mapping_part(entries, begun.start.at, part.end, part.next);
-        let part = completed(file, &mut progress.state, begun.anchor, part)?;
+        let part = complete(file, &mut progress.state, begun.anchor, part)?;
         return Ok(BlockTask::Found(PartBefore { part, next }));
     };
     let key = entry_key(file, progress, at)?;

@@ -22,7 +22,7 @@ use al_yaml_parts::anchors::{has_no_name, property_end};
 use al_yaml_parts::content::{is_dash, line_ended};
 use al_yaml_parts::faults::ReadError;
 use al_yaml_parts::file::{File, Progress};
-use al_yaml_parts::flow_nodes::{completed, read_alias};
+use al_yaml_parts::flow_nodes::{complete, read_alias};
 use al_yaml_parts::keys::{Key, has_colon, is_on_key, is_short_key, key_at};
 use al_yaml_parts::lines::same_line;
 use al_yaml_parts::part::Part;
@@ -111,17 +111,17 @@ pub fn read_node(
     }
     if is_flow_start(file.bytes, start.at) {
         let part = read_line_flow(file, progress, slot.spot, start.at)?;
-        let part = completed(file, &mut progress.state, anchor, part)?;
+        let part = complete(file, &mut progress.state, anchor, part)?;
         return Ok(BlockTask::Read(part));
     }
     if is_no_key(file.bytes, slot.spot, start.at) {
         let part = read_line_scalar(file, &mut progress.state, slot.within, start.at)?;
-        let part = completed(file, &mut progress.state, anchor, part)?;
+        let part = complete(file, &mut progress.state, anchor, part)?;
         return Ok(BlockTask::Read(part));
     }
     let Some(key) = key_at(file, start.at)? else {
         let part = read_line_scalar(file, &mut progress.state, slot.within, start.at)?;
-        let part = completed(file, &mut progress.state, anchor, part)?;
+        let part = complete(file, &mut progress.state, anchor, part)?;
         return Ok(BlockTask::Read(part));
     };
     begin_mapping(file, progress, slot.spot, start, anchor, key)

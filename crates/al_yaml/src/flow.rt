@@ -27,7 +27,7 @@ use al_yaml_parts::content::gap;
 use al_yaml_parts::faults::ReadError;
 use al_yaml_parts::file::{File, Progress};
 use al_yaml_parts::flow_nodes::{
-    Bracket, Found, FoundKey, completed, read_flow_key, read_flow_property, read_flow_scalar,
+    Bracket, Found, FoundKey, complete, read_flow_key, read_flow_property, read_flow_scalar,
     read_flow_value,
 };
 use al_yaml_parts::frames::{FlowFrame, Open, OpenMapping};
@@ -377,7 +377,7 @@ pub fn read_flow_collection(
                 };
                 opening = frame.opening;
                 has = frame.has;
-                let part = completed(file, &mut progress.state, frame.inner.anchor, part)?;
+                let part = complete(file, &mut progress.state, frame.inner.anchor, part)?;
                 next = resume(file, opening, &mut has, frame.inner.at, part)?;
                 continue 'nodes;
             }
@@ -403,7 +403,7 @@ pub fn read_flow_collection(
         match first {
             After::Closes(end) => {
                 let part = closed_part(bracket.at, nothing, end);
-                let part = completed(file, &mut progress.state, bracket.anchor, part)?;
+                let part = complete(file, &mut progress.state, bracket.anchor, part)?;
                 next = resume(file, opening, &mut has, bracket.at, part)?;
             }
             After::GoesOn(inside) => {

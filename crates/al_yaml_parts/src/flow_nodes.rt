@@ -223,7 +223,7 @@ pub fn read_flow_property(
         gap(file.bytes, property_end(file.bytes, at)),
     )?;
     match found {
-        Found::Node(part) => Ok(Found::Node(completed(file, state, Some(at), part)?)),
+        Found::Node(part) => Ok(Found::Node(complete(file, state, Some(at), part)?)),
         Found::Opens(bracket) => Ok(Found::Opens(Bracket {
             at: bracket.at,
             anchor: Some(at),
@@ -233,7 +233,7 @@ pub fn read_flow_property(
 
 /// A node that was read, with its anchor if it has one.
 #[inline(always)]
-pub fn completed(
+pub fn complete(
     file: &File,
     state: &mut State,
     anchor: Option<usize>,

@@ -16,13 +16,13 @@ pub struct Part {
     pub next: usize,
 }
 
-/// The same elements in as much memory as they take: a list that grows has room for more, and mappings of one entry or two are many.
-fn fitted<T>(elements: Vec<T>) -> Vec<T>
+/// The same elements in no more memory than they take: a list that grows has room for more, and mappings of one entry or two are many.
+fn shrink<T>(elements: Vec<T>) -> Vec<T>
     ensures { result.items ≡ elements.items }
 {
-    let mut fitted = elements;
-    fitted.shrink_to_fit();
-    fitted
+    let mut list = elements;
+    list.shrink_to_fit();
+    list
 }
 
 /// A sequence that was read from an offset to another one.
@@ -38,7 +38,7 @@ pub fn sequence_part(items: Vec<Node>, start: usize, end: usize, next: usize) ->
         end: end as u32,
     };
     Part {
-        node: sequence_node(fitted(items), span),
+        node: sequence_node(shrink(items), span),
         end,
         next,
     }
@@ -57,7 +57,7 @@ pub fn mapping_part(entries: Vec<Entry>, start: usize, end: usize, next: usize) 
         end: end as u32,
     };
     Part {
-        node: mapping_node(fitted(entries), span),
+        node: mapping_node(shrink(entries), span),
         end,
         next,
     }

@@ -29,7 +29,7 @@ use Rattle.al_check.specs.Sites.{file_sites, sites_given}
 use Rattle.al_check_calls.proofs.Inside.{call_faults_lie}
 use Rattle.al_check_calls.specs.Answers.{Answered, answered}
 use Rattle.al_check_calls.specs.FileCalls.{behind_faults, call_faults, known_by, typing}
-use Rattle.al_meaning.proofs.Inside.{both_lie}
+use Rattle.al_expr_typing.proofs.Inside.{both_lie}
 use Rattle.al_rules.proofs.Lying.{rules_lie}
 use Rattle.al_tree.specs.Faults.{root_faults}
 use Rattle.al_check.specs.FileFaults.{Answers, document_faults, faults_given, file_faults, found_in, own_faults, printed, wrong_uses_in}

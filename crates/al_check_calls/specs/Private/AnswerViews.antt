@@ -1,9 +1,12 @@
 -- What the program's calls, values and answers stand for.
-use Rattle.std.specs.Prelude.{ℕ, List, [], ◌∷◌, drop, Option, option_and_then, option_map, slice_get}
-use Rattle.std.specs.List.{cons_option}
+use Rattle.std.specs.Prelude.{ℕ, List, [], ◌∷◌, Bool, drop, Option, option_and_then, option_map, slice_get}
+use Rattle.std.specs.List.{cons_option, list_all}
 use Rattle.std.specs.Option.{option_copied}
 use Rattle.al_tree.specs.Values.{member_of, scalar_node_of}
-use Rattle.al_types.specs.TypeViews.{ty_of}
+use Rattle.al_types.specs.Types.{Parts}
+use Rattle.al_expr_types.specs.Tables.{is_known, objects_of}
+use Rattle.al_expr_types.specs.Types.{type_in}
+use Rattle.al_expr_types.specs.declared.types.Types.{Types}
 use Rattle.al_check_interfaces.specs.declared.interfaces.Interface.{Interface}
 use Rattle.al_check_interfaces.specs.Private.CallViews.{site_of}
 use Rattle.al_check_interfaces.specs.Uses.{Call, Site, call_at, call_by}
@@ -16,8 +19,16 @@ use Rattle.al_check_calls.specs.declared.comparisons.Comparison as code_comparis
 use Rattle.al_check_calls.specs.declared.undefined.GivenName as code_names
 use Rattle.al_check_calls.specs.declared.wrong_types.Value as code_values
 
-abbrev pub given_of : code_values.Value → Given
-given_of v = (member_of v.member, ty_of v.ty)
+-- a value with its type, by the objects of a table
+abbrev pub given_in : List Parts → code_values.Value → Given
+given_in ms v = (member_of v.member, type_in ms v.ty)
+
+abbrev pub given_at : Types → code_values.Value → Given
+given_at types v = given_in (objects_of types) v
+
+-- whether the types of values are those of the table
+abbrev pub are_values_known : Types → List code_values.Value → Bool
+are_values_known types vs = list_all (λ v. is_known types v.ty) vs
 
 abbrev pub call_of : code_calls.SiteCall → Call
 call_of c = call_by (site_of c.site) (scalar_node_of c.uses)

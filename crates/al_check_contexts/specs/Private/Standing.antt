@@ -1,26 +1,29 @@
 -- What holds of an environment that stands at a position of a file.
-use Rattle.std.specs.Prelude.{◌≡◌, map, option_map}
-use Rattle.al_types.specs.TypeViews.{ty_of}
+use Rattle.std.specs.Prelude.{◌≡◌, map}
 use Rattle.al_yaml_tree.specs.View.{view}
 use Rattle.al_tree.specs.Values.{member_of}
 use Rattle.al_tree.specs.Files.{jobs_of}
 use Rattle.al_check_places.specs.Positions.{before, section_view}
+use Rattle.al_check_contexts.specs.Fixed.{strategy_type}
+use Rattle.al_check_contexts.specs.Private.Environment.{owner_in}
 use Rattle.al_check_contexts.specs.Answered.{known_of}
-use Rattle.al_check_contexts.specs.Private.Environment.{Fixed, OfSection, owned, owner_in, owner_view}
-use Rattle.al_check_contexts.specs.Private.LikeFields.{AreIncluded, step_at}
-use Rattle.al_check_contexts.specs.Private.Lookups.{known_by}
-use Rattle.al_check_contexts.specs.Private.ShownJobs.{Keeps}
+use Rattle.al_check_contexts.specs.Private.Lookups.{known_by, step_at}
+use Rattle.al_check_contexts.specs.Private.Made.{KeepsJobs}
+use Rattle.al_check_contexts.specs.Private.Numbers.{Keeps, Means}
+use Rattle.al_check_contexts.specs.Private.Steps.{ArePrefixes, AreStepsOf}
+use Rattle.al_check_contexts.specs.Private.Table.{Shows, table}
 use Rattle.al_check_contexts.specs.declared.env.Env.{Env}
 use Rattle.al_check_contexts.specs.declared.env.File.{File}
 
--- its jobs are the file's, as is what is known, its types are those of its section, `steps` shows as many steps as it has counted, and the
--- types that are said to leave what all its fields have in common as it is do so
+-- its jobs are the file's, as is what is known; the numbers of its contexts stand for the types of its section, of which as many steps are
+-- seen as it has counted; and what it has made and keeps is right
 pub record Stands (f : File) (e : Env) : Type 0 where
   pub members : map member_of e.jobs.members.items ≡ jobs_of (view f.root.now)
   pub known : known_by e.outputs ≡ known_of f.known
-  pub fixed : Fixed f e.scope.types
-  pub section : OfSection f e.scope.types (section_view e.section)
-  pub owner : option_map owner_view e.owner ≡ owner_in f.kind (view f.root.now) (section_view e.section)
-  pub steps : ty_of e.scope.types.steps ≡ owned (known_of f.known) (option_map owner_view e.owner) (before e.seen)
-  pub shown : Keeps e.outputs (map member_of e.jobs.members.items) e.shown
-  pub included : AreIncluded (step_at e.outputs) e.included (ty_of e.scope.types.steps)
+  pub shows : Shows e.types e.scope.types
+      (table f.kind (known_by e.outputs) (view f.root.now) (section_view e.section) (before e.seen))
+  pub steps : AreStepsOf e.types (known_by e.outputs) (owner_in f.kind (view f.root.now) (section_view e.section)) e.steps
+  pub prefixes : ArePrefixes e.types e.steps
+  pub strategy : Means e.types e.strategy strategy_type
+  pub job_types : KeepsJobs e.types e.outputs (map member_of e.jobs.members.items) e.job_types
+  pub step_types : Keeps e.types (step_at e.outputs) e.step_types

@@ -1,6 +1,5 @@
-use Rattle.std.proofs.Common.{◌≡◌, ap, ◌∙◌, map, subst}
-use Rattle.std.specs.Prelude.{IfOk, codes}
-use Rattle.al_check_calls.specs.Private.AnswerViews.{given_of}
+use Rattle.std.proofs.Common.{◌≡◌, ap, ◌∙◌, map}
+use Rattle.std.specs.Prelude.{codes}
 use Rattle.al_check_calls.specs.CallFaults.{values_of}
 use Rattle.al_check_contexts.specs.Answered.{known_of}
 use Rattle.al_tree.specs.Values.{entries_at, member_of}
@@ -19,4 +18,4 @@ returns-clause-values c =
     let given : map member_of c.as_slice.result.now ≡ entries_at (codes "with") (view c.args.call.site.node.now) =
     ap (map member_of) c.as_slice.ensures.value ∙ c.in_ok-given.ensures in
     let job = c.text_or_empty-job.ensures in
-    subst (λ l. IfOk c.values_given.result (λ v. map given_of v.items ≡ l)) (λ i. values_of (type_in_job c.args.file.kind known root (job i)) (given i)) c.values_given.ensures.values
+    c.in_ok-values.ensures.values ∙ λ i. values_of (type_in_job c.args.file.kind known root (job i)) (given i)

@@ -1,5 +1,5 @@
-use Rattle.std.proofs.Common.{◌≡◌, ◌++◌, drop, map}
-use Rattle.al_check_calls.specs.Private.AnswerViews.{given_of}
+use Rattle.std.proofs.Common.{◌≡◌, map, take, true}
+use Rattle.al_check_calls.specs.Private.AnswerViews.{are_values_known, given_at}
 use Rattle.al_check_calls.specs.CallFaults.{values_of}
 use Rattle.al_check_contexts.specs.Answered.{known_of}
 use Rattle.al_check_contexts.specs.Private.Standing.{Stands}
@@ -9,7 +9,9 @@ use Rattle.al_yaml_tree.specs.View.{view}
 use Rattle.al_check_calls.proofs.values.values_given.Given as goal
 
 abbrev pub invariant-loop-member : goal.invariant-loop-member
-invariant-loop-member l =
-    Stands l.file l.env
-    × (map given_of l.values.items ++ values_of (type_in_job l.file.kind (known_of l.file.known) (view l.file.root.now) l.job) (map member_of (drop l.member-index l.given))
-    ≡ values_of (type_in_job l.file.kind (known_of l.file.known) (view l.file.root.now) l.job) (map member_of l.given))
+invariant-loop-member l = record {
+  stands : Stands l.file l.env;
+  known : are_values_known l.env.types l.values.items ≡ true;
+  values : map (given_at l.env.types) l.values.items
+      ≡ values_of (type_in_job l.file.kind (known_of l.file.known) (view l.file.root.now) l.job) (map member_of (take l.member-index l.given));
+}

@@ -1,45 +1,60 @@
-use Rattle.std.proofs.Common.{ap, ◌∙◌, map, option_map, rules}
-use Rattle.al_types.specs.TypeViews.{ty_of}
+use Rattle.std.proofs.Common.{map, option_map, subst}
+use Rattle.al_base.proofs.Growing.{begins_trans}
+use Rattle.al_check_places.specs.Positions.{before, section_view}
+use Rattle.al_check_contexts.specs.Fixed.{strategy_type}
+use Rattle.al_check_contexts.specs.Private.Environment.{owner_of}
 use Rattle.al_tree.specs.Values.{member_of}
-use Rattle.al_check_places.specs.Positions.{section_view}
 use Rattle.al_yaml_tree.specs.View.{view}
-use Rattle.al_check_contexts.specs.Contexts.{needs_type_of, type_in_job}
-use Rattle.al_check_contexts.specs.Private.Environment.{jobs_shown}
-use Rattle.al_check_contexts.specs.Private.LikeFields.{step_at}
-use Rattle.al_check_contexts.proofs.Sections.{of_workflow, some_strategy}
+use Rattle.al_expr_types.specs.Tables.{objects_of}
+use Rattle.al_check_contexts.specs.Private.Lookups.{known_by, step_at}
+use Rattle.al_check_contexts.specs.Private.Steps.{AreStepsOf}
+use Rattle.al_check_contexts.proofs.JobLemmas.{keeps_jobs_stay}
+use Rattle.al_check_contexts.proofs.Numbers.{keeps_stays, means_stays}
+use Rattle.al_check_contexts.proofs.TableLemmas.{owner_of_workflow, section_changed, section_stays}
 use Rattle.al_check_contexts.proofs.env.enter_workflow.Goals as goal
+
+pub section_steps-requires : goal.section_steps-requires
+section_steps-requires c =
+    let env = c.args.env.now in
+    keeps_stays c.section_types.new.types env.types (step_at env.outputs) env.step_types c.in_ok-made.ensures.kept c.requires.stands.step_types
 
 pub returns-clause-stands : goal.returns-clause-stands
 returns-clause-stands c =
-    let js = map member_of c.args.env.now.jobs.members.items in
+    let env = c.args.env.now in
+    let was = c.requires.stands in
+    let known = known_by env.outputs in
+    let kind = c.args.file.kind in
+    let root = view c.args.file.root.now in
+    let js = map member_of env.jobs.members.items in
     let job = option_map member_of c.job_of-job.result in
-    let s = section_view c.args.section in
+    let there = section_view c.args.section in
+    let one = c.section_types.new.types in
+    let two = c.section_steps.new.types in
+    let now = c.first.new.types in
+    let made = c.in_ok-made.ensures in
+    let steps = c.in_ok-steps.ensures in
+    let seen = c.in_ok-none_seen.ensures in
+    let from_one = begins_trans (objects_of one) (objects_of two) (objects_of now) steps.kept seen.kept in
+    let kept = begins_trans (objects_of env.types) (objects_of one) (objects_of now) made.kept from_one in
     record {
-      members = c.requires.stands.members;
-      known = c.requires.stands.known;
-      fixed = record {
-        github = c.requires.stands.fixed.github;
-        env = c.requires.stands.fixed.env;
-        vars = c.requires.stands.fixed.vars;
-        secrets = c.requires.stands.fixed.secrets;
-        runner = c.requires.stands.fixed.runner;
-        job = c.requires.stands.fixed.job;
-        inputs = c.requires.stands.fixed.inputs;
-      };
-      section = of_workflow c.args.file _ s js job c.requires.kind c.requires.stands.members c.job_of-job.ensures c.in_ok-strategy.ensures
-          (c.in_ok-needs.ensures.ty ∙ ap (λ k. type_in_job (λ j. needs_type_of k js j.1) job) c.requires.stands.known)
-          (c.in_ok-jobs.ensures ∙ ap (λ k. jobs_shown k js s) c.requires.stands.known) c.in_ok-matrix.ensures;
-      owner = search rules;
-      steps = search rules;
-      shown = c.in_ok-needs.ensures.keeps;
-      included = c.new.ensures (step_at c.args.env.now.outputs) (ty_of c.in_ok-steps.steps);
+      members = was.members;
+      known = was.known;
+      shows = section_changed now env.types env.scope.types c.in_ok-made.made c.in_ok-none_seen.none_seen kind known root js job (section_view env.section) there
+          (before env.seen) c.requires.kind was.members c.job_of-job.ensures kept
+          (section_stays now one known js there job c.in_ok-made.made from_one made.types) (seen.ty known (option_map owner_of job) steps.steps) was.shows;
+      steps = subst (λ o. AreStepsOf now known o c.first.new.self) (owner_of_workflow kind root js job there c.requires.kind was.members c.job_of-job.ensures)
+          (seen.steps known (option_map owner_of job) steps.steps);
+      prefixes = seen.prefixes;
+      strategy = means_stays now env.types env.strategy strategy_type kept was.strategy;
+      job_types = keeps_jobs_stay now one env.outputs js c.section_types.new.made from_one made.keeps;
+      step_types = keeps_stays now two (step_at env.outputs) c.section_steps.new.made seen.kept steps.keeps;
     }
 
-pub strategy_at-requires : goal.strategy_at-requires
-strategy_at-requires c =
+pub returns-clause-kept : goal.returns-clause-kept
+returns-clause-kept c =
     let env = c.args.env.now in
-    some_strategy c.args.file.kind (view c.args.file.root.now) (section_view env.section) _
-    (ap ty_of c.replace-kept.ensures.value ∙ c.requires.stands.section.strategy)
-
-pub needs_at-requires : goal.needs_at-requires
-needs_at-requires c = record { keeps = c.requires.stands.shown }
+    let one = c.section_types.new.types in
+    let two = c.section_steps.new.types in
+    let now = c.first.new.types in
+    begins_trans (objects_of env.types) (objects_of one) (objects_of now) c.in_ok-made.ensures.kept
+    (begins_trans (objects_of one) (objects_of two) (objects_of now) c.in_ok-steps.ensures.kept c.in_ok-none_seen.ensures.kept)

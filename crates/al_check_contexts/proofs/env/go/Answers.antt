@@ -1,16 +1,22 @@
-use Rattle.std.proofs.Common.{ap, ◌∙◌}
+use Rattle.std.proofs.Common.{subst}
+use Rattle.al_base.proofs.Growing.{begins_trans}
+use Rattle.al_check_places.specs.Positions.{section_view, seen_view}
 use Rattle.al_yaml_tree.specs.View.{view}
-use Rattle.al_check_places.specs.Positions.{position_view, seen_view}
-use Rattle.al_check_contexts.specs.Answered.{known_of}
-use Rattle.al_check_contexts.specs.Private.Environment.{owned, owner_in}
-use Rattle.al_check_contexts.proofs.Sections.{all_types}
+use Rattle.al_expr_types.specs.Tables.{objects_of}
+use Rattle.al_check_contexts.specs.Private.Lookups.{known_by}
+use Rattle.al_check_contexts.specs.Private.Table.{Shows, table}
 use Rattle.al_check_contexts.proofs.env.go.Goals as goal
 
-pub returns-clause-types : goal.returns-clause-types
-returns-clause-types c =
-    let f = c.args.file in
-    let here = c.in_ok-see.ensures.same ∙ c.in_ok-enter.ensures.same in
-    let section = rw here at c.in_ok-see.ensures.stands.section in
-    let owner = c.in_ok-see.ensures.stands.owner ∙ ap (owner_in f.kind (view f.root.now)) here in
-    all_types f _ (position_view c.args.position) c.in_ok-see.ensures.stands.fixed section
-    (c.in_ok-see.ensures.seen ∙ ap (λ o. owned (known_of f.known) o (seen_view c.args.position.seen)) owner)
+pub returns-clause-shows : goal.returns-clause-shows
+returns-clause-shows c =
+    let now = c.see.new.env in
+    let kind = c.args.file.kind in
+    let root = view c.args.file.root.now in
+    let seen = seen_view c.args.position.seen in
+    subst (λ k. Shows now.types now.scope.types (table kind k root (section_view c.args.position.section) seen)) c.in_ok-see.ensures.stands.known
+    (subst (λ s. Shows now.types now.scope.types (table kind (known_by now.outputs) root s seen)) c.in_ok-enter.ensures.same c.in_ok-see.ensures.shows)
+
+pub returns-clause-kept : goal.returns-clause-kept
+returns-clause-kept c =
+    begins_trans (objects_of c.args.env.now.types) (objects_of c.enter.new.env.types) (objects_of c.see.new.env.types) c.in_ok-enter.ensures.kept
+    c.in_ok-see.ensures.kept

@@ -1,58 +1,49 @@
-use Rattle.std.proofs.Common.{◌∙◌, ap, subst, sym, Some}
-use Rattle.std.specs.Prelude.{option_map}
-use Rattle.std.specs.Option.{option_copied}
-use Rattle.al_check_places.specs.Positions.{before, seen_view}
-use Rattle.al_types.specs.TypeViews.{ty_of}
-use Rattle.al_check_contexts.specs.Answered.{known_of}
-use Rattle.al_check_contexts.specs.Contexts.{steps_fields}
-use Rattle.al_check_contexts.specs.Objects.{strictly}
-use Rattle.al_types.specs.Puts.{firsts}
-use Rattle.al_check_contexts.specs.Private.Environment.{owned, owner_view}
-use Rattle.al_check_contexts.specs.Private.LikeFields.{AreIncluded, step_at}
-use Rattle.al_check_contexts.specs.Private.Lookups.{known_by}
+use Rattle.std.proofs.Common.{map}
+use Rattle.al_check_places.specs.Positions.{before, section_view, seen_view}
+use Rattle.al_check_contexts.specs.Fixed.{strategy_type}
+use Rattle.al_check_contexts.specs.Private.Environment.{owner_in}
+use Rattle.al_tree.specs.Values.{member_of}
+use Rattle.al_yaml_tree.specs.View.{view}
+use Rattle.al_check_contexts.specs.Private.Lookups.{known_by, step_at}
+use Rattle.al_check_contexts.proofs.JobLemmas.{keeps_jobs_stay}
+use Rattle.al_check_contexts.proofs.Numbers.{keeps_stays, means_stays}
+use Rattle.al_check_contexts.proofs.TableLemmas.{same_seen, steps_changed}
 use Rattle.al_check_contexts.proofs.env.see.Goals as goal
 
-pub seen_steps-requires-clause-shown : goal.seen_steps-requires-clause-shown
-seen_steps-requires-clause-shown c =
+pub returns-clause-stands : goal.returns-clause-stands
+returns-clause-stands c =
     let env = c.args.env.now in
-    ap ty_of c.replace-shown.ensures.value ∙ c.requires.steps
-    ∙ ap (λ k. owned k (option_map owner_view env.owner) (before env.seen)) (sym c.requires.known)
-    ∙ ap (λ o. owned (known_by env.outputs) (option_map owner_view o) (before env.seen)) c.in-Some.is
-
-pub seen_steps-requires-clause-included : goal.seen_steps-requires-clause-included
-seen_steps-requires-clause-included c =
-    let env = c.args.env.now in
-    subst (AreIncluded (step_at env.outputs) env.included) (sym (ap ty_of c.replace-shown.ensures.value)) c.requires.included
-
-pub returns-in_ok-steps-in-Some-clause-stands : goal.returns-in_ok-steps-in-Some-clause-stands
-returns-in_ok-steps-in-Some-clause-stands c =
-    let env = c.args.env.now in
-    let count = c.seen_count-count.result in
-    let r = c.requires in
+    let was = c.requires in
+    let known = known_by env.outputs in
+    let root = view c.args.file.root.now in
+    let section = section_view env.section in
+    let owner = owner_in c.args.file.kind root section in
+    let now = c.first.new.types in
+    let made = c.in_ok-steps.ensures in
     record {
-      members = r.members;
-      known = r.known;
-      fixed = record {
-        github = r.fixed.github;
-        env = r.fixed.env;
-        vars = r.fixed.vars;
-        secrets = r.fixed.secrets;
-        runner = r.fixed.runner;
-        job = r.fixed.job;
-        inputs = r.fixed.inputs;
-      };
-      section = record { strategy = r.section.strategy; needs = r.section.needs; jobs = r.section.jobs; matrix = r.section.matrix };
-      owner = r.owner;
-      steps = c.in_ok-steps-in-Some.ensures.ty ∙ ap (λ k. owned k (Some (owner_view c.in-Some.owner)) (before count)) r.known
-          ∙ ap (λ o. owned (known_of c.args.file.known) (option_map owner_view o) (before count)) (sym c.in-Some.is);
-      shown = r.shown;
-      included = c.in_ok-steps-in-Some.ensures.included;
+      members = was.members;
+      known = was.known;
+      shows = steps_changed now env.types env.scope.types c.in_ok-steps.steps c.args.file.kind known root section (before env.seen)
+          (before c.seen_count-count.result) made.kept (made.ty known owner was.steps) was.shows;
+      steps = made.steps known owner was.steps;
+      prefixes = made.prefixes;
+      strategy = means_stays now env.types env.strategy strategy_type made.kept was.strategy;
+      job_types = keeps_jobs_stay now env.types env.outputs (map member_of env.jobs.members.items) env.job_types made.kept was.job_types;
+      step_types = keeps_stays now env.types (step_at env.outputs) env.step_types made.kept was.step_types;
     }
 
-pub returns-in_ok-steps-in-Some-clause-seen : goal.returns-in_ok-steps-in-Some-clause-seen
-returns-in_ok-steps-in-Some-clause-seen c =
-    let owner = c.in-Some.owner in
-    let known = known_of c.args.file.known in
-    c.in_ok-steps-in-Some.ensures.ty ∙ ap (λ k. owned k (Some (owner_view owner)) (before c.seen_count-count.result)) c.requires.known
-    ∙ ap (λ ss. strictly (firsts (steps_fields known (option_copied owner.job) 0 ss))) (sym c.seen_count-count.ensures.count)
-    ∙ ap (λ o. owned known (option_map owner_view o) (seen_view c.args.seen)) (sym c.in-Some.is)
+pub returns-clause-shows : goal.returns-clause-shows
+returns-clause-shows c =
+    let env = c.args.env.now in
+    let was = c.requires in
+    let known = known_by env.outputs in
+    let root = view c.args.file.root.now in
+    let section = section_view env.section in
+    let owner = owner_in c.args.file.kind root section in
+    let now = c.first.new.types in
+    let made = c.in_ok-steps.ensures in
+    let count = c.seen_count-count.result in
+    same_seen now (record env.scope.types { steps = c.in_ok-steps.steps }) c.args.file.kind known root section (before count) (seen_view c.args.seen)
+    (c.seen_count-count.ensures.seen env.types known owner was.steps)
+    (steps_changed now env.types env.scope.types c.in_ok-steps.steps c.args.file.kind known root section (before env.seen) (before count) made.kept
+    (made.ty known owner was.steps) was.shows)

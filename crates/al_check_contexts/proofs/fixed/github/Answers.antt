@@ -1,22 +1,25 @@
-use Rattle.std.proofs.Common.{◌≡◌, ◌∷◌, ◌++◌, ◌∙◌, IfOk, [], ap, map, subst}
+use Rattle.std.proofs.Common.{[], ◌∷◌, ap}
 use Rattle.std.specs.Prelude.{codes}
+use Rattle.al_types.specs.Puts.{put_all, put_new}
 use Rattle.al_types.specs.Strings.{strings}
 use Rattle.al_types.specs.Types.{Any, Bool'}
-use Rattle.al_types.specs.TypeViews.{ty_of}
-use Rattle.al_types.specs.Private.TypeParts.{field_of}
-use Rattle.al_check_contexts.specs.Fixed.{github_names}
 use Rattle.al_check_contexts.specs.Objects.{strictly}
-use Rattle.al_types.specs.Puts.{Typed}
+use Rattle.al_check_contexts.proofs.Numbers.{any_means, means_as}
 use Rattle.al_check_contexts.proofs.fixed.github.Goals as goal
 
-pub returns : goal.returns
-returns c =
-    let event : Typed = (codes "event", Any) in
-    let ref : Typed = (codes "ref_protected", Bool') in
-    let first : map field_of c.add_field.new.fields.items ≡ event ∷ [] =
-    c.in_ok-add_field.ensures ∙ ap (λ fs. map field_of fs ++ event ∷ []) c.new-fields.ensures.items in
-    let both : map field_of c.add_field-2.new.fields.items ≡ event ∷ ref ∷ [] = c.in_ok-add_field-2.ensures ∙ ap (λ fs. fs ++ ref ∷ []) first in
-    let all : map field_of c.add_strings.new.fields.items ≡ event ∷ ref ∷ strings github_names =
-    c.in_ok-add_strings.ensures ∙ ap (λ fs. fs ++ strings (map (λ n. n.now) c.github_names.result.now)) both
-    ∙ ap (λ ns. event ∷ ref ∷ strings ns) c.github_names.ensures in
-    subst (λ fs. IfOk c.strict_of.result (λ t. ty_of t ≡ strictly fs)) all c.strict_of.ensures
+pub into_type-requires-clause-fields : goal.into_type-requires-clause-fields
+into_type-requires-clause-fields c =
+    let types = c.args.types.now in
+    let event = c.in_ok-event.ensures types [] Any (c.new.ensures types) (any_means types) in
+    let both = c.in_ok-both.ensures types _ Bool' event (c.scalar.ensures types) in
+    let named = c.in_ok-all.ensures types _ both in
+    named.known
+
+pub returns-clause-ty : goal.returns-clause-ty
+returns-clause-ty c =
+    let types = c.args.types.now in
+    let event = c.in_ok-event.ensures types [] Any (c.new.ensures types) (any_means types) in
+    let both = c.in_ok-both.ensures types _ Bool' event (c.scalar.ensures types) in
+    let named = c.in_ok-all.ensures types _ both in
+    let first = (codes "event", Any) ∷ (codes "ref_protected", Bool') ∷ [] in
+    means_as c.into_type.new.types c.in_ok-ty.ty _ _ (ap (λ ns. strictly (put_all put_new first (strings ns))) c.github_names.ensures) (c.in_ok-ty.ensures.ty _ named)

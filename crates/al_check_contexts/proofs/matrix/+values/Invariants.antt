@@ -1,15 +1,25 @@
-use Rattle.std.proofs.Common.{◌≡◌, drop, map, option_map, None, []}
-use Rattle.al_types.specs.TypeViews.{ty_of}
-use Rattle.al_types.specs.Private.TypeParts.{field_of}
+use Rattle.std.proofs.Common.{◌≡◌, [], drop, length, map, None, true}
+use Rattle.al_base.specs.Growth.{BeginsWith}
+use Rattle.al_types.specs.Types.{option_of}
 use Rattle.al_yaml_tree.specs.View.{entries_of, entry_view, nodes_of, view}
+use Rattle.al_expr_types.specs.Joining.{is_join_below, join_in}
+use Rattle.al_expr_types.specs.Tables.{objects_of}
 use Rattle.al_check_contexts.specs.Matrix.{entries_types, items_type}
+use Rattle.al_check_contexts.specs.Private.Numbers.{fields_in, is_map_below}
 use Rattle.al_check_contexts.proofs.matrix.+values.Given as goal
 
-abbrev pub invariant-common_type-loop-node : goal.invariant-common_type-loop-node
-invariant-common_type-loop-node l =
-    items_type (option_map ty_of l.sofar) (nodes_of (map view (drop l.node-index l.nodes))) ≡ items_type None (nodes_of (map view l.nodes))
+abbrev pub invariant-items_type-loop-node : goal.invariant-items_type-loop-node
+invariant-items_type-loop-node l = record {
+  all : items_type (option_of (join_in (objects_of l.types) l.all)) (nodes_of (map view (drop l.node-index l.nodes)))
+      ≡ items_type None (nodes_of (map view l.nodes));
+  below : is_join_below (length l.types.objects.items) l.all ≡ true;
+  kept : BeginsWith (objects_of l.types) (objects_of l.fn.types);
+}
 
-abbrev pub invariant-entry_fields-loop-entry : goal.invariant-entry_fields-loop-entry
-invariant-entry_fields-loop-entry l =
-    entries_types (map field_of l.fields.fields.items) (entries_of (map entry_view (drop l.entry-index l.entries)))
-    ≡ entries_types [] (entries_of (map entry_view l.entries))
+abbrev pub invariant-entries_type-loop-entry : goal.invariant-entries_type-loop-entry
+invariant-entries_type-loop-entry l = record {
+  all : entries_types (fields_in (objects_of l.types) l.fields.map) (entries_of (map entry_view (drop l.entry-index l.entries)))
+      ≡ entries_types [] (entries_of (map entry_view l.entries));
+  known : is_map_below (length l.types.objects.items) l.fields.map ≡ true;
+  kept : BeginsWith (objects_of l.types) (objects_of l.fn.types);
+}

@@ -2,7 +2,7 @@ use Rattle.std.proofs.Common.{◌≡◌, ◌++◌, ◌∷◌, [], ap, sym, ◌�
 use Rattle.std.specs.Option.{option_map_or}
 use Rattle.al_expr_grammar.specs.Refusal.{Spells, fault_of_content}
 use Rattle.al_expr_grammar.specs.View.{tree_of}
-use Rattle.al_types.specs.Scopes.{scope_of}
+use Rattle.al_expr_typing.specs.Scopes.{scope_at}
 use Rattle.al_check_expressions.specs.Contents.{content_faults, tree_faults}
 use Rattle.al_check_expressions.specs.Spelled.{tree_of_content}
 use Rattle.al_check_expressions.proofs.Spelling.{spelled}
@@ -11,7 +11,7 @@ use Rattle.al_check_expressions.proofs.contents.check_content.Goals as goal
 pub returns-in-Ok-clause-ok : goal.returns-in-Ok-clause-ok
 returns-in-Ok-clause-ok c =
     let content = c.args.content.now in
-    let sc = scope_of c.args.scope.now in
+    let sc = scope_at c.args.types.now c.args.scope.now in
     let faults = tree_faults sc c.args.is_alone c.args.is_scalar_only in
     let gives : Spells content (tree_of c.in-Ok.expr) = rw c.in-Ok.is at c.in_ok-expr.ensures.tree in
     let none : fault_of_content content ≡ None = rw c.in-Ok.is at c.in_ok-expr.ensures.none in

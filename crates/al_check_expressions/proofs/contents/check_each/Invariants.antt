@@ -2,13 +2,16 @@ use Rattle.std.proofs.Common.{◌≡◌, ◌++◌, drop, map}
 use Rattle.std.specs.List.{flat_map}
 use Rattle.al_base.specs.Growth.{BeginsWith}
 use Rattle.al_expr_grammar.specs.Chunks.{span_of_chunk}
-use Rattle.al_types.specs.Scopes.{scope_of}
+use Rattle.al_expr_types.specs.Tables.{objects_of}
+use Rattle.al_expr_typing.specs.Scopes.{IsShown, scope_at}
 use Rattle.al_check_expressions.specs.Contents.{chunk_faults}
 use Rattle.al_check_expressions.proofs.contents.check_each.Given as goal
 
 abbrev pub invariant-loop-chunk : goal.invariant-loop-chunk
 invariant-loop-chunk l = record {
-  all : l.out.items ++ flat_map (chunk_faults (scope_of l.scope) l.place.is_scalar_only l.place.scalar.now) (map span_of_chunk (drop l.chunk-index l.chunks))
-      ≡ l.fn.out.items ++ flat_map (chunk_faults (scope_of l.scope) l.place.is_scalar_only l.place.scalar.now) (map span_of_chunk l.chunks);
+  shown : IsShown l.types l.scope;
+  kept : BeginsWith (objects_of l.types) (objects_of l.fn.types);
+  all : l.out.items ++ flat_map (chunk_faults (scope_at l.fn.types l.scope) l.place.is_scalar_only l.place.scalar.now) (map span_of_chunk (drop l.chunk-index l.chunks))
+      ≡ l.fn.out.items ++ flat_map (chunk_faults (scope_at l.fn.types l.scope) l.place.is_scalar_only l.place.scalar.now) (map span_of_chunk l.chunks);
   begins : BeginsWith l.out.items l.fn.out.items;
 }

@@ -4,6 +4,7 @@ use Rattle.al_base.specs.Growth.{BeginsWith}
 use Rattle.al_check_contexts.specs.Answered.{known_of}
 use Rattle.al_check_contexts.specs.Private.Standing.{Stands}
 use Rattle.al_check_places.specs.Places.{place_of}
+use Rattle.al_expr_types.specs.Tables.{objects_of}
 use Rattle.al_yaml_tree.specs.View.{view}
 use Rattle.al_check_expressions.specs.FileExpressions.{faults_at}
 use Rattle.al_check_expressions.proofs.expressions.check_each.Given as goal
@@ -13,5 +14,6 @@ invariant-loop-place l = record {
   stands : Stands l.file l.env;
   all : l.out.items ++ flat_map (faults_at l.file.kind (known_of l.file.known) (view l.file.root.now)) (map place_of (drop l.place-index l.places))
       ≡ l.fn.out.items ++ flat_map (faults_at l.file.kind (known_of l.file.known) (view l.file.root.now)) (map place_of l.places);
+  kept : BeginsWith (objects_of l.env.types) (objects_of l.fn.env.types);
   begins : BeginsWith l.out.items l.fn.out.items;
 }

@@ -5,7 +5,7 @@ use Rattle.al_base.proofs.NamePlaces.{found_within}
 use Rattle.al_types.specs.FusedFields.{are_distinct}
 use Rattle.al_types.specs.Private.Indexes.{name_at, named_as}
 use Rattle.al_types.specs.Puts.{Typed}
-use Rattle.al_types.specs.TypeViews.{fuse_parts}
+use Rattle.al_types.specs.Fused.{fuse_parts}
 use Rattle.al_types.specs.Types.{Absent, Parts, fields_of, fuse_type, object_type, parts_with}
 use Rattle.al_types.proofs.Puts.{put_over}
 use Rattle.al_expr_trees.specs.Listings.{parts_in}

@@ -1,5 +1,5 @@
 use Rattle.std.proofs.Common.{◌≡◌, map, take}
-use Rattle.al_types.specs.TypeViews.{fuse_parts}
+use Rattle.al_types.specs.Fused.{fuse_parts}
 use Rattle.al_types.specs.Types.{Absent}
 use Rattle.al_expr_trees.specs.Listings.{parts_in}
 use Rattle.al_expr_trees.specs.Trees.{field_of, object_parts}

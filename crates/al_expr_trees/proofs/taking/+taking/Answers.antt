@@ -1,7 +1,7 @@
 use Rattle.std.proofs.Common.{◌≡◌, ◌<◌, ◌∷◌, ◌++◌, [], ℕ, ◌∙◌, ap, arith, get_or, length, map, sym, take}
 use Rattle.std.proofs.lemmas.List.{get_or_default, map-append}
 use Rattle.al_types.specs.FusedFields.{are_distinct}
-use Rattle.al_types.specs.TypeViews.{fuse_parts, fused}
+use Rattle.al_types.specs.Fused.{fuse_parts, fused}
 use Rattle.al_types.specs.Types.{Parts, fields_of, parts_with}
 use Rattle.al_types.proofs.FuseLaws.{fused_one_more}
 use Rattle.al_expr_types.specs.Names.{names_in}

@@ -1,6 +1,6 @@
 use Rattle.std.proofs.Common.{◌++◌, ◌∙◌, ap}
 use Rattle.al_expr_grammar.specs.View.{tree_of}
-use Rattle.al_meaning.specs.Meaning.{faults_in, meaning_of, type_in}
+use Rattle.al_expr_typing.specs.Meaning.{faults_in, meaning_of, type_in}
 use Rattle.al_expr_trees.proofs.typing.type_of.Goals as goal
 
 pub returns-clause-ty : goal.returns-clause-ty

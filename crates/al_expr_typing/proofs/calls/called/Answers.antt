@@ -1,5 +1,5 @@
 use Rattle.std.proofs.Common.{ap, ◌∙◌, append_assoc}
-use Rattle.al_meaning.specs.Meaning.{typed}
+use Rattle.al_expr_typing.specs.Meaning.{typed}
 use Rattle.al_base.proofs.Growing.{begins_trans}
 use Rattle.al_expr_typing.proofs.calls.called.Goals as goal
 

@@ -6,7 +6,7 @@ use Rattle.al_expr_types.specs.declared.ty.Base.TheVariants as base
 use Rattle.al_expr_types.specs.declared.ty.Scalar.TheVariants as scalar
 use Rattle.al_expr_typing.specs.Arguments.{argument_in}
 use Rattle.al_expr_typing.specs.declared.calls.Argument.{Argument}
-use Rattle.al_meaning.specs.Meaning.{wrong_arguments}
+use Rattle.al_expr_typing.specs.Meaning.{wrong_arguments}
 use Rattle.al_expr_typing.proofs.calls.check_types.Goals as goal
 
 pub loop-index-preserved : goal.loop-index-preserved

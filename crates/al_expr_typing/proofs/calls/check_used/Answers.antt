@@ -1,7 +1,7 @@
 use Rattle.std.proofs.Common.{◌≡◌, ℕ, List, [], ◌∷◌, ◌++◌, Bool, map, drop, refl, sym, ap, ◌∙◌, append-nil, arith}
 use Rattle.std.proofs.lemmas.List.{at_drop_all}
 use Rattle.al_expr_typing.specs.Arguments.{argument_in}
-use Rattle.al_meaning.specs.Meaning.{unused}
+use Rattle.al_expr_typing.specs.Meaning.{unused}
 use Rattle.al_base.proofs.Growing.{begins_trans}
 use Rattle.al_expr_typing.proofs.calls.check_used.Goals as goal
 

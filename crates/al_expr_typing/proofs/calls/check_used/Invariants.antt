@@ -2,7 +2,7 @@ use Rattle.std.proofs.Common.{◌≡◌, ◌++◌, List, map, drop}
 use Rattle.al_expr_typing.specs.Arguments.{argument_in}
 use Rattle.al_types.specs.Types.{Parts}
 use Rattle.al_base.specs.Growth.{BeginsWith}
-use Rattle.al_meaning.specs.Meaning.{unused}
+use Rattle.al_expr_typing.specs.Meaning.{unused}
 use Rattle.al_expr_typing.proofs.calls.check_used.Given as goal
 
 abbrev pub invariant-loop-index : goal.invariant-loop-index

@@ -2,8 +2,8 @@ use Rattle.std.proofs.Common.{[], ◌++◌, sym, ap, ◌∙◌}
 use Rattle.std.specs.Prelude.{not}
 use Rattle.al_base.specs.declared.codes.ExpressionCode.TheVariants as code
 use Rattle.al_expr_grammar.specs.Refusal.{fault}
-use Rattle.al_meaning.specs.Comparison.{comparable_types}
-use Rattle.al_meaning.specs.Meaning.{typed, give}
+use Rattle.al_expr_typing.specs.Comparison.{comparable_types}
+use Rattle.al_expr_typing.specs.Meaning.{typed, give}
 use Rattle.al_expr_types.specs.Joining.{join_in}
 use Rattle.al_expr_types.specs.Tables.{objects_of, type_at}
 use Rattle.al_expr_typing.specs.Chains.{type_so_far}

@@ -1,5 +1,5 @@
 use Rattle.std.proofs.Common.{◌≡◌, drop}
-use Rattle.al_meaning.specs.Placeholders.{used_arguments}
+use Rattle.al_expr_typing.specs.Placeholders.{used_arguments}
 use Rattle.al_expr_typing.specs.Private.PlaceholderStates.{used_from}
 use Rattle.al_expr_typing.specs.Private.PlaceholderViews.{IsSmall}
 use Rattle.al_expr_typing.proofs.placeholders.used_arguments.Given as goal

@@ -1,6 +1,6 @@
 use Rattle.std.proofs.Common.{◌≡◌, ◌-◌, ◌∙◌, suc, ap, arith}
 use Rattle.al_expr_types.specs.Types.{arrays_of, base_type, type_in}
-use Rattle.al_meaning.specs.Meaning.{behind, index_of}
+use Rattle.al_expr_typing.specs.Meaning.{behind, index_of}
 use Rattle.al_expr_typing.proofs.steps.element.Goals as goal
 
 pub returns-then-ty-gt0-clause-ok : goal.returns-then-ty-gt0-clause-ok

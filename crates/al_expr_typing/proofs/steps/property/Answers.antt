@@ -1,7 +1,7 @@
 use Rattle.std.proofs.Common.{◌∙◌, ap, sym}
 use Rattle.al_expr_types.specs.Tables.{objects_of}
 use Rattle.al_expr_types.specs.Types.{base_type}
-use Rattle.al_meaning.specs.Meaning.{behind, property_of, typed}
+use Rattle.al_expr_typing.specs.Meaning.{behind, property_of, typed}
 use Rattle.al_expr_typing.proofs.Forms.{behind_arrays, in_arrays, property_arrays}
 use Rattle.al_expr_typing.proofs.steps.property.Goals as goal
 

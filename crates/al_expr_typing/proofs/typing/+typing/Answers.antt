@@ -16,12 +16,12 @@ use Rattle.al_expr_types.specs.Tables.{is_known, objects_of, type_at}
 use Rattle.al_expr_types.proofs.Below.{all_more}
 use Rattle.al_expr_typing.specs.Arguments.{are_known, argument_at}
 use Rattle.al_expr_typing.specs.Scopes.{scope_at}
-use Rattle.al_meaning.specs.Meaning.{typed, behind, all_behind, walked, chained, begins_logic, called_with, index_of, meaning, meanings, operated, stepped}
+use Rattle.al_expr_typing.specs.Meaning.{typed, behind, all_behind, walked, chained, begins_logic, called_with, index_of, meaning, meanings, operated, stepped}
 use Rattle.al_expr_typing.specs.Chains.{type_so_far}
 use Rattle.al_expr_typing.proofs.ChainLemmas.{join_stays, operand_stays, so_far_stays}
 use Rattle.al_expr_typing.proofs.Shown.{arguments_known, arguments_stay, known_stays, scope_stays, shown_stays, type_stays}
-use Rattle.al_meaning.proofs.TypedSteps.{unchanged, follows}
-use Rattle.al_meaning.proofs.Paths.{called_on, path_on, chained_on, indexed_on, meanings_on, walked_on}
+use Rattle.al_expr_typing.proofs.TypedSteps.{unchanged, follows}
+use Rattle.al_expr_typing.proofs.Paths.{called_on, path_on, chained_on, indexed_on, meanings_on, walked_on}
 use Rattle.al_expr_typing.proofs.typing.+typing.Goals as goal
 
 pub expression-returns-in-Keyword-clause-ok : goal.expression-returns-in-Keyword-clause-ok

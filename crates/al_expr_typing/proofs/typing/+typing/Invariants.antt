@@ -6,7 +6,7 @@ use Rattle.al_expr_types.specs.Tables.{is_known, objects_of, type_at}
 use Rattle.al_expr_typing.specs.Arguments.{are_known, argument_at}
 use Rattle.al_expr_typing.specs.Chains.{has_operand, is_join_known, type_so_far}
 use Rattle.al_expr_typing.specs.Scopes.{IsShown, scope_at}
-use Rattle.al_meaning.specs.Meaning.{behind, walked, chained, meanings, all_behind}
+use Rattle.al_expr_typing.specs.Meaning.{behind, walked, chained, meanings, all_behind}
 use Rattle.al_expr_typing.proofs.typing.+typing.Given as goal
 
 abbrev pub invariant-walk-loop-step : goal.invariant-walk-loop-step

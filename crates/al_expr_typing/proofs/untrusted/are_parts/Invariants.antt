@@ -1,6 +1,6 @@
 use Rattle.std.proofs.Common.{◌≡◌, map, drop}
 use Rattle.al_expr_grammar.specs.View.{step_of}
-use Rattle.al_meaning.specs.Untrusted.{same_parts, part_of}
+use Rattle.al_expr_typing.specs.Untrusted.{same_parts, part_of}
 use Rattle.al_expr_typing.proofs.untrusted.are_parts.Given as goal
 
 abbrev pub invariant-loop-index : goal.invariant-loop-index

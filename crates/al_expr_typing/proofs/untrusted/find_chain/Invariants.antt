@@ -1,6 +1,6 @@
 use Rattle.std.proofs.Common.{◌≡◌, ◌∷◌, map, drop}
 use Rattle.al_expr_grammar.specs.View.{step_of}
-use Rattle.al_meaning.specs.Untrusted.{chain_among, part_of}
+use Rattle.al_expr_typing.specs.Untrusted.{chain_among, part_of}
 use Rattle.al_expr_typing.proofs.untrusted.find_chain.Given as goal
 
 abbrev pub invariant-loop-chain : goal.invariant-loop-chain

@@ -2,7 +2,7 @@ use Rattle.std.proofs.Common.{◌≡◌, ◌≢◌, ◌≤◌, ℕ, List, [], �
 use Rattle.std.proofs.lemmas.List.{length-map}
 use Rattle.std.proofs.lemmas.Grind.{common_steps}
 use Rattle.al_base.specs.Names.{same_name}
-use Rattle.al_meaning.specs.Untrusted.{same_parts, part_of}
+use Rattle.al_expr_typing.specs.Untrusted.{same_parts, part_of}
 use Rattle.al_expr_grammar.specs.View.{step_of}
 use Rattle.al_expr_typing.proofs.untrusted.is_chain.Goals as goal
 

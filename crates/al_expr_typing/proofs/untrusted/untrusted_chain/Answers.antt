@@ -1,6 +1,6 @@
 use Rattle.std.proofs.Common.{ap, ◌∙◌}
 use Rattle.std.specs.Prelude.{option_map}
-use Rattle.al_meaning.specs.Untrusted.{with_dots}
+use Rattle.al_expr_typing.specs.Untrusted.{with_dots}
 use Rattle.al_expr_typing.proofs.untrusted.untrusted_chain.Goals as goal
 
 pub returns : goal.returns

@@ -1,6 +1,6 @@
 use Rattle.std.proofs.Common.{◌≡◌, ◌++◌, map, drop, string_bytes}
 use Rattle.std.specs.List.{flat_map}
-use Rattle.al_meaning.specs.Untrusted.{dotted, with_dots}
+use Rattle.al_expr_typing.specs.Untrusted.{dotted, with_dots}
 use Rattle.al_expr_typing.proofs.untrusted.with_dots.Given as goal
 
 abbrev pub invariant-loop-part : goal.invariant-loop-part

@@ -14,7 +14,7 @@ finish_order-requires c =
     let others : length (edges_of c.in_ok-back.back.items) ≡ length c.in_ok-back.back.items = length-map c.in_ok-back.back.items _ in
     let P : List (Vec ℕ Global) → Type 0 = λ g. (j k : ℕ) → Edge (edges_of g) j k → k < length g in
     subst P (sym same) (λ j k e.
-    let below = turned_inside (edges_of c.args.graph.now) (edges_of c.in_ok-back.back.items) (omega (arith, nodes, others, c.in_ok-back.ensures.len)) c.in_ok-back.ensures.turned j k e in
+    let below = turned_inside (edges_of c.args.graph.now) (edges_of c.in_ok-back.back.items) (omega (arith, nodes, others, c.in_ok-back.ensures.len)) c.in_ok-back.ensures.transpose j k e in
     omega (arith, below, others))
 
 pub label_all-requires-clause-order : goal.label_all-requires-clause-order
@@ -26,7 +26,7 @@ label_all-requires-clause-order c =
     let P : List (Vec ℕ Global) → Type 0 = λ g. IsFinished (edges_of g) c.in_ok-order.order.items in
     let Q : List ℕ → Type 0 = λ o. IsBackward (edges_of c.args.graph.now) o in
     subst Q (sym list) (turned_back (edges_of c.args.graph.now) (edges_of c.in_ok-back.back.items) c.in_ok-order.order.items
-    (omega (arith, nodes, others, c.in_ok-back.ensures.len)) c.in_ok-back.ensures.turned (subst P same c.in_ok-order.ensures))
+    (omega (arith, nodes, others, c.in_ok-back.ensures.len)) c.in_ok-back.ensures.transpose (subst P same c.in_ok-order.ensures))
 
 pub returns-clause-exact : goal.returns-clause-exact
 returns-clause-exact c j k jn kn =
@@ -37,5 +37,5 @@ returns-clause-exact c j k jn kn =
     let P : List (Vec ℕ Global) → Type 0 = λ g. IsFinished (edges_of g) c.in_ok-order.order.items in
     let Q : List ℕ → Type 0 = λ o. IsBackward (edges_of c.args.graph.now) o in
     let back = subst Q (sym list) (turned_back (edges_of c.args.graph.now) (edges_of c.in_ok-back.back.items) c.in_ok-order.order.items
-    (omega (arith, nodes, others, c.in_ok-back.ensures.len)) c.in_ok-back.ensures.turned (subst P same c.in_ok-order.ensures)) in
+    (omega (arith, nodes, others, c.in_ok-back.ensures.len)) c.in_ok-back.ensures.transpose (subst P same c.in_ok-order.ensures)) in
     labels_exact (edges_of c.args.graph.now) c.as_slice-2.result.now c.in_ok-labels.labels.items back c.in_ok-labels.ensures j k (omega (arith, jn, nodes)) (omega (arith, kn, nodes))

@@ -45,8 +45,8 @@ returns-in_err-found-clause-is c =
     c.property_end.ensures.lines c.gap.ensures.lines)
     (stops-bind (value col) (λ x. anchored (anchor_at bytes c.args.at x.value) x) (state_of c.args.state.now) c.in_err-found.field-0.0 (c.in_err-found.ensures.is c.args.depth col)))
 
-pub returns-in_ok-completed-in-Node-clause-is : goal.returns-in_ok-completed-in-Node-clause-is
-returns-in_ok-completed-in-Node-clause-is c = λ col.
+pub returns-in_ok-complete-in-Node-clause-is : goal.returns-in_ok-complete-in-Node-clause-is
+returns-in_ok-complete-in-Node-clause-is c = λ col.
     let bytes = c.args.file.now.bytes.now in
     let slot = flow_slot c.args.opening c.args.empty in
     let found = rw c.in-Node.is at c.in_ok-found.ensures.is in
@@ -56,8 +56,8 @@ returns-in_ok-completed-in-Node-clause-is c = λ col.
     c.property_end.ensures.lines c.gap.ensures.lines)
     ∙ completing-noted bytes (Some c.args.at) (state_of c.args.state.now) (flow_value (flow_content col) slot c.args.depth (lines_at bytes c.gap.result))
     ∙ ap (noting (mark_of bytes (Some c.args.at))) (found c.args.depth col)
-    ∙ noted-part bytes (Some c.args.at) c.in-Node.part c.in_ok-completed-in-Node.field-0 (state_of c.read_anchored.new.state) (state_of c.completed.new.state)
-    c.in_ok-completed-in-Node.ensures.part c.in_ok-completed-in-Node.ensures.state
+    ∙ noted-part bytes (Some c.args.at) c.in-Node.part c.in_ok-complete-in-Node.field-0 (state_of c.read_anchored.new.state) (state_of c.complete.new.state)
+    c.in_ok-complete-in-Node.ensures.part c.in_ok-complete-in-Node.ensures.state
 
 pub returns-in-Opens-clause-is : goal.returns-in-Opens-clause-is
 returns-in-Opens-clause-is c = λ col.

@@ -11,15 +11,15 @@ compare a b = option_cmp (slice_cmp nat_cmp) a b
 pub returns-in-Equal : goal.returns-in-Equal
 unfolding compare
 returns-in-Equal c =
-    let first = sym (c.compared.ensures ∙ ap₂ compare c.first.ensures.is c.first-2.ensures.is) ∙ c.in-Equal.is in
-    let second = c.compared-in-Equal.ensures ∙ ap₂ compare c.second.ensures c.second-in-Equal.ensures in
+    let first = sym (c.compare_texts.ensures ∙ ap₂ compare c.first.ensures.is c.first-2.ensures.is) ∙ c.in-Equal.is in
+    let second = c.compare_texts-in-Equal.ensures ∙ ap₂ compare c.second.ensures c.second-in-Equal.ensures in
     second ∙ sym (ap (λ o. ordering_then o (compare (slice_get c.args.self.now 1) (slice_get c.args.other.now 1))) first)
     ∙ two_cmp c.args.self.now c.args.other.now c.first.ensures.few c.first-2.ensures.few
 
 pub returns-in_default : goal.returns-in_default
 unfolding compare
 returns-in_default c =
-    let first = c.compared.ensures ∙ ap₂ compare c.first.ensures.is c.first-2.ensures.is in
+    let first = c.compare_texts.ensures ∙ ap₂ compare c.first.ensures.is c.first-2.ensures.is in
     let second = compare (slice_get c.args.self.now 1) (slice_get c.args.other.now 1) in
     let other = subst (λ r. r ≢ Equal) first c.in_default.not-Equal in
     first ∙ sym (then_unequal (compare (slice_get c.args.self.now 0) (slice_get c.args.other.now 0)) second other)

@@ -1,20 +1,31 @@
+use Rattle.std.proofs.Common.{◌∙◌}
+use Rattle.al_yaml_tree.specs.View.{view}
+use Rattle.al_check_places.specs.Positions.{position_view}
+use Rattle.al_check_contexts.specs.Answered.{known_of}
+use Rattle.al_check_contexts.proofs.TableLemmas.{table_right}
 use Rattle.al_check_contexts.proofs.env.Env.go_to.Goals as goal
 
 pub returns-clause-stands : goal.returns-clause-stands
-returns-clause-stands c = record {
-  members = c.in_ok-go.ensures.stands.members;
-  known = c.in_ok-go.ensures.stands.known;
-  fixed = c.in_ok-go.ensures.stands.fixed;
-  section = c.in_ok-go.ensures.stands.section;
-  owner = c.in_ok-go.ensures.stands.owner;
-  steps = c.in_ok-go.ensures.stands.steps;
-  shown = c.in_ok-go.ensures.stands.shown;
-  included = c.in_ok-go.ensures.stands.included;
-}
+returns-clause-stands c =
+    let was = c.in_ok-go.ensures.stands in
+    record {
+      members = was.members;
+      known = was.known;
+      shows = was.shows;
+      steps = was.steps;
+      prefixes = was.prefixes;
+      strategy = was.strategy;
+      job_types = was.job_types;
+      step_types = was.step_types;
+    }
+
+pub returns-clause-shown : goal.returns-clause-shown
+returns-clause-shown c = record { known = λ x. (c.in_ok-go.ensures.shows.each x).known }
 
 pub returns-clause-scope : goal.returns-clause-scope
 returns-clause-scope c = λ i. record {
-  types = λ x. c.in_ok-go.ensures.types x i;
+  types = λ x. ((c.in_ok-go.ensures.shows.each x).is
+      ∙ table_right c.args.file.kind (known_of c.args.file.known) (view c.args.file.root.now) (position_view c.args.place.position) x) i;
   available = λ x. c.context_set-self.ensures x i;
   allowed = λ f. c.function_set-self.ensures f i;
   in_run = c.args.place.is_script;

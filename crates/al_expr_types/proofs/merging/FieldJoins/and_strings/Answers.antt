@@ -2,13 +2,12 @@ use Rattle.std.proofs.Common.{◌≡◌, ◌<◌, ◌∙◌, ap, arith, length, 
 use Rattle.al_base.specs.NamePlaces.{name_place}
 use Rattle.al_types.specs.Types.{Present, String, fuse_optional}
 use Rattle.al_expr_types.specs.Merging.{found_in}
-use Rattle.al_expr_types.specs.Names.{names_listed}
 use Rattle.al_expr_types.proofs.Merges.{and_at, strings_found, upto_next}
 use Rattle.al_expr_types.proofs.merging.FieldJoins.and_strings.Goals as goal
 
 pub loop-i-preserved : goal.loop-i-preserved
 loop-i-preserved c =
-    let ns = names_listed c.args.names.now in
+    let ns = c.args.names.now in
     let i = c.loop-i.i in
     let within : i < length ns = omega (arith, c.loop-i-test.true, c.len-i-end.ensures) in
     record {
@@ -21,6 +20,6 @@ loop-i-preserved c =
 
 pub returns-clause-found : goal.returns-clause-found
 returns-clause-found c = λ ms d n.
-    let ns = names_listed c.args.names.now in
+    let ns = c.args.names.now in
     let end : c.loop-i.i ≡ length ns = omega (arith, c.loop-i-test.false, c.loop-i.auto.i-end, c.len-i-end.ensures) in
     (c.loop-i.invariant.found ms n ∙ ap (fuse_optional (found_in ms c.args.self n)) (strings_found ns n c.loop-i.i end)) d

@@ -2,7 +2,7 @@ use Rattle.std.proofs.Common.{◌≡◌, ◌∷◌, ◌++◌, ◌∙◌, [], ap,
 use Rattle.std.proofs.lemmas.List.{length-map, map-append}
 use Rattle.std.specs.Prelude.{is_none}
 use Rattle.al_base.specs.NamePlaces.{name_place}
-use Rattle.al_types.proofs.AddedFields.{placed_new}
+use Rattle.al_types.proofs.AddedNames.{placed_new}
 use Rattle.al_expr_types.specs.Once.{are_once}
 use Rattle.al_expr_types.proofs.OnceLemmas.{once_more}
 use Rattle.al_expr_types.specs.Names.{names_in}

@@ -1,6 +1,6 @@
 use Rattle.std.proofs.Common.{◌≡◌, ◌+◌, ◌*◌, map, take, length, true}
 use Rattle.al_types.specs.Types.{fuse_optional}
-use Rattle.al_types.specs.TypeViews.{fused}
+use Rattle.al_types.specs.Fused.{fused}
 use Rattle.al_expr_types.specs.Joining.{is_join_below, join_in}
 use Rattle.al_expr_types.specs.Parts.{part_in}
 use Rattle.al_expr_types.specs.Tables.{objects_of}

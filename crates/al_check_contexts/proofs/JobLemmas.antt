@@ -1,0 +1,66 @@
+-- What jobs show to others, and the jobs that names find.
+use Rattle.std.proofs.Common.{◌≡◌, ◌<◌, ℕ, true, false, List, [], ◌∷◌, refl, sym, ap, ◌∙◌, Some, None, option_map, length, map, get_or, arith}
+use Rattle.std.proofs.Math.ListN.{get_or-map}
+use Rattle.std.proofs.lemmas.Option.{get_or_from_slice_get, slice_get_read}
+use Rattle.std.specs.Option.{option_map_or}
+use Rattle.std.specs.Prelude.{codes, if◌then◌else◌, slice_get}
+use Rattle.al_base.specs.NamePlaces.{first_at}
+use Rattle.al_base.specs.Names.{same_name}
+use Rattle.al_base.proofs.NamePlaces.{find_first}
+use Rattle.std.proofs.lemmas.List.{length-map}
+use Rattle.al_types.specs.Strings.{named_strings}
+use Rattle.al_types.specs.Types.{Any}
+use Rattle.al_yaml_tree.specs.Node.{Node}
+use Rattle.al_tree.specs.Keys.{key_of}
+use Rattle.al_tree.specs.Values.{entries_at}
+use Rattle.al_tree_declarations.specs.Declarations.{has_value, names_of}
+use Rattle.al_check_contexts.specs.Contexts.{Known, call_outputs, job_field, needed}
+use Rattle.al_base.specs.Growth.{BeginsWith}
+use Rattle.al_expr_types.specs.Tables.{objects_of}
+use Rattle.al_expr_types.specs.declared.types.Types.{Types}
+use Rattle.al_check_contexts.specs.Private.Lookups.{called_at, known_by, shown_at, shown_with}
+use Rattle.al_check_contexts.specs.Private.Made.{KeepsJobs}
+use Rattle.al_check_contexts.specs.declared.jobs.JobTypes.{JobTypes}
+use Rattle.al_check_contexts.specs.declared.known.Outputs.{Outputs}
+use Rattle.al_check_contexts.proofs.Numbers.{keeps_stays, means_stays}
+
+-- the element of a list that another list agrees with
+pub same_there : {X Y : Type 0} (g : X → Y) (xs : List X) (ys : List Y) (i : ℕ) (x : X) → map g xs ≡ ys → i < length xs → x ≡ get_or xs i x → slice_get ys i ≡ Some (g x)
+same_there g xs ys i x e lt is =
+    let len : length ys ≡ length xs = sym (ap length e) ∙ length-map xs g in
+    slice_get_read ys (length ys) i (g x) refl (omega (arith, lt, len)) (ap g is ∙ sym (get_or-map g xs i x) ∙ ap (λ zs. get_or zs i (g x)) e)
+
+-- what is shown at a position is what the job there shows
+pub shown_there : (known : Outputs) (js : List (Node × Node)) (i : ℕ) (j : Node × Node) → slice_get js i ≡ Some j → (job_field (known_by known) j).1 ≡ shown_at known js i
+shown_there known js i j e = sym (ap (λ o. option_map_or (λ j. (job_field (known_by known) j).1) o Any) e)
+
+pub needed_at : (k : Known) (js : List (Node × Node)) (n : List ℕ) (i : ℕ) (j : Node × Node) → first_at (λ j. same_name (key_of j) n) js ≡ Some i →
+    slice_get js i ≡ Some j → needed k js n ≡ Some (job_field k j)
+needed_at k js n i j e h =
+    ap (option_map (job_field k))
+    (find_first (λ j. same_name (key_of j) n) js j ∙ ap (option_map (λ m. get_or js m j)) e ∙ ap Some (get_or_from_slice_get js i j j h))
+
+pub none_needed : (k : Known) (js : List (Node × Node)) (n : List ℕ) → first_at (λ j. same_name (key_of j) n) js ≡ None → needed k js n ≡ None
+none_needed k [] n e = refl
+none_needed k (x ∷ js) n e =
+    ap (option_map (job_field k)) (find_first (λ j. same_name (key_of j) n) (x ∷ js) x ∙ ap (option_map (λ m. get_or (x ∷ js) m x)) e)
+
+-- what a job shows that calls a workflow, and one that doesn't
+pub shown_called : (k : Known) (j : Node × Node) → has_value (codes "uses") j.1 ≡ true → shown_with (call_outputs (k.of_job (key_of j))) ≡ (job_field k j).1
+shown_called k j e =
+    sym (ap (λ b. shown_with (if b then call_outputs (k.of_job (key_of j)) else named_strings (names_of (entries_at (codes "outputs") j.1)))) e)
+
+pub shown_own : (k : Known) (j : Node × Node) → has_value (codes "uses") j.1 ≡ false →
+    shown_with (named_strings (names_of (entries_at (codes "outputs") j.1))) ≡ (job_field k j).1
+shown_own k j e =
+    sym (ap (λ b. shown_with (if b then call_outputs (k.of_job (key_of j)) else named_strings (names_of (entries_at (codes "outputs") j.1)))) e)
+
+-- ---- in longer tables
+
+pub keeps_jobs_stay : (new old : Types) (known : Outputs) (js : List (Node × Node)) (m : JobTypes) → BeginsWith (objects_of new) (objects_of old) →
+    KeepsJobs old known js m → KeepsJobs new known js m
+keeps_jobs_stay new old known js m b h = record {
+  calls = keeps_stays new old (called_at known) m.calls b h.calls;
+  shown = keeps_stays new old (shown_at known js) m.shown b h.shown;
+  all = λ t e. means_stays new old t _ b (h.all t e);
+}

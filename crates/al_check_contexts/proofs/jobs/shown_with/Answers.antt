@@ -1,0 +1,19 @@
+use Rattle.std.proofs.Common.{[]}
+use Rattle.al_types.specs.Types.{String}
+use Rattle.al_expr_types.specs.Tables.{type_at}
+use Rattle.al_check_contexts.proofs.Numbers.{means_itself, string_means}
+use Rattle.al_check_contexts.proofs.jobs.shown_with.Goals as goal
+
+pub into_type-requires-clause-fields : goal.into_type-requires-clause-fields
+into_type-requires-clause-fields c =
+    let types = c.args.types.now in
+    let one = c.in_ok-result.ensures types [] String (c.new.ensures types) (string_means types) in
+    let both = c.in_ok-both.ensures types _ (type_at types c.args.outputs) one (means_itself types c.args.outputs c.requires) in
+    both.known
+
+pub returns-clause-ty : goal.returns-clause-ty
+returns-clause-ty c =
+    let types = c.args.types.now in
+    let one = c.in_ok-result.ensures types [] String (c.new.ensures types) (string_means types) in
+    let both = c.in_ok-both.ensures types _ (type_at types c.args.outputs) one (means_itself types c.args.outputs c.requires) in
+    c.in_ok-ty.ensures.ty _ both

@@ -1,0 +1,33 @@
+use Rattle.std.proofs.Common.{map}
+use Rattle.al_base.proofs.Growing.{begins_trans}
+use Rattle.al_tree.specs.Values.{member_of}
+use Rattle.al_expr_types.specs.Tables.{objects_of}
+use Rattle.al_check_contexts.proofs.JobLemmas.{keeps_jobs_stay}
+use Rattle.al_check_contexts.proofs.Numbers.{means_stays}
+use Rattle.al_check_contexts.proofs.sections.section_types.Goals as goal
+
+pub returns-clause-types : goal.returns-clause-types
+returns-clause-types c =
+    let entry = c.args.types.now in
+    let one = c.needs_at.new.types in
+    let two = c.jobs_at.new.types in
+    let now = c.matrix_at.new.types in
+    let from_one = begins_trans (objects_of one) (objects_of two) (objects_of now) c.in_ok-jobs.ensures.kept c.in_ok-matrix.ensures.kept in
+    let from_entry = begins_trans (objects_of entry) (objects_of one) (objects_of now) c.in_ok-needs.ensures.kept from_one in
+    record {
+      strategy = c.strategy_at.ensures now (means_stays now entry c.args.strategy _ from_entry c.requires.strategy);
+      needs = means_stays now one c.in_ok-needs.needs _ from_one c.in_ok-needs.ensures.ty;
+      jobs = means_stays now two c.in_ok-jobs.jobs _ c.in_ok-matrix.ensures.kept c.in_ok-jobs.ensures.ty;
+      matrix = c.in_ok-matrix.ensures.ty;
+    }
+
+pub returns-clause-keeps : goal.returns-clause-keeps
+returns-clause-keeps c =
+    keeps_jobs_stay c.matrix_at.new.types c.jobs_at.new.types c.args.known.now (map member_of c.args.jobs.now.members.items) c.jobs_at.new.made
+    c.in_ok-matrix.ensures.kept c.in_ok-jobs.ensures.keeps
+
+pub returns-clause-kept : goal.returns-clause-kept
+returns-clause-kept c =
+    begins_trans (objects_of c.args.types.now) (objects_of c.needs_at.new.types) (objects_of c.matrix_at.new.types) c.in_ok-needs.ensures.kept
+    (begins_trans (objects_of c.needs_at.new.types) (objects_of c.jobs_at.new.types) (objects_of c.matrix_at.new.types) c.in_ok-jobs.ensures.kept
+    c.in_ok-matrix.ensures.kept)

@@ -1,0 +1,28 @@
+use Rattle.al_base.proofs.Growing.{begins_trans}
+use Rattle.al_expr_types.specs.Tables.{objects_of}
+use Rattle.al_check_contexts.proofs.Numbers.{means_stays}
+use Rattle.al_check_contexts.proofs.start.fixed_types.Goals as goal
+
+pub returns-clause-fixed : goal.returns-clause-fixed
+returns-clause-fixed c =
+    let one = c.github.new.types in
+    let two = c.loose_strings.new.types in
+    let three = c.runner.new.types in
+    let now = c.job.new.types in
+    let from_two = begins_trans (objects_of two) (objects_of three) (objects_of now) c.in_ok-runner.ensures.kept c.in_ok-job.ensures.kept in
+    let from_one = begins_trans (objects_of one) (objects_of two) (objects_of now) c.in_ok-strings.ensures.kept from_two in
+    record {
+      github = means_stays now one c.in_ok-github.github _ from_one c.in_ok-github.ensures.ty;
+      strings = means_stays now two c.in_ok-strings.strings _ from_two c.in_ok-strings.ensures.ty;
+      runner = means_stays now three c.in_ok-runner.runner _ c.in_ok-job.ensures.kept c.in_ok-runner.ensures.ty;
+      job = c.in_ok-job.ensures.ty;
+    }
+
+pub returns-clause-kept : goal.returns-clause-kept
+returns-clause-kept c =
+    let two = c.loose_strings.new.types in
+    let three = c.runner.new.types in
+    let now = c.job.new.types in
+    begins_trans (objects_of c.args.types.now) (objects_of c.github.new.types) (objects_of now) c.in_ok-github.ensures.kept
+    (begins_trans (objects_of c.github.new.types) (objects_of two) (objects_of now) c.in_ok-strings.ensures.kept
+    (begins_trans (objects_of two) (objects_of three) (objects_of now) c.in_ok-runner.ensures.kept c.in_ok-job.ensures.kept))

@@ -1,0 +1,16 @@
+-- What is made once a file.
+use Rattle.std.specs.Prelude.{◌≡◌, List, Some}
+use Rattle.al_yaml_tree.specs.Node.{Node}
+use Rattle.al_check_contexts.specs.Contexts.{jobs_type_of}
+use Rattle.al_expr_types.specs.declared.ty.Ty.{Ty}
+use Rattle.al_expr_types.specs.declared.types.Types.{Types}
+use Rattle.al_check_contexts.specs.Private.Lookups.{called_at, known_by, shown_at}
+use Rattle.al_check_contexts.specs.Private.Numbers.{Keeps, Means}
+use Rattle.al_check_contexts.specs.declared.jobs.JobTypes.{JobTypes}
+use Rattle.al_check_contexts.specs.declared.known.Outputs.{Outputs}
+
+-- each type that is kept of jobs is that of its position
+pub record KeepsJobs (types : Types) (known : Outputs) (js : List (Node × Node)) (m : JobTypes) : Type 0 where
+  pub calls : Keeps types (called_at known) m.calls
+  pub shown : Keeps types (shown_at known js) m.shown
+  pub all : (t : Ty) → m.all ≡ Some t → Means types t (jobs_type_of (known_by known) js)

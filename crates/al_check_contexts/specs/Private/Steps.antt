@@ -1,0 +1,42 @@
+-- The fields of `steps` by counts of steps.
+use Rattle.std.specs.Prelude.{◌≡◌, ◌+◌, ◌<◌, ◌≤◌, ℕ, List, [], ◌∷◌, true, Option, Some, None, codes, get_or, length, take}
+use Rattle.al_types.specs.Puts.{Typed}
+use Rattle.al_types.specs.Types.{Type', String}
+use Rattle.al_check_places.specs.Positions.{before}
+use Rattle.al_check_contexts.specs.Contexts.{Known, steps_shown}
+use Rattle.al_check_contexts.specs.Objects.{strictly}
+use Rattle.al_check_contexts.specs.Private.Environment.{Owner}
+use Rattle.al_expr_types.specs.Prefixes.{HasPrefix, map_in}
+use Rattle.al_expr_types.specs.Tables.{objects_of}
+use Rattle.al_expr_types.specs.declared.types.Types.{Types}
+use Rattle.al_check_contexts.specs.Private.Numbers.{fields_in, is_map_below}
+use Rattle.al_check_contexts.specs.declared.steps.StepFields.{StepFields}
+
+-- the type of a step that has outputs of a type
+abbrev pub step_with : Type' → Type'
+step_with outputs = strictly ((codes "conclusion", String) ∷ (codes "outcome", String) ∷ (codes "outputs", outputs) ∷ [])
+
+-- the fields of the first so many steps
+abbrev pub first_fields : Known → Owner → ℕ → List Typed
+first_fields known o k = steps_shown known o.0 o.1 (before k)
+
+-- so many fields are there, and the first so many are these
+abbrev pub IsCount : List Typed → ℕ → List Typed → Type 0
+IsCount ts n us = (n ≤ length ts) × (take n ts ≡ us)
+
+-- there is a count of each front of some steps, by which their fields are found
+pub record AreSteps (types : Types) (known : Known) (o : Owner) (s : StepFields) : Type 0 where
+  pub all : length s.counts.items ≡ length o.1 + 1
+  pub counts : (k : ℕ) → k < length s.counts.items →
+      IsCount (fields_in (objects_of types) (map_in s.prefixes)) (get_or s.counts.items k 0) (first_fields known o k)
+
+-- of an owner's steps; of nobody's there are no counts
+abbrev pub AreStepsOf : Types → Known → Option Owner → StepFields → Type 0
+AreStepsOf types known None s = s.counts.items ≡ []
+AreStepsOf types known (Some o) s = AreSteps types known o s
+
+-- the fields are of the table, as is a base, and no count is of more
+pub record ArePrefixes (types : Types) (s : StepFields) : Type 0 where
+  pub below : is_map_below (length types.objects.items) (map_in s.prefixes) ≡ true
+  pub base : HasPrefix types (map_in s.prefixes) s.prefixes.base
+  pub inside : (k : ℕ) → k < length s.counts.items → get_or s.counts.items k 0 ≤ length (map_in s.prefixes).types.items

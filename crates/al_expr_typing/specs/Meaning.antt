@@ -1,0 +1,244 @@
+-- The type of an expression under a scope, and the faults in it, in the order in which it is read.
+use Rattle.std.specs.Prelude.{ℕ, ◌+◌, List, [], ◌∷◌, ◌++◌, Bool, true, false, ◌&&◌, ◌||◌, not, if◌then◌else◌, Option, Some}
+use Rattle.std.specs.Prelude.{None, length}
+use Rattle.std.specs.Fmt.{decimal}
+use Rattle.al_base.specs.declared.codes.ExpressionCode.TheVariants as code
+use Rattle.al_base.specs.declared.faults.Fault.{Fault}
+use Rattle.al_base.specs.declared.faults.Span.{Span}
+use Rattle.al_expr_grammar.specs.declared.token.Operator.{Operator}
+use Rattle.al_expr_grammar.specs.declared.token.Operator.TheVariants as operator
+use Rattle.al_types.specs.declared.names.Context.{Context}
+use Rattle.al_types.specs.declared.names.Function.{Function}
+use Rattle.al_types.specs.declared.names.Function.TheVariants as function
+use Rattle.al_types.specs.declared.signatures.Parameters.{Parameters}
+use Rattle.al_expr_grammar.specs.Refusal.{fault}
+use Rattle.al_types.specs.Names.{context_of, function_of}
+use Rattle.al_expr_typing.specs.Placeholders.{used_arguments}
+use Rattle.al_types.specs.Types.{Type', Any, Number, Bool', String, ArrayOf, ObjectOf, fuse_type, option_of, or_any, or_else}
+use Rattle.al_expr_typing.specs.Comparison.{comparable_types}
+use Rattle.al_types.specs.Signatures.{signature, takes, wanted, accepts, returned_type}
+use Rattle.al_types.specs.Scopes.{Scope}
+use Rattle.al_expr_grammar.specs.Extents.{extent, across}
+use Rattle.al_expr_typing.specs.Literals.{literal_text, type_of_keyword}
+use Rattle.al_expr_typing.specs.Untrusted.{untrusted_chains, chain_among, part_of_index, with_dots}
+use Rattle.al_expr_grammar.specs.Tree as tree
+use Rattle.al_expr_grammar.specs.Tree.{Tree, sign, Constant, Named, Call, Group, Negated, Path, Chain, StepTree, Steps, NoStep}
+use Rattle.al_expr_grammar.specs.Tree.{PropertyThen, AllThen, IndexThen, Operands, NoOperand}
+use Rattle.al_expr_grammar.specs.Tree.{OperandThen, Arguments, NoArgument, ArgumentThen}
+
+-- a type with the faults found on the way
+pub data Typed : Type 0 where
+  typed : Type' → List Fault → Typed
+
+abbrev pub type_in : Typed → Type'
+type_in (typed t fs) = t
+
+abbrev pub faults_in : Typed → List Fault
+faults_in (typed t fs) = fs
+
+-- the same with these faults before the others
+abbrev pub behind : List Fault → Typed → Typed
+behind fs (typed t gs) = typed t (fs ++ gs)
+
+-- the same with these faults after the others
+abbrev pub before : List Fault → Typed → Typed
+before gs (typed t fs) = typed t (fs ++ gs)
+
+abbrev pub and_then : Typed → (Type' → Typed) → Typed
+and_then (typed t fs) go = behind fs (go t)
+
+abbrev pub give : Bool → Fault → List Fault
+give true f = f ∷ []
+give false f = []
+
+-- A name is a context: X7 where there is none of it, X8 where it isn't available here.
+abbrev pub named : Scope → List ℕ → Span → Option Context → Typed
+named sc b s None = typed Any (fault code.UndefinedContext s (b ∷ []) ∷ [])
+named sc b s (Some c) = if sc.available c then typed (sc.types c) [] else typed Any (fault code.UnavailableContext s (b ∷ []) ∷ [])
+
+abbrev pub or_fault : Fault → Option Type' → Typed
+or_fault f None = typed Any (f ∷ [])
+or_fault f (Some t) = typed t []
+
+abbrev pub array_of : Typed → Typed
+array_of (typed t fs) = typed (ArrayOf t) fs
+
+-- X14
+abbrev pub not_indexable : Span → Typed
+not_indexable whole = typed Any (fault code.NotIndexable whole [] ∷ [])
+
+-- A property: the field, else the type of other fields, else X13. Of an array, an array of the elements' property. A
+-- scalar has none: X14.
+abbrev pub property_of : List ℕ → Span → Span → Type' → Typed
+property_of n at whole Any = typed Any []
+property_of n at whole (ObjectOf fields rest all) =
+    or_fault (fault code.UndefinedProperty at (n ∷ [])) (option_of (or_else (fields n) rest))
+property_of n at whole (ArrayOf t) = array_of (property_of n at whole t)
+property_of n at whole _ = not_indexable whole
+
+-- `.*` and `[*]`: of an object, an array of what all its fields and the type of others have in common, of any where there is neither
+abbrev pub all_of : Span → Type' → Typed
+all_of whole Any = typed Any []
+all_of whole (ArrayOf t) = typed (ArrayOf t) []
+all_of whole (ObjectOf fields rest all) = typed (ArrayOf (or_any (option_of all))) []
+all_of whole _ = not_indexable whole
+
+-- the element of an array, by an index of this type
+abbrev pub element_at : Span → Type' → Type' → Typed
+element_at whole t Any = typed t []
+element_at whole t Number = typed t []
+element_at whole t _ = not_indexable whole
+
+abbrev pub index_of : Span → Type' → Type' → Typed
+index_of whole Any i = typed Any []
+index_of whole (ObjectOf fields rest all) i = typed Any []
+index_of whole (ArrayOf t) i = element_at whole t i
+index_of whole _ i = not_indexable whole
+
+-- `['p']` is a property, any other index an element.
+abbrev pub indexed : Option (List ℕ × Span) → Span → Type' → Typed → Typed
+indexed (Some text) whole t i = property_of text.0 text.1 whole t
+indexed None whole t i = and_then i (λ u. index_of whole t u)
+
+abbrev pub parts_of : Steps → List (List ℕ)
+parts_of NoStep = []
+parts_of (PropertyThen d b s ss) = b ∷ parts_of ss
+parts_of (AllThen a b ss) = part_of_index None ∷ parts_of ss
+parts_of (IndexThen a t b ss) = part_of_index (literal_text t) ∷ parts_of ss
+
+abbrev pub untrusted_fault : Span → Option (List (List ℕ)) → List Fault
+untrusted_fault whole None = []
+untrusted_fault whole (Some chain) = fault code.Untrusted whole (with_dots chain ∷ []) ∷ []
+
+-- the name that a path begins with, if it begins with one: a bracket ends a chain
+abbrev pub base_name : Tree → Option (List ℕ)
+base_name (Named b s) = Some b
+base_name _ = None
+
+abbrev pub untrusted_from : Option (List ℕ) → Steps → Span → List Fault
+untrusted_from None ss whole = []
+untrusted_from (Some b) ss whole = untrusted_fault whole (chain_among untrusted_chains (b ∷ parts_of ss))
+
+-- X19: a whole path that is an untrusted chain, where a text could do harm.
+abbrev pub untrusted : Bool → Tree → Steps → List Fault
+untrusted exposed t ss = if exposed then untrusted_from (base_name t) ss (extent (Path t ss)) else []
+
+abbrev pub is_logic : Operator → Bool
+is_logic operator.Or = true
+is_logic operator.And = true
+is_logic _ = false
+
+abbrev pub begins_logic : Operands → Bool
+begins_logic NoOperand = false
+begins_logic (OperandThen (sign o s) t os) = is_logic o
+
+-- One more operand: `&&` and `||` fuse, the others compare, X15 where the two can't be compared.
+abbrev pub operated : Operator → Span → Type' → Type' → Typed
+operated o s t u =
+    if is_logic o then typed (fuse_type t u) [] else typed Bool' (give (not (comparable_types o t u)) (fault code.NotComparable s []))
+
+-- functions that only test their arguments, so that no text of theirs gets into a script
+abbrev pub is_test : Option Function → Bool
+is_test (Some function.Contains) = true
+is_test (Some function.StartsWith) = true
+is_test (Some function.EndsWith) = true
+is_test _ = false
+
+-- arguments, each with its type and its place, and the faults in them
+pub data AllTyped : Type 0 where
+  all_typed : List (Type' × Span) → List Fault → AllTyped
+
+abbrev pub typed_then : Typed → Span → AllTyped → AllTyped
+typed_then (typed t fs) s (all_typed as' gs) = all_typed ((t, s) ∷ as') (fs ++ gs)
+
+-- X12 at each argument of a wrong type; the first has index 0 and number 1
+abbrev pub wrong_arguments : List ℕ → Parameters → ℕ → List (Type' × Span) → List Fault
+wrong_arguments name ps n [] = []
+wrong_arguments name ps n (a ∷ as') =
+    give (not (accepts (wanted ps n) a.0)) (fault code.ArgumentType a.1 (decimal (n + 1) ∷ name ∷ []))
+    ++ wrong_arguments name ps (n + 1) as'
+
+-- X11 where the number of arguments is wrong, else X12
+abbrev pub argument_faults : List ℕ → Span → Parameters → List (Type' × Span) → List Fault
+argument_faults name at ps as' =
+    if takes ps (length as') then wrong_arguments name ps 0 as' else fault code.ArgumentCount at (name ∷ []) ∷ []
+
+-- X17 at each argument that no placeholder names. The first behind the text has index 0 and number 2.
+abbrev pub unused : ℕ → List Bool → List (Type' × Span) → List Fault
+unused n (u ∷ us) (a ∷ as') = give (not u) (fault code.UnusedArgument a.1 (decimal (n + 2) ∷ [])) ++ unused (n + 1) us as'
+unused n _ _ = []
+
+-- X16 where a placeholder is wrong, else X17
+abbrev pub placeholder_faults : Span → Option (List Bool) → List (Type' × Span) → List Fault
+placeholder_faults at None as' = fault code.WrongPlaceholder at [] ∷ []
+placeholder_faults at (Some used) as' = unused 0 used as'
+
+abbrev pub rest_of : List (Type' × Span) → List (Type' × Span)
+rest_of [] = []
+rest_of (a ∷ as') = as'
+
+abbrev pub format_text : Option (List ℕ × Span) → List (Type' × Span) → List Fault
+format_text None as' = []
+format_text (Some text) as' = placeholder_faults text.1 (used_arguments (length as') text.0) as'
+
+-- `format`, where its first argument is a text literal
+abbrev pub format_faults : Function → Arguments → List (Type' × Span) → List Fault
+format_faults function.Format (ArgumentThen t ts) as' = format_text (literal_text t) (rest_of as')
+format_faults _ ts as' = []
+
+-- A call: X9 where there is no such function, X10 where it isn't available here.
+abbrev pub called_with : Scope → List ℕ → Span → Option Function → Arguments → List (Type' × Span) → Typed
+called_with sc b s None ts as' = typed Any (fault code.UndefinedFunction s (b ∷ []) ∷ [])
+called_with sc b s (Some f) ts as' =
+    typed (returned_type (signature f).returned)
+    (give (not (sc.allowed f)) (fault code.UnavailableFunction s (b ∷ []))
+    ++ argument_faults b s (signature f).parameters as' ++ format_faults f ts as')
+
+abbrev pub called : Scope → List ℕ → Span → Option Function → Arguments → AllTyped → Typed
+called sc b s f ts (all_typed as' fs) = behind fs (called_with sc b s f ts as')
+
+-- The type of an expression, with its faults. The flag: whether it stands where X19 isn't given, in an argument of a
+-- function that only tests it, or in an operand of a comparison or of `!`.
+abbrev mutual
+  pub meaning : Scope → Bool → Tree → Typed
+  meaning sc safe (Constant w s) = typed (type_of_keyword w) []
+  meaning sc safe (tree.Number b s) = typed Number []
+  meaning sc safe (tree.Text b s) = typed String []
+  meaning sc safe (Named b s) = named sc b s (context_of b)
+  meaning sc safe (Call b s ts e) = called sc b s (function_of b) ts (meanings sc (safe || is_test (function_of b)) ts)
+  meaning sc safe (Group t s e) = meaning sc safe t
+  meaning sc safe (Negated s t) = and_then (meaning sc true t) (λ u. typed Bool' [])
+  meaning sc safe (Path t ss) =
+      before (untrusted (sc.in_run && not safe) t ss) (and_then (meaning sc safe t) (λ u. walked sc safe ss u))
+  meaning sc safe (Chain t os) =
+      and_then (meaning sc (safe || not (begins_logic os)) t) (λ u. chained sc (safe || not (begins_logic os)) os u)
+
+  -- the steps of a path from a type on
+  pub walked : Scope → Bool → Steps → Type' → Typed
+  walked sc safe NoStep u = typed u []
+  walked sc safe (PropertyThen d b s ss) u = and_then (property_of b s (across d s) u) (λ v. walked sc safe ss v)
+  walked sc safe (AllThen a b ss) u = and_then (all_of (across a b) u) (λ v. walked sc safe ss v)
+  walked sc safe (IndexThen a t b ss) u = and_then (indexed (literal_text t) (across a b) u (meaning sc safe t)) (λ v. walked sc safe ss v)
+
+  -- the operators of one level from a type on
+  pub chained : Scope → Bool → Operands → Type' → Typed
+  chained sc safe NoOperand u = typed u []
+  chained sc safe (OperandThen (sign o s) t os) u =
+      and_then (meaning sc safe t) (λ v. and_then (operated o s u v) (λ w. chained sc safe os w))
+
+  pub meanings : Scope → Bool → Arguments → AllTyped
+  meanings sc safe NoArgument = all_typed [] []
+  meanings sc safe (ArgumentThen t ts) = typed_then (meaning sc safe t) (extent t) (meanings sc safe ts)
+
+-- one step of a path
+abbrev pub stepped : Scope → Bool → StepTree → Type' → Typed
+stepped sc safe (tree.Property d b s) u = property_of b s (across d s) u
+stepped sc safe (tree.All a b) u = all_of (across a b) u
+stepped sc safe (tree.Index a t b) u = indexed (literal_text t) (across a b) u (meaning sc safe t)
+
+-- the same with these arguments and faults before the others
+abbrev pub all_behind : List (Type' × Span) → List Fault → AllTyped → AllTyped
+all_behind before' old (all_typed as' fs) = all_typed (before' ++ as') (old ++ fs)
+
+abbrev pub meaning_of : Scope → Tree → Typed
+meaning_of sc t = meaning sc false t

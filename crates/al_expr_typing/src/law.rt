@@ -1,0 +1,10 @@
+//! A law over the definitions: where the faults of a meaning stand.
+
+ghost use Rattle.al_expr_typing.specs.Inside.{MeaningFaultsLie};
+
+/// Where the faults of a meaning stand.
+///
+/// Each fault that [`type_of`](crate::type_of) adds for a tree that a content spells lies in the content. Does nothing.
+pub fn all_lie_in_content()
+    ensures { MeaningFaultsLie }
+{}

@@ -1,9 +1,0 @@
-use Rattle.std.proofs.Common.{◌≡◌, ◌∷◌, map, drop}
-use Rattle.al_expr_grammar.specs.View.{step_of}
-use Rattle.al_meaning.specs.Untrusted.{chain_among, part_of}
-use Rattle.al_meaning.proofs.untrusted.find_chain.Given as goal
-
-abbrev pub invariant-loop-chain : goal.invariant-loop-chain
-invariant-loop-chain l =
-    chain_among (map (λ p. map (λ q. q.now) p.now) (drop l.chain-index l.chains)) (l.name ∷ map part_of (map step_of l.steps))
-    ≡ chain_among (map (λ p. map (λ q. q.now) p.now) l.chains) (l.name ∷ map part_of (map step_of l.steps))

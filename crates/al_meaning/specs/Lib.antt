@@ -1,7 +1,0 @@
-pub mod Untrusted
-pub mod Placeholders
-pub mod Literals
-pub mod Meaning
-pub mod Comparison
-pub mod Inside
-pub mod Private

@@ -1,7 +1,0 @@
--- Words that only contracts of private functions need: no definition of what the product means stands on them.
-pub mod CallViews
-pub mod FoundTypes
-pub mod LiteralViews
-pub mod PlaceholderStates
-pub mod PlaceholderViews
-pub mod QuotingStates
