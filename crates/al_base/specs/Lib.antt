@@ -10,6 +10,7 @@ pub mod Orders
 pub mod InOrder
 pub mod FaultLists
 pub mod FaultLaws
+pub mod Sink
 pub mod Paths
 pub mod LineStarts
 pub mod Growth

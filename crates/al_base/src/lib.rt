@@ -1,7 +1,7 @@
 //! What all other crates stand on. Six jobs, each with its modules:
 //!
-//! - faults, in `codes`, `args`, `faults`, `lists` and `copies`: a span, a code and the texts of a message; their order, and a file's
-//!   list of them
+//! - faults, in `codes`, `args`, `faults`, `sink`, `lists` and `copies`: a span, a code and the texts of a message; where they go as they
+//!   are found; their order, and a file's list of them
 //! - names in which case does not count, in `names`, and where texts and names first stand in a list, in `name_positions`
 //! - paths, in `paths`: which texts name a file of a folder
 //! - control bytes of texts that are printed, in `controls`
@@ -24,6 +24,7 @@ mod name_positions;
 mod names;
 mod paths;
 mod positions;
+mod sink;
 mod stops;
 mod streams;
 
@@ -42,5 +43,6 @@ pub use name_positions::{NamePositions, TextPositions, in_lower_case};
 pub use names::is_same_name;
 pub use paths::{Path, PathFault, path_fault};
 pub use positions::{Location, is_char_start, location_of, position};
+pub use sink::FaultSink;
 pub use stops::Stop;
 pub use streams::{Input, Output};

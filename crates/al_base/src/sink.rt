@@ -1,0 +1,106 @@
+//! Where faults go as they are found.
+
+ghost use Rattle.std.specs.Prelude.{◌≡◌, [], ◌∷◌, ◌++◌, if◌then◌else◌, is_ok, OnOk};
+ghost use Rattle.std.specs.Str.Lossy.{utf8_lossy};
+ghost use Rattle.al_base.specs.Sink.{fault_of};
+
+use crate::args::Args;
+use crate::codes::Code;
+use crate::faults::{Fault, Span};
+use std::alloc::{AllocError, Global};
+use std::marker::Model;
+
+/// The faults that were found, in the order in which they were, and the memory that more of them take. Contracts see the list.
+///
+/// Each report fails with `AllocError` when out of memory. What a sink then holds isn't said: who made it drops it, and the list that its
+/// faults were to go to is as it was.
+#[derive(Drop)]
+pub struct FaultSink {
+    alloc: Global,
+    faults: Vec<Fault>,
+}
+
+impl Model for FaultSink {
+    ghost use Rattle.std.specs.Prelude.{List};
+    ghost use Rattle.al_base.specs.declared.faults.Fault.{Fault};
+
+    ghost Value = { List Fault };
+
+    ghost view = { λ s. s.faults.items };
+}
+
+impl FaultSink {
+    /// A sink without faults. Takes no memory; what faults take comes from `alloc`.
+    pub fn new(alloc: Global) -> FaultSink
+        ensures { result ≡ [] }
+    {
+        FaultSink {
+            alloc,
+            faults: Vec::new(alloc),
+        }
+    }
+
+    /// The memory that faults take, for what is found beside them.
+    pub fn alloc(&self) -> Global {
+        self.alloc
+    }
+
+    /// Adds a fault.
+    pub fn push(&mut self, fault: Fault) -> Result<(), AllocError>
+        ensures { OnOk result (self.new ≡ self.old ++ fault ∷ []) }
+    {
+        self.faults.push(fault)?;
+        Ok(())
+    }
+
+    /// Adds a fault whose message names these texts.
+    pub fn report(&mut self, span: Span, code: Code, args: Args) -> Result<(), AllocError>
+        ensures { OnOk result (self.new ≡ self.old ++ fault_of span code args ∷ []) }
+    {
+        self.push(Fault { span, code, args })
+    }
+
+    /// Adds a fault whose message names no text.
+    pub fn report_plain(&mut self, span: Span, code: Code) -> Result<(), AllocError>
+        ensures { OnOk result (self.new ≡ self.old ++ fault_of span code [] ∷ []) }
+    {
+        self.report(span, code, Args::none())
+    }
+
+    /// Adds a fault whose message names one text. Bytes of it that aren't UTF-8 become U+FFFD.
+    pub fn report_text(&mut self, span: Span, code: Code, text: &[u8]) -> Result<(), AllocError>
+        ensures { OnOk result (self.new ≡ self.old ++ fault_of span code (utf8_lossy text.now ∷ []) ∷ []) }
+    {
+        let args = Args::one_lossy(self.alloc, text)?;
+        self.report(span, code, args)
+    }
+
+    /// Adds a fault whose message names two texts, in this order. Bytes of them that aren't UTF-8 become U+FFFD.
+    pub fn report_two(
+        &mut self,
+        span: Span,
+        code: Code,
+        first: &[u8],
+        second: &[u8],
+    ) -> Result<(), AllocError>
+        ensures { OnOk result (self.new ≡ self.old ++ fault_of span code (utf8_lossy first.now ∷ utf8_lossy second.now ∷ []) ∷ []) }
+    {
+        let args = Args::two_lossy(self.alloc, first, second)?;
+        self.report(span, code, args)
+    }
+
+    /// The faults. Takes no memory.
+    pub fn into_faults(self) -> Vec<Fault>
+        ensures { result.items ≡ self }
+    {
+        self.faults
+    }
+
+    /// Moves the faults behind those of a list: all of them, or none where it fails with `AllocError`.
+    pub fn append_to(self, out: &mut Vec<Fault>) -> Result<(), AllocError>
+        ensures { out.new.items ≡ (if is_ok result then out.old.items ++ self else out.old.items) }
+    {
+        let mut faults = self.faults;
+        out.append(&mut faults)
+    }
+}
