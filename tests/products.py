@@ -131,24 +131,44 @@ def scripts_full_of_stars():
     return {WORKFLOW: b"on: push\njobs:\n" + needed + first + jobs}, b""
 
 
-def deep_in_common(read):
-    """Expressions on what mappings of a matrix have in common, which stand three deep in others."""
+def deep_in_common(read, depth=3, width=7, count=40):
+    """Expressions on what mappings of so many rows of a matrix have in common, which stand this deep in others of so many entries."""
     def mapping(depth, name):
         if depth == 0:
             return b"{x: 1}"
-        return b"{%s}" % b", ".join(b"%s%d: %s" % (name, number, mapping(depth - 1, b"%s%d_" % (name, number))) for number in range(7))
-    rows = b", ".join(b"r%02d: [%s]" % (row, mapping(3, b"k%02d_" % row)) for row in range(40))
+        return b"{%s}" % b", ".join(b"%s%d: %s" % (name, number, mapping(depth - 1, b"%s%d_" % (name, number))) for number in range(width))
+    rows = b", ".join(b"r%02d: [%s]" % (row, mapping(depth, b"k%02d_" % row)) for row in range(count))
     return matrix_of(rows, b"      - run: ${{ contains(%s, '1') }}\n" % read * 9_000)
 
 
-def paths_that_differ(value, behind):
-    """Expressions on what the values of a mapping have in common, by different paths: each of 13 steps by name or by `.*`."""
-    mapping = b"{%s}" % b", ".join(b"k%04d: %s" % (number, value) for number in range(10_000))
+def paths_that_differ(value, behind, count=5_000, values=10_000, beside=b""):
+    """Expressions on what the values of a mapping have in common, by different paths: each of 13 steps by name or by `.*`. Beside each
+    mapping on the way stands another, which has this in it.
+    """
+    mapping = b"{%s}" % b", ".join(b"k%04d: %s" % (number, value) for number in range(values))
     for _ in range(13):
-        mapping = b"{a: %s, b: {}}" % mapping
-    paths = islice(product((b".a", b".*[0]"), repeat=13), 5_000)
+        mapping = b"{a: %s, b: {%s}}" % (mapping, beside)
+    paths = islice(product((b".a", b".*[0]"), repeat=13), count)
     read = b"".join(b"      - run: ${{ contains(matrix.r%s%s, '1') }}\n" % (b"".join(path), behind) for path in paths)
     return matrix_of(b"r: [%s]" % mapping, read)
+
+
+def below(depth, value=b"{x: 1}"):
+    """A value so deep below keys in mappings of one entry."""
+    for _ in range(depth):
+        value = b"{n: %s}" % value
+    return value
+
+
+def paths_and_names(depth, values):
+    """Expressions by different paths, each with so many names behind what all values have in common."""
+    return paths_that_differ(below(depth - 1), b".*" + b".n" * (depth - 1) + b".x", 4_500, values)
+
+
+def names_behind_brackets(depth, values, last):
+    """Expressions that read by names, the last of them this, behind a bracket round what all values of a matrix have in common."""
+    mapping = b"{%s}" % b", ".join(b"k%04d: %s" % (number, below(depth)) for number in range(values))
+    return matrix_of(b"r: [%s]" % mapping, b"      - run: ${{ contains((matrix.r.*)%s%s, '1') }}\n" % (b".n" * depth, last) * 1_800)
 
 
 def many_steps(count):
@@ -177,6 +197,15 @@ def needed_jobs(count, job, expression):
     return {WORKFLOW: b"on: push\njobs:\n" + jobs + last}, b""
 
 
+def output_of_needed_jobs(count, expression, reads):
+    """So many expressions, in a job that needs this many, each of which has an output of one name."""
+    names = [b"j%05d" % number for number in range(count)]
+    jobs = b"".join(b"  %s: {runs-on: u, outputs: {a: x}, steps: [{run: x}]}\n" % name for name in names)
+    steps = b"      - run: ${{ %s }}\n" % expression * reads
+    last = b"  z:\n    needs: [%s]\n    runs-on: u\n    steps:\n" % b", ".join(names) + steps
+    return {WORKFLOW: b"on: push\njobs:\n" + jobs + last}, b""
+
+
 def outputs_of_needed_jobs(expression, first=b""):
     """Expressions on an output of the last of many needed jobs, each of which has one of a name of its own, behind one of this kind."""
     names = [b"j%04d" % number for number in range(5_000)]
@@ -191,10 +220,18 @@ def outputs_of_many_steps():
     return {WORKFLOW: many_steps(10_000) + b"      - run: ${{ contains(steps.*.outputs.x, 'y') }}\n" * 10_000}, b""
 
 
-def steps_with_all_before():
-    """Steps each of which reads an output of all steps before it."""
-    steps = b"".join(b"      - {id: t%04d, run: \"${{ contains(steps.*.outputs.x, 'y') }}\"}\n" % number for number in range(8_000))
+def steps_with_all_before(count):
+    """So many steps, each of which reads an output of all steps before it."""
+    steps = b"".join(b"      - {id: t%05d, run: \"${{ contains(steps.*.outputs.x, 'y') }}\"}\n" % number for number in range(count))
     return {WORKFLOW: many_steps(1) + steps}, b""
+
+
+def steps_that_call_an_action_each(count):
+    """So many steps, each of which calls an action of its own, and behind each an expression on an output of all before it."""
+    called = b"name: A\ndescription: d\noutputs: {o%04d: {value: x}, p: {value: x}}\nruns: {using: composite, steps: []}\n"
+    files = {f"a{number:04}/action.yml": called % number for number in range(count)}
+    step = b"      - {id: s%04d, uses: ./a%04d}\n      - run: ${{ contains(steps.*.outputs.p, 'x') }}\n"
+    return files | {WORKFLOW: STEPS + b"".join(step % (number, number) for number in range(count))}, b""
 
 
 def all_of_many_inputs():
@@ -331,8 +368,23 @@ FOLDERS = {
     "400-jobs-with-1700-stars-that-need-the-same-60": scripts_full_of_stars,
     "deep-in-common-9000-times": lambda: deep_in_common(b"matrix.*[0].*[0].*[0].*.x"),
     "deep-below-branches-in-common-9000-times": lambda: deep_in_common(b"(matrix || matrix).*[0].*[0].*[0].*.x"),
+    "six-levels-in-common-9000-times": lambda: deep_in_common(b"matrix.*[0].*.*.*.*.*.x", 5, 4, 8),
     "in-common-by-5000-paths": lambda: paths_that_differ(b"{x: 1}", b".*.x"),
     "deep-in-common-by-5000-paths": lambda: paths_that_differ(b"{y: {x: 1}}", b".*[0].*.x"),
+    "by-4500-paths-and-5-names": lambda: paths_and_names(5, 6_800),
+    "by-4500-paths-and-6-names": lambda: paths_and_names(6, 5_800),
+    "by-4500-paths-and-8-names": lambda: paths_and_names(8, 4_500),
+    "in-common-by-8000-paths-that-meet-others": lambda: paths_that_differ(b"{x: 1}", b".*.x", 8_000, 6_000, b"c: {x: 1}"),
+    "14-names-behind-brackets": lambda: names_behind_brackets(14, 2_900, b""),
+    "9-names-behind-brackets": lambda: names_behind_brackets(8, 4_400, b".x"),
+    "output-of-6000-needs-in-brackets": lambda: output_of_needed_jobs(6_000, b"contains((needs.*).outputs.a, 'x')", 3_000),
+    "output-of-6000-needs-in-brackets-by-index": lambda: output_of_needed_jobs(6_000, b"contains((needs[*]).outputs.a, 'x')", 3_000),
+    "output-of-6000-needs-in-branches-in-brackets": lambda: output_of_needed_jobs(
+        6_000, b"contains(((needs || needs).*).outputs.a, 'x')", 3_000),
+    "output-of-6000-needs-and-a-small-object-in-turn": lambda: output_of_needed_jobs(
+        6_000, b"contains(needs.*.outputs.a || needs.*.outputs.a || needs.j00001.*, 'x')", 2_000),
+    "1300-operands-over-13000-needs": lambda: output_of_needed_jobs(
+        13_000, b"(%s).outputs.a" % b"||".join([b"needs.*[0]"] * 1_300), 10),
     "last-of-9000-needs-9000-times": lambda: needed_jobs(9_000, CALLED_ELSEWHERE, b"needs.j8999.result"),
     "all-of-2000-needs-2000-times": lambda: needed_jobs(2_000, b"runs-on: u, steps: [{run: x}]", b"contains(needs.*.result, 'failure')"),
     "all-of-2000-needs-in-2000-branches": lambda: needed_jobs(
@@ -341,7 +393,8 @@ FOLDERS = {
     "outputs-of-5000-needs-in-9000-branches": lambda: outputs_of_needed_jobs(b"(needs || needs).*"),
     "outputs-of-5000-needs-and-of-a-call": lambda: outputs_of_needed_jobs(b"needs.*", CALLED_ELSEWHERE),
     "outputs-of-10000-steps-10000-times": outputs_of_many_steps,
-    "8000-steps-with-all-before": steps_with_all_before,
+    "15000-steps-with-all-before": lambda: steps_with_all_before(15_000),
+    "4000-steps-that-call-an-action-each": lambda: steps_that_call_an_action_each(4_000),
     "all-of-16000-inputs-10000-times": all_of_many_inputs,
     "all-of-16000-mappings-10000-times": lambda: all_of_a_mapping(b"matrix.a.*.x"),
     "all-of-16000-mappings-of-all-rows-10000-times": lambda: all_of_a_mapping(b"matrix.*[0].*.x"),
