@@ -1,6 +1,8 @@
-//! A law over the definitions: what two objects have in common, by their fields.
+//! Laws over the definitions of types.
 
+ghost use Rattle.std.specs.Prelude.{◌≡◌};
 ghost use Rattle.al_types.specs.FusedFields.{ObjectsFuse};
+ghost use Rattle.al_types.specs.Types.{Type', fuse_type};
 
 /// What two objects have in common, by their fields.
 ///
@@ -8,4 +10,11 @@ ghost use Rattle.al_types.specs.FusedFields.{ObjectsFuse};
 /// name, and the law says that this makes the object with the fields of both, as long as none of them has a name twice. Does nothing.
 pub fn objects_fuse()
     ensures { ObjectsFuse }
+{}
+
+/// What types have in common, in whatever order they come and however often each does. Does nothing.
+pub fn types_fuse()
+    ensures order { (a b : Type') → fuse_type a b ≡ fuse_type b a }
+    ensures grouping { (a b c : Type') → fuse_type (fuse_type a b) c ≡ fuse_type a (fuse_type b c) }
+    ensures repeats { (a : Type') → fuse_type a a ≡ a }
 {}
