@@ -6,3 +6,4 @@ pub mod Values
 pub mod Rows
 pub mod Files
 pub mod Kinds
+pub mod Private

@@ -10,7 +10,6 @@ mod files;
 mod keys;
 mod kinds;
 mod names;
-mod reports;
 mod scalars;
 mod sections;
 mod standings;

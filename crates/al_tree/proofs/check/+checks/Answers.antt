@@ -1,6 +1,5 @@
 use Rattle.std.proofs.Common.{◌≡◌, ap, ◌∙◌, ◌+◌, ◌∷◌, ◌++◌, [], List, append_assoc, drop, false, map, sym, take, Some}
 use Rattle.al_base.specs.declared.faults.Fault.{Fault}
-use Rattle.al_base.proofs.Growing.{begins_trans}
 use Rattle.al_yaml_tree.specs.View.{entries_of, entry_view, nodes_of, view}
 use Rattle.al_tree.specs.Faults.{entries_faults, entry_faults, faults, items_faults, keyed_faults, mapping_faults, refined, Standing, standing, standing_view, takes_null}
 use Rattle.al_tree.specs.Keys.{and_text, holds, key_of, keys_in}
@@ -11,41 +10,39 @@ use Rattle.al_tree.proofs.Lists.{keys_next, left_next}
 use Rattle.al_tree.proofs.Shapes.{faults_mapping, free_apart}
 use Rattle.al_tree.proofs.check.+checks.Goals as goal
 
-pub check-returns-in-Some-rule_of-clause-ok : goal.check-returns-in-Some-rule_of-clause-ok
-check-returns-in-Some-rule_of-clause-ok t c =
-    let es = c.in-Mapping.entries.items in
-    let taken : rule (refined c.args.shape (map entry_view es)) ≡ Some (rule_view c.in-Some-rule_of.rule) =
-    cc (c.refine.ensures, c.as_slice-in-Mapping.ensures.value, c.in-Some-rule_of.ensures) in
-    let same = faults_mapping c.args.shape c.args.null c.args.above.now c.args.node.now c.in-Mapping.entries c.in-Mapping.is
-    ∙ ap (λ r. mapping_faults r c.args.above.now (among (keys_in (map entry_view es))) c.args.node.now.span
-    (λ ks. entries_faults ks [] (among (keys_in (map entry_view es))) (entries_of (map entry_view es)))) taken in
-    let here = rw c.as_slice-in-Some-rule_of.ensures.value at c.check_keyed.ensures.ok in
+pub check-returns-in-Mapping : goal.check-returns-in-Mapping
+check-returns-in-Mapping t c =
+    let demand = c.args.demand in
+    let same = faults_mapping demand.shape demand.takes_null demand.above.now c.args.node.now c.in-Mapping.entries c.in-Mapping.is in
+    let here = rw c.as_slice-in-Mapping.ensures.value at c.check_mapping.ensures in
     rw same here
 
-pub check_keyed-returns-in-Free-clause-ok : goal.check_keyed-returns-in-Free-clause-ok
-check_keyed-returns-in-Free-clause-ok t c =
-    let es = entries_of (map entry_view c.args.entries.now) in
-    let all = among (keys_in (map entry_view c.args.entries.now)) in
+pub check_mapping-returns-in-Free : goal.check_mapping-returns-in-Free
+check_mapping-returns-in-Free t c =
+    let shape = c.args.demand.shape in
+    let above = c.args.demand.above.now in
+    let pairs = map entry_view c.args.entries.now in
+    let es = entries_of pairs in
+    let all = among (keys_in pairs) in
+    let taken : rule (refined shape pairs) ≡ Some (rule_view c.in-Some.rule) = cc (c.refine.ensures, c.in-Some.ensures) in
     let kind = ap keys_view c.in-Free.is in
     let same = ap (λ ks. entries_faults ks [] (holds c.new.result) es) kind ∙ free_apart c.in-Free.field-0 [] (holds c.new.result) all es
-    ∙ sym (ap (λ ks. keyed_faults ks c.args.above.now all c.args.at (λ ks'. entries_faults ks' [] all es)) kind) in
-    rw same at c.check_entries.ensures.ok
+    ∙ sym (ap (λ ks. keyed_faults ks above all c.args.at (λ ks'. entries_faults ks' [] all es)) kind)
+    ∙ sym (ap (λ r. mapping_faults r above all c.args.at (λ ks. entries_faults ks [] all es)) taken) in
+    rw same at c.check_entries.ensures
 
 pub check_items-loop-node-preserved : goal.check_items-loop-node-preserved
 check_items-loop-node-preserved t c =
     let ns = c.args.nodes.now in
     let i = c.loop-node.node-index in
     let n = c.node-item.result in
-    let out = c.loop-node.out.items in
+    let out = c.loop-node.faults in
     let left = map view (drop (i + 1) ns) in
     let rest = left_next view ns i n c.loop-node-test.true c.node-item.is in
-    record {
-      all = ap (λ l. l ++ items_faults c.args.shape c.args.above.now (nodes_of left)) c.in_ok-check.ensures.ok
-          ∙ append_assoc out (faults c.args.shape false c.args.above.now (view n)) (items_faults c.args.shape c.args.above.now (nodes_of left))
-          ∙ ap (λ l. out ++ items_faults c.args.shape c.args.above.now (nodes_of l)) (sym rest)
-          ∙ c.loop-node.invariant.all;
-      begins = begins_trans _ _ _ c.loop-node.invariant.begins c.in_ok-check.ensures.begins;
-    }
+    ap (λ l. l ++ items_faults c.args.shape c.args.above.now (nodes_of left)) c.in_ok-check.ensures
+    ∙ append_assoc out (faults c.args.shape false c.args.above.now (view n)) (items_faults c.args.shape c.args.above.now (nodes_of left))
+    ∙ ap (λ l. out ++ items_faults c.args.shape c.args.above.now (nodes_of l)) (sym rest)
+    ∙ c.loop-node.invariant
 
 pub check_entries-loop-entry-preserved : goal.check_entries-loop-entry-preserved
 check_entries-loop-entry-preserved t c =
@@ -56,7 +53,7 @@ check_entries-loop-entry-preserved t c =
     let ks = keys_view c.args.keys in
     let before = keys_in (map entry_view (take i es)) in
     let left = map entry_view (drop (i + 1) es) in
-    let out = c.loop-entry.out.items in
+    let out = c.loop-entry.faults in
     let more = keys_next es i e c.loop-entry-test.true c.entry-item.is in
     let rest = left_next entry_view es i e c.loop-entry-test.true c.entry-item.is in
     let stands : standing_view c.standing_of-standing.result ≡ standing ks (among before) all (key_of (entry_view e)) =
@@ -65,7 +62,7 @@ check_entries-loop-entry-preserved t c =
     let here : Standing → List Fault = λ st. entry_faults st (entry_view e).0 (λ s. faults s (takes_null s) (key_of (entry_view e)) (entry_view e).1) in
     let behind : List _ → List Fault = λ ks'. entries_faults ks ks' all (entries_of left) in
     record {
-      all = ap (λ l. l ++ behind (keys_in (map entry_view (take (i + 1) es)))) c.in_ok-check_entry.ensures.ok
+      all = ap (λ l. l ++ behind (keys_in (map entry_view (take (i + 1) es)))) c.in_ok-check_entry.ensures
           ∙ ap (λ st. (out ++ here st) ++ behind (keys_in (map entry_view (take (i + 1) es)))) stands
           ∙ ap (λ before'. (out ++ here (standing ks (among before) all (key_of (entry_view e)))) ++ behind before') more
           ∙ append_assoc out (here (standing ks (among before) all (key_of (entry_view e)))) (behind (before ++ key_of (entry_view e) ∷ []))
@@ -73,5 +70,4 @@ check_entries-loop-entry-preserved t c =
           ∙ c.loop-entry.invariant.all;
       seen = c.in_ok-insert.ensures.set ∙ ap (λ f. and_text f c.key_of-key.result.now) c.loop-entry.invariant.seen
           ∙ ap (and_text (among before)) c.key_of-key.ensures ∙ among_more before (key_of (entry_view e)) ∙ ap among (sym more);
-      begins = begins_trans _ _ _ c.loop-entry.invariant.begins c.in_ok-check_entry.ensures.begins;
     }

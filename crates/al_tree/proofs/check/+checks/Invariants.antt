@@ -1,7 +1,6 @@
 use Rattle.std.proofs.Common.{◌≡◌, ◌++◌, [], take, drop, map}
 use Rattle.al_yaml_tree.specs.View.{entries_of, entry_view, nodes_of, view}
 use Rattle.al_tree.specs.Faults.{entries_faults, items_faults}
-use Rattle.al_base.specs.Growth.{BeginsWith}
 use Rattle.al_tree.specs.Keys.{holds, keys_in}
 use Rattle.al_tree.specs.Names.{among}
 use Rattle.al_tree.specs.Table.{keys_view}
@@ -9,16 +8,13 @@ use Rattle.al_tree.proofs.check.+checks.Given as goal
 
 -- what was added, and the faults of what is left, are the faults of all
 abbrev pub invariant-check_items-loop-node : goal.invariant-check_items-loop-node
-invariant-check_items-loop-node l = record {
-  all : l.out.items ++ items_faults l.shape l.above (nodes_of (map view (drop l.node-index l.nodes)))
-      ≡ l.fn.out.items ++ items_faults l.shape l.above (nodes_of (map view l.nodes));
-  begins : BeginsWith l.out.items l.fn.out.items;
-}
+invariant-check_items-loop-node l =
+    l.faults ++ items_faults l.shape l.above (nodes_of (map view (drop l.node-index l.nodes)))
+    ≡ l.fn.faults ++ items_faults l.shape l.above (nodes_of (map view l.nodes))
 
 abbrev pub invariant-check_entries-loop-entry : goal.invariant-check_entries-loop-entry
 invariant-check_entries-loop-entry l = record {
-  all : l.out.items ++ entries_faults (keys_view l.keys) (keys_in (map entry_view (take l.entry-index l.entries))) (holds l.all) (entries_of (map entry_view (drop l.entry-index l.entries)))
-      ≡ l.fn.out.items ++ entries_faults (keys_view l.keys) [] (holds l.all) (entries_of (map entry_view l.entries));
+  all : l.faults ++ entries_faults (keys_view l.keys) (keys_in (map entry_view (take l.entry-index l.entries))) (holds l.all) (entries_of (map entry_view (drop l.entry-index l.entries)))
+      ≡ l.fn.faults ++ entries_faults (keys_view l.keys) [] (holds l.all) (entries_of (map entry_view l.entries));
   seen : holds l.seen ≡ among (keys_in (map entry_view (take l.entry-index l.entries)));
-  begins : BeginsWith l.out.items l.fn.out.items;
 }

@@ -1,5 +1,4 @@
 use Rattle.std.proofs.Common.{ap, ◌++◌, map, take_all, ◌∙◌}
-use Rattle.al_base.proofs.Growing.{begins_by, begins_trans}
 use Rattle.al_tree.specs.Faults.{missing_fault, missing_faults}
 use Rattle.al_tree.specs.Keys.{holds}
 use Rattle.al_tree.specs.Table.{field_of}
@@ -9,14 +8,10 @@ use Rattle.al_tree.proofs.check.check_missing.Goals as goal
 pub loop-row-preserved : goal.loop-row-preserved
 loop-row-preserved c =
     gave_next field_of (missing_fault c.args.at (holds c.args.all.now)) c.args.rows.now c.loop-row.row-index _ _ _ _
-    c.loop-row-test.true c.loop-row.invariant c.in_ok-check_row.ensures.ok
-
-pub returns-in_err-check_row-clause-begins : goal.returns-in_err-check_row-clause-begins
-returns-in_err-check_row-clause-begins c = begins_trans _ _ _ (begins_by _ _ _ c.loop-row.invariant) c.check_row.ensures.begins
+    c.loop-row-test.true c.loop-row.invariant c.in_ok-check_row.ensures
 
 pub returns : goal.returns
 returns c =
     let missing = missing_faults c.args.at (holds c.args.all.now) in
-    let is = c.loop-row.invariant
-    ∙ ap (λ rows. c.args.out.now.items ++ missing (map field_of rows)) (take_all c.loop-row.row-index c.args.rows.now c.loop-row-test.false) in
-    record { ok = is; begins = begins_by _ _ _ is }
+    c.loop-row.invariant
+    ∙ ap (λ rows. c.args.faults.now ++ missing (map field_of rows)) (take_all c.loop-row.row-index c.args.rows.now c.loop-row-test.false)

@@ -6,4 +6,4 @@ use Rattle.al_tree.proofs.check.check_missing.Given as goal
 
 abbrev pub invariant-loop-row : goal.invariant-loop-row
 invariant-loop-row l =
-    l.out.items ≡ l.fn.out.items ++ missing_faults l.fn.at (holds l.all) (map field_of (take l.row-index l.rows))
+    l.faults ≡ l.fn.faults ++ missing_faults l.fn.at (holds l.all) (map field_of (take l.row-index l.rows))

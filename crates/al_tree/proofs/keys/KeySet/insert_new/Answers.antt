@@ -1,4 +1,4 @@
-use Rattle.std.proofs.Common.{true, false, map, not, ap, sym, ◌∙◌, refl}
+use Rattle.std.proofs.Common.{map, not, ap, sym, ◌∙◌, refl}
 use Rattle.al_tree.specs.Names.{among}
 use Rattle.al_tree.proofs.KeyLemmas.{behind_first, first_held, held, inserted}
 use Rattle.al_tree.proofs.keys.KeySet.insert_new.Goals as goal
