@@ -8,6 +8,7 @@ ghost use Rattle.al_check_places.specs.Availability.{row_of};
 ghost use Rattle.al_check_places.specs.Places as places;
 ghost use Rattle.al_check_places.specs.Places.{available_at, entry_places, place_of, placed, placed_entries};
 ghost use Rattle.al_check_places.specs.Places.{placed_items, places_of, rule_or_any, scalar_places};
+ghost use Rattle.al_check_places.specs.Private.Walks.{places_in, way_in};
 ghost use Rattle.al_check_places.specs.Ways.{keys_of, step_of, under};
 ghost use Rattle.al_tree.specs.Files.{shape_of as file_shape};
 ghost use Rattle.al_yaml_tree.specs.View.{entries_of, entry_view, nodes_of, view};
@@ -36,6 +37,15 @@ pub struct Place<'a> {
     pub is_condition: bool,
     pub is_script: bool,
     pub position: Position<'a>,
+}
+
+/// A walk through a file of a kind: the way from its root to where the walk is, and the places found so far, in the order of the file.
+#[derive(Drop)]
+struct Walk<'a> {
+    alloc: Global,
+    kind: FileKind,
+    way: Vec<WayStep<'a>>,
+    found: Vec<Place<'a>>,
 }
 
 /// What the place of a node asks for.
@@ -90,26 +100,26 @@ fn available_in(kind: FileKind, way: &[WayStep<'_>], keys: &[&[u8]]) -> Option<&
     }
 }
 
-/// The place at the end of a way with these keys.
+/// The place where a walk is, with the keys of its way.
 fn place_at<'a>(
-    kind: FileKind,
-    way: &[WayStep<'a>],
+    walk: &Walk<'a>,
     keys: &[&[u8]],
     is_scalar_only: bool,
     scalar: ScalarNode<'a>,
 ) -> Place<'a>
-    requires { map (λ k. k.now) keys.now ≡ keys_of (map step_of way.now) }
-    ensures { place_of result
-        ≡ places.place_at kind (map step_of way.now) is_scalar_only (scalar.entry).scalar.now (scalar.entry).span }
+    requires { map (λ k. k.now) keys.now ≡ keys_of (way_in walk.now) }
+    ensures { place_of result ≡ places.place_at walk.now.kind (way_in walk.now)
+        is_scalar_only (scalar.entry).scalar.now (scalar.entry).span }
 {
+    let way = walk.way.as_slice();
     Place {
         scalar: scalar.scalar,
         span: scalar.span,
         is_scalar_only,
-        available: available_in(kind, way, keys),
+        available: available_in(walk.kind, way, keys),
         is_condition: is_condition(keys),
         is_script: is_script(keys),
-        position: position_at(kind, way),
+        position: position_at(walk.kind, way),
     }
 }
 
@@ -137,17 +147,19 @@ fn has_expression(way: &[WayStep<'_>], keys: &[&[u8]], scalar: &Scalar) -> bool
 
 /// Adds the place of a scalar, where it is checked and has an expression.
 fn find_scalar<'a>(
-    alloc: Global,
-    kind: FileKind,
     asked: Asked,
-    way: &[WayStep<'a>],
     scalar: ScalarNode<'a>,
-    out: &mut Vec<Place<'a>>,
+    walk: &mut Walk<'a>,
 ) -> Result<(), AllocError>
-    ensures { OnOk result (map place_of out.new.items ≡ map place_of out.old.items
-        ++ scalar_places kind (rule_or_any (table_rule asked.shape)) asked.is_item (map step_of way.now)
-        (scalar.entry).scalar.now (scalar.entry).span) }
+    ensures found { OnOk result (places_in walk.new ≡ places_in walk.old
+        ++ scalar_places walk.old.kind (rule_or_any (table_rule asked.shape)) asked.is_item
+        (way_in walk.old) (scalar.entry).scalar.now (scalar.entry).span) }
+    ensures way { OnOk result (walk.new.way.items ≡ walk.old.way.items) }
+    ensures kind { OnOk result (walk.new.kind ≡ walk.old.kind) }
 {
+    let alloc = walk.alloc;
+    let kind = walk.kind;
+    let way = walk.way.as_slice();
     if !may_have_expression(way, scalar.scalar) {
         return Ok(());
     }
@@ -161,24 +173,19 @@ fn find_scalar<'a>(
         return Ok(());
     }
     let only = takes_scalars_only(rule) && !asked.is_item;
-    out.push(place_at(kind, way, keys, only, scalar))?;
+    let place = place_at(walk, keys, only, scalar);
+    walk.found.push(place)?;
     Ok(())
 }
 
-/// Adds the places of a node at the end of a way, where it should have a shape and may be an item of a list.
+/// Adds the places of a node, where it should have a shape and may be an item of a list.
 #[tactic(auto, using(crate::proofs::Nodes::placed_sequence, crate::proofs::Nodes::placed_mapping))]
 #[cycle(finds)]
-fn find<'a>(
-    alloc: Global,
-    kind: FileKind,
-    asked: Asked,
-    way: &mut Vec<WayStep<'a>>,
-    node: &'a Node,
-    out: &mut Vec<Place<'a>>,
-) -> Result<(), AllocError>
-    ensures found { OnOk result (map place_of out.new.items ≡ map place_of out.old.items
-        ++ placed kind asked.shape asked.is_item (map step_of way.old.items) (view node.now)) }
-    ensures way { OnOk result (way.new.items ≡ way.old.items) }
+fn find<'a>(asked: Asked, node: &'a Node, walk: &mut Walk<'a>) -> Result<(), AllocError>
+    ensures found { OnOk result (places_in walk.new ≡ places_in walk.old
+        ++ placed walk.old.kind asked.shape asked.is_item (way_in walk.old) (view node.now)) }
+    ensures way { OnOk result (walk.new.way.items ≡ walk.old.way.items) }
+    ensures kind { OnOk result (walk.new.kind ≡ walk.old.kind) }
 {
     match &node.kind {
         Kind::Scalar(scalar) => {
@@ -186,37 +193,28 @@ fn find<'a>(
                 scalar,
                 span: node.span,
             };
-            find_scalar(alloc, kind, asked, way.as_slice(), scalar, out)
+            find_scalar(asked, scalar, walk)
         }
         Kind::Sequence(nodes) => match rule_at(asked.shape).items {
             None => Ok(()),
-            Some(inner) => find_items(alloc, kind, inner, way, nodes.as_slice(), out),
+            Some(inner) => find_items(inner, nodes.as_slice(), walk),
         },
         Kind::Mapping(entries) => find_entries(
-            alloc,
-            kind,
             rule_at(refine(asked.shape, entries.as_slice())).keys,
-            way,
             entries.as_slice(),
-            out,
+            walk,
         ),
-        Kind::Shared(inner) => find(alloc, kind, asked, way, inner, out),
+        Kind::Shared(inner) => find(asked, inner, walk),
     }
 }
 
 /// Adds the places of the items of a list.
 #[cycle(finds)]
-fn find_items<'a>(
-    alloc: Global,
-    kind: FileKind,
-    shape: Shape,
-    way: &mut Vec<WayStep<'a>>,
-    nodes: &'a [Node],
-    out: &mut Vec<Place<'a>>,
-) -> Result<(), AllocError>
-    ensures found { OnOk result (map place_of out.new.items ≡ map place_of out.old.items
-        ++ placed_items kind shape (map step_of way.old.items) 0 (nodes_of (map view nodes.now))) }
-    ensures way { OnOk result (way.new.items ≡ way.old.items) }
+fn find_items<'a>(shape: Shape, nodes: &'a [Node], walk: &mut Walk<'a>) -> Result<(), AllocError>
+    ensures found { OnOk result (places_in walk.new ≡ places_in walk.old
+        ++ placed_items walk.old.kind shape (way_in walk.old) 0 (nodes_of (map view nodes.now))) }
+    ensures way { OnOk result (walk.new.way.items ≡ walk.old.way.items) }
+    ensures kind { OnOk result (walk.new.kind ≡ walk.old.kind) }
 {
     let mut i = 0;
     for node in nodes {
@@ -224,9 +222,9 @@ fn find_items<'a>(
             shape,
             is_item: true,
         };
-        way.push(WayStep::Nth(i))?;
-        find(alloc, kind, asked, way, node, out)?;
-        way.pop();
+        walk.way.push(WayStep::Nth(i))?;
+        find(asked, node, walk)?;
+        walk.way.pop();
         i += 1;
     }
     Ok(())
@@ -236,24 +234,22 @@ fn find_items<'a>(
 #[tactic(auto, using(al_tree::proofs::KeyLemmas::among_more))]
 #[cycle(finds)]
 fn find_entries<'a>(
-    alloc: Global,
-    kind: FileKind,
     takes: Keys,
-    way: &mut Vec<WayStep<'a>>,
     entries: &'a [Entry],
-    out: &mut Vec<Place<'a>>,
+    walk: &mut Walk<'a>,
 ) -> Result<(), AllocError>
-    ensures found { OnOk result (map place_of out.new.items ≡ map place_of out.old.items
-        ++ placed_entries kind (keys_view takes) [] (among (keys_in (map entry_view entries.now))) (map step_of way.old.items)
-        (entries_of (map entry_view entries.now))) }
-    ensures way { OnOk result (way.new.items ≡ way.old.items) }
+    ensures found { OnOk result (places_in walk.new ≡ places_in walk.old
+        ++ placed_entries walk.old.kind (keys_view takes) [] (among (keys_in (map entry_view entries.now)))
+        (way_in walk.old) (entries_of (map entry_view entries.now))) }
+    ensures way { OnOk result (walk.new.way.items ≡ walk.old.way.items) }
+    ensures kind { OnOk result (walk.new.kind ≡ walk.old.kind) }
 {
-    let mut seen = KeySet::new(alloc);
+    let mut seen = KeySet::new(walk.alloc);
     for entry in entries {
         let key = key_of(entry);
         // All keys of the mapping would tell beside which of them the key cannot stand, and so no place.
         let standing = standing_of(takes, &seen, &seen, key);
-        find_entry(alloc, kind, standing, way, entry, out)?;
+        find_entry(standing, entry, walk)?;
         seen.insert(key)?;
     }
     Ok(())
@@ -263,18 +259,16 @@ fn find_entries<'a>(
 #[tactic(auto, using(al_yaml_tree::proofs::ViewLemmas::entry_parts))]
 #[cycle(finds)]
 fn find_entry<'a>(
-    alloc: Global,
-    kind: FileKind,
     standing: Standing,
-    way: &mut Vec<WayStep<'a>>,
     entry: &'a Entry,
-    out: &mut Vec<Place<'a>>,
+    walk: &mut Walk<'a>,
 ) -> Result<(), AllocError>
-    ensures found { OnOk result (map place_of out.new.items ≡ map place_of out.old.items
+    ensures found { OnOk result (places_in walk.new ≡ places_in walk.old
         ++ entry_places (standing_view standing)
-        (λ s. placed kind s false (map step_of way.old.items ++ under (key_in (entry_view entry.now)) ∷ [])
+        (λ s. placed walk.old.kind s false (way_in walk.old ++ under (key_in (entry_view entry.now)) ∷ [])
         (entry_view entry.now).1)) }
-    ensures way { OnOk result (way.new.items ≡ way.old.items) }
+    ensures way { OnOk result (walk.new.way.items ≡ walk.old.way.items) }
+    ensures kind { OnOk result (walk.new.kind ≡ walk.old.kind) }
 {
     match standing {
         Standing::Repeated => Ok(()),
@@ -285,9 +279,9 @@ fn find_entry<'a>(
                 shape,
                 is_item: false,
             };
-            way.push(WayStep::Under(key_of(entry)))?;
-            find(alloc, kind, asked, way, &entry.value, out)?;
-            way.pop();
+            walk.way.push(WayStep::Under(key_of(entry)))?;
+            find(asked, &entry.value, walk)?;
+            walk.way.pop();
             Ok(())
         }
     }
@@ -312,8 +306,12 @@ pub fn places(alloc: Global, kind: FileKind, root: &Node) -> Result<Vec<Place<'_
         shape: shape_of(kind),
         is_item: false,
     };
-    let mut out = Vec::new(alloc);
-    let mut way = Vec::new(alloc);
-    find(alloc, kind, asked, &mut way, root, &mut out)?;
-    Ok(out)
+    let mut walk = Walk {
+        alloc,
+        kind,
+        way: Vec::new(alloc),
+        found: Vec::new(alloc),
+    };
+    find(asked, root, &mut walk)?;
+    Ok(walk.found)
 }

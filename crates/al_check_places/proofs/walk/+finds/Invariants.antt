@@ -10,17 +10,20 @@ use Rattle.al_check_places.proofs.walk.+finds.Given as goal
 -- what was found, and the places of what is left, are the places of all
 abbrev pub invariant-find_items-loop-node : goal.invariant-find_items-loop-node
 invariant-find_items-loop-node l = record {
-  all : map place_of l.out.items ++ placed_items l.kind l.shape (map step_of l.fn.way.items) l.i (nodes_of (map view (drop l.node-index l.nodes)))
-      ≡ map place_of l.fn.out.items ++ placed_items l.kind l.shape (map step_of l.fn.way.items) 0 (nodes_of (map view l.nodes));
-  way : l.way.items ≡ l.fn.way.items;
+  all : map place_of l.walk.found.items ++ placed_items l.fn.walk.kind l.shape (map step_of l.fn.walk.way.items) l.i (nodes_of (map view (drop l.node-index l.nodes)))
+      ≡ map place_of l.fn.walk.found.items ++ placed_items l.fn.walk.kind l.shape (map step_of l.fn.walk.way.items) 0 (nodes_of (map view l.nodes));
+  way : l.walk.way.items ≡ l.fn.walk.way.items;
+  kind : l.walk.kind ≡ l.fn.walk.kind;
   index : l.i ≡ l.node-index;
 }
 
 abbrev pub invariant-find_entries-loop-entry : goal.invariant-find_entries-loop-entry
 invariant-find_entries-loop-entry l = record {
-  found : map place_of l.out.items ++ placed_entries l.kind (keys_view l.takes) (keys_in (map entry_view (take l.entry-index l.entries)))
-      (among (keys_in (map entry_view l.entries))) (map step_of l.fn.way.items) (entries_of (map entry_view (drop l.entry-index l.entries)))
-      ≡ map place_of l.fn.out.items ++ placed_entries l.kind (keys_view l.takes) [] (among (keys_in (map entry_view l.entries))) (map step_of l.fn.way.items) (entries_of (map entry_view l.entries));
+  found : map place_of l.walk.found.items ++ placed_entries l.fn.walk.kind (keys_view l.takes) (keys_in (map entry_view (take l.entry-index l.entries)))
+      (among (keys_in (map entry_view l.entries))) (map step_of l.fn.walk.way.items) (entries_of (map entry_view (drop l.entry-index l.entries)))
+      ≡ map place_of l.fn.walk.found.items ++ placed_entries l.fn.walk.kind (keys_view l.takes) []
+      (among (keys_in (map entry_view l.entries))) (map step_of l.fn.walk.way.items) (entries_of (map entry_view l.entries));
   seen : holds l.seen ≡ among (keys_in (map entry_view (take l.entry-index l.entries)));
-  way : l.way.items ≡ l.fn.way.items;
+  way : l.walk.way.items ≡ l.fn.walk.way.items;
+  kind : l.walk.kind ≡ l.fn.walk.kind;
 }

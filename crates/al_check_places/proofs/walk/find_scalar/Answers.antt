@@ -5,10 +5,10 @@ use Rattle.al_check_places.specs.Ways.{step_of}
 use Rattle.al_check_places.proofs.Endings.{without_expression}
 use Rattle.al_check_places.proofs.walk.find_scalar.Goals as goal
 
-pub returns-then-not-may_have_expression : goal.returns-then-not-may_have_expression
-returns-then-not-may_have_expression c =
-    let before = map place_of c.args.out.now.items in
-    let none = without_expression c.args.kind (rule_or_any (rule c.args.asked.shape)) c.args.asked.is_item (map step_of c.args.way.now)
-    c.args.scalar.scalar.now c.args.scalar.span
-    c.may_have_expression.result (cc) c.may_have_expression.ensures in
+pub returns-then-not-may_have_expression-clause-found : goal.returns-then-not-may_have_expression-clause-found
+returns-then-not-may_have_expression-clause-found c =
+    let before = map place_of c.args.walk.now.found.items in
+    let none = without_expression c.args.walk.now.kind (rule_or_any (rule c.args.asked.shape)) c.args.asked.is_item
+    (map step_of c.args.walk.now.way.items) c.args.scalar.scalar.now c.args.scalar.span
+    c.may_have_expression.result (cc) (rw c.as_slice-way.ensures.value at c.may_have_expression.ensures) in
     sym (append-nil before) ∙ ap (λ more. before ++ more) (sym none)
