@@ -2,15 +2,14 @@
 ghost use Rattle.std.specs.Prelude.{◌≡◌, ◌++◌, [], map, slice_get, IfOk, List, OnOk, Some};
 ghost use Rattle.std.specs.List.{cons_option, filter_map, flat_map};
 ghost use Rattle.std.specs.Option.{option_map_or};
-ghost use Rattle.al_tree.specs.Values.{scalar_node_of};
 ghost use Rattle.al_check_interfaces.specs.Forms as forms;
 ghost use Rattle.al_check_interfaces.specs.Kept.{kept, seen};
-ghost use Rattle.al_check_interfaces.specs.Private.CallViews.{kept_at, site_of};
+ghost use Rattle.al_check_interfaces.specs.Private.CallViews.{kept_at, site_of, uses_of};
 ghost use Rattle.al_check_interfaces.specs.Uses as calling;
 
 use crate::forms::{Form, job_form, step_form};
 use crate::sites::{Site, caller_of};
-use al_base::{Args, CallCode, Caller, Code, Fault};
+use al_base::{Args, CallCode, Caller, Code, Fault, FaultSink};
 use al_session_folder::Target;
 use al_tree::{ScalarNode, text_under};
 use std::alloc::{AllocError, Global};
@@ -26,6 +25,15 @@ pub struct Call {
     pub fault: Fault,
 }
 
+/// The `uses` of a step or a job.
+#[derive(Clone, Copy)]
+struct Uses<'a> {
+    /// The number of the step or the job, among those of its file.
+    number: usize,
+    site: Site<'a>,
+    text: ScalarNode<'a>,
+}
+
 /// What a `uses` is.
 fn form(alloc: Global, caller: Caller, text: &[u8]) -> Result<Form, AllocError>
     ensures { IfOk result (λ f. f ≡ forms.form_by caller text.now) }
@@ -37,43 +45,31 @@ fn form(alloc: Global, caller: Caller, text: &[u8]) -> Result<Form, AllocError>
 }
 
 /// A fault at a `uses` that names its text.
-fn that_uses(
-    alloc: Global,
-    code: CallCode,
-    caller: Caller,
-    uses: ScalarNode<'_>,
-) -> Result<Fault, AllocError>
-    ensures { (s : calling.Site) → calling.caller_of s ≡ caller
-        → IfOk result (λ f. f ≡ calling.that_uses code (calling.call_by s (scalar_node_of uses.entry))) }
+fn that_uses(alloc: Global, code: CallCode, uses: Uses<'_>) -> Result<Fault, AllocError>
+    ensures { IfOk result (λ f. f ≡ calling.that_uses code (uses_of uses.entry)) }
 {
     Ok(Fault {
-        span: uses.span,
-        code: Code::Call(code, caller),
-        args: Args::one_lossy(alloc, uses.scalar.text())?,
+        span: uses.text.span,
+        code: Code::Call(code, caller_of(uses.site)),
+        args: Args::one_lossy(alloc, uses.text.scalar.text())?,
     })
 }
 
 /// Adds the call by a `uses`, if it names a file of the folder, or the fault of one that is wrong.
-fn add_uses(
-    alloc: Global,
-    number: usize,
-    site: Site<'_>,
-    uses: ScalarNode<'_>,
-    calls: &mut Vec<Call>,
-    out: &mut Vec<Fault>,
-) -> Result<(), AllocError>
-    ensures calls { OnOk result ((all : List calling.Site) → slice_get all number ≡ Some (site_of site.entry)
+fn add_uses(uses: Uses<'_>, calls: &mut Vec<Call>, faults: &mut FaultSink) -> Result<(), AllocError>
+    ensures calls { OnOk result ((all : List calling.Site) → slice_get all (uses.entry).number
+        ≡ Some (site_of (uses.entry).site)
         → map (seen all) calls.new.items ≡ map (seen all) calls.old.items
-        ++ cons_option (kept (calling.call_by (site_of site.entry) (scalar_node_of uses.entry))) []) }
-    ensures faults { OnOk result (out.new.items ≡ out.old.items
-        ++ calling.wrong_uses (calling.call_by (site_of site.entry) (scalar_node_of uses.entry))) }
+        ++ cons_option (kept (uses_of uses.entry)) []) }
+    ensures faults { OnOk result (faults.new ≡ faults.old
+        ++ calling.wrong_uses (uses_of uses.entry)) }
 {
-    let caller = caller_of(site);
-    match form(alloc, caller, uses.scalar.text())? {
+    let alloc = faults.alloc();
+    match form(alloc, caller_of(uses.site), uses.text.scalar.text())? {
         Form::Local(target) => {
-            let fault = that_uses(alloc, CallCode::LeadsBack, caller, uses)?;
+            let fault = that_uses(alloc, CallCode::LeadsBack, uses)?;
             calls.push(Call {
-                site: number,
+                site: uses.number,
                 target,
                 fault,
             })?;
@@ -81,7 +77,8 @@ fn add_uses(
         }
         Form::Other => Ok(()),
         Form::Wrong => {
-            out.push(that_uses(alloc, CallCode::WrongUses, caller, uses)?)?;
+            let fault = that_uses(alloc, CallCode::WrongUses, uses)?;
+            faults.push(fault)?;
             Ok(())
         }
     }
@@ -89,20 +86,24 @@ fn add_uses(
 
 /// Adds the call of a step or a job, where a scalar that is not null stands under `uses`.
 fn add_call(
-    alloc: Global,
     number: usize,
     site: Site<'_>,
     calls: &mut Vec<Call>,
-    out: &mut Vec<Fault>,
+    faults: &mut FaultSink,
 ) -> Result<(), AllocError>
-    ensures calls { OnOk result ((all : List calling.Site) → slice_get all number ≡ Some (site_of site.entry)
-        → map (seen all) calls.new.items ≡ map (seen all) calls.old.items ++ cons_option (kept_at (site_of site.entry)) []) }
-    ensures faults { OnOk result (out.new.items ≡ out.old.items
+    ensures calls { OnOk result ((all : List calling.Site) → slice_get all number
+        ≡ Some (site_of site.entry)
+        → map (seen all) calls.new.items ≡ map (seen all) calls.old.items
+        ++ cons_option (kept_at (site_of site.entry)) []) }
+    ensures faults { OnOk result (faults.new ≡ faults.old
         ++ option_map_or calling.wrong_uses (calling.call_at (site_of site.entry)) []) }
 {
     match text_under(site.node, "uses") {
         None => Ok(()),
-        Some(uses) => add_uses(alloc, number, site, uses, calls, out),
+        Some(text) => {
+            let uses = Uses { number, site, text };
+            add_uses(uses, calls, faults)
+        }
     }
 }
 
@@ -110,19 +111,16 @@ fn add_call(
 /// depend on no other file.
 ///
 /// Fails with `AllocError` when out of memory.
-pub fn calls_by(
-    alloc: Global,
-    sites: &[Site<'_>],
-    out: &mut Vec<Fault>,
-) -> Result<Vec<Call>, AllocError>
+pub fn calls_by(sites: &[Site<'_>], faults: &mut FaultSink) -> Result<Vec<Call>, AllocError>
     ensures calls { IfOk result (λ v. map (seen (map site_of sites.now)) v.items
         ≡ filter_map kept (filter_map calling.call_at (map site_of sites.now))) }
-    ensures faults { OnOk result (out.new.items ≡ out.old.items
+    ensures faults { OnOk result
+        (faults.new ≡ faults.old
         ++ flat_map calling.wrong_uses (filter_map calling.call_at (map site_of sites.now))) }
 {
-    let mut calls = Vec::new(alloc);
+    let mut calls = Vec::new(faults.alloc());
     for number in 0..sites.len() {
-        add_call(alloc, number, sites[number], &mut calls, out)?;
+        add_call(number, sites[number], &mut calls, faults)?;
     }
     Ok(calls)
 }

@@ -45,7 +45,8 @@ fn is_workflow_parts(parts: &[&[u8]]) -> bool
 
 /// Whether the parts behind the first two, of which one is apart, are those of a workflow's path.
 fn is_workflow_behind(done: &[&[u8]], last: &[u8]) -> bool
-    ensures { result ≡ forms.is_workflow_parts (drop 2 (map (λ p. p.now) done.now ++ last.now ∷ [])) }
+    ensures { result
+        ≡ forms.is_workflow_parts (drop 2 (map (λ p. p.now) done.now ++ last.now ∷ [])) }
 {
     match done {
         [_, _, first, second] => is_workflow_path(first, second, last),
@@ -53,36 +54,49 @@ fn is_workflow_behind(done: &[&[u8]], last: &[u8]) -> bool
     }
 }
 
-/// Whether complete parts, of which it is known whether all are texts, and the one behind them are a workflow of another repository.
+/// What stands before a byte of a text: the parts that slashes end, whether all of these are texts, and the part behind the last slash.
+#[derive(Clone, Copy)]
+struct Before<'d, 'a> {
+    done: &'d [&'a [u8]],
+    whole: bool,
+    last: &'a [u8],
+    ghost known: { whole ≡ list_all forms.is_some_text (map (λ p. p.now) done.now) },
+}
+
+/// Whether a workflow of another repository is named before a byte.
 #[tactic(auto, using(crate::proofs::Cuts::all_more))]
-fn is_remote_workflow(done: &[&[u8]], whole: bool, last: &[u8]) -> bool
-    requires { whole ≡ list_all forms.is_some_text (map (λ p. p.now) done.now) }
-    ensures { result ≡ forms.is_remote_workflow (map (λ p. p.now) done.now ++ last.now ∷ []) }
+fn is_remote_workflow(before: Before<'_, '_>) -> bool
+    ensures { result
+        ≡ forms.is_remote_workflow (map (λ p. p.now) (before.entry).done.now
+        ++ (before.entry).last.now ∷ []) }
 {
-    are_texts(whole, last) && is_workflow_behind(done, last)
+    are_texts(before.whole, before.last) && is_workflow_behind(before.done, before.last)
 }
 
-fn is_remote_action(done: &[&[u8]], whole: bool, last: &[u8]) -> bool
-    requires { whole ≡ list_all forms.is_some_text (map (λ p. p.now) done.now) }
-    ensures { result ≡ forms.is_remote_action (map (λ p. p.now) done.now ++ last.now ∷ []) }
+fn is_remote_action(before: Before<'_, '_>) -> bool
+    ensures { result
+        ≡ forms.is_remote_action (map (λ p. p.now) (before.entry).done.now
+        ++ (before.entry).last.now ∷ []) }
 {
-    whole && !last.is_empty() && !done.is_empty()
+    before.whole && !before.last.is_empty() && !before.done.is_empty()
 }
 
-fn is_remote(caller: Caller, done: &[&[u8]], whole: bool, last: &[u8]) -> bool
-    requires { whole ≡ list_all forms.is_some_text (map (λ p. p.now) done.now) }
-    ensures { result ≡ forms.is_remote caller (map (λ p. p.now) done.now ++ last.now ∷ []) }
+fn is_remote(caller: Caller, before: Before<'_, '_>) -> bool
+    ensures { result
+        ≡ forms.is_remote caller (map (λ p. p.now) (before.entry).done.now
+        ++ (before.entry).last.now ∷ []) }
 {
     match caller {
-        Caller::Step => is_remote_action(done, whole, last),
-        Caller::Job => is_remote_workflow(done, whole, last),
+        Caller::Step => is_remote_action(before),
+        Caller::Job => is_remote_workflow(before),
     }
 }
 
-/// Whether this byte cuts a REF off, and the parts before it may be named.
-fn is_cut(caller: Caller, done: &[&[u8]], whole: bool, last: &[u8], byte: u8, rest: &[u8]) -> bool
-    requires { whole ≡ list_all forms.is_some_text (map (λ p. p.now) done.now) }
-    ensures { result ≡ forms.is_cut (forms.is_remote caller) (map (λ p. p.now) done.now ++ last.now ∷ []) byte rest.now }
+/// Whether this byte cuts a REF off, and what stands before it may be named.
+fn is_cut(caller: Caller, before: Before<'_, '_>, byte: u8, rest: &[u8]) -> bool
+    ensures { result
+        ≡ forms.is_cut (forms.is_remote caller) (map (λ p. p.now) (before.entry).done.now
+        ++ (before.entry).last.now ∷ []) byte rest.now }
 {
     if byte != b'@' {
         return false;
@@ -90,7 +104,7 @@ fn is_cut(caller: Caller, done: &[&[u8]], whole: bool, last: &[u8], byte: u8, re
     if rest.is_empty() {
         return false;
     }
-    is_remote(caller, done, whole, last)
+    is_remote(caller, before)
 }
 
 /// Whether parts, of which it is known whether all are texts, and one more are texts.
@@ -113,8 +127,16 @@ fn is_some_cut(alloc: Global, caller: Caller, text: &[u8]) -> Result<bool, Alloc
             whole = are_texts(whole, last);
             done.push(last)?;
             start = i + 1;
-        } else if is_cut(caller, done.as_slice(), whole, last, *byte, &text[i + 1..]) {
-            return Ok(true);
+        } else {
+            let parts = done.as_slice();
+            let before = Before {
+                done: parts,
+                whole,
+                last,
+            };
+            if is_cut(caller, before, *byte, &text[i + 1..]) {
+                return Ok(true);
+            }
         }
     }
     Ok(false)

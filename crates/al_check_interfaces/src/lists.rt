@@ -56,7 +56,8 @@ fn is_mandatory(parameter: &Parameter) -> bool
 
 /// Where the parameters stand that each call has to give.
 fn mandatory_places(alloc: Global, parameters: &[Parameter]) -> Result<Vec<usize>, AllocError>
-    ensures { IfOk result (λ places. StandAt places.items (mandatory_of parameters.now) parameters.now) }
+    ensures { IfOk result
+        (λ places. StandAt places.items (mandatory_of parameters.now) parameters.now) }
 {
     let mut places = Vec::new(alloc);
     for (i, parameter) in parameters.iter().enumerate() {

@@ -103,7 +103,8 @@ fn parameters_in(
 /// The parameters that a mapping declares, where there is one.
 fn parameters(alloc: Global, by: Declaring, node: Option<&Node>) -> Result<Parameters, AllocError>
     ensures { IfOk result (λ ps. ps
-        ≡ map (interfaces.parameter by) (option_map_or declared_in (option_map (λ n. view n.now) node.entry) [])) }
+        ≡ map (interfaces.parameter by)
+        (option_map_or declared_in (option_map (λ n. view n.now) node.entry) [])) }
 {
     let declared = declared_at(alloc, node)?;
     parameters_in(alloc, by, declared.as_slice())
@@ -123,7 +124,8 @@ fn names(alloc: Global, members: &[Member<'_>]) -> Result<NameList, AllocError>
 
 /// The names of what a mapping declares, where there is one.
 fn declared_names(alloc: Global, node: Option<&Node>) -> Result<NameList, AllocError>
-    ensures { IfOk result (λ ns. ns ≡ names_of (option_map_or declared_in (option_map (λ n. view n.now) node.entry) [])) }
+    ensures { IfOk result (λ ns. ns
+        ≡ names_of (option_map_or declared_in (option_map (λ n. view n.now) node.entry) [])) }
 {
     let declared = declared_at(alloc, node)?;
     names(alloc, declared.as_slice())
@@ -131,7 +133,8 @@ fn declared_names(alloc: Global, node: Option<&Node>) -> Result<NameList, AllocE
 
 /// The text of a scalar as a name, where there is one.
 fn text_name(alloc: Global, text: Option<ScalarNode<'_>>) -> Result<Option<Name>, AllocError>
-    ensures { IfOk result (λ n. n ≡ option_map (λ t. text_of t.0) (option_map scalar_node_of text.entry)) }
+    ensures { IfOk result (λ n. n
+        ≡ option_map (λ t. text_of t.0) (option_map scalar_node_of text.entry)) }
 {
     match text {
         Some(text) => Ok(Some(Name::new(alloc, text.scalar.text())?)),

@@ -50,7 +50,8 @@ fn add_steps<'a>(
 
 /// Adds a job and its steps.
 fn add_job<'a>(job: Member<'a>, out: &mut Vec<Site<'a>>) -> Result<(), AllocError>
-    ensures { OnOk result (map site_of out.new.items ≡ map site_of out.old.items ++ calling.job_sites (member_of job.entry)) }
+    ensures { OnOk result (map site_of out.new.items ≡ map site_of out.old.items
+        ++ calling.job_sites (member_of job.entry)) }
 {
     let key = Some(key_text(job.key));
     out.push(Site {
@@ -62,7 +63,8 @@ fn add_job<'a>(job: Member<'a>, out: &mut Vec<Site<'a>>) -> Result<(), AllocErro
 }
 
 fn sites_of_jobs<'a>(alloc: Global, jobs: &[Member<'a>]) -> Result<Vec<Site<'a>>, AllocError>
-    ensures { IfOk result (λ v. map site_of v.items ≡ flat_map calling.job_sites (map member_of jobs.now)) }
+    ensures { IfOk result (λ v. map site_of v.items
+        ≡ flat_map calling.job_sites (map member_of jobs.now)) }
 {
     let mut found = Vec::new(alloc);
     for job in jobs {
@@ -72,7 +74,8 @@ fn sites_of_jobs<'a>(alloc: Global, jobs: &[Member<'a>]) -> Result<Vec<Site<'a>>
 }
 
 fn workflow_sites(alloc: Global, root: &Node) -> Result<Vec<Site<'_>>, AllocError>
-    ensures { IfOk result (λ v. map site_of v.items ≡ flat_map calling.job_sites (jobs_of (view root.now))) }
+    ensures { IfOk result (λ v. map site_of v.items
+        ≡ flat_map calling.job_sites (jobs_of (view root.now))) }
 {
     let jobs = members_under(alloc, root, "jobs")?;
     sites_of_jobs(alloc, jobs.as_slice())

@@ -1,9 +1,11 @@
 -- What the program's sites stand for.
 use Rattle.std.specs.Prelude.{ℕ, List, Option, option_and_then, option_map}
 use Rattle.std.specs.Borrow.{Bor}
+use Rattle.al_tree.specs.Values.{scalar_node_of}
 use Rattle.al_yaml_tree.specs.View.{view}
 use Rattle.al_check_interfaces.specs.Kept.{Kept, kept}
-use Rattle.al_check_interfaces.specs.Uses.{Site, call_at}
+use Rattle.al_check_interfaces.specs.Uses.{Call, Site, call_at, call_by}
+use Rattle.al_check_interfaces.specs.declared.calls.Uses as code_uses
 use Rattle.al_check_interfaces.specs.declared.sites.Site as code_sites
 
 abbrev pub bytes_of : Option (Bor (List ℕ)) → Option (List ℕ)
@@ -11,6 +13,9 @@ bytes_of o = option_map (λ b. b.now) o
 
 abbrev pub site_of : code_sites.Site → Site
 site_of s = record { job = bytes_of s.job; step = s.step; node = view s.node.now }
+
+abbrev pub uses_of : code_uses.Uses → Call
+uses_of u = call_by (site_of u.site) (scalar_node_of u.text)
 
 -- what is kept of a site
 abbrev pub kept_at : Site → Option Kept

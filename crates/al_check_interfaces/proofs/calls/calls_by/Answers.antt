@@ -14,5 +14,5 @@ loop-number-preserved c =
           (map (seen all) c.loop-number.calls.items) (map (seen all) c.add_call.new.calls.items) c.loop-number.invariant.calls
           (c.in_ok-add_call.ensures.calls all (at_number site_of sites c.loop-number.number c.index-sites-number.result c.loop-number-test.true c.index-sites-number.is));
       faults = all_more site_of call_at sites c.loop-number.number c.index-sites-number.result c.loop-number-test.true c.index-sites-number.is wrong_uses
-          c.args.out.now.items c.loop-number.out.items c.add_call.new.out.items c.loop-number.invariant.faults c.in_ok-add_call.ensures.faults;
+          c.args.faults.now c.loop-number.faults c.add_call.new.faults c.loop-number.invariant.faults c.in_ok-add_call.ensures.faults;
     }

@@ -8,5 +8,5 @@ use Rattle.al_check_interfaces.proofs.calls.calls_by.Given as goal
 abbrev pub invariant-loop-number : goal.invariant-loop-number
 invariant-loop-number l = record {
   calls : map (seen (map site_of l.sites)) l.calls.items ≡ filter_map kept (filter_map call_at (map site_of (take l.number l.sites)));
-  faults : l.out.items ≡ l.fn.out.items ++ flat_map wrong_uses (filter_map call_at (map site_of (take l.number l.sites)));
+  faults : l.faults ≡ l.fn.faults ++ flat_map wrong_uses (filter_map call_at (map site_of (take l.number l.sites)));
 }

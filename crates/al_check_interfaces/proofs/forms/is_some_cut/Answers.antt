@@ -33,7 +33,7 @@ loop-i-preserved c =
                 (w.is_cut.ensures
                 ∙ ap (λ l. forms.is_cut (forms.is_remote c.args.caller)
                 (map (λ p. p.now) l ++ slice_range c.args.text.now c.loop-i.start c.loop-i.i ∷ []) (get_or c.args.text.now c.loop-i.i 0)
-                (take (length c.args.text.now - (c.loop-i.i + 1)) (drop (c.loop-i.i + 1) c.args.text.now))) w.as_slice.ensures.value) ∙ search rules);
+                (take (length c.args.text.now - (c.loop-i.i + 1)) (drop (c.loop-i.i + 1) c.args.text.now))) w.as_slice-parts.ensures.value) ∙ search rules);
           }
     ]
 
@@ -45,7 +45,7 @@ returns-then-is_cut c =
     (c.is_cut.ensures
     ∙ ap (λ l. forms.is_cut (forms.is_remote c.args.caller)
     (map (λ p. p.now) l ++ slice_range c.args.text.now c.loop-i.start c.loop-i.i ∷ []) (get_or c.args.text.now c.loop-i.i 0)
-    (take (length c.args.text.now - (c.loop-i.i + 1)) (drop (c.loop-i.i + 1) c.args.text.now))) c.as_slice.ensures.value) ∙ search rules)
+    (take (length c.args.text.now - (c.loop-i.i + 1)) (drop (c.loop-i.i + 1) c.args.text.now))) c.as_slice-parts.ensures.value) ∙ search rules)
 
 pub returns : goal.returns
 returns c = uncut (forms.is_remote c.args.caller) c.args.text.now c.loop-i.i (omega arith) c.loop-i.invariant.uncut
