@@ -82,8 +82,10 @@ fn add_fields<'a>(
     types: &mut Types<'a>,
     fields: &'a [Field],
 ) -> Result<FieldMap<'a>, AllocError>
-    ensures fields { IfOk result (λ m. fields_at (objects_of types.new) m ≡ firsts (map field_of fields.now)) }
-    ensures known { IfOk result (λ m. list_all (is_below (length types.new.objects.items)) m.types.items ≡ true) }
+    ensures fields { IfOk result
+        (λ m. fields_at (objects_of types.new) m ≡ firsts (map field_of fields.now)) }
+    ensures known { IfOk result
+        (λ m. list_all (is_below (length types.new.objects.items)) m.types.items ≡ true) }
     ensures kept { BeginsWith (objects_of types.new) (objects_of types.old) }
 {
     let mut map = FieldMap::new(alloc);
@@ -126,7 +128,8 @@ fn add_object<'a>(
     requires fields { list_all (is_below (length types.old.objects.items)) map.types.items ≡ true }
     requires rest { is_rest_below (length types.old.objects.items) rest ≡ true }
     ensures ty { IfOk result (λ t. type_at types.new t ≡ object_type (parts_with
-        (fields_of (fields_at (objects_of types.old) map.entry)) (rest_in (objects_of types.old) rest))) }
+        (fields_of (fields_at (objects_of types.old) map.entry))
+        (rest_in (objects_of types.old) rest))) }
     ensures known { IfOk result (λ t. is_known types.new t ≡ true) }
     ensures kept { BeginsWith (objects_of types.new) (objects_of types.old) }
 {

@@ -83,7 +83,9 @@ pub(crate) fn add_object(
     rest: &Option<Box<Ty>>,
     sofar: Listing,
 ) -> Result<Listing, AllocError>
-    ensures { IfOk result (λ l. parts_in l ≡ fuse_parts (parts_in sofar) (object_parts (map field_of fields.now) (rest_of rest.now))) }
+    ensures { IfOk result
+        (λ l. parts_in l
+        ≡ fuse_parts (parts_in sofar) (object_parts (map field_of fields.now) (rest_of rest.now))) }
 {
     let both = add_fields(alloc, fields, sofar)?;
     let whole = add_rest(alloc, rest, both)?;
@@ -93,7 +95,9 @@ pub(crate) fn add_object(
 // The same of an object of these fields, and no others.
 #[cycle(fusing)]
 fn add_fields(alloc: Global, fields: &[Field], sofar: Listing) -> Result<Listing, AllocError>
-    ensures { IfOk result (λ l. parts_in l ≡ fuse_parts (parts_in sofar) (object_parts (map field_of fields.now) Absent)) }
+    ensures { IfOk result
+        (λ l. parts_in l
+        ≡ fuse_parts (parts_in sofar) (object_parts (map field_of fields.now) Absent)) }
 {
     let mut all = sofar;
     for (i, field) in fields.iter().enumerate() {
@@ -108,7 +112,8 @@ fn add_fields(alloc: Global, fields: &[Field], sofar: Listing) -> Result<Listing
 // The same of an object of one field.
 #[cycle(fusing)]
 fn add_field(alloc: Global, field: &Field, sofar: Listing) -> Result<Listing, AllocError>
-    ensures { IfOk result (λ l. parts_in l ≡ fuse_parts (parts_in sofar) (field_parts (field_of field.now))) }
+    ensures { IfOk result
+        (λ l. parts_in l ≡ fuse_parts (parts_in sofar) (field_parts (field_of field.now))) }
 {
     match position(sofar.fields.as_slice(), field.name.as_str()) {
         Some(i) => {
@@ -126,7 +131,8 @@ fn add_field(alloc: Global, field: &Field, sofar: Listing) -> Result<Listing, Al
 #[cycle(fusing)]
 fn fuse_at(alloc: Global, field: &Field, i: usize, sofar: Listing) -> Result<Listing, AllocError>
     requires { name_at (map field_of sofar.fields.items) (field_of field.now).0 ≡ Some i }
-    ensures { IfOk result (λ l. parts_in l ≡ fuse_parts (parts_in sofar) (field_parts (field_of field.now))) }
+    ensures { IfOk result
+        (λ l. parts_in l ≡ fuse_parts (parts_in sofar) (field_parts (field_of field.now))) }
 {
     let mut fields = sofar.fields;
     let ty = fuse_more(alloc, &field.ty, &fields[i].ty)?;
@@ -140,7 +146,8 @@ fn fuse_at(alloc: Global, field: &Field, i: usize, sofar: Listing) -> Result<Lis
 // The same where no field has its name.
 fn push(alloc: Global, field: &Field, sofar: Listing) -> Result<Listing, AllocError>
     requires { name_at (map field_of sofar.fields.items) (field_of field.now).0 ≡ None }
-    ensures { IfOk result (λ l. parts_in l ≡ fuse_parts (parts_in sofar) (field_parts (field_of field.now))) }
+    ensures { IfOk result
+        (λ l. parts_in l ≡ fuse_parts (parts_in sofar) (field_parts (field_of field.now))) }
 {
     let mut fields = sofar.fields;
     let copy = copy_field(alloc, field)?;
@@ -154,7 +161,8 @@ fn push(alloc: Global, field: &Field, sofar: Listing) -> Result<Listing, AllocEr
 // The same of an object without fields of its own, and with others of a type where there may be others.
 #[cycle(fusing)]
 fn add_rest(alloc: Global, rest: &Option<Box<Ty>>, sofar: Listing) -> Result<Listing, AllocError>
-    ensures { IfOk result (λ l. parts_in l ≡ fuse_parts (parts_in sofar) (parts_with NoField (rest_of rest.now))) }
+    ensures { IfOk result
+        (λ l. parts_in l ≡ fuse_parts (parts_in sofar) (parts_with NoField (rest_of rest.now))) }
 {
     let rest = fuse_rest(alloc, rest, &sofar.rest)?;
     Ok(Listing {

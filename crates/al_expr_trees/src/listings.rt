@@ -67,7 +67,8 @@ impl Listing {
         fields: &[Field],
         rest: &Option<Box<Ty>>,
     ) -> Result<Listing, AllocError>
-        ensures { IfOk result (λ l. parts_in l ≡ object_parts (map field_of fields.now) (rest_of rest.now)) }
+        ensures { IfOk result
+            (λ l. parts_in l ≡ object_parts (map field_of fields.now) (rest_of rest.now)) }
     {
         let fields = first_fields(alloc, fields)?;
         let rest = copy_rest(alloc, rest)?;

@@ -11,7 +11,7 @@ use crate::adding::add_scope;
 use crate::scope::Scope;
 use crate::taking::tree_of;
 use crate::trees::Ty;
-use al_base::Fault;
+use al_base::{Fault, FaultSink};
 use al_expr_grammar::Expr;
 use al_expr_types::Types;
 use std::alloc::{AllocError, Global};
@@ -31,7 +31,9 @@ pub fn type_of(
 {
     let mut types = Types::new(alloc);
     let scope = add_scope(alloc, &mut types, env)?;
-    let ty = al_expr_typing::type_of(alloc, &mut types, &scope, expr, out)?;
+    let mut faults = FaultSink::new(alloc);
+    let ty = al_expr_typing::type_of(&mut types, &scope, expr, &mut faults)?;
     let tree = tree_of(alloc, &types, ty)?;
+    faults.append_to(out)?;
     Ok(tree)
 }

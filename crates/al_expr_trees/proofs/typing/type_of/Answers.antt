@@ -9,4 +9,6 @@ returns-clause-ty c =
 
 pub returns-clause-faults : goal.returns-clause-faults
 returns-clause-faults c =
-    c.in_ok-ty.ensures.faults ∙ ap (λ sc. c.args.out.now.items ++ faults_in (meaning_of sc (tree_of c.args.expr.now))) c.in_ok-scope.ensures.same
+    let found = rw c.new-faults.ensures at c.in_ok-ty.ensures.faults in
+    c.in_ok-append_to.ensures
+    ∙ ap (λ l. c.args.out.now.items ++ l) (found ∙ ap (λ sc. faults_in (meaning_of sc (tree_of c.args.expr.now))) c.in_ok-scope.ensures.same)
