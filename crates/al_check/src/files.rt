@@ -15,7 +15,7 @@ ghost use Rattle.al_check_interfaces.specs.Kept.{AreCallsOf};
 ghost use Rattle.al_check_interfaces.specs.Uses as uses;
 ghost use Rattle.al_session_folder.specs.Meaning.{AreAnswers};
 ghost use Rattle.al_check_calls.specs.FileCalls as file_calls;
-ghost use Rattle.al_check.specs.FileFaults as faults;
+ghost use Rattle.al_check.specs.FileFaults as meant;
 ghost use Rattle.al_check.specs.Calling as calling;
 ghost use Rattle.al_check.specs.Calling.{shown_by};
 ghost use Rattle.al_tree.specs.declared.files.FileKind.{FileKind};
@@ -24,7 +24,7 @@ ghost use Rattle.al_check.specs.Reading.{IsRead};
 ghost use Rattle.al_check.specs.RuleFaults.{rule_faults};
 
 use crate::printing::printed;
-use al_base::{Args, Code, Fault, add_copies, ordered};
+use al_base::{Code, Fault, FaultSink, add_copies, ordered};
 use al_check_calls::{Calling, behind_faults};
 use al_check_interfaces::{Call, Interface, calls_by, interface_of, sites_in};
 use al_rules::rules;
@@ -34,6 +34,13 @@ use al_tree::{FileKind, Tree, read_action, read_workflow};
 use al_yaml::read_yaml;
 use al_yaml_tree::Doc;
 use std::alloc::{AllocError, Global};
+
+/// The bytes of a file, and the kind that they are read as.
+#[derive(Clone, Copy)]
+pub(crate) struct Source<'a> {
+    pub(crate) kind: FileKind,
+    pub(crate) bytes: &'a [u8],
+}
 
 /// A file as it was read: a workflow or an action, or its fault as YAML; its faults that depend on no other file, of the syntax, of rules
 /// and of `uses` that name nothing; and its calls of files of the folder.
@@ -64,7 +71,8 @@ fn tree_as(alloc: Global, kind: FileKind, doc: Doc) -> Result<(Tree, Vec<Fault>)
 
 /// Adds the faults of rules to those of keys and values.
 fn with_rules(alloc: Global, tree: &Tree, keys: Vec<Fault>) -> Result<Vec<Fault>, AllocError>
-    ensures { IfOk result (λ own. SameSet own.items (keys.items ++ rule_faults (kind_in tree.now) (root_of tree.now))) }
+    ensures { IfOk result (λ own. SameSet own.items (keys.items
+        ++ rule_faults (kind_in tree.now) (root_of tree.now))) }
 {
     let mut own = keys;
     rules(alloc, tree, &mut own)?;
@@ -73,25 +81,29 @@ fn with_rules(alloc: Global, tree: &Tree, keys: Vec<Fault>) -> Result<Vec<Fault>
 
 /// The calls of files of the folder that a document has. Adds the faults of its `uses` that name nothing.
 fn document_calls(alloc: Global, tree: &Tree, own: &mut Vec<Fault>) -> Result<Vec<Call>, AllocError>
-    ensures calls { IfOk result (λ calls. AreCallsOf (kind_in tree.now) (root_of tree.now) calls.items) }
-    ensures own { OnOk result (own.new.items ≡ own.old.items ++ faults.wrong_uses_in (kind_in tree.now) (root_of tree.now)) }
+    ensures calls { IfOk result
+        (λ calls. AreCallsOf (kind_in tree.now) (root_of tree.now) calls.items) }
+    ensures own { OnOk result (own.new.items ≡ own.old.items
+        ++ meant.wrong_uses_in (kind_in tree.now) (root_of tree.now)) }
 {
     let sites = sites_in(alloc, tree.kind(), tree.root())?;
-    let calls = calls_by(alloc, sites.as_slice(), own)?;
+    let mut wrong = FaultSink::new(alloc);
+    let calls = calls_by(sites.as_slice(), &mut wrong)?;
+    wrong.append_to(own)?;
     Ok(calls)
 }
 
 /// A document that was read from these bytes, as a workflow or an action.
-fn read_tree(alloc: Global, kind: FileKind, bytes: &[u8], doc: Doc) -> Result<ReadFile, AllocError>
-    requires small { length bytes.now ≤ largest_file }
-    requires root { tree_of bytes.now ≡ Ok (view doc.root) }
-    requires inside { IsInside (length bytes.now) (view doc.root) }
-    requires laid { IsLaid (length bytes.now) (view doc.root) }
+fn read_tree(alloc: Global, source: Source<'_>, doc: Doc) -> Result<ReadFile, AllocError>
+    requires small { length source.bytes.now ≤ largest_file }
+    requires root { tree_of source.bytes.now ≡ Ok (view doc.root) }
+    requires inside { IsInside (length source.bytes.now) (view doc.root) }
+    requires laid { IsLaid (length source.bytes.now) (view doc.root) }
     requires texts { HasTexts (view doc.root) }
-    requires from { AreFrom (length bytes.now) (view doc.root) }
-    ensures { IfOk result (λ file. IsRead file kind bytes.now) }
+    requires from { AreFrom (length source.bytes.now) (view doc.root) }
+    ensures { IfOk result (λ file. IsRead file (source.entry).kind (source.entry).bytes.now) }
 {
-    let (tree, keys) = tree_as(alloc, kind, doc)?;
+    let (tree, keys) = tree_as(alloc, source.kind, doc)?;
     let mut own = with_rules(alloc, &tree, keys)?;
     let calls = document_calls(alloc, &tree, &mut own)?;
     Ok(ReadFile {
@@ -102,12 +114,12 @@ fn read_tree(alloc: Global, kind: FileKind, bytes: &[u8], doc: Doc) -> Result<Re
 }
 
 /// Reads the bytes of a file as a workflow or an action.
-pub(crate) fn read_file(alloc: Global, kind: FileKind, bytes: &[u8]) -> Result<ReadFile, AllocError>
-    requires { length bytes.now ≤ largest_file }
-    ensures { IfOk result (λ file. IsRead file kind bytes.now) }
+pub(crate) fn read_file(alloc: Global, source: Source<'_>) -> Result<ReadFile, AllocError>
+    requires { length source.bytes.now ≤ largest_file }
+    ensures { IfOk result (λ file. IsRead file (source.entry).kind (source.entry).bytes.now) }
 {
-    match read_yaml(alloc, bytes)? {
-        Ok(doc) => read_tree(alloc, kind, bytes, doc),
+    match read_yaml(alloc, source.bytes)? {
+        Ok(doc) => read_tree(alloc, source, doc),
         Err(fault) => Ok(ReadFile {
             tree: Err(fault),
             own: Vec::new(alloc),
@@ -118,31 +130,32 @@ pub(crate) fn read_file(alloc: Global, kind: FileKind, bytes: &[u8]) -> Result<R
 
 /// Adds the faults that depend on what answers the file's calls: of its expressions and of its calls.
 fn add_behind(
-    alloc: Global,
     tree: &Tree,
     calls: &[Call],
     answers: &[Option<&Interface>],
-    out: &mut Vec<Fault>,
+    faults: &mut FaultSink,
 ) -> Result<(), AllocError>
     requires laid { IsLaid largest_file (root_of tree.now) }
     requires texts { HasTexts (root_of tree.now) }
     requires calls { AreCallsOf (kind_in tree.now) (root_of tree.now) calls.now }
-    requires answers { AreAnswers (uses.targets_of (uses.calls_in (kind_in tree.now) (root_of tree.now)))
+    requires answers { AreAnswers
+        (uses.targets_of (uses.calls_in (kind_in tree.now) (root_of tree.now)))
         (map (λ a. option_copied a) answers.now) }
-    ensures { OnOk result (SameSet out.new.items (out.old.items
-        ++ file_calls.behind_faults (kind_in tree.now) (root_of tree.now) (map (λ a. option_copied a) answers.now))) }
+    ensures { OnOk result (SameSet faults.new (faults.old
+        ++ file_calls.behind_faults (kind_in tree.now) (root_of tree.now)
+        (map (λ a. option_copied a) answers.now))) }
 {
     let file = Calling {
         kind: tree.kind(),
         root: tree.root(),
         calls,
     };
-    behind_faults(alloc, file, answers, out)
+    behind_faults(file, answers, faults)
 }
 
 /// These faults as they are printed, in the order of reports, each once.
 fn listed(alloc: Global, found: Vec<Fault>) -> Result<Vec<Fault>, AllocError>
-    ensures { IfOk result (λ list. list.items ≡ fault_list (map faults.printed found.items)) }
+    ensures { IfOk result (λ list. list.items ≡ fault_list (map meant.printed found.items)) }
 {
     Ok(ordered(printed(alloc, found)?))
 }
@@ -158,42 +171,45 @@ fn document_faults(
     requires texts { HasTexts (root_of tree.now) }
     requires own { SameSet file.now.own.items (own_faults (kind_in tree.now) (root_of tree.now)) }
     requires calls { AreCallsOf (kind_in tree.now) (root_of tree.now) file.now.calls.items }
-    requires answers { AreAnswers (uses.targets_of (uses.calls_in (kind_in tree.now) (root_of tree.now)))
+    requires answers { AreAnswers
+        (uses.targets_of (uses.calls_in (kind_in tree.now) (root_of tree.now)))
         (map (λ a. option_copied a) answers.now) }
     ensures { IfOk result (λ list. list.items
-        ≡ faults.document_faults (kind_in tree.now) (root_of tree.now) (map (λ a. option_copied a) answers.now)) }
+        ≡ meant.document_faults (kind_in tree.now) (root_of tree.now)
+        (map (λ a. option_copied a) answers.now)) }
 {
-    let mut found = Vec::new(alloc);
+    let mut faults = FaultSink::new(alloc);
+    add_behind(tree, file.calls.as_slice(), answers, &mut faults)?;
+    // The few own faults stand behind those found, which can be millions.
+    let mut found = faults.into_faults();
     add_copies(alloc, &file.own, &mut found)?;
-    add_behind(alloc, tree, file.calls.as_slice(), answers, &mut found)?;
     listed(alloc, found)
 }
 
 /// The fault of a file that is no YAML, which stands alone.
 fn yaml_fault(alloc: Global, fault: YamlFault) -> Result<Vec<Fault>, AllocError>
-    ensures { IfOk result (λ found. found.items ≡ (record { span = fault.span; code = Code.Yaml fault.code; args = [] }) ∷ []) }
+    ensures { IfOk result (λ found. found.items
+        ≡ (record { span = fault.span; code = Code.Yaml fault.code; args = [] }) ∷ []) }
 {
-    let mut faults = Vec::new(alloc);
-    faults.push(Fault {
-        span: fault.span,
-        code: Code::Yaml(fault.code),
-        args: Args::none(),
-    })?;
-    Ok(faults)
+    let mut faults = FaultSink::new(alloc);
+    faults.report_plain(fault.span, Code::Yaml(fault.code))?;
+    Ok(faults.into_faults())
 }
 
-/// The faults of a file that was read as that kind from these bytes, given the answers of its calls of files of the folder: its one
-/// fault as YAML, or else all faults of the document, in the order of reports, each once.
+/// The faults of a file that was read from this source, given the answers of its calls of files of the folder: its one fault as YAML, or
+/// else all faults of the document, in the order of reports, each once.
 pub(crate) fn file_faults(
     alloc: Global,
-    kind: FileKind,
-    bytes: &[u8],
+    source: Source<'_>,
     file: &ReadFile,
     answers: &[Option<&Interface>],
 ) -> Result<Vec<Fault>, AllocError>
-    requires read { IsRead file.now kind bytes.now }
-    requires answers { AreAnswers (calling.file_targets kind bytes.now) (map (λ a. option_copied a) answers.now) }
-    ensures { IfOk result (λ found. found.items ≡ faults.file_faults kind bytes.now (map (λ a. option_copied a) answers.now)) }
+    requires read { IsRead file.now source.kind source.bytes.now }
+    requires answers { AreAnswers (calling.file_targets source.kind source.bytes.now)
+        (map (λ a. option_copied a) answers.now) }
+    ensures { IfOk result (λ found. found.items
+        ≡ meant.file_faults (source.entry).kind (source.entry).bytes.now
+        (map (λ a. option_copied a) answers.now)) }
 {
     match &file.tree {
         Err(fault) => yaml_fault(alloc, *fault),

@@ -7,7 +7,7 @@ ghost use Rattle.al_check_interfaces.proofs.Exact.{exact};
 ghost use Rattle.al_check.specs.Proofs.Laws.{each_sited, faults_inside, faults_ordered, sites_inside};
 ghost use Rattle.al_session_folder.specs.Sites.{fault_of};
 
-use crate::files::read_file;
+use crate::files::{Source, read_file};
 use crate::units::{Unit, brief_of, call_at, unit_faults, unit_interface, unit_targets};
 use al_base::{Args, Fault};
 use al_check_interfaces::{Call, Interface};
@@ -110,7 +110,8 @@ impl Lint for Actions {
 
     fn read(&mut self, alloc: Global, path: &str, bytes: &[u8]) -> Result<Unit, AllocError> {
         self.reads = self.reads.saturating_add(1);
-        let file = read_file(alloc, file_kind(path.as_bytes()), bytes)?;
+        let kind = file_kind(path.as_bytes());
+        let file = read_file(alloc, Source { kind, bytes })?;
         if self.keeps_tree(bytes.len()) {
             Ok(Unit::Whole(file))
         } else {
@@ -135,7 +136,8 @@ impl Lint for Actions {
         answers: &[Option<&Interface>],
     ) -> Result<Vec<Fault>, AllocError> {
         self.checks = self.checks.saturating_add(1);
-        unit_faults(alloc, file_kind(path.as_bytes()), bytes, unit, answers)
+        let kind = file_kind(path.as_bytes());
+        unit_faults(alloc, Source { kind, bytes }, unit, answers)
     }
 
     fn site<'a>(&self, unit: &'a Unit, call: usize) -> Site<'a> {

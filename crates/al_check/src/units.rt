@@ -9,11 +9,10 @@ ghost use Rattle.al_check.specs.FileFaults as faults;
 ghost use Rattle.al_check.specs.Reading.{IsRead};
 ghost use Rattle.al_check.specs.Units.{calls_kept, interface_kept, IsBriefOf, IsUnit};
 
-use crate::files::{ReadFile, file_faults, file_interface, read_file, targets};
+use crate::files::{ReadFile, Source, file_faults, file_interface, read_file, targets};
 use al_base::Fault;
 use al_check_interfaces::{Call, Interface};
 use al_session_folder::Target;
-use al_tree::FileKind;
 use std::alloc::{AllocError, Global};
 
 /// What a report and a file's callers need of the file.
@@ -34,7 +33,8 @@ pub enum Unit {
 
 /// What a report and the callers of this file need.
 pub(crate) fn brief_of(alloc: Global, file: ReadFile) -> Result<Brief, AllocError>
-    ensures { IfOk result (λ brief. (kind : FileKind) (bytes : List ℕ) → IsRead file kind bytes → IsBriefOf brief kind bytes) }
+    ensures { IfOk result (λ brief. (kind : FileKind) (bytes : List ℕ) → IsRead file kind bytes
+        → IsBriefOf brief kind bytes) }
 {
     let interface = file_interface(alloc, &file)?;
     Ok(Brief {
@@ -84,33 +84,37 @@ pub(crate) fn unit_interface(alloc: Global, unit: &Unit) -> Result<Interface, Al
 // The faults of a file that is read for them.
 fn faults_read_again(
     alloc: Global,
-    kind: FileKind,
-    bytes: &[u8],
+    source: Source<'_>,
     answers: &[Option<&Interface>],
 ) -> Result<Vec<Fault>, AllocError>
-    requires small { length bytes.now ≤ largest_file }
-    requires answers { AreAnswers (calling.file_targets kind bytes.now) (map (λ a. option_copied a) answers.now) }
-    ensures { IfOk result (λ found. found.items ≡ faults.file_faults kind bytes.now (map (λ a. option_copied a) answers.now)) }
+    requires small { length source.bytes.now ≤ largest_file }
+    requires answers { AreAnswers (calling.file_targets source.kind source.bytes.now)
+        (map (λ a. option_copied a) answers.now) }
+    ensures { IfOk result (λ found. found.items
+        ≡ faults.file_faults (source.entry).kind (source.entry).bytes.now
+        (map (λ a. option_copied a) answers.now)) }
 {
-    let file = read_file(alloc, kind, bytes)?;
-    file_faults(alloc, kind, bytes, &file, answers)
+    let file = read_file(alloc, source)?;
+    file_faults(alloc, source, &file, answers)
 }
 
-/// The faults of a file of these bytes, given the answers of its calls of files of the folder, in the order of reports, each once.
+/// The faults of a file, given the answers of its calls of files of the folder, in the order of reports, each once.
 pub(crate) fn unit_faults(
     alloc: Global,
-    kind: FileKind,
-    bytes: &[u8],
+    source: Source<'_>,
     unit: &Unit,
     answers: &[Option<&Interface>],
 ) -> Result<Vec<Fault>, AllocError>
-    requires small { length bytes.now ≤ largest_file }
-    requires unit { IsUnit unit.now kind bytes.now }
-    requires answers { AreAnswers (calling.file_targets kind bytes.now) (map (λ a. option_copied a) answers.now) }
-    ensures { IfOk result (λ found. found.items ≡ faults.file_faults kind bytes.now (map (λ a. option_copied a) answers.now)) }
+    requires small { length source.bytes.now ≤ largest_file }
+    requires unit { IsUnit unit.now source.kind source.bytes.now }
+    requires answers { AreAnswers (calling.file_targets source.kind source.bytes.now)
+        (map (λ a. option_copied a) answers.now) }
+    ensures { IfOk result (λ found. found.items
+        ≡ faults.file_faults (source.entry).kind (source.entry).bytes.now
+        (map (λ a. option_copied a) answers.now)) }
 {
     match unit {
-        Unit::Whole(file) => file_faults(alloc, kind, bytes, file, answers),
-        Unit::Brief(_) => faults_read_again(alloc, kind, bytes, answers),
+        Unit::Whole(file) => file_faults(alloc, source, file, answers),
+        Unit::Brief(_) => faults_read_again(alloc, source, answers),
     }
 }

@@ -2,3 +2,4 @@
 pub mod Comparing
 pub mod AnswerViews
 pub mod KnownLists
+pub mod Contents

@@ -32,7 +32,8 @@ pub(crate) struct Answered<'a> {
 
 /// The first of the answers.
 fn first<'a>(answers: &[Option<&'a Interface>]) -> Option<&'a Interface>
-    ensures { option_copied result ≡ answering.first_answer (map (λ a. option_copied a) answers.now) }
+    ensures { option_copied result
+        ≡ answering.first_answer (map (λ a. option_copied a) answers.now) }
 {
     match answers {
         [] => None,
@@ -42,7 +43,8 @@ fn first<'a>(answers: &[Option<&'a Interface>]) -> Option<&'a Interface>
 
 /// The answers behind the first.
 fn rest<'s, 'a>(answers: &'s [Option<&'a Interface>]) -> &'s [Option<&'a Interface>]
-    ensures { map (λ a. option_copied a) result.now ≡ drop 1 (map (λ a. option_copied a) answers.now) }
+    ensures { map (λ a. option_copied a) result.now
+        ≡ drop 1 (map (λ a. option_copied a) answers.now) }
 {
     match answers {
         [] => &[],
@@ -98,7 +100,8 @@ fn answered_at<'a>(
     answers: &[Option<&'a Interface>],
 ) -> Result<Vec<Answered<'a>>, AllocError>
     ensures { IfOk result (λ v. map answered_of v.items
-        ≡ answered_at (map site_of sites.now) (map (λ c. c.site) calls.now) (map (λ a. option_copied a) answers.now)) }
+        ≡ answered_at (map site_of sites.now) (map (λ c. c.site) calls.now)
+        (map (λ a. option_copied a) answers.now)) }
 {
     let mut found = Vec::new(alloc);
     let mut left = answers;
@@ -118,7 +121,8 @@ pub(crate) fn with_answers<'a>(
     calls: &[Call],
     answers: &[Option<&'a Interface>],
 ) -> Result<Vec<Answered<'a>>, AllocError>
-    ensures { (kind : FileKind) (root : Node) → map site_of sites.now ≡ uses.sites_in kind root → AreCallsOf kind root calls.now
+    ensures { (kind : FileKind) (root : Node) → map site_of sites.now ≡ uses.sites_in kind root
+        → AreCallsOf kind root calls.now
         → IfOk result (λ v. map answered_of v.items
         ≡ answering.answered (uses.calls_in kind root) (map (λ a. option_copied a) answers.now)) }
 {

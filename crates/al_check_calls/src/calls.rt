@@ -1,20 +1,20 @@
 //! The faults of one call, but for those of names.
 ghost use Rattle.std.specs.Prelude.{◌≡◌, ◌++◌, List, map, OnOk};
 ghost use Rattle.std.specs.Option.{option_copied};
-ghost use Rattle.al_check_calls.specs.CallFaults as faults;
-ghost use Rattle.al_check_calls.specs.Private.AnswerViews.{call_of, given_in};
+ghost use Rattle.al_check_calls.specs.CallFaults as meant;
+ghost use Rattle.al_check_calls.specs.Private.AnswerViews.{answered_of, call_of, given_in};
 ghost use Rattle.al_types.specs.Types.{Parts};
 
-use crate::answers::SiteCall;
+use crate::answers::{Answered, SiteCall};
 use crate::reports::{caller_of, report_uses};
 use crate::wrong_types::{Value, check_values};
-use al_base::{CallCode, Caller, Fault};
+use al_base::{CallCode, Caller, FaultSink};
 use al_check_interfaces::{Interface, Role, Signature};
-use std::alloc::{AllocError, Global};
+use std::alloc::AllocError;
 
 /// Whether a step, or a job, may call a file that is this.
 fn is_callable(caller: Caller, role: Role) -> bool
-    ensures { result ≡ faults.is_callable caller role }
+    ensures { result ≡ meant.is_callable caller role }
 {
     match caller {
         Caller::Step => matches!(role, Role::Composite | Role::Action),
@@ -24,7 +24,7 @@ fn is_callable(caller: Caller, role: Role) -> bool
 
 /// What a file shows to a step, or a job, that may call it.
 fn callable_signature<'a>(caller: Caller, answer: Option<&'a Interface>) -> Option<&'a Signature>
-    ensures { option_copied result ≡ faults.callable_signature caller (option_copied answer.entry) }
+    ensures { option_copied result ≡ meant.callable_signature caller (option_copied answer.entry) }
 {
     match answer {
         None => None,
@@ -44,62 +44,68 @@ pub(crate) fn called_signature<'a>(
     call: SiteCall<'_>,
     answer: Option<&'a Interface>,
 ) -> Option<&'a Signature>
-    ensures { option_copied result ≡ faults.called_signature (call_of call.entry) (option_copied answer.entry) }
+    ensures { option_copied result
+        ≡ meant.called_signature (call_of call.entry) (option_copied answer.entry) }
 {
     callable_signature(caller_of(call), answer)
 }
 
 /// C1: a job's call that no file of the folder answers.
-fn check_absent(alloc: Global, call: SiteCall<'_>, out: &mut Vec<Fault>) -> Result<(), AllocError>
-    ensures { OnOk result (out.new.items ≡ out.old.items
-        ++ faults.absent_faults (call_of call.entry) (faults.caller_of (call_of call.entry))) }
+fn check_absent(call: SiteCall<'_>, faults: &mut FaultSink) -> Result<(), AllocError>
+    ensures { OnOk result (faults.new ≡ faults.old
+        ++ meant.absent_faults (call_of call.entry) (meant.caller_of (call_of call.entry))) }
 {
     match caller_of(call) {
         Caller::Step => Ok(()),
-        Caller::Job => report_uses(alloc, CallCode::NoWorkflow, call, out),
+        Caller::Job => report_uses(call, CallCode::NoWorkflow, faults),
     }
 }
 
 /// C1 and C8.
 fn check_uses(
-    alloc: Global,
     call: SiteCall<'_>,
     answer: Option<&Interface>,
-    out: &mut Vec<Fault>,
+    faults: &mut FaultSink,
 ) -> Result<(), AllocError>
-    ensures { OnOk result (out.new.items ≡ out.old.items ++ faults.uses_faults (call_of call.entry) (option_copied answer.entry)) }
+    ensures { OnOk result (faults.new ≡ faults.old
+        ++ meant.uses_faults (call_of call.entry) (option_copied answer.entry)) }
 {
     match answer {
-        None => check_absent(alloc, call, out),
+        None => check_absent(call, faults),
         Some(Interface::Unreadable) => Ok(()),
         Some(Interface::Readable(signature)) => {
             if is_callable(caller_of(call), signature.role) {
                 Ok(())
             } else {
-                report_uses(alloc, CallCode::NotCallable, call, out)
+                report_uses(call, CallCode::NotCallable, faults)
             }
         }
     }
 }
 
-/// Adds the faults of a call but for those of names: C1, C4 and C8, given what answers it (none where none of the files
-/// that it names is there), and what a job gives under `with`, each value with its type. Of a step no values are looked at.
+/// Adds the faults of a call but for those of names: C1, C4 and C8, given what a job gives under `with`, each value with its type. Of a
+/// step no values are looked at.
 ///
 /// Fails with `AllocError` when out of memory.
 pub(crate) fn check_call(
-    alloc: Global,
-    call: SiteCall<'_>,
+    answered: Answered<'_>,
     values: &[Value<'_>],
-    answer: Option<&Interface>,
-    out: &mut Vec<Fault>,
+    faults: &mut FaultSink,
 ) -> Result<(), AllocError>
-    ensures { OnOk result ((ms : List Parts) → out.new.items ≡ out.old.items
-        ++ (faults.uses_faults (call_of call.entry) (option_copied answer.entry)
-        ++ faults.value_faults (call_of call.entry) (map (given_in ms) values.now) (option_copied answer.entry))) }
+    ensures { OnOk result ((ms : List Parts) → let a = answered_of answered.entry in faults.new
+        ≡ faults.old
+        ++ (meant.uses_faults a.call a.answer
+        ++ meant.value_faults a.call (map (given_in ms) values.now) a.answer)) }
 {
-    check_uses(alloc, call, answer, out)?;
+    let call = answered.call;
+    check_uses(call, answered.answer, faults)?;
     match caller_of(call) {
         Caller::Step => Ok(()),
-        Caller::Job => check_values(alloc, call, values, called_signature(call, answer), out),
+        Caller::Job => check_values(
+            call,
+            values,
+            called_signature(call, answered.answer),
+            faults,
+        ),
     }
 }

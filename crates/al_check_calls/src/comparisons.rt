@@ -51,7 +51,9 @@ fn is_inherit(job: &Node) -> bool
 
 /// Whether names of a kind are compared: of a step no secrets, and of a job none that it inherits.
 fn is_compared(kind: ParameterKind, call: SiteCall<'_>) -> bool
-    ensures { result ≡ faults.is_compared kind (faults.caller_of (call_of call.entry)) (call_of call.entry).site.node }
+    ensures { result
+        ≡ faults.is_compared kind (faults.caller_of (call_of call.entry))
+        (call_of call.entry).site.node }
 {
     match kind {
         ParameterKind::Input => true,
@@ -64,7 +66,8 @@ fn is_compared(kind: ParameterKind, call: SiteCall<'_>) -> bool
 
 /// With what names of a kind are compared.
 fn signature_for<'a>(kind: ParameterKind, answered: Answered<'a>) -> Option<&'a Signature>
-    ensures { let a = answered_of answered.entry in option_copied result ≡ faults.signature_for kind a.call a.answer }
+    ensures { let a = answered_of answered.entry in option_copied result
+        ≡ faults.signature_for kind a.call a.answer }
 {
     if is_compared(kind, answered.call) {
         called_signature(answered.call, answered.answer)
@@ -74,7 +77,8 @@ fn signature_for<'a>(kind: ParameterKind, answered: Answered<'a>) -> Option<&'a 
 }
 
 fn comparison_of<'a>(kind: ParameterKind, answered: Answered<'a>) -> Option<Comparison<'a>>
-    ensures { option_map compared_of result ≡ comparing.comparison_of kind (answered_of answered.entry) }
+    ensures { option_map compared_of result
+        ≡ comparing.comparison_of kind (answered_of answered.entry) }
 {
     match signature_for(kind, answered) {
         None => None,
@@ -93,7 +97,8 @@ fn add_comparison<'a>(
     found: &mut Vec<Comparison<'a>>,
 ) -> Result<(), AllocError>
     ensures { OnOk result (map compared_of found.new.items
-        ≡ map compared_of found.old.items ++ cons_option (comparing.comparison_of kind (answered_of answered.entry)) []) }
+        ≡ map compared_of found.old.items
+        ++ cons_option (comparing.comparison_of kind (answered_of answered.entry)) []) }
 {
     match comparison_of(kind, answered) {
         None => Ok(()),
@@ -120,7 +125,8 @@ pub(crate) fn all_comparisons<'a>(
     alloc: Global,
     answered: &[Answered<'a>],
 ) -> Result<Vec<Comparison<'a>>, AllocError>
-    ensures { IfOk result (λ v. map compared_of v.items ≡ flat_map comparing.comparisons (map answered_of answered.now)) }
+    ensures { IfOk result (λ v. map compared_of v.items
+        ≡ flat_map comparing.comparisons (map answered_of answered.now)) }
 {
     let mut found = Vec::new(alloc);
     for one in answered {

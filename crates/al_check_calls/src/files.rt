@@ -1,7 +1,9 @@
 //! The faults of a file that depend on what answers its calls.
-ghost use Rattle.std.specs.Prelude.{◌≡◌, ◌++◌, map, All, IfOk, OnErr, OnOk};
+ghost use Rattle.std.specs.Prelude.{◌++◌, map, All, OnOk};
+ghost use Rattle.std.specs.List.{flat_map};
 ghost use Rattle.std.specs.Option.{option_copied};
-ghost use Rattle.al_check_calls.specs.Private.AnswerViews.{answered_of};
+ghost use Rattle.al_check_calls.specs.Answers.{answered_faults};
+ghost use Rattle.al_check_calls.specs.Private.AnswerViews.{answered_of, typing_in};
 ghost use Rattle.al_check_calls.specs.FileCalls as file_calls;
 ghost use Rattle.al_check_calls.specs.FileCalls.{AreShort};
 ghost use Rattle.al_check_calls.specs.Private.Comparing.{AreToldByUses};
@@ -19,51 +21,52 @@ ghost use Rattle.al_yaml_tree.specs.View.{view};
 use crate::answers::{Answered, with_answers};
 use crate::faults::check_calls;
 use crate::known::known_behind;
-use al_base::Fault;
+use al_base::FaultSink;
 use al_check_contexts::{Env, File};
 use al_check_expressions::expression_faults;
 use al_check_interfaces::{Call, Interface, sites_in};
 use al_tree::FileKind;
 use al_yaml_tree::Node;
-use std::alloc::{AllocError, Global};
+use std::alloc::AllocError;
 
-/// The faults of a file's expressions and of these calls of it, by what is known of the outputs behind them.
-fn known_faults<'a>(
-    alloc: Global,
+/// Adds the faults of a file's expressions and of these calls of it, by what is known of the outputs behind them.
+fn check_file<'a>(
     file: File<'a>,
     answered: &[Answered<'a>],
-) -> Result<Vec<Fault>, AllocError>
+    faults: &mut FaultSink,
+) -> Result<(), AllocError>
     requires laid { IsLaid largest_file (view file.root.now) }
     requires texts { HasTexts (view file.root.now) }
     requires short { All (λ a. AreShort (view a.call.site.node.now)) answered.now }
     requires answers { AreToldByUses (map answered_of answered.now) }
-    ensures { let kind = (file.entry).kind in let known = known_of (file.entry).known in let root = view (file.entry).root.now in
-        IfOk result (λ found. SameSet found.items (expressions.expression_faults kind known root
-        ++ file_calls.call_faults kind known root (map answered_of answered.now))) }
+    ensures { let f = file.entry in OnOk result (SameSet faults.new (faults.old
+        ++ (expressions.expression_faults f.kind (known_of f.known) (view f.root.now)
+        ++ flat_map (answered_faults (typing_in f)) (map answered_of answered.now)))) }
 {
-    let mut env = Env::new(alloc, file)?;
-    let mut found = Vec::new(alloc);
-    expression_faults(alloc, file, &mut env, &mut found)?;
-    check_calls(alloc, file, &mut env, answered, &mut found)?;
-    Ok(found)
+    let mut env = Env::new(faults.alloc(), file)?;
+    expression_faults(file, &mut env, faults)?;
+    check_calls(file, &mut env, answered, faults)?;
+    Ok(())
 }
 
-/// The faults of a file's expressions and of these calls of it, with their answers.
-fn faults_by<'a>(
-    alloc: Global,
+/// Adds the faults of a file's expressions and of these calls of it, with their answers.
+fn check_with_answers<'a>(
     kind: FileKind,
     root: &'a Node,
     answered: &[Answered<'a>],
-) -> Result<Vec<Fault>, AllocError>
+    faults: &mut FaultSink,
+) -> Result<(), AllocError>
     requires laid { IsLaid largest_file (view root.now) }
     requires texts { HasTexts (view root.now) }
     requires short { All (λ a. AreShort (view a.call.site.node.now)) answered.now }
     requires answers { AreToldByUses (map answered_of answered.now) }
-    ensures { IfOk result (λ found. SameSet found.items (file_calls.faults_by kind (view root.now) (map answered_of answered.now))) }
+    ensures { OnOk result
+        (SameSet faults.new (faults.old
+        ++ file_calls.faults_by kind (view root.now) (map answered_of answered.now))) }
 {
-    let known = known_behind(alloc, answered)?;
-    let found = known_faults(alloc, known.file(kind, root), answered)?;
-    Ok(found)
+    let known = known_behind(faults.alloc(), answered)?;
+    check_file(known.file(kind, root), answered, faults)?;
+    Ok(())
 }
 
 /// A file that calls: what it is, its tree, and its calls of files of the folder, as reading found them.
@@ -79,28 +82,24 @@ pub struct Calling<'a> {
 /// the file that answers shows, or none where none of the files that a call names, its candidates, is there. Calls with the same
 /// candidates have the same answer. Of equal faults, as calls behind aliases have, at least one is added.
 ///
-/// Offsets of the file's nodes are at most 1,048,576, and its texts are UTF-8. Fails with `AllocError` when out of memory; the list is
-/// then as it was.
+/// Offsets of the file's nodes are at most 1,048,576, and its texts are UTF-8. Fails with `AllocError` when out of memory.
 pub fn behind_faults<'a>(
-    alloc: Global,
     file: Calling<'a>,
     answers: &[Option<&'a Interface>],
-    out: &mut Vec<Fault>,
+    faults: &mut FaultSink,
 ) -> Result<(), AllocError>
     requires laid { IsLaid largest_file (view file.root.now) }
     requires texts { HasTexts (view file.root.now) }
     requires calls { AreCallsOf file.kind (view file.root.now) file.calls.now }
     requires answers { AreAnswers (uses.targets_of (uses.calls_in file.kind (view file.root.now)))
         (map (λ a. option_copied a) answers.now) }
-    ensures faults { OnOk result (SameSet out.new.items (out.old.items
-        ++ file_calls.behind_faults (file.entry).kind (view (file.entry).root.now) (map (λ a. option_copied a) answers.now))) }
-    ensures unchanged { OnErr result (out.new.items ≡ out.old.items) }
+    ensures { let f = file.entry in OnOk result (SameSet faults.new (faults.old
+        ++ file_calls.behind_faults f.kind (view f.root.now)
+        (map (λ a. option_copied a) answers.now))) }
 {
+    let alloc = faults.alloc();
     let sites = sites_in(alloc, file.kind, file.root)?;
     let answered = with_answers(alloc, sites.as_slice(), file.calls, answers)?;
-    let mut found = faults_by(alloc, file.kind, file.root, answered.as_slice())?;
-    // The few faults that are there move behind those found, which can be millions.
-    found.append(out)?;
-    *out = found;
+    check_with_answers(file.kind, file.root, answered.as_slice(), faults)?;
     Ok(())
 }

@@ -45,8 +45,10 @@ impl<'a> Lists<'a> {
 
     /// Puts names behind the others, and answers their position. Fails with `AllocError` when out of memory, as all here.
     fn push(&mut self, names: Option<&'a NameList>) -> Result<Option<usize>, AllocError>
-        ensures lists { OnOk result (lists_of self.new ≡ lists_of self.old ++ option_to_list (option_copied names.entry)) }
-        ensures position { IfOk result (λ position. StandsAt (lists_of self.new) position (option_copied names.entry)) }
+        ensures lists { OnOk result (lists_of self.new ≡ lists_of self.old
+            ++ option_to_list (option_copied names.entry)) }
+        ensures position { IfOk result
+            (λ position. StandsAt (lists_of self.new) position (option_copied names.entry)) }
         ensures positions { (self.new).positions ≡ (self.old).positions }
     {
         match names {
@@ -66,7 +68,9 @@ impl<'a> Lists<'a> {
         text: &'a [u8],
         names: Option<&'a NameList>,
     ) -> Result<Option<usize>, AllocError>
-        ensures { IfOk result (λ position. Takes self.old self.new of_step text.entry.now (option_copied names.entry) position) }
+        ensures { IfOk result
+            (λ position. Takes self.old self.new of_step text.entry.now
+            (option_copied names.entry) position) }
     {
         let position = self.push(names)?;
         self.positions.insert((of_step, text), position)?;
@@ -76,7 +80,8 @@ impl<'a> Lists<'a> {
     /// The position of the outputs behind a call.
     fn position(&mut self, answered: Answered<'a>) -> Result<Option<usize>, AllocError>
         ensures { let a = answered_of answered.entry in IfOk result
-            (λ position. Takes self.old self.new (is_some a.call.site.step) a.call.text (outputs_behind a) position) }
+            (λ position. Takes self.old self.new (is_some a.call.site.step) a.call.text
+            (outputs_behind a) position) }
     {
         let call = answered.call;
         let of_step = call.site.step.is_some();

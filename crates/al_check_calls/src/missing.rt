@@ -4,7 +4,7 @@ ghost use Rattle.std.specs.Prelude.{◌≡◌, ◌++◌, ◌∷◌, [], map, IfO
 ghost use Rattle.std.specs.List.{flat_map};
 ghost use Rattle.std.specs.List.Sorted.{IsPermutation};
 ghost use Rattle.al_base.specs.Growth.{SameSet};
-ghost use Rattle.al_check_calls.specs.CallFaults as faults;
+ghost use Rattle.al_check_calls.specs.CallFaults as meant;
 ghost use Rattle.al_check_calls.specs.Private.AnswerViews.{compared_of};
 ghost use Rattle.al_check_calls.specs.Private.Comparing as comparing;
 ghost use Rattle.al_check_calls.specs.Private.Comparing.{HaveOneSignature, IsSaid, TellSignatures};
@@ -12,8 +12,8 @@ ghost use Rattle.al_tree_declarations.specs.Private.NameSets.{holds};
 ghost use Rattle.al_tree.specs.Values.{member_of};
 
 use crate::comparisons::{Comparison, call_alike, given_by};
-use crate::reports::{Report, called_name, caller_of, report_two, uses_span};
-use al_base::{CallCode, Caller, Fault};
+use crate::reports::{called_name, caller_of, code_at, uses_span};
+use al_base::{CallCode, Caller, FaultSink};
 use al_check_interfaces::{Parameter, ParameterKind};
 use al_tree::{Member, key_text};
 use al_tree_declarations::NameSet;
@@ -29,7 +29,7 @@ struct Giver<'a> {
 /// The keys of members.
 #[tactic(auto, using(al_tree_declarations::proofs::NameLemmas::named_more))]
 fn names_in(alloc: Global, given: &[Member<'_>]) -> Result<NameSet, AllocError>
-    ensures { IfOk result (λ s. holds s ≡ faults.given_names (map member_of given.now)) }
+    ensures { IfOk result (λ s. holds s ≡ meant.given_names (map member_of given.now)) }
 {
     let mut names = NameSet::new(alloc);
     for member in given {
@@ -41,7 +41,7 @@ fn names_in(alloc: Global, given: &[Member<'_>]) -> Result<NameSet, AllocError>
 fn giver_of<'a>(alloc: Global, call: Comparison<'a>) -> Result<Giver<'a>, AllocError>
     ensures call { IfOk result (λ g. compared_of g.call ≡ compared_of call.entry) }
     ensures names { let q = compared_of call.entry in IfOk result
-        (λ g. holds g.names ≡ faults.given_names (faults.given_by q.kind q.call.site.node)) }
+        (λ g. holds g.names ≡ meant.given_names (meant.given_by q.kind q.call.site.node)) }
 {
     let given = given_by(alloc, call.kind, call.call.site.node)?;
     let names = names_in(alloc, given.as_slice())?;
@@ -49,7 +49,7 @@ fn giver_of<'a>(alloc: Global, call: Comparison<'a>) -> Result<Giver<'a>, AllocE
 }
 
 fn missing_code(kind: ParameterKind) -> CallCode
-    ensures { result ≡ faults.missing_code kind }
+    ensures { result ≡ meant.missing_code kind }
 {
     match kind {
         ParameterKind::Input => CallCode::MissingInput,
@@ -59,59 +59,59 @@ fn missing_code(kind: ParameterKind) -> CallCode
 
 /// C3 or C6 of a parameter.
 fn report_missing(
-    alloc: Global,
     call: Comparison<'_>,
     parameter: &Parameter,
-    out: &mut Vec<Fault>,
+    faults: &mut FaultSink,
 ) -> Result<(), AllocError>
-    ensures { OnOk result (out.new.items ≡ out.old.items ++ comparing.missing_fault (compared_of call.entry) parameter.now ∷ []) }
+    ensures { OnOk result (faults.new ≡ faults.old
+        ++ comparing.missing_fault (compared_of call.entry) parameter.now ∷ []) }
 {
-    let report = Report {
-        code: missing_code(call.kind),
-        span: uses_span(call.call),
-        first: parameter.name.as_bytes(),
-        second: called_name(call.call, call.signature),
-    };
-    report_two(alloc, call.call, report, out)
+    let code = code_at(call.call, missing_code(call.kind));
+    let name = parameter.name.as_bytes();
+    let called = called_name(call.call, call.signature);
+    faults.report_two(uses_span(call.call), code, name, called)
 }
 
 /// C3 or C6 of a parameter, which is left if the call gives it.
 fn check_parameter<'a>(
-    alloc: Global,
     giver: &Giver<'_>,
     parameter: &'a Parameter,
     left: &mut Vec<&'a Parameter>,
-    out: &mut Vec<Fault>,
+    faults: &mut FaultSink,
 ) -> Result<(), AllocError>
-    requires { let q = compared_of giver.now.call in holds giver.now.names ≡ faults.given_names (faults.given_by q.kind q.call.site.node) }
-    ensures faults { OnOk result (out.new.items ≡ out.old.items
+    requires { let q = compared_of giver.now.call in holds giver.now.names
+        ≡ meant.given_names (meant.given_by q.kind q.call.site.node) }
+    ensures faults { OnOk result (faults.new ≡ faults.old
         ++ comparing.fault_unless_given (compared_of giver.now.call) parameter.entry.now) }
     ensures left { OnOk result (map (λ p. p.now) left.new.items
-        ≡ map (λ p. p.now) left.old.items ++ comparing.parameter_if_given (compared_of giver.now.call) parameter.entry.now) }
+        ≡ map (λ p. p.now) left.old.items
+        ++ comparing.parameter_if_given (compared_of giver.now.call) parameter.entry.now) }
 {
-    if giver.names.contains(alloc, parameter.name.as_bytes())? {
+    let name = parameter.name.as_bytes();
+    if giver.names.contains(faults.alloc(), name)? {
         left.push(parameter)?;
         return Ok(());
     }
-    report_missing(alloc, giver.call, parameter, out)
+    report_missing(giver.call, parameter, faults)
 }
 
 /// Adds C3 and C6 of these parameters, and answers those that the call gives.
 fn check_parameters<'a>(
-    alloc: Global,
     call: Comparison<'_>,
     parameters: &[&'a Parameter],
-    out: &mut Vec<Fault>,
+    faults: &mut FaultSink,
 ) -> Result<Vec<&'a Parameter>, AllocError>
-    ensures faults { OnOk result (out.new.items ≡ out.old.items
-        ++ flat_map (comparing.fault_unless_given (compared_of call.entry)) (map (λ p. p.now) parameters.now)) }
+    ensures faults { OnOk result (faults.new ≡ faults.old
+        ++ flat_map (comparing.fault_unless_given (compared_of call.entry))
+        (map (λ p. p.now) parameters.now)) }
     ensures left { IfOk result (λ v. map (λ p. p.now) v.items
-        ≡ flat_map (comparing.parameter_if_given (compared_of call.entry)) (map (λ p. p.now) parameters.now)) }
+        ≡ flat_map (comparing.parameter_if_given (compared_of call.entry))
+        (map (λ p. p.now) parameters.now)) }
 {
-    let giver = giver_of(alloc, call)?;
-    let mut left = Vec::new(alloc);
+    let giver = giver_of(faults.alloc(), call)?;
+    let mut left = Vec::new(faults.alloc());
     for parameter in parameters {
-        check_parameter(alloc, &giver, *parameter, &mut left, out)?;
+        check_parameter(&giver, *parameter, &mut left, faults)?;
     }
     Ok(left)
 }
@@ -126,42 +126,42 @@ fn is_by_same_uses(one: Comparison<'_>, other: Comparison<'_>) -> bool
 /// C3 and C6 of a call. Behind one alike by the same `uses` only the parameters that are left are looked up; answers those that are left
 /// then.
 fn check_next<'a>(
-    alloc: Global,
     previous: Option<Comparison<'a>>,
     left: &[&'a Parameter],
     call: Comparison<'a>,
-    out: &mut Vec<Fault>,
+    faults: &mut FaultSink,
 ) -> Result<Vec<&'a Parameter>, AllocError>
     requires alike { IfSome previous (λ p. HaveOneSignature (compared_of p) (compared_of call)) }
-    requires said { IfSome previous (λ p. IsSaid (compared_of p) (map (λ q. q.now) left.now) out.old.items) }
-    ensures faults { OnOk result (SameSet out.new.items (out.old.items ++ comparing.missing_of (compared_of call.entry))) }
-    ensures said { IfOk result (λ v. IsSaid (compared_of call.entry) (map (λ q. q.now) v.items) out.new.items) }
+    requires said { IfSome previous
+        (λ p. IsSaid (compared_of p) (map (λ q. q.now) left.now) faults.old) }
+    ensures faults { OnOk result (SameSet faults.new (faults.old
+        ++ comparing.missing_of (compared_of call.entry))) }
+    ensures said { IfOk result
+        (λ v. IsSaid (compared_of call.entry) (map (λ q. q.now) v.items) faults.new) }
 {
     if let Some(before) = previous {
         if is_by_same_uses(before, call) {
-            let found = check_parameters(alloc, call, left, out)?;
+            let found = check_parameters(call, left, faults)?;
             return Ok(found);
         }
     }
-    let all = call.signature.parameters(call.kind).mandatory(alloc)?;
-    let found = check_parameters(alloc, call, all.as_slice(), out)?;
+    let wanted = call.signature.parameters(call.kind);
+    let all = wanted.mandatory(faults.alloc())?;
+    let found = check_parameters(call, all.as_slice(), faults)?;
     Ok(found)
 }
 
 /// C3 and C6 of calls, one after another.
-fn check_in_turn<'a>(
-    alloc: Global,
-    calls: &[Comparison<'a>],
-    out: &mut Vec<Fault>,
-) -> Result<(), AllocError>
+fn check_in_turn<'a>(calls: &[Comparison<'a>], faults: &mut FaultSink) -> Result<(), AllocError>
     requires { TellSignatures (map compared_of calls.now) }
-    ensures { OnOk result (SameSet out.new.items (out.old.items ++ flat_map comparing.missing_of (map compared_of calls.now))) }
+    ensures { OnOk result (SameSet faults.new (faults.old
+        ++ flat_map comparing.missing_of (map compared_of calls.now))) }
 {
     let mut previous = None;
-    let mut left = Vec::new(alloc);
+    let mut left = Vec::new(faults.alloc());
     for i in 0..calls.len() {
         let call = calls[i];
-        left = check_next(alloc, previous, left.as_slice(), call, out)?;
+        left = check_next(previous, left.as_slice(), call, faults)?;
         previous = Some(call);
     }
     Ok(())
@@ -184,14 +184,13 @@ fn in_order<'a>(comparisons: Vec<Comparison<'a>>) -> Vec<Comparison<'a>>
 /// Adds C3 and C6 of calls, of equal faults at least one. Takes time by what the calls give, and by what has to be given once for each
 /// `uses`.
 pub(crate) fn check_missing(
-    alloc: Global,
     comparisons: Vec<Comparison<'_>>,
-    out: &mut Vec<Fault>,
+    faults: &mut FaultSink,
 ) -> Result<(), AllocError>
     requires { TellSignatures (map compared_of comparisons.items) }
-    ensures { OnOk result (SameSet out.new.items
-        (out.old.items ++ flat_map comparing.missing_of (map compared_of comparisons.entry.items))) }
+    ensures { OnOk result (SameSet faults.new
+        (faults.old ++ flat_map comparing.missing_of (map compared_of comparisons.entry.items))) }
 {
     let calls = in_order(comparisons);
-    check_in_turn(alloc, calls.as_slice(), out)
+    check_in_turn(calls.as_slice(), faults)
 }

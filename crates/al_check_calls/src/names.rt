@@ -9,22 +9,22 @@ use crate::answers::Answered;
 use crate::comparisons::all_comparisons;
 use crate::missing::check_missing;
 use crate::undefined::check_undefined;
-use al_base::Fault;
-use std::alloc::{AllocError, Global};
+use al_base::FaultSink;
+use std::alloc::AllocError;
 
 /// Adds the faults of the names of calls, of equal faults at least one. Takes time by what the calls give, and by what has to be given once
 /// for each `uses`.
 ///
 /// Fails with `AllocError` when out of memory.
 pub(crate) fn check_names(
-    alloc: Global,
     answered: &[Answered<'_>],
-    out: &mut Vec<Fault>,
+    faults: &mut FaultSink,
 ) -> Result<(), AllocError>
     requires { AreToldByUses (map answered_of answered.now) }
-    ensures { OnOk result (SameSet out.new.items (out.old.items ++ flat_map faults_of_names (map answered_of answered.now))) }
+    ensures { OnOk result (SameSet faults.new (faults.old
+        ++ flat_map faults_of_names (map answered_of answered.now))) }
 {
-    let calls = all_comparisons(alloc, answered)?;
-    check_undefined(alloc, calls.as_slice(), out)?;
-    check_missing(alloc, calls, out)
+    let calls = all_comparisons(faults.alloc(), answered)?;
+    check_undefined(calls.as_slice(), faults)?;
+    check_missing(calls, faults)
 }

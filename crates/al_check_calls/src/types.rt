@@ -1,8 +1,10 @@
 //! The type of a scalar that is given to an input: that of its expression where it is one, else by its class.
 ghost use Rattle.std.specs.Prelude.{◌≡◌, ◌≤◌, ◌∷◌, [], List, length, map, true, All, IfOk, IsUtf8, ℕ};
+ghost use Rattle.std.specs.Option.{option_copied};
 ghost use Rattle.al_base.specs.Growth.{BeginsWith};
 ghost use Rattle.al_base.specs.Limits.{longest_text};
 ghost use Rattle.al_check_calls.specs.Types as meant;
+ghost use Rattle.al_check_calls.specs.Private.Contents.{content_where_one};
 ghost use Rattle.al_expr_grammar.specs.Chunks.{IsCutFrom, chunks_of, span_of_chunk};
 ghost use Rattle.al_expr_types.specs.Tables.{is_known, objects_of, type_at};
 ghost use Rattle.al_expr_types.specs.Types.{is_below, type_in};
@@ -10,6 +12,7 @@ ghost use Rattle.al_expr_typing.specs.Scopes.{IsShown, scope_at};
 ghost use Rattle.al_scalar.specs.Scalar.{text_of};
 ghost use Rattle.al_types.specs.Types.{Parts};
 
+use al_base::FaultSink;
 use al_check_contexts::class_type_of;
 use al_expr_grammar::{Chunk, chunks, grammar, parse_expr};
 use al_expr_types::{Base, Ty, Types};
@@ -27,15 +30,16 @@ fn content_type(
     content: &str,
 ) -> Result<Ty, AllocError>
     requires { IsShown types.old scope.now }
-    ensures ty { IfOk result (λ t. type_at types.new t ≡ meant.content_type (scope_at types.old scope.now) content.now) }
+    ensures ty { IfOk result (λ t. type_at types.new t
+        ≡ meant.content_type (scope_at types.old scope.now) content.now) }
     ensures known { IfOk result (λ t. is_known types.new t ≡ true) }
     ensures kept { BeginsWith (objects_of types.new) (objects_of types.old) }
 {
     grammar();
     match parse_expr(alloc, content)? {
         Ok(expr) => {
-            let mut faults = Vec::new(alloc);
-            let ty = type_of(alloc, types, scope, &expr, &mut faults)?;
+            let mut faults = FaultSink::new(alloc);
+            let ty = type_of(types, scope, &expr, &mut faults)?;
             Ok(ty)
         }
         Err(_) => Ok(Ty::ANY),
@@ -56,51 +60,29 @@ fn text_type(scalar: &Scalar) -> Ty
     }
 }
 
-/// The type of a scalar whose text has one chunk.
-#[tactic(auto, using(al_base::proofs::Growing::growth))]
-fn chunk_type(
-    alloc: Global,
-    types: &mut Types<'_>,
-    scope: &Scope,
-    scalar: &Scalar,
-    chunk: &Chunk<'_>,
-) -> Result<Ty, AllocError>
-    requires shown { IsShown types.old scope.now }
+/// The content of a scalar whose text has this chunk alone, if the text is nothing else.
+fn content_of_only<'a>(scalar: &Scalar, chunk: &Chunk<'a>) -> Option<&'a str>
     requires cut { IsCutFrom (text_of scalar.now) chunk.now }
     requires only { (chunks_of (text_of scalar.now)).chunks ≡ span_of_chunk chunk.now ∷ [] }
-    ensures ty { IfOk result (λ t. type_at types.new t ≡ meant.scalar_type (scope_at types.old scope.now) scalar.now) }
-    ensures known { IfOk result (λ t. is_known types.new t ≡ true) }
-    ensures kept { BeginsWith (objects_of types.new) (objects_of types.old) }
+    ensures { option_copied result ≡ content_where_one (text_of scalar.now) }
 {
-    let len = scalar.text().len();
-    if chunk.span.start == 3 && chunk.span.end as usize + 2 == len {
-        let ty = content_type(alloc, types, scope, chunk.content)?;
-        return Ok(ty);
+    if chunk.span.start == 3 && chunk.span.end as usize + 2 == scalar.text().len() {
+        return Some(chunk.content);
     }
-    Ok(text_type(scalar))
+    None
 }
 
-/// The type of a scalar whose text has these chunks.
-#[tactic(auto, using(al_base::proofs::Growing::growth, crate::proofs::Lone::by_class))]
-fn type_by_chunks(
-    alloc: Global,
-    types: &mut Types<'_>,
-    scope: &Scope,
-    scalar: &Scalar,
-    chunks: &[Chunk<'_>],
-) -> Result<Ty, AllocError>
-    requires shown { IsShown types.old scope.now }
+/// The content of a scalar whose text has these chunks, if the text is one expression.
+#[tactic(auto, using(crate::proofs::Lone::no_content))]
+fn content_of<'a>(scalar: &Scalar, chunks: &[Chunk<'a>]) -> Option<&'a str>
     requires cut { All (IsCutFrom (text_of scalar.now)) chunks.now }
     requires found { map span_of_chunk chunks.now ≡ (chunks_of (text_of scalar.now)).chunks }
-    ensures ty { IfOk result (λ t. type_at types.new t ≡ meant.scalar_type (scope_at types.old scope.now) scalar.now) }
-    ensures known { IfOk result (λ t. is_known types.new t ≡ true) }
-    ensures kept { BeginsWith (objects_of types.new) (objects_of types.old) }
+    ensures { option_copied result ≡ content_where_one (text_of scalar.now) }
 {
     if chunks.len() == 1 {
-        let ty = chunk_type(alloc, types, scope, scalar, &chunks[0])?;
-        return Ok(ty);
+        return content_of_only(scalar, &chunks[0]);
     }
-    Ok(text_type(scalar))
+    None
 }
 
 /// The type of a scalar that is given to an input.
@@ -114,11 +96,17 @@ pub(crate) fn scalar_type(
     requires shown { IsShown types.old scope.now }
     requires utf8 { IsUtf8 (text_of scalar.now) }
     requires small { length (text_of scalar.now) ≤ longest_text }
-    ensures ty { IfOk result (λ t. type_at types.new t ≡ meant.scalar_type (scope_at types.old scope.now) scalar.now) }
+    ensures ty { IfOk result (λ t. type_at types.new t
+        ≡ meant.scalar_type (scope_at types.old scope.now) scalar.now) }
     ensures known { IfOk result (λ t. is_known types.new t ≡ true) }
     ensures kept { BeginsWith (objects_of types.new) (objects_of types.old) }
 {
     let (found, _) = chunks(alloc, scalar.as_str())?;
-    let ty = type_by_chunks(alloc, types, scope, scalar, found.as_slice())?;
-    Ok(ty)
+    match content_of(scalar, found.as_slice()) {
+        None => Ok(text_type(scalar)),
+        Some(content) => {
+            let ty = content_type(alloc, types, scope, content)?;
+            Ok(ty)
+        }
+    }
 }

@@ -4,15 +4,15 @@ ghost use Rattle.std.specs.Prelude.{◌≡◌, ◌++◌, map, IfOk, IfSome, OnOk
 ghost use Rattle.std.specs.List.{flat_map};
 ghost use Rattle.std.specs.List.Sorted.{IsPermutation};
 ghost use Rattle.al_base.specs.Growth.{SameSet};
-ghost use Rattle.al_check_calls.specs.CallFaults as faults;
+ghost use Rattle.al_check_calls.specs.CallFaults as meant;
 ghost use Rattle.al_check_calls.specs.Private.AnswerViews.{compared_of, name_of};
 ghost use Rattle.al_check_calls.specs.Private.Comparing as comparing;
 ghost use Rattle.al_check_calls.specs.Private.Comparing.{AreThere, HaveOneSignature, TellSignatures, TellSignaturesBy};
 ghost use Rattle.al_tree.specs.Values.{member_of};
 
 use crate::comparisons::{Comparison, call_alike, given_by};
-use crate::reports::{Report, called_name, caller_of, report_two, uses_text};
-use al_base::{CallCode, Caller, Fault};
+use crate::reports::{called_name, caller_of, code_at, uses_text};
+use al_base::{CallCode, Caller, FaultSink};
 use al_check_interfaces::ParameterKind;
 use al_tree::{Member, key_text};
 use al_tree_declarations::is_named_among;
@@ -27,7 +27,7 @@ struct GivenName<'a> {
 
 /// Whether a name needs no parameter of the called file: what a step gives to a container.
 fn is_free_for(kind: ParameterKind, caller: Caller, name: &[u8]) -> bool
-    ensures { result ≡ faults.is_free_for kind caller name.now }
+    ensures { result ≡ meant.is_free_for kind caller name.now }
 {
     match kind {
         ParameterKind::Secret => false,
@@ -40,7 +40,8 @@ fn is_free_for(kind: ParameterKind, caller: Caller, name: &[u8]) -> bool
 
 /// Whether a call may give a name.
 fn is_taken(alloc: Global, by: Comparison<'_>, name: &[u8]) -> Result<bool, AllocError>
-    ensures { let q = compared_of by.entry in IfOk result (λ b. b ≡ faults.is_taken q.kind q.call q.signature name.now) }
+    ensures { let q = compared_of by.entry in IfOk result (λ b. b
+        ≡ meant.is_taken q.kind q.call q.signature name.now) }
 {
     if by.signature.parameters(by.kind).has(alloc, name)? {
         return Ok(true);
@@ -49,7 +50,7 @@ fn is_taken(alloc: Global, by: Comparison<'_>, name: &[u8]) -> Result<bool, Allo
 }
 
 fn undefined_code(kind: ParameterKind) -> CallCode
-    ensures { result ≡ faults.undefined_code kind }
+    ensures { result ≡ meant.undefined_code kind }
 {
     match kind {
         ParameterKind::Input => CallCode::UndefinedInput,
@@ -58,20 +59,16 @@ fn undefined_code(kind: ParameterKind) -> CallCode
 }
 
 /// C2 or C5 of a name.
-fn check_name(alloc: Global, name: GivenName<'_>, out: &mut Vec<Fault>) -> Result<(), AllocError>
-    ensures { OnOk result (out.new.items ≡ out.old.items ++ comparing.undefined_at (name_of name.entry)) }
+fn check_name(name: GivenName<'_>, faults: &mut FaultSink) -> Result<(), AllocError>
+    ensures { OnOk result (faults.new ≡ faults.old ++ comparing.undefined_at (name_of name.entry)) }
 {
     let text = key_text(name.member.key);
-    if is_taken(alloc, name.by, text)? {
+    if is_taken(faults.alloc(), name.by, text)? {
         return Ok(());
     }
-    let report = Report {
-        code: undefined_code(name.by.kind),
-        span: name.member.key.span(),
-        first: text,
-        second: called_name(name.by.call, name.by.signature),
-    };
-    report_two(alloc, name.by.call, report, out)
+    let code = code_at(name.by.call, undefined_code(name.by.kind));
+    let called = called_name(name.by.call, name.by.signature);
+    faults.report_two(name.member.key.span(), code, text, called)
 }
 
 /// Whether calls alike give one name at one place.
@@ -85,36 +82,34 @@ fn is_same_name_given(one: GivenName<'_>, other: GivenName<'_>) -> bool
 
 /// C2 or C5 of a name, unless the one before it is the same.
 fn check_next_name(
-    alloc: Global,
     previous: Option<GivenName<'_>>,
     name: GivenName<'_>,
-    out: &mut Vec<Fault>,
+    faults: &mut FaultSink,
 ) -> Result<(), AllocError>
     requires alike { IfSome previous (λ p. HaveOneSignature (name_of p).by (name_of name).by) }
-    requires there { IfSome previous (λ p. AreThere (comparing.undefined_at (name_of p)) out.old.items) }
-    ensures { OnOk result (SameSet out.new.items (out.old.items ++ comparing.undefined_at (name_of name.entry))) }
+    requires there { IfSome previous
+        (λ p. AreThere (comparing.undefined_at (name_of p)) faults.old) }
+    ensures { OnOk result (SameSet faults.new (faults.old
+        ++ comparing.undefined_at (name_of name.entry))) }
 {
     if let Some(before) = previous {
         if is_same_name_given(before, name) {
             return Ok(());
         }
     }
-    check_name(alloc, name, out)
+    check_name(name, faults)
 }
 
 /// C2 and C5 of names, one after another.
-fn check_in_turn<'a>(
-    alloc: Global,
-    given: &[GivenName<'a>],
-    out: &mut Vec<Fault>,
-) -> Result<(), AllocError>
+fn check_in_turn<'a>(given: &[GivenName<'a>], faults: &mut FaultSink) -> Result<(), AllocError>
     requires { TellSignaturesBy (map name_of given.now) }
-    ensures { OnOk result (SameSet out.new.items (out.old.items ++ flat_map comparing.undefined_at (map name_of given.now))) }
+    ensures { OnOk result (SameSet faults.new (faults.old
+        ++ flat_map comparing.undefined_at (map name_of given.now))) }
 {
     let mut previous = None;
     for i in 0..given.len() {
         let name = given[i];
-        check_next_name(alloc, previous, name, out)?;
+        check_next_name(previous, name, faults)?;
         previous = Some(name);
     }
     Ok(())
@@ -126,7 +121,8 @@ fn add_members<'a>(
     found: &mut Vec<GivenName<'a>>,
 ) -> Result<(), AllocError>
     ensures { OnOk result (map name_of found.new.items
-        ≡ map name_of found.old.items ++ map (comparing.name_by (compared_of by.entry)) (map member_of given.now)) }
+        ≡ map name_of found.old.items
+        ++ map (comparing.name_by (compared_of by.entry)) (map member_of given.now)) }
 {
     for member in given {
         found.push(GivenName {
@@ -143,7 +139,8 @@ fn add_names_by<'a>(
     by: Comparison<'a>,
     found: &mut Vec<GivenName<'a>>,
 ) -> Result<(), AllocError>
-    ensures { OnOk result (map name_of found.new.items ≡ map name_of found.old.items ++ comparing.names_by (compared_of by.entry)) }
+    ensures { OnOk result (map name_of found.new.items ≡ map name_of found.old.items
+        ++ comparing.names_by (compared_of by.entry)) }
 {
     let given = given_by(alloc, by.kind, by.call.site.node)?;
     add_members(by, given.as_slice(), found)
@@ -154,7 +151,8 @@ fn names_given<'a>(
     alloc: Global,
     calls: &[Comparison<'a>],
 ) -> Result<Vec<GivenName<'a>>, AllocError>
-    ensures { IfOk result (λ v. map name_of v.items ≡ flat_map comparing.names_by (map compared_of calls.now)) }
+    ensures { IfOk result (λ v. map name_of v.items
+        ≡ flat_map comparing.names_by (map compared_of calls.now)) }
 {
     let mut found = Vec::new(alloc);
     for by in calls {
@@ -185,13 +183,13 @@ fn in_order<'a>(given: Vec<GivenName<'a>>) -> Vec<GivenName<'a>>
 
 /// Adds C2 and C5 of what calls give, of equal faults at least one.
 pub(crate) fn check_undefined(
-    alloc: Global,
     calls: &[Comparison<'_>],
-    out: &mut Vec<Fault>,
+    faults: &mut FaultSink,
 ) -> Result<(), AllocError>
     requires { TellSignatures (map compared_of calls.now) }
-    ensures { OnOk result (SameSet out.new.items (out.old.items ++ flat_map comparing.undefined_of (map compared_of calls.now))) }
+    ensures { OnOk result (SameSet faults.new (faults.old
+        ++ flat_map comparing.undefined_of (map compared_of calls.now))) }
 {
-    let given = in_order(names_given(alloc, calls)?);
-    check_in_turn(alloc, given.as_slice(), out)
+    let given = in_order(names_given(faults.alloc(), calls)?);
+    check_in_turn(given.as_slice(), faults)
 }

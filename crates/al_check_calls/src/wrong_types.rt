@@ -5,18 +5,18 @@ ghost use Rattle.al_base.specs.declared.codes.Caller.TheVariants as by;
 ghost use Rattle.al_expr_types.specs.Types.{type_in};
 ghost use Rattle.al_tree.specs.Values.{member_of};
 ghost use Rattle.al_types.specs.Types.{Parts};
-ghost use Rattle.al_check_calls.specs.CallFaults as faults;
+ghost use Rattle.al_check_calls.specs.CallFaults as meant;
 ghost use Rattle.al_check_calls.specs.Private.AnswerViews.{call_of, given_in};
 
 use crate::answers::SiteCall;
-use crate::reports::{Report, report_two};
-use al_base::{CallCode, Fault};
+use crate::reports::code_at;
+use al_base::{CallCode, FaultSink};
 use al_check_contexts::type_of_input;
 use al_check_interfaces::{Parameter, Parameters, Signature};
 use al_expr_types::{Base, Ty};
 use al_tree::{Member, key_text};
 use al_tree_declarations::InputType;
-use std::alloc::{AllocError, Global};
+use std::alloc::AllocError;
 
 /// What is given under a name, and its type, of the file's table.
 #[derive(Clone, Copy)]
@@ -26,7 +26,7 @@ pub(crate) struct Value<'a> {
 }
 
 fn type_name(takes: InputType) -> &'static [u8]
-    ensures { result.now ≡ faults.type_name takes }
+    ensures { result.now ≡ meant.type_name takes }
 {
     match takes {
         InputType::Boolean => b"boolean",
@@ -36,7 +36,7 @@ fn type_name(takes: InputType) -> &'static [u8]
 }
 
 fn is_right(ty: Ty, takes: InputType) -> bool
-    ensures { (ms : List Parts) → result ≡ faults.is_right (type_in ms ty) takes }
+    ensures { (ms : List Parts) → result ≡ meant.is_right (type_in ms ty) takes }
 {
     let wanted = Ty {
         arrays: 0,
@@ -46,75 +46,69 @@ fn is_right(ty: Ty, takes: InputType) -> bool
 }
 
 fn check_type(
-    alloc: Global,
     call: SiteCall<'_>,
     value: &Value<'_>,
     input: &Parameter,
-    out: &mut Vec<Fault>,
+    faults: &mut FaultSink,
 ) -> Result<(), AllocError>
-    ensures { OnOk result ((ms : List Parts) → out.new.items ≡ out.old.items
-        ++ faults.type_faults (call_of call.entry) (member_of value.now.member) (type_in ms value.now.ty) input.now) }
+    ensures { OnOk result ((ms : List Parts) → faults.new ≡ faults.old
+        ++ meant.type_faults (call_of call.entry) (member_of value.now.member)
+        (type_in ms value.now.ty) input.now) }
 {
     if is_right(value.ty, input.takes) {
         return Ok(());
     }
-    let report = Report {
-        code: CallCode::WrongInput,
-        span: value.member.value.span(),
-        first: input.name.as_bytes(),
-        second: type_name(input.takes),
-    };
-    report_two(alloc, call, report, out)
+    let code = code_at(call, CallCode::WrongInput);
+    let span = value.member.value.span();
+    faults.report_two(span, code, input.name.as_bytes(), type_name(input.takes))
 }
 
 /// C4.
 fn check_value(
-    alloc: Global,
     call: SiteCall<'_>,
     inputs: &Parameters,
     value: &Value<'_>,
-    out: &mut Vec<Fault>,
+    faults: &mut FaultSink,
 ) -> Result<(), AllocError>
-    ensures { OnOk result ((ms : List Parts) → out.new.items ≡ out.old.items
-        ++ faults.wrong_input (call_of call.entry) inputs.now (given_in ms value.now)) }
+    ensures { OnOk result ((ms : List Parts) → faults.new ≡ faults.old
+        ++ meant.wrong_input (call_of call.entry) inputs.now (given_in ms value.now)) }
 {
     let name = key_text(value.member.key);
-    match inputs.named(alloc, name)? {
-        Some(input) => check_type(alloc, call, value, input, out),
+    match inputs.named(faults.alloc(), name)? {
+        Some(input) => check_type(call, value, input, faults),
         None => Ok(()),
     }
 }
 
 /// C4 of all values, against what a file shows.
 fn check_all(
-    alloc: Global,
     call: SiteCall<'_>,
     values: &[Value<'_>],
     signature: &Signature,
-    out: &mut Vec<Fault>,
+    faults: &mut FaultSink,
 ) -> Result<(), AllocError>
-    ensures { OnOk result ((ms : List Parts) → out.new.items ≡ out.old.items
-        ++ faults.wrong_inputs (call_of call.entry) (map (given_in ms) values.now) signature.now) }
+    ensures { OnOk result ((ms : List Parts) → faults.new ≡ faults.old
+        ++ meant.wrong_inputs (call_of call.entry) (map (given_in ms) values.now) signature.now) }
 {
     for value in values {
-        check_value(alloc, call, &signature.inputs, value, out)?;
+        check_value(call, &signature.inputs, value, faults)?;
     }
     Ok(())
 }
 
 /// C4 of what a job gives, against what the called file shows, if it may be called.
 pub(crate) fn check_values(
-    alloc: Global,
     call: SiteCall<'_>,
     values: &[Value<'_>],
     signature: Option<&Signature>,
-    out: &mut Vec<Fault>,
+    faults: &mut FaultSink,
 ) -> Result<(), AllocError>
-    ensures { OnOk result ((ms : List Parts) → out.new.items ≡ out.old.items
-        ++ faults.values_against by.Job (call_of call.entry) (map (given_in ms) values.now) (option_copied signature.entry)) }
+    ensures { OnOk result ((ms : List Parts) → faults.new ≡ faults.old
+        ++ meant.values_against by.Job (call_of call.entry) (map (given_in ms) values.now)
+        (option_copied signature.entry)) }
 {
     match signature {
         None => Ok(()),
-        Some(signature) => check_all(alloc, call, values, signature, out),
+        Some(signature) => check_all(call, values, signature, faults),
     }
 }

@@ -4,14 +4,18 @@ use Rattle.std.specs.List.{cons_option, list_all}
 use Rattle.std.specs.Option.{option_copied}
 use Rattle.al_tree.specs.Values.{member_of, scalar_node_of}
 use Rattle.al_types.specs.Types.{Parts}
+use Rattle.al_yaml_tree.specs.View.{view}
+use Rattle.al_check_contexts.specs.Answered.{known_of}
+use Rattle.al_check_contexts.specs.declared.env.File.{File}
 use Rattle.al_expr_types.specs.Tables.{is_known, objects_of}
 use Rattle.al_expr_types.specs.Types.{type_in}
 use Rattle.al_expr_types.specs.declared.types.Types.{Types}
 use Rattle.al_check_interfaces.specs.declared.interfaces.Interface.{Interface}
 use Rattle.al_check_interfaces.specs.Private.CallViews.{site_of}
 use Rattle.al_check_interfaces.specs.Uses.{Call, Site, call_at, call_by}
-use Rattle.al_check_calls.specs.Answers.{Answered, answered_by, first_answer}
+use Rattle.al_check_calls.specs.Answers.{Answered, Typing, answered_by, first_answer}
 use Rattle.al_check_calls.specs.CallFaults.{Given}
+use Rattle.al_check_calls.specs.FileCalls.{typing}
 use Rattle.al_check_calls.specs.Private.Comparing.{Comparison, GivenName}
 use Rattle.al_check_calls.specs.declared.answers.Answered as code_answers
 use Rattle.al_check_calls.specs.declared.answers.SiteCall as code_calls
@@ -41,6 +45,10 @@ compared_of q = record { kind = q.kind; call = call_of q.call; signature = q.sig
 
 abbrev pub name_of : code_names.GivenName → GivenName
 name_of n = record { by = compared_of n.by; entry = member_of n.member }
+
+-- the types of what the calls of a file give
+abbrev pub typing_in : File → Typing
+typing_in f = typing f.kind (known_of f.known) (view f.root.now)
 
 -- the call of the site with a number
 abbrev pub call_of_site : List Site → ℕ → Option Call

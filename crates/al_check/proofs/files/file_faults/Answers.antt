@@ -15,5 +15,5 @@ document_faults-requires-clause-calls c = subst (λ t. CallsGiven t c.args.file.
 
 pub document_faults-requires-clause-answers : goal.document_faults-requires-clause-answers
 document_faults-requires-clause-answers c =
-    let called = sym (targets_called c.args.file.now c.args.kind c.args.bytes.now c.requires.read) ∙ ap targets_read c.in-Ok.is in
+    let called = sym (targets_called c.args.file.now c.args.source.kind c.args.source.bytes.now c.requires.read) ∙ ap targets_read c.in-Ok.is in
     subst (λ targets. AreAnswers targets (map (λ a. option_copied a) c.args.answers.now)) called c.requires.answers

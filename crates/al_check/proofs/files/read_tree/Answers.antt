@@ -20,15 +20,15 @@ returns c =
     let same : view c.args.doc.root ≡ root_of tree = sym c.in_ok-tree.ensures.root in
     let keys = c.in_ok-tree.ensures.faults ∙ ap (λ kind. root_faults (shape_of kind) (view c.args.doc.root)) (sym c.in_ok-tree.ensures.kind)
     ∙ ap (root_faults (shape_of (kind_in tree))) same in
-    let small : length c.args.bytes.now ≤ 1048576 = c.requires.small in
+    let small : length c.args.source.bytes.now ≤ 1048576 = c.requires.small in
     record {
       given = record {
         kind_is = c.in_ok-tree.ensures.kind;
-        root_is = subst (λ n. tree_of c.args.bytes.now ≡ Ok n) same c.requires.root;
-        inside = subst (IsInside (length c.args.bytes.now)) same c.requires.inside;
-        laid = subst (IsLaid 1048576) same (laid-higher (length c.args.bytes.now) 1048576 (view c.args.doc.root) small c.requires.laid);
+        root_is = subst (λ n. tree_of c.args.source.bytes.now ≡ Ok n) same c.requires.root;
+        inside = subst (IsInside (length c.args.source.bytes.now)) same c.requires.inside;
+        laid = subst (IsLaid 1048576) same (laid-higher (length c.args.source.bytes.now) 1048576 (view c.args.doc.root) small c.requires.laid);
         texts = subst HasTexts same c.requires.texts;
-        from = subst (AreFrom (length c.args.bytes.now)) same c.requires.from;
+        from = subst (AreFrom (length c.args.source.bytes.now)) same c.requires.from;
       };
       own = set_trans c.document_calls.new.own.items (c.in_ok-own.own.items ++ wrong_uses_in (kind_in tree) (root_of tree)) (own_faults (kind_in tree) (root_of tree))
           (same_set _ _ c.in_ok-calls.ensures.own)

@@ -8,12 +8,12 @@ use Rattle.al_check_calls.proofs.calls.check_call.Goals as goal
 
 pub returns-in-Job : goal.returns-in-Job
 returns-in-Job c =
-    let call = call_of c.args.call in
-    let answer = option_copied c.args.answer in
+    let call = call_of c.args.answered.call in
+    let answer = option_copied c.args.answered.answer in
     let by : Job ≡ caller_of call = sym c.in-Job.is ∙ c.caller_of.ensures in
     on_ok_weaker c.check_values.result
     (λ h ms.
     let values = map (given_in ms) c.args.values.now in
     h ms ∙ (λ d. c.in_ok-check_uses.ensures d ++ values_against (by d) call values (c.called_signature.ensures d))
-    ∙ append_assoc c.args.out.now.items (uses_faults call answer) (value_faults call values answer))
+    ∙ append_assoc c.args.faults.now (uses_faults call answer) (value_faults call values answer))
     c.check_values.ensures

@@ -15,4 +15,4 @@ returns c =
     let types = typing c.args.file.kind (known_of c.args.file.known) (view c.args.file.root.now) in
     on_ok_weaker c.check_names.result
     (in_parts (answered_faults types) (faults_but_names types) faults_of_names (λ a. refl) (map answered_of c.args.answered.now)
-    c.args.out.now.items c.check_each.new.out.items c.check_names.new.out.items (same_set _ _ c.in_ok-check_each.ensures)) c.check_names.ensures
+    c.args.faults.now c.check_each.new.faults c.check_names.new.faults (same_set _ _ c.in_ok-check_each.ensures)) c.check_names.ensures

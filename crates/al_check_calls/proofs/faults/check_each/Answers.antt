@@ -10,6 +10,6 @@ pub loop-one-preserved : goal.loop-one-preserved
 loop-one-preserved c = record {
   stands = c.in_ok-check_one.ensures.stands;
   faults = list_more (faults_but_names (typing c.args.file.kind (known_of c.args.file.known) (view c.args.file.root.now))) answered_of c.args.answered.now
-      c.loop-one.one-index c.one-item.result c.args.out.now.items c.loop-one.out.items c.check_one.new.out.items c.loop-one-test.true c.one-item.is
+      c.loop-one.one-index c.one-item.result c.args.faults.now c.loop-one.faults c.check_one.new.faults c.loop-one-test.true c.one-item.is
       c.loop-one.invariant.faults c.in_ok-check_one.ensures.faults;
 }

@@ -11,6 +11,6 @@ use Rattle.al_check_calls.proofs.faults.check_each.Given as goal
 abbrev pub invariant-loop-one : goal.invariant-loop-one
 invariant-loop-one l = record {
   stands : Stands l.file l.env;
-  faults : l.out.items ≡ l.fn.out.items
+  faults : l.faults ≡ l.fn.faults
       ++ flat_map (faults_but_names (typing l.file.kind (known_of l.file.known) (view l.file.root.now))) (map answered_of (take l.one-index l.answered));
 }

@@ -11,5 +11,5 @@ returns-clause-faults c =
     let call = call_of c.args.answered.call in
     let answer = option_copied c.args.answered.answer in
     c.in_ok-check_call.ensures (objects_of types)
-    ∙ ap (λ vs. c.args.out.now.items ++ (uses_faults call answer ++ value_faults call vs answer))
+    ∙ ap (λ vs. c.args.faults.now ++ (uses_faults call answer ++ value_faults call vs answer))
     (ap (map (given_at types)) c.as_slice.ensures.value ∙ c.in_ok-values.ensures.values)

@@ -15,6 +15,6 @@ returns c = λ types.
     let answer = option_copied c.args.answered.answer in
     let by : caller_of call ≡ Step = ap (λ b. if b then Step else Job) c.requires in
     on_ok_weaker c.check_call.result
-    (λ h. h [] ∙ ap (λ l. c.args.out.now.items ++ (uses_faults call answer ++ l))
+    (λ h. h [] ∙ ap (λ l. c.args.faults.now ++ (uses_faults call answer ++ l))
     (values_of_step (caller_of call) call [] (values_in types call) (called_signature call answer) by))
     c.check_call.ensures

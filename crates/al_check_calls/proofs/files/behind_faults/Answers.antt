@@ -1,6 +1,5 @@
-use Rattle.std.proofs.Common.{◌≡◌, ap, ◌∙◌, map, subst, sym}
+use Rattle.std.proofs.Common.{◌≡◌, ◌++◌, ap, ◌∙◌, map, subst, sym}
 use Rattle.std.specs.Option.{option_copied}
-use Rattle.al_base.proofs.Sets.{set_moved_behind}
 use Rattle.al_base.specs.Growth.{SameSet}
 use Rattle.al_check_calls.specs.Answers.{answered}
 use Rattle.al_check_calls.specs.Private.AnswerViews.{answered_of}
@@ -13,16 +12,16 @@ use Rattle.al_check_calls.proofs.Short.{all_short}
 use Rattle.al_check_calls.proofs.Told.{told_by_uses}
 use Rattle.al_check_calls.proofs.files.behind_faults.Goals as goal
 
-pub faults_by-requires-clause-short : goal.faults_by-requires-clause-short
-faults_by-requires-clause-short c =
+pub check_with_answers-requires-clause-short : goal.check_with_answers-requires-clause-short
+check_with_answers-requires-clause-short c =
     let root = view c.args.file.root.now in
     let answers = map (λ a. option_copied a) c.args.answers.now in
     all_short c.as_slice-2.result.now c.args.file.kind root answers
     (ap (map answered_of) c.as_slice-2.ensures.value
     ∙ c.in_ok-answered.ensures c.args.file.kind root (ap (map site_of) c.as_slice.ensures.value ∙ c.in_ok-sites.ensures) c.requires.calls) c.requires.laid c.requires.texts
 
-pub faults_by-requires-clause-answers : goal.faults_by-requires-clause-answers
-faults_by-requires-clause-answers c =
+pub check_with_answers-requires-clause-answers : goal.check_with_answers-requires-clause-answers
+check_with_answers-requires-clause-answers c =
     let root = view c.args.file.root.now in
     let answers = map (λ a. option_copied a) c.args.answers.now in
     let found : map answered_of c.as_slice-2.result.now ≡ answered (calls_in c.args.file.kind root) answers =
@@ -30,12 +29,11 @@ faults_by-requires-clause-answers c =
     ∙ c.in_ok-answered.ensures c.args.file.kind root (ap (map site_of) c.as_slice.ensures.value ∙ c.in_ok-sites.ensures) c.requires.calls in
     subst AreToldByUses (sym found) (told_by_uses c.args.file.kind root answers c.requires.answers)
 
-pub returns-clause-faults : goal.returns-clause-faults
-returns-clause-faults c =
+pub returns : goal.returns
+returns c =
     let root = view c.args.file.root.now in
     let answers = map (λ a. option_copied a) c.args.answers.now in
     let found : map answered_of c.as_slice-2.result.now ≡ answered (calls_in c.args.file.kind root) answers =
     ap (map answered_of) c.as_slice-2.ensures.value
     ∙ c.in_ok-answered.ensures c.args.file.kind root (ap (map site_of) c.as_slice.ensures.value ∙ c.in_ok-sites.ensures) c.requires.calls in
-    set_moved_behind c.args.out.now.items c.in_ok-found.found.items _ _ c.in_ok-append.ensures.items
-    (subst (λ l. SameSet c.in_ok-found.found.items (faults_by c.args.file.kind root l)) found c.in_ok-found.ensures)
+    subst (λ l. SameSet c.check_with_answers.new.faults (c.args.faults.now ++ faults_by c.args.file.kind root l)) found c.in_ok-check_with_answers.ensures

@@ -13,9 +13,9 @@ pub loop-i-preserved : goal.loop-i-preserved
 loop-i-preserved c = record {
   there = mapped_in compared_of c.args.calls.now c.loop-i.i c.index-calls-i.result c.loop-i-test.true c.index-calls-i.is;
   said = c.in_ok-left.ensures.said;
-  set = step_more missing_of compared_of c.args.calls.now c.loop-i.i c.index-calls-i.result c.args.out.now.items c.loop-i.out.items
-      c.check_next.new.out.items c.loop-i-test.true c.index-calls-i.is c.loop-i.invariant.set c.in_ok-left.ensures.faults;
+  set = step_more missing_of compared_of c.args.calls.now c.loop-i.i c.index-calls-i.result c.args.faults.now c.loop-i.faults
+      c.check_next.new.faults c.loop-i-test.true c.index-calls-i.is c.loop-i.invariant.set c.in_ok-left.ensures.faults;
 }
 
 pub returns : goal.returns
-returns c = step_last missing_of compared_of c.args.calls.now c.loop-i.i c.args.out.now.items c.loop-i.out.items c.loop-i-test.false c.loop-i.invariant.set
+returns c = step_last missing_of compared_of c.args.calls.now c.loop-i.i c.args.faults.now c.loop-i.faults c.loop-i-test.false c.loop-i.invariant.set

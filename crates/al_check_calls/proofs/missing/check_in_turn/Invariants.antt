@@ -9,6 +9,6 @@ use Rattle.al_check_calls.proofs.missing.check_in_turn.Given as goal
 abbrev pub invariant-loop-i : goal.invariant-loop-i
 invariant-loop-i l = record {
   there : IfSome l.previous (λ p. Contains (map compared_of l.calls) (compared_of p));
-  said : IfSome l.previous (λ p. IsSaid (compared_of p) (map (λ q. q.now) l.left.items) l.out.items);
-  set : SameSet l.out.items (l.fn.out.items ++ flat_map missing_of (map compared_of (take l.i l.calls)));
+  said : IfSome l.previous (λ p. IsSaid (compared_of p) (map (λ q. q.now) l.left.items) l.faults);
+  set : SameSet l.faults (l.fn.faults ++ flat_map missing_of (map compared_of (take l.i l.calls)));
 }

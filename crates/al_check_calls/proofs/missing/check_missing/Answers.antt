@@ -18,6 +18,6 @@ check_in_turn-requires c =
 pub returns : goal.returns
 returns c =
     on_ok_weaker c.check_in_turn.result
-    (λ found. order_found c.args.comparisons.items c.in_order-calls.result.items c.args.out.now.items c.check_in_turn.new.out.items c.in_order-calls.ensures
-    (subst (λ l. SameSet c.check_in_turn.new.out.items (c.args.out.now.items ++ flat_map missing_of (map compared_of l))) c.as_slice.ensures.value found))
+    (λ found. order_found c.args.comparisons.items c.in_order-calls.result.items c.args.faults.now c.check_in_turn.new.faults c.in_order-calls.ensures
+    (subst (λ l. SameSet c.check_in_turn.new.faults (c.args.faults.now ++ flat_map missing_of (map compared_of l))) c.as_slice.ensures.value found))
     c.check_in_turn.ensures

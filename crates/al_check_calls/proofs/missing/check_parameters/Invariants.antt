@@ -6,8 +6,8 @@ use Rattle.al_check_calls.proofs.missing.check_parameters.Given as goal
 
 abbrev pub invariant-loop-parameter : goal.invariant-loop-parameter
 invariant-loop-parameter l = record {
-  faults : l.out.items ++ flat_map (fault_unless_given (compared_of l.call)) (map (λ p. p.now) (drop l.parameter-index l.parameters))
-      ≡ l.fn.out.items ++ flat_map (fault_unless_given (compared_of l.call)) (map (λ p. p.now) l.parameters);
+  faults : l.faults ++ flat_map (fault_unless_given (compared_of l.call)) (map (λ p. p.now) (drop l.parameter-index l.parameters))
+      ≡ l.fn.faults ++ flat_map (fault_unless_given (compared_of l.call)) (map (λ p. p.now) l.parameters);
   left : map (λ p. p.now) l.left.items ++ flat_map (parameter_if_given (compared_of l.call)) (map (λ p. p.now) (drop l.parameter-index l.parameters))
       ≡ flat_map (parameter_if_given (compared_of l.call)) (map (λ p. p.now) l.parameters);
 }

@@ -19,7 +19,7 @@ pub returns : goal.returns
 returns c =
     let calls = map compared_of c.in_ok-calls.calls.items in
     on_ok_weaker c.check_missing.result
-    (all_names_found (map answered_of c.args.answered.now) calls c.args.out.now.items c.check_undefined.new.out.items c.check_missing.new.out.items
+    (all_names_found (map answered_of c.args.answered.now) calls c.args.faults.now c.check_undefined.new.faults c.check_missing.new.faults
     c.in_ok-calls.ensures
-    (subst (λ l. SameSet c.check_undefined.new.out.items (c.args.out.now.items ++ flat_map undefined_of (map compared_of l))) c.as_slice.ensures.value
+    (subst (λ l. SameSet c.check_undefined.new.faults (c.args.faults.now ++ flat_map undefined_of (map compared_of l))) c.as_slice.ensures.value
     c.in_ok-check_undefined.ensures)) c.check_missing.ensures

@@ -12,10 +12,10 @@ check_next_name-requires-clause-alike c =
 pub loop-i-preserved : goal.loop-i-preserved
 loop-i-preserved c = record {
   there = mapped_in name_of c.args.given.now c.loop-i.i c.index-given-i.result c.loop-i-test.true c.index-given-i.is;
-  said = added_there c.loop-i.out.items c.check_next_name.new.out.items (undefined_at (name_of c.index-given-i.result)) c.in_ok-check_next_name.ensures;
-  set = step_more undefined_at name_of c.args.given.now c.loop-i.i c.index-given-i.result c.args.out.now.items c.loop-i.out.items
-      c.check_next_name.new.out.items c.loop-i-test.true c.index-given-i.is c.loop-i.invariant.set c.in_ok-check_next_name.ensures;
+  said = added_there c.loop-i.faults c.check_next_name.new.faults (undefined_at (name_of c.index-given-i.result)) c.in_ok-check_next_name.ensures;
+  set = step_more undefined_at name_of c.args.given.now c.loop-i.i c.index-given-i.result c.args.faults.now c.loop-i.faults
+      c.check_next_name.new.faults c.loop-i-test.true c.index-given-i.is c.loop-i.invariant.set c.in_ok-check_next_name.ensures;
 }
 
 pub returns : goal.returns
-returns c = step_last undefined_at name_of c.args.given.now c.loop-i.i c.args.out.now.items c.loop-i.out.items c.loop-i-test.false c.loop-i.invariant.set
+returns c = step_last undefined_at name_of c.args.given.now c.loop-i.i c.args.faults.now c.loop-i.faults c.loop-i-test.false c.loop-i.invariant.set

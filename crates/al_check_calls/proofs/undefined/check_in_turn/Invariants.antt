@@ -9,6 +9,6 @@ use Rattle.al_check_calls.proofs.undefined.check_in_turn.Given as goal
 abbrev pub invariant-loop-i : goal.invariant-loop-i
 invariant-loop-i l = record {
   there : IfSome l.previous (λ p. Contains (map name_of l.given) (name_of p));
-  said : IfSome l.previous (λ p. AreThere (undefined_at (name_of p)) l.out.items);
-  set : SameSet l.out.items (l.fn.out.items ++ flat_map undefined_at (map name_of (take l.i l.given)));
+  said : IfSome l.previous (λ p. AreThere (undefined_at (name_of p)) l.faults);
+  set : SameSet l.faults (l.fn.faults ++ flat_map undefined_at (map name_of (take l.i l.given)));
 }

@@ -10,8 +10,8 @@ use Rattle.al_check_calls.proofs.undefined.check_next_name.Goals as goal
 pub returns-then-is_same_name_given : goal.returns-then-is_same_name_given
 returns-then-is_same_name_given c =
     let alike = subst (λ o. IfSome o (λ p. HaveOneSignature (name_of p).by (name_of c.args.name).by)) c.in-Some.is c.requires.alike in
-    let there = subst (λ o. IfSome o (λ p. AreThere (undefined_at (name_of p)) c.args.out.now.items)) c.in-Some.is c.requires.there in
-    same_there (name_of c.in-Some.before) (name_of c.args.name) c.args.out.now.items alike there
+    let there = subst (λ o. IfSome o (λ p. AreThere (undefined_at (name_of p)) c.args.faults.now)) c.in-Some.is c.requires.there in
+    same_there (name_of c.in-Some.before) (name_of c.args.name) c.args.faults.now alike there
     (sym c.is_same_name_given.ensures ∙ c.if-is_same_name_given.true)
 
 pub returns : goal.returns

@@ -16,7 +16,7 @@ check_in_turn-requires c =
 pub returns : goal.returns
 returns c =
     on_ok_weaker c.check_in_turn.result
-    (λ found. names_found (map compared_of c.args.calls.now) c.in_ok-names_given.field-0.items c.in_order-given.result.items c.args.out.now.items
-    c.check_in_turn.new.out.items c.in_ok-names_given.ensures c.in_order-given.ensures
-    (subst (λ l. SameSet c.check_in_turn.new.out.items (c.args.out.now.items ++ flat_map undefined_at (map name_of l))) c.as_slice.ensures.value found))
+    (λ found. names_found (map compared_of c.args.calls.now) c.in_ok-names_given.field-0.items c.in_order-given.result.items c.args.faults.now
+    c.check_in_turn.new.faults c.in_ok-names_given.ensures c.in_order-given.ensures
+    (subst (λ l. SameSet c.check_in_turn.new.faults (c.args.faults.now ++ flat_map undefined_at (map name_of l))) c.as_slice.ensures.value found))
     c.check_in_turn.ensures

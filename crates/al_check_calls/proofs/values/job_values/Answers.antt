@@ -1,21 +1,43 @@
-use Rattle.std.proofs.Common.{◌≡◌, ap, ◌∙◌, map}
-use Rattle.std.specs.Prelude.{codes}
+use Rattle.std.proofs.Common.{ap, arith, ◌∙◌, map, sym}
+use Rattle.std.proofs.lemmas.List.{take_all}
+use Rattle.std.proofs.lemmas.List.Elements.{All-contains}
 use Rattle.al_check_calls.specs.CallFaults.{values_of}
 use Rattle.al_check_contexts.specs.Answered.{known_of}
-use Rattle.al_tree.specs.Values.{entries_at, member_of}
+use Rattle.al_tree.specs.Values.{member_of}
 use Rattle.al_yaml_tree.specs.View.{view}
-use Rattle.al_check_calls.specs.FileCalls.{type_in_job}
+use Rattle.al_check_calls.specs.FileCalls.{AreShort, type_in_job}
 use Rattle.al_check_calls.proofs.Short.{members_short}
+use Rattle.al_check_calls.proofs.ValueTypes.{known_more, value_more}
 use Rattle.al_check_calls.proofs.values.job_values.Goals as goal
 
-pub values_given-requires-clause-short : goal.values_given-requires-clause-short
-values_given-requires-clause-short c = members_short _ _ _ (ap (map member_of) c.as_slice.ensures.value ∙ c.in_ok-given.ensures) c.requires.short
+pub value_type-requires-clause-short : goal.value_type-requires-clause-short
+value_type-requires-clause-short c =
+    All-contains (λ m. AreShort (member_of m).1) c.deref-member-items.result.now c.member-item.result
+    (members_short c.deref-member-items.result.now _ _ (ap (map member_of) c.deref-member-items.ensures.value ∙ c.in_ok-given.ensures) c.requires.short)
+    (c.loop-member.member-index, c.loop-member-test.true, sym c.member-item.is)
+
+pub loop-member-preserved : goal.loop-member-preserved
+loop-member-preserved c =
+    let file = c.args.file in
+    let now = c.loop-member.env.types in
+    let next = c.value_type.new.env.types in
+    let vs = c.loop-member.values.items in
+    let m = c.member-item.result in
+    let t = c.in_ok-ty.ty in
+    record {
+      stands = c.in_ok-ty.ensures.stands;
+      known = known_more next now vs c.push.new.self.items (record { member = m; ty = t }) c.in_ok-ty.ensures.kept c.loop-member.invariant.known
+          c.in_ok-ty.ensures.known c.in_ok-push.ensures.items;
+      values = value_more next now (type_in_job file.kind (known_of file.known) (view file.root.now) c.text_or_empty-job.result.now)
+          c.deref-member-items.result.now c.loop-member.member-index m t vs c.push.new.self.items c.loop-member-test.true c.member-item.is
+          c.in_ok-ty.ensures.kept c.loop-member.invariant.known c.in_ok-ty.ensures.ty c.in_ok-push.ensures.items c.loop-member.invariant.values;
+    }
 
 pub returns-clause-values : goal.returns-clause-values
 returns-clause-values c =
-    let root = view c.args.file.root.now in
-    let known = known_of c.args.file.known in
-    let given : map member_of c.as_slice.result.now ≡ entries_at (codes "with") (view c.args.call.site.node.now) =
-    ap (map member_of) c.as_slice.ensures.value ∙ c.in_ok-given.ensures in
-    let job = c.text_or_empty-job.ensures in
-    c.in_ok-values.ensures.values ∙ λ i. values_of (type_in_job c.args.file.kind known root (job i)) (given i)
+    let types = type_in_job c.args.file.kind (known_of c.args.file.known) (view c.args.file.root.now) in
+    let given = ap (map member_of) c.deref-member-items.ensures.value ∙ c.in_ok-given.ensures in
+    c.loop-member.invariant.values
+    ∙ ap (λ ms. values_of (types c.text_or_empty-job.result.now) (map member_of ms))
+    (take_all c.loop-member.member-index c.deref-member-items.result.now (omega (arith, c.loop-member-test.false)))
+    ∙ λ i. values_of (types (c.text_or_empty-job.ensures i)) (given i)

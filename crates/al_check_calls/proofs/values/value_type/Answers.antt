@@ -14,7 +14,7 @@ use Rattle.al_check_calls.proofs.values.value_type.Goals as goal
 
 pub scalar_type-requires-clause-utf8 : goal.scalar_type-requires-clause-utf8
 scalar_type-requires-clause-utf8 c =
-    (scalar_short (member_of c.args.member).1 c.in-Some.scalar.now (sym c.scalar.ensures ∙ ap option_copied c.in-Some.is) c.requires.short).0
+    (scalar_short (member_of c.args.given.member).1 c.in-Some.scalar.now (sym c.scalar.ensures ∙ ap option_copied c.in-Some.is) c.requires.short).0
 
 pub returns-in_ok-ty-in-Some-clause-stands : goal.returns-in_ok-ty-in-Some-clause-stands
 returns-in_ok-ty-in-Some-clause-stands c =
@@ -25,8 +25,8 @@ returns-in_ok-ty-in-Some-clause-ty c =
     let s = c.in-Some.scalar.now in
     let known = known_of c.args.file.known in
     let root = view c.args.file.root.now in
-    let member = member_of c.args.member in
-    let there = c.in_ok-go_to-in-Some.ensures.scope ∙ ap (λ p. scope_at c.args.file.kind known root p) c.place_of_value.ensures in
+    let member = member_of c.args.given.member in
+    let there = c.in_ok-go_to-in-Some.ensures.scope ∙ ap (λ p. scope_at c.args.file.kind known root p) c.place_of_value-place.ensures in
     let is : scalar_in member.1 ≡ Some s = sym c.scalar.ensures ∙ ap option_copied c.in-Some.is in
     c.in_ok-ty-in-Some.ensures.ty ∙ ap (λ sc. scalar_type sc s) there
-    ∙ sym (ap (λ o. option_map_or (type_in_job c.args.file.kind known root c.args.job.now member.0) o Any) is)
+    ∙ sym (ap (λ o. option_map_or (type_in_job c.args.file.kind known root c.args.given.job.now member.0) o Any) is)

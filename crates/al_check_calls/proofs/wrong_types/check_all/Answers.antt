@@ -7,16 +7,16 @@ use Rattle.al_check_calls.specs.Private.AnswerViews.{call_of, given_in}
 use Rattle.al_check_calls.proofs.wrong_types.check_all.Goals as goal
 
 pub loop-value-init : goal.loop-value-init
-loop-value-init c = λ ms. sym (append-nil c.args.out.now.items)
+loop-value-init c = λ ms. sym (append-nil c.args.faults.now)
 
 pub loop-value-preserved : goal.loop-value-preserved
 loop-value-preserved c = λ ms.
     list_more (wrong_input (call_of c.args.call) c.args.signature.now.inputs) (given_in ms) c.args.values.now c.loop-value.value-index c.value-item.result
-    c.args.out.now.items c.loop-value.out.items c.check_value.new.out.items c.loop-value-test.true c.value-item.is (c.loop-value.invariant ms)
+    c.args.faults.now c.loop-value.faults c.check_value.new.faults c.loop-value-test.true c.value-item.is (c.loop-value.invariant ms)
     (c.in_ok-check_value.ensures ms)
 
 pub returns : goal.returns
 returns c = λ ms.
     c.loop-value.invariant ms
-    ∙ ap (λ vs. c.args.out.now.items ++ flat_map (wrong_input (call_of c.args.call) c.args.signature.now.inputs) (map (given_in ms) vs))
+    ∙ ap (λ vs. c.args.faults.now ++ flat_map (wrong_input (call_of c.args.call) c.args.signature.now.inputs) (map (given_in ms) vs))
     (take_all c.loop-value.value-index c.args.values.now (omega (arith, c.loop-value-test.false)))

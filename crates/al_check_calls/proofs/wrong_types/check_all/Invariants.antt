@@ -7,4 +7,4 @@ use Rattle.al_check_calls.proofs.wrong_types.check_all.Given as goal
 
 abbrev pub invariant-loop-value : goal.invariant-loop-value
 invariant-loop-value l = (ms : List Parts) →
-    l.out.items ≡ l.fn.out.items ++ flat_map (wrong_input (call_of l.call) l.signature.inputs) (map (given_in ms) (take l.value-index l.values))
+    l.faults ≡ l.fn.faults ++ flat_map (wrong_input (call_of l.call) l.signature.inputs) (map (given_in ms) (take l.value-index l.values))

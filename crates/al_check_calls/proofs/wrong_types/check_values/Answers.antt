@@ -9,6 +9,6 @@ pub returns-in-Some : goal.returns-in-Some
 returns-in-Some c =
     on_ok_weaker c.check_all.result
     (λ h ms. h ms
-    ∙ ap (λ o. c.args.out.now.items ++ option_map_or (wrong_inputs (call_of c.args.call) (map (given_in ms) c.args.values.now)) o [])
+    ∙ ap (λ o. c.args.faults.now ++ option_map_or (wrong_inputs (call_of c.args.call) (map (given_in ms) c.args.values.now)) o [])
     (sym (ap option_copied c.in-Some.is)))
     c.check_all.ensures
