@@ -304,7 +304,8 @@ fn leads_to(row: &Row, keys: &[&[u8]]) -> bool
 }
 
 fn better(best: Option<&'static Row>, row: &'static Row) -> Option<&'static Row>
-    ensures { option_map (λ r. row_of r.now) result ≡ longer (option_map (λ r. row_of r.now) best.entry) (row_of row.now) }
+    ensures { option_map (λ r. row_of r.now) result
+        ≡ longer (option_map (λ r. row_of r.now) best.entry) (row_of row.now) }
 {
     match best {
         Some(old) => if old.path.len() < row.path.len() {

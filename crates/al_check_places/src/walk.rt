@@ -239,8 +239,9 @@ fn find_entries<'a>(
     walk: &mut Walk<'a>,
 ) -> Result<(), AllocError>
     ensures found { OnOk result (places_in walk.new ≡ places_in walk.old
-        ++ placed_entries walk.old.kind (keys_view takes) [] (among (keys_in (map entry_view entries.now)))
-        (way_in walk.old) (entries_of (map entry_view entries.now))) }
+        ++ placed_entries walk.old.kind (keys_view takes) []
+        (among (keys_in (map entry_view entries.now))) (way_in walk.old)
+        (entries_of (map entry_view entries.now))) }
     ensures way { OnOk result (walk.new.way.items ≡ walk.old.way.items) }
     ensures kind { OnOk result (walk.new.kind ≡ walk.old.kind) }
 {
@@ -265,7 +266,8 @@ fn find_entry<'a>(
 ) -> Result<(), AllocError>
     ensures found { OnOk result (places_in walk.new ≡ places_in walk.old
         ++ entry_places (standing_view standing)
-        (λ s. placed walk.old.kind s false (way_in walk.old ++ under (key_in (entry_view entry.now)) ∷ [])
+        (λ s. placed walk.old.kind s false
+        (way_in walk.old ++ under (key_in (entry_view entry.now)) ∷ [])
         (entry_view entry.now).1)) }
     ensures way { OnOk result (walk.new.way.items ≡ walk.old.way.items) }
     ensures kind { OnOk result (walk.new.kind ≡ walk.old.kind) }

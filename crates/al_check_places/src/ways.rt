@@ -116,7 +116,8 @@ fn scripts() -> &'static [&'static [Key]]
 
 /// Whether one of these paths begins the keys.
 fn begins_any(paths: &[&[Key]], keys: &[&[u8]]) -> bool
-    ensures { result ≡ begins_one (map (λ p. map key_of p.now) paths.now) (map (λ k. k.now) keys.now) }
+    ensures { result
+        ≡ begins_one (map (λ p. map key_of p.now) paths.now) (map (λ k. k.now) keys.now) }
 {
     for path in paths {
         if begins_keys(path, keys) {

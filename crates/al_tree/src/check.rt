@@ -37,7 +37,8 @@ fn check_row(
     at: Span,
     faults: &mut FaultSink,
 ) -> Result<(), AllocError>
-    ensures { OnOk result (faults.new ≡ faults.old ++ missing_fault at (holds all.now) (field_of row.now)) }
+    ensures { OnOk result (faults.new
+        ≡ faults.old ++ missing_fault at (holds all.now) (field_of row.now)) }
 {
     if is_needed(row.need, all) && !all.contains(row.key.as_bytes()) {
         let start = Span {
@@ -92,7 +93,8 @@ fn check_scalar(
     faults: &mut FaultSink,
 ) -> Result<(), AllocError>
     ensures { OnOk result (faults.new ≡ faults.old
-        ++ demanded_faults demand.entry (scalar_node (scalar.entry).scalar.now (scalar.entry).span)) }
+        ++ demanded_faults demand.entry
+        (scalar_node (scalar.entry).scalar.now (scalar.entry).span)) }
 {
     if demand.takes_null && is_null_scalar(scalar.scalar) {
         return Ok(());
@@ -128,7 +130,8 @@ fn check_key(standing: Standing, key: &Node, faults: &mut FaultSink) -> Result<(
 #[tactic(auto, using(crate::proofs::Shapes::faults_mapping, crate::proofs::Shapes::faults_sequence))]
 #[cycle(checks)]
 fn check(demand: Demand<'_>, node: &Node, faults: &mut FaultSink) -> Result<(), AllocError>
-    ensures { OnOk result (faults.new ≡ faults.old ++ demanded_faults demand.entry (view node.now)) }
+    ensures { OnOk result (faults.new
+        ≡ faults.old ++ demanded_faults demand.entry (view node.now)) }
 {
     match &node.kind {
         Kind::Scalar(scalar) => {
@@ -215,7 +218,8 @@ fn check_entries(
     faults: &mut FaultSink,
 ) -> Result<(), AllocError>
     ensures { OnOk result (faults.new ≡ faults.old
-        ++ entries_faults (keys_view keys) [] (holds all.now) (entries_of (map entry_view entries.now))) }
+        ++ entries_faults (keys_view keys) [] (holds all.now)
+        (entries_of (map entry_view entries.now))) }
 {
     let mut seen = KeySet::new(faults.alloc());
     for entry in entries {
@@ -233,7 +237,8 @@ fn check_entries(
 fn check_entry(standing: Standing, entry: &Entry, faults: &mut FaultSink) -> Result<(), AllocError>
     ensures { OnOk result (faults.new
         ≡ faults.old ++ entry_faults (standing_view standing) (entry_view entry.now).0
-        (λ s. faults_of s (null_taken s) (key_in (entry_view entry.now)) (entry_view entry.now).1)) }
+        (λ s. faults_of s (null_taken s) (key_in (entry_view entry.now))
+        (entry_view entry.now).1)) }
 {
     check_key(standing, &entry.key, faults)?;
     match standing {

@@ -29,7 +29,8 @@ fn value_of(entry: &Entry) -> &Node
 
 /// The first entry with a key.
 fn entry_among<'a>(entries: &'a [Entry], key: &str) -> Option<&'a Entry>
-    ensures { option_map (λ e. entry_view e.now) result ≡ find (is_key key.now) (map entry_view entries.now) }
+    ensures { option_map (λ e. entry_view e.now) result
+        ≡ find (is_key key.now) (map entry_view entries.now) }
 {
     for entry in entries {
         if key_of(entry) == key.as_bytes() {
@@ -55,7 +56,8 @@ pub(crate) fn value_among<'a>(entries: &'a [Entry], key: &str) -> Option<&'a Nod
 
 /// The scalar that the first entry with a key has as its value.
 pub(crate) fn scalar_among<'a>(entries: &'a [Entry], key: &str) -> Option<&'a Scalar>
-    ensures { option_copied result ≡ option_and_then scalar_in (value_in key.now (map entry_view entries.now)) }
+    ensures { option_copied result
+        ≡ option_and_then scalar_in (value_in key.now (map entry_view entries.now)) }
 {
     value_among(entries, key)?.scalar()
 }

@@ -93,7 +93,8 @@ fn if_in(set: &KeySet<'_>, key: &'static str) -> Option<&'static str>
 
 /// The key that a key cannot stand beside, if it is there.
 fn clash(clash: Clash, seen: &KeySet<'_>, all: &KeySet<'_>) -> Option<&'static str>
-    ensures { option_map (λ k. k.now) result ≡ clash_with (clash_of clash) (holds seen.now) (holds all.now) }
+    ensures { option_map (λ k. k.now) result
+        ≡ clash_with (clash_of clash) (holds seen.now) (holds all.now) }
 {
     match clash {
         Clash::Never => None,
@@ -120,7 +121,8 @@ fn standing_without_row<'a>(
     all: &KeySet<'_>,
     key: &'a [u8],
 ) -> Standing
-    ensures { standing_view result ≡ other_standing (others_of others) (holds seen.now) (holds all.now) key.now }
+    ensures { standing_view result
+        ≡ other_standing (others_of others) (holds seen.now) (holds all.now) key.now }
 {
     match others {
         Others::Unchecked => Standing::Ignored,
@@ -133,7 +135,8 @@ fn standing_without_row<'a>(
 
 /// How an entry with a key stands behind the keys that were seen, in a mapping with all these.
 pub fn standing_of<'a>(keys: Keys, seen: &KeySet<'a>, all: &KeySet<'_>, key: &'a [u8]) -> Standing
-    ensures { standing_view result ≡ stands (keys_view keys) (holds seen.now) (holds all.now) key.now }
+    ensures { standing_view result
+        ≡ stands (keys_view keys) (holds seen.now) (holds all.now) key.now }
 {
     match keys {
         Keys::No => Standing::Ignored,

@@ -90,7 +90,8 @@ pub fn texts(alloc: Global, node: &Node) -> Result<Vec<ScalarNode<'_>>, AllocErr
 
 /// The scalars among some nodes, without those that are null.
 fn item_texts(alloc: Global, nodes: &[Node]) -> Result<Vec<ScalarNode<'_>>, AllocError>
-    ensures { IfOk result (λ v. map scalar_node_of v.items ≡ filter_map text_in (map view nodes.now)) }
+    ensures { IfOk result (λ v. map scalar_node_of v.items
+        ≡ filter_map text_in (map view nodes.now)) }
 {
     let mut found = Vec::new(alloc);
     for node in nodes {
