@@ -71,6 +71,7 @@ fn is_collection(ty: Ty) -> bool
 }
 
 /// The text of a scalar, as its contents are checked.
+#[derive(Clone, Copy)]
 struct Text<'s> {
     scope: &'s Scope,
     scalar: &'s Scalar,
@@ -88,7 +89,8 @@ fn check_tree(
     faults: &mut FaultSink,
 ) -> Result<(), AllocError>
     requires { IsShown types.old text.now.scope.now }
-    ensures ok { OnOk result (faults.new ≡ faults.old ++ tree_faults (scope_at types.old text.now.scope.now)
+    ensures ok { OnOk result
+        (faults.new ≡ faults.old ++ tree_faults (scope_at types.old text.now.scope.now)
         text.now.is_alone text.now.is_scalar_only (tree_of expr.now)) }
     ensures kept { BeginsWith (objects_of types.new) (objects_of types.old) }
 {
@@ -107,7 +109,8 @@ fn check_content(
     faults: &mut FaultSink,
 ) -> Result<(), AllocError>
     requires { IsShown types.old text.now.scope.now }
-    ensures ok { OnOk result (faults.new ≡ faults.old ++ content_faults (scope_at types.old text.now.scope.now)
+    ensures ok { OnOk result
+        (faults.new ≡ faults.old ++ content_faults (scope_at types.old text.now.scope.now)
         text.now.is_alone text.now.is_scalar_only content.now) }
     ensures kept { BeginsWith (objects_of types.new) (objects_of types.old) }
 {
@@ -173,7 +176,8 @@ fn check_chunk(
     requires room { HasRoom text.now.scalar.now }
     requires cut { IsCutFrom (text_of text.now.scalar.now) chunk.now }
     requires alone { text.now.is_alone ≡ is_one_chunk (text_of text.now.scalar.now) }
-    ensures ok { OnOk result (faults.new ≡ faults.old ++ chunk_faults (scope_at types.old text.now.scope.now)
+    ensures ok { OnOk result
+        (faults.new ≡ faults.old ++ chunk_faults (scope_at types.old text.now.scope.now)
         text.now.is_scalar_only text.now.scalar.now (span_of_chunk chunk.now)) }
     ensures kept { BeginsWith (objects_of types.new) (objects_of types.old) }
 {
@@ -198,7 +202,8 @@ fn check_each(
     requires room { HasRoom text.now.scalar.now }
     requires cut { All (IsCutFrom (text_of text.now.scalar.now)) chunks.now }
     requires alone { text.now.is_alone ≡ is_one_chunk (text_of text.now.scalar.now) }
-    ensures ok { OnOk result (faults.new ≡ faults.old ++ flat_map (chunk_faults (scope_at types.old text.now.scope.now)
+    ensures ok { OnOk result
+        (faults.new ≡ faults.old ++ flat_map (chunk_faults (scope_at types.old text.now.scope.now)
         text.now.is_scalar_only text.now.scalar.now) (map span_of_chunk chunks.now)) }
     ensures kept { BeginsWith (objects_of types.new) (objects_of types.old) }
 {
@@ -217,7 +222,8 @@ fn check_chunks(
 ) -> Result<(), AllocError>
     requires shown { IsShown types.old scope.now }
     requires readable { IsReadable (place_of place.now) }
-    ensures ok { OnOk result (faults.new ≡ faults.old ++ chunked_faults (scope_at types.old scope.now)
+    ensures ok { OnOk result
+        (faults.new ≡ faults.old ++ chunked_faults (scope_at types.old scope.now)
         place.now.is_scalar_only place.now.scalar.now (chunks_of (text_of place.now.scalar.now))) }
     ensures kept { BeginsWith (objects_of types.new) (objects_of types.old) }
 {
@@ -245,8 +251,10 @@ fn check_whole(
 ) -> Result<(), AllocError>
     requires shown { IsShown types.old scope.now }
     requires readable { IsReadable (place_of place.now) }
-    ensures ok { OnOk result (faults.new ≡ faults.old ++ map (moved place.now.scalar.now 0) (content_faults
-        (scope_at types.old scope.now) true place.now.is_scalar_only (text_of place.now.scalar.now))) }
+    ensures ok { OnOk result
+        (faults.new ≡ faults.old ++ map (moved place.now.scalar.now 0) (content_faults
+        (scope_at types.old scope.now) true place.now.is_scalar_only
+        (text_of place.now.scalar.now))) }
     ensures kept { BeginsWith (objects_of types.new) (objects_of types.old) }
 {
     let text = Text {
@@ -277,7 +285,8 @@ pub(crate) fn check_place(
     requires shown { IsShown types.old scope.now }
     requires readable { IsReadable (place_of place.now) }
     ensures ok { OnOk result
-        (faults.new ≡ faults.old ++ place_faults (scope_at types.old scope.now) (place_of place.now)) }
+        (faults.new ≡ faults.old
+        ++ place_faults (scope_at types.old scope.now) (place_of place.now)) }
     ensures kept { BeginsWith (objects_of types.new) (objects_of types.old) }
 {
     if is_whole(place) {

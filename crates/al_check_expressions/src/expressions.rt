@@ -33,8 +33,10 @@ fn check_at<'a>(
     requires readable { IsReadable (place_of place) }
     ensures stands { OnOk result (Stands file.entry env.new) }
     ensures faults { OnOk result (faults.new ≡ faults.old
-        ++ faults_at (file.entry).kind (known_of (file.entry).known) (view (file.entry).root.now) (place_of place.entry)) }
-    ensures kept { OnOk result (BeginsWith (objects_of (env.new).types) (objects_of (env.old).types)) }
+        ++ faults_at (file.entry).kind (known_of (file.entry).known) (view (file.entry).root.now)
+        (place_of place.entry)) }
+    ensures kept { OnOk result
+        (BeginsWith (objects_of (env.new).types) (objects_of (env.old).types)) }
 {
     env.go_to(faults.alloc(), file, place)?;
     check_place(&mut env.types, &env.scope, &place, faults)?;
@@ -52,9 +54,11 @@ fn check_each<'a>(
     requires readable { All (λ p. IsReadable (place_of p)) places.now }
     ensures stands { OnOk result (Stands file.entry env.new) }
     ensures ok { OnOk result (faults.new ≡ faults.old
-        ++ flat_map (faults_at (file.entry).kind (known_of (file.entry).known) (view (file.entry).root.now))
+        ++ flat_map (faults_at (file.entry).kind (known_of (file.entry).known)
+        (view (file.entry).root.now))
         (map place_of places.now)) }
-    ensures kept { OnOk result (BeginsWith (objects_of (env.new).types) (objects_of (env.old).types)) }
+    ensures kept { OnOk result
+        (BeginsWith (objects_of (env.new).types) (objects_of (env.old).types)) }
 {
     for place in places {
         check_at(file, env, *place, faults)?;
@@ -77,8 +81,10 @@ pub fn expression_faults<'a>(
     requires texts { HasTexts (view file.root.now) }
     ensures stands { OnOk result (Stands file.entry env.new) }
     ensures ok { OnOk result
-        (faults.new ≡ faults.old ++ faults_in (file.entry).kind (known_of (file.entry).known) (view (file.entry).root.now)) }
-    ensures kept { OnOk result (BeginsWith (objects_of (env.new).types) (objects_of (env.old).types)) }
+        (faults.new ≡ faults.old
+        ++ faults_in (file.entry).kind (known_of (file.entry).known) (view (file.entry).root.now)) }
+    ensures kept { OnOk result
+        (BeginsWith (objects_of (env.new).types) (objects_of (env.old).types)) }
 {
     let found = places(faults.alloc(), file.kind, file.root)?;
     check_each(file, env, found.as_slice(), faults)
