@@ -1,7 +1,6 @@
 //! Calls of functions: whether one is known and may stand here, and what is wrong with its arguments.
 
 ghost use Rattle.std.specs.Prelude.{◌≡◌, ◌++◌, ◌+◌, ◌^◌, ◌<◌, IfOk, OnOk, List, not, map, length, string_bytes, true, ◌∷◌, [], ℕ};
-ghost use Rattle.al_base.specs.Growth.{BeginsWith};
 ghost use Rattle.al_expr_typing.specs.Meaning.{typed, behind, give, is_test, called_with, argument_faults, wrong_arguments, format_faults};
 ghost use Rattle.al_expr_typing.specs.Meaning.{placeholder_faults, unused};
 ghost use Rattle.al_expr_typing.specs.Meaning as meaning;
@@ -21,14 +20,14 @@ ghost use Rattle.al_base.specs.declared.codes.ExpressionCode.TheVariants as code
 use crate::comparison::is_collection;
 use crate::literals::{Literal, literal_text};
 use crate::placeholders::used_arguments;
-use crate::reports::{report, report_plain, report_text};
+use crate::reports::report_text;
 use crate::scope::Scope;
 use crate::typing::scalar;
-use al_base::{Args, ExpressionCode, Fault, Span};
+use al_base::{Args, Code, ExpressionCode, FaultSink, Span};
 use al_expr_grammar::{Expr, Word};
 use al_expr_types::{Scalar, Ty};
 use al_types::{Form, Function, Parameters, Returned, Wanted};
-use std::alloc::{AllocError, Global};
+use std::alloc::AllocError;
 
 /// An argument's type and place.
 #[derive(Clone, Copy)]
@@ -37,12 +36,23 @@ pub(crate) struct Argument {
     pub span: Span,
 }
 
-/// What a call names.
+/// A call as it is written.
 #[derive(Clone, Copy)]
-pub(crate) struct Callee<'a> {
+pub(crate) struct CallExpr<'a> {
     pub name: &'a Word,
     /// The function of that name, where there is one.
     pub function: Option<Function>,
+    pub arguments: &'a [Expr],
+}
+
+/// What a function wants of an argument.
+#[derive(Clone, Copy)]
+struct Parameter<'a> {
+    // The function's name, as the call has it.
+    of: &'a Word,
+    // The first is 1.
+    number: usize,
+    wanted: Wanted,
 }
 
 /// Whether a function only tests its arguments, so that no text of theirs gets into a script.
@@ -67,141 +77,124 @@ pub(crate) fn is_test(function: Option<Function>) -> bool
 }
 
 /// The type of a call whose arguments have these types.
-#[tactic(auto, using(al_base::proofs::Growing::growth))]
 pub(crate) fn called(
-    alloc: Global,
     scope: &Scope,
-    callee: Callee<'_>,
-    exprs: &[Expr],
+    call: CallExpr<'_>,
     arguments: &[Argument],
-    out: &mut Vec<Fault>,
+    faults: &mut FaultSink,
 ) -> Result<Ty, AllocError>
-    ensures ok { IfOk result (λ t. (ms : List Parts) → typed (type_in ms t) out.new.items ≡ behind out.old.items
-        (called_with (scope_in ms scope.now) (string_bytes (callee.entry).name.now.text) (callee.entry).name.now.span
-        (callee.entry).function
-        (arguments_of (map tree_of exprs.now)) (map (argument_in ms) arguments.now))) }
+    ensures ok { IfOk result (λ t. (ms : List Parts) → typed (type_in ms t) faults.new ≡ behind faults.old
+        (called_with (scope_in ms scope.now) (string_bytes (call.entry).name.now.text) (call.entry).name.now.span
+        (call.entry).function
+        (arguments_of (map tree_of (call.entry).arguments.now)) (map (argument_in ms) arguments.now))) }
     ensures known { IfOk result (λ t. (k : ℕ) → is_below k t ≡ true) }
-    ensures begins { BeginsWith out.new.items out.old.items }
 {
-    let name = callee.name;
-    let Some(function) = callee.function else {
+    let name = call.name;
+    let Some(function) = call.function else {
         report_text(
-            alloc,
-            out,
-            ExpressionCode::UndefinedFunction,
             name.span,
+            ExpressionCode::UndefinedFunction,
             name.text.as_str(),
+            faults,
         )?;
         return Ok(Ty::ANY);
     };
-    check_available(alloc, scope, name, function, out)?;
+    check_available(scope, name, function, faults)?;
     let signature = function.signature();
-    check_arguments(alloc, name, signature.parameters, arguments, out)?;
-    check_format(alloc, function, exprs, arguments, out)?;
+    check_arguments(name, signature.parameters, arguments, faults)?;
+    check_format(function, call.arguments, arguments, faults)?;
     Ok(returned_type(signature.returned))
 }
 
-#[tactic(auto, using(al_base::proofs::Growing::growth))]
 fn check_available(
-    alloc: Global,
     scope: &Scope,
     name: &Word,
     function: Function,
-    out: &mut Vec<Fault>,
+    faults: &mut FaultSink,
 ) -> Result<(), AllocError>
-    ensures ok { OnOk result (out.new.items ≡ out.old.items ++ give (not (is_allowed scope.now.functions function))
+    ensures { OnOk result (faults.new ≡ faults.old ++ give (not (is_allowed scope.now.functions function))
         (fault code.UnavailableFunction name.now.span (string_bytes name.now.text ∷ []))) }
-    ensures begins { BeginsWith out.new.items out.old.items }
 {
     if !scope.functions.allows(function) {
         report_text(
-            alloc,
-            out,
-            ExpressionCode::UnavailableFunction,
             name.span,
+            ExpressionCode::UnavailableFunction,
             name.text.as_str(),
+            faults,
         )?;
     }
     Ok(())
 }
 
-#[tactic(auto, using(al_base::proofs::Growing::growth))]
 fn check_arguments(
-    alloc: Global,
     name: &Word,
     parameters: Parameters,
     arguments: &[Argument],
-    out: &mut Vec<Fault>,
+    faults: &mut FaultSink,
 ) -> Result<(), AllocError>
-    ensures ok { OnOk result ((ms : List Parts) → out.new.items ≡ out.old.items ++
+    ensures { OnOk result ((ms : List Parts) → faults.new ≡ faults.old ++
         argument_faults (string_bytes name.now.text) name.now.span parameters (map (argument_in ms) arguments.now)) }
-    ensures begins { BeginsWith out.new.items out.old.items }
 {
     if parameters.takes(arguments.len()) {
-        check_types(alloc, name, parameters, arguments, out)
+        check_types(name, parameters, arguments, faults)
     } else {
         report_text(
-            alloc,
-            out,
-            ExpressionCode::ArgumentCount,
             name.span,
+            ExpressionCode::ArgumentCount,
             name.text.as_str(),
+            faults,
         )
     }
 }
 
-#[tactic(auto, using(al_base::proofs::Growing::growth))]
 fn check_types(
-    alloc: Global,
     name: &Word,
     parameters: Parameters,
     arguments: &[Argument],
-    out: &mut Vec<Fault>,
+    faults: &mut FaultSink,
 ) -> Result<(), AllocError>
-    ensures ok { OnOk result ((ms : List Parts) → out.new.items ≡ out.old.items ++
+    ensures { OnOk result ((ms : List Parts) → faults.new ≡ faults.old ++
         wrong_arguments (string_bytes name.now.text) parameters 0 (map (argument_in ms) arguments.now)) }
-    ensures begins { BeginsWith out.new.items out.old.items }
 {
     for (index, argument) in arguments.iter().enumerate() {
-        check_type(alloc, name, parameters, index, argument, out)?;
+        let parameter = Parameter {
+            of: name,
+            number: index + 1,
+            wanted: parameters.wanted(index),
+        };
+        check_type(parameter, argument, faults)?;
     }
     Ok(())
 }
 
-#[tactic(auto, using(al_base::proofs::Growing::growth))]
 fn check_type(
-    alloc: Global,
-    name: &Word,
-    parameters: Parameters,
-    index: usize,
+    parameter: Parameter<'_>,
     argument: &Argument,
-    out: &mut Vec<Fault>,
+    faults: &mut FaultSink,
 ) -> Result<(), AllocError>
-    requires { index + 2 < 2 ^ 64 }
-    ensures ok { OnOk result ((ms : List Parts) → out.new.items ≡ out.old.items ++
-        give (not (accepts (wanted parameters index) (type_in ms argument.now.ty)))
-        (fault code.ArgumentType argument.now.span (decimal (index + 1) ∷ string_bytes name.now.text ∷ []))) }
-    ensures begins { BeginsWith out.new.items out.old.items }
+    ensures { OnOk result ((ms : List Parts) → faults.new ≡ faults.old ++
+        give (not (accepts (parameter.entry).wanted (type_in ms argument.now.ty)))
+        (fault code.ArgumentType argument.now.span
+        (decimal (parameter.entry).number ∷ string_bytes (parameter.entry).of.now.text ∷ []))) }
 {
-    if !accepts(parameters.wanted(index), argument.ty) {
-        let number = (index + 1).to_string(alloc)?;
-        let args = Args::two(alloc, number.as_str(), name.text.as_str())?;
-        report(out, ExpressionCode::ArgumentType, argument.span, args)?;
+    if !accepts(parameter.wanted, argument.ty) {
+        let number = parameter.number.to_string(faults.alloc())?;
+        let name = parameter.of.text.as_str();
+        let args = Args::two(faults.alloc(), number.as_str(), name)?;
+        let code = Code::Expression(ExpressionCode::ArgumentType);
+        faults.report(argument.span, code, args)?;
     }
     Ok(())
 }
 
-#[tactic(auto, using(al_base::proofs::Growing::growth))]
 fn check_format(
-    alloc: Global,
     function: Function,
     exprs: &[Expr],
     arguments: &[Argument],
-    out: &mut Vec<Fault>,
+    faults: &mut FaultSink,
 ) -> Result<(), AllocError>
-    ensures ok { OnOk result ((ms : List Parts) → out.new.items ≡ out.old.items ++
+    ensures { OnOk result ((ms : List Parts) → faults.new ≡ faults.old ++
         format_faults function (arguments_of (map tree_of exprs.now)) (map (argument_in ms) arguments.now)) }
-    ensures begins { BeginsWith out.new.items out.old.items }
 {
     if function != Function::Format {
         return Ok(());
@@ -209,8 +202,8 @@ fn check_format(
     let [first, ..] = exprs else {
         return Ok(());
     };
-    match literal_text(alloc, first)? {
-        Some(literal) => check_placeholders(alloc, &literal, behind_first(arguments), out),
+    match literal_text(faults.alloc(), first)? {
+        Some(literal) => check_placeholders(&literal, behind_first(arguments), faults),
         None => Ok(()),
     }
 }
@@ -224,64 +217,57 @@ fn behind_first(arguments: &[Argument]) -> &[Argument]
     }
 }
 
-#[tactic(auto, using(al_base::proofs::Growing::growth))]
 fn check_placeholders(
-    alloc: Global,
     literal: &Literal,
     arguments: &[Argument],
-    out: &mut Vec<Fault>,
+    faults: &mut FaultSink,
 ) -> Result<(), AllocError>
-    ensures ok { OnOk result ((ms : List Parts) → out.new.items ≡ out.old.items ++
+    ensures { OnOk result ((ms : List Parts) → faults.new ≡ faults.old ++
         placeholder_faults literal.now.span (used_arguments (length arguments.now) (string_bytes literal.now.value))
         (map (argument_in ms) arguments.now)) }
-    ensures begins { BeginsWith out.new.items out.old.items }
 {
-    match used_arguments(alloc, literal.value.as_str(), arguments.len())? {
-        Some(used) => check_used(alloc, &used, arguments, out),
-        None => report_plain(out, ExpressionCode::WrongPlaceholder, literal.span),
+    match used_arguments(faults.alloc(), literal.value.as_str(), arguments.len())? {
+        Some(used) => check_used(&used, arguments, faults),
+        None => faults.report_plain(
+            literal.span,
+            Code::Expression(ExpressionCode::WrongPlaceholder),
+        ),
     }
 }
 
-#[tactic(auto, using(al_base::proofs::Growing::growth))]
 fn check_used(
-    alloc: Global,
     used: &[bool],
     arguments: &[Argument],
-    out: &mut Vec<Fault>,
+    faults: &mut FaultSink,
 ) -> Result<(), AllocError>
-    ensures ok { OnOk result ((ms : List Parts) → out.new.items ≡ out.old.items
+    ensures { OnOk result ((ms : List Parts) → faults.new ≡ faults.old
         ++ unused 0 used.now (map (argument_in ms) arguments.now)) }
-    ensures begins { BeginsWith out.new.items out.old.items }
 {
     for (index, argument) in arguments.iter().enumerate() {
         if index < used.len() {
-            check_argument(alloc, used[index], index, argument.span, out)?;
+            check_argument(used[index], index, argument.span, faults)?;
         }
     }
     Ok(())
 }
 
-#[tactic(auto, using(al_base::proofs::Growing::growth))]
 fn check_argument(
-    alloc: Global,
     used: bool,
     index: usize,
     span: Span,
-    out: &mut Vec<Fault>,
+    faults: &mut FaultSink,
 ) -> Result<(), AllocError>
     requires { index + 2 < 2 ^ 64 }
-    ensures ok { OnOk result (out.new.items ≡ out.old.items ++
+    ensures { OnOk result (faults.new ≡ faults.old ++
         give (not used) (fault code.UnusedArgument span (decimal (index + 2) ∷ []))) }
-    ensures begins { BeginsWith out.new.items out.old.items }
 {
     if !used {
-        let number = (index + 2).to_string(alloc)?;
+        let number = (index + 2).to_string(faults.alloc())?;
         report_text(
-            alloc,
-            out,
-            ExpressionCode::UnusedArgument,
             span,
+            ExpressionCode::UnusedArgument,
             number.as_str(),
+            faults,
         )?;
     }
     Ok(())

@@ -14,52 +14,59 @@ ghost use Rattle.al_types.specs.Types.{Parts};
 ghost use Rattle.al_expr_typing.specs.Chains.{has_operand, is_join_known, type_so_far};
 
 use crate::comparison::comparable;
-use crate::reports::report_plain;
 use crate::typing::scalar;
-use al_base::{ExpressionCode, Fault};
+use al_base::{Code, ExpressionCode, FaultSink, Span};
 use al_expr_grammar::{Operand, Operator};
 use al_expr_types::{Join, Scalar, Ty, Types};
-use std::alloc::{AllocError, Global};
+use std::alloc::AllocError;
 
-/// The operands so far, with an operator more and the type of its operand. What the branches of `||` and `&&` have in common becomes a type
-/// at their end, so that a long chain makes one object.
+/// An operator, and the type of the operand behind it.
+#[derive(Clone, Copy)]
+pub(crate) struct TypedOperand {
+    pub operator: Operator,
+    pub at: Span,
+    pub ty: Ty,
+}
+
+/// The operands so far, with one more. What the branches of `||` and `&&` have in common becomes a type at their end, so that a long chain
+/// makes one object.
 #[tactic(auto, using(al_base::proofs::Growing::growth))]
 pub(crate) fn operation(
-    alloc: Global,
     types: &mut Types<'_>,
-    operand: &Operand,
     sofar: Join,
-    other: Ty,
-    out: &mut Vec<Fault>,
+    operand: TypedOperand,
+    faults: &mut FaultSink,
 ) -> Result<Join, AllocError>
     requires below { is_join_known types.old sofar ≡ true }
     requires present { has_operand types.old sofar ≡ true }
-    requires other { is_known types.old other ≡ true }
-    ensures ok { IfOk result (λ j. typed (type_so_far types.new j) out.new.items ≡ behind out.old.items
-        (operated operand.now.operator operand.now.at (type_so_far types.old sofar) (type_at types.old other))) }
+    requires other { is_known types.old operand.ty ≡ true }
+    ensures ok { IfOk result (λ j. typed (type_so_far types.new j) faults.new ≡ behind faults.old
+        (operated operand.operator operand.at (type_so_far types.old sofar) (type_at types.old operand.ty))) }
     ensures below { IfOk result (λ j. is_join_known types.new j ≡ true) }
     ensures present { IfOk result (λ j. has_operand types.new j ≡ true) }
     ensures kept { BeginsWith (objects_of types.new) (objects_of types.old) }
-    ensures begins { BeginsWith out.new.items out.old.items }
 {
     if is_logic(operand.operator) {
-        let more = sofar.and(alloc, other)?;
+        let more = sofar.and(faults.alloc(), operand.ty)?;
         return Ok(more);
     }
     let first = types.type_or_any(sofar)?;
-    check_comparison(operand, first, other, out)?;
+    check_comparison(first, operand, faults)?;
     Ok(Join::One(scalar(Scalar::Bool)))
 }
 
-#[tactic(auto, using(al_base::proofs::Growing::growth))]
-fn check_comparison(operand: &Operand, a: Ty, b: Ty, out: &mut Vec<Fault>) -> Result<(), AllocError>
-    ensures ok { OnOk result ((ms : List Parts) → out.new.items ≡ out.old.items
-        ++ give (not (comparable_types operand.now.operator (type_in ms a) (type_in ms b)))
-        (fault code.NotComparable operand.now.at [])) }
-    ensures begins { BeginsWith out.new.items out.old.items }
+fn check_comparison(
+    first: Ty,
+    operand: TypedOperand,
+    faults: &mut FaultSink,
+) -> Result<(), AllocError>
+    ensures { OnOk result ((ms : List Parts) → faults.new ≡ faults.old
+        ++ give (not (comparable_types operand.operator (type_in ms first) (type_in ms operand.ty)))
+        (fault code.NotComparable operand.at [])) }
 {
-    if !comparable(operand.operator, a, b) {
-        report_plain(out, ExpressionCode::NotComparable, operand.at)?;
+    if !comparable(operand.operator, first, operand.ty) {
+        let code = Code::Expression(ExpressionCode::NotComparable);
+        faults.report_plain(operand.at, code)?;
     }
     Ok(())
 }

@@ -16,41 +16,35 @@ ghost use Rattle.al_types.specs.Names.{context_of, function_of};
 ghost use Rattle.al_expr_grammar.specs.Tree.{steps_of, operands_of, arguments_of};
 ghost use Rattle.al_expr_grammar.specs.View.{tree_of, step_of, operand_of};
 
-use crate::calls::{Argument, Callee, called, is_test};
-use crate::chains::{begins_logic, operation};
+use crate::calls::{Argument, CallExpr, called, is_test};
+use crate::chains::{TypedOperand, begins_logic, operation};
 use crate::literals::{literal_text, type_of_keyword};
 use crate::reports::report_text;
 use crate::scope::Scope;
-use crate::steps::{all, element, property};
+use crate::steps::{PropertyStep, all, element, property};
 use crate::untrusted::untrusted_chain;
-use al_base::{ExpressionCode, Fault, Span};
+use al_base::{ExpressionCode, FaultSink, Span};
 use al_expr_grammar::{Expr, Operand, PathStep, Word, across, extent, path_extent};
 use al_expr_types::{Base, Join, Scalar, Ty, Types};
 use al_types::{Context, Function};
-use std::alloc::{AllocError, Global};
+use std::alloc::AllocError;
 
-/// The type of an expression under a scope, with the faults in it added to `out` in the order in which it is read:
-/// X7 to X17 and X19. Spans are places in the expression's content. Where it is out of memory, `out` begins with what
-/// it held. Recursion goes no deeper than the expression's nesting.
+/// The type of an expression under a scope, with the faults in it added in the order in which it is read: X7 to X17 and X19. Spans are
+/// places in the expression's content. Fails with `AllocError` when out of memory. Recursion goes no deeper than the expression's nesting.
 pub fn type_of(
-    alloc: Global,
     types: &mut Types<'_>,
-    env: &Scope,
+    scope: &Scope,
     expr: &Expr,
-    out: &mut Vec<Fault>,
+    faults: &mut FaultSink,
 ) -> Result<Ty, AllocError>
-    requires { IsShown types.old env.now }
-    ensures ty { IfOk result (λ t. type_at types.new t ≡ type_in (meaning_of (scope_at types.old env.now) (tree_of expr.now))) }
-    ensures faults { OnOk result (out.new.items ≡ out.old.items ++ faults_in (meaning_of (scope_at types.old env.now) (tree_of expr.now))) }
+    requires { IsShown types.old scope.now }
+    ensures ty { IfOk result (λ t. type_at types.new t ≡ type_in (meaning_of (scope_at types.old scope.now) (tree_of expr.now))) }
+    ensures faults { OnOk result (faults.new ≡ faults.old ++ faults_in (meaning_of (scope_at types.old scope.now) (tree_of expr.now))) }
     ensures known { IfOk result (λ t. is_known types.new t ≡ true) }
     ensures kept { BeginsWith (objects_of types.new) (objects_of types.old) }
-    ensures begins { BeginsWith out.new.items out.old.items }
 {
-    let around = Surroundings {
-        scope: env,
-        safe: false,
-    };
-    let ty = expression(alloc, types, around, expr, out)?;
+    let around = Surroundings { scope, safe: false };
+    let ty = expression(types, around, expr, faults)?;
     Ok(ty)
 }
 
@@ -65,42 +59,40 @@ struct Surroundings<'s> {
 #[tactic(auto, using(al_base::proofs::Growing::growth, crate::proofs::Shown::shown))]
 #[cycle(typing)]
 fn expression(
-    alloc: Global,
     types: &mut Types<'_>,
     around: Surroundings<'_>,
     expr: &Expr,
-    out: &mut Vec<Fault>,
+    faults: &mut FaultSink,
 ) -> Result<Ty, AllocError>
     requires shown { IsShown types.old around.scope.now }
-    ensures ok { IfOk result (λ t. typed (type_at types.new t) out.new.items ≡ behind out.old.items
+    ensures ok { IfOk result (λ t. typed (type_at types.new t) faults.new ≡ behind faults.old
         (meaning.meaning (scope_at types.old (around.entry).scope.now) (around.entry).safe (tree_of expr.now))) }
     ensures known { IfOk result (λ t. is_known types.new t ≡ true) }
     ensures shown { IsShown types.new (around.entry).scope.now }
     ensures kept { BeginsWith (objects_of types.new) (objects_of types.old) }
-    ensures begins { BeginsWith out.new.items out.old.items }
 {
     match expr {
         Expr::Keyword(keyword, _) => Ok(scalar(type_of_keyword(*keyword))),
         Expr::Number(_) => Ok(scalar(Scalar::Number)),
         Expr::Text(_) => Ok(Ty::STRING),
         Expr::Name(word) => {
-            let ty = named(alloc, around.scope, word, out)?;
+            let ty = named(around.scope, word, faults)?;
             Ok(ty)
         }
-        Expr::Group(inner, _, _) => expression(alloc, types, around, inner, out),
+        Expr::Group(inner, _, _) => expression(types, around, inner, faults),
         Expr::Not(_, operand) => {
             let tested = Surroundings {
                 safe: true,
                 ..around
             };
-            let _ty = expression(alloc, types, tested, operand, out)?;
+            let _ty = expression(types, tested, operand, faults)?;
             Ok(scalar(Scalar::Bool))
         }
-        Expr::Call(name, arguments, _) => call(alloc, types, around, name, arguments, out),
+        Expr::Call(name, arguments, _) => call(types, around, name, arguments, faults),
         Expr::Path(base, steps) => {
-            let start = expression(alloc, types, around, base, out)?;
-            let ty = walk(alloc, types, around, steps, start, out)?;
-            check_untrusted(alloc, is_exposed(around), base, steps, out)?;
+            let start = expression(types, around, base, faults)?;
+            let ty = walk(types, around, steps, start, faults)?;
+            check_untrusted(is_exposed(around), base, steps, faults)?;
             Ok(ty)
         }
         Expr::Chain(first, operands) => {
@@ -108,8 +100,8 @@ fn expression(
                 safe: is_compared(around.safe, operands),
                 ..around
             };
-            let start = expression(alloc, types, compared, first, out)?;
-            let ty = operations(alloc, types, compared, operands, start, out)?;
+            let start = expression(types, compared, first, faults)?;
+            let ty = operations(types, compared, operands, start, faults)?;
             Ok(ty)
         }
     }
@@ -130,15 +122,14 @@ pub(crate) fn scalar(of: Scalar) -> Ty
 #[tactic(auto, using(al_base::proofs::Growing::growth, crate::proofs::Shown::shown))]
 #[cycle(typing)]
 fn call(
-    alloc: Global,
     types: &mut Types<'_>,
     around: Surroundings<'_>,
     name: &Word,
     arguments: &[Expr],
-    out: &mut Vec<Fault>,
+    faults: &mut FaultSink,
 ) -> Result<Ty, AllocError>
     requires shown { IsShown types.old around.scope.now }
-    ensures ok { IfOk result (λ t. typed (type_at types.new t) out.new.items ≡ behind out.old.items
+    ensures ok { IfOk result (λ t. typed (type_at types.new t) faults.new ≡ behind faults.old
         (meaning.called (scope_at types.old (around.entry).scope.now) (string_bytes name.now.text) name.now.span
         (function_of (string_bytes name.now.text)) (arguments_of (map tree_of arguments.now)) (meanings (scope_at types.old
         (around.entry).scope.now)
@@ -146,16 +137,19 @@ fn call(
     ensures known { IfOk result (λ t. is_known types.new t ≡ true) }
     ensures shown { IsShown types.new (around.entry).scope.now }
     ensures kept { BeginsWith (objects_of types.new) (objects_of types.old) }
-    ensures begins { BeginsWith out.new.items out.old.items }
 {
     let function = Function::named(name.text.as_str());
     let tested = Surroundings {
         safe: is_tested(around.safe, function),
         ..around
     };
-    let given = typed_arguments(alloc, types, tested, arguments, out)?;
-    let callee = Callee { name, function };
-    let ty = called(alloc, around.scope, callee, arguments, &given, out)?;
+    let given = typed_arguments(types, tested, arguments, faults)?;
+    let written = CallExpr {
+        name,
+        function,
+        arguments,
+    };
+    let ty = called(around.scope, written, &given, faults)?;
     Ok(ty)
 }
 
@@ -177,13 +171,12 @@ fn is_exposed(around: Surroundings<'_>) -> bool
     around.scope.in_run && !around.safe
 }
 
-#[tactic(auto, using(al_base::proofs::Growing::growth, crate::proofs::TypedSteps::typing))]
-fn named(alloc: Global, scope: &Scope, word: &Word, out: &mut Vec<Fault>) -> Result<Ty, AllocError>
-    ensures ok { IfOk result (λ t. (ms : List Parts) → typed (numbers.type_in ms t) out.new.items ≡ behind out.old.items
+#[tactic(auto, using(crate::proofs::TypedSteps::typing))]
+fn named(scope: &Scope, word: &Word, faults: &mut FaultSink) -> Result<Ty, AllocError>
+    ensures ok { IfOk result (λ t. (ms : List Parts) → typed (numbers.type_in ms t) faults.new ≡ behind faults.old
         (meaning.named (scope_in ms scope.now) (string_bytes word.now.text) word.now.span (context_of
         (string_bytes word.now.text)))) }
     ensures known { IfOk result (λ t. (types : Types) → IsShown types scope.now → is_known types t ≡ true) }
-    ensures begins { BeginsWith out.new.items out.old.items }
 {
     let name = word.text.as_str();
     let code = match Context::named(name) {
@@ -195,7 +188,7 @@ fn named(alloc: Global, scope: &Scope, word: &Word, out: &mut Vec<Fault>) -> Res
         }
         None => ExpressionCode::UndefinedContext,
     };
-    report_text(alloc, out, code, word.span, name)?;
+    report_text(word.span, code, name, faults)?;
     Ok(Ty::ANY)
 }
 
@@ -203,26 +196,24 @@ fn named(alloc: Global, scope: &Scope, word: &Word, out: &mut Vec<Fault>) -> Res
 #[tactic(auto, using(al_base::proofs::Growing::growth, crate::proofs::Shown::shown))]
 #[cycle(typing)]
 fn walk(
-    alloc: Global,
     types: &mut Types<'_>,
     around: Surroundings<'_>,
     steps: &[PathStep],
     start: Ty,
-    out: &mut Vec<Fault>,
+    faults: &mut FaultSink,
 ) -> Result<Ty, AllocError>
     requires shown { IsShown types.old around.scope.now }
     requires known { is_known types.old start ≡ true }
-    ensures ok { IfOk result (λ t. typed (type_at types.new t) out.new.items ≡ behind out.old.items
+    ensures ok { IfOk result (λ t. typed (type_at types.new t) faults.new ≡ behind faults.old
         (walked (scope_at types.old (around.entry).scope.now) (around.entry).safe (steps_of (map step_of steps.now))
         (type_at types.old start))) }
     ensures known { IfOk result (λ t. is_known types.new t ≡ true) }
     ensures shown { IsShown types.new (around.entry).scope.now }
     ensures kept { BeginsWith (objects_of types.new) (objects_of types.old) }
-    ensures begins { BeginsWith out.new.items out.old.items }
 {
     let mut here = start;
     for step in steps {
-        let next = step_from(alloc, types, around, step, here, out)?;
+        let next = step_from(types, around, step, here, faults)?;
         here = next;
     }
     Ok(here)
@@ -232,41 +223,37 @@ fn walk(
 #[tactic(auto, using(al_base::proofs::Growing::growth, crate::proofs::Shown::shown))]
 #[cycle(typing)]
 fn step_from(
-    alloc: Global,
     types: &mut Types<'_>,
     around: Surroundings<'_>,
     step: &PathStep,
     here: Ty,
-    out: &mut Vec<Fault>,
+    faults: &mut FaultSink,
 ) -> Result<Ty, AllocError>
     requires shown { IsShown types.old around.scope.now }
     requires known { is_known types.old here ≡ true }
-    ensures ok { IfOk result (λ t. typed (type_at types.new t) out.new.items ≡ behind out.old.items
+    ensures ok { IfOk result (λ t. typed (type_at types.new t) faults.new ≡ behind faults.old
         (stepped (scope_at types.old (around.entry).scope.now) (around.entry).safe (step_of step.now) (type_at types.old here))) }
     ensures known { IfOk result (λ t. is_known types.new t ≡ true) }
     ensures shown { IsShown types.new (around.entry).scope.now }
     ensures kept { BeginsWith (objects_of types.new) (objects_of types.old) }
-    ensures begins { BeginsWith out.new.items out.old.items }
 {
     match step {
-        PathStep::Property(dot, name) => property(
-            alloc,
-            types,
-            here,
-            name.text.as_str(),
-            name.span,
-            across(*dot, name.span),
-            out,
-        ),
-        PathStep::All(first, last) => all(types, here, across(*first, *last), out),
+        PathStep::Property(dot, name) => {
+            let asked = PropertyStep {
+                name: name.text.as_str(),
+                at: name.span,
+                whole: across(*dot, name.span),
+            };
+            property(types, here, asked, faults)
+        }
+        PathStep::All(first, last) => all(types, here, across(*first, *last), faults),
         PathStep::Index(open, index, close) => index_from(
-            alloc,
             types,
             around,
             index,
             across(*open, *close),
             here,
-            out,
+            faults,
         ),
     }
 }
@@ -275,37 +262,34 @@ fn step_from(
 #[tactic(auto, using(al_base::proofs::Growing::growth, crate::proofs::Shown::shown))]
 #[cycle(typing)]
 fn index_from(
-    alloc: Global,
     types: &mut Types<'_>,
     around: Surroundings<'_>,
     index: &Expr,
     whole: Span,
     here: Ty,
-    out: &mut Vec<Fault>,
+    faults: &mut FaultSink,
 ) -> Result<Ty, AllocError>
     requires shown { IsShown types.old around.scope.now }
     requires known { is_known types.old here ≡ true }
-    ensures ok { IfOk result (λ t. typed (type_at types.new t) out.new.items ≡ behind out.old.items
+    ensures ok { IfOk result (λ t. typed (type_at types.new t) faults.new ≡ behind faults.old
         (indexed (literal_text (tree_of index.now)) whole (type_at types.old here)
         (meaning.meaning (scope_at types.old (around.entry).scope.now) (around.entry).safe (tree_of index.now)))) }
     ensures known { IfOk result (λ t. is_known types.new t ≡ true) }
     ensures shown { IsShown types.new (around.entry).scope.now }
     ensures kept { BeginsWith (objects_of types.new) (objects_of types.old) }
-    ensures begins { BeginsWith out.new.items out.old.items }
 {
-    let literal = literal_text(alloc, index)?;
+    let literal = literal_text(faults.alloc(), index)?;
     match literal {
-        Some(name) => property(
-            alloc,
-            types,
-            here,
-            name.value.as_str(),
-            name.span,
-            whole,
-            out,
-        ),
+        Some(name) => {
+            let asked = PropertyStep {
+                name: name.value.as_str(),
+                at: name.span,
+                whole,
+            };
+            property(types, here, asked, faults)
+        }
         None => {
-            let of = element_from(alloc, types, around, index, whole, here, out)?;
+            let of = element_from(types, around, index, whole, here, faults)?;
             Ok(of)
         }
     }
@@ -315,26 +299,24 @@ fn index_from(
 #[tactic(auto, using(al_base::proofs::Growing::growth, crate::proofs::Shown::shown))]
 #[cycle(typing)]
 fn element_from(
-    alloc: Global,
     types: &mut Types<'_>,
     around: Surroundings<'_>,
     index: &Expr,
     whole: Span,
     ty: Ty,
-    out: &mut Vec<Fault>,
+    faults: &mut FaultSink,
 ) -> Result<Ty, AllocError>
     requires shown { IsShown types.old around.scope.now }
     requires known { is_known types.old ty ≡ true }
-    ensures ok { IfOk result (λ t. typed (type_at types.new t) out.new.items ≡ behind out.old.items
+    ensures ok { IfOk result (λ t. typed (type_at types.new t) faults.new ≡ behind faults.old
         (indexed None whole (type_at types.old ty) (meaning.meaning (scope_at types.old (around.entry).scope.now) (around.entry).safe
         (tree_of index.now)))) }
     ensures known { IfOk result (λ t. is_known types.new t ≡ true) }
     ensures shown { IsShown types.new (around.entry).scope.now }
     ensures kept { BeginsWith (objects_of types.new) (objects_of types.old) }
-    ensures begins { BeginsWith out.new.items out.old.items }
 {
-    let by = expression(alloc, types, around, index, out)?;
-    let of = element(ty, by, whole, out)?;
+    let by = expression(types, around, index, faults)?;
+    let of = element(ty, by, whole, faults)?;
     Ok(of)
 }
 
@@ -342,27 +324,30 @@ fn element_from(
 #[tactic(auto, using(al_base::proofs::Growing::growth, crate::proofs::Shown::shown))]
 #[cycle(typing)]
 fn operations(
-    alloc: Global,
     types: &mut Types<'_>,
     around: Surroundings<'_>,
     operands: &[Operand],
     start: Ty,
-    out: &mut Vec<Fault>,
+    faults: &mut FaultSink,
 ) -> Result<Ty, AllocError>
     requires shown { IsShown types.old around.scope.now }
     requires known { is_known types.old start ≡ true }
-    ensures ok { IfOk result (λ t. typed (type_at types.new t) out.new.items ≡ behind out.old.items
+    ensures ok { IfOk result (λ t. typed (type_at types.new t) faults.new ≡ behind faults.old
         (chained (scope_at types.old (around.entry).scope.now) (around.entry).safe (operands_of (map operand_of operands.now))
         (type_at types.old start))) }
     ensures known { IfOk result (λ t. is_known types.new t ≡ true) }
     ensures shown { IsShown types.new (around.entry).scope.now }
     ensures kept { BeginsWith (objects_of types.new) (objects_of types.old) }
-    ensures begins { BeginsWith out.new.items out.old.items }
 {
     let mut all = Join::One(start);
     for operand in operands {
-        let other = expression(alloc, types, around, &operand.expr, out)?;
-        let more = operation(alloc, types, operand, all, other, out)?;
+        let other = expression(types, around, &operand.expr, faults)?;
+        let typed = TypedOperand {
+            operator: operand.operator,
+            at: operand.at,
+            ty: other,
+        };
+        let more = operation(types, all, typed, faults)?;
         all = more;
     }
     let ty = types.type_or_any(all)?;
@@ -373,23 +358,21 @@ fn operations(
 #[tactic(auto, using(al_base::proofs::Growing::growth, crate::proofs::Shown::shown))]
 #[cycle(typing)]
 fn typed_arguments(
-    alloc: Global,
     types: &mut Types<'_>,
     around: Surroundings<'_>,
     exprs: &[Expr],
-    out: &mut Vec<Fault>,
+    faults: &mut FaultSink,
 ) -> Result<Vec<Argument>, AllocError>
     requires shown { IsShown types.old around.scope.now }
-    ensures ok { IfOk result (λ v. all_typed (map (argument_at types.new) v.items) out.new.items ≡ all_behind [] out.old.items
+    ensures ok { IfOk result (λ v. all_typed (map (argument_at types.new) v.items) faults.new ≡ all_behind [] faults.old
         (meanings (scope_at types.old (around.entry).scope.now) (around.entry).safe (arguments_of (map tree_of exprs.now)))) }
     ensures known { IfOk result (λ v. are_known types.new v.items ≡ true) }
     ensures shown { IsShown types.new (around.entry).scope.now }
     ensures kept { BeginsWith (objects_of types.new) (objects_of types.old) }
-    ensures begins { BeginsWith out.new.items out.old.items }
 {
-    let mut arguments = Vec::new(alloc);
+    let mut arguments = Vec::new(faults.alloc());
     for expr in exprs {
-        let ty = expression(alloc, types, around, expr, out)?;
+        let ty = expression(types, around, expr, faults)?;
         arguments.push(Argument {
             ty,
             span: extent(expr),
@@ -399,16 +382,14 @@ fn typed_arguments(
 }
 
 // Adds the fault of a path that is an untrusted chain, where its text could do harm.
-#[tactic(auto, using(al_base::proofs::Growing::growth, crate::proofs::Paths::parts))]
+#[tactic(auto, using(crate::proofs::Paths::parts))]
 fn check_untrusted(
-    alloc: Global,
     exposed: bool,
     base: &Expr,
     steps: &[PathStep],
-    out: &mut Vec<Fault>,
+    faults: &mut FaultSink,
 ) -> Result<(), AllocError>
-    ensures ok { OnOk result (out.new.items ≡ out.old.items ++ untrusted exposed (tree_of base.now) (steps_of (map step_of steps.now))) }
-    ensures begins { BeginsWith out.new.items out.old.items }
+    ensures { OnOk result (faults.new ≡ faults.old ++ untrusted exposed (tree_of base.now) (steps_of (map step_of steps.now))) }
 {
     if !exposed {
         return Ok(());
@@ -416,16 +397,11 @@ fn check_untrusted(
     let Some(name) = base_name(base) else {
         return Ok(());
     };
-    let chain = untrusted_chain(alloc, name, steps)?;
+    let chain = untrusted_chain(faults.alloc(), name, steps)?;
     match chain {
         Some(chain) => {
-            report_text(
-                alloc,
-                out,
-                ExpressionCode::Untrusted,
-                path_extent(base, steps),
-                chain.as_str(),
-            )
+            let whole = path_extent(base, steps);
+            report_text(whole, ExpressionCode::Untrusted, chain.as_str(), faults)
         }
         None => Ok(()),
     }

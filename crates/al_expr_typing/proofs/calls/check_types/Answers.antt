@@ -1,6 +1,5 @@
 use Rattle.std.proofs.Common.{◌++◌, get_or, string_bytes, map, sym, ◌∙◌, append-nil, append_assoc, arith}
 use Rattle.std.proofs.lemmas.List.{at_drop_all, get_or_default}
-use Rattle.al_base.proofs.Growing.{begins_trans}
 use Rattle.al_expr_grammar.proofs.RestItems.{rest_item}
 use Rattle.al_expr_types.specs.declared.ty.Base.TheVariants as base
 use Rattle.al_expr_types.specs.declared.ty.Scalar.TheVariants as scalar
@@ -15,17 +14,11 @@ loop-index-preserved c =
     let none : Argument = record { ty = record { arrays = 0; of = base.Scalar scalar.Any }; span = record { start = 0; end = 0 } } in
     let a : Argument = get_or as' c.loop-index.index none in
     let r = rest_item as' c.loop-index.index a c.loop-index-test.true (get_or_default as' c.loop-index.index none a c.loop-index-test.true) in
-    record {
-      begins = begins_trans _ _ _ c.loop-index.invariant.begins c.in_ok-check_type.ensures.begins;
-      so_far = λ ms. let i = rw r at c.loop-index.invariant.so_far ms in rw (c.in_ok-check_type.ensures.ok ms, append_assoc) i;
-    }
+    λ ms. let i = rw r at c.loop-index.invariant ms in rw (c.in_ok-check_type.ensures ms, append_assoc) i
 
-pub returns-in_err-check_type-clause-begins : goal.returns-in_err-check_type-clause-begins
-returns-in_err-check_type-clause-begins c = begins_trans _ _ _ c.loop-index.invariant.begins c.check_type.ensures.begins
-
-pub returns-clause-ok : goal.returns-clause-ok
-returns-clause-ok c = λ ms.
-    let now = c.loop-index.out.items in
+pub returns : goal.returns
+returns c = λ ms.
+    let now = c.loop-index.faults in
     let d = at_drop_all (λ l. now ++ wrong_arguments (string_bytes c.args.name.now.text) c.args.parameters c.loop-index.index (map (argument_in ms) l))
     c.args.arguments.now c.loop-index.index (omega arith) in
-    sym (append-nil now) ∙ sym d ∙ c.loop-index.invariant.so_far ms
+    sym (append-nil now) ∙ sym d ∙ c.loop-index.invariant ms

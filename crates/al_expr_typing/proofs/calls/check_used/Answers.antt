@@ -2,19 +2,15 @@ use Rattle.std.proofs.Common.{◌≡◌, ℕ, List, [], ◌∷◌, ◌++◌, Boo
 use Rattle.std.proofs.lemmas.List.{at_drop_all}
 use Rattle.al_expr_typing.specs.Arguments.{argument_in}
 use Rattle.al_expr_typing.specs.Meaning.{unused}
-use Rattle.al_base.proofs.Growing.{begins_trans}
 use Rattle.al_expr_typing.proofs.calls.check_used.Goals as goal
 
 unused-nil : (n : ℕ) (used : List Bool) → unused n used [] ≡ []
 unused-nil n [] = refl
 unused-nil n (u ∷ us) = refl
 
-pub returns-clause-ok : goal.returns-clause-ok
-returns-clause-ok c = λ ms.
-    let now = c.loop-index.out.items in
+pub returns : goal.returns
+returns c = λ ms.
+    let now = c.loop-index.faults in
     let used = drop c.loop-index.index c.args.used.now in
     let d = at_drop_all (λ l. now ++ unused c.loop-index.index used (map (argument_in ms) l)) c.args.arguments.now c.loop-index.index (omega arith) in
-    sym (append-nil now) ∙ ap (λ l. now ++ l) (sym (unused-nil c.loop-index.index used)) ∙ sym d ∙ c.loop-index.invariant.so_far ms
-
-pub returns-in_err-check_argument-clause-begins : goal.returns-in_err-check_argument-clause-begins
-returns-in_err-check_argument-clause-begins c = begins_trans _ _ _ c.loop-index.invariant.begins c.check_argument.ensures.begins
+    sym (append-nil now) ∙ ap (λ l. now ++ l) (sym (unused-nil c.loop-index.index used)) ∙ sym d ∙ c.loop-index.invariant ms

@@ -16,24 +16,24 @@ returns-then-is_logic-clause-ok c =
     let types = c.args.types.now in
     let ms = objects_of types in
     let all = c.args.sofar in
-    let u = type_at types c.args.other in
+    let u = type_at types c.args.operand.ty in
     let fused = more_fused (join_in ms all) (join_in ms c.in_ok-more.more) u c.requires.present (c.in_ok-more.ensures.ty ms) in
-    chosen c.args.operand.now.operator c.args.operand.now.at (type_so_far types all) u _ c.args.out.now.items (sym c.is_logic.ensures ∙ c.if-is_logic.true) fused
+    chosen c.args.operand.operator c.args.operand.at (type_so_far types all) u _ c.args.faults.now (sym c.is_logic.ensures ∙ c.if-is_logic.true) fused
 
 pub returns-then-is_logic-clause-present : goal.returns-then-is_logic-clause-present
 returns-then-is_logic-clause-present c =
     let ms = objects_of c.args.types.now in
-    more_present (join_in ms c.args.sofar) _ (type_at c.args.types.now c.args.other) c.requires.present (c.in_ok-more.ensures.ty ms)
+    more_present (join_in ms c.args.sofar) _ (type_at c.args.types.now c.args.operand.ty) c.requires.present (c.in_ok-more.ensures.ty ms)
 
 pub returns-clause-ok : goal.returns-clause-ok
 returns-clause-ok c =
     let old = c.args.types.now in
     let new = c.type_or_any.new.self in
-    let out = c.args.out.now.items in
-    let after = c.check_comparison.new.out.items in
+    let out = c.args.faults.now in
+    let after = c.check_comparison.new.faults in
     let first = c.in_ok-first.ensures.ty in
-    let other = type_stays new old c.args.other c.in_ok-first.ensures.kept c.requires.other in
-    let faults = c.in_ok-check_comparison.ensures.ok (objects_of new)
-    ∙ (λ d. out ++ give (not (comparable_types c.args.operand.now.operator (first d) (other d))) (fault code.NotComparable c.args.operand.now.at [])) in
+    let other = type_stays new old c.args.operand.ty c.in_ok-first.ensures.kept c.requires.other in
+    let faults = c.in_ok-check_comparison.ensures (objects_of new)
+    ∙ (λ d. out ++ give (not (comparable_types c.args.operand.operator (first d) (other d))) (fault code.NotComparable c.args.operand.at [])) in
     ap (λ t. typed t after) (c.scalar.ensures.ty (objects_of new))
-    ∙ compared c.args.operand.now.operator c.args.operand.now.at (type_so_far old c.args.sofar) (type_at old c.args.other) out after (sym c.is_logic.ensures ∙ c.if-is_logic.false) faults
+    ∙ compared c.args.operand.operator c.args.operand.at (type_so_far old c.args.sofar) (type_at old c.args.operand.ty) out after (sym c.is_logic.ensures ∙ c.if-is_logic.false) faults

@@ -7,4 +7,4 @@ pub returns-then-ty-gt0-clause-ok : goal.returns-then-ty-gt0-clause-ok
 returns-then-ty-gt0-clause-ok c = λ ms.
     let e : suc (c.args.ty.arrays - 1) ≡ c.args.ty.arrays = omega (arith, c.if-ty-gt0.true) in
     c.in_ok-of.ensures.ok ms
-    ∙ ap (λ n. behind c.args.out.now.items (index_of c.args.whole (arrays_of n (base_type ms c.args.ty.of)) (type_in ms c.args.by))) e
+    ∙ ap (λ n. behind c.args.faults.now (index_of c.args.whole (arrays_of n (base_type ms c.args.ty.of)) (type_in ms c.args.by))) e

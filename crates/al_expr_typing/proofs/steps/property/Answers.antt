@@ -7,10 +7,10 @@ use Rattle.al_expr_typing.proofs.steps.property.Goals as goal
 
 pub returns-clause-ok : goal.returns-clause-ok
 returns-clause-ok c =
-    let old = c.args.out.now.items in
+    let old = c.args.faults.now in
     let k = c.args.ty.arrays in
     let base = base_type (objects_of c.args.types.now) c.args.ty.of in
-    let of = property_of c.args.name.now c.args.at c.args.whole base in
-    ap (λ t. typed t c.base_property.new.out.items) (c.in_ok-all.ensures.ty (objects_of c.base_property.new.types))
+    let of = property_of c.args.step.name.now c.args.step.at c.args.step.whole base in
+    ap (λ t. typed t c.base_property.new.faults) (c.in_ok-all.ensures.ty (objects_of c.base_property.new.types))
     ∙ ap (in_arrays k) c.in_ok-of.ensures.ok ∙ behind_arrays k old of
-    ∙ ap (behind old) (sym (property_arrays k c.args.name.now c.args.at c.args.whole base))
+    ∙ ap (behind old) (sym (property_arrays k c.args.step.name.now c.args.step.at c.args.step.whole base))

@@ -26,20 +26,20 @@ use Rattle.al_expr_typing.proofs.typing.+typing.Goals as goal
 
 pub expression-returns-in-Keyword-clause-ok : goal.expression-returns-in-Keyword-clause-ok
 expression-returns-in-Keyword-clause-ok t c =
-    let old = c.args.out.now.items in
+    let old = c.args.faults.now in
     let e = ap tree_of c.in-Keyword.is ∙ tree_of-Keyword c.in-Keyword.keyword c.in-Keyword.field-1 in
     rw e (ap (λ u. typed u old) (c.scalar.ensures.ty (objects_of c.args.types.now) ∙ c.type_of_keyword.ensures) ∙ unchanged _ old)
 
 pub expression-returns-in-Number-clause-ok : goal.expression-returns-in-Number-clause-ok
 expression-returns-in-Number-clause-ok t c =
-    let old = c.args.out.now.items in
+    let old = c.args.faults.now in
     let e = ap tree_of c.in-Number.is ∙ tree_of-Number c.in-Number.field-0 in
     rw e (ap (λ u. typed u old) (c.scalar-in-Number.ensures.ty (objects_of c.args.types.now)) ∙ unchanged _ old)
 
 pub expression-returns-in-Text-clause-ok : goal.expression-returns-in-Text-clause-ok
 expression-returns-in-Text-clause-ok t c =
     let e = ap tree_of c.in-Text.is ∙ tree_of-Text c.in-Text.field-0 in
-    rw e (unchanged String c.args.out.now.items)
+    rw e (unchanged String c.args.faults.now)
 
 pub expression-returns-in_ok-ty-in-Name-clause-ok : goal.expression-returns-in_ok-ty-in-Name-clause-ok
 expression-returns-in_ok-ty-in-Name-clause-ok t c =
@@ -59,7 +59,7 @@ pub expression-returns-in_ok-_ty-in-Not-clause-ok : goal.expression-returns-in_o
 expression-returns-in_ok-_ty-in-Not-clause-ok t c =
     let e = ap tree_of c.in-Not.is ∙ tree_of-Not c.in-Not.field-0 c.in-Not.operand in
     let f = rw c.deref-in-Not.ensures at c.in_ok-_ty-in-Not.ensures.ok in
-    let new = c.expression-in-Not.new.out.items in
+    let new = c.expression-in-Not.new.faults in
     rw e (ap (λ u. typed u new) (c.scalar-in-Not.ensures.ty (objects_of c.expression-in-Not.new.types)) ∙ unchanged Bool' new
     ∙ follows _ _ _ _ (λ u. typed Bool' []) f)
 
@@ -77,9 +77,9 @@ expression-returns-in_ok-check_untrusted-in-Path-clause-ok t c =
     let e = ap tree_of c.in-Path.is ∙ tree_of-Path c.in-Path.base c.in-Path.steps in
     let f = rw c.deref-in-Path.ensures at c.in_ok-start-in-Path.ensures.ok in
     let g = rw c.deref-in-Path-2.ensures.value at c.in_ok-ty-in-Path.ensures.ok in
-    let s = ap (λ sc. behind c.expression-in-Path.new.out.items (walked sc c.args.around.safe ss (type_at mid c.in_ok-start-in-Path.start)))
+    let s = ap (λ sc. behind c.expression-in-Path.new.faults (walked sc c.args.around.safe ss (type_at mid c.in_ok-start-in-Path.start)))
     (scope_stays mid before c.args.around.scope.now c.in_ok-start-in-Path.ensures.kept c.requires.shown) in
-    let h = rw (c.is_exposed.ensures, c.deref-in-Path-3.ensures, c.deref-in-Path-4.ensures.value) at c.in_ok-check_untrusted-in-Path.ensures.ok in
+    let h = rw (c.is_exposed.ensures, c.deref-in-Path-3.ensures, c.deref-in-Path-4.ensures.value) at c.in_ok-check_untrusted-in-Path.ensures in
     rw e (path_on _ _ _ _ _ _ _ _ (λ u. walked (scope_at before c.args.around.scope.now) c.args.around.safe ss u) f (g ∙ s) h)
 
 pub expression-returns-in_ok-ty-in-Chain-clause-ok : goal.expression-returns-in_ok-ty-in-Chain-clause-ok
@@ -91,7 +91,7 @@ expression-returns-in_ok-ty-in-Chain-clause-ok t c =
     let safe = c.args.around.safe || not (begins_logic os) in
     let f = rw (c.is_compared.ensures, c.deref-in-Chain.ensures.value, c.deref-in-Chain-2.ensures) at c.in_ok-start-in-Chain.ensures.ok in
     let g = rw (c.is_compared.ensures, c.deref-in-Chain.ensures.value, c.deref-in-Chain-3.ensures.value) at c.in_ok-ty-in-Chain.ensures.ok in
-    let s = ap (λ sc. behind c.expression-in-Chain.new.out.items (chained sc safe os (type_at mid c.in_ok-start-in-Chain.start)))
+    let s = ap (λ sc. behind c.expression-in-Chain.new.faults (chained sc safe os (type_at mid c.in_ok-start-in-Chain.start)))
     (scope_stays mid before c.args.around.scope.now c.in_ok-start-in-Chain.ensures.kept c.requires.shown) in
     rw e (g ∙ s ∙ follows _ _ _ _ (λ u. chained (scope_at before c.args.around.scope.now) safe os u) f)
 
@@ -104,7 +104,7 @@ call-returns-clause-ok t c =
     let h = rw (f, c.deref.ensures.value) at c.in_ok-ty.ensures.ok (objects_of mid) in
     let name = string_bytes c.args.name.now.text in
     let ts = arguments_of (map tree_of c.args.arguments.now) in
-    let s = ap (λ sc. behind c.typed_arguments.new.out.items (called_with sc name c.args.name.now.span (function_of name) ts (map (argument_at mid) c.in_ok-given.given.items)))
+    let s = ap (λ sc. behind c.typed_arguments.new.faults (called_with sc name c.args.name.now.span (function_of name) ts (map (argument_at mid) c.in_ok-given.given.items)))
     (scope_stays mid before c.args.around.scope.now c.in_ok-given.ensures.kept c.requires.shown) in
     h ∙ s ∙ called_on (scope_at before c.args.around.scope.now) name c.args.name.now.span (function_of name) ts _ _ _ _ g
 
@@ -127,12 +127,11 @@ operations-loop-operand-preserved t c =
     let u = type_at mid c.in_ok-other.other in
     let r = rest_item c.args.operands.now c.loop-operand.operand-index x c.loop-operand-test.true c.operand-item.is in
     let i = rw (r, operand_view x) at c.loop-operand.invariant.so_far in
-    let e = c.in_ok-other.ensures.ok ∙ ap (λ sc. behind c.loop-operand.out.items (meaning sc safe (tree_of x.expr)))
+    let e = c.in_ok-other.ensures.ok ∙ ap (λ sc. behind c.loop-operand.faults (meaning sc safe (tree_of x.expr)))
     (scope_stays now before c.args.around.scope.now c.loop-operand.invariant.kept c.requires.shown) in
-    let f = c.in_ok-more.ensures.ok ∙ ap (λ v. behind c.expression.new.out.items (operated x.operator x.at v u))
+    let f = c.in_ok-more.ensures.ok ∙ ap (λ v. behind c.expression.new.faults (operated x.operator x.at v u))
     (so_far_stays mid now c.loop-operand.all c.in_ok-other.ensures.kept c.loop-operand.invariant.below) in
     record {
-      begins = begins_trans _ _ _ c.loop-operand.invariant.begins (begins_trans _ _ _ c.in_ok-other.ensures.begins c.in_ok-more.ensures.begins);
       kept = begins_trans _ _ _ c.loop-operand.invariant.kept (begins_trans _ _ _ c.in_ok-other.ensures.kept c.in_ok-more.ensures.kept);
       shown = shown_stays c.operation.new.types mid c.args.around.scope.now c.in_ok-other.ensures.shown c.in_ok-more.ensures.kept;
       below = c.in_ok-more.ensures.below;
@@ -145,7 +144,7 @@ operations-loop-operand-preserved t c =
 pub operations-returns-clause-ok : goal.operations-returns-clause-ok
 operations-returns-clause-ok t c =
     let now = c.loop-operand.types in
-    let out = c.loop-operand.out.items in
+    let out = c.loop-operand.faults in
     let all = type_so_far now c.loop-operand.all in
     let sc = scope_at c.args.types.now c.args.around.scope.now in
     let d = at_drop_all (λ l. behind out (chained sc c.args.around.safe (operands_of (map operand_of l)) all)) c.args.operands.now c.loop-operand.operand-index
@@ -182,7 +181,7 @@ element_from-returns-clause-ok t c =
     let before = c.args.types.now in
     let new = c.expression.new.types in
     let by = type_at new c.in_ok-by.by in
-    let f = c.in_ok-of.ensures.ok (objects_of new) ∙ ap (λ u. behind c.expression.new.out.items (index_of c.args.whole u by))
+    let f = c.in_ok-of.ensures.ok (objects_of new) ∙ ap (λ u. behind c.expression.new.faults (index_of c.args.whole u by))
     (type_stays new before c.args.ty c.in_ok-by.ensures.kept c.requires.known) in
     indexed_on None c.args.whole (type_at before c.args.ty) by (type_at new c.in_ok-of.of) _ _ _ _ refl c.in_ok-by.ensures.ok f
 
@@ -199,18 +198,17 @@ typed_arguments-loop-expr-preserved t c =
     let as' = c.loop-expr.arguments.items in
     let x = c.expr-item.result in
     let ty = type_at next c.in_ok-ty.ty in
-    let out = c.expression.new.out.items in
+    let out = c.expression.new.faults in
     let sc = scope_at before c.args.around.scope.now in
     let xs = map tree_of (drop (c.loop-expr.expr-index + 1) c.args.exprs.now) in
     let r = rest_item c.args.exprs.now c.loop-expr.expr-index x c.loop-expr-test.true c.expr-item.is in
     let i = rw r at c.loop-expr.invariant.so_far in
-    let e = c.in_ok-ty.ensures.ok ∙ ap (λ s. behind c.loop-expr.out.items (meaning s c.args.around.safe (tree_of x)))
+    let e = c.in_ok-ty.ensures.ok ∙ ap (λ s. behind c.loop-expr.faults (meaning s c.args.around.safe (tree_of x)))
     (scope_stays now before c.args.around.scope.now c.loop-expr.invariant.kept c.requires.shown) in
     let m = meanings_on sc c.args.around.safe (tree_of x) xs ty (map (argument_at now) as') _ _ e in
     let a = ap (λ l. all_behind (l ++ (ty, extent (tree_of x)) ∷ []) out (meanings sc c.args.around.safe (arguments_of xs)))
     (arguments_stay next now as' c.in_ok-ty.ensures.kept c.loop-expr.invariant.known) in
     record {
-      begins = begins_trans _ _ _ c.loop-expr.invariant.begins c.in_ok-ty.ensures.begins;
       kept = begins_trans _ _ _ c.loop-expr.invariant.kept c.in_ok-ty.ensures.kept;
       shown = c.in_ok-ty.ensures.shown;
       known = ap (are_known next) c.in_ok-push.ensures.items
@@ -226,10 +224,9 @@ walk-loop-step-preserved t c =
     let here = type_at now c.loop-step.here in
     let r = rest_item c.args.steps.now c.loop-step.step-index x c.loop-step-test.true c.step-item.is in
     let i = rw r at c.loop-step.invariant.so_far in
-    let e = c.in_ok-next.ensures.ok ∙ ap (λ sc. behind c.loop-step.out.items (stepped sc c.args.around.safe (step_of x) here))
+    let e = c.in_ok-next.ensures.ok ∙ ap (λ sc. behind c.loop-step.faults (stepped sc c.args.around.safe (step_of x) here))
     (scope_stays now before c.args.around.scope.now c.loop-step.invariant.kept c.requires.shown) in
     record {
-      begins = begins_trans _ _ _ c.loop-step.invariant.begins c.in_ok-next.ensures.begins;
       kept = begins_trans _ _ _ c.loop-step.invariant.kept c.in_ok-next.ensures.kept;
       shown = c.in_ok-next.ensures.shown;
       known = c.in_ok-next.ensures.known;
@@ -237,56 +234,20 @@ walk-loop-step-preserved t c =
           (map step_of (drop (c.loop-step.step-index + 1) c.args.steps.now)) here (type_at c.step_from.new.types c.in_ok-next.next) _ _ e ∙ i;
     }
 
-pub expression-returns-in_err-ty-in-Path-clause-begins : goal.expression-returns-in_err-ty-in-Path-clause-begins
-expression-returns-in_err-ty-in-Path-clause-begins t c = begins_trans _ _ _ c.in_ok-start-in-Path.ensures.begins c.walk.ensures.begins
-
 pub expression-returns-in_err-ty-in-Path-clause-kept : goal.expression-returns-in_err-ty-in-Path-clause-kept
 expression-returns-in_err-ty-in-Path-clause-kept t c = begins_trans _ _ _ c.in_ok-start-in-Path.ensures.kept c.walk.ensures.kept
-
-pub expression-returns-in_err-check_untrusted-in-Path-clause-begins : goal.expression-returns-in_err-check_untrusted-in-Path-clause-begins
-expression-returns-in_err-check_untrusted-in-Path-clause-begins t c =
-    begins_trans _ _ _ c.in_ok-start-in-Path.ensures.begins (begins_trans _ _ _ c.in_ok-ty-in-Path.ensures.begins c.check_untrusted.ensures.begins)
-
-pub expression-returns-in_ok-check_untrusted-in-Path-clause-begins : goal.expression-returns-in_ok-check_untrusted-in-Path-clause-begins
-expression-returns-in_ok-check_untrusted-in-Path-clause-begins t c =
-    begins_trans _ _ _ c.in_ok-start-in-Path.ensures.begins (begins_trans _ _ _ c.in_ok-ty-in-Path.ensures.begins c.in_ok-check_untrusted-in-Path.ensures.begins)
-
-pub expression-returns-in_err-ty-in-Chain-clause-begins : goal.expression-returns-in_err-ty-in-Chain-clause-begins
-expression-returns-in_err-ty-in-Chain-clause-begins t c = begins_trans _ _ _ c.in_ok-start-in-Chain.ensures.begins c.operations.ensures.begins
 
 pub expression-returns-in_err-ty-in-Chain-clause-kept : goal.expression-returns-in_err-ty-in-Chain-clause-kept
 expression-returns-in_err-ty-in-Chain-clause-kept t c = begins_trans _ _ _ c.in_ok-start-in-Chain.ensures.kept c.operations.ensures.kept
 
-pub expression-returns-in_ok-ty-in-Chain-clause-begins : goal.expression-returns-in_ok-ty-in-Chain-clause-begins
-expression-returns-in_ok-ty-in-Chain-clause-begins t c = begins_trans _ _ _ c.in_ok-start-in-Chain.ensures.begins c.in_ok-ty-in-Chain.ensures.begins
-
 pub expression-returns-in_ok-ty-in-Chain-clause-kept : goal.expression-returns-in_ok-ty-in-Chain-clause-kept
 expression-returns-in_ok-ty-in-Chain-clause-kept t c = begins_trans _ _ _ c.in_ok-start-in-Chain.ensures.kept c.in_ok-ty-in-Chain.ensures.kept
-
-pub call-returns-clause-begins : goal.call-returns-clause-begins
-call-returns-clause-begins t c = begins_trans _ _ _ c.in_ok-given.ensures.begins c.in_ok-ty.ensures.begins
 
 pub call-returns-clause-known : goal.call-returns-clause-known
 call-returns-clause-known t c = c.in_ok-ty.ensures.known (length c.typed_arguments.new.types.objects.items)
 
-pub call-returns-in_err-ty-clause-begins : goal.call-returns-in_err-ty-clause-begins
-call-returns-in_err-ty-clause-begins t c = begins_trans _ _ _ c.in_ok-given.ensures.begins c.called.ensures.begins
-
-pub element_from-returns-in_err-of-clause-begins : goal.element_from-returns-in_err-of-clause-begins
-element_from-returns-in_err-of-clause-begins t c = begins_trans _ _ _ c.in_ok-by.ensures.begins c.element.ensures.begins
-
-pub element_from-returns-clause-begins : goal.element_from-returns-clause-begins
-element_from-returns-clause-begins t c = begins_trans _ _ _ c.in_ok-by.ensures.begins c.in_ok-of.ensures.begins
-
-pub operations-returns-in_err-other-clause-begins : goal.operations-returns-in_err-other-clause-begins
-operations-returns-in_err-other-clause-begins t c = begins_trans _ _ _ c.loop-operand.invariant.begins c.expression.ensures.begins
-
 pub operations-returns-in_err-other-clause-kept : goal.operations-returns-in_err-other-clause-kept
 operations-returns-in_err-other-clause-kept t c = begins_trans _ _ _ c.loop-operand.invariant.kept c.expression.ensures.kept
-
-pub operations-returns-in_err-more-clause-begins : goal.operations-returns-in_err-more-clause-begins
-operations-returns-in_err-more-clause-begins t c =
-    begins_trans _ _ _ c.loop-operand.invariant.begins (begins_trans _ _ _ c.in_ok-other.ensures.begins c.operation.ensures.begins)
 
 pub operations-returns-in_err-ty-clause-kept : goal.operations-returns-in_err-ty-clause-kept
 operations-returns-in_err-ty-clause-kept t c = begins_trans _ _ _ c.loop-operand.invariant.kept c.type_or_any.ensures.kept
@@ -295,17 +256,8 @@ pub operations-returns-in_err-more-clause-kept : goal.operations-returns-in_err-
 operations-returns-in_err-more-clause-kept t c =
     begins_trans _ _ _ c.loop-operand.invariant.kept (begins_trans _ _ _ c.in_ok-other.ensures.kept c.operation.ensures.kept)
 
-pub typed_arguments-returns-in_err-ty-clause-begins : goal.typed_arguments-returns-in_err-ty-clause-begins
-typed_arguments-returns-in_err-ty-clause-begins t c = begins_trans _ _ _ c.loop-expr.invariant.begins c.expression.ensures.begins
-
 pub typed_arguments-returns-in_err-ty-clause-kept : goal.typed_arguments-returns-in_err-ty-clause-kept
 typed_arguments-returns-in_err-ty-clause-kept t c = begins_trans _ _ _ c.loop-expr.invariant.kept c.expression.ensures.kept
-
-pub typed_arguments-returns-in_err-push-clause-begins : goal.typed_arguments-returns-in_err-push-clause-begins
-typed_arguments-returns-in_err-push-clause-begins t c = begins_trans _ _ _ c.loop-expr.invariant.begins c.in_ok-ty.ensures.begins
-
-pub walk-returns-in_err-next-clause-begins : goal.walk-returns-in_err-next-clause-begins
-walk-returns-in_err-next-clause-begins t c = begins_trans _ _ _ c.loop-step.invariant.begins c.step_from.ensures.begins
 
 pub walk-returns-in_err-next-clause-kept : goal.walk-returns-in_err-next-clause-kept
 walk-returns-in_err-next-clause-kept t c = begins_trans _ _ _ c.loop-step.invariant.kept c.step_from.ensures.kept

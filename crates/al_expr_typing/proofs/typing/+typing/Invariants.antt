@@ -11,33 +11,30 @@ use Rattle.al_expr_typing.proofs.typing.+typing.Given as goal
 
 abbrev pub invariant-walk-loop-step : goal.invariant-walk-loop-step
 invariant-walk-loop-step l = record {
-  begins : BeginsWith l.out.items l.initial.out.items;
   kept : BeginsWith (objects_of l.types) (objects_of l.initial.types);
   shown : IsShown l.types l.around.scope.now;
   known : is_known l.types l.here ≡ true;
-  so_far : behind l.out.items (walked (scope_at l.initial.types l.around.scope.now) l.around.safe (steps_of (map step_of (drop l.step-index l.steps))) (type_at l.types l.here))
-      ≡ behind l.initial.out.items (walked (scope_at l.initial.types l.around.scope.now) l.around.safe (steps_of (map step_of l.steps)) (type_at l.initial.types l.initial.here));
+  so_far : behind l.faults (walked (scope_at l.initial.types l.around.scope.now) l.around.safe (steps_of (map step_of (drop l.step-index l.steps))) (type_at l.types l.here))
+      ≡ behind l.initial.faults (walked (scope_at l.initial.types l.around.scope.now) l.around.safe (steps_of (map step_of l.steps)) (type_at l.initial.types l.initial.here));
 }
 
 abbrev pub invariant-operations-loop-operand : goal.invariant-operations-loop-operand
 invariant-operations-loop-operand l = record {
-  begins : BeginsWith l.out.items l.initial.out.items;
   kept : BeginsWith (objects_of l.types) (objects_of l.initial.types);
   shown : IsShown l.types l.around.scope.now;
   below : is_join_known l.types l.all ≡ true;
   present : has_operand l.types l.all ≡ true;
-  so_far : behind l.out.items (chained (scope_at l.initial.types l.around.scope.now) l.around.safe (operands_of (map operand_of (drop l.operand-index l.operands)))
-      (type_so_far l.types l.all)) ≡ behind l.initial.out.items
+  so_far : behind l.faults (chained (scope_at l.initial.types l.around.scope.now) l.around.safe (operands_of (map operand_of (drop l.operand-index l.operands)))
+      (type_so_far l.types l.all)) ≡ behind l.initial.faults
       (chained (scope_at l.initial.types l.around.scope.now) l.around.safe (operands_of (map operand_of l.operands)) (type_at l.initial.types l.fn.start));
 }
 
 abbrev pub invariant-typed_arguments-loop-expr : goal.invariant-typed_arguments-loop-expr
 invariant-typed_arguments-loop-expr l = record {
-  begins : BeginsWith l.out.items l.initial.out.items;
   kept : BeginsWith (objects_of l.types) (objects_of l.initial.types);
   shown : IsShown l.types l.around.scope.now;
   known : are_known l.types l.arguments.items ≡ true;
-  so_far : all_behind (map (argument_at l.types) l.arguments.items) l.out.items
+  so_far : all_behind (map (argument_at l.types) l.arguments.items) l.faults
       (meanings (scope_at l.initial.types l.around.scope.now) l.around.safe (arguments_of (map tree_of (drop l.expr-index l.exprs))))
-      ≡ all_behind [] l.initial.out.items (meanings (scope_at l.initial.types l.around.scope.now) l.around.safe (arguments_of (map tree_of l.exprs)));
+      ≡ all_behind [] l.initial.faults (meanings (scope_at l.initial.types l.around.scope.now) l.around.safe (arguments_of (map tree_of l.exprs)));
 }

@@ -8,25 +8,25 @@ use Rattle.al_expr_typing.specs.Meaning.{base_name, untrusted}
 use Rattle.al_expr_typing.proofs.Paths.{untrusted_none, untrusted_some}
 use Rattle.al_expr_typing.proofs.typing.check_untrusted.Goals as goal
 
-pub returns-in-Some-chain-clause-ok : goal.returns-in-Some-chain-clause-ok
-returns-in-Some-chain-clause-ok c =
+pub returns-in-Some-chain : goal.returns-in-Some-chain
+returns-in-Some-chain c =
     let h = c.if-not-exposed.false in
     let n : Some c.in-Some.name.now ≡ base_name (tree_of c.args.base.now) = rw c.in-Some.is at c.base_name.ensures in
     let k = rw c.in-Some-chain.is at c.in_ok-chain.ensures in
     let text = c.as_str.result.now in
     let t = tree_of c.args.base.now in
     let u = untrusted_some c.in-Some.name.now t (map step_of c.args.steps.now) text n (ap Some c.as_str.ensures.value ∙ k) in
-    let now = c.args.out.now.items in
+    let now = c.args.faults.now in
     on_ok_weaker c.report_text.result
     (λ e. e ∙ ap (λ s. now ++ fault code.Untrusted s (text ∷ []) ∷ []) c.path_extent.ensures ∙ ap (λ l. now ++ l) (sym u)
     ∙ ap (λ b. now ++ untrusted b t (steps_of (map step_of c.args.steps.now))) (sym h))
-    c.report_text.ensures.ok
+    c.report_text.ensures
 
-pub returns-in-None-clause-ok : goal.returns-in-None-clause-ok
-returns-in-None-clause-ok c =
+pub returns-in-None : goal.returns-in-None
+returns-in-None c =
     let h = c.if-not-exposed.false in
     let n : Some c.in-Some.name.now ≡ base_name (tree_of c.args.base.now) = rw c.in-Some.is at c.base_name.ensures in
     let k = rw c.in-None.is at c.in_ok-chain.ensures in
     let u = untrusted_none c.in-Some.name.now (tree_of c.args.base.now) (map step_of c.args.steps.now) n k in
-    let now = c.args.out.now.items in
+    let now = c.args.faults.now in
     sym (append-nil now) ∙ ap (λ l. now ++ l) (sym u) ∙ ap (λ b. now ++ untrusted b (tree_of c.args.base.now) (steps_of (map step_of c.args.steps.now))) (sym h)
