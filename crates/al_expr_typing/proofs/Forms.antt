@@ -2,7 +2,7 @@
 use Rattle.std.proofs.Common.{◌≡◌, ◌+◌, ℕ, zero, suc, List, refl, ap, ◌∙◌, arith}
 use Rattle.al_base.specs.declared.faults.Fault.{Fault}
 use Rattle.al_base.specs.declared.faults.Span.{Span}
-use Rattle.al_types.specs.Types.{Type', Any, Null, Number, String}
+use Rattle.al_types.specs.Types.{Type'}
 use Rattle.al_expr_types.specs.Types.{arrays_of, scalar_type}
 use Rattle.al_expr_types.specs.declared.ty.Scalar.{Scalar}
 use Rattle.al_expr_types.specs.declared.ty.Scalar.TheVariants as scalar

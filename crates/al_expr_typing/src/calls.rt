@@ -83,10 +83,13 @@ pub(crate) fn called(
     arguments: &[Argument],
     faults: &mut FaultSink,
 ) -> Result<Ty, AllocError>
-    ensures ok { IfOk result (λ t. (ms : List Parts) → typed (type_in ms t) faults.new ≡ behind faults.old
-        (called_with (scope_in ms scope.now) (string_bytes (call.entry).name.now.text) (call.entry).name.now.span
+    ensures ok { IfOk result
+        (λ t. (ms : List Parts) → typed (type_in ms t) faults.new ≡ behind faults.old
+        (called_with (scope_in ms scope.now) (string_bytes (call.entry).name.now.text)
+        (call.entry).name.now.span
         (call.entry).function
-        (arguments_of (map tree_of (call.entry).arguments.now)) (map (argument_in ms) arguments.now))) }
+        (arguments_of (map tree_of (call.entry).arguments.now))
+        (map (argument_in ms) arguments.now))) }
     ensures known { IfOk result (λ t. (k : ℕ) → is_below k t ≡ true) }
 {
     let name = call.name;
@@ -112,7 +115,8 @@ fn check_available(
     function: Function,
     faults: &mut FaultSink,
 ) -> Result<(), AllocError>
-    ensures { OnOk result (faults.new ≡ faults.old ++ give (not (is_allowed scope.now.functions function))
+    ensures { OnOk result
+        (faults.new ≡ faults.old ++ give (not (is_allowed scope.now.functions function))
         (fault code.UnavailableFunction name.now.span (string_bytes name.now.text ∷ []))) }
 {
     if !scope.functions.allows(function) {
@@ -133,7 +137,8 @@ fn check_arguments(
     faults: &mut FaultSink,
 ) -> Result<(), AllocError>
     ensures { OnOk result ((ms : List Parts) → faults.new ≡ faults.old ++
-        argument_faults (string_bytes name.now.text) name.now.span parameters (map (argument_in ms) arguments.now)) }
+        argument_faults (string_bytes name.now.text) name.now.span parameters
+        (map (argument_in ms) arguments.now)) }
 {
     if parameters.takes(arguments.len()) {
         check_types(name, parameters, arguments, faults)
@@ -154,7 +159,8 @@ fn check_types(
     faults: &mut FaultSink,
 ) -> Result<(), AllocError>
     ensures { OnOk result ((ms : List Parts) → faults.new ≡ faults.old ++
-        wrong_arguments (string_bytes name.now.text) parameters 0 (map (argument_in ms) arguments.now)) }
+        wrong_arguments (string_bytes name.now.text) parameters 0
+        (map (argument_in ms) arguments.now)) }
 {
     for (index, argument) in arguments.iter().enumerate() {
         let parameter = Parameter {
@@ -194,7 +200,8 @@ fn check_format(
     faults: &mut FaultSink,
 ) -> Result<(), AllocError>
     ensures { OnOk result ((ms : List Parts) → faults.new ≡ faults.old ++
-        format_faults function (arguments_of (map tree_of exprs.now)) (map (argument_in ms) arguments.now)) }
+        format_faults function (arguments_of (map tree_of exprs.now))
+        (map (argument_in ms) arguments.now)) }
 {
     if function != Function::Format {
         return Ok(());
@@ -209,7 +216,8 @@ fn check_format(
 }
 
 fn behind_first(arguments: &[Argument]) -> &[Argument]
-    ensures { (ms : List Parts) → map (argument_in ms) result.now ≡ meaning.rest_of (map (argument_in ms) arguments.now) }
+    ensures { (ms : List Parts) → map (argument_in ms) result.now
+        ≡ meaning.rest_of (map (argument_in ms) arguments.now) }
 {
     match arguments {
         [] => &[],
@@ -223,7 +231,8 @@ fn check_placeholders(
     faults: &mut FaultSink,
 ) -> Result<(), AllocError>
     ensures { OnOk result ((ms : List Parts) → faults.new ≡ faults.old ++
-        placeholder_faults literal.now.span (used_arguments (length arguments.now) (string_bytes literal.now.value))
+        placeholder_faults literal.now.span
+        (used_arguments (length arguments.now) (string_bytes literal.now.value))
         (map (argument_in ms) arguments.now)) }
 {
     match used_arguments(faults.alloc(), literal.value.as_str(), arguments.len())? {

@@ -41,7 +41,8 @@ pub(crate) fn operation(
     requires present { has_operand types.old sofar ≡ true }
     requires other { is_known types.old operand.ty ≡ true }
     ensures ok { IfOk result (λ j. typed (type_so_far types.new j) faults.new ≡ behind faults.old
-        (operated operand.operator operand.at (type_so_far types.old sofar) (type_at types.old operand.ty))) }
+        (operated operand.operator operand.at (type_so_far types.old sofar)
+        (type_at types.old operand.ty))) }
     ensures below { IfOk result (λ j. is_join_known types.new j ≡ true) }
     ensures present { IfOk result (λ j. has_operand types.new j ≡ true) }
     ensures kept { BeginsWith (objects_of types.new) (objects_of types.old) }

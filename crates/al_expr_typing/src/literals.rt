@@ -67,7 +67,9 @@ fn text_value(alloc: Global, literal: &str) -> Result<String, AllocError>
 }
 
 fn add(quoting: Quoting, ch: char, value: &mut String) -> Result<(), AllocError>
-    ensures { OnOk result (string_bytes value.new ≡ string_bytes value.old ++ flat_map encode_utf8 (adds quoting ch)) }
+    ensures { OnOk result
+        (string_bytes value.new
+        ≡ string_bytes value.old ++ flat_map encode_utf8 (adds quoting ch)) }
 {
     match quoting {
         Quoting::Opening => Ok(()),

@@ -55,7 +55,9 @@ fn pass(state: PlaceholderState, byte: u8, used: &mut [bool]) -> Option<Placehol
     requires { IsSmall state }
     ensures { MatchOption result
         ((rest : List ℕ) → used_from state used.old (byte ∷ rest) ≡ None)
-        (λ next. IsSmall next × ((rest : List ℕ) → used_from state used.old (byte ∷ rest) ≡ used_from next used.new rest)) }
+        (λ next. IsSmall next
+        × ((rest : List ℕ) → used_from state used.old (byte ∷ rest)
+        ≡ used_from next used.new rest)) }
 {
     let count = used.len() as u128;
     match read_byte(state, byte) {

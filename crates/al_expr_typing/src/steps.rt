@@ -18,7 +18,8 @@ use std::alloc::AllocError;
 
 /// A type in so many arrays.
 fn in_arrays(ty: Ty, arrays: u32) -> Result<Ty, AllocError>
-    ensures ty { IfOk result (λ t. (ms : List Parts) → type_in ms t ≡ arrays_of arrays (type_in ms ty)) }
+    ensures ty { IfOk result
+        (λ t. (ms : List Parts) → type_in ms t ≡ arrays_of arrays (type_in ms ty)) }
     ensures known { IfOk result (λ t. (k : ℕ) → is_below k ty ≡ true → is_below k t ≡ true) }
 {
     match arrays.checked_add(ty.arrays) {
@@ -51,7 +52,9 @@ pub(crate) fn property(
 ) -> Result<Ty, AllocError>
     requires { is_known types.old ty ≡ true }
     ensures ok { IfOk result (λ t. typed (type_at types.new t) faults.new
-        ≡ behind faults.old (property_of (step.entry).name.now (step.entry).at (step.entry).whole (type_at types.old ty))) }
+        ≡ behind faults.old
+        (property_of (step.entry).name.now (step.entry).at (step.entry).whole
+        (type_at types.old ty))) }
     ensures known { IfOk result (λ t. is_known types.new t ≡ true) }
     ensures kept { BeginsWith (objects_of types.new) (objects_of types.old) }
 {
@@ -70,7 +73,9 @@ fn base_property(
 ) -> Result<Ty, AllocError>
     requires { is_base_below (length types.old.objects.items) base ≡ true }
     ensures ok { IfOk result (λ t. typed (type_at types.new t) faults.new
-        ≡ behind faults.old (property_of (step.entry).name.now (step.entry).at (step.entry).whole (base_type (objects_of types.old) base))) }
+        ≡ behind faults.old
+        (property_of (step.entry).name.now (step.entry).at (step.entry).whole
+        (base_type (objects_of types.old) base))) }
     ensures known { IfOk result (λ t. is_known types.new t ≡ true) }
     ensures kept { BeginsWith (objects_of types.new) (objects_of types.old) }
 {
@@ -254,8 +259,11 @@ fn base_all(
 
 // An array of elements of a type, of any where there is none.
 fn array_of(element: Option<Ty>) -> Result<Ty, AllocError>
-    ensures ty { IfOk result (λ t. (ms : List Parts) → type_in ms t ≡ ArrayOf (or_any (option_map (type_in ms) element))) }
-    ensures known { IfOk result (λ t. (k : ℕ) → is_rest_below k element ≡ true → is_below k t ≡ true) }
+    ensures ty { IfOk result
+        (λ t. (ms : List Parts) → type_in ms t
+        ≡ ArrayOf (or_any (option_map (type_in ms) element))) }
+    ensures known { IfOk result
+        (λ t. (k : ℕ) → is_rest_below k element ≡ true → is_below k t ≡ true) }
 {
     match element {
         Some(ty) => in_arrays(ty, 1),

@@ -1,6 +1,6 @@
 //! The type of an expression, and the faults found on the way.
 
-ghost use Rattle.std.specs.Prelude.{◌≡◌, ◌++◌, ◌||◌, ◌&&◌, not, [], List, IfOk, OnOk, None, map, string_bytes, option_map, true, ℕ};
+ghost use Rattle.std.specs.Prelude.{◌≡◌, ◌++◌, ◌||◌, ◌&&◌, not, [], List, IfOk, OnOk, map, string_bytes, option_map, true, ℕ};
 ghost use Rattle.al_expr_typing.specs.Arguments.{are_known, argument_at};
 ghost use Rattle.al_expr_typing.specs.Scopes.{IsShown, scope_at, scope_in};
 ghost use Rattle.al_types.specs.Types.{Parts};
@@ -38,8 +38,12 @@ pub fn type_of(
     faults: &mut FaultSink,
 ) -> Result<Ty, AllocError>
     requires { IsShown types.old scope.now }
-    ensures ty { IfOk result (λ t. type_at types.new t ≡ type_in (meaning_of (scope_at types.old scope.now) (tree_of expr.now))) }
-    ensures faults { OnOk result (faults.new ≡ faults.old ++ faults_in (meaning_of (scope_at types.old scope.now) (tree_of expr.now))) }
+    ensures ty { IfOk result
+        (λ t. type_at types.new t
+        ≡ type_in (meaning_of (scope_at types.old scope.now) (tree_of expr.now))) }
+    ensures faults { OnOk result
+        (faults.new
+        ≡ faults.old ++ faults_in (meaning_of (scope_at types.old scope.now) (tree_of expr.now))) }
     ensures known { IfOk result (λ t. is_known types.new t ≡ true) }
     ensures kept { BeginsWith (objects_of types.new) (objects_of types.old) }
 {
@@ -56,6 +60,13 @@ struct Surroundings<'s> {
     safe: bool,
 }
 
+// What stands left of a step or an operator: its type, and what all of it stands in.
+#[derive(Clone, Copy)]
+struct Left<'s> {
+    around: Surroundings<'s>,
+    ty: Ty,
+}
+
 #[tactic(auto, using(al_base::proofs::Growing::growth, crate::proofs::Shown::shown))]
 #[cycle(typing)]
 fn expression(
@@ -66,7 +77,8 @@ fn expression(
 ) -> Result<Ty, AllocError>
     requires shown { IsShown types.old around.scope.now }
     ensures ok { IfOk result (λ t. typed (type_at types.new t) faults.new ≡ behind faults.old
-        (meaning.meaning (scope_at types.old (around.entry).scope.now) (around.entry).safe (tree_of expr.now))) }
+        (meaning.meaning (scope_at types.old (around.entry).scope.now) (around.entry).safe
+        (tree_of expr.now))) }
     ensures known { IfOk result (λ t. is_known types.new t ≡ true) }
     ensures shown { IsShown types.new (around.entry).scope.now }
     ensures kept { BeginsWith (objects_of types.new) (objects_of types.old) }
@@ -91,7 +103,8 @@ fn expression(
         Expr::Call(name, arguments, _) => call(types, around, name, arguments, faults),
         Expr::Path(base, steps) => {
             let start = expression(types, around, base, faults)?;
-            let ty = walk(types, around, steps, start, faults)?;
+            let left = Left { around, ty: start };
+            let ty = walk(types, left, steps, faults)?;
             check_untrusted(is_exposed(around), base, steps, faults)?;
             Ok(ty)
         }
@@ -101,7 +114,11 @@ fn expression(
                 ..around
             };
             let start = expression(types, compared, first, faults)?;
-            let ty = operations(types, compared, operands, start, faults)?;
+            let left = Left {
+                around: compared,
+                ty: start,
+            };
+            let ty = operations(types, left, operands, faults)?;
             Ok(ty)
         }
     }
@@ -130,10 +147,12 @@ fn call(
 ) -> Result<Ty, AllocError>
     requires shown { IsShown types.old around.scope.now }
     ensures ok { IfOk result (λ t. typed (type_at types.new t) faults.new ≡ behind faults.old
-        (meaning.called (scope_at types.old (around.entry).scope.now) (string_bytes name.now.text) name.now.span
-        (function_of (string_bytes name.now.text)) (arguments_of (map tree_of arguments.now)) (meanings (scope_at types.old
-        (around.entry).scope.now)
-        ((around.entry).safe || meaning.is_test (function_of (string_bytes name.now.text))) (arguments_of (map tree_of arguments.now))))) }
+        (meaning.called (scope_at types.old (around.entry).scope.now)
+        (string_bytes name.now.text) name.now.span
+        (function_of (string_bytes name.now.text)) (arguments_of (map tree_of arguments.now))
+        (meanings (scope_at types.old (around.entry).scope.now)
+        ((around.entry).safe || meaning.is_test (function_of (string_bytes name.now.text)))
+        (arguments_of (map tree_of arguments.now))))) }
     ensures known { IfOk result (λ t. is_known types.new t ≡ true) }
     ensures shown { IsShown types.new (around.entry).scope.now }
     ensures kept { BeginsWith (objects_of types.new) (objects_of types.old) }
@@ -173,10 +192,12 @@ fn is_exposed(around: Surroundings<'_>) -> bool
 
 #[tactic(auto, using(crate::proofs::TypedSteps::typing))]
 fn named(scope: &Scope, word: &Word, faults: &mut FaultSink) -> Result<Ty, AllocError>
-    ensures ok { IfOk result (λ t. (ms : List Parts) → typed (numbers.type_in ms t) faults.new ≡ behind faults.old
-        (meaning.named (scope_in ms scope.now) (string_bytes word.now.text) word.now.span (context_of
-        (string_bytes word.now.text)))) }
-    ensures known { IfOk result (λ t. (types : Types) → IsShown types scope.now → is_known types t ≡ true) }
+    ensures ok { IfOk result
+        (λ t. (ms : List Parts) → typed (numbers.type_in ms t) faults.new ≡ behind faults.old
+        (meaning.named (scope_in ms scope.now) (string_bytes word.now.text) word.now.span
+        (context_of (string_bytes word.now.text)))) }
+    ensures known { IfOk result
+        (λ t. (types : Types) → IsShown types scope.now → is_known types t ≡ true) }
 {
     let name = word.text.as_str();
     let code = match Context::named(name) {
@@ -197,26 +218,30 @@ fn named(scope: &Scope, word: &Word, faults: &mut FaultSink) -> Result<Ty, Alloc
 #[cycle(typing)]
 fn walk(
     types: &mut Types<'_>,
-    around: Surroundings<'_>,
+    left: Left<'_>,
     steps: &[PathStep],
-    start: Ty,
     faults: &mut FaultSink,
 ) -> Result<Ty, AllocError>
-    requires shown { IsShown types.old around.scope.now }
-    requires known { is_known types.old start ≡ true }
+    requires shown { IsShown types.old left.around.scope.now }
+    requires known { is_known types.old left.ty ≡ true }
     ensures ok { IfOk result (λ t. typed (type_at types.new t) faults.new ≡ behind faults.old
-        (walked (scope_at types.old (around.entry).scope.now) (around.entry).safe (steps_of (map step_of steps.now))
-        (type_at types.old start))) }
+        (walked (scope_at types.old (left.entry).around.scope.now) (left.entry).around.safe
+        (steps_of (map step_of steps.now))
+        (type_at types.old (left.entry).ty))) }
     ensures known { IfOk result (λ t. is_known types.new t ≡ true) }
-    ensures shown { IsShown types.new (around.entry).scope.now }
+    ensures shown { IsShown types.new (left.entry).around.scope.now }
     ensures kept { BeginsWith (objects_of types.new) (objects_of types.old) }
 {
-    let mut here = start;
+    let mut ty = left.ty;
     for step in steps {
-        let next = step_from(types, around, step, here, faults)?;
-        here = next;
+        let here = Left {
+            around: left.around,
+            ty,
+        };
+        let next = step_from(types, here, step, faults)?;
+        ty = next;
     }
-    Ok(here)
+    Ok(ty)
 }
 
 // The type behind one step of a path.
@@ -224,17 +249,17 @@ fn walk(
 #[cycle(typing)]
 fn step_from(
     types: &mut Types<'_>,
-    around: Surroundings<'_>,
+    left: Left<'_>,
     step: &PathStep,
-    here: Ty,
     faults: &mut FaultSink,
 ) -> Result<Ty, AllocError>
-    requires shown { IsShown types.old around.scope.now }
-    requires known { is_known types.old here ≡ true }
+    requires shown { IsShown types.old left.around.scope.now }
+    requires known { is_known types.old left.ty ≡ true }
     ensures ok { IfOk result (λ t. typed (type_at types.new t) faults.new ≡ behind faults.old
-        (stepped (scope_at types.old (around.entry).scope.now) (around.entry).safe (step_of step.now) (type_at types.old here))) }
+        (stepped (scope_at types.old (left.entry).around.scope.now) (left.entry).around.safe
+        (step_of step.now) (type_at types.old (left.entry).ty))) }
     ensures known { IfOk result (λ t. is_known types.new t ≡ true) }
-    ensures shown { IsShown types.new (around.entry).scope.now }
+    ensures shown { IsShown types.new (left.entry).around.scope.now }
     ensures kept { BeginsWith (objects_of types.new) (objects_of types.old) }
 {
     match step {
@@ -244,17 +269,13 @@ fn step_from(
                 at: name.span,
                 whole: across(*dot, name.span),
             };
-            property(types, here, asked, faults)
+            property(types, left.ty, asked, faults)
         }
-        PathStep::All(first, last) => all(types, here, across(*first, *last), faults),
-        PathStep::Index(open, index, close) => index_from(
-            types,
-            around,
-            index,
-            across(*open, *close),
-            here,
-            faults,
-        ),
+        PathStep::All(first, last) => all(types, left.ty, across(*first, *last), faults),
+        PathStep::Index(open, index, close) => {
+            let whole = across(*open, *close);
+            index_from(types, left, index, whole, faults)
+        }
     }
 }
 
@@ -263,19 +284,19 @@ fn step_from(
 #[cycle(typing)]
 fn index_from(
     types: &mut Types<'_>,
-    around: Surroundings<'_>,
+    left: Left<'_>,
     index: &Expr,
     whole: Span,
-    here: Ty,
     faults: &mut FaultSink,
 ) -> Result<Ty, AllocError>
-    requires shown { IsShown types.old around.scope.now }
-    requires known { is_known types.old here ≡ true }
+    requires shown { IsShown types.old left.around.scope.now }
+    requires known { is_known types.old left.ty ≡ true }
     ensures ok { IfOk result (λ t. typed (type_at types.new t) faults.new ≡ behind faults.old
-        (indexed (literal_text (tree_of index.now)) whole (type_at types.old here)
-        (meaning.meaning (scope_at types.old (around.entry).scope.now) (around.entry).safe (tree_of index.now)))) }
+        (indexed (literal_text (tree_of index.now)) whole (type_at types.old (left.entry).ty)
+        (meaning.meaning (scope_at types.old (left.entry).around.scope.now) (left.entry).around.safe
+        (tree_of index.now)))) }
     ensures known { IfOk result (λ t. is_known types.new t ≡ true) }
-    ensures shown { IsShown types.new (around.entry).scope.now }
+    ensures shown { IsShown types.new (left.entry).around.scope.now }
     ensures kept { BeginsWith (objects_of types.new) (objects_of types.old) }
 {
     let literal = literal_text(faults.alloc(), index)?;
@@ -286,38 +307,14 @@ fn index_from(
                 at: name.span,
                 whole,
             };
-            property(types, here, asked, faults)
+            property(types, left.ty, asked, faults)
         }
         None => {
-            let of = element_from(types, around, index, whole, here, faults)?;
+            let by = expression(types, left.around, index, faults)?;
+            let of = element(left.ty, by, whole, faults)?;
             Ok(of)
         }
     }
-}
-
-// The type of the element that an index tells.
-#[tactic(auto, using(al_base::proofs::Growing::growth, crate::proofs::Shown::shown))]
-#[cycle(typing)]
-fn element_from(
-    types: &mut Types<'_>,
-    around: Surroundings<'_>,
-    index: &Expr,
-    whole: Span,
-    ty: Ty,
-    faults: &mut FaultSink,
-) -> Result<Ty, AllocError>
-    requires shown { IsShown types.old around.scope.now }
-    requires known { is_known types.old ty ≡ true }
-    ensures ok { IfOk result (λ t. typed (type_at types.new t) faults.new ≡ behind faults.old
-        (indexed None whole (type_at types.old ty) (meaning.meaning (scope_at types.old (around.entry).scope.now) (around.entry).safe
-        (tree_of index.now)))) }
-    ensures known { IfOk result (λ t. is_known types.new t ≡ true) }
-    ensures shown { IsShown types.new (around.entry).scope.now }
-    ensures kept { BeginsWith (objects_of types.new) (objects_of types.old) }
-{
-    let by = expression(types, around, index, faults)?;
-    let of = element(ty, by, whole, faults)?;
-    Ok(of)
 }
 
 // The type of the operators of one level and their operands, from the type of the first operand.
@@ -325,23 +322,23 @@ fn element_from(
 #[cycle(typing)]
 fn operations(
     types: &mut Types<'_>,
-    around: Surroundings<'_>,
+    left: Left<'_>,
     operands: &[Operand],
-    start: Ty,
     faults: &mut FaultSink,
 ) -> Result<Ty, AllocError>
-    requires shown { IsShown types.old around.scope.now }
-    requires known { is_known types.old start ≡ true }
+    requires shown { IsShown types.old left.around.scope.now }
+    requires known { is_known types.old left.ty ≡ true }
     ensures ok { IfOk result (λ t. typed (type_at types.new t) faults.new ≡ behind faults.old
-        (chained (scope_at types.old (around.entry).scope.now) (around.entry).safe (operands_of (map operand_of operands.now))
-        (type_at types.old start))) }
+        (chained (scope_at types.old (left.entry).around.scope.now) (left.entry).around.safe
+        (operands_of (map operand_of operands.now))
+        (type_at types.old (left.entry).ty))) }
     ensures known { IfOk result (λ t. is_known types.new t ≡ true) }
-    ensures shown { IsShown types.new (around.entry).scope.now }
+    ensures shown { IsShown types.new (left.entry).around.scope.now }
     ensures kept { BeginsWith (objects_of types.new) (objects_of types.old) }
 {
-    let mut all = Join::One(start);
+    let mut all = Join::One(left.ty);
     for operand in operands {
-        let other = expression(types, around, &operand.expr, faults)?;
+        let other = expression(types, left.around, &operand.expr, faults)?;
         let typed = TypedOperand {
             operator: operand.operator,
             at: operand.at,
@@ -364,8 +361,10 @@ fn typed_arguments(
     faults: &mut FaultSink,
 ) -> Result<Vec<Argument>, AllocError>
     requires shown { IsShown types.old around.scope.now }
-    ensures ok { IfOk result (λ v. all_typed (map (argument_at types.new) v.items) faults.new ≡ all_behind [] faults.old
-        (meanings (scope_at types.old (around.entry).scope.now) (around.entry).safe (arguments_of (map tree_of exprs.now)))) }
+    ensures ok { IfOk result
+        (λ v. all_typed (map (argument_at types.new) v.items) faults.new ≡ all_behind [] faults.old
+        (meanings (scope_at types.old (around.entry).scope.now) (around.entry).safe
+        (arguments_of (map tree_of exprs.now)))) }
     ensures known { IfOk result (λ v. are_known types.new v.items ≡ true) }
     ensures shown { IsShown types.new (around.entry).scope.now }
     ensures kept { BeginsWith (objects_of types.new) (objects_of types.old) }
@@ -389,7 +388,9 @@ fn check_untrusted(
     steps: &[PathStep],
     faults: &mut FaultSink,
 ) -> Result<(), AllocError>
-    ensures { OnOk result (faults.new ≡ faults.old ++ untrusted exposed (tree_of base.now) (steps_of (map step_of steps.now))) }
+    ensures { OnOk result
+        (faults.new
+        ≡ faults.old ++ untrusted exposed (tree_of base.now) (steps_of (map step_of steps.now))) }
 {
     if !exposed {
         return Ok(());

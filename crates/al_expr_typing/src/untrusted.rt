@@ -49,7 +49,9 @@ pub(crate) fn untrusted_chain(
 }
 
 fn chain_text(alloc: Global, chain: Option<Parts>) -> Result<Option<String>, AllocError>
-    ensures { IfOk result (λ c. option_map string_bytes c ≡ option_map with_dots (option_map (λ p. map (λ q. q.now) p.now) chain.entry)) }
+    ensures { IfOk result
+        (λ c. option_map string_bytes c
+        ≡ option_map with_dots (option_map (λ p. map (λ q. q.now) p.now) chain.entry)) }
 {
     match chain {
         Some(parts) => Ok(Some(with_dots(alloc, parts)?)),
@@ -64,7 +66,8 @@ fn find_chain<'c>(
     steps: &[PathStep],
 ) -> Result<Option<Parts>, AllocError>
     ensures { IfOk result (λ c. option_map (λ p. map (λ q. q.now) p.now) c
-        ≡ chain_among (map (λ p. map (λ q. q.now) p.now) chains.now) (name.now ∷ map part_of (map step_of steps.now))) }
+        ≡ chain_among (map (λ p. map (λ q. q.now) p.now) chains.now)
+        (name.now ∷ map part_of (map step_of steps.now))) }
 {
     for chain in chains {
         if is_chain(alloc, chain, name, steps)? {
@@ -80,7 +83,9 @@ fn is_chain(
     name: &str,
     steps: &[PathStep],
 ) -> Result<bool, AllocError>
-    ensures { IfOk result (λ b. b ≡ same_parts (map (λ p. p.now) chain.now) (name.now ∷ map part_of (map step_of steps.now))) }
+    ensures { IfOk result
+        (λ b. b ≡ same_parts (map (λ p. p.now) chain.now)
+        (name.now ∷ map part_of (map step_of steps.now))) }
 {
     let [first, rest @ ..] = chain else {
         return Ok(false);
@@ -96,7 +101,8 @@ fn is_chain(
 
 fn are_parts(alloc: Global, parts: &[&str], steps: &[PathStep]) -> Result<bool, AllocError>
     requires { length parts.now ≡ length steps.now }
-    ensures { IfOk result (λ b. b ≡ same_parts (map (λ p. p.now) parts.now) (map part_of (map step_of steps.now))) }
+    ensures { IfOk result
+        (λ b. b ≡ same_parts (map (λ p. p.now) parts.now) (map part_of (map step_of steps.now))) }
 {
     for (index, step) in steps.iter().enumerate() {
         if !is_part(alloc, parts[index], step)? {

@@ -14,7 +14,10 @@ loop-index-preserved c =
     let none : Argument = record { ty = record { arrays = 0; of = base.Scalar scalar.Any }; span = record { start = 0; end = 0 } } in
     let a : Argument = get_or as' c.loop-index.index none in
     let r = rest_item as' c.loop-index.index a c.loop-index-test.true (get_or_default as' c.loop-index.index none a c.loop-index-test.true) in
-    λ ms. let i = rw r at c.loop-index.invariant ms in rw (c.in_ok-check_type.ensures ms, append_assoc) i
+    λ ms.
+    let i = rw r at c.loop-index.invariant ms in
+    let e = rw c.wanted.ensures at c.in_ok-check_type.ensures ms in
+    rw (e, append_assoc) i
 
 pub returns : goal.returns
 returns c = λ ms.

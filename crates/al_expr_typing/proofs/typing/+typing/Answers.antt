@@ -1,4 +1,4 @@
-use Rattle.std.proofs.Common.{◌≡◌, ◌+◌, ◌∷◌, ◌++◌, [], map, drop, sym, ap, ◌∙◌, arith, length, string_bytes, refl, None}
+use Rattle.std.proofs.Common.{◌≡◌, ◌+◌, ◌∷◌, ◌++◌, [], map, drop, sym, ap, ◌∙◌, arith, length, string_bytes}
 use Rattle.std.specs.Prelude.{not, ◌||◌}
 use Rattle.std.proofs.lemmas.List.{map-append, at_drop_all}
 use Rattle.al_types.specs.Names.{function_of}
@@ -123,20 +123,20 @@ operations-loop-operand-preserved t c =
     let now = c.loop-operand.types in
     let mid = c.expression.new.types in
     let x = c.operand-item.result in
-    let safe = c.args.around.safe in
+    let safe = c.args.left.around.safe in
     let u = type_at mid c.in_ok-other.other in
     let r = rest_item c.args.operands.now c.loop-operand.operand-index x c.loop-operand-test.true c.operand-item.is in
     let i = rw (r, operand_view x) at c.loop-operand.invariant.so_far in
     let e = c.in_ok-other.ensures.ok ∙ ap (λ sc. behind c.loop-operand.faults (meaning sc safe (tree_of x.expr)))
-    (scope_stays now before c.args.around.scope.now c.loop-operand.invariant.kept c.requires.shown) in
+    (scope_stays now before c.args.left.around.scope.now c.loop-operand.invariant.kept c.requires.shown) in
     let f = c.in_ok-more.ensures.ok ∙ ap (λ v. behind c.expression.new.faults (operated x.operator x.at v u))
     (so_far_stays mid now c.loop-operand.all c.in_ok-other.ensures.kept c.loop-operand.invariant.below) in
     record {
       kept = begins_trans _ _ _ c.loop-operand.invariant.kept (begins_trans _ _ _ c.in_ok-other.ensures.kept c.in_ok-more.ensures.kept);
-      shown = shown_stays c.operation.new.types mid c.args.around.scope.now c.in_ok-other.ensures.shown c.in_ok-more.ensures.kept;
+      shown = shown_stays c.operation.new.types mid c.args.left.around.scope.now c.in_ok-other.ensures.shown c.in_ok-more.ensures.kept;
       below = c.in_ok-more.ensures.below;
       present = c.in_ok-more.ensures.present;
-      so_far = chained_on (scope_at before c.args.around.scope.now) safe (sign x.operator x.at, tree_of x.expr)
+      so_far = chained_on (scope_at before c.args.left.around.scope.now) safe (sign x.operator x.at, tree_of x.expr)
           (map operand_of (drop (c.loop-operand.operand-index + 1) c.args.operands.now)) (type_so_far now c.loop-operand.all) u
           (type_so_far c.operation.new.types c.in_ok-more.more) _ _ _ e f ∙ i;
     }
@@ -146,14 +146,14 @@ operations-returns-clause-ok t c =
     let now = c.loop-operand.types in
     let out = c.loop-operand.faults in
     let all = type_so_far now c.loop-operand.all in
-    let sc = scope_at c.args.types.now c.args.around.scope.now in
-    let d = at_drop_all (λ l. behind out (chained sc c.args.around.safe (operands_of (map operand_of l)) all)) c.args.operands.now c.loop-operand.operand-index
+    let sc = scope_at c.args.types.now c.args.left.around.scope.now in
+    let d = at_drop_all (λ l. behind out (chained sc c.args.left.around.safe (operands_of (map operand_of l)) all)) c.args.operands.now c.loop-operand.operand-index
     (omega (arith, c.loop-operand-test.false)) in
     ap (λ u. typed u out) c.in_ok-ty.ensures.ty ∙ unchanged all out ∙ sym d ∙ c.loop-operand.invariant.so_far
 
 pub operations-returns-clause-shown : goal.operations-returns-clause-shown
 operations-returns-clause-shown t c =
-    shown_stays c.type_or_any.new.self c.loop-operand.types c.args.around.scope.now c.loop-operand.invariant.shown c.in_ok-ty.ensures.kept
+    shown_stays c.type_or_any.new.self c.loop-operand.types c.args.left.around.scope.now c.loop-operand.invariant.shown c.in_ok-ty.ensures.kept
 
 pub operations-returns-clause-kept : goal.operations-returns-clause-kept
 operations-returns-clause-kept t c = begins_trans _ _ _ c.loop-operand.invariant.kept c.in_ok-ty.ensures.kept
@@ -173,22 +173,22 @@ step_from-returns-in-All-clause-ok t c =
 pub step_from-returns-in-Index-clause-ok : goal.step_from-returns-in-Index-clause-ok
 step_from-returns-in-Index-clause-ok t c =
     let e = ap step_of c.in-Index.is ∙ step_of-Index c.in-Index.open c.in-Index.index c.in-Index.close in
-    let f = rw c.across-in-Index.ensures at c.index_from.ensures.ok in
+    let f = rw c.across-whole.ensures at c.index_from.ensures.ok in
     rw e f
 
-pub element_from-returns-clause-ok : goal.element_from-returns-clause-ok
-element_from-returns-clause-ok t c =
+pub index_from-returns-in_ok-of-in-None-clause-ok : goal.index_from-returns-in_ok-of-in-None-clause-ok
+index_from-returns-in_ok-of-in-None-clause-ok t c =
     let before = c.args.types.now in
     let new = c.expression.new.types in
-    let by = type_at new c.in_ok-by.by in
-    let f = c.in_ok-of.ensures.ok (objects_of new) ∙ ap (λ u. behind c.expression.new.faults (index_of c.args.whole u by))
-    (type_stays new before c.args.ty c.in_ok-by.ensures.kept c.requires.known) in
-    indexed_on None c.args.whole (type_at before c.args.ty) by (type_at new c.in_ok-of.of) _ _ _ _ refl c.in_ok-by.ensures.ok f
+    let by = type_at new c.in_ok-by-in-None.by in
+    let f = c.in_ok-of-in-None.ensures.ok (objects_of new) ∙ ap (λ u. behind c.expression.new.faults (index_of c.args.whole u by))
+    (type_stays new before c.args.left.ty c.in_ok-by-in-None.ensures.kept c.requires.known) in
+    indexed_on _ c.args.whole (type_at before c.args.left.ty) by (type_at new c.in_ok-of-in-None.of) _ _ _ _ (rw c.in-None.is at c.in_ok-literal.ensures) c.in_ok-by-in-None.ensures.ok f
 
-pub element_from-returns-clause-known : goal.element_from-returns-clause-known
-element_from-returns-clause-known t c =
+pub index_from-returns-in_ok-of-in-None-clause-known : goal.index_from-returns-in_ok-of-in-None-clause-known
+index_from-returns-in_ok-of-in-None-clause-known t c =
     let new = c.expression.new.types in
-    c.in_ok-of.ensures.known (length new.objects.items) (known_stays new c.args.types.now c.args.ty c.in_ok-by.ensures.kept c.requires.known)
+    c.in_ok-of-in-None.ensures.known (length new.objects.items) (known_stays new c.args.types.now c.args.left.ty c.in_ok-by-in-None.ensures.kept c.requires.known)
 
 pub typed_arguments-loop-expr-preserved : goal.typed_arguments-loop-expr-preserved
 typed_arguments-loop-expr-preserved t c =
@@ -221,16 +221,16 @@ walk-loop-step-preserved t c =
     let before = c.args.types.now in
     let now = c.loop-step.types in
     let x = c.step-item.result in
-    let here = type_at now c.loop-step.here in
+    let here = type_at now c.loop-step.ty in
     let r = rest_item c.args.steps.now c.loop-step.step-index x c.loop-step-test.true c.step-item.is in
     let i = rw r at c.loop-step.invariant.so_far in
-    let e = c.in_ok-next.ensures.ok ∙ ap (λ sc. behind c.loop-step.faults (stepped sc c.args.around.safe (step_of x) here))
-    (scope_stays now before c.args.around.scope.now c.loop-step.invariant.kept c.requires.shown) in
+    let e = c.in_ok-next.ensures.ok ∙ ap (λ sc. behind c.loop-step.faults (stepped sc c.args.left.around.safe (step_of x) here))
+    (scope_stays now before c.args.left.around.scope.now c.loop-step.invariant.kept c.requires.shown) in
     record {
       kept = begins_trans _ _ _ c.loop-step.invariant.kept c.in_ok-next.ensures.kept;
       shown = c.in_ok-next.ensures.shown;
       known = c.in_ok-next.ensures.known;
-      so_far = walked_on (scope_at before c.args.around.scope.now) c.args.around.safe (step_of x)
+      so_far = walked_on (scope_at before c.args.left.around.scope.now) c.args.left.around.safe (step_of x)
           (map step_of (drop (c.loop-step.step-index + 1) c.args.steps.now)) here (type_at c.step_from.new.types c.in_ok-next.next) _ _ e ∙ i;
     }
 

@@ -18,7 +18,7 @@ returns-in-Some-chain c =
     let u = untrusted_some c.in-Some.name.now t (map step_of c.args.steps.now) text n (ap Some c.as_str.ensures.value ∙ k) in
     let now = c.args.faults.now in
     on_ok_weaker c.report_text.result
-    (λ e. e ∙ ap (λ s. now ++ fault code.Untrusted s (text ∷ []) ∷ []) c.path_extent.ensures ∙ ap (λ l. now ++ l) (sym u)
+    (λ e. e ∙ ap (λ s. now ++ fault code.Untrusted s (text ∷ []) ∷ []) c.path_extent-whole.ensures ∙ ap (λ l. now ++ l) (sym u)
     ∙ ap (λ b. now ++ untrusted b t (steps_of (map step_of c.args.steps.now))) (sym h))
     c.report_text.ensures
 
