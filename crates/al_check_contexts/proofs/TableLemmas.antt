@@ -124,14 +124,17 @@ same_seen types ts k known root s seen now e h = record { each = each }
 
 -- the types of another section of a workflow
 pub section_changed : (new old : Types) (ts : ContextTypes) (st : SectionTypes) (t : Ty) (k : FileKind) (known : Known) (root : Node) (js : List (Node × Node))
-    (job : Option (Node × Node)) (s now : Section) (seen : Seen) → k ≡ kind.Workflow → js ≡ jobs_of root → job ≡ job_among js now →
-    BeginsWith (objects_of new) (objects_of old) → AreOfSection new known js now job st → Means new t (owned known (option_map owner_of job) (before 0)) →
+    (s now : Section) (seen : Seen) → k ≡ kind.Workflow → js ≡ jobs_of root → BeginsWith (objects_of new) (objects_of old) →
+    AreOfSection new known js now st → Means new t (owned known (option_map owner_of (job_among js now)) (before 0)) →
     Shows old ts (table k known root s seen) →
     Shows new (record ts { strategy = st.strategy; needs = st.needs; jobs = st.jobs; matrix = st.matrix; steps = t }) (table k known root now (before 0))
-section_changed new old ts st t k known root js job s now seen kk e there b a m h = record { each = each }
+section_changed new old ts st t k known root js s now seen kk e b a m h = record { each = each }
   where
+    job : Option (Node × Node)
+    job = job_among js now
+
     here : job ≡ job_in root now
-    here = there ∙ ap (λ us. job_among us now) e
+    here = ap (λ us. job_among us now) e
 
     all : ContextTypes
     all = record ts { strategy = st.strategy; needs = st.needs; jobs = st.jobs; matrix = st.matrix; steps = t }
@@ -182,10 +185,10 @@ shows_of_action types ts k known root s now seen e h = record {
 pub owner_of_action : (k : FileKind) (root : Node) (s t : Section) → k ≡ kind.Action → owner_in k root s ≡ owner_in k root t
 owner_of_action k root s t e = ap (λ x. owner_in x root s) e ∙ sym (ap (λ x. owner_in x root t) e)
 
-pub owner_of_workflow : (k : FileKind) (root : Node) (js : List (Node × Node)) (job : Option (Node × Node)) (s : Section) → k ≡ kind.Workflow → js ≡ jobs_of root →
-    job ≡ job_among js s → option_map owner_of job ≡ owner_in k root s
-owner_of_workflow k root js job s kk e there =
-    ap (option_map owner_of) (there ∙ ap (λ us. job_among us s) e) ∙ sym (ap (λ x. owner_in x root s) kk)
+pub owner_of_workflow : (k : FileKind) (root : Node) (js : List (Node × Node)) (s : Section) → k ≡ kind.Workflow → js ≡ jobs_of root →
+    option_map owner_of (job_among js s) ≡ owner_in k root s
+owner_of_workflow k root js s kk e =
+    ap (λ us. option_map owner_of (job_among us s)) e ∙ sym (ap (λ x. owner_in x root s) kk)
 
 -- ---- the start of a file
 
@@ -256,9 +259,9 @@ fixed_stay new old f b h = record {
   job = means_stays new old f.job _ b h.job;
 }
 
-pub section_stays : (new old : Types) (known : Known) (js : List (Node × Node)) (s : Section) (job : Option (Node × Node)) (st : SectionTypes) →
-    BeginsWith (objects_of new) (objects_of old) → AreOfSection old known js s job st → AreOfSection new known js s job st
-section_stays new old known js s job st b h = record {
+pub section_stays : (new old : Types) (known : Known) (js : List (Node × Node)) (s : Section) (st : SectionTypes) →
+    BeginsWith (objects_of new) (objects_of old) → AreOfSection old known js s st → AreOfSection new known js s st
+section_stays new old known js s st b h = record {
   strategy = means_stays new old st.strategy _ b h.strategy;
   needs = means_stays new old st.needs _ b h.needs;
   jobs = means_stays new old st.jobs _ b h.jobs;

@@ -28,7 +28,9 @@ impl TypeCache {
 
     /// The type at a position, where it was made.
     pub(crate) fn get(&self, i: usize) -> Option<Ty>
-        ensures { IfSome result (λ t. (types : declared.Types) (at : ℕ → Type') → Keeps types at self.now → Means types t (at i)) }
+        ensures { IfSome result
+            (λ t. (types : declared.Types) (at : ℕ → Type') → Keeps types at self.now
+            → Means types t (at i)) }
     {
         if i >= self.made.len() {
             return None;
@@ -38,7 +40,8 @@ impl TypeCache {
 
     /// Keeps the type of a position.
     pub(crate) fn set(&mut self, i: usize, ty: Ty)
-        ensures { (types : declared.Types) (at : ℕ → Type') → Keeps types at self.old → Means types ty (at i) → Keeps types at self.new }
+        ensures { (types : declared.Types) (at : ℕ → Type') → Keeps types at self.old
+            → Means types ty (at i) → Keeps types at self.new }
     {
         if i < self.made.len() {
             self.made[i] = Some(ty);

@@ -13,6 +13,7 @@ ghost use Rattle.al_expr_typing.specs.Scopes.{IsShown, scope_at};
 ghost use Rattle.al_tree.specs.declared.files.FileKind.TheVariants as kind;
 ghost use Rattle.al_yaml_tree.specs.View.{view};
 
+use crate::basis::Basis;
 use crate::caches::TypeCache;
 use crate::fixed::strategy;
 use crate::job_lists::JobList;
@@ -89,26 +90,17 @@ fn enter_workflow<'a>(
     requires stands { Stands file env.old }
     ensures stands { OnOk result (Stands file.entry env.new) }
     ensures same { OnOk result (section_view (env.new).section ≡ section_view section.entry) }
-    ensures kept { OnOk result (BeginsWith (objects_of (env.new).types) (objects_of (env.old).types)) }
+    ensures kept { OnOk result
+        (BeginsWith (objects_of (env.new).types) (objects_of (env.old).types)) }
 {
-    let job = env.jobs.job_of(section);
-    let made = section_types(
+    let basis = Basis {
         alloc,
-        &mut env.types,
-        &env.outputs,
-        &env.jobs,
-        &mut env.job_types,
-        env.strategy,
-        section,
-        job,
-    )?;
-    let mut steps = section_steps(
-        alloc,
-        &mut env.types,
-        &env.outputs,
-        &mut env.step_types,
-        job,
-    )?;
+        jobs: &env.jobs,
+        outputs: &env.outputs,
+        strategy: env.strategy,
+    };
+    let made = section_types(&mut env.types, &basis, &mut env.job_types, section)?;
+    let mut steps = section_steps(&mut env.types, &basis, &mut env.step_types, section)?;
     let none_seen = steps.first(&mut env.types, 0)?;
     env.scope.types.strategy = made.strategy;
     env.scope.types.needs = made.needs;
@@ -131,7 +123,8 @@ fn enter<'a>(
     requires { Stands file env.old }
     ensures stands { OnOk result (Stands file.entry env.new) }
     ensures same { OnOk result (section_view (env.new).section ≡ section_view section.entry) }
-    ensures kept { OnOk result (BeginsWith (objects_of (env.new).types) (objects_of (env.old).types)) }
+    ensures kept { OnOk result
+        (BeginsWith (objects_of (env.new).types) (objects_of (env.old).types)) }
 {
     if is_same_section(env.section, section) {
         return Ok(());
@@ -150,9 +143,12 @@ fn see<'a>(file: File<'a>, env: &mut Env<'a>, seen: Seen) -> Result<(), AllocErr
     requires { Stands file env.old }
     ensures stands { OnOk result (Stands file.entry env.new) }
     ensures same { OnOk result (section_view (env.new).section ≡ section_view (env.old).section) }
-    ensures shows { OnOk result (Shows (env.new).types (env.new).scope.types (table (file.entry).kind (known_by (env.new).outputs)
+    ensures shows { OnOk result
+        (Shows (env.new).types (env.new).scope.types
+        (table (file.entry).kind (known_by (env.new).outputs)
         (view (file.entry).root.now) (section_view (env.old).section) (seen_view seen))) }
-    ensures kept { OnOk result (BeginsWith (objects_of (env.new).types) (objects_of (env.old).types)) }
+    ensures kept { OnOk result
+        (BeginsWith (objects_of (env.new).types) (objects_of (env.old).types)) }
 {
     let count = env.steps.seen_count(seen);
     if count == env.seen {
@@ -173,9 +169,13 @@ fn go<'a>(
 ) -> Result<(), AllocError>
     requires { Stands file env.old }
     ensures stands { OnOk result (Stands file.entry env.new) }
-    ensures shows { OnOk result (Shows (env.new).types (env.new).scope.types (table (file.entry).kind (known_of (file.entry).known)
-        (view (file.entry).root.now) (section_view (position.entry).section) (seen_view (position.entry).seen))) }
-    ensures kept { OnOk result (BeginsWith (objects_of (env.new).types) (objects_of (env.old).types)) }
+    ensures shows { OnOk result
+        (Shows (env.new).types (env.new).scope.types
+        (table (file.entry).kind (known_of (file.entry).known)
+        (view (file.entry).root.now) (section_view (position.entry).section)
+        (seen_view (position.entry).seen))) }
+    ensures kept { OnOk result
+        (BeginsWith (objects_of (env.new).types) (objects_of (env.old).types)) }
 {
     enter(alloc, file, env, position.section)?;
     see(file, env, position.seen)?;
@@ -196,11 +196,17 @@ impl<'a> Env<'a> {
         let job_types = JobTypes::new(alloc, positions, jobs.as_slice().len())?;
         let mut step_types = TypeCache::new(alloc, positions)?;
         let mut types = Types::new(alloc);
-        let owner = first_owner(file.kind, file.root);
-        let mut steps = owned_steps(alloc, &mut types, &outputs, &mut step_types, owner)?;
-        let none_seen = steps.first(&mut types, 0)?;
-        let contexts = first_types(alloc, &mut types, file.kind, file.root, none_seen)?;
         let strategy = strategy(alloc, &mut types)?;
+        let basis = Basis {
+            alloc,
+            jobs: &jobs,
+            outputs: &outputs,
+            strategy,
+        };
+        let owner = first_owner(file.kind, file.root);
+        let mut steps = owned_steps(&mut types, &basis, &mut step_types, owner)?;
+        let none_seen = steps.first(&mut types, 0)?;
+        let contexts = first_types(alloc, &mut types, file, none_seen)?;
         Ok(Env {
             section: Section::Apart,
             seen: 0,
@@ -233,9 +239,11 @@ impl<'a> Env<'a> {
         requires { Stands file self.old }
         ensures stands { OnOk result (Stands file.entry self.new) }
         ensures shown { OnOk result (IsShown (self.new).types (self.new).scope) }
-        ensures scope { OnOk result (scope_at (self.new).types (self.new).scope ≡ scopes.scope_at (file.entry).kind
+        ensures scope { OnOk result
+            (scope_at (self.new).types (self.new).scope ≡ scopes.scope_at (file.entry).kind
             (known_of (file.entry).known) (view (file.entry).root.now) (place_of place.entry)) }
-        ensures kept { OnOk result (BeginsWith (objects_of (self.new).types) (objects_of (self.old).types)) }
+        ensures kept { OnOk result
+            (BeginsWith (objects_of (self.new).types) (objects_of (self.old).types)) }
     {
         go(alloc, file, self, place.position)?;
         self.scope.contexts = context_set(file.kind, place.available);

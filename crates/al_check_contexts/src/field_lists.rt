@@ -37,7 +37,9 @@ impl<'a> FieldList<'a> {
         name: &'a [u8],
         ty: Ty,
     ) -> Result<FieldList<'a>, AllocError>
-        ensures { IfOk result (λ l. (types : declared.Types) (ts : List Typed) (m : Type') → Lists types self.entry ts → Means types ty m
+        ensures { IfOk result
+            (λ l. (types : declared.Types) (ts : List Typed) (m : Type') → Lists types self.entry ts
+            → Means types ty m
             → Lists types l (put_new ts (name.now, m))) }
     {
         let map = self.map.and(alloc, name, ty)?;
@@ -50,7 +52,8 @@ impl<'a> FieldList<'a> {
         alloc: Global,
         names: &[&'a [u8]],
     ) -> Result<FieldList<'a>, AllocError>
-        ensures { IfOk result (λ l. (types : declared.Types) (ts : List Typed) → Lists types self.entry ts
+        ensures { IfOk result
+            (λ l. (types : declared.Types) (ts : List Typed) → Lists types self.entry ts
             → Lists types l (put_all put_new ts (strings (map (λ n. n.now) names.now)))) }
     {
         let mut all = self;
@@ -85,7 +88,8 @@ impl<'a> FieldList<'a> {
         requires fields { is_map_below (length types.old.objects.items) self.map ≡ true }
         requires rest { is_rest_below (length types.old.objects.items) rest ≡ true }
         ensures ty { IfOk result (λ t. (ts : List Typed) → Lists types.old self.entry ts
-            → Means types.new t (object_with (fields_of ts) (rest_in (objects_of types.old) rest))) }
+            → Means types.new t (object_with (fields_of ts)
+            (rest_in (objects_of types.old) rest))) }
         ensures kept { OnOk result (BeginsWith (objects_of types.new) (objects_of types.old)) }
     {
         let count = self.map.len();

@@ -22,7 +22,9 @@ use std::alloc::{AllocError, Global};
 
 /// The fields that inputs are. Fails with `AllocError` when out of memory, as all here.
 fn input_fields<'a>(alloc: Global, entries: &[Member<'a>]) -> Result<FieldList<'a>, AllocError>
-    ensures { IfOk result (λ l. (types : declared.Types) → Lists types l (firsts (map inputs.input_field (map member_of entries.now)))) }
+    ensures { IfOk result
+        (λ l. (types : declared.Types)
+        → Lists types l (firsts (map inputs.input_field (map member_of entries.now)))) }
 {
     let mut fields = FieldList::new(alloc);
     for input in entries {
@@ -40,7 +42,9 @@ fn event_inputs<'a>(
     root: &'a Node,
     event: &str,
 ) -> Result<Ty, AllocError>
-    ensures ty { IfOk result (λ t. Means types.new t (strictly (firsts (inputs.event_inputs event.now (view root.entry.now))))) }
+    ensures ty { IfOk result
+        (λ t. Means types.new t
+        (strictly (firsts (inputs.event_inputs event.now (view root.entry.now))))) }
     ensures kept { OnOk result (BeginsWith (objects_of types.new) (objects_of types.old)) }
 {
     let declared = declared_at(alloc, value_below_three(root, "on", event, "inputs"))?;
@@ -55,7 +59,8 @@ fn workflow_inputs<'a>(
     types: &mut Types<'a>,
     root: &'a Node,
 ) -> Result<Ty, AllocError>
-    ensures ty { IfOk result (λ t. Means types.new t (inputs.workflow_inputs (view root.entry.now))) }
+    ensures ty { IfOk result
+        (λ t. Means types.new t (inputs.workflow_inputs (view root.entry.now))) }
     ensures kept { OnOk result (BeginsWith (objects_of types.new) (objects_of types.old)) }
 {
     let call = event_inputs(alloc, types, root, "workflow_call")?;

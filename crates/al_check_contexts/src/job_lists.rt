@@ -81,7 +81,8 @@ impl<'a> JobList<'a> {
 
     /// The job of a section.
     pub(crate) fn job_of(&self, section: Section<'_>) -> Option<Member<'a>>
-        ensures { option_map member_of result ≡ job_among (map member_of self.now.members.items) (section_view section.entry) }
+        ensures { option_map member_of result
+            ≡ job_among (map member_of self.now.members.items) (section_view section.entry) }
     {
         match section {
             Section::Apart => None,

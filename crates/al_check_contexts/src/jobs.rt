@@ -1,10 +1,10 @@
 //! What a job shows to others, made once a file, and the types of `jobs` and `needs`.
-ghost use Rattle.std.specs.Prelude.{◌≡◌, ◌<◌, IfOk, OnOk, List, codes, length, map, option_map, true};
+ghost use Rattle.std.specs.Prelude.{◌≡◌, ◌<◌, IfOk, OnOk, List, codes, length, option_map, true};
 ghost use Rattle.std.specs.Option.{option_to_list};
 ghost use Rattle.al_base.specs.Growth.{BeginsWith};
 ghost use Rattle.al_check_contexts.specs.Contexts.{call_outputs, job_field, jobs_type_of, needed, needs_type_of};
-ghost use Rattle.al_check_contexts.specs.Private.Lookups.{called_at, known_by, shown_at, shown_with};
-ghost use Rattle.al_check_contexts.specs.Private.Made.{KeepsJobs};
+ghost use Rattle.al_check_contexts.specs.Private.Lookups.{called_at, shown_at, shown_with};
+ghost use Rattle.al_check_contexts.specs.Private.Made.{KeepsJobs, KeepsJobsOf, jobs_from, known_from};
 ghost use Rattle.al_check_contexts.specs.Private.Numbers.{Keeps, Lists, Means};
 ghost use Rattle.al_expr_types.specs.Tables.{is_known, objects_of, type_at};
 ghost use Rattle.al_expr_types.specs.declared.types.Types as declared;
@@ -16,10 +16,9 @@ ghost use Rattle.al_types.specs.Strings.{named_strings};
 ghost use Rattle.al_yaml_tree.specs.Node as tree;
 ghost use Rattle.al_yaml_tree.specs.View.{view};
 
+use crate::basis::Basis;
 use crate::caches::TypeCache;
 use crate::field_lists::FieldList;
-use crate::job_lists::JobList;
-use crate::known::Outputs;
 use crate::objects::{declared_strings, loose_any};
 use al_expr_types::{NameList, Ty, Types};
 use al_tree::{Member, key_text, members_under, texts_under};
@@ -56,7 +55,8 @@ fn call_outputs_type<'a>(
     types: &mut Types<'a>,
     outputs: Option<&'a NameList>,
 ) -> Result<Ty, AllocError>
-    ensures ty { IfOk result (λ t. Means types.new t (call_outputs (option_map (λ l. l.now) outputs.entry))) }
+    ensures ty { IfOk result
+        (λ t. Means types.new t (call_outputs (option_map (λ l. l.now) outputs.entry))) }
     ensures kept { OnOk result (BeginsWith (objects_of types.new) (objects_of types.old)) }
 {
     match outputs {
@@ -70,22 +70,21 @@ fn call_outputs_type<'a>(
 
 /// What a job that calls a workflow shows, by the position of the names of its outputs.
 fn called_type<'a>(
-    alloc: Global,
     types: &mut Types<'a>,
-    known: &Outputs<'a>,
+    basis: &Basis<'_, 'a>,
     made: &mut TypeCache,
     position: usize,
 ) -> Result<Ty, AllocError>
-    requires { Keeps types.old (called_at known.now) made.old }
-    ensures ty { IfOk result (λ t. Means types.new t (called_at known.now position)) }
-    ensures keeps { OnOk result (Keeps types.new (called_at known.now) made.new) }
+    requires { Keeps types.old (called_at basis.now.outputs.now) made.old }
+    ensures ty { IfOk result (λ t. Means types.new t (called_at basis.now.outputs.now position)) }
+    ensures keeps { OnOk result (Keeps types.new (called_at basis.now.outputs.now) made.new) }
     ensures kept { OnOk result (BeginsWith (objects_of types.new) (objects_of types.old)) }
 {
     if let Some(ty) = made.get(position) {
         return Ok(ty);
     }
-    let outputs = call_outputs_type(alloc, types, known.list(position))?;
-    let ty = shown_with(alloc, types, outputs)?;
+    let outputs = call_outputs_type(basis.alloc, types, basis.outputs.list(position))?;
+    let ty = shown_with(basis.alloc, types, outputs)?;
     made.set(position, ty);
     Ok(ty)
 }
@@ -93,7 +92,8 @@ fn called_type<'a>(
 /// What a job shows that calls no workflow.
 fn own_type<'a>(alloc: Global, types: &mut Types<'a>, job: Member<'a>) -> Result<Ty, AllocError>
     ensures ty { IfOk result (λ t. Means types.new t
-        (shown_with (named_strings (names_of (entries_at (codes "outputs") (view (job.entry).value.now)))))) }
+        (shown_with (named_strings
+        (names_of (entries_at (codes "outputs") (view (job.entry).value.now)))))) }
     ensures kept { OnOk result (BeginsWith (objects_of types.new) (objects_of types.old)) }
 {
     let entries = members_under(alloc, job.value, "outputs")?;
@@ -105,7 +105,9 @@ fn own_type<'a>(alloc: Global, types: &mut Types<'a>, job: Member<'a>) -> Result
 impl JobTypes {
     /// Nothing of so many calls and jobs.
     pub(crate) fn new(alloc: Global, calls: usize, jobs: usize) -> Result<JobTypes, AllocError>
-        ensures { IfOk result (λ m. (types : declared.Types) (known : outputs.Outputs) (js : List (tree.Node × tree.Node))
+        ensures { IfOk result
+            (λ m. (types : declared.Types) (known : outputs.Outputs) (js : List (tree.Node
+            × tree.Node))
             → KeepsJobs types known js m) }
     {
         let calls = TypeCache::new(alloc, calls)?;
@@ -120,46 +122,46 @@ impl JobTypes {
     /// What a job shows.
     fn type_of<'a>(
         &mut self,
-        alloc: Global,
         types: &mut Types<'a>,
-        known: &Outputs<'a>,
+        basis: &Basis<'_, 'a>,
         job: Member<'a>,
     ) -> Result<Ty, AllocError>
-        requires { Keeps types.old (called_at known.now) (self.old).calls }
-        ensures ty { IfOk result (λ t. Means types.new t (job_field (known_by known.now) (member_of job.entry)).1) }
-        ensures keeps { OnOk result (Keeps types.new (called_at known.now) (self.new).calls) }
+        requires { Keeps types.old (called_at basis.now.outputs.now) (self.old).calls }
+        ensures ty { IfOk result
+            (λ t. Means types.new t (job_field (known_from basis.now) (member_of job.entry)).1) }
+        ensures keeps { OnOk result
+            (Keeps types.new (called_at basis.now.outputs.now) (self.new).calls) }
         ensures shown { (self.new).shown ≡ (self.old).shown }
         ensures all { (self.new).all ≡ (self.old).all }
         ensures kept { OnOk result (BeginsWith (objects_of types.new) (objects_of types.old)) }
     {
         if has_value(job.value, "uses") {
-            let position = known.position_of_job(key_text(job.key));
-            let ty = called_type(alloc, types, known, &mut self.calls, position)?;
+            let position = basis.outputs.position_of_job(key_text(job.key));
+            let ty = called_type(types, basis, &mut self.calls, position)?;
             return Ok(ty);
         }
-        let ty = own_type(alloc, types, job)?;
+        let ty = own_type(basis.alloc, types, job)?;
         Ok(ty)
     }
 
     /// What the job at a position shows.
     fn get<'a>(
         &mut self,
-        alloc: Global,
         types: &mut Types<'a>,
-        known: &Outputs<'a>,
-        jobs: &JobList<'a>,
+        basis: &Basis<'_, 'a>,
         i: usize,
     ) -> Result<Ty, AllocError>
-        requires keeps { KeepsJobs types.old known.now (map member_of jobs.now.members.items) self.old }
-        requires inside { i < length jobs.now.members.items }
-        ensures ty { IfOk result (λ t. Means types.new t (shown_at known.now (map member_of jobs.now.members.items) i)) }
-        ensures keeps { OnOk result (KeepsJobs types.new known.now (map member_of jobs.now.members.items) self.new) }
+        requires keeps { KeepsJobsOf types.old basis.now self.old }
+        requires inside { i < length basis.now.jobs.now.members.items }
+        ensures ty { IfOk result
+            (λ t. Means types.new t (shown_at basis.now.outputs.now (jobs_from basis.now) i)) }
+        ensures keeps { OnOk result (KeepsJobsOf types.new basis.now self.new) }
         ensures kept { OnOk result (BeginsWith (objects_of types.new) (objects_of types.old)) }
     {
         if let Some(ty) = self.shown.get(i) {
             return Ok(ty);
         }
-        let ty = self.type_of(alloc, types, known, jobs.job_at(i))?;
+        let ty = self.type_of(types, basis, basis.jobs.job_at(i))?;
         self.shown.set(i, ty);
         Ok(ty)
     }
@@ -167,44 +169,42 @@ impl JobTypes {
     /// An object of what all jobs show.
     fn object_of_jobs<'a>(
         &mut self,
-        alloc: Global,
         types: &mut Types<'a>,
-        known: &Outputs<'a>,
-        jobs: &JobList<'a>,
+        basis: &Basis<'_, 'a>,
     ) -> Result<Ty, AllocError>
-        requires { KeepsJobs types.old known.now (map member_of jobs.now.members.items) self.old }
-        ensures ty { IfOk result (λ t. Means types.new t (jobs_type_of (known_by known.now) (map member_of jobs.now.members.items))) }
-        ensures keeps { OnOk result (KeepsJobs types.new known.now (map member_of jobs.now.members.items) self.new) }
+        requires { KeepsJobsOf types.old basis.now self.old }
+        ensures ty { IfOk result
+            (λ t. Means types.new t (jobs_type_of (known_from basis.now) (jobs_from basis.now))) }
+        ensures keeps { OnOk result (KeepsJobsOf types.new basis.now self.new) }
         ensures kept { OnOk result (BeginsWith (objects_of types.new) (objects_of types.old)) }
     {
-        let mut fields = FieldList::new(alloc);
-        let members = jobs.as_slice();
+        let mut fields = FieldList::new(basis.alloc);
+        let members = basis.jobs.as_slice();
         for (i, job) in members.iter().enumerate() {
-            let ty = self.get(alloc, types, known, jobs, i)?;
-            let more = fields.and(alloc, key_text(job.key), ty)?;
+            let ty = self.get(types, basis, i)?;
+            let more = fields.and(basis.alloc, key_text(job.key), ty)?;
             fields = more;
         }
-        let ty = fields.into_type(alloc, types, None)?;
+        let ty = fields.into_type(basis.alloc, types, None)?;
         Ok(ty)
     }
 
     /// The type of `jobs`, which is made once.
     pub(crate) fn jobs_type<'a>(
         &mut self,
-        alloc: Global,
         types: &mut Types<'a>,
-        known: &Outputs<'a>,
-        jobs: &JobList<'a>,
+        basis: &Basis<'_, 'a>,
     ) -> Result<Ty, AllocError>
-        requires { KeepsJobs types.old known.now (map member_of jobs.now.members.items) self.old }
-        ensures ty { IfOk result (λ t. Means types.new t (jobs_type_of (known_by known.now) (map member_of jobs.now.members.items))) }
-        ensures keeps { OnOk result (KeepsJobs types.new known.now (map member_of jobs.now.members.items) self.new) }
+        requires { KeepsJobsOf types.old basis.now self.old }
+        ensures ty { IfOk result
+            (λ t. Means types.new t (jobs_type_of (known_from basis.now) (jobs_from basis.now))) }
+        ensures keeps { OnOk result (KeepsJobsOf types.new basis.now self.new) }
         ensures kept { OnOk result (BeginsWith (objects_of types.new) (objects_of types.old)) }
     {
         if let Some(ty) = self.all {
             return Ok(ty);
         }
-        let ty = self.object_of_jobs(alloc, types, known, jobs)?;
+        let ty = self.object_of_jobs(types, basis)?;
         self.all = Some(ty);
         Ok(ty)
     }
@@ -212,24 +212,24 @@ impl JobTypes {
     /// Fields, and what the first job of a name shows, where there is one, unless a field has its name.
     fn and_needed<'a>(
         &mut self,
-        alloc: Global,
         types: &mut Types<'a>,
-        known: &Outputs<'a>,
-        jobs: &JobList<'a>,
+        basis: &Basis<'_, 'a>,
         name: &[u8],
         fields: FieldList<'a>,
     ) -> Result<FieldList<'a>, AllocError>
-        requires { KeepsJobs types.old known.now (map member_of jobs.now.members.items) self.old }
-        ensures fields { IfOk result (λ l. (ts : List Typed) → Lists types.old fields.entry ts → Lists types.new l
-            (put_all put_new ts (option_to_list (needed (known_by known.now) (map member_of jobs.now.members.items) name.now)))) }
-        ensures keeps { OnOk result (KeepsJobs types.new known.now (map member_of jobs.now.members.items) self.new) }
+        requires { KeepsJobsOf types.old basis.now self.old }
+        ensures fields { IfOk result
+            (λ l. (ts : List Typed) → Lists types.old fields.entry ts → Lists types.new l
+            (put_all put_new ts (option_to_list
+            (needed (known_from basis.now) (jobs_from basis.now) name.now)))) }
+        ensures keeps { OnOk result (KeepsJobsOf types.new basis.now self.new) }
         ensures kept { OnOk result (BeginsWith (objects_of types.new) (objects_of types.old)) }
     {
-        match jobs.position_of(alloc, name)? {
+        match basis.jobs.position_of(basis.alloc, name)? {
             None => Ok(fields),
             Some(i) => {
-                let ty = self.get(alloc, types, known, jobs, i)?;
-                let more = fields.and(alloc, key_text(jobs.job_at(i).key), ty)?;
+                let ty = self.get(types, basis, i)?;
+                let more = fields.and(basis.alloc, key_text(basis.jobs.job_at(i).key), ty)?;
                 Ok(more)
             }
         }
@@ -238,25 +238,23 @@ impl JobTypes {
     /// The type of `needs` in a job.
     pub(crate) fn needs_type<'a>(
         &mut self,
-        alloc: Global,
         types: &mut Types<'a>,
-        known: &Outputs<'a>,
-        jobs: &JobList<'a>,
+        basis: &Basis<'_, 'a>,
         job: &'a Node,
     ) -> Result<Ty, AllocError>
-        requires { KeepsJobs types.old known.now (map member_of jobs.now.members.items) self.old }
+        requires { KeepsJobsOf types.old basis.now self.old }
         ensures ty { IfOk result (λ t. Means types.new t
-            (needs_type_of (known_by known.now) (map member_of jobs.now.members.items) (view job.entry.now))) }
-        ensures keeps { OnOk result (KeepsJobs types.new known.now (map member_of jobs.now.members.items) self.new) }
+            (needs_type_of (known_from basis.now) (jobs_from basis.now) (view job.entry.now))) }
+        ensures keeps { OnOk result (KeepsJobsOf types.new basis.now self.new) }
         ensures kept { OnOk result (BeginsWith (objects_of types.new) (objects_of types.old)) }
     {
-        let mut fields = FieldList::new(alloc);
-        let names = texts_under(alloc, job, "needs")?;
+        let mut fields = FieldList::new(basis.alloc);
+        let names = texts_under(basis.alloc, job, "needs")?;
         for name in names.as_slice() {
-            let more = self.and_needed(alloc, types, known, jobs, name.scalar.text(), fields)?;
+            let more = self.and_needed(types, basis, name.scalar.text(), fields)?;
             fields = more;
         }
-        let ty = fields.into_type(alloc, types, None)?;
+        let ty = fields.into_type(basis.alloc, types, None)?;
         Ok(ty)
     }
 }

@@ -58,7 +58,9 @@ impl<'a> Outputs<'a> {
 
     /// Puts an answer in front of the others.
     fn put(&mut self, answer: Answer<'a>) -> Result<(), AllocError>
-        ensures found { OnOk result (found_at self.new ≡ and_found (behind_of (lists_of self.old) answer.entry) (found_at self.old)) }
+        ensures found { OnOk result
+            (found_at self.new ≡ and_found (behind_of (lists_of self.old) answer.entry)
+            (found_at self.old)) }
         ensures lists { (self.new).lists ≡ (self.old).lists }
     {
         self.positions
@@ -95,7 +97,8 @@ impl<'a> Outputs<'a> {
 
     /// The position of the names of a step's outputs, likewise.
     pub(crate) fn position_of_step(&self, job: Option<&'a [u8]>, i: usize) -> usize
-        ensures { list_at self.now result ≡ (known_by self.now).of_step (option_copied job.entry) i }
+        ensures { list_at self.now result
+            ≡ (known_by self.now).of_step (option_copied job.entry) i }
     {
         self.position(job, Some(i))
     }

@@ -2,6 +2,7 @@
 //! which contexts and special functions stand there.
 #![tactic(auto)]
 
+mod basis;
 mod caches;
 mod env;
 mod field_lists;

@@ -29,7 +29,8 @@ use std::alloc::{AllocError, Global};
 
 /// The type of a scalar. Fails with `AllocError` when out of memory, as all here.
 fn scalar_type(alloc: Global, scalar: &Scalar) -> Result<Ty, AllocError>
-    ensures { IfOk result (λ t. (types : declared.Types) → Means types t (matrix.scalar_type scalar.now)) }
+    ensures { IfOk result
+        (λ t. (types : declared.Types) → Means types t (matrix.scalar_type scalar.now)) }
 {
     if !contains_chunk(scalar.text()) {
         return Ok(scalar_ty(class_type_of(scalar.class())));
@@ -43,7 +44,8 @@ fn scalar_type(alloc: Global, scalar: &Scalar) -> Result<Ty, AllocError>
 
 /// An array of a type.
 fn array_of(ty: Ty) -> Result<Ty, AllocError>
-    ensures { IfOk result (λ t. (types : declared.Types) (m : Type') → Means types ty m → Means types t (ArrayOf m)) }
+    ensures { IfOk result
+        (λ t. (types : declared.Types) (m : Type') → Means types ty m → Means types t (ArrayOf m)) }
 {
     match ty.arrays.checked_add(1) {
         Some(arrays) => Ok(Ty { arrays, of: ty.of }),
@@ -79,7 +81,8 @@ fn node_type<'a>(alloc: Global, types: &mut Types<'a>, node: &'a Node) -> Result
 /// What values have in common; any of no values.
 #[cycle(values)]
 fn items_type<'a>(alloc: Global, types: &mut Types<'a>, nodes: &'a [Node]) -> Result<Ty, AllocError>
-    ensures ty { IfOk result (λ t. Means types.new t (or_any (items_type None (nodes_of (map view nodes.entry.now))))) }
+    ensures ty { IfOk result
+        (λ t. Means types.new t (or_any (items_type None (nodes_of (map view nodes.entry.now))))) }
     ensures kept { OnOk result (BeginsWith (objects_of types.new) (objects_of types.old)) }
 {
     let mut all = Join::Nothing;
@@ -99,7 +102,9 @@ fn entries_type<'a>(
     types: &mut Types<'a>,
     entries: &'a [Entry],
 ) -> Result<Ty, AllocError>
-    ensures ty { IfOk result (λ t. Means types.new t (strictly (entries_types [] (entries_of (map entry_view entries.entry.now))))) }
+    ensures ty { IfOk result
+        (λ t. Means types.new t
+        (strictly (entries_types [] (entries_of (map entry_view entries.entry.now))))) }
     ensures kept { OnOk result (BeginsWith (objects_of types.new) (objects_of types.old)) }
 {
     let mut fields = FieldList::new(alloc);
@@ -135,7 +140,8 @@ fn and_row<'a>(
     rows: FieldList<'a>,
 ) -> Result<FieldList<'a>, AllocError>
     ensures fields { IfOk result (λ l. (ts : List Typed) → Lists types.old rows.entry ts
-        → Lists types.new l (put_all put_new ts (option_to_list (row_field (member_of entry.entry))))) }
+        → Lists types.new l (put_all put_new ts
+        (option_to_list (row_field (member_of entry.entry))))) }
     ensures kept { OnOk result (BeginsWith (objects_of types.new) (objects_of types.old)) }
 {
     if is_combination_key(key_text(entry.key)) {
@@ -163,7 +169,8 @@ fn rows_type<'a>(alloc: Global, types: &mut Types<'a>, node: &'a Node) -> Result
 
 /// An object of the entries of one combination; none where it has none.
 fn combination<'a>(alloc: Global, types: &mut Types<'a>, node: &'a Node) -> Result<Ty, AllocError>
-    ensures ty { IfOk result (λ t. Means types.new t (strictly (matrix.combination (view node.entry.now)))) }
+    ensures ty { IfOk result
+        (λ t. Means types.new t (strictly (matrix.combination (view node.entry.now)))) }
     ensures kept { OnOk result (BeginsWith (objects_of types.new) (objects_of types.old)) }
 {
     match &node.kind {
@@ -231,7 +238,8 @@ fn included<'a>(
 ) -> Result<Ty, AllocError>
     requires { is_known types.old rows ≡ true }
     ensures ty { IfOk result (λ t. (ts : List Typed) → Means types.old rows (strictly ts)
-        → Means types.new t (matrix.included ts (option_map (λ n. view n.now) combinations.entry))) }
+        → Means types.new t (matrix.included ts
+        (option_map (λ n. view n.now) combinations.entry))) }
     ensures kept { OnOk result (BeginsWith (objects_of types.new) (objects_of types.old)) }
 {
     match combinations {
@@ -249,7 +257,8 @@ fn included<'a>(
 /// The type of a matrix that is a mapping.
 fn mapped_matrix<'a>(alloc: Global, types: &mut Types<'a>, node: &'a Node) -> Result<Ty, AllocError>
     ensures ty { IfOk result (λ t. Means types.new t
-        (matrix.included (rows_of (view node.entry.now)) (value_at (codes "include") (view node.entry.now)))) }
+        (matrix.included (rows_of (view node.entry.now))
+        (value_at (codes "include") (view node.entry.now)))) }
     ensures kept { OnOk result (BeginsWith (objects_of types.new) (objects_of types.old)) }
 {
     let rows = rows_type(alloc, types, node)?;

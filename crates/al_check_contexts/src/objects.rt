@@ -59,7 +59,8 @@ pub(crate) fn declared_strings<'a>(
     types: &mut Types<'a>,
     entries: &[Member<'a>],
 ) -> Result<Ty, AllocError>
-    ensures ty { IfOk result (λ t. Means types.new t (named_strings (names_of (map member_of entries.now)))) }
+    ensures ty { IfOk result
+        (λ t. Means types.new t (named_strings (names_of (map member_of entries.now)))) }
     ensures kept { OnOk result (BeginsWith (objects_of types.new) (objects_of types.old)) }
 {
     let keys = key_texts(alloc, entries)?;

@@ -37,7 +37,8 @@ fn has_function(functions: &[Function], function: Function) -> bool
 
 /// The set of some contexts.
 fn set_of(contexts: &[Context]) -> ContextSet
-    ensures { (c : context_names.Context) → is_available result c ≡ scopes.has_context contexts.now c }
+    ensures { (c : context_names.Context) → is_available result c
+        ≡ scopes.has_context contexts.now c }
 {
     ContextSet {
         github: has_context(contexts, Context::Github),
@@ -57,7 +58,8 @@ fn set_of(contexts: &[Context]) -> ContextSet
 
 /// All contexts, or all but `secrets`.
 fn all_contexts(has_secrets: bool) -> ContextSet
-    ensures { (c : context_names.Context) → is_available result c ≡ scopes.is_among_all has_secrets c }
+    ensures { (c : context_names.Context) → is_available result c
+        ≡ scopes.is_among_all has_secrets c }
 {
     ContextSet {
         github: true,
@@ -77,7 +79,8 @@ fn all_contexts(has_secrets: bool) -> ContextSet
 
 /// The contexts of a place in a workflow; without a row all.
 fn workflow_contexts(row: Option<&'static Row>) -> ContextSet
-    ensures { (c : context_names.Context) → is_available result c ≡ scopes.is_in_row (option_map (λ r. row_of r.now) row.entry) c }
+    ensures { (c : context_names.Context) → is_available result c
+        ≡ scopes.is_in_row (option_map (λ r. row_of r.now) row.entry) c }
 {
     match row {
         Some(row) => set_of(row.contexts),
@@ -87,7 +90,8 @@ fn workflow_contexts(row: Option<&'static Row>) -> ContextSet
 
 /// The contexts of a place with a row of the table.
 pub(crate) fn context_set(kind: FileKind, row: Option<&'static Row>) -> ContextSet
-    ensures { (c : context_names.Context) → is_available result c ≡ is_context_at kind (option_map (λ r. row_of r.now) row.entry) c }
+    ensures { (c : context_names.Context) → is_available result c
+        ≡ is_context_at kind (option_map (λ r. row_of r.now) row.entry) c }
 {
     match kind {
         FileKind::Workflow => workflow_contexts(row),
@@ -121,7 +125,8 @@ fn workflow_functions(row: Option<&'static Row>) -> FunctionSet
 
 /// The special functions of a place in an action.
 fn action_functions(is_condition: bool) -> FunctionSet
-    ensures { (f : function_names.Function) → is_allowed result f ≡ scopes.is_function_in_action is_condition f }
+    ensures { (f : function_names.Function) → is_allowed result f
+        ≡ scopes.is_function_in_action is_condition f }
 {
     FunctionSet {
         hash_files: true,

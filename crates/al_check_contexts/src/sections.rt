@@ -1,13 +1,13 @@
 //! The types of contexts that change with the section.
-ghost use Rattle.std.specs.Prelude.{◌≡◌, IfOk, OnOk, map, option_map};
+ghost use Rattle.std.specs.Prelude.{◌≡◌, IfOk, OnOk, option_map};
 ghost use Rattle.al_base.specs.Growth.{BeginsWith};
-ghost use Rattle.al_check_contexts.specs.Contexts.{needs_type_of, type_in_job};
+ghost use Rattle.al_check_contexts.specs.Contexts.{job_among, needs_type_of, type_in_job};
 ghost use Rattle.al_check_contexts.specs.Fixed.{strategy_type};
 ghost use Rattle.al_check_contexts.specs.Matrix as specs;
 ghost use Rattle.al_check_contexts.specs.Private.Environment as environment;
 ghost use Rattle.al_check_places.specs.Positions.{section_view};
-ghost use Rattle.al_check_contexts.specs.Private.Lookups.{known_by, step_at};
-ghost use Rattle.al_check_contexts.specs.Private.Made.{KeepsJobs};
+ghost use Rattle.al_check_contexts.specs.Private.Lookups.{step_at};
+ghost use Rattle.al_check_contexts.specs.Private.Made.{KeepsJobsOf, jobs_from, known_from};
 ghost use Rattle.al_check_contexts.specs.Private.Numbers.{Keeps, Means};
 ghost use Rattle.al_check_contexts.specs.Private.Owners.{owner_view};
 ghost use Rattle.al_check_contexts.specs.Private.Steps.{ArePrefixes, AreStepsOf};
@@ -16,10 +16,9 @@ ghost use Rattle.al_expr_types.specs.Tables.{objects_of};
 ghost use Rattle.al_expr_types.specs.declared.types.Types as declared;
 ghost use Rattle.al_tree.specs.Values.{member_of};
 
+use crate::basis::Basis;
 use crate::caches::TypeCache;
-use crate::job_lists::JobList;
 use crate::jobs::JobTypes;
-use crate::known::Outputs;
 use crate::matrix::matrix_type;
 use crate::owners::Owner;
 use crate::steps::StepFields;
@@ -64,7 +63,9 @@ fn matrix_at<'a>(
     types: &mut Types<'a>,
     job: Option<Member<'a>>,
 ) -> Result<Ty, AllocError>
-    ensures ty { IfOk result (λ t. Means types.new t (type_in_job (λ j. specs.matrix_type j.1) (option_map member_of job.entry))) }
+    ensures ty { IfOk result
+        (λ t. Means types.new t
+        (type_in_job (λ j. specs.matrix_type j.1) (option_map member_of job.entry))) }
     ensures kept { OnOk result (BeginsWith (objects_of types.new) (objects_of types.old)) }
 {
     match job {
@@ -77,23 +78,22 @@ fn matrix_at<'a>(
 }
 
 fn needs_at<'a>(
-    alloc: Global,
     types: &mut Types<'a>,
-    known: &Outputs<'a>,
-    jobs: &JobList<'a>,
+    basis: &Basis<'_, 'a>,
     made: &mut JobTypes,
     job: Option<Member<'a>>,
 ) -> Result<Ty, AllocError>
-    requires { KeepsJobs types.old known.now (map member_of jobs.now.members.items) made.old }
-    ensures ty { IfOk result (λ t. Means types.new t (type_in_job (λ j. needs_type_of (known_by known.now)
-        (map member_of jobs.now.members.items) j.1) (option_map member_of job.entry))) }
-    ensures keeps { OnOk result (KeepsJobs types.new known.now (map member_of jobs.now.members.items) made.new) }
+    requires { KeepsJobsOf types.old basis.now made.old }
+    ensures ty { IfOk result
+        (λ t. Means types.new t (type_in_job (λ j. needs_type_of (known_from basis.now)
+        (jobs_from basis.now) j.1) (option_map member_of job.entry))) }
+    ensures keeps { OnOk result (KeepsJobsOf types.new basis.now made.new) }
     ensures kept { OnOk result (BeginsWith (objects_of types.new) (objects_of types.old)) }
 {
     match job {
         None => Ok(Ty::ANY),
         Some(job) => {
-            let ty = made.needs_type(alloc, types, known, jobs, job.value)?;
+            let ty = made.needs_type(types, basis, job.value)?;
             Ok(ty)
         }
     }
@@ -101,49 +101,46 @@ fn needs_at<'a>(
 
 /// The type of `jobs` in a section of a workflow.
 fn jobs_at<'a>(
-    alloc: Global,
     types: &mut Types<'a>,
-    known: &Outputs<'a>,
-    jobs: &JobList<'a>,
+    basis: &Basis<'_, 'a>,
     made: &mut JobTypes,
     section: Section<'a>,
 ) -> Result<Ty, AllocError>
-    requires { KeepsJobs types.old known.now (map member_of jobs.now.members.items) made.old }
+    requires { KeepsJobsOf types.old basis.now made.old }
     ensures ty { IfOk result (λ t. Means types.new t
-        (environment.jobs_shown (known_by known.now) (map member_of jobs.now.members.items) (section_view section.entry))) }
-    ensures keeps { OnOk result (KeepsJobs types.new known.now (map member_of jobs.now.members.items) made.new) }
+        (environment.jobs_shown (known_from basis.now) (jobs_from basis.now)
+        (section_view section.entry))) }
+    ensures keeps { OnOk result (KeepsJobsOf types.new basis.now made.new) }
     ensures kept { OnOk result (BeginsWith (objects_of types.new) (objects_of types.old)) }
 {
     if !shows_jobs(section) {
         return Ok(Ty::ANY);
     }
-    let ty = made.jobs_type(alloc, types, known, jobs)?;
+    let ty = made.jobs_type(types, basis)?;
     Ok(ty)
 }
 
-/// The types in a section of a workflow, with its job. Fails with `AllocError` when out of memory.
+/// The types in a section of a workflow. Fails with `AllocError` when out of memory.
 pub(crate) fn section_types<'a>(
-    alloc: Global,
     types: &mut Types<'a>,
-    known: &Outputs<'a>,
-    jobs: &JobList<'a>,
+    basis: &Basis<'_, 'a>,
     made: &mut JobTypes,
-    strategy: Ty,
     section: Section<'a>,
-    job: Option<Member<'a>>,
 ) -> Result<SectionTypes, AllocError>
-    requires strategy { Means types.old strategy strategy_type }
-    requires keeps { KeepsJobs types.old known.now (map member_of jobs.now.members.items) made.old }
-    ensures types { IfOk result (λ st. AreOfSection types.new (known_by known.now) (map member_of jobs.now.members.items)
-        (section_view section.entry) (option_map member_of job.entry) st) }
-    ensures keeps { OnOk result (KeepsJobs types.new known.now (map member_of jobs.now.members.items) made.new) }
+    requires strategy { Means types.old basis.now.strategy strategy_type }
+    requires keeps { KeepsJobsOf types.old basis.now made.old }
+    ensures types { IfOk result (λ st.
+        AreOfSection types.new (known_from basis.now) (jobs_from basis.now)
+        (section_view section.entry) st) }
+    ensures keeps { OnOk result (KeepsJobsOf types.new basis.now made.new) }
     ensures kept { OnOk result (BeginsWith (objects_of types.new) (objects_of types.old)) }
 {
-    let needs = needs_at(alloc, types, known, jobs, made, job)?;
-    let jobs = jobs_at(alloc, types, known, jobs, made, section)?;
-    let matrix = matrix_at(alloc, types, job)?;
+    let job = basis.jobs.job_of(section);
+    let needs = needs_at(types, basis, made, job)?;
+    let jobs = jobs_at(types, basis, made, section)?;
+    let matrix = matrix_at(basis.alloc, types, job)?;
     Ok(SectionTypes {
-        strategy: strategy_at(strategy, job),
+        strategy: strategy_at(basis.strategy, job),
         needs,
         jobs,
         matrix,
@@ -152,7 +149,8 @@ pub(crate) fn section_types<'a>(
 
 /// The steps of a job.
 fn owner_at<'a>(job: Option<Member<'a>>) -> Option<Owner<'a>>
-    ensures { option_map owner_view result ≡ option_map environment.owner_of (option_map member_of job.entry) }
+    ensures { option_map owner_view result
+        ≡ option_map environment.owner_of (option_map member_of job.entry) }
 {
     let job = job?;
     Some(Owner {
@@ -163,45 +161,45 @@ fn owner_at<'a>(job: Option<Member<'a>>) -> Option<Owner<'a>>
 
 /// The fields of `steps` of an owner. Fails with `AllocError` when out of memory.
 pub(crate) fn owned_steps<'a>(
-    alloc: Global,
     types: &mut Types<'a>,
-    known: &Outputs<'a>,
+    basis: &Basis<'_, 'a>,
     made: &mut TypeCache,
     owner: Option<Owner<'a>>,
 ) -> Result<StepFields<'a>, AllocError>
-    requires { Keeps types.old (step_at known.now) made.old }
-    ensures steps { IfOk result (λ s. AreStepsOf types.new (known_by known.now) (option_map owner_view owner.entry) s) }
+    requires { Keeps types.old (step_at basis.now.outputs.now) made.old }
+    ensures steps { IfOk result
+        (λ s. AreStepsOf types.new (known_from basis.now) (option_map owner_view owner.entry) s) }
     ensures prefixes { IfOk result (λ s. ArePrefixes types.new s) }
-    ensures keeps { OnOk result (Keeps types.new (step_at known.now) made.new) }
+    ensures keeps { OnOk result (Keeps types.new (step_at basis.now.outputs.now) made.new) }
     ensures kept { OnOk result (BeginsWith (objects_of types.new) (objects_of types.old)) }
 {
     match owner {
         None => {
-            let steps = StepFields::none(alloc)?;
+            let steps = StepFields::none(basis.alloc)?;
             Ok(steps)
         }
         Some(owner) => {
-            let steps = StepFields::of(alloc, types, known, made, owner)?;
+            let steps = StepFields::of(types, basis, made, owner)?;
             Ok(steps)
         }
     }
 }
 
-/// The fields of `steps` in a section of a workflow, with its job. Fails with `AllocError` when out of memory.
+/// The fields of `steps` in a section of a workflow. Fails with `AllocError` when out of memory.
 pub(crate) fn section_steps<'a>(
-    alloc: Global,
     types: &mut Types<'a>,
-    known: &Outputs<'a>,
+    basis: &Basis<'_, 'a>,
     made: &mut TypeCache,
-    job: Option<Member<'a>>,
+    section: Section<'a>,
 ) -> Result<StepFields<'a>, AllocError>
-    requires { Keeps types.old (step_at known.now) made.old }
-    ensures steps { IfOk result (λ s. AreStepsOf types.new (known_by known.now)
-        (option_map environment.owner_of (option_map member_of job.entry)) s) }
+    requires { Keeps types.old (step_at basis.now.outputs.now) made.old }
+    ensures steps { IfOk result (λ s. AreStepsOf types.new (known_from basis.now)
+        (option_map environment.owner_of
+        (job_among (jobs_from basis.now) (section_view section.entry))) s) }
     ensures prefixes { IfOk result (λ s. ArePrefixes types.new s) }
-    ensures keeps { OnOk result (Keeps types.new (step_at known.now) made.new) }
+    ensures keeps { OnOk result (Keeps types.new (step_at basis.now.outputs.now) made.new) }
     ensures kept { OnOk result (BeginsWith (objects_of types.new) (objects_of types.old)) }
 {
-    let steps = owned_steps(alloc, types, known, made, owner_at(job))?;
+    let steps = owned_steps(types, basis, made, owner_at(basis.jobs.job_of(section)))?;
     Ok(steps)
 }

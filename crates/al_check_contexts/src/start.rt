@@ -11,6 +11,7 @@ ghost use Rattle.al_expr_types.specs.Tables.{objects_of};
 ghost use Rattle.al_types.specs.declared.names.Context.TheVariants as context;
 ghost use Rattle.al_yaml_tree.specs.View.{view};
 
+use crate::env::File;
 use crate::fixed::{github, job, runner};
 use crate::inputs::inputs_type;
 use crate::objects::loose_strings;
@@ -95,17 +96,18 @@ fn fixed_types(alloc: Global, types: &mut Types<'_>) -> Result<FixedTypes, Alloc
 pub(crate) fn first_types<'a>(
     alloc: Global,
     types: &mut Types<'a>,
-    kind: FileKind,
-    root: &'a Node,
+    file: File<'a>,
     steps: Ty,
 ) -> Result<ContextTypes, AllocError>
     ensures types { IfOk result (λ ts. (known : Known)
-        → Means types.old steps (table kind known (view root.entry.now) apart (before 0) context.Steps)
-        → Shows types.new ts (table kind known (view root.entry.now) apart (before 0))) }
+        → Means types.old steps
+        (table (file.entry).kind known (view (file.entry).root.now) apart (before 0) context.Steps)
+        → Shows types.new ts (table (file.entry).kind known (view (file.entry).root.now) apart
+        (before 0))) }
     ensures kept { OnOk result (BeginsWith (objects_of types.new) (objects_of types.old)) }
 {
     let fixed = fixed_types(alloc, types)?;
-    let inputs = inputs_type(alloc, types, kind, root)?;
+    let inputs = inputs_type(alloc, types, file.kind, file.root)?;
     Ok(ContextTypes {
         github: fixed.github,
         env: fixed.strings,

@@ -7,7 +7,8 @@ ghost use Rattle.al_check_contexts.specs.Contexts.{Known, step_field};
 ghost use Rattle.al_check_contexts.specs.Private.Environment as environment;
 ghost use Rattle.al_check_contexts.specs.Private.Environment.{owned};
 ghost use Rattle.al_check_places.specs.Positions.{before, seen_view};
-ghost use Rattle.al_check_contexts.specs.Private.Lookups.{known_by, step_at};
+ghost use Rattle.al_check_contexts.specs.Private.Lookups.{step_at};
+ghost use Rattle.al_check_contexts.specs.Private.Made.{known_from};
 ghost use Rattle.al_check_contexts.specs.Private.Numbers.{Keeps, Lists, Means};
 ghost use Rattle.al_check_contexts.specs.Private.Steps.{ArePrefixes, AreSteps, AreStepsOf};
 ghost use Rattle.al_check_contexts.specs.Private.Steps as specs;
@@ -17,15 +18,14 @@ ghost use Rattle.al_expr_types.specs.declared.types.Types as declared;
 ghost use Rattle.al_types.specs.Puts.{Typed, put_all, put_new};
 ghost use Rattle.al_yaml_tree.specs.View.{view};
 
+use crate::basis::Basis;
 use crate::caches::TypeCache;
 use crate::field_lists::FieldList;
-use crate::known::Outputs;
 use crate::objects::loose_strings;
-use crate::owners::Owner;
+use crate::owners::{Owner, Step};
 use al_check_places::Seen;
 use al_expr_types::{FieldMap, NameList, Prefixes, Ty, Types};
 use al_tree::text_under;
-use al_yaml_tree::Node;
 use std::alloc::{AllocError, Global};
 
 /// The fields of `steps` where all steps of a job or an action are seen, and how many of them are seen where fewer steps are.
@@ -39,7 +39,8 @@ pub(crate) struct StepFields<'a> {
 /// The type of a step that has these outputs. Fails with `AllocError` when out of memory, as all here.
 fn step_with(alloc: Global, types: &mut Types<'_>, outputs: Ty) -> Result<Ty, AllocError>
     requires { is_known types.old outputs ≡ true }
-    ensures ty { IfOk result (λ t. Means types.new t (specs.step_with (type_at types.old outputs))) }
+    ensures ty { IfOk result
+        (λ t. Means types.new t (specs.step_with (type_at types.old outputs))) }
     ensures kept { OnOk result (BeginsWith (objects_of types.new) (objects_of types.old)) }
 {
     let one = FieldList::new(alloc).and(alloc, b"conclusion", Ty::STRING)?;
@@ -55,7 +56,8 @@ fn outputs_type<'a>(
     types: &mut Types<'a>,
     outputs: Option<&'a NameList>,
 ) -> Result<Ty, AllocError>
-    ensures ty { IfOk result (λ t. Means types.new t (contexts.step_outputs (option_map (λ l. l.now) outputs.entry))) }
+    ensures ty { IfOk result
+        (λ t. Means types.new t (contexts.step_outputs (option_map (λ l. l.now) outputs.entry))) }
     ensures kept { OnOk result (BeginsWith (objects_of types.new) (objects_of types.old)) }
 {
     match outputs {
@@ -69,49 +71,48 @@ fn outputs_type<'a>(
 
 /// The type of a step, by the position of the names of its outputs. It is made once.
 fn step_type<'a>(
-    alloc: Global,
     types: &mut Types<'a>,
-    known: &Outputs<'a>,
+    basis: &Basis<'_, 'a>,
     made: &mut TypeCache,
     position: usize,
 ) -> Result<Ty, AllocError>
-    requires { Keeps types.old (step_at known.now) made.old }
-    ensures ty { IfOk result (λ t. Means types.new t (step_at known.now position)) }
-    ensures keeps { OnOk result (Keeps types.new (step_at known.now) made.new) }
+    requires { Keeps types.old (step_at basis.now.outputs.now) made.old }
+    ensures ty { IfOk result (λ t. Means types.new t (step_at basis.now.outputs.now position)) }
+    ensures keeps { OnOk result (Keeps types.new (step_at basis.now.outputs.now) made.new) }
     ensures kept { OnOk result (BeginsWith (objects_of types.new) (objects_of types.old)) }
 {
     if let Some(ty) = made.get(position) {
         return Ok(ty);
     }
-    let outputs = outputs_type(alloc, types, known.list(position))?;
-    let ty = step_with(alloc, types, outputs)?;
+    let outputs = outputs_type(basis.alloc, types, basis.outputs.list(position))?;
+    let ty = step_with(basis.alloc, types, outputs)?;
     made.set(position, ty);
     Ok(ty)
 }
 
 /// Fields, and that of a step, where it has an id that no field has.
 fn and_step<'a>(
-    alloc: Global,
     types: &mut Types<'a>,
-    known: &Outputs<'a>,
+    basis: &Basis<'_, 'a>,
     made: &mut TypeCache,
-    job: Option<&'a [u8]>,
-    i: usize,
-    step: &'a Node,
+    step: Step<'a>,
     fields: FieldList<'a>,
 ) -> Result<FieldList<'a>, AllocError>
-    requires { Keeps types.old (step_at known.now) made.old }
-    ensures fields { IfOk result (λ l. (ts : List Typed) → Lists types.old fields.entry ts → Lists types.new l
-        (put_all put_new ts (option_to_list (step_field (known_by known.now) (option_copied job.entry) (i, view step.entry.now))))) }
-    ensures keeps { OnOk result (Keeps types.new (step_at known.now) made.new) }
+    requires { Keeps types.old (step_at basis.now.outputs.now) made.old }
+    ensures fields { IfOk result
+        (λ l. (ts : List Typed) → Lists types.old fields.entry ts → Lists types.new l
+        (put_all put_new ts (option_to_list
+        (step_field (known_from basis.now) (option_copied (step.entry).job)
+        ((step.entry).index, view (step.entry).node.now))))) }
+    ensures keeps { OnOk result (Keeps types.new (step_at basis.now.outputs.now) made.new) }
     ensures kept { OnOk result (BeginsWith (objects_of types.new) (objects_of types.old)) }
 {
-    match text_under(step, "id") {
+    match text_under(step.node, "id") {
         None => Ok(fields),
         Some(id) => {
-            let position = known.position_of_step(job, i);
-            let ty = step_type(alloc, types, known, made, position)?;
-            let more = fields.and(alloc, id.scalar.text(), ty)?;
+            let position = basis.outputs.position_of_step(step.job, step.index);
+            let ty = step_type(types, basis, made, position)?;
+            let more = fields.and(basis.alloc, id.scalar.text(), ty)?;
             Ok(more)
         }
     }
@@ -120,7 +121,8 @@ fn and_step<'a>(
 impl<'a> StepFields<'a> {
     /// Where `steps` is nobody's.
     pub(crate) fn none(alloc: Global) -> Result<StepFields<'a>, AllocError>
-        ensures steps { IfOk result (λ s. (types : declared.Types) (known : Known) → AreStepsOf types known None s) }
+        ensures steps { IfOk result
+            (λ s. (types : declared.Types) (known : Known) → AreStepsOf types known None s) }
         ensures prefixes { IfOk result (λ s. (types : declared.Types) → ArePrefixes types s) }
     {
         let prefixes = Prefixes::new(alloc, FieldMap::new(alloc))?;
@@ -130,34 +132,40 @@ impl<'a> StepFields<'a> {
 
     /// Those of some steps.
     pub(crate) fn of(
-        alloc: Global,
         types: &mut Types<'a>,
-        known: &Outputs<'a>,
+        basis: &Basis<'_, 'a>,
         made: &mut TypeCache,
         owner: Owner<'a>,
     ) -> Result<StepFields<'a>, AllocError>
-        requires { Keeps types.old (step_at known.now) made.old }
-        ensures steps { IfOk result (λ s. AreSteps types.new (known_by known.now) (owner_view owner.entry) s) }
+        requires { Keeps types.old (step_at basis.now.outputs.now) made.old }
+        ensures steps { IfOk result
+            (λ s. AreSteps types.new (known_from basis.now) (owner_view owner.entry) s) }
         ensures prefixes { IfOk result (λ s. ArePrefixes types.new s) }
-        ensures keeps { OnOk result (Keeps types.new (step_at known.now) made.new) }
+        ensures keeps { OnOk result (Keeps types.new (step_at basis.now.outputs.now) made.new) }
         ensures kept { OnOk result (BeginsWith (objects_of types.new) (objects_of types.old)) }
     {
-        let mut fields = FieldList::new(alloc);
-        let mut counts = Vec::new(alloc);
+        let mut fields = FieldList::new(basis.alloc);
+        let mut counts = Vec::new(basis.alloc);
         counts.push(0)?;
         let steps = owner.steps;
-        for (i, step) in steps.iter().enumerate() {
-            let more = and_step(alloc, types, known, made, owner.job, i, step, fields)?;
+        for (i, node) in steps.iter().enumerate() {
+            let step = Step {
+                job: owner.job,
+                index: i,
+                node,
+            };
+            let more = and_step(types, basis, made, step, fields)?;
             counts.push(more.len())?;
             fields = more;
         }
-        let prefixes = Prefixes::new(alloc, fields.into_map())?;
+        let prefixes = Prefixes::new(basis.alloc, fields.into_map())?;
         Ok(StepFields { prefixes, counts })
     }
 
     /// How many steps are seen.
     pub(crate) fn seen_count(&self, seen: Seen) -> usize
-        ensures seen { (types : declared.Types) (known : Known) (o : Option environment.Owner) → AreStepsOf types known o self.now
+        ensures seen { (types : declared.Types) (known : Known) (o : Option environment.Owner)
+            → AreStepsOf types known o self.now
             → owned known o (seen_view seen) ≡ owned known o (before result) }
         ensures inside { result ≤ length self.now.counts.items - 1 }
     {
@@ -173,9 +181,12 @@ impl<'a> StepFields<'a> {
     pub(crate) fn first(&mut self, types: &mut Types<'a>, count: usize) -> Result<Ty, AllocError>
         requires prefixes { ArePrefixes types.old self.old }
         requires inside { count ≤ length (self.old).counts.items - 1 }
-        ensures ty { IfOk result (λ t. (known : Known) (o : Option environment.Owner) → AreStepsOf types.old known o self.old
+        ensures ty { IfOk result
+            (λ t. (known : Known) (o : Option environment.Owner)
+            → AreStepsOf types.old known o self.old
             → Means types.new t (owned known o (before count))) }
-        ensures steps { OnOk result ((known : Known) (o : Option environment.Owner) → AreStepsOf types.old known o self.old
+        ensures steps { OnOk result
+            ((known : Known) (o : Option environment.Owner) → AreStepsOf types.old known o self.old
             → AreStepsOf types.new known o self.new) }
         ensures prefixes { OnOk result (ArePrefixes types.new self.new) }
         ensures kept { OnOk result (BeginsWith (objects_of types.new) (objects_of types.old)) }

@@ -2,7 +2,7 @@
 #![tactic(auto, using(al_base::proofs::Growing::growth, al_expr_typing::proofs::Shown::shown))]
 
 ghost use Rattle.std.specs.List.{flat_map};
-ghost use Rattle.std.specs.Prelude.{true, ◌≡◌, List, ◌++◌, ◌<◌, ◌≤◌, ◌^◌, length, map, All, OnOk};
+ghost use Rattle.std.specs.Prelude.{true, ◌≡◌, List, ◌++◌, ◌<◌, ◌^◌, map, All, OnOk};
 ghost use Rattle.al_scalar.specs.Scalar.{offset_of, text_of};
 ghost use Rattle.al_expr_grammar.specs.View.{tree_of};
 ghost use Rattle.al_types.specs.Types.{Parts, is_collection};
@@ -12,12 +12,12 @@ ghost use Rattle.al_expr_typing.specs.Scopes.{IsShown, scope_at};
 ghost use Rattle.al_check_expressions.specs.Contents as contents;
 ghost use Rattle.al_check_expressions.specs.Contents.{chunk_faults, chunked_faults, content_faults, is_one_chunk};
 ghost use Rattle.al_check_expressions.specs.Contents.{is_whole_span, moved, place_faults, tree_faults, HasRoom};
+ghost use Rattle.al_check_expressions.specs.Inside.{IsReadable};
 ghost use Rattle.al_expr_grammar.specs.Chunks.{chunks_of, span_of_chunk, IsCutFrom};
 ghost use Rattle.al_check_places.specs.Places.{place_of};
 ghost use Rattle.al_base.specs.Growth.{BeginsWith};
-ghost use Rattle.al_base.specs.Limits.{longest_text};
 
-use al_base::{Args, Code, ExpressionCode, Fault, Span};
+use al_base::{Code, ExpressionCode, Fault, FaultSink, Span};
 use al_check_places::Place;
 use al_expr_grammar::{Chunk, Expr, chunks, extent, grammar, parse_expr};
 use al_expr_types::{Ty, Types};
@@ -25,7 +25,7 @@ use al_expr_typing::{Scope, type_of};
 use al_scalar::Scalar;
 use al_tree::contains_chunk;
 use al_types::Form;
-use std::alloc::{AllocError, Global};
+use std::alloc::AllocError;
 
 /// The offset in the file of a place in a scalar's text; behind the text the end of the scalar.
 #[tactic(auto, using(crate::proofs::EndLemmas::same_end))]
@@ -70,56 +70,54 @@ fn is_collection(ty: Ty) -> bool
     }
 }
 
-/// Adds the fault of a tree that is an object or array where none may stand, behind the faults of its meaning.
-fn check_tree(
-    alloc: Global,
-    types: &mut Types<'_>,
-    scope: &Scope,
+/// The text of a scalar, as its contents are checked.
+#[derive(Clone, Copy)]
+struct Text<'s> {
+    scope: &'s Scope,
+    scalar: &'s Scalar,
+    /// Whether a content of it is all of it.
     is_alone: bool,
+    /// Whether nothing but a scalar is taken where it stands.
     is_scalar_only: bool,
+}
+
+/// Adds the faults of a tree: those of its meaning, and behind them that it is an object or array where none may stand.
+fn check_tree(
+    types: &mut Types<'_>,
+    text: &Text<'_>,
     expr: &Expr,
-    out: &mut Vec<Fault>,
+    faults: &mut FaultSink,
 ) -> Result<(), AllocError>
-    requires { IsShown types.old scope.now }
-    ensures ok { OnOk result (out.new.items ≡ out.old.items
-        ++ tree_faults (scope_at types.old scope.now) is_alone is_scalar_only (tree_of expr.now)) }
+    requires { IsShown types.old text.now.scope.now }
+    ensures ok { OnOk result
+        (faults.new ≡ faults.old ++ tree_faults (scope_at types.old text.now.scope.now)
+        text.now.is_alone text.now.is_scalar_only (tree_of expr.now)) }
     ensures kept { BeginsWith (objects_of types.new) (objects_of types.old) }
-    ensures begins { BeginsWith out.new.items out.old.items }
 {
-    let ty = type_of(alloc, types, scope, expr, out)?;
-    if is_collection(ty) && (!is_alone || is_scalar_only) {
-        out.push(Fault {
-            span: extent(expr),
-            code: Code::Expression(ExpressionCode::NotText),
-            args: Args::none(),
-        })?;
+    let ty = type_of(types, text.scope, expr, faults)?;
+    if is_collection(ty) && (!text.is_alone || text.is_scalar_only) {
+        faults.report_plain(extent(expr), Code::Expression(ExpressionCode::NotText))?;
     }
     Ok(())
 }
 
 /// Adds the faults of a content. Spans are places in it.
 fn check_content(
-    alloc: Global,
     types: &mut Types<'_>,
-    scope: &Scope,
-    is_alone: bool,
-    is_scalar_only: bool,
+    text: &Text<'_>,
     content: &str,
-    out: &mut Vec<Fault>,
+    faults: &mut FaultSink,
 ) -> Result<(), AllocError>
-    requires { IsShown types.old scope.now }
-    ensures ok { OnOk result (out.new.items
-        ≡ out.old.items ++ content_faults (scope_at types.old scope.now) is_alone is_scalar_only content.now) }
+    requires { IsShown types.old text.now.scope.now }
+    ensures ok { OnOk result
+        (faults.new ≡ faults.old ++ content_faults (scope_at types.old text.now.scope.now)
+        text.now.is_alone text.now.is_scalar_only content.now) }
     ensures kept { BeginsWith (objects_of types.new) (objects_of types.old) }
-    ensures begins { BeginsWith out.new.items out.old.items }
 {
     grammar();
-    match parse_expr(alloc, content)? {
-        Ok(expr) => check_tree(alloc, types, scope, is_alone, is_scalar_only, &expr, out),
-        Err(fault) => {
-            out.push(fault)?;
-            Ok(())
-        }
+    match parse_expr(faults.alloc(), content)? {
+        Ok(expr) => check_tree(types, text, &expr, faults),
+        Err(fault) => faults.push(fault),
     }
 }
 
@@ -144,16 +142,15 @@ fn move_fault(scalar: &Scalar, by: usize, fault: Fault) -> Fault
 fn move_faults(
     scalar: &Scalar,
     by: usize,
-    faults: Vec<Fault>,
-    out: &mut Vec<Fault>,
+    found: Vec<Fault>,
+    faults: &mut FaultSink,
 ) -> Result<(), AllocError>
     requires room { HasRoom scalar.now }
     requires fits { by < 2 ^ 32 }
-    ensures ok { OnOk result (out.new.items ≡ out.old.items ++ map (moved scalar.now by) faults.items) }
-    ensures begins { BeginsWith out.new.items out.old.items }
+    ensures { OnOk result (faults.new ≡ faults.old ++ map (moved scalar.now by) found.items) }
 {
-    for fault in faults {
-        out.push(move_fault(scalar, by, fault))?;
+    for fault in found {
+        faults.push(move_fault(scalar, by, fault))?;
     }
     Ok(())
 }
@@ -168,124 +165,107 @@ fn is_one(len: usize, chunks: &[Chunk<'_>]) -> bool
     }
 }
 
-/// Adds the faults of a chunk of the text at a place.
+/// Adds the faults of a chunk of a text.
 fn check_chunk(
-    alloc: Global,
     types: &mut Types<'_>,
-    scope: &Scope,
-    is_alone: bool,
-    place: &Place<'_>,
+    text: &Text<'_>,
     chunk: &Chunk<'_>,
-    out: &mut Vec<Fault>,
+    faults: &mut FaultSink,
 ) -> Result<(), AllocError>
-    requires shown { IsShown types.old scope.now }
-    requires room { HasRoom place.now.scalar.now }
-    requires cut { IsCutFrom (text_of place.now.scalar.now) chunk.now }
-    requires alone { is_alone ≡ is_one_chunk (text_of place.now.scalar.now) }
-    ensures ok { OnOk result (out.new.items
-        ≡ out.old.items ++ chunk_faults (scope_at types.old scope.now) place.now.is_scalar_only place.now.scalar.now
-        (span_of_chunk chunk.now)) }
+    requires shown { IsShown types.old text.now.scope.now }
+    requires room { HasRoom text.now.scalar.now }
+    requires cut { IsCutFrom (text_of text.now.scalar.now) chunk.now }
+    requires alone { text.now.is_alone ≡ is_one_chunk (text_of text.now.scalar.now) }
+    ensures ok { OnOk result
+        (faults.new ≡ faults.old ++ chunk_faults (scope_at types.old text.now.scope.now)
+        text.now.is_scalar_only text.now.scalar.now (span_of_chunk chunk.now)) }
     ensures kept { BeginsWith (objects_of types.new) (objects_of types.old) }
-    ensures begins { BeginsWith out.new.items out.old.items }
 {
-    let mut faults = Vec::new(alloc);
-    check_content(
-        alloc,
-        types,
-        scope,
-        is_alone,
-        place.is_scalar_only,
-        chunk.content,
-        &mut faults,
-    )?;
-    move_faults(place.scalar, chunk.span.start as usize, faults, out)
+    let mut found = FaultSink::new(faults.alloc());
+    check_content(types, text, chunk.content, &mut found)?;
+    move_faults(
+        text.scalar,
+        chunk.span.start as usize,
+        found.into_faults(),
+        faults,
+    )
 }
 
-/// Adds the faults of the chunks of the text at a place.
+/// Adds the faults of the chunks of a text.
 fn check_each(
-    alloc: Global,
     types: &mut Types<'_>,
-    scope: &Scope,
-    is_alone: bool,
-    place: &Place<'_>,
+    text: &Text<'_>,
     chunks: &[Chunk<'_>],
-    out: &mut Vec<Fault>,
+    faults: &mut FaultSink,
 ) -> Result<(), AllocError>
-    requires shown { IsShown types.old scope.now }
-    requires room { HasRoom place.now.scalar.now }
-    requires cut { All (IsCutFrom (text_of place.now.scalar.now)) chunks.now }
-    requires alone { is_alone ≡ is_one_chunk (text_of place.now.scalar.now) }
+    requires shown { IsShown types.old text.now.scope.now }
+    requires room { HasRoom text.now.scalar.now }
+    requires cut { All (IsCutFrom (text_of text.now.scalar.now)) chunks.now }
+    requires alone { text.now.is_alone ≡ is_one_chunk (text_of text.now.scalar.now) }
     ensures ok { OnOk result
-        (out.new.items ≡ out.old.items
-        ++ flat_map (chunk_faults (scope_at types.old scope.now) place.now.is_scalar_only place.now.scalar.now)
-        (map span_of_chunk chunks.now)) }
+        (faults.new ≡ faults.old ++ flat_map (chunk_faults (scope_at types.old text.now.scope.now)
+        text.now.is_scalar_only text.now.scalar.now) (map span_of_chunk chunks.now)) }
     ensures kept { BeginsWith (objects_of types.new) (objects_of types.old) }
-    ensures begins { BeginsWith out.new.items out.old.items }
 {
     for chunk in chunks {
-        check_chunk(alloc, types, scope, is_alone, place, chunk, out)?;
+        check_chunk(types, text, chunk, faults)?;
     }
     Ok(())
 }
 
 /// Adds the faults of the text at a place as chunks.
 fn check_chunks(
-    alloc: Global,
     types: &mut Types<'_>,
     scope: &Scope,
     place: &Place<'_>,
-    text: &str,
-    out: &mut Vec<Fault>,
+    faults: &mut FaultSink,
 ) -> Result<(), AllocError>
     requires shown { IsShown types.old scope.now }
-    requires text { text.now ≡ text_of place.now.scalar.now }
-    requires small { length text.now ≤ longest_text }
-    requires room { HasRoom place.now.scalar.now }
+    requires readable { IsReadable (place_of place.now) }
     ensures ok { OnOk result
-        (out.new.items ≡ out.old.items ++ chunked_faults (scope_at types.old scope.now) place.now.is_scalar_only place.now.scalar.now
-        (chunks_of (text_of place.now.scalar.now))) }
+        (faults.new ≡ faults.old ++ chunked_faults (scope_at types.old scope.now)
+        place.now.is_scalar_only place.now.scalar.now (chunks_of (text_of place.now.scalar.now))) }
     ensures kept { BeginsWith (objects_of types.new) (objects_of types.old) }
-    ensures begins { BeginsWith out.new.items out.old.items }
 {
-    let (found, open) = chunks(alloc, text)?;
-    let is_alone = is_one(text.len(), found.as_slice());
-    check_each(alloc, types, scope, is_alone, place, found.as_slice(), out)?;
+    let content = place.scalar.as_str();
+    let (found, open) = chunks(faults.alloc(), content)?;
+    let text = Text {
+        scope,
+        scalar: place.scalar,
+        is_alone: is_one(content.len(), found.as_slice()),
+        is_scalar_only: place.is_scalar_only,
+    };
+    check_each(types, &text, found.as_slice(), faults)?;
     match open {
-        Some(fault) => {
-            out.push(move_fault(place.scalar, 0, fault))?;
-            Ok(())
-        }
+        Some(fault) => faults.push(move_fault(place.scalar, 0, fault)),
         None => Ok(()),
     }
 }
 
 /// Adds the faults of a condition that is one expression.
 fn check_whole(
-    alloc: Global,
     types: &mut Types<'_>,
     scope: &Scope,
     place: &Place<'_>,
-    text: &str,
-    out: &mut Vec<Fault>,
+    faults: &mut FaultSink,
 ) -> Result<(), AllocError>
     requires shown { IsShown types.old scope.now }
-    requires room { HasRoom place.now.scalar.now }
-    ensures ok { OnOk result (out.new.items ≡ out.old.items
-        ++ map (moved place.now.scalar.now 0) (content_faults (scope_at types.old scope.now) true place.now.is_scalar_only text.now)) }
+    requires readable { IsReadable (place_of place.now) }
+    ensures ok { OnOk result
+        (faults.new ≡ faults.old ++ map (moved place.now.scalar.now 0) (content_faults
+        (scope_at types.old scope.now) true place.now.is_scalar_only
+        (text_of place.now.scalar.now))) }
     ensures kept { BeginsWith (objects_of types.new) (objects_of types.old) }
-    ensures begins { BeginsWith out.new.items out.old.items }
 {
-    let mut faults = Vec::new(alloc);
-    check_content(
-        alloc,
-        types,
+    let text = Text {
         scope,
-        true,
-        place.is_scalar_only,
-        text,
-        &mut faults,
-    )?;
-    move_faults(place.scalar, 0, faults, out)
+        scalar: place.scalar,
+        is_alone: true,
+        is_scalar_only: place.is_scalar_only,
+    };
+    let mut found = FaultSink::new(faults.alloc());
+    check_content(types, &text, place.scalar.as_str(), &mut found)?;
+    move_faults(place.scalar, 0, found.into_faults(), faults)
 }
 
 /// Whether the text at a place is one expression as it stands: that of a condition without a chunk.
@@ -295,26 +275,23 @@ pub(crate) fn is_whole(place: &Place<'_>) -> bool
     place.is_condition && !contains_chunk(place.scalar.text())
 }
 
-/// Adds the faults of the expressions at a place, whose scalar has this text.
+/// Adds the faults of the expressions at a place.
 pub(crate) fn check_place(
-    alloc: Global,
     types: &mut Types<'_>,
     scope: &Scope,
     place: &Place<'_>,
-    text: &str,
-    out: &mut Vec<Fault>,
+    faults: &mut FaultSink,
 ) -> Result<(), AllocError>
     requires shown { IsShown types.old scope.now }
-    requires text { text.now ≡ text_of place.now.scalar.now }
-    requires small { length text.now ≤ longest_text }
-    requires room { HasRoom place.now.scalar.now }
-    ensures ok { OnOk result (out.new.items ≡ out.old.items ++ place_faults (scope_at types.old scope.now) (place_of place.now)) }
+    requires readable { IsReadable (place_of place.now) }
+    ensures ok { OnOk result
+        (faults.new ≡ faults.old
+        ++ place_faults (scope_at types.old scope.now) (place_of place.now)) }
     ensures kept { BeginsWith (objects_of types.new) (objects_of types.old) }
-    ensures begins { BeginsWith out.new.items out.old.items }
 {
     if is_whole(place) {
-        check_whole(alloc, types, scope, place, text, out)
+        check_whole(types, scope, place, faults)
     } else {
-        check_chunks(alloc, types, scope, place, text, out)
+        check_chunks(types, scope, place, faults)
     }
 }

@@ -17,59 +17,51 @@ ghost use Rattle.al_yaml_tree.specs.Texts.{HasTexts};
 ghost use Rattle.al_yaml_tree.specs.View.{view};
 
 use crate::contents::check_place;
-use al_base::Fault;
+use al_base::FaultSink;
 use al_check_contexts::{Env, File};
 use al_check_places::{Place, places};
-use std::alloc::{AllocError, Global};
+use std::alloc::AllocError;
 
 /// Adds the faults of the expressions at a place, to which the environment goes on.
 fn check_at<'a>(
-    alloc: Global,
     file: File<'a>,
     env: &mut Env<'a>,
     place: Place<'a>,
-    out: &mut Vec<Fault>,
+    faults: &mut FaultSink,
 ) -> Result<(), AllocError>
     requires stands { Stands file env.old }
     requires readable { IsReadable (place_of place) }
     ensures stands { OnOk result (Stands file.entry env.new) }
-    ensures faults { OnOk result (out.new.items ≡ out.old.items
-        ++ faults_at (file.entry).kind (known_of (file.entry).known) (view (file.entry).root.now) (place_of place.entry)) }
-    ensures kept { OnOk result (BeginsWith (objects_of (env.new).types) (objects_of (env.old).types)) }
-    ensures begins { BeginsWith out.new.items out.old.items }
+    ensures faults { OnOk result (faults.new ≡ faults.old
+        ++ faults_at (file.entry).kind (known_of (file.entry).known) (view (file.entry).root.now)
+        (place_of place.entry)) }
+    ensures kept { OnOk result
+        (BeginsWith (objects_of (env.new).types) (objects_of (env.old).types)) }
 {
-    env.go_to(alloc, file, place)?;
-    let scalar = place.scalar;
-    check_place(
-        alloc,
-        &mut env.types,
-        &env.scope,
-        &place,
-        scalar.as_str(),
-        out,
-    )?;
+    env.go_to(faults.alloc(), file, place)?;
+    check_place(&mut env.types, &env.scope, &place, faults)?;
     Ok(())
 }
 
 /// Adds the faults of the expressions at some places.
 fn check_each<'a>(
-    alloc: Global,
     file: File<'a>,
     env: &mut Env<'a>,
     places: &[Place<'a>],
-    out: &mut Vec<Fault>,
+    faults: &mut FaultSink,
 ) -> Result<(), AllocError>
     requires stands { Stands file env.old }
     requires readable { All (λ p. IsReadable (place_of p)) places.now }
     ensures stands { OnOk result (Stands file.entry env.new) }
-    ensures ok { OnOk result (out.new.items ≡ out.old.items
-        ++ flat_map (faults_at (file.entry).kind (known_of (file.entry).known) (view (file.entry).root.now))
+    ensures ok { OnOk result (faults.new ≡ faults.old
+        ++ flat_map (faults_at (file.entry).kind (known_of (file.entry).known)
+        (view (file.entry).root.now))
         (map place_of places.now)) }
-    ensures kept { OnOk result (BeginsWith (objects_of (env.new).types) (objects_of (env.old).types)) }
-    ensures begins { BeginsWith out.new.items out.old.items }
+    ensures kept { OnOk result
+        (BeginsWith (objects_of (env.new).types) (objects_of (env.old).types)) }
 {
     for place in places {
-        check_at(alloc, file, env, *place, out)?;
+        check_at(file, env, *place, faults)?;
     }
     Ok(())
 }
@@ -77,23 +69,23 @@ fn check_each<'a>(
 /// Adds the faults of all expressions of a file, X1 to X20, each at its place in the file, given what is known of the outputs
 /// behind its calls. The environment goes on to the last place of an expression.
 ///
-/// Offsets of the file's nodes are at most 1,048,576, and its texts are UTF-8. Fails with `AllocError` when out of memory; the list then
-/// begins with what it held.
+/// Offsets of the file's nodes are at most 1,048,576, and its texts are UTF-8. Fails with `AllocError` when out of memory; what the sink
+/// then holds isn't said.
 pub fn expression_faults<'a>(
-    alloc: Global,
     file: File<'a>,
     env: &mut Env<'a>,
-    out: &mut Vec<Fault>,
+    faults: &mut FaultSink,
 ) -> Result<(), AllocError>
     requires stands { Stands file env.old }
     requires laid { IsLaid largest_file (view file.root.now) }
     requires texts { HasTexts (view file.root.now) }
     ensures stands { OnOk result (Stands file.entry env.new) }
-    ensures ok { OnOk result (out.new.items ≡ out.old.items
+    ensures ok { OnOk result
+        (faults.new ≡ faults.old
         ++ faults_in (file.entry).kind (known_of (file.entry).known) (view (file.entry).root.now)) }
-    ensures kept { OnOk result (BeginsWith (objects_of (env.new).types) (objects_of (env.old).types)) }
-    ensures begins { BeginsWith out.new.items out.old.items }
+    ensures kept { OnOk result
+        (BeginsWith (objects_of (env.new).types) (objects_of (env.old).types)) }
 {
-    let found = places(alloc, file.kind, file.root)?;
-    check_each(alloc, file, env, found.as_slice(), out)
+    let found = places(faults.alloc(), file.kind, file.root)?;
+    check_each(file, env, found.as_slice(), faults)
 }

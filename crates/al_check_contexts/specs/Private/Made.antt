@@ -1,11 +1,13 @@
 -- What is made once a file.
-use Rattle.std.specs.Prelude.{◌≡◌, List, Some}
+use Rattle.std.specs.Prelude.{◌≡◌, List, Some, map}
 use Rattle.al_yaml_tree.specs.Node.{Node}
-use Rattle.al_check_contexts.specs.Contexts.{jobs_type_of}
+use Rattle.al_tree.specs.Values.{member_of}
+use Rattle.al_check_contexts.specs.Contexts.{Known, jobs_type_of}
 use Rattle.al_expr_types.specs.declared.ty.Ty.{Ty}
 use Rattle.al_expr_types.specs.declared.types.Types.{Types}
 use Rattle.al_check_contexts.specs.Private.Lookups.{called_at, known_by, shown_at}
 use Rattle.al_check_contexts.specs.Private.Numbers.{Keeps, Means}
+use Rattle.al_check_contexts.specs.declared.basis.Basis.{Basis}
 use Rattle.al_check_contexts.specs.declared.jobs.JobTypes.{JobTypes}
 use Rattle.al_check_contexts.specs.declared.known.Outputs.{Outputs}
 
@@ -14,3 +16,13 @@ pub record KeepsJobs (types : Types) (known : Outputs) (js : List (Node × Node)
   pub calls : Keeps types (called_at known) m.calls
   pub shown : Keeps types (shown_at known js) m.shown
   pub all : (t : Ty) → m.all ≡ Some t → Means types t (jobs_type_of (known_by known) js)
+
+-- the jobs of a basis, and what it knows
+abbrev pub jobs_from : Basis → List (Node × Node)
+jobs_from b = map member_of b.jobs.now.members.items
+
+abbrev pub known_from : Basis → Known
+known_from b = known_by b.outputs.now
+
+abbrev pub KeepsJobsOf : Types → Basis → JobTypes → Type 0
+KeepsJobsOf types b m = KeepsJobs types b.outputs.now (jobs_from b) m

@@ -1,12 +1,12 @@
 -- The types of contexts by what they change with: those that a file fixes, those of a section, and `steps`.
-use Rattle.std.specs.Prelude.{List, Option}
+use Rattle.std.specs.Prelude.{List}
 use Rattle.al_types.specs.Types.{Type'}
 use Rattle.al_types.specs.declared.names.Context.{Context}
 use Rattle.al_types.specs.declared.names.Context.TheVariants as context
 use Rattle.al_yaml_tree.specs.Node.{Node}
 use Rattle.al_tree.specs.declared.files.FileKind.{FileKind}
 use Rattle.al_check_places.specs.Positions.{Section, Seen}
-use Rattle.al_check_contexts.specs.Contexts.{Known, needs_type_of, type_in_job}
+use Rattle.al_check_contexts.specs.Contexts.{Known, job_among, needs_type_of, type_in_job}
 use Rattle.al_check_contexts.specs.Fixed.{github_type, job_type, runner_type, strategy_type}
 use Rattle.al_check_contexts.specs.Matrix.{matrix_type}
 use Rattle.al_check_contexts.specs.Objects.{loose_strings}
@@ -43,15 +43,9 @@ pub record AreFixed (types : Types) (ts : FixedTypes) : Type 0 where
   pub runner : Means types ts.runner runner_type
   pub job : Means types ts.job job_type
 
--- the types of a section of a workflow with these jobs, by its job
-pub record AreOfSection
-    (types : Types)
-    (known : Known)
-    (js : List (Node × Node))
-    (s : Section)
-    (job : Option (Node × Node))
-    (st : SectionTypes) : Type 0 where
-  pub strategy : Means types st.strategy (type_in_job (λ j. strategy_type) job)
-  pub needs : Means types st.needs (type_in_job (λ j. needs_type_of known js j.1) job)
+-- the types of a section of a workflow with these jobs
+pub record AreOfSection (types : Types) (known : Known) (js : List (Node × Node)) (s : Section) (st : SectionTypes) : Type 0 where
+  pub strategy : Means types st.strategy (type_in_job (λ j. strategy_type) (job_among js s))
+  pub needs : Means types st.needs (type_in_job (λ j. needs_type_of known js j.1) (job_among js s))
   pub jobs : Means types st.jobs (jobs_shown known js s)
-  pub matrix : Means types st.matrix (type_in_job (λ j. matrix_type j.1) job)
+  pub matrix : Means types st.matrix (type_in_job (λ j. matrix_type j.1) (job_among js s))

@@ -1,6 +1,7 @@
 use Rattle.std.proofs.Common.{map, option_map, subst}
 use Rattle.al_base.proofs.Growing.{begins_trans}
 use Rattle.al_check_places.specs.Positions.{before, section_view}
+use Rattle.al_check_contexts.specs.Contexts.{job_among}
 use Rattle.al_check_contexts.specs.Fixed.{strategy_type}
 use Rattle.al_check_contexts.specs.Private.Environment.{owner_of}
 use Rattle.al_tree.specs.Values.{member_of}
@@ -26,7 +27,6 @@ returns-clause-stands c =
     let kind = c.args.file.kind in
     let root = view c.args.file.root.now in
     let js = map member_of env.jobs.members.items in
-    let job = option_map member_of c.job_of-job.result in
     let there = section_view c.args.section in
     let one = c.section_types.new.types in
     let two = c.section_steps.new.types in
@@ -39,11 +39,11 @@ returns-clause-stands c =
     record {
       members = was.members;
       known = was.known;
-      shows = section_changed now env.types env.scope.types c.in_ok-made.made c.in_ok-none_seen.none_seen kind known root js job (section_view env.section) there
-          (before env.seen) c.requires.kind was.members c.job_of-job.ensures kept
-          (section_stays now one known js there job c.in_ok-made.made from_one made.types) (seen.ty known (option_map owner_of job) steps.steps) was.shows;
-      steps = subst (λ o. AreStepsOf now known o c.first.new.self) (owner_of_workflow kind root js job there c.requires.kind was.members c.job_of-job.ensures)
-          (seen.steps known (option_map owner_of job) steps.steps);
+      shows = section_changed now env.types env.scope.types c.in_ok-made.made c.in_ok-none_seen.none_seen kind known root js (section_view env.section) there
+          (before env.seen) c.requires.kind was.members kept
+          (section_stays now one known js there c.in_ok-made.made from_one made.types) (seen.ty known (option_map owner_of (job_among js there)) steps.steps) was.shows;
+      steps = subst (λ o. AreStepsOf now known o c.first.new.self) (owner_of_workflow kind root js there c.requires.kind was.members)
+          (seen.steps known (option_map owner_of (job_among js there)) steps.steps);
       prefixes = seen.prefixes;
       strategy = means_stays now env.types env.strategy strategy_type kept was.strategy;
       job_types = keeps_jobs_stay now one env.outputs js c.section_types.new.made from_one made.keeps;

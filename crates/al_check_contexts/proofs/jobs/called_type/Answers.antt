@@ -17,7 +17,7 @@ pub returns-clause-keeps : goal.returns-clause-keeps
 returns-clause-keeps c =
     let entry = c.args.types.now in
     let now = c.shown_with.new.types in
-    let at = called_at c.args.known.now in
+    let at = called_at c.args.basis.now.outputs.now in
     let kept = begins_trans (objects_of entry) (objects_of c.call_outputs_type.new.types) (objects_of now) c.in_ok-outputs.ensures.kept c.in_ok-ty.ensures.kept in
     c.set.ensures now at (keeps_stays now entry at c.args.made.now kept c.requires)
     (means_as now c.in_ok-ty.ty _ _ (ap shown_with (c.in_ok-outputs.ensures.ty.is ∙ ap call_outputs c.list.ensures)) c.in_ok-ty.ensures.ty)

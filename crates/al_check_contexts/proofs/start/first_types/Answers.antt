@@ -11,7 +11,7 @@ returns-clause-types c = λ known h.
     let one = c.fixed_types.new.types in
     let now = c.inputs_type.new.types in
     let kept = begins_trans (objects_of entry) (objects_of one) (objects_of now) c.in_ok-fixed.ensures.kept c.in_ok-inputs.ensures.kept in
-    shows_first now c.in_ok-fixed.fixed c.in_ok-inputs.inputs c.args.steps c.args.kind known (view c.args.root.now)
+    shows_first now c.in_ok-fixed.fixed c.in_ok-inputs.inputs c.args.steps c.args.file.kind known (view c.args.file.root.now)
     (fixed_stay now one c.in_ok-fixed.fixed c.in_ok-inputs.ensures.kept c.in_ok-fixed.ensures.fixed) c.in_ok-inputs.ensures.ty
     (means_stays now entry c.args.steps _ kept h)
 

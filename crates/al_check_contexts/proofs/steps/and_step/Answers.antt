@@ -4,7 +4,7 @@ use Rattle.al_scalar.specs.Scalar.{text_of}
 use Rattle.al_tree.specs.Values.{scalar_node_of}
 use Rattle.al_types.specs.Puts.{put_all, put_new}
 use Rattle.al_check_contexts.specs.Contexts.{step_type}
-use Rattle.al_check_contexts.specs.Private.Lookups.{known_by}
+use Rattle.al_check_contexts.specs.Private.Made.{known_from}
 use Rattle.al_check_contexts.specs.Private.Numbers.{Lists}
 use Rattle.al_check_contexts.proofs.Numbers.{lists_stay, means_as}
 use Rattle.al_check_contexts.proofs.steps.and_step.Goals as goal
@@ -14,7 +14,7 @@ returns-in_ok-more-in-Some-clause-fields c = λ ts h.
     let entry = c.args.types.now in
     let now = c.step_type.new.types in
     let more = c.in_ok-more-in-Some.more in
-    let t = step_type ((known_by c.args.known.now).of_step (option_copied c.args.job) c.args.i) in
+    let t = step_type ((known_from c.args.basis.now).of_step (option_copied c.args.step.job) c.args.step.index) in
     let means = means_as now c.in_ok-ty-in-Some.ty _ _ (ap step_type c.position_of_step-position.ensures) c.in_ok-ty-in-Some.ensures.ty in
     let lists = lists_stay now entry c.args.fields ts c.in_ok-ty-in-Some.ensures.kept h in
     let one = subst (λ n. Lists now more (put_new ts (n, t))) c.text.ensures (c.in_ok-more-in-Some.ensures now ts t lists means) in

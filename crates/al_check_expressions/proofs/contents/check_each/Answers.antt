@@ -15,14 +15,14 @@ pub loop-chunk-preserved : goal.loop-chunk-preserved
 loop-chunk-preserved c =
     let before = c.args.types.now in
     let now = c.loop-chunk.types in
-    let scope = c.args.scope.now in
-    let only = c.args.place.now.is_scalar_only in
-    let scalar = c.args.place.now.scalar.now in
+    let scope = c.args.text.now.scope.now in
+    let only = c.args.text.now.is_scalar_only in
+    let scalar = c.args.text.now.scalar.now in
     let chunks = c.args.chunks.now in
     let i = c.loop-chunk.chunk-index in
     let none : Chunk = record { content = record { ref_ptr = (0, 0); now = [] }; span = record { start = 0; end = 0 } } in
     let x : Chunk = get_or chunks i none in
-    let out = c.loop-chunk.out.items in
+    let out = c.loop-chunk.faults in
     let sc = scope_at before scope in
     let left : List Fault = flat_map (chunk_faults sc only scalar) (map span_of_chunk (drop (i + 1) chunks)) in
     let same = scope_stays now before scope c.loop-chunk.invariant.kept c.requires.shown in
@@ -33,5 +33,4 @@ loop-chunk-preserved c =
       shown = shown_stays c.check_chunk.new.types now scope c.loop-chunk.invariant.shown c.in_ok-check_chunk.ensures.kept;
       kept = begins_trans _ _ _ c.loop-chunk.invariant.kept c.in_ok-check_chunk.ensures.kept;
       all = ap (λ l. l ++ left) step ∙ append_assoc out (chunk_faults sc only scalar (span_of_chunk x)) left ∙ all;
-      begins = begins_trans _ _ _ c.loop-chunk.invariant.begins c.in_ok-check_chunk.ensures.begins;
     }

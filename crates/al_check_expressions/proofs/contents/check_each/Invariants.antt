@@ -9,9 +9,8 @@ use Rattle.al_check_expressions.proofs.contents.check_each.Given as goal
 
 abbrev pub invariant-loop-chunk : goal.invariant-loop-chunk
 invariant-loop-chunk l = record {
-  shown : IsShown l.types l.scope;
+  shown : IsShown l.types l.text.scope.now;
   kept : BeginsWith (objects_of l.types) (objects_of l.fn.types);
-  all : l.out.items ++ flat_map (chunk_faults (scope_at l.fn.types l.scope) l.place.is_scalar_only l.place.scalar.now) (map span_of_chunk (drop l.chunk-index l.chunks))
-      ≡ l.fn.out.items ++ flat_map (chunk_faults (scope_at l.fn.types l.scope) l.place.is_scalar_only l.place.scalar.now) (map span_of_chunk l.chunks);
-  begins : BeginsWith l.out.items l.fn.out.items;
+  all : l.faults ++ flat_map (chunk_faults (scope_at l.fn.types l.text.scope.now) l.text.is_scalar_only l.text.scalar.now) (map span_of_chunk (drop l.chunk-index l.chunks))
+      ≡ l.fn.faults ++ flat_map (chunk_faults (scope_at l.fn.types l.text.scope.now) l.text.is_scalar_only l.text.scalar.now) (map span_of_chunk l.chunks);
 }

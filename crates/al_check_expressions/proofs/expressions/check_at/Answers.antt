@@ -11,4 +11,4 @@ returns-clause-stands c =
 pub returns-clause-faults : goal.returns-clause-faults
 returns-clause-faults c =
     c.in_ok-check_place.ensures.ok
-    ∙ ap (λ sc. c.args.out.now.items ++ place_faults sc (place_of c.args.place)) c.in_ok-go_to.ensures.scope
+    ∙ ap (λ sc. c.args.faults.now ++ place_faults sc (place_of c.args.place)) c.in_ok-go_to.ensures.scope

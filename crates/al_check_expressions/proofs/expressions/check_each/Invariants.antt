@@ -12,8 +12,7 @@ use Rattle.al_check_expressions.proofs.expressions.check_each.Given as goal
 abbrev pub invariant-loop-place : goal.invariant-loop-place
 invariant-loop-place l = record {
   stands : Stands l.file l.env;
-  all : l.out.items ++ flat_map (faults_at l.file.kind (known_of l.file.known) (view l.file.root.now)) (map place_of (drop l.place-index l.places))
-      ≡ l.fn.out.items ++ flat_map (faults_at l.file.kind (known_of l.file.known) (view l.file.root.now)) (map place_of l.places);
+  all : l.faults ++ flat_map (faults_at l.file.kind (known_of l.file.known) (view l.file.root.now)) (map place_of (drop l.place-index l.places))
+      ≡ l.fn.faults ++ flat_map (faults_at l.file.kind (known_of l.file.known) (view l.file.root.now)) (map place_of l.places);
   kept : BeginsWith (objects_of l.env.types) (objects_of l.fn.env.types);
-  begins : BeginsWith l.out.items l.fn.out.items;
 }

@@ -1,4 +1,4 @@
-use Rattle.std.proofs.Common.{◌≡◌, ◌∙◌, Some, map, subst, sym}
+use Rattle.std.proofs.Common.{◌≡◌, ◌∙◌, Some, subst, sym}
 use Rattle.std.specs.Option.{option_to_list}
 use Rattle.al_base.specs.Names.{same_name}
 use Rattle.al_base.proofs.NamePlaces.{found_within}
@@ -8,6 +8,7 @@ use Rattle.al_types.specs.Puts.{put_all, put_new}
 use Rattle.al_check_contexts.specs.Contexts.{job_field}
 use Rattle.al_check_contexts.specs.Private.JobPositions.{named_at}
 use Rattle.al_check_contexts.specs.Private.Lookups.{known_by}
+use Rattle.al_check_contexts.specs.Private.Made.{jobs_from, known_from}
 use Rattle.al_check_contexts.specs.Private.Numbers.{Lists}
 use Rattle.al_check_contexts.proofs.JobLemmas.{needed_at, none_needed, shown_there}
 use Rattle.al_check_contexts.proofs.Numbers.{lists_stay, means_as}
@@ -15,27 +16,27 @@ use Rattle.al_check_contexts.proofs.jobs.JobTypes.and_needed.Goals as goal
 
 pub get-requires-clause-inside : goal.get-requires-clause-inside
 get-requires-clause-inside c =
-    let at : named_at (map member_of c.args.jobs.now.members.items) c.args.name.now ≡ Some c.in-Some.i = sym c.in_ok-position_of.ensures ∙ c.in-Some.is in
-    found_within member_of (λ j. same_name (key_of j) c.args.name.now) c.args.jobs.now.members.items c.in-Some.i at
+    let at : named_at (jobs_from c.args.basis.now) c.args.name.now ≡ Some c.in-Some.i = sym c.in_ok-position_of.ensures ∙ c.in-Some.is in
+    found_within member_of (λ j. same_name (key_of j) c.args.name.now) c.args.basis.now.jobs.now.members.items c.in-Some.i at
 
 pub job_at-requires : goal.job_at-requires
 job_at-requires c =
-    let at : named_at (map member_of c.args.jobs.now.members.items) c.args.name.now ≡ Some c.in-Some.i = sym c.in_ok-position_of.ensures ∙ c.in-Some.is in
-    found_within member_of (λ j. same_name (key_of j) c.args.name.now) c.args.jobs.now.members.items c.in-Some.i at
+    let at : named_at (jobs_from c.args.basis.now) c.args.name.now ≡ Some c.in-Some.i = sym c.in_ok-position_of.ensures ∙ c.in-Some.is in
+    found_within member_of (λ j. same_name (key_of j) c.args.name.now) c.args.basis.now.jobs.now.members.items c.in-Some.i at
 
 pub returns-in-None-clause-fields : goal.returns-in-None-clause-fields
 returns-in-None-clause-fields c = λ ts h.
-    let js = map member_of c.args.jobs.now.members.items in
+    let js = jobs_from c.args.basis.now in
     subst (λ o. Lists c.args.types.now c.args.fields (put_all put_new ts (option_to_list o)))
-    (sym (none_needed (known_by c.args.known.now) js c.args.name.now (sym c.in_ok-position_of.ensures ∙ c.in-None.is))) h
+    (sym (none_needed (known_from c.args.basis.now) js c.args.name.now (sym c.in_ok-position_of.ensures ∙ c.in-None.is))) h
 
 pub returns-in_ok-more-in-Some-clause-fields : goal.returns-in_ok-more-in-Some-clause-fields
 returns-in_ok-more-in-Some-clause-fields c = λ ts h.
     let entry = c.args.types.now in
     let now = c.get.new.types in
-    let known = c.args.known.now in
+    let known = c.args.basis.now.outputs.now in
     let k = known_by known in
-    let js = map member_of c.args.jobs.now.members.items in
+    let js = jobs_from c.args.basis.now in
     let j = member_of c.job_at.result in
     let more = c.in_ok-more-in-Some.more in
     let at : named_at js c.args.name.now ≡ Some c.in-Some.i = sym c.in_ok-position_of.ensures ∙ c.in-Some.is in

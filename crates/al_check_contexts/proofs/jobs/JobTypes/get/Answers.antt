@@ -1,6 +1,6 @@
-use Rattle.std.proofs.Common.{◌∙◌, map, subst, sym}
-use Rattle.al_tree.specs.Values.{member_of}
+use Rattle.std.proofs.Common.{◌∙◌, subst, sym}
 use Rattle.al_check_contexts.specs.Private.Lookups.{shown_at}
+use Rattle.al_check_contexts.specs.Private.Made.{jobs_from}
 use Rattle.al_check_contexts.specs.Private.Numbers.{Keeps}
 use Rattle.al_check_contexts.proofs.JobLemmas.{shown_there}
 use Rattle.al_check_contexts.proofs.Numbers.{keeps_stays, means_as, means_stays}
@@ -8,15 +8,15 @@ use Rattle.al_check_contexts.proofs.jobs.JobTypes.get.Goals as goal
 
 pub returns-clause-ty : goal.returns-clause-ty
 returns-clause-ty c =
-    let js = map member_of c.args.jobs.now.members.items in
-    means_as c.type_of.new.types c.in_ok-ty.ty _ _ (shown_there c.args.known.now js c.args.i _ c.job_at.ensures) c.in_ok-ty.ensures.ty
+    let js = jobs_from c.args.basis.now in
+    means_as c.type_of.new.types c.in_ok-ty.ty _ _ (shown_there c.args.basis.now.outputs.now js c.args.i _ c.job_at.ensures) c.in_ok-ty.ensures.ty
 
 pub returns-clause-keeps : goal.returns-clause-keeps
 returns-clause-keeps c =
     let entry = c.args.types.now in
     let now = c.type_of.new.types in
-    let known = c.args.known.now in
-    let js = map member_of c.args.jobs.now.members.items in
+    let known = c.args.basis.now.outputs.now in
+    let js = jobs_from c.args.basis.now in
     let old = c.args.self.now in
     let shown = subst (Keeps now (shown_at known js)) (sym c.type_of.ensures.shown)
     (keeps_stays now entry (shown_at known js) old.shown c.in_ok-ty.ensures.kept c.requires.keeps.shown) in

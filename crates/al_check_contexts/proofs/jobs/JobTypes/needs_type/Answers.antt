@@ -3,12 +3,12 @@ use Rattle.std.proofs.lemmas.List.{take_all}
 use Rattle.std.specs.List.{filter_map}
 use Rattle.std.specs.Option.{option_to_list}
 use Rattle.al_base.proofs.Growing.{begins_trans}
-use Rattle.al_tree.specs.Values.{member_of, scalar_node_of}
+use Rattle.al_tree.specs.Values.{scalar_node_of}
 use Rattle.al_types.specs.Puts.{firsts, put_all, put_new}
 use Rattle.al_check_contexts.specs.Contexts.{needed, needed_by}
 use Rattle.al_check_contexts.specs.Objects.{strictly}
 use Rattle.al_expr_types.specs.Tables.{objects_of}
-use Rattle.al_check_contexts.specs.Private.Lookups.{known_by}
+use Rattle.al_check_contexts.specs.Private.Made.{jobs_from, known_from}
 use Rattle.al_check_contexts.specs.Private.Numbers.{Lists}
 use Rattle.al_check_contexts.proofs.FieldLists.{put_if_next}
 use Rattle.al_check_contexts.proofs.JobLemmas.{keeps_jobs_stay}
@@ -17,8 +17,8 @@ use Rattle.al_check_contexts.proofs.jobs.JobTypes.needs_type.Goals as goal
 
 pub loop-name-preserved : goal.loop-name-preserved
 loop-name-preserved c =
-    let k = known_by c.args.known.now in
-    let js = map member_of c.args.jobs.now.members.items in
+    let k = known_from c.args.basis.now in
+    let js = jobs_from c.args.basis.now in
     let items = c.as_slice-name-items.result.now in
     let i = c.loop-name.name-index in
     let now = c.and_needed.new.types in
@@ -34,8 +34,8 @@ loop-name-preserved c =
 
 pub returns-clause-ty : goal.returns-clause-ty
 returns-clause-ty c =
-    let k = known_by c.args.known.now in
-    let js = map member_of c.args.jobs.now.members.items in
+    let k = known_from c.args.basis.now in
+    let js = jobs_from c.args.basis.now in
     let items = c.as_slice-name-items.result.now in
     means_as c.into_type.new.types c.in_ok-ty.ty _ _
     (ap (λ ns. strictly (firsts (filter_map (needed_by k js) (map scalar_node_of ns))))
@@ -45,5 +45,5 @@ returns-clause-ty c =
 
 pub returns-clause-keeps : goal.returns-clause-keeps
 returns-clause-keeps c =
-    keeps_jobs_stay c.into_type.new.types c.loop-name.types c.args.known.now (map member_of c.args.jobs.now.members.items) c.loop-name.self
+    keeps_jobs_stay c.into_type.new.types c.loop-name.types c.args.basis.now.outputs.now (jobs_from c.args.basis.now) c.loop-name.self
     c.in_ok-ty.ensures.kept c.loop-name.invariant.keeps

@@ -7,6 +7,7 @@ use Rattle.al_check_contexts.specs.Contexts.{job_field}
 use Rattle.al_check_contexts.specs.Objects.{strictly}
 use Rattle.al_expr_types.specs.Tables.{objects_of}
 use Rattle.al_check_contexts.specs.Private.Lookups.{known_by}
+use Rattle.al_check_contexts.specs.Private.Made.{jobs_from, known_from}
 use Rattle.al_check_contexts.specs.Private.Numbers.{Lists}
 use Rattle.al_check_contexts.proofs.FieldLists.{put_next}
 use Rattle.al_check_contexts.proofs.JobLemmas.{keeps_jobs_stay, same_there, shown_there}
@@ -15,9 +16,9 @@ use Rattle.al_check_contexts.proofs.jobs.JobTypes.object_of_jobs.Goals as goal
 
 pub loop-i-preserved : goal.loop-i-preserved
 loop-i-preserved c =
-    let known = c.args.known.now in
+    let known = c.args.basis.now.outputs.now in
     let k = known_by known in
-    let js = map member_of c.args.jobs.now.members.items in
+    let js = jobs_from c.args.basis.now in
     let members = c.as_slice-members.result.now in
     let i = c.loop-i.i in
     let x = c.index-members-i.result in
@@ -37,7 +38,7 @@ loop-i-preserved c =
 
 pub returns-clause-ty : goal.returns-clause-ty
 returns-clause-ty c =
-    let k = known_by c.args.known.now in
+    let k = known_from c.args.basis.now in
     let members = c.as_slice-members.result.now in
     means_as c.into_type.new.types c.in_ok-ty-2.ty _ _
     (ap (λ ms. strictly (firsts (map (job_field k) (map member_of ms)))) (take_all c.loop-i.i members (omega (arith, c.loop-i-test.false)))
@@ -46,5 +47,5 @@ returns-clause-ty c =
 
 pub returns-clause-keeps : goal.returns-clause-keeps
 returns-clause-keeps c =
-    keeps_jobs_stay c.into_type.new.types c.loop-i.types c.args.known.now (map member_of c.args.jobs.now.members.items) c.loop-i.self
+    keeps_jobs_stay c.into_type.new.types c.loop-i.types c.args.basis.now.outputs.now (jobs_from c.args.basis.now) c.loop-i.self
     c.in_ok-ty-2.ensures.kept c.loop-i.invariant.keeps

@@ -4,14 +4,13 @@ use Rattle.al_tree.specs.Values.{member_of}
 use Rattle.al_types.specs.Puts.{put_all, put_new}
 use Rattle.al_expr_types.specs.Tables.{objects_of}
 use Rattle.al_check_contexts.specs.Contexts.{job_field}
-use Rattle.al_check_contexts.specs.Private.Lookups.{known_by}
-use Rattle.al_check_contexts.specs.Private.Made.{KeepsJobs}
+use Rattle.al_check_contexts.specs.Private.Made.{KeepsJobsOf, known_from}
 use Rattle.al_check_contexts.specs.Private.Numbers.{Lists}
 use Rattle.al_check_contexts.proofs.jobs.JobTypes.object_of_jobs.Given as goal
 
 abbrev pub invariant-loop-i : goal.invariant-loop-i
 invariant-loop-i l = record {
-  fields : Lists l.types l.fields (put_all put_new [] (map (job_field (known_by l.known)) (map member_of (take l.i l.members))));
-  keeps : KeepsJobs l.types l.known (map member_of l.jobs.members.items) l.self;
+  fields : Lists l.types l.fields (put_all put_new [] (map (job_field (known_from l.basis)) (map member_of (take l.i l.members))));
+  keeps : KeepsJobsOf l.types l.basis l.self;
   kept : BeginsWith (objects_of l.types) (objects_of l.fn.types);
 }

@@ -2,13 +2,14 @@ use Rattle.std.proofs.Common.{◌∙◌, ap, sym}
 use Rattle.al_tree.specs.Values.{member_of}
 use Rattle.al_check_contexts.specs.Contexts.{call_outputs}
 use Rattle.al_check_contexts.specs.Private.Lookups.{called_at, known_by, shown_with}
+use Rattle.al_check_contexts.specs.Private.Made.{known_from}
 use Rattle.al_check_contexts.proofs.JobLemmas.{shown_called, shown_own}
 use Rattle.al_check_contexts.proofs.Numbers.{keeps_stays, means_as}
 use Rattle.al_check_contexts.proofs.jobs.JobTypes.type_of.Goals as goal
 
 pub returns-then-has_value-clause-ty : goal.returns-then-has_value-clause-ty
 returns-then-has_value-clause-ty c =
-    let known = c.args.known.now in
+    let known = c.args.basis.now.outputs.now in
     means_as c.called_type.new.types c.in_ok-ty.ty _ _
     (ap (λ o. shown_with (call_outputs o)) (c.position_of_job-position.ensures ∙ ap (known_by known).of_job c.key_text.ensures)
     ∙ shown_called (known_by known) (member_of c.args.job) (sym c.has_value.ensures ∙ c.if-has_value.true))
@@ -17,8 +18,8 @@ returns-then-has_value-clause-ty c =
 pub returns-clause-ty : goal.returns-clause-ty
 returns-clause-ty c =
     means_as c.own_type.new.types c.in_ok-ty-2.ty _ _
-    (shown_own (known_by c.args.known.now) (member_of c.args.job) (sym c.has_value.ensures ∙ c.if-has_value.false)) c.in_ok-ty-2.ensures.ty
+    (shown_own (known_from c.args.basis.now) (member_of c.args.job) (sym c.has_value.ensures ∙ c.if-has_value.false)) c.in_ok-ty-2.ensures.ty
 
 pub returns-clause-keeps : goal.returns-clause-keeps
 returns-clause-keeps c =
-    keeps_stays c.own_type.new.types c.args.types.now (called_at c.args.known.now) c.args.self.now.calls c.in_ok-ty-2.ensures.kept c.requires
+    keeps_stays c.own_type.new.types c.args.types.now (called_at c.args.basis.now.outputs.now) c.args.self.now.calls c.in_ok-ty-2.ensures.kept c.requires

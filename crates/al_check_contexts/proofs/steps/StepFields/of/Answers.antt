@@ -6,7 +6,7 @@ use Rattle.al_yaml_tree.specs.View.{view}
 use Rattle.al_check_contexts.specs.Contexts.{step_field}
 use Rattle.al_expr_types.specs.Prefixes.{HasPrefix, map_in}
 use Rattle.al_expr_types.specs.Tables.{objects_of}
-use Rattle.al_check_contexts.specs.Private.Lookups.{known_by}
+use Rattle.al_check_contexts.specs.Private.Made.{known_from}
 use Rattle.al_check_contexts.specs.Private.Numbers.{Lists, fields_in, is_map_below}
 use Rattle.al_check_contexts.specs.Private.Owners.{owner_view}
 use Rattle.al_check_contexts.specs.Private.Steps.{IsCount, first_fields}
@@ -16,7 +16,7 @@ use Rattle.al_check_contexts.proofs.steps.StepFields.of.Goals as goal
 
 pub loop-i-preserved : goal.loop-i-preserved
 loop-i-preserved c =
-    let known = known_by c.args.known.now in
+    let known = known_from c.args.basis.now in
     let job = option_copied c.args.owner.job in
     let at = first_fields known (owner_view c.args.owner) in
     let steps = c.args.owner.steps.now in
@@ -38,7 +38,7 @@ loop-i-preserved c =
 
 pub returns-clause-steps : goal.returns-clause-steps
 returns-clause-steps c =
-    let at = first_fields (known_by c.args.known.now) (owner_view c.args.owner) in
+    let at = first_fields (known_from c.args.basis.now) (owner_view c.args.owner) in
     let ms = objects_of c.loop-i.types in
     let steps = c.args.owner.steps.now in
     let same = c.in_ok-prefixes.ensures.map ∙ c.into_map.ensures in

@@ -1,0 +1,18 @@
+//! What types are made from.
+
+use crate::job_lists::JobList;
+use crate::known::Outputs;
+use al_expr_types::Ty;
+use std::alloc::Global;
+
+/// What the types of a file are made from, which is the same at each of its places.
+#[derive(Clone, Copy)]
+pub(crate) struct Basis<'s, 'a> {
+    /// The memory for what isn't kept in the table of types.
+    pub(crate) alloc: Global,
+    pub(crate) jobs: &'s JobList<'a>,
+    /// What is known of the outputs behind calls.
+    pub(crate) outputs: &'s Outputs<'a>,
+    /// The type of `strategy` in jobs.
+    pub(crate) strategy: Ty,
+}
