@@ -2,18 +2,18 @@
 
 ghost use Rattle.al_scalar.specs.ReadScalar.{read_of};
 ghost use Rattle.al_yaml.specs.Private.BlockFrames as frames;
-ghost use Rattle.al_yaml.specs.Private.BlockFrames.{Enters, FindsBlock, IsEntered, IsFoundFrom, IsNextAt, IsNodeAt};
-ghost use Rattle.al_yaml.specs.Private.BlockFrames.{IsNextInside, IsOpenAt, IsReadBefore, IsResumed, ResumesBlock};
-ghost use Rattle.al_yaml.specs.Private.BlockFrames.{block_open_of, block_rest, block_waiting_of};
-ghost use Rattle.al_yaml_parts.specs.Private.BlockReads.{IsTabInside, slot_of};
+ghost use Rattle.al_yaml.specs.Private.BlockFrames.{Enters, FindsBlock, IsEntered, IsFoundFrom, IsFoundPart, IsNextAt, IsNodeAt};
+ghost use Rattle.al_yaml.specs.Private.BlockFrames.{IsNextInside, IsOpenAt, IsReadBefore, IsRestAt, IsResumed, ResumesBlock};
+ghost use Rattle.al_yaml.specs.Private.BlockFrames.{block_open_of, block_rest, block_waiting_of, closed_sequence};
+ghost use Rattle.al_yaml_parts.specs.Private.Answers.{mark_of, noting};
+ghost use Rattle.al_yaml_parts.specs.Private.BlockReads.{slot_of};
 ghost use Rattle.al_yaml_tree.specs.Blocks as block;
-ghost use Rattle.al_yaml_tree.specs.Content as content;
 ghost use Rattle.al_yaml_parts.specs.Private.Files.{left_at, size};
 ghost use Rattle.al_yaml_parts.specs.Private.Places.{Shows, next_of, option_lines};
 ghost use Rattle.al_yaml_parts.specs.Private.Reads.{IsBehind, IsRead, IsStopInside, part_of, state_of};
 ghost use Rattle.al_yaml_parts.specs.Stacks.{HasRoom, depth_in};
 ghost use Rattle.al_yaml_tree.specs.View.{entries_of, entry_view, nodes_of, view};
-ghost use Rattle.std.specs.Prelude.{IfErr, IfOk, IfSome, [], length, map, suc, true, ℕ, ◌+◌, ◌<◌, ◌≡◌, ◌≤◌};
+ghost use Rattle.std.specs.Prelude.{IfErr, IfOk, IfSome, Ok, [], length, map, suc, ℕ, ◌+◌, ◌<◌, ◌≡◌, ◌≤◌};
 
 use crate::block_nodes::read_node;
 use crate::entries::{entry_key, no_entry};
@@ -32,6 +32,7 @@ use al_yaml_parts::part::{Part, mapping_part, sequence_part};
 use al_yaml_parts::scalars::empty_part;
 use al_yaml_parts::slots::{Cursor, Slot, Spot, is_deeper, spot_behind};
 use al_yaml_tree::{Entry, Node, entry_of, scalar_node};
+use std::alloc::AllocError;
 
 /// What was read of an open block collection: of a sequence the items before a dash, and whether it is the value of a
 /// mapping's entry; of a mapping the entries before a key, and the key.
@@ -48,21 +49,28 @@ pub struct PartBefore {
     pub next: Next,
 }
 
-/// What is to be read next: a node, from its first character on, or from behind its anchor; the innermost collection, from a dash or
-/// a key on; what stands behind a node that was read, where the next content line was found or not yet.
+/// Where a node begins, at its first character or behind its anchor; or from where on it is looked for.
+#[derive(Clone, Copy)]
+pub struct NodePlace {
+    pub slot: Slot,
+    pub start: Cursor,
+    pub anchor: Option<usize>,
+}
+
+/// An open block collection from a dash or a key on.
+#[derive(Drop)]
+pub struct OpenBlock {
+    pub begun: BlockStart,
+    pub has: BlockOpen,
+    pub at: usize,
+}
+
+/// What is to be read next: a node; the innermost collection; what stands behind a node that was read, where the next content line was
+/// found or not yet.
 #[derive(Drop)]
 pub enum BlockTask {
-    Node {
-        slot: Slot,
-        start: Cursor,
-        anchor: Option<usize>,
-    },
-    Inside {
-        start: Cursor,
-        anchor: Option<usize>,
-        has: BlockOpen,
-        at: usize,
-    },
+    Node(NodePlace),
+    Inside(OpenBlock),
     Read(Part),
     Found(PartBefore),
 }
@@ -72,53 +80,49 @@ pub enum BlockTask {
 pub fn find_rest(
     file: &File,
     state: &mut State,
-    slot: Slot,
-    from: Cursor,
+    from: NodePlace,
     rest: usize,
-    anchor: Option<usize>,
 ) -> Result<BlockTask, ReadError>
-    requires order { from.at ≤ rest }
-    requires inside { rest ≤ size file.now }
-    requires line { content.same_line (left_at file.now from.at) (left_at file.now rest) ≡ true }
-    requires column { from.column ≤ from.at }
-    requires within { slot.within ≤ rest + 1 }
-    requires empty { slot.empty ≤ size file.now }
-    requires tab { IsTabInside (size file.now) slot.spot }
+    requires rest { IsRestAt file.now.bytes.now from rest }
     ensures fault { IfErr result (IsStopInside (size file.now)) }
-    ensures is { (node : block.BlockReader) (depth : ℕ) → FindsBlock file.now.bytes.now node anchor depth
-        (block.rest_node node (slot_of slot) depth from.column (left_at file.now from.at)
+    ensures is { (node : block.BlockReader) (depth : ℕ) → FindsBlock file.now.bytes.now node from.anchor depth
+        (block.rest_node node (slot_of from.slot) depth from.start.column (left_at file.now from.start.at)
         (left_at file.now rest)) (state_of state.old) result (state_of state.new) }
     ensures within { IfOk result (λ task. IsFoundFrom file.now.bytes.now rest task) }
 {
     if is_skipped(file.bytes, rest) {
-        return find_below(file, state, slot, next_line(file.bytes, rest), anchor);
+        return find_below(file, state, from, next_line(file.bytes, rest));
     }
     let at = blanks_end(file.bytes, rest);
-    let spot = spot_behind(file.bytes, rest, slot.spot);
-    let column = from.column + characters(file.bytes, from.at, at);
-    Ok(BlockTask::Node {
-        slot: Slot { spot, ..slot },
+    let spot = spot_behind(file.bytes, rest, from.slot.spot);
+    let column = from.start.column + characters(file.bytes, from.start.at, at);
+    Ok(BlockTask::Node(NodePlace {
+        slot: Slot { spot, ..from.slot },
         start: Cursor { at, column },
-        anchor,
-    })
+        anchor: from.anchor,
+    }))
 }
 
 /// Finds the node on the next content line if that holds it, or else reads the empty node.
 fn find_below(
     file: &File,
     state: &mut State,
-    slot: Slot,
+    from: NodePlace,
     at: usize,
-    anchor: Option<usize>,
 ) -> Result<BlockTask, ReadError>
     requires inside { at ≤ size file.now }
-    requires within { slot.within ≤ at + 1 }
-    requires empty { slot.empty ≤ size file.now }
+    requires within { from.slot.within ≤ at + 1 }
+    requires empty { from.slot.empty ≤ size file.now }
     ensures fault { IfErr result (IsStopInside (size file.now)) }
-    ensures is { (node : block.BlockReader) (depth : ℕ) → FindsBlock file.now.bytes.now node anchor depth
-        (block.node_below node (slot_of slot) depth (left_at file.now at)) (state_of state.old) result (state_of state.new) }
+    ensures is { (node : block.BlockReader) (depth : ℕ) → FindsBlock file.now.bytes.now node from.anchor depth
+        (block.node_below node (slot_of from.slot) depth (left_at file.now at)) (state_of state.old) result (state_of state.new) }
     ensures within { IfOk result (λ task. IsFoundFrom file.now.bytes.now at task) }
 {
+    let NodePlace {
+        slot,
+        start: _,
+        anchor,
+    } = from;
     let found = next_content(file.bytes, at)?;
     let Next::Line { indent, at: first } = found else {
         let empty = empty_part(file, state, slot.empty, at)?;
@@ -130,7 +134,7 @@ fn find_below(
         let part = complete(file, state, anchor, empty)?;
         return Ok(BlockTask::Found(PartBefore { part, next: found }));
     }
-    Ok(BlockTask::Node {
+    Ok(BlockTask::Node(NodePlace {
         slot: Slot {
             spot: Spot::OwnLine,
             ..slot
@@ -140,52 +144,58 @@ fn find_below(
             column: indent,
         },
         anchor,
-    })
+    }))
 }
 
 /// Goes on with the innermost collection from a dash or a key on: what it waits with, and the node that it waits for.
 fn enter(
     file: &File,
     state: &mut State,
-    start: Cursor,
-    has: BlockOpen,
-    at: usize,
+    inside: OpenBlock,
 ) -> Result<(BlockWaiting, BlockTask), ReadError>
-    requires has { IsOpenAt file.now.bytes.now start.column at has }
+    requires has { IsOpenAt file.now.bytes.now inside.begun.start.column inside.at inside.has }
     ensures fault { IfErr result (IsStopInside (size file.now)) }
-    ensures within { IfOk result (λ r. IsEntered file.now.bytes.now at r) }
-    ensures is { (bound turns depth : ℕ) → Enters file.now.bytes.now bound turns depth start.at start.column
-        (block_rest (suc turns) bound depth start.at start.column (block_open_of file.now.bytes.now has)
-        (left_at file.now at)) (state_of state.old) result (state_of state.new) }
+    ensures within { IfOk result (λ r. IsEntered file.now.bytes.now inside.at r) }
+    ensures is { (bound turns depth : ℕ) → Enters file.now.bytes.now bound turns depth inside.begun.start.at inside.begun.start.column
+        (block_rest (suc turns) bound depth inside.begun.start.at inside.begun.start.column (block_open_of file.now.bytes.now inside.has)
+        (left_at file.now inside.at)) (state_of state.old) result (state_of state.new) }
 {
+    let OpenBlock { begun, has, at } = inside;
+    let column = begun.start.column;
     match has {
         BlockOpen::Items(in_mapping, items) => {
             let slot = Slot {
                 spot: Spot::Compact(None),
-                within: start.column + 1,
+                within: column + 1,
                 in_mapping: false,
                 empty: at + 1,
             };
-            let from = Cursor {
-                at,
-                column: start.column,
+            let from = NodePlace {
+                slot,
+                start: Cursor { at, column },
+                anchor: None,
             };
-            let task = find_rest(file, state, slot, from, at + 1, None)?;
+            let task = find_rest(file, state, from, at + 1)?;
             Ok((BlockWaiting::Item(in_mapping, items), task))
         }
         BlockOpen::Entries(entries, key) => {
             let behind = key.behind;
             let slot = Slot {
                 spot: Spot::BehindKey,
-                within: start.column + 1,
+                within: column + 1,
                 in_mapping: true,
                 empty: behind,
             };
-            let from = Cursor {
+            let start = Cursor {
                 at: behind,
                 column: 0,
             };
-            let task = find_rest(file, state, slot, from, behind, None)?;
+            let from = NodePlace {
+                slot,
+                start,
+                anchor: None,
+            };
+            let task = find_rest(file, state, from, behind)?;
             Ok((BlockWaiting::Value(entries, key.read), task))
         }
     }
@@ -216,6 +226,29 @@ fn entry_on(bytes: &[u8], column: usize, next: Next) -> Result<Option<usize>, Fa
     })
 }
 
+/// Closes a sequence with its last item.
+fn close_sequence(
+    file: &File,
+    state: &mut State,
+    begun: BlockStart,
+    items: Vec<Node>,
+    read: PartBefore,
+) -> Result<PartBefore, AllocError>
+    requires start { begun.start.at ≤ size file.now }
+    requires read { IsReadBefore file.now.bytes.now read }
+    ensures is { IfOk result (λ closed. noting (mark_of file.now.bytes.now begun.anchor)
+        (closed_sequence begun.start.at (nodes_of (map view items.items)) (part_of file.now.bytes.now read.part) (state_of state.old))
+        ≡ Ok (part_of file.now.bytes.now closed.part, state_of state.new)) }
+    ensures within { IfOk result (λ closed. IsFoundPart file.now.bytes.now read.part.next closed) }
+{
+    let PartBefore { part, next } = read;
+    let mut items = items;
+    items.push(part.node)?;
+    let part = sequence_part(items, begun.start.at, part.end, part.next);
+    let part = complete(file, state, begun.anchor, part)?;
+    Ok(PartBefore { part, next })
+}
+
 /// Goes on behind an item that was read in a sequence.
 fn put_block_item(
     file: &File,
@@ -236,34 +269,24 @@ fn put_block_item(
     ensures within { IfOk result (λ task. IsResumed file.now.bytes.now read.part.next task) }
     ensures same { IfOk result (λ _. progress.new.stack ≡ progress.old.stack) }
 {
-    let PartBefore { part, next } = read;
-    let mut items = items;
-    items.push(part.node)?;
-    let Some(at) = entry_on(file.bytes, begun.start.column, next)? else {
-        let part = sequence_part(items, begun.start.at, part.end, part.next);
-        let part = complete(file, &mut progress.state, begun.anchor, part)?;
-        return Ok(BlockTask::Found(PartBefore { part, next }));
+    let Some(at) = entry_on(file.bytes, begun.start.column, read.next)? else {
+        let closed = close_sequence(file, &mut progress.state, begun, items, read)?;
+        return Ok(BlockTask::Found(closed));
     };
     if is_dash(file.bytes, at) {
-        return Ok(BlockTask::Inside {
-            start: begun.start,
-            anchor: begun.anchor,
+        let mut items = items;
+        items.push(read.part.node)?;
+        return Ok(BlockTask::Inside(OpenBlock {
+            begun,
             has: BlockOpen::Items(in_mapping, items),
             at,
-        });
+        }));
     }
     if in_mapping {
-        let part = sequence_part(items, begun.start.at, part.end, part.next);
-        let part = complete(file, &mut progress.state, begun.anchor, part)?;
-        return Ok(BlockTask::Found(PartBefore { part, next }));
+        let closed = close_sequence(file, &mut progress.state, begun, items, read)?;
+        return Ok(BlockTask::Found(closed));
     }
-    no_entry(file, progress, at)?;
-    Ok(BlockTask::Inside {
-        start: begun.start,
-        anchor: begun.anchor,
-        has: BlockOpen::Items(in_mapping, items),
-        at,
-    })
+    Err(no_entry(file, progress, at))
 }
 
 /// Goes on behind a value that was read in a mapping.
@@ -296,12 +319,11 @@ fn put_block_entry(
         return Ok(BlockTask::Found(PartBefore { part, next }));
     };
     let key = entry_key(file, progress, at)?;
-    Ok(BlockTask::Inside {
-        start: begun.start,
-        anchor: begun.anchor,
+    Ok(BlockTask::Inside(OpenBlock {
+        begun,
         has: BlockOpen::Entries(entries, key),
         at,
-    })
+    }))
 }
 
 /// Goes on behind a node that was read in a collection which waited for it.
@@ -342,7 +364,7 @@ pub fn read_block_node(
     slot: Slot,
     start: Cursor,
 ) -> Result<Part, ReadError>
-    requires node { IsNodeAt file.now.bytes.now slot start.column start.at }
+    requires node { IsNodeAt file.now.bytes.now slot start }
     requires outside { progress.old.stack.flows ≡ [] }
     requires none { progress.old.stack.blocks ≡ [] }
     ensures fault { IfErr result (IsStopInside (size file.now)) }
@@ -351,28 +373,19 @@ pub fn read_block_node(
         (state_of progress.old.state) result (state_of progress.new.state) }
     ensures within { IfOk result (λ part. IsBehind file.now.bytes.now start.at part) }
 {
-    let mut task = BlockTask::Node {
+    let mut task = BlockTask::Node(NodePlace {
         slot,
         start,
         anchor: None,
-    };
+    });
     'nodes: loop {
         match task {
-            BlockTask::Node {
-                slot,
-                start: from,
-                anchor,
-            } => {
-                task = read_node(file, progress, slot, from, anchor)?;
+            BlockTask::Node(place) => {
+                task = read_node(file, progress, place)?;
             }
-            BlockTask::Inside {
-                start,
-                anchor,
-                has,
-                at: from,
-            } => {
-                let (waiting, inner) = enter(file, &mut progress.state, start, has, from)?;
-                let begun = BlockStart { start, anchor };
+            BlockTask::Inside(inside) => {
+                let begun = inside.begun;
+                let (waiting, inner) = enter(file, &mut progress.state, inside)?;
                 progress.stack.push_block(BlockFrame { begun, waiting });
                 task = inner;
             }

@@ -3,7 +3,7 @@
 ghost use Rattle.al_scalar.specs.Places.{lines_at, text_at};
 ghost use Rattle.al_yaml.specs.Private.BlockFrames.{Begins, IsBegun, IsNodeAt, node_reader};
 ghost use Rattle.al_yaml_parts.specs.Private.Answers.{completing};
-ghost use Rattle.al_yaml_parts.specs.Private.BlockReads.{IsKeyBehind, IsTabInside, key_seen, slot_of, spot_of};
+ghost use Rattle.al_yaml_parts.specs.Private.BlockReads.{IsKeyBehind, key_seen, slot_of, spot_of};
 ghost use Rattle.al_yaml_tree.specs.Blocks as block;
 ghost use Rattle.al_yaml_tree.specs.Content as content;
 ghost use Rattle.al_yaml_parts.specs.Private.Files.{left_at, size};
@@ -13,7 +13,7 @@ ghost use Rattle.al_yaml_parts.specs.Private.Reads.{IsBehind, IsRead, IsStopInsi
 ghost use Rattle.al_yaml_parts.specs.Stacks.{depth_in};
 ghost use Rattle.std.specs.Prelude.{IfErr, IfOk, [], length, not, suc, true, ℕ, ◌&&◌, ◌+◌, ◌<◌, ◌||◌, ◌≡◌, ◌≤◌};
 
-use crate::block::{BlockOpen, BlockTask, find_rest};
+use crate::block::{BlockOpen, BlockTask, NodePlace, OpenBlock, find_rest};
 use crate::flow::read_flow_collection;
 use al_base::YamlCode;
 use al_scalar::FaultAt;
@@ -23,11 +23,12 @@ use al_yaml_parts::content::{is_dash, line_ended};
 use al_yaml_parts::faults::ReadError;
 use al_yaml_parts::file::{File, Progress};
 use al_yaml_parts::flow_nodes::{complete, read_alias};
+use al_yaml_parts::frames::BlockStart;
 use al_yaml_parts::keys::{Key, has_colon, is_on_key, is_short_key, key_at};
 use al_yaml_parts::lines::same_line;
 use al_yaml_parts::part::Part;
 use al_yaml_parts::scalars::read_line_scalar;
-use al_yaml_parts::slots::{Cursor, Slot, Spot, is_behind_key, tab_before};
+use al_yaml_parts::slots::{Spot, is_behind_key, tab_before};
 use al_yaml_parts::starts::{block_fault, is_block_start, is_flow_start, is_property};
 
 /// Whether a scalar that stands here is no key: a block scalar, or a value on its key's line.
@@ -87,83 +88,84 @@ fn read_line_flow(
 pub fn read_node(
     file: &File,
     progress: &mut Progress,
-    slot: Slot,
-    start: Cursor,
-    anchor: Option<usize>,
+    node: NodePlace,
 ) -> Result<BlockTask, ReadError>
     requires outside { progress.old.stack.flows ≡ [] }
-    requires node { IsNodeAt file.now.bytes.now slot start.column start.at }
+    requires node { IsNodeAt file.now.bytes.now node.slot node.start }
     ensures fault { IfErr result (IsStopInside (size file.now)) }
-    ensures is { (bound : ℕ) → size file.now < suc bound + start.at → Begins file.now.bytes.now bound (depth_in progress.old.stack)
-        (completing file.now.bytes.now anchor (node_reader (suc bound) anchor (slot_of slot) (depth_in progress.old.stack) start.column
-        (left_at file.now start.at))) (state_of progress.old.state) result (state_of progress.new.state) }
-    ensures within { IfOk result (λ task. IsBegun file.now.bytes.now start.at (depth_in progress.old.stack) task) }
+    ensures is { (bound : ℕ) → size file.now < suc bound + node.start.at → Begins file.now.bytes.now bound (depth_in progress.old.stack)
+        (completing file.now.bytes.now node.anchor (node_reader (suc bound) node.anchor (slot_of node.slot)
+        (depth_in progress.old.stack) node.start.column (left_at file.now node.start.at)))
+        (state_of progress.old.state) result (state_of progress.new.state) }
+    ensures within { IfOk result (λ task. IsBegun file.now.bytes.now node.start.at (depth_in progress.old.stack) task) }
     ensures same { IfOk result (λ _. progress.new.stack ≡ progress.old.stack) }
 {
-    if is_property(file.bytes, start.at) {
-        return read_property(file, progress, slot, start, anchor);
+    if is_property(file.bytes, node.start.at) {
+        return read_property(file, progress, node);
     }
-    if is_dash(file.bytes, start.at) {
-        return begin_sequence(file, progress, slot, start, anchor);
+    if is_dash(file.bytes, node.start.at) {
+        return begin_sequence(file, progress, node);
     }
-    if let Some(code) = block_fault(file.bytes, start.at) {
-        return Err(ReadError::Fault(FaultAt { code, at: start.at }));
+    if let Some(code) = block_fault(file.bytes, node.start.at) {
+        return Err(ReadError::Fault(FaultAt {
+            code,
+            at: node.start.at,
+        }));
     }
-    if is_flow_start(file.bytes, start.at) {
-        let part = read_line_flow(file, progress, slot.spot, start.at)?;
-        let part = complete(file, &mut progress.state, anchor, part)?;
+    if is_flow_start(file.bytes, node.start.at) {
+        let part = read_line_flow(file, progress, node.slot.spot, node.start.at)?;
+        let part = complete(file, &mut progress.state, node.anchor, part)?;
         return Ok(BlockTask::Read(part));
     }
-    if is_no_key(file.bytes, slot.spot, start.at) {
-        let part = read_line_scalar(file, &mut progress.state, slot.within, start.at)?;
-        let part = complete(file, &mut progress.state, anchor, part)?;
+    if is_no_key(file.bytes, node.slot.spot, node.start.at) {
+        let part = read_line_scalar(file, &mut progress.state, node.slot.within, node.start.at)?;
+        let part = complete(file, &mut progress.state, node.anchor, part)?;
         return Ok(BlockTask::Read(part));
     }
-    let Some(key) = key_at(file, start.at)? else {
-        let part = read_line_scalar(file, &mut progress.state, slot.within, start.at)?;
-        let part = complete(file, &mut progress.state, anchor, part)?;
+    let Some(key) = key_at(file, node.start.at)? else {
+        let part = read_line_scalar(file, &mut progress.state, node.slot.within, node.start.at)?;
+        let part = complete(file, &mut progress.state, node.anchor, part)?;
         return Ok(BlockTask::Read(part));
     };
-    begin_mapping(file, progress, slot.spot, start, anchor, key)
+    begin_mapping(file, progress, node, key)
 }
 
 /// Reads an alias, or finds the node behind an anchor. Behind an anchor neither stands.
 fn read_property(
     file: &File,
     progress: &mut Progress,
-    slot: Slot,
-    start: Cursor,
-    anchor: Option<usize>,
+    node: NodePlace,
 ) -> Result<BlockTask, ReadError>
     requires outside { progress.old.stack.flows ≡ [] }
-    requires node { IsNodeAt file.now.bytes.now slot start.column start.at }
-    requires property { content.is_property (text_at file.now.bytes.now start.at) ≡ true }
+    requires node { IsNodeAt file.now.bytes.now node.slot node.start }
+    requires property { content.is_property (text_at file.now.bytes.now node.start.at) ≡ true }
     ensures fault { IfErr result (IsStopInside (size file.now)) }
     ensures is { (bound : ℕ) → Begins file.now.bytes.now bound (depth_in progress.old.stack)
-        (completing file.now.bytes.now anchor (node_reader (suc bound) anchor (slot_of slot) (depth_in progress.old.stack) start.column
-        (left_at file.now start.at))) (state_of progress.old.state) result (state_of progress.new.state) }
-    ensures within { IfOk result (λ task. IsBegun file.now.bytes.now start.at (depth_in progress.old.stack) task) }
+        (completing file.now.bytes.now node.anchor (node_reader (suc bound) node.anchor (slot_of node.slot)
+        (depth_in progress.old.stack) node.start.column (left_at file.now node.start.at)))
+        (state_of progress.old.state) result (state_of progress.new.state) }
+    ensures within { IfOk result (λ task. IsBegun file.now.bytes.now node.start.at (depth_in progress.old.stack) task) }
     ensures same { IfOk result (λ _. progress.new.stack ≡ progress.old.stack) }
 {
     let unexpected = ReadError::Fault(FaultAt {
         code: YamlCode::UnexpectedCharacter,
-        at: start.at,
+        at: node.start.at,
     });
-    if anchor.is_some() {
+    if node.anchor.is_some() {
         return Err(unexpected);
     }
-    if has_no_name(file.bytes, start.at) {
+    if has_no_name(file.bytes, node.start.at) {
         return Err(unexpected);
     }
-    if !is_behind_key(slot.spot) && is_on_key(file, start.at)? {
+    if !is_behind_key(node.slot.spot) && is_on_key(file, node.start.at)? {
         return Err(ReadError::Fault(FaultAt {
             code: YamlCode::AnchorOrAlias,
-            at: start.at,
+            at: node.start.at,
         }));
     }
-    if begins(file.bytes, start.at, b'*') {
+    if begins(file.bytes, node.start.at, b'*') {
         let depth = progress.stack.depth();
-        let part = read_alias(file, &mut progress.state, start.at, depth)?;
+        let part = read_alias(file, &mut progress.state, node.start.at, depth)?;
         let next = line_ended(file.bytes, part.next)?;
         return Ok(BlockTask::Read(Part {
             node: part.node,
@@ -171,95 +173,100 @@ fn read_property(
             next,
         }));
     }
-    let rest = property_end(file.bytes, start.at);
-    find_rest(file, &mut progress.state, slot, start, rest, Some(start.at))
+    let rest = property_end(file.bytes, node.start.at);
+    let from = NodePlace {
+        anchor: Some(node.start.at),
+        ..node
+    };
+    find_rest(file, &mut progress.state, from, rest)
 }
 
 /// Begins the sequence whose first dash stands at an offset.
 fn begin_sequence(
     file: &File,
     progress: &mut Progress,
-    slot: Slot,
-    start: Cursor,
-    anchor: Option<usize>,
+    node: NodePlace,
 ) -> Result<BlockTask, ReadError>
-    requires dash { content.is_dash (text_at file.now.bytes.now start.at) ≡ true }
-    requires inside { start.at < size file.now }
-    requires node { IsNodeAt file.now.bytes.now slot start.column start.at }
+    requires dash { content.is_dash (text_at file.now.bytes.now node.start.at) ≡ true }
+    requires inside { node.start.at < size file.now }
+    requires node { IsNodeAt file.now.bytes.now node.slot node.start }
     requires outside { progress.old.stack.flows ≡ [] }
     ensures fault { IfErr result (IsStopInside (size file.now)) }
-    ensures is { (bound : ℕ) → Begins file.now.bytes.now bound (depth_in progress.old.stack) (completing file.now.bytes.now anchor
-        (block.block_sequence (block.block_node bound) (flow.flow_collection (suc bound)) (suc bound) (slot_of slot)
-        (depth_in progress.old.stack) start.column (left_at file.now start.at)))
+    ensures is { (bound : ℕ) → Begins file.now.bytes.now bound (depth_in progress.old.stack) (completing file.now.bytes.now node.anchor
+        (block.block_sequence (block.block_node bound) (flow.flow_collection (suc bound)) (suc bound) (slot_of node.slot)
+        (depth_in progress.old.stack) node.start.column (left_at file.now node.start.at)))
         (state_of progress.old.state) result (state_of progress.new.state) }
-    ensures within { IfOk result (λ task. IsBegun file.now.bytes.now start.at (depth_in progress.old.stack) task) }
+    ensures within { IfOk result (λ task. IsBegun file.now.bytes.now node.start.at (depth_in progress.old.stack) task) }
     ensures same { IfOk result (λ _. progress.new.stack ≡ progress.old.stack) }
 {
-    if is_behind_key(slot.spot) {
+    if is_behind_key(node.slot.spot) {
         return Err(ReadError::Fault(FaultAt {
             code: YamlCode::UnexpectedCharacter,
-            at: start.at,
+            at: node.start.at,
         }));
     }
-    if let Some(tab) = tab_before(slot.spot) {
+    if let Some(tab) = tab_before(node.slot.spot) {
         return Err(ReadError::Fault(FaultAt {
             code: YamlCode::TabInIndentation,
             at: tab,
         }));
     }
     let depth = progress.stack.depth();
-    progress.state.start(start.at, 1, depth)?;
-    Ok(BlockTask::Inside {
-        start,
-        anchor,
-        has: BlockOpen::Items(slot.in_mapping, Vec::new(file.alloc)),
-        at: start.at,
-    })
+    progress.state.start(node.start.at, 1, depth)?;
+    let begun = BlockStart {
+        start: node.start,
+        anchor: node.anchor,
+    };
+    Ok(BlockTask::Inside(OpenBlock {
+        begun,
+        has: BlockOpen::Items(node.slot.in_mapping, Vec::new(file.alloc)),
+        at: node.start.at,
+    }))
 }
 
 /// Begins the mapping whose first key was read from an offset on.
 fn begin_mapping(
     file: &File,
     progress: &mut Progress,
-    spot: Spot,
-    start: Cursor,
-    anchor: Option<usize>,
+    node: NodePlace,
     key: Key,
 ) -> Result<BlockTask, ReadError>
-    requires key { IsKeyBehind file.now.bytes.now start.at key }
-    requires column { start.column ≤ start.at }
-    requires tab { IsTabInside (size file.now) spot }
+    requires key { IsKeyBehind file.now.bytes.now node.start.at key }
+    requires node { IsNodeAt file.now.bytes.now node.slot node.start }
     requires outside { progress.old.stack.flows ≡ [] }
     ensures fault { IfErr result (IsStopInside (size file.now)) }
-    ensures is { (bound : ℕ) → Begins file.now.bytes.now bound (depth_in progress.old.stack) (completing file.now.bytes.now anchor
-        (block.block_mapping (block.block_node bound) (flow.flow_collection (suc bound)) (suc bound) (spot_of spot)
-        (depth_in progress.old.stack) start.column (left_at file.now start.at) (key_seen file.now.bytes.now key)))
+    ensures is { (bound : ℕ) → Begins file.now.bytes.now bound (depth_in progress.old.stack) (completing file.now.bytes.now node.anchor
+        (block.block_mapping (block.block_node bound) (flow.flow_collection (suc bound)) (suc bound) (spot_of node.slot.spot)
+        (depth_in progress.old.stack) node.start.column (left_at file.now node.start.at) (key_seen file.now.bytes.now key)))
         (state_of progress.old.state) result (state_of progress.new.state) }
-    ensures within { IfOk result (λ task. IsBegun file.now.bytes.now start.at (depth_in progress.old.stack) task) }
+    ensures within { IfOk result (λ task. IsBegun file.now.bytes.now node.start.at (depth_in progress.old.stack) task) }
     ensures same { IfOk result (λ _. progress.new.stack ≡ progress.old.stack) }
 {
     let wrong = ReadError::Fault(FaultAt {
         code: YamlCode::WrongKey,
-        at: start.at,
+        at: node.start.at,
     });
-    if !same_line(file.bytes, start.at, key.read.next) {
+    if !same_line(file.bytes, node.start.at, key.read.next) {
         return Err(wrong);
     }
-    if let Some(tab) = tab_before(spot) {
+    if let Some(tab) = tab_before(node.slot.spot) {
         return Err(ReadError::Fault(FaultAt {
             code: YamlCode::TabInIndentation,
             at: tab,
         }));
     }
-    if !is_short_key(file.bytes, start.at, &key.read) {
+    if !is_short_key(file.bytes, node.start.at, &key.read) {
         return Err(wrong);
     }
     let depth = progress.stack.depth();
-    progress.state.start(start.at, 2, depth)?;
-    Ok(BlockTask::Inside {
-        start,
-        anchor,
+    progress.state.start(node.start.at, 2, depth)?;
+    let begun = BlockStart {
+        start: node.start,
+        anchor: node.anchor,
+    };
+    Ok(BlockTask::Inside(OpenBlock {
+        begun,
         has: BlockOpen::Entries(Vec::new(file.alloc), key),
-        at: start.at,
-    })
+        at: node.start.at,
+    }))
 }

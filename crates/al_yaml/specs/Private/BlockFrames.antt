@@ -2,7 +2,7 @@
 use Rattle.std.specs.Prelude.{◌≡◌, ℕ, suc, ◌+◌, ◌<◌, ◌≤◌, List, length, map, Bool, true, Option, Some, None, Result, Ok, Err}
 use Rattle.al_scalar.specs.Line.{Line}
 use Rattle.al_scalar.specs.Places.{lines_at, text_at}
-use Rattle.al_scalar.specs.Scalar.{ScalarRead}
+use Rattle.al_scalar.specs.Scalar.{ScalarRead, span}
 use Rattle.al_scalar.specs.ReadScalar.{read_of}
 use Rattle.al_yaml_tree.specs.Node.{Node, Nodes, Entries, sequence, mapping, with_item, with_entry, scalar_node}
 use Rattle.al_yaml_tree.specs.Reading.{Reading, Part, part, spanned}
@@ -11,7 +11,7 @@ use Rattle.al_yaml_tree.specs.Flow.{flow_collection}
 use Rattle.al_yaml_tree.specs.Keys.{Key}
 use Rattle.al_yaml_tree.specs.Blocks.{BlockReader, sequence_entries, sequence_rest, mapping_entries, mapping_rest, block_node, bare_node}
 use Rattle.al_yaml_parts.specs.Private.BlockReads.{IsKeyBehind, IsTabInside, key_seen, slot_of}
-use Rattle.al_yaml_parts.specs.Private.Answers.{Mark, answered, noting}
+use Rattle.al_yaml_parts.specs.Private.Answers.{Answer, Mark, answered, noting}
 use Rattle.al_yaml_parts.specs.Private.Answers.{mark_of}
 use Rattle.al_yaml_parts.specs.Private.Places.{next_of, IsLineFrom}
 use Rattle.al_yaml_parts.specs.Private.Reads.{State, run, Stops, IsBehind, part_of}
@@ -21,6 +21,8 @@ use Rattle.al_yaml_parts.specs.declared.part.Part as code
 use Rattle.al_yaml_parts.specs.declared.content.Next.{Next}
 use Rattle.al_yaml_parts.specs.declared.content.Next.TheVariants as next
 use Rattle.al_yaml_parts.specs.declared.slots.Slot as slot
+use Rattle.al_yaml_parts.specs.declared.slots.Cursor as cursor
+use Rattle.al_yaml.specs.declared.block.NodePlace as place_type
 use Rattle.al_yaml.specs.declared.block.BlockOpen as open_type
 use Rattle.al_yaml.specs.declared.block.BlockOpen.TheVariants as open_code
 use Rattle.al_yaml_parts.specs.declared.frames.BlockWaiting as waiting_type
@@ -52,6 +54,10 @@ block_rest turns bound depth start column (items in_mapping done) ls =
     spanned sequence start (sequence_entries (block_node bound) (flow_collection (suc bound)) turns in_mapping column depth done ls)
 block_rest turns bound depth start column (entries done key) ls =
     spanned mapping start (mapping_entries (block_node bound) (flow_collection (suc bound)) turns column depth done key)
+
+-- a sequence that ends behind its last item
+abbrev pub closed_sequence : ℕ → Nodes → Part Node → State → Answer (Part Node)
+closed_sequence start done x s = Ok (part (sequence (with_item done x.value) (span start x.end)) x.end x.left, s)
 
 -- the same from behind the node that it waited for
 abbrev pub block_waits : ℕ → ℕ → ℕ → ℕ → ℕ → BlockWaiting → Part Node → Reading (Part Node)
@@ -87,12 +93,22 @@ node_reader bound None = block_node bound
 node_reader bound (Some at) = bare_node bound
 
 -- where a node may begin
-pub record IsNodeAt (bytes : List ℕ) (s : slot.Slot) (col at : ℕ) : Type 0 where
-  pub inside : at ≤ length bytes
-  pub column : col ≤ at
-  pub within : s.within ≤ at + 1
+pub record IsNodeAt (bytes : List ℕ) (s : slot.Slot) (p : cursor.Cursor) : Type 0 where
+  pub inside : p.at ≤ length bytes
+  pub column : p.column ≤ p.at
+  pub within : s.within ≤ p.at + 1
   pub empty : s.empty ≤ length bytes
   pub tab : IsTabInside (length bytes) s.spot
+
+-- what is left behind a dash, a colon or an anchor, on its line
+pub record IsRestAt (bytes : List ℕ) (x : place_type.NodePlace) (rest : ℕ) : Type 0 where
+  pub order : x.start.at ≤ rest
+  pub inside : rest ≤ length bytes
+  pub line : content.same_line (lines_at bytes x.start.at) (lines_at bytes rest) ≡ true
+  pub column : x.start.column ≤ x.start.at
+  pub within : x.slot.within ≤ rest + 1
+  pub empty : x.slot.empty ≤ length bytes
+  pub tab : IsTabInside (length bytes) x.slot.spot
 
 abbrev pub IsNextInside : ℕ → Next → Type 0
 IsNextInside size next.Ended = Unit {0}
@@ -112,13 +128,15 @@ IsNextBehind bytes p x = (content.content (lines_at bytes p.next) ≡ Ok (next_o
 
 abbrev pub Begins : List ℕ → ℕ → ℕ → Reading (Part Node) → State → Result task_type.BlockTask ReadError → State → Type 0
 Begins bytes bound depth reading before (Ok (task.Read p)) after = run before reading ≡ Ok (part_of bytes p, after)
-Begins bytes bound depth reading before (Ok (task.Inside start anchor has at)) after =
+Begins bytes bound depth reading before (Ok (task.Inside x)) after =
     run before reading
-    ≡ noting (mark_of bytes anchor)
-    (run after (block_rest (suc bound) bound (depth + 1) start.at start.column (block_open_of bytes has) (lines_at bytes at)))
-Begins bytes bound depth reading before (Ok (task.Node s p anchor)) after =
+    ≡ noting (mark_of bytes x.begun.anchor)
+    (run after (block_rest (suc bound) bound (depth + 1) x.begun.start.at x.begun.start.column (block_open_of bytes x.has)
+    (lines_at bytes x.at)))
+Begins bytes bound depth reading before (Ok (task.Node x)) after =
     run before reading
-    ≡ noting (mark_of bytes anchor) (run after (node_reader (suc bound) anchor (slot_of s) depth p.column (lines_at bytes p.at)))
+    ≡ noting (mark_of bytes x.anchor)
+    (run after (node_reader (suc bound) x.anchor (slot_of x.slot) depth x.start.column (lines_at bytes x.start.at)))
 Begins bytes bound depth reading before (Ok (task.Found r)) after = run before reading ≡ Ok (part_of bytes r.part, after)
 Begins bytes bound depth reading before (Err e) after = Stops reading before e
 
@@ -135,12 +153,12 @@ IsFoundPart bytes from r = IsBehind bytes from r.part × IsNextBehind bytes r.pa
 -- what stands behind a dash, a colon or an anchor: a node, or the empty node, which was read
 abbrev pub FindsBlock : List ℕ → BlockReader → Option ℕ → ℕ → Reading (Part Node) → State → Result task_type.BlockTask ReadError → State →
     Type 0
-FindsBlock bytes node anchor depth reading before (Ok (task.Node s p own)) after =
-    (own ≡ anchor) × (run before reading ≡ run after (node (slot_of s) depth p.column (lines_at bytes p.at)))
+FindsBlock bytes node anchor depth reading before (Ok (task.Node x)) after =
+    (x.anchor ≡ anchor) × (run before reading ≡ run after (node (slot_of x.slot) depth x.start.column (lines_at bytes x.start.at)))
 FindsBlock bytes node anchor depth reading before (Ok (task.Found r)) after =
     noting (mark_of bytes anchor) (run before reading) ≡ Ok (part_of bytes r.part, after)
 FindsBlock bytes node anchor depth reading before (Ok (task.Read p)) after = ⊥
-FindsBlock bytes node anchor depth reading before (Ok (task.Inside start a has at)) after = ⊥
+FindsBlock bytes node anchor depth reading before (Ok (task.Inside x)) after = ⊥
 FindsBlock bytes node anchor depth reading before (Err e) after = Stops reading before e
 
 -- ---- where it lies
@@ -151,29 +169,30 @@ IsOpenAt bytes column at (open_code.Entries v key) = IsKeyBehind bytes at key ×
 
 abbrev pub IsBegun : List ℕ → ℕ → ℕ → task_type.BlockTask → Type 0
 IsBegun bytes from depth (task.Read p) = IsBehind bytes from p
-IsBegun bytes from depth (task.Inside start anchor has at) =
-    (start.at ≡ from) × (at ≡ from) × (depth ≤ 64) × IsOpenAt bytes start.column at has
-IsBegun bytes from depth (task.Node s p anchor) = IsNodeAt bytes s p.column p.at × (from < p.at)
+IsBegun bytes from depth (task.Inside x) =
+    (x.begun.start.at ≡ from) × (x.at ≡ from) × (depth ≤ 64) × IsOpenAt bytes x.begun.start.column x.at x.has
+IsBegun bytes from depth (task.Node x) = IsNodeAt bytes x.slot x.start × (from < x.start.at)
 IsBegun bytes from depth (task.Found r) = IsBehind bytes from r.part × IsNextBehind bytes r.part r.next
 
 abbrev pub IsFoundFrom : List ℕ → ℕ → task_type.BlockTask → Type 0
-IsFoundFrom bytes from (task.Node s p anchor) = IsNodeAt bytes s p.column p.at × (from ≤ p.at)
+IsFoundFrom bytes from (task.Node x) = IsNodeAt bytes x.slot x.start × (from ≤ x.start.at)
 IsFoundFrom bytes from (task.Found r) = IsFoundPart bytes from r
 IsFoundFrom bytes from (task.Read p) = ⊥
-IsFoundFrom bytes from (task.Inside start anchor has at) = ⊥
+IsFoundFrom bytes from (task.Inside x) = ⊥
 
 -- ---- a collection goes on: with what it waits and for what, and behind the node that it waited for
 
 abbrev pub EntersWith : List ℕ → ℕ → ℕ → ℕ → ℕ → ℕ → Reading (Part Node) → State → waiting_type.BlockWaiting → task_type.BlockTask
     → State → Type 0
-EntersWith bytes bound turns depth start column reading before w (task.Node s p anchor) after =
-    (anchor ≡ None) × (run before reading ≡ answered (run after (block_node bound (slot_of s) depth p.column (lines_at bytes p.at)))
+EntersWith bytes bound turns depth start column reading before w (task.Node x) after =
+    (x.anchor ≡ None) × (run before reading
+    ≡ answered (run after (block_node bound (slot_of x.slot) depth x.start.column (lines_at bytes x.start.at)))
     (block_waits turns bound depth start column (block_waiting_of bytes w)))
 EntersWith bytes bound turns depth start column reading before w (task.Found r) after =
     run before reading
     ≡ run after (block_waits turns bound depth start column (block_waiting_of bytes w) (part_of bytes r.part))
 EntersWith bytes bound turns depth start column reading before w (task.Read p) after = ⊥
-EntersWith bytes bound turns depth start column reading before w (task.Inside s anchor has at) after = ⊥
+EntersWith bytes bound turns depth start column reading before w (task.Inside x) after = ⊥
 
 abbrev pub Enters : List ℕ → ℕ → ℕ → ℕ → ℕ → ℕ → Reading (Part Node) → State →
     Result (waiting_type.BlockWaiting × task_type.BlockTask) ReadError → State → Type 0
@@ -183,14 +202,14 @@ Enters bytes bound turns depth start column reading before (Err e) after = Stops
 
 abbrev pub ResumesBlock : List ℕ → ℕ → ℕ → ℕ → ℕ → ℕ → Option ℕ → BlockWaiting → Part Node → State
     → Result task_type.BlockTask ReadError → State → Type 0
-ResumesBlock bytes bound turns depth start column mark w x before (Ok (task.Inside s anchor has at)) after =
-    (s.at ≡ start) × (s.column ≡ column) × (anchor ≡ mark)
+ResumesBlock bytes bound turns depth start column mark w x before (Ok (task.Inside i)) after =
+    (i.begun.start.at ≡ start) × (i.begun.start.column ≡ column) × (i.begun.anchor ≡ mark)
     × (run before (block_waits turns bound depth start column w x)
-    ≡ run after (block_rest turns bound depth start column (block_open_of bytes has) (lines_at bytes at)))
+    ≡ run after (block_rest turns bound depth start column (block_open_of bytes i.has) (lines_at bytes i.at)))
 ResumesBlock bytes bound turns depth start column mark w x before (Ok (task.Found r)) after =
     noting (mark_of bytes mark) (run before (block_waits turns bound depth start column w x)) ≡ Ok (part_of bytes r.part, after)
 ResumesBlock bytes bound turns depth start column mark w x before (Ok (task.Read p)) after = ⊥
-ResumesBlock bytes bound turns depth start column mark w x before (Ok (task.Node s p anchor)) after = ⊥
+ResumesBlock bytes bound turns depth start column mark w x before (Ok (task.Node n)) after = ⊥
 ResumesBlock bytes bound turns depth start column mark w x before (Err e) after =
     Stops (block_waits turns bound depth start column w x) before e
 
@@ -198,7 +217,7 @@ abbrev pub IsEntered : List ℕ → ℕ → waiting_type.BlockWaiting × task_ty
 IsEntered bytes at r = IsFoundFrom bytes (suc at) r.1
 
 abbrev pub IsResumed : List ℕ → ℕ → task_type.BlockTask → Type 0
-IsResumed bytes from (task.Inside s anchor has at) = IsOpenAt bytes s.column at has × (from ≤ at)
+IsResumed bytes from (task.Inside x) = IsOpenAt bytes x.begun.start.column x.at x.has × (from ≤ x.at)
 IsResumed bytes from (task.Found r) = IsFoundPart bytes from r
 IsResumed bytes from (task.Read p) = ⊥
-IsResumed bytes from (task.Node s p anchor) = ⊥
+IsResumed bytes from (task.Node x) = ⊥

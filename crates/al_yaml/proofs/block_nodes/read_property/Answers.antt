@@ -16,58 +16,58 @@ use Rattle.al_yaml.proofs.block_nodes.read_property.Goals.{else-not-is_behind_ke
 use Rattle.al_yaml.proofs.block_nodes.read_property.Goals as goal
 
 pub returns-then-is_some-clause-is : goal.returns-then-is_some-clause-is
-returns-then-is_some-clause-is c = λ bound. second-stops bound c.args.anchor (slot_of c.args.slot) (depth_in c.args.progress.now.stack)
-    c.args.start.column (state_of c.args.progress.now.state) c.args.file.now.bytes.now c.args.start.at c.requires.node.inside
+returns-then-is_some-clause-is c = λ bound. second-stops bound c.args.node.anchor (slot_of c.args.node.slot) (depth_in c.args.progress.now.stack)
+    c.args.node.start.column (state_of c.args.progress.now.state) c.args.file.now.bytes.now c.args.node.start.at c.requires.node.inside
     c.requires.property c.if-is_some.ensures
 
 pub returns-then-has_no_name-clause-is : goal.returns-then-has_no_name-clause-is
 returns-then-has_no_name-clause-is c = λ bound.
     let bytes = c.args.file.now.bytes.now in
     let n = state_of c.args.progress.now.state in
-    let ls = lines_at bytes c.args.start.at in
+    let ls = lines_at bytes c.args.node.start.at in
     let d = depth_in c.args.progress.now.stack in
-    let node = completing bytes c.args.anchor (node_reader (suc bound) c.args.anchor (slot_of c.args.slot) d c.args.start.column ls) in
-    let whole = block_node (suc bound) (slot_of c.args.slot) d c.args.start.column ls in
-    let bare : run n node ≡ run n whole = no-anchor bound c.args.anchor (slot_of c.args.slot) (depth_in c.args.progress.now.stack)
-    c.args.start.column (state_of c.args.progress.now.state) c.args.file.now.bytes.now c.args.start.at c.if-is_some.ensures in
-    bare ∙ block-unnamed bound (slot_of c.args.slot) (depth_in c.args.progress.now.stack) c.args.start.column
-    (state_of c.args.progress.now.state) c.args.file.now.bytes.now c.args.start.at c.requires.node.inside c.requires.property
+    let node = completing bytes c.args.node.anchor (node_reader (suc bound) c.args.node.anchor (slot_of c.args.node.slot) d c.args.node.start.column ls) in
+    let whole = block_node (suc bound) (slot_of c.args.node.slot) d c.args.node.start.column ls in
+    let bare : run n node ≡ run n whole = no-anchor bound c.args.node.anchor (slot_of c.args.node.slot) (depth_in c.args.progress.now.stack)
+    c.args.node.start.column (state_of c.args.progress.now.state) c.args.file.now.bytes.now c.args.node.start.at c.if-is_some.ensures in
+    bare ∙ block-unnamed bound (slot_of c.args.node.slot) (depth_in c.args.progress.now.stack) c.args.node.start.column
+    (state_of c.args.progress.now.state) c.args.file.now.bytes.now c.args.node.start.at c.requires.node.inside c.requires.property
     c.if-has_no_name.ensures
 
 pub returns-then-branch-clause-is : goal.returns-then-branch-clause-is
 returns-then-branch-clause-is c = λ bound.
     let bytes = c.args.file.now.bytes.now in
     let n = state_of c.args.progress.now.state in
-    let ls = lines_at bytes c.args.start.at in
+    let ls = lines_at bytes c.args.node.start.at in
     let d = depth_in c.args.progress.now.stack in
-    let node = completing bytes c.args.anchor (node_reader (suc bound) c.args.anchor (slot_of c.args.slot) d c.args.start.column ls) in
-    let whole = block_node (suc bound) (slot_of c.args.slot) d c.args.start.column ls in
-    let bare : run n node ≡ run n whole = no-anchor bound c.args.anchor (slot_of c.args.slot) (depth_in c.args.progress.now.stack)
-    c.args.start.column (state_of c.args.progress.now.state) c.args.file.now.bytes.now c.args.start.at c.if-is_some.ensures in
-    bare ∙ block-on_key bound (slot_of c.args.slot) (depth_in c.args.progress.now.stack) c.args.start.column
-    (state_of c.args.progress.now.state) c.args.file.now.bytes.now c.args.start.at c.requires.node.inside c.requires.property
-    c.if-has_no_name.ensures (on-key (is_behind_key (slot_of c.args.slot).spot) (is_on_key ls) c.if-not-is_behind_key.ensures
+    let node = completing bytes c.args.node.anchor (node_reader (suc bound) c.args.node.anchor (slot_of c.args.node.slot) d c.args.node.start.column ls) in
+    let whole = block_node (suc bound) (slot_of c.args.node.slot) d c.args.node.start.column ls in
+    let bare : run n node ≡ run n whole = no-anchor bound c.args.node.anchor (slot_of c.args.node.slot) (depth_in c.args.progress.now.stack)
+    c.args.node.start.column (state_of c.args.progress.now.state) c.args.file.now.bytes.now c.args.node.start.at c.if-is_some.ensures in
+    bare ∙ block-on_key bound (slot_of c.args.node.slot) (depth_in c.args.progress.now.stack) c.args.node.start.column
+    (state_of c.args.progress.now.state) c.args.file.now.bytes.now c.args.node.start.at c.requires.node.inside c.requires.property
+    c.if-has_no_name.ensures (on-key (is_behind_key (slot_of c.args.node.slot).spot) (is_on_key ls) c.if-not-is_behind_key.ensures
     (sym c.if-branch.true ∙ c.in_ok-is_on_key.ensures))
 
 pub returns-in_err-part-clause-is : goal.returns-in_err-part-clause-is
 returns-in_err-part-clause-is c = λ bound.
     let bytes = c.args.file.now.bytes.now in
     let n = state_of c.args.progress.now.state in
-    let ls = lines_at bytes c.args.start.at in
+    let ls = lines_at bytes c.args.node.start.at in
     let d = depth_in c.args.progress.now.stack in
-    let node = completing bytes c.args.anchor (node_reader (suc bound) c.args.anchor (slot_of c.args.slot) d c.args.start.column ls) in
-    let whole = block_node (suc bound) (slot_of c.args.slot) d c.args.start.column ls in
-    let bare : run n node ≡ run n whole = no-anchor bound c.args.anchor (slot_of c.args.slot) (depth_in c.args.progress.now.stack)
-    c.args.start.column (state_of c.args.progress.now.state) c.args.file.now.bytes.now c.args.start.at c.if-is_some.ensures in
-    let free : false ≡ (not (is_behind_key (slot_of c.args.slot).spot) && is_on_key ls) = elim c.else-not-is_behind_key.branch [
-      | else-not-is_behind_key-via-then-not-is_behind_key+in_ok-is_on_key+else-branch w ↦ off-key (is_behind_key (slot_of c.args.slot).spot)
+    let node = completing bytes c.args.node.anchor (node_reader (suc bound) c.args.node.anchor (slot_of c.args.node.slot) d c.args.node.start.column ls) in
+    let whole = block_node (suc bound) (slot_of c.args.node.slot) d c.args.node.start.column ls in
+    let bare : run n node ≡ run n whole = no-anchor bound c.args.node.anchor (slot_of c.args.node.slot) (depth_in c.args.progress.now.stack)
+    c.args.node.start.column (state_of c.args.progress.now.state) c.args.file.now.bytes.now c.args.node.start.at c.if-is_some.ensures in
+    let free : false ≡ (not (is_behind_key (slot_of c.args.node.slot).spot) && is_on_key ls) = elim c.else-not-is_behind_key.branch [
+      | else-not-is_behind_key-via-then-not-is_behind_key+in_ok-is_on_key+else-branch w ↦ off-key (is_behind_key (slot_of c.args.node.slot).spot)
           (is_on_key ls) (sym w.if-branch.false ∙ w.in_ok-is_on_key.ensures)
-      | else-not-is_behind_key-via-else-not-is_behind_key w ↦ off-line (is_behind_key (slot_of c.args.slot).spot) (is_on_key ls) w.if-not-is_behind_key.ensures
+      | else-not-is_behind_key-via-else-not-is_behind_key w ↦ off-line (is_behind_key (slot_of c.args.node.slot).spot) (is_on_key ls) w.if-not-is_behind_key.ensures
     ] in
     let p = err_from_is_err_and c.from_residual-in_err-part.result c.from_residual-in_err-part.ensures.1 in
     rw (p.1, p.2) (stops-from node whole n n c.in_err-part.field-0.0 bare
-    (alias-stops bound (slot_of c.args.slot) (depth_in c.args.progress.now.stack) c.args.start.column
-    (state_of c.args.progress.now.state) c.args.file.now.bytes.now c.args.start.at c.requires.node.inside c.requires.property
+    (alias-stops bound (slot_of c.args.node.slot) (depth_in c.args.progress.now.stack) c.args.node.start.column
+    (state_of c.args.progress.now.state) c.args.file.now.bytes.now c.args.node.start.at c.requires.node.inside c.requires.property
     c.if-has_no_name.ensures free c.if-begins.ensures.value c.in_err-part.field-0.0
     (rw c.depth-depth.ensures.value at c.in_err-part.ensures.is)))
 
@@ -75,20 +75,20 @@ pub returns-in_err-next-clause-is : goal.returns-in_err-next-clause-is
 returns-in_err-next-clause-is c = λ bound.
     let bytes = c.args.file.now.bytes.now in
     let n = state_of c.args.progress.now.state in
-    let ls = lines_at bytes c.args.start.at in
+    let ls = lines_at bytes c.args.node.start.at in
     let d = depth_in c.args.progress.now.stack in
-    let node = completing bytes c.args.anchor (node_reader (suc bound) c.args.anchor (slot_of c.args.slot) d c.args.start.column ls) in
-    let whole = block_node (suc bound) (slot_of c.args.slot) d c.args.start.column ls in
-    let bare : run n node ≡ run n whole = no-anchor bound c.args.anchor (slot_of c.args.slot) (depth_in c.args.progress.now.stack)
-    c.args.start.column (state_of c.args.progress.now.state) c.args.file.now.bytes.now c.args.start.at c.if-is_some.ensures in
-    let free : false ≡ (not (is_behind_key (slot_of c.args.slot).spot) && is_on_key ls) = elim c.else-not-is_behind_key.branch [
-      | else-not-is_behind_key-via-then-not-is_behind_key+in_ok-is_on_key+else-branch w ↦ off-key (is_behind_key (slot_of c.args.slot).spot)
+    let node = completing bytes c.args.node.anchor (node_reader (suc bound) c.args.node.anchor (slot_of c.args.node.slot) d c.args.node.start.column ls) in
+    let whole = block_node (suc bound) (slot_of c.args.node.slot) d c.args.node.start.column ls in
+    let bare : run n node ≡ run n whole = no-anchor bound c.args.node.anchor (slot_of c.args.node.slot) (depth_in c.args.progress.now.stack)
+    c.args.node.start.column (state_of c.args.progress.now.state) c.args.file.now.bytes.now c.args.node.start.at c.if-is_some.ensures in
+    let free : false ≡ (not (is_behind_key (slot_of c.args.node.slot).spot) && is_on_key ls) = elim c.else-not-is_behind_key.branch [
+      | else-not-is_behind_key-via-then-not-is_behind_key+in_ok-is_on_key+else-branch w ↦ off-key (is_behind_key (slot_of c.args.node.slot).spot)
           (is_on_key ls) (sym w.if-branch.false ∙ w.in_ok-is_on_key.ensures)
-      | else-not-is_behind_key-via-else-not-is_behind_key w ↦ off-line (is_behind_key (slot_of c.args.slot).spot) (is_on_key ls) w.if-not-is_behind_key.ensures
+      | else-not-is_behind_key-via-else-not-is_behind_key w ↦ off-line (is_behind_key (slot_of c.args.node.slot).spot) (is_on_key ls) w.if-not-is_behind_key.ensures
     ] in
     let p = err_from_is_err_and c.from_residual-in_err-next.result c.from_residual-in_err-next.ensures.1 in
-    rw (p.1, p.2) (bare ∙ alias-wrong bound (slot_of c.args.slot) (depth_in c.args.progress.now.stack) c.args.start.column
-    (state_of c.args.progress.now.state) c.args.file.now.bytes.now c.args.start.at c.requires.node.inside c.requires.property
+    rw (p.1, p.2) (bare ∙ alias-wrong bound (slot_of c.args.node.slot) (depth_in c.args.progress.now.stack) c.args.node.start.column
+    (state_of c.args.progress.now.state) c.args.file.now.bytes.now c.args.node.start.at c.requires.node.inside c.requires.property
     c.if-has_no_name.ensures free c.if-begins.ensures.value (state_of c.read_alias.new.state) (part_of bytes c.in_ok-part.part)
     (rw c.depth-depth.ensures.value at c.in_ok-part.ensures.is) (fault_of c.in_err-next.field-0.0) c.in_err-next.ensures.is)
 
@@ -96,19 +96,19 @@ pub returns-then-begins-clause-is : goal.returns-then-begins-clause-is
 returns-then-begins-clause-is c = λ bound.
     let bytes = c.args.file.now.bytes.now in
     let n = state_of c.args.progress.now.state in
-    let ls = lines_at bytes c.args.start.at in
+    let ls = lines_at bytes c.args.node.start.at in
     let d = depth_in c.args.progress.now.stack in
-    let node = completing bytes c.args.anchor (node_reader (suc bound) c.args.anchor (slot_of c.args.slot) d c.args.start.column ls) in
-    let whole = block_node (suc bound) (slot_of c.args.slot) d c.args.start.column ls in
-    let bare : run n node ≡ run n whole = no-anchor bound c.args.anchor (slot_of c.args.slot) (depth_in c.args.progress.now.stack)
-    c.args.start.column (state_of c.args.progress.now.state) c.args.file.now.bytes.now c.args.start.at c.if-is_some.ensures in
-    let free : false ≡ (not (is_behind_key (slot_of c.args.slot).spot) && is_on_key ls) = elim c.else-not-is_behind_key.branch [
-      | else-not-is_behind_key-via-then-not-is_behind_key+in_ok-is_on_key+else-branch w ↦ off-key (is_behind_key (slot_of c.args.slot).spot)
+    let node = completing bytes c.args.node.anchor (node_reader (suc bound) c.args.node.anchor (slot_of c.args.node.slot) d c.args.node.start.column ls) in
+    let whole = block_node (suc bound) (slot_of c.args.node.slot) d c.args.node.start.column ls in
+    let bare : run n node ≡ run n whole = no-anchor bound c.args.node.anchor (slot_of c.args.node.slot) (depth_in c.args.progress.now.stack)
+    c.args.node.start.column (state_of c.args.progress.now.state) c.args.file.now.bytes.now c.args.node.start.at c.if-is_some.ensures in
+    let free : false ≡ (not (is_behind_key (slot_of c.args.node.slot).spot) && is_on_key ls) = elim c.else-not-is_behind_key.branch [
+      | else-not-is_behind_key-via-then-not-is_behind_key+in_ok-is_on_key+else-branch w ↦ off-key (is_behind_key (slot_of c.args.node.slot).spot)
           (is_on_key ls) (sym w.if-branch.false ∙ w.in_ok-is_on_key.ensures)
-      | else-not-is_behind_key-via-else-not-is_behind_key w ↦ off-line (is_behind_key (slot_of c.args.slot).spot) (is_on_key ls) w.if-not-is_behind_key.ensures
+      | else-not-is_behind_key-via-else-not-is_behind_key w ↦ off-line (is_behind_key (slot_of c.args.node.slot).spot) (is_on_key ls) w.if-not-is_behind_key.ensures
     ] in
-    bare ∙ alias-ok bound (slot_of c.args.slot) (depth_in c.args.progress.now.stack) c.args.start.column
-    (state_of c.args.progress.now.state) c.args.file.now.bytes.now c.args.start.at c.requires.node.inside c.requires.property
+    bare ∙ alias-ok bound (slot_of c.args.node.slot) (depth_in c.args.progress.now.stack) c.args.node.start.column
+    (state_of c.args.progress.now.state) c.args.file.now.bytes.now c.args.node.start.at c.requires.node.inside c.requires.property
     c.if-has_no_name.ensures free c.if-begins.ensures.value (state_of c.read_alias.new.state) (part_of bytes c.in_ok-part.part)
     (rw c.depth-depth.ensures.value at c.in_ok-part.ensures.is) (lines_at bytes c.in_ok-next.next) c.in_ok-next.ensures.is
 
@@ -116,23 +116,23 @@ pub returns-clause-is : goal.returns-clause-is
 returns-clause-is c = λ bound.
     let bytes = c.args.file.now.bytes.now in
     let n = state_of c.args.progress.now.state in
-    let ls = lines_at bytes c.args.start.at in
+    let ls = lines_at bytes c.args.node.start.at in
     let d = depth_in c.args.progress.now.stack in
-    let node = completing bytes c.args.anchor (node_reader (suc bound) c.args.anchor (slot_of c.args.slot) d c.args.start.column ls) in
-    let whole = block_node (suc bound) (slot_of c.args.slot) d c.args.start.column ls in
-    let bare : run n node ≡ run n whole = no-anchor bound c.args.anchor (slot_of c.args.slot) (depth_in c.args.progress.now.stack)
-    c.args.start.column (state_of c.args.progress.now.state) c.args.file.now.bytes.now c.args.start.at c.if-is_some.ensures in
-    let free : false ≡ (not (is_behind_key (slot_of c.args.slot).spot) && is_on_key ls) = elim c.else-not-is_behind_key.branch [
-      | else-not-is_behind_key-via-then-not-is_behind_key+in_ok-is_on_key+else-branch w ↦ off-key (is_behind_key (slot_of c.args.slot).spot)
+    let node = completing bytes c.args.node.anchor (node_reader (suc bound) c.args.node.anchor (slot_of c.args.node.slot) d c.args.node.start.column ls) in
+    let whole = block_node (suc bound) (slot_of c.args.node.slot) d c.args.node.start.column ls in
+    let bare : run n node ≡ run n whole = no-anchor bound c.args.node.anchor (slot_of c.args.node.slot) (depth_in c.args.progress.now.stack)
+    c.args.node.start.column (state_of c.args.progress.now.state) c.args.file.now.bytes.now c.args.node.start.at c.if-is_some.ensures in
+    let free : false ≡ (not (is_behind_key (slot_of c.args.node.slot).spot) && is_on_key ls) = elim c.else-not-is_behind_key.branch [
+      | else-not-is_behind_key-via-then-not-is_behind_key+in_ok-is_on_key+else-branch w ↦ off-key (is_behind_key (slot_of c.args.node.slot).spot)
           (is_on_key ls) (sym w.if-branch.false ∙ w.in_ok-is_on_key.ensures)
-      | else-not-is_behind_key-via-else-not-is_behind_key w ↦ off-line (is_behind_key (slot_of c.args.slot).spot) (is_on_key ls) w.if-not-is_behind_key.ensures
+      | else-not-is_behind_key-via-else-not-is_behind_key w ↦ off-line (is_behind_key (slot_of c.args.node.slot).spot) (is_on_key ls) w.if-not-is_behind_key.ensures
     ] in
-    let content = content_reader bound (slot_of c.args.slot) (depth_in c.args.progress.now.stack) c.args.start.column
-    (state_of c.args.progress.now.state) c.args.file.now.bytes.now c.args.start.at c.requires.node.inside c.requires.property in
+    let content = content_reader bound (slot_of c.args.node.slot) (depth_in c.args.progress.now.stack) c.args.node.start.column
+    (state_of c.args.progress.now.state) c.args.file.now.bytes.now c.args.node.start.at c.requires.node.inside c.requires.property in
     begins-from bytes bound d n (state_of c.find_rest.new.state) node whole c.find_rest.result bare
-    (property-begins bytes bound d c.args.start.at n (state_of c.find_rest.new.state) whole
-    (rest_node content (slot_of c.args.slot) d c.args.start.column ls (lines_at bytes c.property_end-rest.result)) c.find_rest.result
-    (ap (run n) (block-anchor bound (slot_of c.args.slot) (depth_in c.args.progress.now.stack) c.args.start.column
-    (state_of c.args.progress.now.state) c.args.file.now.bytes.now c.args.start.at c.requires.node.inside c.requires.property
+    (property-begins bytes bound d c.args.node.start.at n (state_of c.find_rest.new.state) whole
+    (rest_node content (slot_of c.args.node.slot) d c.args.node.start.column ls (lines_at bytes c.property_end-rest.result)) c.find_rest.result
+    (ap (run n) (block-anchor bound (slot_of c.args.node.slot) (depth_in c.args.progress.now.stack) c.args.node.start.column
+    (state_of c.args.progress.now.state) c.args.file.now.bytes.now c.args.node.start.at c.requires.node.inside c.requires.property
     c.if-has_no_name.ensures free c.if-begins.ensures.value c.property_end-rest.result c.property_end-rest.ensures.lines))
     (c.find_rest.ensures.is content d))
