@@ -4,7 +4,7 @@ use crate::files::{ACTION, action};
 use al_check::{Actions, Answers, Env, File, Iface, Parameters, Role};
 use al_expr::{Context, Form};
 use al_session::{Lint, Site, Target};
-use al_text::{CallCode, Code, Fault, KeyCode, Span};
+use al_text::{CallCode, Caller, Code, Fault, KeyCode, Span};
 use al_tree::{Tree, read_workflow};
 use al_yaml::{Doc, read_yaml};
 use std::alloc::{AllocError, Global};
@@ -81,7 +81,7 @@ fn lints(alloc: Global) -> Result<bool, AllocError> {
 
 /// Whether a call is that of a file that calls itself, on its fifth line.
 fn is_own_call(site: &Site<'_>) -> bool {
-    site.code == Code::Call(CallCode::LeadsBack)
+    site.code == Code::Call(CallCode::LeadsBack, Caller::Job)
         && site.span == Span { start: 42, end: 67 }
         && site.text == "./.github/workflows/r.yml"
 }
