@@ -6,8 +6,8 @@ ghost use Rattle.al_scalar.specs.Places.{lines_at, text_at};
 ghost use Rattle.al_yaml_tree.specs.Content as content;
 ghost use Rattle.al_yaml_parts.specs.Private.Files.{left_at, size};
 ghost use Rattle.al_yaml_tree.specs.Flow as flow;
-ghost use Rattle.al_yaml.specs.Private.FlowFrames.{IsFirst, IsPut, IsStep, Opens, Resumes, Steps};
-ghost use Rattle.al_yaml.specs.Private.FlowFrames.{after_at, closed_of, open_of, waiting_of};
+ghost use Rattle.al_yaml.specs.Private.FlowFrames.{IsFirst, IsPlaceInside, IsPut, IsStep, Opens, Resumes, Steps};
+ghost use Rattle.al_yaml.specs.Private.FlowFrames.{after_at, closed_of, closer_of, open_of, waiting_of};
 ghost use Rattle.al_yaml.specs.Private.Frames as frames;
 ghost use Rattle.al_yaml.specs.Private.Frames.{open_rest};
 ghost use Rattle.al_yaml_tree.specs.Limits.{broken_limit};
@@ -42,6 +42,14 @@ use al_yaml_tree::{Entry, Node, entry_of, scalar_node};
 pub enum After {
     GoesOn(usize),
     Closes(usize),
+}
+
+/// Where an open flow collection is read: where it begins, from where on, and the depth of a collection in it.
+#[derive(Clone, Copy)]
+pub struct FlowPlace {
+    pub opening: usize,
+    pub at: usize,
+    pub depth: u32,
 }
 
 /// How far one step reads: to what stands behind a node, or to the bracket of a collection inside.
@@ -124,103 +132,86 @@ fn put_entry(
 fn read_property_item(
     file: &File,
     state: &mut State,
-    opening: usize,
     items: &mut Vec<Node>,
-    at: usize,
-    depth: u32,
+    place: FlowPlace,
 ) -> Result<FlowStep, ReadError>
-    requires inside { at ≤ size file.now }
-    requires opening { opening ≤ size file.now }
-    requires property { content.is_property (text_at file.now.bytes.now at) ≡ true }
-    requires solid { false ≡ line.is_empty (text_at file.now.bytes.now at) }
-    requires other { false ≡ line.begins 93 (text_at file.now.bytes.now at) }
+    requires place { IsPlaceInside (size file.now) place }
+    requires property { content.is_property (text_at file.now.bytes.now place.at) ≡ true }
+    requires solid { false ≡ line.is_empty (text_at file.now.bytes.now place.at) }
+    requires other { false ≡ line.begins 93 (text_at file.now.bytes.now place.at) }
     ensures fault { IfErr result (IsStopInside (size file.now)) }
-    ensures is { Steps file.now.bytes.now depth opening (λ c t. open_rest c t depth opening
-        (frames.items (nodes_of (map view items.old.items))) (left_at file.now at)) (state_of state.old) (open_code.Items items.new)
+    ensures is { Steps file.now.bytes.now place.depth place.opening (λ c t. open_rest c t place.depth place.opening
+        (frames.items (nodes_of (map view items.old.items))) (left_at file.now place.at)) (state_of state.old) (open_code.Items items.new)
         result (state_of state.new) }
-    ensures within { IfOk result (IsStep file.now.bytes.now at) }
+    ensures within { IfOk result (IsStep file.now.bytes.now place.at) }
 {
-    match read_flow_property(file, state, opening, None, at, depth)? {
-        Found::Node(part) => Ok(FlowStep::Behind(put_item(file, opening, items, part)?)),
+    match read_flow_property(file, state, place.opening, None, place.at, place.depth)? {
+        Found::Node(part) => Ok(FlowStep::Behind(put_item(file, place.opening, items, part)?)),
         Found::Opens(bracket) => Ok(FlowStep::Opens(bracket)),
     }
 }
 
-/// Reads an open sequence to what stands behind its next item, to its closer or to a bracket in it.
+/// Reads an open sequence, where its closer doesn't stand, to what stands behind its next item or to a bracket in it.
 fn read_item(
     file: &File,
     state: &mut State,
-    opening: usize,
     items: &mut Vec<Node>,
-    at: usize,
-    depth: u32,
+    place: FlowPlace,
 ) -> Result<FlowStep, ReadError>
-    requires inside { at ≤ size file.now }
-    requires opening { opening ≤ size file.now }
+    requires place { IsPlaceInside (size file.now) place }
+    requires solid { false ≡ line.is_empty (text_at file.now.bytes.now place.at) }
+    requires other { false ≡ line.begins 93 (text_at file.now.bytes.now place.at) }
     ensures fault { IfErr result (IsStopInside (size file.now)) }
-    ensures is { Steps file.now.bytes.now depth opening (λ c t. open_rest c t depth opening
-        (frames.items (nodes_of (map view items.old.items))) (left_at file.now at)) (state_of state.old) (open_code.Items items.new)
+    ensures is { Steps file.now.bytes.now place.depth place.opening (λ c t. open_rest c t place.depth place.opening
+        (frames.items (nodes_of (map view items.old.items))) (left_at file.now place.at)) (state_of state.old) (open_code.Items items.new)
         result (state_of state.new) }
-    ensures within { IfOk result (IsStep file.now.bytes.now at) }
+    ensures within { IfOk result (IsStep file.now.bytes.now place.at) }
 {
-    if is_text_end(file.bytes, at) {
-        return Err(ReadError::Fault(FaultAt {
-            code: YamlCode::UnclosedFlow,
-            at: opening,
+    // a bracket has no fault, and is neither anchor nor alias
+    if is_flow_start(file.bytes, place.at) {
+        return Ok(FlowStep::Opens(Bracket {
+            at: place.at,
+            anchor: None,
         }));
     }
-    if begins(file.bytes, at, b']') {
-        return Ok(FlowStep::Behind(After::Closes(at + 1)));
+    if is_property(file.bytes, place.at) {
+        return read_property_item(file, state, items, place);
     }
-    // a bracket has no fault, and is neither anchor nor alias
-    if is_flow_start(file.bytes, at) {
-        return Ok(FlowStep::Opens(Bracket { at, anchor: None }));
-    }
-    if is_property(file.bytes, at) {
-        return read_property_item(file, state, opening, items, at, depth);
-    }
-    let part = read_flow_scalar(file, state, at)?;
-    Ok(FlowStep::Behind(put_item(file, opening, items, part)?))
+    let part = read_flow_scalar(file, state, place.at)?;
+    Ok(FlowStep::Behind(put_item(file, place.opening, items, part)?))
 }
 
-/// Reads an open mapping to what stands behind its next entry, to its closer or to a bracket in it.
+/// Reads an open mapping, where its closer doesn't stand, to what stands behind its next entry or to a bracket in it.
 #[inline(never)]
 fn read_entry(
     file: &File,
     state: &mut State,
-    opening: usize,
     mapping: &mut OpenMapping,
-    at: usize,
-    depth: u32,
+    place: FlowPlace,
 ) -> Result<FlowStep, ReadError>
-    requires inside { at ≤ size file.now }
-    requires opening { opening ≤ size file.now }
+    requires place { IsPlaceInside (size file.now) place }
+    requires solid { false ≡ line.is_empty (text_at file.now.bytes.now place.at) }
+    requires other { false ≡ line.begins 125 (text_at file.now.bytes.now place.at) }
     ensures fault { IfErr result (IsStopInside (size file.now)) }
-    ensures is { Steps file.now.bytes.now depth opening (λ c t. open_rest c t depth opening
-        (frames.entries (entries_of (map entry_view mapping.old.entries.items))) (left_at file.now at)) (state_of state.old)
+    ensures is { Steps file.now.bytes.now place.depth place.opening (λ c t. open_rest c t place.depth place.opening
+        (frames.entries (entries_of (map entry_view mapping.old.entries.items))) (left_at file.now place.at)) (state_of state.old)
         (open_code.Entries mapping.new) result (state_of state.new) }
-    ensures within { IfOk result (IsStep file.now.bytes.now at) }
+    ensures within { IfOk result (IsStep file.now.bytes.now place.at) }
 {
-    if is_text_end(file.bytes, at) {
-        return Err(ReadError::Fault(FaultAt {
-            code: YamlCode::UnclosedFlow,
-            at: opening,
-        }));
-    }
-    if begins(file.bytes, at, b'}') {
-        return Ok(FlowStep::Behind(After::Closes(at + 1)));
-    }
-    let key = match read_flow_key(file, state, at)? {
+    let key = match read_flow_key(file, state, place.at)? {
         FoundKey::Key(key) => key,
         FoundKey::Opens => {
             mapping.waits = None;
-            return Ok(FlowStep::Opens(Bracket { at, anchor: None }));
+            return Ok(FlowStep::Opens(Bracket {
+                at: place.at,
+                anchor: None,
+            }));
         }
     };
-    match read_flow_value(file, state, opening, &key, depth)? {
+    match read_flow_value(file, state, place.opening, &key, place.depth)? {
         Found::Node(part) => Ok(FlowStep::Behind(put_entry(
             file,
-            opening,
+            place.opening,
             &mut mapping.entries,
             key.read,
             part,
@@ -232,26 +223,43 @@ fn read_entry(
     }
 }
 
+/// The character that closes a collection.
+#[inline(always)]
+fn closer(has: &Open) -> u8
+    ensures { result ≡ closer_of (open_of has.now) }
+{
+    match has {
+        Open::Items(_) => b']',
+        Open::Entries(_) => b'}',
+    }
+}
+
 /// Reads an open collection to what stands behind the next node in it, to its closer or to a bracket in it.
 fn read_inside(
     file: &File,
     state: &mut State,
-    opening: usize,
     has: &mut Open,
-    at: usize,
-    depth: u32,
+    place: FlowPlace,
 ) -> Result<FlowStep, ReadError>
-    requires inside { at ≤ size file.now }
-    requires opening { opening ≤ size file.now }
+    requires place { IsPlaceInside (size file.now) place }
     ensures fault { IfErr result (IsStopInside (size file.now)) }
-    ensures is { Steps file.now.bytes.now depth opening
-        (λ c t. open_rest c t depth opening (open_of has.old) (left_at file.now at))
+    ensures is { Steps file.now.bytes.now place.depth place.opening
+        (λ c t. open_rest c t place.depth place.opening (open_of has.old) (left_at file.now place.at))
         (state_of state.old) has.new result (state_of state.new) }
-    ensures within { IfOk result (IsStep file.now.bytes.now at) }
+    ensures within { IfOk result (IsStep file.now.bytes.now place.at) }
 {
+    if is_text_end(file.bytes, place.at) {
+        return Err(ReadError::Fault(FaultAt {
+            code: YamlCode::UnclosedFlow,
+            at: place.opening,
+        }));
+    }
+    if begins(file.bytes, place.at, closer(has)) {
+        return Ok(FlowStep::Behind(After::Closes(place.at + 1)));
+    }
     match has {
-        Open::Items(items) => read_item(file, state, opening, items, at, depth),
-        Open::Entries(mapping) => read_entry(file, state, opening, mapping, at, depth),
+        Open::Items(items) => read_item(file, state, items, place),
+        Open::Entries(mapping) => read_entry(file, state, mapping, place),
     }
 }
 
@@ -368,10 +376,6 @@ pub fn read_flow_collection(
         let from = match next {
             After::Closes(end) => {
                 let part = closed_part(opening, has, end);
-                // what is open outside isn't moved
-                if progress.stack.len() == outside {
-                    return Ok(part);
-                }
                 let Some(frame) = progress.stack.pop_flow() else {
                     return Ok(part);
                 };
@@ -384,14 +388,13 @@ pub fn read_flow_collection(
             After::GoesOn(from) => from,
         };
         let inner = depth + 1 + (progress.stack.len() - outside) as u32;
-        let bracket = match read_inside(
-            file,
-            &mut progress.state,
+        let place = FlowPlace {
             opening,
-            &mut has,
-            from,
-            inner,
-        )? {
+            at: from,
+            depth: inner,
+        };
+        let step = read_inside(file, &mut progress.state, &mut has, place)?;
+        let bracket = match step {
             FlowStep::Behind(after) => {
                 next = after;
                 continue 'nodes;
@@ -399,23 +402,14 @@ pub fn read_flow_collection(
             FlowStep::Opens(bracket) => bracket,
         };
         progress.state.start(bracket.at, 1, inner)?;
+        progress.stack.push_flow(FlowFrame {
+            opening,
+            has,
+            inner: bracket,
+        });
         let (nothing, first) = open_at(file, bracket.at);
-        match first {
-            After::Closes(end) => {
-                let part = closed_part(bracket.at, nothing, end);
-                let part = complete(file, &mut progress.state, bracket.anchor, part)?;
-                next = resume(file, opening, &mut has, bracket.at, part)?;
-            }
-            After::GoesOn(inside) => {
-                progress.stack.push_flow(FlowFrame {
-                    opening,
-                    has,
-                    inner: bracket,
-                });
-                opening = bracket.at;
-                has = nothing;
-                next = After::GoesOn(inside);
-            }
-        }
+        opening = bracket.at;
+        has = nothing;
+        next = first;
     }
 }

@@ -22,6 +22,7 @@ use Rattle.al_yaml_parts.specs.declared.frames.Open.TheVariants as open_code
 use Rattle.al_yaml_parts.specs.declared.frames.FlowFrame.{FlowFrame}
 use Rattle.al_yaml.specs.declared.flow.After.{After}
 use Rattle.al_yaml.specs.declared.flow.After.TheVariants as after
+use Rattle.al_yaml.specs.declared.flow.FlowPlace.{FlowPlace}
 use Rattle.al_yaml.specs.declared.flow.FlowStep.{FlowStep}
 use Rattle.al_yaml.specs.declared.flow.FlowStep.TheVariants as step
 
@@ -46,6 +47,11 @@ frame_of bytes f = record { opening = f.opening; mark = mark_of bytes f.inner.an
 abbrev pub closed_of : ℕ → frames.Open → ℕ → tree.Node
 closed_of opening (frames.items ns) end = tree.sequence ns (span opening end)
 closed_of opening (frames.entries es) end = tree.mapping es (span opening end)
+
+-- the character that closes a collection
+abbrev pub closer_of : frames.Open → ℕ
+closer_of (frames.items ns) = 93
+closer_of (frames.entries es) = 125
 
 -- ---- a step of an open collection, and what comes behind a node in it
 
@@ -107,6 +113,11 @@ IsPut size from next = (from < after_at next) × (after_at next ≤ size)
 abbrev pub IsStep : List ℕ → ℕ → FlowStep → Type 0
 IsStep bytes at (step.Behind next) = IsPut (length bytes) at next
 IsStep bytes at (step.Opens b) = IsBracket bytes at b.at
+
+-- a collection is read in the file
+pub record IsPlaceInside (size : ℕ) (p : FlowPlace) : Type 0 where
+  pub inside : p.at ≤ size
+  pub opening : p.opening ≤ size
 
 -- the collections that are open begin in the file
 abbrev pub AreOpen : ℕ → List FlowFrame → Type 0
