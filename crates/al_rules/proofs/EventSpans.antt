@@ -17,10 +17,10 @@ use Rattle.al_tree.specs.Values.{entries_at, entries_in, items_in, text_at, text
 use Rattle.al_rules.specs.Events.{activity_faults, cron_faults, event_faults, filter_faults, filters_faults, input_faults, inputs_faults}
 use Rattle.al_rules.specs.Events.{name_faults, named_faults, on_faults, pattern_faults, schedule_faults, type_faults}
 use Rattle.al_rules.specs.Names.{activities_of, call_types, dispatch_types}
-use Rattle.al_rules_reports.specs.Words.{Named, of_key, of_scalar, unless_among}
+use Rattle.al_rules_settings.specs.Words.{Named, of_key, of_scalar, unless_among}
 use Rattle.al_base.proofs.Elements.{each_of, map_or}
-use Rattle.al_rules_reports.proofs.Inside.{Are, Fine, Lies, NameLies, Pair, Text, about_lies, both, entries_at_fine, entries_in_fine}
-use Rattle.al_rules_reports.proofs.Inside.{items_in_fine, or_lies, span_lies, text_at_fine, texts_at_fine, texts_in_fine, unless_lies}
+use Rattle.al_rules_settings.proofs.Inside.{Are, Fine, Lies, NameLies, Pair, Text, about_lies, both, entries_at_fine, entries_in_fine}
+use Rattle.al_rules_settings.proofs.Inside.{items_in_fine, or_lies, span_lies, text_at_fine, texts_at_fine, texts_in_fine, unless_lies}
 
 module _ (size : ℕ) where
   activity : (types : List (List ℕ)) (s : Scalar × Span) → Text size s → Are size (activity_faults types s)

@@ -3,4 +3,3 @@ pub mod NeedLemmas
 pub mod Joining
 pub mod FileLemmas
 pub mod Lying
-pub mod Turns

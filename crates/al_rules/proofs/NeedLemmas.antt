@@ -22,7 +22,7 @@ use Rattle.al_rules.specs.Needs.{IsNeedFaults, Need, all_needs, cycle_fault, key
 use Rattle.al_rules.specs.Needs.{position_in}
 use Rattle.al_base.specs.Names.{same_name}
 use Rattle.al_base.proofs.NamePlaces.{first_within}
-use Rattle.al_rules_reports.specs.Words.{Named, of_key, of_scalar}
+use Rattle.al_rules_settings.specs.Words.{Named, of_key, of_scalar}
 
 enumerated : {X : Type 0} (i : ℕ) (xs : List X) (y : X) → enumerate_from i (xs ++ y ∷ []) ≡ enumerate_from i xs ++ (i + length xs, y) ∷ []
 enumerated i [] y = ap (λ k. (k, y) ∷ []) (omega arith)

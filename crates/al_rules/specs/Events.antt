@@ -12,7 +12,7 @@ use Rattle.al_yaml_tree.specs.Node.{Node}
 use Rattle.al_tree.specs.Names.{is_event}
 use Rattle.al_tree.specs.Values.{text_at, texts_in, texts_at, entries_in, entries_at, items_in}
 use Rattle.al_rules.specs.Names.{activities_of, call_types, dispatch_types}
-use Rattle.al_rules_reports.specs.Words.{Named, about, of_key, of_scalar, unless, unless_among}
+use Rattle.al_rules_settings.specs.Words.{Named, about, of_key, of_scalar, unless, unless_among}
 use Rattle.al_rules_formats.specs.Patterns.{is_pattern}
 use Rattle.al_rules_formats.specs.Schedules.{schedule_of, is_too_often}
 use Rattle.al_rules_formats.specs.declared.patterns.Filter.{Filter}

@@ -8,7 +8,7 @@ use Rattle.al_tree.specs.Values.{texts_at}
 use Rattle.al_base.specs.Names.{same_name}
 use Rattle.al_base.specs.NamePlaces.{first_at}
 use Rattle.al_graph.specs.Graphs.{Walk}
-use Rattle.al_rules_reports.specs.Words.{Named, about, fault, of_key, of_scalar}
+use Rattle.al_rules_settings.specs.Words.{Named, about, fault, of_key, of_scalar}
 
 -- the keys of the jobs
 abbrev pub keys_of : List (Node × Node) → List Named

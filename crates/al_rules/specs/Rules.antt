@@ -22,7 +22,7 @@ use Rattle.al_rules_settings.specs.Matrix.{matrix_faults}
 use Rattle.al_rules.specs.Needs.{IsNeedsFaults, keys_of}
 use Rattle.al_rules_settings.specs.Settings.{condition_faults, credentials_faults, env_faults}
 use Rattle.al_rules_settings.specs.Settings.{permissions_faults, script_faults, shell_faults}
-use Rattle.al_rules_reports.specs.Words.{Named, about, fault, of_key, of_scalar}
+use Rattle.al_rules_settings.specs.Words.{Named, about, fault, of_key, of_scalar}
 
 -- of a step
 abbrev pub run_faults : Node → List Fault

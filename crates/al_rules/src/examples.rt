@@ -3,7 +3,7 @@
 ghost use Rattle.al_rules.specs.Rows.Files as file;
 ghost use Rattle.al_rules.specs.Rows.Files.{at, needs_by_steps};
 ghost use Rattle.al_rules.specs.Rules.{action_faults, workflow_faults};
-ghost use Rattle.al_rules_reports.specs.Words.{fault};
+ghost use Rattle.al_rules_settings.specs.Words.{fault};
 ghost use Rattle.al_base.specs.declared.codes.RuleCode.TheVariants.{AlwaysTrue, DeprecatedCommand, MissingOutputValue, MissingShell};
 ghost use Rattle.al_base.specs.declared.codes.RuleCode.TheVariants.{NeedsCycle, PasswordNotExpression, RepeatedId, ScheduleTooOften};
 ghost use Rattle.al_base.specs.declared.codes.RuleCode.TheVariants.{UndefinedJob, UnknownActivity, UnknownEvent, UnknownInputType};
@@ -16,10 +16,10 @@ ghost use Rattle.std.specs.Prelude.{◌≡◌, [], ◌∷◌, codes};
 pub fn rows()
     ensures unknown_event { workflow_faults (needs_by_steps file.unknown_event) file.unknown_event ≡
         fault UnknownEvent (at 4 7) (codes "pus" ∷ []) ∷ [] }
-    ensures wrong_activity { workflow_faults (needs_by_steps file.wrong_activity) file.wrong_activity ≡
-        fault UnknownActivity (at 34 39) (codes "close" ∷ []) ∷ [] }
-    ensures wrong_patterns { workflow_faults (needs_by_steps file.wrong_patterns) file.wrong_patterns ≡
-        fault WrongPattern (at 27 32) (codes "a[b" ∷ []) ∷
+    ensures wrong_activity { workflow_faults (needs_by_steps file.wrong_activity) file.wrong_activity
+        ≡ fault UnknownActivity (at 34 39) (codes "close" ∷ []) ∷ [] }
+    ensures wrong_patterns { workflow_faults (needs_by_steps file.wrong_patterns) file.wrong_patterns
+        ≡ fault WrongPattern (at 27 32) (codes "a[b" ∷ []) ∷
         fault WrongPattern (at 51 57) (codes "!./x" ∷ []) ∷ [] }
     ensures schedules { workflow_faults (needs_by_steps file.schedules) file.schedules ≡
         fault WrongSchedule (at 28 37) (codes "0 0 * * 7" ∷ []) ∷
@@ -41,11 +41,13 @@ pub fn rows()
         fault WrongPermission (at 48 51) (codes "all" ∷ []) ∷
         fault WrongVariable (at 59 62) (codes "A B" ∷ []) ∷
         fault UnknownShell (at 94 97) (codes "zsh" ∷ []) ∷ [] }
-    ensures password { workflow_faults (needs_by_steps file.password) file.password ≡ fault PasswordNotExpression (at 87 105) [] ∷ [] }
+    ensures password { workflow_faults (needs_by_steps file.password) file.password
+        ≡ fault PasswordNotExpression (at 87 105) [] ∷ [] }
     ensures step { workflow_faults (needs_by_steps file.step) file.step ≡
         fault AlwaysTrue (at 58 71) [] ∷
         fault DeprecatedCommand (at 90 108) (codes "set-output" ∷ []) ∷ [] }
-    ensures using_is_unknown { action_faults file.using_is_unknown ≡ fault UnknownUsing (at 23 29) (codes "node18" ∷ []) ∷ [] }
+    ensures using_is_unknown { action_faults file.using_is_unknown
+        ≡ fault UnknownUsing (at 23 29) (codes "node18" ∷ []) ∷ [] }
     ensures composite { action_faults file.composite ≡
         fault MissingShell (at 81 84) [] ∷
         fault MissingOutputValue (at 19 20) (codes "o" ∷ []) ∷ [] }

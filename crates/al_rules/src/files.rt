@@ -1,14 +1,31 @@
 //! The rules of a file.
 
-ghost use Rattle.al_rules.specs.Rules.{AddsRules};
+ghost use Rattle.al_rules.specs.Rules.{AddsRules, IsRuleFaults};
 ghost use Rattle.al_base.specs.Growth.{BeginsWith};
-ghost use Rattle.std.specs.Prelude.{OnOk};
+ghost use Rattle.std.specs.Prelude.{IfOk, OnOk};
 
 use crate::actions::check_action;
 use crate::workflows::check_workflow;
-use al_base::Fault;
+use al_base::{Fault, FaultSink};
 use al_tree::Tree;
 use std::alloc::{AllocError, Global};
+
+/// The faults of the rules that a file breaks by itself. Fails with `AllocError` when out of memory.
+fn broken_rules(alloc: Global, tree: &Tree) -> Result<FaultSink, AllocError>
+    ensures { IfOk result (λ faults. IsRuleFaults tree.now faults) }
+{
+    let mut faults = FaultSink::new(alloc);
+    match tree {
+        Tree::Workflow(workflow) => {
+            check_workflow(&workflow.root, &mut faults)?;
+            Ok(faults)
+        }
+        Tree::Action(action) => {
+            check_action(&action.root, &mut faults)?;
+            Ok(faults)
+        }
+    }
+}
 
 /// Adds the faults of the rules that a file breaks by itself.
 ///
@@ -18,14 +35,7 @@ pub fn rules(alloc: Global, tree: &Tree, out: &mut Vec<Fault>) -> Result<(), All
     ensures rules { OnOk result (AddsRules tree.now out.old.items out.new.items) }
     ensures begins { BeginsWith out.new.items out.old.items }
 {
-    match tree {
-        Tree::Workflow(workflow) => {
-            check_workflow(alloc, &workflow.root, out)?;
-            Ok(())
-        }
-        Tree::Action(action) => {
-            check_action(alloc, &action.root, out)?;
-            Ok(())
-        }
-    }
+    let faults = broken_rules(alloc, tree)?;
+    faults.append_to(out)?;
+    Ok(())
 }

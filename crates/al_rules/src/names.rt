@@ -130,7 +130,8 @@ pub(crate) const DISPATCH_TYPES: &[&str] = &[
 
 /// The activity types of an event, by some rows.
 fn types_in(rows: &[Activities], event: &[u8]) -> Option<&'static [&'static str]>
-    ensures { option_map (λ ts. map (λ n. n.now) ts.now) result ≡ row_types event.now (map activity_row rows.now) }
+    ensures { option_map (λ ts. map (λ n. n.now) ts.now) result
+        ≡ row_types event.now (map activity_row rows.now) }
 {
     for row in rows {
         if is_among(event, row.events) {

@@ -5,18 +5,17 @@ ghost use Rattle.al_graph.specs.Graphs.{edges_of};
 ghost use Rattle.al_rules.specs.Needs.{AddsAllNeeds, all_needs, keys_of as keys_of_all, named_by, needs_in, needs_lists};
 ghost use Rattle.al_rules.specs.Needs.{position_in};
 ghost use Rattle.al_rules.specs.Private.Components as components;
-ghost use Rattle.al_rules.specs.Private.Components.{labelled_fault, labelled_faults};
-ghost use Rattle.al_rules_reports.specs.Private.Views.{named_of};
-ghost use Rattle.al_rules.specs.Private.Views.{need_of};
-ghost use Rattle.al_rules_reports.specs.Words.{of_key, of_scalar};
-ghost use Rattle.al_base.specs.Growth.{BeginsWith};
+ghost use Rattle.al_rules.specs.Private.Components.{labelled_fault};
+ghost use Rattle.al_rules_settings.specs.Private.Views.{named_of};
+ghost use Rattle.al_rules.specs.Private.Views.{faults_by, need_of};
+ghost use Rattle.al_rules_settings.specs.Words.{of_key, of_scalar};
 ghost use Rattle.al_tree.specs.Values.{member_of, scalar_node_of};
 ghost use Rattle.std.specs.List.{filter_map};
 ghost use Rattle.std.specs.Prelude.{◌≡◌, ◌++◌, map, slice_index_or, IfOk, OnOk, None};
 
-use al_base::{Fault, NamePositions, RuleCode};
+use al_base::{Code, FaultSink, NamePositions, RuleCode};
 use al_graph::strongly_connected_components;
-use al_rules_reports::{Named, named_key, named_text, report, report_two};
+use al_rules_settings::{Named, named_key, named_text, report};
 use al_tree::{Member, ScalarNode, key_text, texts_under};
 use std::alloc::{AllocError, Global};
 
@@ -26,6 +25,15 @@ pub(crate) struct Need<'a> {
     job: usize,
     key: Named<'a>,
     text: Named<'a>,
+}
+
+/// The jobs of a workflow, as what they need is looked at: which of them a text names, and which lead to one another.
+#[derive(Clone, Copy)]
+pub(crate) struct JobGraph<'a> {
+    /// Where the first job with each key stands, without regard to ASCII case.
+    positions: &'a NamePositions,
+    /// A label for each job. Jobs have one label where they lead to one another.
+    labels: &'a [Option<usize>],
 }
 
 /// The keys of some jobs.
@@ -41,7 +49,8 @@ pub(crate) fn keys_of<'a>(alloc: Global, jobs: &[Member<'a>]) -> Result<Vec<Name
 
 /// Where the first job with each key stands, without regard to ASCII case.
 fn positions_by(alloc: Global, jobs: &[Member<'_>]) -> Result<NamePositions, AllocError>
-    ensures { IfOk result (λ p. name_position p ≡ position_in (map (λ j. of_key (member_of j).0) jobs.now)) }
+    ensures { IfOk result (λ p. name_position p
+        ≡ position_in (map (λ j. of_key (member_of j).0) jobs.now)) }
 {
     let mut positions = NamePositions::new(alloc);
     for (i, job) in jobs.iter().enumerate() {
@@ -57,7 +66,8 @@ fn positions_of(
     needs: &[ScalarNode<'_>],
 ) -> Result<Vec<usize>, AllocError>
     ensures { IfOk result (λ v. v.items
-        ≡ filter_map (named_by (name_position positions.now)) (map of_scalar (map scalar_node_of needs.now))) }
+        ≡ filter_map (named_by (name_position positions.now))
+        (map of_scalar (map scalar_node_of needs.now))) }
 {
     let mut found = Vec::new(alloc);
     for need in needs {
@@ -74,7 +84,8 @@ fn lists_for(
     positions: &NamePositions,
     jobs: &[Member<'_>],
 ) -> Result<Vec<Vec<usize>>, AllocError>
-    ensures { IfOk result (λ v. edges_of v.items ≡ needs_lists (name_position positions.now) (map member_of jobs.now)) }
+    ensures { IfOk result (λ v. edges_of v.items
+        ≡ needs_lists (name_position positions.now) (map member_of jobs.now)) }
 {
     let mut lists = Vec::new(alloc);
     for job in jobs {
@@ -102,44 +113,35 @@ fn has_label_of(labels: &[Option<usize>], job: usize, other: usize) -> bool
 }
 
 /// Adds the fault of an entry that names this job, if any. Jobs have one label where they lead to one another.
-#[tactic(auto, using(al_base::proofs::Growing::growth))]
 fn check_named(
-    alloc: Global,
     labels: &[Option<usize>],
     need: Need<'_>,
     named: Option<usize>,
-    out: &mut Vec<Fault>,
+    faults: &mut FaultSink,
 ) -> Result<(), AllocError>
-    ensures ok { OnOk result (out.new.items ≡ out.old.items ++ labelled_fault labels.now (need_of need.entry) named) }
-    ensures begins { BeginsWith out.new.items out.old.items }
+    ensures { OnOk result (faults.new ≡ faults.old
+        ++ labelled_fault labels.now (need_of need.entry) named) }
 {
     match named {
-        None => report(alloc, RuleCode::UndefinedJob, need.text, out),
+        None => report(RuleCode::UndefinedJob, need.text, faults),
         Some(job) => {
             if !has_label_of(labels, job, need.job) {
                 return Ok(());
             }
-            let (key, text) = (need.key.text, need.text.text);
-            report_two(alloc, RuleCode::NeedsCycle, need.text.span, key, text, out)
+            let code = Code::Rule(RuleCode::NeedsCycle);
+            faults.report_two(need.text.span, code, need.key.text, need.text.text)
         }
     }
 }
 
 /// Adds the fault of an entry, if any.
-#[tactic(auto, using(al_base::proofs::Growing::growth))]
-fn check_need(
-    alloc: Global,
-    positions: &NamePositions,
-    labels: &[Option<usize>],
-    need: Need<'_>,
-    out: &mut Vec<Fault>,
-) -> Result<(), AllocError>
-    ensures ok { OnOk result (out.new.items ≡ out.old.items
-        ++ labelled_fault labels.now (need_of need.entry) (named_by (name_position positions.now) (need_of need.entry).text)) }
-    ensures begins { BeginsWith out.new.items out.old.items }
+fn check_need(graph: JobGraph<'_>, need: Need<'_>, faults: &mut FaultSink) -> Result<(), AllocError>
+    ensures { OnOk result (faults.new ≡ faults.old
+        ++ labelled_fault graph.entry.labels.now (need_of need.entry)
+        (named_by (name_position graph.entry.positions.now) (need_of need.entry).text)) }
 {
-    let named = positions.get(alloc, need.text.text)?;
-    check_named(alloc, labels, need, named, out)
+    let named = graph.positions.get(faults.alloc(), need.text.text)?;
+    check_named(graph.labels, need, named, faults)
 }
 
 /// The entries of the `needs` of a job, with these texts.
@@ -150,7 +152,8 @@ fn entries_of<'a>(
     texts: &[ScalarNode<'a>],
 ) -> Result<Vec<Need<'a>>, AllocError>
     ensures { IfOk result (λ v. map need_of v.items
-        ≡ map (λ n. record { job = job; key = named_of key.entry; text = n }) (map of_scalar (map scalar_node_of texts.now))) }
+        ≡ map (λ n. record { job = job; key = named_of key.entry; text = n })
+        (map of_scalar (map scalar_node_of texts.now))) }
 {
     let mut found = Vec::new(alloc);
     for text in texts {
@@ -161,59 +164,48 @@ fn entries_of<'a>(
 }
 
 /// Adds the faults of some entries.
-#[tactic(auto, using(al_base::proofs::Growing::growth))]
 fn check_entries(
-    alloc: Global,
-    positions: &NamePositions,
-    labels: &[Option<usize>],
+    graph: JobGraph<'_>,
     needs: &[Need<'_>],
-    out: &mut Vec<Fault>,
+    faults: &mut FaultSink,
 ) -> Result<(), AllocError>
-    ensures ok { OnOk result (out.new.items ≡ out.old.items
-        ++ labelled_faults (name_position positions.now) labels.now (map need_of needs.now)) }
-    ensures begins { BeginsWith out.new.items out.old.items }
+    ensures { OnOk result (faults.new ≡ faults.old
+        ++ faults_by graph.entry (map need_of needs.now)) }
 {
     for need in needs {
-        check_need(alloc, positions, labels, *need, out)?;
+        check_need(graph, *need, faults)?;
     }
     Ok(())
 }
 
 /// Adds the faults of the `needs` of a job at a position.
-#[tactic(auto, using(al_base::proofs::Growing::growth))]
 fn check_job(
-    alloc: Global,
-    positions: &NamePositions,
-    labels: &[Option<usize>],
+    graph: JobGraph<'_>,
     position: usize,
     job: Member<'_>,
-    out: &mut Vec<Fault>,
+    faults: &mut FaultSink,
 ) -> Result<(), AllocError>
-    ensures ok { OnOk result (out.new.items ≡ out.old.items
-        ++ labelled_faults (name_position positions.now) labels.now (needs_in (position, member_of job.entry))) }
-    ensures begins { BeginsWith out.new.items out.old.items }
+    ensures { OnOk result (faults.new ≡ faults.old
+        ++ faults_by graph.entry (needs_in (position, member_of job.entry))) }
 {
-    let texts = texts_under(alloc, job.value, "needs")?;
-    let entries = entries_of(alloc, position, named_key(job.key), texts.as_slice())?;
-    check_entries(alloc, positions, labels, entries.as_slice(), out)?;
+    let texts = texts_under(faults.alloc(), job.value, "needs")?;
+    let key = named_key(job.key);
+    let entries = entries_of(faults.alloc(), position, key, texts.as_slice())?;
+    check_entries(graph, entries.as_slice(), faults)?;
     Ok(())
 }
 
 /// Adds the faults of the `needs` of some jobs.
-#[tactic(auto, using(al_base::proofs::Growing::growth))]
 fn check_each_job(
-    alloc: Global,
-    positions: &NamePositions,
-    labels: &[Option<usize>],
+    graph: JobGraph<'_>,
     jobs: &[Member<'_>],
-    out: &mut Vec<Fault>,
+    faults: &mut FaultSink,
 ) -> Result<(), AllocError>
-    ensures ok { OnOk result (out.new.items ≡ out.old.items
-        ++ labelled_faults (name_position positions.now) labels.now (all_needs (map member_of jobs.now))) }
-    ensures begins { BeginsWith out.new.items out.old.items }
+    ensures { OnOk result (faults.new ≡ faults.old
+        ++ faults_by graph.entry (all_needs (map member_of jobs.now))) }
 {
     for (i, job) in jobs.iter().enumerate() {
-        check_job(alloc, positions, labels, i, *job, out)?;
+        check_job(graph, i, *job, faults)?;
     }
     Ok(())
 }
@@ -222,18 +214,16 @@ fn check_each_job(
 ///
 /// An entry is on a cycle where both are in one strongly connected component. So it takes time in
 /// proportion to jobs and entries, but for finding each name.
-#[tactic(auto, using(al_base::proofs::Growing::growth))]
-pub(crate) fn check_needs(
-    alloc: Global,
-    jobs: &[Member<'_>],
-    out: &mut Vec<Fault>,
-) -> Result<(), AllocError>
-    ensures ok { OnOk result (AddsAllNeeds (map member_of jobs.now) out.old.items out.new.items) }
-    ensures begins { BeginsWith out.new.items out.old.items }
+pub(crate) fn check_needs(jobs: &[Member<'_>], faults: &mut FaultSink) -> Result<(), AllocError>
+    ensures { OnOk result (AddsAllNeeds (map member_of jobs.now) faults.old faults.new) }
 {
-    let positions = positions_by(alloc, jobs)?;
-    let needs = lists_for(alloc, &positions, jobs)?;
-    let labels = strongly_connected_components(alloc, needs.as_slice())?;
-    check_each_job(alloc, &positions, labels.as_slice(), jobs, out)?;
+    let positions = positions_by(faults.alloc(), jobs)?;
+    let needs = lists_for(faults.alloc(), &positions, jobs)?;
+    let labels = strongly_connected_components(faults.alloc(), needs.as_slice())?;
+    let graph = JobGraph {
+        positions: &positions,
+        labels: labels.as_slice(),
+    };
+    check_each_job(graph, jobs, faults)?;
     Ok(())
 }

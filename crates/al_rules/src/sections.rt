@@ -2,43 +2,37 @@
 
 ghost use Rattle.al_rules.specs.Rules.{container_faults, containers_faults, job_faults, matrix_faults_of, run_faults, section_faults};
 ghost use Rattle.al_rules.specs.Rules.{settings_faults, step_faults, step_ids, steps_faults};
-ghost use Rattle.al_rules_reports.specs.Private.Views.{named_of};
-ghost use Rattle.al_base.specs.Growth.{BeginsWith};
+ghost use Rattle.al_rules_settings.specs.Private.Views.{named_of};
 ghost use Rattle.al_tree.specs.Values.{entries_at, member_of, scalar_node_of, text_below, value_at, value_below};
 ghost use Rattle.al_yaml_tree.specs.View.{view};
 ghost use Rattle.std.specs.List.{flat_map};
 ghost use Rattle.std.specs.Option.{option_map_or};
 ghost use Rattle.std.specs.Prelude.{◌≡◌, ◌++◌, [], ◌∷◌, codes, map, option_map, IfOk, OnOk};
 
-use al_base::Fault;
-use al_rules_reports::{Named, named_text};
+use al_base::FaultSink;
 use al_rules_settings::{
-    check_condition, check_credentials, check_env, check_ids, check_matrix, check_permissions,
-    check_script, check_shell,
+    Named, check_condition, check_credentials, check_env, check_ids, check_matrix,
+    check_permissions, check_script, check_shell, named_text,
 };
 use al_tree::{Member, ScalarNode, items_under, members, text_under, value};
 use al_yaml_tree::Node;
 use std::alloc::{AllocError, Global};
 
 /// Adds the faults of what a step runs.
-#[tactic(auto, using(al_base::proofs::Growing::growth))]
-fn check_run(alloc: Global, step: &Node, out: &mut Vec<Fault>) -> Result<(), AllocError>
-    ensures ok { OnOk result (out.new.items ≡ out.old.items ++ run_faults (view step.now)) }
-    ensures begins { BeginsWith out.new.items out.old.items }
+fn check_run(step: &Node, faults: &mut FaultSink) -> Result<(), AllocError>
+    ensures { OnOk result (faults.new ≡ faults.old ++ run_faults (view step.now)) }
 {
-    check_shell(alloc, text_under(step, "shell"), out)?;
-    check_script(alloc, text_under(step, "run"), out)
+    check_shell(text_under(step, "shell"), faults)?;
+    check_script(text_under(step, "run"), faults)
 }
 
 /// Adds the faults of a step by itself.
-#[tactic(auto, using(al_base::proofs::Growing::growth))]
-fn check_step(alloc: Global, step: &Node, out: &mut Vec<Fault>) -> Result<(), AllocError>
-    ensures ok { OnOk result (out.new.items ≡ out.old.items ++ step_faults (view step.now)) }
-    ensures begins { BeginsWith out.new.items out.old.items }
+fn check_step(step: &Node, faults: &mut FaultSink) -> Result<(), AllocError>
+    ensures { OnOk result (faults.new ≡ faults.old ++ step_faults (view step.now)) }
 {
-    check_env(alloc, step, out)?;
-    check_condition(alloc, text_under(step, "if"), out)?;
-    check_run(alloc, step, out)
+    check_env(step, faults)?;
+    check_condition(text_under(step, "if"), faults)?;
+    check_run(step, faults)
 }
 
 /// The ids of some steps.
@@ -55,172 +49,136 @@ fn ids_of(alloc: Global, steps: &[Node]) -> Result<Vec<Named<'_>>, AllocError>
 }
 
 /// Adds the faults of some steps, each by itself.
-#[tactic(auto, using(al_base::proofs::Growing::growth))]
-fn check_each_step(alloc: Global, steps: &[Node], out: &mut Vec<Fault>) -> Result<(), AllocError>
-    ensures ok { OnOk result (out.new.items ≡ out.old.items ++ flat_map step_faults (map view steps.now)) }
-    ensures begins { BeginsWith out.new.items out.old.items }
+fn check_each_step(steps: &[Node], faults: &mut FaultSink) -> Result<(), AllocError>
+    ensures { OnOk result (faults.new ≡ faults.old ++ flat_map step_faults (map view steps.now)) }
 {
     for step in steps {
-        check_step(alloc, step, out)?;
+        check_step(step, faults)?;
     }
     Ok(())
 }
 
 /// Adds the faults of some steps.
-#[tactic(auto, using(al_base::proofs::Growing::growth))]
-pub(crate) fn check_steps(
-    alloc: Global,
-    steps: &[Node],
-    out: &mut Vec<Fault>,
-) -> Result<(), AllocError>
-    ensures ok { OnOk result (out.new.items ≡ out.old.items ++ steps_faults (map view steps.now)) }
-    ensures begins { BeginsWith out.new.items out.old.items }
+pub(crate) fn check_steps(steps: &[Node], faults: &mut FaultSink) -> Result<(), AllocError>
+    ensures { OnOk result (faults.new ≡ faults.old ++ steps_faults (map view steps.now)) }
 {
-    let ids = ids_of(alloc, steps)?;
-    check_ids(alloc, ids.as_slice(), out)?;
-    check_each_step(alloc, steps, out)
+    let ids = ids_of(faults.alloc(), steps)?;
+    check_ids(ids.as_slice(), faults)?;
+    check_each_step(steps, faults)
 }
 
 /// Adds the faults of a container or a service.
-#[tactic(auto, using(al_base::proofs::Growing::growth))]
-fn check_container(alloc: Global, node: &Node, out: &mut Vec<Fault>) -> Result<(), AllocError>
-    ensures ok { OnOk result (out.new.items ≡ out.old.items ++ container_faults (view node.now)) }
-    ensures begins { BeginsWith out.new.items out.old.items }
+fn check_container(node: &Node, faults: &mut FaultSink) -> Result<(), AllocError>
+    ensures { OnOk result (faults.new ≡ faults.old ++ container_faults (view node.now)) }
 {
-    check_env(alloc, node, out)?;
-    check_credentials(alloc, node, out)
+    check_env(node, faults)?;
+    check_credentials(node, faults)
 }
 
 /// The shell that the scripts of a workflow or a job run in, where no step names its own: `shell` of `defaults.run`.
 fn default_shell(node: &Node) -> Option<ScalarNode<'_>>
-    ensures { option_map scalar_node_of result ≡ text_below (codes "defaults" ∷ codes "run" ∷ codes "shell" ∷ []) (view node.now) }
+    ensures { option_map scalar_node_of result
+        ≡ text_below (codes "defaults" ∷ codes "run" ∷ codes "shell" ∷ []) (view node.now) }
 {
     text_under(value(value(node, "defaults")?, "run")?, "shell")
 }
 
 /// Adds the faults that a workflow and a job have alike.
-#[tactic(auto, using(al_base::proofs::Growing::growth))]
-pub(crate) fn check_section(
-    alloc: Global,
-    node: &Node,
-    out: &mut Vec<Fault>,
-) -> Result<(), AllocError>
-    ensures ok { OnOk result (out.new.items ≡ out.old.items ++ section_faults (view node.now)) }
-    ensures begins { BeginsWith out.new.items out.old.items }
+pub(crate) fn check_section(node: &Node, faults: &mut FaultSink) -> Result<(), AllocError>
+    ensures { OnOk result (faults.new ≡ faults.old ++ section_faults (view node.now)) }
 {
-    check_permissions(alloc, node, out)?;
-    check_env(alloc, node, out)?;
-    check_shell(alloc, default_shell(node), out)
+    check_permissions(node, faults)?;
+    check_env(node, faults)?;
+    check_shell(default_shell(node), faults)
 }
 
 /// Adds the faults of some services.
-#[tactic(auto, using(al_base::proofs::Growing::growth))]
-fn check_each_service(
-    alloc: Global,
-    services: &[Member<'_>],
-    out: &mut Vec<Fault>,
-) -> Result<(), AllocError>
-    ensures ok { OnOk result (out.new.items ≡ out.old.items ++ flat_map (λ m. container_faults m.1) (map member_of services.now)) }
-    ensures begins { BeginsWith out.new.items out.old.items }
+fn check_each_service(services: &[Member<'_>], faults: &mut FaultSink) -> Result<(), AllocError>
+    ensures { OnOk result (faults.new ≡ faults.old
+        ++ flat_map (λ m. container_faults m.1) (map member_of services.now)) }
 {
     for service in services {
-        check_container(alloc, service.value, out)?;
+        check_container(service.value, faults)?;
     }
     Ok(())
 }
 
 /// Adds the faults of the services of a job.
-#[tactic(auto, using(al_base::proofs::Growing::growth))]
-fn check_services(alloc: Global, job: &Node, out: &mut Vec<Fault>) -> Result<(), AllocError>
-    ensures ok { OnOk result (out.new.items ≡ out.old.items
+fn check_services(job: &Node, faults: &mut FaultSink) -> Result<(), AllocError>
+    ensures { OnOk result (faults.new ≡ faults.old
         ++ flat_map (λ m. container_faults m.1) (entries_at (codes "services") (view job.now))) }
-    ensures begins { BeginsWith out.new.items out.old.items }
 {
     match value(job, "services") {
         None => Ok(()),
         Some(services) => {
-            let services = members(alloc, services)?;
-            check_each_service(alloc, services.as_slice(), out)
+            let services = members(faults.alloc(), services)?;
+            check_each_service(services.as_slice(), faults)
         }
     }
 }
 
 /// Adds the faults of the container of a job.
-#[tactic(auto, using(al_base::proofs::Growing::growth))]
-fn check_job_container(alloc: Global, job: &Node, out: &mut Vec<Fault>) -> Result<(), AllocError>
-    ensures ok { OnOk result (out.new.items ≡ out.old.items
+fn check_job_container(job: &Node, faults: &mut FaultSink) -> Result<(), AllocError>
+    ensures { OnOk result (faults.new ≡ faults.old
         ++ option_map_or container_faults (value_at (codes "container") (view job.now)) []) }
-    ensures begins { BeginsWith out.new.items out.old.items }
 {
     match value(job, "container") {
         None => Ok(()),
-        Some(container) => check_container(alloc, container, out),
+        Some(container) => check_container(container, faults),
     }
 }
 
 /// The matrix of a job.
 fn matrix_of(job: &Node) -> Option<&Node>
-    ensures { option_map (λ n. view n.now) result ≡ value_below (codes "strategy" ∷ codes "matrix" ∷ []) (view job.now) }
+    ensures { option_map (λ n. view n.now) result
+        ≡ value_below (codes "strategy" ∷ codes "matrix" ∷ []) (view job.now) }
 {
     value(value(job, "strategy")?, "matrix")
 }
 
 /// Adds the faults of the matrix of a job.
-#[tactic(auto, using(al_base::proofs::Growing::growth))]
-fn check_job_matrix(alloc: Global, job: &Node, out: &mut Vec<Fault>) -> Result<(), AllocError>
-    ensures ok { OnOk result (out.new.items ≡ out.old.items ++ matrix_faults_of (view job.now)) }
-    ensures begins { BeginsWith out.new.items out.old.items }
+fn check_job_matrix(job: &Node, faults: &mut FaultSink) -> Result<(), AllocError>
+    ensures { OnOk result (faults.new ≡ faults.old ++ matrix_faults_of (view job.now)) }
 {
     match matrix_of(job) {
         None => Ok(()),
-        Some(matrix) => check_matrix(alloc, matrix, out),
+        Some(matrix) => check_matrix(matrix, faults),
     }
 }
 
 /// Adds the faults of the container and the services of a job.
-#[tactic(auto, using(al_base::proofs::Growing::growth))]
-fn check_containers(alloc: Global, job: &Node, out: &mut Vec<Fault>) -> Result<(), AllocError>
-    ensures ok { OnOk result (out.new.items ≡ out.old.items ++ containers_faults (view job.now)) }
-    ensures begins { BeginsWith out.new.items out.old.items }
+fn check_containers(job: &Node, faults: &mut FaultSink) -> Result<(), AllocError>
+    ensures { OnOk result (faults.new ≡ faults.old ++ containers_faults (view job.now)) }
 {
-    check_job_container(alloc, job, out)?;
-    check_services(alloc, job, out)
+    check_job_container(job, faults)?;
+    check_services(job, faults)
 }
 
 /// Adds the faults of the settings of a job.
-#[tactic(auto, using(al_base::proofs::Growing::growth))]
-fn check_settings(alloc: Global, job: &Node, out: &mut Vec<Fault>) -> Result<(), AllocError>
-    ensures ok { OnOk result (out.new.items ≡ out.old.items ++ settings_faults (view job.now)) }
-    ensures begins { BeginsWith out.new.items out.old.items }
+fn check_settings(job: &Node, faults: &mut FaultSink) -> Result<(), AllocError>
+    ensures { OnOk result (faults.new ≡ faults.old ++ settings_faults (view job.now)) }
 {
-    check_section(alloc, job, out)?;
-    check_condition(alloc, text_under(job, "if"), out)?;
-    check_job_matrix(alloc, job, out)
+    check_section(job, faults)?;
+    check_condition(text_under(job, "if"), faults)?;
+    check_job_matrix(job, faults)
 }
 
 /// Adds the faults of a job by itself.
-#[tactic(auto, using(al_base::proofs::Growing::growth))]
-fn check_job(alloc: Global, job: Member<'_>, out: &mut Vec<Fault>) -> Result<(), AllocError>
-    ensures ok { OnOk result (out.new.items ≡ out.old.items ++ job_faults (member_of job.entry)) }
-    ensures begins { BeginsWith out.new.items out.old.items }
+fn check_job(job: Member<'_>, faults: &mut FaultSink) -> Result<(), AllocError>
+    ensures { OnOk result (faults.new ≡ faults.old ++ job_faults (member_of job.entry)) }
 {
-    check_settings(alloc, job.value, out)?;
-    check_containers(alloc, job.value, out)?;
-    check_steps(alloc, items_under(job.value, "steps"), out)
+    check_settings(job.value, faults)?;
+    check_containers(job.value, faults)?;
+    check_steps(items_under(job.value, "steps"), faults)
 }
 
 /// Adds the faults of some jobs, each by itself.
-#[tactic(auto, using(al_base::proofs::Growing::growth))]
-pub(crate) fn check_each_job(
-    alloc: Global,
-    jobs: &[Member<'_>],
-    out: &mut Vec<Fault>,
-) -> Result<(), AllocError>
-    ensures ok { OnOk result (out.new.items ≡ out.old.items ++ flat_map job_faults (map member_of jobs.now)) }
-    ensures begins { BeginsWith out.new.items out.old.items }
+pub(crate) fn check_each_job(jobs: &[Member<'_>], faults: &mut FaultSink) -> Result<(), AllocError>
+    ensures { OnOk result (faults.new ≡ faults.old
+        ++ flat_map job_faults (map member_of jobs.now)) }
 {
     for job in jobs {
-        check_job(alloc, *job, out)?;
+        check_job(*job, faults)?;
     }
     Ok(())
 }

@@ -17,11 +17,11 @@ use Rattle.al_rules_settings.specs.Names.{permissions, scope_values, whole_value
 use Rattle.al_rules_settings.specs.Settings.{all_permissions_faults, condition_faults, credentials_faults, env_faults, is_always_true}
 use Rattle.al_rules_settings.specs.Settings.{is_password, is_shell, password_faults, permission_faults, permissions_faults, script_faults}
 use Rattle.al_rules_settings.specs.Settings.{shell_faults, value_faults, variable_faults}
-use Rattle.al_rules_reports.specs.Words.{Named, of_key, of_scalar, unless, unless_among}
+use Rattle.al_rules_settings.specs.Words.{Named, of_key, of_scalar, unless, unless_among}
 use Rattle.al_rules_settings.proofs.Places.{commands_lie}
 use Rattle.al_base.proofs.Elements.{each_as, each_of, map_or}
-use Rattle.al_rules_reports.proofs.Inside.{Are, Fine, Lies, NameLies, Pair, Text, below_fine, both, entries_at_fine, entries_in_fine}
-use Rattle.al_rules_reports.proofs.Inside.{items_at_fine, one_lies, or_lies, span_lies, text_fine, unless_lies, value_fine}
+use Rattle.al_rules_settings.proofs.Inside.{Are, Fine, Lies, NameLies, Pair, Text, below_fine, both, entries_at_fine, entries_in_fine}
+use Rattle.al_rules_settings.proofs.Inside.{items_at_fine, one_lies, or_lies, span_lies, text_fine, unless_lies, value_fine}
 
 module _ (size : ℕ) where
   -- ---- ids

@@ -15,7 +15,7 @@ use Rattle.al_scalar.specs.Offsets.{AreBefore, AreRising, reach}
 use Rattle.al_scalar.specs.Scalar.{Scalar, offset_of, offset_or, text_of}
 use Rattle.al_rules_settings.specs.Commands.{command_fault, command_faults, commands, one_command, part_span}
 use Rattle.al_base.proofs.Elements.{each_as, each_of}
-use Rattle.al_rules_reports.proofs.Inside.{Lies, Text}
+use Rattle.al_rules_settings.proofs.Inside.{Lies, Text}
 
 pub places_occur : (hay needle : List ℕ) → All (OccursAt hay needle) (matches hay needle 0)
 places_occur hay needle = All-matches hay needle 0

@@ -6,7 +6,7 @@ use Rattle.al_base.specs.declared.codes.RuleCode.TheVariants.{DeprecatedCommand}
 use Rattle.al_base.specs.declared.faults.Fault.{Fault}
 use Rattle.al_base.specs.declared.faults.Span.{Span}
 use Rattle.al_scalar.specs.Scalar.{Scalar, offset_of, text_of}
-use Rattle.al_rules_reports.specs.Words.{fault}
+use Rattle.al_rules_settings.specs.Words.{fault}
 
 -- the place behind one; a file has no place 2^32 - 1
 abbrev pub behind : ℕ → ℕ

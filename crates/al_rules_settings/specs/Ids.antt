@@ -6,7 +6,7 @@ use Rattle.al_base.specs.declared.faults.Fault.{Fault}
 use Rattle.al_tree.specs.Names.{among}
 use Rattle.al_rules_formats.specs.Names.{is_id}
 use Rattle.al_base.specs.Names.{folded}
-use Rattle.al_rules_reports.specs.Words.{Named, unless}
+use Rattle.al_rules_settings.specs.Words.{Named, unless}
 
 -- an id that is none
 abbrev pub id_faults : Named → List Fault

@@ -13,7 +13,7 @@ use Rattle.al_tree.specs.Names.{among, is_combination_key}
 use Rattle.al_tree.specs.Values.{entries_in, items_at}
 use Rattle.al_base.specs.Names.{folded}
 use Rattle.al_rules_settings.specs.Ids.{with_folded}
-use Rattle.al_rules_reports.specs.Words.{Named, fault, of_key, unless}
+use Rattle.al_rules_settings.specs.Words.{Named, fault, of_key, unless}
 
 abbrev pub is_null_node : Node → Bool
 is_null_node n = option_map_or is_null (scalar_in n) false

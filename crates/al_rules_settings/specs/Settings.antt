@@ -18,7 +18,7 @@ use Rattle.al_rules_formats.specs.Texts.{has_part}
 use Rattle.al_rules_formats.specs.declared.chunks.Around.TheVariants.{Blanks, Nothing}
 use Rattle.al_rules_settings.specs.Commands.{command_faults}
 use Rattle.al_rules_settings.specs.Names.{shells, permissions, scope_values, whole_values}
-use Rattle.al_rules_reports.specs.Words.{fault, of_key, of_scalar, unless, unless_among}
+use Rattle.al_rules_settings.specs.Words.{fault, of_key, of_scalar, unless, unless_among}
 
 -- a shell, one with an expression, or a command line with a place for the script
 abbrev pub is_shell : List ℕ → Bool

@@ -1,15 +1,42 @@
 //! Deprecated commands in scripts (GitHub, "Workflow commands").
 
 ghost use Rattle.al_rules_settings.specs.Commands.{behind, command_fault, command_faults, one_command};
+ghost use Rattle.al_rules_settings.specs.Private.Views.{command_of};
 ghost use Rattle.al_scalar.specs.Scalar.{text_of};
-ghost use Rattle.al_base.specs.Growth.{BeginsWith};
 ghost use Rattle.std.specs.Prelude.{◌≡◌, ◌<◌, ◌≤◌, ◌+◌, ◌^◌, ◌++◌, ◌∷◌, [], length, OnOk};
 
-use al_base::{Fault, RuleCode, Span};
-use al_rules_reports::report_at;
+use al_base::{Code, FaultSink, RuleCode, Span};
 use al_scalar::Scalar;
 use memchr::{memchr, memmem};
-use std::alloc::{AllocError, Global};
+use std::alloc::AllocError;
+
+/// A deprecated command.
+#[derive(Clone, Copy)]
+pub(crate) struct Command {
+    /// What a script has where it gives the command.
+    needle: &'static str,
+    name: &'static str,
+}
+
+const SET_OUTPUT: Command = Command {
+    needle: "::set-output name=",
+    name: "set-output",
+};
+
+const SAVE_STATE: Command = Command {
+    needle: "::save-state name=",
+    name: "save-state",
+};
+
+const SET_ENV: Command = Command {
+    needle: "::set-env name=",
+    name: "set-env",
+};
+
+const ADD_PATH: Command = Command {
+    needle: "::add-path::",
+    name: "add-path",
+};
 
 /// The place behind one.
 fn next_place(at: u32) -> u32
@@ -19,71 +46,52 @@ fn next_place(at: u32) -> u32
 }
 
 /// Adds the fault of a command at a place of a script.
-#[tactic(auto, using(al_base::proofs::Growing::growth))]
 fn report_command(
-    alloc: Global,
     script: &Scalar,
-    needle: &str,
-    name: &str,
+    command: Command,
     at: usize,
-    out: &mut Vec<Fault>,
+    faults: &mut FaultSink,
 ) -> Result<(), AllocError>
-    requires within { at + length needle.now ≤ length (text_of script.now) }
-    requires end { at + length needle.now < 2 ^ 64 }
-    requires present { 0 < length needle.now }
-    ensures ok { OnOk result (out.new.items ≡ out.old.items ++ command_fault script.now needle.now name.now at ∷ []) }
-    ensures begins { BeginsWith out.new.items out.old.items }
+    requires within { at + length command.needle.now ≤ length (text_of script.now) }
+    requires end { at + length command.needle.now < 2 ^ 64 }
+    ensures { OnOk result (faults.new ≡ faults.old
+        ++ command_fault script.now command.needle.now command.name.now at ∷ []) }
 {
-    let last = at + needle.len() - 1;
+    let last = (at + command.needle.len()).saturating_sub(1);
     let span = Span {
         start: script.locate(at),
         end: next_place(script.locate(last)),
     };
-    report_at(
-        alloc,
-        RuleCode::DeprecatedCommand,
-        span,
-        name.as_bytes(),
-        out,
-    )
+    let code = Code::Rule(RuleCode::DeprecatedCommand);
+    faults.report_text(span, code, command.name.as_bytes())
 }
 
 /// Adds the faults of one command of a script.
-#[tactic(auto, using(al_base::proofs::Growing::growth))]
 fn check_command(
-    alloc: Global,
     script: &Scalar,
-    needle: &str,
-    name: &str,
-    out: &mut Vec<Fault>,
+    command: Command,
+    faults: &mut FaultSink,
 ) -> Result<(), AllocError>
-    requires present { 0 < length needle.now }
-    ensures ok { OnOk result (out.new.items ≡ out.old.items ++ one_command script.now (needle.now, name.now)) }
-    ensures begins { BeginsWith out.new.items out.old.items }
+    ensures { OnOk result (faults.new ≡ faults.old
+        ++ one_command script.now (command_of command)) }
 {
     let text = script.text();
-    for at in memmem::find_iter(text, needle.as_bytes()) {
-        report_command(alloc, script, needle, name, at, out)?;
+    for at in memmem::find_iter(text, command.needle.as_bytes()) {
+        report_command(script, command, at, faults)?;
     }
     Ok(())
 }
 
 /// Adds the deprecated commands of a script.
-#[tactic(auto, using(al_base::proofs::Growing::growth))]
-pub(crate) fn check_commands(
-    alloc: Global,
-    script: &Scalar,
-    out: &mut Vec<Fault>,
-) -> Result<(), AllocError>
-    ensures ok { OnOk result (out.new.items ≡ out.old.items ++ command_faults script.now) }
-    ensures begins { BeginsWith out.new.items out.old.items }
+pub(crate) fn check_commands(script: &Scalar, faults: &mut FaultSink) -> Result<(), AllocError>
+    ensures { OnOk result (faults.new ≡ faults.old ++ command_faults script.now) }
 {
     // Each command begins with a colon, which most scripts don't have.
     if memchr(b':', script.text()).is_none() {
         return Ok(());
     }
-    check_command(alloc, script, "::set-output name=", "set-output", out)?;
-    check_command(alloc, script, "::save-state name=", "save-state", out)?;
-    check_command(alloc, script, "::set-env name=", "set-env", out)?;
-    check_command(alloc, script, "::add-path::", "add-path", out)
+    check_command(script, SET_OUTPUT, faults)?;
+    check_command(script, SAVE_STATE, faults)?;
+    check_command(script, SET_ENV, faults)?;
+    check_command(script, ADD_PATH, faults)
 }

@@ -1,15 +1,17 @@
 //! The rules of single settings, wherever they stand: ids, matrices, shells, permissions, environment variables, passwords, scripts
-//! and conditions.
+//! and conditions. And what each rule reports with: texts of a file that a fault names.
 #![tactic(auto)]
 
 mod commands;
 mod ids;
 mod matrix;
 mod names;
+mod reports;
 mod settings;
 
 pub use ids::check_ids;
 pub use matrix::check_matrix;
+pub use reports::{Named, named_key, named_text, report, report_unless, report_unless_among};
 pub use settings::{
     check_condition, check_credentials, check_env, check_permissions, check_script, check_shell,
 };

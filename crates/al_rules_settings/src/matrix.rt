@@ -5,10 +5,8 @@ ghost use Rattle.al_rules_settings.specs.Matrix.{is_combination as combination, 
 ghost use Rattle.al_rules_settings.specs.Matrix.{is_mapping as mapping, is_null_node as null_node, is_row_value as row_value};
 ghost use Rattle.al_rules_settings.specs.Matrix.{is_sequence as sequence, mapping_faults, matrix_faults};
 ghost use Rattle.al_rules_settings.specs.Matrix.{row_faults, row_names, shape_faults};
-ghost use Rattle.al_rules_reports.specs.Private.Views.{named_of};
-ghost use Rattle.al_rules_settings.specs.Private.Views.{folded_id};
-ghost use Rattle.al_rules_reports.specs.Words.{of_key, unless};
-ghost use Rattle.al_base.specs.Growth.{BeginsWith};
+ghost use Rattle.al_rules_settings.specs.Private.Views.{folded_id, named_of};
+ghost use Rattle.al_rules_settings.specs.Words.{of_key, unless};
 ghost use Rattle.al_tree.specs.Keys.{holds};
 ghost use Rattle.al_tree.specs.Names.{among};
 ghost use Rattle.al_tree.specs.Values.{entries_in, member_of};
@@ -18,8 +16,8 @@ ghost use Rattle.std.specs.List.{flat_map, list_all};
 ghost use Rattle.std.specs.Prelude.{◌≡◌, ◌++◌, map, IfOk, OnOk};
 
 use crate::ids::{FoldedId, folded};
-use al_base::{Fault, RuleCode, Span};
-use al_rules_reports::{Named, named_key, report_at, report_unless};
+use crate::reports::{Named, named_key, report_unless};
+use al_base::{Code, FaultSink, RuleCode, Span};
 use al_tree::{
     KeySet, Member, contains_chunk, is_combination_key, is_null_scalar, items_under, members,
 };
@@ -104,47 +102,36 @@ fn is_row_value(key: &[u8], value: &Node) -> bool
 }
 
 /// Adds the fault of a wrong shape.
-#[tactic(auto, using(al_base::proofs::Growing::growth))]
 fn check_shape(
-    alloc: Global,
     right: bool,
     span: Span,
     name: &[u8],
-    out: &mut Vec<Fault>,
+    faults: &mut FaultSink,
 ) -> Result<(), AllocError>
-    ensures ok { OnOk result (out.new.items ≡ out.old.items ++ shape_faults right span name.now) }
-    ensures begins { BeginsWith out.new.items out.old.items }
+    ensures { OnOk result (faults.new ≡ faults.old ++ shape_faults right span name.now) }
 {
     if right {
         return Ok(());
     }
-    report_at(alloc, RuleCode::WrongMatrix, span, name, out)
+    faults.report_text(span, Code::Rule(RuleCode::WrongMatrix), name)
 }
 
 /// Adds the fault of a row.
-#[tactic(auto, using(al_base::proofs::Growing::growth))]
-fn check_row(alloc: Global, row: Member<'_>, out: &mut Vec<Fault>) -> Result<(), AllocError>
-    ensures ok { OnOk result (out.new.items ≡ out.old.items ++ row_faults (member_of row.entry)) }
-    ensures begins { BeginsWith out.new.items out.old.items }
+fn check_row(row: Member<'_>, faults: &mut FaultSink) -> Result<(), AllocError>
+    ensures { OnOk result (faults.new ≡ faults.old ++ row_faults (member_of row.entry)) }
 {
     let key = named_key(row.key);
-    check_shape(
-        alloc,
-        is_row_value(key.text, row.value),
-        row.value.span(),
-        key.text,
-        out,
-    )
+    let right = is_row_value(key.text, row.value);
+    check_shape(right, row.value.span(), key.text, faults)
 }
 
 /// Adds the faults of some rows.
-#[tactic(auto, using(al_base::proofs::Growing::growth))]
-fn check_rows(alloc: Global, rows: &[Member<'_>], out: &mut Vec<Fault>) -> Result<(), AllocError>
-    ensures ok { OnOk result (out.new.items ≡ out.old.items ++ flat_map row_faults (map member_of rows.now)) }
-    ensures begins { BeginsWith out.new.items out.old.items }
+fn check_rows(rows: &[Member<'_>], faults: &mut FaultSink) -> Result<(), AllocError>
+    ensures { OnOk result (faults.new ≡ faults.old
+        ++ flat_map row_faults (map member_of rows.now)) }
 {
     for row in rows {
-        check_row(alloc, *row, out)?;
+        check_row(*row, faults)?;
     }
     Ok(())
 }
@@ -186,7 +173,8 @@ fn add_keys<'a>(alloc: Global, item: &'a Node, found: &mut Vec<Named<'a>>) -> Re
 
 /// Adds the keys of some entries.
 fn add_names<'a>(keys: &[Member<'a>], found: &mut Vec<Named<'a>>) -> Result<(), AllocError>
-    ensures { OnOk result (map named_of found.new.items ≡ map named_of found.old.items ++ map (λ m. of_key m.0) (map member_of keys.now)) }
+    ensures { OnOk result (map named_of found.new.items
+        ≡ map named_of found.old.items ++ map (λ m. of_key m.0) (map member_of keys.now)) }
 {
     for key in keys {
         found.push(named_key(key.key))?;
@@ -206,80 +194,69 @@ fn excluded(alloc: Global, items: &[Node]) -> Result<Vec<Named<'_>>, AllocError>
 }
 
 /// Adds the faults of some keys of `exclude`.
-#[tactic(auto, using(al_base::proofs::Growing::growth))]
 fn check_excluded<'a>(
-    alloc: Global,
     rows: &KeySet<'a>,
     keys: &'a [FoldedId<'a>],
-    out: &mut Vec<Fault>,
+    faults: &mut FaultSink,
 ) -> Result<(), AllocError>
-    ensures ok { OnOk result (out.new.items ≡ out.old.items
-        ++ flat_map (λ p. unless (holds rows.now p.1) UnknownMatrixRow p.0) (map folded_id keys.now)) }
-    ensures begins { BeginsWith out.new.items out.old.items }
+    ensures { OnOk result (faults.new ≡ faults.old
+        ++ flat_map (λ p. unless (holds rows.now p.1) UnknownMatrixRow p.0)
+        (map folded_id keys.now)) }
 {
     for key in keys {
         let known = rows.contains(key.text.as_slice());
-        report_unless(alloc, known, RuleCode::UnknownMatrixRow, key.id, out)?;
+        report_unless(known, RuleCode::UnknownMatrixRow, key.id, faults)?;
     }
     Ok(())
 }
 
 /// Adds the faults of some keys of `exclude`, beside rows with these names.
-#[tactic(auto, using(al_base::proofs::Growing::growth))]
 fn check_beside<'a>(
-    alloc: Global,
     names: &'a [Vec<u8>],
     keys: &'a [FoldedId<'a>],
-    out: &mut Vec<Fault>,
+    faults: &mut FaultSink,
 ) -> Result<(), AllocError>
-    ensures ok { OnOk result (out.new.items ≡ out.old.items
+    ensures { OnOk result (faults.new ≡ faults.old
         ++ flat_map (exclude_faults (map (λ t. t.items) names.now)) (map folded_id keys.now)) }
-    ensures begins { BeginsWith out.new.items out.old.items }
 {
-    let rows = set_of(alloc, names)?;
-    check_excluded(alloc, &rows, keys, out)
+    let rows = set_of(faults.alloc(), names)?;
+    check_excluded(&rows, keys, faults)
 }
 
 /// Adds the faults of the keys of `exclude` beside some rows.
-#[tactic(auto, using(al_base::proofs::Growing::growth))]
 fn check_excludes(
-    alloc: Global,
     rows: &[Member<'_>],
     items: &[Node],
-    out: &mut Vec<Fault>,
+    faults: &mut FaultSink,
 ) -> Result<(), AllocError>
-    ensures ok { OnOk result (out.new.items ≡ out.old.items
-        ++ excludes_faults (row_names (map member_of rows.now)) (exclude_keys (map view items.now))) }
-    ensures begins { BeginsWith out.new.items out.old.items }
+    ensures { OnOk result (faults.new ≡ faults.old
+        ++ excludes_faults (row_names (map member_of rows.now))
+        (exclude_keys (map view items.now))) }
 {
-    let names = names_of(alloc, rows)?;
-    let keys = excluded(alloc, items)?;
-    let keys = folded(alloc, keys.as_slice())?;
-    check_beside(alloc, names.as_slice(), keys.as_slice(), out)
+    let names = names_of(faults.alloc(), rows)?;
+    let keys = excluded(faults.alloc(), items)?;
+    let keys = folded(faults.alloc(), keys.as_slice())?;
+    check_beside(names.as_slice(), keys.as_slice(), faults)
 }
 
 /// Adds the faults of a matrix that is a mapping.
-#[tactic(auto, using(al_base::proofs::Growing::growth))]
-fn check_mapping(alloc: Global, node: &Node, out: &mut Vec<Fault>) -> Result<(), AllocError>
-    ensures ok { OnOk result (out.new.items ≡ out.old.items ++ mapping_faults (view node.now)) }
-    ensures begins { BeginsWith out.new.items out.old.items }
+fn check_mapping(node: &Node, faults: &mut FaultSink) -> Result<(), AllocError>
+    ensures { OnOk result (faults.new ≡ faults.old ++ mapping_faults (view node.now)) }
 {
-    let rows = members(alloc, node)?;
-    check_rows(alloc, rows.as_slice(), out)?;
-    check_excludes(alloc, rows.as_slice(), items_under(node, "exclude"), out)
+    let rows = members(faults.alloc(), node)?;
+    check_rows(rows.as_slice(), faults)?;
+    check_excludes(rows.as_slice(), items_under(node, "exclude"), faults)
 }
 
 /// Adds the faults of a matrix: of its rows, and of the keys of `exclude` that name none of them.
 ///
-/// Fails with `AllocError` when out of memory; the list then begins with what it held.
-#[tactic(auto, using(al_base::proofs::Growing::growth))]
-pub fn check_matrix(alloc: Global, node: &Node, out: &mut Vec<Fault>) -> Result<(), AllocError>
-    ensures ok { OnOk result (out.new.items ≡ out.old.items ++ matrix_faults (view node.now)) }
-    ensures begins { BeginsWith out.new.items out.old.items }
+/// Fails with `AllocError` when out of memory.
+pub fn check_matrix(node: &Node, faults: &mut FaultSink) -> Result<(), AllocError>
+    ensures { OnOk result (faults.new ≡ faults.old ++ matrix_faults (view node.now)) }
 {
     if is_mapping(node) {
-        return check_mapping(alloc, node, out);
+        return check_mapping(node, faults);
     }
     let right = is_null_node(node) || is_dynamic(node);
-    check_shape(alloc, right, node.span(), b"matrix", out)
+    check_shape(right, node.span(), b"matrix", faults)
 }

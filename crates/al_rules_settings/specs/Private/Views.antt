@@ -1,8 +1,21 @@
 -- What the program's own types stand for.
 use Rattle.std.specs.Prelude.{ℕ, List}
-use Rattle.al_rules_reports.specs.Private.Views.{named_of}
-use Rattle.al_rules_reports.specs.Words.{Named}
+use Rattle.al_tree.specs.declared.values.ScalarNode.{ScalarNode}
+use Rattle.al_tree.specs.Values.{scalar_node_of}
+use Rattle.al_rules_settings.specs.Words.{Named, of_scalar}
+use Rattle.al_rules_settings.specs.declared.commands.Command.{Command}
 use Rattle.al_rules_settings.specs.declared.ids.FoldedId.{FoldedId}
+use Rattle.al_rules_settings.specs.declared.reports.Named as rust
+
+abbrev pub named_of : rust.Named → Named
+named_of n = record { text = n.text.now; span = n.span }
+
+abbrev pub named_scalar : ScalarNode → Named
+named_scalar s = of_scalar (scalar_node_of s)
 
 abbrev pub folded_id : FoldedId → Named × List ℕ
 folded_id i = (named_of i.id, i.text.items)
+
+-- what is looked for, and its name
+abbrev pub command_of : Command → List ℕ × List ℕ
+command_of c = (c.needle.now, c.name.now)

@@ -1,5 +1,4 @@
 use Rattle.std.proofs.Common.{◌≡◌, ◌++◌, drop, map}
-use Rattle.al_base.specs.Growth.{BeginsWith}
 use Rattle.std.specs.List.{flat_map}
 use Rattle.al_yaml_tree.specs.View.{view}
 use Rattle.al_rules.specs.Events.{filter_faults}
@@ -7,8 +6,6 @@ use Rattle.al_rules.proofs.events.check_keys.Given as goal
 
 -- what was added, and the faults of what is left, are the faults of all
 abbrev pub invariant-loop-key : goal.invariant-loop-key
-invariant-loop-key l = record {
-  all : l.out.items ++ flat_map (filter_faults l.filter (view l.event)) (map (λ n. n.now) (drop l.key-index l.keys)) ≡ l.fn.out.items
-      ++ flat_map (filter_faults l.filter (view l.event)) (map (λ n. n.now) (l.keys));
-  begins : BeginsWith l.out.items l.fn.out.items;
-}
+invariant-loop-key l =
+    l.faults ++ flat_map (filter_faults l.filter (view l.event)) (map (λ n. n.now) (drop l.key-index l.keys))
+    ≡ l.fn.faults ++ flat_map (filter_faults l.filter (view l.event)) (map (λ n. n.now) l.keys)

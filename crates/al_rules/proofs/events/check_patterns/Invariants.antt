@@ -1,15 +1,12 @@
 use Rattle.std.proofs.Common.{◌≡◌, ◌++◌, drop, map}
-use Rattle.al_base.specs.Growth.{BeginsWith}
 use Rattle.std.specs.List.{flat_map}
 use Rattle.al_tree.specs.Values.{scalar_node_of}
 use Rattle.al_rules.specs.Events.{pattern_faults}
-use Rattle.al_rules_reports.specs.Words.{of_scalar}
+use Rattle.al_rules_settings.specs.Words.{of_scalar}
 use Rattle.al_rules.proofs.events.check_patterns.Given as goal
 
 -- what was added, and the faults of what is left, are the faults of all
 abbrev pub invariant-loop-scalar : goal.invariant-loop-scalar
-invariant-loop-scalar l = record {
-  all : l.out.items ++ flat_map (λ s. pattern_faults l.filter (of_scalar s)) (map scalar_node_of (drop l.scalar-index l.scalars))
-      ≡ l.fn.out.items ++ flat_map (λ s. pattern_faults l.filter (of_scalar s)) (map scalar_node_of (l.scalars));
-  begins : BeginsWith l.out.items l.fn.out.items;
-}
+invariant-loop-scalar l =
+    l.faults ++ flat_map (λ s. pattern_faults l.filter (of_scalar s)) (map scalar_node_of (drop l.scalar-index l.scalars))
+    ≡ l.fn.faults ++ flat_map (λ s. pattern_faults l.filter (of_scalar s)) (map scalar_node_of l.scalars)

@@ -1,23 +1,19 @@
-use Rattle.std.proofs.Common.{◌≤◌, append-nil, arith, length, refl, sym}
-use Rattle.al_base.proofs.Growing.{begins_same, begins_trans}
+use Rattle.std.proofs.Common.{◌≤◌, append-nil, arith, length, sym}
 use Rattle.al_tree.specs.Values.{member_of}
 use Rattle.al_base.specs.NamePlaces.{name_position}
 use Rattle.al_rules.proofs.NeedLemmas.{found_end, found_next}
 use Rattle.al_rules.proofs.needs.check_each_job.Goals as goal
 
 pub loop-i-init : goal.loop-i-init
-loop-i-init c = record { all = sym (append-nil _); begins = begins_same _ _ refl }
+loop-i-init c = sym (append-nil _)
 
 pub loop-i-preserved : goal.loop-i-preserved
-loop-i-preserved c = record {
-  all = found_next (name_position c.args.positions.now) c.args.labels.now member_of c.args.jobs.now c.loop-i.i c.index-jobs-i.result
-      c.args.out.now.items c.loop-i.out.items c.check_job.new.out.items c.loop-i-test.true c.index-jobs-i.is c.loop-i.invariant.all
-      c.in_ok-check_job.ensures.ok;
-  begins = begins_trans _ _ _ c.loop-i.invariant.begins c.in_ok-check_job.ensures.begins;
-}
+loop-i-preserved c = found_next (name_position c.args.graph.positions.now) c.args.graph.labels.now member_of c.args.jobs.now c.loop-i.i
+    c.index-jobs-i.result c.args.faults.now c.loop-i.faults c.check_job.new.faults c.loop-i-test.true c.index-jobs-i.is c.loop-i.invariant
+    c.in_ok-check_job.ensures
 
-pub returns-clause-ok : goal.returns-clause-ok
-returns-clause-ok c =
+pub returns : goal.returns
+returns c =
     let all : length c.args.jobs.now ≤ c.loop-i.i = omega arith in
-    found_end (name_position c.args.positions.now) c.args.labels.now member_of c.args.jobs.now c.loop-i.i
-    c.args.out.now.items c.loop-i.out.items all c.loop-i.invariant.all
+    found_end (name_position c.args.graph.positions.now) c.args.graph.labels.now member_of c.args.jobs.now c.loop-i.i
+    c.args.faults.now c.loop-i.faults all c.loop-i.invariant

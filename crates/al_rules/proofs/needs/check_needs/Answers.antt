@@ -1,6 +1,6 @@
 use Rattle.std.proofs.Common.{◌≡◌, ◌++◌, ◌∙◌, ap, map, sym}
 use Rattle.std.proofs.lemmas.Simd.{map-map}
-use Rattle.al_rules_reports.specs.Words.{of_key}
+use Rattle.al_rules_settings.specs.Words.{of_key}
 use Rattle.al_graph.specs.Graphs.{edges_of}
 use Rattle.al_base.specs.NamePlaces.{name_position}
 use Rattle.al_tree.specs.Values.{member_of}
@@ -19,12 +19,12 @@ strongly_connected_components-requires c =
     edges_below jobs c.as_slice.result.now
     (lists_same jobs (name_position c.in_ok-positions.positions) (edges_of c.as_slice.result.now) position lists)
 
-pub returns-clause-ok : goal.returns-clause-ok
-returns-clause-ok c =
+pub returns : goal.returns
+returns c =
     let jobs = map member_of c.args.jobs.now in
     let at = name_position c.in_ok-positions.positions in
     let position : at ≡ position_in (keys_of jobs) = c.in_ok-positions.ensures ∙ ap position_in (sym (map-map (λ j. of_key j.0) member_of c.args.jobs.now)) in
     let lists : edges_of c.as_slice.result.now ≡ needs_lists at jobs = ap edges_of c.as_slice.ensures.value ∙ c.in_ok-needs.ensures in
     adds_all jobs at c.as_slice.result.now c.in_ok-labels.labels.items _ _ position lists c.in_ok-labels.ensures.exact
-    (c.in_ok-check_each_job.ensures.ok
-    ∙ ap (λ ls. c.args.out.now.items ++ labelled_faults at ls (all_needs jobs)) c.as_slice-2.ensures.value)
+    (c.in_ok-check_each_job.ensures
+    ∙ ap (λ ls. c.args.faults.now ++ labelled_faults at ls (all_needs jobs)) c.as_slice-2.ensures.value)

@@ -1,8 +1,8 @@
 use Rattle.std.proofs.Common.{◌≡◌, take, map}
-use Rattle.al_rules_reports.specs.Private.Views.{named_of}
+use Rattle.al_rules_settings.specs.Private.Views.{named_of}
 use Rattle.al_rules.specs.Private.Views.{need_of}
 use Rattle.al_tree.specs.Values.{scalar_node_of}
-use Rattle.al_rules_reports.specs.Words.{of_scalar}
+use Rattle.al_rules_settings.specs.Words.{of_scalar}
 use Rattle.al_rules.proofs.needs.entries_of.Given as goal
 
 abbrev pub invariant-loop-text : goal.invariant-loop-text

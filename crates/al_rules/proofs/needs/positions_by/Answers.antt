@@ -2,7 +2,7 @@ use Rattle.std.proofs.Common.{◌≡◌, ◌∙◌, ap, rules}
 use Rattle.al_base.specs.Names.{same_name}
 use Rattle.al_base.specs.NamePlaces.{and_name_at, name_position}
 use Rattle.al_base.proofs.NamePlaces.{position_next}
-use Rattle.al_rules_reports.specs.Words.{Named, of_key}
+use Rattle.al_rules_settings.specs.Words.{Named, of_key}
 use Rattle.al_tree.specs.Keys.{key_of}
 use Rattle.al_tree.specs.Values.{member_of}
 use Rattle.al_tree.specs.declared.values.Member.{Member}

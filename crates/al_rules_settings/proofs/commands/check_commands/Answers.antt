@@ -3,9 +3,9 @@ use Rattle.std.specs.Prelude.{is_none}
 use Rattle.al_rules_settings.proofs.Places.{no_colon_found}
 use Rattle.al_rules_settings.proofs.commands.check_commands.Goals as goal
 
-pub returns-then-is_none-clause-ok : goal.returns-then-is_none-clause-ok
-returns-then-is_none-clause-ok c =
-    let out = c.args.out.now.items in
+pub returns-then-is_none : goal.returns-then-is_none
+returns-then-is_none c =
+    let before = c.args.faults.now in
     let gone : is_none c.memchr.result ≡ true = search rules in
     let none = no_colon_found c.args.script.now c.text.result.now c.memchr.result c.text.ensures gone c.memchr.ensures in
-    sym (append-nil out) ∙ ap (λ fs. out ++ fs) (sym none)
+    sym (append-nil before) ∙ ap (λ fs. before ++ fs) (sym none)

@@ -1,16 +1,13 @@
 use Rattle.std.proofs.Common.{◌≡◌, ◌++◌, drop, map}
-use Rattle.al_base.specs.Growth.{BeginsWith}
 use Rattle.std.specs.List.{flat_map}
 use Rattle.al_tree.specs.Keys.{holds}
 use Rattle.al_base.specs.declared.codes.RuleCode.TheVariants.{UnknownMatrixRow}
 use Rattle.al_rules_settings.specs.Private.Views.{folded_id}
-use Rattle.al_rules_reports.specs.Words.{unless}
+use Rattle.al_rules_settings.specs.Words.{unless}
 use Rattle.al_rules_settings.proofs.matrix.check_excluded.Given as goal
 
 -- what was added, and the faults of what is left, are the faults of all
 abbrev pub invariant-loop-key : goal.invariant-loop-key
-invariant-loop-key l = record {
-  all : l.out.items ++ flat_map (λ p. unless (holds l.rows p.1) UnknownMatrixRow p.0) (map folded_id (drop l.key-index l.keys))
-      ≡ l.fn.out.items ++ flat_map (λ p. unless (holds l.rows p.1) UnknownMatrixRow p.0) (map folded_id (l.keys));
-  begins : BeginsWith l.out.items l.fn.out.items;
-}
+invariant-loop-key l =
+    l.faults ++ flat_map (λ p. unless (holds l.rows p.1) UnknownMatrixRow p.0) (map folded_id (drop l.key-index l.keys))
+    ≡ l.fn.faults ++ flat_map (λ p. unless (holds l.rows p.1) UnknownMatrixRow p.0) (map folded_id l.keys)

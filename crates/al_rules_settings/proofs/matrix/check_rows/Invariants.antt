@@ -1,5 +1,4 @@
 use Rattle.std.proofs.Common.{◌≡◌, ◌++◌, drop, map}
-use Rattle.al_base.specs.Growth.{BeginsWith}
 use Rattle.std.specs.List.{flat_map}
 use Rattle.al_tree.specs.Values.{member_of}
 use Rattle.al_rules_settings.specs.Matrix.{row_faults}
@@ -7,7 +6,5 @@ use Rattle.al_rules_settings.proofs.matrix.check_rows.Given as goal
 
 -- what was added, and the faults of what is left, are the faults of all
 abbrev pub invariant-loop-row : goal.invariant-loop-row
-invariant-loop-row l = record {
-  all : l.out.items ++ flat_map row_faults (map member_of (drop l.row-index l.rows)) ≡ l.fn.out.items ++ flat_map row_faults (map member_of (l.rows));
-  begins : BeginsWith l.out.items l.fn.out.items;
-}
+invariant-loop-row l =
+    l.faults ++ flat_map row_faults (map member_of (drop l.row-index l.rows)) ≡ l.fn.faults ++ flat_map row_faults (map member_of l.rows)

@@ -1,5 +1,4 @@
 use Rattle.std.proofs.Common.{◌≡◌, ◌++◌, drop, map}
-use Rattle.al_base.specs.Growth.{BeginsWith}
 use Rattle.std.specs.List.{flat_map}
 use Rattle.al_tree.specs.Values.{member_of}
 use Rattle.al_rules_settings.specs.Settings.{permission_faults}
@@ -7,7 +6,6 @@ use Rattle.al_rules_settings.proofs.settings.check_scopes.Given as goal
 
 -- what was added, and the faults of what is left, are the faults of all
 abbrev pub invariant-loop-scope : goal.invariant-loop-scope
-invariant-loop-scope l = record {
-  all : l.out.items ++ flat_map permission_faults (map member_of (drop l.scope-index l.scopes)) ≡ l.fn.out.items ++ flat_map permission_faults (map member_of (l.scopes));
-  begins : BeginsWith l.out.items l.fn.out.items;
-}
+invariant-loop-scope l =
+    l.faults ++ flat_map permission_faults (map member_of (drop l.scope-index l.scopes))
+    ≡ l.fn.faults ++ flat_map permission_faults (map member_of l.scopes)

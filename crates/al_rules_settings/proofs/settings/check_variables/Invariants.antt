@@ -1,5 +1,4 @@
 use Rattle.std.proofs.Common.{◌≡◌, ◌++◌, drop, map}
-use Rattle.al_base.specs.Growth.{BeginsWith}
 use Rattle.std.specs.List.{flat_map}
 use Rattle.al_tree.specs.Values.{member_of}
 use Rattle.al_rules_settings.specs.Settings.{variable_faults}
@@ -7,7 +6,6 @@ use Rattle.al_rules_settings.proofs.settings.check_variables.Given as goal
 
 -- what was added, and the faults of what is left, are the faults of all
 abbrev pub invariant-loop-variable : goal.invariant-loop-variable
-invariant-loop-variable l = record {
-  all : l.out.items ++ flat_map variable_faults (map member_of (drop l.variable-index l.variables)) ≡ l.fn.out.items ++ flat_map variable_faults (map member_of (l.variables));
-  begins : BeginsWith l.out.items l.fn.out.items;
-}
+invariant-loop-variable l =
+    l.faults ++ flat_map variable_faults (map member_of (drop l.variable-index l.variables))
+    ≡ l.fn.faults ++ flat_map variable_faults (map member_of l.variables)

@@ -17,7 +17,7 @@ use Rattle.al_yaml_tree.specs.Spans.{AreLaid, EntriesLaid, IsLaid}
 use Rattle.al_tree.proofs.Lists.{firsts_kept}
 use Rattle.al_tree.specs.Faults.{is_key, is_null, value_in}
 use Rattle.al_tree.specs.Values.{entries_at, entries_in, firsts, items_at, items_in, key_at, key_in, text_at, text_below, text_in, texts_at, texts_in, unless_null, value_at, value_below}
-use Rattle.al_rules_reports.specs.Words.{Named, about, fault, of_key, unless}
+use Rattle.al_rules_settings.specs.Words.{Named, about, fault, of_key, unless}
 
 abbrev pub Lies : ℕ → Fault → Type 0
 Lies size f = LiesIn size f.span

@@ -1,0 +1,75 @@
+//! Texts of a file, and the faults of the rules about them.
+
+ghost use Rattle.al_rules_settings.specs.Private.Views.{named_of, named_scalar};
+ghost use Rattle.al_rules_settings.specs.Words.{about, of_key, unless, unless_among};
+ghost use Rattle.al_yaml_tree.specs.View.{view};
+ghost use Rattle.std.specs.Prelude.{◌≡◌, ◌++◌, map, OnOk};
+
+use al_base::{Code, FaultSink, RuleCode, Span};
+use al_tree::{ScalarNode, is_among, key_text};
+use al_yaml_tree::Node;
+use std::alloc::AllocError;
+
+/// A text of a file, and where it stands.
+#[derive(Clone, Copy)]
+pub struct Named<'a> {
+    /// The text, as it is meant: without quotes, its escapes decoded.
+    pub text: &'a [u8],
+    /// Where it stands, quotes included.
+    pub span: Span,
+}
+
+/// The text of a key, and where the key stands.
+pub fn named_key(key: &Node) -> Named<'_>
+    ensures { named_of result ≡ of_key (view key.now) }
+{
+    Named {
+        text: key_text(key),
+        span: key.span(),
+    }
+}
+
+/// The text of a scalar, and where the scalar stands.
+pub fn named_text(scalar: ScalarNode<'_>) -> Named<'_>
+    ensures { named_of result ≡ named_scalar scalar.entry }
+{
+    Named {
+        text: scalar.scalar.text(),
+        span: scalar.span,
+    }
+}
+
+/// Adds the fault of a text, which stands where the text does and names it. Fails with `AllocError` when out of memory.
+pub fn report(rule: RuleCode, named: Named<'_>, faults: &mut FaultSink) -> Result<(), AllocError>
+    ensures { OnOk result (faults.new ≡ faults.old ++ about rule (named_of named.entry)) }
+{
+    faults.report_text(named.span, Code::Rule(rule), named.text)
+}
+
+/// Adds the fault of a text, unless it is right. Fails with `AllocError` when out of memory.
+pub fn report_unless(
+    right: bool,
+    rule: RuleCode,
+    named: Named<'_>,
+    faults: &mut FaultSink,
+) -> Result<(), AllocError>
+    ensures { OnOk result (faults.new ≡ faults.old ++ unless right rule (named_of named.entry)) }
+{
+    if right {
+        return Ok(());
+    }
+    report(rule, named, faults)
+}
+
+/// Adds the fault of a text, unless it is one of some names. Fails with `AllocError` when out of memory.
+pub fn report_unless_among(
+    rule: RuleCode,
+    names: &[&str],
+    named: Named<'_>,
+    faults: &mut FaultSink,
+) -> Result<(), AllocError>
+    ensures { OnOk result (faults.new ≡ faults.old
+        ++ unless_among rule (map (λ n. n.now) names.now) (named_of named.entry)) }
+{
+    report_unless(is_among(named.text, names), rule, named, faults)
+}
