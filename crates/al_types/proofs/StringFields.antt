@@ -35,14 +35,17 @@ common_strings (n ∷ ns) =
     ap (fuse_optional (Present String)) (common_strings ns) ∙ one_more (nat_eq (length ns) 0)
     ∙ ap string_unless (sym (ap (λ k. nat_eq k 0) len ∙ more_than_none (length ns)))
 
+common_some : (ns : List (List ℕ)) → fuse_optional (Present String) (common_in (fields_of (strings ns))) ≡ Present String
+common_some ns = ap (fuse_optional (Present String)) (common_strings ns) ∙ one_more (nat_eq (length ns) 0)
+
 -- ---- of equal names the first
 
 -- a name behind others, only where it isn't among them
-name_new : List (List ℕ) → List ℕ → List (List ℕ)
+abbrev name_new : List (List ℕ) → List ℕ → List (List ℕ)
 name_new [] n = n ∷ []
 name_new (m ∷ ms) n = if same_name m n then m ∷ ms else m ∷ name_new ms n
 
-names_new : List (List ℕ) → List (List ℕ) → List (List ℕ)
+abbrev names_new : List (List ℕ) → List (List ℕ) → List (List ℕ)
 names_new ms [] = ms
 names_new ms (n ∷ ns) = names_new (name_new ms n) ns
 
@@ -59,19 +62,20 @@ strings_put : (ms ns : List (List ℕ)) → put_all put_new (strings ms) (string
 strings_put ms [] = refl
 strings_put ms (n ∷ ns) = ap (λ ts. put_all put_new ts (strings ns)) (strings_new ms n) ∙ strings_put (name_new ms n) ns
 
-mutual
-  some_string : (m : List ℕ) (ms ns : List (List ℕ)) → common_in (fields_of (strings (names_new (m ∷ ms) ns))) ≡ Present String
-  some_string m ms [] = common_strings (m ∷ ms)
-  some_string m ms (n ∷ ns) = either_string (same_name m n) m ms n ns
+either_string : (b : Bool) (ms more ns : List (List ℕ)) → common_in (fields_of (strings (names_new ms ns))) ≡ Present String →
+    common_in (fields_of (strings (names_new more ns))) ≡ Present String →
+    common_in (fields_of (strings (names_new (if b then ms else more) ns))) ≡ Present String
+either_string true ms more ns e f = e
+either_string false ms more ns e f = f
 
-  either_string : (b : Bool) (m : List ℕ) (ms : List (List ℕ)) (n : List ℕ) (ns : List (List ℕ)) →
-      common_in (fields_of (strings (names_new (if b then m ∷ ms else m ∷ name_new ms n) ns))) ≡ Present String
-  either_string true m ms n ns = some_string m ms ns
-  either_string false m ms n ns = some_string m (name_new ms n) ns
+some_string : (m : List ℕ) (ms ns : List (List ℕ)) → common_in (fields_of (strings (names_new (m ∷ ms) ns))) ≡ Present String
+some_string m ms [] = common_some ms
+some_string m ms (n ∷ ns) =
+    either_string (same_name m n) (m ∷ ms) (m ∷ name_new ms n) ns (some_string m ms ns) (some_string m (name_new ms n) ns)
 
 names_common : (ns : List (List ℕ)) → common_in (fields_of (strings (names_new [] ns))) ≡ common_in (fields_of (strings ns))
 names_common [] = refl
-names_common (n ∷ ns) = some_string n [] ns ∙ sym (common_strings (n ∷ ns))
+names_common (n ∷ ns) = some_string n [] ns ∙ sym (common_some ns)
 
 -- an object of the first of each name is the one of all
 pub first_strings : (ns : List (List ℕ)) → parts_with (fields_of (firsts (strings ns))) Absent ≡ parts_with (fields_of (strings ns)) Absent
