@@ -3,11 +3,13 @@ use Rattle.std.proofs.Common.{◌≡◌, ℕ, Bool, List, Option, Some, None, Re
 use Rattle.std.specs.Option.{option_map}
 use Rattle.al_session_folder.specs.Meaning.{Meaning}
 use Rattle.al_session_folder.specs.Folder.{Folder, with_file}
-use Rattle.al_session_folder.specs.Kept.{AreKept, Callers, Files, IsKept, file_at, folder_of}
+use Rattle.al_session_folder.specs.Kept.{AreKept, Files, IsKept, file_at, folder_of}
 use Rattle.al_session_folder.specs.Private.CallGraphs.{HasSameCalls, IsCallGraph}
 use Rattle.al_session_folder.specs.declared.kept.KeptFile.{KeptFile}
 use Rattle.al_session_folder.specs.declared.loops.CallGraph.{CallGraph}
 use Rattle.al_session_folder.proofs.SameCalls.{graph_still, put_same_calls}
+use Rattle.al_session.specs.Session.{folder_in}
+use Rattle.al_session.specs.declared.indexed.IndexedFiles.{IndexedFiles}
 use Rattle.al_session.specs.Private.Edits.{IsEdited, IsUndone}
 use Rattle.al_session.specs.Private.Graphs.{IsGraphIf}
 
@@ -28,9 +30,9 @@ pub graph_found : {I : Type 0} (m : Meaning I) (f : Folder) (calls : Option Call
 graph_found m f calls found is graph = subst (IsGraphIf m f) is graph
 
 -- whether the edit stands or is undone
-pub graph_after : {U I S R E : Type 0} (eq : I → I → Bool) (m : Meaning I) (is_unit : U → List ℕ → List ℕ → Type 0) (r : Result (List (List ℕ)) E) (before now : Files U I) (wanted : Folder)
-    (callers : Callers S R) (k n : ℕ) (calls : Option CallGraph) → IfOk r (λ paths. IsEdited eq m is_unit (folder_of before) wanted k paths now callers n) →
-    OnErr r (IsUndone eq m is_unit before wanted k now callers n) → IsGraphIf m (folder_of before) calls → IsGraphIf m wanted calls → IsGraphIf m (folder_of now) calls
-graph_after eq m is_unit (Ok paths) before now wanted callers k n calls edited undone old new = subst (λ (f : Folder). IsGraphIf m f calls) (sym edited.folder) new
-graph_after {U} {I} eq m is_unit (Err e) before now wanted callers k n calls edited undone old new =
+pub graph_after : {U I E : Type 0} (eq : I → I → Bool) (m : Meaning I) (is_unit : U → List ℕ → List ℕ → Type 0) (r : Result (List (List ℕ)) E) (before now : IndexedFiles U I) (wanted : Folder)
+    (k n : ℕ) (calls : Option CallGraph) → IfOk r (λ paths. IsEdited eq m is_unit before wanted k paths now n) →
+    OnErr r (IsUndone eq m is_unit before wanted k now n) → IsGraphIf m (folder_in before) calls → IsGraphIf m wanted calls → IsGraphIf m (folder_in now) calls
+graph_after eq m is_unit (Ok paths) before now wanted k n calls edited undone old new = subst (λ (f : Folder). IsGraphIf m f calls) (sym edited.folder) new
+graph_after {U} {I} eq m is_unit (Err e) before now wanted k n calls edited undone old new =
     subst (λ (files : Files U I). IsGraphIf m (folder_of files) calls) (sym undone.as_before) old

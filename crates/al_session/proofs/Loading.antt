@@ -19,10 +19,10 @@ use Rattle.al_session_folder.specs.Meaning.{Meaning}
 use Rattle.al_session_folder.specs.declared.kept.KeptFile.{KeptFile}
 use Rattle.al_session_folder.specs.Folder.{Folder, bytes_at, faults_in, paths_of}
 use Rattle.al_session_folder.specs.Affected.{is_among}
-use Rattle.al_session_folder.specs.Kept.{Files, after, folder_of, file_at, faults_of, IsKept, AllKept, AreKept, Callers, IsIndex}
+use Rattle.al_session_folder.specs.Kept.{Files, folder_of, file_at, faults_of, IsKept, AllKept, AreKept, Callers, IsIndex}
 use Rattle.al_session_folder.specs.Private.Place.{place_of}
 use Rattle.al_session_folder.proofs.Places.{gap, length-folder_of}
-use Rattle.al_session_folder.proofs.Views.{after_same, all_in, bytes_kept, bytes_self, kept_at}
+use Rattle.al_session_folder.proofs.Views.{all_in, bytes_kept, bytes_self, kept_at}
 use Rattle.al_session_folder.proofs.Affecting.{changed_sorted}
 use Rattle.al_session.specs.Builder.{AreLoaded}
 use Rattle.al_session_folder.specs.Checked.{AllChecked}
@@ -117,17 +117,13 @@ module _ {U I : Type 0} (m : Meaning I) (is_unit : U → List ℕ → List ℕ �
         kept = kept-with_lists m is_unit es ps lists kept.kept;
       }
 
--- the files of a folder that is as it is with what is at a path: lists of their faults, made for all paths, and given
-module _ {U I : Type 0} (m : Meaning I) (is_unit : U → List ℕ → List ℕ → Type 0) (es : Files U I) (p : List ℕ) (o : Option (KeptFile U I)) (paths : List (List ℕ))
-    (kept : AreKept m is_unit es) (at : o ≡ file_at es p) (are : paths ≡ paths_of (folder_of es)) where
-  same : after es p o ≡ folder_of es
-  same = after_same es p o kept.ordered at
-
-  pub each_there : AllByRecursion (λ q. IsSome (bytes_at (after es p o) q)) paths
+-- the files of a folder: lists of their faults, made for all paths, and given
+module _ {U I : Type 0} (m : Meaning I) (is_unit : U → List ℕ → List ℕ → Type 0) (es : Files U I) (paths : List (List ℕ))
+    (kept : AreKept m is_unit es) (are : paths ≡ paths_of (folder_of es)) where
+  pub each_there : AllByRecursion (λ q. IsSome (bytes_at (folder_of es) q)) paths
   each_there =
-      let P : List (List ℕ) → Type 0 = λ l. AllByRecursion (λ q. IsSome (bytes_at (after es p o) q)) l in
-      let F : Folder → Type 0 = λ f. AllByRecursion (λ q. IsSome (bytes_at f q)) (paths_of (folder_of es)) in
-      subst P (sym are) (subst F (sym same) (all_there m is_unit es kept))
+      let P : List (List ℕ) → Type 0 = λ l. AllByRecursion (λ q. IsSome (bytes_at (folder_of es) q)) l in
+      subst P (sym are) (all_there m is_unit es kept)
 
   module _ (lists : List (Vec Fault Global)) (es2 : Files U I) (put : es2 ≡ with_lists es paths lists) where
     all_put : es2 ≡ with_lists es (paths_of (folder_of es)) lists
@@ -139,11 +135,10 @@ module _ {U I : Type 0} (m : Meaning I) (is_unit : U → List ℕ → List ℕ �
     pub put_folder : folder_of es2 ≡ folder_of es
     put_folder = ap folder_of all_put ∙ folder_of-with_lists es (paths_of (folder_of es)) lists
 
-    pub put_checked : map (λ (l : Vec Fault Global). l.items) lists ≡ map (faults_of m (after es p o)) paths → AllChecked m (folder_of es) es2
+    pub put_checked : map (λ (l : Vec Fault Global). l.items) lists ≡ map (faults_of m (folder_of es)) paths → AllChecked m (folder_of es) es2
     put_checked given =
         let C : Files U I → Type 0 = λ l. AllChecked m (folder_of es) l in
-        let all = given ∙ ap (λ f. map (faults_of m f) paths) same ∙ ap (map (faults_of m (folder_of es))) are in
-        subst C (sym all_put) (checked_all m is_unit es lists kept all)
+        subst C (sym all_put) (checked_all m is_unit es lists kept (given ∙ ap (map (faults_of m (folder_of es))) are))
 
   pub as_many_paths : length paths ≡ length (folder_of es)
   as_many_paths = ap length are ∙ length-map (folder_of es) (λ (e : List ℕ × List ℕ). e.0)

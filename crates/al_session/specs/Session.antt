@@ -5,6 +5,7 @@ use Rattle.al_session_folder.specs.Meaning.{IsUpTo, Meaning}
 use Rattle.al_session_folder.specs.Folder.{Folder, bytes_at, put_refusal}
 use Rattle.al_session_folder.specs.Kept.{Files, folder_of, Callers, IsIndex, AreKept}
 use Rattle.al_session_folder.specs.Checked.{AllChecked}
+use Rattle.al_session.specs.declared.indexed.IndexedFiles.{IndexedFiles}
 
 -- What contracts see of a session: its folder, and its linter's two counts.
 pub record SessionState : Type 0 where
@@ -19,6 +20,13 @@ pub record AreLinted {U I S R : Type 0} (m : Meaning I) (is_unit : U → List �
   pub faults : AllChecked m (folder_of files) files
   pub index : IsIndex m (folder_of files) callers
   pub counted : checks ≤ 2 ^ 64 - 1
+
+-- the folder that these files make
+abbrev pub folder_in : {U I : Type 0} → IndexedFiles U I → Folder
+folder_in kept = folder_of kept.files.entries
+
+abbrev pub IsLinted : {U I : Type 0} → Meaning I → (U → List ℕ → List ℕ → Type 0) → IndexedFiles U I → ℕ → Type 0
+IsLinted m is_unit kept checks = AreLinted m is_unit kept.files.entries kept.callers checks
 
 -- What a put of these bytes adds to the count of reads: one at most; none where the file has just these bytes, and one where it has others
 -- and only memory can refuse them.

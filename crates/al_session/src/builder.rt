@@ -8,16 +8,15 @@ ghost use Rattle.al_base.specs.Limits.{largest_file, most_files};
 ghost use Rattle.al_session_folder.specs.Folder.{bytes_at, paths_of, put_refusal, refusal_or_memory, with_file};
 ghost use Rattle.al_session_folder.specs.Kept.{folder_of, AreKept};
 ghost use Rattle.al_session_folder.specs.Meaning.{IsUpTo};
-ghost use Rattle.al_session.specs.Builder.{AreLoaded};
-ghost use Rattle.al_session_folder.specs.Checked.{AllChecked};
+ghost use Rattle.al_session.specs.Builder.{IsLoaded};
+ghost use Rattle.al_session.specs.Session.{IsLinted, folder_in};
 
 use crate::edit::{insert_file, read_file, replace_file, set_faults};
+use crate::indexed::IndexedFiles;
 use crate::refused::put_refused;
 use crate::session::Session;
 use al_base::Path;
-use al_session_folder::{
-    Callers, Files, Lint, Refused, Target, check_paths, file_number, place_in,
-};
+use al_session_folder::{Files, FolderView, Lint, Refused, Target, file_number, place_in};
 use indexmap::IndexMap;
 use std::alloc::{AllocError, Global};
 use std::marker::Model;
@@ -29,23 +28,21 @@ use std::marker::Model;
 /// its folder, and its linter's two counts.
 #[derive(Drop)]
 pub struct SessionBuilder<L: Lint> {
-    alloc: Global,
     lint: L,
-    files: Files<L::Unit, L::Iface>,
-    callers: Callers,
+    kept: IndexedFiles<L::Unit, L::Iface>,
 }
 
 impl<L: Lint> Model for SessionBuilder<L> {
     ghost use Rattle.std.specs.Prelude.{◌≤◌, ◌^◌, ◌-◌};
+    ghost use Rattle.al_session.specs.Builder.{IsLoaded};
     ghost use Rattle.al_session_folder.specs.Kept.{folder_of};
-    ghost use Rattle.al_session.specs.Builder.{AreLoaded};
     ghost use Rattle.al_session.specs.Session.{SessionState};
 
     ghost Value = { SessionState };
 
-    ghost view = { λ s. record { folder = folder_of s.files.entries; checks = L.checks_of s.lint; reads = L.reads_of s.lint } };
+    ghost view = { λ s. record { folder = folder_of s.kept.files.entries; checks = L.checks_of s.lint; reads = L.reads_of s.lint } };
 
-    ghost invariant = { λ s. AreLoaded L.meaning L.is_unit s.files.entries s.callers (L.checks_of s.lint)
+    ghost invariant = { λ s. IsLoaded L.meaning L.is_unit s.kept (L.checks_of s.lint)
         × (L.reads_of s.lint ≤ 2 ^ 64 - 1) };
 }
 
@@ -60,10 +57,12 @@ impl<L: Lint> SessionBuilder<L> {
         let _checks = lint.checks();
         let _reads = lint.reads();
         SessionBuilder {
-            alloc,
             lint,
-            files: IndexMap::new(alloc),
-            callers: IndexMap::new(alloc),
+            kept: IndexedFiles {
+                alloc,
+                files: IndexMap::new(alloc),
+                callers: IndexMap::new(alloc),
+            },
         }
     }
 
@@ -78,7 +77,7 @@ impl<L: Lint> SessionBuilder<L> {
     pub fn bytes(&self, path: &str) -> Option<&[u8]>
         ensures { option_copied result ≡ bytes_at self.now.folder path.now }
     {
-        match self.files.get(path) {
+        match self.kept.files.get(path) {
             Some(file) => Some(file.bytes.as_slice()),
             None => None,
         }
@@ -88,7 +87,7 @@ impl<L: Lint> SessionBuilder<L> {
     pub fn calls(&self, path: &str) -> Option<&[Target]>
         ensures { option_copied result ≡ option_map (L.meaning.calls path.now) (bytes_at self.now.folder path.now) }
     {
-        match self.files.get(path) {
+        match self.kept.files.get(path) {
             Some(file) => Some(file.calls.targets.as_slice()),
             None => None,
         }
@@ -110,17 +109,10 @@ impl<L: Lint> SessionBuilder<L> {
         ensures few_reads { IsUpTo self.old.reads self.new.reads 1 }
         ensures no_read { IfErr result (λ refused. refused ≢ Refused.Memory → self.new.reads ≡ self.old.reads) }
     {
-        if let Some(refused) = put_refused(&self.lint, &self.files, path, bytes) {
+        if let Some(refused) = put_refused(&self.lint, &self.kept.files, path, bytes) {
             return Err(refused);
         }
-        match load_file(
-            &mut self.lint,
-            self.alloc,
-            &mut self.files,
-            &mut self.callers,
-            path,
-            bytes,
-        ) {
+        match load_file(&mut self.lint, &mut self.kept, path, bytes) {
             Ok(()) => Ok(()),
             Err(_) => Err(Refused::Memory),
         }
@@ -136,40 +128,37 @@ impl<L: Lint> SessionBuilder<L> {
         ensures meter { IfOk result (λ session. session.checks ≡ raised self.checks (length self.folder)) }
         ensures reads { IfOk result (λ session. session.reads ≡ self.reads) }
     {
-        checked(self.alloc, self.lint, self.files, self.callers)
+        checked(self.lint, self.kept)
     }
 }
 
 // Reads a file and keeps it, with no check. On failure nothing changes but the count of reads.
 fn load_file<L: Lint>(
     lint: &mut L,
-    alloc: Global,
-    files: &mut Files<L::Unit, L::Iface>,
-    callers: &mut Callers,
+    kept: &mut IndexedFiles<L::Unit, L::Iface>,
     path: &str,
     bytes: &[u8],
 ) -> Result<(), AllocError>
-    requires loaded { AreLoaded L.meaning L.is_unit files.old.entries callers.old (L.checks_of lint.old) }
+    requires loaded { IsLoaded L.meaning L.is_unit kept.old (L.checks_of lint.old) }
     requires valid { path_fault_of path.now ≡ None }
     requires accepted { L.meaning.accepts path.now ≡ true }
     requires small { length bytes.now ≤ largest_file }
-    requires room { bytes_at (folder_of files.old.entries) path.now ≡ None → length files.old.entries < most_files }
-    ensures loaded { AreLoaded L.meaning L.is_unit files.new.entries callers.new (L.checks_of lint.new) }
-    ensures folder { OnOk result (folder_of files.new.entries
-        ≡ with_file (folder_of files.old.entries) path.now bytes.now) }
-    ensures as_before { OnErr result (files.new.entries ≡ files.old.entries) }
+    requires room { bytes_at (folder_in kept.old) path.now ≡ None → length kept.old.files.entries < most_files }
+    ensures loaded { IsLoaded L.meaning L.is_unit kept.new (L.checks_of lint.new) }
+    ensures folder { OnOk result (folder_in kept.new ≡ with_file (folder_in kept.old) path.now bytes.now) }
+    ensures as_before { OnErr result (kept.new.files.entries ≡ kept.old.files.entries) }
     ensures checks { L.checks_of lint.new ≡ L.checks_of lint.old }
     ensures reads { L.reads_of lint.new ≡ raised (L.reads_of lint.old) 1 }
 {
-    let file = read_file(lint, alloc, path, bytes)?;
-    match place_in(files, path) {
+    let file = read_file(lint, kept.alloc, path, bytes)?;
+    match place_in(&kept.files, path) {
         Ok(_) => {
-            replace_file::<L>(alloc, files, callers, path, file)?;
+            replace_file::<L>(kept, path, file)?;
             Ok(())
         }
         Err(index) => {
-            let name = String::from_str(alloc, path)?;
-            insert_file::<L>(alloc, files, callers, index, name, file)?;
+            let name = String::from_str(kept.alloc, path)?;
+            insert_file::<L>(kept, index, name, file)?;
             Ok(())
         }
     }
@@ -177,38 +166,32 @@ fn load_file<L: Lint>(
 
 // A session of files that were read: checks each of them.
 fn checked<L: Lint>(
-    alloc: Global,
     mut lint: L,
-    mut files: Files<L::Unit, L::Iface>,
-    callers: Callers,
+    mut kept: IndexedFiles<L::Unit, L::Iface>,
 ) -> Result<Session<L>, AllocError>
-    requires { AreLoaded L.meaning L.is_unit files.entries callers (L.checks_of lint) }
-    ensures folder { IfOk result (λ session. session.folder ≡ folder_of files.entries) }
-    ensures checks { IfOk result (λ session. session.checks ≡ raised (L.checks_of lint) (length (folder_of files.entries))) }
+    requires { IsLoaded L.meaning L.is_unit kept (L.checks_of lint) }
+    ensures folder { IfOk result (λ session. session.folder ≡ folder_in kept) }
+    ensures checks { IfOk result (λ session. session.checks ≡ raised (L.checks_of lint) (length (folder_in kept))) }
     ensures reads { IfOk result (λ session. session.reads ≡ L.reads_of lint) }
 {
-    check_all(&mut lint, alloc, &mut files)?;
-    Ok(Session::of(alloc, lint, files, callers))
+    check_all(&mut lint, &mut kept)?;
+    Ok(Session::of(lint, kept))
 }
 
 // Checks all files, and gives each its faults.
 fn check_all<L: Lint>(
     lint: &mut L,
-    alloc: Global,
-    files: &mut Files<L::Unit, L::Iface>,
+    kept: &mut IndexedFiles<L::Unit, L::Iface>,
 ) -> Result<(), AllocError>
-    requires kept { AreKept L.meaning L.is_unit files.old.entries }
-    requires counted { L.checks_of lint.old ≤ 2 ^ 64 - 1 }
-    ensures kept { OnOk result (AreKept L.meaning L.is_unit files.new.entries) }
-    ensures checked { OnOk result (AllChecked L.meaning (folder_of files.old.entries) files.new.entries) }
-    ensures folder { OnOk result (folder_of files.new.entries ≡ folder_of files.old.entries) }
-    ensures checks { OnOk result (L.checks_of lint.new ≡ raised (L.checks_of lint.old) (length (folder_of files.old.entries))) }
+    requires { IsLoaded L.meaning L.is_unit kept.old (L.checks_of lint.old) }
+    ensures linted { OnOk result (IsLinted L.meaning L.is_unit kept.new (L.checks_of lint.new)) }
+    ensures folder { OnOk result (folder_in kept.new ≡ folder_in kept.old) }
+    ensures checks { OnOk result (L.checks_of lint.new ≡ raised (L.checks_of lint.old) (length (folder_in kept.old))) }
     ensures reads { L.reads_of lint.new ≡ L.reads_of lint.old }
 {
-    let paths = paths_in::<L>(alloc, files)?;
-    // With what stands at a path already, here at the empty one, the folder is as it is.
-    let lists = check_paths(lint, alloc, files, "", files.get(""), &paths)?;
-    set_faults(files, &paths, lists);
+    let paths = paths_in::<L>(kept.alloc, &kept.files)?;
+    let lists = FolderView::of(&kept.files).check_paths(lint, kept.alloc, &paths)?;
+    set_faults(&mut kept.files, &paths, lists);
     Ok(())
 }
 

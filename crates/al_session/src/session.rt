@@ -17,17 +17,17 @@ ghost use Rattle.std.specs.Bool.{Decides};
 ghost use Rattle.al_session_folder.specs.Affected.{affected};
 ghost use Rattle.al_session_folder.specs.Meaning.{IsUpTo};
 ghost use Rattle.al_base.specs.Counted.{raised};
-ghost use Rattle.al_session_folder.specs.Kept.{folder_of};
 ghost use Rattle.al_session_folder.specs.Missing.{missing_in};
 ghost use Rattle.al_session_folder.specs.Report.{status_of, report_of};
-ghost use Rattle.al_session.specs.Session.{AreLinted, ReadsForPut};
+ghost use Rattle.al_session.specs.Session.{IsLinted, ReadsForPut, folder_in};
 
 use crate::calls::{find_graph, found_graph};
 use crate::edit::{put_file, remove_file};
+use crate::indexed::IndexedFiles;
 use crate::refused::put_refused;
 use al_base::{Fault, Output, Path, Stop, path_fault};
 use al_session_folder::{
-    CallGraph, Callers, Files, Lint, Paths, Refused, find_loops, has_faults, has_loops, join_files,
+    CallGraph, LinkedFiles, Lint, Paths, Refused, find_loops, has_faults, has_loops, join_files,
     missing_paths, write_files,
 };
 use indexmap::IndexMap;
@@ -51,10 +51,8 @@ pub struct Edit {
 /// too, which one edit can change for files that it doesn't check again.
 #[derive(Drop)]
 pub struct Session<L: Lint> {
-    alloc: Global,
     lint: L,
-    files: Files<L::Unit, L::Iface>,
-    callers: Callers,
+    kept: IndexedFiles<L::Unit, L::Iface>,
     // The graph of calls of these files, where it was found since calls or paths last changed.
     calls: Option<CallGraph>,
 }
@@ -62,16 +60,16 @@ pub struct Session<L: Lint> {
 impl<L: Lint> Model for Session<L> {
     ghost use Rattle.std.specs.Prelude.{◌≤◌, ◌^◌, ◌-◌};
     ghost use Rattle.al_session_folder.specs.Kept.{folder_of};
-    ghost use Rattle.al_session.specs.Session.{SessionState, AreLinted};
+    ghost use Rattle.al_session.specs.Session.{IsLinted, SessionState, folder_in};
     ghost use Rattle.al_session.specs.Private.Graphs.{IsGraphIf};
 
     ghost Value = { SessionState };
 
-    ghost view = { λ s. record { folder = folder_of s.files.entries; checks = L.checks_of s.lint; reads = L.reads_of s.lint } };
+    ghost view = { λ s. record { folder = folder_of s.kept.files.entries; checks = L.checks_of s.lint; reads = L.reads_of s.lint } };
 
-    ghost invariant = { λ s. AreLinted L.meaning L.is_unit s.files.entries s.callers (L.checks_of s.lint)
+    ghost invariant = { λ s. IsLinted L.meaning L.is_unit s.kept (L.checks_of s.lint)
         × (L.reads_of s.lint ≤ 2 ^ 64 - 1)
-        × IsGraphIf L.meaning (folder_of s.files.entries) s.calls };
+        × IsGraphIf L.meaning (folder_in s.kept) s.calls };
 }
 
 impl<L: Lint> Session<L> {
@@ -85,33 +83,28 @@ impl<L: Lint> Session<L> {
         let _checks = lint.checks();
         let _reads = lint.reads();
         Session {
-            alloc,
             lint,
-            files: IndexMap::new(alloc),
-            callers: IndexMap::new(alloc),
+            kept: IndexedFiles {
+                alloc,
+                files: IndexMap::new(alloc),
+                callers: IndexMap::new(alloc),
+            },
             calls: None,
         }
     }
 
     /// A session of files that were read and checked. Takes no memory.
-    pub(crate) fn of(
-        alloc: Global,
-        lint: L,
-        files: Files<L::Unit, L::Iface>,
-        callers: Callers,
-    ) -> Session<L>
-        requires { AreLinted L.meaning L.is_unit files.entries callers (L.checks_of lint) }
-        ensures folder { result.folder ≡ folder_of files.entries }
+    pub(crate) fn of(lint: L, kept: IndexedFiles<L::Unit, L::Iface>) -> Session<L>
+        requires { IsLinted L.meaning L.is_unit kept (L.checks_of lint) }
+        ensures folder { result.folder ≡ folder_in kept }
         ensures checks { result.checks ≡ L.checks_of lint }
         ensures reads { result.reads ≡ L.reads_of lint }
     {
         // A count is at most the greatest `u64`, which the call shows.
         let _reads = lint.reads();
         Session {
-            alloc,
             lint,
-            files,
-            callers,
+            kept,
             calls: None,
         }
     }
@@ -128,7 +121,7 @@ impl<L: Lint> Session<L> {
     pub fn bytes(&self, path: &str) -> Option<&[u8]>
         ensures { option_copied result ≡ bytes_at self.now.folder path.now }
     {
-        match self.files.get(path) {
+        match self.kept.files.get(path) {
             Some(file) => Some(file.bytes.as_slice()),
             None => None,
         }
@@ -142,7 +135,7 @@ impl<L: Lint> Session<L> {
             → AllByRecursion (λ fault. LiesIn (length b) fault.span) faults.now) }
         ensures ordered { IfSome result (λ faults. IsStrictlySortedBy fault_cmp faults.now) }
     {
-        match self.files.get(path) {
+        match self.kept.files.get(path) {
             Some(file) => Some(file.faults.as_slice()),
             None => None,
         }
@@ -152,7 +145,7 @@ impl<L: Lint> Session<L> {
     fn put_refused(&self, path: &str, bytes: &[u8]) -> Option<Refused>
         ensures { result ≡ put_refusal L.meaning self.now.folder path.now bytes.now }
     {
-        put_refused(&self.lint, &self.files, path, bytes)
+        put_refused(&self.lint, &self.kept.files, path, bytes)
     }
 
     // Whether a file has just these bytes.
@@ -195,18 +188,10 @@ impl<L: Lint> Session<L> {
         }
         if self.has_bytes(path, bytes) {
             return Ok(Edit {
-                rechecked: Paths::new(Vec::new(self.alloc)),
+                rechecked: Paths::new(Vec::new(self.kept.alloc)),
             });
         }
-        match put_file(
-            &mut self.lint,
-            self.alloc,
-            &mut self.files,
-            &mut self.callers,
-            &mut self.calls,
-            path,
-            bytes,
-        ) {
+        match put_file(&mut self.lint, &mut self.kept, &mut self.calls, path, bytes) {
             Ok(rechecked) => Ok(Edit { rechecked }),
             Err(_) => Err(Refused::Memory),
         }
@@ -255,13 +240,7 @@ impl<L: Lint> Session<L> {
         }
         // Without the file those behind it have other numbers.
         self.calls = None;
-        match remove_file(
-            &mut self.lint,
-            self.alloc,
-            &mut self.files,
-            &mut self.callers,
-            path,
-        ) {
+        match remove_file(&mut self.lint, &mut self.kept, path) {
             Ok(rechecked) => Ok(Edit { rechecked }),
             Err(_) => Err(Refused::Memory),
         }
@@ -277,11 +256,12 @@ impl<L: Lint> Session<L> {
         ensures status { IfOk result (λ status. status ≡ status_of L.meaning self.old.folder) }
         ensures unchanged { self.new ≡ self.old }
     {
-        if has_faults(&self.files) {
+        if has_faults(&self.kept.files) {
             return Ok(1);
         }
-        find_graph::<L>(self.alloc, &self.files, &mut self.calls)?;
-        let some = has_loops::<L>(&self.files, found_graph(&self.calls));
+        find_graph::<L>(self.kept.alloc, &self.kept.files, &mut self.calls)?;
+        let linked = LinkedFiles::new(&self.kept.files, found_graph(&self.calls));
+        let some = has_loops::<L>(&linked);
         if some {
             return Ok(1);
         }
@@ -308,11 +288,11 @@ impl<L: Lint> Session<L> {
         ensures no_read { (result ≢ Err Stop.ReadFault) × (result ≢ Err Stop.TooManyTurns) }
         ensures unchanged { self.new ≡ self.old }
     {
-        find_graph::<L>(self.alloc, &self.files, &mut self.calls)?;
-        let calls = found_graph(&self.calls);
-        let loops = find_loops(&self.lint, self.alloc, &self.files, calls)?;
-        let joined = join_files::<L>(self.alloc, &self.files, &loops)?;
-        write_files::<L, W>(writer, &self.files, &joined, oneline)
+        find_graph::<L>(self.kept.alloc, &self.kept.files, &mut self.calls)?;
+        let linked = LinkedFiles::new(&self.kept.files, found_graph(&self.calls));
+        let loops = find_loops(&self.lint, self.kept.alloc, &linked)?;
+        let joined = join_files::<L>(self.kept.alloc, &self.kept.files, &loops)?;
+        write_files::<L, W>(writer, &self.kept.files, &joined, oneline)
     }
 
     /// The candidates of calls that are not in the folder, in order of path, each once.
@@ -323,7 +303,7 @@ impl<L: Lint> Session<L> {
     pub fn missing(&self) -> Result<Vec<Path>, AllocError>
         ensures { IfOk result (λ paths. paths.items ≡ missing_in L.meaning self.now.folder) }
     {
-        missing_paths::<L>(self.alloc, &self.files)
+        missing_paths::<L>(self.kept.alloc, &self.kept.files)
     }
 
     /// A law: the folder's files, and so the lines of a report, stand in order of path, each path once. Does nothing.
@@ -331,6 +311,6 @@ impl<L: Lint> Session<L> {
         ensures { IsStrictlySortedBy (slice_cmp nat_cmp) (paths_of self.now.folder) }
     {
         // What is true of the files is known where they are named.
-        let _ = &self.files;
+        let _ = &self.kept.files;
     }
 }

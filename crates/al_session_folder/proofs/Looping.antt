@@ -194,6 +194,12 @@ module _ (graph : List (List ℕ)) (f : Folder) (i : ℕ) (ts : List Target) (ss
   pub looping_end : length ts ≤ at → done ≡ whole
   looping_end past = sym (append-nil done) ∙ sym (ap (λ l. done ++ looping graph f i l (drop at ss)) (drop_all at ts past)) ∙ so_far
 
+-- one element is read once
+pub same_read : {X : Type 0} (xs : List X) (i : ℕ) (x y : X) → i < length xs → x ≡ get_or xs i x → y ≡ get_or xs i y → x ≡ y
+same_read [] i x y below is other = absurd (omega (arith, below))
+same_read (a ∷ xs) zero x y below is other = is ∙ sym other
+same_read (a ∷ xs) (suc i) x y below is other = same_read xs i x y (omega (arith, below)) is other
+
 -- where as many numbers are in a row as there are calls, each is that of its call
 few_called : (h : Target → Option ℕ) (ts : List Target) → length (filter_map h ts) ≤ length ts
 few_called h [] = omega arith

@@ -1,7 +1,8 @@
 -- What look-ups among kept files say of the folder that they make, and of that folder after a change.
 use Rattle.std.proofs.Common.{zero, suc, set, slice_get, Result, Ok, Err, ◌≡◌, ℕ, Bool, true, false, cond, List, [], ◌∷◌, Option, Some, None, refl, sym, ◌∙◌, ap, subst}
-use Rattle.std.specs.Prelude.{string_bytes, bytes_eq, IsSome}
-use Rattle.std.specs.Option.{option_map, unwrap_or}
+use Rattle.std.specs.Prelude.{string_bytes, bytes_eq, IsSome, IfSome}
+use Rattle.std.specs.Borrow.{Bor}
+use Rattle.std.specs.Option.{option_copied, option_map, unwrap_or}
 use Rattle.std.specs.List.{AllByRecursion}
 use Rattle.std.specs.List.Sorted.{IsStrictlySortedBy}
 use Rattle.std.specs.Ordering.{nat_cmp, is_eq}
@@ -15,6 +16,7 @@ use Rattle.std.proofs.lemmas.Slice.Eq.{bytes_eq-Decides}
 use Rattle.al_session_folder.specs.Meaning.{Meaning}
 use Rattle.al_session_folder.specs.Folder.{Folder, bytes_at, with_file, without_file, paths_of, interface_in}
 use Rattle.al_session_folder.specs.Kept.{Files, folder_of, file_at, file_after, after, changed, IsKept, AllKept, IsKeptIf, IsView, AreKept}
+use Rattle.al_session_folder.specs.Private.FolderViews.{IsViewIf, viewed}
 use Rattle.al_session_folder.specs.declared.kept.KeptFile.{KeptFile}
 use Rattle.al_session_folder.proofs.Places.{by_ordering, exact_path, put_step, first_below, rest_sorted, found, absent}
 use Rattle.al_session_folder.specs.Private.Place.{place_of}
@@ -170,19 +172,7 @@ module _ {U I : Type 0} where
         wrong : IsSome {T = List ℕ} None → ⊥
         wrong h = cc
 
--- A file that is put with the bytes that it has, and one that is taken out where none is
-gone_same_step : (p : List ℕ) (e : List ℕ × List ℕ) (es : Folder) (t : Bool) → is_eq (slice_cmp nat_cmp p e.0) ≡ t → bytes_at (e ∷ es) p
-    ≡ None → (bytes_at es p ≡ None → without_file es p ≡ es) → without_file (e ∷ es) p ≡ e ∷ es
-gone_same_step p e es true a none rest = absurd (wrong (sym (cond-true _ (Some e.1) (bytes_at es p) a) ∙ none))
-  where
-    wrong : Some e.1 ≡ None → ⊥
-    wrong h = cc
-gone_same_step p e es false a none rest = cond-false _ es (e ∷ without_file es p) a ∙ ap (λ l. e ∷ l) (rest (sym (cond-false _ (Some e.1) (bytes_at es p) a) ∙ none))
-
-pub gone_same : (p : List ℕ) (f : Folder) → bytes_at f p ≡ None → without_file f p ≡ f
-gone_same p [] none = refl
-gone_same p (e ∷ es) none = gone_same_step p e es _ refl none (λ n. gone_same p es n)
-
+-- a file that is put with the bytes that it has
 pub put_same : (p b : List ℕ) (f : Folder) → IsStrictlySortedBy (slice_cmp nat_cmp) (paths_of f) → bytes_at f p ≡ Some b → with_file f p b ≡ f
 put_same p b f s there = by (place_of (paths_of f) p) refl
   where
@@ -201,18 +191,6 @@ put_same p b f s there = by (place_of (paths_of f) p) refl
         set_same [] i e h = refl
         set_same (x ∷ xs) zero e h = ap (λ y. y ∷ xs) (sym (ap (λ o. unwrap_or o e) h))
         set_same (x ∷ xs) (suc i) e h = ap (λ l. x ∷ l) (set_same xs i e h)
-
--- with the file that is there, the folder is as it is
-pub after_same : {U I : Type 0} (files : Files U I) (p : List ℕ) (o : Option (KeptFile U I))
-    → IsStrictlySortedBy (slice_cmp nat_cmp) (paths_of (folder_of files)) → o ≡ file_at files p → after files p o ≡ folder_of files
-after_same files p None s h = gone_same p (folder_of files) (bytes_kept files p ∙ ap (option_map (λ file. file.bytes.items)) (sym h))
-after_same files p (Some file) s h = put_same p file.bytes.items (folder_of files) s (bytes_kept files p ∙ ap (option_map (λ file. file.bytes.items)) (sym h))
-
--- what is kept at a path may stand there
-pub view_same : {U I : Type 0} (m : Meaning I) (is_unit : U → List ℕ → List ℕ → Type 0) (files : Files U I) (p : List ℕ)
-    (o : Option (KeptFile U I)) → AreKept m is_unit files → o ≡ file_at files p → IsView m is_unit files p o
-view_same m is_unit files p None kept h = record { kept = kept; next = tt }
-view_same m is_unit files p (Some file) kept h = record { kept = kept; next = kept_at m is_unit files p file kept.kept (sym h) }
 
 -- each file of a folder in order is found in it
 all_in_rest : (e : List ℕ × List ℕ) (es more : Folder) → AllByRecursion (λ y. slice_cmp nat_cmp e.0 y ≡ Less) (paths_of more)
@@ -234,3 +212,44 @@ all_in_rest e es (x ∷ xs) below all =
 pub all_in : (f : Folder) → IsStrictlySortedBy (slice_cmp nat_cmp) (paths_of f) → AllByRecursion (λ x. bytes_at f x.0 ≡ Some x.1) f
 all_in [] s = tt
 all_in (e ∷ es) s = (cond-true _ _ _ (is_eq-slice_cmp e.0 e.0 ∙ bytes_self e.0), all_in_rest e es es (first_below e.0 e es s) (all_in es (rest_sorted e.0 e es s)))
+
+-- the file that a view has at a path
+module _ {U I : Type 0} (m : Meaning I) (is_unit : U → List ℕ → List ℕ → Type 0) (files : Files U I) (o : Option (List ℕ)) (next : Option (KeptFile U I))
+    (q : List ℕ) (r : Option (Bor (KeptFile U I))) (view : IsViewIf m is_unit files o next) where
+  abbrev HasBytes : Folder → Type 0
+  HasBytes f = option_map (λ (file : KeptFile U I). file.bytes.items) (option_copied r) ≡ bytes_at f q
+
+  abbrev IsKeptThere : Option (Bor (KeptFile U I)) → Type 0
+  IsKeptThere found = IfSome found (λ file. IsKept m is_unit q file.now)
+
+  kept_if : (found : Option (Bor (KeptFile U I))) → ((file : KeptFile U I) → option_copied found ≡ Some file → IsKept m is_unit q file) → IsKeptThere found
+  kept_if None each = tt
+  kept_if (Some file) each = each file.now refl
+
+  module _ (p : List ℕ) (is : o ≡ Some p) (found : option_copied r ≡ file_after files p next q) where
+    at_path : IsView m is_unit files p next
+    at_path = subst (λ (x : Option (List ℕ)). IsViewIf m is_unit files x next) is view
+
+    pub changed_bytes : HasBytes (viewed files o next)
+    changed_bytes = subst (λ (x : Option (List ℕ)). HasBytes (viewed files x next)) (sym is)
+        (ap (option_map (λ (file : KeptFile U I). file.bytes.items)) found ∙ sym (bytes_after files p q next at_path.kept.ordered))
+
+    pub changed_kept : IsKeptThere r
+    changed_kept = kept_if r (λ file h. kept_after m is_unit files p q next file at_path (sym found ∙ h))
+
+  module _ (is : o ≡ None) (found : option_copied r ≡ file_at files q) where
+    as_is : AreKept m is_unit files
+    as_is = subst (λ (x : Option (List ℕ)). IsViewIf m is_unit files x next) is view
+
+    pub still_bytes : HasBytes (viewed files o next)
+    still_bytes = subst (λ (x : Option (List ℕ)). HasBytes (viewed files x next)) (sym is)
+        (ap (option_map (λ (file : KeptFile U I). file.bytes.items)) found ∙ sym (bytes_kept files q))
+
+    pub still_kept : IsKeptThere r
+    still_kept = kept_if r (λ file h. kept_at m is_unit files q file as_is.kept (sym found ∙ h))
+
+pub never_lacking : {A : Type 0} (o : Option A) → None ≡ o → IsSome o → ⊥
+never_lacking {A} o h there = wrong (subst IsSome (sym h) there)
+  where
+    wrong : IsSome {T = A} None → ⊥
+    wrong h = cc

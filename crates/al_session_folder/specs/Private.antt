@@ -2,3 +2,4 @@
 pub mod Printing
 pub mod Place
 pub mod CallGraphs
+pub mod FolderViews

@@ -158,7 +158,15 @@ fn drop_unless(callers: &mut Callers, name: &str, others: &IndexSet<String>, pat
     }
 }
 
-/// Makes a file, which is a caller of the candidates `before`, one of the candidates `now` too.
+/// The candidates of the calls of the file at a path: those that it is indexed by, and those that it is to be indexed by.
+#[derive(Clone, Copy)]
+pub struct CandidateChange<'a> {
+    pub path: &'a str,
+    pub before: &'a IndexSet<String>,
+    pub after: &'a IndexSet<String>,
+}
+
+/// Makes a file, which is a caller of the candidates before the change, one of those after it too.
 ///
 /// # Errors
 ///
@@ -166,25 +174,23 @@ fn drop_unless(callers: &mut Callers, name: &str, others: &IndexSet<String>, pat
 pub fn index_calls(
     alloc: Global,
     callers: &mut Callers,
-    before: &IndexSet<String>,
-    now: &IndexSet<String>,
-    path: &str,
+    file: &CandidateChange<'_>,
 ) -> Result<(), AllocError>
-    requires { (c : List ℕ) → is_caller callers.old c path.now ≡ contains_text before.now c }
+    requires { (c : List ℕ) → is_caller callers.old c file.now.path.now ≡ contains_text file.now.before.now c }
     ensures added { OnOk result ((c q : List ℕ) → is_caller callers.new c q
-        ≡ ((bytes_eq q path.now && contains_text now.now c) || is_caller callers.old c q)) }
+        ≡ ((bytes_eq q file.now.path.now && contains_text file.now.after.now c) || is_caller callers.old c q)) }
     ensures as_before { OnErr result ((c q : List ℕ) → is_caller callers.new c q ≡ is_caller callers.old c q) }
 {
-    match add_callers(alloc, callers, now, path) {
+    match add_callers(alloc, callers, file.after, file.path) {
         Ok(()) => Ok(()),
         Err(error) => {
-            drop_callers(callers, now, before, path);
+            drop_callers(callers, file.after, file.before, file.path);
             Err(error)
         }
     }
 }
 
-/// Makes a file, which is a caller of the candidates `before`, one of the candidates `now` alone.
+/// Makes a file, which is a caller of the candidates before the change, one of those after it alone.
 ///
 /// # Errors
 ///
@@ -192,16 +198,14 @@ pub fn index_calls(
 pub fn reindex(
     alloc: Global,
     callers: &mut Callers,
-    before: &IndexSet<String>,
-    now: &IndexSet<String>,
-    path: &str,
+    file: &CandidateChange<'_>,
 ) -> Result<(), AllocError>
-    requires { (c : List ℕ) → is_caller callers.old c path.now ≡ contains_text before.now c }
+    requires { (c : List ℕ) → is_caller callers.old c file.now.path.now ≡ contains_text file.now.before.now c }
     ensures moved { OnOk result ((c q : List ℕ) → is_caller callers.new c q
-        ≡ cond (bytes_eq q path.now) (contains_text now.now c) (is_caller callers.old c q)) }
+        ≡ cond (bytes_eq q file.now.path.now) (contains_text file.now.after.now c) (is_caller callers.old c q)) }
     ensures as_before { OnErr result ((c q : List ℕ) → is_caller callers.new c q ≡ is_caller callers.old c q) }
 {
-    index_calls(alloc, callers, before, now, path)?;
-    drop_callers(callers, before, now, path);
+    index_calls(alloc, callers, file)?;
+    drop_callers(callers, file.before, file.after, file.path);
     Ok(())
 }

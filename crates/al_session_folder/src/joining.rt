@@ -3,13 +3,12 @@
 ghost use Rattle.std.specs.Prelude.{◌≡◌, ◌++◌, ◌==◌, IfOk, OnOk, length, not};
 ghost use Rattle.std.specs.List.{enumerate_from, list_any};
 ghost use Rattle.al_base.specs.FaultLists.{fault_list};
-ghost use Rattle.al_session_folder.specs.Kept.{AreKept, folder_of, referred};
+ghost use Rattle.al_session_folder.specs.Kept.{folder_of, referred};
 ghost use Rattle.al_session_folder.specs.Loops as loops;
-ghost use Rattle.al_session_folder.specs.Private.CallGraphs.{IsCallGraph};
 ghost use Rattle.al_session_folder.specs.Checked.{AllChecked};
 ghost use Rattle.al_session_folder.specs.Private.Printing.{AreListed, AreLoops, joined_faults};
 
-use crate::{CallGraph, Files, Lint, file_number, is_on_loop, loop_faults};
+use crate::{Files, LinkedFiles, Lint, file_number};
 use al_base::Fault;
 use std::alloc::{AllocError, Global};
 
@@ -58,16 +57,13 @@ fn join_faults<'a>(
 pub fn find_loops<L: Lint>(
     lint: &L,
     alloc: Global,
-    files: &Files<L::Unit, L::Iface>,
-    calls: &CallGraph,
+    linked: &LinkedFiles<'_, L>,
 ) -> Result<Vec<Vec<Fault>>, AllocError>
-    requires kept { AreKept L.meaning L.is_unit files.now.entries }
-    requires calls { IsCallGraph L.meaning (folder_of files.now.entries) calls.now.graph.items calls.now.labels.items }
-    ensures { IfOk result (λ loops. AreLoops L.meaning files.now.entries loops.items) }
+    ensures { IfOk result (λ loops. AreLoops L.meaning linked.now loops.items) }
 {
-    let mut loops = Vec::with_capacity(alloc, files.len())?;
-    for index in 0..files.len() {
-        loops.push(loop_faults(lint, alloc, files, calls, index)?)?;
+    let mut loops = Vec::with_capacity(alloc, linked.count())?;
+    for index in 0..linked.count() {
+        loops.push(linked.loop_faults(lint, alloc, index)?)?;
     }
     Ok(loops)
 }
@@ -84,7 +80,7 @@ pub fn join_files<'a, L: Lint>(
     loops: &'a [Vec<Fault>],
 ) -> Result<Vec<Vec<&'a Fault>>, AllocError>
     requires checked { AllChecked L.meaning (folder_of files.now.entries) files.now.entries }
-    requires loops { AreLoops L.meaning files.now.entries loops.now }
+    requires loops { AreLoops L.meaning (folder_of files.now.entries) loops.now }
     ensures { IfOk result (λ joined. AreListed L.meaning files.now.entries joined.items) }
 {
     let mut joined = Vec::with_capacity(alloc, files.len())?;
@@ -96,14 +92,12 @@ pub fn join_files<'a, L: Lint>(
 }
 
 /// Whether a call of a file is on a call cycle. Takes no memory.
-pub fn has_loops<L: Lint>(files: &Files<L::Unit, L::Iface>, calls: &CallGraph) -> bool
-    requires { IsCallGraph L.meaning (folder_of files.now.entries) calls.now.graph.items calls.now.labels.items }
-    ensures { result ≡ list_any (λ x. not (length
-        (loops.loop_faults L.meaning (folder_of files.now.entries) x.0 x.1.0 x.1.1) == 0))
-        (enumerate_from 0 (folder_of files.now.entries)) }
+pub fn has_loops<L: Lint>(linked: &LinkedFiles<'_, L>) -> bool
+    ensures { result ≡ list_any (λ x. not (length (loops.loop_faults L.meaning linked.now x.0 x.1.0 x.1.1) == 0))
+        (enumerate_from 0 linked.now) }
 {
-    for index in 0..files.len() {
-        if is_on_loop::<L>(files, calls, index) {
+    for index in 0..linked.count() {
+        if linked.is_on_loop(index) {
             return true;
         }
     }

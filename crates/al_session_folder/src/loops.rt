@@ -6,18 +6,20 @@ ghost use Rattle.std.specs.Prelude.{IfOk, IfSome, OnOk};
 ghost use Rattle.std.specs.List.{cons_option, filter_map, list_any};
 ghost use Rattle.std.specs.Option.{option_eq};
 ghost use Rattle.al_graph.specs.Graphs.{edges_of};
-ghost use Rattle.al_session_folder.specs.Kept.{AreKept, IsKept, folder_of};
+ghost use Rattle.al_session_folder.specs.Kept.{AreKept, folder_of};
 ghost use Rattle.al_session_folder.specs.Loops as loops;
-ghost use Rattle.al_session_folder.specs.Private.CallGraphs.{IsCallGraph, IsCalledBy, IsRow, NoneBackward, NoneForward, TellLoops};
-ghost use Rattle.al_session_folder.specs.Private.CallGraphs.{is_on_loop, part_of};
+ghost use Rattle.al_session_folder.specs.Private.CallGraphs.{AreLinked, IsCallGraph, IsCalledBy, IsRow, NoneBackward, NoneForward};
+ghost use Rattle.al_session_folder.specs.Private.CallGraphs.{TellLoops, part_of};
 ghost use Rattle.al_session_folder.specs.Sites.{fault_of};
+ghost use Rattle.al_session_folder.specs.declared.lint.Target.{Target};
 
 use crate::kept::{Files, KeptFile};
 use crate::lint::{Lint, Site, Target};
 use crate::place::file_number;
-use al_base::{Args, Fault, Path};
+use al_base::{Args, Fault, FaultSink, Path};
 use al_graph::strongly_connected_components;
 use std::alloc::{AllocError, Global};
+use std::marker::Model;
 
 /// The calls between the files of a folder, which are known by their numbers in order of path, as far as they can be
 /// on a cycle. It depends on the paths of the files and on their calls, and on nothing else of them.
@@ -205,17 +207,16 @@ fn called_again<U, I>(
     row: &[usize],
     calls: &[Target],
     call: usize,
-    target: &Target,
 ) -> Option<usize>
     requires row { IsRow (folder_of files.now.entries) row.now calls.now }
     requires call { call < length calls.now }
-    requires target { target.now ≡ slice_index_or calls.now call target.now }
-    ensures { result ≡ loops.called (folder_of files.now.entries) target.now }
+    ensures { (target : Target) → target ≡ slice_index_or calls.now call target
+        → result ≡ loops.called (folder_of files.now.entries) target }
 {
     if row.len() == calls.len() {
         Some(row[call])
     } else {
-        called(files, target)
+        called(files, &calls[call])
     }
 }
 
@@ -231,23 +232,6 @@ fn leads_back(labels: &[Option<usize>], index: usize, to: Option<usize>) -> bool
     }
 }
 
-/// Whether a call of the file with this number is on a call cycle: whether one leads to a file in its strongly connected component. No file
-/// is looked at.
-pub fn is_on_loop<L: Lint>(
-    files: &Files<L::Unit, L::Iface>,
-    calls: &CallGraph,
-    index: usize,
-) -> bool
-    requires calls { IsCallGraph L.meaning (folder_of files.now.entries) calls.now.graph.items calls.now.labels.items }
-    requires index { index < length files.now.entries }
-    ensures is { result ≡ is_on_loop calls.now.graph.items calls.now.labels.items index }
-    ensures faults { (p b : List ℕ) → slice_get (folder_of files.now.entries) index ≡ Some (p, b) → result
-        ≡ not (length (loops.loop_faults L.meaning (folder_of files.now.entries) index p b) == 0) }
-{
-    let row = calls.graph[index].as_slice();
-    has_label_of(row, &calls.labels, index)
-}
-
 /// What is said of a call on a call cycle.
 fn fault_of(alloc: Global, site: Site<'_>) -> Result<Fault, AllocError>
     ensures { IfOk result (λ fault. fault ≡ fault_of site.entry) }
@@ -260,70 +244,105 @@ fn fault_of(alloc: Global, site: Site<'_>) -> Result<Fault, AllocError>
 }
 
 /// Adds the fault of a call, if it is on a cycle.
-fn add_fault_if(
-    alloc: Global,
-    leads_back: bool,
-    site: Site<'_>,
-    faults: &mut Vec<Fault>,
-) -> Result<(), AllocError>
-    ensures { OnOk result (faults.new.items ≡ faults.old.items ++ loops.fault_if leads_back (fault_of site.entry)) }
+fn add_fault_if(leads_back: bool, site: Site<'_>, faults: &mut FaultSink) -> Result<(), AllocError>
+    ensures { OnOk result (faults.new ≡ faults.old ++ loops.fault_if leads_back (fault_of site.entry)) }
 {
     if leads_back {
-        faults.push(fault_of(alloc, site)?)?;
+        let fault = fault_of(faults.alloc(), site)?;
+        faults.push(fault)?;
     }
     Ok(())
 }
 
-/// The faults of the calls of a file with this number that are on a call cycle, in the order of the calls.
-fn faults_of_calls<L: Lint>(
-    lint: &L,
-    alloc: Global,
-    files: &Files<L::Unit, L::Iface>,
-    labels: &[Option<usize>],
-    row: &[usize],
-    index: usize,
-    file: &KeptFile<L::Unit, L::Iface>,
-) -> Result<Vec<Fault>, AllocError>
-    requires labels { TellLoops (loops.calls_graph L.meaning (folder_of files.now.entries)) labels.now }
-    requires row { IsRow (folder_of files.now.entries) row.now file.now.calls.targets.items }
-    requires there { (p : List ℕ) × IsKept L.meaning L.is_unit p file.now
-        × (slice_get (folder_of files.now.entries) index ≡ Some (p, file.now.bytes.items)) }
-    ensures { (p : List ℕ) → IsKept L.meaning L.is_unit p file.now → IfOk result (λ faults. faults.items
-        ≡ loops.loop_faults L.meaning (folder_of files.now.entries) index p file.now.bytes.items) }
-{
-    let targets = file.calls.targets.as_slice();
-    let mut faults = Vec::new(alloc);
-    for (call, target) in targets.iter().enumerate() {
-        let to = called_again(files, row, targets, call, target);
-        let leads_back = leads_back(labels, index, to);
-        add_fault_if(alloc, leads_back, lint.site(&file.unit, call), &mut faults)?;
-    }
-    Ok(faults)
+/// The files of a folder, with the graph of their calls. Contracts see the folder.
+#[derive(Drop)]
+pub struct LinkedFiles<'a, L: Lint> {
+    files: &'a Files<L::Unit, L::Iface>,
+    calls: &'a CallGraph,
 }
 
-/// The faults of the calls of the file with this number that are on a call cycle, in their order. No candidate is looked up of a
-/// file each of whose calls leads to a file, nor of one none of whose calls is on a cycle.
-///
-/// # Errors
-///
-/// [`AllocError`] where memory ran out.
-pub fn loop_faults<L: Lint>(
-    lint: &L,
-    alloc: Global,
-    files: &Files<L::Unit, L::Iface>,
-    calls: &CallGraph,
-    index: usize,
-) -> Result<Vec<Fault>, AllocError>
-    requires kept { AreKept L.meaning L.is_unit files.now.entries }
-    requires calls { IsCallGraph L.meaning (folder_of files.now.entries) calls.now.graph.items calls.now.labels.items }
-    requires index { index < length files.now.entries }
-    ensures { (p b : List ℕ) → slice_get (folder_of files.now.entries) index ≡ Some (p, b) → IfOk result (λ faults. faults.items
-        ≡ loops.loop_faults L.meaning (folder_of files.now.entries) index p b) }
-{
-    if !is_on_loop::<L>(files, calls, index) {
-        return Ok(Vec::new(alloc));
+impl<'a, L: Lint> Model for LinkedFiles<'a, L> {
+    ghost use Rattle.al_session_folder.specs.Folder.{Folder};
+    ghost use Rattle.al_session_folder.specs.Kept.{folder_of};
+    ghost use Rattle.al_session_folder.specs.Private.CallGraphs.{AreLinked};
+
+    ghost Value = { Folder };
+
+    ghost view = { λ l. folder_of l.files.now.entries };
+
+    ghost invariant = { λ l. AreLinked L.meaning L.is_unit l.files.now.entries l.calls.now.graph.items l.calls.now.labels.items };
+}
+
+impl<'a, L: Lint> LinkedFiles<'a, L> {
+    /// These files, with this graph.
+    pub fn new(files: &'a Files<L::Unit, L::Iface>, calls: &'a CallGraph) -> LinkedFiles<'a, L>
+        requires { AreLinked L.meaning L.is_unit files.now.entries calls.now.graph.items calls.now.labels.items }
+        ensures { result ≡ folder_of files.now.entries }
+    {
+        LinkedFiles { files, calls }
     }
-    let row = calls.graph[index].as_slice();
-    let (_, file) = file_number(files, index);
-    faults_of_calls(lint, alloc, files, &calls.labels, row, index, file)
+
+    /// How many files there are.
+    pub(crate) fn count(&self) -> usize
+        ensures { result ≡ length self.now }
+    {
+        self.files.len()
+    }
+
+    /// Whether a call of the file with this number is on a call cycle: whether one leads to a file in its strongly connected component. No
+    /// file is looked at.
+    pub fn is_on_loop(&self, index: usize) -> bool
+        requires { index < length self.now }
+        ensures { (p b : List ℕ) → slice_get self.now index ≡ Some (p, b) → result
+            ≡ not (length (loops.loop_faults L.meaning self.now index p b) == 0) }
+    {
+        let row = self.calls.graph[index].as_slice();
+        has_label_of(row, &self.calls.labels, index)
+    }
+
+    // Adds the faults of the calls of the file with this number that are on a call cycle, in the order of the calls.
+    fn add_faults_of_calls(
+        &self,
+        lint: &L,
+        index: usize,
+        faults: &mut FaultSink,
+    ) -> Result<(), AllocError>
+        requires { index < length self.now }
+        ensures { (p b : List ℕ) → slice_get self.now index ≡ Some (p, b) → OnOk result (faults.new
+            ≡ faults.old ++ loops.loop_faults L.meaning self.now index p b) }
+    {
+        let row = self.calls.graph[index].as_slice();
+        let (_, file) = file_number(self.files, index);
+        let targets = file.calls.targets.as_slice();
+        for call in 0..targets.len() {
+            let to = called_again(self.files, row, targets, call);
+            let leads_back = leads_back(&self.calls.labels, index, to);
+            add_fault_if(leads_back, lint.site(&file.unit, call), faults)?;
+        }
+        Ok(())
+    }
+
+    /// The faults of the calls of the file with this number that are on a call cycle, in their order. No candidate is looked up of a
+    /// file each of whose calls leads to a file, nor of one none of whose calls is on a cycle.
+    ///
+    /// # Errors
+    ///
+    /// [`AllocError`] where memory ran out.
+    pub fn loop_faults(
+        &self,
+        lint: &L,
+        alloc: Global,
+        index: usize,
+    ) -> Result<Vec<Fault>, AllocError>
+        requires { index < length self.now }
+        ensures { (p b : List ℕ) → slice_get self.now index ≡ Some (p, b) → IfOk result (λ faults. faults.items
+            ≡ loops.loop_faults L.meaning self.now index p b) }
+    {
+        if !self.is_on_loop(index) {
+            return Ok(Vec::new(alloc));
+        }
+        let mut faults = FaultSink::new(alloc);
+        self.add_faults_of_calls(lint, index, &mut faults)?;
+        Ok(faults.into_faults())
+    }
 }

@@ -1,19 +1,15 @@
 //! What is printed of a folder's files.
 
-ghost use Rattle.std.specs.Prelude.{◌≡◌, ◌≤◌, not, length, ◌==◌, OnOk, OnErr, IsOkUnless};
-ghost use Rattle.std.specs.List.{AllByRecursion, enumerate_from, flat_map, list_any};
+ghost use Rattle.std.specs.Prelude.{◌≡◌, not, length, ◌==◌, OnOk, OnErr, IsOkUnless};
+ghost use Rattle.std.specs.List.{enumerate_from, flat_map, list_any};
 ghost use Rattle.std.specs.Io.KnownBytes.{Appends};
 ghost use Rattle.al_base.specs.Counted.{HasRisen, AppendsPrefix};
-ghost use Rattle.al_base.specs.Limits.{largest_file};
-ghost use Rattle.al_base.specs.LineStarts.{line_starts};
-ghost use Rattle.al_base.specs.Spans.{LiesIn};
-ghost use Rattle.al_text.specs.Snippets.{fault_text};
 ghost use Rattle.al_base.specs.Streams.{bytes_written, write_failures};
 ghost use Rattle.al_session_folder.specs.Kept.{folder_of, referred};
 ghost use Rattle.al_session_folder.specs.Private.Printing.{AreListed, ArePrintable, IsPrintable, lines_of, listed, numbered_lines};
 
 use crate::{Files, KeptFile, Lint, file_number};
-use al_base::{Fault, Lines, Location, Output, Stop};
+use al_base::{Fault, Location, Output, Stop};
 use al_text::{write_fault_at, write_faults};
 use std::io::Write;
 
@@ -61,61 +57,69 @@ pub fn write_files<L: Lint, W: Write>(
 {
     for index in 0..files.len() {
         let (path, file) = file_number(files, index);
-        write_file(writer, path.as_str(), file, &joined[index], oneline)?;
+        let listing = Listing {
+            path: path.as_str(),
+            file,
+            oneline,
+        };
+        write_file(writer, &listing, &joined[index])?;
     }
     Ok(())
+}
+
+// A file whose faults are listed, each as its line, and its snippet unless `oneline` is asked for.
+#[derive(Drop)]
+struct Listing<'a, U, I> {
+    path: &'a str,
+    file: &'a KeptFile<U, I>,
+    oneline: bool,
 }
 
 // Writes the listed faults of one file: those that were joined, or its own where none were.
 fn write_file<U, I, W: Write>(
     writer: &mut Output<W>,
-    path: &str,
-    file: &KeptFile<U, I>,
+    listing: &Listing<'_, U, I>,
     joined: &[&Fault],
-    oneline: bool,
 ) -> Result<(), Stop>
-    requires { IsPrintable file.now (listed file.now joined.now) }
+    requires { IsPrintable listing.now.file.now (listed listing.now.file.now joined.now) }
     ensures all { OnOk result (Appends (bytes_written W.contents writer.old) (bytes_written W.contents writer.new)
-        (lines_of oneline path.now file.now (listed file.now joined.now))) }
+        (lines_of listing.now.oneline listing.now.path.now listing.now.file.now (listed listing.now.file.now joined.now))) }
     ensures prefix { OnErr result (AppendsPrefix (bytes_written W.contents writer.old) (bytes_written W.contents writer.new)
-        (lines_of oneline path.now file.now (listed file.now joined.now))) }
+        (lines_of listing.now.oneline listing.now.path.now listing.now.file.now (listed listing.now.file.now joined.now))) }
     ensures failures { OnOk result (write_failures writer.new ≡ write_failures writer.old) }
     ensures failed { OnErr result (HasRisen (write_failures writer.old) (write_failures writer.new)) }
     ensures err { IsOkUnless result Stop.WriteFault }
 {
     if !joined.is_empty() {
-        return write_referred(writer, &file.lines, path, &file.bytes, joined, oneline);
+        return write_referred(writer, listing, joined);
     }
+    let file = listing.file;
     write_faults(
         writer,
         &file.lines,
-        path,
+        listing.path,
         &file.bytes,
         &file.faults,
-        oneline,
+        listing.oneline,
     )
 }
 
 // Writes faults of a file that are referred to, as `write_faults` writes those of one list.
-fn write_referred<W: Write>(
+fn write_referred<U, I, W: Write>(
     writer: &mut Output<W>,
-    lines: &Lines,
-    path: &str,
-    bytes: &[u8],
+    listing: &Listing<'_, U, I>,
     faults: &[&Fault],
-    oneline: bool,
 ) -> Result<(), Stop>
-    requires made { lines.now ≡ line_starts bytes.now }
-    requires within { AllByRecursion (λ fault. LiesIn (length bytes.now) fault.span) (referred faults.now) }
-    requires small { length bytes.now ≤ largest_file }
+    requires { IsPrintable listing.now.file.now (referred faults.now) }
     ensures all { OnOk result (Appends (bytes_written W.contents writer.old) (bytes_written W.contents writer.new)
-        (flat_map (fault_text oneline path.now bytes.now) (referred faults.now))) }
+        (lines_of listing.now.oneline listing.now.path.now listing.now.file.now (referred faults.now))) }
     ensures prefix { OnErr result (AppendsPrefix (bytes_written W.contents writer.old) (bytes_written W.contents writer.new)
-        (flat_map (fault_text oneline path.now bytes.now) (referred faults.now))) }
+        (lines_of listing.now.oneline listing.now.path.now listing.now.file.now (referred faults.now))) }
     ensures failures { OnOk result (write_failures writer.new ≡ write_failures writer.old) }
     ensures failed { OnErr result (HasRisen (write_failures writer.old) (write_failures writer.new)) }
     ensures err { IsOkUnless result Stop.WriteFault }
 {
+    let bytes = listing.file.bytes.as_slice();
     let mut at = 0;
     let mut location = Location {
         line: 1,
@@ -123,9 +127,19 @@ fn write_referred<W: Write>(
         start: 0,
     };
     for fault in faults {
-        location = lines.location_after(bytes, at, location, fault.span.start);
+        location = listing
+            .file
+            .lines
+            .location_after(bytes, at, location, fault.span.start);
         at = fault.span.start;
-        write_fault_at(writer, path, bytes, *fault, location, oneline)?;
+        write_fault_at(
+            writer,
+            listing.path,
+            bytes,
+            *fault,
+            location,
+            listing.oneline,
+        )?;
     }
     Ok(())
 }

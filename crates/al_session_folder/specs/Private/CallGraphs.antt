@@ -1,13 +1,12 @@
 -- The graph of calls, as far as calls can be on a cycle, labels that tell which ones do, and what it depends on.
 use Rattle.std.specs.Prelude.{ℕ, ◌≤◌, ◌<◌, ◌≡◌, ◌↔◌, ◌⊎◌, ◌&&◌, Bool, false, List, [], Option, Some, None, String, Vec}
-use Rattle.std.specs.Prelude.{bytes_eq, cond, length, map, nat_eq, nat_le, nat_lt, slice_get, slice_index_or}
+use Rattle.std.specs.Prelude.{bytes_eq, cond, length, map, nat_le, nat_lt, slice_get, slice_index_or}
 use Rattle.std.specs.Global.{Global}
-use Rattle.std.specs.List.{enumerate_from, filter_map, list_any}
-use Rattle.std.specs.Option.{option_eq}
+use Rattle.std.specs.List.{enumerate_from, filter_map}
 use Rattle.al_graph.specs.Graphs.{Edge, Walk, edges_of}
 use Rattle.al_session_folder.specs.Meaning.{Meaning}
 use Rattle.al_session_folder.specs.Folder.{Folder, paths_of}
-use Rattle.al_session_folder.specs.Kept.{Files}
+use Rattle.al_session_folder.specs.Kept.{AreKept, Files, folder_of}
 use Rattle.al_session_folder.specs.Loops.{called, calls_graph}
 use Rattle.al_session_folder.specs.declared.kept.KeptFile.{KeptFile}
 use Rattle.al_session_folder.specs.declared.lint.Target.{Target}
@@ -61,7 +60,8 @@ is_same_target (Only p) (FirstOf q r) = false
 is_same_target (FirstOf p q) (Only r) = false
 is_same_target (FirstOf p q) (FirstOf r s) = bytes_eq p r && bytes_eq q s
 
--- whether an edge leads from the file with this number to one with its label
-abbrev pub is_on_loop : List (Vec ℕ Global) → List (Option ℕ) → ℕ → Bool
-is_on_loop graph labels i =
-    list_any (λ k. option_eq nat_eq (slice_index_or labels k None) (slice_index_or labels i None)) (slice_index_or (edges_of graph) i [])
+-- Kept files with the program's graph of their calls.
+pub record AreLinked {U I : Type 0} (m : Meaning I) (is_unit : U → List ℕ → List ℕ → Type 0) (files : Files U I)
+    (graph : List (Vec ℕ Global)) (labels : List (Option ℕ)) : Type 0 where
+  pub kept : AreKept m is_unit files
+  pub calls : IsCallGraph m (folder_of files) graph labels

@@ -49,12 +49,11 @@ pub record AreNumbered {X : Type 0} (P : ℕ → X → Type 0) (count : ℕ) (al
   pub each : (i : ℕ) (x : X) → i < count → x ≡ slice_index_or all i x → P i x
 
 -- the faults of the calls of the file with this number that are on a call cycle
-abbrev pub IsLoops : {U I : Type 0} → Meaning I → Files U I → ℕ → Vec Fault Global → Type 0
-IsLoops {U} {I} m files i loops = (e : String Global × KeptFile U I) → slice_get files i ≡ Some e →
-    loops.items ≡ loop_faults m (folder_of files) i (string_bytes e.0) e.1.bytes.items
+abbrev pub IsLoops : {I : Type 0} → Meaning I → Folder → ℕ → Vec Fault Global → Type 0
+IsLoops m f i loops = (p b : List ℕ) → slice_get f i ≡ Some (p, b) → loops.items ≡ loop_faults m f i p b
 
-abbrev pub AreLoops : {U I : Type 0} → Meaning I → Files U I → List (Vec Fault Global) → Type 0
-AreLoops m files all = AreNumbered (IsLoops m files) (length files) all
+abbrev pub AreLoops : {I : Type 0} → Meaning I → Folder → List (Vec Fault Global) → Type 0
+AreLoops m f all = AreNumbered (IsLoops m f) (length f) all
 
 -- the listed faults of the file with this number are those that a report lists
 abbrev pub IsListed : {U I : Type 0} → Meaning I → Files U I → ℕ → Vec (Bor Fault) Global → Type 0

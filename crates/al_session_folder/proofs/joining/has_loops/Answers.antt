@@ -1,9 +1,8 @@
 use Rattle.std.proofs.Common.{◌≡◌, ◌∙◌, ◌+◌, ap, sym, not, Bool, length, arith, suc, take, List, ℕ}
 use Rattle.std.specs.Bool.{◌==◌}
 use Rattle.std.specs.List.{enumerate_from, list_any}
-use Rattle.std.proofs.lemmas.List.{length-map, take_all}
+use Rattle.std.proofs.lemmas.List.{take_all}
 use Rattle.std.proofs.lemmas.List.FromFn.{length-enumerate_from}
-use Rattle.al_session_folder.specs.Kept.{folder_of}
 use Rattle.al_session_folder.specs.Loops.{loop_faults}
 use Rattle.al_session_folder.proofs.Looping.{entry_there, numbered}
 use Rattle.al_session_folder.proofs.Reports.{any_found, any_none}
@@ -11,27 +10,24 @@ use Rattle.al_session_folder.proofs.joining.has_loops.Goals as goal
 
 pub returns-then-is_on_loop : goal.returns-then-is_on_loop
 returns-then-is_on_loop g c =
-    let F = folder_of c.args.files.now.entries in
+    let F = c.args.linked.now in
     let T : ℕ × (List ℕ × List ℕ) → Bool = λ x. not (length (loop_faults g.L.Lint.meaning F x.0 x.1.0 x.1.1) == 0) in
-    let n : length F ≡ length c.args.files.now.entries = length-map c.args.files.now.entries _ in
-    let x = entry_there F c.loop-index.index (omega (arith, n, c.len-index-end.ensures.len, c.loop-index-test.true)) in
+    let x = entry_there F c.loop-index.index (omega (arith, c.count-index-end.ensures, c.loop-index-test.true)) in
     sym (any_found T (enumerate_from 0 F) c.loop-index.index (c.loop-index.index, x.0) (numbered F c.loop-index.index x.0 x.1)
-    (sym (c.is_on_loop.ensures.faults x.0.0 x.0.1 x.1) ∙ c.if-is_on_loop.true))
+    (sym (c.is_on_loop.ensures x.0.0 x.0.1 x.1) ∙ c.if-is_on_loop.true))
 
 pub loop-index-preserved : goal.loop-index-preserved
 loop-index-preserved g c =
-    let F = folder_of c.args.files.now.entries in
+    let F = c.args.linked.now in
     let T : ℕ × (List ℕ × List ℕ) → Bool = λ x. not (length (loop_faults g.L.Lint.meaning F x.0 x.1.0 x.1.1) == 0) in
-    let n : length F ≡ length c.args.files.now.entries = length-map c.args.files.now.entries _ in
-    let x = entry_there F c.loop-index.index (omega (arith, n, c.len-index-end.ensures.len, c.loop-index-test.true)) in
+    let x = entry_there F c.loop-index.index (omega (arith, c.count-index-end.ensures, c.loop-index-test.true)) in
     let e : c.loop-index.index + 1 ≡ suc c.loop-index.index = omega arith in
     ap (λ j. list_any T (take j (enumerate_from 0 F))) e ∙ any_none T (enumerate_from 0 F) c.loop-index.index (c.loop-index.index, x.0)
-    (numbered F c.loop-index.index x.0 x.1) (sym (c.is_on_loop.ensures.faults x.0.0 x.0.1 x.1) ∙ c.if-is_on_loop.false) c.loop-index.invariant
+    (numbered F c.loop-index.index x.0 x.1) (sym (c.is_on_loop.ensures x.0.0 x.0.1 x.1) ∙ c.if-is_on_loop.false) c.loop-index.invariant
 
 pub returns : goal.returns
 returns g c =
-    let F = folder_of c.args.files.now.entries in
+    let F = c.args.linked.now in
     let T : ℕ × (List ℕ × List ℕ) → Bool = λ x. not (length (loop_faults g.L.Lint.meaning F x.0 x.1.0 x.1.1) == 0) in
-    let n : length F ≡ length c.args.files.now.entries = length-map c.args.files.now.entries _ in
-    let whole = take_all c.loop-index.index (enumerate_from 0 F) (omega (arith, n, length-enumerate_from 0 F, c.len-index-end.ensures.len, c.loop-index-test.false)) in
+    let whole = take_all c.loop-index.index (enumerate_from 0 F) (omega (arith, length-enumerate_from 0 F, c.count-index-end.ensures, c.loop-index-test.false)) in
     sym (sym (ap (list_any T) whole) ∙ c.loop-index.invariant)

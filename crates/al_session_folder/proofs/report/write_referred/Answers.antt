@@ -13,27 +13,29 @@ use Rattle.al_session_folder.proofs.report.write_referred.Goals as goal
 
 pub location_after-location-requires-clause-within : goal.location_after-location-requires-clause-within
 location_after-location-requires-clause-within g c =
-    let in_file = all-referred (λ (fault : Fault). LiesIn (length c.args.bytes.now) fault.span) c.args.faults.now c.loop-fault.fault-index c.fault-item.result c.requires.within
+    let in_file = all-referred (λ (fault : Fault). LiesIn (length c.as_slice-bytes.result.now) fault.span) c.args.faults.now c.loop-fault.fault-index c.fault-item.result
+    (rw (← c.as_slice-bytes.ensures.value) at c.requires.inside)
     (omega (arith, c.loop-fault-test.true)) c.fault-item.is in
     let start = in_file.ordered in let end = in_file.inside in omega (arith, start, end)
 
 pub write_fault_at-requires-clause-within : goal.write_fault_at-requires-clause-within
 write_fault_at-requires-clause-within g c =
-    all-referred (λ (fault : Fault). LiesIn (length c.args.bytes.now) fault.span) c.args.faults.now c.loop-fault.fault-index c.fault-item.result c.requires.within
+    all-referred (λ (fault : Fault). LiesIn (length c.as_slice-bytes.result.now) fault.span) c.args.faults.now c.loop-fault.fault-index c.fault-item.result
+    (rw (← c.as_slice-bytes.ensures.value) at c.requires.inside)
     (omega (arith, c.loop-fault-test.true)) c.fault-item.is
 
 pub returns-in_err-write_fault_at-clause-prefix : goal.returns-in_err-write_fault_at-clause-prefix
 returns-in_err-write_fault_at-clause-prefix g c =
     let p = err_from_is_err_and c.from_residual.result c.from_residual.ensures.1 in
-    let front = AppendsPrefix-next (λ r. fault_text c.args.oneline c.args.path.now c.args.bytes.now r.now) c.args.faults.now c.loop-fault.fault-index
+    let front = AppendsPrefix-next (λ r. fault_text c.args.listing.now.oneline c.args.listing.now.path.now c.as_slice-bytes.result.now r.now) c.args.faults.now c.loop-fault.fault-index
     c.fault-item.result (omega (arith, c.loop-fault-test.true)) c.fault-item.is _ _ _ c.loop-fault.invariant.appended
     c.in_err-write_fault_at.ensures.prefix in
-    rw p.1 (subst (λ (l : List ℕ). AppendsPrefix (g.W.Write.contents c.args.writer.now.inner) (g.W.Write.contents c.write_fault_at.new.writer.inner) l)
-    (flat_map-referred (fault_text c.args.oneline c.args.path.now c.args.bytes.now) c.args.faults.now) front)
+    rw (p.1, ← c.as_slice-bytes.ensures.value) (subst (λ (l : List ℕ). AppendsPrefix (g.W.Write.contents c.args.writer.now.inner) (g.W.Write.contents c.write_fault_at.new.writer.inner) l)
+    (flat_map-referred (fault_text c.args.listing.now.oneline c.args.listing.now.path.now c.as_slice-bytes.result.now) c.args.faults.now) front)
 
 pub loop-fault-preserved : goal.loop-fault-preserved
 loop-fault-preserved g c = record {
-  appended = Appends-next (λ r. fault_text c.args.oneline c.args.path.now c.args.bytes.now r.now) c.args.faults.now c.loop-fault.fault-index
+  appended = Appends-next (λ r. fault_text c.args.listing.now.oneline c.args.listing.now.path.now c.as_slice-bytes.result.now r.now) c.args.faults.now c.loop-fault.fault-index
       c.fault-item.result (omega (arith, c.loop-fault-test.true)) c.fault-item.is _ _ _ c.loop-fault.invariant.appended
       c.in_ok-write_fault_at.ensures.all;
   unfailed = c.in_ok-write_fault_at.ensures.failures ∙ c.loop-fault.invariant.unfailed;
@@ -44,6 +46,8 @@ loop-fault-preserved g c = record {
 
 pub returns-clause-all : goal.returns-clause-all
 returns-clause-all g c =
-    let whole = ap (flat_map (λ r. fault_text c.args.oneline c.args.path.now c.args.bytes.now r.now)) (take_all c.loop-fault.fault-index c.args.faults.now (omega (arith, c.loop-fault-test.false)))
-    ∙ flat_map-referred (fault_text c.args.oneline c.args.path.now c.args.bytes.now) c.args.faults.now in
-    subst (λ (l : List ℕ). Appends (g.W.Write.contents c.args.writer.now.inner) (g.W.Write.contents c.loop-fault.writer.inner) l) whole c.loop-fault.invariant.appended
+    let whole = ap (flat_map (λ r. fault_text c.args.listing.now.oneline c.args.listing.now.path.now c.as_slice-bytes.result.now r.now))
+    (take_all c.loop-fault.fault-index c.args.faults.now (omega (arith, c.loop-fault-test.false)))
+    ∙ flat_map-referred (fault_text c.args.listing.now.oneline c.args.listing.now.path.now c.as_slice-bytes.result.now) c.args.faults.now in
+    rw (← c.as_slice-bytes.ensures.value)
+    (subst (λ (l : List ℕ). Appends (g.W.Write.contents c.args.writer.now.inner) (g.W.Write.contents c.loop-fault.writer.inner) l) whole c.loop-fault.invariant.appended)

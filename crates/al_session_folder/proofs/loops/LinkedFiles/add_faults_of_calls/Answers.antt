@@ -1,0 +1,87 @@
+use Rattle.std.proofs.Common.{◌≡◌, ◌∙◌, ◌<◌, ◌++◌, length, get_or, ap, arith, refl, subst, sym, List, ℕ, String}
+use Rattle.std.proofs.lemmas.List.{length-map}
+use Rattle.std.proofs.lemmas.Option.{get_or_from_slice_get}
+use Rattle.std.specs.Prelude.{string_bytes}
+use Rattle.std.specs.Global.{Global}
+use Rattle.al_session_folder.specs.declared.kept.KeptFile.{KeptFile}
+use Rattle.al_session_folder.specs.Kept.{folder_of}
+use Rattle.al_session_folder.specs.Loops.{calls_graph, fault_if, leads_back}
+use Rattle.al_session_folder.specs.Private.CallGraphs.{IsCalledBy, TellLoops}
+use Rattle.al_session_folder.specs.Sites.{fault_of}
+use Rattle.al_session_folder.proofs.Looping.{call_edge, entry_number, entry_there, if_called, kept_number, looping_end, looping_next, one_entry, row_of}
+use Rattle.al_session_folder.proofs.loops.LinkedFiles.add_faults_of_calls.Goals as goal
+
+pub called_again-to-requires-clause-row : goal.called_again-to-requires-clause-row
+called_again-to-requires-clause-row g c =
+    let v = c.self.inside in
+    let e : String Global × KeptFile _ _ = (c.file_number.result.0.now, c.file_number.result.1.now) in
+    let kept = kept_number g.L.Lint.meaning g.L.Lint.is_unit v.files.now.entries c.args.index e c.self.invariant.kept.kept c.file_number.ensures in
+    row_of g.L.Lint.meaning (folder_of v.files.now.entries) v.calls.now.graph.items v.calls.now.labels.items v.calls.now.labels.items c.as_slice-row.result.now
+    c.index.result.now c.args.index c.self.invariant.calls (rw (← c.self.view_is) at c.requires) c.index.ensures c.as_slice-row.ensures.value refl
+    (string_bytes e.0) e.1.bytes.items c.as_slice-targets.result.now (entry_number v.files.now.entries c.args.index e c.file_number.ensures)
+    (c.as_slice-targets.ensures.value ∙ kept.calls.targets)
+
+pub leads_back-leads_back-requires-clause-index : goal.leads_back-leads_back-requires-clause-index
+leads_back-leads_back-requires-clause-index g c =
+    let F = folder_of c.self.inside.files.now.entries in
+    let below = rw (← c.self.view_is) at c.requires in
+    let size = c.self.invariant.calls.tell.0 in
+    let n : length (calls_graph g.L.Lint.meaning F) ≡ length F = length-map F _ in
+    omega (arith, below, size, n, ap length c.deref.ensures.value)
+
+pub leads_back-leads_back-requires-clause-to : goal.leads_back-leads_back-requires-clause-to
+leads_back-leads_back-requires-clause-to g c =
+    let F = folder_of c.self.inside.files.now.entries in
+    let size = c.self.invariant.calls.tell.0 in
+    let n : length (calls_graph g.L.Lint.meaning F) ≡ length F = length-map F _ in
+    let t = entry_there c.as_slice-targets.result.now c.loop-call.call (omega (arith, c.loop-call-test.true)) in
+    if_called F t.0 c.called_again-to.result (length c.deref.result.now)
+    (c.called_again-to.ensures t.0 (sym (get_or_from_slice_get c.as_slice-targets.result.now c.loop-call.call t.0 t.0 t.1)))
+    (omega (arith, size, n, ap length c.deref.ensures.value))
+
+pub site-requires : goal.site-requires
+site-requires g c =
+    let v = c.self.inside in
+    let e : String Global × KeptFile _ _ = (c.file_number.result.0.now, c.file_number.result.1.now) in
+    let kept = kept_number g.L.Lint.meaning g.L.Lint.is_unit v.files.now.entries c.args.index e c.self.invariant.kept.kept c.file_number.ensures in
+    let items = c.as_slice-targets.ensures.value ∙ kept.calls.targets in
+    (string_bytes e.0, e.1.bytes.items, kept.unit, omega (arith, c.loop-call-test.true, ap length items))
+
+pub loop-call-init : goal.loop-call-init
+loop-call-init g c p b at = refl
+
+pub loop-call-preserved : goal.loop-call-preserved
+loop-call-preserved g c p b at =
+    let m = g.L.Lint.meaning in
+    let v = c.self.inside in
+    let F = folder_of v.files.now.entries in
+    let G = calls_graph m F in
+    let e : String Global × KeptFile _ _ = (c.file_number.result.0.now, c.file_number.result.1.now) in
+    let kept = kept_number m g.L.Lint.is_unit v.files.now.entries c.args.index e c.self.invariant.kept.kept c.file_number.ensures in
+    let same = one_entry F c.args.index (string_bytes e.0, e.1.bytes.items) (p, b) (entry_number v.files.now.entries c.args.index e c.file_number.ensures) at in
+    let items = c.as_slice-targets.ensures.value ∙ kept.calls.targets ∙ ap (λ (x : List ℕ × List ℕ). m.calls x.0 x.1) same in
+    let within : c.loop-call.call < length (m.calls p b) = omega (arith, c.loop-call-test.true, ap length items) in
+    let t = entry_there (m.calls p b) c.loop-call.call within in
+    let read = sym (get_or_from_slice_get (m.calls p b) c.loop-call.call t.0 t.0 t.1) in
+    let to = c.called_again-to.ensures t.0 (read ∙ ap (λ l. get_or l c.loop-call.call t.0) (sym items)) in
+    let tells = subst (TellLoops G) (sym c.deref.ensures.value) c.self.invariant.calls.tell in
+    let edge : IsCalledBy G c.args.index c.called_again-to.result =
+    subst (IsCalledBy G c.args.index) (sym to) (call_edge m F c.args.index c.loop-call.call p b t.0 at within read) in
+    let back = c.leads_back-leads_back.ensures G tells edge ∙ ap (leads_back G c.args.index) to in
+    let added = c.in_ok-add_fault_if.ensures ∙ ap (λ back. c.loop-call.faults ++ fault_if back (fault_of c.site.result)) back in
+    let unit = subst (λ (x : List ℕ × List ℕ). g.L.Lint.is_unit e.1.unit x.0 x.1) same kept.unit in
+    looping_next G F c.args.index (m.calls p b) (m.sites p b) c.loop-call.call c.loop-call.faults _
+    (c.loop-call.invariant p b at) c.add_fault_if.new.faults t.0 (fault_of c.site.result) within read (c.site.ensures p b unit) added
+
+pub returns : goal.returns
+returns g c =
+    let m = g.L.Lint.meaning in
+    let v = c.self.inside in
+    let F = folder_of v.files.now.entries in
+    let e : String Global × KeptFile _ _ = (c.file_number.result.0.now, c.file_number.result.1.now) in
+    let kept = kept_number m g.L.Lint.is_unit v.files.now.entries c.args.index e c.self.invariant.kept.kept c.file_number.ensures in
+    rw (← c.self.view_is) (λ p b at.
+    let same = one_entry F c.args.index (string_bytes e.0, e.1.bytes.items) (p, b) (entry_number v.files.now.entries c.args.index e c.file_number.ensures) at in
+    let items = c.as_slice-targets.ensures.value ∙ kept.calls.targets ∙ ap (λ (x : List ℕ × List ℕ). m.calls x.0 x.1) same in
+    looping_end (calls_graph m F) F c.args.index (m.calls p b) (m.sites p b) c.loop-call.call c.loop-call.faults _ (c.loop-call.invariant p b at)
+    (omega (arith, c.loop-call-test.false, ap length items)))

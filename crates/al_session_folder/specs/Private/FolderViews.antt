@@ -1,0 +1,44 @@
+-- A folder that is looked at with another file, or none, at one path, and a change of one path.
+use Rattle.std.specs.Prelude.{◌≡◌, ℕ, Bool, List, Option, Some, None}
+use Rattle.std.specs.Option.{option_map}
+use Rattle.al_base.specs.Paths.{path_fault_of}
+use Rattle.al_session_folder.specs.Meaning.{Meaning}
+use Rattle.al_session_folder.specs.Affected.{affected}
+use Rattle.al_session_folder.specs.Folder.{Folder}
+use Rattle.al_session_folder.specs.Kept.{Files, IsView, AreKept, after, changed, folder_of}
+use Rattle.al_session_folder.specs.declared.kept.KeptFile.{KeptFile}
+
+-- the folder of kept files, with this file, or none, at a path where one is named
+abbrev pub viewed : {U I : Type 0} → Files U I → Option (List ℕ) → Option (KeptFile U I) → Folder
+viewed files None next = folder_of files
+viewed files (Some p) next = after files p next
+
+-- what is true of the files, and of what is to stand at that path
+abbrev pub IsViewIf : {U I : Type 0} → Meaning I → (U → List ℕ → List ℕ → Type 0) → Files U I → Option (List ℕ) →
+    Option (KeptFile U I) → Type 0
+IsViewIf m is_unit files None next = AreKept m is_unit files
+IsViewIf m is_unit files (Some p) next = IsView m is_unit files p next
+
+-- A change of one path: the folder before it, and the bytes that are to stand there, or none.
+pub record FolderChange : Type 0 where
+  pub before : Folder
+  pub path : List ℕ
+  pub bytes : Option (List ℕ)
+
+-- the folder after a change
+abbrev pub changed_by : FolderChange → Folder
+changed_by c = changed c.before c.path c.bytes
+
+-- the files that a change affects
+abbrev pub affected_by : {I : Type 0} → (I → I → Bool) → Meaning I → FolderChange → List (List ℕ)
+affected_by eq m c = affected eq m c.before (changed_by c)
+
+-- the change of kept files by which this file, or none, is to stand at a path
+abbrev pub change_of : {U I : Type 0} → Files U I → List ℕ → Option (KeptFile U I) → FolderChange
+change_of files p next = record { before = folder_of files; path = p; bytes = option_map (λ file. file.bytes.items) next }
+
+-- What is true of kept files and of what is to stand at a path.
+pub record IsChange {U I : Type 0} (m : Meaning I) (is_unit : U → List ℕ → List ℕ → Type 0) (files : Files U I) (p : List ℕ)
+    (next : Option (KeptFile U I)) : Type 0 where
+  pub view : IsView m is_unit files p next
+  pub valid : path_fault_of p ≡ None

@@ -1,0 +1,180 @@
+//! The files of a folder, as they are or with another file, or none, at one path; what they answer to calls, and their checks.
+
+ghost use Rattle.std.specs.Prelude.{◌≡◌, ◌≤◌, ◌^◌, ◌-◌, IsSome, length, map, IfOk, IfSome, OnOk, OnErr};
+ghost use Rattle.std.specs.List.{AllByRecursion};
+ghost use Rattle.std.specs.Option.{option_copied, option_map};
+ghost use Rattle.al_session_folder.specs.Meaning.{IsUpTo};
+ghost use Rattle.al_base.specs.Counted.{raised};
+ghost use Rattle.al_session_folder.specs.Folder.{answer, bytes_at, interface_in};
+ghost use Rattle.al_session_folder.specs.Kept.{after, file_after, faults_of, folder_of, AreKept, IsKept, IsView};
+
+use crate::kept::{Files, KeptFile};
+use crate::lint::{Lint, Target};
+use al_base::{Fault, Path};
+use std::alloc::{AllocError, Global};
+use std::marker::Model;
+
+/// The files of a folder, as they are or with another file, or none, at one path. Contracts see the folder.
+#[derive(Drop)]
+pub struct FolderView<'a, L: Lint> {
+    files: &'a Files<L::Unit, L::Iface>,
+    // The path at which the other file, or none, is to stand.
+    path: Option<&'a str>,
+    next: Option<&'a KeptFile<L::Unit, L::Iface>>,
+}
+
+impl<'a, L: Lint> Model for FolderView<'a, L> {
+    ghost use Rattle.std.specs.Option.{option_copied};
+    ghost use Rattle.al_session_folder.specs.Folder.{Folder};
+    ghost use Rattle.al_session_folder.specs.Private.FolderViews.{IsViewIf, viewed};
+
+    ghost Value = { Folder };
+
+    ghost view = { λ v. viewed v.files.now.entries (option_copied v.path) (option_copied v.next) };
+
+    ghost invariant = { λ v. IsViewIf L.meaning L.is_unit v.files.now.entries (option_copied v.path) (option_copied v.next) };
+}
+
+impl<'a, L: Lint> FolderView<'a, L> {
+    /// The files as they are.
+    pub fn of(files: &'a Files<L::Unit, L::Iface>) -> FolderView<'a, L>
+        requires { AreKept L.meaning L.is_unit files.now.entries }
+        ensures { result ≡ folder_of files.now.entries }
+    {
+        FolderView {
+            files,
+            path: None,
+            next: None,
+        }
+    }
+
+    /// The files with this file, or none, at a path.
+    pub(crate) fn with(
+        files: &'a Files<L::Unit, L::Iface>,
+        path: &'a str,
+        next: Option<&'a KeptFile<L::Unit, L::Iface>>,
+    ) -> FolderView<'a, L>
+        requires { IsView L.meaning L.is_unit files.now.entries path.now (option_copied next) }
+        ensures { result ≡ after files.now.entries path.now (option_copied next.entry) }
+    {
+        FolderView {
+            files,
+            path: Some(path),
+            next,
+        }
+    }
+
+    /// The file at a path.
+    pub(crate) fn file(&self, at: &str) -> Option<&'a KeptFile<L::Unit, L::Iface>>
+        ensures bytes { option_map (λ file. file.bytes.items) (option_copied result) ≡ bytes_at self.now at.now }
+        ensures kept { IfSome result (λ file. IsKept L.meaning L.is_unit at.now file.now) }
+    {
+        match self.path {
+            Some(path) => find_after(self.files, path, self.next, at),
+            None => self.files.get(at),
+        }
+    }
+
+    /// The interface of the file at a path, if it is there.
+    pub(crate) fn interface(&self, at: &str) -> Option<&'a L::Iface>
+        ensures { option_copied result ≡ interface_in L.meaning self.now at.now }
+    {
+        match self.file(at) {
+            Some(file) => Some(&file.iface),
+            None => None,
+        }
+    }
+
+    /// The interface of the first candidate of a call that is there.
+    pub(crate) fn answer(&self, target: &Target) -> Option<&'a L::Iface>
+        ensures { option_copied result ≡ answer L.meaning self.now target.now }
+    {
+        match target {
+            Target::Only(only) => self.interface(only.as_str()),
+            Target::FirstOf(first, second) => match self.interface(first.as_str()) {
+                Some(found) => Some(found),
+                None => self.interface(second.as_str()),
+            },
+        }
+    }
+
+    // The answers of calls, in order.
+    fn answers(
+        &self,
+        alloc: Global,
+        targets: &[Target],
+    ) -> Result<Vec<Option<&'a L::Iface>>, AllocError>
+        ensures { IfOk result (λ found. map (λ a. option_copied a) found.items
+            ≡ map (answer L.meaning self.now) targets.now) }
+    {
+        let mut found = Vec::new(alloc);
+        for target in targets {
+            found.push(self.answer(target))?;
+        }
+        Ok(found)
+    }
+
+    /// The faults of the file at a path. It counts at most one check, and reads nothing.
+    ///
+    /// # Errors
+    ///
+    /// [`AllocError`] where memory ran out.
+    pub fn check_path(
+        &self,
+        lint: &mut L,
+        alloc: Global,
+        at: &str,
+    ) -> Result<Vec<Fault>, AllocError>
+        requires there { IsSome (bytes_at self.now at.now) }
+        requires counted { L.checks_of lint.old ≤ 2 ^ 64 - 1 }
+        ensures faults { IfOk result (λ fs. fs.items ≡ faults_of L.meaning self.now at.now) }
+        ensures checks { OnOk result (L.checks_of lint.new ≡ raised (L.checks_of lint.old) 1) }
+        ensures bound { OnErr result (IsUpTo (L.checks_of lint.old) (L.checks_of lint.new) 1) }
+        ensures reads { L.reads_of lint.new ≡ L.reads_of lint.old }
+    {
+        let Some(file) = self.file(at) else {
+            unreachable!();
+        };
+        let found = self.answers(alloc, &file.calls.targets)?;
+        Ok(lint.check(alloc, at, &file.bytes, &file.unit, &found)?)
+    }
+
+    /// The faults of the files at these paths: of each file a list, in their order. Each file is checked once, and none is read.
+    ///
+    /// # Errors
+    ///
+    /// [`AllocError`] where memory ran out. At most as many checks as there are paths are counted then.
+    pub fn check_paths(
+        &self,
+        lint: &mut L,
+        alloc: Global,
+        paths: &[Path],
+    ) -> Result<Vec<Vec<Fault>>, AllocError>
+        requires there { AllByRecursion (λ q. IsSome (bytes_at self.now q)) paths.now }
+        requires counted { L.checks_of lint.old ≤ 2 ^ 64 - 1 }
+        ensures faults { IfOk result (λ lists. map (λ faults. faults.items) lists.items
+            ≡ map (faults_of L.meaning self.now) paths.now) }
+        ensures checks { OnOk result (L.checks_of lint.new ≡ raised (L.checks_of lint.old) (length paths.now)) }
+        ensures bound { OnErr result (IsUpTo (L.checks_of lint.old) (L.checks_of lint.new) (length paths.now)) }
+        ensures reads { L.reads_of lint.new ≡ L.reads_of lint.old }
+    {
+        let mut lists = Vec::new(alloc);
+        for at in paths {
+            let faults = self.check_path(lint, alloc, at.as_str())?;
+            lists.push(faults)?;
+        }
+        Ok(lists)
+    }
+}
+
+// The file at a path, where at `path` there is `next`.
+fn find_after<'a, U, I>(
+    files: &'a Files<U, I>,
+    path: &str,
+    next: Option<&'a KeptFile<U, I>>,
+    at: &str,
+) -> Option<&'a KeptFile<U, I>>
+    ensures { option_copied result ≡ file_after files.now.entries path.now (option_copied next.entry) at.now }
+{
+    if at == path { next } else { files.get(at) }
+}
