@@ -10,7 +10,7 @@ use Rattle.al_base.specs.Counted.{AppendsPrefix, HasRisen}
 use Rattle.al_base.proofs.Bytes.{AppendsPrefix-after, AppendsPrefix-wider, AppendsPrefix-all, AppendsPrefix-none}
 use Rattle.al_cli_scripts.specs.Script.{Command, command_bytes, line_bytes, line_of, body_of, IsCommand, IsWrong, IsPending, BeginsWithCommand}
 use Rattle.al_cli_scripts.specs.Runs.{CountsFailures, Steps, Served, Puts, Ends, folder_after, replies_to, script_of}
-use Rattle.al_cli_scripts.specs.Runs.{RunsToEnd, IsCutShort, PausesAfter, GoesOn, TurnStops, Stops, ReadsLast, ReadsNoFurther}
+use Rattle.al_cli_scripts.specs.Runs.{RunsToEnd, IsCutShort, PausesAfter, RunState, GoesOn, TurnStops, Stops, ReadsLast, ReadsNoFurther}
 use Rattle.al_base.specs.declared.stops.Stop.{Stop}
 use Rattle.al_base.specs.declared.stops.Stop.TheVariants.{ReadFault, WriteFault, Memory, TooManyTurns}
 use Rattle.al_cli_scripts.specs.Private.Answered.{IsStuck}
@@ -196,11 +196,11 @@ module _ {F : Type 0} (steps : Steps F) where
     w,
   )
 
-  pub TurnStops-cut : (f g : F) (waited waiting : List ℕ) (left then wrote now : Option (List ℕ)) (e : Stop) → (e ≡ WriteFault) ⊎ (e ≡ Memory)
-      → IsCutShort steps f waited left wrote now → TurnStops steps f g waited waiting left then wrote now e
-  TurnStops-cut f g waited waiting left then wrote now e which cut = elim which [
-    | inl w ↦ subst (TurnStops steps f g waited waiting left then wrote now) (sym w) cut
-    | inr m ↦ subst (TurnStops steps f g waited waiting left then wrote now) (sym m) cut
+  pub TurnStops-cut : (old new : RunState F) (e : Stop) → (e ≡ WriteFault) ⊎ (e ≡ Memory)
+      → IsCutShort steps old.folder old.waiting old.left old.wrote new.wrote → TurnStops steps old new e
+  TurnStops-cut old new e which cut = elim which [
+    | inl w ↦ subst (TurnStops steps old new) (sym w) cut
+    | inr m ↦ subst (TurnStops steps old new) (sym m) cut
   ]
 
   -- ---- the turns of a run
@@ -237,14 +237,14 @@ module _ {F : Type 0} (steps : Steps F) where
   Paused-none f left wrote = record { replies = []; consumed = Consumes-nil left; served = Served-none steps f []; pending = pending_none; written = Appends-nil wrote }
 
   -- a turn goes on
-  pub Paused-more : (f g h : F) (waited waiting read more : List ℕ) (left mid then wrote now final : Option (List ℕ)) → PausesAfter steps f g waited left mid wrote now read
-      → (t : GoesOn steps g h waited waiting mid then now final) → PausesAfter steps f h waiting left then wrote final (read ++ t.read)
-  Paused-more f g h waited waiting read more left mid then wrote now final p t = record {
+  pub Paused-more : (f : F) (read : List ℕ) (left wrote : Option (List ℕ)) (old new : RunState F) → PausesAfter steps f old.folder old.waiting left old.left wrote old.wrote read
+      → (t : GoesOn steps old new) → PausesAfter steps f new.folder new.waiting left new.left wrote new.wrote (read ++ t.read)
+  Paused-more f read left wrote old new p t = record {
     replies = p.replies ++ t.replies;
-    consumed = Consumes-trans left mid then read t.read p.consumed t.consumed;
-    served = Served-join f g h read t.read p.replies t.replies waited waiting p.served t.served;
+    consumed = Consumes-trans left old.left new.left read t.read p.consumed t.consumed;
+    served = Served-join f old.folder new.folder read t.read p.replies t.replies old.waiting new.waiting p.served t.served;
     pending = t.pending;
-    written = Appends-trans wrote now final p.replies t.replies p.written t.written;
+    written = Appends-trans wrote old.wrote new.wrote p.replies t.replies p.written t.written;
   }
 
   -- a turn ends the run
@@ -295,21 +295,21 @@ module _ {F : Type 0} (steps : Steps F) where
       let z = Puts-served f g read p.replies waited y out a p.served q in
       subst (AppendsPrefix wrote final) (sym z.1) (AppendsPrefix-after wrote now final p.replies z.0 p.written (r z.0 a z.2))
 
-  pub Stops-after : (f g h : F) (waited waiting read : List ℕ) (left mid then wrote now final : Option (List ℕ)) (e : Stop) → PausesAfter steps f g waited left mid wrote now read
-      → TurnStops steps g h waited waiting mid then now final e → Stops steps f left then wrote final e
-  Stops-after f g h waited waiting read left mid then wrote now final ReadFault p t = (
-    g,
-    waited,
+  pub Stops-after : (f : F) (read : List ℕ) (left wrote : Option (List ℕ)) (old new : RunState F) (e : Stop) → PausesAfter steps f old.folder old.waiting left old.left wrote old.wrote read
+      → TurnStops steps old new e → Stops steps f left new.left wrote new.wrote e
+  Stops-after f read left wrote old new ReadFault p t = (
+    old.folder,
+    old.waiting,
     read,
     omega arith,
     record {
       replies = p.replies;
-      consumed = Consumes-kept left mid then read p.consumed t.2;
+      consumed = Consumes-kept left old.left new.left read p.consumed t.2;
       served = p.served;
       pending = p.pending;
-      written = Appends-kept wrote now final p.replies p.written t.3;
+      written = Appends-kept wrote old.wrote new.wrote p.replies p.written t.3;
     },
   )
-  Stops-after f g h waited waiting read left mid then wrote now final WriteFault p t = Cut-after f g waited read left mid wrote now final p t
-  Stops-after f g h waited waiting read left mid then wrote now final Memory p t = Cut-after f g waited read left mid wrote now final p t
-  Stops-after f g h waited waiting read left mid then wrote now final TooManyTurns p t = absurd t
+  Stops-after f read left wrote old new WriteFault p t = Cut-after f old.folder old.waiting read left old.left wrote old.wrote new.wrote p t
+  Stops-after f read left wrote old new Memory p t = Cut-after f old.folder old.waiting read left old.left wrote old.wrote new.wrote p t
+  Stops-after f read left wrote old new TooManyTurns p t = absurd t

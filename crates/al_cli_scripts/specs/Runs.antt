@@ -1,5 +1,6 @@
 -- The output of a script, for any session that answers one command at a time, and what a run leaves that stops early.
-use Rattle.std.specs.Prelude.{◌≡◌, ◌≢◌, ℕ, ◌<◌, ◌≤◌, ◌⊎◌, List, [], ◌∷◌, ◌++◌, length, All, codes, Option, IfSome, Result, OnOk, IsErrOf}
+use Rattle.std.specs.Prelude.{◌≡◌, ◌≢◌, ℕ, ◌<◌, ◌≤◌, ◌⊎◌, List, [], ◌∷◌, ◌++◌, length, All, codes}
+use Rattle.std.specs.Prelude.{Option, None, Some, IfSome, Result, Ok, Err, OnOk, IsErrOf}
 use Rattle.std.specs.Io.KnownBytes.{Appends, Consumes, Keeps}
 use Rattle.al_base.specs.declared.stops.Stop.{Stop}
 use Rattle.al_base.specs.declared.stops.Stop.TheVariants.{ReadFault, WriteFault, Memory, TooManyTurns}
@@ -111,21 +112,36 @@ pub record CountsFailures {T : Type 0} (result : Result T Stop) (stop : Stop) (b
 
 -- ---- one turn
 
+-- Where a run stands between two reads: the folder, the bytes that wait, what the reader has left and what the writer holds.
+pub record RunState (F : Type 0) : Type 0 where
+  pub folder : F
+  pub waiting : List ℕ
+  pub left : Option (List ℕ)
+  pub wrote : Option (List ℕ)
+
+abbrev pub run_state : {F : Type 0} → F → List ℕ → Option (List ℕ) → Option (List ℕ) → RunState F
+run_state folder waiting left wrote = record { folder = folder; waiting = waiting; left = left; wrote = wrote }
+
 -- the turn read these bytes, and answered each whole command
-pub record GoesOn {F : Type 0} (steps : Steps F) (start folder : F) (waited waiting : List ℕ)
-    (left then wrote now : Option (List ℕ)) : Type 0 where
+pub record GoesOn {F : Type 0} (steps : Steps F) (old new : RunState F) : Type 0 where
   pub read : List ℕ
   pub some : 0 < length read
   pub replies : List ℕ
-  pub consumed : Consumes left then read
-  pub served : Served steps start (waited ++ read) folder replies waiting
-  pub pending : IsPending waiting
-  pub written : Appends wrote now replies
+  pub consumed : Consumes old.left new.left read
+  pub served : Served steps old.folder (old.waiting ++ read) new.folder replies new.waiting
+  pub pending : IsPending new.waiting
+  pub written : Appends old.wrote new.wrote replies
 
-abbrev pub TurnStops : {F : Type 0} → Steps F → F → F → List ℕ → List ℕ → Option (List ℕ) → Option (List ℕ) → Option (List ℕ) →
-    Option (List ℕ) → Stop → Type 0
-TurnStops steps start folder waited waiting left then wrote now ReadFault =
-    (folder ≡ start) × (waiting ≡ waited) × Keeps left then × Keeps wrote now
-TurnStops steps start folder waited waiting left then wrote now WriteFault = IsCutShort steps start waited left wrote now
-TurnStops steps start folder waited waiting left then wrote now Memory = IsCutShort steps start waited left wrote now
-TurnStops steps start folder waited waiting left then wrote now TooManyTurns = ⊥
+abbrev pub TurnStops : {F : Type 0} → Steps F → RunState F → RunState F → Stop → Type 0
+TurnStops steps old new ReadFault =
+    (new.folder ≡ old.folder) × (new.waiting ≡ old.waiting) × Keeps old.left new.left × Keeps old.wrote new.wrote
+TurnStops steps old new WriteFault = IsCutShort steps old.folder old.waiting old.left old.wrote new.wrote
+TurnStops steps old new Memory = IsCutShort steps old.folder old.waiting old.left old.wrote new.wrote
+TurnStops steps old new TooManyTurns = ⊥
+
+-- a turn from one state to another goes on, ends the run behind its last read, or stops it
+abbrev pub Turns : {F : Type 0} → Steps F → RunState F → RunState F → Result (Option ℕ) Stop → Type 0
+Turns steps old new (Ok None) = GoesOn steps old new
+Turns steps old new (Ok (Some answer)) = RunsToEnd steps old.folder old.waiting old.left old.wrote new.wrote answer
+    × ReadsLast steps old.folder old.waiting old.left new.left
+Turns steps old new (Err stop) = TurnStops steps old new stop

@@ -1,13 +1,13 @@
 //! A script run over a session: commands read, replies and reports written.
 
-ghost use Rattle.std.specs.Prelude.{Err, None, false, max, ◌≡◌, ◌≢◌, [], ◌<◌, MatchOption, ◌+◌, ◌≤◌, ◌++◌, ◌⊎◌, ℕ, List, length};
-ghost use Rattle.std.specs.Prelude.{drop, codes, IfOk, IfSome, OnOk, OnErr, IfErr, IsErrOf, decimal, IsOkUnless};
+ghost use Rattle.std.specs.Prelude.{Err, None, false, max, ◌≡◌, ◌≢◌, [], ◌<◌, ◌+◌, ◌≤◌, ◌++◌, ◌⊎◌, ℕ, List, length};
+ghost use Rattle.std.specs.Prelude.{drop, codes, IfOk, OnOk, OnErr, IfErr, IsErrOf, decimal, IsOkUnless};
 ghost use Rattle.std.specs.Io.KnownBytes.{Appends, Keeps};
 ghost use Rattle.al_base.specs.Counted.{raised, HasRisen, AppendsPrefix};
 ghost use Rattle.al_base.specs.Streams.{bytes_left, turns_of, read_failures, largest_ask, bytes_written, write_failures};
 ghost use Rattle.al_cli_scripts.specs.Private.Next.{meaning};
 ghost use Rattle.al_cli_scripts.specs.Script.{IsPending, BeginsWithCommand};
-ghost use Rattle.al_cli_scripts.specs.Runs.{CountsFailures, RunsToEnd, Stops, Ends, GoesOn, TurnStops, ReadsLast, ReadsNoFurther};
+ghost use Rattle.al_cli_scripts.specs.Runs.{CountsFailures, RunsToEnd, Stops, Ends, ReadsNoFurther, Turns, run_state};
 ghost use Rattle.al_cli_scripts.specs.Replies as replies;
 ghost use Rattle.al_cli_scripts.specs.Script as script;
 ghost use Rattle.al_session.specs.declared.lint.Refused.TheVariants as refused;
@@ -94,19 +94,12 @@ fn take_turn<R: Read, W: Write>(
 ) -> Result<Option<u8>, Stop>
     requires room { length piece.old ≡ largest_read }
     requires pending { IsPending waiting.old.items }
-    ensures ok { IfOk result (λ answer. MatchOption answer
-        (GoesOn (replies.session oneline) session.old.folder session.new.folder waiting.old.items waiting.new.items
-        (bytes_left R.remaining reader.old) (bytes_left R.remaining reader.new)
-        (bytes_written W.contents writer.old) (bytes_written W.contents writer.new))
-        (RunsToEnd (replies.session oneline) session.old.folder waiting.old.items (bytes_left R.remaining reader.old)
-        (bytes_written W.contents writer.old) (bytes_written W.contents writer.new))) }
-    ensures err { IfErr result
-        (TurnStops (replies.session oneline) session.old.folder session.new.folder waiting.old.items waiting.new.items
-        (bytes_left R.remaining reader.old) (bytes_left R.remaining reader.new)
-        (bytes_written W.contents writer.old) (bytes_written W.contents writer.new)) }
-    ensures last { IfOk result (λ answer. IfSome answer (λ _.
-        ReadsLast (replies.session oneline) session.old.folder waiting.old.items
-        (bytes_left R.remaining reader.old) (bytes_left R.remaining reader.new))) }
+    ensures turn { Turns (replies.session oneline)
+        (run_state session.old.folder waiting.old.items (bytes_left R.remaining reader.old)
+        (bytes_written W.contents writer.old))
+        (run_state session.new.folder waiting.new.items (bytes_left R.remaining reader.new)
+        (bytes_written W.contents writer.new))
+        result }
     ensures turns { turns_of reader.new ≡ raised (turns_of reader.old) 1 }
     ensures asked { largest_ask reader.new ≡ max (largest_ask reader.old) largest_read }
     ensures read_failures { CountsFailures result Stop.ReadFault (read_failures reader.old) (read_failures reader.new) }

@@ -5,7 +5,7 @@ use Rattle.std.proofs.lemmas.Result.{err_from_is_err_and}
 use Rattle.al_base.specs.Counted.{HasRisen}
 use Rattle.al_base.specs.declared.stops.Stop.TheVariants.{ReadFault, WriteFault}
 use Rattle.al_cli_scripts.specs.Replies.{session}
-use Rattle.al_cli_scripts.specs.Runs.{GoesOn, ReadsLast}
+use Rattle.al_cli_scripts.specs.Runs.{GoesOn}
 use Rattle.std.proofs.Math.Nat.{le-max_left}
 use Rattle.al_cli_scripts.proofs.Turns.{same_error, counted_answer, counted_on, counted_stop, asked_again, turn_unwritten, Paused-none, Paused-more, Runs-after, Last-after, Stops-after}
 use Rattle.al_cli_scripts.proofs.run.run_session.Goals as goal
@@ -30,7 +30,7 @@ pub returns-in_err-answer-clause-stop : goal.returns-in_err-answer-clause-stop
 returns-in_err-answer-clause-stop g c =
     let p = err_from_is_err_and c.from_residual-in_err-answer.result c.from_residual-in_err-answer.ensures.1 in
     let s = c.loop-turn.invariant.paused in
-    rw (p.1, p.2) (Stops-after (session c.args.oneline) [] _ _ _ _ s.0 _ _ _ _ _ _ _ s.2 c.in_err-answer.ensures.err)
+    rw (p.1, p.2) (Stops-after (session c.args.oneline) [] s.0 _ _ _ _ _ s.2 c.in_err-answer.ensures.turn)
 
 pub returns-in_err-answer-clause-read_failures : goal.returns-in_err-answer-clause-read_failures
 returns-in_err-answer-clause-read_failures g c =
@@ -47,19 +47,18 @@ returns-in_err-answer-clause-write_failures g c =
 pub returns-in-Some-clause-end : goal.returns-in-Some-clause-end
 returns-in-Some-clause-end g c =
     let s = c.loop-turn.invariant.paused in
-    let r = rw c.in-Some.is at c.in_ok-answer.ensures.ok in
-    Runs-after (session c.args.oneline) [] _ _ s.0 _ _ _ _ _ _ s.2 r
+    let r = rw c.in-Some.is at c.in_ok-answer.ensures.turn in
+    Runs-after (session c.args.oneline) [] _ _ s.0 _ _ _ _ _ _ s.2 r.0
 
 pub loop-turn-preserved : goal.loop-turn-preserved
 loop-turn-preserved g c =
     let s = c.loop-turn.invariant.paused in
-    let t : GoesOn (session c.args.oneline) c.loop-turn.session.folder c.take_turn.new.session.folder c.loop-turn.waiting.items
-    c.take_turn.new.waiting.items _ _ _ _ = rw c.in-None.is at c.in_ok-answer.ensures.ok in
+    let t : GoesOn (session c.args.oneline) _ _ = rw c.in-None.is at c.in_ok-answer.ensures.turn in
     record {
       room = search (rules, common_steps);
       asked = asked_again _ _ _ c.loop-turn.invariant.asked c.take_turn.ensures.asked;
       asks = λ h. c.take_turn.ensures.asked ∙ c.loop-turn.invariant.asked;
-      paused = (s.0 ++ t.read, omega (arith, length-append s.0 t.read, t.some), Paused-more (session c.args.oneline) [] _ _ _ _ s.0 [] _ _ _ _ _ _ s.2 t);
+      paused = (s.0 ++ t.read, omega (arith, length-append s.0 t.read, t.some), Paused-more (session c.args.oneline) [] s.0 _ _ _ _ s.2 t);
       turns = search (rules, common_steps);
       reads_well = counted_on _ _ ReadFault _ _ c.take_turn.ensures.read_failures (c.in_ok-answer.was {u = tt}) ∙ c.loop-turn.invariant.reads_well;
       writes_well = counted_on _ _ WriteFault _ _ c.take_turn.ensures.write_failures (c.in_ok-answer.was {u = tt}) ∙ c.loop-turn.invariant.writes_well;
@@ -68,8 +67,8 @@ loop-turn-preserved g c =
 pub returns-in-Some-clause-last_read : goal.returns-in-Some-clause-last_read
 returns-in-Some-clause-last_read g c =
     let s = c.loop-turn.invariant.paused in
-    let t : ReadsLast (session c.args.oneline) c.loop-turn.session.folder c.loop-turn.waiting.items _ _ = rw c.in-Some.is at c.in_ok-answer.ensures.last in
-    Last-after (session c.args.oneline) [] _ _ s.0 _ _ _ _ _ s.2 t
+    let r = rw c.in-Some.is at c.in_ok-answer.ensures.turn in
+    Last-after (session c.args.oneline) [] _ _ s.0 _ _ _ _ _ s.2 r.1
 
 pub returns-in_err-answer-clause-asked : goal.returns-in_err-answer-clause-asked
 returns-in_err-answer-clause-asked g c = omega (arith, c.take_turn.ensures.asked ∙ c.loop-turn.invariant.asked)
