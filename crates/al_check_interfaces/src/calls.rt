@@ -4,7 +4,7 @@ ghost use Rattle.std.specs.List.{cons_option, filter_map, flat_map};
 ghost use Rattle.std.specs.Option.{option_map_or};
 ghost use Rattle.al_check_interfaces.specs.Forms as forms;
 ghost use Rattle.al_check_interfaces.specs.Kept.{kept, seen};
-ghost use Rattle.al_check_interfaces.specs.Private.CallViews.{kept_at, site_of, uses_of};
+ghost use Rattle.al_check_interfaces.specs.CallViews.{kept_at, site_of, uses_of};
 ghost use Rattle.al_check_interfaces.specs.Uses as calling;
 
 use crate::forms::{Form, job_form, step_form};

@@ -3,7 +3,7 @@ ghost use Rattle.std.specs.Prelude.{◌≡◌, ◌++◌, map, IfOk, OnOk};
 ghost use Rattle.std.specs.List.{flat_map};
 ghost use Rattle.al_tree.specs.Values.{member_of};
 ghost use Rattle.al_tree.specs.Files.{jobs_of};
-ghost use Rattle.al_check_interfaces.specs.Private.CallViews.{bytes_of, site_of};
+ghost use Rattle.al_check_interfaces.specs.CallViews.{bytes_of, site_of};
 ghost use Rattle.al_check_interfaces.specs.Uses as calling;
 ghost use Rattle.al_yaml_tree.specs.View.{view};
 

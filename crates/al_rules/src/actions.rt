@@ -2,7 +2,7 @@
 
 ghost use Rattle.al_rules.specs.Rules.{action_faults, composite_faults, hooks_faults, no_shell_faults, output_faults, runs_faults};
 ghost use Rattle.al_rules.specs.Rules.{scalar_of_value, using_faults};
-ghost use Rattle.al_rules_settings.specs.Private.Views.{named_of};
+ghost use Rattle.al_rules_settings.specs.Views.{named_of};
 ghost use Rattle.al_tree.specs.Values.{entries_at, member_of, value_at};
 ghost use Rattle.al_yaml_tree.specs.View.{view};
 ghost use Rattle.std.specs.List.{flat_map};

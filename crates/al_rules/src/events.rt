@@ -3,7 +3,7 @@
 ghost use Rattle.al_rules.specs.Events.{activity_faults, cron_faults, event_faults, filter_faults, filters_faults, input_faults};
 ghost use Rattle.al_rules.specs.Events.{inputs_faults, name_faults, named_faults, on_faults, pattern_faults, schedule_faults, type_faults};
 ghost use Rattle.al_rules_formats.specs.Schedules.{schedule_of};
-ghost use Rattle.al_rules_settings.specs.Private.Views.{named_of};
+ghost use Rattle.al_rules_settings.specs.Views.{named_of};
 ghost use Rattle.al_rules_settings.specs.Words.{of_scalar};
 ghost use Rattle.al_tree.specs.Values.{member_of, scalar_node_of};
 ghost use Rattle.al_yaml_tree.specs.View.{view};

@@ -6,7 +6,7 @@ ghost use Rattle.al_rules.specs.Needs.{AddsAllNeeds, all_needs, keys_of as keys_
 ghost use Rattle.al_rules.specs.Needs.{position_in};
 ghost use Rattle.al_rules.specs.Private.Components as components;
 ghost use Rattle.al_rules.specs.Private.Components.{labelled_fault};
-ghost use Rattle.al_rules_settings.specs.Private.Views.{named_of};
+ghost use Rattle.al_rules_settings.specs.Views.{named_of};
 ghost use Rattle.al_rules.specs.Private.Views.{faults_by, need_of};
 ghost use Rattle.al_rules_settings.specs.Words.{of_key, of_scalar};
 ghost use Rattle.al_tree.specs.Values.{member_of, scalar_node_of};

@@ -2,7 +2,7 @@
 
 ghost use Rattle.al_rules.specs.Rules.{container_faults, containers_faults, job_faults, matrix_faults_of, run_faults, section_faults};
 ghost use Rattle.al_rules.specs.Rules.{settings_faults, step_faults, step_ids, steps_faults};
-ghost use Rattle.al_rules_settings.specs.Private.Views.{named_of};
+ghost use Rattle.al_rules_settings.specs.Views.{named_of};
 ghost use Rattle.al_tree.specs.Values.{entries_at, member_of, scalar_node_of, text_below, value_at, value_below};
 ghost use Rattle.al_yaml_tree.specs.View.{view};
 ghost use Rattle.std.specs.List.{flat_map};

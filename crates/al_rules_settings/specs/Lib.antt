@@ -4,4 +4,4 @@ pub mod Ids
 pub mod Commands
 pub mod Matrix
 pub mod Settings
-pub mod Private
+pub mod Views

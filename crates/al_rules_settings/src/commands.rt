@@ -1,7 +1,7 @@
 //! Deprecated commands in scripts (GitHub, "Workflow commands").
 
 ghost use Rattle.al_rules_settings.specs.Commands.{behind, command_fault, command_faults, one_command};
-ghost use Rattle.al_rules_settings.specs.Private.Views.{command_of};
+ghost use Rattle.al_rules_settings.specs.Views.{command_of};
 ghost use Rattle.al_scalar.specs.Scalar.{text_of};
 ghost use Rattle.std.specs.Prelude.{◌≡◌, ◌<◌, ◌≤◌, ◌+◌, ◌^◌, ◌++◌, ◌∷◌, [], length, OnOk};
 

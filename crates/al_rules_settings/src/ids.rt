@@ -1,7 +1,7 @@
 //! The keys of jobs and the ids of steps.
 
 ghost use Rattle.al_rules_settings.specs.Ids.{id_faults, ids_faults, repeated_faults, with_folded};
-ghost use Rattle.al_rules_settings.specs.Private.Views.{folded_id, named_of};
+ghost use Rattle.al_rules_settings.specs.Views.{folded_id, named_of};
 ghost use Rattle.std.specs.List.{flat_map};
 ghost use Rattle.std.specs.Prelude.{◌≡◌, ◌++◌, [], map, IfOk, OnOk};
 

@@ -5,7 +5,7 @@ ghost use Rattle.al_rules_settings.specs.Matrix.{is_combination as combination, 
 ghost use Rattle.al_rules_settings.specs.Matrix.{is_mapping as mapping, is_null_node as null_node, is_row_value as row_value};
 ghost use Rattle.al_rules_settings.specs.Matrix.{is_sequence as sequence, mapping_faults, matrix_faults};
 ghost use Rattle.al_rules_settings.specs.Matrix.{row_faults, row_names, shape_faults};
-ghost use Rattle.al_rules_settings.specs.Private.Views.{folded_id, named_of};
+ghost use Rattle.al_rules_settings.specs.Views.{folded_id, named_of};
 ghost use Rattle.al_rules_settings.specs.Words.{of_key, unless};
 ghost use Rattle.al_tree.specs.Keys.{holds};
 ghost use Rattle.al_tree.specs.Names.{among};

@@ -1,6 +1,6 @@
 //! Texts of a file, and the faults of the rules about them.
 
-ghost use Rattle.al_rules_settings.specs.Private.Views.{named_of, named_scalar};
+ghost use Rattle.al_rules_settings.specs.Views.{named_of, named_scalar};
 ghost use Rattle.al_rules_settings.specs.Words.{about, of_key, unless, unless_among};
 ghost use Rattle.al_yaml_tree.specs.View.{view};
 ghost use Rattle.std.specs.Prelude.{◌≡◌, ◌++◌, map, OnOk};

@@ -4,7 +4,7 @@ use Rattle.std.specs.Option.{option_map}
 use Rattle.al_session_folder.specs.Meaning.{Meaning}
 use Rattle.al_session_folder.specs.Folder.{Folder, with_file}
 use Rattle.al_session_folder.specs.Kept.{AreKept, Files, IsKept, file_at, folder_of}
-use Rattle.al_session_folder.specs.Private.CallGraphs.{HasSameCalls, IsCallGraph}
+use Rattle.al_session_folder.specs.CallGraphs.{HasSameCalls, IsCallGraph}
 use Rattle.al_session_folder.specs.declared.kept.KeptFile.{KeptFile}
 use Rattle.al_session_folder.specs.declared.loops.CallGraph.{CallGraph}
 use Rattle.al_session_folder.proofs.SameCalls.{graph_still, put_same_calls}

@@ -20,7 +20,7 @@ use Rattle.al_session_folder.specs.declared.kept.KeptFile.{KeptFile}
 use Rattle.al_session_folder.specs.Folder.{Folder, bytes_at, faults_in, paths_of}
 use Rattle.al_session_folder.specs.Affected.{is_among}
 use Rattle.al_session_folder.specs.Kept.{Files, folder_of, file_at, faults_of, IsKept, AllKept, AreKept, Callers, IsIndex}
-use Rattle.al_session_folder.specs.Private.Place.{place_of}
+use Rattle.al_session_folder.specs.Place.{place_of}
 use Rattle.al_session_folder.proofs.Places.{gap, length-folder_of}
 use Rattle.al_session_folder.proofs.Views.{all_in, bytes_kept, bytes_self, kept_at}
 use Rattle.al_session_folder.proofs.Affecting.{changed_sorted}

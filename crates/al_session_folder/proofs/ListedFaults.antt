@@ -33,7 +33,7 @@ use Rattle.al_session_folder.specs.declared.lint.Target.{Target}
 use Rattle.al_session_folder.proofs.Looping.{kept_number}
 use Rattle.al_session_folder.specs.Report.{status_of, report_of}
 use Rattle.al_session_folder.specs.Checked.{AllChecked}
-use Rattle.al_session_folder.specs.Private.Printing.{AreNumbered, ArePrintable, joined_faults, listed, numbered_lines}
+use Rattle.al_session_folder.specs.Printing.{AreNumbered, ArePrintable, joined_faults, listed, numbered_lines}
 use Rattle.al_session_folder.proofs.Reports.{any_fault}
 
 -- ---- faults that are joined

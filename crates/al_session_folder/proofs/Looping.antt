@@ -25,7 +25,7 @@ use Rattle.al_session_folder.specs.Meaning.{Meaning, candidates}
 use Rattle.al_session_folder.specs.Folder.{Folder, or_else, paths_of}
 use Rattle.al_session_folder.specs.Kept.{Files, folder_of, entry_of, AllKept, AreKept, IsKept}
 use Rattle.al_session_folder.specs.Loops.{called, calls_graph, leads_back, loop_faults, looping, fault_if, number_among, number_of}
-use Rattle.al_session_folder.specs.Private.CallGraphs.{IsCallGraph, IsCalledBy, IsRow, NoneBackward, NoneForward, TellLoops, part_of}
+use Rattle.al_session_folder.specs.CallGraphs.{IsCallGraph, IsCalledBy, IsRow, NoneBackward, NoneForward, TellLoops, part_of}
 use Rattle.al_session_folder.specs.declared.kept.KeptFile.{KeptFile}
 use Rattle.al_session_folder.specs.declared.lint.Target.{Target}
 use Rattle.al_session_folder.proofs.Ways.{leads_before, leads_behind}

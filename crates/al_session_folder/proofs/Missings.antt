@@ -19,7 +19,7 @@ use Rattle.al_session_folder.specs.Kept.{Files, folder_of, file_at, AllKept}
 use Rattle.al_session_folder.specs.declared.kept.KeptFile.{KeptFile}
 use Rattle.al_session_folder.specs.Folder.{Folder, with_file, paths_of, bytes_at}
 use Rattle.al_session_folder.specs.Missing.{with_path, with_paths, is_absent, absent_candidates, missing_in}
-use Rattle.al_session_folder.specs.Private.Place.{place_of, one_further}
+use Rattle.al_session_folder.specs.Place.{place_of, one_further}
 use Rattle.al_session_folder.specs.declared.lint.Target.{Target}
 use Rattle.al_session_folder.proofs.Views.{bytes_kept}
 use Rattle.al_session_folder.proofs.Places.{by_ordering, sorted_put, gap, put_step}

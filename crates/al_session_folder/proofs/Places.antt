@@ -15,7 +15,7 @@ use Rattle.std.proofs.lemmas.Cmp.{nat_list_cmp_total}
 use Rattle.std.proofs.lemmas.Map.{NonePasses, lookup-none}
 use Rattle.std.proofs.lemmas.Bool.{cond-true, cond-false}
 use Rattle.al_session_folder.specs.Folder.{Folder, bytes_at, with_file, without_file, paths_of}
-use Rattle.al_session_folder.specs.Private.Place.{place_of, one_further}
+use Rattle.al_session_folder.specs.Place.{place_of, one_further}
 use Rattle.al_session_folder.specs.Kept.{Files, folder_of}
 use Rattle.al_session_folder.specs.declared.kept.KeptFile.{KeptFile}
 

@@ -16,8 +16,8 @@ use Rattle.al_session_folder.specs.Meaning.{Meaning, candidates}
 use Rattle.al_session_folder.specs.Folder.{Folder, bytes_at, or_else, paths_of, with_file}
 use Rattle.al_session_folder.specs.Kept.{AreKept, Files, IsKept, file_at, folder_of}
 use Rattle.al_session_folder.specs.Loops.{called, calls_graph, number_among, number_of}
-use Rattle.al_session_folder.specs.Private.CallGraphs.{HasSameCalls, IsCallGraph, IsRow, TellLoops, is_same_target}
-use Rattle.al_session_folder.specs.Private.Place.{place_of}
+use Rattle.al_session_folder.specs.CallGraphs.{HasSameCalls, IsCallGraph, IsRow, TellLoops, is_same_target}
+use Rattle.al_session_folder.specs.Place.{place_of}
 use Rattle.al_session_folder.specs.declared.kept.KeptFile.{KeptFile}
 use Rattle.al_session_folder.specs.declared.lint.Target.{Target}
 use Rattle.al_session_folder.specs.declared.lint.Target.TheVariants.{FirstOf, Only}

@@ -17,7 +17,7 @@ use Rattle.std.proofs.Common.{String}
 use Rattle.std.specs.Prelude.{string_bytes}
 use Rattle.std.specs.Global.{Global}
 use Rattle.indexmap.specs.Calls.{ComputesOnEntry}
-use Rattle.al_session_folder.specs.Private.Place.{place_of, one_further}
+use Rattle.al_session_folder.specs.Place.{place_of, one_further}
 use Rattle.al_session_folder.proofs.Places.{exact_path, by_ordering}
 
 abbrev cmp : List ℕ → List ℕ → Ordering

@@ -16,10 +16,10 @@ use Rattle.std.proofs.lemmas.Slice.Eq.{bytes_eq-Decides}
 use Rattle.al_session_folder.specs.Meaning.{Meaning}
 use Rattle.al_session_folder.specs.Folder.{Folder, bytes_at, with_file, without_file, paths_of, interface_in}
 use Rattle.al_session_folder.specs.Kept.{Files, folder_of, file_at, file_after, after, changed, IsKept, AllKept, IsKeptIf, IsView, AreKept}
-use Rattle.al_session_folder.specs.Private.FolderViews.{IsViewIf, viewed}
+use Rattle.al_session_folder.specs.FolderViews.{IsViewIf, viewed}
 use Rattle.al_session_folder.specs.declared.kept.KeptFile.{KeptFile}
 use Rattle.al_session_folder.proofs.Places.{by_ordering, exact_path, put_step, first_below, rest_sorted, found, absent}
-use Rattle.al_session_folder.specs.Private.Place.{place_of}
+use Rattle.al_session_folder.specs.Place.{place_of}
 
 pub bytes_same : (p q : List ℕ) → bytes_eq p q ≡ true → p ≡ q
 bytes_same p q h = (bytes_eq-Decides p q).0 h

@@ -12,7 +12,7 @@ ghost use Rattle.al_session_folder.specs.Affected.{is_affected, is_among, same_a
 ghost use Rattle.al_session_folder.specs.Folder.{answer, bytes_at, interface_in, paths_of};
 ghost use Rattle.al_session_folder.specs.Kept.{IsIndex, IsView};
 ghost use Rattle.al_session_folder.specs.Missing.{with_path};
-ghost use Rattle.al_session_folder.specs.Private.FolderViews.{affected_by, change_of, changed_by};
+ghost use Rattle.al_session_folder.specs.FolderViews.{affected_by, change_of, changed_by};
 
 use crate::kept::{Callers, Files, KeptFile};
 use crate::lint::{Lint, Target};
@@ -34,7 +34,7 @@ pub struct PlannedChange<'a, L: Lint> {
 
 impl<'a, L: Lint> Model for PlannedChange<'a, L> {
     ghost use Rattle.std.specs.Option.{option_copied};
-    ghost use Rattle.al_session_folder.specs.Private.FolderViews.{FolderChange, IsChange, change_of};
+    ghost use Rattle.al_session_folder.specs.FolderViews.{FolderChange, IsChange, change_of};
 
     ghost Value = { FolderChange };
 

@@ -6,7 +6,7 @@ ghost use Rattle.al_base.specs.FaultLists.{fault_list};
 ghost use Rattle.al_session_folder.specs.Kept.{folder_of, referred};
 ghost use Rattle.al_session_folder.specs.Loops as loops;
 ghost use Rattle.al_session_folder.specs.Checked.{AllChecked};
-ghost use Rattle.al_session_folder.specs.Private.Printing.{AreListed, AreLoops, joined_faults};
+ghost use Rattle.al_session_folder.specs.Printing.{AreListed, AreLoops, joined_faults};
 
 use crate::{Files, LinkedFiles, Lint, file_number};
 use al_base::Fault;

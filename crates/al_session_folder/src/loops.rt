@@ -8,8 +8,8 @@ ghost use Rattle.std.specs.Option.{option_eq};
 ghost use Rattle.al_graph.specs.Graphs.{edges_of};
 ghost use Rattle.al_session_folder.specs.Kept.{AreKept, folder_of};
 ghost use Rattle.al_session_folder.specs.Loops as loops;
-ghost use Rattle.al_session_folder.specs.Private.CallGraphs.{AreLinked, IsCallGraph, IsCalledBy, IsRow, NoneBackward, NoneForward};
-ghost use Rattle.al_session_folder.specs.Private.CallGraphs.{TellLoops, part_of};
+ghost use Rattle.al_session_folder.specs.CallGraphs.{AreLinked, IsCallGraph, IsCalledBy, IsRow, NoneBackward, NoneForward};
+ghost use Rattle.al_session_folder.specs.CallGraphs.{TellLoops, part_of};
 ghost use Rattle.al_session_folder.specs.Sites.{fault_of};
 ghost use Rattle.al_session_folder.specs.declared.lint.Target.{Target};
 
@@ -264,7 +264,7 @@ pub struct LinkedFiles<'a, L: Lint> {
 impl<'a, L: Lint> Model for LinkedFiles<'a, L> {
     ghost use Rattle.al_session_folder.specs.Folder.{Folder};
     ghost use Rattle.al_session_folder.specs.Kept.{folder_of};
-    ghost use Rattle.al_session_folder.specs.Private.CallGraphs.{AreLinked};
+    ghost use Rattle.al_session_folder.specs.CallGraphs.{AreLinked};
 
     ghost Value = { Folder };
 

@@ -8,7 +8,7 @@ ghost use Rattle.al_session_folder.specs.Kept.{AreKept, folder_of};
 ghost use Rattle.al_base.specs.Paths.{path_fault_of};
 ghost use Rattle.al_session_folder.specs.Meaning.{candidates};
 ghost use Rattle.al_session_folder.specs.Missing.{with_path, with_paths, is_absent, absent_candidates, missing_in};
-ghost use Rattle.al_session_folder.specs.Private.Place.{place_of};
+ghost use Rattle.al_session_folder.specs.Place.{place_of};
 
 use crate::kept::Files;
 use crate::lint::{Lint, Target};

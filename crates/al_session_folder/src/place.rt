@@ -5,7 +5,7 @@ ghost use Rattle.std.specs.List.Sorted.{IsStrictlySortedBy};
 ghost use Rattle.std.specs.Ordering.{nat_cmp};
 ghost use Rattle.std.specs.Cmp.Lexicographic.{slice_cmp};
 ghost use Rattle.al_session_folder.specs.Folder.{paths_of};
-ghost use Rattle.al_session_folder.specs.Private.Place.{place_of};
+ghost use Rattle.al_session_folder.specs.Place.{place_of};
 ghost use Rattle.al_session_folder.specs.Kept.{folder_of};
 
 use crate::kept::{Files, KeptFile};

@@ -6,7 +6,7 @@ ghost use Rattle.std.specs.Io.KnownBytes.{Appends};
 ghost use Rattle.al_base.specs.Counted.{HasRisen, AppendsPrefix};
 ghost use Rattle.al_base.specs.Streams.{bytes_written, write_failures};
 ghost use Rattle.al_session_folder.specs.Kept.{folder_of, referred};
-ghost use Rattle.al_session_folder.specs.Private.Printing.{AreListed, ArePrintable, IsPrintable, lines_of, listed, numbered_lines};
+ghost use Rattle.al_session_folder.specs.Printing.{AreListed, ArePrintable, IsPrintable, lines_of, listed, numbered_lines};
 
 use crate::{Files, KeptFile, Lint, file_number};
 use al_base::{Fault, Location, Output, Stop};

@@ -2,7 +2,7 @@
 
 ghost use Rattle.std.specs.Prelude.{◌≡◌};
 ghost use Rattle.std.specs.Bool.{Decides};
-ghost use Rattle.al_session_folder.specs.Private.CallGraphs.{is_same_target};
+ghost use Rattle.al_session_folder.specs.CallGraphs.{is_same_target};
 
 use crate::lint::Target;
 

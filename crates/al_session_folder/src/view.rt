@@ -26,7 +26,7 @@ pub struct FolderView<'a, L: Lint> {
 impl<'a, L: Lint> Model for FolderView<'a, L> {
     ghost use Rattle.std.specs.Option.{option_copied};
     ghost use Rattle.al_session_folder.specs.Folder.{Folder};
-    ghost use Rattle.al_session_folder.specs.Private.FolderViews.{IsViewIf, viewed};
+    ghost use Rattle.al_session_folder.specs.FolderViews.{IsViewIf, viewed};
 
     ghost Value = { Folder };
 

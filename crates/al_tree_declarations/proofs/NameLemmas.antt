@@ -14,7 +14,7 @@ use Rattle.std.proofs.lemmas.Slice.Eq.{bytes_eq-Decides}
 use Rattle.al_tree.proofs.KeyLemmas.{or_comm}
 use Rattle.al_base.specs.Names.{folded, same_name}
 use Rattle.al_tree_declarations.specs.Declarations.{named_among}
-use Rattle.al_tree_declarations.specs.Private.NameSets.{and_name, holds}
+use Rattle.al_tree_declarations.specs.NameSets.{and_name, holds}
 use Rattle.al_tree_declarations.specs.declared.name_sets.NameSet.{NameSet}
 
 or_assoc : (a b c : Bool) → ((a || b) || c) ≡ (a || (b || c))

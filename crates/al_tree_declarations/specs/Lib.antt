@@ -1,3 +1,3 @@
 pub mod Declarations
 pub mod Inputs
-pub mod Private
+pub mod NameSets

@@ -2,7 +2,7 @@
 
 ghost use Rattle.std.specs.Prelude.{◌≡◌, [], not, IfOk, OnErr, OnOk};
 ghost use Rattle.al_tree_declarations.specs.Declarations.{named_among};
-ghost use Rattle.al_tree_declarations.specs.Private.NameSets.{and_name, holds};
+ghost use Rattle.al_tree_declarations.specs.NameSets.{and_name, holds};
 
 use al_base::in_lower_case;
 use std::alloc::{AllocError, Global};

@@ -11,7 +11,7 @@ use Rattle.al_expr_types.specs.Tables.{is_known, objects_of}
 use Rattle.al_expr_types.specs.Types.{type_in}
 use Rattle.al_expr_types.specs.declared.types.Types.{Types}
 use Rattle.al_check_interfaces.specs.declared.interfaces.Interface.{Interface}
-use Rattle.al_check_interfaces.specs.Private.CallViews.{site_of}
+use Rattle.al_check_interfaces.specs.CallViews.{site_of}
 use Rattle.al_check_interfaces.specs.Uses.{Call, Site, call_at, call_by}
 use Rattle.al_check_calls.specs.Answers.{Answered, Typing, answered_by, first_answer}
 use Rattle.al_check_calls.specs.CallFaults.{Given}

@@ -2,7 +2,7 @@
 use Rattle.std.specs.Prelude.{List}
 use Rattle.al_base.specs.NamePlaces.{name_position}
 use Rattle.al_base.specs.declared.faults.Fault.{Fault}
-use Rattle.al_rules_settings.specs.Private.Views.{named_of}
+use Rattle.al_rules_settings.specs.Views.{named_of}
 use Rattle.al_rules.specs.Needs.{Need}
 use Rattle.al_rules.specs.Private.Components.{labelled_faults}
 use Rattle.al_rules.specs.declared.needs.JobGraph.{JobGraph}

@@ -2,7 +2,7 @@
 use Rattle.std.specs.Prelude.{Option, Some, None}
 use Rattle.al_session_folder.specs.Meaning.{Meaning}
 use Rattle.al_session_folder.specs.Folder.{Folder}
-use Rattle.al_session_folder.specs.Private.CallGraphs.{IsCallGraph}
+use Rattle.al_session_folder.specs.CallGraphs.{IsCallGraph}
 use Rattle.al_session_folder.specs.declared.loops.CallGraph.{CallGraph}
 
 -- what is kept of a folder's calls, if anything is, is their graph

@@ -1,6 +1,6 @@
 use Rattle.std.proofs.Common.{◌≡◌, ◌++◌, drop, map}
 use Rattle.std.specs.Option.{option_copied}
-use Rattle.al_check_interfaces.specs.Private.CallViews.{site_of}
+use Rattle.al_check_interfaces.specs.CallViews.{site_of}
 use Rattle.al_check_calls.specs.Private.AnswerViews as views
 use Rattle.al_check_calls.specs.Private.AnswerViews.{answered_of}
 use Rattle.al_check_calls.proofs.answers.answered_at.Given as goal

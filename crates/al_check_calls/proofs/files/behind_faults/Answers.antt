@@ -4,7 +4,7 @@ use Rattle.al_base.specs.Growth.{SameSet}
 use Rattle.al_check_calls.specs.Answers.{answered}
 use Rattle.al_check_calls.specs.Private.AnswerViews.{answered_of}
 use Rattle.al_check_calls.specs.Private.Comparing.{AreToldByUses}
-use Rattle.al_check_interfaces.specs.Private.CallViews.{site_of}
+use Rattle.al_check_interfaces.specs.CallViews.{site_of}
 use Rattle.al_check_interfaces.specs.Uses.{calls_in}
 use Rattle.al_yaml_tree.specs.View.{view}
 use Rattle.al_check_calls.specs.FileCalls.{faults_by}

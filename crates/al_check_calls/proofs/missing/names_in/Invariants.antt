@@ -1,6 +1,6 @@
 use Rattle.std.proofs.Common.{◌≡◌, take, map}
 use Rattle.al_tree_declarations.specs.Declarations.{named_among, names_of}
-use Rattle.al_tree_declarations.specs.Private.NameSets.{holds}
+use Rattle.al_tree_declarations.specs.NameSets.{holds}
 use Rattle.al_tree.specs.Values.{member_of}
 use Rattle.al_check_calls.proofs.missing.names_in.Given as goal
 

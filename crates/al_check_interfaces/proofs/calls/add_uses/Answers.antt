@@ -1,6 +1,6 @@
 use Rattle.std.proofs.Common.{◌≡◌, ◌∷◌, ◌++◌, [], ap, sym, ◌∙◌}
 use Rattle.al_check_interfaces.specs.Forms.{form_by}
-use Rattle.al_check_interfaces.specs.Private.CallViews.{uses_of}
+use Rattle.al_check_interfaces.specs.CallViews.{uses_of}
 use Rattle.al_check_interfaces.specs.Uses.{wrong_by}
 use Rattle.al_check_interfaces.specs.declared.forms.Form.TheVariants.{Local, Wrong}
 use Rattle.al_check_interfaces.proofs.CallLists.{local_added}

@@ -1,6 +1,6 @@
 use Rattle.std.proofs.Common.{map}
 use Rattle.al_check_interfaces.specs.Kept.{kept, seen}
-use Rattle.al_check_interfaces.specs.Private.CallViews.{site_of}
+use Rattle.al_check_interfaces.specs.CallViews.{site_of}
 use Rattle.al_check_interfaces.specs.Uses.{call_at, wrong_uses}
 use Rattle.al_check_interfaces.proofs.CallLists.{all_more, at_number, kept_more}
 use Rattle.al_check_interfaces.proofs.calls.calls_by.Goals as goal

@@ -1,7 +1,7 @@
 use Rattle.std.proofs.Common.{◌≡◌, ◌++◌, map, take}
 use Rattle.std.specs.List.{filter_map, flat_map}
 use Rattle.al_check_interfaces.specs.Kept.{kept, seen}
-use Rattle.al_check_interfaces.specs.Private.CallViews.{site_of}
+use Rattle.al_check_interfaces.specs.CallViews.{site_of}
 use Rattle.al_check_interfaces.specs.Uses.{call_at, wrong_uses}
 use Rattle.al_check_interfaces.proofs.calls.calls_by.Given as goal
 

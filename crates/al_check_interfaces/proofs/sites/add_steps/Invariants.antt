@@ -1,7 +1,7 @@
 use Rattle.std.proofs.Common.{◌≡◌, ◌++◌, drop, map}
 use Rattle.std.specs.List.{enumerate_from}
 use Rattle.al_yaml_tree.specs.View.{view}
-use Rattle.al_check_interfaces.specs.Private.CallViews.{bytes_of, site_of}
+use Rattle.al_check_interfaces.specs.CallViews.{bytes_of, site_of}
 use Rattle.al_check_interfaces.specs.Uses.{step_site, step_sites}
 use Rattle.al_check_interfaces.proofs.sites.add_steps.Given as goal
 

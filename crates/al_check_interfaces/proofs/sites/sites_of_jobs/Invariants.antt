@@ -1,7 +1,7 @@
 use Rattle.std.proofs.Common.{◌≡◌, ◌++◌, drop, map}
 use Rattle.std.specs.List.{flat_map}
 use Rattle.al_tree.specs.Values.{member_of}
-use Rattle.al_check_interfaces.specs.Private.CallViews.{site_of}
+use Rattle.al_check_interfaces.specs.CallViews.{site_of}
 use Rattle.al_check_interfaces.specs.Uses.{job_sites}
 use Rattle.al_check_interfaces.proofs.sites.sites_of_jobs.Given as goal
 

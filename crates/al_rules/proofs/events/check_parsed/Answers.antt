@@ -1,7 +1,7 @@
 use Rattle.std.proofs.Common.{◌≡◌, ◌++◌, List, Option}
 use Rattle.std.specs.Prelude.{OnOk}
 use Rattle.al_rules.specs.Events.{schedule_faults}
-use Rattle.al_rules_settings.specs.Private.Views.{named_of}
+use Rattle.al_rules_settings.specs.Views.{named_of}
 use Rattle.al_rules_formats.specs.declared.schedules.Item.{Item}
 use Rattle.al_rules_formats.proofs.ScheduleLemmas.{some_kept}
 use Rattle.al_rules.proofs.events.check_parsed.Goals as goal

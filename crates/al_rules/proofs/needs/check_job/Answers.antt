@@ -1,6 +1,6 @@
 use Rattle.std.proofs.Common.{◌≡◌, ◌++◌, ap, map, ◌∙◌}
 use Rattle.al_tree.specs.Values.{member_of, scalar_node_of}
-use Rattle.al_rules_settings.specs.Private.Views.{named_of}
+use Rattle.al_rules_settings.specs.Views.{named_of}
 use Rattle.al_rules.specs.Private.Views.{faults_by, need_of}
 use Rattle.al_rules.proofs.NeedLemmas.{needs_are}
 use Rattle.al_rules.proofs.needs.check_job.Goals as goal

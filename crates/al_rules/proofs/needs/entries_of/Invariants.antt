@@ -1,5 +1,5 @@
 use Rattle.std.proofs.Common.{◌≡◌, take, map}
-use Rattle.al_rules_settings.specs.Private.Views.{named_of}
+use Rattle.al_rules_settings.specs.Views.{named_of}
 use Rattle.al_rules.specs.Private.Views.{need_of}
 use Rattle.al_tree.specs.Values.{scalar_node_of}
 use Rattle.al_rules_settings.specs.Words.{of_scalar}

@@ -3,7 +3,7 @@ use Rattle.std.specs.Prelude.{All}
 use Rattle.memchr.specs.Find.{OccursAt}
 use Rattle.al_scalar.specs.Scalar.{text_of}
 use Rattle.al_rules_settings.specs.Commands.{command_fault, one_command}
-use Rattle.al_rules_settings.specs.Private.Views.{command_of}
+use Rattle.al_rules_settings.specs.Views.{command_of}
 use Rattle.al_rules_settings.proofs.commands.check_command.Given as goal
 
 abbrev pub invariant-loop-at : goal.invariant-loop-at

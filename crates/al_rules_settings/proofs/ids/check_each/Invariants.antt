@@ -1,7 +1,7 @@
 use Rattle.std.proofs.Common.{◌≡◌, ◌++◌, drop, map}
 use Rattle.std.specs.List.{flat_map}
 use Rattle.al_rules_settings.specs.Ids.{id_faults}
-use Rattle.al_rules_settings.specs.Private.Views.{named_of}
+use Rattle.al_rules_settings.specs.Views.{named_of}
 use Rattle.al_rules_settings.proofs.ids.check_each.Given as goal
 
 -- what was added, and the faults of what is left, are the faults of all

@@ -2,7 +2,7 @@ use Rattle.std.proofs.Common.{◌≡◌, ◌++◌, [], drop, take, map}
 use Rattle.al_tree.specs.Keys.{holds}
 use Rattle.al_tree.specs.Names.{among}
 use Rattle.al_rules_settings.specs.Ids.{repeated_faults}
-use Rattle.al_rules_settings.specs.Private.Views.{folded_id}
+use Rattle.al_rules_settings.specs.Views.{folded_id}
 use Rattle.al_rules_settings.proofs.ids.check_repeated.Given as goal
 
 abbrev pub invariant-loop-id : goal.invariant-loop-id

@@ -1,6 +1,6 @@
 use Rattle.std.proofs.Common.{◌≡◌, take, map}
 use Rattle.al_rules_settings.specs.Ids.{with_folded}
-use Rattle.al_rules_settings.specs.Private.Views.{folded_id, named_of}
+use Rattle.al_rules_settings.specs.Views.{folded_id, named_of}
 use Rattle.al_rules_settings.proofs.ids.folded.Given as goal
 
 abbrev pub invariant-loop-id : goal.invariant-loop-id

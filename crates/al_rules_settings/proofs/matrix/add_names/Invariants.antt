@@ -1,6 +1,6 @@
 use Rattle.std.proofs.Common.{◌≡◌, ◌++◌, take, map}
 use Rattle.al_tree.specs.Values.{member_of}
-use Rattle.al_rules_settings.specs.Private.Views.{named_of}
+use Rattle.al_rules_settings.specs.Views.{named_of}
 use Rattle.al_rules_settings.specs.Words.{of_key}
 use Rattle.al_rules_settings.proofs.matrix.add_names.Given as goal
 

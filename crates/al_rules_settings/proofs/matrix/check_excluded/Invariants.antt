@@ -2,7 +2,7 @@ use Rattle.std.proofs.Common.{◌≡◌, ◌++◌, drop, map}
 use Rattle.std.specs.List.{flat_map}
 use Rattle.al_tree.specs.Keys.{holds}
 use Rattle.al_base.specs.declared.codes.RuleCode.TheVariants.{UnknownMatrixRow}
-use Rattle.al_rules_settings.specs.Private.Views.{folded_id}
+use Rattle.al_rules_settings.specs.Views.{folded_id}
 use Rattle.al_rules_settings.specs.Words.{unless}
 use Rattle.al_rules_settings.proofs.matrix.check_excluded.Given as goal
 

@@ -1,5 +1,5 @@
 use Rattle.std.proofs.Common.{arith, subst, ℕ}
-use Rattle.al_session_folder.specs.Private.Printing.{AreNumbered, IsLoops}
+use Rattle.al_session_folder.specs.Printing.{AreNumbered, IsLoops}
 use Rattle.al_session_folder.proofs.ListedFaults.{numbered_more, numbered_none}
 use Rattle.al_session_folder.proofs.joining.find_loops.Goals as goal
 

@@ -1,4 +1,4 @@
-use Rattle.al_session_folder.specs.Private.Printing.{AreNumbered, IsLoops}
+use Rattle.al_session_folder.specs.Printing.{AreNumbered, IsLoops}
 use Rattle.al_session_folder.proofs.joining.find_loops.Given as goal
 
 abbrev pub invariant-loop-index : goal.invariant-loop-index

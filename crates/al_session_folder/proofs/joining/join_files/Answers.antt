@@ -4,7 +4,7 @@ use Rattle.std.specs.Prelude.{string_bytes}
 use Rattle.al_session_folder.specs.declared.kept.KeptFile.{KeptFile}
 use Rattle.al_session_folder.proofs.Looping.{entry_number, one_entry}
 use Rattle.al_session_folder.proofs.Places.{length-folder_of}
-use Rattle.al_session_folder.specs.Private.Printing.{AreNumbered, IsListed}
+use Rattle.al_session_folder.specs.Printing.{AreNumbered, IsListed}
 use Rattle.al_session_folder.proofs.ListedFaults.{listed_is, numbered_more, numbered_none}
 use Rattle.al_session_folder.proofs.joining.join_files.Goals as goal
 

@@ -1,4 +1,4 @@
-use Rattle.al_session_folder.specs.Private.Printing.{AreNumbered, IsListed}
+use Rattle.al_session_folder.specs.Printing.{AreNumbered, IsListed}
 use Rattle.al_session_folder.proofs.joining.join_files.Given as goal
 
 abbrev pub invariant-loop-index : goal.invariant-loop-index

@@ -1,5 +1,5 @@
 use Rattle.std.proofs.Common.{rules, subst, arith, ℕ}
-use Rattle.al_session_folder.specs.Private.CallGraphs.{NoneBackward}
+use Rattle.al_session_folder.specs.CallGraphs.{NoneBackward}
 use Rattle.al_session_folder.proofs.Looping.{next_backward, none_left}
 use Rattle.al_session_folder.proofs.loops.end_backward.Goals as goal
 

@@ -1,5 +1,5 @@
 use Rattle.std.proofs.Common.{◌≤◌, length}
-use Rattle.al_session_folder.specs.Private.CallGraphs.{NoneBackward}
+use Rattle.al_session_folder.specs.CallGraphs.{NoneBackward}
 use Rattle.al_session_folder.proofs.loops.end_backward.Given as goal
 
 abbrev pub invariant-loop-end : goal.invariant-loop-end

@@ -1,5 +1,5 @@
 use Rattle.std.proofs.Common.{rules, refl, subst, arith, ℕ}
-use Rattle.al_session_folder.specs.Private.CallGraphs.{NoneForward}
+use Rattle.al_session_folder.specs.CallGraphs.{NoneForward}
 use Rattle.al_session_folder.proofs.Looping.{next_forward, none_yet}
 use Rattle.al_session_folder.proofs.loops.first_forward.Goals as goal
 

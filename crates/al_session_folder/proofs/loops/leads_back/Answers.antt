@@ -1,6 +1,6 @@
 use Rattle.std.proofs.Common.{◌≡◌, ◌∙◌, None, Some, ap, get_or, rules, subst, sym}
 use Rattle.al_session_folder.specs.Loops.{leads_back}
-use Rattle.al_session_folder.specs.Private.CallGraphs.{IsCalledBy}
+use Rattle.al_session_folder.specs.CallGraphs.{IsCalledBy}
 use Rattle.al_session_folder.proofs.Looping.{labels_tell}
 use Rattle.al_graph.proofs.Labels.{labels_same}
 use Rattle.al_session_folder.proofs.loops.leads_back.Goals as goal

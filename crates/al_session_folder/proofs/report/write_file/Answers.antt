@@ -2,7 +2,7 @@ use Rattle.std.proofs.Common.{◌∙◌, subst, sym, Bool, cond, OnErr, OnOk}
 use Rattle.std.specs.Io.KnownBytes.{Appends}
 use Rattle.al_base.specs.Counted.{AppendsPrefix}
 use Rattle.al_session_folder.specs.Kept.{referred}
-use Rattle.al_session_folder.specs.Private.Printing.{lines_of}
+use Rattle.al_session_folder.specs.Printing.{lines_of}
 use Rattle.al_session_folder.proofs.report.write_file.Goals as goal
 
 pub returns-then-not-is_empty-clause-all : goal.returns-then-not-is_empty-clause-all

@@ -10,7 +10,7 @@ use Rattle.al_session_folder.specs.Kept.{folder_of}
 use Rattle.al_session_folder.specs.declared.kept.KeptFile.{KeptFile}
 use Rattle.al_session_folder.proofs.Looping.{numbered}
 use Rattle.al_session_folder.proofs.Missings.{read_is}
-use Rattle.al_session_folder.specs.Private.Printing.{numbered_lines}
+use Rattle.al_session_folder.specs.Printing.{numbered_lines}
 use Rattle.al_session_folder.proofs.report.write_files.Goals as goal
 
 pub write_file-requires : goal.write_file-requires

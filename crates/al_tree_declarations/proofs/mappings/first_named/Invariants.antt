@@ -1,6 +1,6 @@
 use Rattle.std.proofs.Common.{◌≡◌, ◌++◌, [], take, drop, map}
 use Rattle.al_tree_declarations.specs.Declarations.{first_named, named_among, names_of}
-use Rattle.al_tree_declarations.specs.Private.NameSets.{holds}
+use Rattle.al_tree_declarations.specs.NameSets.{holds}
 use Rattle.al_tree.specs.Values.{member_of}
 use Rattle.al_tree_declarations.proofs.mappings.first_named.Given as goal
 

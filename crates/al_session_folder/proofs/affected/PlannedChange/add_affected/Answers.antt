@@ -1,7 +1,7 @@
 use Rattle.std.proofs.Common.{arith, not, ◌&&◌}
 use Rattle.std.specs.Prelude.{bytes_eq, string_bytes}
 use Rattle.al_session_folder.specs.Affected.{is_affected, is_among}
-use Rattle.al_session_folder.specs.Private.FolderViews.{changed_by}
+use Rattle.al_session_folder.specs.FolderViews.{changed_by}
 use Rattle.al_session_folder.proofs.Affecting.{members_more, sorted_more}
 use Rattle.al_session_folder.proofs.Indexing.{added_next}
 use Rattle.al_session_folder.proofs.affected.PlannedChange.add_affected.Goals as goal

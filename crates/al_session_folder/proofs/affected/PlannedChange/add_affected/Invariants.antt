@@ -5,7 +5,7 @@ use Rattle.std.specs.List.Sorted.{IsStrictlySortedBy}
 use Rattle.std.specs.Ordering.{nat_cmp}
 use Rattle.std.specs.Cmp.Lexicographic.{slice_cmp}
 use Rattle.al_session_folder.specs.Affected.{is_affected, is_among}
-use Rattle.al_session_folder.specs.Private.FolderViews.{changed_by}
+use Rattle.al_session_folder.specs.FolderViews.{changed_by}
 use Rattle.al_session_folder.proofs.affected.PlannedChange.add_affected.Given as goal
 
 abbrev pub invariant-loop-name : goal.invariant-loop-name

@@ -3,7 +3,7 @@ use Rattle.std.specs.List.{list_all}
 use Rattle.std.proofs.lemmas.List.{take_all}
 use Rattle.al_session_folder.specs.Affected.{same_answer}
 use Rattle.al_session_folder.specs.Folder.{answer}
-use Rattle.al_session_folder.specs.Private.FolderViews.{changed_by}
+use Rattle.al_session_folder.specs.FolderViews.{changed_by}
 use Rattle.al_session_folder.specs.declared.lint.Target.{Target}
 use Rattle.al_session_folder.proofs.Affecting.{all_next, all_stop}
 use Rattle.al_session_folder.proofs.affected.PlannedChange.has_same_answers.Goals as goal

@@ -2,7 +2,7 @@ use Rattle.std.proofs.Common.{◌≡◌, true, take}
 use Rattle.std.specs.List.{list_all}
 use Rattle.al_session_folder.specs.Affected.{same_answer}
 use Rattle.al_session_folder.specs.Folder.{answer}
-use Rattle.al_session_folder.specs.Private.FolderViews.{changed_by}
+use Rattle.al_session_folder.specs.FolderViews.{changed_by}
 use Rattle.al_session_folder.proofs.affected.PlannedChange.has_same_answers.Given as goal
 
 abbrev pub invariant-loop-target : goal.invariant-loop-target

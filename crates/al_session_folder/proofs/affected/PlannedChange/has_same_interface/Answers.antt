@@ -2,7 +2,7 @@ use Rattle.std.proofs.Common.{ap, ◌∙◌}
 use Rattle.std.specs.Option.{option_copied}
 use Rattle.al_session_folder.specs.Affected.{same_answer}
 use Rattle.al_session_folder.specs.Folder.{Folder, interface_in}
-use Rattle.al_session_folder.specs.Private.FolderViews.{FolderChange}
+use Rattle.al_session_folder.specs.FolderViews.{FolderChange}
 use Rattle.al_session_folder.proofs.affected.PlannedChange.has_same_interface.Goals as goal
 
 pub returns : goal.returns

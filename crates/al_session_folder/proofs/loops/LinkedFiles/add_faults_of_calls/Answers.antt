@@ -6,7 +6,7 @@ use Rattle.std.specs.Global.{Global}
 use Rattle.al_session_folder.specs.declared.kept.KeptFile.{KeptFile}
 use Rattle.al_session_folder.specs.Kept.{folder_of}
 use Rattle.al_session_folder.specs.Loops.{calls_graph, fault_if, leads_back}
-use Rattle.al_session_folder.specs.Private.CallGraphs.{IsCalledBy, TellLoops}
+use Rattle.al_session_folder.specs.CallGraphs.{IsCalledBy, TellLoops}
 use Rattle.al_session_folder.specs.Sites.{fault_of}
 use Rattle.al_session_folder.proofs.Looping.{call_edge, entry_number, entry_there, if_called, kept_number, looping_end, looping_next, one_entry, row_of}
 use Rattle.al_session_folder.proofs.loops.LinkedFiles.add_faults_of_calls.Goals as goal

@@ -2,7 +2,7 @@ use Rattle.std.proofs.Common.{ap, refl, ◌∙◌}
 use Rattle.std.specs.BTreeSet.{contains_by}
 use Rattle.std.specs.Cmp.Lexicographic.{slice_cmp}
 use Rattle.std.specs.Ordering.{nat_cmp}
-use Rattle.al_tree_declarations.specs.Private.NameSets.{holds}
+use Rattle.al_tree_declarations.specs.NameSets.{holds}
 use Rattle.al_tree_declarations.proofs.NameLemmas.{holds_none}
 use Rattle.al_tree_declarations.proofs.name_sets.NameSet.contains.Goals as goal
 

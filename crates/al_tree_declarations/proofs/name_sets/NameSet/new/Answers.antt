@@ -3,7 +3,7 @@ use Rattle.std.specs.Cmp.Lexicographic.{slice_cmp}
 use Rattle.std.specs.List.{list_any}
 use Rattle.std.specs.Ordering.{nat_cmp}
 use Rattle.al_base.specs.Names.{folded}
-use Rattle.al_tree_declarations.specs.Private.NameSets.{holds}
+use Rattle.al_tree_declarations.specs.NameSets.{holds}
 use Rattle.al_tree_declarations.proofs.name_sets.NameSet.new.Goals as goal
 
 pub returns : goal.returns

@@ -1,5 +1,0 @@
--- Words that only contracts of private functions need: no definition of what the product means stands on them.
-pub mod Printing
-pub mod Place
-pub mod CallGraphs
-pub mod FolderViews
