@@ -1,7 +1,13 @@
 //! The files that a run without a script lints: those that are asked for, and those that they call.
 
+ghost use Rattle.std.specs.Prelude.{◌≡◌, [], IfOk, None, map};
+ghost use Rattle.al_session.specs.Folder.{bytes_at};
+ghost use Rattle.al_cli.specs.Linted.{folder_with};
+ghost use Rattle.al_cli.specs.Taken.{AreGathered, IsGathered, owned_entry};
+
 use crate::Words;
 use crate::disk::{Disk, DiskError, Entry, SystemFolder, WORKFLOWS};
+use crate::taken::TakenFiles;
 use al_base::{Path, path_fault, shown};
 use al_check::Actions;
 use al_session::{Refused, SessionBuilder, Target};
@@ -52,16 +58,21 @@ impl<T: Drop> From<AllocFailed<T>> for Unread {
 /// The files that a run without a script lints, each with its path and its bytes: those that the words name, or else all
 /// workflows of the folder in order of path; and then, one after another, each file that those before it call and that is
 /// there. Of what the folder lists only regular files are taken, behind their links; anything else of a name can't be read. A
-/// listed or called file to which links lead out of the folder is passed over, and can't be read where the words name it.
+/// listed or called file to which links lead out of the folder is passed over, and can't be read where the words name it. Each path
+/// stands in the list once, and [`lint_all`](crate::lint_all) refuses none of the files; the folder that they make there is the one that
+/// [`load`] answers.
 ///
 /// # Errors
 ///
-/// [`Unread`], for the first file that can't be read or is refused, or where memory ran out.
+/// [`Unread`], for the first file that can't be read or is refused, or where memory ran out. A path is refused before it is read, and of a
+/// file at most 1,048,577 bytes are read.
 pub fn gather<R: Files + AllocGlobal + Clone + Drop>(
     rt: &R,
     alloc: Global,
     words: &Words,
-) -> Result<Vec<(Path, Vec<u8>)>, Unread> {
+) -> Result<Vec<(Path, Vec<u8>)>, Unread>
+    ensures { IfOk result (λ files. AreGathered (map owned_entry files.items)) }
+{
     let mut disk = SystemFolder {
         rt,
         root: words.root,
@@ -78,7 +89,10 @@ pub fn load<R: Files + AllocGlobal + Clone + Drop>(
     rt: &R,
     alloc: Global,
     words: &Words,
-) -> Result<Gathered, Unread> {
+) -> Result<Gathered, Unread>
+    ensures gathered { IfOk result (λ loaded. IsGathered loaded.files.folder) }
+    ensures unchecked { IfOk result (λ loaded. loaded.files.checks ≡ 0) }
+{
     let mut disk = SystemFolder {
         rt,
         root: words.root,
@@ -91,7 +105,10 @@ pub fn load<R: Files + AllocGlobal + Clone + Drop>(
 /// # Errors
 ///
 /// Those of [`gather`].
-pub fn load_from<D: Disk>(alloc: Global, disk: &mut D, words: &Words) -> Result<Gathered, Unread> {
+pub fn load_from<D: Disk>(alloc: Global, disk: &mut D, words: &Words) -> Result<Gathered, Unread>
+    ensures gathered { IfOk result (λ loaded. IsGathered loaded.files.folder) }
+    ensures unchecked { IfOk result (λ loaded. loaded.files.checks ≡ 0) }
+{
     Ok(gather_from(alloc, disk, words)?.into_gathered())
 }
 
@@ -131,12 +148,9 @@ impl Candidates {
     }
 
     // Lets a path wait, unless a file was taken there or it was tried.
-    fn add(&mut self, alloc: Global, files: &Loaded, path: &Path) -> Result<(), Unread> {
+    fn add(&mut self, alloc: Global, files: &TakenFiles, path: &Path) -> Result<(), Unread> {
         let text = path.as_str();
-        if files.bytes(text).is_none()
-            && !self.absent.contains(text)
-            && !self.waiting.contains(text)
-        {
+        if !files.has(text) && !self.absent.contains(text) && !self.waiting.contains(text) {
             self.waiting.insert(String::from_str(alloc, text)?)?;
         }
         Ok(())
@@ -156,9 +170,7 @@ enum Found {
 #[derive(Drop)]
 struct Gathering {
     alloc: Global,
-    files: Loaded,
-    // the paths of the files, in the order in which they were taken
-    taken: Vec<Path>,
+    files: TakenFiles,
     candidates: Candidates,
     // the paths that lead out of the folder, as they are shown
     outside: Vec<String>,
@@ -168,8 +180,7 @@ impl Gathering {
     fn new(alloc: Global) -> Gathering {
         Gathering {
             alloc,
-            files: Loaded::new(alloc, Actions::for_one_report()),
-            taken: Vec::new(alloc),
+            files: TakenFiles::new(alloc),
             candidates: Candidates::new(alloc),
             outside: Vec::new(alloc),
         }
@@ -215,8 +226,8 @@ impl Gathering {
 
     // Takes each called file that is there: at each turn the first that wasn't tried.
     fn take_called<D: Disk>(&mut self, disk: &mut D) -> Result<(), Unread> {
-        for index in 0..self.taken.len() {
-            self.await_calls(index)?;
+        for number in 0..self.files.len() {
+            self.await_calls(number)?;
         }
         for _ in 0..u64::MAX {
             match self.candidates.waiting.pop_first() {
@@ -229,9 +240,9 @@ impl Gathering {
 
     // Takes a called file, if it is there.
     fn take_candidate<D: Disk>(&mut self, disk: &mut D, path: String) -> Result<(), Unread> {
-        let index = self.taken.len();
+        let number = self.files.len();
         match self.take(disk, path.as_str())? {
-            Found::File => self.await_calls(index),
+            Found::File => self.await_calls(number),
             Found::Outside => self.pass_over(path.as_str()),
             Found::Absent => {
                 self.candidates.absent.insert(path)?;
@@ -249,13 +260,16 @@ impl Gathering {
         Ok(())
     }
 
-    // Takes a file; answers whether it is there.
+    // Takes a file, if it wasn't taken before; answers whether it is there.
     fn take<D: Disk>(&mut self, disk: &mut D, path: &str) -> Result<Found, Unread> {
         if path_fault(path).is_some() {
             return Err(refused(self.alloc, path, Refused::BadPath));
         }
         if !self.files.accepts(path) {
             return Err(refused(self.alloc, path, Refused::NotAccepted));
+        }
+        if self.files.has(path) {
+            return Ok(Found::File);
         }
         match disk.read(self.alloc, path) {
             Ok(Entry::File(bytes)) => self.put(path, &bytes),
@@ -266,26 +280,18 @@ impl Gathering {
     }
 
     // Puts a file that was read.
-    fn put(&mut self, path: &str, bytes: &[u8]) -> Result<Found, Unread> {
-        if let Err(reason) = self.files.put(path, bytes) {
-            return Err(refused(self.alloc, path, reason));
+    fn put(&mut self, path: &str, bytes: &[u8]) -> Result<Found, Unread>
+        requires { bytes_at (folder_with [] (self.old).files) path.now ≡ None }
+    {
+        match self.files.put(self.alloc, path, bytes) {
+            Ok(()) => Ok(Found::File),
+            Err(reason) => Err(refused(self.alloc, path, reason)),
         }
-        match Path::new(self.alloc, path) {
-            Ok(path) => self.taken.push(path)?,
-            Err(_) => return Err(Unread::Memory),
-        }
-        Ok(Found::File)
     }
 
     // Lets the candidates wait that the file of this number calls.
-    fn await_calls(&mut self, index: usize) -> Result<(), Unread> {
-        let Some(path) = self.taken.get(index) else {
-            return Ok(());
-        };
-        let Some(calls) = self.files.calls(path.as_str()) else {
-            return Ok(());
-        };
-        for call in calls {
+    fn await_calls(&mut self, number: usize) -> Result<(), Unread> {
+        for call in self.files.calls(number) {
             match call {
                 Target::Only(path) => self.candidates.add(self.alloc, &self.files, path)?,
                 Target::FirstOf(first, second) => {
@@ -298,32 +304,24 @@ impl Gathering {
     }
 
     // The files, and the paths that were passed over.
-    fn into_gathered(self) -> Gathered {
+    fn into_gathered(self) -> Gathered
+        ensures gathered { AreGathered self.files }
+        ensures made { result.files.folder ≡ folder_with [] self.files }
+        ensures unchecked { result.files.checks ≡ 0 }
+    {
         Gathered {
-            files: self.files,
+            files: self.files.into_loaded(),
             outside: self.outside,
         }
     }
 
     // The files with their bytes, in the order in which they were taken.
-    fn into_files(self) -> Result<Vec<(Path, Vec<u8>)>, Unread> {
-        with_bytes(self.alloc, self.taken, &self.files)
+    fn into_files(self) -> Result<Vec<(Path, Vec<u8>)>, Unread>
+        ensures gathered { AreGathered self.files }
+        ensures files { IfOk result (λ files. map owned_entry files.items ≡ self.files) }
+    {
+        Ok(self.files.into_list(self.alloc)?)
     }
-}
-
-// Files with their bytes, by their paths.
-fn with_bytes(
-    alloc: Global,
-    paths: Vec<Path>,
-    loaded: &Loaded,
-) -> Result<Vec<(Path, Vec<u8>)>, Unread> {
-    let mut files = Vec::new(alloc);
-    for path in paths {
-        if let Some(bytes) = loaded.bytes(path.as_str()) {
-            files.push((path, Vec::from_slice(alloc, bytes)?))?;
-        }
-    }
-    Ok(files)
 }
 
 fn failed(alloc: Global, path: &str, error: DiskError) -> Unread {

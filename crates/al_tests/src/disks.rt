@@ -197,6 +197,23 @@ fn refused_paths_are_not_read(rt: HostRuntime) -> Result<(), AllocError> {
     Ok(())
 }
 
+// Whether a file that is named twice is read once.
+fn reads_once(alloc: Global) -> Result<bool, AllocError> {
+    let mut disk = Held {
+        files: folder(),
+        asked: Vec::new(alloc),
+    };
+    let words = named(alloc, &["z/action.yml", "./z/action.yml"])?;
+    let answer = load_from(alloc, &mut disk, &words);
+    Ok(answer.is_ok() && are_these(&disk.asked, &["z/action.yml"]))
+}
+
+#[test]
+fn a_file_that_is_named_twice_is_read_once(rt: HostRuntime) -> Result<(), AllocError> {
+    assert!(rt; reads_once(rt.alloc())?);
+    Ok(())
+}
+
 const LARGE: &str = "al_tests_folder/action.yml";
 
 // A comment of so many bytes.

@@ -1,0 +1,179 @@
+//! The files of a run, read and put one after another.
+
+ghost use Rattle.std.specs.Prelude.{◌≡◌, ◌++◌, [], ◌∷◌, map, unwrap_or, IfOk, OnOk, OnErr, None, is_some};
+ghost use Rattle.std.specs.Option.{option_copied};
+ghost use Rattle.al_session.specs.Folder.{bytes_at};
+ghost use Rattle.al_tree.specs.Kinds.{is_accepted};
+ghost use Rattle.al_cli.specs.Linted.{folder_with};
+ghost use Rattle.al_cli.specs.Private.Kept.{AreKept, entries_in, entry_in};
+ghost use Rattle.al_cli.specs.Taken.{AreGathered, owned_entry};
+
+use crate::gathering::Loaded;
+use al_base::{Path, PathFault};
+use al_check::Actions;
+use al_session::{Refused, Target};
+use std::alloc::{AllocError, Global};
+use std::marker::Model;
+
+/// Files that were read and put one after another, each path once, and not checked yet. Contracts see their paths and bytes, in the
+/// order in which they were put.
+#[derive(Drop)]
+pub(crate) struct TakenFiles {
+    files: Loaded,
+    order: Vec<Path>,
+}
+
+impl Model for TakenFiles {
+    ghost use Rattle.std.specs.Prelude.{ℕ, List};
+    ghost use Rattle.al_cli.specs.Private.Kept.{AreKept, entries_in};
+
+    ghost Value = { List (List ℕ × List ℕ) };
+
+    ghost view = { λ t. entries_in t.files.folder t.order.items };
+
+    ghost invariant = { λ t. AreKept t.files.folder t.files.checks t.order.items };
+}
+
+impl TakenFiles {
+    /// No file. Takes no memory.
+    pub(crate) fn new(alloc: Global) -> TakenFiles
+        ensures { result ≡ [] }
+    {
+        TakenFiles {
+            files: Loaded::new(alloc, Actions::for_one_report()),
+            order: Vec::new(alloc),
+        }
+    }
+
+    /// How many files there are.
+    pub(crate) fn len(&self) -> usize {
+        self.order.len()
+    }
+
+    /// Whether the linter takes a file with this path.
+    pub(crate) fn accepts(&self, path: &str) -> bool
+        ensures { result ≡ is_accepted path.now }
+    {
+        self.files.accepts(path)
+    }
+
+    /// Whether a file has this path.
+    pub(crate) fn has(&self, path: &str) -> bool
+        ensures { result ≡ is_some (bytes_at (folder_with [] self.now) path.now) }
+    {
+        self.files.bytes(path).is_some()
+    }
+
+    /// The calls of the file of this number; none where there is no such file.
+    pub(crate) fn calls(&self, number: usize) -> &[Target] {
+        match self.order.get(number) {
+            Some(path) => self.files.calls(path.as_str()).unwrap_or(&[]),
+            None => &[],
+        }
+    }
+
+    /// Puts a file behind the others, of which none has its path.
+    ///
+    /// # Errors
+    ///
+    /// Those of [`SessionBuilder::put`](al_session::SessionBuilder::put). The files are then as before.
+    pub(crate) fn put(&mut self, alloc: Global, path: &str, bytes: &[u8]) -> Result<(), Refused>
+        requires { bytes_at (folder_with [] self.old) path.now ≡ None }
+        ensures put { OnOk result (self.new ≡ self.old ++ (path.now, bytes.now) ∷ []) }
+        ensures as_before { OnErr result (self.new ≡ self.old) }
+    {
+        let owned = owned_path(alloc, path)?;
+        put_behind(&mut self.files, &mut self.order, owned, bytes)
+    }
+
+    /// The files, which are in the folder that they make where they are put one after another, and not checked yet.
+    pub(crate) fn into_loaded(self) -> Loaded
+        ensures gathered { AreGathered self }
+        ensures folder { result.folder ≡ folder_with [] self }
+        ensures checks { result.checks ≡ 0 }
+    {
+        self.files
+    }
+
+    /// The files with their bytes, in the order in which they were put.
+    ///
+    /// # Errors
+    ///
+    /// [`AllocError`] where memory ran out.
+    pub(crate) fn into_list(self, alloc: Global) -> Result<Vec<(Path, Vec<u8>)>, AllocError>
+        ensures gathered { AreGathered self }
+        ensures list { IfOk result (λ files. map owned_entry files.items ≡ self) }
+    {
+        let TakenFiles { files, order } = self;
+        let list = with_bytes(alloc, &files, order)?;
+        Ok(list)
+    }
+}
+
+// A path of a file that is there to be put.
+fn owned_path(alloc: Global, path: &str) -> Result<Path, Refused>
+    ensures { IfOk result (λ owned. owned ≡ path.now) }
+{
+    match Path::new(alloc, path) {
+        Ok(owned) => Ok(owned),
+        Err(PathFault::Memory) => Err(Refused::Memory),
+        Err(_) => Err(Refused::BadPath),
+    }
+}
+
+// Puts a file behind those at these paths, of which none is its own. On failure the files and the paths stay.
+fn put_behind(
+    files: &mut Loaded,
+    order: &mut Vec<Path>,
+    path: Path,
+    bytes: &[u8],
+) -> Result<(), Refused>
+    requires kept { AreKept files.old.folder files.old.checks order.old.items }
+    requires new { bytes_at (folder_with [] (entries_in files.old.folder order.old.items)) path ≡ None }
+    ensures kept { AreKept files.new.folder files.new.checks order.new.items }
+    ensures put { OnOk result (entries_in files.new.folder order.new.items
+        ≡ entries_in files.old.folder order.old.items ++ (path, bytes.now) ∷ []) }
+    ensures as_before { OnErr result (entries_in files.new.folder order.new.items
+        ≡ entries_in files.old.folder order.old.items) }
+{
+    if order.reserve(1).is_err() {
+        return Err(Refused::Memory);
+    }
+    files.put(path.as_str(), bytes)?;
+    // There is room for it.
+    let _ = order.push(path);
+    Ok(())
+}
+
+// The files at these paths, with their bytes.
+fn with_bytes(
+    alloc: Global,
+    files: &Loaded,
+    paths: Vec<Path>,
+) -> Result<Vec<(Path, Vec<u8>)>, AllocError>
+    ensures { IfOk result (λ list. map owned_entry list.items ≡ entries_in files.now.folder paths.items) }
+{
+    let mut list = Vec::with_capacity(alloc, paths.len())?;
+    for path in paths {
+        list.push(file_at(alloc, files, path)?)?;
+    }
+    Ok(list)
+}
+
+// The file at this path, with a copy of its bytes.
+fn file_at(alloc: Global, files: &Loaded, path: Path) -> Result<(Path, Vec<u8>), AllocError>
+    ensures { IfOk result (λ file. owned_entry file ≡ entry_in files.now.folder path) }
+{
+    let bytes = copied(alloc, files.bytes(path.as_str()))?;
+    Ok((path, bytes))
+}
+
+// A copy of bytes; none of nothing.
+fn copied(alloc: Global, bytes: Option<&[u8]>) -> Result<Vec<u8>, AllocError>
+    ensures { IfOk result (λ v. v.items ≡ unwrap_or (option_copied bytes.entry) []) }
+{
+    match bytes {
+        Some(bytes) => Vec::from_slice(alloc, bytes),
+        None => Ok(Vec::new(alloc)),
+    }
+}
