@@ -11,11 +11,22 @@ TOP = pathlib.Path(__file__).resolve().parent.parent
 SESSION = ["--session", "--oneline"]
 WORKFLOW = ".github/workflows/a.yml"
 EMPTY = "on: push\njobs: {}\n"
+# the event parsers beside which reading and linting are measured: by its library the program of bench/ that runs it
+PEERS = {"yaml": "yaml_events.c", "fyaml": "fyaml_events.c"}
 
 
 def program(crate):
     """The program of a crate, where ./test or a build of the crate leaves it."""
     return TOP / "crates" / crate / "out" / crate
+
+
+def peers(folder):
+    """The programs of the peers, compiled into a folder: libyaml's and then libfyaml's."""
+    made = []
+    for library, source in PEERS.items():
+        made.append(pathlib.Path(folder) / library)
+        subprocess.run(["cc", "-O2", "-o", made[-1], TOP / "bench" / source, f"-l{library}"], check=True)
+    return made
 
 
 def run_seconds(command, data=b"", folder=None):

@@ -1,9 +1,9 @@
-"""What a whole lint takes, beside libyaml's bare event parser on the same bytes: bench/lint.py [BEFORE], after ./test or a build of
-crates/actionlint. BEFORE is a program of another version, which takes its turns in the same run.
+"""What a whole lint takes, beside the bare event parsers of libyaml and libfyaml on the same bytes: bench/lint.py [BEFORE], after ./test
+or a build of crates/actionlint. BEFORE is a program of another version, which takes its turns in the same run.
 
-It needs a C compiler, libyaml with its headers (Debian's libyaml-dev) and valgrind. Each file is put into a session that reports; the peer
-reads it and keeps nothing. Times are the least processor time of several runs that take turns, start of the process included; instructions
-are counted by callgrind, since times on a shared machine move by half. Folders are linted without a word, beside the peer on all of their
+It needs a C compiler, both libraries with their headers (Debian's libyaml-dev and libfyaml-dev) and valgrind. Each file is put into a
+session that reports; a peer reads it and keeps nothing. Ratios are to libyaml. Times are the least processor time of several runs that take turns, start of the process included; instructions
+are counted by callgrind, since times on a shared machine move by half. Folders are linted without a word, beside the peers on all of their
 bytes at once; and beside yamllint on the same files, where Debian's package of it is installed.
 """
 
@@ -16,7 +16,7 @@ import subprocess
 import sys
 import tempfile
 
-from common import SESSION, TOP, WORKFLOW, least_in_turns, program, put_commands
+from common import SESSION, WORKFLOW, least_in_turns, peers, program, put_commands
 
 RUNS = 9
 YAMLLINT_RUNS = 3
@@ -132,10 +132,10 @@ def instructions(command, data, folder):
 def compare(name, commands, files, folder=None):
     """Prints the times and instructions of the commands, each on its own bytes."""
     measures = [functools.partial(seconds, *it, folder) for it in zip(commands, files)]
-    theirs, *ours = least_in_turns(RUNS, measures)
+    first, *others = least_in_turns(RUNS, measures)
     counted = [instructions(*it, folder) for it in zip(commands, files)]
-    cells = "".join(f" {took:8.3f}s {took / theirs:6.2f} {count:9.1f}M" for took, count in zip(ours, counted[1:]))
-    print(f"{name:42} {len(files[0]):9} {theirs:8.3f}s {counted[0]:8.1f}M{cells}", flush=True)
+    cells = "".join(f" {took:8.3f}s {took / first:6.2f} {count:9.1f}M" for took, count in zip(others, counted[1:]))
+    print(f"{name:42} {len(files[0]):9} {first:8.3f}s {counted[0]:8.1f}M{cells}", flush=True)
 
 
 def compare_with_yamllint(program_path, made):
@@ -149,20 +149,21 @@ def compare_with_yamllint(program_path, made):
 
 
 def main():
-    """Prints a table: for each shape the peer, this program and the one before."""
+    """Prints a table: for each shape the peers, this program and the one before."""
     programs = [program("actionlint"), *(pathlib.Path(it).resolve() for it in sys.argv[1:])]
     with tempfile.TemporaryDirectory() as made:
-        events = pathlib.Path(made) / "yaml_events"
-        subprocess.run(["cc", "-O2", "-o", events, TOP / "bench" / "yaml_events.c", "-lyaml"], check=True)
-        columns = "".join(f" {name:>9} {'ratio':>6} {'':10}" for name in ("this", "before")[: len(programs)])
+        others = [[it] for it in peers(made)]
+        names = ("libfyaml", "this", "before")[: len(programs) + 1]
+        columns = "".join(f" {name:>9} {'ratio':>6} {'':10}" for name in names)
         print(f"{'file':42} {'bytes':>9} {'libyaml':>9} {'':9}{columns}")
         for name, text in shapes():
             script = put_commands([(WORKFLOW, text)]) + b"report\n"
-            compare(name, [[events], *([it, *SESSION] for it in programs)], [text.encode(), *(script for _ in programs)])
+            data = [text.encode()] * len(others) + [script] * len(programs)
+            compare(name, others + [[it, *SESSION] for it in programs], data)
         for count, jobs_of_each in ((200, 5), (4_096, 1)):
             folder = pathlib.Path(made) / str(count)
-            text = fill(folder, count, jobs_of_each)
-            compare(f"a folder of {count:,} workflows", [[events], *([it] for it in programs)], [text, *(b"" for _ in programs)], folder)
+            data = [fill(folder, count, jobs_of_each)] * len(others) + [b""] * len(programs)
+            compare(f"a folder of {count:,} workflows", others + [[it] for it in programs], data, folder)
         if shutil.which(YAMLLINT[0]):
             compare_with_yamllint(programs[0], made)
 

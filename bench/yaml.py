@@ -1,8 +1,8 @@
-"""How long a file of YAML takes to read, beside libyaml's event parser on the same bytes: bench/yaml.py [BEFORE], after ./test
-or a build of crates/al_dump. BEFORE is a `al_dump` program of another version, whose times are taken in the same run.
+"""How long a file of YAML takes to read, beside the event parsers of libyaml and libfyaml on the same bytes: bench/yaml.py [BEFORE],
+after ./test or a build of crates/al_dump. BEFORE is a `al_dump` program of another version, whose times are taken in the same run.
 
-It needs a C compiler and libyaml with its headers (Debian's libyaml-dev). Each file ends with a line at which both readers
-stop with a fault, so that neither prints a tree, and all before it is read by both. Each time is the least processor time of
+It needs a C compiler and both libraries with their headers (Debian's libyaml-dev and libfyaml-dev). Each file ends with a line at
+which all readers stop with a fault, so that none prints a tree, and all before it is read by each. Each time is the least processor time of
 several runs in one run of this program, less that for this line alone. Each shape is read at half and at its whole size:
 where reading is linear, the time grows as the bytes do.
 """
@@ -15,7 +15,7 @@ import subprocess
 import sys
 import tempfile
 
-from common import TOP, least_in_turns, program
+from common import PEERS, least_in_turns, peers, program
 
 RUNS = 25
 SIZE = 1_000_000
@@ -103,8 +103,8 @@ def seconds(command, is_ours, file):
 
 
 def least(commands, files):
-    """For each file the least time that each command takes to read it. The first command is not ours."""
-    measures = [functools.partial(seconds, command, number > 0, file) for file in files for number, command in enumerate(commands)]
+    """For each file the least time that each command takes to read it. The first commands are the peers'."""
+    measures = [functools.partial(seconds, command, number >= len(PEERS), file) for file in files for number, command in enumerate(commands)]
     times = least_in_turns(RUNS, measures)
     return [times[first : first + len(commands)] for first in range(0, len(times), len(commands))]
 
@@ -112,18 +112,17 @@ def least(commands, files):
 def main():
     """Prints a table. A reader of another version may know no aliases, so it isn't given files with any."""
     with tempfile.TemporaryDirectory() as folder:
-        events = pathlib.Path(folder) / "yaml_events"
-        subprocess.run(["cc", "-O2", "-o", events, TOP / "bench" / "yaml_events.c", "-lyaml"], check=True)
-        commands = [[events]] + [[path, "yaml"] for path in [program("al_dump"), *sys.argv[1:]]]
+        commands = [[it] for it in peers(folder)] + [[path, "yaml"] for path in [program("al_dump"), *sys.argv[1:]]]
         before = "  this/before" if sys.argv[1:] else ""
-        print(f"{'file':44} {'bytes':>9} {'this':>9} {'libyaml':>9} {'this/libyaml':>12}{before}  whole/half of bytes")
-        for asked, of_each in ((commands, shapes), (commands[:2], shared_shapes)):
+        print(f"{'file':44} {'bytes':>9} {'this':>9} {'libyaml':>9} {'ratio':>6} {'libfyaml':>9} {'ratio':>6}{before}  whole/half of bytes")
+        for asked, of_each in ((commands, shapes), (commands[: len(PEERS) + 1], shared_shapes)):
             for (name, whole), (_, half) in zip(of_each(SIZE), of_each(SIZE // 2)):
                 nothing, smaller, all_of_it = least(asked, [LAST, half + LAST, whole + LAST])
-                theirs, took, *others = (a - b for a, b in zip(all_of_it, nothing))
+                first, second, took, *others = (a - b for a, b in zip(all_of_it, nothing))
+                theirs = f"{first:8.3f}s {took / first:6.2f} {second:8.3f}s {took / second:6.2f}"
                 beside = "".join(f"{took / other:13.2f}" for other in others)
-                growth = f"{took / (smaller[1] - nothing[1]):.2f} of {len(whole) / len(half):.2f}"
-                print(f"{name:44} {len(whole):9} {took:8.3f}s {theirs:8.3f}s {took / theirs:12.2f}{beside}  {growth}", flush=True)
+                growth = f"{took / (smaller[len(PEERS)] - nothing[len(PEERS)]):.2f} of {len(whole) / len(half):.2f}"
+                print(f"{name:44} {len(whole):9} {took:8.3f}s {theirs}{beside}  {growth}", flush=True)
 
 
 if __name__ == "__main__":
