@@ -1,12 +1,14 @@
 """Compares docs/EDITS.md with the edits that the gate leaves to the hand: edits_page.py TOP.
 
 Its table names each file of crates/*/more-edits/ after the name of its crate. What it names as showing an edit is there: edits of the gate,
-tests of a crate, cases, and files of tests/.
+tests of a crate, cases, and files of tests/. Each edit can be made: the text that it takes away stands once in its file.
 """
 
 import pathlib
 import re
 import sys
+
+from more_edits import pairs_of
 
 ROW = re.compile(r"^\| (?:(\w+) )?\| (`\w+`(?:, `\w+`)*) \| (.*) \|$", re.MULTILINE)
 BY = re.compile(r"\bedits? ((?:`\w+`(?: \(`\w+`\))?(?:, | and )?)+)")
@@ -24,6 +26,16 @@ def absent(top, shown):
     yield from (it for it in re.findall(r"`(tests/[\w./-]+)`", shown) if not (top / it).exists())
 
 
+def unmakable(edit):
+    """The texts that an edit takes away and that don't stand once in their files, where it makes its changes in turn."""
+    crate, made = edit.parent.parent, {}
+    for path, old, new in pairs_of(edit.read_text()):
+        source = made.get(path) or (crate / path).read_text()
+        if source.count(old) != 1:
+            yield f"{edit}: this stands {source.count(old)} times in {path}: {old}"
+        made[path] = source.replace(old, new)
+
+
 def main(folder):
     top = pathlib.Path(folder)
     kept = {it.stem for it in (top / "crates").glob("*/must-fail/*.edit")}
@@ -37,6 +49,8 @@ def main(folder):
         wrong += [f"{crate}: there is no {it}" for it in absent(top, shown)]
     wrong += [f"{crate}: there is no {name}" for crate, name in sorted(named - there)]
     wrong += [f"{crate}: {name} is not named" for crate, name in sorted(there - named)]
+    edits = [it for kind in ("must-fail", "more-edits") for it in sorted((top / "crates").glob(f"*/{kind}/*.edit"))]
+    wrong += [it for edit in edits for it in unmakable(edit)]
     if wrong or not there:
         sys.exit("\n".join(wrong) or "no edits")
 
