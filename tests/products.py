@@ -197,10 +197,10 @@ def needed_jobs(count, job, expression):
     return {WORKFLOW: b"on: push\njobs:\n" + jobs + last}, b""
 
 
-def output_of_needed_jobs(count, expression, reads):
-    """So many expressions, in a job that needs this many, each of which has an output of one name."""
+def output_of_needed_jobs(count, expression, reads, job=b"runs-on: u, outputs: {a: x}, steps: [{run: x}]"):
+    """So many expressions, in a job that needs this many, each of which has an output of one name unless another job is given."""
     names = [b"j%05d" % number for number in range(count)]
-    jobs = b"".join(b"  %s: {runs-on: u, outputs: {a: x}, steps: [{run: x}]}\n" % name for name in names)
+    jobs = b"".join(b"  %s: {%s}\n" % (name, job) for name in names)
     steps = b"      - run: ${{ %s }}\n" % expression * reads
     last = b"  z:\n    needs: [%s]\n    runs-on: u\n    steps:\n" % b", ".join(names) + steps
     return {WORKFLOW: b"on: push\njobs:\n" + jobs + last}, b""
@@ -368,7 +368,7 @@ FOLDERS = {
     "400-jobs-with-1700-stars-that-need-the-same-60": scripts_full_of_stars,
     "deep-in-common-9000-times": lambda: deep_in_common(b"matrix.*[0].*[0].*[0].*.x"),
     "deep-below-branches-in-common-9000-times": lambda: deep_in_common(b"(matrix || matrix).*[0].*[0].*[0].*.x"),
-    "six-levels-in-common-9000-times": lambda: deep_in_common(b"matrix.*[0].*.*.*.*.*.x", 5, 4, 8),
+    "six-levels-in-common-9000-times": lambda: deep_in_common(b"matrix.*[0].*[0].*[0].*[0].*[0].*.x", 5, 4, 8),
     "in-common-by-5000-paths": lambda: paths_that_differ(b"{x: 1}", b".*.x"),
     "deep-in-common-by-5000-paths": lambda: paths_that_differ(b"{y: {x: 1}}", b".*[0].*.x"),
     "by-4500-paths-and-5-names": lambda: paths_and_names(5, 6_800),
@@ -384,7 +384,7 @@ FOLDERS = {
     "output-of-6000-needs-and-a-small-object-in-turn": lambda: output_of_needed_jobs(
         6_000, b"contains(needs.*.outputs.a || needs.*.outputs.a || needs.j00001.*, 'x')", 2_000),
     "1300-operands-over-13000-needs": lambda: output_of_needed_jobs(
-        13_000, b"(%s).outputs.a" % b"||".join([b"needs.*[0]"] * 1_300), 10),
+        13_000, b"(%s).outputs.a" % b"||".join([b"needs.*[0]"] * 1_300), 10, CALLED_ELSEWHERE),
     "last-of-9000-needs-9000-times": lambda: needed_jobs(9_000, CALLED_ELSEWHERE, b"needs.j8999.result"),
     "all-of-2000-needs-2000-times": lambda: needed_jobs(2_000, b"runs-on: u, steps: [{run: x}]", b"contains(needs.*.result, 'failure')"),
     "all-of-2000-needs-in-2000-branches": lambda: needed_jobs(
