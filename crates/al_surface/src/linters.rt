@@ -86,7 +86,7 @@ fn is_own_call(site: &Site<'_>) -> bool {
         && site.text == "./.github/workflows/r.yml"
 }
 
-/// Whether a file's first call is that one.
+/// Whether a file's one call is that one.
 fn has_own_call(
     alloc: Global,
     lint: &mut Actions,
@@ -98,7 +98,7 @@ fn has_own_call(
     }
     let unit = lint.read(alloc, path, bytes)?;
     let calls = lint.calls(alloc, path, &unit)?;
-    if calls.is_empty() {
+    if calls.len() != 1 {
         return Ok(false);
     }
     let site = lint.site(&unit, 0);
@@ -132,7 +132,7 @@ fn finds_empty(
     }
     let unit = lint.read(alloc, path, bytes)?;
     let calls = lint.calls(alloc, path, &unit)?;
-    if !calls.is_empty() {
+    if calls.len() != 0 {
         return Ok(false);
     }
     let faults = lint.check(alloc, path, bytes, &unit, &[])?;

@@ -73,12 +73,19 @@ runs:
 const DOCKER: &[u8] = b"runs: {using: docker, image: '${{ in-docker }}'}
 ";
 
+/// The type of a context as it is shown.
+fn type_text(alloc: Global, env: &Env<'_>, context: Context) -> Result<String, AllocError>
+    requires { IsShown env.now.types env.now.scope }
+{
+    let ty = env.scope.types.get(context);
+    shown(alloc, &env.types, ty)
+}
+
 /// Whether the type of a context is shown so.
 fn is_shown(alloc: Global, env: &Env<'_>, context: Context, text: &str) -> Result<bool, AllocError>
     requires { IsShown env.now.types env.now.scope }
 {
-    let ty = env.scope.types.get(context);
-    Ok(shown(alloc, &env.types, ty)?.as_str() == text)
+    Ok(type_text(alloc, env, context)?.as_str() == text)
 }
 
 fn has_type(alloc: Global, file: File<'_>, told: &Told) -> Result<bool, AllocError> {
@@ -376,9 +383,7 @@ fn is_github(text: &str) -> bool {
 fn shows_github(alloc: Global, env: &Env<'_>) -> Result<bool, AllocError>
     requires { IsShown env.now.types env.now.scope }
 {
-    let ty = env.scope.types.get(Context::Github);
-    let github = shown(alloc, &env.types, ty)?;
-    Ok(is_github(github.as_str()))
+    Ok(is_github(type_text(alloc, env, Context::Github)?.as_str()))
 }
 
 fn has_github(alloc: Global, file: File<'_>) -> Result<bool, AllocError> {
