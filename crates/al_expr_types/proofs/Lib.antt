@@ -8,3 +8,4 @@ pub mod Merges
 pub mod Indexes
 pub mod PrefixLemmas
 pub mod OnceLemmas
+pub mod Scans

@@ -132,7 +132,7 @@ placed_step : (ns : List (List ℕ)) (x n : List ℕ) (i : ℕ) (b : Bool) → s
 placed_step ns x n i true is at = ap (λ o. is_placed o i) (place_same ns x n is ∙ at) ∙ eq_itself i
 placed_step ns x n i false is at = placed_other (name_place ns n) i (λ j there. other_place ns x n i j at there is)
 
-placed_first : (ns : List (List ℕ)) (x : List ℕ) (i : ℕ) (at : List ℕ → Optional) (t : Optional) → name_place ns x ≡ Some i → and_named at x t ≡ and_placed at ns i t
+pub placed_first : (ns : List (List ℕ)) (x : List ℕ) (i : ℕ) (at : List ℕ → Optional) (t : Optional) → name_place ns x ≡ Some i → and_named at x t ≡ and_placed at ns i t
 placed_first ns x i at t there =
     λ d n. if (sym (placed_step ns x n i (same_name x n) refl there) d) then fuse_optional (at n) t else at n
 

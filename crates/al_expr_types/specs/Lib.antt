@@ -1,5 +1,6 @@
 pub mod Names
 pub mod Once
+pub mod Places
 pub mod Types
 pub mod Joining
 pub mod Tables

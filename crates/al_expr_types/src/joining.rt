@@ -12,6 +12,9 @@ use crate::ty::{Base, Scalar, Ty};
 use std::alloc::{AllocError, Global};
 use std::collections::BTreeMap;
 
+/// Up to so many objects are gone over to find one, which takes no memory. Where others stand is kept.
+const MOST_SCANNED: usize = 64;
+
 /// What types have in common.
 #[derive(Drop)]
 pub enum Join {
@@ -26,7 +29,7 @@ pub enum Join {
 pub struct ObjectJoin {
     pub(crate) arrays: u32,
     pub(crate) objects: Vec<u32>,
-    /// Where objects stand, so that none is taken twice. Only time and memory depend on it.
+    /// Where those stand that aren't gone over, so that none is taken twice. Only time and memory depend on it.
     places: BTreeMap<u32, usize>,
 }
 
@@ -94,6 +97,18 @@ fn stands_at(objects: &[u32], i: usize, n: u32) -> bool
     objects[i] == n
 }
 
+/// Whether this object is among the first ones, found by going over them.
+fn is_among_first(objects: &[u32], n: u32) -> bool
+    ensures { IsTrue result → Contains objects.now n }
+{
+    for i in 0..objects.len().min(MOST_SCANNED) {
+        if stands_at(objects, i, n) {
+            return true;
+        }
+    }
+    false
+}
+
 impl ObjectJoin {
     fn new(alloc: Global, arrays: u32) -> ObjectJoin
         ensures arrays { result.arrays ≡ arrays }
@@ -110,6 +125,9 @@ impl ObjectJoin {
     fn has(&self, n: u32) -> bool
         ensures { IsTrue result → Contains self.now.objects.items n }
     {
+        if is_among_first(self.objects.as_slice(), n) {
+            return true;
+        }
         match self.places.get(&n) {
             Some(i) => stands_at(self.objects.as_slice(), *i, n),
             None => false,
@@ -122,7 +140,9 @@ impl ObjectJoin {
     {
         let mut objects = self.objects;
         let mut places = self.places;
-        places.insert(n, objects.len())?;
+        if objects.len() >= MOST_SCANNED {
+            places.insert(n, objects.len())?;
+        }
         objects.push(n)?;
         Ok(ObjectJoin {
             arrays: self.arrays,

@@ -92,10 +92,7 @@ impl<'a> FieldJoins<'a> {
             ≡ true → is_below k ty ≡ true → are_joins_below k m ≡ true) }
     {
         let mut joins = self.joins;
-        let (names, is_new) = self.names.and(alloc, name)?;
-        if !is_new {
-            return Err(AllocError);
-        }
+        let names = self.names.push(alloc, name)?;
         joins.push(Join::One(ty))?;
         Ok(FieldJoins { names, joins })
     }
@@ -157,8 +154,7 @@ impl<'a> FieldJoins<'a> {
     {
         let mut all = self;
         for (i, ty) in types.iter().enumerate() {
-            let is_first = names.is_first(alloc, i)?;
-            let more = all.and_first(alloc, names.at(i), is_first, *ty)?;
+            let more = all.and(alloc, names.at(i), *ty)?;
             all = more;
         }
         Ok(all)

@@ -2,8 +2,8 @@
 
 ghost use Rattle.std.specs.Prelude.{◌≡◌, IfOk};
 ghost use Rattle.al_base.specs.NamePlaces.{IsNameIndex};
+ghost use Rattle.al_expr_types.specs.Merging.{is_placed};
 
-use crate::names::Names;
 use al_base::NamePositions;
 use std::alloc::{AllocError, Global};
 use std::convert::AsSlice;
@@ -118,10 +118,19 @@ fn copies_of(alloc: Global, names: &[Name]) -> Result<Vec<Name>, AllocError>
     Ok(copies)
 }
 
+/// Whether a position that was looked for is this one.
+fn is_at(position: Option<usize>, i: usize) -> bool
+    ensures { result ≡ is_placed position i }
+{
+    match position {
+        Some(k) => k == i,
+        None => false,
+    }
+}
+
 impl NameList {
     ghost use Rattle.std.specs.Prelude.{◌<◌, [], get_or, length};
     ghost use Rattle.al_base.specs.NamePlaces.{name_place};
-    ghost use Rattle.al_expr_types.specs.Merging.{is_placed};
 
     /// The list of these names. Fails with `AllocError` when out of memory.
     pub fn new(alloc: Global, names: Vec<Name>) -> Result<NameList, AllocError>
@@ -176,7 +185,7 @@ impl NameList {
         ensures { IfOk result (λ b. b ≡ is_placed (name_place self.now (get_or self.now i [])) i) }
     {
         let position = self.position(alloc, self.at(i))?;
-        Ok(Names::is_at(position, i))
+        Ok(is_at(position, i))
     }
 }
 

@@ -1,25 +1,70 @@
-//! The names of fields, found in a map.
+//! The names of fields, found by going over them, and by an index where there are many.
 
-ghost use Rattle.std.specs.Prelude.{◌≡◌, ◌++◌, ◌∷◌, [], IfOk, if◌then◌else◌, is_none, map, true};
-ghost use Rattle.al_base.specs.NamePlaces.{name_place};
-ghost use Rattle.al_base.specs.NamePlaces.{IsNameIndex};
+ghost use Rattle.std.specs.Prelude.{◌≡◌, ◌++◌, ◌∷◌, [], IfOk, None, if◌then◌else◌, is_none, map, true};
+ghost use Rattle.al_base.specs.NamePlaces.{IsNameIndex, name_place};
 ghost use Rattle.al_expr_types.specs.Once.{are_once};
+ghost use Rattle.al_expr_types.specs.Places.{place_by};
 
-use al_base::NamePositions;
+use al_base::{NamePositions, is_same_name};
 use std::alloc::{AllocError, Global};
 
-/// The names of fields in order, each once but for ASCII case, and where each stands among them. A file lends them.
+/// Up to so many names are gone over to find one, which takes no memory. Of more there is an index.
+const MOST_SCANNED: usize = 64;
+
+/// The names of fields in order, each once but for ASCII case. A file lends them.
 #[derive(Drop)]
 pub struct Names<'a> {
     names: Vec<&'a [u8]>,
-    positions: NamePositions,
-    ghost indexed: { IsNameIndex positions (map (λ n. n.now) names.items) },
+    /// Where each stands, of too many names to go over.
+    index: Option<NamePositions>,
+    ghost indexed: { place_by index (map (λ n. n.now) names.items) ≡ name_place (map (λ n. n.now) names.items) },
     ghost once: { are_once (map (λ n. n.now) names.items) ≡ true },
+}
+
+/// Where a name first stands, in any ASCII case, by going over the names.
+fn scan(names: &[&[u8]], name: &[u8]) -> Option<usize>
+    ensures { result ≡ name_place (map (λ n. n.now) names.now) name.now }
+{
+    for (i, other) in names.iter().enumerate() {
+        if is_same_name(other, name) {
+            return Some(i);
+        }
+    }
+    None
+}
+
+/// Where each name first stands. Fails with `AllocError` where it is out of memory, as all here.
+fn index_of(alloc: Global, names: &[&[u8]]) -> Result<NamePositions, AllocError>
+    ensures { IfOk result (λ index. IsNameIndex index (map (λ n. n.now) names.now)) }
+{
+    let mut index = NamePositions::new(alloc);
+    for (i, name) in names.iter().enumerate() {
+        let _ = index.insert(alloc, name, i)?;
+    }
+    Ok(index)
+}
+
+/// The index of names to which one more comes: the one that there is, or one that is made where they become too many to go over.
+fn index_for_more(
+    alloc: Global,
+    names: &[&[u8]],
+    index: Option<NamePositions>,
+) -> Result<Option<NamePositions>, AllocError>
+    requires { place_by index (map (λ n. n.now) names.now) ≡ name_place (map (λ n. n.now) names.now) }
+    ensures { IfOk result (λ index. place_by index (map (λ n. n.now) names.now) ≡ name_place (map (λ n. n.now) names.now)) }
+{
+    if index.is_some() {
+        return Ok(index);
+    }
+    if names.len() < MOST_SCANNED {
+        return Ok(None);
+    }
+    let made = index_of(alloc, names)?;
+    Ok(Some(made))
 }
 
 impl<'a> Names<'a> {
     ghost use Rattle.std.specs.Prelude.{◌<◌, get_or, length};
-    ghost use Rattle.al_expr_types.specs.Merging.{is_placed};
     ghost use Rattle.al_expr_types.specs.Names.{names_in};
 
     /// No names. Takes no memory.
@@ -28,7 +73,7 @@ impl<'a> Names<'a> {
     {
         Names {
             names: Vec::new(alloc),
-            positions: NamePositions::new(alloc),
+            index: None,
         }
     }
 
@@ -47,21 +92,41 @@ impl<'a> Names<'a> {
         self.names.len()
     }
 
-    /// The position of a name, in any ASCII case. Fails with `AllocError` where it is out of memory, as below.
+    /// The position of a name, in any ASCII case.
     pub fn position(&self, alloc: Global, name: &[u8]) -> Result<Option<usize>, AllocError>
         ensures { IfOk result (λ i. i ≡ name_place (names_in self.now) name.now) }
     {
-        let i = self.positions.get(alloc, name)?;
-        Ok(i)
+        match &self.index {
+            Some(index) => {
+                let i = index.get(alloc, name)?;
+                Ok(i)
+            }
+            None => Ok(scan(self.names.as_slice(), name)),
+        }
     }
 
-    /// Whether the name at a position is the first of its name.
-    pub(crate) fn is_first(&self, alloc: Global, i: usize) -> Result<bool, AllocError>
-        requires { i < length (names_in self.now) }
-        ensures { IfOk result (λ b. b ≡ is_placed (name_place (names_in self.now) (get_or (names_in self.now) i [])) i) }
+    /// The names, and one more behind them that isn't there.
+    pub(crate) fn push(self, alloc: Global, name: &'a [u8]) -> Result<Names<'a>, AllocError>
+        requires { name_place (names_in self) name.now ≡ None }
+        ensures { IfOk result (λ ns. names_in ns ≡ names_in self.entry ++ name.now ∷ []) }
     {
-        let position = self.position(alloc, self.at(i))?;
-        Ok(Names::is_at(position, i))
+        let mut names = self.names;
+        let found = index_for_more(alloc, names.as_slice(), self.index)?;
+        match found {
+            Some(sofar) => {
+                let mut index = sofar;
+                let _ = index.insert(alloc, name, names.len())?;
+                names.push(name)?;
+                Ok(Names {
+                    names,
+                    index: Some(index),
+                })
+            }
+            None => {
+                names.push(name)?;
+                Ok(Names { names, index: None })
+            }
+        }
     }
 
     /// The names, and one more behind them unless an equal one stands there, and whether it is new.
@@ -69,23 +134,13 @@ impl<'a> Names<'a> {
         ensures is_new { IfOk result (λ r. r.1 ≡ is_none (name_place (names_in self.entry) name.now)) }
         ensures names { IfOk result (λ r. names_in r.0 ≡ (if r.1 then names_in self.entry ++ name.now ∷ [] else names_in self.entry)) }
     {
-        let mut names = self.names;
-        let mut positions = self.positions;
-        let is_new = positions.insert(alloc, name, names.len())?;
-        if is_new {
-            names.push(name)?;
-            return Ok((Names { names, positions }, true));
-        }
-        Ok((Names { names, positions }, false))
-    }
-
-    /// Whether a position that was looked for is this one.
-    pub(crate) fn is_at(position: Option<usize>, i: usize) -> bool
-        ensures { result ≡ is_placed position i }
-    {
+        let position = self.position(alloc, name)?;
         match position {
-            Some(k) => k == i,
-            None => false,
+            Some(_) => Ok((self, false)),
+            None => {
+                let more = self.push(alloc, name)?;
+                Ok((more, true))
+            }
         }
     }
 }
