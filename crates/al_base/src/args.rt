@@ -197,7 +197,8 @@ fn is_plain(text: &str) -> bool
 
 // The order of two texts, of which one that isn't there comes first.
 fn compare_texts(one: Option<&str>, other: Option<&str>) -> Ordering
-    ensures { result ≡ option_cmp (slice_cmp nat_cmp) (option_copied one.entry) (option_copied other.entry) }
+    ensures { result ≡ option_cmp (slice_cmp nat_cmp) (option_copied one.entry)
+        (option_copied other.entry) }
 {
     match one {
         None => match other {

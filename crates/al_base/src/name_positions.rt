@@ -35,7 +35,8 @@ impl TextPositions {
     ///
     /// Fails with `AllocError` when out of memory; the positions are then as before.
     pub fn insert(&mut self, text: Vec<u8>, position: usize) -> Result<bool, AllocError>
-        ensures positions { OnOk result (text_position self.new ≡ and_text_at (text_position self.old) text.items position) }
+        ensures positions { OnOk result
+            (text_position self.new ≡ and_text_at (text_position self.old) text.items position) }
         ensures is_new { IfOk result (λ b. b ≡ is_none (text_position self.old text.items)) }
         ensures as_before { OnErr result (text_position self.new ≡ text_position self.old) }
     {
@@ -83,7 +84,8 @@ impl NamePositions {
         name: &[u8],
         position: usize,
     ) -> Result<bool, AllocError>
-        ensures positions { OnOk result (name_position self.new ≡ and_name_at (name_position self.old) name.now position) }
+        ensures positions { OnOk result
+            (name_position self.new ≡ and_name_at (name_position self.old) name.now position) }
         ensures is_new { IfOk result (λ b. b ≡ is_none (name_position self.old name.now)) }
         ensures as_before { OnErr result (name_position self.new ≡ name_position self.old) }
     {

@@ -69,7 +69,8 @@ impl FaultSink {
 
     /// Adds a fault whose message names one text. Bytes of it that aren't UTF-8 become U+FFFD.
     pub fn report_text(&mut self, span: Span, code: Code, text: &[u8]) -> Result<(), AllocError>
-        ensures { OnOk result (self.new ≡ self.old ++ fault_of span code (utf8_lossy text.now ∷ []) ∷ []) }
+        ensures { OnOk result
+            (self.new ≡ self.old ++ fault_of span code (utf8_lossy text.now ∷ []) ∷ []) }
     {
         let args = Args::one_lossy(self.alloc, text)?;
         self.report(span, code, args)
@@ -83,7 +84,10 @@ impl FaultSink {
         first: &[u8],
         second: &[u8],
     ) -> Result<(), AllocError>
-        ensures { OnOk result (self.new ≡ self.old ++ fault_of span code (utf8_lossy first.now ∷ utf8_lossy second.now ∷ []) ∷ []) }
+        ensures { OnOk result
+            (self.new
+            ≡ self.old ++ fault_of span code (utf8_lossy first.now ∷ utf8_lossy second.now ∷ [])
+            ∷ []) }
     {
         let args = Args::two_lossy(self.alloc, first, second)?;
         self.report(span, code, args)

@@ -71,7 +71,8 @@ impl<R: Read> Input<R> {
     /// [`Stop::ReadFault`] where the inner read answers an error, an interrupt by a signal too.
     pub fn read(&mut self, buf: &mut [u8]) -> Result<usize, Stop>
         ensures bound { ReadsAtMost result buf.new }
-        ensures bytes { ReadConsumes (bytes_left R.remaining self.old) (bytes_left R.remaining self.new) result buf.new }
+        ensures bytes { ReadConsumes (bytes_left R.remaining self.old)
+            (bytes_left R.remaining self.new) result buf.new }
         ensures turns { turns_of self.new ≡ raised (turns_of self.old) 1 }
         ensures asked { largest_ask self.new ≡ max (largest_ask self.old) (length buf.old) }
         ensures failures { OnOk result (read_failures self.new ≡ read_failures self.old) }
@@ -115,7 +116,8 @@ impl<W: Write> Output<W> {
         ensures all { OnOk result (Writes W.contents self.old self.new bytes.now) }
         ensures prefix { OnErr result (WritesPrefix W.contents self.old self.new bytes.now) }
         ensures failures { OnOk result (write_failures self.new ≡ write_failures self.old) }
-        ensures failed { OnErr result (HasRisen (write_failures self.old) (write_failures self.new)) }
+        ensures failed { OnErr result
+            (HasRisen (write_failures self.old) (write_failures self.new)) }
         ensures err { IsOkUnless result Stop.WriteFault }
     {
         let mut done = 0;
@@ -130,9 +132,11 @@ impl<W: Write> Output<W> {
         requires { 0 < length bytes.now }
         ensures bound { IfOk result (λ n. (0 < n) × (n ≤ length bytes.now)) }
         ensures all { IfOk result (λ n. Writes W.contents self.old self.new (take n bytes.now)) }
-        ensures kept { OnErr result (Keeps (bytes_written W.contents self.old) (bytes_written W.contents self.new)) }
+        ensures kept { OnErr result
+            (Keeps (bytes_written W.contents self.old) (bytes_written W.contents self.new)) }
         ensures failures { OnOk result (write_failures self.new ≡ write_failures self.old) }
-        ensures failed { OnErr result (HasRisen (write_failures self.old) (write_failures self.new)) }
+        ensures failed { OnErr result
+            (HasRisen (write_failures self.old) (write_failures self.new)) }
         ensures err { IsOkUnless result Stop.WriteFault }
     {
         match self.inner.write(bytes) {
@@ -150,9 +154,11 @@ impl<W: Write> Output<W> {
     ///
     /// [`Stop::WriteFault`] where that failed, which counts as a write that failed.
     pub fn flush(&mut self) -> Result<(), Stop>
-        ensures bytes { Keeps (bytes_written W.contents self.old) (bytes_written W.contents self.new) }
+        ensures bytes { Keeps (bytes_written W.contents self.old)
+            (bytes_written W.contents self.new) }
         ensures failures { OnOk result (write_failures self.new ≡ write_failures self.old) }
-        ensures failed { OnErr result (HasRisen (write_failures self.old) (write_failures self.new)) }
+        ensures failed { OnErr result
+            (HasRisen (write_failures self.old) (write_failures self.new)) }
         ensures err { IsOkUnless result Stop.WriteFault }
     {
         match self.inner.flush() {

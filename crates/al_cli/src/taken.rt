@@ -129,7 +129,8 @@ fn put_behind(
     bytes: &[u8],
 ) -> Result<(), Refused>
     requires kept { AreKept files.old.folder files.old.checks order.old.items }
-    requires new { bytes_at (folder_with [] (entries_in files.old.folder order.old.items)) path ≡ None }
+    requires new { bytes_at (folder_with [] (entries_in files.old.folder order.old.items)) path
+        ≡ None }
     ensures kept { AreKept files.new.folder files.new.checks order.new.items }
     ensures put { OnOk result (entries_in files.new.folder order.new.items
         ≡ entries_in files.old.folder order.old.items ++ (path, bytes.now) ∷ []) }
@@ -151,7 +152,8 @@ fn with_bytes(
     files: &Loaded,
     paths: Vec<Path>,
 ) -> Result<Vec<(Path, Vec<u8>)>, AllocError>
-    ensures { IfOk result (λ list. map owned_entry list.items ≡ entries_in files.now.folder paths.items) }
+    ensures { IfOk result
+        (λ list. map owned_entry list.items ≡ entries_in files.now.folder paths.items) }
 {
     let mut list = Vec::with_capacity(alloc, paths.len())?;
     for path in paths {

@@ -77,14 +77,16 @@ fn next_put<'a>(bytes: &'a [u8], end: usize, path: &'a str, length: usize) -> Ne
 // The first LF, where the line before it isn't too long.
 fn find_break(bytes: &[u8]) -> Option<usize>
     ensures { MatchOption result (HasNoBreak (take (longest_line + 1) bytes.now))
-        (λ end. (end < length bytes.now) × (end ≤ longest_line) × HasNoBreak (take end bytes.now) × (slice_index bytes.now end ≡ 10)) }
+        (λ end. (end < length bytes.now) × (end ≤ longest_line) × HasNoBreak (take end bytes.now)
+        × (slice_index bytes.now end ≡ 10)) }
 {
     first_break(&bytes[..bytes.len().min(LONGEST_LINE + 1)])
 }
 
 pub(crate) fn first_break(bytes: &[u8]) -> Option<usize>
     ensures { MatchOption result (HasNoBreak bytes.now)
-        (λ end. (end < length bytes.now) × HasNoBreak (take end bytes.now) × (slice_index bytes.now end ≡ 10)) }
+        (λ end. (end < length bytes.now) × HasNoBreak (take end bytes.now)
+        × (slice_index bytes.now end ≡ 10)) }
 {
     bytes.iter().position(|b| *b == b'\n')
 }
@@ -141,7 +143,8 @@ fn read_put(rest: &[u8]) -> Option<(&str, usize)>
 // A path's text, which is UTF-8 and not empty.
 fn read_path(bytes: &[u8]) -> Option<&str>
     requires { HasNoBreak bytes.now }
-    ensures { MatchOption result (IsPathText bytes.now → ⊥) (λ path. (path.now ≡ bytes.now) × IsPathText bytes.now) }
+    ensures { MatchOption result (IsPathText bytes.now → ⊥)
+        (λ path. (path.now ≡ bytes.now) × IsPathText bytes.now) }
 {
     if bytes.is_empty() {
         return None;
@@ -154,7 +157,8 @@ fn read_path(bytes: &[u8]) -> Option<&str>
 
 fn last_space(text: &[u8]) -> Option<usize>
     ensures { MatchOption result (All (λ b. b ≢ 32) text.now)
-        (λ at. (at < length text.now) × (slice_index text.now at ≡ 32) × All (λ b. b ≢ 32) (drop (at + 1) text.now)) }
+        (λ at. (at < length text.now) × (slice_index text.now at ≡ 32)
+        × All (λ b. b ≢ 32) (drop (at + 1) text.now)) }
 {
     text.iter().rposition(|b| *b == b' ')
 }

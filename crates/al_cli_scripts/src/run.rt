@@ -41,7 +41,8 @@ pub fn run_session<R: Read, W: Write>(
     writer: &mut Output<W>,
     oneline: bool,
 ) -> Result<u8, Stop>
-    ensures end { IfOk result (RunsToEnd (replies.session oneline) [] [] (bytes_left R.remaining reader.old)
+    ensures end { IfOk result
+        (RunsToEnd (replies.session oneline) [] [] (bytes_left R.remaining reader.old)
         (bytes_written W.contents writer.old) (bytes_written W.contents writer.new)) }
     ensures stop { IfErr result (Stops (replies.session oneline) []
         (bytes_left R.remaining reader.old) (bytes_left R.remaining reader.new)
@@ -49,11 +50,15 @@ pub fn run_session<R: Read, W: Write>(
     ensures last_read { OnOk result (ReadsNoFurther (replies.session oneline) []
         (bytes_left R.remaining reader.old) (bytes_left R.remaining reader.new)) }
     ensures reads { turns_of reader.new ≤ turns_of reader.old + most_reads }
-    ensures read_failures { CountsFailures result Stop.ReadFault (read_failures reader.old) (read_failures reader.new) }
-    ensures write_failures { CountsFailures result Stop.WriteFault (write_failures writer.old) (write_failures writer.new) }
-    ensures all_turns { IsErrOf result Stop.TooManyTurns → turns_of reader.new ≡ raised (turns_of reader.old) most_reads }
+    ensures read_failures { CountsFailures result Stop.ReadFault (read_failures reader.old)
+        (read_failures reader.new) }
+    ensures write_failures { CountsFailures result Stop.WriteFault (write_failures writer.old)
+        (write_failures writer.new) }
+    ensures all_turns { IsErrOf result Stop.TooManyTurns
+        → turns_of reader.new ≡ raised (turns_of reader.old) most_reads }
     ensures asked { largest_ask reader.new ≤ max (largest_ask reader.old) largest_read }
-    ensures asks { result ≢ Err Memory → largest_ask reader.new ≡ max (largest_ask reader.old) largest_read }
+    ensures asks { result ≢ Err Memory
+        → largest_ask reader.new ≡ max (largest_ask reader.old) largest_read }
 {
     // A proof knows that a count fits its type where the body reads it.
     let _turns_before = reader.turns();
@@ -102,8 +107,10 @@ fn take_turn<R: Read, W: Write>(
         result }
     ensures turns { turns_of reader.new ≡ raised (turns_of reader.old) 1 }
     ensures asked { largest_ask reader.new ≡ max (largest_ask reader.old) largest_read }
-    ensures read_failures { CountsFailures result Stop.ReadFault (read_failures reader.old) (read_failures reader.new) }
-    ensures write_failures { CountsFailures result Stop.WriteFault (write_failures writer.old) (write_failures writer.new) }
+    ensures read_failures { CountsFailures result Stop.ReadFault (read_failures reader.old)
+        (read_failures reader.new) }
+    ensures write_failures { CountsFailures result Stop.WriteFault (write_failures writer.old)
+        (write_failures writer.new) }
 {
     let count = reader.read(piece)?;
     if count == 0 {
@@ -135,14 +142,19 @@ fn finish<W: Write>(
     writer: &mut Output<W>,
 ) -> Result<u8, Stop>
     requires { BeginsWithCommand waiting.now → ⊥ }
-    ensures ok { IfOk result (λ answer. (last : List ℕ) × Ends (replies.session false) session.old.folder waiting.now last answer
-        × Appends (bytes_written W.contents writer.old) (bytes_written W.contents writer.new) last) }
+    ensures ok { IfOk result
+        (λ answer. (last : List ℕ)
+        × Ends (replies.session false) session.old.folder waiting.now last answer
+        × Appends (bytes_written W.contents writer.old)
+        (bytes_written W.contents writer.new) last) }
     ensures err { OnErr result
         (((waiting.now ≢ [])
-        × AppendsPrefix (bytes_written W.contents writer.old) (bytes_written W.contents writer.new) (codes "bad command\n"))
+        × AppendsPrefix (bytes_written W.contents writer.old) (bytes_written W.contents writer.new)
+        (codes "bad command\n"))
         ⊎ Keeps (bytes_written W.contents writer.old) (bytes_written W.contents writer.new)) }
     ensures failures { OnOk result (write_failures writer.new ≡ write_failures writer.old) }
-    ensures failed { IsErrOf result Stop.WriteFault → HasRisen (write_failures writer.old) (write_failures writer.new) }
+    ensures failed { IsErrOf result Stop.WriteFault
+        → HasRisen (write_failures writer.old) (write_failures writer.new) }
     ensures only { IfErr result (λ e. (e ≡ WriteFault) ⊎ (e ≡ Memory)) }
     ensures unchanged { session.new ≡ session.old }
 {
@@ -160,12 +172,15 @@ fn answer_all<W: Write>(
     writer: &mut Output<W>,
     oneline: bool,
 ) -> Result<Progress, Stop>
-    ensures ok { IfOk result (λ progress. Progresses (replies.session oneline) session.old.folder session.new.folder waiting.now progress
+    ensures ok { IfOk result
+        (λ progress. Progresses
+        (replies.session oneline) session.old.folder session.new.folder waiting.now progress
         (bytes_written W.contents writer.old) (bytes_written W.contents writer.new)) }
     ensures err { OnErr result (IsStuck (replies.session oneline) session.old.folder waiting.now
         (bytes_written W.contents writer.old) (bytes_written W.contents writer.new)) }
     ensures failures { OnOk result (write_failures writer.new ≡ write_failures writer.old) }
-    ensures failed { IsErrOf result Stop.WriteFault → HasRisen (write_failures writer.old) (write_failures writer.new) }
+    ensures failed { IsErrOf result Stop.WriteFault
+        → HasRisen (write_failures writer.old) (write_failures writer.new) }
     ensures only { IfErr result (λ e. (e ≡ WriteFault) ⊎ (e ≡ Memory)) }
 {
     let mut done = 0;
@@ -192,15 +207,20 @@ fn answer<W: Write>(
     writer: &mut Output<W>,
     oneline: bool,
 ) -> Result<(), Stop>
-    ensures after { OnOk result (session.new.folder ≡ replies.after_command session.old.folder (meaning command.entry)) }
-    ensures ok { OnOk result (Appends (bytes_written W.contents writer.old) (bytes_written W.contents writer.new)
+    ensures after { OnOk result
+        (session.new.folder ≡ replies.after_command session.old.folder (meaning command.entry)) }
+    ensures ok { OnOk result
+        (Appends (bytes_written W.contents writer.old) (bytes_written W.contents writer.new)
         (replies.reply_to oneline session.old.folder (meaning command.entry))) }
-    ensures err { OnErr result (AppendsPrefix (bytes_written W.contents writer.old) (bytes_written W.contents writer.new)
+    ensures err { OnErr result
+        (AppendsPrefix (bytes_written W.contents writer.old) (bytes_written W.contents writer.new)
         (replies.reply_to oneline session.old.folder (meaning command.entry))) }
     ensures failures { OnOk result (write_failures writer.new ≡ write_failures writer.old) }
-    ensures failed { IsErrOf result Stop.WriteFault → HasRisen (write_failures writer.old) (write_failures writer.new) }
+    ensures failed { IsErrOf result Stop.WriteFault
+        → HasRisen (write_failures writer.old) (write_failures writer.new) }
     ensures only { IfErr result (λ e. (e ≡ WriteFault) ⊎ (e ≡ Memory)) }
-    ensures memory { IsErrOf result Stop.Memory → replies.refusal_of session.old.folder (meaning command.entry) ≡ None }
+    ensures memory { IsErrOf result Stop.Memory
+        → replies.refusal_of session.old.folder (meaning command.entry) ≡ None }
 {
     match command {
         Command::Put(path, bytes) => write_reply(writer, session.put(path, bytes)),
@@ -212,10 +232,14 @@ fn answer<W: Write>(
 // Writes the reply to an edit. Want of memory has none, and ends the run; no other reply does.
 fn write_reply<W: Write>(writer: &mut Output<W>, reply: Result<Edit, Refused>) -> Result<(), Stop>
     ensures ok { OnOk result ((reply ≢ Err refused.Memory)
-        × Appends (bytes_written W.contents writer.old) (bytes_written W.contents writer.new) (replies.reply_bytes reply)) }
-    ensures err { IfErr result (replies.ReplyStops reply (bytes_written W.contents writer.old) (bytes_written W.contents writer.new)) }
+        × Appends (bytes_written W.contents writer.old) (bytes_written W.contents writer.new)
+        (replies.reply_bytes reply)) }
+    ensures err { IfErr result
+        (replies.ReplyStops reply (bytes_written W.contents writer.old)
+        (bytes_written W.contents writer.new)) }
     ensures failures { OnOk result (write_failures writer.new ≡ write_failures writer.old) }
-    ensures failed { IsErrOf result Stop.WriteFault → HasRisen (write_failures writer.old) (write_failures writer.new) }
+    ensures failed { IsErrOf result Stop.WriteFault
+        → HasRisen (write_failures writer.old) (write_failures writer.new) }
 {
     match reply {
         Ok(edit) => write_number(writer, b"ok ", edit.rechecked.as_slice().len() as u64),
@@ -244,12 +268,15 @@ fn write_report<W: Write>(
     session: &mut Session<Actions>,
     oneline: bool,
 ) -> Result<(), Stop>
-    ensures ok { OnOk result (Appends (bytes_written W.contents writer.old) (bytes_written W.contents writer.new)
+    ensures ok { OnOk result
+        (Appends (bytes_written W.contents writer.old) (bytes_written W.contents writer.new)
         (replies.reply_to oneline session.old.folder script.Report)) }
-    ensures err { OnErr result (AppendsPrefix (bytes_written W.contents writer.old) (bytes_written W.contents writer.new)
+    ensures err { OnErr result
+        (AppendsPrefix (bytes_written W.contents writer.old) (bytes_written W.contents writer.new)
         (replies.reply_to oneline session.old.folder script.Report)) }
     ensures failures { OnOk result (write_failures writer.new ≡ write_failures writer.old) }
-    ensures failed { IsErrOf result Stop.WriteFault → HasRisen (write_failures writer.old) (write_failures writer.new) }
+    ensures failed { IsErrOf result Stop.WriteFault
+        → HasRisen (write_failures writer.old) (write_failures writer.new) }
     ensures only { IfErr result (λ e. (e ≡ WriteFault) ⊎ (e ≡ Memory)) }
     ensures unchanged { session.new ≡ session.old }
 {
@@ -260,12 +287,15 @@ fn write_report<W: Write>(
 
 // Writes a line of a word and a number.
 fn write_number<W: Write>(writer: &mut Output<W>, word: &[u8], number: u64) -> Result<(), Stop>
-    ensures ok { OnOk result (Appends (bytes_written W.contents writer.old) (bytes_written W.contents writer.new)
+    ensures ok { OnOk result
+        (Appends (bytes_written W.contents writer.old) (bytes_written W.contents writer.new)
         (word.now ++ decimal number ++ codes "\n")) }
-    ensures err { OnErr result (AppendsPrefix (bytes_written W.contents writer.old) (bytes_written W.contents writer.new)
+    ensures err { OnErr result
+        (AppendsPrefix (bytes_written W.contents writer.old) (bytes_written W.contents writer.new)
         (word.now ++ decimal number ++ codes "\n")) }
     ensures failures { OnOk result (write_failures writer.new ≡ write_failures writer.old) }
-    ensures failed { OnErr result (HasRisen (write_failures writer.old) (write_failures writer.new)) }
+    ensures failed { OnErr result
+        (HasRisen (write_failures writer.old) (write_failures writer.new)) }
     ensures only { IsOkUnless result Stop.WriteFault }
 {
     let mut digits = Buffer::new();

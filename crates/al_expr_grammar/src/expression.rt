@@ -34,7 +34,9 @@ fn parse_fault(
     error: ParseError,
 ) -> Result<Fault, AllocError>
     requires { IsVerdict error (verdict_of (kinds (map seen tokens.now))) }
-    ensures { IfOk result (λ f. fault_of_verdict length (map seen tokens.now) (verdict_of (kinds (map seen tokens.now))) ≡ Some f) }
+    ensures { IfOk result
+        (λ f. fault_of_verdict length (map seen tokens.now)
+        (verdict_of (kinds (map seen tokens.now))) ≡ Some f) }
 {
     match error {
         ParseError::Memory => Err(AllocError),

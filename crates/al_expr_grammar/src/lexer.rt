@@ -243,7 +243,8 @@ fn read_at(bytes: &[u8]) -> Read
 /// The tokens of a content, or why they are not all read.
 fn tokens(alloc: Global, content: &str) -> Result<Result<Vec<Token>, LexError>, AllocError>
     requires { length content.now < 2 ^ 32 }
-    ensures { IfOk result (λ r. MatchResult r (λ v. tokens_of content.now ≡ AllRead (map seen v.items))
+    ensures { IfOk result
+        (λ r. MatchResult r (λ v. tokens_of content.now ≡ AllRead (map seen v.items))
         (λ e. tokens_of content.now ≡ unread e)) }
 {
     let mut tokens = Vec::new(alloc);
@@ -299,7 +300,8 @@ fn last_quote(bytes: &[u8]) -> Option<usize>
 /// closed. The outer error: out of memory.
 pub fn lex(alloc: Global, content: &str) -> Result<Result<Vec<Token>, Fault>, AllocError>
     requires { length content.now ≤ longest_text }
-    ensures { IfOk result (λ r. MatchResult r (λ v. tokens_of content.now ≡ AllRead (map seen v.items))
+    ensures { IfOk result
+        (λ r. MatchResult r (λ v. tokens_of content.now ≡ AllRead (map seen v.items))
         (λ f. fault_of_lexed content.now (tokens_of content.now) ≡ Some f)) }
 {
     match tokens(alloc, content)? {

@@ -57,7 +57,8 @@ fn level_of(operator: Operator) -> u8
 
 /// The first token, and the others.
 fn split<'t, 'a>(tokens: &'t [Token<'a>]) -> Option<(Token<'a>, &'t [Token<'a>])>
-    ensures { MatchOption result (map seen tokens.now ≡ []) (λ x. map seen tokens.now ≡ seen x.0 ∷ map seen x.1.now) }
+    ensures { MatchOption result (map seen tokens.now ≡ [])
+        (λ x. map seen tokens.now ≡ seen x.0 ∷ map seen x.1.now) }
 {
     match tokens {
         [] => None,
@@ -102,7 +103,8 @@ fn past<'t, 'a>(
     tokens: &'t [Token<'a>],
     kind: TokenKind,
 ) -> Result<(Token<'a>, &'t [Token<'a>]), ParseError>
-    ensures { MatchResult result (λ x. (map seen tokens.now ≡ seen x.0 ∷ map seen x.1.now) × (kind_of (seen x.0) ≡ kind))
+    ensures { MatchResult result
+        (λ x. (map seen tokens.now ≡ seen x.0 ∷ map seen x.1.now) × (kind_of (seen x.0) ≡ kind))
         (λ e. IsStray (map seen tokens.now) kind e) }
 {
     let Some((first, rest)) = split(tokens) else {
@@ -121,7 +123,8 @@ fn operator<'t, 'a>(
     tokens: &'t [Token<'a>],
 ) -> Option<(Operator, Token<'a>, &'t [Token<'a>])>
     ensures { MatchOption result (NoOperator level (kinds (map seen tokens.now)))
-        (λ x. (map seen tokens.now ≡ seen x.1 ∷ map seen x.2.now) × (kind_of (seen x.1) ≡ Infix x.0) × (level_of x.0 ≡ level)) }
+        (λ x. (map seen tokens.now ≡ seen x.1 ∷ map seen x.2.now)
+        × (kind_of (seen x.1) ≡ Infix x.0) × (level_of x.0 ≡ level)) }
 {
     let Some((first, rest)) = split(tokens) else {
         return None;
@@ -138,7 +141,8 @@ fn operator<'t, 'a>(
 
 /// The first token where it is of this kind, and what follows it.
 fn after<'t, 'a>(tokens: &'t [Token<'a>], kind: TokenKind) -> Option<(Token<'a>, &'t [Token<'a>])>
-    ensures { MatchOption result ((rest : List TokenKind) → kinds (map seen tokens.now) ≢ kind ∷ rest)
+    ensures { MatchOption result
+        ((rest : List TokenKind) → kinds (map seen tokens.now) ≢ kind ∷ rest)
         (λ x. (map seen tokens.now ≡ seen x.0 ∷ map seen x.1.now) × (kind_of (seen x.0) ≡ kind)) }
 {
     let (first, rest) = split(tokens)?;
@@ -151,7 +155,8 @@ fn after<'t, 'a>(tokens: &'t [Token<'a>], kind: TokenKind) -> Option<(Token<'a>,
 
 /// The nesting that is left inside a bracket or behind a `!`, with so many tokens left, it included.
 fn deeper(room: u32, left: usize) -> Result<u32, ParseError>
-    ensures { MatchResult result (λ inner. inner + 1 ≡ room) (λ e. (room ≡ 0) × (e ≡ TooDeep left)) }
+    ensures { MatchResult result (λ inner. inner + 1 ≡ room)
+        (λ e. (room ≡ 0) × (e ≡ TooDeep left)) }
 {
     if room == 0 {
         return Err(ParseError::TooDeep(left));
@@ -238,7 +243,8 @@ fn call<'t, 'a>(
 ) -> Result<(Expr, &'t [Token<'a>]), ParseError>
     requires name { kind_of (seen name) ≡ Name }
     requires bracket { kind_of (seen bracket) ≡ Open }
-    ensures { Parses Primary room (seen name.entry ∷ seen bracket.entry ∷ map seen tokens.now) result }
+    ensures { Parses Primary room
+        (seen name.entry ∷ seen bracket.entry ∷ map seen tokens.now) result }
 {
     let inner = deeper(room, tokens.len() + 1)?;
     let function = word(alloc, name)?;
@@ -258,7 +264,8 @@ fn arguments<'t, 'a>(
     room: u32,
 ) -> Result<(Vec<Expr>, &'t [Token<'a>]), ParseError>
     requires { NoClose (kinds (map seen tokens.now)) }
-    ensures { MatchResult result (λ x. ArgumentsRead room (map seen tokens.now) (map tree_of x.0.items) (map seen x.1.now))
+    ensures { MatchResult result
+        (λ x. ArgumentsRead room (map seen tokens.now) (map tree_of x.0.items) (map seen x.1.now))
         (λ e. ArgumentsRefused room (map seen tokens.now) e) }
 {
     let (first, mut left) = binary(alloc, 0, tokens, room)?;
@@ -395,7 +402,9 @@ fn operand<'t, 'a>(
 
 /// The tree of the tokens, or the first fault in them.
 pub fn parse(alloc: Global, tokens: &[Token]) -> Result<Expr, ParseError>
-    ensures { MatchResult result (λ e. (verdict_of (kinds (map seen tokens.now)) ≡ Fine) × IsTreeOf (tree_of e) (map seen tokens.now))
+    ensures { MatchResult result
+        (λ e. (verdict_of (kinds (map seen tokens.now)) ≡ Fine)
+        × IsTreeOf (tree_of e) (map seen tokens.now))
         (λ e. IsVerdict e (verdict_of (kinds (map seen tokens.now)))) }
 {
     let (expr, rest) = binary(alloc, 0, tokens, DEEPEST_EXPRESSION)?;

@@ -131,7 +131,8 @@ fn field_trees(
     requires below { are_fields_below below fields.now ≡ true }
     requires inside { below ≤ length types.now.objects.items }
     ensures { IfOk result (λ v. map field_of v.items ≡ named_types (objects_of types.now)
-        (names_in fields.now.map.value.names) (take fields.now.count fields.now.map.value.types.items)) }
+        (names_in fields.now.map.value.names)
+        (take fields.now.count fields.now.map.value.types.items)) }
 {
     let mut trees = Vec::new(alloc);
     for i in 0..fields.count {

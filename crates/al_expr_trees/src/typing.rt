@@ -25,8 +25,11 @@ pub fn type_of(
     expr: &Expr,
     out: &mut Vec<Fault>,
 ) -> Result<Ty, AllocError>
-    ensures ty { IfOk result (λ t. ty_of t ≡ type_in (meaning_of (scope_of env.now) (tree_of expr.now))) }
-    ensures faults { OnOk result (out.new.items ≡ out.old.items ++ faults_in (meaning_of (scope_of env.now) (tree_of expr.now))) }
+    ensures ty { IfOk result
+        (λ t. ty_of t ≡ type_in (meaning_of (scope_of env.now) (tree_of expr.now))) }
+    ensures faults { OnOk result
+        (out.new.items
+        ≡ out.old.items ++ faults_in (meaning_of (scope_of env.now) (tree_of expr.now))) }
     ensures begins { BeginsWith out.new.items out.old.items }
 {
     let mut types = Types::new(alloc);

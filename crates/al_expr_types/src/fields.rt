@@ -36,9 +36,11 @@ impl<'a> FieldMap<'a> {
 
     /// The fields, and one more behind them unless one has its name. Fails with `AllocError` where it is out of memory, as below.
     pub fn and(self, alloc: Global, name: &'a [u8], ty: Ty) -> Result<FieldMap<'a>, AllocError>
-        ensures names { IfOk result (λ f. names_in f.names ≡ (if is_none (name_place (names_in self.entry.names) name.now)
+        ensures names { IfOk result
+            (λ f. names_in f.names ≡ (if is_none (name_place (names_in self.entry.names) name.now)
             then names_in self.entry.names ++ name.now ∷ [] else names_in self.entry.names)) }
-        ensures types { IfOk result (λ f. f.types.items ≡ (if is_none (name_place (names_in self.entry.names) name.now)
+        ensures types { IfOk result
+            (λ f. f.types.items ≡ (if is_none (name_place (names_in self.entry.names) name.now)
             then self.entry.types.items ++ ty ∷ [] else self.entry.types.items)) }
     {
         let mut types = self.types;
@@ -69,7 +71,8 @@ impl<'a> FieldMap<'a> {
     /// The type at a position, where it is one of the first so many.
     fn type_at(&self, i: usize, count: usize) -> Option<Ty>
         ensures ty { result ≡ slice_get (take count self.now.types.items) i }
-        ensures below { (k : ℕ) → list_all (is_below k) self.now.types.items ≡ true → is_rest_below k result ≡ true }
+        ensures below { (k : ℕ) → list_all (is_below k) self.now.types.items ≡ true
+            → is_rest_below k result ≡ true }
     {
         if i >= count {
             return None;
@@ -83,8 +86,12 @@ impl<'a> FieldMap<'a> {
     /// The type of the field of a name, in any ASCII case, where it is one of the first so many.
     pub fn get(&self, alloc: Global, name: &[u8], count: usize) -> Result<Option<Ty>, AllocError>
         ensures ty { IfOk result (λ found. (ms : List Parts) → option_map (type_in ms) found
-            ≡ field_at name.now (fields_of (named_types ms (names_in self.now.names) (take count self.now.types.items)))) }
-        ensures below { IfOk result (λ found. (k : ℕ) → list_all (is_below k) self.now.types.items ≡ true → is_rest_below k found ≡ true) }
+            ≡ field_at name.now
+            (fields_of
+            (named_types ms (names_in self.now.names) (take count self.now.types.items)))) }
+        ensures below { IfOk result
+            (λ found. (k : ℕ) → list_all (is_below k) self.now.types.items ≡ true
+            → is_rest_below k found ≡ true) }
     {
         let position = self.names.position(alloc, name)?;
         match position {

@@ -24,8 +24,10 @@ impl<'a> Types<'a> {
     fn merge(&self, n: u32, sofar: FieldJoins<'a>) -> Result<FieldJoins<'a>, AllocError>
         requires { n < length self.now.objects.items }
         ensures found { IfOk result (λ m. found_in (objects_of self.now) m
-            ≡ λ name. fuse_optional (found_in (objects_of self.now) sofar.entry name) ((object_in (objects_of self.now) n).0 name)) }
-        ensures below { IfOk result (λ m. are_joins_below (length self.now.objects.items) sofar.entry ≡ true
+            ≡ λ name. fuse_optional (found_in (objects_of self.now) sofar.entry name)
+            ((object_in (objects_of self.now) n).0 name)) }
+        ensures below { IfOk result
+            (λ m. are_joins_below (length self.now.objects.items) sofar.entry ≡ true
             → are_joins_below (length self.now.objects.items) m ≡ true) }
     {
         if let Some(index) = self.index_of(n) {
@@ -61,7 +63,8 @@ impl<'a> Types<'a> {
         requires { are_joins_below (length self.old.objects.items) merging.now ≡ true }
         ensures types { IfOk result (λ v. map (λ t. Present (type_at self.new t)) v.items
             ≡ map (join_in (objects_of self.old)) merging.now.joins.items) }
-        ensures known { IfOk result (λ v. list_all (is_below (length self.new.objects.items)) v.items ≡ true) }
+        ensures known { IfOk result
+            (λ v. list_all (is_below (length self.new.objects.items)) v.items ≡ true) }
         ensures kept { BeginsWith (objects_of self.new) (objects_of self.old) }
     {
         let mut types = Vec::new(self.alloc);

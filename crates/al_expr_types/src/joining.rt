@@ -46,8 +46,11 @@ fn any_in_arrays(arrays: u32) -> Ty
 
 /// What two types have in common. Fails with `AllocError` where it is out of memory, as all here.
 fn join_types(alloc: Global, a: Ty, b: Ty) -> Result<Join, AllocError>
-    ensures ty { IfOk result (λ j. (ms : List Parts) → join_in ms j ≡ Present (fuse_type (type_in ms a) (type_in ms b))) }
-    ensures below { IfOk result (λ j. (k : ℕ) → is_below k a ≡ true → is_below k b ≡ true → is_join_below k j ≡ true) }
+    ensures ty { IfOk result
+        (λ j. (ms : List Parts)
+        → join_in ms j ≡ Present (fuse_type (type_in ms a) (type_in ms b))) }
+    ensures below { IfOk result
+        (λ j. (k : ℕ) → is_below k a ≡ true → is_below k b ≡ true → is_join_below k j ≡ true) }
 {
     if a.arrays != b.arrays {
         return Ok(Join::One(any_in_arrays(a.arrays.min(b.arrays))));
@@ -73,8 +76,11 @@ fn join_types(alloc: Global, a: Ty, b: Ty) -> Result<Join, AllocError>
 /// What two objects have in common, in so many arrays.
 fn join_objects(alloc: Global, arrays: u32, m: u32, n: u32) -> Result<Join, AllocError>
     ensures ty { IfOk result (λ j. (ms : List Parts) → join_in ms j
-        ≡ Present (arrays_of arrays (fuse_type (base_type ms (base.Object m)) (base_type ms (base.Object n))))) }
-    ensures below { IfOk result (λ j. (k : ℕ) → nat_lt m k ≡ true → nat_lt n k ≡ true → is_join_below k j ≡ true) }
+        ≡ Present
+        (arrays_of arrays
+        (fuse_type (base_type ms (base.Object m)) (base_type ms (base.Object n))))) }
+    ensures below { IfOk result
+        (λ j. (k : ℕ) → nat_lt m k ≡ true → nat_lt n k ≡ true → is_join_below k j ≡ true) }
 {
     if m == n {
         return Ok(Join::One(Ty {
@@ -154,9 +160,11 @@ impl ObjectJoin {
     /// What they have in common with one more.
     fn and_object(self, n: u32) -> Result<ObjectJoin, AllocError>
         ensures arrays { IfOk result (λ s. s.arrays ≡ self.arrays) }
-        ensures objects { IfOk result (λ s. (ms : List Parts) → fused (map (object_in ms) s.objects.items)
+        ensures objects { IfOk result
+            (λ s. (ms : List Parts) → fused (map (object_in ms) s.objects.items)
             ≡ fuse_parts (fused (map (object_in ms) self.objects.items)) (object_in ms n)) }
-        ensures below { IfOk result (λ s. (k : ℕ) → are_below k self.objects.items ≡ true → nat_lt n k ≡ true
+        ensures below { IfOk result
+            (λ s. (k : ℕ) → are_below k self.objects.items ≡ true → nat_lt n k ≡ true
             → are_below k s.objects.items ≡ true) }
     {
         if self.has(n) {
@@ -167,8 +175,11 @@ impl ObjectJoin {
     }
 
     fn and(self, t: Ty) -> Result<Join, AllocError>
-        ensures ty { IfOk result (λ j. (ms : List Parts) → join_in ms j ≡ Present (fuse_type (object_join_type ms self) (type_in ms t))) }
-        ensures below { IfOk result (λ j. (k : ℕ) → are_below k self.objects.items ≡ true → is_below k t ≡ true
+        ensures ty { IfOk result
+            (λ j. (ms : List Parts)
+            → join_in ms j ≡ Present (fuse_type (object_join_type ms self) (type_in ms t))) }
+        ensures below { IfOk result
+            (λ j. (k : ℕ) → are_below k self.objects.items ≡ true → is_below k t ≡ true
             → is_join_below k j ≡ true) }
     {
         if self.arrays != t.arrays {
@@ -187,8 +198,12 @@ impl ObjectJoin {
 impl Join {
     /// What they have in common with one more.
     pub fn and(self, alloc: Global, t: Ty) -> Result<Join, AllocError>
-        ensures ty { IfOk result (λ j. (ms : List Parts) → join_in ms j ≡ fuse_optional (join_in ms self) (Present (type_in ms t))) }
-        ensures below { IfOk result (λ j. (k : ℕ) → is_join_below k self ≡ true → is_below k t ≡ true → is_join_below k j ≡ true) }
+        ensures ty { IfOk result
+            (λ j. (ms : List Parts)
+            → join_in ms j ≡ fuse_optional (join_in ms self) (Present (type_in ms t))) }
+        ensures below { IfOk result
+            (λ j. (k : ℕ) → is_join_below k self ≡ true → is_below k t ≡ true
+            → is_join_below k j ≡ true) }
     {
         match self {
             Join::Nothing => Ok(Join::One(t)),
@@ -200,7 +215,8 @@ impl Join {
     /// The same once more.
     pub(crate) fn copy(&self, alloc: Global) -> Result<Join, AllocError>
         ensures ty { IfOk result (λ j. (ms : List Parts) → join_in ms j ≡ join_in ms self.now) }
-        ensures below { IfOk result (λ j. (k : ℕ) → is_join_below k self.now ≡ true → is_join_below k j ≡ true) }
+        ensures below { IfOk result
+            (λ j. (k : ℕ) → is_join_below k self.now ≡ true → is_join_below k j ≡ true) }
     {
         match self {
             Join::Nothing => Ok(Join::Nothing),

@@ -54,8 +54,12 @@ impl<'a> FieldJoins<'a> {
 
     /// Joins a type into a place. Where memory is wanting, what stood there is lost.
     fn join_into(alloc: Global, slot: &mut Join, ty: Ty) -> Result<(), AllocError>
-        ensures ty { OnOk result ((ms : List Parts) → join_in ms slot.new ≡ fuse_optional (join_in ms slot.old) (Present (type_in ms ty))) }
-        ensures below { OnOk result ((k : ℕ) → is_join_below k slot.old ≡ true → is_below k ty ≡ true → is_join_below k slot.new ≡ true) }
+        ensures ty { OnOk result
+            ((ms : List Parts)
+            → join_in ms slot.new ≡ fuse_optional (join_in ms slot.old) (Present (type_in ms ty))) }
+        ensures below { OnOk result
+            ((k : ℕ) → is_join_below k slot.old ≡ true → is_below k ty ≡ true
+            → is_join_below k slot.new ≡ true) }
     {
         let old = replace(slot, Join::Nothing);
         let more = old.and(alloc, ty)?;
@@ -127,7 +131,8 @@ impl<'a> FieldJoins<'a> {
     ) -> Result<FieldJoins<'a>, AllocError>
         ensures found { IfOk result (λ m. (ms : List Parts)
             → found_in ms m
-            ≡ (if is_first then and_named (found_in ms self.entry) name.now (Present (type_in ms ty)) else found_in ms self.entry)) }
+            ≡ (if is_first then and_named (found_in ms self.entry) name.now
+            (Present (type_in ms ty)) else found_in ms self.entry)) }
         ensures below { IfOk result (λ m. (k : ℕ) → are_joins_below k self.entry
             ≡ true → is_below k ty ≡ true → are_joins_below k m ≡ true) }
     {
@@ -149,7 +154,9 @@ impl<'a> FieldJoins<'a> {
         ensures found { IfOk result (λ m. (ms : List Parts) → found_in ms m
             ≡ λ n. fuse_optional (found_in ms self.entry n)
             (optional (field_at n (fields_of (named_types ms (names_in names.now) types.now))))) }
-        ensures below { IfOk result (λ m. (k : ℕ) → list_all (is_below k) types.now ≡ true → are_joins_below k self.entry ≡ true
+        ensures below { IfOk result
+            (λ m. (k : ℕ) → list_all (is_below k) types.now ≡ true
+            → are_joins_below k self.entry ≡ true
             → are_joins_below k m ≡ true) }
     {
         let mut all = self;
@@ -167,8 +174,10 @@ impl<'a> FieldJoins<'a> {
         names: &'a NameList,
     ) -> Result<FieldJoins<'a>, AllocError>
         ensures found { IfOk result (λ m. (ms : List Parts) → found_in ms m
-            ≡ λ n. fuse_optional (found_in ms self.entry n) (optional (field_at n (fields_of (strings names.now))))) }
-        ensures below { IfOk result (λ m. (k : ℕ) → are_joins_below k self.entry ≡ true → are_joins_below k m ≡ true) }
+            ≡ λ n. fuse_optional (found_in ms self.entry n)
+            (optional (field_at n (fields_of (strings names.now))))) }
+        ensures below { IfOk result
+            (λ m. (k : ℕ) → are_joins_below k self.entry ≡ true → are_joins_below k m ≡ true) }
     {
         let mut all = self;
         for i in 0..names.len() {
@@ -187,7 +196,9 @@ impl<'a> FieldJoins<'a> {
     ) -> Result<FieldJoins<'a>, AllocError>
         ensures found { IfOk result (λ m. (ms : List Parts) → found_in ms m
             ≡ λ n. fuse_optional (found_in ms self.entry n) ((fields_parts ms fields.now).0 n)) }
-        ensures below { IfOk result (λ m. (k : ℕ) → are_fields_below k fields.now ≡ true → are_joins_below k self.entry ≡ true
+        ensures below { IfOk result
+            (λ m. (k : ℕ) → are_fields_below k fields.now ≡ true
+            → are_joins_below k self.entry ≡ true
             → are_joins_below k m ≡ true) }
     {
         let map = &*fields.map;

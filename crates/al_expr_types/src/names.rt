@@ -50,8 +50,11 @@ fn index_for_more(
     names: &[&[u8]],
     index: Option<NamePositions>,
 ) -> Result<Option<NamePositions>, AllocError>
-    requires { place_by index (map (λ n. n.now) names.now) ≡ name_place (map (λ n. n.now) names.now) }
-    ensures { IfOk result (λ index. place_by index (map (λ n. n.now) names.now) ≡ name_place (map (λ n. n.now) names.now)) }
+    requires { place_by index (map (λ n. n.now) names.now)
+        ≡ name_place (map (λ n. n.now) names.now) }
+    ensures { IfOk result
+        (λ index. place_by index (map (λ n. n.now) names.now)
+        ≡ name_place (map (λ n. n.now) names.now)) }
 {
     if index.is_some() {
         return Ok(index);
@@ -131,8 +134,11 @@ impl<'a> Names<'a> {
 
     /// The names, and one more behind them unless an equal one stands there, and whether it is new.
     pub fn and(self, alloc: Global, name: &'a [u8]) -> Result<(Names<'a>, bool), AllocError>
-        ensures is_new { IfOk result (λ r. r.1 ≡ is_none (name_place (names_in self.entry) name.now)) }
-        ensures names { IfOk result (λ r. names_in r.0 ≡ (if r.1 then names_in self.entry ++ name.now ∷ [] else names_in self.entry)) }
+        ensures is_new { IfOk result
+            (λ r. r.1 ≡ is_none (name_place (names_in self.entry) name.now)) }
+        ensures names { IfOk result
+            (λ r. names_in r.0
+            ≡ (if r.1 then names_in self.entry ++ name.now ∷ [] else names_in self.entry)) }
     {
         let position = self.position(alloc, name)?;
         match position {

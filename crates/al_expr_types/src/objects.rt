@@ -34,9 +34,12 @@ impl<'a> Fields<'a> {
     ) -> Result<Fields<'a>, AllocError>
         requires { length (names_in names) ≡ length types.items }
         ensures named { IfOk result (λ f. (ms : List Parts) → (fields_parts ms f).0
-            ≡ λ n. optional (field_at n (fields_of (named_types ms (names_in names.entry) types.items)))) }
-        ensures rest { IfOk result (λ f. (ms : List Parts) → (fields_parts ms f).1 ≡ rest_in ms rest) }
-        ensures below { IfOk result (λ f. (k : ℕ) → list_all (is_below k) types.items ≡ true → is_rest_below k rest ≡ true
+            ≡ λ n. optional
+            (field_at n (fields_of (named_types ms (names_in names.entry) types.items)))) }
+        ensures rest { IfOk result
+            (λ f. (ms : List Parts) → (fields_parts ms f).1 ≡ rest_in ms rest) }
+        ensures below { IfOk result
+            (λ f. (k : ℕ) → list_all (is_below k) types.items ≡ true → is_rest_below k rest ≡ true
             → are_fields_below k f ≡ true) }
     {
         let count = types.len();

@@ -98,9 +98,12 @@ fn new_types(
     requires from { from ≤ to }
     requires to { to ≤ length types.now }
     ensures part { IfOk result (λ own. (ms : List Parts)
-        → fuse_optional (common_of (map (type_in ms) (take from types.now))) (common_of (map (type_in ms) own.items))
+        → fuse_optional (common_of (map (type_in ms) (take from types.now)))
+        (common_of (map (type_in ms) own.items))
         ≡ common_of (map (type_in ms) (take to types.now))) }
-    ensures below { IfOk result (λ own. (k : ℕ) → list_all (is_below k) types.now ≡ true → list_all (is_below k) own.items ≡ true) }
+    ensures below { IfOk result
+        (λ own. (k : ℕ) → list_all (is_below k) types.now ≡ true
+        → list_all (is_below k) own.items ≡ true) }
 {
     let mut own = Vec::new(alloc);
     for i in from..to {
@@ -154,7 +157,8 @@ impl<'a> Prefixes<'a> {
         base: Option<Prefix>,
     ) -> Result<u32, AllocError>
         requires inside { count ≤ length (map_in self.now).types.items }
-        requires below { list_all (is_below (length types.old.objects.items)) (map_in self.now).types.items ≡ true }
+        requires below { list_all (is_below (length types.old.objects.items))
+            (map_in self.now).types.items ≡ true }
         requires base { HasPrefix types.old (map_in self.now) base }
         requires shorter { IsShorter base count }
         ensures object { IfOk result (λ n. object_in (objects_of types.new) n
@@ -179,7 +183,8 @@ impl<'a> Prefixes<'a> {
 
     /// The last base, unless it is longer than so many fields.
     fn shorter_base(&self, count: usize) -> Option<Prefix>
-        ensures base { (types : Types) → HasPrefix types (map_in self.now) self.now.base → HasPrefix types (map_in self.now) result }
+        ensures base { (types : Types) → HasPrefix types (map_in self.now) self.now.base
+            → HasPrefix types (map_in self.now) result }
         ensures shorter { IsShorter result count }
     {
         let Some(base) = self.base else {
@@ -194,7 +199,8 @@ impl<'a> Prefixes<'a> {
     /// The base of the first so many fields: a new one where these are a block or more behind the last.
     fn base_of(&mut self, types: &mut Types<'a>, count: usize) -> Result<Option<Prefix>, AllocError>
         requires inside { count ≤ length (map_in self.old).types.items }
-        requires below { list_all (is_below (length types.old.objects.items)) (map_in self.old).types.items ≡ true }
+        requires below { list_all (is_below (length types.old.objects.items))
+            (map_in self.old).types.items ≡ true }
         requires base { HasPrefix types.old (map_in self.old) self.old.base }
         ensures result { IfOk result (λ b. HasPrefix types.new (map_in self.old) b) }
         ensures shorter { IfOk result (λ b. IsShorter b count) }
@@ -223,9 +229,12 @@ impl<'a> Prefixes<'a> {
     /// The type of an object of the first so many fields, and no others.
     pub fn first(&mut self, types: &mut Types<'a>, count: usize) -> Result<Ty, AllocError>
         requires inside { count ≤ length (map_in self.old).types.items }
-        requires below { list_all (is_below (length types.old.objects.items)) (map_in self.old).types.items ≡ true }
+        requires below { list_all (is_below (length types.old.objects.items))
+            (map_in self.old).types.items ≡ true }
         requires base { HasPrefix types.old (map_in self.old) self.old.base }
-        ensures ty { IfOk result (λ t. type_at types.new t ≡ object_type (prefix_parts (objects_of types.old) (map_in self.old) count)) }
+        ensures ty { IfOk result
+            (λ t. type_at types.new t
+            ≡ object_type (prefix_parts (objects_of types.old) (map_in self.old) count)) }
         ensures known { IfOk result (λ t. is_known types.new t ≡ true) }
         ensures map { map_in self.new ≡ map_in self.old }
         ensures base { OnOk result (HasPrefix types.new (map_in self.old) self.new.base) }

@@ -25,8 +25,10 @@ use std::alloc::{AllocError, Global};
 /// What types have in common with those so far. Fails with `AllocError` where it is out of memory, as all here.
 fn and_all(alloc: Global, types: &[Ty], sofar: Join) -> Result<Join, AllocError>
     ensures part { IfOk result (λ j. (ms : List Parts)
-        → join_in ms j ≡ fuse_optional (join_in ms sofar) (common_of (map (type_in ms) types.now))) }
-    ensures below { IfOk result (λ j. (n : ℕ) → list_all (is_below n) types.now ≡ true → is_join_below n sofar ≡ true
+        → join_in ms j
+        ≡ fuse_optional (join_in ms sofar) (common_of (map (type_in ms) types.now))) }
+    ensures below { IfOk result
+        (λ j. (n : ℕ) → list_all (is_below n) types.now ≡ true → is_join_below n sofar ≡ true
         → is_join_below n j ≡ true) }
 {
     let mut all = sofar;
@@ -38,8 +40,10 @@ fn and_all(alloc: Global, types: &[Ty], sofar: Join) -> Result<Join, AllocError>
 
 /// What a type, where there is one, has in common with those so far.
 fn and_one(alloc: Global, ty: Option<Ty>, sofar: Join) -> Result<Join, AllocError>
-    ensures part { IfOk result (λ j. (ms : List Parts) → join_in ms j ≡ fuse_optional (join_in ms sofar) (rest_in ms ty)) }
-    ensures below { IfOk result (λ j. (n : ℕ) → is_rest_below n ty ≡ true → is_join_below n sofar ≡ true
+    ensures part { IfOk result
+        (λ j. (ms : List Parts) → join_in ms j ≡ fuse_optional (join_in ms sofar) (rest_in ms ty)) }
+    ensures below { IfOk result
+        (λ j. (n : ℕ) → is_rest_below n ty ≡ true → is_join_below n sofar ≡ true
         → is_join_below n j ≡ true) }
 {
     match ty {
@@ -52,8 +56,10 @@ impl Fields<'_> {
     /// What a part of them has in common with types so far.
     fn gather(&self, alloc: Global, part: Part<'_>, sofar: Join) -> Result<Join, AllocError>
         ensures part { IfOk result (λ j. (ms : List Parts)
-            → join_in ms j ≡ fuse_optional (join_in ms sofar) (part_in part.entry (fields_parts ms self.now))) }
-        ensures below { IfOk result (λ j. (n : ℕ) → are_fields_below n self.now ≡ true → is_join_below n sofar ≡ true
+            → join_in ms j
+            ≡ fuse_optional (join_in ms sofar) (part_in part.entry (fields_parts ms self.now))) }
+        ensures below { IfOk result
+            (λ j. (n : ℕ) → are_fields_below n self.now ≡ true → is_join_below n sofar ≡ true
             → is_join_below n j ≡ true) }
     {
         match part {
@@ -79,8 +85,11 @@ impl Extension<'_> {
     /// What the types behind the base have in common with types so far.
     fn gather_own(&self, alloc: Global, sofar: Join) -> Result<Join, AllocError>
         ensures part { IfOk result (λ j. (ms : List Parts)
-            → join_in ms j ≡ fuse_optional (join_in ms sofar) (common_of (map (type_in ms) self.now.own.items))) }
-        ensures below { IfOk result (λ j. (n : ℕ) → list_all (is_below n) self.now.own.items ≡ true → is_join_below n sofar ≡ true
+            → join_in ms j
+            ≡ fuse_optional (join_in ms sofar) (common_of (map (type_in ms) self.now.own.items))) }
+        ensures below { IfOk result
+            (λ j. (n : ℕ) → list_all (is_below n) self.now.own.items ≡ true
+            → is_join_below n sofar ≡ true
             → is_join_below n j ≡ true) }
     {
         let all = and_all(alloc, self.own.as_slice(), sofar)?;
@@ -90,7 +99,8 @@ impl Extension<'_> {
 
 /// Whether a part of an object of strings is one.
 fn has_string(alloc: Global, names: &NameList, part: Part<'_>) -> Result<bool, AllocError>
-    ensures { IfOk result (λ b. part_in part.entry (strings_parts names.now) ≡ string_unless (not b)) }
+    ensures { IfOk result
+        (λ b. part_in part.entry (strings_parts names.now) ≡ string_unless (not b)) }
 {
     match part {
         Part::Named(name) => {
@@ -110,8 +120,10 @@ fn gather_strings(
     sofar: Join,
 ) -> Result<Join, AllocError>
     ensures part { IfOk result (λ j. (ms : List Parts)
-        → join_in ms j ≡ fuse_optional (join_in ms sofar) (part_in part.entry (strings_parts names.now))) }
-    ensures below { IfOk result (λ j. (n : ℕ) → is_join_below n sofar ≡ true → is_join_below n j ≡ true) }
+        → join_in ms j
+        ≡ fuse_optional (join_in ms sofar) (part_in part.entry (strings_parts names.now))) }
+    ensures below { IfOk result
+        (λ j. (n : ℕ) → is_join_below n sofar ≡ true → is_join_below n j ≡ true) }
 {
     if has_string(alloc, names, part)? {
         return sofar.and(alloc, Ty::STRING);
@@ -122,9 +134,11 @@ fn gather_strings(
 impl<'a> Types<'a> {
     /// The index of an object, where it was made and the part can be read from it.
     fn index_for(&self, n: u32, part: Part<'_>) -> Option<&Fields<'a>>
-        ensures part { IfSome result (λ f. part_in part.entry (fields_parts (objects_of self.now) f.now)
+        ensures part { IfSome result
+            (λ f. part_in part.entry (fields_parts (objects_of self.now) f.now)
             ≡ part_in part.entry (object_in (objects_of self.now) n)) }
-        ensures below { IfSome result (λ f. are_fields_below (length self.now.objects.items) f.now ≡ true) }
+        ensures below { IfSome result
+            (λ f. are_fields_below (length self.now.objects.items) f.now ≡ true) }
     {
         match part {
             Part::Named(_) => self.index_of(n),
@@ -135,8 +149,11 @@ impl<'a> Types<'a> {
 
     /// What all fields of an object have in common, where it is kept and the part is that.
     fn common_for(&self, n: u32, part: Part<'_>) -> Option<Option<Ty>>
-        ensures part { IfSome result (λ t. rest_in (objects_of self.now) t ≡ part_in part.entry (object_in (objects_of self.now) n)) }
-        ensures below { IfSome result (λ t. is_rest_below (length self.now.objects.items) t ≡ true) }
+        ensures part { IfSome result
+            (λ t. rest_in (objects_of self.now) t
+            ≡ part_in part.entry (object_in (objects_of self.now) n)) }
+        ensures below { IfSome result
+            (λ t. is_rest_below (length self.now.objects.items) t ≡ true) }
     {
         match part {
             Part::Named(_) => None,
@@ -156,7 +173,8 @@ impl<'a> Types<'a> {
         part: Part<'_>,
         sofar: Join,
     ) -> Result<Join, AllocError>
-        requires { is_object_below (length self.now.objects.items) (object.Extension extension.now) ≡ true }
+        requires { is_object_below (length self.now.objects.items) (object.Extension extension.now)
+            ≡ true }
         ensures part { IfOk result (λ j. join_in (objects_of self.now) j
             ≡ fuse_optional (join_in (objects_of self.now) sofar)
             (part_in part.entry (extension_parts (objects_of self.now) extension.now))) }
@@ -185,7 +203,8 @@ impl<'a> Types<'a> {
     pub(crate) fn gather(&self, n: u32, part: Part<'_>, sofar: Join) -> Result<Join, AllocError>
         requires { n < length self.now.objects.items }
         ensures part { IfOk result (λ j. join_in (objects_of self.now) j
-            ≡ fuse_optional (join_in (objects_of self.now) sofar) (part_in part.entry (object_in (objects_of self.now) n))) }
+            ≡ fuse_optional (join_in (objects_of self.now) sofar)
+            (part_in part.entry (object_in (objects_of self.now) n))) }
         ensures below { IfOk result (λ j. is_join_below (length self.now.objects.items) sofar ≡ true
             → is_join_below (length self.now.objects.items) j ≡ true) }
     {
@@ -301,7 +320,9 @@ impl<'a> Types<'a> {
     #[cycle(commons)]
     pub fn common(&mut self, n: u32) -> Result<Option<Ty>, AllocError>
         requires { n < length self.old.objects.items }
-        ensures ty { IfOk result (λ t. option_map (type_at self.new) t ≡ option_of (object_in (objects_of self.old) n).2) }
+        ensures ty { IfOk result
+            (λ t. option_map (type_at self.new) t
+            ≡ option_of (object_in (objects_of self.old) n).2) }
         ensures known { IfOk result (λ t. is_rest_below (length self.new.objects.items) t ≡ true) }
         ensures kept { BeginsWith (objects_of self.new) (objects_of self.old) }
     {

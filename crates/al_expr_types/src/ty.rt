@@ -104,7 +104,8 @@ impl Base {
 
     /// Whether a value of this type may stand where one of the other is wanted.
     fn is_assignable_to(self, to: Base) -> bool
-        ensures { (ms : List Parts) → result ≡ assignable_type (base_type ms self) (base_type ms to) }
+        ensures { (ms : List Parts)
+            → result ≡ assignable_type (base_type ms self) (base_type ms to) }
     {
         match self {
             Base::Object(_) => match to {

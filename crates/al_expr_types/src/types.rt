@@ -53,8 +53,12 @@ impl<'a> Types<'a> {
     /// Adds an object, and answers its number. Fails with `AllocError` where it is out of memory, as all here.
     pub(crate) fn push(&mut self, object: Object<'a>) -> Result<u32, AllocError>
         requires { is_object_below (length self.old.objects.items) object ≡ true }
-        ensures objects { OnOk result (objects_of self.new ≡ objects_of self.old ++ object_parts (objects_of self.old) object.entry ∷ []) }
-        ensures number { IfOk result (λ n. object_in (objects_of self.new) n ≡ object_parts (objects_of self.old) object.entry) }
+        ensures objects { OnOk result
+            (objects_of self.new
+            ≡ objects_of self.old ++ object_parts (objects_of self.old) object.entry ∷ []) }
+        ensures number { IfOk result
+            (λ n. object_in (objects_of self.new) n
+            ≡ object_parts (objects_of self.old) object.entry) }
         ensures there { IfOk result (λ n. n < length self.new.objects.items) }
         ensures kept { BeginsWith (objects_of self.new) (objects_of self.old) }
     {
@@ -78,7 +82,8 @@ impl<'a> Types<'a> {
     /// An object, by its number.
     pub fn object(&self, n: u32) -> &Object<'a>
         requires { n < length self.now.objects.items }
-        ensures object { object_in (objects_of self.now) n ≡ object_parts (objects_of self.now) result.now }
+        ensures object { object_in (objects_of self.now) n
+            ≡ object_parts (objects_of self.now) result.now }
         ensures below { is_object_below n result.now ≡ true }
     {
         &self.objects[n as usize]
@@ -146,7 +151,9 @@ impl<'a> Types<'a> {
     /// The type of an object of fields.
     pub fn fields(&mut self, fields: Fields<'a>) -> Result<Ty, AllocError>
         requires { is_object_below (length self.old.objects.items) (object.Fields fields) ≡ true }
-        ensures ty { IfOk result (λ t. type_at self.new t ≡ object_type (fields_parts (objects_of self.old) fields.entry)) }
+        ensures ty { IfOk result
+            (λ t. type_at self.new t
+            ≡ object_type (fields_parts (objects_of self.old) fields.entry)) }
         ensures known { IfOk result (λ t. is_known self.new t ≡ true) }
         ensures kept { BeginsWith (objects_of self.new) (objects_of self.old) }
     {
@@ -167,7 +174,8 @@ impl<'a> Types<'a> {
     /// The type that types have in common, where there are some.
     pub fn join_type(&mut self, join: Join) -> Result<Option<Ty>, AllocError>
         requires { is_join_below (length self.old.objects.items) join ≡ true }
-        ensures ty { IfOk result (λ t. optional (option_map (type_at self.new) t) ≡ join_in (objects_of self.old) join) }
+        ensures ty { IfOk result
+            (λ t. optional (option_map (type_at self.new) t) ≡ join_in (objects_of self.old) join) }
         ensures known { IfOk result (λ t. is_rest_below (length self.new.objects.items) t ≡ true) }
         ensures kept { BeginsWith (objects_of self.new) (objects_of self.old) }
     {
@@ -187,7 +195,8 @@ impl<'a> Types<'a> {
     /// The type that types have in common, any where there are none.
     pub fn type_or_any(&mut self, join: Join) -> Result<Ty, AllocError>
         requires { is_join_below (length self.old.objects.items) join ≡ true }
-        ensures ty { IfOk result (λ t. type_at self.new t ≡ or_any (option_of (join_in (objects_of self.old) join))) }
+        ensures ty { IfOk result
+            (λ t. type_at self.new t ≡ or_any (option_of (join_in (objects_of self.old) join))) }
         ensures known { IfOk result (λ t. is_known self.new t ≡ true) }
         ensures kept { BeginsWith (objects_of self.new) (objects_of self.old) }
     {
@@ -202,7 +211,8 @@ impl<'a> Types<'a> {
     pub fn join(&mut self, a: Ty, b: Ty) -> Result<Ty, AllocError>
         requires a { is_known self.old a ≡ true }
         requires b { is_known self.old b ≡ true }
-        ensures ty { IfOk result (λ t. type_at self.new t ≡ fuse_type (type_at self.old a) (type_at self.old b)) }
+        ensures ty { IfOk result
+            (λ t. type_at self.new t ≡ fuse_type (type_at self.old a) (type_at self.old b)) }
         ensures known { IfOk result (λ t. is_known self.new t ≡ true) }
         ensures kept { BeginsWith (objects_of self.new) (objects_of self.old) }
     {

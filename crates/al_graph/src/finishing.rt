@@ -54,11 +54,16 @@ fn advance<'a>(
     order: &mut Vec<usize>,
 ) -> Result<(), AllocError>
     requires edges_in { (j k : ℕ) → Edge (edges_of graph.now) j k → k < length graph.now }
-    requires search { IsSearch (edges_of graph.now) seen.old.items (frames_of frames.old.items ++ frame_of frame ∷ []) order.old.items }
-    ensures search { OnOk result (IsSearch (edges_of graph.now) seen.new.items (frames_of frames.new.items) order.new.items) }
+    requires search { IsSearch (edges_of graph.now) seen.old.items
+        (frames_of frames.old.items ++ frame_of frame ∷ []) order.old.items }
+    ensures search { OnOk result
+        (IsSearch (edges_of graph.now) seen.new.items
+        (frames_of frames.new.items) order.new.items) }
     ensures kept { OnOk result ((k : ℕ) → Marked seen.old.items k → Marked seen.new.items k) }
-    ensures smaller { OnOk result (cost (edges_of graph.now) seen.new.items (frames_of frames.new.items)
-        < cost (edges_of graph.now) seen.old.items (frames_of frames.old.items ++ frame_of frame.entry ∷ [])) }
+    ensures smaller { OnOk result
+        (cost (edges_of graph.now) seen.new.items (frames_of frames.new.items)
+        < cost (edges_of graph.now) seen.old.items
+        (frames_of frames.old.items ++ frame_of frame.entry ∷ [])) }
 {
     let Some((next, rest)) = split(frame.rest) else {
         order.push(frame.node)?;

@@ -20,7 +20,9 @@ fn label_node(
     waiting: &mut Vec<usize>,
 ) -> Result<(), AllocError>
     requires { node < length labels.old.items }
-    ensures { OnOk result (Labels (node ∷ []) label labels.old.items labels.new.items waiting.old.items waiting.new.items) }
+    ensures { OnOk result
+        (Labels (node
+        ∷ []) label labels.old.items labels.new.items waiting.old.items waiting.new.items) }
 {
     if labels[node].is_none() {
         labels[node] = Some(label);
@@ -55,7 +57,9 @@ fn label_next(
 ) -> Result<(), AllocError>
     requires node_in { node < length graph.now }
     requires edges_in { (k : ℕ) → Edge (edges_of graph.now) node k → k < length labels.old.items }
-    ensures { OnOk result (Labels (slice_index_or (edges_of graph.now) node []) label labels.old.items labels.new.items
+    ensures { OnOk result
+        (Labels (slice_index_or (edges_of graph.now) node
+        []) label labels.old.items labels.new.items
         waiting.old.items waiting.new.items) }
 {
     label_nodes(graph[node].as_slice(), label, labels, waiting)
@@ -75,7 +79,8 @@ fn label_from(
     requires at_in { at < length order.now }
     requires labels { IsLabelling (edges_of graph.now) order.now labels.old.items (at + 1) [] }
     requires empty { waiting.old.items ≡ [] }
-    ensures labels { OnOk result (IsLabelling (edges_of graph.now) order.now labels.new.items at []) }
+    ensures labels { OnOk result
+        (IsLabelling (edges_of graph.now) order.now labels.new.items at []) }
     ensures emptied { OnOk result (waiting.new.items ≡ []) }
 {
     if labels[order[at]].is_some() {
@@ -119,7 +124,8 @@ pub fn strongly_connected_components(
     requires { (j k : ℕ) → Edge (edges_of graph.now) j k → k < length graph.now }
     ensures len { IfOk result (λ labels. vec_len labels ≡ length graph.now) }
     ensures exact { IfOk result (λ labels. (j k : ℕ) → j < length graph.now → k < length graph.now
-        → (slice_index_or labels.items j None ≡ slice_index_or labels.items k None) ↔ StronglyConnected (edges_of graph.now) j k) }
+        → (slice_index_or labels.items j None ≡ slice_index_or labels.items k None)
+        ↔ StronglyConnected (edges_of graph.now) j k) }
 {
     let back = transpose(alloc, graph)?;
     let order = finish_order(alloc, back.as_slice())?;

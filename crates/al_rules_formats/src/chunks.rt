@@ -74,7 +74,8 @@ fn stands_alone(around: Around, bytes: &[u8], content: Span) -> bool
 
 /// A text that has chunks.
 fn short_text(bytes: &[u8]) -> Option<&str>
-    ensures { MatchOption result (is_short bytes.now ≡ false) (λ s. (s.now ≡ bytes.now) × (is_short bytes.now ≡ true)) }
+    ensures { MatchOption result (is_short bytes.now ≡ false)
+        (λ s. (s.now ≡ bytes.now) × (is_short bytes.now ≡ true)) }
 {
     if bytes.len() > LONGEST_TEXT {
         return None;

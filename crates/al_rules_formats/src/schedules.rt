@@ -292,7 +292,9 @@ fn field(alloc: Global, range: Range, text: &[u8]) -> Result<Option<Vec<Item>>, 
 /// Items, if each is right.
 fn items_of(alloc: Global, range: Range, parts: &[&[u8]]) -> Result<Option<Vec<Item>>, AllocError>
     requires { range.high < 1000 }
-    ensures { IfOk result (λ r. option_map (λ v. v.items) r ≡ all_of (map (item_of (range_of range)) (map (λ p. p.now) parts.now))) }
+    ensures { IfOk result
+        (λ r. option_map (λ v. v.items) r
+        ≡ all_of (map (item_of (range_of range)) (map (λ p. p.now) parts.now))) }
 {
     let mut items = Vec::new(alloc);
     for part in parts {
@@ -322,7 +324,9 @@ fn words_of(alloc: Global, text: &[u8]) -> Result<Vec<&[u8]>, AllocError>
 
 /// The texts that aren't empty.
 fn without_empty<'a>(alloc: Global, parts: &[&'a [u8]]) -> Result<Vec<&'a [u8]>, AllocError>
-    ensures { IfOk result (λ v. map (λ p. p.now) v.items ≡ filter (λ w. not (is_empty w)) (map (λ p. p.now) parts.now)) }
+    ensures { IfOk result
+        (λ v. map (λ p. p.now) v.items
+        ≡ filter (λ w. not (is_empty w)) (map (λ p. p.now) parts.now)) }
 {
     let mut found = Vec::new(alloc);
     for part in parts {
@@ -341,7 +345,8 @@ fn are_right(
     months: &[u8],
     weekdays: &[u8],
 ) -> Result<bool, AllocError>
-    ensures { IfOk result (λ r. r ≡ (field_is_right spec.hours hours.now && field_is_right spec.days days.now
+    ensures { IfOk result
+        (λ r. r ≡ (field_is_right spec.hours hours.now && field_is_right spec.days days.now
         && field_is_right spec.months months.now && field_is_right spec.weekdays weekdays.now)) }
 {
     if !is_field(alloc, HOURS, hours)? {
@@ -358,7 +363,8 @@ fn are_right(
 
 /// The minutes of a schedule with these fields, if it is right.
 fn minutes(alloc: Global, fields: &[&[u8]]) -> Result<Option<Vec<Item>>, AllocError>
-    ensures { IfOk result (λ r. option_map (λ v. v.items) r ≡ minutes_in (map (λ p. p.now) fields.now)) }
+    ensures { IfOk result
+        (λ r. option_map (λ v. v.items) r ≡ minutes_in (map (λ p. p.now) fields.now)) }
 {
     match fields {
         [minutes, hours, days, months, weekdays] => {
@@ -404,7 +410,9 @@ fn is_member(number: u32, items: &[Item]) -> bool
 
 /// Adds a minute, if it is a member of one of some items.
 fn add_minute(items: &[Item], minute: u32, found: &mut Vec<u32>) -> Result<(), AllocError>
-    ensures { OnOk result (found.new.items ≡ found.old.items ++ filter (λ n. list_any (item_picks n) items.now) (minute ∷ [])) }
+    ensures { OnOk result
+        (found.new.items
+        ≡ found.old.items ++ filter (λ n. list_any (item_picks n) items.now) (minute ∷ [])) }
 {
     if is_member(minute, items) {
         found.push(minute)?;

@@ -162,7 +162,9 @@ fn chomp(
     last: Option<LastLine>,
     empties: &[u32],
 ) -> Result<(), AllocError>
-    ensures { IfOk result (λ _. text.new ≡ text.old ++ chomped (kind chomping) (own_break (last_row last)) empties.now) }
+    ensures { IfOk result
+        (λ _. text.new
+        ≡ text.old ++ chomped (kind chomping) (own_break (last_row last)) empties.now) }
 {
     match chomping {
         Chomping::Strip => Ok(()),
@@ -183,7 +185,9 @@ fn is_one(a: bool, b: bool, c: bool) -> bool
 
 /// Adds a break with the breaks of the empty lines behind it, kept or folded.
 fn push_break(text: &mut Text, keeps: bool, at: u32, empties: &[u32]) -> Result<(), AllocError>
-    ensures { IfOk result (λ _. text.new ≡ text.old ++ cond keeps (feeds (at ∷ empties.now)) (folded_break at empties.now)) }
+    ensures { IfOk result
+        (λ _. text.new
+        ≡ text.old ++ cond keeps (feeds (at ∷ empties.now)) (folded_break at empties.now)) }
 {
     if keeps {
         text.push(b'\n', at as usize)?;
@@ -205,7 +209,9 @@ fn push_joint(
     empties: &[u32],
     spaced: bool,
 ) -> Result<(), AllocError>
-    ensures { IfOk result (λ _. text.new ≡ text.old ++ joint literal (last_row last) empties.now (row_like spaced [])) }
+    ensures { IfOk result
+        (λ _. text.new
+        ≡ text.old ++ joint literal (last_row last) empties.now (row_like spaced [])) }
 {
     match last {
         Some(l) => push_break(text, is_one(literal, l.spaced, spaced), l.at, empties),
@@ -227,8 +233,10 @@ fn add_row(
     requires behind { state.old.end ≤ from }
     requires size { length bytes.now < 2 ^ 32 }
     ensures text { IfOk result
-        (λ _. AddsRow literal text.old state.old (cells_between bytes.now from stop) (stop ∷ []) text.new state.new) }
-    ensures end { IfOk result (λ _. EndsRow state.old (cells_between bytes.now from stop) state.new) }
+        (λ _. AddsRow literal text.old state.old (cells_between bytes.now from stop)
+        (stop ∷ []) text.new state.new) }
+    ensures end { IfOk result
+        (λ _. EndsRow state.old (cells_between bytes.now from stop) state.new) }
     ensures within { IfOk result (λ _. (state.old.end ≤ state.new.end) × (state.new.end ≤ stop)) }
 {
     if from == stop {
@@ -259,7 +267,10 @@ fn end_row(
     requires behind { state.now.end ≤ from }
     requires size { length bytes.now < 2 ^ 32 }
     ensures text { IfOk result
-        (λ _. text.new ≡ text.old ++ text_after style.literal (kind style.chomping) (last_row state.now.last) state.now.empties.items
+        (λ _. text.new
+        ≡ text.old
+        ++ text_after style.literal (kind style.chomping)
+        (last_row state.now.last) state.now.empties.items
         (last_line bytes.now from)) }
     ensures end { IfOk result (λ end. end ≡ rows_end state.now.end (last_line bytes.now from)) }
     ensures within { IfOk result (λ end. (state.now.end ≤ end) × (end ≤ length bytes.now)) }
@@ -294,7 +305,8 @@ fn read_rows(
     requires inside { at ≤ length bytes.now }
     requires size { length bytes.now < 2 ^ 32 }
     ensures rows { IfOk result (λ r. ReadsRows bytes.now style text.old at header text.new r) }
-    ensures within { IfOk result (λ r. (header ≤ r.end) × (r.end ≤ r.next) × (r.next ≤ length bytes.now)) }
+    ensures within { IfOk result
+        (λ r. (header ≤ r.end) × (r.end ≤ r.next) × (r.next ≤ length bytes.now)) }
 {
     let mut state = RowState {
         last: None,
@@ -366,7 +378,8 @@ pub fn read_block(
     requires inside { at < length bytes.now }
     requires begins { IsLineEnd bytes.now at → ⊥ }
     requires size { length bytes.now < 2 ^ 32 }
-    ensures gives { IfOk result (λ read. Gives bytes.now (block_scalar literal within (lines_at bytes.now at)) read) }
+    ensures gives { IfOk result
+        (λ read. Gives bytes.now (block_scalar literal within (lines_at bytes.now at)) read) }
     ensures within { IfOk result (λ read. StaysWithin bytes.now at read) }
 {
     let header = indicators(bytes, at + 1);

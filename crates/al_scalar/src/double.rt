@@ -250,7 +250,8 @@ pub fn read_double(
 ) -> Result<Result<Taken, FaultAt>, AllocError>
     requires inside { quote < length bytes.now }
     requires size { length bytes.now < 2 ^ 32 }
-    ensures gives { IfOk result (λ read. Gives bytes.now (double_quoted quote (lines_at bytes.now (suc quote))) read) }
+    ensures gives { IfOk result
+        (λ read. Gives bytes.now (double_quoted quote (lines_at bytes.now (suc quote))) read) }
     ensures within { IfOk result (λ read. StaysWithin bytes.now quote read) }
 {
     let mut text = Text::new(alloc);

@@ -27,8 +27,11 @@ pub fn fold_break(
     requires size { length bytes.now < 2 ^ 32 }
     ensures inside { IfOk result (λ next. next ≤ length bytes.now) }
     ensures after { IfOk result (λ next. end < next) }
-    ensures lines { IfOk result (λ next. solid_lines (later (lines_at bytes.now end)) ≡ lines_at bytes.now next) }
-    ensures text { IfOk result (λ _. text.new ≡ text.old ++ break_left escaped end (empty_ends (later (lines_at bytes.now end)))) }
+    ensures lines { IfOk result
+        (λ next. solid_lines (later (lines_at bytes.now end)) ≡ lines_at bytes.now next) }
+    ensures text { IfOk result
+        (λ _. text.new
+        ≡ text.old ++ break_left escaped end (empty_ends (later (lines_at bytes.now end)))) }
     ensures begins { BeginsWith text.new text.old }
 {
     let mut start = after_break(bytes, end);

@@ -51,7 +51,8 @@ pub fn blanks_end(bytes: &[u8], at: usize) -> usize
     ensures inside { result ≤ length bytes.now }
     ensures blanks { AreBlank (cells_between bytes.now at result) }
     ensures not_blank { result < length bytes.now → IsBlankByte (slice_index bytes.now result) → ⊥ }
-    ensures lines { lines_at bytes.now at ≡ with_cells_before (cells_between bytes.now at result) (lines_at bytes.now result) }
+    ensures lines { lines_at bytes.now at
+        ≡ with_cells_before (cells_between bytes.now at result) (lines_at bytes.now result) }
     ensures dropped { line.blanks_dropped (lines_at bytes.now at) ≡ lines_at bytes.now result }
 {
     let mut i = at;
@@ -68,8 +69,10 @@ pub fn spaces_end(bytes: &[u8], at: usize, most: usize) -> usize
     ensures inside { result ≤ length bytes.now }
     ensures most { result ≤ at + most }
     ensures spaces { AreSpaces (cells_between bytes.now at result) }
-    ensures stops { result < length bytes.now → result < at + most → slice_index bytes.now result ≢ 32 }
-    ensures lines { lines_at bytes.now at ≡ with_cells_before (cells_between bytes.now at result) (lines_at bytes.now result) }
+    ensures stops { result < length bytes.now → result < at + most
+        → slice_index bytes.now result ≢ 32 }
+    ensures lines { lines_at bytes.now at
+        ≡ with_cells_before (cells_between bytes.now at result) (lines_at bytes.now result) }
 {
     let mut i = at;
     while i < bytes.len() && i - at < most && bytes[i] == b' ' {
@@ -124,7 +127,8 @@ pub fn indent(bytes: &[u8], at: usize) -> usize
     requires { at ≤ length bytes.now }
     ensures is { result ≡ line.indent (text_at bytes.now at) }
     ensures inside { at + result ≤ length bytes.now }
-    ensures dropped { line.spaces_dropped (lines_at bytes.now at) ≡ lines_at bytes.now (at + result) }
+    ensures dropped { line.spaces_dropped (lines_at bytes.now at)
+        ≡ lines_at bytes.now (at + result) }
 {
     spaces_end(bytes, at, bytes.len()) - at
 }

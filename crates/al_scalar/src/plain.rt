@@ -157,7 +157,8 @@ fn push_break(text: &mut Text, bytes: &[u8], end: usize, next: usize) -> Result<
     requires order { end < length bytes.now }
     requires inside { next ≤ length bytes.now }
     requires size { length bytes.now < 2 ^ 32 }
-    ensures { IfOk result (λ _. text.new ≡ text.old ++ folded_break end (empty_ends (lines_at bytes.now next))) }
+    ensures { IfOk result
+        (λ _. text.new ≡ text.old ++ folded_break end (empty_ends (lines_at bytes.now next))) }
 {
     let mut start = next;
     let mut folded = false;
@@ -210,7 +211,9 @@ fn goes_on(bytes: &[u8], start: usize, solid: usize, context: PlainContext) -> b
     requires order { start ≤ length bytes.now }
     requires inside { solid ≤ length bytes.now }
     requires solid { line.after_blanks (text_at bytes.now start) ≡ text_at bytes.now solid }
-    ensures { result ≡ (not (line.is_empty (text_at bytes.now solid)) && plain.continues (context_of context) (text_at bytes.now start)) }
+    ensures { result ≡
+        (not (line.is_empty (text_at bytes.now solid))
+        && plain.continues (context_of context) (text_at bytes.now start)) }
 {
     if is_line_end(bytes, solid) {
         return false;
@@ -221,7 +224,9 @@ fn goes_on(bytes: &[u8], start: usize, solid: usize, context: PlainContext) -> b
 /// Whether a colon behind a further line of a plain scalar would make the line a key.
 fn makes_key(bytes: &[u8], at: usize, context: PlainContext) -> bool
     requires { at ≤ length bytes.now }
-    ensures { result ≡ (not (plain.is_flow (context_of context)) && plain.is_value_colon (context_of context) (text_at bytes.now at)) }
+    ensures { result ≡
+        (not (plain.is_flow (context_of context))
+        && plain.is_value_colon (context_of context) (text_at bytes.now at)) }
 {
     if is_flow(context) {
         return false;
@@ -238,7 +243,8 @@ pub fn read_plain(
 ) -> Result<Result<Taken, FaultAt>, AllocError>
     requires inside { at ≤ length bytes.now }
     requires size { length bytes.now < 2 ^ 32 }
-    ensures gives { IfOk result (λ read. Gives bytes.now (plain.plain (context_of context) (lines_at bytes.now at)) read) }
+    ensures gives { IfOk result
+        (λ read. Gives bytes.now (plain.plain (context_of context) (lines_at bytes.now at)) read) }
     ensures within { IfOk result (λ read. StaysWithin bytes.now at read) }
 {
     let mut text = Text::new(alloc);

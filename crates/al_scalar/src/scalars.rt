@@ -101,7 +101,8 @@ pub struct ScalarRead {
 pub fn scalar_read(at: usize, style: Style, class: Class, taken: Taken) -> ScalarRead
     requires start { at < 2 ^ 32 }
     requires end { taken.end < 2 ^ 32 }
-    ensures scalar { result.scalar ≡ record { style = style; class = class; cells = taken.text; end = taken.end } }
+    ensures scalar { result.scalar
+        ≡ record { style = style; class = class; cells = taken.text; end = taken.end } }
     ensures span { result.span ≡ record { start = at; end = taken.end } }
     ensures next { result.next ≡ taken.next }
 {

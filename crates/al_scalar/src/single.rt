@@ -65,7 +65,8 @@ pub fn read_single(
 ) -> Result<Result<Taken, FaultAt>, AllocError>
     requires inside { quote < length bytes.now }
     requires size { length bytes.now < 2 ^ 32 }
-    ensures gives { IfOk result (λ read. Gives bytes.now (single_quoted quote (lines_at bytes.now (suc quote))) read) }
+    ensures gives { IfOk result
+        (λ read. Gives bytes.now (single_quoted quote (lines_at bytes.now (suc quote))) read) }
     ensures within { IfOk result (λ read. StaysWithin bytes.now quote read) }
 {
     let mut text = Text::new(alloc);

@@ -78,7 +78,8 @@ impl Runs {
     /// The last run.
     fn last(&self) -> Segment
         ensures behind { (n : ℕ) → AreBehind n self.now → result.index ≤ n }
-        ensures offset { (i : ℕ) → AreBehind i self.now → offset_in result i ≡ offset_at self.now i }
+        ensures offset { (i : ℕ) → AreBehind i self.now
+            → offset_in result i ≡ offset_at self.now i }
     {
         let count = self.rest.len();
         if count == 0 {
@@ -106,7 +107,8 @@ impl Runs {
     fn begin(&mut self, index: usize, at: u32) -> Result<(), AllocError>
         requires { IsOrdered index self.old }
         ensures order { IsOrdered index self.new }
-        ensures cells { (bs : List ℕ) → length bs ≡ index → cells_from 0 bs self.new ≡ cells_from 0 bs self.old }
+        ensures cells { (bs : List ℕ) → length bs ≡ index
+            → cells_from 0 bs self.new ≡ cells_from 0 bs self.old }
         ensures next { IfOk result (λ _. GoesOn self.new index at) }
     {
         if index == 0 && self.rest.is_empty() {

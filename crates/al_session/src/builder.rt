@@ -85,7 +85,8 @@ impl<L: Lint> SessionBuilder<L> {
 
     /// The calls of a file, in order; `None` where no file has this path. Takes no memory.
     pub fn calls(&self, path: &str) -> Option<&[Target]>
-        ensures { option_copied result ≡ option_map (L.meaning.calls path.now) (bytes_at self.now.folder path.now) }
+        ensures { option_copied result
+            ≡ option_map (L.meaning.calls path.now) (bytes_at self.now.folder path.now) }
     {
         match self.kept.files.get(path) {
             Some(file) => Some(file.calls.targets.as_slice()),
@@ -99,15 +100,19 @@ impl<L: Lint> SessionBuilder<L> {
     ///
     /// The first of E1 to E4 that applies, and E6, only where none of these does, where memory ran out. The folder is then as before.
     pub fn put(&mut self, path: &str, bytes: &[u8]) -> Result<(), Refused>
-        ensures accepted { OnOk result (put_refusal L.meaning self.old.folder path.now bytes.now ≡ None) }
-        ensures folder { OnOk result (self.new.folder ≡ with_file self.old.folder path.now bytes.now) }
+        ensures accepted { OnOk result
+            (put_refusal L.meaning self.old.folder path.now bytes.now ≡ None) }
+        ensures folder { OnOk result
+            (self.new.folder ≡ with_file self.old.folder path.now bytes.now) }
         ensures refused { IfErr result (λ refused.
-            refused ≡ refusal_or_memory (put_refusal L.meaning self.old.folder path.now bytes.now)) }
+            refused ≡ refusal_or_memory
+            (put_refusal L.meaning self.old.folder path.now bytes.now)) }
         ensures as_before { OnErr result (self.new.folder ≡ self.old.folder) }
         ensures meter { self.new.checks ≡ self.old.checks }
         ensures reads { OnOk result (self.new.reads ≡ raised self.old.reads 1) }
         ensures few_reads { IsUpTo self.old.reads self.new.reads 1 }
-        ensures no_read { IfErr result (λ refused. refused ≢ Refused.Memory → self.new.reads ≡ self.old.reads) }
+        ensures no_read { IfErr result
+            (λ refused. refused ≢ Refused.Memory → self.new.reads ≡ self.old.reads) }
     {
         if let Some(refused) = put_refused(&self.lint, &self.kept.files, path, bytes) {
             return Err(refused);
@@ -125,7 +130,8 @@ impl<L: Lint> SessionBuilder<L> {
     /// [`AllocError`] where memory ran out.
     pub fn build(self) -> Result<Session<L>, AllocError>
         ensures folder { IfOk result (λ session. session.folder ≡ self.folder) }
-        ensures meter { IfOk result (λ session. session.checks ≡ raised self.checks (length self.folder)) }
+        ensures meter { IfOk result
+            (λ session. session.checks ≡ raised self.checks (length self.folder)) }
         ensures reads { IfOk result (λ session. session.reads ≡ self.reads) }
     {
         checked(self.lint, self.kept)
@@ -143,9 +149,11 @@ fn load_file<L: Lint>(
     requires valid { path_fault_of path.now ≡ None }
     requires accepted { L.meaning.accepts path.now ≡ true }
     requires small { length bytes.now ≤ largest_file }
-    requires room { bytes_at (folder_in kept.old) path.now ≡ None → length kept.old.files.entries < most_files }
+    requires room { bytes_at (folder_in kept.old) path.now ≡ None
+        → length kept.old.files.entries < most_files }
     ensures loaded { IsLoaded L.meaning L.is_unit kept.new (L.checks_of lint.new) }
-    ensures folder { OnOk result (folder_in kept.new ≡ with_file (folder_in kept.old) path.now bytes.now) }
+    ensures folder { OnOk result
+        (folder_in kept.new ≡ with_file (folder_in kept.old) path.now bytes.now) }
     ensures as_before { OnErr result (kept.new.files.entries ≡ kept.old.files.entries) }
     ensures checks { L.checks_of lint.new ≡ L.checks_of lint.old }
     ensures reads { L.reads_of lint.new ≡ raised (L.reads_of lint.old) 1 }
@@ -171,7 +179,8 @@ fn checked<L: Lint>(
 ) -> Result<Session<L>, AllocError>
     requires { IsLoaded L.meaning L.is_unit kept (L.checks_of lint) }
     ensures folder { IfOk result (λ session. session.folder ≡ folder_in kept) }
-    ensures checks { IfOk result (λ session. session.checks ≡ raised (L.checks_of lint) (length (folder_in kept))) }
+    ensures checks { IfOk result
+        (λ session. session.checks ≡ raised (L.checks_of lint) (length (folder_in kept))) }
     ensures reads { IfOk result (λ session. session.reads ≡ L.reads_of lint) }
 {
     check_all(&mut lint, &mut kept)?;
@@ -186,7 +195,8 @@ fn check_all<L: Lint>(
     requires { IsLoaded L.meaning L.is_unit kept.old (L.checks_of lint.old) }
     ensures linted { OnOk result (IsLinted L.meaning L.is_unit kept.new (L.checks_of lint.new)) }
     ensures folder { OnOk result (folder_in kept.new ≡ folder_in kept.old) }
-    ensures checks { OnOk result (L.checks_of lint.new ≡ raised (L.checks_of lint.old) (length (folder_in kept.old))) }
+    ensures checks { OnOk result
+        (L.checks_of lint.new ≡ raised (L.checks_of lint.old) (length (folder_in kept.old))) }
     ensures reads { L.reads_of lint.new ≡ L.reads_of lint.old }
 {
     let paths = paths_in::<L>(kept.alloc, &kept.files)?;

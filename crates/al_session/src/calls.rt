@@ -52,7 +52,8 @@ pub(crate) fn forget_unless_same<L: Lint>(
     requires file { IsKept L.meaning L.is_unit path.now file.now }
     requires graph { IsGraphIf L.meaning (folder_of files.now.entries) calls.old }
     ensures before { IsGraphIf L.meaning (folder_of files.now.entries) calls.new }
-    ensures after { IsGraphIf L.meaning (with_file (folder_of files.now.entries) path.now file.now.bytes.items) calls.new }
+    ensures after { IsGraphIf L.meaning
+        (with_file (folder_of files.now.entries) path.now file.now.bytes.items) calls.new }
 {
     if calls_the_same(files, path, file) {
         return;
@@ -62,7 +63,8 @@ pub(crate) fn forget_unless_same<L: Lint>(
 
 // Whether a file with this path is there that calls what this file calls.
 fn calls_the_same<U, I>(files: &Files<U, I>, path: &str, file: &KeptFile<U, I>) -> bool
-    ensures { Decides result (option_map (λ kept. kept.calls.targets.items) (file_at files.now.entries path.now)
+    ensures { Decides result
+        (option_map (λ kept. kept.calls.targets.items) (file_at files.now.entries path.now)
         ≡ Some file.now.calls.targets.items) }
 {
     match files.get(path) {

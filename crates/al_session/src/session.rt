@@ -131,7 +131,8 @@ impl<L: Lint> Session<L> {
     /// this path. Takes no memory.
     pub fn faults(&self, path: &str) -> Option<&[Fault]>
         ensures value { option_copied result ≡ faults_at L.meaning self.now.folder path.now }
-        ensures spans { IfSome result (λ faults. (b : List ℕ) → bytes_at self.now.folder path.now ≡ Some b
+        ensures spans { IfSome result
+            (λ faults. (b : List ℕ) → bytes_at self.now.folder path.now ≡ Some b
             → AllByRecursion (λ fault. LiesIn (length b) fault.span) faults.now) }
         ensures ordered { IfSome result (λ faults. IsStrictlySortedBy fault_cmp faults.now) }
     {
@@ -167,21 +168,26 @@ impl<L: Lint> Session<L> {
     /// then as before, and so is all that is defined by it; the meter is as before after E1 to E4, and after E6 it has
     /// risen by at most the number of files that the edit would have checked again.
     pub fn put(&mut self, path: &str, bytes: &[u8]) -> Result<Edit, Refused>
-        ensures accepted { OnOk result (put_refusal L.meaning self.old.folder path.now bytes.now ≡ None) }
-        ensures folder { OnOk result (self.new.folder ≡ with_file self.old.folder path.now bytes.now) }
+        ensures accepted { OnOk result
+            (put_refusal L.meaning self.old.folder path.now bytes.now ≡ None) }
+        ensures folder { OnOk result
+            (self.new.folder ≡ with_file self.old.folder path.now bytes.now) }
         ensures rechecked { IfOk result (λ edit.
             edit.rechecked ≡ affected L.Iface.eq L.meaning self.old.folder self.new.folder) }
         ensures meter { IfOk result (λ edit.
             self.new.checks ≡ raised self.old.checks (length edit.rechecked)) }
         ensures refused { IfErr result (λ refused.
-            refused ≡ refusal_or_memory (put_refusal L.meaning self.old.folder path.now bytes.now)) }
+            refused ≡ refusal_or_memory
+            (put_refusal L.meaning self.old.folder path.now bytes.now)) }
         ensures as_before { OnErr result (self.new.folder ≡ self.old.folder) }
-        ensures no_check { IfErr result (λ refused. refused ≢ Refused.Memory → self.new.checks ≡ self.old.checks) }
+        ensures no_check { IfErr result
+            (λ refused. refused ≢ Refused.Memory → self.new.checks ≡ self.old.checks) }
         ensures few_checks { OnErr result (IsUpTo self.old.checks self.new.checks
             (length (affected L.Iface.eq L.meaning self.old.folder
             (with_file self.old.folder path.now bytes.now)))) }
         ensures reads { ReadsForPut L.meaning self.old.folder path.now bytes.now self.old.reads self.new.reads }
-        ensures no_read { IfErr result (λ refused. refused ≢ Refused.Memory → self.new.reads ≡ self.old.reads) }
+        ensures no_read { IfErr result
+            (λ refused. refused ≢ Refused.Memory → self.new.reads ≡ self.old.reads) }
     {
         if let Some(refused) = self.put_refused(path, bytes) {
             return Err(refused);
@@ -230,9 +236,11 @@ impl<L: Lint> Session<L> {
         ensures refused { IfErr result (λ refused.
             refused ≡ refusal_or_memory (delete_refusal L.meaning self.old.folder path.now)) }
         ensures as_before { OnErr result (self.new.folder ≡ self.old.folder) }
-        ensures no_check { IfErr result (λ refused. refused ≢ Refused.Memory → self.new.checks ≡ self.old.checks) }
+        ensures no_check { IfErr result
+            (λ refused. refused ≢ Refused.Memory → self.new.checks ≡ self.old.checks) }
         ensures few_checks { OnErr result (IsUpTo self.old.checks self.new.checks
-            (length (affected L.Iface.eq L.meaning self.old.folder (without_file self.old.folder path.now)))) }
+            (length (affected L.Iface.eq L.meaning self.old.folder
+            (without_file self.old.folder path.now)))) }
         ensures reads { self.new.reads ≡ self.old.reads }
     {
         if let Some(refused) = self.delete_refused(path) {
@@ -277,14 +285,19 @@ impl<L: Lint> Session<L> {
     /// [`Stop::WriteFault`] where the writer failed, which then holds a prefix of the report, and [`Stop::Memory`]
     /// where memory ran out, which happens only before the first byte. No other stop is answered.
     pub fn report<W: Write>(&mut self, writer: &mut Output<W>, oneline: bool) -> Result<(), Stop>
-        ensures all { OnOk result (Appends (bytes_written W.contents writer.old) (bytes_written W.contents writer.new)
+        ensures all { OnOk result
+            (Appends (bytes_written W.contents writer.old) (bytes_written W.contents writer.new)
             (report_of oneline L.meaning self.old.folder)) }
-        ensures prefix { OnErr result (AppendsPrefix (bytes_written W.contents writer.old) (bytes_written W.contents writer.new)
+        ensures prefix { OnErr result
+            (AppendsPrefix (bytes_written W.contents writer.old)
+            (bytes_written W.contents writer.new)
             (report_of oneline L.meaning self.old.folder)) }
         ensures memory { result ≡ Err Stop.Memory
             → Keeps (bytes_written W.contents writer.old) (bytes_written W.contents writer.new) }
-        ensures failures { result ≢ Err Stop.WriteFault → write_failures writer.new ≡ write_failures writer.old }
-        ensures failed { result ≡ Err Stop.WriteFault → HasRisen (write_failures writer.old) (write_failures writer.new) }
+        ensures failures { result ≢ Err Stop.WriteFault
+            → write_failures writer.new ≡ write_failures writer.old }
+        ensures failed { result ≡ Err Stop.WriteFault
+            → HasRisen (write_failures writer.old) (write_failures writer.new) }
         ensures no_read { (result ≢ Err Stop.ReadFault) × (result ≢ Err Stop.TooManyTurns) }
         ensures unchanged { self.new ≡ self.old }
     {

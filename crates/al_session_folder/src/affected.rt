@@ -87,7 +87,8 @@ impl<'a, L: Lint> PlannedChange<'a, L> {
 
     // Whether the path of the change offers what it offered, or no file stands there before and after.
     fn has_same_interface(&self) -> bool
-        ensures { result ≡ same_answer L.Iface.eq (interface_in L.meaning self.now.before self.now.path)
+        ensures { result ≡ same_answer L.Iface.eq
+            (interface_in L.meaning self.now.before self.now.path)
             (interface_in L.meaning (changed_by self.now) self.now.path) }
     {
         let before = self.as_is().interface(self.path);
@@ -105,7 +106,8 @@ impl<'a, L: Lint> PlannedChange<'a, L> {
 
     // Whether all these calls have the answers that they had.
     fn has_same_answers(&self, targets: &[Target]) -> bool
-        ensures { result ≡ list_all (λ t. same_answer L.Iface.eq (answer L.meaning self.now.before t)
+        ensures { result ≡ list_all
+            (λ t. same_answer L.Iface.eq (answer L.meaning self.now.before t)
             (answer L.meaning (changed_by self.now) t)) targets.now }
     {
         for target in targets {
@@ -152,7 +154,8 @@ impl<'a, L: Lint> PlannedChange<'a, L> {
     ) -> Result<Vec<Path>, AllocError>
         requires { IsStrictlySortedBy (slice_cmp nat_cmp) paths.items }
         ensures sorted { IfOk result (λ r. IsStrictlySortedBy (slice_cmp nat_cmp) r.items) }
-        ensures members { IfOk result (λ r. (q : List ℕ) → is_among q r.items ≡ (((not (bytes_eq q self.now.path)
+        ensures members { IfOk result
+            (λ r. (q : List ℕ) → is_among q r.items ≡ (((not (bytes_eq q self.now.path)
             && is_affected L.Iface.eq L.meaning self.now.before (changed_by self.now) q)
             && list_any (λ k. bytes_eq q (string_bytes k)) names.now) || is_among q paths.items)) }
     {

@@ -15,7 +15,8 @@ pub(crate) fn candidates_of(
     alloc: Global,
     targets: &[Target],
 ) -> Result<IndexSet<String>, AllocError>
-    ensures { IfOk result (λ names. (c : List ℕ) → contains_text names c ≡ is_candidate targets.now c) }
+    ensures { IfOk result
+        (λ names. (c : List ℕ) → contains_text names c ≡ is_candidate targets.now c) }
 {
     let mut names = IndexSet::new(alloc);
     for target in targets {
@@ -31,7 +32,8 @@ fn add_names_of(
     target: &Target,
 ) -> Result<(), AllocError>
     ensures { OnOk result ((c : List ℕ)
-        → contains_text names.new c ≡ (is_candidate (target.now ∷ []) c || contains_text names.old c)) }
+        → contains_text names.new c
+        ≡ (is_candidate (target.now ∷ []) c || contains_text names.old c)) }
 {
     match target {
         Target::Only(path) => add_name(alloc, names, path.as_str()),
@@ -46,7 +48,8 @@ fn add_names_of(
 fn add_name(alloc: Global, names: &mut IndexSet<String>, name: &str) -> Result<(), AllocError>
     ensures added { OnOk result ((c : List ℕ)
         → contains_text names.new c ≡ (bytes_eq c name.now || contains_text names.old c)) }
-    ensures as_before { OnErr result ((c : List ℕ) → contains_text names.new c ≡ contains_text names.old c) }
+    ensures as_before { OnErr result
+        ((c : List ℕ) → contains_text names.new c ≡ contains_text names.old c) }
 {
     if !names.contains(name) {
         names.insert(String::from_str(alloc, name)?)?;
@@ -63,7 +66,8 @@ pub(crate) fn add_caller(
 ) -> Result<(), AllocError>
     ensures added { OnOk result ((c q : List ℕ) → is_caller callers.new c q
         ≡ ((bytes_eq c candidate.now && bytes_eq q path.now) || is_caller callers.old c q)) }
-    ensures as_before { OnErr result ((c q : List ℕ) → is_caller callers.new c q ≡ is_caller callers.old c q) }
+    ensures as_before { OnErr result
+        ((c q : List ℕ) → is_caller callers.new c q ≡ is_caller callers.old c q) }
 {
     match callers.get_mut(candidate) {
         Some(known) => add_name(alloc, known, path),
@@ -81,7 +85,8 @@ fn add_first_caller(
     requires { get_by_text callers.old candidate.now ≡ None }
     ensures added { OnOk result ((c q : List ℕ) → is_caller callers.new c q
         ≡ ((bytes_eq c candidate.now && bytes_eq q path.now) || is_caller callers.old c q)) }
-    ensures as_before { OnErr result ((c q : List ℕ) → is_caller callers.new c q ≡ is_caller callers.old c q) }
+    ensures as_before { OnErr result
+        ((c q : List ℕ) → is_caller callers.new c q ≡ is_caller callers.old c q) }
 {
     let mut known = IndexSet::new(alloc);
     add_name(alloc, &mut known, path)?;
@@ -106,7 +111,8 @@ pub(crate) fn drop_caller(callers: &mut Callers, candidate: &str, path: &str)
 
 // Takes a text out, and answers whether none is left.
 fn drop_name(names: &mut IndexSet<String>, name: &str) -> bool
-    ensures names { (c : List ℕ) → contains_text names.new c ≡ (not (bytes_eq c name.now) && contains_text names.old c) }
+    ensures names { (c : List ℕ)
+        → contains_text names.new c ≡ (not (bytes_eq c name.now) && contains_text names.old c) }
     ensures empty { result ≡ true → (c : List ℕ) → contains_text names.new c ≡ false }
 {
     names.swap_remove(name);
@@ -122,7 +128,9 @@ fn add_callers(
 ) -> Result<(), AllocError>
     ensures added { OnOk result ((c q : List ℕ) → is_caller callers.new c q
         ≡ ((bytes_eq q path.now && contains_text names.now c) || is_caller callers.old c q)) }
-    ensures some { OnErr result ((added : List ℕ → Bool) × ((c : List ℕ) → added c ≡ true → contains_text names.now c ≡ true)
+    ensures some { OnErr result
+        ((added : List ℕ → Bool)
+        × ((c : List ℕ) → added c ≡ true → contains_text names.now c ≡ true)
         × ((c q : List ℕ) → is_caller callers.new c q
         ≡ ((bytes_eq q path.now && added c) || is_caller callers.old c q))) }
 {
@@ -140,7 +148,8 @@ pub fn drop_callers(
     path: &str,
 )
     ensures { (c q : List ℕ) → is_caller callers.new c q
-        ≡ (not (bytes_eq q path.now && (contains_text names.now c && not (contains_text others.now c)))
+        ≡ (not (bytes_eq q path.now
+        && (contains_text names.now c && not (contains_text others.now c)))
         && is_caller callers.old c q) }
 {
     for name in names.as_slice() {
@@ -151,7 +160,8 @@ pub fn drop_callers(
 // Takes a file out of the callers of a candidate, unless that is among the others.
 fn drop_unless(callers: &mut Callers, name: &str, others: &IndexSet<String>, path: &str)
     ensures { (c q : List ℕ) → is_caller callers.new c q
-        ≡ (not (bytes_eq q path.now && (bytes_eq c name.now && not (contains_text others.now c))) && is_caller callers.old c q) }
+        ≡ (not (bytes_eq q path.now && (bytes_eq c name.now && not (contains_text others.now c)))
+        && is_caller callers.old c q) }
 {
     if !others.contains(name) {
         drop_caller(callers, name, path);
@@ -176,10 +186,13 @@ pub fn index_calls(
     callers: &mut Callers,
     file: &CandidateChange<'_>,
 ) -> Result<(), AllocError>
-    requires { (c : List ℕ) → is_caller callers.old c file.now.path.now ≡ contains_text file.now.before.now c }
+    requires { (c : List ℕ)
+        → is_caller callers.old c file.now.path.now ≡ contains_text file.now.before.now c }
     ensures added { OnOk result ((c q : List ℕ) → is_caller callers.new c q
-        ≡ ((bytes_eq q file.now.path.now && contains_text file.now.after.now c) || is_caller callers.old c q)) }
-    ensures as_before { OnErr result ((c q : List ℕ) → is_caller callers.new c q ≡ is_caller callers.old c q) }
+        ≡ ((bytes_eq q file.now.path.now && contains_text file.now.after.now c)
+        || is_caller callers.old c q)) }
+    ensures as_before { OnErr result
+        ((c q : List ℕ) → is_caller callers.new c q ≡ is_caller callers.old c q) }
 {
     match add_callers(alloc, callers, file.after, file.path) {
         Ok(()) => Ok(()),
@@ -200,10 +213,13 @@ pub fn reindex(
     callers: &mut Callers,
     file: &CandidateChange<'_>,
 ) -> Result<(), AllocError>
-    requires { (c : List ℕ) → is_caller callers.old c file.now.path.now ≡ contains_text file.now.before.now c }
+    requires { (c : List ℕ)
+        → is_caller callers.old c file.now.path.now ≡ contains_text file.now.before.now c }
     ensures moved { OnOk result ((c q : List ℕ) → is_caller callers.new c q
-        ≡ cond (bytes_eq q file.now.path.now) (contains_text file.now.after.now c) (is_caller callers.old c q)) }
-    ensures as_before { OnErr result ((c q : List ℕ) → is_caller callers.new c q ≡ is_caller callers.old c q) }
+        ≡ cond (bytes_eq q file.now.path.now) (contains_text file.now.after.now c)
+        (is_caller callers.old c q)) }
+    ensures as_before { OnErr result
+        ((c q : List ℕ) → is_caller callers.new c q ≡ is_caller callers.old c q) }
 {
     index_calls(alloc, callers, file)?;
     drop_callers(callers, file.before, file.after, file.path);

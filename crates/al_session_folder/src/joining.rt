@@ -93,7 +93,8 @@ pub fn join_files<'a, L: Lint>(
 
 /// Whether a call of a file is on a call cycle. Takes no memory.
 pub fn has_loops<L: Lint>(linked: &LinkedFiles<'_, L>) -> bool
-    ensures { result ≡ list_any (λ x. not (length (loops.loop_faults L.meaning linked.now x.0 x.1.0 x.1.1) == 0))
+    ensures { result ≡ list_any
+        (λ x. not (length (loops.loop_faults L.meaning linked.now x.0 x.1.0 x.1.1) == 0))
         (enumerate_from 0 linked.now) }
 {
     for index in 0..linked.count() {

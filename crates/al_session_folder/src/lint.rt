@@ -141,7 +141,8 @@ pub trait Lint: Drop {
     ) -> Result<Vec<Fault>, AllocError>
         requires small { length bytes.now ≤ largest_file }
         requires unit { is_unit unit.now path.now bytes.now }
-        requires answers { AreAnswers (meaning.calls path.now bytes.now) (map (λ a. option_copied a) answers.now) }
+        requires answers { AreAnswers (meaning.calls path.now bytes.now)
+            (map (λ a. option_copied a) answers.now) }
         ensures faults { IfOk result (λ fs. fs.items
             ≡ meaning.faults path.now bytes.now (map (λ a. option_copied a) answers.now)) }
         ensures checks { checks_of self.new ≡ raised (checks_of self.old) 1 }
@@ -149,8 +150,10 @@ pub trait Lint: Drop {
 
     /// The site of a call, by its number in the order of [`calls`](Lint::calls), from 0. Takes no memory.
     fn site<'a>(&self, unit: &'a Self::Unit, call: usize) -> Site<'a>
-        requires { (p : List ℕ) × (b : List ℕ) × is_unit unit.now p b × (call < length (meaning.calls p b)) }
-        ensures { (p b : List ℕ) → is_unit unit.now p b → slice_get (meaning.sites p b) call ≡ Some (fault_of result) };
+        requires { (p : List ℕ) × (b : List ℕ) × is_unit unit.now p b
+            × (call < length (meaning.calls p b)) }
+        ensures { (p b : List ℕ) → is_unit unit.now p b
+            → slice_get (meaning.sites p b) call ≡ Some (fault_of result) };
 
     /// How many checks were made so far, up to the greatest count. Takes no memory.
     fn checks(&self) -> u64

@@ -60,7 +60,8 @@ fn add_called<U, I>(
     numbers: &mut Vec<usize>,
 ) -> Result<(), AllocError>
     ensures { OnOk result (numbers.new.items
-        ≡ numbers.old.items ++ cons_option (loops.called (folder_of files.now.entries) target.now) []) }
+        ≡ numbers.old.items
+        ++ cons_option (loops.called (folder_of files.now.entries) target.now) []) }
 {
     match called(files, target) {
         None => Ok(()),
@@ -77,7 +78,9 @@ fn all_called<U, I>(
     files: &Files<U, I>,
     targets: &[Target],
 ) -> Result<Vec<usize>, AllocError>
-    ensures { IfOk result (λ numbers. numbers.items ≡ filter_map (loops.called (folder_of files.now.entries)) targets.now) }
+    ensures { IfOk result
+        (λ numbers. numbers.items
+        ≡ filter_map (loops.called (folder_of files.now.entries)) targets.now) }
 {
     let mut numbers = Vec::with_capacity(alloc, targets.len())?;
     for target in targets {
@@ -142,7 +145,9 @@ fn calls_graph<L: Lint>(
     end: usize,
 ) -> Result<Vec<Vec<usize>>, AllocError>
     requires { AreKept L.meaning L.is_unit files.now.entries }
-    ensures { IfOk result (λ graph. edges_of graph.items ≡ part_of first end (loops.calls_graph L.meaning (folder_of files.now.entries))) }
+    ensures { IfOk result
+        (λ graph. edges_of graph.items
+        ≡ part_of first end (loops.calls_graph L.meaning (folder_of files.now.entries))) }
 {
     let mut graph = Vec::with_capacity(alloc, files.len())?;
     for index in 0..files.len() {
@@ -167,7 +172,9 @@ pub fn call_graph<L: Lint>(
     files: &Files<L::Unit, L::Iface>,
 ) -> Result<CallGraph, AllocError>
     requires { AreKept L.meaning L.is_unit files.now.entries }
-    ensures { IfOk result (λ calls. IsCallGraph L.meaning (folder_of files.now.entries) calls.graph.items calls.labels.items) }
+    ensures { IfOk result
+        (λ calls. IsCallGraph L.meaning
+        (folder_of files.now.entries) calls.graph.items calls.labels.items) }
 {
     let first = first_forward(files);
     let end = end_backward(files);
@@ -189,7 +196,8 @@ fn has_label_of(nodes: &[usize], labels: &[Option<usize>], node: usize) -> bool
     requires nodes { (k : ℕ) → Contains nodes.now k → k < length labels.now }
     requires node { node < length labels.now }
     ensures { result ≡ list_any
-        (λ k. option_eq nat_eq (slice_index_or labels.now k None) (slice_index_or labels.now node None)) nodes.now }
+        (λ k. option_eq nat_eq (slice_index_or labels.now k None)
+        (slice_index_or labels.now node None)) nodes.now }
 {
     let label = labels[node];
     for other in nodes {
@@ -224,7 +232,8 @@ fn called_again<U, I>(
 fn leads_back(labels: &[Option<usize>], index: usize, to: Option<usize>) -> bool
     requires index { index < length labels.now }
     requires to { IfSome to (λ number. number < length labels.now) }
-    ensures { (graph : List (List ℕ)) → TellLoops graph labels.now → IsCalledBy graph index to → result ≡ loops.leads_back graph index to }
+    ensures { (graph : List (List ℕ)) → TellLoops graph labels.now → IsCalledBy graph index to
+        → result ≡ loops.leads_back graph index to }
 {
     match to {
         None => false,
@@ -245,7 +254,8 @@ fn fault_of(alloc: Global, site: Site<'_>) -> Result<Fault, AllocError>
 
 /// Adds the fault of a call, if it is on a cycle.
 fn add_fault_if(leads_back: bool, site: Site<'_>, faults: &mut FaultSink) -> Result<(), AllocError>
-    ensures { OnOk result (faults.new ≡ faults.old ++ loops.fault_if leads_back (fault_of site.entry)) }
+    ensures { OnOk result
+        (faults.new ≡ faults.old ++ loops.fault_if leads_back (fault_of site.entry)) }
 {
     if leads_back {
         let fault = fault_of(faults.alloc(), site)?;
@@ -335,7 +345,8 @@ impl<'a, L: Lint> LinkedFiles<'a, L> {
         index: usize,
     ) -> Result<Vec<Fault>, AllocError>
         requires { index < length self.now }
-        ensures { (p b : List ℕ) → slice_get self.now index ≡ Some (p, b) → IfOk result (λ faults. faults.items
+        ensures { (p b : List ℕ) → slice_get self.now index ≡ Some (p, b)
+            → IfOk result (λ faults. faults.items
             ≡ loops.loop_faults L.meaning self.now index p b) }
     {
         if !self.is_on_loop(index) {

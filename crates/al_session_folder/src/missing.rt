@@ -28,7 +28,8 @@ pub fn missing_paths<L: Lint>(
     files: &Files<L::Unit, L::Iface>,
 ) -> Result<Vec<Path>, AllocError>
     requires { AreKept L.meaning L.is_unit files.now.entries }
-    ensures { IfOk result (λ paths. paths.items ≡ missing_in L.meaning (folder_of files.now.entries)) }
+    ensures { IfOk result
+        (λ paths. paths.items ≡ missing_in L.meaning (folder_of files.now.entries)) }
 {
     let mut missing = Vec::new(alloc);
     for index in 0..files.len() {

@@ -47,12 +47,17 @@ pub fn write_files<L: Lint, W: Write>(
 ) -> Result<(), Stop>
     requires listed { AreListed L.meaning files.now.entries joined.now }
     requires printable { ArePrintable L.meaning files.now.entries }
-    ensures all { OnOk result (Appends (bytes_written W.contents writer.old) (bytes_written W.contents writer.new)
-        (flat_map (numbered_lines oneline L.meaning (folder_of files.now.entries)) (enumerate_from 0 files.now.entries))) }
-    ensures prefix { OnErr result (AppendsPrefix (bytes_written W.contents writer.old) (bytes_written W.contents writer.new)
-        (flat_map (numbered_lines oneline L.meaning (folder_of files.now.entries)) (enumerate_from 0 files.now.entries))) }
+    ensures all { OnOk result
+        (Appends (bytes_written W.contents writer.old) (bytes_written W.contents writer.new)
+        (flat_map (numbered_lines oneline L.meaning (folder_of files.now.entries))
+        (enumerate_from 0 files.now.entries))) }
+    ensures prefix { OnErr result
+        (AppendsPrefix (bytes_written W.contents writer.old) (bytes_written W.contents writer.new)
+        (flat_map (numbered_lines oneline L.meaning (folder_of files.now.entries))
+        (enumerate_from 0 files.now.entries))) }
     ensures failures { OnOk result (write_failures writer.new ≡ write_failures writer.old) }
-    ensures failed { OnErr result (HasRisen (write_failures writer.old) (write_failures writer.new)) }
+    ensures failed { OnErr result
+        (HasRisen (write_failures writer.old) (write_failures writer.new)) }
     ensures err { IsOkUnless result Stop.WriteFault }
 {
     for index in 0..files.len() {
@@ -82,12 +87,17 @@ fn write_file<U, I, W: Write>(
     joined: &[&Fault],
 ) -> Result<(), Stop>
     requires { IsPrintable listing.now.file.now (listed listing.now.file.now joined.now) }
-    ensures all { OnOk result (Appends (bytes_written W.contents writer.old) (bytes_written W.contents writer.new)
-        (lines_of listing.now.oneline listing.now.path.now listing.now.file.now (listed listing.now.file.now joined.now))) }
-    ensures prefix { OnErr result (AppendsPrefix (bytes_written W.contents writer.old) (bytes_written W.contents writer.new)
-        (lines_of listing.now.oneline listing.now.path.now listing.now.file.now (listed listing.now.file.now joined.now))) }
+    ensures all { OnOk result
+        (Appends (bytes_written W.contents writer.old) (bytes_written W.contents writer.new)
+        (lines_of listing.now.oneline listing.now.path.now listing.now.file.now
+        (listed listing.now.file.now joined.now))) }
+    ensures prefix { OnErr result
+        (AppendsPrefix (bytes_written W.contents writer.old) (bytes_written W.contents writer.new)
+        (lines_of listing.now.oneline listing.now.path.now listing.now.file.now
+        (listed listing.now.file.now joined.now))) }
     ensures failures { OnOk result (write_failures writer.new ≡ write_failures writer.old) }
-    ensures failed { OnErr result (HasRisen (write_failures writer.old) (write_failures writer.new)) }
+    ensures failed { OnErr result
+        (HasRisen (write_failures writer.old) (write_failures writer.new)) }
     ensures err { IsOkUnless result Stop.WriteFault }
 {
     if !joined.is_empty() {
@@ -111,12 +121,17 @@ fn write_referred<U, I, W: Write>(
     faults: &[&Fault],
 ) -> Result<(), Stop>
     requires { IsPrintable listing.now.file.now (referred faults.now) }
-    ensures all { OnOk result (Appends (bytes_written W.contents writer.old) (bytes_written W.contents writer.new)
-        (lines_of listing.now.oneline listing.now.path.now listing.now.file.now (referred faults.now))) }
-    ensures prefix { OnErr result (AppendsPrefix (bytes_written W.contents writer.old) (bytes_written W.contents writer.new)
-        (lines_of listing.now.oneline listing.now.path.now listing.now.file.now (referred faults.now))) }
+    ensures all { OnOk result
+        (Appends (bytes_written W.contents writer.old) (bytes_written W.contents writer.new)
+        (lines_of listing.now.oneline listing.now.path.now listing.now.file.now
+        (referred faults.now))) }
+    ensures prefix { OnErr result
+        (AppendsPrefix (bytes_written W.contents writer.old) (bytes_written W.contents writer.new)
+        (lines_of listing.now.oneline listing.now.path.now listing.now.file.now
+        (referred faults.now))) }
     ensures failures { OnOk result (write_failures writer.new ≡ write_failures writer.old) }
-    ensures failed { OnErr result (HasRisen (write_failures writer.old) (write_failures writer.new)) }
+    ensures failed { OnErr result
+        (HasRisen (write_failures writer.old) (write_failures writer.new)) }
     ensures err { IsOkUnless result Stop.WriteFault }
 {
     let bytes = listing.file.bytes.as_slice();

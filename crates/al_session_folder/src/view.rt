@@ -66,7 +66,8 @@ impl<'a, L: Lint> FolderView<'a, L> {
 
     /// The file at a path.
     pub(crate) fn file(&self, at: &str) -> Option<&'a KeptFile<L::Unit, L::Iface>>
-        ensures bytes { option_map (λ file. file.bytes.items) (option_copied result) ≡ bytes_at self.now at.now }
+        ensures bytes { option_map (λ file. file.bytes.items) (option_copied result)
+            ≡ bytes_at self.now at.now }
         ensures kept { IfSome result (λ file. IsKept L.meaning L.is_unit at.now file.now) }
     {
         match self.path {
@@ -154,8 +155,10 @@ impl<'a, L: Lint> FolderView<'a, L> {
         requires counted { L.checks_of lint.old ≤ 2 ^ 64 - 1 }
         ensures faults { IfOk result (λ lists. map (λ faults. faults.items) lists.items
             ≡ map (faults_of L.meaning self.now) paths.now) }
-        ensures checks { OnOk result (L.checks_of lint.new ≡ raised (L.checks_of lint.old) (length paths.now)) }
-        ensures bound { OnErr result (IsUpTo (L.checks_of lint.old) (L.checks_of lint.new) (length paths.now)) }
+        ensures checks { OnOk result
+            (L.checks_of lint.new ≡ raised (L.checks_of lint.old) (length paths.now)) }
+        ensures bound { OnErr result
+            (IsUpTo (L.checks_of lint.old) (L.checks_of lint.new) (length paths.now)) }
         ensures reads { L.reads_of lint.new ≡ L.reads_of lint.old }
     {
         let mut lists = Vec::new(alloc);
@@ -174,7 +177,8 @@ fn find_after<'a, U, I>(
     next: Option<&'a KeptFile<U, I>>,
     at: &str,
 ) -> Option<&'a KeptFile<U, I>>
-    ensures { option_copied result ≡ file_after files.now.entries path.now (option_copied next.entry) at.now }
+    ensures { option_copied result
+        ≡ file_after files.now.entries path.now (option_copied next.entry) at.now }
 {
     if at == path { next } else { files.get(at) }
 }

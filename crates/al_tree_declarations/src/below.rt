@@ -10,7 +10,8 @@ use al_yaml_tree::Node;
 
 /// The value below two keys, each of which stands in a mapping; of equal keys the first counts.
 pub fn value_below_two<'a>(node: &'a Node, first: &str, second: &str) -> Option<&'a Node>
-    ensures { option_map (λ n. view n.now) result ≡ value_below (first.now ∷ second.now ∷ []) (view node.now) }
+    ensures { option_map (λ n. view n.now) result
+        ≡ value_below (first.now ∷ second.now ∷ []) (view node.now) }
 {
     value(value(node, first)?, second)
 }
@@ -22,7 +23,8 @@ pub fn value_below_three<'a>(
     second: &str,
     third: &str,
 ) -> Option<&'a Node>
-    ensures { option_map (λ n. view n.now) result ≡ value_below (first.now ∷ second.now ∷ third.now ∷ []) (view node.now) }
+    ensures { option_map (λ n. view n.now) result
+        ≡ value_below (first.now ∷ second.now ∷ third.now ∷ []) (view node.now) }
 {
     value_below_two(value(node, first)?, second, third)
 }

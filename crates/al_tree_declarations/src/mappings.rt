@@ -13,7 +13,8 @@ use std::alloc::{AllocError, Global};
 /// Of members with equal names the first.
 #[tactic(auto, using(crate::proofs::NameLemmas::named_more))]
 fn first_named<'a>(alloc: Global, members: &[Member<'a>]) -> Result<Vec<Member<'a>>, AllocError>
-    ensures { IfOk result (λ v. map member_of v.items ≡ declarations.first_named [] (map member_of members.now)) }
+    ensures { IfOk result
+        (λ v. map member_of v.items ≡ declarations.first_named [] (map member_of members.now)) }
 {
     let mut names = NameSet::new(alloc);
     let mut found = Vec::new(alloc);
@@ -37,7 +38,8 @@ pub fn declared_in(alloc: Global, node: &Node) -> Result<Vec<Member<'_>>, AllocE
 /// What a mapping declares, where there is one. Fails with `AllocError` when out of memory.
 pub fn declared_at(alloc: Global, node: Option<&Node>) -> Result<Vec<Member<'_>>, AllocError>
     ensures { IfOk result
-        (λ v. map member_of v.items ≡ option_map_or declarations.declared_in (option_map (λ n. view n.now) node.entry) []) }
+        (λ v. map member_of v.items
+        ≡ option_map_or declarations.declared_in (option_map (λ n. view n.now) node.entry) []) }
 {
     match node {
         Some(node) => declared_in(alloc, node),

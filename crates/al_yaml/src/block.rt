@@ -85,8 +85,10 @@ pub fn find_rest(
 ) -> Result<BlockTask, ReadError>
     requires rest { IsRestAt file.now.bytes.now from rest }
     ensures fault { IfErr result (IsStopInside (size file.now)) }
-    ensures is { (node : block.BlockReader) (depth : ℕ) → FindsBlock file.now.bytes.now node from.anchor depth
-        (block.rest_node node (slot_of from.slot) depth from.start.column (left_at file.now from.start.at)
+    ensures is { (node : block.BlockReader) (depth : ℕ)
+        → FindsBlock file.now.bytes.now node from.anchor depth
+        (block.rest_node node (slot_of from.slot) depth from.start.column
+        (left_at file.now from.start.at)
         (left_at file.now rest)) (state_of state.old) result (state_of state.new) }
     ensures within { IfOk result (λ task. IsFoundFrom file.now.bytes.now rest task) }
 {
@@ -114,8 +116,10 @@ fn find_below(
     requires within { from.slot.within ≤ at + 1 }
     requires empty { from.slot.empty ≤ size file.now }
     ensures fault { IfErr result (IsStopInside (size file.now)) }
-    ensures is { (node : block.BlockReader) (depth : ℕ) → FindsBlock file.now.bytes.now node from.anchor depth
-        (block.node_below node (slot_of from.slot) depth (left_at file.now at)) (state_of state.old) result (state_of state.new) }
+    ensures is { (node : block.BlockReader) (depth : ℕ)
+        → FindsBlock file.now.bytes.now node from.anchor depth
+        (block.node_below node (slot_of from.slot) depth (left_at file.now at))
+        (state_of state.old) result (state_of state.new) }
     ensures within { IfOk result (λ task. IsFoundFrom file.now.bytes.now at task) }
 {
     let NodePlace {
@@ -157,7 +161,8 @@ fn enter(
     ensures fault { IfErr result (IsStopInside (size file.now)) }
     ensures within { IfOk result (λ r. IsEntered file.now.bytes.now inside.at r) }
     ensures is { (bound turns depth : ℕ) → Enters file.now.bytes.now bound turns depth inside.begun.start.at inside.begun.start.column
-        (block_rest (suc turns) bound depth inside.begun.start.at inside.begun.start.column (block_open_of file.now.bytes.now inside.has)
+        (block_rest (suc turns) bound depth inside.begun.start.at inside.begun.start.column
+        (block_open_of file.now.bytes.now inside.has)
         (left_at file.now inside.at)) (state_of state.old) result (state_of state.new) }
 {
     let OpenBlock { begun, has, at } = inside;
@@ -205,7 +210,8 @@ fn enter(
 fn entry_on(bytes: &[u8], column: usize, next: Next) -> Result<Option<usize>, FaultAt>
     requires { IsNextInside (length bytes.now) next }
     ensures fault { IfErr result (λ f. f.at ≤ length bytes.now) }
-    ensures is { Shows (option_lines bytes.now) (block.next_found column (next_of bytes.now next)) result }
+    ensures is { Shows (option_lines bytes.now)
+        (block.next_found column (next_of bytes.now next)) result }
     ensures inside { IfOk result (λ found. IfSome found (λ at. at ≤ length bytes.now)) }
     ensures column { IfOk result (λ found. IfSome found (λ at. column ≤ at)) }
     ensures here { IfOk result (λ found. IfSome found (IsNextAt next)) }
@@ -237,7 +243,8 @@ fn close_sequence(
     requires start { begun.start.at ≤ size file.now }
     requires read { IsReadBefore file.now.bytes.now read }
     ensures is { IfOk result (λ closed. noting (mark_of file.now.bytes.now begun.anchor)
-        (closed_sequence begun.start.at (nodes_of (map view items.items)) (part_of file.now.bytes.now read.part) (state_of state.old))
+        (closed_sequence begun.start.at (nodes_of (map view items.items))
+        (part_of file.now.bytes.now read.part) (state_of state.old))
         ≡ Ok (part_of file.now.bytes.now closed.part, state_of state.new)) }
     ensures within { IfOk result (λ closed. IsFoundPart file.now.bytes.now read.part.next closed) }
 {
@@ -263,8 +270,10 @@ fn put_block_item(
     requires room { HasRoom progress.old.stack }
     ensures fault { IfErr result (IsStopInside (size file.now)) }
     ensures is { (bound turns : ℕ) → size file.now < suc bound + read.part.next
-        → ResumesBlock file.now.bytes.now bound turns (depth_in progress.old.stack + 1) begun.start.at begun.start.column begun.anchor
-        (frames.item in_mapping (nodes_of (map view items.items))) (part_of file.now.bytes.now read.part)
+        → ResumesBlock file.now.bytes.now bound turns
+        (depth_in progress.old.stack + 1) begun.start.at begun.start.column begun.anchor
+        (frames.item in_mapping (nodes_of (map view items.items)))
+        (part_of file.now.bytes.now read.part)
         (state_of progress.old.state) result (state_of progress.new.state) }
     ensures within { IfOk result (λ task. IsResumed file.now.bytes.now read.part.next task) }
     ensures same { IfOk result (λ _. progress.new.stack ≡ progress.old.stack) }
@@ -303,9 +312,11 @@ fn put_block_entry(
     requires room { HasRoom progress.old.stack }
     ensures fault { IfErr result (IsStopInside (size file.now)) }
     ensures is { (bound turns : ℕ) → size file.now < suc bound + read.part.next
-        → ResumesBlock file.now.bytes.now bound turns (depth_in progress.old.stack + 1) begun.start.at begun.start.column begun.anchor
+        → ResumesBlock file.now.bytes.now bound turns
+        (depth_in progress.old.stack + 1) begun.start.at begun.start.column begun.anchor
         (frames.value (entries_of (map entry_view entries.items)) (read_of file.now.bytes.now key))
-        (part_of file.now.bytes.now read.part) (state_of progress.old.state) result (state_of progress.new.state) }
+        (part_of file.now.bytes.now read.part) (state_of progress.old.state) result
+        (state_of progress.new.state) }
     ensures within { IfOk result (λ task. IsResumed file.now.bytes.now read.part.next task) }
     ensures same { IfOk result (λ _. progress.new.stack ≡ progress.old.stack) }
 {
@@ -338,9 +349,12 @@ fn resume_block(
     requires room { HasRoom progress.old.stack }
     ensures fault { IfErr result (IsStopInside (size file.now)) }
     ensures is { (bound turns : ℕ) → size file.now < suc bound + read.part.next
-        → ResumesBlock file.now.bytes.now bound turns (depth_in progress.old.stack + 1) frame.begun.start.at
-        frame.begun.start.column frame.begun.anchor (block_waiting_of file.now.bytes.now frame.waiting)
-        (part_of file.now.bytes.now read.part) (state_of progress.old.state) result (state_of progress.new.state) }
+        → ResumesBlock file.now.bytes.now bound turns
+        (depth_in progress.old.stack + 1) frame.begun.start.at
+        frame.begun.start.column frame.begun.anchor
+        (block_waiting_of file.now.bytes.now frame.waiting)
+        (part_of file.now.bytes.now read.part) (state_of progress.old.state) result
+        (state_of progress.new.state) }
     ensures within { IfOk result (λ task. IsResumed file.now.bytes.now read.part.next task) }
     ensures same { IfOk result (λ _. progress.new.stack ≡ progress.old.stack) }
 {
@@ -368,7 +382,8 @@ pub fn read_block_node(
     requires outside { progress.old.stack.flows ≡ [] }
     requires none { progress.old.stack.blocks ≡ [] }
     ensures fault { IfErr result (IsStopInside (size file.now)) }
-    ensures is { (bound : ℕ) → size file.now < bound + start.at → IsRead (part_of file.now.bytes.now)
+    ensures is { (bound : ℕ) → size file.now < bound + start.at
+        → IsRead (part_of file.now.bytes.now)
         (block.block_node bound (slot_of slot) 1 start.column (left_at file.now start.at))
         (state_of progress.old.state) result (state_of progress.new.state) }
     ensures within { IfOk result (λ part. IsBehind file.now.bytes.now start.at part) }

@@ -34,7 +34,8 @@ use al_yaml_parts::starts::{block_fault, is_block_start, is_flow_start, is_prope
 /// Whether a scalar that stands here is no key: a block scalar, or a value on its key's line.
 fn is_no_key(bytes: &[u8], spot: Spot, at: usize) -> bool
     requires { at ≤ length bytes.now }
-    ensures { result ≡ (keys.is_block_start (text_at bytes.now at) || block.is_behind_key (spot_of spot)) }
+    ensures { result ≡
+        (keys.is_block_start (text_at bytes.now at) || block.is_behind_key (spot_of spot)) }
 {
     is_block_start(bytes, at) || is_behind_key(spot)
 }
@@ -42,7 +43,8 @@ fn is_no_key(bytes: &[u8], spot: Spot, at: usize) -> bool
 /// Whether a colon behind a flow collection would make it a key.
 fn is_refused_key(bytes: &[u8], spot: Spot, next: usize) -> bool
     requires { next ≤ length bytes.now }
-    ensures { result ≡ (not (block.is_behind_key (spot_of spot)) && keys.has_colon (lines_at bytes.now next)) }
+    ensures { result ≡
+        (not (block.is_behind_key (spot_of spot)) && keys.has_colon (lines_at bytes.now next)) }
 {
     if is_behind_key(spot) {
         return false;
@@ -61,7 +63,8 @@ fn read_line_flow(
     requires bracket { content.is_flow_start (text_at file.now.bytes.now at) ≡ true }
     requires outside { progress.old.stack.flows ≡ [] }
     ensures fault { IfErr result (IsStopInside (size file.now)) }
-    ensures is { (bound : ℕ) → size file.now < bound + at → IsRead (part_of file.now.bytes.now) (block.flow_at (flow.flow_collection bound)
+    ensures is { (bound : ℕ) → size file.now < bound + at
+        → IsRead (part_of file.now.bytes.now) (block.flow_at (flow.flow_collection bound)
         (spot_of spot) (depth_in progress.old.stack) (left_at file.now at))
         (state_of progress.old.state) result (state_of progress.new.state) }
     ensures within { IfOk result (λ part. IsBehind file.now.bytes.now at part) }
@@ -93,11 +96,14 @@ pub fn read_node(
     requires outside { progress.old.stack.flows ≡ [] }
     requires node { IsNodeAt file.now.bytes.now node.slot node.start }
     ensures fault { IfErr result (IsStopInside (size file.now)) }
-    ensures is { (bound : ℕ) → size file.now < suc bound + node.start.at → Begins file.now.bytes.now bound (depth_in progress.old.stack)
-        (completing file.now.bytes.now node.anchor (node_reader (suc bound) node.anchor (slot_of node.slot)
+    ensures is { (bound : ℕ) → size file.now < suc bound + node.start.at
+        → Begins file.now.bytes.now bound (depth_in progress.old.stack)
+        (completing file.now.bytes.now node.anchor
+        (node_reader (suc bound) node.anchor (slot_of node.slot)
         (depth_in progress.old.stack) node.start.column (left_at file.now node.start.at)))
         (state_of progress.old.state) result (state_of progress.new.state) }
-    ensures within { IfOk result (λ task. IsBegun file.now.bytes.now node.start.at (depth_in progress.old.stack) task) }
+    ensures within { IfOk result
+        (λ task. IsBegun file.now.bytes.now node.start.at (depth_in progress.old.stack) task) }
     ensures same { IfOk result (λ _. progress.new.stack ≡ progress.old.stack) }
 {
     if is_property(file.bytes, node.start.at) {
@@ -141,10 +147,12 @@ fn read_property(
     requires property { content.is_property (text_at file.now.bytes.now node.start.at) ≡ true }
     ensures fault { IfErr result (IsStopInside (size file.now)) }
     ensures is { (bound : ℕ) → Begins file.now.bytes.now bound (depth_in progress.old.stack)
-        (completing file.now.bytes.now node.anchor (node_reader (suc bound) node.anchor (slot_of node.slot)
+        (completing file.now.bytes.now node.anchor
+        (node_reader (suc bound) node.anchor (slot_of node.slot)
         (depth_in progress.old.stack) node.start.column (left_at file.now node.start.at)))
         (state_of progress.old.state) result (state_of progress.new.state) }
-    ensures within { IfOk result (λ task. IsBegun file.now.bytes.now node.start.at (depth_in progress.old.stack) task) }
+    ensures within { IfOk result
+        (λ task. IsBegun file.now.bytes.now node.start.at (depth_in progress.old.stack) task) }
     ensures same { IfOk result (λ _. progress.new.stack ≡ progress.old.stack) }
 {
     let unexpected = ReadError::Fault(FaultAt {
@@ -192,11 +200,15 @@ fn begin_sequence(
     requires node { IsNodeAt file.now.bytes.now node.slot node.start }
     requires outside { progress.old.stack.flows ≡ [] }
     ensures fault { IfErr result (IsStopInside (size file.now)) }
-    ensures is { (bound : ℕ) → Begins file.now.bytes.now bound (depth_in progress.old.stack) (completing file.now.bytes.now node.anchor
-        (block.block_sequence (block.block_node bound) (flow.flow_collection (suc bound)) (suc bound) (slot_of node.slot)
+    ensures is { (bound : ℕ)
+        → Begins file.now.bytes.now bound (depth_in progress.old.stack)
+        (completing file.now.bytes.now node.anchor
+        (block.block_sequence (block.block_node bound) (flow.flow_collection (suc bound))
+        (suc bound) (slot_of node.slot)
         (depth_in progress.old.stack) node.start.column (left_at file.now node.start.at)))
         (state_of progress.old.state) result (state_of progress.new.state) }
-    ensures within { IfOk result (λ task. IsBegun file.now.bytes.now node.start.at (depth_in progress.old.stack) task) }
+    ensures within { IfOk result
+        (λ task. IsBegun file.now.bytes.now node.start.at (depth_in progress.old.stack) task) }
     ensures same { IfOk result (λ _. progress.new.stack ≡ progress.old.stack) }
 {
     if is_behind_key(node.slot.spot) {
@@ -235,11 +247,16 @@ fn begin_mapping(
     requires node { IsNodeAt file.now.bytes.now node.slot node.start }
     requires outside { progress.old.stack.flows ≡ [] }
     ensures fault { IfErr result (IsStopInside (size file.now)) }
-    ensures is { (bound : ℕ) → Begins file.now.bytes.now bound (depth_in progress.old.stack) (completing file.now.bytes.now node.anchor
-        (block.block_mapping (block.block_node bound) (flow.flow_collection (suc bound)) (suc bound) (spot_of node.slot.spot)
-        (depth_in progress.old.stack) node.start.column (left_at file.now node.start.at) (key_seen file.now.bytes.now key)))
+    ensures is { (bound : ℕ)
+        → Begins file.now.bytes.now bound (depth_in progress.old.stack)
+        (completing file.now.bytes.now node.anchor
+        (block.block_mapping (block.block_node bound) (flow.flow_collection (suc bound))
+        (suc bound) (spot_of node.slot.spot)
+        (depth_in progress.old.stack) node.start.column (left_at file.now node.start.at)
+        (key_seen file.now.bytes.now key)))
         (state_of progress.old.state) result (state_of progress.new.state) }
-    ensures within { IfOk result (λ task. IsBegun file.now.bytes.now node.start.at (depth_in progress.old.stack) task) }
+    ensures within { IfOk result
+        (λ task. IsBegun file.now.bytes.now node.start.at (depth_in progress.old.stack) task) }
     ensures same { IfOk result (λ _. progress.new.stack ≡ progress.old.stack) }
 {
     let wrong = ReadError::Fault(FaultAt {

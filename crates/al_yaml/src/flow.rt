@@ -65,7 +65,8 @@ fn after_item(bytes: &[u8], opening: usize, close: u8, at: usize) -> Result<Afte
     requires inside { at ≤ length bytes.now }
     requires opening { opening ≤ length bytes.now }
     ensures fault { IfErr result (λ f. f.at ≤ length bytes.now) }
-    ensures is { Shows (after_of bytes.now) (flow.after_item opening close (lines_at bytes.now at)) result }
+    ensures is { Shows (after_of bytes.now)
+        (flow.after_item opening close (lines_at bytes.now at)) result }
     ensures after { IfOk result (λ after. IsAfter at (length bytes.now) after) }
 {
     if is_text_end(bytes, at) {
@@ -99,7 +100,8 @@ fn put_item(
     ensures fault { IfErr result (IsStopInside (size file.now)) }
     ensures is { (depth : ℕ) (s : reads.State) →
         Resumes file.now.bytes.now depth opening (frames.item (nodes_of (map view items.old.items)))
-        (part_of file.now.bytes.now part) s (frames.items (nodes_of (map view items.new.items))) result }
+        (part_of file.now.bytes.now part) s
+        (frames.items (nodes_of (map view items.new.items))) result }
     ensures within { IfOk result (IsPut (size file.now) part.next) }
 {
     items.push(part.node)?;
@@ -119,8 +121,10 @@ fn put_entry(
     requires opening { opening ≤ size file.now }
     ensures fault { IfErr result (IsStopInside (size file.now)) }
     ensures is { (depth : ℕ) (s : reads.State) → Resumes file.now.bytes.now depth opening
-        (frames.value (entries_of (map entry_view entries.old.items)) (read_of file.now.bytes.now key))
-        (part_of file.now.bytes.now part) s (frames.entries (entries_of (map entry_view entries.new.items))) result }
+        (frames.value (entries_of (map entry_view entries.old.items))
+        (read_of file.now.bytes.now key))
+        (part_of file.now.bytes.now part) s
+        (frames.entries (entries_of (map entry_view entries.new.items))) result }
     ensures within { IfOk result (IsPut (size file.now) part.next) }
 {
     let key = scalar_node(key.scalar, key.span);
@@ -140,8 +144,10 @@ fn read_property_item(
     requires solid { false ≡ line.is_empty (text_at file.now.bytes.now place.at) }
     requires other { false ≡ line.begins 93 (text_at file.now.bytes.now place.at) }
     ensures fault { IfErr result (IsStopInside (size file.now)) }
-    ensures is { Steps file.now.bytes.now place.depth place.opening (λ c t. open_rest c t place.depth place.opening
-        (frames.items (nodes_of (map view items.old.items))) (left_at file.now place.at)) (state_of state.old) (open_code.Items items.new)
+    ensures is { Steps file.now.bytes.now place.depth place.opening
+        (λ c t. open_rest c t place.depth place.opening
+        (frames.items (nodes_of (map view items.old.items))) (left_at file.now place.at))
+        (state_of state.old) (open_code.Items items.new)
         result (state_of state.new) }
     ensures within { IfOk result (IsStep file.now.bytes.now place.at) }
 {
@@ -162,8 +168,10 @@ fn read_item(
     requires solid { false ≡ line.is_empty (text_at file.now.bytes.now place.at) }
     requires other { false ≡ line.begins 93 (text_at file.now.bytes.now place.at) }
     ensures fault { IfErr result (IsStopInside (size file.now)) }
-    ensures is { Steps file.now.bytes.now place.depth place.opening (λ c t. open_rest c t place.depth place.opening
-        (frames.items (nodes_of (map view items.old.items))) (left_at file.now place.at)) (state_of state.old) (open_code.Items items.new)
+    ensures is { Steps file.now.bytes.now place.depth place.opening
+        (λ c t. open_rest c t place.depth place.opening
+        (frames.items (nodes_of (map view items.old.items))) (left_at file.now place.at))
+        (state_of state.old) (open_code.Items items.new)
         result (state_of state.new) }
     ensures within { IfOk result (IsStep file.now.bytes.now place.at) }
 {
@@ -193,8 +201,10 @@ fn read_entry(
     requires solid { false ≡ line.is_empty (text_at file.now.bytes.now place.at) }
     requires other { false ≡ line.begins 125 (text_at file.now.bytes.now place.at) }
     ensures fault { IfErr result (IsStopInside (size file.now)) }
-    ensures is { Steps file.now.bytes.now place.depth place.opening (λ c t. open_rest c t place.depth place.opening
-        (frames.entries (entries_of (map entry_view mapping.old.entries.items))) (left_at file.now place.at)) (state_of state.old)
+    ensures is { Steps file.now.bytes.now place.depth place.opening
+        (λ c t. open_rest c t place.depth place.opening
+        (frames.entries (entries_of (map entry_view mapping.old.entries.items)))
+        (left_at file.now place.at)) (state_of state.old)
         (open_code.Entries mapping.new) result (state_of state.new) }
     ensures within { IfOk result (IsStep file.now.bytes.now place.at) }
 {
@@ -244,7 +254,8 @@ fn read_inside(
     requires place { IsPlaceInside (size file.now) place }
     ensures fault { IfErr result (IsStopInside (size file.now)) }
     ensures is { Steps file.now.bytes.now place.depth place.opening
-        (λ c t. open_rest c t place.depth place.opening (open_of has.old) (left_at file.now place.at))
+        (λ c t. open_rest c t place.depth place.opening (open_of has.old)
+        (left_at file.now place.at))
         (state_of state.old) has.new result (state_of state.new) }
     ensures within { IfOk result (IsStep file.now.bytes.now place.at) }
 {
@@ -311,7 +322,8 @@ fn first_inside(bytes: &[u8], close: u8, at: usize) -> After
 fn open_at(file: &File, at: usize) -> (Open, After)
     requires inside { at < size file.now }
     requires bracket { content.is_flow_start (text_at file.now.bytes.now at) ≡ true }
-    ensures is { (depth : ℕ) (s t : reads.State) → broken_limit s.nodes s.text (start_of at 1 depth ∷ []) ≡ None → t ≡ counted 1 s →
+    ensures is { (depth : ℕ) (s t : reads.State)
+        → broken_limit s.nodes s.text (start_of at 1 depth ∷ []) ≡ None → t ≡ counted 1 s →
         Opens file.now.bytes.now depth at s (open_of result.0) result.1 t }
     ensures from { at < after_at result.1 }
     ensures end { after_at result.1 ≤ size file.now }

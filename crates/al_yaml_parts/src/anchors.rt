@@ -51,8 +51,10 @@ pub fn name_end(bytes: &[u8], at: usize) -> usize
     requires { at ≤ length bytes.now }
     ensures from { at ≤ result }
     ensures inside { result ≤ length bytes.now }
-    ensures cells { content.anchor_cells (text_at bytes.now at) ≡ cells_between bytes.now at result }
-    ensures lines { lines_at bytes.now at ≡ with_cells_before (cells_between bytes.now at result) (lines_at bytes.now result) }
+    ensures cells { content.anchor_cells (text_at bytes.now at)
+        ≡ cells_between bytes.now at result }
+    ensures lines { lines_at bytes.now at
+        ≡ with_cells_before (cells_between bytes.now at result) (lines_at bytes.now result) }
 {
     let mut i = at;
     'name: while !ends_name(bytes, i) {
@@ -123,7 +125,9 @@ impl Anchors {
 
     /// One more anchor.
     fn note(&mut self, name: Vec<u8>, anchor: Anchored) -> Result<(), AllocError>
-        ensures { IfOk result (λ _. known_of self.new ≡ with_anchor (anchor_seen name.items anchor) (known_of self.old)) }
+        ensures { IfOk result
+            (λ _. known_of self.new
+            ≡ with_anchor (anchor_seen name.items anchor) (known_of self.old)) }
     {
         if self.has_later(name.as_slice(), anchor.at) {
             return Ok(());
@@ -153,7 +157,9 @@ impl State {
         node: Node,
     ) -> Result<Node, AllocError>
         ensures node { IfOk result (λ n. view n ≡ view node) }
-        ensures state { IfOk result (λ _. state_of self.new ≡ noted_at file.now.bytes.now anchor (view node) (state_of self.old)) }
+        ensures state { IfOk result
+            (λ _. state_of self.new
+            ≡ noted_at file.now.bytes.now anchor (view node) (state_of self.old)) }
     {
         match anchor {
             None => Ok(node),
@@ -165,7 +171,8 @@ impl State {
     pub fn alias(&mut self, file: &File, at: usize, depth: u32) -> Result<Node, ReadError>
         requires { at ≤ size file.now }
         ensures fault { IfErr result (IsStopInside (size file.now)) }
-        ensures is { IsRead view (reading.alias (content.anchor_name (left_at file.now at)) at depth)
+        ensures is { IsRead view
+            (reading.alias (content.anchor_name (left_at file.now at)) at depth)
             (state_of self.old) result (state_of self.new) }
     {
         let Some(found) = self.anchors.latest.get(name_at(file.bytes, at)) else {

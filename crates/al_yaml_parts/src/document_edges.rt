@@ -19,7 +19,8 @@ fn next_text_line(bytes: &[u8], at: usize) -> usize
     ensures from { at ≤ result }
     ensures inside { result ≤ length bytes.now }
     ensures lines { text_line (lines_at bytes.now at) ≡ lines_at bytes.now result }
-    ensures text { result < length bytes.now → false ≡ content.is_skipped (text_at bytes.now result) }
+    ensures text { result < length bytes.now
+        → false ≡ content.is_skipped (text_at bytes.now result) }
 {
     let mut line = at;
     'lines: while line < bytes.len() {
@@ -37,7 +38,8 @@ fn next_text_line(bytes: &[u8], at: usize) -> usize
 pub fn document_start(bytes: &[u8], at: usize) -> Result<usize, FaultAt>
     requires { at ≤ length bytes.now }
     ensures fault { IfErr result (λ f. f.at ≤ length bytes.now) }
-    ensures is { Shows (lines_at bytes.now) (document.document_start (lines_at bytes.now at)) result }
+    ensures is { Shows (lines_at bytes.now)
+        (document.document_start (lines_at bytes.now at)) result }
     ensures inside { IfOk result (λ next. next ≤ length bytes.now) }
     ensures from { IfOk result (λ next. at ≤ next) }
 {

@@ -66,7 +66,8 @@ fn key_colon(bytes: &[u8], at: usize, read: &ScalarRead) -> Result<Option<usize>
     requires at { at ≤ length bytes.now }
     requires inside { IsReadInside bytes.now at read.now }
     ensures fault { IfErr result (λ f. f.at ≤ length bytes.now) }
-    ensures is { Shows (option_lines bytes.now) (flow.key_colon (lines_at bytes.now at) (read_of bytes.now read.now)) result }
+    ensures is { Shows (option_lines bytes.now)
+        (flow.key_colon (lines_at bytes.now at) (read_of bytes.now read.now)) result }
     ensures inside { IfOk result (λ colon. IsColonInside read.now.next (length bytes.now) colon) }
 {
     let wrong = FaultAt {
@@ -89,7 +90,9 @@ fn key_colon(bytes: &[u8], at: usize, read: &ScalarRead) -> Result<Option<usize>
 fn property_on_key(bytes: &[u8], at: usize) -> YamlCode
     requires inside { at ≤ length bytes.now }
     requires property { content.is_property (text_at bytes.now at) ≡ true }
-    ensures { result ≡ (if content.has_no_name (lines_at bytes.now at) then yaml.UnexpectedCharacter else yaml.AnchorOrAlias) }
+    ensures { result ≡
+        (if content.has_no_name
+        (lines_at bytes.now at) then yaml.UnexpectedCharacter else yaml.AnchorOrAlias) }
 {
     if has_no_name(bytes, at) {
         return YamlCode::UnexpectedCharacter;
@@ -103,7 +106,8 @@ pub fn read_flow_key(file: &File, state: &mut State, at: usize) -> Result<FoundK
     ensures fault { IfErr result (IsStopInside (size file.now)) }
     ensures is { (depth : ℕ) →
         FindsKey file.now.bytes.now at
-        (λ collection. flow.flow_key collection depth (left_at file.now at)) depth (state_of state.old) result (state_of state.new) }
+        (λ collection. flow.flow_key collection depth (left_at file.now at)) depth
+        (state_of state.old) result (state_of state.new) }
     ensures within { IfOk result (λ key. IsFoundKey file.now.bytes.now at key) }
 {
     if let Some(code) = flow_fault(file.bytes, at) {
@@ -127,7 +131,8 @@ pub fn read_flow_key(file: &File, state: &mut State, at: usize) -> Result<FoundK
 /// Whether a comma or a closing brace stands at an offset.
 fn ends_value(bytes: &[u8], at: usize) -> bool
     requires { at ≤ length bytes.now }
-    ensures { result ≡ (line.begins 44 (text_at bytes.now at) || line.begins 125 (text_at bytes.now at)) }
+    ensures { result ≡
+        (line.begins 44 (text_at bytes.now at) || line.begins 125 (text_at bytes.now at)) }
 {
     begins(bytes, at, b',') || begins(bytes, at, b'}')
 }
@@ -139,8 +144,10 @@ pub fn read_flow_scalar(file: &File, state: &mut State, at: usize) -> Result<Par
     requires plain { false ≡ content.is_property (text_at file.now.bytes.now at) }
     requires scalar { false ≡ content.is_flow_start (text_at file.now.bytes.now at) }
     ensures fault { IfErr result (IsStopInside (size file.now)) }
-    ensures is { (collection : flow.CollectionReader) (slot : flow.FlowSlot) (depth : ℕ) → IsRead (part_of file.now.bytes.now)
-        (flow.flow_content collection slot depth (left_at file.now at)) (state_of state.old) result (state_of state.new) }
+    ensures is { (collection : flow.CollectionReader) (slot : flow.FlowSlot) (depth : ℕ)
+        → IsRead (part_of file.now.bytes.now)
+        (flow.flow_content collection slot depth (left_at file.now at)) (state_of state.old) result
+        (state_of state.new) }
     ensures within { IfOk result (λ part. IsBehind file.now.bytes.now at part) }
 {
     if let Some(code) = flow_fault(file.bytes, at) {
@@ -158,7 +165,8 @@ fn read_flow_content(file: &File, state: &mut State, at: usize) -> Result<Found,
     requires inside { at ≤ size file.now }
     requires plain { false ≡ content.is_property (text_at file.now.bytes.now at) }
     ensures fault { IfErr result (IsStopInside (size file.now)) }
-    ensures is { (depth : ℕ) (slot : flow.FlowSlot) → Finds file.now.bytes.now (λ collection. flow.flow_content collection slot depth
+    ensures is { (depth : ℕ) (slot : flow.FlowSlot)
+        → Finds file.now.bytes.now (λ collection. flow.flow_content collection slot depth
         (left_at file.now at)) depth (state_of state.old) result (state_of state.new) }
     ensures within { IfOk result (λ found. IsFound file.now.bytes.now at found) }
     ensures bare { IfOk result IsBare }
@@ -202,7 +210,8 @@ pub fn read_flow_property(
     requires opening { opening ≤ size file.now }
     requires empty { IfSome empty (λ i. i ≤ at) }
     ensures fault { IfErr result (IsStopInside (size file.now)) }
-    ensures is { Finds file.now.bytes.now (λ collection. flow.flow_property collection (flow_slot opening empty) depth
+    ensures is { Finds file.now.bytes.now
+        (λ collection. flow.flow_property collection (flow_slot opening empty) depth
         (left_at file.now at)) depth (state_of state.old) result (state_of state.new) }
     ensures within { IfOk result (λ found. IsFound file.now.bytes.now at found) }
 {
@@ -239,10 +248,13 @@ pub fn complete(
     anchor: Option<usize>,
     part: Part,
 ) -> Result<Part, AllocError>
-    ensures part { IfOk result (λ p. part_of file.now.bytes.now p ≡ part_of file.now.bytes.now part) }
+    ensures part { IfOk result
+        (λ p. part_of file.now.bytes.now p ≡ part_of file.now.bytes.now part) }
     ensures end { IfOk result (λ p. p.end ≡ part.end) }
     ensures next { IfOk result (λ p. p.next ≡ part.next) }
-    ensures state { IfOk result (λ _. state_of state.new ≡ noted_at file.now.bytes.now anchor (view part.node) (state_of state.old)) }
+    ensures state { IfOk result
+        (λ _. state_of state.new
+        ≡ noted_at file.now.bytes.now anchor (view part.node) (state_of state.old)) }
 {
     Ok(Part {
         node: state.complete(file, anchor, part.node)?,
@@ -263,8 +275,10 @@ fn read_anchored(
     requires opening { opening ≤ size file.now }
     requires empty { IfSome empty (λ i. i ≤ at) }
     ensures fault { IfErr result (IsStopInside (size file.now)) }
-    ensures is { (depth : ℕ) → Finds file.now.bytes.now (λ collection. flow.flow_value (flow.flow_content collection)
-        (flow_slot opening empty) depth (left_at file.now at)) depth (state_of state.old) result (state_of state.new) }
+    ensures is { (depth : ℕ)
+        → Finds file.now.bytes.now (λ collection. flow.flow_value (flow.flow_content collection)
+        (flow_slot opening empty) depth (left_at file.now at)) depth (state_of state.old) result
+        (state_of state.new) }
     ensures within { IfOk result (λ found. IsFound file.now.bytes.now at found) }
     ensures bare { IfOk result IsBare }
 {
@@ -310,7 +324,8 @@ pub fn read_flow_node(
     requires opening { opening ≤ size file.now }
     requires empty { IfSome empty (λ i. i ≤ at) }
     ensures fault { IfErr result (IsStopInside (size file.now)) }
-    ensures is { Finds file.now.bytes.now (λ collection. flow.flow_node_over collection (flow_slot opening empty) depth
+    ensures is { Finds file.now.bytes.now
+        (λ collection. flow.flow_node_over collection (flow_slot opening empty) depth
         (left_at file.now at)) depth (state_of state.old) result (state_of state.new) }
     ensures within { IfOk result (λ found. IsFound file.now.bytes.now at found) }
 {
@@ -331,9 +346,12 @@ pub fn read_flow_value(
     requires inside { IsKeyInside file.now.bytes.now key.now.read.span.start key.now }
     requires opening { opening ≤ size file.now }
     ensures fault { IfErr result (IsStopInside (size file.now)) }
-    ensures is { Finds file.now.bytes.now (λ collection. flow.flow_entry_value (flow.flow_node_over collection) opening depth
-        (flow_key_of file.now.bytes.now key.now)) depth (state_of state.old) result (state_of state.new) }
-    ensures within { IfOk result (λ found. IsFound file.now.bytes.now key.now.read.span.start found) }
+    ensures is { Finds file.now.bytes.now
+        (λ collection. flow.flow_entry_value (flow.flow_node_over collection) opening depth
+        (flow_key_of file.now.bytes.now key.now)) depth (state_of state.old) result
+        (state_of state.new) }
+    ensures within { IfOk result
+        (λ found. IsFound file.now.bytes.now key.now.read.span.start found) }
 {
     let Some(colon) = key.colon else {
         let part = empty_part(file, state, key.read.span.end as usize, key.read.next)?;

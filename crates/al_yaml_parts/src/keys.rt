@@ -40,7 +40,8 @@ pub fn is_simple_key(bytes: &[u8], at: usize, read: &ScalarRead) -> bool
 /// Whether a scalar on one line that was read from an offset on has at most 1,024 characters.
 pub fn is_short_key(bytes: &[u8], at: usize, read: &ScalarRead) -> bool
     requires inside { IsReadInside bytes.now at read.now }
-    requires line { content.same_line (lines_at bytes.now at) (lines_at bytes.now read.now.next) ≡ true }
+    requires line { content.same_line (lines_at bytes.now at) (lines_at bytes.now read.now.next)
+        ≡ true }
     ensures { result ≡ content.is_short_key (lines_at bytes.now at) (read_of bytes.now read.now) }
 {
     let end = read.span.end as usize;
@@ -168,7 +169,8 @@ fn plain_on_line(
 fn key_scalar(file: &File, at: usize) -> Result<ScalarRead, ReadError>
     requires inside { at ≤ size file.now }
     ensures fault { IfErr result (IsStopInside (size file.now)) }
-    ensures is { Answers (read_of file.now.bytes.now) (keys.key_scalar (left_at file.now at)) result }
+    ensures is { Answers (read_of file.now.bytes.now)
+        (keys.key_scalar (left_at file.now at)) result }
     ensures inside { IfOk result (λ read. IsReadInside file.now.bytes.now at read) }
 {
     if is_quote(file.bytes, at) {
@@ -187,7 +189,8 @@ fn key_scalar(file: &File, at: usize) -> Result<ScalarRead, ReadError>
 pub fn key_at(file: &File, at: usize) -> Result<Option<Key>, ReadError>
     requires inside { at ≤ size file.now }
     ensures fault { IfErr result (IsStopInside (size file.now)) }
-    ensures is { Answers (option_key file.now.bytes.now) (keys.key_at (left_at file.now at)) result }
+    ensures is { Answers (option_key file.now.bytes.now)
+        (keys.key_at (left_at file.now at)) result }
     ensures inside { IfOk result (λ found. IsOptionKey file.now.bytes.now at found) }
 {
     let read = key_scalar(file, at)?;

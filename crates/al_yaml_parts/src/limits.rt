@@ -25,8 +25,10 @@ impl State {
     #[inline(always)]
     pub fn start(&mut self, at: usize, more: u32, depth: u32) -> Result<(), FaultAt>
         ensures fault { IfErr result (λ f. f.at ≡ at) }
-        ensures limits { MatchResult result (λ _. broken_limit self.old.nodes self.old.text (start_of at more depth ∷ []) ≡ None)
-            (λ f. broken_limit self.old.nodes self.old.text (start_of at more depth ∷ []) ≡ Some (fault_of f)) }
+        ensures limits { MatchResult result
+            (λ _. broken_limit self.old.nodes self.old.text (start_of at more depth ∷ []) ≡ None)
+            (λ f. broken_limit self.old.nodes self.old.text (start_of at more depth ∷ [])
+            ≡ Some (fault_of f)) }
         ensures depth { IfOk result (λ _. depth ≤ 64) }
         ensures state { IfOk result (λ _. state_of self.new ≡ counted more (state_of self.old)) }
     {
@@ -37,8 +39,11 @@ impl State {
     #[inline(always)]
     pub fn start_with(&mut self, at: usize, more: u32, text: u32, depth: u32) -> Result<(), FaultAt>
         ensures fault { IfErr result (λ f. f.at ≡ at) }
-        ensures limits { MatchResult result (λ _. broken_limit self.old.nodes self.old.text (start_with at more text depth ∷ []) ≡ None)
-            (λ f. broken_limit self.old.nodes self.old.text (start_with at more text depth ∷ []) ≡ Some (fault_of f)) }
+        ensures limits { MatchResult result
+            (λ _. broken_limit self.old.nodes self.old.text (start_with at more text depth ∷ [])
+            ≡ None)
+            (λ f. broken_limit self.old.nodes self.old.text (start_with at more text depth ∷ [])
+            ≡ Some (fault_of f)) }
         ensures depth { IfOk result (λ _. depth ≤ 64) }
         ensures nodes { IfOk result (λ _. self.new.nodes ≡ self.old.nodes + more) }
         ensures text { IfOk result (λ _. self.new.text ≡ self.old.text + text) }

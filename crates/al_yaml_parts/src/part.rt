@@ -29,7 +29,8 @@ fn shrink<T>(elements: Vec<T>) -> Vec<T>
 pub fn sequence_part(items: Vec<Node>, start: usize, end: usize, next: usize) -> Part
     requires start { start < 2 ^ 32 }
     requires end { end < 2 ^ 32 }
-    ensures node { view result.node ≡ tree.sequence (nodes_of (map view items.items)) (scalar.span start end) }
+    ensures node { view result.node
+        ≡ tree.sequence (nodes_of (map view items.items)) (scalar.span start end) }
     ensures end { result.end ≡ end }
     ensures next { result.next ≡ next }
 {
@@ -48,7 +49,8 @@ pub fn sequence_part(items: Vec<Node>, start: usize, end: usize, next: usize) ->
 pub fn mapping_part(entries: Vec<Entry>, start: usize, end: usize, next: usize) -> Part
     requires start { start < 2 ^ 32 }
     requires end { end < 2 ^ 32 }
-    ensures node { view result.node ≡ tree.mapping (entries_of (map entry_view entries.items)) (scalar.span start end) }
+    ensures node { view result.node
+        ≡ tree.mapping (entries_of (map entry_view entries.items)) (scalar.span start end) }
     ensures end { result.end ≡ end }
     ensures next { result.next ≡ next }
 {

@@ -78,7 +78,8 @@ fn scalar_left(bytes: &[u8], at: usize, next: usize) -> Result<usize, FaultAt>
     requires at { at ≤ length bytes.now }
     requires inside { next ≤ length bytes.now }
     ensures fault { IfErr result (λ f. f.at ≤ length bytes.now) }
-    ensures is { Shows (lines_at bytes.now) (block.scalar_left (lines_at bytes.now at) (lines_at bytes.now next)) result }
+    ensures is { Shows (lines_at bytes.now)
+        (block.scalar_left (lines_at bytes.now at) (lines_at bytes.now next)) result }
     ensures inside { IfOk result (λ left. left ≤ length bytes.now) }
     ensures from { IfOk result (λ left. next ≤ left) }
 {
@@ -98,7 +99,8 @@ pub fn read_line_scalar(
     requires inside { at ≤ size file.now }
     requires within { within ≤ largest_file + 1 }
     ensures fault { IfErr result (IsStopInside (size file.now)) }
-    ensures is { IsRead (part_of file.now.bytes.now) (block.scalar_node_at within (left_at file.now at))
+    ensures is { IsRead (part_of file.now.bytes.now)
+        (block.scalar_node_at within (left_at file.now at))
         (state_of state.old) result (state_of state.new) }
     ensures within { IfOk result (λ part. IsBehind file.now.bytes.now at part) }
 {

@@ -178,7 +178,8 @@ impl Stack {
     pub fn pop_block(&mut self) -> Option<BlockFrame>
         requires { self.old.flows ≡ [] }
         ensures flows { self.new.flows ≡ [] }
-        ensures blocks { MatchOption result (self.old.blocks ≡ []) (λ frame. self.old.blocks ≡ frame ∷ self.new.blocks) }
+        ensures blocks { MatchOption result (self.old.blocks ≡ [])
+            (λ frame. self.old.blocks ≡ frame ∷ self.new.blocks) }
         ensures room { IfSome result (λ _. length self.new.blocks < 64) }
     {
         match self.frames.pop() {

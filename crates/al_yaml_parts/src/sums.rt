@@ -144,7 +144,8 @@ fn leave_entries<'a>(
     left: &mut Vec<Uncounted<'a>>,
 ) -> Result<(), AllocError>
     ensures { IfOk result (λ _. map uncounted_view left.new.items
-        ≡ map uncounted_view left.old.items ++ within levels (members (map entry_view entries.now))) }
+        ≡ map uncounted_view left.old.items
+        ++ within levels (members (map entry_view entries.now))) }
 {
     'entries: for entry in entries {
         left.push(Uncounted {
