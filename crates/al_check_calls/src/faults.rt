@@ -5,7 +5,7 @@ ghost use Rattle.al_base.specs.Growth.{SameSet};
 ghost use Rattle.al_check_calls.specs.Answers.{Typing, answered_faults};
 ghost use Rattle.al_check_calls.specs.Private.AnswerViews.{answered_of, typing_in};
 ghost use Rattle.al_check_calls.specs.Private.Comparing.{AreToldByUses, faults_but_names};
-ghost use Rattle.al_check_contexts.specs.Private.Standing.{Stands};
+ghost use Rattle.al_check_contexts.specs.Standing.{Stands};
 ghost use Rattle.al_check_calls.specs.FileCalls.{AreShort};
 ghost use Rattle.al_yaml_tree.specs.View.{view};
 

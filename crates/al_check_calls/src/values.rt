@@ -5,7 +5,7 @@ ghost use Rattle.al_base.specs.Growth.{BeginsWith};
 ghost use Rattle.al_check_calls.specs.Private.AnswerViews.{call_of, given_at, typing_in};
 ghost use Rattle.al_check_calls.specs.CallFaults.{given_type};
 ghost use Rattle.al_check_contexts.specs.Answered.{known_of};
-ghost use Rattle.al_check_contexts.specs.Private.Standing.{Stands};
+ghost use Rattle.al_check_contexts.specs.Standing.{Stands};
 ghost use Rattle.al_check_calls.specs.FileCalls as file_calls;
 ghost use Rattle.al_check_calls.specs.FileCalls.{AreShort, type_in_job};
 ghost use Rattle.al_check_calls.specs.Answers.{values_in};

@@ -17,7 +17,7 @@ use Rattle.std.specs.declared.cmp.Ordering.{Ordering}
 use Rattle.std.specs.declared.cmp.Ordering.TheVariants.{Less, Equal, Greater}
 use Rattle.al_check_contexts.specs.Answered.{Behind, is_at, behind_of}
 use Rattle.al_expr_types.specs.declared.name_list.NameList.{NameList}
-use Rattle.al_check_contexts.specs.Private.Lookups.{Found, and_found, found_at, list_at, names_by}
+use Rattle.al_check_contexts.specs.Lookups.{Found, and_found, found_at, list_at, names_by}
 use Rattle.al_check_contexts.specs.declared.known.Answer.{Answer}
 use Rattle.al_check_contexts.specs.declared.known.Outputs.{Outputs}
 

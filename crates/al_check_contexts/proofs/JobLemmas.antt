@@ -18,8 +18,8 @@ use Rattle.al_check_contexts.specs.Contexts.{Known, call_outputs, job_field, nee
 use Rattle.al_base.specs.Growth.{BeginsWith}
 use Rattle.al_expr_types.specs.Tables.{objects_of}
 use Rattle.al_expr_types.specs.declared.types.Types.{Types}
-use Rattle.al_check_contexts.specs.Private.Lookups.{called_at, known_by, shown_at, shown_with}
-use Rattle.al_check_contexts.specs.Private.Made.{KeepsJobs}
+use Rattle.al_check_contexts.specs.Lookups.{called_at, known_by, shown_at, shown_with}
+use Rattle.al_check_contexts.specs.Made.{KeepsJobs}
 use Rattle.al_check_contexts.specs.declared.jobs.JobTypes.{JobTypes}
 use Rattle.al_check_contexts.specs.declared.known.Outputs.{Outputs}
 use Rattle.al_check_contexts.proofs.Numbers.{keeps_stays, means_stays}

@@ -20,7 +20,7 @@ use Rattle.al_expr_types.proofs.Below.{all_more, types_kept}
 use Rattle.al_expr_types.proofs.PrefixLemmas.{types_wider}
 use Rattle.al_expr_types.proofs.Tables.{length_after}
 use Rattle.al_expr_typing.proofs.Shown.{known_stays, type_stays}
-use Rattle.al_check_contexts.specs.Private.Numbers.{Keeps, Lists, Means, fields_in, is_map_below}
+use Rattle.al_check_contexts.specs.Numbers.{Keeps, Lists, Means, fields_in, is_map_below}
 use Rattle.al_check_contexts.specs.declared.caches.TypeCache.{TypeCache}
 use Rattle.al_check_contexts.specs.declared.field_lists.FieldList.{FieldList}
 

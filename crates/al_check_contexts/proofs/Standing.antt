@@ -5,10 +5,10 @@ use Rattle.al_yaml_tree.specs.View.{view}
 use Rattle.al_tree.specs.Values.{member_of}
 use Rattle.al_check_places.specs.Positions.{before, section_view}
 use Rattle.al_check_contexts.specs.Fixed.{strategy_type}
-use Rattle.al_check_contexts.specs.Private.Environment.{owner_in}
-use Rattle.al_check_contexts.specs.Private.Lookups.{known_by, step_at}
-use Rattle.al_check_contexts.specs.Private.Standing.{Stands}
-use Rattle.al_check_contexts.specs.Private.Table.{table}
+use Rattle.al_check_contexts.specs.Environment.{owner_in}
+use Rattle.al_check_contexts.specs.Lookups.{known_by, step_at}
+use Rattle.al_check_contexts.specs.Standing.{Stands}
+use Rattle.al_check_contexts.specs.Table.{table}
 use Rattle.al_check_contexts.specs.declared.env.Env.{Env}
 use Rattle.al_check_contexts.specs.declared.env.File.{File}
 use Rattle.al_expr_types.specs.Tables.{objects_of}

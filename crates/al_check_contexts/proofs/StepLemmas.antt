@@ -14,7 +14,7 @@ use Rattle.al_yaml_tree.specs.Node.{Node}
 use Rattle.al_check_places.specs.Positions.{before}
 use Rattle.al_check_contexts.specs.Contexts.{Known, step_field, steps_fields}
 use Rattle.al_check_contexts.specs.Objects.{strictly}
-use Rattle.al_check_contexts.specs.Private.Environment.{Owner, owned}
+use Rattle.al_check_contexts.specs.Environment.{Owner, owned}
 use Rattle.al_types.specs.Types.{object_type}
 use Rattle.al_expr_types.specs.Names.{names_in}
 use Rattle.al_expr_types.specs.Prefixes.{HasPrefix, map_in, prefix_parts}
@@ -24,8 +24,8 @@ use Rattle.al_expr_types.specs.declared.prefixes.Prefixes.{Prefixes}
 use Rattle.al_expr_types.specs.declared.ty.Ty.{Ty}
 use Rattle.al_expr_types.specs.declared.types.Types.{Types}
 use Rattle.al_expr_types.proofs.PrefixLemmas.{prefix_longer, types_wider}
-use Rattle.al_check_contexts.specs.Private.Numbers.{Means, fields_in, is_map_below}
-use Rattle.al_check_contexts.specs.Private.Steps.{ArePrefixes, AreSteps, AreStepsOf, IsCount, first_fields}
+use Rattle.al_check_contexts.specs.Numbers.{Means, fields_in, is_map_below}
+use Rattle.al_check_contexts.specs.Steps.{ArePrefixes, AreSteps, AreStepsOf, IsCount, first_fields}
 use Rattle.al_check_contexts.specs.declared.steps.StepFields.{StepFields}
 use Rattle.al_check_contexts.proofs.FieldLists.{firsts_kept, put_all_more}
 use Rattle.al_check_contexts.proofs.Numbers.{fields_stay}

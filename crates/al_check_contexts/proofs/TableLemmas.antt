@@ -16,14 +16,14 @@ use Rattle.al_tree_declarations.specs.Declarations.{action_steps, is_composite}
 use Rattle.al_check_contexts.specs.Contexts.{Known, job_among, job_in, jobs_seen, needs_type_of, steps_type, type_at, type_in_job}
 use Rattle.al_check_contexts.specs.Fixed.{strategy_type}
 use Rattle.al_check_contexts.specs.Matrix.{matrix_type}
-use Rattle.al_check_contexts.specs.Private.Environment.{inputs_in, jobs_in, jobs_shown, matrix_in, needs_in, owned, owner_in, owner_of, strategy_in}
+use Rattle.al_check_contexts.specs.Environment.{inputs_in, jobs_in, jobs_shown, matrix_in, needs_in, owned, owner_in, owner_of, strategy_in}
 use Rattle.al_expr_types.specs.Tables.{objects_of}
 use Rattle.al_expr_types.specs.declared.ty.Ty.{Ty}
 use Rattle.al_expr_types.specs.declared.types.Types.{Types}
 use Rattle.al_expr_typing.specs.Scopes.{number_of}
 use Rattle.al_expr_typing.specs.declared.scope.ContextTypes.{ContextTypes}
-use Rattle.al_check_contexts.specs.Private.Numbers.{Means}
-use Rattle.al_check_contexts.specs.Private.Table.{AreFixed, AreOfSection, Shows, table}
+use Rattle.al_check_contexts.specs.Numbers.{Means}
+use Rattle.al_check_contexts.specs.Table.{AreFixed, AreOfSection, Shows, table}
 use Rattle.al_check_contexts.specs.declared.sections.SectionTypes.{SectionTypes}
 use Rattle.al_check_contexts.specs.declared.start.FixedTypes.{FixedTypes}
 use Rattle.al_check_contexts.proofs.Numbers.{any, any_means, means_as, means_stays}

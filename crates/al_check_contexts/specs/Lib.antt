@@ -5,5 +5,12 @@ pub mod Inputs
 pub mod Contexts
 pub mod Answered
 pub mod Scopes
+pub mod Environment
+pub mod Lookups
+pub mod Made
+pub mod Numbers
+pub mod Steps
+pub mod Table
+pub mod Standing
 pub mod Private
 pub mod Rows

@@ -16,7 +16,7 @@ impl<'a> FieldList<'a> {
     ghost use Rattle.al_types.specs.Puts.{Typed, put_all, put_new};
     ghost use Rattle.al_types.specs.Strings.{strings};
     ghost use Rattle.al_types.specs.Types.{Type', fields_of, object_with};
-    ghost use Rattle.al_check_contexts.specs.Private.Numbers.{Lists, Means, is_map_below};
+    ghost use Rattle.al_check_contexts.specs.Numbers.{Lists, Means, is_map_below};
     ghost use Rattle.al_expr_types.specs.Tables.{objects_of};
     ghost use Rattle.al_expr_types.specs.Types.{is_rest_below, rest_in};
     ghost use Rattle.al_expr_types.specs.declared.types.Types as declared;

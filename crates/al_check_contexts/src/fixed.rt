@@ -3,7 +3,7 @@ ghost use Rattle.std.specs.Prelude.{◌≡◌, IfOk, OnOk, map};
 ghost use Rattle.al_base.specs.Growth.{BeginsWith};
 ghost use Rattle.al_check_contexts.specs.Fixed as fixed;
 ghost use Rattle.al_check_contexts.specs.Fixed.{github_type, job_type, runner_type, strategy_type};
-ghost use Rattle.al_check_contexts.specs.Private.Numbers.{Means};
+ghost use Rattle.al_check_contexts.specs.Numbers.{Means};
 ghost use Rattle.al_expr_types.specs.Tables.{objects_of};
 
 use crate::field_lists::FieldList;

@@ -3,9 +3,9 @@ ghost use Rattle.std.specs.Prelude.{◌≡◌, ◌<◌, IfOk, OnOk, List, codes,
 ghost use Rattle.std.specs.Option.{option_to_list};
 ghost use Rattle.al_base.specs.Growth.{BeginsWith};
 ghost use Rattle.al_check_contexts.specs.Contexts.{call_outputs, job_field, jobs_type_of, needed, needs_type_of};
-ghost use Rattle.al_check_contexts.specs.Private.Lookups.{called_at, shown_at, shown_with};
-ghost use Rattle.al_check_contexts.specs.Private.Made.{KeepsJobs, KeepsJobsOf, jobs_from, known_from};
-ghost use Rattle.al_check_contexts.specs.Private.Numbers.{Keeps, Lists, Means};
+ghost use Rattle.al_check_contexts.specs.Lookups.{called_at, shown_at, shown_with};
+ghost use Rattle.al_check_contexts.specs.Made.{KeepsJobs, KeepsJobsOf, jobs_from, known_from};
+ghost use Rattle.al_check_contexts.specs.Numbers.{Keeps, Lists, Means};
 ghost use Rattle.al_expr_types.specs.Tables.{is_known, objects_of, type_at};
 ghost use Rattle.al_expr_types.specs.declared.types.Types as declared;
 ghost use Rattle.al_check_contexts.specs.declared.known.Outputs as outputs;

@@ -2,7 +2,7 @@
 ghost use Rattle.std.specs.Prelude.{◌≡◌, IfOk, OnOk, length, option_and_then, option_map};
 ghost use Rattle.std.specs.Option.{option_copied};
 ghost use Rattle.al_check_contexts.specs.Answered.{behind_of, known_of};
-ghost use Rattle.al_check_contexts.specs.Private.Lookups.{and_found, found_at, known_by, list_at, lists_of, names_by};
+ghost use Rattle.al_check_contexts.specs.Lookups.{and_found, found_at, known_by, list_at, lists_of, names_by};
 
 use al_expr_types::NameList;
 use std::alloc::{AllocError, Global};

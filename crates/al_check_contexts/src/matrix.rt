@@ -6,7 +6,7 @@ ghost use Rattle.al_base.specs.Growth.{BeginsWith};
 ghost use Rattle.al_check_contexts.specs.Matrix as matrix;
 ghost use Rattle.al_check_contexts.specs.Matrix.{entries_types, include_all, items_type, row_field, rows_of};
 ghost use Rattle.al_check_contexts.specs.Objects.{strictly};
-ghost use Rattle.al_check_contexts.specs.Private.Numbers.{Lists, Means};
+ghost use Rattle.al_check_contexts.specs.Numbers.{Lists, Means};
 ghost use Rattle.al_expr_types.specs.Tables.{is_known, objects_of};
 ghost use Rattle.al_expr_types.specs.declared.types.Types as declared;
 ghost use Rattle.al_tree.specs.Values.{member_of, value_at};

@@ -4,7 +4,7 @@ ghost use Rattle.std.specs.Prelude.{◌≡◌, [], IfOk, OnOk, map};
 ghost use Rattle.al_base.specs.Growth.{BeginsWith};
 ghost use Rattle.al_check_contexts.specs.Objects as objects;
 ghost use Rattle.al_check_contexts.specs.Objects.{strictly};
-ghost use Rattle.al_check_contexts.specs.Private.Numbers.{Means};
+ghost use Rattle.al_check_contexts.specs.Numbers.{Means};
 ghost use Rattle.al_expr_types.specs.Tables.{objects_of};
 ghost use Rattle.al_tree.specs.Values.{member_of};
 ghost use Rattle.al_tree_declarations.specs.Declarations.{names_of};

@@ -1,7 +1,7 @@
 //! Types without parts.
 ghost use Rattle.std.specs.Prelude.{◌≡◌};
 ghost use Rattle.al_check_contexts.specs.Matrix.{class_type};
-ghost use Rattle.al_check_contexts.specs.Private.Numbers.{Means};
+ghost use Rattle.al_check_contexts.specs.Numbers.{Means};
 ghost use Rattle.al_expr_types.specs.Types.{scalar_type};
 ghost use Rattle.al_expr_types.specs.declared.types.Types as declared;
 ghost use Rattle.al_check_contexts.specs.Inputs.{input_type};

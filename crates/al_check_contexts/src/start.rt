@@ -2,11 +2,11 @@
 ghost use Rattle.std.specs.Prelude.{◌≡◌, IfOk, OnOk, option_map};
 ghost use Rattle.al_base.specs.Growth.{BeginsWith};
 ghost use Rattle.al_check_contexts.specs.Contexts.{Known};
-ghost use Rattle.al_check_contexts.specs.Private.Environment.{owner_in};
+ghost use Rattle.al_check_contexts.specs.Environment.{owner_in};
 ghost use Rattle.al_check_places.specs.Positions.{apart, before};
-ghost use Rattle.al_check_contexts.specs.Private.Numbers.{Means};
+ghost use Rattle.al_check_contexts.specs.Numbers.{Means};
 ghost use Rattle.al_check_contexts.specs.Private.Owners.{owner_view};
-ghost use Rattle.al_check_contexts.specs.Private.Table.{AreFixed, Shows, table};
+ghost use Rattle.al_check_contexts.specs.Table.{AreFixed, Shows, table};
 ghost use Rattle.al_expr_types.specs.Tables.{objects_of};
 ghost use Rattle.al_types.specs.declared.names.Context.TheVariants as context;
 ghost use Rattle.al_yaml_tree.specs.View.{view};

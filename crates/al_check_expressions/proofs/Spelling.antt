@@ -8,7 +8,7 @@ use Rattle.al_expr_grammar.specs.Tokens.{Lexed, AllRead, Bad, Unclosed, tokens_o
 use Rattle.al_expr_grammar.specs.Tree.{Tree}
 use Rattle.al_expr_grammar.specs.Grammar.{Derives, Binary, IsTreeOf}
 use Rattle.al_expr_grammar.specs.Law.{OneTree, SomeTree}
-use Rattle.al_expr_grammar.specs.Private.Parsed.{EndsLevel}
+use Rattle.al_expr_grammar.specs.Parsed.{EndsLevel}
 use Rattle.al_expr_grammar.specs.Refusal.{Spells, fault_at, fault_of_content, fault_of_tokens, fault_of_verdict}
 use Rattle.al_expr_grammar.specs.Table.{Verdict, Fine, Early, Unexpected, TooDeep, Mode, A, D, E, I, N, O, S, Frame, Transition, Stuck, Go, Deeper, finish, onward, outside, scan, step, verdict_of}
 use Rattle.al_expr_grammar.specs.declared.token.TokenKind.{TokenKind}

@@ -7,7 +7,7 @@ ghost use Rattle.al_check_expressions.specs.FileExpressions as file;
 ghost use Rattle.al_check_expressions.specs.FileExpressions.{expression_faults as faults_in, faults_at};
 ghost use Rattle.al_check_expressions.specs.Inside.{IsReadable};
 ghost use Rattle.al_check_contexts.specs.Answered.{known_of};
-ghost use Rattle.al_check_contexts.specs.Private.Standing.{Stands};
+ghost use Rattle.al_check_contexts.specs.Standing.{Stands};
 ghost use Rattle.al_expr_types.specs.Tables.{objects_of};
 ghost use Rattle.al_check_places.specs.Places.{place_of};
 ghost use Rattle.al_base.specs.Growth.{BeginsWith};

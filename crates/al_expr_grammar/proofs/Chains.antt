@@ -13,7 +13,7 @@ use Rattle.al_expr_grammar.specs.Tree.{Sign, sign, Tree, Negated, Path, Chain, S
 use Rattle.al_expr_grammar.specs.Grammar.{Binary, Unary, Postfix, Primary, level_of, below, single, chain, positive, negated, bare, path}
 use Rattle.al_expr_grammar.specs.Grammar.{Operators, no_more, one_more, Walks, arrived, to_property, to_keyword, to_all, to_each, to_index}
 use Rattle.al_expr_grammar.specs.Table.{Verdict, TooDeep, E, O, Frame, outside, scan}
-use Rattle.al_expr_grammar.specs.Private.Parsed.{StartsAt, Goes, EndsPath, EndsLevel, Stops, Parsed, Refused, PartOfChain, PartOfPath, StepRead, StepRefused, NoOperator}
+use Rattle.al_expr_grammar.specs.Parsed.{StartsAt, Goes, EndsPath, EndsLevel, Stops, Parsed, Refused, PartOfChain, PartOfPath, StepRead, StepRefused, NoOperator}
 use Rattle.al_expr_grammar.proofs.Rules.{not_deeper, too_deep, settled, same_length, refused_map, path_refused_map}
 
 -- a negation

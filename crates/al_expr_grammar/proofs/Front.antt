@@ -8,7 +8,7 @@ use Rattle.al_expr_grammar.specs.Lexeme.{Lexeme, lexeme, kinds}
 use Rattle.al_expr_grammar.specs.Tree.{Tree, arguments_of}
 use Rattle.al_expr_grammar.specs.Tree as tree
 use Rattle.al_expr_grammar.specs.Grammar.{Binary, Primary}
-use Rattle.al_expr_grammar.specs.Private.Parsed.{Parsed, Refused, StepRefused, ArgumentsPart, ArgumentsRead, ArgumentsRefused, IsStray, NoClose, NoComma}
+use Rattle.al_expr_grammar.specs.Parsed.{Parsed, Refused, StepRefused, ArgumentsPart, ArgumentsRead, ArgumentsRefused, IsStray, NoClose, NoComma}
 use Rattle.al_expr_grammar.proofs.Shape.{NoCall}
 use Rattle.al_expr_grammar.proofs.Rules.{NoStar, NoCloseIndex, EndsArguments, group_stray, index_stray, star_stray}
 use Rattle.al_expr_grammar.proofs.Rules.{call_refused, call_read, call_stray, argument_refused, arguments_begin, arguments_go_on}

@@ -12,7 +12,7 @@ use Rattle.al_expr_grammar.specs.Grammar.{Nonterminal, Binary, Primary, level_of
 use Rattle.al_expr_grammar.specs.Grammar.{name, call_empty, call, group}
 use Rattle.al_expr_grammar.specs.Grammar.{to_property, to_keyword, to_all, to_each, to_index, Lists, listed, and_next}
 use Rattle.al_expr_grammar.specs.Table.{Verdict, Early, Unexpected, TooDeep, E, A, I, S, O, N, Frame, Group, Call, Index, outside, scan}
-use Rattle.al_expr_grammar.specs.Private.Parsed.{Goes, EndsPath, EndsLevel, Parsed, Refused, PartOfCall, StepRead, GoesAfter, StepRefused, fault_at, NoClose}
+use Rattle.al_expr_grammar.specs.Parsed.{Goes, EndsPath, EndsLevel, Parsed, Refused, PartOfCall, StepRead, GoesAfter, StepRefused, fault_at, NoClose}
 use Rattle.al_expr_grammar.proofs.Shape.{NoCall}
 use Rattle.std.proofs.lemmas.Bool.Decides.{nat_tests}
 

@@ -7,7 +7,7 @@ use Rattle.al_expr_grammar.specs.declared.parser.ParseError.TheVariants as error
 use Rattle.al_expr_grammar.specs.Lexeme.{Lexeme, lexeme, kinds}
 use Rattle.al_expr_grammar.specs.Tree.{Sign, sign, Tree, StepTree, path_of, chain_of}
 use Rattle.al_expr_grammar.specs.Grammar.{Nonterminal, Binary, Unary, Postfix, Primary, level_of, below}
-use Rattle.al_expr_grammar.specs.Private.Parsed.{Parsed, Refused, NoBang, EndsPath, Stops, PartOfPath, PartOfChain, PartOfCall, StepRead, StepRefused, NoOperator, fault_at, GoesOn, NoClose}
+use Rattle.al_expr_grammar.specs.Parsed.{Parsed, Refused, NoBang, EndsPath, Stops, PartOfPath, PartOfChain, PartOfCall, StepRead, StepRefused, NoOperator, fault_at, GoesOn, NoClose}
 use Rattle.al_expr_grammar.proofs.Rules.{constant_read, number_read, text_read, name_read, group_read, group_refused, group_stray, group_deep}
 use Rattle.al_expr_grammar.proofs.Rules.{call_empty_read, call_read, call_refused, call_stray, call_deep, argument_refused, arguments_begin}
 use Rattle.al_expr_grammar.proofs.Rules.{arguments_go_on, index_read, index_refused, index_stray, index_deep, each_read, star_stray}

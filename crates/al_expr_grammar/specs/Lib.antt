@@ -9,5 +9,6 @@ pub mod Extents
 pub mod Law
 pub mod View
 pub mod Inside
+pub mod Parsed
 pub mod Private
 pub mod Rows

@@ -1,5 +1,4 @@
 -- Words that only contracts of private functions need: no definition of what the product means stands on them.
 pub mod ChunkStates
-pub mod Parsed
 pub mod TextTails
 pub mod TokenStates

@@ -2,7 +2,7 @@
 
 ghost use Rattle.std.specs.Prelude.{◌≡◌, ◌<◌, ◌≤◌, ◌-◌, slice_get, IfOk, IfErr, Some, None, map, length};
 ghost use Rattle.al_expr_grammar.specs.Lexeme.{seen, kinds};
-ghost use Rattle.al_expr_grammar.specs.Private.Parsed.{IsVerdict};
+ghost use Rattle.al_expr_grammar.specs.Parsed.{IsVerdict};
 ghost use Rattle.al_expr_grammar.specs.Refusal.{fault_of_content, fault_of_verdict, Spells};
 ghost use Rattle.al_expr_grammar.specs.Table.{verdict_of};
 ghost use Rattle.al_expr_grammar.specs.View.{tree_of};

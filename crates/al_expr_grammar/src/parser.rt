@@ -2,9 +2,9 @@
 
 ghost use Rattle.std.specs.Prelude.{map, IfOk, ◌≡◌, ◌≢◌, ◌+◌, ◌<◌, MatchOption, MatchResult, List, [], ◌∷◌, string_bytes};
 ghost use Rattle.al_expr_grammar.specs.Lexeme.{seen, kinds, kind_of, text_of, span_of};
-ghost use Rattle.al_expr_grammar.specs.Private.Parsed.{EndsPath, IsStray, NoOperator, Parses};
-ghost use Rattle.al_expr_grammar.specs.Private.Parsed.{ParsesStep, StepRead, StepRefused, ArgumentsRead};
-ghost use Rattle.al_expr_grammar.specs.Private.Parsed.{ArgumentsRefused, NoClose, NoBang, IsVerdict};
+ghost use Rattle.al_expr_grammar.specs.Parsed.{EndsPath, IsStray, NoOperator, Parses};
+ghost use Rattle.al_expr_grammar.specs.Parsed.{ParsesStep, StepRead, StepRefused, ArgumentsRead};
+ghost use Rattle.al_expr_grammar.specs.Parsed.{ArgumentsRefused, NoClose, NoBang, IsVerdict};
 ghost use Rattle.al_expr_grammar.specs.View.{tree_of, step_of, operand_of};
 ghost use Rattle.al_expr_grammar.specs.Tree.{path_of, chain_of};
 ghost use Rattle.al_expr_grammar.specs.Grammar.{Binary, Unary, Postfix, Primary, level_of, below, IsTreeOf};

@@ -4,8 +4,8 @@ use Rattle.std.proofs.lemmas.List.{map-append, take_more}
 use Rattle.std.specs.Prelude.{if◌then◌else◌, is_none, is_some, not, ◌&&◌}
 use Rattle.al_base.specs.Names.{same_name}
 use Rattle.al_types.specs.FusedFields.{are_distinct}
-use Rattle.al_types.specs.Private.Indexes.{name_at}
-use Rattle.al_types.specs.Private.TypeParts.{common_type}
+use Rattle.al_types.specs.Indexes.{name_at}
+use Rattle.al_types.specs.TypeParts.{common_type}
 use Rattle.al_types.specs.Puts.{Typed, firsts, put}
 use Rattle.al_types.specs.Fused.{fuse_parts}
 use Rattle.al_types.specs.Types.{Type', Optional, Absent, Present, Parts, FieldThen, NoField, common_in, field_at, fields_of, fuse_optional, fuse_type, has_field, optional, parts_with}

@@ -3,7 +3,7 @@ use Rattle.std.proofs.Common.{◌≡◌, ◌+◌, ℕ, List, [], ◌∷◌, ◌+
 use Rattle.std.specs.Prelude.{if◌then◌else◌, is_none, is_some, not}
 use Rattle.al_base.specs.Names.{same_name}
 use Rattle.al_types.specs.FusedFields.{are_distinct}
-use Rattle.al_types.specs.Private.Indexes.{name_at}
+use Rattle.al_types.specs.Indexes.{name_at}
 use Rattle.al_types.specs.Puts.{Typed, firsts, put_all, put_new}
 use Rattle.al_types.specs.Types.{Type', field_at, fields_of, has_field}
 use Rattle.al_types.proofs.GatheredFields.{firsts_found}

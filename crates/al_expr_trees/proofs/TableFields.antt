@@ -6,7 +6,7 @@ use Rattle.std.specs.List.{list_all}
 use Rattle.al_base.specs.Growth.{BeginsWith}
 use Rattle.al_base.specs.NamePlaces.{name_place}
 use Rattle.al_base.specs.Names.{same_name}
-use Rattle.al_types.specs.Private.Indexes.{name_at}
+use Rattle.al_types.specs.Indexes.{name_at}
 use Rattle.al_types.specs.Puts.{put_new}
 use Rattle.al_types.specs.Types.{Type', Parts}
 use Rattle.al_types.proofs.Puts.{put_new_behind, put_new_old}

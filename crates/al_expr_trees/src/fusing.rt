@@ -1,8 +1,8 @@
 //! What two types have in common.
 
 ghost use Rattle.std.specs.Prelude.{◌≡◌, IfOk, Some, None, map};
-ghost use Rattle.al_types.specs.Private.Indexes.{name_at};
-ghost use Rattle.al_types.specs.Private.TypeParts.{fuse_with_form};
+ghost use Rattle.al_types.specs.Indexes.{name_at};
+ghost use Rattle.al_types.specs.TypeParts.{fuse_with_form};
 ghost use Rattle.al_types.specs.Fused.{fuse_parts};
 ghost use Rattle.al_types.specs.Types.{Absent, NoField, fuse_optional, fuse_type, parts_with};
 ghost use Rattle.al_expr_trees.specs.Listings.{parts_in};

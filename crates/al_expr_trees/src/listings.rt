@@ -2,7 +2,7 @@
 
 ghost use Rattle.std.specs.Prelude.{◌≡◌, IfOk, map, true};
 ghost use Rattle.al_types.specs.FusedFields.{are_distinct};
-ghost use Rattle.al_types.specs.Private.Indexes.{name_at};
+ghost use Rattle.al_types.specs.Indexes.{name_at};
 ghost use Rattle.al_types.specs.Puts.{firsts};
 ghost use Rattle.al_types.specs.Types.{fields_of};
 ghost use Rattle.al_expr_trees.specs.Trees.{field_of};

@@ -1,7 +1,7 @@
 //! Types as trees.
 
 ghost use Rattle.std.specs.Prelude.{◌≡◌};
-ghost use Rattle.al_types.specs.Private.TypeParts.{form_of};
+ghost use Rattle.al_types.specs.TypeParts.{form_of};
 ghost use Rattle.al_expr_trees.specs.Trees.{ty_of};
 
 use al_types::Form;

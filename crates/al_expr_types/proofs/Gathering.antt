@@ -7,7 +7,7 @@ use Rattle.al_base.specs.NamePlaces.{name_place}
 use Rattle.al_types.specs.Strings.{strings}
 use Rattle.al_types.proofs.StringFields.{common_strings, string_at}
 use Rattle.al_types.specs.Presence.{is_present}
-use Rattle.al_types.specs.Private.TypeParts.{string_unless}
+use Rattle.al_types.specs.TypeParts.{string_unless}
 use Rattle.al_types.specs.Types.{Type', String, Optional, Absent, Present, Parts, common_in, field_at, fields_of, fuse_optional, option_of, optional, or_else}
 use Rattle.al_types.specs.Fused.{fuse_parts, fused}
 use Rattle.al_types.proofs.FuseLaws.{fused_one_more, nothing_last, optional_assoc, optional_back}

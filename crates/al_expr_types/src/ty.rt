@@ -2,7 +2,7 @@
 
 ghost use Rattle.std.specs.Prelude.{◌≡◌, List, MatchOption, false, nat_lt, ℕ};
 ghost use Rattle.al_types.specs.Types.{ArrayOf, Parts, assignable_type, is_array};
-ghost use Rattle.al_types.specs.Private.TypeParts.{form_of};
+ghost use Rattle.al_types.specs.TypeParts.{form_of};
 ghost use Rattle.al_expr_types.specs.Types.{base_type, fuse_scalars, is_any, is_below, scalar_type, type_in};
 ghost use Rattle.al_expr_types.specs.declared.ty.Base.TheVariants as base;
 

@@ -7,7 +7,7 @@ use Rattle.al_scalar.specs.Block.{row_of, found_indent}
 use Rattle.al_scalar.specs.Line.{Cell, Line, indent, is_empty, is_all_blank}
 use Rattle.al_scalar.specs.Taken.{feeds}
 use Rattle.al_scalar.specs.Places.{first_text, lines_at}
-use Rattle.al_scalar.specs.Private.Places.{cells_at, cells_between, with_cells_before, AreBlank, IsBlankByte, IsLineEnd, broken_line, SameLine, later, AreSpaces, BlankTo}
+use Rattle.al_scalar.specs.LineEnds.{cells_at, cells_between, with_cells_before, AreBlank, IsBlankByte, IsLineEnd, broken_line, SameLine, later, AreSpaces, BlankTo}
 use Rattle.al_scalar.specs.Private.BlockRead.{indent_from}
 use Rattle.al_scalar.proofs.LineLemmas.{cells_between-none, cells_between-more}
 use Rattle.al_scalar.proofs.SingleLemmas.{has_line, RunBefore, run_at, run_then, cell_at, text-line_end, lines-at_end, byte_kind, IsInside}

@@ -3,7 +3,7 @@ use Rattle.std.proofs.Common.{◌≡◌, ℕ, ◌+◌, List, [], ◌∷◌, leng
 use Rattle.al_scalar.specs.Line.{Cell, Line, place}
 use Rattle.al_scalar.specs.Taken.{Fault, Taken, ◌>>=◌, with_text}
 use Rattle.al_scalar.specs.Places.{first_text, first_end, lines_at}
-use Rattle.al_scalar.specs.Private.Places.{broken_line, SameLine, first_last, later}
+use Rattle.al_scalar.specs.LineEnds.{broken_line, SameLine, first_last, later}
 use Rattle.al_scalar.specs.Block.{Chomping, Header, Rows, header, content_indent, rows_at, block_scalar}
 use Rattle.al_scalar.specs.Private.BlockRead.{rest, is_said}
 use Rattle.al_scalar.proofs.SingleLemmas.{has_line, cell_at, lines-at_end, lines_at-some, IsInside}

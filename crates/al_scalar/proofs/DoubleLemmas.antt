@@ -8,7 +8,7 @@ use Rattle.al_scalar.specs.Line.{Cell, is_empty}
 use Rattle.al_scalar.specs.Taken.{Fault, fault}
 use Rattle.al_scalar.specs.Quoted.{QuotedLine, closed, broken, cut_short, part_before, own_before, written, lookup, escape_table}
 use Rattle.al_scalar.specs.Quoted.{digits_table, hex_value, hex_escape, is_scalar_value, escape, double_part}
-use Rattle.al_scalar.specs.Private.Places.{AreBlank, IsBlankByte}
+use Rattle.al_scalar.specs.LineEnds.{AreBlank, IsBlankByte}
 use Rattle.al_scalar.specs.Private.Double.{IsMarkByte}
 use Rattle.al_scalar.proofs.SingleLemmas.{with_own-solid, with_own-other, with_own-blank}
 use Rattle.al_scalar.proofs.QuotedLemmas.{gives_nothing}

@@ -6,7 +6,7 @@ use Rattle.al_scalar.specs.Line.{Cell, Line, lines, with_return, cut, after_blan
 use Rattle.al_scalar.specs.Taken.{Fault, Taken, before, fault}
 use Rattle.al_scalar.specs.Quoted.{QuotedLine, QuotedEnd, closed, broken, escaped, cut_short, single_part, line_given, single_quoted}
 use Rattle.al_scalar.specs.Places.{first_text, first_end, lines_at}
-use Rattle.al_scalar.specs.Private.Places.{AreBlank, IsBlankByte, IsLineEnd, SameLine, first_last, later}
+use Rattle.al_scalar.specs.LineEnds.{AreBlank, IsBlankByte, IsLineEnd, SameLine, first_last, later}
 use Rattle.al_scalar.specs.Private.Single.{part_at, single_lines}
 use Rattle.al_scalar.proofs.SingleLemmas.{has_line, lines_at-some, is_nothing, is_blank-yes, is_blank-no}
 

@@ -4,7 +4,7 @@ use Rattle.std.proofs.Common.{append-nil, Bool, true, false, not, ◌&&◌, cond
 use Rattle.al_scalar.specs.Line.{Cell, Line, with_cell, cut, after_blanks, is_empty}
 use Rattle.al_scalar.specs.Taken.{feeds}
 use Rattle.al_scalar.specs.Places.{lines_at}
-use Rattle.al_scalar.specs.Private.Places.{cells_between, with_cells_before, AreBlank, IsBlankByte, IsBreakAt, broken_line}
+use Rattle.al_scalar.specs.LineEnds.{cells_between, with_cells_before, AreBlank, IsBlankByte, IsBreakAt, broken_line}
 use Rattle.al_scalar.specs.Private.PlainLines.{is_blank_line, empty_ends, break_left}
 use Rattle.al_scalar.specs.Private.Folding.{solid_lines}
 use Rattle.al_scalar.proofs.LineLemmas.{lines_at-other}

@@ -6,7 +6,7 @@ use Rattle.al_scalar.specs.Line.{Cell, place, after_blanks, is_empty, begins_bla
 use Rattle.al_scalar.specs.Taken.{fault}
 use Rattle.al_scalar.specs.Block.{Header, header_end}
 use Rattle.al_scalar.specs.Places.{first_text, lines_at}
-use Rattle.al_scalar.specs.Private.Places.{cells_between, with_cells_before, AreBlank, IsBlankByte, IsLineEnd}
+use Rattle.al_scalar.specs.LineEnds.{cells_between, with_cells_before, AreBlank, IsBlankByte, IsLineEnd}
 use Rattle.al_scalar.proofs.LineLemmas.{cells_between-front}
 use Rattle.al_scalar.proofs.SingleLemmas.{run_at, text-line_end, is_blank-yes, is_blank-no, IsInside}
 use Rattle.al_scalar.proofs.FoldLemmas.{after_blanks-run, after_blanks-solid}

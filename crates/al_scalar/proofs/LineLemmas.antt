@@ -3,7 +3,7 @@ use Rattle.std.proofs.Common.{◌≡◌, ◌≢◌, ℕ, zero, suc, ◌+◌, ◌
 use Rattle.std.proofs.lemmas.Grind.{common_steps}
 use Rattle.al_scalar.specs.Line.{Cell, Line, with_cell, cut}
 use Rattle.al_scalar.specs.Places.{lines_at}
-use Rattle.al_scalar.specs.Private.Places.{cells_at, cells_between, with_cells_before, AreBlank, IsBlankByte}
+use Rattle.al_scalar.specs.LineEnds.{cells_at, cells_between, with_cells_before, AreBlank, IsBlankByte}
 
 cells_at-more : (bytes : List ℕ) (i n : ℕ) → cells_at bytes i (suc n) ≡ cells_at bytes i n ++ (slice_index bytes (i + n), i + n) ∷ []
 cells_at-more bytes i zero = rw add-zero refl

@@ -4,7 +4,7 @@ use Rattle.al_scalar.specs.Line.{Cell}
 use Rattle.al_scalar.specs.Taken.{before}
 use Rattle.al_scalar.specs.Quoted.{part_before, double_part, double_quoted}
 use Rattle.al_scalar.specs.Places.{lines_at, text_at}
-use Rattle.al_scalar.specs.Private.Places.{cells_at, cells_between, with_cells_before, AreBlank, IsBlankByte, IsLineEnd, SameLine}
+use Rattle.al_scalar.specs.LineEnds.{cells_at, cells_between, with_cells_before, AreBlank, IsBlankByte, IsLineEnd, SameLine}
 use Rattle.al_scalar.specs.Private.Double.{IsMarkByte, ReadsOn}
 use Rattle.al_scalar.proofs.LineLemmas.{cells_between-more}
 use Rattle.al_scalar.proofs.SingleLemmas.{lines_at-some, RunBefore, run_at, cell_at, text-line_end, IsInside}

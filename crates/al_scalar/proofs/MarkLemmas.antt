@@ -12,7 +12,7 @@ use Rattle.al_scalar.specs.Taken.{Fault, fault}
 use Rattle.al_scalar.specs.Quoted.{QuotedLine, closed, escaped, cut_short, part_before, written, lookup, escape_table, digits_table}
 use Rattle.al_scalar.specs.Quoted.{hex_value, hex_escape, is_scalar_value, escape, double_part, quoted_lines, double_quoted}
 use Rattle.al_scalar.specs.Places.{lines_at, text_at}
-use Rattle.al_scalar.specs.Private.Places.{first_last, later, cells_between, IsLineEnd}
+use Rattle.al_scalar.specs.LineEnds.{first_last, later, cells_between, IsLineEnd}
 use Rattle.al_scalar.specs.Private.Double.{ReadsOn, EndsRun, Between, read_behind}
 use Rattle.al_scalar.proofs.SingleLemmas.{lines_at-some, cell_at, run_then, RunBefore, text-line_end, lines-at_end, same_then}
 use Rattle.al_scalar.proofs.FoldLemmas.{break-at}

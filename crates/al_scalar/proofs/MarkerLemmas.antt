@@ -2,7 +2,7 @@
 use Rattle.std.proofs.Common.{◌≡◌, ℕ, ◌+◌, ◌≤◌, List, [], ◌∷◌, length, slice_index, refl, sym, ap, ◌∙◌, arith, Bool, true, false, ◌&&◌, ◌==◌}
 use Rattle.al_scalar.specs.Line.{Cell, is_blank_or_end, begins, is_marker}
 use Rattle.al_scalar.specs.Places.{text_at}
-use Rattle.al_scalar.specs.Private.Places.{IsLineEnd}
+use Rattle.al_scalar.specs.LineEnds.{IsLineEnd}
 use Rattle.al_scalar.proofs.SingleLemmas.{text-line_end, never}
 use Rattle.al_scalar.proofs.PlainLemmas.{text_at-cell}
 

@@ -6,7 +6,7 @@ use Rattle.std.proofs.lemmas.Grind.{common_steps}
 use Rattle.al_scalar.specs.Line.{Cell, is_blank, is_blank_or_end, is_empty}
 use Rattle.al_scalar.specs.Plain.{Context, is_flow, is_flow_indicator, begins_flow_indicator, ends_key, is_value_colon, ends_plain, plain_part}
 use Rattle.al_scalar.specs.Places.{lines_at, text_at}
-use Rattle.al_scalar.specs.Private.Places.{cells_at, cells_between, AreBlank, IsBlankByte, IsLineEnd, SameLine}
+use Rattle.al_scalar.specs.LineEnds.{cells_at, cells_between, AreBlank, IsBlankByte, IsLineEnd, SameLine}
 use Rattle.al_scalar.specs.Private.PlainLines.{IsWordAt, IsWordByte, PartTo}
 use Rattle.al_scalar.proofs.LineLemmas.{cells_between-none, cells_between-front, cells_between-more}
 use Rattle.al_scalar.proofs.SingleLemmas.{RunBefore, cell_at, text-line_end, is_blank-yes, is_blank-no, is_inside, never}

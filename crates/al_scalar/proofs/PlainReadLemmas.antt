@@ -6,7 +6,7 @@ use Rattle.al_scalar.specs.Line.{Cell, Line, lines, with_cell, with_return, is_b
 use Rattle.al_scalar.specs.Taken.{Fault, Taken, before, fault, folded_break}
 use Rattle.al_scalar.specs.Plain.{Context, is_flow, is_value_colon, plain_part, continues, ended_before, plain_lines, plain}
 use Rattle.al_scalar.specs.Places.{first_text, first_end, lines_at, text_at}
-use Rattle.al_scalar.specs.Private.Places.{cells_between, with_cells_before, AreBlank, IsBlankByte, IsBreakAt, SameLine, broken_line, first_last, later}
+use Rattle.al_scalar.specs.LineEnds.{cells_between, with_cells_before, AreBlank, IsBlankByte, IsBreakAt, SameLine, broken_line, first_last, later}
 use Rattle.al_scalar.specs.Private.PlainLines.{is_blank_line, begins_blank_line, text_lines, empty_ends, here_at, after_part, PartTo}
 use Rattle.al_scalar.proofs.LineLemmas.{lines_at-other}
 use Rattle.al_scalar.proofs.SingleLemmas.{has_line, lines_at-some, lines-at_end, run_at, never}

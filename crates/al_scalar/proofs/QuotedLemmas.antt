@@ -5,7 +5,7 @@ use Rattle.al_scalar.specs.Line.{Cell, Line, cut, is_blank, after_blanks, is_emp
 use Rattle.al_scalar.specs.Taken.{Fault, Taken, ◌>>=◌, before, folded, feeds, fault}
 use Rattle.al_scalar.specs.Quoted.{QuotedLine, QuotedEnd, closed, broken, escaped, cut_short, with_cells, part_before, line_given, is_empty_line, quoted_lines, quoted}
 use Rattle.al_scalar.specs.Places.{first_text, first_end}
-use Rattle.al_scalar.specs.Private.Places.{IsBlankByte, SameLine, first_last, later}
+use Rattle.al_scalar.specs.LineEnds.{IsBlankByte, SameLine, first_last, later}
 use Rattle.al_scalar.specs.Private.PlainLines.{is_blank_line, empty_ends, break_left}
 use Rattle.al_scalar.specs.Private.Folding.{solid_lines, break_of}
 use Rattle.al_scalar.proofs.SingleLemmas.{has_line, is_nothing}

@@ -4,7 +4,7 @@ use Rattle.al_scalar.specs.Line.{Cell}
 use Rattle.al_scalar.specs.Taken.{Fault, Taken, before}
 use Rattle.al_scalar.specs.Quoted.{double_part, quoted, double_quoted}
 use Rattle.al_scalar.specs.Places.{lines_at}
-use Rattle.al_scalar.specs.Private.Places.{later}
+use Rattle.al_scalar.specs.LineEnds.{later}
 use Rattle.al_scalar.specs.Private.PlainLines.{empty_ends, break_left}
 use Rattle.al_scalar.specs.Private.Folding.{solid_lines}
 use Rattle.al_scalar.specs.Private.Double.{ReadsOn, read_behind}

@@ -5,7 +5,7 @@ use Rattle.al_scalar.specs.Line.{Cell, Line, is_empty, is_all_blank, begins_blan
 use Rattle.al_scalar.specs.Taken.{Taken, feeds, with_text}
 use Rattle.al_scalar.specs.Block.{last_end, Chomping, strip, clip, keep, BlockLine, Rows, with_row, at_end, row_of, rows_at, rows_end, is_spaced, between_rows, joint, chomped, text_after}
 use Rattle.al_scalar.specs.Places.{first_text, first_end, lines_at}
-use Rattle.al_scalar.specs.Private.Places.{cells_at, cells_between, IsBlankByte, broken_line, SameLine, first_last, later}
+use Rattle.al_scalar.specs.LineEnds.{cells_at, cells_between, IsBlankByte, broken_line, SameLine, first_last, later}
 use Rattle.al_scalar.specs.Private.BlockRead.{row_like, rest, last_line}
 use Rattle.al_scalar.proofs.LineLemmas.{cells_between-front}
 use Rattle.al_scalar.proofs.SingleLemmas.{has_line, is_blank-yes, is_blank-no, lines-at_end, lines_at-some, never}

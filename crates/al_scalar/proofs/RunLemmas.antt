@@ -4,7 +4,7 @@ use Rattle.std.proofs.Common.{◌∙◌, arith, Bool, true, false, not, cond, ma
 use Rattle.std.proofs.Math.Seq.{take-suc}
 use Rattle.std.proofs.lemmas.Grind.{common_steps}
 use Rattle.al_scalar.specs.Line.{Cell}
-use Rattle.al_scalar.specs.Private.Places.{cells_at, cells_between}
+use Rattle.al_scalar.specs.LineEnds.{cells_at, cells_between}
 use Rattle.al_scalar.specs.Private.Segments.{first_run, offset_in, offset_after, offset_from, offset_at, cells_from, AreBehind, AreFrom, IsRising, IsOrdered, GoesOn, AreInRange}
 use Rattle.al_scalar.specs.declared.texts.Segment.{Segment}
 

@@ -8,7 +8,7 @@ use Rattle.std.proofs.lemmas.Grind.{common_steps}
 use Rattle.al_scalar.specs.Line.{Cell, Line, lines, with_cell, with_return, is_break, is_blank, is_empty, begins}
 use Rattle.al_scalar.specs.Quoted.{QuotedLine, closed, broken, is_broken, with_cells, with_own, single_part}
 use Rattle.al_scalar.specs.Places.{first_text, lines_at}
-use Rattle.al_scalar.specs.Private.Places.{with_cells_before, AreBlank, IsBlankByte, IsLineEnd, SameLine}
+use Rattle.al_scalar.specs.LineEnds.{with_cells_before, AreBlank, IsBlankByte, IsLineEnd, SameLine}
 use Rattle.al_scalar.specs.Private.Single.{part_at}
 use Rattle.al_scalar.proofs.LineLemmas.{lines_at-other}
 

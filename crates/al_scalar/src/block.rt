@@ -6,7 +6,7 @@ ghost use Rattle.al_scalar.specs.Block.{own_break, chomped, joint, text_after, r
 ghost use Rattle.al_scalar.specs.Private.BlockRead.{RowStarts, ReadsRows, last_row, row_like, RowTo, indent_from};
 ghost use Rattle.al_scalar.specs.Private.BlockRead.{kind, AddsRow, EndsRow, last_line, is_said};
 ghost use Rattle.al_scalar.specs.Places.{lines_at, text_at};
-ghost use Rattle.al_scalar.specs.Private.Places.{cells_between, IsLineEnd, BlankTo};
+ghost use Rattle.al_scalar.specs.LineEnds.{cells_between, IsLineEnd, BlankTo};
 ghost use Rattle.al_scalar.specs.Private.Reads.{Gives, StaysWithin};
 ghost use Rattle.al_scalar.specs.Taken.{feeds, folded_break};
 

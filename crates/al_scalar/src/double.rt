@@ -2,7 +2,7 @@
 
 ghost use Rattle.std.specs.Prelude.{◌≡◌, ◌+◌, ◌<◌, ◌≤◌, ◌^◌, ◌++◌, suc, length, IfOk, IfSome, slice_index, IsTrue, ◌↔◌, Some, None};
 ghost use Rattle.al_scalar.specs.Places.{lines_at};
-ghost use Rattle.al_scalar.specs.Private.Places.{cells_between};
+ghost use Rattle.al_scalar.specs.LineEnds.{cells_between};
 ghost use Rattle.al_scalar.specs.Quoted.{double_quoted, written, lookup, escape_table, digits_table, hex_digit};
 ghost use Rattle.al_scalar.specs.Private.Reads.{Gives, StaysWithin};
 ghost use Rattle.al_scalar.specs.Private.Double.{IsMarkByte, ReadsOn, EndsRun, GivesMark, GivesDigits};

@@ -2,7 +2,7 @@
 
 ghost use Rattle.std.specs.Prelude.{◌≡◌, ◌<◌, ◌≤◌, ◌^◌, ◌++◌, length, IfOk};
 ghost use Rattle.al_scalar.specs.Places.{lines_at};
-ghost use Rattle.al_scalar.specs.Private.Places.{later, IsLineEnd};
+ghost use Rattle.al_scalar.specs.LineEnds.{later, IsLineEnd};
 ghost use Rattle.al_scalar.specs.Private.PlainLines.{empty_ends, break_left};
 ghost use Rattle.al_scalar.specs.Private.Folding.{solid_lines};
 ghost use Rattle.al_base.specs.Growth.{BeginsWith};

@@ -3,8 +3,8 @@
 ghost use Rattle.std.specs.Prelude.{◌≡◌, ◌≢◌, ◌∷◌, ◌+◌, ◌<◌, ◌≤◌, length, IsTrue, ◌↔◌, slice_index};
 ghost use Rattle.al_scalar.specs.Line as line;
 ghost use Rattle.al_scalar.specs.Places.{first_end, lines_at, text_at};
-ghost use Rattle.al_scalar.specs.Private.Places.{cells_between, with_cells_before, broken_line, AreBlank};
-ghost use Rattle.al_scalar.specs.Private.Places.{AreSpaces, IsBlankByte, IsLineEnd, IsBreakAt, OnLine, BlankTo, FirstByte};
+ghost use Rattle.al_scalar.specs.LineEnds.{cells_between, with_cells_before, broken_line, AreBlank};
+ghost use Rattle.al_scalar.specs.LineEnds.{AreSpaces, IsBlankByte, IsLineEnd, IsBreakAt, OnLine, BlankTo, FirstByte};
 
 /// Whether no text of the line is left at an offset.
 pub fn is_line_end(bytes: &[u8], at: usize) -> bool

@@ -3,7 +3,7 @@
 ghost use Rattle.std.specs.Prelude.{◌≡◌, ◌<◌, ◌≤◌, ◌^◌, ◌++◌, false, not, ◌&&◌, ◌||◌, nat_lt, length, IfOk, IsTrue};
 ghost use Rattle.al_scalar.specs.Line as line;
 ghost use Rattle.al_scalar.specs.Places.{lines_at, text_at};
-ghost use Rattle.al_scalar.specs.Private.Places.{SameLine};
+ghost use Rattle.al_scalar.specs.LineEnds.{SameLine};
 ghost use Rattle.al_scalar.specs.Plain as plain;
 ghost use Rattle.al_scalar.specs.Private.PlainLines.{context_of, begins_blank_line, text_lines, empty_ends, IsWordAt, IsWordByte, PartTo};
 ghost use Rattle.al_scalar.specs.Private.Reads.{Gives, StaysWithin};

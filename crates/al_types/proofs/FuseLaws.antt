@@ -4,7 +4,7 @@ use Rattle.std.proofs.Common.{◌≡◌, List, [], ◌∷◌, ◌++◌, refl, sy
 use Rattle.al_types.specs.Types.{Type', Any, Null, Number, Bool', String, ArrayOf, ObjectOf, Optional, Absent, Present, NoField}
 use Rattle.al_types.specs.Types.{Parts, fuse_optional, fuse_type, option_of, optional, parts_with}
 use Rattle.al_types.specs.Fused.{fuse_parts, fused_with, fused}
-use Rattle.al_types.specs.Private.TypeParts.{common_type}
+use Rattle.al_types.specs.TypeParts.{common_type}
 
 mutual
   -- which two of three types are fused first does not count

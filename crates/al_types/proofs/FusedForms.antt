@@ -2,7 +2,7 @@
 use Rattle.std.proofs.Common.{◌≡◌, refl}
 use Rattle.al_types.specs.declared.forms.Form.TheVariants as form
 use Rattle.al_types.specs.Types.{Type', Any, Null, Number, Bool', String, ArrayOf, ObjectOf, fuse_type}
-use Rattle.al_types.specs.Private.TypeParts.{form_of, fuse_with_form}
+use Rattle.al_types.specs.TypeParts.{form_of, fuse_with_form}
 
 pub fuse_null : (t : Type') → fuse_type Null t ≡ fuse_with_form form.Null (form_of t)
 fuse_null Null = refl

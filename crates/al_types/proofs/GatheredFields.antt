@@ -8,7 +8,7 @@ use Rattle.al_base.specs.Names.{folded, same_name}
 use Rattle.al_types.specs.FusedFields.{are_distinct}
 use Rattle.al_types.specs.Puts.{Typed, firsts, put, put_all, put_new}
 use Rattle.al_types.specs.Types.{Type', Fields, Optional, field_at, fields_of, fuse_optional, fuse_type, has_field, optional}
-use Rattle.al_types.specs.Private.TypeParts.{common_type}
+use Rattle.al_types.specs.TypeParts.{common_type}
 use Rattle.al_types.proofs.FuseLaws.{common_optional}
 use Rattle.al_types.proofs.JoinedFields.{first_apart, has_field_at, has_same, nothing_at, others_apart, same_turned}
 

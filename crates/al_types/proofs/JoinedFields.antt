@@ -11,7 +11,7 @@ use Rattle.al_types.specs.Types.{Type', Fields, NoField, FieldThen, Optional, Ab
 use Rattle.al_types.specs.Types.{fuse_type, has_field, optional, parts_with}
 use Rattle.al_types.specs.Fused.{fuse_parts}
 use Rattle.al_types.specs.FusedFields.{are_distinct, both, fuse_fields, join_fields, missing_fields, with_other}
-use Rattle.al_types.specs.Private.TypeParts.{common_type}
+use Rattle.al_types.specs.TypeParts.{common_type}
 use Rattle.al_types.proofs.FuseLaws.{common_optional, last_turned, middle_turned, optional_assoc, optional_same}
 
 -- ---- names that are the same

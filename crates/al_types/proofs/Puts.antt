@@ -7,7 +7,7 @@ use Rattle.al_base.specs.NamePlaces.{and_name_at, name_position}
 use Rattle.al_base.specs.declared.name_positions.NamePositions.{NamePositions}
 use Rattle.al_base.proofs.NamePlaces.{first_more, name_kept}
 use Rattle.al_types.specs.Puts.{Typed, put, put_new}
-use Rattle.al_types.specs.Private.Indexes.{IsIndex, name_at, named_as}
+use Rattle.al_types.specs.Indexes.{IsIndex, name_at, named_as}
 
 step : (b : Bool) (o : Option ℕ) (q : Typed) (qs more : List Typed) →
     (if b then q ∷ qs else q ∷ (if is_none o then more else qs)) ≡ (if is_none (if b then Some 0 else option_map (λ i. i + 1) o) then q ∷ more else q ∷ qs)

@@ -8,7 +8,7 @@ use Rattle.al_types.specs.Strings.{strings}
 use Rattle.al_types.specs.Puts.{Typed, firsts, put_all, put_new}
 use Rattle.al_types.specs.Types.{Absent, Present, String, common_in, field_at, fields_of, fuse_optional, optional, parts_with}
 use Rattle.al_types.proofs.GatheredFields.{firsts_found}
-use Rattle.al_types.specs.Private.TypeParts.{string_unless}
+use Rattle.al_types.specs.TypeParts.{string_unless}
 
 at_step : (b : Bool) (o : Option ℕ) → (if b then Some String else option_map (λ i. String) o)
     ≡ option_map (λ i. String) (if b then Some 0 else option_map (λ i. i + 1) o)

@@ -7,4 +7,5 @@ pub mod Puts
 pub mod Signatures
 pub mod Strings
 pub mod Scopes
-pub mod Private
+pub mod TypeParts
+pub mod Indexes

@@ -2,14 +2,14 @@
 
 ghost use Rattle.al_scalar.specs.Places.{lines_at, text_at};
 ghost use Rattle.al_yaml.specs.Private.BlockFrames.{Begins, IsBegun, IsNodeAt, node_reader};
-ghost use Rattle.al_yaml_parts.specs.Private.Answers.{completing};
-ghost use Rattle.al_yaml_parts.specs.Private.BlockReads.{IsKeyBehind, key_seen, slot_of, spot_of};
+ghost use Rattle.al_yaml_parts.specs.Answers.{completing};
+ghost use Rattle.al_yaml_parts.specs.BlockReads.{IsKeyBehind, key_seen, slot_of, spot_of};
 ghost use Rattle.al_yaml_tree.specs.Blocks as block;
 ghost use Rattle.al_yaml_tree.specs.Content as content;
-ghost use Rattle.al_yaml_parts.specs.Private.Files.{left_at, size};
+ghost use Rattle.al_yaml_parts.specs.Files.{left_at, size};
 ghost use Rattle.al_yaml_tree.specs.Flow as flow;
 ghost use Rattle.al_yaml_tree.specs.Keys as keys;
-ghost use Rattle.al_yaml_parts.specs.Private.Reads.{IsBehind, IsRead, IsStopInside, part_of, state_of};
+ghost use Rattle.al_yaml_parts.specs.Reads.{IsBehind, IsRead, IsStopInside, part_of, state_of};
 ghost use Rattle.al_yaml_parts.specs.Stacks.{depth_in};
 ghost use Rattle.std.specs.Prelude.{IfErr, IfOk, [], length, not, suc, true, ℕ, ◌&&◌, ◌+◌, ◌<◌, ◌||◌, ◌≡◌, ◌≤◌};
 

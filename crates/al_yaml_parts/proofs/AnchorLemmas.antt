@@ -9,7 +9,7 @@ use Rattle.std.specs.Ordering.{is_eq, nat_cmp}
 use Rattle.std.specs.Str.{bytes_eq}
 use Rattle.std.proofs.lemmas.Map.Text.{is_eq-slice_cmp}
 use Rattle.al_yaml_tree.specs.Reading.{is_later, later_of, with_anchor}
-use Rattle.al_yaml_parts.specs.Private.Reads.{anchor_seen, found_in, known_of}
+use Rattle.al_yaml_parts.specs.Reads.{anchor_seen, found_in, known_of}
 use Rattle.al_yaml_parts.specs.declared.anchors.Anchored.{Anchored}
 use Rattle.al_yaml_parts.specs.declared.anchors.Anchors.{Anchors}
 

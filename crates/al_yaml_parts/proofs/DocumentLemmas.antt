@@ -3,7 +3,7 @@ use Rattle.std.proofs.Common.{◌≡◌, ℕ, ◌+◌, ◌<◌, ◌≤◌, List,
 use Rattle.al_base.specs.declared.codes.YamlCode.TheVariants as yaml
 use Rattle.al_scalar.specs.Line.{Cell, Line, start, cut, is_empty, begins, is_marker, blanks_dropped, spaces_dropped}
 use Rattle.al_scalar.specs.Places.{first_text, lines_at, text_at}
-use Rattle.al_scalar.specs.Private.Places.{IsLineEnd}
+use Rattle.al_scalar.specs.LineEnds.{IsLineEnd}
 use Rattle.al_scalar.specs.Block.{at_end}
 use Rattle.al_scalar.specs.Taken.{Fault, fault}
 use Rattle.al_yaml_tree.specs.Content.{behind, is_skipped, line_ended}

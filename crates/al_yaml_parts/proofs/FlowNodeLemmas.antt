@@ -17,16 +17,16 @@ use Rattle.al_yaml_tree.specs.Flow.{gap, is_file_end, FlowReader, CollectionRead
 use Rattle.al_yaml_tree.specs.Flow.{flow_key, flow_value, flow_entry_value, flow_content}
 use Rattle.al_yaml_tree.specs.Flow.{flow_property, flow_node_over, empty_node, FlowKey, flow_key_of, key_colon, unless_late}
 use Rattle.al_yaml_tree.specs.Flow.{behind_colon, is_late_colon}
-use Rattle.al_yaml_parts.specs.Private.Reads.{State, run, counted, Stops, Refuses}
-use Rattle.al_yaml_parts.specs.Private.Answers.{completing}
-use Rattle.al_yaml_parts.specs.Private.Reads.{alias_part}
+use Rattle.al_yaml_parts.specs.Reads.{State, run, counted, Stops, Refuses}
+use Rattle.al_yaml_parts.specs.Answers.{completing}
+use Rattle.al_yaml_parts.specs.Reads.{alias_part}
 use Rattle.al_yaml_parts.specs.declared.faults.ReadError.{ReadError}
 use Rattle.al_yaml_parts.proofs.Choices.{if-true, if-false}
 use Rattle.al_yaml_parts.proofs.ReadLemmas.{stops-same, stops-given, given-ok, scalar_reading}
 use Rattle.al_scalar.proofs.RestLemmas.{start-at}
 use Rattle.al_scalar.proofs.SingleLemmas.{never}
 use Rattle.al_yaml_parts.proofs.RunLemmas.{run-gives, run-fails, run-start, run-broken, run-stop, run-refused}
-use Rattle.al_yaml_parts.specs.Private.FlowReads.{Finds}
+use Rattle.al_yaml_parts.specs.FlowReads.{Finds}
 use Rattle.al_yaml_parts.specs.declared.flow_nodes.Found.{Found}
 use Rattle.al_yaml_parts.specs.declared.flow_nodes.Found.TheVariants as found
 

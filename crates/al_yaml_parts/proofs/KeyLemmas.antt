@@ -5,7 +5,7 @@ use Rattle.std.proofs.lemmas.Grind.{common_steps}
 use Rattle.al_scalar.proofs.FoldLemmas.{end-with_return}
 use Rattle.al_scalar.specs.Line.{Cell, Line, lines, is_break, with_cell, with_return, begins, begins_blank, after_blanks, is_blank_or_end, blanks_dropped}
 use Rattle.al_scalar.specs.Places.{first_text, first_end, lines_at, text_at}
-use Rattle.al_scalar.specs.Private.Places.{IsBreakByte, IsLineEnd}
+use Rattle.al_scalar.specs.LineEnds.{IsBreakByte, IsLineEnd}
 use Rattle.std.proofs.Common.{zero}
 use Rattle.std.proofs.lemmas.Bool.{eqb-true}
 use Rattle.al_scalar.specs.Plain.{Context, flow, block, is_value_colon, ends_key, begins_flow_indicator}
@@ -13,7 +13,7 @@ use Rattle.al_scalar.proofs.MarkerLemmas.{begins-inside}
 use Rattle.al_yaml_tree.specs.Content.{same_line, characters, behind}
 use Rattle.al_yaml_tree.specs.Flow as items
 use Rattle.al_yaml_tree.specs.Keys as keys
-use Rattle.al_yaml_parts.specs.Private.Places.{IsColon}
+use Rattle.al_yaml_parts.specs.Places.{IsColon}
 use Rattle.al_yaml_parts.proofs.LineLemmas.{solid-lines, behind-one}
 use Rattle.al_scalar.proofs.LineParts.{blanks_dropped-stays, Kind, at_file_end, at_break, at_byte, kind, end-here}
 use Rattle.al_scalar.proofs.SingleLemmas.{has_line, lines-some, lines-at_end, text-line_end, is_inside, never}

@@ -6,7 +6,7 @@ use Rattle.std.proofs.lemmas.List.{length-take}
 use Rattle.al_scalar.specs.ReadScalar.{read_of}
 use Rattle.al_scalar.specs.Line.{Cell, Line, with_cell}
 use Rattle.al_scalar.specs.Places.{first_text, first_end, lines_at, text_at}
-use Rattle.al_scalar.specs.Private.Places.{IsLineEnd}
+use Rattle.al_scalar.specs.LineEnds.{IsLineEnd}
 use Rattle.al_scalar.specs.Plain.{block}
 use Rattle.al_scalar.specs.Scalar as value
 use Rattle.al_scalar.specs.Scalar.{scalar_at}
@@ -20,8 +20,8 @@ use Rattle.al_yaml_tree.specs.Blocks.{scalar_left, scalar_node_at}
 use Rattle.al_yaml_tree.specs.View.{view}
 use Rattle.al_yaml_parts.specs.declared.part.Part as code
 use Rattle.al_yaml_tree.specs.Keys.{Key, one_line, with_lines, read_with_lines, plain_on_line, key_scalar, behind_colon, key_from}
-use Rattle.al_yaml_parts.specs.Private.Places.{IsReadInside}
-use Rattle.al_yaml_parts.specs.Private.Reads.{State, run, counted, Stops, Refuses, Answers, part_of}
+use Rattle.al_yaml_parts.specs.Places.{IsReadInside}
+use Rattle.al_yaml_parts.specs.Reads.{State, run, counted, Stops, Refuses, Answers, part_of}
 use Rattle.al_yaml_parts.specs.declared.faults.ReadError.{ReadError}
 use Rattle.al_yaml_parts.specs.declared.faults.ReadError.TheVariants as stop
 use Rattle.al_scalar.proofs.SingleLemmas.{has_line, lines_at-some, lines-at_end, text-line_end, is_inside}

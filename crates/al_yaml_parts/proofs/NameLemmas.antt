@@ -5,7 +5,7 @@ use Rattle.std.proofs.lemmas.Grind.{common_steps}
 use Rattle.std.proofs.Math.Seq.{drop-cons}
 use Rattle.al_scalar.specs.Line.{Cell, Line, cut, is_empty, is_blank, with_cell}
 use Rattle.al_scalar.specs.Places.{first_end, lines_at, text_at}
-use Rattle.al_scalar.specs.Private.Places.{cells_at, cells_between, with_cells_before, IsLineEnd}
+use Rattle.al_scalar.specs.LineEnds.{cells_at, cells_between, with_cells_before, IsLineEnd}
 use Rattle.al_scalar.specs.Plain.{is_flow_indicator}
 use Rattle.al_scalar.proofs.LineLemmas.{cells_between-more, with_cells_before-more}
 use Rattle.al_scalar.proofs.PlainLemmas.{text_at-cell}

@@ -3,10 +3,10 @@ use Rattle.std.proofs.Common.{◌≡◌, ℕ, List, refl, sym, ap, ◌∙◌, Op
 use Rattle.al_yaml_tree.specs.Node as tree
 use Rattle.al_yaml_tree.specs.Node.{Node}
 use Rattle.al_yaml_tree.specs.Reading.{Reading, Part, part, anchored, gives, fails, spanned, ◌>>=◌}
-use Rattle.al_yaml_parts.specs.Private.Answers.{Answer, Mark, answered, noting}
-use Rattle.al_yaml_parts.specs.Private.Answers.{completing, mark_of}
+use Rattle.al_yaml_parts.specs.Answers.{Answer, Mark, answered, noting}
+use Rattle.al_yaml_parts.specs.Answers.{completing, mark_of}
 use Rattle.al_scalar.specs.Taken.{Fault}
-use Rattle.al_yaml_parts.specs.Private.Reads.{State, run, Stops, anchor_at, noted_at, part_of}
+use Rattle.al_yaml_parts.specs.Reads.{State, run, Stops, anchor_at, noted_at, part_of}
 use Rattle.al_yaml_tree.specs.View.{view}
 use Rattle.al_yaml_parts.specs.declared.faults.ReadError.{ReadError}
 use Rattle.al_yaml_parts.specs.declared.part.Part as code

@@ -14,8 +14,8 @@ use Rattle.al_scalar.specs.Taken.{Fault}
 use Rattle.al_yaml_tree.specs.Node as tree
 use Rattle.al_yaml_tree.specs.Reading.{Reading, Part, part, given, gives, listed, start_of, spanned, ◌>>=◌}
 use Rattle.al_yaml_tree.specs.Limits.{broken_limit}
-use Rattle.al_yaml_parts.specs.Private.Places.{fault_of}
-use Rattle.al_yaml_parts.specs.Private.Reads.{State, run, counted, Stops, Refuses, IsRead, part_of}
+use Rattle.al_yaml_parts.specs.Places.{fault_of}
+use Rattle.al_yaml_parts.specs.Reads.{State, run, counted, Stops, Refuses, IsRead, part_of}
 use Rattle.al_yaml_tree.specs.View.{view, entry_view, nodes_of, entries_of}
 use Rattle.al_yaml_parts.specs.declared.faults.ReadError.{ReadError}
 use Rattle.al_yaml_parts.specs.declared.faults.ReadError.TheVariants as stop

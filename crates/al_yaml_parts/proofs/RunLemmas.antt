@@ -6,7 +6,7 @@ use Rattle.al_scalar.specs.Taken.{Fault}
 use Rattle.al_yaml_tree.specs.Reading.{Start, start_of, start_with, Anchor, anchored, with_anchor, nothing_known, listed, Known, Outcome, Reading, gives, fails, given, after, next, ◌>>=◌}
 use Rattle.al_yaml_tree.specs.Limits.{broken_limit, unless_broken, limited, nodes_listed, text_listed}
 use Rattle.al_base.specs.Limits.{deepest_collection, most_alias_text, most_nodes}
-use Rattle.al_yaml_parts.specs.Private.Reads.{State, finished, state_after, run_outcome, run, counted, noted, at_start}
+use Rattle.al_yaml_parts.specs.Reads.{State, finished, state_after, run_outcome, run, counted, noted, at_start}
 
 limit-none : (a d : Bool) (e f : Fault) (below below' rest : Option Fault) → cond a (Some e) (cond d (Some f) below) ≡ None
     → (below ≡ None → below' ≡ rest) → cond a (Some e) (cond d (Some f) below') ≡ rest

@@ -1,12 +1,12 @@
 //! Anchors (YAML 1.2.2, 6.9.2), the nodes that they name, and the aliases that stand for them (7.1).
 
 ghost use Rattle.al_scalar.specs.Places.{lines_at, text_at};
-ghost use Rattle.al_scalar.specs.Private.Places.{cells_between, with_cells_before};
+ghost use Rattle.al_scalar.specs.LineEnds.{cells_between, with_cells_before};
 ghost use Rattle.al_yaml_tree.specs.Content as content;
-ghost use Rattle.al_yaml_parts.specs.Private.Files.{left_at, size};
+ghost use Rattle.al_yaml_parts.specs.Files.{left_at, size};
 ghost use Rattle.al_yaml_tree.specs.Reading as reading;
 ghost use Rattle.al_yaml_tree.specs.Reading.{with_anchor, nothing_known};
-ghost use Rattle.al_yaml_parts.specs.Private.Reads.{IsRead, IsStopInside, anchor_at, anchor_seen, known_of, noted_at, state_of};
+ghost use Rattle.al_yaml_parts.specs.Reads.{IsRead, IsStopInside, anchor_at, anchor_seen, known_of, noted_at, state_of};
 ghost use Rattle.al_yaml_tree.specs.View.{view};
 ghost use Rattle.std.specs.Prelude.{IfErr, IfOk, length, true, ◌+◌, ◌<◌, ◌≡◌, ◌≤◌};
 

@@ -4,7 +4,7 @@ ghost use Rattle.al_scalar.specs.Line as line;
 ghost use Rattle.al_scalar.specs.Places.{lines_at, text_at};
 ghost use Rattle.al_yaml_tree.specs.Content as content;
 ghost use Rattle.al_yaml_tree.specs.Flow as flow;
-ghost use Rattle.al_yaml_parts.specs.Private.Places.{IsLineFrom, Shows, next_of};
+ghost use Rattle.al_yaml_parts.specs.Places.{IsLineFrom, Shows, next_of};
 ghost use Rattle.std.specs.Prelude.{IfErr, IfOk, IfSome, IsTrue, false, length, slice_index, ◌<◌, ◌↔◌, ◌≡◌, ◌≤◌};
 
 use crate::lines::{is_text_end, next_line};

@@ -4,7 +4,7 @@ ghost use Rattle.al_scalar.specs.Places.{lines_at, text_at};
 ghost use Rattle.al_yaml_tree.specs.Content as content;
 ghost use Rattle.al_yaml_tree.specs.Document as document;
 ghost use Rattle.al_yaml_parts.specs.Private.DocumentLines.{IsBehindMarker, text_line};
-ghost use Rattle.al_yaml_parts.specs.Private.Places.{Shows};
+ghost use Rattle.al_yaml_parts.specs.Places.{Shows};
 ghost use Rattle.std.specs.Prelude.{◌<◌, ◌≡◌, ◌≤◌, IfErr, IfOk, false, length};
 
 use crate::content::{is_skipped, line_ended};

@@ -3,17 +3,17 @@
 ghost use Rattle.al_scalar.specs.ReadScalar.{read_of};
 ghost use Rattle.al_scalar.specs.Line as line;
 ghost use Rattle.al_scalar.specs.Places.{lines_at, text_at};
-ghost use Rattle.al_yaml_parts.specs.Private.Files.{left_at, size};
+ghost use Rattle.al_yaml_parts.specs.Files.{left_at, size};
 ghost use Rattle.al_yaml_tree.specs.Flow as flow;
 ghost use Rattle.al_base.specs.declared.codes.YamlCode.TheVariants as yaml;
 ghost use Rattle.al_yaml_tree.specs.Content as content;
-ghost use Rattle.al_yaml_parts.specs.Private.FlowReads.{Finds, FindsKey, IsBare, IsFound, IsFoundKey, flow_slot};
-ghost use Rattle.al_yaml_parts.specs.Private.Reads.{alias_part};
-ghost use Rattle.al_yaml_parts.specs.Private.Places.{IsReadInside, Shows, option_lines};
-ghost use Rattle.al_yaml_parts.specs.Private.Reads.{IsBehind, IsRead, IsStopInside};
-ghost use Rattle.al_yaml_parts.specs.Private.FlowReads.{IsColonInside, IsKeyInside};
-ghost use Rattle.al_yaml_parts.specs.Private.Reads.{noted_at, part_of, state_of};
-ghost use Rattle.al_yaml_parts.specs.Private.FlowReads.{flow_key_of};
+ghost use Rattle.al_yaml_parts.specs.FlowReads.{Finds, FindsKey, IsBare, IsFound, IsFoundKey, flow_slot};
+ghost use Rattle.al_yaml_parts.specs.Reads.{alias_part};
+ghost use Rattle.al_yaml_parts.specs.Places.{IsReadInside, Shows, option_lines};
+ghost use Rattle.al_yaml_parts.specs.Reads.{IsBehind, IsRead, IsStopInside};
+ghost use Rattle.al_yaml_parts.specs.FlowReads.{IsColonInside, IsKeyInside};
+ghost use Rattle.al_yaml_parts.specs.Reads.{noted_at, part_of, state_of};
+ghost use Rattle.al_yaml_parts.specs.FlowReads.{flow_key_of};
 ghost use Rattle.al_yaml_tree.specs.View.{view};
 ghost use Rattle.std.specs.Prelude.{IfErr, IfOk, IfSome, false, if◌then◌else◌, length, true, ℕ, ◌<◌, ◌||◌, ◌≡◌, ◌≤◌};
 

@@ -4,13 +4,13 @@ ghost use Rattle.al_scalar.specs.ReadScalar.{read_of};
 ghost use Rattle.al_scalar.specs.Line as line;
 ghost use Rattle.al_scalar.specs.Places.{lines_at, text_at};
 ghost use Rattle.al_scalar.specs.Plain as plain;
-ghost use Rattle.al_yaml_parts.specs.Private.BlockReads.{IsOptionKey, option_key};
+ghost use Rattle.al_yaml_parts.specs.BlockReads.{IsOptionKey, option_key};
 ghost use Rattle.al_yaml_tree.specs.Content as content;
-ghost use Rattle.al_yaml_parts.specs.Private.Files.{left_at, size};
+ghost use Rattle.al_yaml_parts.specs.Files.{left_at, size};
 ghost use Rattle.al_yaml_tree.specs.Flow as flow;
 ghost use Rattle.al_yaml_tree.specs.Keys as keys;
-ghost use Rattle.al_yaml_parts.specs.Private.Places.{IsColon, IsLineTo, IsReadInside};
-ghost use Rattle.al_yaml_parts.specs.Private.Reads.{Answers, IsStopInside};
+ghost use Rattle.al_yaml_parts.specs.Places.{IsColon, IsLineTo, IsReadInside};
+ghost use Rattle.al_yaml_parts.specs.Reads.{Answers, IsStopInside};
 ghost use Rattle.std.specs.Prelude.{IfErr, IfOk, IsTrue, length, true, ◌&&◌, ◌<◌, ◌≡◌, ◌≤◌};
 ghost use Rattle.al_base.specs.Limits.{largest_file};
 

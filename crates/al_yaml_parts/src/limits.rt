@@ -1,8 +1,8 @@
 //! The limits on nodes, on text behind aliases and on nesting.
 
 ghost use Rattle.al_yaml_tree.specs.Limits.{broken_limit};
-ghost use Rattle.al_yaml_parts.specs.Private.Places.{fault_of};
-ghost use Rattle.al_yaml_parts.specs.Private.Reads.{counted, state_of};
+ghost use Rattle.al_yaml_parts.specs.Places.{fault_of};
+ghost use Rattle.al_yaml_parts.specs.Reads.{counted, state_of};
 ghost use Rattle.al_yaml_tree.specs.Reading.{start_with, start_of};
 ghost use Rattle.std.specs.Prelude.{◌+◌, ◌≡◌, ◌≤◌, ◌∷◌, [], IfErr, IfOk, MatchResult};
 

@@ -2,7 +2,7 @@
 
 ghost use Rattle.al_scalar.specs.Line as line;
 ghost use Rattle.al_scalar.specs.Places.{lines_at, text_at};
-ghost use Rattle.al_scalar.specs.Private.Places.{IsBreakByte};
+ghost use Rattle.al_scalar.specs.LineEnds.{IsBreakByte};
 ghost use Rattle.al_yaml_tree.specs.Content as content;
 ghost use Rattle.std.specs.Prelude.{IsTrue, false, length, nat_le, nat_lt, true, ◌&&◌, ◌+◌, ◌<◌, ◌↔◌, ◌≡◌, ◌≤◌};
 

@@ -3,11 +3,11 @@
 ghost use Rattle.al_scalar.specs.ReadScalar.{read_of, reading_at};
 ghost use Rattle.al_scalar.specs.Places.{lines_at};
 ghost use Rattle.al_yaml_tree.specs.Blocks as block;
-ghost use Rattle.al_yaml_parts.specs.Private.Files.{left_at, size};
+ghost use Rattle.al_yaml_parts.specs.Files.{left_at, size};
 ghost use Rattle.al_yaml_tree.specs.Flow as flow;
 ghost use Rattle.al_yaml_tree.specs.Node as tree;
-ghost use Rattle.al_yaml_parts.specs.Private.Places.{IsReadInside, Shows};
-ghost use Rattle.al_yaml_parts.specs.Private.Reads.{Answers, IsBehind, IsRead, IsStopInside, part_of, state_of};
+ghost use Rattle.al_yaml_parts.specs.Places.{IsReadInside, Shows};
+ghost use Rattle.al_yaml_parts.specs.Reads.{Answers, IsBehind, IsRead, IsStopInside, part_of, state_of};
 ghost use Rattle.al_yaml_tree.specs.View.{view};
 ghost use Rattle.std.specs.Prelude.{IfErr, IfOk, length, ◌+◌, ◌≡◌, ◌≤◌};
 ghost use Rattle.al_base.specs.Limits.{largest_file};

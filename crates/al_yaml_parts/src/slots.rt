@@ -1,7 +1,7 @@
 //! Where a node in block context stands.
 
 ghost use Rattle.al_scalar.specs.Places.{lines_at, text_at};
-ghost use Rattle.al_yaml_parts.specs.Private.BlockReads.{IsTabInside, slot_of, spot_of};
+ghost use Rattle.al_yaml_parts.specs.BlockReads.{IsTabInside, slot_of, spot_of};
 ghost use Rattle.al_yaml_tree.specs.Blocks as block;
 ghost use Rattle.std.specs.Prelude.{length, ◌≡◌, ◌≤◌};
 

@@ -6,7 +6,7 @@ use Rattle.al_scalar.specs.Line.{Cell, Line, is_all_blank, indent}
 use Rattle.al_scalar.specs.Taken.{Fault, Taken, with_text}
 use Rattle.al_base.specs.declared.codes.YamlCode.TheVariants.{WrongBlockHeader}
 use Rattle.al_scalar.specs.Places.{lines_at, text_at}
-use Rattle.al_scalar.specs.Private.Places.{cells_between, OnLine}
+use Rattle.al_scalar.specs.LineEnds.{cells_between, OnLine}
 use Rattle.al_scalar.specs.Block as block
 use Rattle.al_scalar.specs.Block.{Header, BlockLine, last_end}
 use Rattle.al_scalar.specs.declared.header.Chomping.{Chomping}

@@ -4,7 +4,7 @@ use Rattle.al_base.specs.Ascii as ascii
 use Rattle.al_base.specs.declared.codes.YamlCode.TheVariants as yaml
 use Rattle.al_scalar.specs.Line.{Cell}
 use Rattle.al_scalar.specs.Places.{lines_at, text_at}
-use Rattle.al_scalar.specs.Private.Places.{later, cells_between, OnLine, IsBreakByte, IsLineEnd}
+use Rattle.al_scalar.specs.LineEnds.{later, cells_between, OnLine, IsBreakByte, IsLineEnd}
 use Rattle.al_scalar.specs.Taken.{Fault, Taken, before}
 use Rattle.al_scalar.specs.Quoted.{double_part, quoted_lines, double_quoted, written, hex_value}
 use Rattle.al_scalar.specs.Private.Folding.{break_of}

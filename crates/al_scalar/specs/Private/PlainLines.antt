@@ -5,7 +5,7 @@ use Rattle.al_scalar.specs.Line.{Cell, Line, after_blanks, is_empty, is_all_blan
 use Rattle.al_scalar.specs.Taken.{Fault, Taken, feeds, folded_break}
 use Rattle.al_scalar.specs.Plain.{Context, flow, block, plain_part, plain_lines}
 use Rattle.al_scalar.specs.Places.{first_text, first_end, lines_at, text_at}
-use Rattle.al_scalar.specs.Private.Places.{cells_between, later}
+use Rattle.al_scalar.specs.LineEnds.{cells_between, later}
 use Rattle.al_scalar.specs.declared.plain.PlainContext.{PlainContext}
 use Rattle.al_scalar.specs.declared.plain.PlainContext.TheVariants as contexts
 

@@ -10,11 +10,11 @@ use Rattle.al_yaml_tree.specs.Content as content
 use Rattle.al_yaml_tree.specs.Flow.{flow_collection}
 use Rattle.al_yaml_tree.specs.Keys.{Key}
 use Rattle.al_yaml_tree.specs.Blocks.{BlockReader, sequence_entries, sequence_rest, mapping_entries, mapping_rest, block_node, bare_node}
-use Rattle.al_yaml_parts.specs.Private.BlockReads.{IsKeyBehind, IsTabInside, key_seen, slot_of}
-use Rattle.al_yaml_parts.specs.Private.Answers.{Answer, Mark, answered, noting}
-use Rattle.al_yaml_parts.specs.Private.Answers.{mark_of}
-use Rattle.al_yaml_parts.specs.Private.Places.{next_of, IsLineFrom}
-use Rattle.al_yaml_parts.specs.Private.Reads.{State, run, Stops, IsBehind, part_of}
+use Rattle.al_yaml_parts.specs.BlockReads.{IsKeyBehind, IsTabInside, key_seen, slot_of}
+use Rattle.al_yaml_parts.specs.Answers.{Answer, Mark, answered, noting}
+use Rattle.al_yaml_parts.specs.Answers.{mark_of}
+use Rattle.al_yaml_parts.specs.Places.{next_of, IsLineFrom}
+use Rattle.al_yaml_parts.specs.Reads.{State, run, Stops, IsBehind, part_of}
 use Rattle.al_yaml_tree.specs.View.{view, entry_view, nodes_of, entries_of}
 use Rattle.al_yaml_parts.specs.declared.faults.ReadError.{ReadError}
 use Rattle.al_yaml_parts.specs.declared.part.Part as code

@@ -11,11 +11,11 @@ use Rattle.al_yaml_tree.specs.Flow.{CollectionReader}
 use Rattle.al_yaml_tree.specs.Flow as flow
 use Rattle.al_yaml.specs.Private.Frames as frames
 use Rattle.al_yaml.specs.Private.Frames.{open_rest, waiting_rest}
-use Rattle.al_yaml_parts.specs.Private.Answers.{Answer, answered, noting}
-use Rattle.al_yaml_parts.specs.Private.Reads.{State, run, Stops}
+use Rattle.al_yaml_parts.specs.Answers.{Answer, answered, noting}
+use Rattle.al_yaml_parts.specs.Reads.{State, run, Stops}
 use Rattle.al_yaml_tree.specs.View.{view, entry_view, nodes_of, entries_of}
-use Rattle.al_yaml_parts.specs.Private.FlowReads.{IsBracket}
-use Rattle.al_yaml_parts.specs.Private.Answers.{mark_of}
+use Rattle.al_yaml_parts.specs.FlowReads.{IsBracket}
+use Rattle.al_yaml_parts.specs.Answers.{mark_of}
 use Rattle.al_yaml_parts.specs.declared.faults.ReadError.{ReadError}
 use Rattle.al_yaml_parts.specs.declared.frames.Open.{Open}
 use Rattle.al_yaml_parts.specs.declared.frames.Open.TheVariants as open_code

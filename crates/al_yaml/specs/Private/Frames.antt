@@ -6,7 +6,7 @@ use Rattle.al_scalar.specs.Scalar.{ScalarRead}
 use Rattle.al_yaml_tree.specs.Node.{Node, Nodes, Entries, sequence, mapping, with_item, with_entry, scalar_node}
 use Rattle.al_yaml_tree.specs.Reading.{Reading, fails, Part, spanned}
 use Rattle.al_yaml_tree.specs.Flow.{CollectionReader, flow_items, flow_items_rest, flow_entries, flow_entries_rest, flow_node_over}
-use Rattle.al_yaml_parts.specs.Private.Answers.{Mark}
+use Rattle.al_yaml_parts.specs.Answers.{Mark}
 
 -- What was read of an open flow collection, up to an item, an entry or the closer.
 pub data Open : Type 0 where

@@ -3,7 +3,7 @@ use Rattle.std.specs.List.{flat_map}
 use Rattle.al_check_calls.specs.Private.AnswerViews.{answered_of}
 use Rattle.al_check_calls.specs.Private.Comparing.{faults_but_names}
 use Rattle.al_check_contexts.specs.Answered.{known_of}
-use Rattle.al_check_contexts.specs.Private.Standing.{Stands}
+use Rattle.al_check_contexts.specs.Standing.{Stands}
 use Rattle.al_check_calls.specs.FileCalls.{typing}
 use Rattle.al_yaml_tree.specs.View.{view}
 use Rattle.al_check_calls.proofs.faults.check_each.Given as goal

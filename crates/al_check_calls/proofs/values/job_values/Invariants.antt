@@ -2,7 +2,7 @@ use Rattle.std.proofs.Common.{◌≡◌, map, take, true}
 use Rattle.al_check_calls.specs.Private.AnswerViews.{are_values_known, given_at}
 use Rattle.al_check_calls.specs.CallFaults.{values_of}
 use Rattle.al_check_contexts.specs.Answered.{known_of}
-use Rattle.al_check_contexts.specs.Private.Standing.{Stands}
+use Rattle.al_check_contexts.specs.Standing.{Stands}
 use Rattle.al_check_calls.specs.FileCalls.{type_in_job}
 use Rattle.al_tree.specs.Values.{member_of}
 use Rattle.al_yaml_tree.specs.View.{view}

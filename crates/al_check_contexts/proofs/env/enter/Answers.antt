@@ -1,8 +1,8 @@
 use Rattle.std.proofs.Common.{subst}
 use Rattle.al_check_places.specs.Positions.{before, section_view}
 use Rattle.al_yaml_tree.specs.View.{view}
-use Rattle.al_check_contexts.specs.Private.Lookups.{known_by}
-use Rattle.al_check_contexts.specs.Private.Steps.{AreStepsOf}
+use Rattle.al_check_contexts.specs.Lookups.{known_by}
+use Rattle.al_check_contexts.specs.Steps.{AreStepsOf}
 use Rattle.al_check_contexts.proofs.TableLemmas.{owner_of_action, shows_of_action}
 use Rattle.al_check_contexts.proofs.env.enter.Goals as goal
 

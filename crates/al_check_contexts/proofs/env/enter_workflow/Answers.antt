@@ -3,12 +3,12 @@ use Rattle.al_base.proofs.Growing.{begins_trans}
 use Rattle.al_check_places.specs.Positions.{before, section_view}
 use Rattle.al_check_contexts.specs.Contexts.{job_among}
 use Rattle.al_check_contexts.specs.Fixed.{strategy_type}
-use Rattle.al_check_contexts.specs.Private.Environment.{owner_of}
+use Rattle.al_check_contexts.specs.Environment.{owner_of}
 use Rattle.al_tree.specs.Values.{member_of}
 use Rattle.al_yaml_tree.specs.View.{view}
 use Rattle.al_expr_types.specs.Tables.{objects_of}
-use Rattle.al_check_contexts.specs.Private.Lookups.{known_by, step_at}
-use Rattle.al_check_contexts.specs.Private.Steps.{AreStepsOf}
+use Rattle.al_check_contexts.specs.Lookups.{known_by, step_at}
+use Rattle.al_check_contexts.specs.Steps.{AreStepsOf}
 use Rattle.al_check_contexts.proofs.JobLemmas.{keeps_jobs_stay}
 use Rattle.al_check_contexts.proofs.Numbers.{keeps_stays, means_stays}
 use Rattle.al_check_contexts.proofs.TableLemmas.{owner_of_workflow, section_changed, section_stays}

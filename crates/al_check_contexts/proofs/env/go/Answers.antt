@@ -3,8 +3,8 @@ use Rattle.al_base.proofs.Growing.{begins_trans}
 use Rattle.al_check_places.specs.Positions.{section_view, seen_view}
 use Rattle.al_yaml_tree.specs.View.{view}
 use Rattle.al_expr_types.specs.Tables.{objects_of}
-use Rattle.al_check_contexts.specs.Private.Lookups.{known_by}
-use Rattle.al_check_contexts.specs.Private.Table.{Shows, table}
+use Rattle.al_check_contexts.specs.Lookups.{known_by}
+use Rattle.al_check_contexts.specs.Table.{Shows, table}
 use Rattle.al_check_contexts.proofs.env.go.Goals as goal
 
 pub returns-clause-shows : goal.returns-clause-shows

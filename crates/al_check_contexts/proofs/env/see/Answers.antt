@@ -1,10 +1,10 @@
 use Rattle.std.proofs.Common.{map}
 use Rattle.al_check_places.specs.Positions.{before, section_view, seen_view}
 use Rattle.al_check_contexts.specs.Fixed.{strategy_type}
-use Rattle.al_check_contexts.specs.Private.Environment.{owner_in}
+use Rattle.al_check_contexts.specs.Environment.{owner_in}
 use Rattle.al_tree.specs.Values.{member_of}
 use Rattle.al_yaml_tree.specs.View.{view}
-use Rattle.al_check_contexts.specs.Private.Lookups.{known_by, step_at}
+use Rattle.al_check_contexts.specs.Lookups.{known_by, step_at}
 use Rattle.al_check_contexts.proofs.JobLemmas.{keeps_jobs_stay}
 use Rattle.al_check_contexts.proofs.Numbers.{keeps_stays, means_stays}
 use Rattle.al_check_contexts.proofs.TableLemmas.{same_seen, steps_changed}

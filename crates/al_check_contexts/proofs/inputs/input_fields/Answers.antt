@@ -5,7 +5,7 @@ use Rattle.al_check_contexts.specs.Inputs.{input_type, input_field}
 use Rattle.al_tree_declarations.specs.Inputs.{input_of}
 use Rattle.al_yaml_tree.specs.View.{view}
 use Rattle.al_types.specs.Puts.{firsts, put_all, put_new}
-use Rattle.al_check_contexts.specs.Private.Numbers.{Lists}
+use Rattle.al_check_contexts.specs.Numbers.{Lists}
 use Rattle.al_check_contexts.proofs.FieldLists.{put_next}
 use Rattle.al_check_contexts.proofs.Numbers.{means_as}
 use Rattle.al_check_contexts.proofs.inputs.input_fields.Goals as goal

@@ -3,7 +3,7 @@ use Rattle.al_expr_types.specs.declared.types.Types.{Types}
 use Rattle.al_tree.specs.Values.{member_of}
 use Rattle.al_types.specs.Puts.{put_all, put_new}
 use Rattle.al_check_contexts.specs.Inputs.{input_field}
-use Rattle.al_check_contexts.specs.Private.Numbers.{Lists}
+use Rattle.al_check_contexts.specs.Numbers.{Lists}
 use Rattle.al_check_contexts.proofs.inputs.input_fields.Given as goal
 
 abbrev pub invariant-loop-input : goal.invariant-loop-input

@@ -2,7 +2,7 @@ use Rattle.std.proofs.Common.{◌∙◌, ap}
 use Rattle.al_base.proofs.Growing.{begins_trans}
 use Rattle.al_expr_types.specs.Tables.{objects_of}
 use Rattle.al_check_contexts.specs.Contexts.{call_outputs}
-use Rattle.al_check_contexts.specs.Private.Lookups.{shown_with, called_at}
+use Rattle.al_check_contexts.specs.Lookups.{shown_with, called_at}
 use Rattle.al_check_contexts.proofs.Numbers.{keeps_stays, means_as}
 use Rattle.al_check_contexts.proofs.jobs.called_type.Goals as goal
 

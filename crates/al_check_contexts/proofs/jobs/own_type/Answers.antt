@@ -4,7 +4,7 @@ use Rattle.al_tree.specs.Values.{member_of}
 use Rattle.al_tree_declarations.specs.Declarations.{names_of}
 use Rattle.al_types.specs.Strings.{named_strings}
 use Rattle.al_expr_types.specs.Tables.{objects_of}
-use Rattle.al_check_contexts.specs.Private.Lookups.{shown_with}
+use Rattle.al_check_contexts.specs.Lookups.{shown_with}
 use Rattle.al_check_contexts.proofs.Numbers.{means_as}
 use Rattle.al_check_contexts.proofs.jobs.own_type.Goals as goal
 

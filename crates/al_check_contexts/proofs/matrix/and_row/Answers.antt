@@ -5,7 +5,7 @@ use Rattle.al_tree.specs.Values.{member_of}
 use Rattle.al_types.specs.Puts.{put_all, put_new}
 use Rattle.al_check_contexts.specs.Matrix.{row_type}
 use Rattle.al_yaml_tree.specs.View.{view}
-use Rattle.al_check_contexts.specs.Private.Numbers.{Lists}
+use Rattle.al_check_contexts.specs.Numbers.{Lists}
 use Rattle.al_check_contexts.proofs.Numbers.{lists_stay}
 use Rattle.al_check_contexts.proofs.Values.{no_row, one_row}
 use Rattle.al_check_contexts.proofs.matrix.and_row.Goals as goal

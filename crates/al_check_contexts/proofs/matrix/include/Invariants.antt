@@ -7,7 +7,7 @@ use Rattle.al_expr_types.specs.Joining.{is_join_below, join_in}
 use Rattle.al_expr_types.specs.Tables.{objects_of}
 use Rattle.al_check_contexts.specs.Matrix.{include_all}
 use Rattle.al_check_contexts.specs.Objects.{strictly}
-use Rattle.al_check_contexts.specs.Private.Numbers.{Means}
+use Rattle.al_check_contexts.specs.Numbers.{Means}
 use Rattle.al_check_contexts.proofs.matrix.include.Given as goal
 
 abbrev pub invariant-loop-node : goal.invariant-loop-node

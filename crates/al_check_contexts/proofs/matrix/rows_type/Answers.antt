@@ -7,7 +7,7 @@ use Rattle.al_types.specs.Puts.{firsts}
 use Rattle.al_expr_types.specs.Tables.{objects_of}
 use Rattle.al_check_contexts.specs.Matrix.{row_field}
 use Rattle.al_check_contexts.specs.Objects.{strictly}
-use Rattle.al_check_contexts.specs.Private.Numbers.{Lists}
+use Rattle.al_check_contexts.specs.Numbers.{Lists}
 use Rattle.al_check_contexts.proofs.FieldLists.{put_if_next}
 use Rattle.al_check_contexts.proofs.Numbers.{means_as}
 use Rattle.al_check_contexts.proofs.matrix.rows_type.Goals as goal

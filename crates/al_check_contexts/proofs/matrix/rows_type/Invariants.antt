@@ -5,7 +5,7 @@ use Rattle.al_tree.specs.Values.{member_of}
 use Rattle.al_types.specs.Puts.{put_all, put_new}
 use Rattle.al_expr_types.specs.Tables.{objects_of}
 use Rattle.al_check_contexts.specs.Matrix.{row_field}
-use Rattle.al_check_contexts.specs.Private.Numbers.{Lists}
+use Rattle.al_check_contexts.specs.Numbers.{Lists}
 use Rattle.al_check_contexts.proofs.matrix.rows_type.Given as goal
 
 abbrev pub invariant-loop-entry : goal.invariant-loop-entry

@@ -1,8 +1,8 @@
 use Rattle.std.proofs.Common.{subst, sym}
 use Rattle.std.specs.Prelude.{option_map}
 use Rattle.al_check_contexts.specs.Private.Owners.{owner_view}
-use Rattle.al_check_contexts.specs.Private.Steps.{AreStepsOf}
-use Rattle.al_check_contexts.specs.Private.Made.{known_from}
+use Rattle.al_check_contexts.specs.Steps.{AreStepsOf}
+use Rattle.al_check_contexts.specs.Made.{known_from}
 use Rattle.al_check_contexts.proofs.sections.owned_steps.Goals as goal
 
 pub returns-in_ok-steps-in-None-clause-steps : goal.returns-in_ok-steps-in-None-clause-steps

@@ -1,7 +1,7 @@
 use Rattle.std.proofs.Common.{◌∙◌, ap, option_map, subst}
-use Rattle.al_check_contexts.specs.Private.Environment.{owner_of}
-use Rattle.al_check_contexts.specs.Private.Made.{known_from}
-use Rattle.al_check_contexts.specs.Private.Steps.{AreStepsOf}
+use Rattle.al_check_contexts.specs.Environment.{owner_of}
+use Rattle.al_check_contexts.specs.Made.{known_from}
+use Rattle.al_check_contexts.specs.Steps.{AreStepsOf}
 use Rattle.al_check_contexts.proofs.sections.section_steps.Goals as goal
 
 pub returns-clause-steps : goal.returns-clause-steps

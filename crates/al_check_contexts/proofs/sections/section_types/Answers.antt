@@ -4,7 +4,7 @@ use Rattle.al_expr_types.specs.Tables.{objects_of}
 use Rattle.al_check_contexts.specs.Contexts.{needs_type_of, type_in_job}
 use Rattle.al_check_contexts.specs.Fixed.{strategy_type}
 use Rattle.al_check_contexts.specs.Matrix.{matrix_type}
-use Rattle.al_check_contexts.specs.Private.Made.{jobs_from, known_from}
+use Rattle.al_check_contexts.specs.Made.{jobs_from, known_from}
 use Rattle.al_check_contexts.proofs.JobLemmas.{keeps_jobs_stay}
 use Rattle.al_check_contexts.proofs.Numbers.{means_as, means_stays}
 use Rattle.al_check_contexts.proofs.sections.section_types.Goals as goal

@@ -4,8 +4,8 @@ use Rattle.al_scalar.specs.Scalar.{text_of}
 use Rattle.al_tree.specs.Values.{scalar_node_of}
 use Rattle.al_types.specs.Puts.{put_all, put_new}
 use Rattle.al_check_contexts.specs.Contexts.{step_type}
-use Rattle.al_check_contexts.specs.Private.Made.{known_from}
-use Rattle.al_check_contexts.specs.Private.Numbers.{Lists}
+use Rattle.al_check_contexts.specs.Made.{known_from}
+use Rattle.al_check_contexts.specs.Numbers.{Lists}
 use Rattle.al_check_contexts.proofs.Numbers.{lists_stay, means_as}
 use Rattle.al_check_contexts.proofs.steps.and_step.Goals as goal
 

@@ -2,8 +2,8 @@ use Rattle.std.proofs.Common.{◌∙◌, ap}
 use Rattle.al_base.proofs.Growing.{begins_trans}
 use Rattle.al_expr_types.specs.Tables.{objects_of}
 use Rattle.al_check_contexts.specs.Contexts.{step_outputs}
-use Rattle.al_check_contexts.specs.Private.Steps.{step_with}
-use Rattle.al_check_contexts.specs.Private.Lookups.{step_at}
+use Rattle.al_check_contexts.specs.Steps.{step_with}
+use Rattle.al_check_contexts.specs.Lookups.{step_at}
 use Rattle.al_check_contexts.proofs.Numbers.{keeps_stays, means_as}
 use Rattle.al_check_contexts.proofs.steps.step_type.Goals as goal
 

@@ -2,7 +2,7 @@ use Rattle.std.proofs.Common.{◌≡◌, ◌++◌, drop, map}
 use Rattle.std.specs.List.{flat_map}
 use Rattle.al_base.specs.Growth.{BeginsWith}
 use Rattle.al_check_contexts.specs.Answered.{known_of}
-use Rattle.al_check_contexts.specs.Private.Standing.{Stands}
+use Rattle.al_check_contexts.specs.Standing.{Stands}
 use Rattle.al_check_places.specs.Places.{place_of}
 use Rattle.al_expr_types.specs.Tables.{objects_of}
 use Rattle.al_yaml_tree.specs.View.{view}

@@ -9,7 +9,7 @@ use Rattle.al_expr_grammar.specs.Tree.{Tree}
 use Rattle.al_expr_grammar.specs.Lexeme.{lexeme}
 use Rattle.al_expr_grammar.specs.Grammar.{IsTreeOf, Derives, Binary}
 use Rattle.al_expr_grammar.specs.Table.{O}
-use Rattle.al_expr_grammar.specs.Private.Parsed.{EndsLevel}
+use Rattle.al_expr_grammar.specs.Parsed.{EndsLevel}
 use Rattle.al_expr_grammar.proofs.Total.{Outcome, read, refused, all}
 use Rattle.al_expr_grammar.proofs.law.grammar.Goals as goal
 

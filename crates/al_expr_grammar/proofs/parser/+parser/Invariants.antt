@@ -1,6 +1,6 @@
 use Rattle.std.proofs.Common.{◌≡◌, ◌+◌, ◌-◌, ◌*◌, length, map}
 use Rattle.al_expr_grammar.specs.Lexeme.{seen, kinds}
-use Rattle.al_expr_grammar.specs.Private.Parsed.{PartOfChain, PartOfPath, Stops, ArgumentsPart}
+use Rattle.al_expr_grammar.specs.Parsed.{PartOfChain, PartOfPath, Stops, ArgumentsPart}
 use Rattle.al_expr_grammar.specs.View.{tree_of, step_of, operand_of}
 use Rattle.al_expr_grammar.specs.Grammar.{below}
 use Rattle.al_expr_grammar.proofs.parser.+parser.Given as goal

@@ -3,7 +3,7 @@ use Rattle.std.proofs.lemmas.List.{map-set}
 use Rattle.std.proofs.Math.ListN.{get_or-map}
 use Rattle.al_base.proofs.NamePlaces.{found_within}
 use Rattle.al_types.specs.FusedFields.{are_distinct}
-use Rattle.al_types.specs.Private.Indexes.{name_at, named_as}
+use Rattle.al_types.specs.Indexes.{name_at, named_as}
 use Rattle.al_types.specs.Puts.{Typed}
 use Rattle.al_types.specs.Fused.{fuse_parts}
 use Rattle.al_types.specs.Types.{Absent, Parts, fields_of, fuse_type, object_type, parts_with}

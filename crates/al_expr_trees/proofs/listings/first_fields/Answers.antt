@@ -1,6 +1,6 @@
 use Rattle.std.proofs.Common.{◌≡◌, ◌∷◌, ◌++◌, [], List, ◌∙◌, ap, map, sym, take}
 use Rattle.std.proofs.lemmas.List.{map-append}
-use Rattle.al_types.specs.Private.Indexes.{name_at}
+use Rattle.al_types.specs.Indexes.{name_at}
 use Rattle.al_types.specs.Puts.{Typed, firsts}
 use Rattle.al_expr_trees.specs.Trees.{field_of}
 use Rattle.al_expr_trees.proofs.Added.{mapped_more}

@@ -1,6 +1,6 @@
 use Rattle.std.proofs.Common.{◌≡◌, ◌∙◌, sym}
 use Rattle.al_base.specs.Names.{same_name}
-use Rattle.al_types.specs.Private.Indexes.{named_as}
+use Rattle.al_types.specs.Indexes.{named_as}
 use Rattle.al_expr_trees.specs.Trees.{field_of}
 use Rattle.al_expr_trees.proofs.Positions.{found_here, missed_here}
 use Rattle.al_expr_trees.proofs.listings.position.Goals as goal

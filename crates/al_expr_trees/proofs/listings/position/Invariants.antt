@@ -1,5 +1,5 @@
 use Rattle.std.proofs.Common.{◌≡◌, None, map, take}
-use Rattle.al_types.specs.Private.Indexes.{name_at}
+use Rattle.al_types.specs.Indexes.{name_at}
 use Rattle.al_expr_trees.specs.Trees.{field_of}
 use Rattle.al_expr_trees.proofs.listings.position.Given as goal
 

@@ -1,5 +1,5 @@
 use Rattle.std.proofs.Common.{◌∙◌, ap, sym, not}
-use Rattle.al_types.specs.Private.TypeParts.{string_unless}
+use Rattle.al_types.specs.TypeParts.{string_unless}
 use Rattle.al_expr_types.specs.Parts.{part_in}
 use Rattle.al_expr_types.specs.Types.{strings_parts}
 use Rattle.al_expr_types.proofs.Gathering.{all_strings, named_string}

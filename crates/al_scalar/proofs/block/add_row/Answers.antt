@@ -1,6 +1,6 @@
 use Rattle.std.proofs.Common.{◌∙◌, ◌++◌, ◌∷◌, ◌<◌, [], ap, sym, arith, slice_index, Some}
 use Rattle.al_scalar.specs.Block.{joint, text_after}
-use Rattle.al_scalar.specs.Private.Places.{cells_between}
+use Rattle.al_scalar.specs.LineEnds.{cells_between}
 use Rattle.al_scalar.specs.Private.BlockRead.{row_like, last_row}
 use Rattle.al_scalar.proofs.RowLemmas.{row-text, last_end-between, some-between, spaced-between, is_blank-of}
 use Rattle.al_scalar.proofs.block.add_row.Goals as goal

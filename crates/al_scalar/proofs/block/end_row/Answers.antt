@@ -1,6 +1,6 @@
 use Rattle.std.proofs.Common.{◌∙◌, ◌++◌, ◌<◌, [], ap, sym, arith, length, slice_index}
 use Rattle.al_scalar.specs.Block.{joint}
-use Rattle.al_scalar.specs.Private.Places.{cells_between}
+use Rattle.al_scalar.specs.LineEnds.{cells_between}
 use Rattle.al_scalar.specs.Private.BlockRead.{row_like, last_row, kind}
 use Rattle.al_scalar.proofs.RowLemmas.{row-final, last_end-between, some-between, spaced-between, is_blank-of}
 use Rattle.al_scalar.proofs.block.end_row.Goals as goal

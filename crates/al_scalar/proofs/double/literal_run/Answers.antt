@@ -1,5 +1,5 @@
 use Rattle.std.proofs.Common.{◌+◌, arith, refl}
-use Rattle.al_scalar.specs.Private.Places.{cells_between}
+use Rattle.al_scalar.specs.LineEnds.{cells_between}
 use Rattle.al_scalar.proofs.SingleLemmas.{is_inside, never}
 use Rattle.al_scalar.proofs.LiteralLemmas.{reads-blanks, reads-run, reads-byte, reads-end, reads-more}
 use Rattle.al_scalar.proofs.double.literal_run.Goals as goal

@@ -1,5 +1,5 @@
 use Rattle.std.proofs.Common.{arith}
-use Rattle.al_scalar.specs.Private.Places.{cells_between}
+use Rattle.al_scalar.specs.LineEnds.{cells_between}
 use Rattle.al_scalar.specs.Quoted.{written}
 use Rattle.al_scalar.proofs.ReadDoubleLemmas.{read_more, read_break}
 use Rattle.al_scalar.proofs.double.read_double.Goals as goal

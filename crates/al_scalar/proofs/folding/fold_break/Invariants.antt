@@ -1,7 +1,7 @@
 use Rattle.std.proofs.Common.{length, ◌-◌, ◌≡◌, ◌≤◌, ◌<◌, ◌++◌}
 use Rattle.al_base.specs.Growth.{BeginsWith}
 use Rattle.al_scalar.specs.Places.{lines_at}
-use Rattle.al_scalar.specs.Private.Places.{later}
+use Rattle.al_scalar.specs.LineEnds.{later}
 use Rattle.al_scalar.specs.Private.PlainLines.{empty_ends, break_left}
 use Rattle.al_scalar.specs.Private.Folding.{solid_lines}
 use Rattle.al_scalar.proofs.folding.fold_break.Given as goal

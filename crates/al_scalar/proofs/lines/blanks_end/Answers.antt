@@ -1,5 +1,5 @@
 use Rattle.std.proofs.Common.{refl, arith, slice_index}
-use Rattle.al_scalar.specs.Private.Places.{IsBlankByte}
+use Rattle.al_scalar.specs.LineEnds.{IsBlankByte}
 use Rattle.al_scalar.proofs.LineLemmas.{cells_between-more, blank_run-more, AreBlank-more}
 use Rattle.al_scalar.proofs.lines.blanks_end.Goals as goal
 

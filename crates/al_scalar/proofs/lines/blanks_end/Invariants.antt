@@ -1,6 +1,6 @@
 use Rattle.std.proofs.Common.{length, ◌-◌, ◌≡◌, ◌≤◌}
 use Rattle.al_scalar.specs.Places.{lines_at}
-use Rattle.al_scalar.specs.Private.Places.{cells_between, with_cells_before, AreBlank}
+use Rattle.al_scalar.specs.LineEnds.{cells_between, with_cells_before, AreBlank}
 use Rattle.al_scalar.proofs.lines.blanks_end.Given as goal
 
 abbrev pub invariant-loop-i : goal.invariant-loop-i

@@ -1,6 +1,6 @@
 use Rattle.std.proofs.Common.{length, ◌-◌, ◌≤◌}
 use Rattle.al_scalar.specs.Places.{lines_at}
-use Rattle.al_scalar.specs.Private.Places.{cells_between}
+use Rattle.al_scalar.specs.LineEnds.{cells_between}
 use Rattle.al_scalar.proofs.SingleLemmas.{RunBefore}
 use Rattle.al_scalar.proofs.lines.line_end.Given as goal
 

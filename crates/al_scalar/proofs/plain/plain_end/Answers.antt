@@ -1,7 +1,7 @@
 use Rattle.std.proofs.Common.{◌∙◌, ap, sym, arith}
 use Rattle.al_scalar.specs.Plain.{ends_plain}
 use Rattle.al_scalar.specs.Places.{text_at}
-use Rattle.al_scalar.specs.Private.Places.{cells_between, IsLineEnd}
+use Rattle.al_scalar.specs.LineEnds.{cells_between, IsLineEnd}
 use Rattle.al_scalar.specs.Private.PlainLines.{context_of}
 use Rattle.al_scalar.proofs.SingleLemmas.{run_at, cell_at, same_then, is_inside, never}
 use Rattle.al_scalar.proofs.PlainLemmas.{part_done, part_more, part_word, same_word, ends-end}

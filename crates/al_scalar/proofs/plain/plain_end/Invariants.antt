@@ -1,7 +1,7 @@
 use Rattle.std.proofs.Common.{length, ◌-◌, ◌≡◌, ◌≤◌}
 use Rattle.al_scalar.specs.Plain.{plain_part}
 use Rattle.al_scalar.specs.Places.{lines_at, text_at}
-use Rattle.al_scalar.specs.Private.Places.{cells_between, SameLine}
+use Rattle.al_scalar.specs.LineEnds.{cells_between, SameLine}
 use Rattle.al_scalar.specs.Private.PlainLines.{context_of}
 use Rattle.al_scalar.proofs.PlainLemmas.{in_front}
 use Rattle.al_scalar.proofs.plain.plain_end.Given as goal

@@ -1,6 +1,6 @@
 use Rattle.std.proofs.Common.{arith}
 use Rattle.al_scalar.specs.Places.{lines_at}
-use Rattle.al_scalar.specs.Private.Places.{cells_between}
+use Rattle.al_scalar.specs.LineEnds.{cells_between}
 use Rattle.al_scalar.specs.Private.PlainLines.{context_of, empty_ends, here_at}
 use Rattle.al_scalar.proofs.SingleLemmas.{run_at, same_then, never}
 use Rattle.al_scalar.proofs.PlainReadLemmas.{solid_text, read_first, read_done, found_at, read_stopped, read_more, read_key}

@@ -1,5 +1,5 @@
 use Rattle.std.proofs.Common.{◌∙◌, ◌+◌, ◌++◌, ◌∷◌, [], refl, ap, sym, arith, append-nil, slice_index}
-use Rattle.al_scalar.specs.Private.Places.{cells_between}
+use Rattle.al_scalar.specs.LineEnds.{cells_between}
 use Rattle.al_scalar.specs.Quoted.{QuotedLine}
 use Rattle.al_scalar.specs.Private.Single.{part_at}
 use Rattle.al_scalar.proofs.SingleLemmas.{run_at, text-line_end, part-broken, goes-byte, goes-pair, stops-quote, same-quote, kept-text, done-text, same_then, is_inside, never}

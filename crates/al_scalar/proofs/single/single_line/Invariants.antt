@@ -1,6 +1,6 @@
 use Rattle.std.proofs.Common.{length, ◌-◌, ◌≡◌, ◌≤◌, ◌++◌}
 use Rattle.al_scalar.specs.Places.{lines_at}
-use Rattle.al_scalar.specs.Private.Places.{SameLine}
+use Rattle.al_scalar.specs.LineEnds.{SameLine}
 use Rattle.al_scalar.specs.Private.Single.{part_at}
 use Rattle.al_scalar.proofs.single.single_line.Given as goal
 

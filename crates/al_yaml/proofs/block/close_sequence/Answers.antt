@@ -3,8 +3,8 @@ use Rattle.al_scalar.specs.Places.{lines_at}
 use Rattle.al_scalar.specs.Scalar.{span}
 use Rattle.al_yaml_tree.specs.Node as tree
 use Rattle.al_yaml_tree.specs.View.{view, nodes_of}
-use Rattle.al_yaml_parts.specs.Private.Answers.{mark_of, noting}
-use Rattle.al_yaml_parts.specs.Private.Reads.{state_of}
+use Rattle.al_yaml_parts.specs.Answers.{mark_of, noting}
+use Rattle.al_yaml_parts.specs.Reads.{state_of}
 use Rattle.al_yaml_parts.proofs.NoteLemmas.{noted-part}
 use Rattle.al_yaml_parts.proofs.ReadLemmas.{nodes_of-more, same_part}
 use Rattle.al_yaml.proofs.block.close_sequence.Goals as goal

@@ -3,11 +3,11 @@ use Rattle.std.proofs.lemmas.Result.{err_from_is_err_and}
 use Rattle.al_scalar.specs.Places.{lines_at}
 use Rattle.al_yaml_tree.specs.Blocks.{block_node, is_behind_key, rest_node}
 use Rattle.al_yaml.specs.Private.BlockFrames.{node_reader}
-use Rattle.al_yaml_parts.specs.Private.BlockReads.{slot_of}
-use Rattle.al_yaml_parts.specs.Private.Answers.{completing}
+use Rattle.al_yaml_parts.specs.BlockReads.{slot_of}
+use Rattle.al_yaml_parts.specs.Answers.{completing}
 use Rattle.al_yaml_tree.specs.Keys.{is_on_key}
-use Rattle.al_yaml_parts.specs.Private.Places.{fault_of}
-use Rattle.al_yaml_parts.specs.Private.Reads.{run, part_of, state_of}
+use Rattle.al_yaml_parts.specs.Places.{fault_of}
+use Rattle.al_yaml_parts.specs.Reads.{run, part_of, state_of}
 use Rattle.al_yaml_parts.specs.Stacks.{depth_in}
 use Rattle.al_yaml_parts.proofs.ReadLemmas.{stops-from}
 use Rattle.al_yaml.proofs.BlockNodeLemmas.{alias-ok, alias-stops, alias-wrong, block-anchor, block-on_key, block-unnamed, content_reader, no-anchor, off-key, off-line, on-key, second-stops}

@@ -1,11 +1,11 @@
 use Rattle.std.proofs.Common.{◌∙◌, None, suc, sym, ap, map}
 use Rattle.std.proofs.lemmas.Result.{err_from_is_err_and}
 use Rattle.al_yaml_tree.specs.Flow.{flow_node_over, flow_property}
-use Rattle.al_yaml_parts.specs.Private.Files.{left_at}
-use Rattle.al_yaml_parts.specs.Private.FlowReads.{flow_slot}
+use Rattle.al_yaml_parts.specs.Files.{left_at}
+use Rattle.al_yaml_parts.specs.FlowReads.{flow_slot}
 use Rattle.al_yaml.specs.Private.Frames.{open_rest, waiting_rest, item, items}
-use Rattle.al_yaml_parts.specs.Private.Answers.{answered}
-use Rattle.al_yaml_parts.specs.Private.Reads.{part_of, run, state_of}
+use Rattle.al_yaml_parts.specs.Answers.{answered}
+use Rattle.al_yaml_parts.specs.Reads.{part_of, run, state_of}
 use Rattle.al_yaml_tree.specs.View.{view, nodes_of}
 use Rattle.al_yaml_parts.proofs.FlowNodeLemmas.{node-property}
 use Rattle.al_yaml.proofs.FlowStepLemmas.{item-stop, item-answer, put-behind}

@@ -1,6 +1,6 @@
 use Rattle.std.proofs.Common.{◌-◌, ◌++◌, ◌≡◌, ◌≤◌, length}
 use Rattle.al_scalar.specs.Places.{lines_at, text_at}
-use Rattle.al_scalar.specs.Private.Places.{cells_between, with_cells_before}
+use Rattle.al_scalar.specs.LineEnds.{cells_between, with_cells_before}
 use Rattle.al_yaml_tree.specs.Content.{anchor_cells}
 use Rattle.al_yaml_parts.proofs.anchors.name_end.Given as goal
 

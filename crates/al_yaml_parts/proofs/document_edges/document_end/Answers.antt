@@ -1,6 +1,6 @@
 use Rattle.std.proofs.Common.{Result, subst, sym, arith}
 use Rattle.al_scalar.specs.Taken.{Fault}
-use Rattle.al_yaml_parts.specs.Private.Places.{Shows}
+use Rattle.al_yaml_parts.specs.Places.{Shows}
 use Rattle.al_yaml_parts.proofs.DocumentLemmas.{end-file_end, end-here}
 use Rattle.al_yaml_parts.proofs.document_edges.document_end.Goals as goal
 

@@ -2,7 +2,7 @@ use Rattle.std.proofs.Common.{List, Result, subst, sym, arith}
 use Rattle.al_scalar.specs.Line.{Line}
 use Rattle.al_scalar.specs.Places.{lines_at}
 use Rattle.al_scalar.specs.Taken.{Fault}
-use Rattle.al_yaml_parts.specs.Private.Places.{Shows}
+use Rattle.al_yaml_parts.specs.Places.{Shows}
 use Rattle.al_yaml_parts.proofs.DocumentLemmas.{start-file_end, start-here}
 use Rattle.al_yaml_parts.proofs.document_edges.document_start.Goals as goal
 

@@ -1,5 +1,5 @@
 use Rattle.std.proofs.lemmas.Result.{err_from_is_err_and}
-use Rattle.al_yaml_parts.specs.Private.Reads.{state_of}
+use Rattle.al_yaml_parts.specs.Reads.{state_of}
 use Rattle.al_yaml_tree.specs.View.{view}
 use Rattle.al_yaml_parts.proofs.AliasLemmas.{alias-stops, alias-part}
 use Rattle.al_yaml_parts.proofs.flow_nodes.read_alias.Goals as goal

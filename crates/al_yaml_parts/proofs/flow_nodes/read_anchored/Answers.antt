@@ -2,8 +2,8 @@ use Rattle.std.proofs.Common.{ap, ◌∙◌, arith}
 use Rattle.std.proofs.lemmas.Result.{err_from_is_err_and}
 use Rattle.al_scalar.specs.Places.{lines_at}
 use Rattle.al_yaml_tree.specs.Flow.{empty_node, flow_content, flow_value}
-use Rattle.al_yaml_parts.specs.Private.FlowReads.{flow_slot}
-use Rattle.al_yaml_parts.specs.Private.Reads.{run, state_of}
+use Rattle.al_yaml_parts.specs.FlowReads.{flow_slot}
+use Rattle.al_yaml_parts.specs.Reads.{run, state_of}
 use Rattle.al_yaml_parts.proofs.ReadLemmas.{stops-same}
 use Rattle.al_yaml_parts.proofs.FlowNodeLemmas.{due-open, due-refused, due-empty, due-node, content-fault, content-property}
 use Rattle.al_yaml_parts.proofs.FlowNodeLemmas.{finds-same}

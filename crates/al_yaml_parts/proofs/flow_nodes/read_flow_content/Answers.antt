@@ -1,7 +1,7 @@
 use Rattle.std.proofs.Common.{ap}
 use Rattle.std.proofs.lemmas.Result.{err_from_is_err_and}
 use Rattle.al_scalar.specs.Places.{text_at}
-use Rattle.al_yaml_parts.specs.Private.Reads.{run, state_of}
+use Rattle.al_yaml_parts.specs.Reads.{run, state_of}
 use Rattle.al_yaml_parts.proofs.FlowNodeLemmas.{right-bracket, content-collection}
 use Rattle.al_yaml_parts.proofs.flow_nodes.read_flow_content.Goals as goal
 

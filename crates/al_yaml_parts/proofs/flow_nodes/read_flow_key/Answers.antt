@@ -1,7 +1,7 @@
 use Rattle.std.proofs.lemmas.Result.{err_from_is_err_and}
 use Rattle.al_scalar.specs.ReadScalar.{read_of}
-use Rattle.al_yaml_parts.specs.Private.Places.{fault_of, option_lines}
-use Rattle.al_yaml_parts.specs.Private.Reads.{state_of}
+use Rattle.al_yaml_parts.specs.Places.{fault_of, option_lines}
+use Rattle.al_yaml_parts.specs.Reads.{state_of}
 use Rattle.al_yaml_parts.proofs.FlowNodeLemmas.{key-fault, key-property, key-opens, key-unread, key-wrong, key-broken, key-ok}
 use Rattle.al_yaml_parts.proofs.flow_nodes.read_flow_key.Goals as goal
 

@@ -1,7 +1,7 @@
 use Rattle.al_scalar.specs.Places.{lines_at}
 use Rattle.al_yaml_tree.specs.Flow.{flow_content, flow_node_over, flow_property}
-use Rattle.al_yaml_parts.specs.Private.FlowReads.{flow_slot}
-use Rattle.al_yaml_parts.specs.Private.Reads.{state_of}
+use Rattle.al_yaml_parts.specs.FlowReads.{flow_slot}
+use Rattle.al_yaml_parts.specs.Reads.{state_of}
 use Rattle.al_yaml_parts.proofs.FlowNodeLemmas.{node-property, node-content}
 use Rattle.al_yaml_parts.proofs.FlowNodeLemmas.{finds-same}
 use Rattle.al_yaml_parts.proofs.flow_nodes.read_flow_node.Goals as goal

@@ -2,13 +2,13 @@ use Rattle.std.proofs.Common.{ap, ◌∙◌, Some}
 use Rattle.std.proofs.lemmas.Result.{err_from_is_err_and}
 use Rattle.al_scalar.specs.Places.{lines_at}
 use Rattle.al_yaml_tree.specs.Flow.{CollectionReader, flow_content, flow_property, flow_value}
-use Rattle.al_yaml_parts.specs.Private.Answers.{completing, mark_of}
-use Rattle.al_yaml_parts.specs.Private.FlowReads.{flow_slot}
-use Rattle.al_yaml_parts.specs.Private.Reads.{alias_part}
-use Rattle.al_yaml_parts.specs.Private.Answers.{noting}
+use Rattle.al_yaml_parts.specs.Answers.{completing, mark_of}
+use Rattle.al_yaml_parts.specs.FlowReads.{flow_slot}
+use Rattle.al_yaml_parts.specs.Reads.{alias_part}
+use Rattle.al_yaml_parts.specs.Answers.{noting}
 use Rattle.al_yaml_tree.specs.Node as tree
 use Rattle.al_yaml_tree.specs.Reading.{Reading, Part, anchored}
-use Rattle.al_yaml_parts.specs.Private.Reads.{run, anchor_at, state_of}
+use Rattle.al_yaml_parts.specs.Reads.{run, anchor_at, state_of}
 use Rattle.al_yaml_parts.proofs.FlowNodeLemmas.{property-unnamed, property-alias, property-anchor}
 use Rattle.al_yaml_parts.proofs.NoteLemmas.{completing-noted, noted-part}
 use Rattle.al_yaml_parts.proofs.ReadLemmas.{stops-bind, stops-same}

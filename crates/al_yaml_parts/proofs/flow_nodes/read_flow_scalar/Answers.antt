@@ -5,8 +5,8 @@ use Rattle.al_scalar.specs.Plain.{flow}
 use Rattle.al_scalar.specs.Scalar.{scalar_at}
 use Rattle.al_yaml_tree.specs.Flow.{flow_content}
 use Rattle.al_yaml_tree.specs.Reading.{listed, start_of}
-use Rattle.al_yaml_parts.specs.Private.Reads.{run, state_of}
-use Rattle.al_yaml_parts.specs.Private.Places.{fault_of}
+use Rattle.al_yaml_parts.specs.Reads.{run, state_of}
+use Rattle.al_yaml_parts.specs.Places.{fault_of}
 use Rattle.al_yaml_parts.proofs.RunLemmas.{run-broken}
 use Rattle.al_yaml_parts.proofs.ReadLemmas.{stops-same, scalar_reading, scalar-stops, scalar-ok}
 use Rattle.al_yaml_parts.proofs.FlowNodeLemmas.{content-fault, content-scalar}

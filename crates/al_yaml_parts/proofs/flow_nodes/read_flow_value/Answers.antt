@@ -3,9 +3,9 @@ use Rattle.std.proofs.lemmas.Result.{err_from_is_err_and}
 use Rattle.al_scalar.specs.ReadScalar.{read_of}
 use Rattle.al_scalar.specs.Places.{lines_at}
 use Rattle.al_yaml_tree.specs.Flow.{FlowSlot, empty_node, flow_entry_value, flow_node_over}
-use Rattle.al_yaml_parts.specs.Private.Reads.{run, state_of}
-use Rattle.al_yaml_parts.specs.Private.FlowReads.{flow_key_of}
-use Rattle.al_yaml_parts.specs.Private.Places.{option_lines}
+use Rattle.al_yaml_parts.specs.Reads.{run, state_of}
+use Rattle.al_yaml_parts.specs.FlowReads.{flow_key_of}
+use Rattle.al_yaml_parts.specs.Places.{option_lines}
 use Rattle.al_yaml_parts.proofs.ReadLemmas.{stops-same}
 use Rattle.al_yaml_parts.proofs.FlowNodeLemmas.{value-none, value-open, value-empty, value-node}
 use Rattle.al_yaml_parts.proofs.FlowNodeLemmas.{finds-same}

@@ -1,8 +1,8 @@
 use Rattle.std.proofs.lemmas.Result.{err_from_is_err_and}
 use Rattle.al_scalar.specs.Places.{lines_at}
 use Rattle.al_scalar.specs.Scalar.{empty_at}
-use Rattle.al_yaml_parts.specs.Private.Places.{fault_of}
-use Rattle.al_yaml_parts.specs.Private.Reads.{state_of}
+use Rattle.al_yaml_parts.specs.Places.{fault_of}
+use Rattle.al_yaml_parts.specs.Reads.{state_of}
 use Rattle.al_yaml_parts.proofs.ReadLemmas.{empty-broken, empty-stops, empty-ok}
 use Rattle.al_yaml_parts.proofs.scalars.empty_part.Goals as goal
 

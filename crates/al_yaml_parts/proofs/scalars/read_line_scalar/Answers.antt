@@ -1,6 +1,6 @@
 use Rattle.std.proofs.lemmas.Result.{err_from_is_err_and}
-use Rattle.al_yaml_parts.specs.Private.Places.{fault_of}
-use Rattle.al_yaml_parts.specs.Private.Reads.{state_of}
+use Rattle.al_yaml_parts.specs.Places.{fault_of}
+use Rattle.al_yaml_parts.specs.Reads.{state_of}
 use Rattle.al_yaml_parts.proofs.LineReadLemmas.{line-broken, line-unread, line-wrong, line-ok}
 use Rattle.al_yaml_parts.proofs.scalars.read_line_scalar.Goals as goal
 

@@ -1,5 +1,5 @@
 use Rattle.std.proofs.Common.{◌≡◌, Some, subst}
-use Rattle.al_check_contexts.specs.Private.Numbers.{Means}
+use Rattle.al_check_contexts.specs.Numbers.{Means}
 use Rattle.al_check_contexts.proofs.Numbers.{set_kept}
 use Rattle.al_check_contexts.proofs.caches.TypeCache.set.Goals as goal
 

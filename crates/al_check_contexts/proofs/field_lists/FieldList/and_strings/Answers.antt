@@ -3,7 +3,7 @@ use Rattle.std.proofs.lemmas.List.{take_all}
 use Rattle.al_types.specs.Puts.{put_all, put_new}
 use Rattle.al_types.specs.Strings.{strings}
 use Rattle.al_types.specs.Types.{String}
-use Rattle.al_check_contexts.specs.Private.Numbers.{Lists}
+use Rattle.al_check_contexts.specs.Numbers.{Lists}
 use Rattle.al_check_contexts.proofs.FieldLists.{put_at}
 use Rattle.al_check_contexts.proofs.Numbers.{string_means}
 use Rattle.al_check_contexts.proofs.field_lists.FieldList.and_strings.Goals as goal

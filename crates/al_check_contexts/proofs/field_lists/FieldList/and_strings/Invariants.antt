@@ -2,7 +2,7 @@ use Rattle.std.proofs.Common.{List, map, take}
 use Rattle.al_expr_types.specs.declared.types.Types.{Types}
 use Rattle.al_types.specs.Puts.{Typed, put_all, put_new}
 use Rattle.al_types.specs.Strings.{strings}
-use Rattle.al_check_contexts.specs.Private.Numbers.{Lists}
+use Rattle.al_check_contexts.specs.Numbers.{Lists}
 use Rattle.al_check_contexts.proofs.field_lists.FieldList.and_strings.Given as goal
 
 abbrev pub invariant-loop-name : goal.invariant-loop-name

@@ -7,9 +7,9 @@ use Rattle.al_tree.specs.Values.{member_of}
 use Rattle.al_types.specs.Puts.{put_all, put_new}
 use Rattle.al_check_contexts.specs.Contexts.{job_field}
 use Rattle.al_check_contexts.specs.Private.JobPositions.{named_at}
-use Rattle.al_check_contexts.specs.Private.Lookups.{known_by}
-use Rattle.al_check_contexts.specs.Private.Made.{jobs_from, known_from}
-use Rattle.al_check_contexts.specs.Private.Numbers.{Lists}
+use Rattle.al_check_contexts.specs.Lookups.{known_by}
+use Rattle.al_check_contexts.specs.Made.{jobs_from, known_from}
+use Rattle.al_check_contexts.specs.Numbers.{Lists}
 use Rattle.al_check_contexts.proofs.JobLemmas.{needed_at, none_needed, shown_there}
 use Rattle.al_check_contexts.proofs.Numbers.{lists_stay, means_as}
 use Rattle.al_check_contexts.proofs.jobs.JobTypes.and_needed.Goals as goal

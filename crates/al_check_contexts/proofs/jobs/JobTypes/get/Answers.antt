@@ -1,7 +1,7 @@
 use Rattle.std.proofs.Common.{◌∙◌, subst, sym}
-use Rattle.al_check_contexts.specs.Private.Lookups.{shown_at}
-use Rattle.al_check_contexts.specs.Private.Made.{jobs_from}
-use Rattle.al_check_contexts.specs.Private.Numbers.{Keeps}
+use Rattle.al_check_contexts.specs.Lookups.{shown_at}
+use Rattle.al_check_contexts.specs.Made.{jobs_from}
+use Rattle.al_check_contexts.specs.Numbers.{Keeps}
 use Rattle.al_check_contexts.proofs.JobLemmas.{shown_there}
 use Rattle.al_check_contexts.proofs.Numbers.{keeps_stays, means_as, means_stays}
 use Rattle.al_check_contexts.proofs.jobs.JobTypes.get.Goals as goal

@@ -5,8 +5,8 @@ use Rattle.al_tree.specs.Values.{scalar_node_of}
 use Rattle.al_types.specs.Puts.{put_all, put_new}
 use Rattle.al_expr_types.specs.Tables.{objects_of}
 use Rattle.al_check_contexts.specs.Contexts.{needed_by}
-use Rattle.al_check_contexts.specs.Private.Made.{KeepsJobsOf, jobs_from, known_from}
-use Rattle.al_check_contexts.specs.Private.Numbers.{Lists}
+use Rattle.al_check_contexts.specs.Made.{KeepsJobsOf, jobs_from, known_from}
+use Rattle.al_check_contexts.specs.Numbers.{Lists}
 use Rattle.al_check_contexts.proofs.jobs.JobTypes.needs_type.Given as goal
 
 abbrev pub invariant-loop-name : goal.invariant-loop-name

@@ -6,9 +6,9 @@ use Rattle.al_types.specs.Puts.{firsts, put_all, put_new}
 use Rattle.al_check_contexts.specs.Contexts.{job_field}
 use Rattle.al_check_contexts.specs.Objects.{strictly}
 use Rattle.al_expr_types.specs.Tables.{objects_of}
-use Rattle.al_check_contexts.specs.Private.Lookups.{known_by}
-use Rattle.al_check_contexts.specs.Private.Made.{jobs_from, known_from}
-use Rattle.al_check_contexts.specs.Private.Numbers.{Lists}
+use Rattle.al_check_contexts.specs.Lookups.{known_by}
+use Rattle.al_check_contexts.specs.Made.{jobs_from, known_from}
+use Rattle.al_check_contexts.specs.Numbers.{Lists}
 use Rattle.al_check_contexts.proofs.FieldLists.{put_next}
 use Rattle.al_check_contexts.proofs.JobLemmas.{keeps_jobs_stay, same_there, shown_there}
 use Rattle.al_check_contexts.proofs.Numbers.{lists_stay, means_as}

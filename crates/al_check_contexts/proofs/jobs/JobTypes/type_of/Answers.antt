@@ -1,8 +1,8 @@
 use Rattle.std.proofs.Common.{◌∙◌, ap, sym}
 use Rattle.al_tree.specs.Values.{member_of}
 use Rattle.al_check_contexts.specs.Contexts.{call_outputs}
-use Rattle.al_check_contexts.specs.Private.Lookups.{called_at, known_by, shown_with}
-use Rattle.al_check_contexts.specs.Private.Made.{known_from}
+use Rattle.al_check_contexts.specs.Lookups.{called_at, known_by, shown_with}
+use Rattle.al_check_contexts.specs.Made.{known_from}
 use Rattle.al_check_contexts.proofs.JobLemmas.{shown_called, shown_own}
 use Rattle.al_check_contexts.proofs.Numbers.{keeps_stays, means_as}
 use Rattle.al_check_contexts.proofs.jobs.JobTypes.type_of.Goals as goal

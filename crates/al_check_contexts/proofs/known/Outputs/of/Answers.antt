@@ -1,7 +1,7 @@
 use Rattle.std.proofs.Common.{◌-◌, List, ℕ, None, ap, drop, get_or, length, map, arith, refl, ◌∙◌}
 use Rattle.std.proofs.Math.Seq.{drop-length}
 use Rattle.al_check_contexts.specs.Answered.{behind_of}
-use Rattle.al_check_contexts.specs.Private.Lookups.{and_found, found_at}
+use Rattle.al_check_contexts.specs.Lookups.{and_found, found_at}
 use Rattle.al_check_contexts.specs.declared.known.Answer.{Answer}
 use Rattle.al_check_contexts.proofs.Found.{found_more, none_found}
 use Rattle.al_check_contexts.proofs.known.Outputs.of.Goals as goal

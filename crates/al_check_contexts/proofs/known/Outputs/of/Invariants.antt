@@ -1,6 +1,6 @@
 use Rattle.std.proofs.Common.{◌≡◌, ◌≤◌, drop, length, map}
 use Rattle.al_check_contexts.specs.Answered.{behind_of}
-use Rattle.al_check_contexts.specs.Private.Lookups.{found_at}
+use Rattle.al_check_contexts.specs.Lookups.{found_at}
 use Rattle.al_check_contexts.proofs.Found.{found_in}
 use Rattle.al_check_contexts.proofs.known.Outputs.of.Given as goal
 

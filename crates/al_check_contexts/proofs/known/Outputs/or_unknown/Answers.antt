@@ -1,6 +1,6 @@
 use Rattle.std.proofs.Common.{◌∙◌, ap, sym}
 use Rattle.std.specs.Prelude.{option_and_then}
-use Rattle.al_check_contexts.specs.Private.Lookups.{list_at, lists_of}
+use Rattle.al_check_contexts.specs.Lookups.{list_at, lists_of}
 use Rattle.al_check_contexts.proofs.Found.{none_behind}
 use Rattle.al_check_contexts.proofs.known.Outputs.or_unknown.Goals as goal
 

@@ -1,6 +1,6 @@
 use Rattle.std.proofs.Common.{ap, sym, ◌∙◌, Some, None}
 use Rattle.std.specs.Option.{option_copied}
-use Rattle.al_check_contexts.specs.Private.Lookups.{lists_of}
+use Rattle.al_check_contexts.specs.Lookups.{lists_of}
 use Rattle.al_check_contexts.proofs.Found.{names_found, none_behind}
 use Rattle.al_check_contexts.proofs.known.Outputs.position.Goals as goal
 

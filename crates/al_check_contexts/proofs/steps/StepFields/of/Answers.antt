@@ -6,10 +6,10 @@ use Rattle.al_yaml_tree.specs.View.{view}
 use Rattle.al_check_contexts.specs.Contexts.{step_field}
 use Rattle.al_expr_types.specs.Prefixes.{HasPrefix, map_in}
 use Rattle.al_expr_types.specs.Tables.{objects_of}
-use Rattle.al_check_contexts.specs.Private.Made.{known_from}
-use Rattle.al_check_contexts.specs.Private.Numbers.{Lists, fields_in, is_map_below}
+use Rattle.al_check_contexts.specs.Made.{known_from}
+use Rattle.al_check_contexts.specs.Numbers.{Lists, fields_in, is_map_below}
 use Rattle.al_check_contexts.specs.Private.Owners.{owner_view}
-use Rattle.al_check_contexts.specs.Private.Steps.{IsCount, first_fields}
+use Rattle.al_check_contexts.specs.Steps.{IsCount, first_fields}
 use Rattle.al_check_contexts.proofs.Numbers.{list_long}
 use Rattle.al_check_contexts.proofs.StepLemmas.{counts_more, fields_next}
 use Rattle.al_check_contexts.proofs.steps.StepFields.of.Goals as goal

@@ -1,11 +1,11 @@
 use Rattle.std.proofs.Common.{◌≡◌, ◌+◌, ◌<◌, ℕ, get_or, length}
 use Rattle.al_base.specs.Growth.{BeginsWith}
 use Rattle.al_expr_types.specs.Tables.{objects_of}
-use Rattle.al_check_contexts.specs.Private.Lookups.{step_at}
-use Rattle.al_check_contexts.specs.Private.Made.{known_from}
-use Rattle.al_check_contexts.specs.Private.Numbers.{Keeps, Lists}
+use Rattle.al_check_contexts.specs.Lookups.{step_at}
+use Rattle.al_check_contexts.specs.Made.{known_from}
+use Rattle.al_check_contexts.specs.Numbers.{Keeps, Lists}
 use Rattle.al_check_contexts.specs.Private.Owners.{owner_view}
-use Rattle.al_check_contexts.specs.Private.Steps.{IsCount, first_fields}
+use Rattle.al_check_contexts.specs.Steps.{IsCount, first_fields}
 use Rattle.al_check_contexts.proofs.steps.StepFields.of.Given as goal
 
 abbrev pub invariant-loop-i : goal.invariant-loop-i

@@ -1,5 +1,5 @@
 use Rattle.std.proofs.Common.{◌≡◌, ◌∙◌, arith, sym, zero}
-use Rattle.al_types.specs.Private.TypeParts.{form_of}
+use Rattle.al_types.specs.TypeParts.{form_of}
 use Rattle.al_expr_types.specs.Types.{arrays_of, base_type}
 use Rattle.al_expr_types.proofs.ty.Ty.form.Goals as goal
 

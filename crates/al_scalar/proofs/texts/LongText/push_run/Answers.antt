@@ -1,5 +1,5 @@
 use Rattle.std.proofs.Common.{◌≡◌, ◌^◌, ◌<◌, length, slice_range, arith}
-use Rattle.al_scalar.specs.Private.Places.{cells_between}
+use Rattle.al_scalar.specs.LineEnds.{cells_between}
 use Rattle.al_scalar.proofs.RunLemmas.{run-between, pushed-text, pushed-kept, AreInRange-between}
 use Rattle.al_scalar.proofs.texts.LongText.push_run.Goals as goal
 

@@ -2,7 +2,7 @@ use Rattle.std.proofs.Common.{◌≡◌, ◌∙◌, ◌++◌, ◌∷◌, [], ◌
 use Rattle.std.proofs.Math.Seq.{take-append_seam}
 use Rattle.std.proofs.lemmas.List.{length-take-le}
 use Rattle.al_scalar.specs.Private.Forms.{short_cells}
-use Rattle.al_scalar.specs.Private.Places.{cells_between}
+use Rattle.al_scalar.specs.LineEnds.{cells_between}
 use Rattle.al_scalar.specs.Private.Segments.{first_run, cells_from, AreInRange}
 use Rattle.al_scalar.proofs.RunLemmas.{run-between, first-goes-on, AreInRange-between}
 use Rattle.al_scalar.proofs.texts.Text.push_run.Goals as goal

@@ -3,7 +3,7 @@ use Rattle.std.specs.Cmp.Lexicographic.{slice_cmp}
 use Rattle.std.specs.Map.{lookup}
 use Rattle.std.specs.Ordering.{nat_cmp}
 use Rattle.std.specs.Prelude.{option_map}
-use Rattle.al_yaml_parts.specs.Private.Reads.{anchor_seen, found_in}
+use Rattle.al_yaml_parts.specs.Reads.{anchor_seen, found_in}
 use Rattle.al_yaml_parts.proofs.anchors.Anchors.new.Goals as goal
 
 pub returns : goal.returns

@@ -2,9 +2,9 @@ use Rattle.std.proofs.Common.{ap, sym, ◌∙◌, Ok}
 use Rattle.std.specs.Prelude.{option_map}
 use Rattle.std.proofs.lemmas.Result.{err_from_is_err_and}
 use Rattle.al_yaml_tree.specs.Content.{anchor_name}
-use Rattle.al_yaml_parts.specs.Private.Files.{left_at}
-use Rattle.al_yaml_parts.specs.Private.Places.{fault_of}
-use Rattle.al_yaml_parts.specs.Private.Reads.{anchor_seen, found_in, known_of, state_of}
+use Rattle.al_yaml_parts.specs.Files.{left_at}
+use Rattle.al_yaml_parts.specs.Places.{fault_of}
+use Rattle.al_yaml_parts.specs.Reads.{anchor_seen, found_in, known_of, state_of}
 use Rattle.al_yaml_tree.specs.View.{view}
 use Rattle.al_yaml_parts.specs.declared.anchors.Anchors.{Anchors}
 use Rattle.al_yaml_parts.proofs.AliasLemmas.{alias-broken, alias-read, alias-unknown}

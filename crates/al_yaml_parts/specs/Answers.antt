@@ -5,7 +5,7 @@ use Rattle.al_scalar.specs.Taken.{Fault}
 use Rattle.al_yaml_tree.specs.Content.{anchor_name}
 use Rattle.al_yaml_tree.specs.Node.{Node}
 use Rattle.al_yaml_tree.specs.Reading.{Anchor, Reading, Part, anchored, ◌>>=◌}
-use Rattle.al_yaml_parts.specs.Private.Reads.{State, anchor_at, noted, run}
+use Rattle.al_yaml_parts.specs.Reads.{State, anchor_at, noted, run}
 
 -- what reading ends with, under the limits
 abbrev pub Answer : Type 0 → Type 0

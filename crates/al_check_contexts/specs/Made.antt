@@ -5,8 +5,8 @@ use Rattle.al_tree.specs.Values.{member_of}
 use Rattle.al_check_contexts.specs.Contexts.{Known, jobs_type_of}
 use Rattle.al_expr_types.specs.declared.ty.Ty.{Ty}
 use Rattle.al_expr_types.specs.declared.types.Types.{Types}
-use Rattle.al_check_contexts.specs.Private.Lookups.{called_at, known_by, shown_at}
-use Rattle.al_check_contexts.specs.Private.Numbers.{Keeps, Means}
+use Rattle.al_check_contexts.specs.Lookups.{called_at, known_by, shown_at}
+use Rattle.al_check_contexts.specs.Numbers.{Keeps, Means}
 use Rattle.al_check_contexts.specs.declared.basis.Basis.{Basis}
 use Rattle.al_check_contexts.specs.declared.jobs.JobTypes.{JobTypes}
 use Rattle.al_check_contexts.specs.declared.known.Outputs.{Outputs}

@@ -8,9 +8,9 @@ use Rattle.al_yaml_tree.specs.Content as content
 use Rattle.al_yaml_tree.specs.Reading.{Reading, Part, fails, ◌>>=◌}
 use Rattle.al_yaml_tree.specs.Flow.{CollectionReader}
 use Rattle.al_yaml_tree.specs.Flow as flow
-use Rattle.al_yaml_parts.specs.Private.Places.{option_lines, IsReadInside}
-use Rattle.al_yaml_parts.specs.Private.Answers.{mark_of, noting}
-use Rattle.al_yaml_parts.specs.Private.Reads.{State, run, Stops, IsBehind, part_of}
+use Rattle.al_yaml_parts.specs.Places.{option_lines, IsReadInside}
+use Rattle.al_yaml_parts.specs.Answers.{mark_of, noting}
+use Rattle.al_yaml_parts.specs.Reads.{State, run, Stops, IsBehind, part_of}
 use Rattle.al_yaml_parts.specs.declared.faults.ReadError.{ReadError}
 use Rattle.al_yaml_parts.specs.declared.flow_nodes.FlowKey.{FlowKey}
 use Rattle.al_yaml_parts.specs.declared.flow_nodes.Found.{Found}

@@ -5,13 +5,13 @@ use Rattle.al_tree.specs.Values.{member_of}
 use Rattle.al_tree.specs.Files.{jobs_of}
 use Rattle.al_check_places.specs.Positions.{before, section_view}
 use Rattle.al_check_contexts.specs.Fixed.{strategy_type}
-use Rattle.al_check_contexts.specs.Private.Environment.{owner_in}
+use Rattle.al_check_contexts.specs.Environment.{owner_in}
 use Rattle.al_check_contexts.specs.Answered.{known_of}
-use Rattle.al_check_contexts.specs.Private.Lookups.{known_by, step_at}
-use Rattle.al_check_contexts.specs.Private.Made.{KeepsJobs}
-use Rattle.al_check_contexts.specs.Private.Numbers.{Keeps, Means}
-use Rattle.al_check_contexts.specs.Private.Steps.{ArePrefixes, AreStepsOf}
-use Rattle.al_check_contexts.specs.Private.Table.{Shows, table}
+use Rattle.al_check_contexts.specs.Lookups.{known_by, step_at}
+use Rattle.al_check_contexts.specs.Made.{KeepsJobs}
+use Rattle.al_check_contexts.specs.Numbers.{Keeps, Means}
+use Rattle.al_check_contexts.specs.Steps.{ArePrefixes, AreStepsOf}
+use Rattle.al_check_contexts.specs.Table.{Shows, table}
 use Rattle.al_check_contexts.specs.declared.env.Env.{Env}
 use Rattle.al_check_contexts.specs.declared.env.File.{File}
 

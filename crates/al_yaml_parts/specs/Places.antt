@@ -3,7 +3,7 @@ use Rattle.std.specs.Prelude.{◌≡◌, ℕ, ◌<◌, ◌≤◌, List, length, 
 use Rattle.al_scalar.specs.Line.{Line}
 use Rattle.al_scalar.specs.Offsets.{IsPlaced}
 use Rattle.al_scalar.specs.Places.{first_end, lines_at}
-use Rattle.al_scalar.specs.Private.Places.{IsLineEnd}
+use Rattle.al_scalar.specs.LineEnds.{IsLineEnd}
 use Rattle.al_scalar.specs.Taken.{Fault}
 use Rattle.al_scalar.specs.declared.scalars.ScalarRead.{ScalarRead}
 use Rattle.al_yaml_tree.specs.Content as content

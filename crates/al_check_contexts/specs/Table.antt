@@ -10,11 +10,11 @@ use Rattle.al_check_contexts.specs.Contexts.{Known, job_among, needs_type_of, ty
 use Rattle.al_check_contexts.specs.Fixed.{github_type, job_type, runner_type, strategy_type}
 use Rattle.al_check_contexts.specs.Matrix.{matrix_type}
 use Rattle.al_check_contexts.specs.Objects.{loose_strings}
-use Rattle.al_check_contexts.specs.Private.Environment.{inputs_in, jobs_in, jobs_shown, matrix_in, needs_in, owned, owner_in, strategy_in}
+use Rattle.al_check_contexts.specs.Environment.{inputs_in, jobs_in, jobs_shown, matrix_in, needs_in, owned, owner_in, strategy_in}
 use Rattle.al_expr_types.specs.declared.types.Types.{Types}
 use Rattle.al_expr_typing.specs.Scopes.{number_of}
 use Rattle.al_expr_typing.specs.declared.scope.ContextTypes.{ContextTypes}
-use Rattle.al_check_contexts.specs.Private.Numbers.{Means}
+use Rattle.al_check_contexts.specs.Numbers.{Means}
 use Rattle.al_check_contexts.specs.declared.sections.SectionTypes.{SectionTypes}
 use Rattle.al_check_contexts.specs.declared.start.FixedTypes.{FixedTypes}
 

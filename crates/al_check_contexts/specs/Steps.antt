@@ -5,11 +5,11 @@ use Rattle.al_types.specs.Types.{Type', String}
 use Rattle.al_check_places.specs.Positions.{before}
 use Rattle.al_check_contexts.specs.Contexts.{Known, steps_shown}
 use Rattle.al_check_contexts.specs.Objects.{strictly}
-use Rattle.al_check_contexts.specs.Private.Environment.{Owner}
+use Rattle.al_check_contexts.specs.Environment.{Owner}
 use Rattle.al_expr_types.specs.Prefixes.{HasPrefix, map_in}
 use Rattle.al_expr_types.specs.Tables.{objects_of}
 use Rattle.al_expr_types.specs.declared.types.Types.{Types}
-use Rattle.al_check_contexts.specs.Private.Numbers.{fields_in, is_map_below}
+use Rattle.al_check_contexts.specs.Numbers.{fields_in, is_map_below}
 use Rattle.al_check_contexts.specs.declared.steps.StepFields.{StepFields}
 
 -- the type of a step that has outputs of a type

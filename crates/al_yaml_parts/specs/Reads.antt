@@ -11,7 +11,7 @@ use Rattle.al_yaml_tree.specs.Content.{anchor_name, behind_name}
 use Rattle.al_yaml_tree.specs.Reading.{Anchor, Known, nothing_known, with_anchor, Outcome, Reading, Part, part, gives, alias, ◌>>=◌}
 use Rattle.al_yaml_tree.specs.Limits.{limited_from, nodes_listed, text_listed}
 use Rattle.al_yaml_tree.specs.View.{view}
-use Rattle.al_yaml_parts.specs.Private.Places.{fault_of}
+use Rattle.al_yaml_parts.specs.Places.{fault_of}
 use Rattle.al_yaml_parts.specs.declared.anchors.Anchored.{Anchored}
 use Rattle.al_yaml_parts.specs.declared.anchors.Anchors.{Anchors}
 use Rattle.al_yaml_parts.specs.declared.faults.ReadError.{ReadError}

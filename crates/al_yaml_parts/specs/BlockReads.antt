@@ -3,7 +3,7 @@ use Rattle.std.specs.Prelude.{ℕ, ◌<◌, ◌≤◌, List, length, Option, Som
 use Rattle.al_scalar.specs.ReadScalar.{read_of}
 use Rattle.al_scalar.specs.Places.{lines_at}
 use Rattle.al_yaml_tree.specs.Keys as keys
-use Rattle.al_yaml_parts.specs.Private.Places.{IsReadInside}
+use Rattle.al_yaml_parts.specs.Places.{IsReadInside}
 use Rattle.al_yaml_tree.specs.Blocks as block
 use Rattle.al_yaml_parts.specs.declared.slots.Slot.{Slot}
 use Rattle.al_yaml_parts.specs.declared.slots.Spot.{Spot}
