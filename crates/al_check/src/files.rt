@@ -23,7 +23,7 @@ ghost use Rattle.al_check.specs.FileFaults.{own_faults};
 ghost use Rattle.al_check.specs.Reading.{IsRead};
 ghost use Rattle.al_check.specs.RuleFaults.{rule_faults};
 
-use crate::printing::printed;
+use crate::printing::with_printed_args;
 use al_base::{Code, Fault, FaultSink, add_copies, ordered};
 use al_check_calls::{Calling, behind_faults};
 use al_check_interfaces::{Call, Interface, calls_by, interface_of, sites_in};
@@ -154,10 +154,10 @@ fn add_behind(
 }
 
 /// These faults as they are printed, in the order of reports, each once.
-fn listed(alloc: Global, found: Vec<Fault>) -> Result<Vec<Fault>, AllocError>
+fn in_report_order(alloc: Global, found: Vec<Fault>) -> Result<Vec<Fault>, AllocError>
     ensures { IfOk result (λ list. list.items ≡ fault_list (map meant.printed found.items)) }
 {
-    Ok(ordered(printed(alloc, found)?))
+    Ok(ordered(with_printed_args(alloc, found)?))
 }
 
 /// The faults of a workflow or an action, of which these are its own, in the order of reports, each once.
@@ -183,7 +183,7 @@ fn document_faults(
     // The few own faults stand behind those found, which can be millions.
     let mut found = faults.into_faults();
     add_copies(alloc, &file.own, &mut found)?;
-    listed(alloc, found)
+    in_report_order(alloc, found)
 }
 
 /// The fault of a file that is no YAML, which stands alone.

@@ -37,7 +37,7 @@ impl<'a> Lists<'a> {
     }
 
     /// The position of the outputs behind the calls by a text, if it is known.
-    fn found(&self, of_step: bool, text: &'a [u8]) -> Option<Option<usize>>
+    fn known_position(&self, of_step: bool, text: &'a [u8]) -> Option<Option<usize>>
         ensures { result ≡ position_of self.now of_step text.entry.now }
     {
         self.positions.get(&(of_step, text)).copied()
@@ -86,7 +86,7 @@ impl<'a> Lists<'a> {
         let call = answered.call;
         let of_step = call.site.step.is_some();
         let text = call.uses.scalar.text();
-        match self.found(of_step, text) {
+        match self.known_position(of_step, text) {
             Some(known) => Ok(known),
             None => {
                 let added = self.add(of_step, text, outputs_of(answered))?;

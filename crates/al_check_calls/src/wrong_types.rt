@@ -74,7 +74,7 @@ fn check_value(
         ++ meant.wrong_input (call_of call.entry) inputs.now (given_in ms value.now)) }
 {
     let name = key_text(value.member.key);
-    match inputs.named(faults.alloc(), name)? {
+    match inputs.find(faults.alloc(), name)? {
         Some(input) => check_type(call, value, input, faults),
         None => Ok(()),
     }

@@ -192,7 +192,7 @@ impl<'a> Env<'a> {
         let jobs = JobList::of(alloc, file.root)?;
         let outputs = Outputs::of(alloc, file.known)?;
         // The last position is that of outputs that aren't known.
-        let positions = outputs.unknown().saturating_add(1);
+        let positions = outputs.unknown_position().saturating_add(1);
         let job_types = JobTypes::new(alloc, positions, jobs.as_slice().len())?;
         let mut step_types = TypeCache::new(alloc, positions)?;
         let mut types = Types::new(alloc);

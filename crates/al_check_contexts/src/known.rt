@@ -69,7 +69,7 @@ impl<'a> Outputs<'a> {
     }
 
     /// How many lists of names there are, which is the position of those that aren't known.
-    pub(crate) fn unknown(&self) -> usize
+    pub(crate) fn unknown_position(&self) -> usize
         ensures { result ≡ length (lists_of self.now) }
     {
         self.lists.len()
@@ -81,7 +81,7 @@ impl<'a> Outputs<'a> {
     {
         match position {
             Some(i) => i,
-            None => self.unknown(),
+            None => self.unknown_position(),
         }
     }
 
@@ -91,7 +91,7 @@ impl<'a> Outputs<'a> {
     {
         match self.positions.get(&(job, step)) {
             Some(position) => self.or_unknown(*position),
-            None => self.unknown(),
+            None => self.unknown_position(),
         }
     }
 

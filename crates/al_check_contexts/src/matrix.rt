@@ -230,7 +230,7 @@ fn is_open_include(node: &Node) -> bool
 }
 
 /// The type of a matrix of these rows.
-fn included<'a>(
+fn with_combinations<'a>(
     alloc: Global,
     types: &mut Types<'a>,
     rows: Ty,
@@ -262,7 +262,7 @@ fn mapped_matrix<'a>(alloc: Global, types: &mut Types<'a>, node: &'a Node) -> Re
     ensures kept { OnOk result (BeginsWith (objects_of types.new) (objects_of types.old)) }
 {
     let rows = rows_type(alloc, types, node)?;
-    let ty = included(alloc, types, rows, value(node, "include"))?;
+    let ty = with_combinations(alloc, types, rows, value(node, "include"))?;
     Ok(ty)
 }
 

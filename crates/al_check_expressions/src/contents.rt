@@ -41,7 +41,7 @@ fn offset(scalar: &Scalar, i: usize) -> u32
 }
 
 /// The span in the file of the bytes of a scalar's text from one index up to another.
-fn located(scalar: &Scalar, i: usize, j: usize) -> Span
+fn span_in_file(scalar: &Scalar, i: usize, j: usize) -> Span
     requires { HasRoom scalar.now }
     ensures { result ≡ contents.located scalar.now i j }
 {
@@ -128,7 +128,7 @@ fn move_fault(scalar: &Scalar, by: usize, fault: Fault) -> Fault
     ensures { result ≡ moved scalar.now by fault }
 {
     Fault {
-        span: located(
+        span: span_in_file(
             scalar,
             by + fault.span.start as usize,
             by + fault.span.end as usize,

@@ -120,7 +120,7 @@ impl Parameters {
     }
 
     /// The first parameter with a name, in any ASCII case. Fails with `AllocError` when out of memory.
-    pub fn named(&self, alloc: Global, name: &[u8]) -> Result<Option<&Parameter>, AllocError>
+    pub fn find(&self, alloc: Global, name: &[u8]) -> Result<Option<&Parameter>, AllocError>
         ensures { IfOk result (λ p. option_copied p ≡ find (is_parameter name.now) self.now) }
     {
         match self.positions.get(alloc, name)? {

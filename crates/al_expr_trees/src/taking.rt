@@ -138,7 +138,7 @@ fn field_trees(
     for i in 0..fields.count {
         let (name, ty) = fields.map.at(i);
         let tree = tree_below(alloc, types, ty, below as usize)?;
-        let field = named(alloc, name, tree)?;
+        let field = field_with(alloc, name, tree)?;
         trees.push(field)?;
     }
     Ok(trees)
@@ -165,7 +165,7 @@ fn rest_tree(
 }
 
 // A field of a name and a type. Names are those of trees or of a file that was read, so they are UTF-8.
-fn named(alloc: Global, name: &[u8], ty: Ty) -> Result<Field, AllocError>
+fn field_with(alloc: Global, name: &[u8], ty: Ty) -> Result<Field, AllocError>
     ensures { IfOk result (λ f. field_of f ≡ (name.now, ty_of ty)) }
 {
     match std::str::from_utf8(name) {
@@ -183,7 +183,7 @@ fn strings_listing(alloc: Global, names: &NameList) -> Result<Listing, AllocErro
 {
     let mut fields = Vec::new(alloc);
     for i in 0..names.len() {
-        let field = named(alloc, names.at(i), Ty::String)?;
+        let field = field_with(alloc, names.at(i), Ty::String)?;
         fields.push(field)?;
     }
     let listing = Listing::of(alloc, fields.as_slice(), &None)?;

@@ -157,7 +157,7 @@ fn call(
     ensures shown { IsShown types.new (around.entry).scope.now }
     ensures kept { BeginsWith (objects_of types.new) (objects_of types.old) }
 {
-    let function = Function::named(name.text.as_str());
+    let function = Function::from_name(name.text.as_str());
     let tested = Surroundings {
         safe: is_tested(around.safe, function),
         ..around
@@ -200,7 +200,7 @@ fn named(scope: &Scope, word: &Word, faults: &mut FaultSink) -> Result<Ty, Alloc
         (λ t. (types : Types) → IsShown types scope.now → is_known types t ≡ true) }
 {
     let name = word.text.as_str();
-    let code = match Context::named(name) {
+    let code = match Context::from_name(name) {
         Some(context) => {
             if scope.contexts.contains(context) {
                 return Ok(scope.types.get(context));

@@ -21,7 +21,10 @@ pub(crate) struct FoldedId<'a> {
 }
 
 /// Ids with their texts without ASCII case, in their order. Fails with `AllocError` when out of memory.
-pub(crate) fn folded<'a>(alloc: Global, ids: &[Named<'a>]) -> Result<Vec<FoldedId<'a>>, AllocError>
+pub(crate) fn fold_ids<'a>(
+    alloc: Global,
+    ids: &[Named<'a>],
+) -> Result<Vec<FoldedId<'a>>, AllocError>
     ensures { IfOk result (λ v. map folded_id v.items ≡ map with_folded (map named_of ids.now)) }
 {
     let mut found = Vec::new(alloc);
@@ -62,6 +65,6 @@ pub fn check_ids(ids: &[Named<'_>], faults: &mut FaultSink) -> Result<(), AllocE
     ensures { OnOk result (faults.new ≡ faults.old ++ ids_faults (map named_of ids.now)) }
 {
     check_each(ids, faults)?;
-    let ids = folded(faults.alloc(), ids)?;
+    let ids = fold_ids(faults.alloc(), ids)?;
     check_repeated(ids.as_slice(), faults)
 }

@@ -15,7 +15,7 @@ ghost use Rattle.al_yaml_tree.specs.View.{view};
 ghost use Rattle.std.specs.List.{flat_map, list_all};
 ghost use Rattle.std.specs.Prelude.{◌≡◌, ◌++◌, map, IfOk, OnOk};
 
-use crate::ids::{FoldedId, folded};
+use crate::ids::{FoldedId, fold_ids};
 use crate::reports::{Named, named_key, report_unless};
 use al_base::{Code, FaultSink, RuleCode, Span};
 use al_tree::{
@@ -183,7 +183,7 @@ fn add_names<'a>(keys: &[Member<'a>], found: &mut Vec<Named<'a>>) -> Result<(), 
 }
 
 /// The keys of the items of `exclude`.
-fn excluded(alloc: Global, items: &[Node]) -> Result<Vec<Named<'_>>, AllocError>
+fn excluded_keys(alloc: Global, items: &[Node]) -> Result<Vec<Named<'_>>, AllocError>
     ensures { IfOk result (λ v. map named_of v.items ≡ exclude_keys (map view items.now)) }
 {
     let mut found = Vec::new(alloc);
@@ -234,8 +234,8 @@ fn check_excludes(
         (exclude_keys (map view items.now))) }
 {
     let names = names_of(faults.alloc(), rows)?;
-    let keys = excluded(faults.alloc(), items)?;
-    let keys = folded(faults.alloc(), keys.as_slice())?;
+    let keys = excluded_keys(faults.alloc(), items)?;
+    let keys = fold_ids(faults.alloc(), keys.as_slice())?;
     check_beside(names.as_slice(), keys.as_slice(), faults)
 }
 

@@ -19,7 +19,7 @@ fn calls_itself() -> &'static [u8] {
 }
 
 fn has_required(alloc: Global, inputs: &Parameters) -> Result<bool, AllocError> {
-    match inputs.named(alloc, b"WHO")? {
+    match inputs.find(alloc, b"WHO")? {
         Some(input) => Ok(input.required && !input.has_default),
         None => Ok(false),
     }

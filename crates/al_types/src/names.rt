@@ -92,7 +92,7 @@ impl Context {
     }
 
     /// The context of a name, in any ASCII case.
-    pub fn named(name: &str) -> Option<Context>
+    pub fn from_name(name: &str) -> Option<Context>
         ensures { result ≡ names.context_of name.now }
     {
         context_among(&CONTEXTS, name)
@@ -121,7 +121,7 @@ impl Function {
     }
 
     /// The function of a name, in any ASCII case.
-    pub fn named(name: &str) -> Option<Function>
+    pub fn from_name(name: &str) -> Option<Function>
         ensures { result ≡ names.function_of name.now }
     {
         function_among(&FUNCTIONS, name)

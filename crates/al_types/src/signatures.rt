@@ -51,7 +51,7 @@ pub struct Signature {
 pub fn signature_of(name: &str) -> Option<Signature>
     ensures { result ≡ option_map signature (function_of name.now) }
 {
-    match Function::named(name) {
+    match Function::from_name(name) {
         Some(function) => Some(function.signature()),
         None => None,
     }

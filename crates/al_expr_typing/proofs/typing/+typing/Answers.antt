@@ -99,7 +99,7 @@ pub call-returns-clause-ok : goal.call-returns-clause-ok
 call-returns-clause-ok t c =
     let before = c.args.types.now in
     let mid = c.typed_arguments.new.types in
-    let f : c.named-function.result ≡ function_of (string_bytes c.args.name.now.text) = c.named-function.ensures ∙ ap function_of c.as_str.ensures.value in
+    let f : c.from_name-function.result ≡ function_of (string_bytes c.args.name.now.text) = c.from_name-function.ensures ∙ ap function_of c.as_str.ensures.value in
     let g = rw (c.is_tested.ensures, f) at c.in_ok-given.ensures.ok in
     let h = rw (f, c.deref.ensures.value) at c.in_ok-ty.ensures.ok (objects_of mid) in
     let name = string_bytes c.args.name.now.text in

@@ -8,7 +8,7 @@ pub returns-in-Some : goal.returns-in-Some
 returns-in-Some c =
     takes_as c.is_some-of_step.ensures c.text-text.ensures refl
     (found_takes c.args.self.now c.is_some-of_step.result c.text-text.result.now (outputs_behind (answered_of c.args.answered)) c.in-Some.known
-    (sym c.found.ensures ∙ c.in-Some.is))
+    (sym c.known_position.ensures ∙ c.in-Some.is))
 
 pub returns-in_ok-added-in-None : goal.returns-in_ok-added-in-None
 returns-in_ok-added-in-None c = takes_as c.is_some-of_step.ensures c.text-text.ensures c.outputs_of.ensures c.in_ok-added-in-None.ensures

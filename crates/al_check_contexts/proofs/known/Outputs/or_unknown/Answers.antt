@@ -6,5 +6,5 @@ use Rattle.al_check_contexts.proofs.known.Outputs.or_unknown.Goals as goal
 
 pub returns-in-None : goal.returns-in-None
 returns-in-None c =
-    none_behind (lists_of c.args.self.now) c.unknown.result c.unknown.ensures
+    none_behind (lists_of c.args.self.now) c.unknown_position.result c.unknown_position.ensures
     ∙ sym (ap (option_and_then (list_at c.args.self.now)) c.in-None.is)

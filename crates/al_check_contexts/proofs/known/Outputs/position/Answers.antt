@@ -11,5 +11,5 @@ returns-in-Some c =
 
 pub returns-in-None : goal.returns-in-None
 returns-in-None c =
-    none_behind (lists_of c.args.self.now) c.unknown.result c.unknown.ensures
+    none_behind (lists_of c.args.self.now) c.unknown_position.result c.unknown_position.ensures
     ∙ sym (names_found c.args.self.now c.args.job c.args.step None (sym (ap option_copied c.in-None.is) ∙ c.get.ensures.value))

@@ -3,7 +3,7 @@ use Rattle.al_base.specs.NamePlaces.{name_position}
 use Rattle.al_check_interfaces.specs.declared.interfaces.Parameter.{Parameter}
 use Rattle.al_check_interfaces.specs.Parameters.{is_parameter}
 use Rattle.al_check_interfaces.proofs.Positions.{named_at, not_named, position_within}
-use Rattle.al_check_interfaces.proofs.lists.Parameters.named.Goals as goal
+use Rattle.al_check_interfaces.proofs.lists.Parameters.find.Goals as goal
 
 pub index-requires : goal.index-requires
 index-requires c =
