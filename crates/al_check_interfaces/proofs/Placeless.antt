@@ -1,7 +1,7 @@
 -- A tree without its places shows what the tree does: for the law `interfaces_of_trees`.
-use Rattle.std.proofs.Common.{◌≡◌, ℕ, List, [], ◌∷◌, ◌++◌, map, Bool, true, false, refl, sym, ap, ◌∙◌, Option, Some, None, option_map}
-use Rattle.std.specs.Prelude.{codes, cond, cons_option, find, if◌then◌else◌, is_some, option_and_then}
-use Rattle.std.specs.List.{filter_map, list_any}
+use Rattle.std.proofs.Common.{◌≡◌, ℕ, List, [], ◌∷◌, ◌++◌, map, Bool, true, false, refl, ap, ◌∙◌, Option, Some, None, option_map}
+use Rattle.std.specs.Prelude.{codes, cond, find, if◌then◌else◌, is_some, option_and_then, ◌||◌}
+use Rattle.std.specs.List.{cons_option, filter_map, list_any}
 use Rattle.std.specs.Option.{option_map_or, option_to_list}
 use Rattle.std.specs.Str.{bytes_eq}
 use Rattle.al_base.specs.Names.{same_name}
@@ -9,21 +9,20 @@ use Rattle.al_base.specs.declared.faults.Span.{Span}
 use Rattle.al_scalar.specs.Line.{Cell}
 use Rattle.al_scalar.specs.Scalar.{Scalar, span, text_of}
 use Rattle.al_yaml_tree.specs.Access.{entries, mapping_in, nodes, scalar_in, sequence_in}
-use Rattle.al_yaml_tree.specs.Node.{Node, Nodes, Entries, scalar, sequence, mapping, no_nodes, item, no_entries, entry, span_of}
+use Rattle.al_yaml_tree.specs.Node.{Node, Nodes, Entries, scalar, sequence, mapping, no_nodes, item, no_entries, entry}
 use Rattle.al_tree.specs.Faults.{is_key, is_null, value_in}
 use Rattle.al_tree.specs.Keys.{key_of, key_text}
 use Rattle.al_tree.specs.Names.{among}
 use Rattle.al_tree.specs.Values.{entries_in, firsts, text_at, text_in, texts_in, unless_null, value_at, value_below}
 use Rattle.al_tree.specs.declared.files.FileKind.{FileKind}
 use Rattle.al_tree.specs.declared.files.FileKind.TheVariants as kind
-use Rattle.al_tree_declarations.specs.Declarations.{declared_below, declared_in, first_named, has_value, is_composite, named_among, names_of, says}
+use Rattle.al_tree_declarations.specs.Declarations.{declared_below, declared_in, first_named, has_value, named_among, names_of, says}
 use Rattle.al_tree_declarations.specs.Inputs.{input_named, input_of}
 use Rattle.al_tree_declarations.specs.declared.inputs.InputType.TheVariants as input
-use Rattle.al_check_interfaces.specs.Interfaces.{action_role, action_signature, has_default, interface_of, is_required, is_true, name_of}
+use Rattle.al_check_interfaces.specs.Interfaces.{action_role, has_default, is_required, is_true, name_of}
 use Rattle.al_check_interfaces.specs.Interfaces.{names_call, parameter, parameters, says_call, signature_of, type_taken, workflow_role}
-use Rattle.al_check_interfaces.specs.Interfaces.{workflow_signature}
 use Rattle.al_check_interfaces.specs.Placeless.{ShowsNoPlaces, ShowsNothingElse, placeless, placeless_entries, placeless_items, placeless_scalar}
-use Rattle.al_check_interfaces.specs.declared.interfaces.Interface.TheVariants.{Readable, Unreadable}
+use Rattle.al_check_interfaces.specs.declared.interfaces.Interface.TheVariants.{Readable}
 use Rattle.al_check_interfaces.specs.declared.interfaces.Role.TheVariants as role
 use Rattle.al_check_interfaces.specs.declared.signatures.Declaring.{Declaring}
 use Rattle.al_check_interfaces.specs.declared.signatures.Declaring.TheVariants as declared

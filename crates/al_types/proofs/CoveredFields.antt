@@ -1,5 +1,5 @@
 -- That what all fields of an object have in common covers what each property finds: for the law `all_fields_cover_each`.
-use Rattle.std.proofs.Common.{◌≡◌, ℕ, List, Bool, true, false, refl, sym, ap, ◌∙◌, Option, Some, None}
+use Rattle.std.proofs.Common.{◌≡◌, ℕ, List, Bool, true, false, sym, ap, ◌∙◌, Option, Some, None}
 use Rattle.std.specs.Prelude.{if◌then◌else◌}
 use Rattle.al_base.specs.Names.{same_name}
 use Rattle.al_types.specs.Types.{Type', Fields, NoField, FieldThen, Optional, Absent, Present, common_in, field_at, fuse_optional}
