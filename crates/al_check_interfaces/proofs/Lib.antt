@@ -6,3 +6,4 @@ pub mod CallLists
 pub mod Exact
 pub mod Places
 pub mod Positions
+pub mod Placeless

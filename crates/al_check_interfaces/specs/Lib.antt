@@ -2,6 +2,7 @@ pub mod Forms
 pub mod Uses
 pub mod Kept
 pub mod Laws
+pub mod Placeless
 pub mod CallViews
 pub mod Private
 pub mod Interfaces

@@ -18,7 +18,7 @@ pub use calls::{Call, calls_by};
 pub use equality::equal_interfaces;
 pub use examples::rows;
 pub use interfaces::{Interface, Parameter, ParameterKind, Role, Signature};
-pub use laws::calls_of_trees;
+pub use laws::{calls_of_trees, interfaces_of_trees};
 pub use lists::Parameters;
 pub use signatures::interface_of;
 pub use sites::{Site, caller_of, sites_in};

@@ -6,3 +6,4 @@ pub mod FieldsByName
 pub mod AddedNames
 pub mod Puts
 pub mod GatheredFields
+pub mod CoveredFields

@@ -1,8 +1,9 @@
 //! Laws over the definitions of types.
 
-ghost use Rattle.std.specs.Prelude.{◌≡◌};
+ghost use Rattle.std.specs.Prelude.{◌≡◌, ℕ, List, Some};
 ghost use Rattle.al_types.specs.FusedFields.{ObjectsFuse};
-ghost use Rattle.al_types.specs.Types.{Type', fuse_type};
+ghost use Rattle.al_types.specs.Types.{Fields, Optional, Present, Type', fuse_optional, fuse_type};
+ghost use Rattle.al_types.specs.Types.{object_with, parts_with, property_in};
 
 /// What two objects have in common, by their fields.
 ///
@@ -17,4 +18,12 @@ pub fn types_fuse()
     ensures order { (a b : Type') → fuse_type a b ≡ fuse_type b a }
     ensures grouping { (a b c : Type') → fuse_type (fuse_type a b) c ≡ fuse_type a (fuse_type b c) }
     ensures repeats { (a : Type') → fuse_type a a ≡ a }
+{}
+
+/// What `.x` finds in an object, its `.*` has too: what all fields have in common stays the same when the type of any property is
+/// fused with it. Does nothing.
+pub fn all_fields_cover_each()
+    ensures { (fs : Fields) (rest : Optional) (n : List ℕ) (t : Type')
+        → property_in n (object_with fs rest) ≡ Some t
+        → fuse_optional (Present t) (parts_with fs rest).2 ≡ (parts_with fs rest).2 }
 {}

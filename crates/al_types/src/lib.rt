@@ -9,7 +9,7 @@ mod scope;
 mod signatures;
 
 pub use forms::Form;
-pub use law::{objects_fuse, types_fuse};
+pub use law::{all_fields_cover_each, objects_fuse, types_fuse};
 pub use names::{Context, Function};
 pub use scope::{ContextSet, FunctionSet};
 pub use signatures::{Parameters, Returned, Signature, Wanted, signature_of};

@@ -1,0 +1,40 @@
+-- Trees without their places, and that an interface has none: neither spans nor, under an input, anything but what calls see.
+use Rattle.std.specs.Prelude.{◌≡◌, codes, map}
+use Rattle.al_scalar.specs.Line.{Cell}
+use Rattle.al_scalar.specs.Scalar.{Scalar, span}
+use Rattle.al_yaml_tree.specs.Node.{Node, Nodes, Entries, scalar, sequence, mapping, no_nodes, item, no_entries, entry}
+use Rattle.al_tree.specs.Keys.{key_of}
+use Rattle.al_tree.specs.Values.{value_at}
+use Rattle.al_tree.specs.declared.files.FileKind.{FileKind}
+use Rattle.al_check_interfaces.specs.Interfaces.{interface_of, parameter}
+use Rattle.al_check_interfaces.specs.declared.signatures.Declaring.{Declaring}
+
+abbrev pub placeless_scalar : Scalar → Scalar
+placeless_scalar s = record { style = s.style; class = s.class; cells = map (λ (c : Cell). (c.0, 0)) s.cells; end = 0 }
+
+-- a tree whose nodes and texts all lie at the offset 0
+abbrev mutual
+  pub placeless : Node → Node
+  placeless (scalar s at) = scalar (placeless_scalar s) (span 0 0)
+  placeless (sequence ns at) = sequence (placeless_items ns) (span 0 0)
+  placeless (mapping es at) = mapping (placeless_entries es) (span 0 0)
+
+  pub placeless_items : Nodes → Nodes
+  placeless_items no_nodes = no_nodes
+  placeless_items (item n ns) = item (placeless n) (placeless_items ns)
+
+  pub placeless_entries : Entries → Entries
+  placeless_entries no_entries = no_entries
+  placeless_entries (entry k v es) = entry (placeless k) (placeless v) (placeless_entries es)
+
+-- trees that differ in their places alone show the same
+abbrev pub ShowsNoPlaces : Type 0
+ShowsNoPlaces = (kind : FileKind) (root : Node) → interface_of kind (placeless root) ≡ interface_of kind root
+
+-- entries that differ in other keys alone, as in a description, declare the same
+abbrev pub ShowsNothingElse : Type 0
+ShowsNothingElse = (by : Declaring) (e f : Node × Node) → key_of e ≡ key_of f
+    → value_at (codes "required") e.1 ≡ value_at (codes "required") f.1
+    → value_at (codes "default") e.1 ≡ value_at (codes "default") f.1
+    → value_at (codes "type") e.1 ≡ value_at (codes "type") f.1
+    → parameter by e ≡ parameter by f
