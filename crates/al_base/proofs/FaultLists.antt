@@ -1,5 +1,5 @@
 -- The order of faults is the derived one, it is total, and it tells equal faults.
-use Rattle.std.proofs.Common.{◌≡◌, ℕ, List, [], ◌∷◌, get_or, refl, sym, ap, ◌∙◌, arith}
+use Rattle.std.proofs.Common.{◌≡◌, ℕ, List, [], ◌∷◌, get_or, pred, refl, sym, ap, ◌∙◌, arith}
 use Rattle.std.specs.Cmp.{IsTotalOrder}
 use Rattle.std.specs.List.{AllByRecursion, Contains}
 use Rattle.std.specs.List.Sorted.{IsPermutation, IsStrictlySortedBy}
@@ -11,7 +11,7 @@ use Rattle.std.proofs.lemmas.List.Sorted.{Contains-permutation, IsPermutation-sy
 use Rattle.std.proofs.lemmas.Cmp.{nat_cmp_total, on_total, then_total}
 use Rattle.al_base.specs.Orders.{args_cmp}
 use Rattle.al_base.specs.Proofs.Orders.{args_total}
-use Rattle.al_base.specs.FaultLists.{fault_cmp, fault_list, kind_place, place_in_kind, yaml_place, key_place, rule_place, expression_place, call_place}
+use Rattle.al_base.specs.FaultLists.{fault_cmp, fault_list, kind_place, place_in_kind}
 use Rattle.al_base.specs.declared.codes.Code.{Code}
 use Rattle.al_base.specs.declared.codes.Code.TheVariants as C
 use Rattle.al_base.specs.declared.codes.YamlCode.{YamlCode}
@@ -52,47 +52,47 @@ use Rattle.al_base.proofs.InOrder.{IsStrictlySortedBy-in_order, Contains-in_orde
 
 -- ---- the derived order: each code beside each other one, by computation
 
-yaml_is : (a b : YamlCode) → yaml.ghosts.cmp a b ≡ nat_cmp (yaml_place a) (yaml_place b)
+yaml_is : (a b : YamlCode) → yaml.ghosts.cmp a b ≡ nat_cmp (place_in_kind (C.Yaml a)) (place_in_kind (C.Yaml b))
 yaml_is NotUtf8 NotUtf8 = refl
 yaml_is _ NotUtf8 = refl
 yaml_is _ _ = refl
 
-key_is : (a b : KeyCode) → key.ghosts.cmp a b ≡ nat_cmp (key_place a) (key_place b)
+key_is : (a b : KeyCode) → key.ghosts.cmp a b ≡ nat_cmp (place_in_kind (C.Key a)) (place_in_kind (C.Key b))
 key_is Unexpected Unexpected = refl
 key_is _ Unexpected = refl
 key_is _ _ = refl
 
-rule_is : (a b : RuleCode) → rule.ghosts.cmp a b ≡ nat_cmp (rule_place a) (rule_place b)
+rule_is : (a b : RuleCode) → rule.ghosts.cmp a b ≡ nat_cmp (place_in_kind (C.Rule a)) (place_in_kind (C.Rule b))
 rule_is UnknownEvent UnknownEvent = refl
 rule_is _ UnknownEvent = refl
 rule_is _ _ = refl
 
-expression_is : (a b : ExpressionCode) → expression.ghosts.cmp a b ≡ nat_cmp (expression_place a) (expression_place b)
+expression_is : (a b : ExpressionCode) → expression.ghosts.cmp a b ≡ nat_cmp (place_in_kind (C.Expression a)) (place_in_kind (C.Expression b))
 expression_is BadCharacter BadCharacter = refl
 expression_is _ BadCharacter = refl
 expression_is _ _ = refl
 
-jobs_are : (a b : CallCode) → ordering_then (call.ghosts.cmp a b) (by_caller.ghosts.cmp caller.Job caller.Job) ≡ nat_cmp (call_place a caller.Job) (call_place b caller.Job)
+jobs_are : (a b : CallCode) → ordering_then (call.ghosts.cmp a b) (by_caller.ghosts.cmp caller.Job caller.Job) ≡ nat_cmp (place_in_kind (C.Call a caller.Job)) (place_in_kind (C.Call b caller.Job))
 jobs_are NoWorkflow NoWorkflow = refl
 jobs_are _ NoWorkflow = refl
 jobs_are _ _ = refl
 
-job_step : (a b : CallCode) → ordering_then (call.ghosts.cmp a b) (by_caller.ghosts.cmp caller.Job caller.Step) ≡ nat_cmp (call_place a caller.Job) (call_place b caller.Step)
+job_step : (a b : CallCode) → ordering_then (call.ghosts.cmp a b) (by_caller.ghosts.cmp caller.Job caller.Step) ≡ nat_cmp (place_in_kind (C.Call a caller.Job)) (place_in_kind (C.Call b caller.Step))
 job_step NoWorkflow NoWorkflow = refl
 job_step _ NoWorkflow = refl
 job_step _ _ = refl
 
-step_job : (a b : CallCode) → ordering_then (call.ghosts.cmp a b) (by_caller.ghosts.cmp caller.Step caller.Job) ≡ nat_cmp (call_place a caller.Step) (call_place b caller.Job)
+step_job : (a b : CallCode) → ordering_then (call.ghosts.cmp a b) (by_caller.ghosts.cmp caller.Step caller.Job) ≡ nat_cmp (place_in_kind (C.Call a caller.Step)) (place_in_kind (C.Call b caller.Job))
 step_job NoWorkflow NoWorkflow = refl
 step_job _ NoWorkflow = refl
 step_job _ _ = refl
 
-steps_are : (a b : CallCode) → ordering_then (call.ghosts.cmp a b) (by_caller.ghosts.cmp caller.Step caller.Step) ≡ nat_cmp (call_place a caller.Step) (call_place b caller.Step)
+steps_are : (a b : CallCode) → ordering_then (call.ghosts.cmp a b) (by_caller.ghosts.cmp caller.Step caller.Step) ≡ nat_cmp (place_in_kind (C.Call a caller.Step)) (place_in_kind (C.Call b caller.Step))
 steps_are NoWorkflow NoWorkflow = refl
 steps_are _ NoWorkflow = refl
 steps_are _ _ = refl
 
-call_is : (a : CallCode) (c : Caller) (b : CallCode) (d : Caller) → ordering_then (call.ghosts.cmp a b) (by_caller.ghosts.cmp c d) ≡ nat_cmp (call_place a c) (call_place b d)
+call_is : (a : CallCode) (c : Caller) (b : CallCode) (d : Caller) → ordering_then (call.ghosts.cmp a b) (by_caller.ghosts.cmp c d) ≡ nat_cmp (place_in_kind (C.Call a c)) (place_in_kind (C.Call b d))
 call_is a caller.Job b caller.Job = jobs_are a b
 call_is a caller.Job b caller.Step = job_step a b
 call_is a caller.Step b caller.Job = step_job a b
@@ -158,17 +158,17 @@ fault_cmp_total =
 yaml_at : ℕ → YamlCode
 yaml_at n = get_or (NotUtf8 ∷ ControlCharacter ∷ TabInIndentation ∷ WrongIndentation ∷ UnclosedQuote ∷ UnclosedFlow ∷ AnchorOrAlias ∷ Tag
     ∷ ExplicitKey ∷ Directive ∷ SecondDocument ∷ WrongEscape ∷ UnexpectedCharacter ∷ NestingTooDeep ∷ TooManyNodes ∷ WrongBlockHeader
-    ∷ WrongKey ∷ UnknownAlias ∷ []) n NotUtf8
+    ∷ WrongKey ∷ UnknownAlias ∷ []) (pred n) NotUtf8
 
-yaml_back : (a : YamlCode) → yaml_at (yaml_place a) ≡ a
+yaml_back : (a : YamlCode) → yaml_at (place_in_kind (C.Yaml a)) ≡ a
 unfolding yaml_at
 yaml_back NotUtf8 = refl
 yaml_back _ = refl
 
 key_at : ℕ → KeyCode
-key_at n = get_or (Unexpected ∷ Missing ∷ Repeated ∷ WrongKind ∷ WrongType ∷ NotBeside ∷ EmptyFile ∷ []) n Unexpected
+key_at n = get_or (Unexpected ∷ Missing ∷ Repeated ∷ WrongKind ∷ WrongType ∷ NotBeside ∷ EmptyFile ∷ []) (pred n) Unexpected
 
-key_back : (a : KeyCode) → key_at (key_place a) ≡ a
+key_back : (a : KeyCode) → key_at (place_in_kind (C.Key a)) ≡ a
 unfolding key_at
 key_back Unexpected = refl
 key_back _ = refl
@@ -176,10 +176,10 @@ key_back _ = refl
 rule_at : ℕ → RuleCode
 rule_at n = get_or (UnknownEvent ∷ UnknownActivity ∷ WrongPattern ∷ WrongSchedule ∷ ScheduleTooOften ∷ WrongId ∷ RepeatedId ∷ UndefinedJob
     ∷ NeedsCycle ∷ WrongMatrix ∷ UnknownMatrixRow ∷ UnknownShell ∷ UnknownPermission ∷ WrongPermission ∷ WrongVariable
-    ∷ PasswordNotExpression ∷ DeprecatedCommand ∷ AlwaysTrue ∷ UnknownInputType ∷ UnknownUsing ∷ MissingShell ∷ MissingOutputValue ∷ []) n
+    ∷ PasswordNotExpression ∷ DeprecatedCommand ∷ AlwaysTrue ∷ UnknownInputType ∷ UnknownUsing ∷ MissingShell ∷ MissingOutputValue ∷ []) (pred n)
     UnknownEvent
 
-rule_back : (a : RuleCode) → rule_at (rule_place a) ≡ a
+rule_back : (a : RuleCode) → rule_at (place_in_kind (C.Rule a)) ≡ a
 unfolding rule_at
 rule_back UnknownEvent = refl
 rule_back _ = refl
@@ -187,9 +187,9 @@ rule_back _ = refl
 expression_at : ℕ → ExpressionCode
 expression_at n = get_or (BadCharacter ∷ UnclosedText ∷ UnexpectedToken ∷ EndsEarly ∷ TooLong ∷ TooDeep ∷ UndefinedContext
     ∷ UnavailableContext ∷ UndefinedFunction ∷ UnavailableFunction ∷ ArgumentCount ∷ ArgumentType ∷ UndefinedProperty ∷ NotIndexable
-    ∷ NotComparable ∷ WrongPlaceholder ∷ UnusedArgument ∷ NotText ∷ Untrusted ∷ UnclosedChunk ∷ []) n BadCharacter
+    ∷ NotComparable ∷ WrongPlaceholder ∷ UnusedArgument ∷ NotText ∷ Untrusted ∷ UnclosedChunk ∷ []) (pred n) BadCharacter
 
-expression_back : (a : ExpressionCode) → expression_at (expression_place a) ≡ a
+expression_back : (a : ExpressionCode) → expression_at (place_in_kind (C.Expression a)) ≡ a
 unfolding expression_at
 expression_back BadCharacter = refl
 expression_back _ = refl
@@ -199,20 +199,20 @@ call_at n = get_or (C.Call NoWorkflow caller.Job ∷ C.Call NoWorkflow caller.St
     ∷ C.Call UndefinedInput caller.Step ∷ C.Call MissingInput caller.Job ∷ C.Call MissingInput caller.Step ∷ C.Call WrongInput caller.Job
     ∷ C.Call WrongInput caller.Step ∷ C.Call UndefinedSecret caller.Job ∷ C.Call UndefinedSecret caller.Step
     ∷ C.Call MissingSecret caller.Job ∷ C.Call MissingSecret caller.Step ∷ C.Call WrongUses caller.Job ∷ C.Call WrongUses caller.Step
-    ∷ C.Call NotCallable caller.Job ∷ C.Call NotCallable caller.Step ∷ C.Call LeadsBack caller.Job ∷ C.Call LeadsBack caller.Step ∷ []) n
+    ∷ C.Call NotCallable caller.Job ∷ C.Call NotCallable caller.Step ∷ C.Call LeadsBack caller.Job ∷ C.Call LeadsBack caller.Step ∷ []) (pred (pred n))
     (C.Call NoWorkflow caller.Job)
 
-job_back : (a : CallCode) → call_at (call_place a caller.Job) ≡ C.Call a caller.Job
+job_back : (a : CallCode) → call_at (place_in_kind (C.Call a caller.Job)) ≡ C.Call a caller.Job
 unfolding call_at
 job_back NoWorkflow = refl
 job_back _ = refl
 
-step_back : (a : CallCode) → call_at (call_place a caller.Step) ≡ C.Call a caller.Step
+step_back : (a : CallCode) → call_at (place_in_kind (C.Call a caller.Step)) ≡ C.Call a caller.Step
 unfolding call_at
 step_back NoWorkflow = refl
 step_back _ = refl
 
-call_back : (a : CallCode) (c : Caller) → call_at (call_place a c) ≡ C.Call a c
+call_back : (a : CallCode) (c : Caller) → call_at (place_in_kind (C.Call a c)) ≡ C.Call a c
 call_back a caller.Job = job_back a
 call_back a caller.Step = step_back a
 

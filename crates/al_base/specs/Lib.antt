@@ -8,6 +8,7 @@ pub mod Counted
 pub mod Positions
 pub mod Orders
 pub mod InOrder
+pub mod Codes
 pub mod FaultLists
 pub mod FaultLaws
 pub mod Sink

@@ -24,8 +24,8 @@ returns-clause-all g c =
     ) at c.write_fragments.ensures.all in
     let a = c.args in
     on_ok_weaker c.write_fragments.result
-    (λ x. subst (Appends _ _) (line_is a.place.path.now a.place.line.now a.place.column.now a.wording.head.now (shown a.first.now)
-    a.wording.middle.now (shown a.second.now) a.wording.tail.now a.kind.now) x) w
+    (λ x. subst (Appends _ _) (line_is a.place.path.now a.place.line.now a.place.column.now a.row.head.now (shown a.first.now)
+    a.row.middle.now (shown a.second.now) a.row.tail.now a.row.kind.now) x) w
 
 pub returns-clause-prefix : goal.returns-clause-prefix
 returns-clause-prefix g c =
@@ -40,5 +40,5 @@ returns-clause-prefix g c =
     ) at c.write_fragments.ensures.prefix in
     let a = c.args in
     on_err_weaker c.write_fragments.result
-    (λ x. subst (AppendsPrefix _ _) (line_is a.place.path.now a.place.line.now a.place.column.now a.wording.head.now (shown a.first.now)
-    a.wording.middle.now (shown a.second.now) a.wording.tail.now a.kind.now) x) w
+    (λ x. subst (AppendsPrefix _ _) (line_is a.place.path.now a.place.line.now a.place.column.now a.row.head.now (shown a.first.now)
+    a.row.middle.now (shown a.second.now) a.row.tail.now a.row.kind.now) x) w
