@@ -5,8 +5,10 @@ use Rattle.std.proofs.lemmas.Bool.Decides.{nat_tests}
 use Rattle.std.proofs.lemmas.List.{get_or-drop}
 use Rattle.std.proofs.lemmas.List.Sums.{prefix_len_passes, prefix_len-le-length}
 use Rattle.std.specs.Prelude.{slice_index}
+use Rattle.std.specs.Char.{is_ascii_hexdigit}
+use Rattle.std.specs.List.{prefix_len}
 use Rattle.al_base.specs.FirstBytes.{begins_with, first_is}
-use Rattle.al_expr_grammar.specs.Tokens.{is_digit, is_hex_digit, is_sign, begins_name, goes_on_name, run, with_digits, hex_len, fraction_len}
+use Rattle.al_expr_grammar.specs.Tokens.{is_digit, is_sign, begins_name, goes_on_name, with_digits, hex_len, fraction_len}
 use Rattle.al_expr_grammar.specs.Tokens.{exponent_len, decimal_tail, decimal_len, unsigned_len, number_len, add_to, text_tail}
 use Rattle.al_expr_grammar.specs.Private.TextTails.{after_byte, tail_from}
 use Rattle.al_expr_grammar.proofs.TextTails.{tail_is}
@@ -37,7 +39,7 @@ further bs k (suc m) a b =
 digit_ascii : (b : ℕ) → is_digit b ≡ true → b < 128
 digit_ascii b h = grind (arith, nat_tests)
 
-hex_ascii : (b : ℕ) → is_hex_digit b ≡ true → b < 128
+hex_ascii : (b : ℕ) → is_ascii_hexdigit b ≡ true → b < 128
 hex_ascii b h = grind (arith, nat_tests)
 
 name_ascii : (b : ℕ) → goes_on_name b ≡ true → b < 128
@@ -46,10 +48,10 @@ name_ascii b h = grind (arith, nat_tests)
 name_goes_on : (b : ℕ) → begins_name b ≡ true → goes_on_name b ≡ true
 name_goes_on b h = grind (arith, nat_tests)
 
-run_ends : (p : ℕ → Bool) (bs : List ℕ) → ((b : ℕ) → p b ≡ true → b < 128) → Ends bs (run p bs)
+run_ends : (p : ℕ → Bool) (bs : List ℕ) → ((b : ℕ) → p b ≡ true → b < 128) → Ends bs (prefix_len p bs)
 run_ends p bs f = record {
   within = prefix_len-le-length p bs;
-  last = λ h. f _ (prefix_len_passes p bs (run p bs - 1) 0 (omega arith));
+  last = λ h. f _ (prefix_len_passes p bs (prefix_len p bs - 1) 0 (omega arith));
 }
 
 -- a part that is there only with a digit
@@ -81,7 +83,7 @@ two_begun c d (b ∷ e ∷ bs) h = omega arith
 fraction_ends : (bs : List ℕ) → Ends bs (fraction_len bs)
 fraction_ends bs = either bs _ _ _ (λ h. with_ends bs 1 _ (begun _ bs h) (run_ends is_digit (drop 1 bs) digit_ascii)) (nothing bs)
 
-signed_ends : (bs : List ℕ) → 1 ≤ length bs → Ends bs (cond (first_is is_sign (drop 1 bs)) (with_digits 2 (run is_digit (drop 2 bs))) (with_digits 1 (run is_digit (drop 1 bs))))
+signed_ends : (bs : List ℕ) → 1 ≤ length bs → Ends bs (cond (first_is is_sign (drop 1 bs)) (with_digits 2 (prefix_len is_digit (drop 2 bs))) (with_digits 1 (prefix_len is_digit (drop 1 bs))))
 signed_ends bs h = either bs _ _ _
     (λ s. with_ends bs 2 _ (let n = one_byte _ (drop 1 bs) s in omega (arith, n, length-drop 1 bs))
     (run_ends is_digit (drop 2 bs) digit_ascii)) (with_ends bs 1 _ h (run_ends is_digit (drop 1 bs) digit_ascii))
@@ -90,13 +92,13 @@ exponent_ends : (bs : List ℕ) → Ends bs (exponent_len bs)
 exponent_ends bs = either bs _ _ _ (λ h. signed_ends bs (one_byte _ bs h)) (nothing bs)
 
 hex_ends : (bs : List ℕ) → Ends bs (hex_len bs)
-hex_ends bs = either bs _ _ _ (λ h. with_ends bs 2 _ (two_begun _ _ bs h) (run_ends is_hex_digit (drop 2 bs) hex_ascii)) (nothing bs)
+hex_ends bs = either bs _ _ _ (λ h. with_ends bs 2 _ (two_begun _ _ bs h) (run_ends is_ascii_hexdigit (drop 2 bs) hex_ascii)) (nothing bs)
 
 tail_ends : (bs : List ℕ) → Ends bs (decimal_tail bs)
 tail_ends bs = further bs (fraction_len bs) _ (fraction_ends bs) (exponent_ends (drop (fraction_len bs) bs))
 
 decimal_ends : (bs : List ℕ) → Ends bs (decimal_len bs)
-decimal_ends bs = either bs _ _ _ (λ h. further bs (run is_digit bs) _ (run_ends is_digit bs digit_ascii) (tail_ends (drop (run is_digit bs) bs))) (nothing bs)
+decimal_ends bs = either bs _ _ _ (λ h. further bs (prefix_len is_digit bs) _ (run_ends is_digit bs digit_ascii) (tail_ends (drop (prefix_len is_digit bs) bs))) (nothing bs)
 
 greater : (bs : List ℕ) (x y : ℕ) → Ends bs x → Ends bs y → Ends bs (max x y)
 greater bs x y a b = elim (max_is x y) [ inl e ↦ rw e a | inr e ↦ rw e b ]
@@ -118,7 +120,7 @@ pub name_fits : (b : ℕ) (bs : List ℕ) → begins_name b ≡ true → Fits (b
 name_fits b bs h =
     let e = run_ends goes_on_name (b ∷ bs) name_ascii in
     let g = name_goes_on b h in
-    let some : 0 < run goes_on_name (b ∷ bs) = rw g (omega arith) in
+    let some : 0 < prefix_len goes_on_name (b ∷ bs) = rw g (omega arith) in
     (some, e.within, e.last some)
 
 -- The bytes of a text lie in these, and the last one is a quote, where no quote came last before.

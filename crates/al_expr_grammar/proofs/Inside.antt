@@ -4,6 +4,7 @@ use Rattle.std.specs.List.{AllByRecursion}
 use Rattle.std.specs.Option.{option_map, option_to_list}
 use Rattle.std.proofs.lemmas.Bool.Decides.{nat_tests}
 use Rattle.std.proofs.lemmas.List.Sums.{prefix_len-le-length}
+use Rattle.std.specs.Option.{option_or}
 use Rattle.al_base.specs.Spans.{LiesIn}
 use Rattle.al_base.specs.declared.faults.Fault.{Fault}
 use Rattle.al_base.specs.declared.faults.Span.{Span}
@@ -28,8 +29,8 @@ use Rattle.al_expr_grammar.specs.Lexeme.{Lexeme, lexeme, kinds}
 use Rattle.al_expr_grammar.specs.Refusal.{fault_at, fault_of_content, fault_of_lexed, fault_of_tokens, fault_of_verdict, open_text}
 use Rattle.al_expr_grammar.specs.Table.{Verdict, Fine, Early, Unexpected, TooDeep, verdict_of}
 use Rattle.al_base.specs.FirstBytes.{first_is}
-use Rattle.al_expr_grammar.specs.Tokens.{Lexed, AllRead, Bad, Unclosed, if_none}
-use Rattle.al_expr_grammar.specs.Tokens.{is_inside, is_quote, last_place, last_quote, read}
+use Rattle.al_expr_grammar.specs.Tokens.{Lexed, AllRead, Bad, Unclosed}
+use Rattle.al_expr_grammar.specs.Tokens.{is_inside, is_quote, last_quote, read}
 use Rattle.al_expr_grammar.specs.Tokens.{span, then_token, tokens_of}
 use Rattle.al_expr_grammar.specs.Tree as tree
 use Rattle.al_expr_grammar.specs.Tree.{Sign, sign, Tree, Constant, Named, Call, Group, Negated, Path, Chain, Steps, NoStep, PropertyThen}
@@ -246,7 +247,7 @@ abbrev IsBelow : ℕ → Option ℕ → Type 0
 IsBelow n None = Unit {0}
 IsBelow n (Some q) = q < n
 
-either_below : (n : ℕ) (a b : Option ℕ) → IsBelow n a → IsBelow n b → IsBelow n (if_none a b)
+either_below : (n : ℕ) (a b : Option ℕ) → IsBelow n a → IsBelow n b → IsBelow n (option_or a b)
 either_below n None b h i = i
 either_below n (Some q) b h i = h
 
@@ -258,18 +259,18 @@ further_below : (n : ℕ) (o : Option ℕ) → IsBelow n o → IsBelow (suc n) (
 further_below n None h = tt
 further_below n (Some q) h = omega (arith, h)
 
-last_below : (p : ℕ → Bool) (bs : List ℕ) → IsBelow (length bs) (last_place p bs)
-last_below p [] = tt
-last_below p (b ∷ bs) =
-    either_below (suc (length bs)) (option_map suc (last_place p bs)) (cond (p b) (Some 0) None)
-    (further_below (length bs) (last_place p bs) (last_below p bs)) (here_below (p b) (suc (length bs)) 0 (omega arith))
+last_below : (bs : List ℕ) → IsBelow (length bs) (last_quote bs)
+last_below [] = tt
+last_below (b ∷ bs) =
+    either_below (suc (length bs)) (option_map suc (last_quote bs)) (cond (is_quote b) (Some 0) None)
+    (further_below (length bs) (last_quote bs) (last_below bs)) (here_below (is_quote b) (suc (length bs)) 0 (omega arith))
 
 quote_lies : (n : ℕ) (o : Option ℕ) → IsBelow n o → AllLie n (option_to_list (open_text o))
 quote_lies n None h = tt
 quote_lies n (Some q) h = (record { ordered = omega arith; inside = omega (arith, h) }, tt)
 
 unclosed_lies : (content : List ℕ) → AllLie (length content) (option_to_list (open_text (last_quote content)))
-unclosed_lies content = quote_lies (length content) (last_quote content) (last_below is_quote content)
+unclosed_lies content = quote_lies (length content) (last_quote content) (last_below content)
 
 lexed_fault : (content : List ℕ) (r : Lexed) → LexedLies (length content) 0 r → AllLie (length content) (option_to_list (fault_of_lexed content r))
 lexed_fault content (AllRead ts) l = tt

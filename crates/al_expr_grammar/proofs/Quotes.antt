@@ -1,12 +1,13 @@
 -- A text that is never closed has a quote.
 use Rattle.std.proofs.Common.{◌≡◌, ◌≢◌, ◌-◌, ◌+◌, ℕ, zero, suc, List, [], ◌∷◌, length, arith, refl, sym, ◌∙◌, Bool, true, false, cond, Option, Some, None}
 use Rattle.std.specs.Prelude.{option_map}
+use Rattle.std.specs.Option.{option_or}
 use Rattle.al_expr_grammar.specs.declared.lexer.Read.{Read}
 use Rattle.al_expr_grammar.specs.declared.lexer.Read.TheVariants.{Blank, Token, BadCharacter, OpenText}
 use Rattle.al_expr_grammar.specs.declared.token.TokenKind.{TokenKind}
 use Rattle.al_expr_grammar.specs.Lexeme.{Lexeme}
 use Rattle.al_expr_grammar.specs.Tokens.{Lexed, AllRead, Bad, Unclosed, read, mark, number_read, number_len, or_equal, doubled, tokens_of}
-use Rattle.al_expr_grammar.specs.Tokens.{is_quote, last_quote, then_token, if_none}
+use Rattle.al_expr_grammar.specs.Tokens.{is_quote, last_quote, then_token}
 use Rattle.al_expr_grammar.specs.Private.TokenStates.{continue_with, tokens_from}
 use Rattle.al_expr_grammar.proofs.Splitting.{tokens_are}
 
@@ -50,7 +51,7 @@ begins_with_quote : (b : ℕ) (bs : List ℕ) → read (b ∷ bs) ≡ OpenText �
 begins_with_quote b bs e =
     quote_or _ _ _ (apart _ _ _ (number_apart (number_len (b ∷ bs))) (mark_apart b bs)) (other _ _ _ (token _ _) (other _ _ _ blank_apart e))
 
-some_second : (o : Option ℕ) (n : ℕ) → if_none o (Some n) ≢ None
+some_second : (o : Option ℕ) (n : ℕ) → option_or o (Some n) ≢ None
 some_second None n = λ e. cc
 some_second (Some m) n = λ e. cc
 
@@ -69,7 +70,7 @@ leads P OpenText at bs go here there e = here refl
 at_first : (b : ℕ) (bs : List ℕ) → is_quote b ≡ true → last_quote (b ∷ bs) ≢ None
 at_first b bs h = rw h (some_second (option_map suc (last_quote bs)) 0)
 
-behind_first : (o p : Option ℕ) → o ≢ None → if_none (option_map suc o) p ≢ None
+behind_first : (o p : Option ℕ) → o ≢ None → option_or (option_map suc o) p ≢ None
 behind_first None p f = absurd (f refl)
 behind_first (Some n) p f = λ e. cc
 

@@ -16,15 +16,13 @@ use Rattle.al_expr_grammar.specs.Lexeme.{Lexeme, lexeme}
 use Rattle.std.specs.Char.{is_ascii_alphabetic, is_ascii_digit, is_ascii_hexdigit}
 use Rattle.std.specs.Int.{is_in_range}
 use Rattle.std.specs.List.{prefix_len}
+use Rattle.std.specs.Option.{option_or}
 use Rattle.std.specs.Str.{bytes_eq}
-use Rattle.std.specs.Prelude.{codes, ℕ, zero, suc, ◌+◌, List, [], ◌∷◌, Bool, true, false, ◌&&◌, ◌||◌, ◌==◌, if◌then◌else◌, max}
+use Rattle.std.specs.Prelude.{codes, ℕ, zero, suc, ◌+◌, List, [], ◌∷◌, Bool, ◌&&◌, ◌||◌, ◌==◌, if◌then◌else◌, max}
 use Rattle.std.specs.Prelude.{take, drop, Option, Some, None, option_map, length}
 
 abbrev pub is_digit : ℕ → Bool
 is_digit b = is_ascii_digit b
-
-abbrev pub is_hex_digit : ℕ → Bool
-is_hex_digit b = is_ascii_hexdigit b
 
 abbrev pub begins_name : ℕ → Bool
 begins_name b = is_ascii_alphabetic b || b == ascii.underscore
@@ -41,10 +39,6 @@ is_sign b = b == ascii.plus || b == ascii.dash
 abbrev pub is_quote : ℕ → Bool
 is_quote b = b == ascii.single_quote
 
--- how many bytes at the front pass a test
-abbrev pub run : (ℕ → Bool) → List ℕ → ℕ
-run p bs = prefix_len p bs
-
 -- a part that is there only with at least one digit: so many bytes and the digits behind them
 abbrev pub with_digits : ℕ → ℕ → ℕ
 with_digits lead zero = 0
@@ -53,17 +47,17 @@ with_digits lead (suc n) = lead + suc n
 -- `0x` and hexadecimal digits
 abbrev pub hex_len : List ℕ → ℕ
 hex_len bs =
-    if begins_with ascii.digit_zero bs && begins_with ascii.small_x (drop 1 bs) then with_digits 2 (run is_hex_digit (drop 2 bs)) else 0
+    if begins_with ascii.digit_zero bs && begins_with ascii.small_x (drop 1 bs) then with_digits 2 (prefix_len is_ascii_hexdigit (drop 2 bs)) else 0
 
 -- a dot and digits
 abbrev pub fraction_len : List ℕ → ℕ
-fraction_len bs = if begins_with ascii.dot bs then with_digits 1 (run is_digit (drop 1 bs)) else 0
+fraction_len bs = if begins_with ascii.dot bs then with_digits 1 (prefix_len is_digit (drop 1 bs)) else 0
 
 -- an `e`, a sign or none, and digits
 abbrev pub exponent_len : List ℕ → ℕ
 exponent_len bs =
     if first_is (λ b. b == ascii.capital_e || b == ascii.small_e) bs
-    then (if first_is is_sign (drop 1 bs) then with_digits 2 (run is_digit (drop 2 bs)) else with_digits 1 (run is_digit (drop 1 bs)))
+    then (if first_is is_sign (drop 1 bs) then with_digits 2 (prefix_len is_digit (drop 2 bs)) else with_digits 1 (prefix_len is_digit (drop 1 bs)))
     else 0
 
 -- what follows the digits of a decimal number
@@ -71,7 +65,7 @@ abbrev pub decimal_tail : List ℕ → ℕ
 decimal_tail bs = fraction_len bs + exponent_len (drop (fraction_len bs) bs)
 
 abbrev pub decimal_len : List ℕ → ℕ
-decimal_len bs = if first_is is_digit bs then run is_digit bs + decimal_tail (drop (run is_digit bs) bs) else 0
+decimal_len bs = if first_is is_digit bs then prefix_len is_digit bs + decimal_tail (drop (prefix_len is_digit bs) bs) else 0
 
 -- a number's length without its sign, the longest that fits, or 0 where there is none
 abbrev pub unsigned_len : List ℕ → ℕ
@@ -81,8 +75,7 @@ abbrev pub number_len : List ℕ → ℕ
 number_len bs = if first_is is_sign bs then with_digits 1 (unsigned_len (drop 1 bs)) else unsigned_len bs
 
 abbrev pub add_to : ℕ → Option ℕ → Option ℕ
-add_to n None = None
-add_to n (Some m) = Some (n + m)
+add_to n o = option_map (λ m. n + m) o
 
 -- How many bytes follow the quote that opens a text, its closing quote included, where it is closed: two quotes stand for one in the
 -- text, and the first that is single closes it.
@@ -101,13 +94,11 @@ word_kind b =
 
 -- the same mark alone or before `=`
 abbrev pub or_equal : Bool → TokenKind → TokenKind → Read
-or_equal true alone equal = Token equal 2
-or_equal false alone equal = Token alone 1
+or_equal is_before_equal alone equal = if is_before_equal then Token equal 2 else Token alone 1
 
 -- a mark that stands doubled
 abbrev pub doubled : Bool → TokenKind → Read
-doubled true k = Token k 2
-doubled false k = BadCharacter
+doubled is_doubled k = if is_doubled then Token k 2 else BadCharacter
 
 abbrev pub mark : ℕ → List ℕ → Read
 mark b bs =
@@ -136,7 +127,7 @@ number_read zero = BadCharacter
 number_read (suc n) = Token Number (suc n)
 
 abbrev pub name_read : List ℕ → Read
-name_read bs = Token (word_kind (take (run goes_on_name bs) bs)) (run goes_on_name bs)
+name_read bs = Token (word_kind (take (prefix_len goes_on_name bs) bs)) (prefix_len goes_on_name bs)
 
 abbrev pub read : List ℕ → Read
 read [] = BadCharacter
@@ -167,7 +158,7 @@ is_inside b = is_in_range 0x80 0xBF b
 
 -- the character that bytes begin with which stand at a place
 abbrev pub character_at : ℕ → List ℕ → Span
-character_at at bs = span at (at + 1 + run is_inside (drop 1 bs))
+character_at at bs = span at (at + 1 + prefix_len is_inside (drop 1 bs))
 
 -- what bytes begin with, and the rest behind it
 abbrev pub with_first : (ℕ → List ℕ → Lexed) → Read → ℕ → List ℕ → Lexed
@@ -185,15 +176,7 @@ tokens_within (suc n) at (b ∷ bs) = with_first (tokens_within n) (read (b ∷ 
 abbrev pub tokens_of : List ℕ → Lexed
 tokens_of content = tokens_within (length content) 0 content
 
-abbrev pub if_none : Option ℕ → Option ℕ → Option ℕ
-if_none None o = o
-if_none (Some n) o = Some n
-
--- the place of the last of some bytes that pass a test
-abbrev pub last_place : (ℕ → Bool) → List ℕ → Option ℕ
-last_place p [] = None
-last_place p (b ∷ bs) = if_none (option_map suc (last_place p bs)) (if p b then Some 0 else None)
-
 -- the place of the last quote
 abbrev pub last_quote : List ℕ → Option ℕ
-last_quote bs = last_place is_quote bs
+last_quote [] = None
+last_quote (b ∷ bs) = option_or (option_map suc (last_quote bs)) (if is_quote b then Some 0 else None)

@@ -1,8 +1,9 @@
 //! The tokens of a content, or the character at which they break off.
 
 ghost use Rattle.std.specs.Prelude.{map, ℕ, IfOk, IfSome, MatchOption, MatchResult, ◌≡◌, ◌≤◌, ◌<◌, ◌+◌, ◌^◌, Some, [], ◌∷◌, length, false};
+ghost use Rattle.std.specs.List.{prefix_len};
 ghost use Rattle.al_expr_grammar.specs.Lexeme.{seen};
-ghost use Rattle.al_expr_grammar.specs.Tokens.{begins_name, goes_on_name, is_blank, is_sign, is_inside, run, or_equal, doubled, mark};
+ghost use Rattle.al_expr_grammar.specs.Tokens.{begins_name, goes_on_name, is_blank, is_sign, is_inside, or_equal, doubled, mark};
 ghost use Rattle.al_base.specs.Ascii as ascii;
 ghost use Rattle.al_base.specs.FirstBytes.{begins_with};
 ghost use Rattle.al_base.specs.Limits.{longest_text};
@@ -67,7 +68,7 @@ fn name_part(b: u8) -> bool
 
 /// How many bytes of a name stand at the front.
 fn name_len(bytes: &[u8]) -> usize
-    ensures value { result ≡ run goes_on_name bytes.now }
+    ensures value { result ≡ prefix_len goes_on_name bytes.now }
     ensures within { result ≤ length bytes.now }
 {
     bytes.iter().take_while(|b| name_part(**b)).count()
@@ -75,7 +76,7 @@ fn name_len(bytes: &[u8]) -> usize
 
 /// How many bytes at the front continue a character.
 fn inside_len(bytes: &[u8]) -> usize
-    ensures value { result ≡ run is_inside bytes.now }
+    ensures value { result ≡ prefix_len is_inside bytes.now }
     ensures within { result ≤ length bytes.now }
 {
     bytes

@@ -1,7 +1,9 @@
 //! How far a number reaches.
 
 ghost use Rattle.std.specs.Prelude.{◌≡◌, ◌≤◌, ◌<◌, ◌+◌, ◌^◌, length};
-ghost use Rattle.al_expr_grammar.specs.Tokens.{is_digit, is_hex_digit, run, with_digits, fraction_len, exponent_len, hex_len, decimal_len};
+ghost use Rattle.std.specs.Char.{is_ascii_hexdigit};
+ghost use Rattle.std.specs.List.{prefix_len};
+ghost use Rattle.al_expr_grammar.specs.Tokens.{is_digit, with_digits, fraction_len, exponent_len, hex_len, decimal_len};
 ghost use Rattle.al_expr_grammar.specs.Tokens.{unsigned_len, number_len};
 
 /// Whether a byte is a decimal digit.
@@ -13,14 +15,14 @@ pub fn digit(b: u8) -> bool
 
 /// Whether a byte is a hexadecimal digit, of either case.
 fn hex_digit(b: u8) -> bool
-    ensures { result ≡ is_hex_digit b }
+    ensures { result ≡ is_ascii_hexdigit b }
 {
     digit(b) || (b'A' <= b && b <= b'F') || (b'a' <= b && b <= b'f')
 }
 
 /// How many digits stand at the front.
 fn digits(bytes: &[u8]) -> usize
-    ensures value { result ≡ run is_digit bytes.now }
+    ensures value { result ≡ prefix_len is_digit bytes.now }
     ensures within { result ≤ length bytes.now }
 {
     bytes.iter().take_while(|b| digit(**b)).count()
@@ -28,7 +30,7 @@ fn digits(bytes: &[u8]) -> usize
 
 /// How many hexadecimal digits stand at the front.
 fn hex_digits(bytes: &[u8]) -> usize
-    ensures value { result ≡ run is_hex_digit bytes.now }
+    ensures value { result ≡ prefix_len is_ascii_hexdigit bytes.now }
     ensures within { result ≤ length bytes.now }
 {
     bytes.iter().take_while(|b| hex_digit(**b)).count()

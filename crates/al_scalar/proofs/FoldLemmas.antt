@@ -2,7 +2,7 @@
 use Rattle.std.proofs.Common.{◌≡◌, ℕ, suc, ◌<◌, List, [], ◌∷◌, ◌++◌, length, drop, drop-cons, slice_index, refl, sym, ap, ◌∙◌, append_assoc}
 use Rattle.std.proofs.Common.{Bool, true, false, ◌==◌, cond, inl, inr, ◌⊎◌, Option, Some, None, Result, Ok, Err}
 use Rattle.al_base.specs.declared.codes.YamlCode.TheVariants.{UnclosedQuote, WrongEscape}
-use Rattle.al_scalar.specs.Line.{Cell, Line, lines, with_return, cut, after_blanks, begins}
+use Rattle.al_scalar.specs.Line.{Cell, Line, lines, with_return, cut, after_blanks}
 use Rattle.al_scalar.specs.Taken.{Fault, Taken, before, fault}
 use Rattle.al_scalar.specs.Quoted.{QuotedLine, QuotedEnd, closed, broken, escaped, cut_short, single_part, line_given, single_quoted}
 use Rattle.al_scalar.specs.Places.{first_text, first_end, lines_at}
@@ -59,21 +59,21 @@ cut-same x y xs ys s =
     ∙ ap (λ r. y ∷ r) s.later
 
 -- a line that the closing quote ends
-pub quoted-closed : (q next : ℕ) (xs ys : List Line) → has_line xs ≡ true → has_line ys ≡ true → SameLine xs ys → (single_part 0 (first_text xs)).stop ≡ closed next (first_text ys)
-    → single_quoted q xs ≡ Ok (record { text = (single_part 0 (first_text xs)).text; end = next; left = ys })
+pub quoted-closed : (q next : ℕ) (xs ys : List Line) → has_line xs ≡ true → has_line ys ≡ true → SameLine xs ys → (single_part (first_text xs)).stop ≡ closed next (first_text ys)
+    → single_quoted q xs ≡ Ok (record { text = (single_part (first_text xs)).text; end = next; left = ys })
 quoted-closed q next [] ys h k s e = cc
 quoted-closed q next (x ∷ xs) [] h k s e = cc
 quoted-closed q next (x ∷ xs) (y ∷ ys) h k s e =
-    line_given-at q (single_part 0 x.text) (closed next y.text) x xs (λ b. single_lines q b xs) e
-    ∙ ap (λ l. Ok (record { text = (single_part 0 x.text).text; end = next; left = l })) (cut-same x y xs ys s)
+    line_given-at q (single_part x.text) (closed next y.text) x xs (λ b. single_lines q b xs) e
+    ∙ ap (λ l. Ok (record { text = (single_part x.text).text; end = next; left = l })) (cut-same x y xs ys s)
 
 -- a line that its break ends
-pub quoted-broken : (q : ℕ) (xs : List Line) → has_line xs ≡ true → first_last xs ≡ false → (single_part 0 (first_text xs)).stop ≡ broken
-    → single_quoted q xs ≡ before (single_part 0 (first_text xs)).text (single_lines q (Some (first_end xs)) (later xs))
+pub quoted-broken : (q : ℕ) (xs : List Line) → has_line xs ≡ true → first_last xs ≡ false → (single_part (first_text xs)).stop ≡ broken
+    → single_quoted q xs ≡ before (single_part (first_text xs)).text (single_lines q (Some (first_end xs)) (later xs))
 quoted-broken q [] h k e = cc
 quoted-broken q (x ∷ xs) h k e =
-    line_given-at q (single_part 0 x.text) broken x xs (λ b. single_lines q b xs) e
-    ∙ ap (λ z. cond z (fault UnclosedQuote q) (before (single_part 0 x.text).text (single_lines q (Some x.end) xs))) k
+    line_given-at q (single_part x.text) broken x xs (λ b. single_lines q b xs) e
+    ∙ ap (λ z. cond z (fault UnclosedQuote q) (before (single_part x.text).text (single_lines q (Some x.end) xs))) k
 
 -- ---- against offsets
 
@@ -81,13 +81,19 @@ quoted-broken q (x ∷ xs) h k e =
 pub after_blanks-solid : (c : Cell) (cs : List Cell) → (IsBlankByte c.0 → ⊥) → after_blanks (c ∷ cs) ≡ c ∷ cs
 after_blanks-solid c cs h = ap (λ b. cond b (after_blanks cs) (c ∷ cs)) (is_blank-no c h)
 
-pub part-solid : (c : Cell) (cs : List Cell) → (IsBlankByte c.0 → ⊥) → is_nothing (single_part 0 (c ∷ cs)) ≡ false
-part-solid c cs h = part-cases c cs (c.0 == 39) (begins 39 cs) refl refl h
+pub part-solid : (c : Cell) (cs : List Cell) → (IsBlankByte c.0 → ⊥) → is_nothing (single_part (c ∷ cs)) ≡ false
+part-solid c [] h = last_cell c (c.0 == 39) refl h
   where
-    part-cases : (c : Cell) (cs : List Cell) (x y : Bool) → (c.0 == 39) ≡ x → begins 39 cs ≡ y → (IsBlankByte c.0 → ⊥) → is_nothing (single_part 0 (c ∷ cs)) ≡ false
-    part-cases c cs true true e f h = rw (e, f) refl
-    part-cases c cs true false e f h = rw (e, f) refl
-    part-cases c cs false y e f h = rw (e, is_blank-no c h) refl
+    last_cell : (c : Cell) (x : Bool) → (c.0 == 39) ≡ x → (IsBlankByte c.0 → ⊥) → is_nothing (single_part (c ∷ [])) ≡ false
+    last_cell c true e h = rw e refl
+    last_cell c false e h = rw (e, is_blank-no c h) refl
+part-solid c (d ∷ cs) h = two_cells c d cs (c.0 == 39) (d.0 == 39) refl refl h
+  where
+    two_cells : (c d : Cell) (cs : List Cell) (x y : Bool) → (c.0 == 39) ≡ x → (d.0 == 39) ≡ y → (IsBlankByte c.0 → ⊥)
+        → is_nothing (single_part (c ∷ d ∷ cs)) ≡ false
+    two_cells c d cs true true e f h = rw (e, f) refl
+    two_cells c d cs true false e f h = rw (e, f) refl
+    two_cells c d cs false y e f h = rw (e, is_blank-no c h) refl
 
 -- at a break the line ends there, and isn't the last one
 pub end-with_return : (at : ℕ) (ls : List Line) → has_line ls ≡ true → first_end (with_return at ls) ≡ at

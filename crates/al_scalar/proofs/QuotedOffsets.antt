@@ -3,7 +3,7 @@ use Rattle.std.proofs.Common.{◌≡◌, ℕ, zero, suc, ◌+◌, ◌<◌, ◌�
 use Rattle.std.proofs.Common.{not, if◌then◌else◌, ◌&&◌, ◌==◌, nat_lt, Option, Some, None, Result, Ok, Err, encode_utf8}
 use Rattle.std.proofs.lemmas.Str.{length-encode, len_utf8_bounds}
 use Rattle.al_base.specs.Ascii as ascii
-use Rattle.al_scalar.specs.Line.{Cell, Line, place, is_blank, after_blanks, is_empty, begins}
+use Rattle.al_scalar.specs.Line.{Cell, Line, place, is_blank, after_blanks, is_empty}
 use Rattle.al_scalar.specs.Offsets.{AreRising, AreClimbing, AreLines}
 use Rattle.al_scalar.specs.Quoted.{QuotedLine, QuotedEnd, closed, broken, escaped, cut_short, is_broken, with_own, single_part}
 use Rattle.al_scalar.specs.Quoted.{escape_table, digits_table, lookup, hex_value, is_scalar_value, written, part_before, own_before}
@@ -40,18 +40,21 @@ own-from low end c p a h =
 
 -- ---- single quotes
 
-single-from : (n low end : ℕ) (cs : List Cell) → AreClimbing low end cs → IsPart low end (single_part n cs)
-single-from zero low end [] h = from-none low end h
-single-from (suc n) low end [] h = from-none low end h
-single-from (suc n) low end (c ∷ cs) h = let p = single_part n cs in let a = h.0 in stop-lower (c.1 + 1) low end p.text p.stop (omega (arith, a)) (single-from n (c.1 + 1) end cs h.1)
-single-from zero low end (c ∷ cs) h =
-    let pair = single_part 1 cs in
+single-from : (low end : ℕ) (cs : List Cell) → AreClimbing low end cs → IsPart low end (single_part cs)
+single-from low end [] h = from-none low end h
+single-from low end (c ∷ []) h =
     let a = h.0 in
-    choose (IsPart low end) (not (c.0 == ascii.single_quote)) (λ _. own-from low end c (single_part 0 cs) a (single-from 0 (c.1 + 1) end cs h.1))
-    (λ _. choose (IsPart low end) (begins ascii.single_quote cs)
+    choose (IsPart low end) (c.0 == ascii.single_quote) (λ _. (from-none low (c.1 + 1) (omega (arith, a)), (climbing-place (c.1 + 1) end [] h.1).0))
+    (λ _. own-from low end c (single_part []) a (from-none (c.1 + 1) end h.1))
+single-from low end (c ∷ d ∷ cs) h =
+    let pair = single_part cs in
+    let a = h.0 in
+    let b = h.1.0 in
+    choose (IsPart low end) (not (c.0 == ascii.single_quote)) (λ _. own-from low end c (single_part (d ∷ cs)) a (single-from (c.1 + 1) end (d ∷ cs) h.1))
+    (λ _. choose (IsPart low end) (d.0 == ascii.single_quote)
     (λ _. stop-behind low (c.1 + 1) end (c ∷ []) pair.text pair.stop (from-one low (c.1 + 1) c.0 c.1 a (omega arith))
-    (single-from 1 (c.1 + 1) end cs h.1))
-    (λ _. (from-none low (c.1 + 1) (omega (arith, a)), (climbing-place (c.1 + 1) end cs h.1).0)))
+    (stop-lower (d.1 + 1) (c.1 + 1) end pair.text pair.stop (omega (arith, b)) (single-from (d.1 + 1) end cs h.1.1)))
+    (λ _. (from-none low (c.1 + 1) (omega (arith, a)), (climbing-place (c.1 + 1) end (d ∷ cs) h.1).0)))
 
 -- ---- double quotes
 
@@ -169,7 +172,7 @@ quoted-from part q quote low (l ∷ ls) k = by-part (part l.text) (q low l.end l
         (λ e b f. lines-from part q quote l.end (l.end + 1) b ls f (tail-lines l.end l.last ls e k.1))
 
 pub single_quoted-from : (quote low : ℕ) (ls : List Line) → AreLines low ls → AreTaken low (single_quoted quote ls)
-single_quoted-from quote low ls h = quoted-from (λ text. Ok (single_part 0 text)) (λ low end cs k. single-from 0 low end cs k) quote low ls h
+single_quoted-from quote low ls h = quoted-from (λ text. Ok (single_part text)) (λ low end cs k. single-from low end cs k) quote low ls h
 
 pub double_quoted-from : (quote low : ℕ) (ls : List Line) → AreLines low ls → AreTaken low (double_quoted quote ls)
 double_quoted-from quote low ls h = quoted-from (double_part 0) (λ low end cs k. double-from 0 low end cs k) quote low ls h

@@ -25,8 +25,9 @@ is_blank-no c h =
     let m : c.0 ≢ 9 = λ e. h (inr e) in
     grind (arith, common_steps, n, m)
 
-single_part-other : (c : Cell) (cs : List Cell) → c.0 ≢ 39 → single_part 0 (c ∷ cs) ≡ with_own c (single_part 0 cs)
-single_part-other c cs h = grind (arith, common_steps, h)
+single_part-other : (c : Cell) (cs : List Cell) → c.0 ≢ 39 → single_part (c ∷ cs) ≡ with_own c (single_part cs)
+single_part-other c [] h = grind (arith, common_steps, h)
+single_part-other c (d ∷ cs) h = grind (arith, common_steps, h)
 
 pub with_own-solid : (c : Cell) (p : QuotedLine) → is_nothing p ≡ false → with_own c p ≡ with_cells (c ∷ []) p
 with_own-solid c p h = grind (arith, common_steps, h)
@@ -42,7 +43,7 @@ blank-other b (inl e) = omega arith
 blank-other b (inr e) = omega arith
 
 -- blanks at the end of a line give nothing
-pub single_part-blanks : (cs : List Cell) → AreBlank cs → single_part 0 cs ≡ record { text = []; stop = broken }
+pub single_part-blanks : (cs : List Cell) → AreBlank cs → single_part cs ≡ record { text = []; stop = broken }
 single_part-blanks [] h = refl
 single_part-blanks (c ∷ cs) h =
     let below = single_part-blanks cs h.1 in
@@ -53,12 +54,12 @@ is_nothing-with_cells [] p h = h
 is_nothing-with_cells (c ∷ cs) p h = refl
 
 -- blanks before something stay
-pub single_part-run : (cs rest : List Cell) → AreBlank cs → is_nothing (single_part 0 rest) ≡ false → single_part 0 (cs ++ rest) ≡ with_cells cs (single_part 0 rest)
+pub single_part-run : (cs rest : List Cell) → AreBlank cs → is_nothing (single_part rest) ≡ false → single_part (cs ++ rest) ≡ with_cells cs (single_part rest)
 single_part-run [] rest h s = refl
 single_part-run (c ∷ cs) rest h s =
     let below = single_part-run cs rest h.1 s in
     single_part-other c (cs ++ rest) (blank-other c.0 h.0) ∙ ap (with_own c) below
-    ∙ with_own-solid c (with_cells cs (single_part 0 rest)) (is_nothing-with_cells cs (single_part 0 rest) s)
+    ∙ with_own-solid c (with_cells cs (single_part rest)) (is_nothing-with_cells cs (single_part rest) s)
 
 abbrev pub has_line : List Line → Bool
 has_line [] = false
@@ -165,16 +166,17 @@ begins-next bytes j h n = begins-at bytes j (eq-or-lt_of_le h) (byte_kind (slice
 
 pub part-broken : (bytes : List ℕ) (i j : ℕ) (run : List Cell) → RunBefore run (lines_at bytes i) (lines_at bytes j) → AreBlank run
     → first_text (lines_at bytes j) ≡ [] → part_at bytes i ≡ record { text = []; stop = broken }
-part-broken bytes i j run r b e = ap (single_part 0) (r.text ∙ ap (λ t. run ++ t) e ∙ append-nil run) ∙ single_part-blanks run b
+part-broken bytes i j run r b e = ap (single_part) (r.text ∙ ap (λ t. run ++ t) e ∙ append-nil run) ∙ single_part-blanks run b
 
-part-quote : (c : Cell) (cs : List Cell) → c.0 ≡ 39 → begins 39 cs ≡ false → single_part 0 (c ∷ cs) ≡ record { text = []; stop = closed (c.1 + 1) cs }
-part-quote c cs e h = grind (arith, common_steps, e, h)
+part-quote : (c : Cell) (cs : List Cell) → c.0 ≡ 39 → begins 39 cs ≡ false → single_part (c ∷ cs) ≡ record { text = []; stop = closed (c.1 + 1) cs }
+part-quote c [] e h = grind (arith, common_steps, e)
+part-quote c (d ∷ cs) e h = grind (arith, common_steps, e, h)
 
-part-pair : (c d : Cell) (cs : List Cell) → c.0 ≡ 39 → d.0 ≡ 39 → single_part 0 (c ∷ d ∷ cs) ≡ with_cells (c ∷ []) (single_part 0 cs)
+part-pair : (c d : Cell) (cs : List Cell) → c.0 ≡ 39 → d.0 ≡ 39 → single_part (c ∷ d ∷ cs) ≡ with_cells (c ∷ []) (single_part cs)
 part-pair c d cs e f = grind (arith, common_steps, e, f)
 
-part-byte : (c : Cell) (cs : List Cell) → c.0 ≢ 39 → (IsBlankByte c.0 → ⊥) → single_part 0 (c ∷ cs) ≡ with_cells (c ∷ []) (single_part 0 cs)
-part-byte c cs n m = single_part-other c cs n ∙ with_own-other c (single_part 0 cs) m
+part-byte : (c : Cell) (cs : List Cell) → c.0 ≢ 39 → (IsBlankByte c.0 → ⊥) → single_part (c ∷ cs) ≡ with_cells (c ∷ []) (single_part cs)
+part-byte c cs n m = single_part-other c cs n ∙ with_own-other c (single_part cs) m
 
 with_cells-two : (xs ys : List Cell) (p : QuotedLine) → with_cells xs (with_cells ys p) ≡ with_cells (xs ++ ys) p
 with_cells-two xs ys p = ap (λ t. record { text = t; stop = p.stop }) (sym (append_assoc xs ys p.text))
@@ -187,7 +189,7 @@ pub record Goes (bytes : List ℕ) (i next : ℕ) (run : List Cell) : Type 0 whe
 part-run : (bytes : List ℕ) (i j : ℕ) (run : List Cell) (p : QuotedLine) → RunBefore run (lines_at bytes i) (lines_at bytes j) → AreBlank run
     → part_at bytes j ≡ p → is_nothing p ≡ false → part_at bytes i ≡ with_cells run p
 part-run bytes i j run p r b q s =
-    ap (single_part 0) r.text ∙ single_part-run run (first_text (lines_at bytes j)) b (ap is_nothing q ∙ s) ∙ ap (with_cells run) q
+    ap (single_part) r.text ∙ single_part-run run (first_text (lines_at bytes j)) b (ap is_nothing q ∙ s) ∙ ap (with_cells run) q
 
 -- the blanks between i and j stand before a byte on the same line
 module _ (bytes : List ℕ) (i j : ℕ) (run : List Cell) (r : RunBefore run (lines_at bytes i) (lines_at bytes j)) (b : AreBlank run)
@@ -195,7 +197,7 @@ module _ (bytes : List ℕ) (i j : ℕ) (run : List Cell) (r : RunBefore run (li
   pub goes-byte : slice_index bytes j ≢ 39 → (IsBlankByte (slice_index bytes j) → ⊥) → Goes bytes i (j + 1) (run ++ (slice_index bytes j, j) ∷ [])
   goes-byte q k =
       let cell = cell_at bytes j l n m in
-      let own : part_at bytes j ≡ with_cells ((slice_index bytes j, j) ∷ []) (part_at bytes (j + 1)) = ap (single_part 0) cell.text
+      let own : part_at bytes j ≡ with_cells ((slice_index bytes j, j) ∷ []) (part_at bytes (j + 1)) = ap (single_part) cell.text
       ∙ part-byte (slice_index bytes j, j) (first_text (lines_at bytes (j + 1))) q k in
       record {
         part = part-run bytes i j run _ r b own refl ∙ with_cells-two run ((slice_index bytes j, j) ∷ []) (part_at bytes (j + 1));
@@ -207,7 +209,7 @@ module _ (bytes : List ℕ) (i j : ℕ) (run : List Cell) (r : RunBefore run (li
       let cell = cell_at bytes j l n m in
       let next = cell_at bytes (j + 1) k (omega arith) (omega arith) in
       let both = run_then ((slice_index bytes j, j) ∷ []) ((slice_index bytes (j + 1), j + 1) ∷ []) cell next in
-      let own : part_at bytes j ≡ with_cells ((slice_index bytes j, j) ∷ []) (part_at bytes (j + 1 + 1)) = ap (single_part 0) both.text
+      let own : part_at bytes j ≡ with_cells ((slice_index bytes j, j) ∷ []) (part_at bytes (j + 1 + 1)) = ap (single_part) both.text
       ∙ part-pair (slice_index bytes j, j) (slice_index bytes (j + 1), j + 1) (first_text (lines_at bytes (j + 1 + 1))) e f in
       let two : j + 1 + 1 ≡ j + 2 = omega arith in
       subst (λ k. Goes bytes i k (run ++ (slice_index bytes j, j) ∷ [])) two (record {
@@ -219,7 +221,7 @@ module _ (bytes : List ℕ) (i j : ℕ) (run : List Cell) (r : RunBefore run (li
       → part_at bytes i ≡ record { text = run; stop = closed (j + 1) (first_text (lines_at bytes (j + 1))) }
   stops-quote e k =
       let cell = cell_at bytes j l n m in
-      let own : part_at bytes j ≡ record { text = []; stop = closed (j + 1) (first_text (lines_at bytes (j + 1))) } = ap (single_part 0)
+      let own : part_at bytes j ≡ record { text = []; stop = closed (j + 1) (first_text (lines_at bytes (j + 1))) } = ap (single_part)
       cell.text ∙ part-quote (slice_index bytes j, j) (first_text (lines_at bytes (j + 1))) e
       (begins-next bytes (j + 1) (omega arith) k) in
       part-run bytes i j run _ r b own refl ∙ ap (λ t. record { text = t; stop = closed (j + 1) (first_text (lines_at bytes (j + 1))) }) (append-nil run)

@@ -5,7 +5,7 @@ use Rattle.std.proofs.lemmas.Grind.{common_steps}
 use Rattle.std.specs.Prelude.{IsUtf8}
 use Rattle.std.proofs.lemmas.Str.{IsUtf8-append, IsUtf8-take, IsUtf8-drop, IsCharBoundary-before_ascii, IsCharBoundary-after_ascii}
 use Rattle.al_base.specs.Ascii as ascii
-use Rattle.al_scalar.specs.Line.{Cell, Line, lines, is_break, with_cell, with_return, is_blank, after_blanks, begins, is_empty}
+use Rattle.al_scalar.specs.Line.{Cell, Line, lines, is_break, with_cell, with_return, is_blank, after_blanks, is_empty}
 use Rattle.al_base.specs.FirstBytes.{begins_with}
 use Rattle.al_scalar.specs.Quoted.{QuotedLine, is_broken, with_own, single_part}
 use Rattle.al_scalar.proofs.OffsetLemmas.{choose}
@@ -147,15 +147,13 @@ own-keeps c cs p k =
     (λ e. keeps-drop c cs p.text (blank-ascii c (both-left (is_blank c) (is_empty p.text) (both-left (is_blank c && is_empty p.text) (is_broken p.stop) e))) k)
     (λ _. keeps-own c cs p.text k)
 
-quote-skipped : (cs : List Cell) → begins 39 cs ≡ true → AreSkipped 1 cs
-quote-skipped [] h = cc
-quote-skipped (c ∷ cs) h = (equal-ascii c.0 39 (omega arith) h, tt)
-
-pub single-keeps : (n : ℕ) (cs : List Cell) → AreSkipped n cs → PartKeeps cs (single_part n cs)
-single-keeps zero [] s = keeps-all []
-single-keeps (suc n) [] s = keeps-all []
-single-keeps (suc n) (c ∷ cs) s = keeps-drop c cs (single_part n cs).text s.0 (single-keeps n cs s.1)
-single-keeps zero (c ∷ cs) s =
-    choose (PartKeeps (c ∷ cs)) (not (c.0 == ascii.single_quote)) (λ _. own-keeps c cs (single_part 0 cs) (single-keeps 0 cs tt))
-    (λ e. choose (PartKeeps (c ∷ cs)) (begins ascii.single_quote cs) (λ f. keeps-own c cs (single_part 1 cs).text (single-keeps 1 cs (quote-skipped cs f)))
-    (λ _. keeps-none c cs (equal-ascii c.0 39 (omega arith) (not-false (c.0 == 39) e))))
+pub single-keeps : (cs : List Cell) → PartKeeps cs (single_part cs)
+single-keeps [] = keeps-all []
+single-keeps (c ∷ []) =
+    choose (PartKeeps (c ∷ [])) (c.0 == ascii.single_quote) (λ e. keeps-none c [] (equal-ascii c.0 39 (omega arith) e))
+    (λ _. own-keeps c [] (single_part []) (keeps-all []))
+single-keeps (c ∷ d ∷ cs) =
+    choose (PartKeeps (c ∷ d ∷ cs)) (not (c.0 == ascii.single_quote)) (λ _. own-keeps c (d ∷ cs) (single_part (d ∷ cs)) (single-keeps (d ∷ cs)))
+    (λ e. choose (PartKeeps (c ∷ d ∷ cs)) (d.0 == ascii.single_quote)
+    (λ f. keeps-own c (d ∷ cs) (single_part cs).text (keeps-drop d cs (single_part cs).text (equal-ascii d.0 39 (omega arith) f) (single-keeps cs)))
+    (λ _. keeps-none c (d ∷ cs) (equal-ascii c.0 39 (omega arith) (not-false (c.0 == 39) e))))

@@ -4,7 +4,7 @@ use Rattle.std.proofs.Common.{false, not, if◌then◌else◌, ◌&&◌, ◌||�
 use Rattle.std.proofs.lemmas.Str.{IsUtf8-nil}
 use Rattle.std.specs.Prelude.{IsUtf8}
 use Rattle.al_base.specs.Ascii as ascii
-use Rattle.al_scalar.specs.Line.{Cell, Line, place, is_blank, after_blanks, begins, is_empty, is_all_blank}
+use Rattle.al_scalar.specs.Line.{Cell, Line, place, is_blank, after_blanks, is_empty, is_all_blank}
 use Rattle.al_scalar.specs.Block.{Header, header, content_indent, Rows, row_of, at_end, with_row, rows_at, text_after, rows_end, block_scalar}
 use Rattle.al_scalar.specs.Plain.{Context, is_flow, is_value_colon, ends_plain, plain_part, continues, ended_before, plain_lines, plain}
 use Rattle.al_scalar.specs.Quoted.{QuotedLine, QuotedEnd, closed, broken, escaped, cut_short, is_broken, with_own, single_part}
@@ -42,14 +42,16 @@ own-leaves : (c : Cell) (cs : List Cell) (p : QuotedLine) → PartLeaves cs p �
 own-leaves c cs p k =
     choose (PartLeaves (c ∷ cs)) (is_blank c && is_empty p.text && is_broken p.stop) (λ _. leaves-more c cs p.stop k) (λ _. leaves-more c cs p.stop k)
 
-single-leaves : (n : ℕ) (cs : List Cell) → PartLeaves cs (single_part n cs)
-single-leaves zero [] = λ p u. tt
-single-leaves (suc n) [] = λ p u. tt
-single-leaves (suc n) (c ∷ cs) = leaves-more c cs (single_part n cs).stop (single-leaves n cs)
-single-leaves zero (c ∷ cs) =
-    choose (PartLeaves (c ∷ cs)) (not (c.0 == ascii.single_quote)) (λ _. own-leaves c cs (single_part 0 cs) (single-leaves 0 cs))
-    (λ e. choose (PartLeaves (c ∷ cs)) (begins ascii.single_quote cs) (λ _. leaves-more c cs (single_part 1 cs).stop (single-leaves 1 cs))
-    (λ _. leaves-closed (c.1 + 1) c cs (equal-ascii c.0 39 (omega arith) (not-false (c.0 == 39) e))))
+single-leaves : (cs : List Cell) → PartLeaves cs (single_part cs)
+single-leaves [] = λ p u. tt
+single-leaves (c ∷ []) =
+    choose (PartLeaves (c ∷ [])) (c.0 == ascii.single_quote) (λ e. leaves-closed (c.1 + 1) c [] (equal-ascii c.0 39 (omega arith) e))
+    (λ _. own-leaves c [] (single_part []) (λ p u. tt))
+single-leaves (c ∷ d ∷ cs) =
+    choose (PartLeaves (c ∷ d ∷ cs)) (not (c.0 == ascii.single_quote)) (λ _. own-leaves c (d ∷ cs) (single_part (d ∷ cs)) (single-leaves (d ∷ cs)))
+    (λ e. choose (PartLeaves (c ∷ d ∷ cs)) (d.0 == ascii.single_quote)
+    (λ _. leaves-more c (d ∷ cs) (single_part cs).stop (leaves-more d cs (single_part cs).stop (single-leaves cs)))
+    (λ _. leaves-closed (c.1 + 1) c (d ∷ cs) (equal-ascii c.0 39 (omega arith) (not-false (c.0 == 39) e))))
 
 abbrev GivesLeaves : List Cell → Result QuotedLine Fault → Type 0
 GivesLeaves cs (Ok p) = Leaves cs p.stop
@@ -142,7 +144,7 @@ quoted-left part q quote [] u = tt
 quoted-left part q quote (l ∷ ls) u = quoted-by part q quote l ls u.1 (part l.text) (q l.text u.0)
 
 pub single-left : (quote : ℕ) (ls : List Line) → AreUtf8 ls → LeavesText (single_quoted quote ls)
-single-left quote ls u = quoted-left (λ text. Ok (single_part 0 text)) (λ cs k. single-leaves 0 cs [] k) quote ls u
+single-left quote ls u = quoted-left (λ text. Ok (single_part text)) (λ cs k. single-leaves cs [] k) quote ls u
 
 double-stop : (cs : List Cell) (r : Result QuotedLine Fault) → GivesLeaves cs r → IsText cs → GivesStop r
 double-stop cs (Ok p) k u = k [] u

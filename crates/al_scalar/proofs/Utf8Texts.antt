@@ -96,7 +96,7 @@ quoted-text part q quote [] u = tt
 quoted-text part q quote (l ∷ ls) u = quoted-by part q quote l ls u.1 (part l.text) (q l.text u.0)
 
 pub single-text : (quote : ℕ) (ls : List Line) → AreUtf8 ls → TakesText (single_quoted quote ls)
-single-text quote ls u = quoted-text (λ text. Ok (single_part 0 text)) (λ cs k. single-keeps 0 cs tt [] k) quote ls u
+single-text quote ls u = quoted-text (λ text. Ok (single_part text)) (λ cs k. single-keeps cs [] k) quote ls u
 
 -- the lines behind an ASCII character
 first-text : (q : ℕ) (cs : List Cell) → q < 128 → begins q cs ≡ true → IsText cs → IsText (drop 1 cs)

@@ -3,7 +3,7 @@ use Rattle.std.specs.Prelude.{ℕ, zero, suc, ◌+◌, ◌*◌, ◌-◌, List, [
 use Rattle.std.specs.Prelude.{◌==◌, nat_le, nat_lt, if◌then◌else◌, Option, Some, None, Result, Ok, Err, encode_utf8}
 use Rattle.al_base.specs.Ascii as ascii
 use Rattle.al_base.specs.declared.codes.YamlCode.TheVariants as yaml
-use Rattle.al_scalar.specs.Line.{Cell, Line, cut, is_blank, after_blanks, is_empty, begins}
+use Rattle.al_scalar.specs.Line.{Cell, Line, cut, is_blank, after_blanks, is_empty}
 use Rattle.al_scalar.specs.Taken.{Fault, Taken, ◌>>=◌, before, fault, folded}
 
 -- How a quoted scalar leaves a line: it is closed, with the cells behind the quote; it goes on after the break;
@@ -30,16 +30,18 @@ with_cells cs p = record { text = cs ++ p.text; stop = p.stop }
 abbrev pub with_own : Cell → QuotedLine → QuotedLine
 with_own c p = if is_blank c && is_empty p.text && is_broken p.stop then p else with_cells (c ∷ []) p
 
--- Single quotes: two quotes are a quote. The number counts the cells that belong to the one before.
-abbrev pub single_part : ℕ → List Cell → QuotedLine
-single_part n [] = record { text = []; stop = broken }
-single_part (suc n) (c ∷ cs) = single_part n cs
-single_part zero (c ∷ cs) =
-    let more = single_part 0 cs in
-    let more_after_pair = single_part 1 cs in
-    if not (c.0 == ascii.single_quote) then with_own c more
-    else (if begins ascii.single_quote cs then with_cells (c ∷ []) more_after_pair
-    else record { text = []; stop = closed (c.1 + 1) cs })
+-- a quote that closes, and the cells behind it
+abbrev pub closed_by : Cell → List Cell → QuotedLine
+closed_by c cs = record { text = []; stop = closed (c.1 + 1) cs }
+
+-- Single quotes: two quotes are a quote.
+abbrev pub single_part : List Cell → QuotedLine
+single_part [] = record { text = []; stop = broken }
+single_part (c ∷ []) = if c.0 == ascii.single_quote then closed_by c [] else with_own c (single_part [])
+single_part (c ∷ d ∷ cs) =
+    if not (c.0 == ascii.single_quote) then with_own c (single_part (d ∷ cs))
+    else if d.0 == ascii.single_quote then with_cells (c ∷ []) (single_part cs)
+    else closed_by c (d ∷ cs)
 
 -- The one-letter escapes of 5.7.
 abbrev pub escape_table : List (ℕ × ℕ)
@@ -112,7 +114,7 @@ double_part (suc n) (c ∷ cs) = double_part n cs
 double_part zero (c ∷ cs) =
     let more = (λ (n : ℕ). double_part n cs) in
     let next = double_part 0 cs in
-    if c.0 == ascii.double_quote then Ok (record { text = []; stop = closed (c.1 + 1) cs })
+    if c.0 == ascii.double_quote then Ok (closed_by c cs)
     else (if c.0 == ascii.backslash then escape c.1 cs more else own_before c next)
 
 -- The break after a line, which is folded unless it is escaped.
@@ -148,7 +150,7 @@ quoted part quote [] = fault yaml.UnclosedQuote quote
 quoted part quote (l ∷ ls) = part l.text >>= (λ p. line_given quote [] p l ls (λ b. quoted_lines part quote b ls))
 
 abbrev pub single_quoted : ℕ → List Line → Result Taken Fault
-single_quoted quote ls = quoted (λ text. Ok (single_part 0 text)) quote ls
+single_quoted quote ls = quoted (λ text. Ok (single_part text)) quote ls
 
 abbrev pub double_quoted : ℕ → List Line → Result Taken Fault
 double_quoted quote ls = quoted (double_part 0) quote ls

@@ -32,14 +32,14 @@ GivesStop low end (Err e) = e.at ≤ end
 own-stops : (low end : ℕ) (c : Cell) (p : QuotedLine) → PartStops low end p → PartStops low end (with_own c p)
 own-stops low end c p h = choose (PartStops low end) (is_blank c && is_empty p.text && is_broken p.stop) (λ _. h) (λ _. h)
 
-single-stops : (n low end : ℕ) (cs : List Cell) → AreClimbing low end cs → PartStops low end (single_part n cs)
-single-stops zero low end [] h = tt
-single-stops (suc n) low end [] h = tt
-single-stops (suc n) low end (c ∷ cs) h = single-stops n low end cs (climbing-behind low end c cs h)
-single-stops zero low end (c ∷ cs) h =
-    let k = climbing-behind low end c cs h in
-    choose (PartStops low end) (not (c.0 == ascii.single_quote)) (λ _. own-stops low end c (single_part 0 cs) (single-stops 0 low end cs k))
-    (λ _. choose (PartStops low end) (begins ascii.single_quote cs) (λ _. single-stops 1 low end cs k) (λ _. k))
+single-stops : (low end : ℕ) (cs : List Cell) → AreClimbing low end cs → PartStops low end (single_part cs)
+single-stops low end [] h = tt
+single-stops low end (c ∷ []) h =
+    choose (PartStops low end) (c.0 == ascii.single_quote) (λ _. climbing-behind low end c [] h) (λ _. own-stops low end c (single_part []) tt)
+single-stops low end (c ∷ d ∷ cs) h =
+    let k = climbing-behind low end c (d ∷ cs) h in
+    choose (PartStops low end) (not (c.0 == ascii.single_quote)) (λ _. own-stops low end c (single_part (d ∷ cs)) (single-stops low end (d ∷ cs) k))
+    (λ _. choose (PartStops low end) (d.0 == ascii.single_quote) (λ _. single-stops low end cs (climbing-behind low end d cs k)) (λ _. k))
 
 part-stops : (low end : ℕ) (ws : List Cell) (r : Result QuotedLine Fault) → GivesStop low end r → GivesStop low end (part_before ws r)
 part-stops low end ws (Ok p) h = h
@@ -128,7 +128,7 @@ module _ (size quote : ℕ) (q : quote ≤ size) where
   quoted-left part r low (l ∷ ls) h = quoted-by part r low l ls h (part l.text) (r low l.end l.text h.0.0)
 
   pub single-left : (low : ℕ) (ls : List Line) → Stand size low ls → Leaves size low (single_quoted quote ls)
-  single-left low ls h = quoted-left (λ text. Ok (single_part 0 text)) (λ low end cs k. single-stops 0 low end cs k) low ls h
+  single-left low ls h = quoted-left (λ text. Ok (single_part text)) (λ low end cs k. single-stops low end cs k) low ls h
 
   pub double-left : (low : ℕ) (ls : List Line) → Stand size low ls → Leaves size low (double_quoted quote ls)
   double-left low ls h = quoted-left (double_part 0) (λ low end cs k. double-stops 0 low end cs k) low ls h
