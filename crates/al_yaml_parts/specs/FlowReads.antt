@@ -13,6 +13,7 @@ use Rattle.al_yaml_parts.specs.Answers.{mark_of, noting}
 use Rattle.al_yaml_parts.specs.Reads.{State, run, Stops, IsBehind, part_of}
 use Rattle.al_yaml_parts.specs.declared.faults.ReadError.{ReadError}
 use Rattle.al_yaml_parts.specs.declared.flow_nodes.FlowKey.{FlowKey}
+use Rattle.al_yaml_parts.specs.declared.flow_nodes.FlowSlot.{FlowSlot}
 use Rattle.al_yaml_parts.specs.declared.flow_nodes.Found.{Found}
 use Rattle.al_yaml_parts.specs.declared.flow_nodes.Found.TheVariants as found
 use Rattle.al_yaml_parts.specs.declared.flow_nodes.FoundKey.{FoundKey}
@@ -66,6 +67,6 @@ abbrev pub IsFoundKey : List ℕ → ℕ → FoundKey → Type 0
 IsFoundKey bytes at (found_key.Key k) = IsKeyInside bytes at k
 IsFoundKey bytes at found_key.Opens = IsBracket bytes at at
 
--- where an empty node would stand
-abbrev pub flow_slot : ℕ → Option ℕ → flow.FlowSlot
-flow_slot opening empty = record { opening = opening; empty = empty }
+-- where a node is due
+abbrev pub flow_slot : FlowSlot → flow.FlowSlot
+flow_slot slot = record { opening = slot.opening; empty = slot.empty }
