@@ -29,7 +29,7 @@ use al_yaml_parts::content::gap;
 use al_yaml_parts::faults::ReadError;
 use al_yaml_parts::file::{File, Progress};
 use al_yaml_parts::flow_nodes::{
-    Bracket, FlowSlot, Found, FoundKey, complete, read_flow_key, read_flow_property,
+    Bracket, FlowSlot, FoundKey, FoundNode, complete, read_flow_key, read_flow_property,
     read_flow_scalar, read_flow_value,
 };
 use al_yaml_parts::frames::{FlowFrame, Open, OpenMapping};
@@ -166,8 +166,8 @@ fn read_property_item(
         empty: None,
     };
     match read_flow_property(file, state, slot, place.at, place.depth)? {
-        Found::Node(part) => Ok(FlowStep::Behind(put_item(file, place.opening, items, part)?)),
-        Found::Opens(bracket) => Ok(FlowStep::Opens(bracket)),
+        FoundNode::Node(part) => Ok(FlowStep::Behind(put_item(file, place.opening, items, part)?)),
+        FoundNode::Opens(bracket) => Ok(FlowStep::Opens(bracket)),
     }
 }
 
@@ -233,14 +233,14 @@ fn read_entry(
         }
     };
     match read_flow_value(file, state, place.opening, &key, place.depth)? {
-        Found::Node(part) => Ok(FlowStep::Behind(put_entry(
+        FoundNode::Node(part) => Ok(FlowStep::Behind(put_entry(
             file,
             place.opening,
             &mut mapping.entries,
             key.read,
             part,
         )?)),
-        Found::Opens(bracket) => {
+        FoundNode::Opens(bracket) => {
             mapping.waits = Some(key.read);
             Ok(FlowStep::Opens(bracket))
         }

@@ -56,7 +56,7 @@ pub struct FlowSlot {
 /// What stands where a node is due in a flow collection: an alias, a scalar or an empty node, which was read, or the bracket
 /// of a collection.
 #[derive(Drop)]
-pub enum Found {
+pub enum FoundNode {
     Node(Part),
     Opens(Bracket),
 }
@@ -168,7 +168,7 @@ pub fn read_flow_scalar(file: &File, state: &mut State, at: usize) -> Result<Par
 
 /// Reads a node without anchor in a flow collection, if it is no collection.
 #[inline(always)]
-fn read_flow_content(file: &File, state: &mut State, at: usize) -> Result<Found, ReadError>
+fn read_flow_content(file: &File, state: &mut State, at: usize) -> Result<FoundNode, ReadError>
     requires inside { at ≤ size file.now }
     requires plain { false ≡ content.is_property (text_at file.now.bytes.now at) }
     ensures fault { IfErr result (IsStopInside (size file.now)) }
@@ -180,9 +180,9 @@ fn read_flow_content(file: &File, state: &mut State, at: usize) -> Result<Found,
 {
     // a bracket has no fault
     if is_flow_start(file.bytes, at) {
-        return Ok(Found::Opens(Bracket { at, anchor: None }));
+        return Ok(FoundNode::Opens(Bracket { at, anchor: None }));
     }
-    Ok(Found::Node(read_flow_scalar(file, state, at)?))
+    Ok(FoundNode::Node(read_flow_scalar(file, state, at)?))
 }
 
 /// Reads an alias.
@@ -210,7 +210,7 @@ pub fn read_flow_property(
     slot: FlowSlot,
     at: usize,
     depth: u32,
-) -> Result<Found, ReadError>
+) -> Result<FoundNode, ReadError>
     requires inside { at ≤ size file.now }
     requires property { content.is_property (text_at file.now.bytes.now at) ≡ true }
     requires opening { slot.opening ≤ size file.now }
@@ -228,7 +228,7 @@ pub fn read_flow_property(
         }));
     }
     if begins(file.bytes, at, b'*') {
-        return Ok(Found::Node(read_alias(file, state, at, depth)?));
+        return Ok(FoundNode::Node(read_alias(file, state, at, depth)?));
     }
     let found = read_behind_anchor(
         file,
@@ -237,8 +237,8 @@ pub fn read_flow_property(
         gap(file.bytes, property_end(file.bytes, at)),
     )?;
     match found {
-        Found::Node(part) => Ok(Found::Node(complete(file, state, Some(at), part)?)),
-        Found::Opens(bracket) => Ok(Found::Opens(Bracket {
+        FoundNode::Node(part) => Ok(FoundNode::Node(complete(file, state, Some(at), part)?)),
+        FoundNode::Opens(bracket) => Ok(FoundNode::Opens(Bracket {
             at: bracket.at,
             anchor: Some(at),
         })),
@@ -274,7 +274,7 @@ fn read_behind_anchor(
     state: &mut State,
     slot: FlowSlot,
     at: usize,
-) -> Result<Found, ReadError>
+) -> Result<FoundNode, ReadError>
     requires inside { at ≤ size file.now }
     requires opening { slot.opening ≤ size file.now }
     requires empty { IfSome slot.empty (λ i. i ≤ at) }
@@ -300,7 +300,7 @@ fn read_behind_anchor(
             }));
         };
         let part = empty_part(file, state, empty, at)?;
-        return Ok(Found::Node(part));
+        return Ok(FoundNode::Node(part));
     }
     if let Some(code) = flow_fault(file.bytes, at) {
         return Err(ReadError::Fault(FaultAt { code, at }));
@@ -322,7 +322,7 @@ pub fn read_flow_node(
     slot: FlowSlot,
     at: usize,
     depth: u32,
-) -> Result<Found, ReadError>
+) -> Result<FoundNode, ReadError>
     requires inside { at ≤ size file.now }
     requires opening { slot.opening ≤ size file.now }
     requires empty { IfSome slot.empty (λ i. i ≤ at) }
@@ -345,7 +345,7 @@ pub fn read_flow_value(
     opening: usize,
     key: &FlowKey,
     depth: u32,
-) -> Result<Found, ReadError>
+) -> Result<FoundNode, ReadError>
     requires inside { IsKeyInside file.now.bytes.now key.now.read.span.start key.now }
     requires opening { opening ≤ size file.now }
     ensures fault { IfErr result (IsStopInside (size file.now)) }
@@ -358,7 +358,7 @@ pub fn read_flow_value(
 {
     let Some(colon) = key.colon else {
         let part = empty_part(file, state, key.read.span.end as usize, key.read.next)?;
-        return Ok(Found::Node(part));
+        return Ok(FoundNode::Node(part));
     };
     let at = gap(file.bytes, colon);
     if is_text_end(file.bytes, at) {
@@ -369,7 +369,7 @@ pub fn read_flow_value(
     }
     if ends_value(file.bytes, at) {
         let part = empty_part(file, state, colon, at)?;
-        return Ok(Found::Node(part));
+        return Ok(FoundNode::Node(part));
     }
     let slot = FlowSlot {
         opening,

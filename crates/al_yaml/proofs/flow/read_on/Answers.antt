@@ -1,4 +1,4 @@
-use Rattle.std.proofs.Common.{◌≡◌, ◌+◌, ◌∷◌, length, map, refl, sym, ap, subst, arith}
+use Rattle.std.proofs.Common.{◌∷◌, length, map, refl, sym, ap, subst, arith}
 use Rattle.std.proofs.lemmas.Result.{err_from_is_err_and}
 use Rattle.al_yaml.specs.Private.FlowAnswers.{Keeps}
 use Rattle.al_yaml.specs.Private.FlowFrames.{AreOpen, frame_of, open_of, waiting_of}
