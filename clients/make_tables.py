@@ -69,7 +69,8 @@ def names(crates: Path) -> dict[str, list[str]]:
     """The lists of names, each sorted."""
     settings = definitions(crates / lists_page.SETTINGS)
     events = definitions(crates / lists_page.ACTIVITIES)
-    shape = (crates / lists_page.SHAPES).read_text(encoding="utf-8")
+    rules = [lists_page.parts_of(right.strip()) for _, right in lists_page.EQUATION.findall(lists_page.shape_table(crates))
+             if right.strip() != "None"]
     types = definitions(crates / lists_page.FUNCTION_NAMES)
     objects = definitions(crates / "al_check_contexts/specs/Contexts.antt")
     lists = {
@@ -77,7 +78,7 @@ def names(crates: Path) -> dict[str, list[str]]:
         # The rows are pairs of lists, each ended by `[]`: events, and their types.
         "activity types": [name for types_of in events["activities"].split("[]")[1::2] for name in lists_page.NAME.findall(types_of)],
         "input types": lists_page.NAME.findall(events["dispatch_types"]),
-        "keys": [lists_page.NAME.findall(names_of_field)[-1] for _, names_of_field, _ in lists_page.FIELD.findall(shape)],
+        "keys": [field[0] for parts in rules for field in lists_page.fields_of(parts["fields"] or "")],
         "contexts": lists_page.NAME.findall(types["context_name"]),
         "functions": lists_page.NAME.findall(types["function_name"]),
         "properties": lists_page.NAME.findall((crates / lists_page.FIXED).read_text(encoding="utf-8"))
@@ -102,7 +103,7 @@ def syntax(top: Path) -> dict[str, dict | list]:
         meanings.setdefault(heading, {})[name] = meaning
     rows = lists_page.availability_rows(crates)
     return {
-        "shapes": shapes((crates / lists_page.SHAPES).read_text(encoding="utf-8"), meanings),
+        "shapes": shapes(lists_page.shape_table(crates), meanings),
         "activity types": {name: types for name, types in lists_page.activity_types(crates).items() if types},
         "call input types": lists_page.names_of((crates / lists_page.ACTIVITIES).read_text(encoding="utf-8"), "call_types"),
         "permission values": {name: lists_page.names_of((crates / lists_page.SETTINGS).read_text(encoding="utf-8"), name)
@@ -119,13 +120,12 @@ def shapes(text: str, meanings: dict[str, dict]) -> dict[str, dict]:
     """Of each shape which scalars and items it takes, and its keys: those of a section, or free ones with values of a shape."""
     found: dict[str, dict] = {}
     for name, right in lists_page.EQUATION.findall(text):
-        parts = {"scalars": "AnyScalar", "items": "Any", "keys": None} if right.strip() == "None" else lists_page.parts_of(right.strip())
-        keys = parts["keys"] or ""
-        free = re.fullmatch(r"\(free (\w+)\)", keys)
-        shape = {"scalars": parts["scalars"], "items": parts["items"], "free": free[1] if free else None}
-        if keys and not free:
-            shape |= {"section": lists_page.name_of(name), "others": lists_page.OTHERS.search(keys)[3] or "wrong",
-                      "keys": {row.pop("key"): row for row in fields(keys, name)}}
+        anything = right.strip() == "None"
+        parts = {"scalars": "AnyScalar", "items": "Any", "free": None, "fields": None} if anything else lists_page.parts_of(right.strip())
+        shape = {"scalars": parts["scalars"], "items": parts["items"], "free": parts["free"]}
+        if parts["fields"]:
+            others = "wrong" if lists_page.NAME.search(parts["others"]) else parts["others"]
+            shape |= {"section": lists_page.name_of(name), "others": others, "keys": fields(parts["fields"])}
         found[name] = shape
     for heading, rows in meanings.items():
         if heading.endswith(UNCHECKED):
@@ -139,14 +139,9 @@ def shapes(text: str, meanings: dict[str, dict]) -> dict[str, dict]:
     return found
 
 
-def fields(keys: str, shape: str) -> list[dict]:
+def fields(text: str) -> dict[str, dict]:
     """The fields of a section: `need` is True, None, or the key that stands in its place; `clash` the key that it can't stand beside."""
-    rows = []
-    for form, names_of_field, value in lists_page.FIELD.findall(keys):
-        *others, key = lists_page.NAME.findall(names_of_field)
-        need = True if form == "must" else others[0] if form.startswith("must_unless") else None
-        rows.append({"key": key, "shape": value, "need": need, "clash": others[0] if others else None})
-    return rows
+    return {key: {"shape": shape, "need": need, "clash": other} for key, shape, need, _, other in lists_page.fields_of(text)}
 
 
 def definitions(file: Path) -> dict[str, str]:

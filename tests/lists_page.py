@@ -22,20 +22,19 @@ UNTRUSTED = "al_expr_typing/specs/Untrusted.antt"
 LIMITS = "al_base/specs/Limits.antt"
 
 NAME = re.compile(r'codes "([^"]+)"')
-# Of the table of shapes: an equation, a field, and what other keys are.
+# Of the table of shapes: an equation, the forms of its right side, and a field.
 EQUATION = re.compile(r"^rule (\w+) = (.*?)(?=^rule |^-- |\Z)", re.DOTALL | re.MULTILINE)
-FIELD = re.compile(r"(may|must|not_after|not_beside|must_unless_after|must_unless_beside)((?: \(codes \"[^\"]+\"\))+) (\w+)")
-OTHERS = re.compile(r"keys (?:\((wrong_beside) \(codes \"([^\"]+)\"\)\)|(wrong|events|unchecked)) \(")
+FORMS = (
+    re.compile(r"list_of (?P<items>\w+)"),
+    re.compile(r"map_of (?P<free>\w+)"),
+    re.compile(r"section \((?P<fields>.*)\)", re.DOTALL),
+    re.compile(r"takes (?P<scalars>\w+) None \(free (?P<free>\w+)\)"),
+    re.compile(r"takes (?P<scalars>\w+) (?:None|\(Some (?P<items>\w+)\)) no_keys"),
+    re.compile(r"takes (?P<scalars>\w+) (?:None|\(Some (?P<items>\w+)\)) \(keys (?P<others>\w+|\(.*?\)\)) \((?P<fields>.*)\)\)", re.DOTALL),
+)
+FIELD = re.compile(r'(may|must|not_beside|either|field (?:optional|\(unless [^)]*\)\)) \((?:after|beside) [^)]*\)\))((?: "[^"]+")+) (\w+)')
 SCALARS = {"AnyScalar": "text", "NotNull": "text that is not null", "Bools": "flag", "Numbers": "number", "Chunks": "expression",
            "NoScalar": None}
-FORMS = {
-    "scalar": ("scalars",),
-    "scalar_or": ("scalars", "keys"),
-    "scalar_or_list": ("scalars", "items"),
-    "scalar_list_or": ("scalars", "items", "keys"),
-    "list_of": ("items",),
-    "mapping": ("keys",),
-}
 OTHER_KEYS = {"wrong": [], "events": [("any other", "an *event* where it is the name of one, else anything", "")],
               "unchecked": [("any other", "anything, and repeated keys too", "")]}
 # Of the table of places: a row, and a list that rows name.
@@ -88,6 +87,12 @@ def names_of(text, name):
     return NAME.findall(found[1]) if found else sys.exit(f"the list {name} isn't read")
 
 
+def shape_table(crates):
+    """The table of shapes, in which a section of `on` goes by its own name."""
+    text = (crates / SHAPES).read_text(encoding="utf-8").replace("(On Events)", "On")
+    return re.sub(r"\(On (\w+)\)", r"\1", text)
+
+
 def name_of(shape):
     """The words of a shape's name."""
     return " ".join(re.findall(r"[A-Z][a-z]*", shape)).lower()
@@ -95,15 +100,11 @@ def name_of(shape):
 
 def parts_of(text):
     """The parts of an equation's right side: which scalars, items and mappings are taken."""
-    form, rest = text.split(None, 1)
-    parts = {"scalars": "NoScalar", "items": None, "keys": None}
-    for part in FORMS[form]:
-        if part == "keys":
-            parts["keys"] = rest.strip()
-        else:
-            parts[part], _, rest = rest.partition(" ")
-            parts[part] = parts[part].strip()
-    return parts
+    found = [by.fullmatch(text) for by in FORMS if by.fullmatch(text)]
+    if not found:
+        sys.exit(f"an equation of the table isn't read: {text}")
+    parts = {"scalars": "NoScalar", "items": None, "free": None, "others": "wrong", "fields": None}
+    return parts | found[0].groupdict()
 
 
 def value_of(shape, rules):
@@ -115,21 +116,35 @@ def value_of(shape, rules):
         kinds.append(SCALARS[parts["scalars"]])
     if parts["items"]:
         kinds.append("a list of " + value_of(parts["items"], rules))
-    free = re.fullmatch(r"\(free (\w+)\)", parts["keys"] or "")
-    if free:
-        kinds.append("a mapping with any keys of " + value_of(free[1], rules))
-    elif parts["keys"]:
+    if parts["free"]:
+        kinds.append("a mapping with any keys of " + value_of(parts["free"], rules))
+    if parts["fields"]:
         kinds.append(f"*{name_of(shape)}*")
     return ", or ".join(kinds)
 
 
-def row_of(form, keys, shape, rules):
+def fields_of(text):
+    """The fields of a section: the key, the shape of its value, whether it has to stand or in place of which key, and beside or behind
+    which key it cannot stand."""
+    if not re.fullmatch(r"[∷+\[\]\s]*", FIELD.sub("", text)):
+        sys.exit(f"a field of the table isn't read: {text}")
+    found = []
+    for form, names, shape in FIELD.findall(text):
+        *others, key = re.findall(r'"([^"]+)"', names)
+        if form == "either":
+            found += [(others[0], shape, None, "after", key), (key, shape, None, "after", others[0])]
+            continue
+        other = (NAME.findall(form) or others or [None])[-1]
+        need = True if form == "must" else other if "unless" in form else None
+        found.append((key, shape, need, "after" if "(after" in form else "beside", other))
+    return found
+
+
+def row_of(key, shape, need, where, other, rules):
     """A key's row: itself, with a mark where it has to stand, what it takes, and where it can stand."""
-    others, key = keys[:-1], keys[-1]
-    shown = f"**`{key}`**" if form.startswith("must") else f"`{key}`"
-    needed = f" unless there is `{others[0]}`" if form.startswith("must_unless") else ""
-    where = "not after" if form.endswith("after") else "not beside"
-    return shown + needed, value_of(shape, rules), f"{where} `{others[0]}`" if others else ""
+    shown = f"**`{key}`**" if need else f"`{key}`"
+    needed = f" unless there is `{need}`" if isinstance(need, str) else ""
+    return shown + needed, value_of(shape, rules), f"not {where} `{other}`" if other else ""
 
 
 def sections_of(text):
@@ -137,21 +152,18 @@ def sections_of(text):
     rules = {name: None if right.strip() == "None" else parts_of(right.strip()) for name, right in EQUATION.findall(text)}
     sections = {}
     for shape, parts in rules.items():
-        if not parts or not parts["keys"] or parts["keys"].startswith("(free"):
+        if not parts or not parts["fields"]:
             continue
-        beside, other, plain = OTHERS.search(parts["keys"]).groups()
-        fields = FIELD.findall(parts["keys"])
-        if len(fields) != parts["keys"].count("∷") - parts["keys"].count("∷ []") + 1 - (0 if fields else 1):
-            sys.exit(f"{shape}: a field of the table isn't read")
-        rows = [row_of(form, NAME.findall(keys), value, rules) for form, keys, value in fields]
-        sections[name_of(shape)] = rows + ([("any other", "none", f"not beside `{other}`")] if beside else OTHER_KEYS[plain])
+        rows = [row_of(*field, rules) for field in fields_of(parts["fields"])]
+        beside = NAME.findall(parts["others"])
+        sections[name_of(shape)] = rows + ([("any other", "none", f"not beside `{beside[0]}`")] if beside else OTHER_KEYS[parts["others"]])
     return sections
 
 
 def section_keys(crates):
     """The keys of each section, what each takes, and where it can stand; of neighbours that take the same one row."""
     rows = []
-    for name, found in sections_of((crates / SHAPES).read_text()).items():
+    for name, found in sections_of(shape_table(crates)).items():
         for number, (same, keys) in enumerate(itertools.groupby(found, key=lambda row: row[1:])):
             rows.append((f"*{name}*" if number == 0 else "", ", ".join(row[0] for row in keys), *same))
     return table_of(("Section", "Key", "Value", "Where"), rows)

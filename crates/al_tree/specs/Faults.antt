@@ -23,7 +23,8 @@ use Rattle.al_tree.specs.Table.{Field, Rule, Keys, no_keys, free, keys, rule, Ne
 use Rattle.al_tree.specs.Table.{beside, Others, wrong, wrong_beside, unchecked, events}
 use Rattle.al_tree.specs.declared.standings.Standing as rust
 use Rattle.al_tree.specs.declared.table.Shape.{Shape}
-use Rattle.al_tree.specs.declared.table.Shape.TheVariants.{On, Jobs, Job, Event, Any, Runs, NodeRuns, CompositeRuns, DockerRuns}
+use Rattle.al_tree.specs.declared.table.Shape.TheVariants.{On, Jobs, Job, Any, Runs, NodeRuns, CompositeRuns, DockerRuns}
+use Rattle.al_tree.specs.declared.table.Trigger.TheVariants.{Events, Event}
 use Rattle.al_tree.specs.declared.table.ScalarSet.{ScalarSet}
 use Rattle.al_tree.specs.declared.table.ScalarSet.TheVariants.{NoScalar, AnyScalar, NotNull, Bools, Numbers, Chunks}
 
@@ -79,8 +80,7 @@ scalar_fault Numbers s = unless_taken (is_number_class s.class || has_chunk (tex
 scalar_fault Chunks s = unless_taken (has_chunk (text_of s)) WrongKind
 
 abbrev pub fault_if_any : Option codes_key.KeyCode → List ℕ → Span → List Fault
-fault_if_any None above at = []
-fault_if_any (Some key) above at = one_fault key at above
+fault_if_any key above at = option_map_or (λ k. one_fault k at above) key []
 
 -- `runs` by what `using` says; where that is nothing known, only `using` is checked
 abbrev pub runs_of : List ℕ → Shape
@@ -96,7 +96,7 @@ refined s es = s
 
 -- every key but `on`, `jobs` and a job's own takes null
 abbrev pub takes_null : Shape → Bool
-takes_null On = false
+takes_null (On Events) = false
 takes_null Jobs = false
 takes_null Job = false
 takes_null _ = true
@@ -134,11 +134,10 @@ pub data Standing : Type 0 where
 
 -- the first of equal keys counts
 abbrev pub first : Bool → Standing → Standing
-first true s = repeated
-first false s = s
+first seen s = if seen then repeated else s
 
 abbrev pub event_shape : List ℕ → Shape
-event_shape k = if is_event k then Event else Any
+event_shape k = if is_event k then On Event else Any
 
 abbrev pub other_standing : Others → (List ℕ → Bool) → (List ℕ → Bool) → List ℕ → Standing
 other_standing wrong seen all k = first (seen k) (unexpected None)
@@ -160,8 +159,7 @@ standing (free s) seen all k = first (seen k) (expected s None)
 standing (keys others fs) seen all k = field_standing (field_at k fs) others seen all k
 
 abbrev pub beside_faults : Option (List ℕ) → Node → List Fault
-beside_faults None key = []
-beside_faults (Some other) key = fault NotBeside (span_of key) (key_text key ∷ other ∷ []) ∷ []
+beside_faults other key = option_map_or (λ k. fault NotBeside (span_of key) (key_text key ∷ k ∷ []) ∷ []) other []
 
 -- of an entry, given what its value has as a node of a shape
 abbrev pub entry_faults : Standing → Node → (Shape → List Fault) → List Fault
@@ -171,13 +169,11 @@ entry_faults ignored key value = []
 entry_faults (expected s other) key value = beside_faults other key ++ value s
 
 abbrev pub scalar_faults : Option Rule → List ℕ → Scalar → Span → List Fault
-scalar_faults None above s at = []
-scalar_faults (Some r) above s at = fault_if_any (scalar_fault r.scalars s) above at
+scalar_faults taken above s at = option_map_or (λ r. fault_if_any (scalar_fault r.scalars s) above at) taken []
 
 -- of a sequence, given what its items have as nodes of a shape
 abbrev pub sequence_faults : Option Rule → List Fault → (Shape → List Fault) → List Fault
-sequence_faults None misfit items = []
-sequence_faults (Some r) misfit items = option_map_or items r.items misfit
+sequence_faults taken misfit items = option_map_or (λ r. option_map_or items r.items misfit) taken []
 
 -- of a mapping with these keys, given what its entries have
 abbrev pub keyed_faults : Keys → List ℕ → (List ℕ → Bool) → Span → (Keys → List Fault) → List Fault
@@ -186,8 +182,7 @@ keyed_faults (free s) above all at inside = inside (free s)
 keyed_faults (keys others fs) above all at inside = missing_faults at all fs ++ inside (keys others fs)
 
 abbrev pub mapping_faults : Option Rule → List ℕ → (List ℕ → Bool) → Span → (Keys → List Fault) → List Fault
-mapping_faults None above all at inside = []
-mapping_faults (Some r) above all at inside = keyed_faults r.keys_of above all at inside
+mapping_faults taken above all at inside = option_map_or (λ r. keyed_faults r.keys_of above all at inside) taken []
 
 abbrev mutual
   -- the faults of a node below a key, where it should have a shape and may be null or not
@@ -212,9 +207,7 @@ abbrev mutual
 
 -- nothing was written
 abbrev pub is_empty : Node → Bool
-is_empty (scalar s at) = is_plain s.style && (length s.cells == 0)
-is_empty (sequence ns at) = false
-is_empty (mapping es at) = false
+is_empty n = option_map_or (λ s. is_plain s.style && (length s.cells == 0)) (scalar_in n) false
 
 -- the faults of a file's root
 abbrev pub root_faults : Shape → Node → List Fault

@@ -1,11 +1,12 @@
 -- What a workflow and an action may hold: the table, one equation for each section.
-use Rattle.std.specs.Prelude.{ℕ, List, [], ◌∷◌, codes, map, Option, Some, None}
+use Prim.Native.String.{String}
+use Rattle.std.specs.Prelude.{ℕ, List, [], ◌∷◌, ◌++◌, codes, map, Option, Some, None}
 use Rattle.al_tree.specs.declared.table.Shape.{Shape}
 use Rattle.al_tree.specs.declared.table.Shape.TheVariants.{Any, Text, Flag, Number, Texts, TextList, TextMap, TextOrMap, AnyMap, Env}
-use Rattle.al_tree.specs.declared.table.Shape.TheVariants.{Workflow, On, Schedule, Cron, Dispatch, DispatchInputs, DispatchInput, Call}
-use Rattle.al_tree.specs.declared.table.Shape.TheVariants.{CallInputs, CallInput, CallSecrets, CallSecret, CallOutputs, CallOutput, Event}
-use Rattle.al_tree.specs.declared.table.Shape.TheVariants.{Defaults, RunDefaults, Concurrency, Jobs, Job, RunsOn, Strategy, Container}
-use Rattle.al_tree.specs.declared.table.Shape.TheVariants.{Steps, Step, Action, Runs, NodeRuns, CompositeRuns, DockerRuns}
+use Rattle.al_tree.specs.declared.table.Shape.TheVariants.{Workflow, On, Defaults, RunDefaults, Concurrency, Jobs, Job, RunsOn, Strategy}
+use Rattle.al_tree.specs.declared.table.Shape.TheVariants.{Container, Steps, Step, Action, Runs, NodeRuns, CompositeRuns, DockerRuns}
+use Rattle.al_tree.specs.declared.table.Trigger.TheVariants.{Events, Event, Schedule, Cron, Dispatch, DispatchInputs, DispatchInput, Call}
+use Rattle.al_tree.specs.declared.table.Trigger.TheVariants.{CallInputs, CallInput, CallSecrets, CallSecret, CallOutputs, CallOutput}
 use Rattle.al_tree.specs.declared.table.ScalarSet.{ScalarSet}
 use Rattle.al_tree.specs.declared.table.ScalarSet.TheVariants.{NoScalar, AnyScalar, NotNull, Bools, Numbers, Chunks}
 use Rattle.al_tree.specs.declared.table.Row.{Row}
@@ -53,137 +54,101 @@ pub record Rule : Type 0 where
   pub items : Option Shape
   pub keys_of : Keys
 
-abbrev pub field : Need → Clash → List ℕ → Shape → Field
-field need clash key shape = record { key = key; shape = shape; need = need; clash = clash }
+abbrev pub field : Need → Clash → String → Shape → Field
+field need clash key shape = record { key = codes key; shape = shape; need = need; clash = clash }
 
-abbrev pub may : List ℕ → Shape → Field
+abbrev pub may : String → Shape → Field
 may = field optional never
 
-abbrev pub must : List ℕ → Shape → Field
+abbrev pub must : String → Shape → Field
 must = field required never
 
--- of two keys that cannot stand side by side the later one is wrong
-abbrev pub not_after : List ℕ → List ℕ → Shape → Field
-not_after other = field optional (after other)
+abbrev pub not_beside : String → String → Shape → Field
+not_beside other = field optional (beside (codes other))
 
-abbrev pub not_beside : List ℕ → List ℕ → Shape → Field
-not_beside other = field optional (beside other)
+-- two keys that cannot stand side by side, of which the later one is wrong
+abbrev pub either : String → String → Shape → List Field
+either one other shape = field optional (after (codes other)) one shape ∷ field optional (after (codes one)) other shape ∷ []
 
-abbrev pub must_unless_after : List ℕ → List ℕ → Shape → Field
-must_unless_after other = field (unless other) (after other)
-
-abbrev pub must_unless_beside : List ℕ → List ℕ → Shape → Field
-must_unless_beside other = field (unless other) (beside other)
-
-abbrev pub scalar_list_or : ScalarSet → Shape → Keys → Option Rule
-scalar_list_or w s ks = Some (record { scalars = w; items = Some s; keys_of = ks })
-
-abbrev pub scalar_or : ScalarSet → Keys → Option Rule
-scalar_or w ks = Some (record { scalars = w; items = None; keys_of = ks })
-
-abbrev pub scalar_or_list : ScalarSet → Shape → Option Rule
-scalar_or_list w s = scalar_list_or w s no_keys
-
-abbrev pub scalar : ScalarSet → Option Rule
-scalar w = scalar_or w no_keys
+abbrev pub takes : ScalarSet → Option Shape → Keys → Option Rule
+takes set item ks = Some (record { scalars = set; items = item; keys_of = ks })
 
 abbrev pub list_of : Shape → Option Rule
-list_of = scalar_or_list NoScalar
+list_of s = takes NoScalar (Some s) no_keys
 
-abbrev pub mapping : Keys → Option Rule
-mapping = scalar_or NoScalar
+abbrev pub map_of : Shape → Option Rule
+map_of s = takes NoScalar None (free s)
+
+-- a mapping with these keys and no other
+abbrev pub section : List Field → Option Rule
+section fs = takes NoScalar None (keys wrong fs)
 
 -- The table. None takes anything.
 abbrev pub rule : Shape → Option Rule
 rule Any = None
-rule Text = scalar AnyScalar
-rule Flag = scalar Bools
-rule Number = scalar Numbers
-rule Texts = scalar_or_list AnyScalar Text
+rule Text = takes AnyScalar None no_keys
+rule Flag = takes Bools None no_keys
+rule Number = takes Numbers None no_keys
+rule Texts = takes AnyScalar (Some Text) no_keys
 rule TextList = list_of Text
-rule TextMap = mapping (free Text)
-rule TextOrMap = scalar_or AnyScalar (free Text)
-rule AnyMap = mapping (free Any)
-rule Env = scalar_or Chunks (free Text)
-rule Workflow = mapping (keys wrong (
-    may (codes "name") Text ∷ may (codes "run-name") Text ∷ must (codes "on") On ∷ may (codes "permissions") TextOrMap
-    ∷ may (codes "env") Env
-    ∷ may (codes "defaults") Defaults ∷ may (codes "concurrency") Concurrency ∷ must (codes "jobs") Jobs ∷ []))
-rule On = scalar_list_or NotNull Text (keys events (
-    may (codes "schedule") Schedule ∷ may (codes "workflow_dispatch") Dispatch ∷ may (codes "workflow_call") Call
-    ∷ may (codes "image_version") Any
+rule TextMap = map_of Text
+rule TextOrMap = takes AnyScalar None (free Text)
+rule AnyMap = map_of Any
+rule Env = takes Chunks None (free Text)
+rule Workflow = section (
+    may "name" Text ∷ may "run-name" Text ∷ must "on" (On Events) ∷ may "permissions" TextOrMap ∷ may "env" Env ∷ may "defaults" Defaults
+    ∷ may "concurrency" Concurrency ∷ must "jobs" Jobs ∷ [])
+rule (On Events) = takes NotNull (Some Text) (keys events (
+    may "schedule" (On Schedule) ∷ may "workflow_dispatch" (On Dispatch) ∷ may "workflow_call" (On Call) ∷ may "image_version" Any ∷ []))
+rule (On Schedule) = list_of (On Cron)
+rule (On Cron) = section (must "cron" Text ∷ may "timezone" Text ∷ [])
+rule (On Dispatch) = section (may "inputs" (On DispatchInputs) ∷ [])
+rule (On DispatchInputs) = map_of (On DispatchInput)
+rule (On DispatchInput) = section (
+    may "description" Text ∷ may "required" Flag ∷ may "default" Text ∷ may "type" Text ∷ may "options" TextList
+    ∷ may "deprecationMessage" Text ∷ [])
+rule (On Call) = section (may "inputs" (On CallInputs) ∷ may "secrets" (On CallSecrets) ∷ may "outputs" (On CallOutputs) ∷ [])
+rule (On CallInputs) = map_of (On CallInput)
+rule (On CallInput) = section (
+    may "description" Text ∷ may "required" Flag ∷ may "default" Text ∷ must "type" Text ∷ may "deprecationMessage" Text ∷ [])
+rule (On CallSecrets) = map_of (On CallSecret)
+rule (On CallSecret) = section (may "description" Text ∷ may "required" Flag ∷ [])
+rule (On CallOutputs) = map_of (On CallOutput)
+rule (On CallOutput) = section (may "description" Text ∷ must "value" Text ∷ [])
+rule (On Event) = section (
+    may "types" Texts ∷ may "workflows" Texts ∷ either "branches" "branches-ignore" Texts ++ either "tags" "tags-ignore" Texts
+    ++ either "paths" "paths-ignore" Texts)
+rule Defaults = section (may "run" RunDefaults ∷ [])
+rule RunDefaults = section (may "shell" Text ∷ may "working-directory" Text ∷ [])
+rule Concurrency = takes AnyScalar None (keys wrong (must "group" Text ∷ may "cancel-in-progress" Flag ∷ []))
+rule Jobs = map_of Job
+rule Job = takes NoScalar None (keys (wrong_beside (codes "uses")) (
+    may "name" Text ∷ may "permissions" TextOrMap ∷ may "needs" Texts ∷ may "if" Text
+    ∷ field (unless (codes "uses")) (beside (codes "uses")) "runs-on" RunsOn ∷ not_beside "uses" "environment" Any
+    ∷ may "concurrency" Concurrency ∷ not_beside "uses" "outputs" TextMap ∷ not_beside "uses" "env" Env
+    ∷ not_beside "uses" "defaults" Defaults ∷ not_beside "uses" "steps" Steps ∷ not_beside "uses" "timeout-minutes" Number
+    ∷ may "strategy" Strategy ∷ not_beside "uses" "continue-on-error" Flag ∷ not_beside "uses" "container" Container
+    ∷ not_beside "uses" "services" Any ∷ may "uses" Text ∷ may "with" TextMap ∷ may "secrets" TextOrMap ∷ not_beside "uses" "snapshot" Any
     ∷ []))
-rule Schedule = list_of Cron
-rule Cron = mapping (keys wrong (
-    must (codes "cron") Text ∷ may (codes "timezone") Text ∷ []))
-rule Dispatch = mapping (keys wrong (
-    may (codes "inputs") DispatchInputs ∷ []))
-rule DispatchInputs = mapping (free DispatchInput)
-rule DispatchInput = mapping (keys wrong (
-    may (codes "description") Text ∷ may (codes "required") Flag ∷ may (codes "default") Text ∷ may (codes "type") Text
-    ∷ may (codes "options") TextList ∷ may (codes "deprecationMessage") Text ∷ []))
-rule Call = mapping (keys wrong (
-    may (codes "inputs") CallInputs ∷ may (codes "secrets") CallSecrets ∷ may (codes "outputs") CallOutputs ∷ []))
-rule CallInputs = mapping (free CallInput)
-rule CallInput = mapping (keys wrong (
-    may (codes "description") Text ∷ may (codes "required") Flag ∷ may (codes "default") Text ∷ must (codes "type") Text
-    ∷ may (codes "deprecationMessage") Text ∷ []))
-rule CallSecrets = mapping (free CallSecret)
-rule CallSecret = mapping (keys wrong (
-    may (codes "description") Text ∷ may (codes "required") Flag ∷ []))
-rule CallOutputs = mapping (free CallOutput)
-rule CallOutput = mapping (keys wrong (
-    may (codes "description") Text ∷ must (codes "value") Text ∷ []))
-rule Event = mapping (keys wrong (
-    may (codes "types") Texts ∷ may (codes "workflows") Texts ∷ not_after (codes "branches-ignore") (codes "branches") Texts
-    ∷ not_after (codes "branches") (codes "branches-ignore") Texts ∷ not_after (codes "tags-ignore") (codes "tags") Texts
-    ∷ not_after (codes "tags") (codes "tags-ignore") Texts ∷ not_after (codes "paths-ignore") (codes "paths") Texts
-    ∷ not_after (codes "paths") (codes "paths-ignore") Texts ∷ []))
-rule Defaults = mapping (keys wrong (
-    may (codes "run") RunDefaults ∷ []))
-rule RunDefaults = mapping (keys wrong (
-    may (codes "shell") Text ∷ may (codes "working-directory") Text ∷ []))
-rule Concurrency = scalar_or AnyScalar (keys wrong (
-    must (codes "group") Text ∷ may (codes "cancel-in-progress") Flag ∷ []))
-rule Jobs = mapping (free Job)
-rule Job = mapping (keys (wrong_beside (codes "uses")) (
-    may (codes "name") Text ∷ may (codes "permissions") TextOrMap ∷ may (codes "needs") Texts ∷ may (codes "if") Text
-    ∷ must_unless_beside (codes "uses") (codes "runs-on") RunsOn ∷ not_beside (codes "uses") (codes "environment") Any
-    ∷ may (codes "concurrency") Concurrency ∷ not_beside (codes "uses") (codes "outputs") TextMap
-    ∷ not_beside (codes "uses") (codes "env") Env
-    ∷ not_beside (codes "uses") (codes "defaults") Defaults ∷ not_beside (codes "uses") (codes "steps") Steps
-    ∷ not_beside (codes "uses") (codes "timeout-minutes") Number ∷ may (codes "strategy") Strategy
-    ∷ not_beside (codes "uses") (codes "continue-on-error") Flag ∷ not_beside (codes "uses") (codes "container") Container
-    ∷ not_beside (codes "uses") (codes "services") Any ∷ may (codes "uses") Text ∷ may (codes "with") TextMap
-    ∷ may (codes "secrets") TextOrMap
-    ∷ not_beside (codes "uses") (codes "snapshot") Any ∷ []))
-rule RunsOn = scalar_list_or AnyScalar Text (keys wrong (
-    may (codes "group") Text ∷ may (codes "labels") Texts ∷ []))
-rule Strategy = scalar_or Chunks (keys wrong (
-    may (codes "matrix") Any ∷ may (codes "fail-fast") Flag ∷ may (codes "max-parallel") Number ∷ []))
-rule Container = scalar_or AnyScalar (keys wrong (
-    may (codes "image") Text ∷ may (codes "credentials") Any ∷ may (codes "env") Env ∷ may (codes "ports") Any ∷ may (codes "volumes") Any
-    ∷ may (codes "options") Text ∷ []))
+rule RunsOn = takes AnyScalar (Some Text) (keys wrong (may "group" Text ∷ may "labels" Texts ∷ []))
+rule Strategy = takes Chunks None (keys wrong (may "matrix" Any ∷ may "fail-fast" Flag ∷ may "max-parallel" Number ∷ []))
+rule Container = takes AnyScalar None (keys wrong (
+    may "image" Text ∷ may "credentials" Any ∷ may "env" Env ∷ may "ports" Any ∷ may "volumes" Any ∷ may "options" Text ∷ []))
 rule Steps = list_of Step
-rule Step = mapping (keys wrong (
-    may (codes "id") Text ∷ may (codes "if") Text ∷ may (codes "name") Text ∷ not_after (codes "run") (codes "uses") Text
-    ∷ must_unless_after (codes "uses") (codes "run") Text ∷ may (codes "working-directory") Text ∷ may (codes "shell") Text
-    ∷ may (codes "with") TextMap ∷ may (codes "env") Env ∷ may (codes "continue-on-error") Flag ∷ may (codes "timeout-minutes") Number
-    ∷ []))
-rule Action = mapping (keys wrong (
-    must (codes "name") Text ∷ may (codes "author") Text ∷ must (codes "description") Text ∷ may (codes "inputs") AnyMap
-    ∷ may (codes "outputs") AnyMap ∷ must (codes "runs") Runs ∷ may (codes "branding") Any ∷ []))
-rule Runs = mapping (keys unchecked (
-    must (codes "using") Text ∷ []))
-rule NodeRuns = mapping (keys wrong (
-    must (codes "using") Text ∷ must (codes "main") Text ∷ may (codes "pre") Text ∷ may (codes "pre-if") Text ∷ may (codes "post") Text
-    ∷ may (codes "post-if") Text ∷ []))
-rule CompositeRuns = mapping (keys wrong (
-    must (codes "using") Text ∷ must (codes "steps") Steps ∷ []))
-rule DockerRuns = mapping (keys wrong (
-    must (codes "using") Text ∷ must (codes "image") Text ∷ may (codes "env") TextMap ∷ may (codes "entrypoint") Text
-    ∷ may (codes "pre-entrypoint") Text ∷ may (codes "post-entrypoint") Text ∷ may (codes "args") Any ∷ may (codes "pre-if") Text
-    ∷ may (codes "post-if") Text ∷ []))
+rule Step = section (
+    may "id" Text ∷ may "if" Text ∷ may "name" Text ∷ field optional (after (codes "run")) "uses" Text
+    ∷ field (unless (codes "uses")) (after (codes "uses")) "run" Text ∷ may "working-directory" Text ∷ may "shell" Text ∷ may "with" TextMap
+    ∷ may "env" Env ∷ may "continue-on-error" Flag ∷ may "timeout-minutes" Number ∷ [])
+rule Action = section (
+    must "name" Text ∷ may "author" Text ∷ must "description" Text ∷ may "inputs" AnyMap ∷ may "outputs" AnyMap ∷ must "runs" Runs
+    ∷ may "branding" Any ∷ [])
+rule Runs = takes NoScalar None (keys unchecked (must "using" Text ∷ []))
+rule NodeRuns = section (
+    must "using" Text ∷ must "main" Text ∷ may "pre" Text ∷ may "pre-if" Text ∷ may "post" Text ∷ may "post-if" Text ∷ [])
+rule CompositeRuns = section (must "using" Text ∷ must "steps" Steps ∷ [])
+rule DockerRuns = section (
+    must "using" Text ∷ must "image" Text ∷ may "env" TextMap ∷ may "entrypoint" Text ∷ may "pre-entrypoint" Text
+    ∷ may "post-entrypoint" Text ∷ may "args" Any ∷ may "pre-if" Text ∷ may "post-if" Text ∷ [])
 
 -- what the program's rows and rules stand for
 abbrev pub need_of : rust_need.Need → Need

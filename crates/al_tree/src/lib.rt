@@ -24,7 +24,7 @@ pub use kinds::{file_kind, is_action, is_workflow, is_workflow_name};
 pub use names::{is_among, is_combination_key, is_event};
 pub use scalars::{contains_chunk, is_null_scalar, scalar_fault};
 pub use standings::{Standing, refine, standing_of};
-pub use table::{Clash, Keys, Need, Others, Row, Rule, ScalarSet, Shape, rule_of};
+pub use table::{Clash, Keys, Need, Others, Row, Rule, ScalarSet, Shape, Trigger, rule_of};
 pub use values::{
     Member, ScalarNode, items, items_under, key, members, members_under, text, text_under, texts,
     texts_under, value,

@@ -44,7 +44,7 @@ fn is_number(scalar: &Scalar) -> bool
 }
 
 /// A fault, where a scalar isn't taken.
-fn unless(taken: bool, key: KeyCode) -> Option<KeyCode>
+fn fault_unless(taken: bool, key: KeyCode) -> Option<KeyCode>
     ensures { result ≡ unless_taken taken key }
 {
     if taken { None } else { Some(key) }
@@ -57,15 +57,15 @@ pub fn scalar_fault(scalars: ScalarSet, scalar: &Scalar) -> Option<KeyCode>
     match scalars {
         ScalarSet::AnyScalar => None,
         ScalarSet::NoScalar => Some(KeyCode::WrongKind),
-        ScalarSet::NotNull => unless(!is_null_scalar(scalar), KeyCode::WrongType),
-        ScalarSet::Bools => unless(
+        ScalarSet::NotNull => fault_unless(!is_null_scalar(scalar), KeyCode::WrongType),
+        ScalarSet::Bools => fault_unless(
             is_bool(scalar) || contains_chunk(scalar.text()),
             KeyCode::WrongType,
         ),
-        ScalarSet::Numbers => unless(
+        ScalarSet::Numbers => fault_unless(
             is_number(scalar) || contains_chunk(scalar.text()),
             KeyCode::WrongType,
         ),
-        ScalarSet::Chunks => unless(contains_chunk(scalar.text()), KeyCode::WrongKind),
+        ScalarSet::Chunks => fault_unless(contains_chunk(scalar.text()), KeyCode::WrongKind),
     }
 }

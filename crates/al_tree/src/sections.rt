@@ -4,9 +4,11 @@ use crate::table::Clash::{After, Beside, Never};
 use crate::table::Need::{May, Must, Unless};
 use crate::table::Row;
 use crate::table::Shape::{
-    Any, AnyMap, Call, CallInputs, CallOutputs, CallSecrets, Concurrency, Container, Defaults,
-    Dispatch, DispatchInputs, Env, Flag, Jobs, Number, On, RunDefaults, Runs, RunsOn, Schedule,
-    Steps, Strategy, Text, TextList, TextMap, TextOrMap, Texts,
+    Any, AnyMap, Concurrency, Container, Defaults, Env, Flag, Jobs, Number, On, RunDefaults, Runs,
+    RunsOn, Steps, Strategy, Text, TextList, TextMap, TextOrMap, Texts,
+};
+use crate::table::Trigger::{
+    Call, CallInputs, CallOutputs, CallSecrets, Dispatch, DispatchInputs, Events, Schedule,
 };
 
 // A key that may stand in its section, with the shape of its value, and what it cannot stand beside.
@@ -43,7 +45,7 @@ macro_rules! must {
 pub const WORKFLOW: &[Row] = &[
     may!("name", Text),
     may!("run-name", Text),
-    must!("on", On),
+    must!("on", On(Events)),
     may!("permissions", TextOrMap),
     may!("env", Env),
     may!("defaults", Defaults),
@@ -121,9 +123,9 @@ pub const STEP: &[Row] = &[
 
 /// `on` as a mapping: these events have shapes of their own.
 pub const ON: &[Row] = &[
-    may!("schedule", Schedule),
-    may!("workflow_dispatch", Dispatch),
-    may!("workflow_call", Call),
+    may!("schedule", On(Schedule)),
+    may!("workflow_dispatch", On(Dispatch)),
+    may!("workflow_call", On(Call)),
     may!("image_version", Any),
 ];
 
@@ -131,7 +133,7 @@ pub const ON: &[Row] = &[
 pub const CRON: &[Row] = &[must!("cron", Text), may!("timezone", Text)];
 
 /// `workflow_dispatch`.
-pub const DISPATCH: &[Row] = &[may!("inputs", DispatchInputs)];
+pub const DISPATCH: &[Row] = &[may!("inputs", On(DispatchInputs))];
 
 /// An input of `workflow_dispatch`.
 pub const DISPATCH_INPUT: &[Row] = &[
@@ -145,9 +147,9 @@ pub const DISPATCH_INPUT: &[Row] = &[
 
 /// `workflow_call`.
 pub const CALL: &[Row] = &[
-    may!("inputs", CallInputs),
-    may!("secrets", CallSecrets),
-    may!("outputs", CallOutputs),
+    may!("inputs", On(CallInputs)),
+    may!("secrets", On(CallSecrets)),
+    may!("outputs", On(CallOutputs)),
 ];
 
 /// An input of `workflow_call`.

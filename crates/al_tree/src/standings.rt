@@ -10,7 +10,7 @@ ghost use Rattle.std.specs.Prelude.{◌≡◌, map, option_map};
 use crate::entries::scalar_among;
 use crate::keys::KeySet;
 use crate::names::{is_among, is_event};
-use crate::table::{Clash, Keys, Need, Others, Row, Shape};
+use crate::table::{Clash, Keys, Need, Others, Row, Shape, Trigger};
 use al_yaml_tree::Entry;
 
 /// The section that `runs` is, by what `using` says.
@@ -45,7 +45,7 @@ pub fn refine(shape: Shape, entries: &[Entry]) -> Shape
 pub(crate) fn takes_null(shape: Shape) -> bool
     ensures { result ≡ null_taken shape }
 {
-    !matches!(shape, Shape::On | Shape::Jobs | Shape::Job)
+    !matches!(shape, Shape::On(Trigger::Events) | Shape::Jobs | Shape::Job)
 }
 
 /// The row of a key.
@@ -108,7 +108,7 @@ fn event_shape(key: &[u8]) -> Shape
     ensures { result ≡ event key.now }
 {
     if is_event(key) {
-        Shape::Event
+        Shape::On(Trigger::Event)
     } else {
         Shape::Any
     }

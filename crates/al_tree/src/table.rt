@@ -1,7 +1,8 @@
 //! The rules of all places of workflows and actions, as one table.
 
 ghost use Rattle.al_tree.specs.Table.{rule, rule_view};
-ghost use Rattle.std.specs.Prelude.{◌≡◌, option_map};
+ghost use Rattle.al_tree.specs.declared.table.Shape.TheVariants.{On};
+ghost use Rattle.std.specs.Prelude.{◌≡◌, Some, option_map};
 
 use crate::sections::{
     ACTION, CALL, CALL_INPUT, CALL_OUTPUT, CALL_SECRET, COMPOSITE_RUNS, CONCURRENCY, CONTAINER,
@@ -23,20 +24,7 @@ pub enum Shape {
     AnyMap,
     Env,
     Workflow,
-    On,
-    Schedule,
-    Cron,
-    Dispatch,
-    DispatchInputs,
-    DispatchInput,
-    Call,
-    CallInputs,
-    CallInput,
-    CallSecrets,
-    CallSecret,
-    CallOutputs,
-    CallOutput,
-    Event,
+    On(Trigger),
     Defaults,
     RunDefaults,
     Concurrency,
@@ -52,6 +40,25 @@ pub enum Shape {
     NodeRuns,
     CompositeRuns,
     DockerRuns,
+}
+
+/// A section of what triggers a workflow: `on` itself, which has events, or a section in it.
+#[derive(Clone, Copy)]
+pub enum Trigger {
+    Events,
+    Event,
+    Schedule,
+    Cron,
+    Dispatch,
+    DispatchInputs,
+    DispatchInput,
+    Call,
+    CallInputs,
+    CallInput,
+    CallSecrets,
+    CallSecret,
+    CallOutputs,
+    CallOutput,
 }
 
 /// Which scalars a shape takes.
@@ -119,11 +126,11 @@ macro_rules! rule {
     ($scalars:ident) => {
         rule!(@ $scalars, None, Keys::No)
     };
-    ($scalars:ident, items $item:ident) => {
-        rule!(@ $scalars, Some(Shape::$item), Keys::No)
+    ($scalars:ident, items $item:ident $(($trigger:ident))?) => {
+        rule!(@ $scalars, Some(Shape::$item $((Trigger::$trigger))?), Keys::No)
     };
-    ($scalars:ident, any key $value:ident) => {
-        rule!(@ $scalars, None, Keys::Free(Shape::$value))
+    ($scalars:ident, any key $value:ident $(($trigger:ident))?) => {
+        rule!(@ $scalars, None, Keys::Free(Shape::$value $((Trigger::$trigger))?))
     };
     ($scalars:ident, keys $rows:ident, others $others:ident $(($beside:literal))?) => {
         rule!(@ $scalars, None, Keys::These($rows, Others::$others $(($beside))?))
@@ -138,6 +145,28 @@ macro_rules! rule {
             keys: $keys,
         }
     };
+}
+
+/// What a section of `on` takes.
+fn trigger_rule(trigger: Trigger) -> Rule
+    ensures { Some (rule_view result) ≡ rule (On trigger) }
+{
+    match trigger {
+        Trigger::Events => rule!(NotNull, items Text, keys ON, others Events),
+        Trigger::Event => rule!(NoScalar, keys EVENT, others Wrong),
+        Trigger::Schedule => rule!(NoScalar, items On(Cron)),
+        Trigger::Cron => rule!(NoScalar, keys CRON, others Wrong),
+        Trigger::Dispatch => rule!(NoScalar, keys DISPATCH, others Wrong),
+        Trigger::DispatchInputs => rule!(NoScalar, any key On(DispatchInput)),
+        Trigger::DispatchInput => rule!(NoScalar, keys DISPATCH_INPUT, others Wrong),
+        Trigger::Call => rule!(NoScalar, keys CALL, others Wrong),
+        Trigger::CallInputs => rule!(NoScalar, any key On(CallInput)),
+        Trigger::CallInput => rule!(NoScalar, keys CALL_INPUT, others Wrong),
+        Trigger::CallSecrets => rule!(NoScalar, any key On(CallSecret)),
+        Trigger::CallSecret => rule!(NoScalar, keys CALL_SECRET, others Wrong),
+        Trigger::CallOutputs => rule!(NoScalar, any key On(CallOutput)),
+        Trigger::CallOutput => rule!(NoScalar, keys CALL_OUTPUT, others Wrong),
+    }
 }
 
 /// What a shape takes; None where that is anything.
@@ -156,20 +185,7 @@ pub fn rule_of(shape: Shape) -> Option<Rule>
         Shape::AnyMap => rule!(NoScalar, any key Any),
         Shape::Env => rule!(Chunks, any key Text),
         Shape::Workflow => rule!(NoScalar, keys WORKFLOW, others Wrong),
-        Shape::On => rule!(NotNull, items Text, keys ON, others Events),
-        Shape::Schedule => rule!(NoScalar, items Cron),
-        Shape::Cron => rule!(NoScalar, keys CRON, others Wrong),
-        Shape::Dispatch => rule!(NoScalar, keys DISPATCH, others Wrong),
-        Shape::DispatchInputs => rule!(NoScalar, any key DispatchInput),
-        Shape::DispatchInput => rule!(NoScalar, keys DISPATCH_INPUT, others Wrong),
-        Shape::Call => rule!(NoScalar, keys CALL, others Wrong),
-        Shape::CallInputs => rule!(NoScalar, any key CallInput),
-        Shape::CallInput => rule!(NoScalar, keys CALL_INPUT, others Wrong),
-        Shape::CallSecrets => rule!(NoScalar, any key CallSecret),
-        Shape::CallSecret => rule!(NoScalar, keys CALL_SECRET, others Wrong),
-        Shape::CallOutputs => rule!(NoScalar, any key CallOutput),
-        Shape::CallOutput => rule!(NoScalar, keys CALL_OUTPUT, others Wrong),
-        Shape::Event => rule!(NoScalar, keys EVENT, others Wrong),
+        Shape::On(trigger) => trigger_rule(trigger),
         Shape::Defaults => rule!(NoScalar, keys DEFAULTS, others Wrong),
         Shape::RunDefaults => rule!(NoScalar, keys RUN_DEFAULTS, others Wrong),
         Shape::Concurrency => rule!(AnyScalar, keys CONCURRENCY, others Wrong),

@@ -19,7 +19,7 @@ use al_base::YamlCode;
 use al_scalar::FaultAt;
 use al_scalar::lines::begins;
 use al_yaml_parts::anchors::{has_no_name, property_end};
-use al_yaml_parts::content::{is_dash, line_ended};
+use al_yaml_parts::content::{is_dash, line_behind};
 use al_yaml_parts::faults::ReadError;
 use al_yaml_parts::file::{File, Progress};
 use al_yaml_parts::flow_nodes::{complete, read_alias};
@@ -78,7 +78,7 @@ fn read_line_flow(
             at,
         }));
     }
-    let next = line_ended(file.bytes, part.next)?;
+    let next = line_behind(file.bytes, part.next)?;
     Ok(Part {
         node: part.node,
         end: part.end,
@@ -174,7 +174,7 @@ fn read_property(
     if begins(file.bytes, node.start.at, b'*') {
         let depth = progress.stack.depth();
         let part = read_alias(file, &mut progress.state, node.start.at, depth)?;
-        let next = line_ended(file.bytes, part.next)?;
+        let next = line_behind(file.bytes, part.next)?;
         return Ok(BlockTask::Read(Part {
             node: part.node,
             end: part.end,

@@ -6,19 +6,21 @@ ghost use Rattle.al_scalar.specs.Places.{lines_at, text_at};
 ghost use Rattle.al_yaml_tree.specs.Content as content;
 ghost use Rattle.al_yaml_parts.specs.Files.{left_at, size};
 ghost use Rattle.al_yaml_tree.specs.Flow as flow;
-ghost use Rattle.al_yaml.specs.Private.FlowFrames.{IsFirst, IsPlaceInside, IsPut, IsStep, Opens, Resumes, Steps};
-ghost use Rattle.al_yaml.specs.Private.FlowFrames.{after_at, closed_of, closer_of, open_of, waiting_of};
+ghost use Rattle.al_yaml.specs.Private.FlowAnswers.{Answers, Behind, Inside, NodeAnswer};
+ghost use Rattle.al_yaml.specs.Private.FlowFrames.{AreOpen, IsFirst, IsFurther, IsPlaceInside, IsPut, IsStep, Opens, Resumes, Steps};
+ghost use Rattle.al_yaml.specs.Private.FlowFrames.{after_at, closed_of, closer_of, frame_of, open_of, waiting_of};
 ghost use Rattle.al_yaml.specs.Private.Frames as frames;
 ghost use Rattle.al_yaml.specs.Private.Frames.{open_rest};
 ghost use Rattle.al_yaml_tree.specs.Limits.{broken_limit};
 ghost use Rattle.al_yaml_parts.specs.Places.{Shows};
 ghost use Rattle.al_yaml_tree.specs.Reading.{start_of};
+ghost use Rattle.al_yaml_parts.specs.declared.frames.FlowFrame as frame_code;
 ghost use Rattle.al_yaml_parts.specs.Reads as reads;
 ghost use Rattle.al_yaml_parts.specs.Reads.{IsBehind, IsRead, IsStopInside, counted, part_of, state_of};
 ghost use Rattle.al_yaml.specs.Private.FlowFrames.{IsAfter, after_of};
 ghost use Rattle.al_yaml_tree.specs.View.{entries_of, entry_view, nodes_of, view};
 ghost use Rattle.al_yaml_parts.specs.declared.frames.Open.TheVariants as open_code;
-ghost use Rattle.std.specs.Prelude.{IfErr, IfOk, None, [], false, length, map, true, ℕ, ◌+◌, ◌<◌, ◌^◌, ◌∷◌, ◌≡◌, ◌≤◌};
+ghost use Rattle.std.specs.Prelude.{IfErr, IfOk, List, None, [], false, length, map, true, ℕ, ◌+◌, ◌<◌, ◌^◌, ◌∷◌, ◌≡◌, ◌≤◌};
 
 use al_base::YamlCode;
 use al_scalar::lines::begins;
@@ -27,8 +29,8 @@ use al_yaml_parts::content::gap;
 use al_yaml_parts::faults::ReadError;
 use al_yaml_parts::file::{File, Progress};
 use al_yaml_parts::flow_nodes::{
-    Bracket, Found, FoundKey, complete, read_flow_key, read_flow_property, read_flow_scalar,
-    read_flow_value,
+    Bracket, FlowSlot, FoundKey, FoundNode, complete, read_flow_key, read_flow_property,
+    read_flow_scalar, read_flow_value,
 };
 use al_yaml_parts::frames::{FlowFrame, Open, OpenMapping};
 use al_yaml_parts::limits::State;
@@ -50,6 +52,14 @@ pub struct FlowPlace {
     pub opening: usize,
     pub at: usize,
     pub depth: u32,
+}
+
+/// A flow collection from its bracket or brace on: what was read of it, and what stands next in it.
+#[derive(Drop)]
+pub struct OpenFlow {
+    pub opening: usize,
+    pub has: Open,
+    pub next: After,
 }
 
 /// How far one step reads: to what stands behind a node, or to the bracket of a collection inside.
@@ -151,9 +161,13 @@ fn read_property_item(
         result (state_of state.new) }
     ensures within { IfOk result (IsStep file.now.bytes.now place.at) }
 {
-    match read_flow_property(file, state, place.opening, None, place.at, place.depth)? {
-        Found::Node(part) => Ok(FlowStep::Behind(put_item(file, place.opening, items, part)?)),
-        Found::Opens(bracket) => Ok(FlowStep::Opens(bracket)),
+    let slot = FlowSlot {
+        opening: place.opening,
+        empty: None,
+    };
+    match read_flow_property(file, state, slot, place.at, place.depth)? {
+        FoundNode::Node(part) => Ok(FlowStep::Behind(put_item(file, place.opening, items, part)?)),
+        FoundNode::Opens(bracket) => Ok(FlowStep::Opens(bracket)),
     }
 }
 
@@ -219,14 +233,14 @@ fn read_entry(
         }
     };
     match read_flow_value(file, state, place.opening, &key, place.depth)? {
-        Found::Node(part) => Ok(FlowStep::Behind(put_entry(
+        FoundNode::Node(part) => Ok(FlowStep::Behind(put_entry(
             file,
             place.opening,
             &mut mapping.entries,
             key.read,
             part,
         )?)),
-        Found::Opens(bracket) => {
+        FoundNode::Opens(bracket) => {
             mapping.waits = Some(key.read);
             Ok(FlowStep::Opens(bracket))
         }
@@ -319,43 +333,128 @@ fn first_inside(bytes: &[u8], close: u8, at: usize) -> After
 
 /// The collection whose bracket or brace stands at an offset, with nothing in it yet, and what stands first in it.
 #[inline(always)]
-fn open_at(file: &File, at: usize) -> (Open, After)
+fn open_at(file: &File, at: usize) -> OpenFlow
     requires inside { at < size file.now }
     requires bracket { content.is_flow_start (text_at file.now.bytes.now at) ≡ true }
     ensures is { (depth : ℕ) (s t : reads.State)
         → broken_limit s.nodes s.text (start_of at 1 depth ∷ []) ≡ None → t ≡ counted 1 s →
-        Opens file.now.bytes.now depth at s (open_of result.0) result.1 t }
-    ensures from { at < after_at result.1 }
-    ensures end { after_at result.1 ≤ size file.now }
+        Opens file.now.bytes.now depth at s (open_of result.has) result.next t }
+    ensures opening { result.opening ≡ at }
+    ensures from { at < after_at result.next }
+    ensures end { after_at result.next ≤ size file.now }
 {
     let inside = gap(file.bytes, at + 1);
     if begins(file.bytes, at, b'[') {
-        return (
-            Open::Items(Vec::new(file.alloc)),
-            first_inside(file.bytes, b']', inside),
-        );
+        return OpenFlow {
+            opening: at,
+            has: Open::Items(Vec::new(file.alloc)),
+            next: first_inside(file.bytes, b']', inside),
+        };
     }
-    (
-        Open::Entries(OpenMapping {
+    OpenFlow {
+        opening: at,
+        has: Open::Entries(OpenMapping {
             entries: Vec::new(file.alloc),
             waits: None,
         }),
-        first_inside(file.bytes, b'}', inside),
-    )
+        next: first_inside(file.bytes, b'}', inside),
+    }
 }
 
 /// The collection that was read from its bracket up to behind its closer.
 #[inline(always)]
-fn closed_part(opening: usize, has: Open, end: usize) -> Part
-    requires start { opening < 2 ^ 32 }
+fn closed_part(collection: OpenFlow, end: usize) -> Part
+    requires start { collection.opening < 2 ^ 32 }
     requires end { end < 2 ^ 32 }
-    ensures node { view result.node ≡ closed_of opening (open_of has) end }
+    ensures node { view result.node ≡ closed_of collection.opening (open_of collection.has) end }
     ensures end { result.end ≡ end }
     ensures next { result.next ≡ end }
 {
+    let OpenFlow {
+        opening,
+        has,
+        next: _,
+    } = collection;
     match has {
         Open::Items(items) => sequence_part(items, opening, end, end),
         Open::Entries(mapping) => mapping_part(mapping.entries, opening, end, end),
+    }
+}
+
+/// Hands a collection that was read, with its anchor, to the one that waited for it.
+#[inline(always)]
+fn resume_outer(
+    file: &File,
+    state: &mut State,
+    frame: FlowFrame,
+    part: Part,
+) -> Result<OpenFlow, ReadError>
+    requires inside { part.next ≤ size file.now }
+    requires opening { frame.opening < size file.now }
+    requires at { frame.inner.at < size file.now }
+    ensures fault { IfErr result (IsStopInside (size file.now)) }
+    ensures is { (depth : ℕ) (whole : NodeAnswer) (outer : List frame_code.FlowFrame)
+        → Behind file.now.bytes.now depth whole (map (frame_of file.now.bytes.now) (frame ∷ outer))
+        (state_of state.old) part
+        → Answers file.now.bytes.now depth whole outer result (state_of state.new) }
+    ensures opening { IfOk result (λ collection. collection.opening ≡ frame.opening) }
+    ensures within { IfOk result (λ collection. IsPut (size file.now) part.next collection.next) }
+{
+    let FlowFrame {
+        opening,
+        has,
+        inner,
+    } = frame;
+    let mut has = has;
+    let part = complete(file, state, inner.anchor, part)?;
+    let next = resume(file, opening, &mut has, inner.at, part)?;
+    Ok(OpenFlow { opening, has, next })
+}
+
+/// Reads on in an open collection: to what stands behind the next node in it, or to what stands first in a collection in it.
+#[inline(always)]
+fn read_on(
+    file: &File,
+    progress: &mut Progress,
+    collection: OpenFlow,
+    at: usize,
+    depth: u32,
+) -> Result<OpenFlow, ReadError>
+    requires at { at ≤ size file.now }
+    requires opening { collection.opening < size file.now }
+    requires outer { AreOpen (size file.now) progress.old.stack.flows }
+    requires depth { depth ≤ 65 }
+    requires room { length progress.old.stack.flows + length progress.old.stack.blocks < depth }
+    ensures fault { IfErr result (IsStopInside (size file.now)) }
+    ensures is { (first : ℕ) (whole : NodeAnswer)
+        → depth ≡ first + length progress.old.stack.flows + 1
+        → Inside file.now.bytes.now first whole
+        (map (frame_of file.now.bytes.now) progress.old.stack.flows)
+        (state_of progress.old.state) collection.opening (open_of collection.has) at
+        → Answers file.now.bytes.now first whole progress.new.stack.flows result
+        (state_of progress.new.state) }
+    ensures within { IfOk result
+        (IsFurther (size file.now) at depth progress.old.stack progress.new.stack) }
+{
+    let OpenFlow {
+        opening,
+        has,
+        next: _,
+    } = collection;
+    let mut has = has;
+    let place = FlowPlace { opening, at, depth };
+    let step = read_inside(file, &mut progress.state, &mut has, place)?;
+    match step {
+        FlowStep::Behind(next) => Ok(OpenFlow { opening, has, next }),
+        FlowStep::Opens(inner) => {
+            progress.state.start(inner.at, 1, depth)?;
+            progress.stack.push_flow(FlowFrame {
+                opening,
+                has,
+                inner,
+            });
+            Ok(open_at(file, inner.at))
+        }
     }
 }
 
@@ -382,46 +481,20 @@ pub fn read_flow_collection(
 {
     progress.state.start(at, 1, depth)?;
     let outside = progress.stack.len();
-    let (mut has, mut next) = open_at(file, at);
-    let mut opening = at;
+    let mut collection = open_at(file, at);
     'nodes: loop {
-        let from = match next {
+        match collection.next {
             After::Closes(end) => {
-                let part = closed_part(opening, has, end);
+                let part = closed_part(collection, end);
                 let Some(frame) = progress.stack.pop_flow() else {
                     return Ok(part);
                 };
-                opening = frame.opening;
-                has = frame.has;
-                let part = complete(file, &mut progress.state, frame.inner.anchor, part)?;
-                next = resume(file, opening, &mut has, frame.inner.at, part)?;
-                continue 'nodes;
+                collection = resume_outer(file, &mut progress.state, frame, part)?;
             }
-            After::GoesOn(from) => from,
-        };
-        let inner = depth + 1 + (progress.stack.len() - outside) as u32;
-        let place = FlowPlace {
-            opening,
-            at: from,
-            depth: inner,
-        };
-        let step = read_inside(file, &mut progress.state, &mut has, place)?;
-        let bracket = match step {
-            FlowStep::Behind(after) => {
-                next = after;
-                continue 'nodes;
+            After::GoesOn(from) => {
+                let inner = depth + 1 + (progress.stack.len() - outside) as u32;
+                collection = read_on(file, progress, collection, from, inner)?;
             }
-            FlowStep::Opens(bracket) => bracket,
-        };
-        progress.state.start(bracket.at, 1, inner)?;
-        progress.stack.push_flow(FlowFrame {
-            opening,
-            has,
-            inner: bracket,
-        });
-        let (nothing, first) = open_at(file, bracket.at);
-        opening = bracket.at;
-        has = nothing;
-        next = first;
+        }
     }
 }

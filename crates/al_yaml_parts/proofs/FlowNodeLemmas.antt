@@ -27,8 +27,8 @@ use Rattle.al_scalar.proofs.RestLemmas.{start-at}
 use Rattle.al_scalar.proofs.SingleLemmas.{never}
 use Rattle.al_yaml_parts.proofs.RunLemmas.{run-gives, run-fails, run-start, run-broken, run-stop, run-refused}
 use Rattle.al_yaml_parts.specs.FlowReads.{Finds}
-use Rattle.al_yaml_parts.specs.declared.flow_nodes.Found.{Found}
-use Rattle.al_yaml_parts.specs.declared.flow_nodes.Found.TheVariants as found
+use Rattle.al_yaml_parts.specs.declared.flow_nodes.FoundNode.{FoundNode}
+use Rattle.al_yaml_parts.specs.declared.flow_nodes.FoundNode.TheVariants as found
 
 -- ---- keys
 
@@ -267,7 +267,7 @@ module _ (node : FlowReader) (opening depth : ℕ) (n : State) (bytes : List ℕ
 -- ---- what was found
 
 pub finds-same : (bytes : List ℕ) (f g : CollectionReader → Reading (Part tree.Node)) (depth : ℕ) (n m : State)
-    (result : Result Found ReadError) → ((c : CollectionReader) → f c ≡ g c) → Finds bytes g depth n result m
+    (result : Result FoundNode ReadError) → ((c : CollectionReader) → f c ≡ g c) → Finds bytes g depth n result m
     → Finds bytes f depth n result m
 finds-same bytes f g depth n m (Ok (found.Node p)) e h = λ c. ap (run n) (e c) ∙ h c
 finds-same bytes f g depth n m (Ok (found.Opens i)) e h = λ c. ap (run n) (e c) ∙ h c

@@ -13,8 +13,9 @@ use Rattle.al_yaml_parts.specs.Answers.{mark_of, noting}
 use Rattle.al_yaml_parts.specs.Reads.{State, run, Stops, IsBehind, part_of}
 use Rattle.al_yaml_parts.specs.declared.faults.ReadError.{ReadError}
 use Rattle.al_yaml_parts.specs.declared.flow_nodes.FlowKey.{FlowKey}
-use Rattle.al_yaml_parts.specs.declared.flow_nodes.Found.{Found}
-use Rattle.al_yaml_parts.specs.declared.flow_nodes.Found.TheVariants as found
+use Rattle.al_yaml_parts.specs.declared.flow_nodes.FlowSlot.{FlowSlot}
+use Rattle.al_yaml_parts.specs.declared.flow_nodes.FoundNode.{FoundNode}
+use Rattle.al_yaml_parts.specs.declared.flow_nodes.FoundNode.TheVariants as found
 use Rattle.al_yaml_parts.specs.declared.flow_nodes.FoundKey.{FoundKey}
 use Rattle.al_yaml_parts.specs.declared.flow_nodes.FoundKey.TheVariants as found_key
 
@@ -32,7 +33,7 @@ pub record IsKeyInside (bytes : List ℕ) (at : ℕ) (key : FlowKey) : Type 0 wh
 -- ---- what stands at an offset, whatever reads collections
 
 -- a node that was read whole, or the bracket of a collection
-abbrev pub Finds : List ℕ → (CollectionReader → Reading (Part tree.Node)) → ℕ → State → Result Found ReadError → State → Type 0
+abbrev pub Finds : List ℕ → (CollectionReader → Reading (Part tree.Node)) → ℕ → State → Result FoundNode ReadError → State → Type 0
 Finds bytes reading depth before (Ok (found.Node p)) after =
     (c : CollectionReader) → run before (reading c) ≡ Ok (part_of bytes p, after)
 Finds bytes reading depth before (Ok (found.Opens b)) after =
@@ -53,12 +54,12 @@ pub record IsBracket (bytes : List ℕ) (low at : ℕ) : Type 0 where
   pub inside : at < length bytes
   pub bracket : content.is_flow_start (text_at bytes at) ≡ true
 
-abbrev pub IsFound : List ℕ → ℕ → Found → Type 0
+abbrev pub IsFound : List ℕ → ℕ → FoundNode → Type 0
 IsFound bytes from (found.Node p) = IsBehind bytes from p
 IsFound bytes from (found.Opens b) = IsBracket bytes from b.at
 
 -- a collection that was found has no anchor
-abbrev pub IsBare : Found → Type 0
+abbrev pub IsBare : FoundNode → Type 0
 IsBare (found.Node p) = Unit {0}
 IsBare (found.Opens b) = b.anchor ≡ None
 
@@ -66,6 +67,6 @@ abbrev pub IsFoundKey : List ℕ → ℕ → FoundKey → Type 0
 IsFoundKey bytes at (found_key.Key k) = IsKeyInside bytes at k
 IsFoundKey bytes at found_key.Opens = IsBracket bytes at at
 
--- where an empty node would stand
-abbrev pub flow_slot : ℕ → Option ℕ → flow.FlowSlot
-flow_slot opening empty = record { opening = opening; empty = empty }
+-- where a node is due
+abbrev pub flow_slot : FlowSlot → flow.FlowSlot
+flow_slot slot = record { opening = slot.opening; empty = slot.empty }

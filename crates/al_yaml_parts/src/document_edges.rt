@@ -7,7 +7,7 @@ ghost use Rattle.al_yaml_parts.specs.Private.DocumentLines.{IsBehindMarker, text
 ghost use Rattle.al_yaml_parts.specs.Places.{Shows};
 ghost use Rattle.std.specs.Prelude.{◌<◌, ◌≡◌, ◌≤◌, IfErr, IfOk, false, length};
 
-use crate::content::{is_skipped, line_ended};
+use crate::content::{is_skipped, line_behind};
 use crate::lines::next_line;
 use al_base::YamlCode;
 use al_scalar::FaultAt;
@@ -65,7 +65,7 @@ fn first_line(bytes: &[u8], at: usize) -> Result<usize, FaultAt>
         });
     }
     if let Some(next) = behind_marker(bytes, at, b'-') {
-        return line_ended(bytes, next);
+        return line_behind(bytes, next);
     }
     Ok(at)
 }
@@ -108,7 +108,7 @@ fn last_line(bytes: &[u8], at: usize) -> Result<(), FaultAt>
         });
     }
     if let Some(next) = behind_marker(bytes, at, b'.') {
-        return ended_behind(bytes, next);
+        return check_nothing_behind(bytes, next);
     }
     let solid = at + indent(bytes, at);
     if begins(bytes, solid, b'\t') {
@@ -124,7 +124,7 @@ fn last_line(bytes: &[u8], at: usize) -> Result<(), FaultAt>
 }
 
 /// Behind `...` no content stands, neither on its line nor on a later one.
-fn ended_behind(bytes: &[u8], at: usize) -> Result<(), FaultAt>
+fn check_nothing_behind(bytes: &[u8], at: usize) -> Result<(), FaultAt>
     requires { at ≤ length bytes.now }
     ensures fault { IfErr result (λ f. f.at ≤ length bytes.now) }
     ensures is { Shows (λ _. tt) (document.ended_behind (lines_at bytes.now at)) result }

@@ -46,10 +46,17 @@ pub struct Bracket {
     pub anchor: Option<usize>,
 }
 
+/// Where a node is due in a flow collection: where that opens, and where an empty node would stand, if one may.
+#[derive(Clone, Copy)]
+pub struct FlowSlot {
+    pub opening: usize,
+    pub empty: Option<usize>,
+}
+
 /// What stands where a node is due in a flow collection: an alias, a scalar or an empty node, which was read, or the bracket
 /// of a collection.
 #[derive(Drop)]
-pub enum Found {
+pub enum FoundNode {
     Node(Part),
     Opens(Bracket),
 }
@@ -161,7 +168,7 @@ pub fn read_flow_scalar(file: &File, state: &mut State, at: usize) -> Result<Par
 
 /// Reads a node without anchor in a flow collection, if it is no collection.
 #[inline(always)]
-fn read_flow_content(file: &File, state: &mut State, at: usize) -> Result<Found, ReadError>
+fn read_flow_content(file: &File, state: &mut State, at: usize) -> Result<FoundNode, ReadError>
     requires inside { at ≤ size file.now }
     requires plain { false ≡ content.is_property (text_at file.now.bytes.now at) }
     ensures fault { IfErr result (IsStopInside (size file.now)) }
@@ -173,9 +180,9 @@ fn read_flow_content(file: &File, state: &mut State, at: usize) -> Result<Found,
 {
     // a bracket has no fault
     if is_flow_start(file.bytes, at) {
-        return Ok(Found::Opens(Bracket { at, anchor: None }));
+        return Ok(FoundNode::Opens(Bracket { at, anchor: None }));
     }
-    Ok(Found::Node(read_flow_scalar(file, state, at)?))
+    Ok(FoundNode::Node(read_flow_scalar(file, state, at)?))
 }
 
 /// Reads an alias.
@@ -196,22 +203,21 @@ pub fn read_alias(file: &File, state: &mut State, at: usize, depth: u32) -> Resu
     })
 }
 
-/// Reads an alias, or an anchor and its node if that is no collection. empty is where an empty node would stand.
+/// Reads an alias, or an anchor and its node if that is no collection.
 pub fn read_flow_property(
     file: &File,
     state: &mut State,
-    opening: usize,
-    empty: Option<usize>,
+    slot: FlowSlot,
     at: usize,
     depth: u32,
-) -> Result<Found, ReadError>
+) -> Result<FoundNode, ReadError>
     requires inside { at ≤ size file.now }
     requires property { content.is_property (text_at file.now.bytes.now at) ≡ true }
-    requires opening { opening ≤ size file.now }
-    requires empty { IfSome empty (λ i. i ≤ at) }
+    requires opening { slot.opening ≤ size file.now }
+    requires empty { IfSome slot.empty (λ i. i ≤ at) }
     ensures fault { IfErr result (IsStopInside (size file.now)) }
     ensures is { Finds file.now.bytes.now
-        (λ collection. flow.flow_property collection (flow_slot opening empty) depth
+        (λ collection. flow.flow_property collection (flow_slot slot) depth
         (left_at file.now at)) depth (state_of state.old) result (state_of state.new) }
     ensures within { IfOk result (λ found. IsFound file.now.bytes.now at found) }
 {
@@ -222,18 +228,17 @@ pub fn read_flow_property(
         }));
     }
     if begins(file.bytes, at, b'*') {
-        return Ok(Found::Node(read_alias(file, state, at, depth)?));
+        return Ok(FoundNode::Node(read_alias(file, state, at, depth)?));
     }
-    let found = read_anchored(
+    let found = read_behind_anchor(
         file,
         state,
-        opening,
-        empty,
+        slot,
         gap(file.bytes, property_end(file.bytes, at)),
     )?;
     match found {
-        Found::Node(part) => Ok(Found::Node(complete(file, state, Some(at), part)?)),
-        Found::Opens(bracket) => Ok(Found::Opens(Bracket {
+        FoundNode::Node(part) => Ok(FoundNode::Node(complete(file, state, Some(at), part)?)),
+        FoundNode::Opens(bracket) => Ok(FoundNode::Opens(Bracket {
             at: bracket.at,
             anchor: Some(at),
         })),
@@ -264,20 +269,19 @@ pub fn complete(
 }
 
 /// Reads the node behind an anchor in a flow collection, if it is no collection.
-fn read_anchored(
+fn read_behind_anchor(
     file: &File,
     state: &mut State,
-    opening: usize,
-    empty: Option<usize>,
+    slot: FlowSlot,
     at: usize,
-) -> Result<Found, ReadError>
+) -> Result<FoundNode, ReadError>
     requires inside { at ≤ size file.now }
-    requires opening { opening ≤ size file.now }
-    requires empty { IfSome empty (λ i. i ≤ at) }
+    requires opening { slot.opening ≤ size file.now }
+    requires empty { IfSome slot.empty (λ i. i ≤ at) }
     ensures fault { IfErr result (IsStopInside (size file.now)) }
     ensures is { (depth : ℕ)
         → Finds file.now.bytes.now (λ collection. flow.flow_value (flow.flow_content collection)
-        (flow_slot opening empty) depth (left_at file.now at)) depth (state_of state.old) result
+        (flow_slot slot) depth (left_at file.now at)) depth (state_of state.old) result
         (state_of state.new) }
     ensures within { IfOk result (λ found. IsFound file.now.bytes.now at found) }
     ensures bare { IfOk result IsBare }
@@ -285,18 +289,18 @@ fn read_anchored(
     if is_text_end(file.bytes, at) {
         return Err(ReadError::Fault(FaultAt {
             code: YamlCode::UnclosedFlow,
-            at: opening,
+            at: slot.opening,
         }));
     }
     if ends_value(file.bytes, at) {
-        let Some(empty) = empty else {
+        let Some(empty) = slot.empty else {
             return Err(ReadError::Fault(FaultAt {
                 code: YamlCode::UnexpectedCharacter,
                 at,
             }));
         };
         let part = empty_part(file, state, empty, at)?;
-        return Ok(Found::Node(part));
+        return Ok(FoundNode::Node(part));
     }
     if let Some(code) = flow_fault(file.bytes, at) {
         return Err(ReadError::Fault(FaultAt { code, at }));
@@ -310,27 +314,26 @@ fn read_anchored(
     read_flow_content(file, state, at)
 }
 
-/// Reads a node in a flow collection, if it is no collection. empty is where an empty node would stand.
+/// Reads a node in a flow collection, if it is no collection.
 #[inline(always)]
 pub fn read_flow_node(
     file: &File,
     state: &mut State,
-    opening: usize,
-    empty: Option<usize>,
+    slot: FlowSlot,
     at: usize,
     depth: u32,
-) -> Result<Found, ReadError>
+) -> Result<FoundNode, ReadError>
     requires inside { at ≤ size file.now }
-    requires opening { opening ≤ size file.now }
-    requires empty { IfSome empty (λ i. i ≤ at) }
+    requires opening { slot.opening ≤ size file.now }
+    requires empty { IfSome slot.empty (λ i. i ≤ at) }
     ensures fault { IfErr result (IsStopInside (size file.now)) }
     ensures is { Finds file.now.bytes.now
-        (λ collection. flow.flow_node_over collection (flow_slot opening empty) depth
+        (λ collection. flow.flow_node_over collection (flow_slot slot) depth
         (left_at file.now at)) depth (state_of state.old) result (state_of state.new) }
     ensures within { IfOk result (λ found. IsFound file.now.bytes.now at found) }
 {
     if is_property(file.bytes, at) {
-        return read_flow_property(file, state, opening, empty, at, depth);
+        return read_flow_property(file, state, slot, at, depth);
     }
     read_flow_content(file, state, at)
 }
@@ -342,7 +345,7 @@ pub fn read_flow_value(
     opening: usize,
     key: &FlowKey,
     depth: u32,
-) -> Result<Found, ReadError>
+) -> Result<FoundNode, ReadError>
     requires inside { IsKeyInside file.now.bytes.now key.now.read.span.start key.now }
     requires opening { opening ≤ size file.now }
     ensures fault { IfErr result (IsStopInside (size file.now)) }
@@ -355,7 +358,7 @@ pub fn read_flow_value(
 {
     let Some(colon) = key.colon else {
         let part = empty_part(file, state, key.read.span.end as usize, key.read.next)?;
-        return Ok(Found::Node(part));
+        return Ok(FoundNode::Node(part));
     };
     let at = gap(file.bytes, colon);
     if is_text_end(file.bytes, at) {
@@ -366,7 +369,11 @@ pub fn read_flow_value(
     }
     if ends_value(file.bytes, at) {
         let part = empty_part(file, state, colon, at)?;
-        return Ok(Found::Node(part));
+        return Ok(FoundNode::Node(part));
     }
-    read_flow_node(file, state, opening, Some(colon), at, depth)
+    let slot = FlowSlot {
+        opening,
+        empty: Some(colon),
+    };
+    read_flow_node(file, state, slot, at, depth)
 }

@@ -12,7 +12,7 @@ ghost use Rattle.al_yaml_tree.specs.View.{view};
 ghost use Rattle.std.specs.Prelude.{IfErr, IfOk, length, ◌+◌, ◌≡◌, ◌≤◌};
 ghost use Rattle.al_base.specs.Limits.{largest_file};
 
-use crate::content::line_ended;
+use crate::content::line_behind;
 use crate::faults::ReadError;
 use crate::file::File;
 use crate::limits::State;
@@ -74,7 +74,7 @@ pub fn empty_part(file: &File, state: &mut State, at: usize, next: usize) -> Res
 }
 
 /// The start of the line behind a scalar; a block scalar ends with its last line.
-fn scalar_left(bytes: &[u8], at: usize, next: usize) -> Result<usize, FaultAt>
+fn line_behind_scalar(bytes: &[u8], at: usize, next: usize) -> Result<usize, FaultAt>
     requires at { at ≤ length bytes.now }
     requires inside { next ≤ length bytes.now }
     ensures fault { IfErr result (λ f. f.at ≤ length bytes.now) }
@@ -86,7 +86,7 @@ fn scalar_left(bytes: &[u8], at: usize, next: usize) -> Result<usize, FaultAt>
     if is_block_start(bytes, at) {
         return Ok(next);
     }
-    line_ended(bytes, next)
+    line_behind(bytes, next)
 }
 
 /// Reads a scalar in block context with the rest of its line.
@@ -111,6 +111,6 @@ pub fn read_line_scalar(
         at,
         ScalarContext::BlockFromIndent(within as u32),
     )?;
-    let next = scalar_left(file.bytes, at, read.next)?;
+    let next = line_behind_scalar(file.bytes, at, read.next)?;
     Ok(scalar_part(read, next))
 }

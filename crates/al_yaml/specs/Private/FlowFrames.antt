@@ -24,6 +24,8 @@ use Rattle.al_yaml.specs.declared.flow.After.{After}
 use Rattle.al_yaml.specs.declared.flow.After.TheVariants as after
 use Rattle.al_yaml.specs.declared.flow.FlowPlace.{FlowPlace}
 use Rattle.al_yaml.specs.declared.flow.FlowStep.{FlowStep}
+use Rattle.al_yaml.specs.declared.flow.OpenFlow.{OpenFlow}
+use Rattle.al_yaml_parts.specs.Stacks.{Opened}
 use Rattle.al_yaml.specs.declared.flow.FlowStep.TheVariants as step
 
 abbrev pub open_of : Open → frames.Open
@@ -114,6 +116,10 @@ abbrev pub IsStep : List ℕ → ℕ → FlowStep → Type 0
 IsStep bytes at (step.Behind next) = IsPut (length bytes) at next
 IsStep bytes at (step.Opens b) = IsBracket bytes at b.at
 
+-- where an item is due in it
+abbrev pub item_slot : FlowPlace → flow.FlowSlot
+item_slot p = record { opening = p.opening; empty = None }
+
 -- a collection is read in the file
 pub record IsPlaceInside (size : ℕ) (p : FlowPlace) : Type 0 where
   pub inside : p.at ≤ size
@@ -123,3 +129,12 @@ pub record IsPlaceInside (size : ℕ) (p : FlowPlace) : Type 0 where
 abbrev pub AreOpen : ℕ → List FlowFrame → Type 0
 AreOpen size [] = Unit {0}
 AreOpen size (f ∷ fs) = (f.opening < size) × (f.inner.at < size) × AreOpen size fs
+
+-- where reading goes on in an open collection or in one that was opened in it, and what is open then
+pub record IsFurther (size at depth : ℕ) (old new : Opened) (now : OpenFlow) : Type 0 where
+  pub blocks : new.blocks ≡ old.blocks
+  pub outer : AreOpen size new.flows
+  pub room : length new.flows + depth ≤ length old.flows + 65
+  pub more : length new.flows ≤ length old.flows + 1
+  pub opening : now.opening < size
+  pub next : IsPut size at now.next

@@ -1,8 +1,8 @@
-use Rattle.std.proofs.Common.{◌∙◌, None, suc, sym, ap, map}
+use Rattle.std.proofs.Common.{◌∙◌, suc, sym, ap, map}
 use Rattle.std.proofs.lemmas.Result.{err_from_is_err_and}
 use Rattle.al_yaml_tree.specs.Flow.{flow_node_over, flow_property}
 use Rattle.al_yaml_parts.specs.Files.{left_at}
-use Rattle.al_yaml_parts.specs.FlowReads.{flow_slot}
+use Rattle.al_yaml.specs.Private.FlowFrames.{item_slot}
 use Rattle.al_yaml.specs.Private.Frames.{open_rest, waiting_rest, item, items}
 use Rattle.al_yaml_parts.specs.Answers.{answered}
 use Rattle.al_yaml_parts.specs.Reads.{part_of, run, state_of}
@@ -19,10 +19,10 @@ returns-in_err-part-clause-is c =
     rw (p.1, p.2) (λ col turns. item-stop col turns c.args.place.opening depth (state_of c.args.state.now)
     (nodes_of (map view c.args.items.now.items)) c.args.file.now.bytes.now c.args.place.at c.requires.place.inside c.requires.solid
     c.requires.other c.in_err-part.field-0.0
-    (stops-same (flow_node_over col (flow_slot c.args.place.opening None) depth (left_at c.args.file.now c.args.place.at))
-    (flow_property col (flow_slot c.args.place.opening None) depth (left_at c.args.file.now c.args.place.at)) (state_of c.args.state.now)
+    (stops-same (flow_node_over col (item_slot c.args.place) depth (left_at c.args.file.now c.args.place.at))
+    (flow_property col (item_slot c.args.place) depth (left_at c.args.file.now c.args.place.at)) (state_of c.args.state.now)
     c.in_err-part.field-0.0
-    (node-property col (flow_slot c.args.place.opening None) depth (state_of c.args.state.now) c.args.file.now.bytes.now c.args.place.at
+    (node-property col (item_slot c.args.place) depth (state_of c.args.state.now) c.args.file.now.bytes.now c.args.place.at
     c.requires.place.inside (sym c.requires.property)) (c.in_err-part.ensures.is col)))
 
 pub returns-in_err-put_item-in-Node-clause-is : goal.returns-in_err-put_item-in-Node-clause-is
@@ -39,7 +39,7 @@ returns-in_err-put_item-in-Node-clause-is c =
     (item-answer col turns c.args.place.opening depth (state_of c.args.state.now) (nodes_of (map view c.args.items.now.items))
     c.args.file.now.bytes.now c.args.place.at c.requires.place.inside c.requires.solid c.requires.other
     ∙ ap (λ o. answered o (waiting_rest col turns depth c.args.place.opening (item (nodes_of (map view c.args.items.now.items)))))
-    (ap (run (state_of c.args.state.now)) (node-property col (flow_slot c.args.place.opening None) depth (state_of c.args.state.now)
+    (ap (run (state_of c.args.state.now)) (node-property col (item_slot c.args.place) depth (state_of c.args.state.now)
     c.args.file.now.bytes.now c.args.place.at c.requires.place.inside (sym c.requires.property)) ∙ found col))
     (c.in_err-put_item-in-Node.ensures.is depth (state_of c.read_flow_property.new.state) col turns))
 
@@ -55,7 +55,7 @@ returns-in_ok-put_item-in-Node-clause-is c =
     (λ col turns. item-answer col turns c.args.place.opening depth (state_of c.args.state.now) (nodes_of (map view c.args.items.now.items))
     c.args.file.now.bytes.now c.args.place.at c.requires.place.inside c.requires.solid c.requires.other
     ∙ ap (λ o. answered o (waiting_rest col turns depth c.args.place.opening (item (nodes_of (map view c.args.items.now.items)))))
-    (ap (run (state_of c.args.state.now)) (node-property col (flow_slot c.args.place.opening None) depth (state_of c.args.state.now)
+    (ap (run (state_of c.args.state.now)) (node-property col (item_slot c.args.place) depth (state_of c.args.state.now)
     c.args.file.now.bytes.now c.args.place.at c.requires.place.inside (sym c.requires.property)) ∙ found col))
     (c.in_ok-put_item-in-Node.ensures.is depth (state_of c.read_flow_property.new.state))
 
@@ -66,7 +66,7 @@ returns-in-Opens-clause-is c = λ col turns.
     item-answer col turns c.args.place.opening depth (state_of c.args.state.now) (nodes_of (map view c.args.items.now.items))
     c.args.file.now.bytes.now c.args.place.at c.requires.place.inside c.requires.solid c.requires.other
     ∙ ap (λ o. answered o (waiting_rest col turns depth c.args.place.opening (item (nodes_of (map view c.args.items.now.items)))))
-    (ap (run (state_of c.args.state.now)) (node-property col (flow_slot c.args.place.opening None) depth (state_of c.args.state.now)
+    (ap (run (state_of c.args.state.now)) (node-property col (item_slot c.args.place) depth (state_of c.args.state.now)
     c.args.file.now.bytes.now c.args.place.at c.requires.place.inside (sym c.requires.property)) ∙ found col)
 
 pub returns-in-Opens-clause-within : goal.returns-in-Opens-clause-within

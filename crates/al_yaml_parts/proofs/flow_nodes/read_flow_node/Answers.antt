@@ -8,7 +8,7 @@ use Rattle.al_yaml_parts.proofs.flow_nodes.read_flow_node.Goals as goal
 
 pub returns-then-is_property-clause-is : goal.returns-then-is_property-clause-is
 returns-then-is_property-clause-is c =
-    let slot = flow_slot c.args.opening c.args.empty in
+    let slot = flow_slot c.args.slot in
     let bytes = c.args.file.now.bytes.now in
     finds-same bytes (λ col. flow_node_over col slot c.args.depth (lines_at bytes c.args.at)) (λ col. flow_property col slot c.args.depth (lines_at bytes c.args.at)) c.args.depth
     (state_of c.args.state.now) (state_of c.read_flow_property.new.state) c.read_flow_property.result
@@ -16,7 +16,7 @@ returns-then-is_property-clause-is c =
 
 pub returns-clause-is : goal.returns-clause-is
 returns-clause-is c =
-    let slot = flow_slot c.args.opening c.args.empty in
+    let slot = flow_slot c.args.slot in
     let bytes = c.args.file.now.bytes.now in
     finds-same bytes (λ col. flow_node_over col slot c.args.depth (lines_at bytes c.args.at)) (λ col. flow_content col slot c.args.depth (lines_at bytes c.args.at)) c.args.depth
     (state_of c.args.state.now) (state_of c.read_flow_content.new.state) c.read_flow_content.result

@@ -1,6 +1,6 @@
 use Rattle.std.proofs.Common.{arith}
 use Rattle.al_yaml_parts.proofs.DocumentLemmas.{ended-file_end, ended-here}
-use Rattle.al_yaml_parts.proofs.document_edges.ended_behind.Goals as goal
+use Rattle.al_yaml_parts.proofs.document_edges.check_nothing_behind.Goals as goal
 
 pub returns-then-line-bytes-clause-is : goal.returns-then-line-bytes-clause-is
 returns-then-line-bytes-clause-is c = ended-file_end c.args.bytes.now c.args.at c.next_text_line-line.result c.next_text_line-line.ensures.lines c.if-line-bytes.true

@@ -1,0 +1,89 @@
+use Rattle.std.proofs.Common.{◌∷◌, length, map, refl, sym, ap, subst, arith}
+use Rattle.std.proofs.lemmas.Result.{err_from_is_err_and}
+use Rattle.al_yaml.specs.Private.FlowAnswers.{Keeps}
+use Rattle.al_yaml.specs.Private.FlowFrames.{AreOpen, frame_of, open_of, waiting_of}
+use Rattle.al_yaml_parts.specs.Answers.{mark_of}
+use Rattle.al_yaml_parts.specs.Places.{fault_of}
+use Rattle.al_yaml_parts.specs.Reads.{state_of}
+use Rattle.al_yaml.proofs.FlowLemmas.{collection-broken}
+use Rattle.al_yaml.proofs.FlowLoop.{frames-length, opens-keeps, step-keeps}
+use Rattle.al_yaml.proofs.FrameLemmas.{inside-stops, inside-broken}
+use Rattle.al_yaml.proofs.flow.read_on.Goals as goal
+
+pub returns-in_err-step-clause-is : goal.returns-in_err-step-clause-is
+returns-in_err-step-clause-is c = λ first whole deep now.
+    let bytes = c.args.file.now.bytes.now in
+    let outer = c.args.progress.now.stack.flows in
+    let p = err_from_is_err_and c.from_residual.result c.from_residual.ensures.1 in
+    rw (p.1, p.2) (inside-stops bytes first whole (map (frame_of bytes) outer) (state_of c.args.progress.now.state) c.args.collection.opening
+    (open_of c.args.collection.has) c.args.at c.args.depth (omega (arith, deep, frames-length bytes outer)) now c.requires.at
+    c.in_err-step.field-0.0 c.in_err-step.ensures.is)
+
+pub returns-in-Behind-clause-is : goal.returns-in-Behind-clause-is
+returns-in-Behind-clause-is c = λ first whole deep now.
+    let bytes = c.args.file.now.bytes.now in
+    let outer = c.args.progress.now.stack.flows in
+    let found = rw c.in-Behind.is at c.in_ok-step.ensures.is in
+    let within = rw c.in-Behind.is at c.in_ok-step.ensures.within in
+    step-keeps bytes first whole outer (state_of c.args.progress.now.state) (state_of c.read_inside.new.state) c.args.collection.opening
+    (open_of c.args.collection.has) (open_of c.read_inside.new.has) c.args.at c.in-Behind.next now c.requires.at c.args.depth
+    (omega (arith, deep, frames-length bytes outer)) found within.0
+
+pub returns-in-Behind-clause-within : goal.returns-in-Behind-clause-within
+returns-in-Behind-clause-within c =
+    let within = rw c.in-Behind.is at c.in_ok-step.ensures.within in
+    record {
+      blocks = refl;
+      outer = c.requires.outer;
+      room = omega (arith, c.requires.depth);
+      more = omega arith;
+      opening = c.requires.opening;
+      next = within;
+    }
+
+pub returns-in_err-start-in-Opens-clause-is : goal.returns-in_err-start-in-Opens-clause-is
+returns-in_err-start-in-Opens-clause-is c = λ first whole deep now.
+    let bytes = c.args.file.now.bytes.now in
+    let outer = c.args.progress.now.stack.flows in
+    let b = c.in-Opens.inner in
+    let found = rw c.in-Opens.is at c.in_ok-step.ensures.is in
+    let within = rw c.in-Opens.is at c.in_ok-step.ensures.within in
+    let p = err_from_is_err_and c.from_residual-in_err-start-in-Opens.result c.from_residual-in_err-start-in-Opens.ensures.1 in
+    rw (p.1, p.2) (inside-broken bytes first whole (map (frame_of bytes) outer) (state_of c.args.progress.now.state)
+    c.args.collection.opening (open_of c.args.collection.has) c.args.at c.args.depth (omega (arith, deep, frames-length bytes outer)) now
+    c.requires.at (state_of c.read_inside.new.state) b.at (mark_of bytes b.anchor) (waiting_of bytes b.at c.read_inside.new.has) found
+    within.from within.inside (fault_of c.in_err-start-in-Opens.field-0.0)
+    (λ bound. collection-broken bound c.args.depth (state_of c.read_inside.new.state) bytes b.at (omega (arith, within.inside))
+    (fault_of c.in_err-start-in-Opens.field-0.0) c.in_err-start-in-Opens.ensures.limits))
+
+pub returns-in_ok-start-in-Opens-clause-is : goal.returns-in_ok-start-in-Opens-clause-is
+returns-in_ok-start-in-Opens-clause-is c = λ first whole deep now.
+    let bytes = c.args.file.now.bytes.now in
+    let outer = c.args.progress.now.stack.flows in
+    let b = c.in-Opens.inner in
+    let found = rw c.in-Opens.is at c.in_ok-step.ensures.is in
+    let within = rw c.in-Opens.is at c.in_ok-step.ensures.within in
+    let begun = c.open_at in
+    subst (λ s. Keeps bytes first whole s (state_of c.start.new.self) begun.result.opening (open_of begun.result.has) begun.result.next)
+    (sym c.push_flow.ensures.flows)
+    (subst (λ o. Keeps bytes first whole (record { opening = c.args.collection.opening; has = c.read_inside.new.has; inner = b } ∷ outer)
+    (state_of c.start.new.self) o (open_of begun.result.has) begun.result.next) (sym begun.ensures.opening)
+    (opens-keeps bytes first whole outer (state_of c.args.progress.now.state) c.args.collection.opening
+    (open_of c.args.collection.has) c.args.at c.args.depth (omega (arith, deep, frames-length bytes outer)) now c.requires.at
+    (state_of c.read_inside.new.state) b c.read_inside.new.has found within.from within.inside (state_of c.start.new.self)
+    (open_of begun.result.has) begun.result.next begun.ensures.from
+    (begun.ensures.is c.args.depth (state_of c.read_inside.new.state) (state_of c.start.new.self)
+    c.in_ok-start-in-Opens.ensures.limits c.in_ok-start-in-Opens.ensures.state)))
+
+pub returns-in_ok-start-in-Opens-clause-within : goal.returns-in_ok-start-in-Opens-clause-within
+returns-in_ok-start-in-Opens-clause-within c =
+    let size = length c.args.file.now.bytes.now in
+    let within = rw c.in-Opens.is at c.in_ok-step.ensures.within in
+    record {
+      blocks = c.push_flow.ensures.blocks;
+      outer = subst (AreOpen size) (sym c.push_flow.ensures.flows) (c.requires.opening, within.inside, c.requires.outer);
+      room = omega (arith, ap length c.push_flow.ensures.flows, c.in_ok-start-in-Opens.ensures.depth);
+      more = omega (arith, ap length c.push_flow.ensures.flows);
+      opening = omega (arith, c.open_at.ensures.opening, within.inside);
+      next = (omega (arith, within.from, c.open_at.ensures.from), c.open_at.ensures.end);
+    }
