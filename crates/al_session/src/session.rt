@@ -14,11 +14,12 @@ ghost use Rattle.al_base.specs.Streams.{bytes_written, write_failures};
 ghost use Rattle.al_session_folder.specs.Folder.{bytes_at, faults_at, put_refusal, delete_refusal, with_file};
 ghost use Rattle.al_session_folder.specs.Folder.{without_file, paths_of, refusal_or_memory};
 ghost use Rattle.std.specs.Bool.{Decides};
-ghost use Rattle.al_session_folder.specs.Affected.{affected};
+ghost use Rattle.al_session_folder.specs.Affected.{affected, is_among};
 ghost use Rattle.al_session_folder.specs.Meaning.{IsUpTo};
 ghost use Rattle.al_base.specs.Counted.{raised};
-ghost use Rattle.al_session_folder.specs.Missing.{missing_in};
+ghost use Rattle.al_session_folder.specs.Missing.{is_missing, missing_in};
 ghost use Rattle.al_session_folder.specs.Report.{status_of, report_of};
+ghost use Rattle.al_session.specs.EditLaws.{OthersKeepFaults, PutsInAnyOrder, SamePutChangesNothing};
 ghost use Rattle.al_session.specs.Session.{IsLinted, ReadsForPut, folder_in};
 
 use crate::calls::{find_graph, found_graph};
@@ -314,7 +315,12 @@ impl<L: Lint> Session<L> {
     ///
     /// [`AllocError`] where memory ran out.
     pub fn missing(&self) -> Result<Vec<Path>, AllocError>
-        ensures { IfOk result (λ paths. paths.items ≡ missing_in L.meaning self.now.folder) }
+        ensures paths { IfOk result
+            (λ paths. paths.items ≡ missing_in L.meaning self.now.folder) }
+        ensures sorted { IfOk result
+            (λ paths. IsStrictlySortedBy (slice_cmp nat_cmp) paths.items) }
+        ensures members { IfOk result (λ paths. (p : List ℕ)
+            → is_among p paths.items ≡ is_missing L.meaning self.now.folder p) }
     {
         missing_paths::<L>(self.kept.alloc, &self.kept.files)
     }
@@ -324,6 +330,18 @@ impl<L: Lint> Session<L> {
         ensures { IsStrictlySortedBy (slice_cmp nat_cmp) (paths_of self.now.folder) }
     {
         // What is true of the files is known where they are named.
+        let _ = &self.kept.files;
+    }
+
+    /// Laws of edits. Does nothing.
+    ///
+    /// A put of the bytes that are there changes nothing, and affects no file. Two files make the same folder, whichever is put first: so
+    /// faults, report and status don't depend on it. A file that a change doesn't affect keeps its faults.
+    pub fn edit_laws(&self)
+        ensures same { SamePutChangesNothing L.Iface.eq L.meaning self.now.folder }
+        ensures order { PutsInAnyOrder self.now.folder }
+        ensures others { OthersKeepFaults L.Iface.eq L.meaning self.now.folder }
+    {
         let _ = &self.kept.files;
     }
 }

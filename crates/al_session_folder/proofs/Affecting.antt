@@ -15,13 +15,13 @@ use Rattle.std.specs.Cmp.Lexicographic.{slice_cmp}
 use Rattle.std.proofs.lemmas.Bool.{cond-true, cond-false}
 use Rattle.std.proofs.lemmas.Map.Text.{is_eq-slice_cmp}
 use Rattle.std.proofs.lemmas.Cmp.{nat_list_cmp_total}
-use Rattle.al_session_folder.specs.Meaning.{Meaning, candidates}
+use Rattle.al_session_folder.specs.Meaning.{Meaning, candidates, is_candidate}
 use Rattle.std.proofs.lemmas.List.{take_more}
-use Rattle.al_session_folder.proofs.Missings.{with_path-sorted}
-use Rattle.al_session_folder.specs.Folder.{Folder, without_file, bytes_at, paths_of, interface_in, or_else, answer_among, answer}
+use Rattle.al_session_folder.proofs.Missings.{with_one-sorted}
+use Rattle.al_session_folder.specs.Folder.{Folder, without_file, bytes_at, paths_of, interface_in, or_else, first_of, answer}
 use Rattle.al_session_folder.specs.Affected.{same_answer, is_same_text, is_untouched, affected, is_affected, is_among}
-use Rattle.al_session_folder.specs.Kept.{changed, is_candidate}
-use Rattle.al_session_folder.specs.Missing.{with_path}
+use Rattle.al_session_folder.specs.Kept.{changed}
+use Rattle.al_base.specs.InOrder.{with_one}
 use Rattle.al_session_folder.specs.declared.lint.Target.{Target}
 use Rattle.al_session_folder.proofs.Places.{by_ordering, exact_path, rest_sorted, sorted_put}
 use Rattle.al_session_folder.proofs.Views.{bytes_changed, bytes_same, bytes_self, none_behind}
@@ -50,12 +50,12 @@ eq_flipped p q false h = by (bytes_eq q p) refl
 
 -- a change at p leaves the answer of every call that has no candidate p
 module _ {I : Type 0} (m : Meaning I) (p : List ℕ) (f : Folder) (now : Option (List ℕ)) (ordered : IsStrictlySortedBy (slice_cmp nat_cmp) (paths_of f)) where
-  among_changed : (ps : List (List ℕ)) → list_any (bytes_eq p) ps ≡ false → answer_among m (changed f p now) ps ≡ answer_among m f ps
+  among_changed : (ps : List (List ℕ)) → list_any (bytes_eq p) ps ≡ false → first_of (interface_in m (changed f p now)) ps ≡ first_of (interface_in m f) ps
   among_changed [] none = refl
   among_changed (q ∷ ps) none =
       let far : bytes_eq q p ≡ false = eq_flipped p q false (or_left (bytes_eq p q) (list_any (bytes_eq p) ps) none) in
       let same : bytes_at (changed f p now) q ≡ bytes_at f q = bytes_changed p q f now ordered ∙ cond-false _ _ _ far in
-      ap (λ o. or_else (option_map (m.interface q) o) (answer_among m (changed f p now) ps)) same
+      ap (λ o. or_else (option_map (m.interface q) o) (first_of (interface_in m (changed f p now)) ps)) same
       ∙ ap (or_else (interface_in m f q)) (among_changed ps (or_right (bytes_eq p q) (list_any (bytes_eq p) ps) none))
 
   pub answer_changed : (t : Target) → list_any (bytes_eq p) (candidates t) ≡ false → answer m (changed f p now) t ≡ answer m f t
@@ -63,10 +63,10 @@ module _ {I : Type 0} (m : Meaning I) (p : List ℕ) (f : Folder) (now : Option 
   answer_changed t none = among_changed (candidates t) none
 
   -- it leaves every answer where p offers what it offered
-  among_still : interface_in m f p ≡ interface_in m (changed f p now) p → (ps : List (List ℕ)) → answer_among m (changed f p now) ps ≡ answer_among m f ps
+  among_still : interface_in m f p ≡ interface_in m (changed f p now) p → (ps : List (List ℕ)) → first_of (interface_in m (changed f p now)) ps ≡ first_of (interface_in m f) ps
   among_still still [] = refl
   among_still still (q ∷ ps) =
-      ap (λ o. or_else o (answer_among m (changed f p now) ps)) (by (bytes_eq q p) refl)
+      ap (λ o. or_else o (first_of (interface_in m (changed f p now)) ps)) (by (bytes_eq q p) refl)
       ∙ ap (or_else (interface_in m f q)) (among_still still ps)
     where
       by : (t : Bool) → bytes_eq q p ≡ t → interface_in m (changed f p now) q ≡ interface_in m f q
@@ -314,15 +314,15 @@ module _ (T : List ℕ × List ℕ → Bool) where
       by false true a h rest = filtered true h ∙ ap (λ t. t || is_among q (paths_of (filter T es))) a ∙ rest ∙ sym (ap (λ (o : Option (List ℕ)). option_map_or (λ b. T (q, b)) o false) (passed a))
       by false false a h rest = filtered false h ∙ rest ∙ sym (ap (λ (o : Option (List ℕ)). option_map_or (λ b. T (q, b)) o false) (passed a))
 
-among_put : (q n : List ℕ) (ps : List (List ℕ)) → is_among q (with_path ps n) ≡ bytes_eq q n || is_among q ps
+pub among_put : (q n : List ℕ) (ps : List (List ℕ)) → is_among q (with_one (slice_cmp nat_cmp) n ps) ≡ bytes_eq q n || is_among q ps
 among_put q n [] = refl
 among_put q n (r ∷ rs) = by_ordering (slice_cmp nat_cmp n r)
     (λ a. ap (is_among q) (put a))
     (λ a. ap (is_among q) (put a) ∙ there (bytes_eq q n) refl (exact_path n r a))
     (λ a. ap (is_among q) (put a) ∙ ap (λ t. bytes_eq q r || t) (among_put q n rs) ∙ swap (bytes_eq q r) (bytes_eq q n) (is_among q rs))
   where
-    put : {o : Ordering} → slice_cmp nat_cmp n r ≡ o → with_path (r ∷ rs) n ≡ match_ordering o (n ∷ r ∷ rs) (r ∷ rs) (r ∷ with_path rs n)
-    put h = ap (λ o. match_ordering o (n ∷ r ∷ rs) (r ∷ rs) (r ∷ with_path rs n)) h
+    put : {o : Ordering} → slice_cmp nat_cmp n r ≡ o → with_one (slice_cmp nat_cmp) n (r ∷ rs) ≡ match_ordering o (n ∷ r ∷ rs) (r ∷ rs) (r ∷ with_one (slice_cmp nat_cmp) n rs)
+    put h = ap (λ o. match_ordering o (n ∷ r ∷ rs) (r ∷ rs) (r ∷ with_one (slice_cmp nat_cmp) n rs)) h
 
     swap : (a b d : Bool) → a || (b || d) ≡ b || (a || d)
     swap true true d = refl
@@ -336,7 +336,7 @@ among_put q n (r ∷ rs) = by_ordering (slice_cmp nat_cmp n r)
 
 -- One path more among affected ones
 
-pub members_more : (q n p : List ℕ) (aff : List ℕ → Bool) (old new : List (List ℕ)) → new ≡ cond (not (bytes_eq n p) && aff n) (with_path old n) old
+pub members_more : (q n p : List ℕ) (aff : List ℕ → Bool) (old new : List (List ℕ)) → new ≡ cond (not (bytes_eq n p) && aff n) (with_one (slice_cmp nat_cmp) n old) old
     → is_among q new ≡ (bytes_eq q n && (not (bytes_eq q p) && aff q)) || is_among q old
 members_more q n p aff old new e = ap (is_among q) e ∙ by (not (bytes_eq n p) && aff n) refl
   where
@@ -355,9 +355,10 @@ members_more q n p aff old new e = ap (is_among q) e ∙ by (not (bytes_eq n p) 
     and_false true = refl
     and_false false = refl
 
-    by : (t : Bool) → not (bytes_eq n p) && aff n ≡ t → is_among q (cond (not (bytes_eq n p) && aff n) (with_path old n) old) ≡ (bytes_eq q n && (not (bytes_eq q p) && aff q)) || is_among q old
-    by true a = ap (λ t. is_among q (cond t (with_path old n) old)) a ∙ among_put q n old ∙ sym (ap (λ t. t || is_among q old) (here true a ∙ and_true (bytes_eq q n)))
-    by false a = ap (λ t. is_among q (cond t (with_path old n) old)) a ∙ sym (ap (λ t. t || is_among q old) (here false a ∙ and_false (bytes_eq q n)))
+    by : (t : Bool) → not (bytes_eq n p) && aff n ≡ t → is_among q (cond (not (bytes_eq n p) && aff n) (with_one (slice_cmp nat_cmp) n old) old)
+        ≡ (bytes_eq q n && (not (bytes_eq q p) && aff q)) || is_among q old
+    by true a = ap (λ t. is_among q (cond t (with_one (slice_cmp nat_cmp) n old) old)) a ∙ among_put q n old ∙ sym (ap (λ t. t || is_among q old) (here true a ∙ and_true (bytes_eq q n)))
+    by false a = ap (λ t. is_among q (cond t (with_one (slice_cmp nat_cmp) n old) old)) a ∙ sym (ap (λ t. t || is_among q old) (here false a ∙ and_false (bytes_eq q n)))
 
 module _ {I : Type 0} (eq : I → I → Bool) (m : Meaning I) (f g : Folder) (ordered : IsStrictlySortedBy (slice_cmp nat_cmp) (paths_of g)) where
   pub affected_sorted : IsStrictlySortedBy (slice_cmp nat_cmp) (affected eq m f g)
@@ -396,8 +397,9 @@ module _ (T : Target → Bool) where
       and_false true = refl
       and_false false = refl
 
-pub sorted_more : (n : List ℕ) (t : Bool) (old new : List (List ℕ)) → new ≡ cond t (with_path old n) old → IsStrictlySortedBy (slice_cmp nat_cmp) old → IsStrictlySortedBy (slice_cmp nat_cmp) new
-sorted_more n true old new e s = subst (IsStrictlySortedBy (slice_cmp nat_cmp)) (sym e) (with_path-sorted n old s)
+pub sorted_more : (n : List ℕ) (t : Bool) (old new : List (List ℕ)) → new ≡ cond t (with_one (slice_cmp nat_cmp) n old) old
+    → IsStrictlySortedBy (slice_cmp nat_cmp) old → IsStrictlySortedBy (slice_cmp nat_cmp) new
+sorted_more n true old new e s = subst (IsStrictlySortedBy (slice_cmp nat_cmp)) (sym e) (with_one-sorted n old s)
 sorted_more n false old new e s = subst (IsStrictlySortedBy (slice_cmp nat_cmp)) (sym e) s
 
 pub start_sorted : (t : Bool) (p : List ℕ) (ps : List (List ℕ)) → ps ≡ cond t (p ∷ []) [] → IsStrictlySortedBy (slice_cmp nat_cmp) ps

@@ -5,18 +5,18 @@ use Rattle.std.specs.Prelude.{string_bytes}
 use Rattle.std.specs.Bool.{◌==◌}
 use Rattle.std.specs.Borrow.{Bor}
 use Rattle.std.specs.Global.{Global}
-use Rattle.std.specs.List.{AllByRecursion, dedup, dedup_from, enumerate_from, flat_map, list_any}
+use Rattle.std.specs.List.{AllByRecursion, dedup, enumerate_from, flat_map, list_any}
 use Rattle.std.specs.List.Sorted.{IsPermutation, IsSorted, IsStrictlySortedBy}
 use Rattle.std.specs.Option.{unwrap_or}
-use Rattle.std.specs.Ordering.{is_lt, match_ordering}
+use Rattle.std.specs.Ordering.{match_ordering}
 use Rattle.std.specs.declared.cmp.Ordering.{Ordering}
 use Rattle.std.specs.declared.cmp.Ordering.TheVariants.{Less, Equal, Greater}
 use Rattle.std.proofs.lemmas.Bool.Decides.{nat_tests}
 use Rattle.std.proofs.lemmas.Bool.{cases_lt}
-use Rattle.std.proofs.lemmas.List.{get_or-append-add, get_or-map, get_or_append_left, length-map}
-use Rattle.std.proofs.lemmas.List.Sorted.{IsPermutation-append_comm, IsPermutation-map}
+use Rattle.std.proofs.lemmas.List.{get_or-append-add, get_or_append_left, length-map}
+use Rattle.std.proofs.lemmas.List.Sorted.{IsPermutation-append_comm}
 use Rattle.al_base.proofs.FaultLists.{AllByRecursion-fault_list, derived_is, derived_ties, fault_cmp_same, fault_cmp_total, fault_list-permutation, fault_list-sorted}
-use Rattle.al_base.proofs.InOrder.{dedup-in_order}
+use Rattle.al_session_folder.proofs.Referring.{ordered_referred}
 use Rattle.al_base.specs.contracts.faults.FaultOrd.TheImpl as derived
 use Rattle.al_base.specs.contracts.faults.FaultPartialEq.TheImpl as derived_eq
 use Rattle.al_base.specs.FaultLists.{fault_cmp, fault_list}
@@ -182,38 +182,11 @@ module _ {U I : Type 0} (m : Meaning I) (files : Files U I) (checked : AllChecke
 
 -- ---- faults in order by references to them
 
-module _ (E : Fault → Fault → Bool) where
-  dedup_from_referred : (k : Bor Fault) (xs : List (Bor Fault)) → referred (dedup_from (λ (x y : Bor Fault). E x.now y.now) k xs) ≡ dedup_from E k.now (referred xs)
-  dedup_from_referred k [] = refl
-  dedup_from_referred k (x ∷ xs) = by (E x.now k.now) (dedup_from_referred k xs) (dedup_from_referred x xs)
-    where
-      by : (b : Bool) → referred (dedup_from (λ (x y : Bor Fault). E x.now y.now) k xs) ≡ dedup_from E k.now (referred xs)
-          → referred (dedup_from (λ (x y : Bor Fault). E x.now y.now) x xs) ≡ dedup_from E x.now (referred xs)
-          → referred (cond b (dedup_from (λ (x y : Bor Fault). E x.now y.now) k xs) (k ∷ dedup_from (λ (x y : Bor Fault). E x.now y.now) x xs))
-          ≡ cond b (dedup_from E k.now (referred xs)) (k.now ∷ dedup_from E x.now (referred xs))
-      by true left right = left
-      by false left right = ap (λ l. k.now ∷ l) right
-
-  dedup_referred : (xs : List (Bor Fault)) → referred (dedup (λ (x y : Bor Fault). E x.now y.now) xs) ≡ dedup E (referred xs)
-  dedup_referred [] = refl
-  dedup_referred (x ∷ xs) = dedup_from_referred x xs
-
-sorted_referred : (xs : List (Bor Fault)) → IsSorted (λ x y. fault_cmp x.now y.now) xs → IsSorted fault_cmp (referred xs)
-sorted_referred [] s k d low high = absurd (omega (arith, high))
-sorted_referred (y ∷ ys) s k d low high =
-    let n : length (referred (y ∷ ys)) ≡ length (y ∷ ys) = length-map (y ∷ ys) (λ (r : Bor Fault). r.now) in
-    let next : get_or (referred (y ∷ ys)) (k + 1) d ≡ (get_or (y ∷ ys) (k + 1) y).now = get_or-map (λ (r : Bor Fault). r.now) (y ∷ ys) (k + 1) y d (omega (arith, n, high)) in
-    let here : get_or (referred (y ∷ ys)) k d ≡ (get_or (y ∷ ys) k y).now = get_or-map (λ (r : Bor Fault). r.now) (y ∷ ys) k y d (omega (arith, n, high)) in
-    ap (λ v. is_lt (fault_cmp v (get_or (referred (y ∷ ys)) k d))) next ∙ ap (λ v. is_lt (fault_cmp (get_or (y ∷ ys) (k + 1) y).now v)) here ∙ s k y low (omega (arith, n, high))
-
-pub ordered_referred : (xs sorted out : List (Bor Fault)) → IsPermutation xs sorted → IsSorted (λ x y. derived.ghosts.cmp x.now y.now) sorted →
+pub ordered_faults : (xs sorted out : List (Bor Fault)) → IsPermutation xs sorted → IsSorted (λ x y. derived.ghosts.cmp x.now y.now) sorted →
     out ≡ dedup (λ (x y : Bor Fault). derived_eq.ghosts.eq x.now y.now) sorted → referred out ≡ fault_list (referred xs)
-ordered_referred xs sorted out moved by_cmp is =
-    let order : IsSorted (λ (x y : Bor Fault). fault_cmp x.now y.now) sorted =
-    subst (λ (cmp : Fault → Fault → Ordering). IsSorted (λ (x y : Bor Fault). cmp x.now y.now) sorted) (λ i x y. derived_is x y i) by_cmp in
-    ap referred is ∙ dedup_referred derived_eq.ghosts.eq sorted
-    ∙ dedup-in_order fault_cmp_total fault_cmp_same derived_eq.ghosts.eq derived_ties (referred xs) (referred sorted) (IsPermutation-map (λ (r : Bor Fault). r.now) xs sorted moved)
-    (sorted_referred sorted order)
+ordered_faults xs sorted out moved by_cmp is =
+    ordered_referred fault_cmp_total fault_cmp_same derived_eq.ghosts.eq derived_ties xs sorted out moved
+    (subst (λ (cmp : Fault → Fault → Ordering). IsSorted (λ (x y : Bor Fault). cmp x.now y.now) sorted) (λ i x y. derived_is x y i) by_cmp) is
 
 -- what is printed of each fault that is referred to
 pub flat_map-referred : (f : Fault → List ℕ) (xs : List (Bor Fault)) → flat_map (λ (r : Bor Fault). f r.now) xs ≡ flat_map f (referred xs)

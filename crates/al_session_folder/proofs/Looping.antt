@@ -22,9 +22,9 @@ use Rattle.al_graph.proofs.Edges.{edges_at}
 use Rattle.al_graph.proofs.Lists.{none_in}
 use Rattle.al_graph.proofs.OneWay.{no_loop_before, no_loop_behind, part_tells}
 use Rattle.al_session_folder.specs.Meaning.{Meaning, candidates}
-use Rattle.al_session_folder.specs.Folder.{Folder, or_else, paths_of}
+use Rattle.al_session_folder.specs.Folder.{Folder, first_of, or_else, paths_of}
 use Rattle.al_session_folder.specs.Kept.{Files, folder_of, entry_of, AllKept, AreKept, IsKept}
-use Rattle.al_session_folder.specs.Loops.{called, calls_graph, leads_back, loop_faults, looping, fault_if, number_among, number_of}
+use Rattle.al_session_folder.specs.Loops.{called, calls_graph, leads_back, loop_faults, looping, fault_if, number_of}
 use Rattle.al_session_folder.specs.CallGraphs.{IsCallGraph, IsCalledBy, IsRow, NoneBackward, NoneForward, TellLoops, part_of}
 use Rattle.al_session_folder.specs.declared.kept.KeptFile.{KeptFile}
 use Rattle.al_session_folder.specs.declared.lint.Target.{Target}
@@ -69,16 +69,16 @@ position_below p xs k e = by (nat_lt (prefix_len (λ x. not (p x)) xs) (length x
 number_below : (f : Folder) (p : List ℕ) (k : ℕ) → number_of f p ≡ Some k → k < length f
 number_below f p k e = let h = position_below (bytes_eq p) (paths_of f) k e in let l : length (paths_of f) ≡ length f = length-map f (λ e. e.0) in omega (arith, h, l)
 
-among_below : (f : Folder) (ps : List (List ℕ)) (k : ℕ) → number_among f ps ≡ Some k → k < length f
+among_below : (f : Folder) (ps : List (List ℕ)) (k : ℕ) → first_of (number_of f) ps ≡ Some k → k < length f
 among_below f [] k e = absurd (wrong e)
   where
     wrong : None ≡ Some k → ⊥
     wrong h = cc
 among_below f (p ∷ ps) k e = by (number_of f p) refl (λ h. among_below f ps k h)
   where
-    by : (o : Option ℕ) → number_of f p ≡ o → (number_among f ps ≡ Some k → k < length f) → k < length f
-    by None a rest = rest (sym (ap (λ o. or_else o (number_among f ps)) a) ∙ e)
-    by (Some n) a rest = number_below f p k (a ∙ (sym (ap (λ o. or_else o (number_among f ps)) a) ∙ e))
+    by : (o : Option ℕ) → number_of f p ≡ o → (first_of (number_of f) ps ≡ Some k → k < length f) → k < length f
+    by None a rest = rest (sym (ap (λ o. or_else o (first_of (number_of f) ps)) a) ∙ e)
+    by (Some n) a rest = number_below f p k (a ∙ (sym (ap (λ o. or_else o (first_of (number_of f) ps)) a) ∙ e))
 
 pub called_below : (f : Folder) (t : Target) (k : ℕ) → called f t ≡ Some k → k < length f
 called_below f t k e = among_below f (candidates t) k e

@@ -13,9 +13,9 @@ use Rattle.std.proofs.lemmas.List.{length-map, take_more_same}
 use Rattle.std.proofs.lemmas.Option.{slice_get-map}
 use Rattle.al_graph.specs.Graphs.{Edge, Walk, edges_of}
 use Rattle.al_session_folder.specs.Meaning.{Meaning, candidates}
-use Rattle.al_session_folder.specs.Folder.{Folder, bytes_at, or_else, paths_of, with_file}
+use Rattle.al_session_folder.specs.Folder.{Folder, bytes_at, first_of, or_else, paths_of, with_file}
 use Rattle.al_session_folder.specs.Kept.{AreKept, Files, IsKept, file_at, folder_of}
-use Rattle.al_session_folder.specs.Loops.{called, calls_graph, number_among, number_of}
+use Rattle.al_session_folder.specs.Loops.{called, calls_graph, number_of}
 use Rattle.al_session_folder.specs.CallGraphs.{HasSameCalls, IsCallGraph, IsRow, TellLoops, is_same_target}
 use Rattle.al_session_folder.specs.Place.{place_of}
 use Rattle.al_session_folder.specs.declared.kept.KeptFile.{KeptFile}
@@ -86,9 +86,9 @@ module _ {I : Type 0} (m : Meaning I) (f g : Folder) (same : HasSameCalls m f g)
       let k : length (paths_of f) ≡ length f = length-map f (λ e. e.0) in
       sym n ∙ ap length same.paths ∙ k
 
-  among_same : (ps : List (List ℕ)) → number_among g ps ≡ number_among f ps
+  among_same : (ps : List (List ℕ)) → first_of (number_of g) ps ≡ first_of (number_of f) ps
   among_same [] = refl
-  among_same (p ∷ ps) = ap (λ l. or_else (position (bytes_eq p) l) (number_among g ps)) same.paths ∙ ap (or_else (number_of f p)) (among_same ps)
+  among_same (p ∷ ps) = ap (λ l. or_else (position (bytes_eq p) l) (first_of (number_of g) ps)) same.paths ∙ ap (or_else (number_of f p)) (among_same ps)
 
   row_same : (ts : List Target) → filter_map (called g) ts ≡ filter_map (called f) ts
   row_same [] = refl

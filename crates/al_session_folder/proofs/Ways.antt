@@ -17,9 +17,9 @@ use Rattle.std.proofs.lemmas.Map.Text.{is_eq-slice_cmp}
 use Rattle.std.proofs.lemmas.Option.{slice_get-map, get_or_from_slice_get}
 use Rattle.al_graph.proofs.FilterMaps.{each_in_filter_map}
 use Rattle.al_session_folder.specs.Meaning.{candidates}
-use Rattle.al_session_folder.specs.Folder.{Folder, or_else, paths_of}
+use Rattle.al_session_folder.specs.Folder.{Folder, first_of, or_else, paths_of}
 use Rattle.al_session_folder.specs.Kept.{goes_backward, goes_forward}
-use Rattle.al_session_folder.specs.Loops.{called, number_among, number_of}
+use Rattle.al_session_folder.specs.Loops.{called, number_of}
 use Rattle.al_session_folder.specs.declared.lint.Target.{Target}
 use Rattle.al_session_folder.proofs.Views.{bytes_same, bytes_self}
 
@@ -81,16 +81,16 @@ eq_ge Greater h = refl
 module _ (f : Folder) where
   -- what is known of the number of each candidate that fails a test
   among : (T : List ℕ → Bool) (P : ℕ → Type 0) → ((c : List ℕ) (k : ℕ) → number_of f c ≡ Some k → T c ≡ false → P k) → (ps : List (List ℕ)) (k : ℕ) →
-      number_among f ps ≡ Some k → list_any T ps ≡ false → P k
+      first_of (number_of f) ps ≡ Some k → list_any T ps ≡ false → P k
   among T P one [] k e none = absurd (wrong e)
     where
       wrong : None ≡ Some k → ⊥
       wrong h = cc
   among T P one (c ∷ ps) k e none = by (number_of f c) refl (λ h. among T P one ps k h (or_none (T c) (list_any T ps) none).1)
     where
-      by : (o : Option ℕ) → number_of f c ≡ o → (number_among f ps ≡ Some k → P k) → P k
-      by None a rest = rest (sym (ap (λ o. or_else o (number_among f ps)) a) ∙ e)
-      by (Some n) a rest = one c k (a ∙ (sym (ap (λ o. or_else o (number_among f ps)) a) ∙ e)) (or_none (T c) (list_any T ps) none).0
+      by : (o : Option ℕ) → number_of f c ≡ o → (first_of (number_of f) ps ≡ Some k → P k) → P k
+      by None a rest = rest (sym (ap (λ o. or_else o (first_of (number_of f) ps)) a) ∙ e)
+      by (Some n) a rest = one c k (a ∙ (sym (ap (λ o. or_else o (first_of (number_of f) ps)) a) ∙ e)) (or_none (T c) (list_any T ps) none).0
 
   each : (T : List ℕ → Bool) (P : ℕ → Type 0) → ((c : List ℕ) (k : ℕ) → number_of f c ≡ Some k → T c ≡ false → P k) → (ts : List Target) →
       list_any (λ t. list_any T (candidates t)) ts ≡ false → AllByRecursion (λ t. (k : ℕ) → called f t ≡ Some k → P k) ts

@@ -42,14 +42,14 @@ abbrev pub or_else : {T : Type 0} → Option T → Option T → Option T
 or_else None other = other
 or_else (Some x) other = Some x
 
--- the interface of the first of these paths that is in the folder
-abbrev pub answer_among : {I : Type 0} → Meaning I → Folder → List (List ℕ) → Option I
-answer_among m f [] = None
-answer_among m f (p ∷ ps) = or_else (interface_in m f p) (answer_among m f ps)
+-- what f answers of the first of these of which it answers something
+abbrev pub first_of : {A B : Type 0} → (A → Option B) → List A → Option B
+first_of f [] = None
+first_of f (x ∷ xs) = or_else (f x) (first_of f xs)
 
 -- the answer of a call: the interface of its first candidate in the folder, or absent
 unfoldable pub answer : {I : Type 0} → Meaning I → Folder → Target → Option I
-answer m f t = answer_among m f (candidates t)
+answer m f t = first_of (interface_in m f) (candidates t)
 
 -- the answers of a file's calls
 abbrev pub answers : {I : Type 0} → Meaning I → Folder → List ℕ → List ℕ → List (Option I)

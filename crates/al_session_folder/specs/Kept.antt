@@ -15,7 +15,7 @@ use Rattle.al_base.specs.declared.faults.Fault.{Fault}
 use Rattle.al_base.specs.Limits.{largest_file, most_files}
 use Rattle.al_base.specs.LineStarts.{line_starts}
 use Rattle.al_base.specs.Paths.{path_fault_of}
-use Rattle.al_session_folder.specs.Meaning.{Meaning, candidates}
+use Rattle.al_session_folder.specs.Meaning.{Meaning, candidates, is_candidate}
 use Rattle.al_session_folder.specs.Folder.{Folder, bytes_at, faults_in, paths_of, with_file, without_file}
 use Rattle.al_session_folder.specs.declared.kept.Calls.{Calls}
 use Rattle.al_session_folder.specs.declared.kept.KeptFile.{KeptFile}
@@ -39,10 +39,6 @@ folder_of files = map entry_of files
 -- the kept file at a path
 abbrev pub file_at : {U I : Type 0} → Files U I → List ℕ → Option (KeptFile U I)
 file_at files q = lookup (λ k. bytes_eq q (string_bytes k)) files
-
--- whether a path is a candidate of one of these calls
-abbrev pub is_candidate : List Target → List ℕ → Bool
-is_candidate ts c = list_any (λ t. list_any (bytes_eq c) (candidates t)) ts
 
 -- whether a candidate of a call is this path, or stands behind it, or in front of it, in order of path
 abbrev pub goes_forward : List ℕ → Target → Bool

@@ -6,21 +6,16 @@ use Rattle.al_base.specs.FaultLists.{fault_list}
 use Rattle.al_base.specs.declared.faults.Fault.{Fault}
 use Rattle.al_graph.specs.Within.{leads}
 use Rattle.al_session_folder.specs.Meaning.{Meaning, candidates}
-use Rattle.al_session_folder.specs.Folder.{Folder, faults_in, or_else, paths_of}
+use Rattle.al_session_folder.specs.Folder.{Folder, faults_in, first_of, paths_of}
 use Rattle.al_session_folder.specs.declared.lint.Target.{Target}
 
 -- the number of the file at a path, in order of path, if it is there
 abbrev pub number_of : Folder → List ℕ → Option ℕ
 number_of f p = position (bytes_eq p) (paths_of f)
 
--- the number of the first of these paths that is in the folder
-abbrev pub number_among : Folder → List (List ℕ) → Option ℕ
-number_among f [] = None
-number_among f (p ∷ ps) = or_else (number_of f p) (number_among f ps)
-
 -- the file that a call leads to: its first candidate in the folder
 abbrev pub called : Folder → Target → Option ℕ
-called f t = number_among f (candidates t)
+called f t = first_of (number_of f) (candidates t)
 
 -- for each file the files that its calls lead to
 abbrev pub calls_graph : {I : Type 0} → Meaning I → Folder → List (List ℕ)

@@ -1,5 +1,6 @@
 -- What a linter means: data that each linter gives, and that the folder's definitions take.
-use Rattle.std.specs.Prelude.{◌≡◌, ℕ, ◌≤◌, Bool, List, [], ◌∷◌, Option, map}
+use Rattle.std.specs.Prelude.{◌≡◌, ℕ, ◌≤◌, Bool, List, [], ◌∷◌, Option, bytes_eq, map}
+use Rattle.std.specs.List.{list_any}
 use Rattle.al_base.specs.Counted.{raised}
 use Rattle.al_base.specs.declared.faults.Fault.{Fault}
 use Rattle.al_session_folder.specs.declared.lint.Target.{Target}
@@ -22,6 +23,10 @@ pub record Meaning (I : Type 0) : Type 0 where
 abbrev pub candidates : Target → List (List ℕ)
 candidates (Only p) = p ∷ []
 candidates (FirstOf p q) = p ∷ q ∷ []
+
+-- whether a path is a candidate of one of these calls
+abbrev pub is_candidate : List Target → List ℕ → Bool
+is_candidate ts c = list_any (λ t. list_any (bytes_eq c) (candidates t)) ts
 
 -- Answers of calls as a folder gives them, one each in their order: what is called tells the answer.
 pub record AreAnswers {I : Type 0} (targets : List Target) (given : List (Option I)) : Type 0 where

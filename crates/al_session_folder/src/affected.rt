@@ -7,17 +7,16 @@ ghost use Rattle.std.specs.List.Sorted.{IsStrictlySortedBy};
 ghost use Rattle.std.specs.Ordering.{nat_cmp};
 ghost use Rattle.std.specs.Cmp.Lexicographic.{slice_cmp};
 ghost use Rattle.std.specs.Option.{option_copied};
+ghost use Rattle.al_base.specs.InOrder.{with_one};
 ghost use Rattle.al_base.specs.Paths.{path_fault_of};
 ghost use Rattle.al_session_folder.specs.Affected.{is_affected, is_among, same_answer};
 ghost use Rattle.al_session_folder.specs.Folder.{answer, bytes_at, interface_in, paths_of};
 ghost use Rattle.al_session_folder.specs.Kept.{IsIndex, IsView};
-ghost use Rattle.al_session_folder.specs.Missing.{with_path};
 ghost use Rattle.al_session_folder.specs.FolderViews.{affected_by, change_of, changed_by};
 
 use crate::kept::{Callers, Files, KeptFile};
 use crate::lint::{Lint, Target};
-use crate::missing::add_path;
-use crate::paths::owned_path;
+use crate::paths::{add_path, owned_path};
 use crate::view::FolderView;
 use al_base::Path;
 use std::alloc::{AllocError, Global};
@@ -128,7 +127,7 @@ impl<'a, L: Lint> PlannedChange<'a, L> {
         requires { IsStrictlySortedBy (slice_cmp nat_cmp) paths.old.items }
         ensures { OnOk result (paths.new.items ≡ cond (not (bytes_eq name.now self.now.path)
             && is_affected L.Iface.eq L.meaning self.now.before (changed_by self.now) name.now)
-            (with_path paths.old.items name.now) paths.old.items) }
+            (with_one (slice_cmp nat_cmp) name.now paths.old.items) paths.old.items) }
     {
         if name == self.path {
             return Ok(());

@@ -3,7 +3,8 @@
 ghost use Rattle.std.specs.Prelude.{◌≡◌, ℕ, List, [], ◌∷◌, Bool, true, false, not, ◌&&◌, ◌||◌, None, bytes_eq, cond, IfOk, OnOk, OnErr};
 ghost use Rattle.indexmap.specs.IndexMap.{get_by_text};
 ghost use Rattle.indexmap.specs.IndexSet.{contains_text};
-ghost use Rattle.al_session_folder.specs.Kept.{is_caller, is_candidate};
+ghost use Rattle.al_session_folder.specs.Meaning.{is_candidate};
+ghost use Rattle.al_session_folder.specs.Kept.{is_caller};
 
 use crate::kept::Callers;
 use crate::lint::Target;

@@ -1,14 +1,14 @@
 //! The candidates of calls that are not in the folder.
 
-ghost use Rattle.std.specs.Prelude.{◌≡◌, ◌∷◌, [], None, filter, IfOk, OnOk};
+ghost use Rattle.std.specs.Prelude.{◌≡◌, ◌++◌, ◌∷◌, [], ℕ, List, filter, IfOk, OnOk};
 ghost use Rattle.std.specs.List.Sorted.{IsStrictlySortedBy};
 ghost use Rattle.std.specs.Ordering.{nat_cmp};
 ghost use Rattle.std.specs.Cmp.Lexicographic.{slice_cmp};
-ghost use Rattle.al_session_folder.specs.Kept.{AreKept, folder_of};
-ghost use Rattle.al_base.specs.Paths.{path_fault_of};
+ghost use Rattle.al_base.specs.InOrder.{in_order};
+ghost use Rattle.al_session_folder.specs.Affected.{is_among};
+ghost use Rattle.al_session_folder.specs.Kept.{AreKept, folder_of, referred};
 ghost use Rattle.al_session_folder.specs.Meaning.{candidates};
-ghost use Rattle.al_session_folder.specs.Missing.{with_path, with_paths, is_absent, absent_candidates, missing_in};
-ghost use Rattle.al_session_folder.specs.Place.{place_of};
+ghost use Rattle.al_session_folder.specs.Missing.{is_absent, is_missing, absent_candidates, missing_in};
 
 use crate::kept::Files;
 use crate::lint::{Lint, Target};
@@ -16,7 +16,6 @@ use crate::paths::owned_path;
 use crate::place::file_number;
 use al_base::Path;
 use std::alloc::{AllocError, Global};
-use std::cmp::Ordering;
 
 /// The candidates of the files' calls that are not in the folder, in order of path, each once.
 ///
@@ -28,91 +27,87 @@ pub fn missing_paths<L: Lint>(
     files: &Files<L::Unit, L::Iface>,
 ) -> Result<Vec<Path>, AllocError>
     requires { AreKept L.meaning L.is_unit files.now.entries }
-    ensures { IfOk result
+    ensures paths { IfOk result
         (λ paths. paths.items ≡ missing_in L.meaning (folder_of files.now.entries)) }
+    ensures sorted { IfOk result (λ paths. IsStrictlySortedBy (slice_cmp nat_cmp) paths.items) }
+    ensures members { IfOk result (λ paths. (p : List ℕ)
+        → is_among p paths.items ≡ is_missing L.meaning (folder_of files.now.entries) p) }
 {
     let mut missing = Vec::new(alloc);
     for index in 0..files.len() {
         let (_, file) = file_number(files, index);
-        add_absent(alloc, files, &file.calls.targets, &mut missing)?;
+        add_absent(files, &file.calls.targets, &mut missing)?;
     }
-    Ok(missing)
+    put_in_order(&mut missing);
+    let paths = copies(alloc, &missing)?;
+    Ok(paths)
 }
 
 // Adds those of some calls.
-fn add_absent<U, I>(
-    alloc: Global,
+fn add_absent<'a, U, I>(
     files: &Files<U, I>,
-    targets: &[Target],
-    missing: &mut Vec<Path>,
+    targets: &'a [Target],
+    missing: &mut Vec<&'a Path>,
 ) -> Result<(), AllocError>
-    requires { IsStrictlySortedBy (slice_cmp nat_cmp) missing.old.items }
-    ensures { OnOk result (missing.new.items ≡ with_paths missing.old.items
-        (absent_candidates (folder_of files.now.entries) targets.now)) }
+    ensures { OnOk result (referred missing.new.items ≡ referred missing.old.items
+        ++ absent_candidates (folder_of files.now.entries) targets.now) }
 {
     for target in targets {
-        add_candidates(alloc, files, target, missing)?;
+        add_candidates(files, target, missing)?;
     }
     Ok(())
 }
 
 // Adds those of one call.
-fn add_candidates<U, I>(
-    alloc: Global,
+fn add_candidates<'a, U, I>(
     files: &Files<U, I>,
-    target: &Target,
-    missing: &mut Vec<Path>,
+    target: &'a Target,
+    missing: &mut Vec<&'a Path>,
 ) -> Result<(), AllocError>
-    requires { IsStrictlySortedBy (slice_cmp nat_cmp) missing.old.items }
-    ensures { OnOk result (missing.new.items ≡ with_paths missing.old.items
-        (filter (is_absent (folder_of files.now.entries)) (candidates target.now))) }
+    ensures { OnOk result (referred missing.new.items ≡ referred missing.old.items
+        ++ filter (is_absent (folder_of files.now.entries)) (candidates target.now)) }
 {
     match target {
-        Target::Only(path) => add_if_absent(alloc, files, path, missing),
+        Target::Only(path) => add_if_absent(files, path, missing),
         Target::FirstOf(first, second) => {
-            add_if_absent(alloc, files, first, missing)?;
-            add_if_absent(alloc, files, second, missing)
+            add_if_absent(files, first, missing)?;
+            add_if_absent(files, second, missing)
         }
     }
 }
 
 // Adds a path, unless it is in the folder.
-fn add_if_absent<U, I>(
-    alloc: Global,
+fn add_if_absent<'a, U, I>(
     files: &Files<U, I>,
-    path: &Path,
-    missing: &mut Vec<Path>,
+    path: &'a Path,
+    missing: &mut Vec<&'a Path>,
 ) -> Result<(), AllocError>
-    requires { IsStrictlySortedBy (slice_cmp nat_cmp) missing.old.items }
-    ensures { OnOk result (missing.new.items ≡ with_paths missing.old.items
-        (filter (is_absent (folder_of files.now.entries)) (path.now ∷ []))) }
+    ensures { OnOk result (referred missing.new.items ≡ referred missing.old.items
+        ++ filter (is_absent (folder_of files.now.entries)) (path.now ∷ [])) }
 {
     if files.contains_key(path.as_str()) {
         return Ok(());
     }
-    add_path(alloc, missing, path.as_str())
-}
-
-/// Puts a path in its place, unless it is there.
-pub(crate) fn add_path(alloc: Global, paths: &mut Vec<Path>, path: &str) -> Result<(), AllocError>
-    requires valid { path_fault_of path.now ≡ None }
-    requires sorted { IsStrictlySortedBy (slice_cmp nat_cmp) paths.old.items }
-    ensures { OnOk result (paths.new.items ≡ with_path paths.old.items path.now) }
-{
-    if let Err(index) = place_among(paths, path) {
-        paths.insert(index, owned_path(alloc, path)?)?;
-    }
+    missing.push(path)?;
     Ok(())
 }
 
-// Where a path stands among paths in order, or where it would go.
-fn place_among(paths: &[Path], path: &str) -> Result<usize, usize>
-    requires { IsStrictlySortedBy (slice_cmp nat_cmp) paths.now }
-    ensures { result ≡ place_of paths.now path.now }
+// Puts paths in order, each once.
+fn put_in_order(paths: &mut Vec<&Path>)
+    ensures { referred paths.new.items
+        ≡ in_order (slice_cmp nat_cmp) (referred paths.old.items) }
 {
-    paths.binary_search_by(
-        |other: &Path| -> Ordering
-            ensures { result ≡ slice_cmp nat_cmp other.now path.entry.now }
-        { other.as_str().cmp(path) },
-    )
+    paths.sort_unstable_by(|one, other| one.as_str().cmp(other.as_str()));
+    paths.dedup_by(|one, other| one.as_str() == other.as_str());
+}
+
+// The paths that are referred to, with memory of their own.
+fn copies(alloc: Global, paths: &[&Path]) -> Result<Vec<Path>, AllocError>
+    ensures { IfOk result (λ copies. copies.items ≡ referred paths.now) }
+{
+    let mut copies = Vec::with_capacity(alloc, paths.len())?;
+    for path in paths {
+        copies.push(owned_path(alloc, path.as_str())?)?;
+    }
+    Ok(copies)
 }

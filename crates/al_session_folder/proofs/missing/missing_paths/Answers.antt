@@ -1,25 +1,35 @@
-use Rattle.std.proofs.Common.{◌∙◌, arith, [], take}
-use Rattle.std.specs.List.{flat_map}
+use Rattle.std.proofs.Common.{arith, ap, sym, ◌∙◌, subst, List, ℕ}
+use Rattle.std.specs.List.Sorted.{IsStrictlySortedBy}
+use Rattle.std.specs.Ordering.{nat_cmp}
+use Rattle.std.specs.Cmp.Lexicographic.{slice_cmp}
 use Rattle.std.proofs.lemmas.List.{take_all}
-use Rattle.al_session_folder.specs.Kept.{folder_of}
+use Rattle.al_base.specs.InOrder.{in_order}
+use Rattle.al_session_folder.specs.Affected.{is_among}
+use Rattle.al_session_folder.proofs.MissingPaths.{missing_members}
+use Rattle.al_session_folder.specs.Kept.{folder_of, referred}
 use Rattle.al_session_folder.specs.Missing.{absent_candidates}
-use Rattle.al_session_folder.proofs.Missings.{next_missing, missing_of, sorted_as, nothing_sorted, read_is}
+use Rattle.al_session_folder.proofs.Missings.{next_missing, missing_of, missing_sorted, read_is}
 use Rattle.al_session_folder.proofs.missing.missing_paths.Goals as goal
-
-pub add_absent-requires : goal.add_absent-requires
-add_absent-requires g c =
-    sorted_as [] (flat_map (λ e. absent_candidates (folder_of c.args.files.now.entries) e.1.calls.targets.items) (take c.loop-index.index c.args.files.now.entries)) _
-    c.loop-index.invariant nothing_sorted
 
 pub loop-index-preserved : goal.loop-index-preserved
 loop-index-preserved g c =
-    next_missing (λ e. absent_candidates (folder_of c.args.files.now.entries) e.1.calls.targets.items) [] c.loop-index.missing.items
-    c.add_absent.new.missing.items c.args.files.now.entries c.loop-index.index (c.file_number.result.0.now, c.file_number.result.1.now)
+    next_missing (λ e. absent_candidates (folder_of c.args.files.now.entries) e.1.calls.targets.items) (referred c.loop-index.missing.items)
+    (referred c.add_absent.new.missing.items) c.args.files.now.entries c.loop-index.index (c.file_number.result.0.now, c.file_number.result.1.now)
     (omega (arith, c.len-index-end.ensures.len))
     (read_is c.args.files.now.entries c.loop-index.index (c.file_number.result.0.now, c.file_number.result.1.now) c.file_number.ensures)
     c.loop-index.invariant (rw c.deref.ensures.value at c.in_ok-add_absent.ensures)
 
-pub returns : goal.returns
-returns g c =
-    let whole = take_all c.loop-index.index c.args.files.now.entries (omega (arith, c.len-index-end.ensures.len)) in
-    (rw whole at c.loop-index.invariant) ∙ missing_of g.L.Lint.meaning g.L.Lint.is_unit c.args.files.now.entries c.requires.kept
+pub returns-clause-paths : goal.returns-clause-paths
+returns-clause-paths g c =
+    let files = c.args.files.now.entries in
+    let whole = take_all c.loop-index.index files (omega (arith, c.len-index-end.ensures.len)) in
+    missing_of g.L.Lint.meaning g.L.Lint.is_unit files c.in_ok-paths.paths.items c.requires.kept
+    (c.in_ok-paths.ensures ∙ rw c.deref-2.ensures.value c.put_in_order.ensures ∙ ap (in_order (slice_cmp nat_cmp)) (rw whole at c.loop-index.invariant))
+
+pub returns-clause-sorted : goal.returns-clause-sorted
+returns-clause-sorted g c =
+    subst (λ (l : List (List ℕ)). IsStrictlySortedBy (slice_cmp nat_cmp) l) (sym (returns-clause-paths g c)) (missing_sorted g.L.Lint.meaning (folder_of c.args.files.now.entries))
+
+pub returns-clause-members : goal.returns-clause-members
+returns-clause-members g c =
+    λ p. ap (is_among p) (returns-clause-paths g c) ∙ missing_members g.L.Lint.meaning (folder_of c.args.files.now.entries) p

@@ -1,7 +1,9 @@
 use Rattle.std.proofs.Common.{◌≡◌, ℕ, List, OnOk, sym, ap, ◌∙◌, not, cond, subst}
 use Rattle.std.specs.Option.{option_copied, option_map}
 use Rattle.al_session_folder.specs.Kept.{folder_of}
-use Rattle.al_session_folder.specs.Missing.{with_path}
+use Rattle.std.specs.Ordering.{nat_cmp}
+use Rattle.std.specs.Cmp.Lexicographic.{slice_cmp}
+use Rattle.al_base.specs.InOrder.{with_one}
 use Rattle.al_session_folder.proofs.Views.{kept_at, bytes_kept}
 use Rattle.al_session_folder.proofs.Affecting.{touched_is, absent_is}
 use Rattle.al_session_folder.proofs.affected.PlannedChange.add_if_affected.Goals as goal
@@ -20,7 +22,7 @@ returns-then-has_same_answers g c =
     let fact = touched_is m c.self.inside.path.now (folder_of es) (option_map (λ file. file.bytes.items) (option_copied c.self.inside.next))
     c.self.invariant.view.kept.ordered g.L.Iface.PartialEq.eq g.met.L.Iface.Eq.laws.refl n _ c.has_same_answers.result
     (sym c.eq.ensures ∙ c.if-eq.false) there (rw (← c.self.view_is, c.deref.ensures.value ∙ kept.calls.targets) at c.has_same_answers.ensures) in
-    rw (← c.self.view_is) (sym (ap (λ t. cond t (with_path ps n) ps) (fact ∙ ap not c.if-has_same_answers.true)))
+    rw (← c.self.view_is) (sym (ap (λ t. cond t (with_one (slice_cmp nat_cmp) n ps) ps) (fact ∙ ap not c.if-has_same_answers.true)))
 
 pub returns-else-has_same_answers : goal.returns-else-has_same_answers
 returns-else-has_same_answers g c =
@@ -34,7 +36,7 @@ returns-else-has_same_answers g c =
     c.self.invariant.view.kept.ordered g.L.Iface.PartialEq.eq g.met.L.Iface.Eq.laws.refl n _ c.has_same_answers.result
     (sym c.eq.ensures ∙ c.if-eq.false) there (rw (← c.self.view_is, c.deref.ensures.value ∙ kept.calls.targets) at c.has_same_answers.ensures) in
     rw (← c.self.view_is) (subst (λ (l : List (List ℕ)). OnOk c.add_path.result (c.add_path.new.paths.items ≡ l))
-    (sym (ap (λ t. cond t (with_path ps n) ps) (fact ∙ ap not c.if-has_same_answers.false))) c.add_path.ensures)
+    (sym (ap (λ t. cond t (with_one (slice_cmp nat_cmp) n ps) ps) (fact ∙ ap not c.if-has_same_answers.false))) c.add_path.ensures)
 
 pub returns-in-None : goal.returns-in-None
 returns-in-None g c =
@@ -45,4 +47,4 @@ returns-in-None g c =
     let none = bytes_kept es n ∙ ap (option_map (λ file. file.bytes.items)) (sym c.in-None.ensures.value) in
     let fact = absent_is m c.self.inside.path.now (folder_of es) (option_map (λ file. file.bytes.items) (option_copied c.self.inside.next))
     c.self.invariant.view.kept.ordered g.L.Iface.PartialEq.eq g.met.L.Iface.Eq.laws.refl n none in
-    rw (← c.self.view_is) (sym (ap (λ t. cond t (with_path ps n) ps) fact))
+    rw (← c.self.view_is) (sym (ap (λ t. cond t (with_one (slice_cmp nat_cmp) n ps) ps) fact))

@@ -1,0 +1,118 @@
+-- The laws of edits, for `Session::edit_laws`.
+use Rattle.std.proofs.Common.{◌≡◌, ℕ, Bool, true, false, ◌&&◌, not, List, [], ◌∷◌, Option, Some, None, refl, sym, ◌∙◌, ap}
+use Rattle.std.specs.Prelude.{bytes_eq}
+use Rattle.std.specs.List.{AllByRecursion, list_all}
+use Rattle.std.specs.List.Sorted.{IsStrictlySortedBy}
+use Rattle.std.specs.Option.{option_map, option_map_or, unwrap_or}
+use Rattle.std.specs.Ordering.{is_eq, nat_cmp, ordering_reverse}
+use Rattle.std.specs.declared.cmp.Ordering.TheVariants.{Less}
+use Rattle.std.specs.Cmp.Lexicographic.{slice_cmp}
+use Rattle.std.specs.BTreeMap.{is_at}
+use Rattle.std.proofs.lemmas.Bool.{cond-true, cond-false}
+use Rattle.std.proofs.lemmas.Cmp.{nat_list_cmp_total}
+use Rattle.std.proofs.lemmas.Map.{NonePasses, lookup-none}
+use Rattle.std.proofs.lemmas.Map.Text.{is_eq-slice_cmp}
+use Rattle.std.proofs.lemmas.Slice.Eq.{bytes_eq-Decides}
+use Rattle.al_session_folder.specs.Meaning.{Meaning}
+use Rattle.al_session_folder.specs.Affected.{affected, is_affected, is_same_text, is_untouched, same_answer}
+use Rattle.al_session_folder.specs.Folder.{Folder, answer, bytes_at, faults_in, paths_of, with_file}
+use Rattle.al_session_folder.proofs.Affecting.{affected_member}
+use Rattle.al_session_folder.proofs.Places.{by_ordering, exact_path, first_below, rest_sorted, sorted_put}
+use Rattle.al_session_folder.proofs.Views.{bytes_put, bytes_put_other, bytes_same, bytes_self, none_behind, put_same}
+use Rattle.al_session.specs.EditLaws.{OthersKeepFaults, PutsInAnyOrder, SamePutChangesNothing}
+use Rattle.al_session.proofs.Giving.{faults_stay}
+use Rattle.al_session.proofs.Linted.{affected_same}
+
+abbrev InOrder : Folder → Type 0
+InOrder f = IsStrictlySortedBy (slice_cmp nat_cmp) (paths_of f)
+
+never : {A B : Type 0} {x : A} → None ≡ Some x → B
+never {A} {B} {x} h = absurd (wrong h)
+  where
+    wrong : None ≡ Some x → ⊥
+    wrong h = cc
+
+-- ---- the bytes at all paths tell a folder
+
+at_first : (e : List ℕ × List ℕ) (es : Folder) → bytes_at (e ∷ es) e.0 ≡ Some e.1
+at_first e es = cond-true _ _ _ (is_eq-slice_cmp e.0 e.0 ∙ bytes_self e.0)
+
+behind_first : (e : List ℕ × List ℕ) (es : Folder) (q : List ℕ) → bytes_eq q e.0 ≡ false → bytes_at (e ∷ es) q ≡ bytes_at es q
+behind_first e es q apart = cond-false _ _ _ (is_eq-slice_cmp q e.0 ∙ apart)
+
+-- a path in front of all others is nowhere
+none_in_front : (q : List ℕ) (e : List ℕ × List ℕ) (es : Folder) → InOrder (e ∷ es) → slice_cmp nat_cmp q e.0 ≡ Less → bytes_at (e ∷ es) q ≡ None
+none_in_front q e es s less = lookup-none _ (e ∷ es) (ap is_eq less, others es (first_below q e es s))
+  where
+    others : (fs : Folder) → AllByRecursion (λ y. slice_cmp nat_cmp e.0 y ≡ Less) (paths_of fs) → NonePasses (is_at (slice_cmp nat_cmp q)) fs
+    others [] below = tt
+    others (f ∷ fs) below = (ap is_eq (nat_list_cmp_total.trans q e.0 f.0 less below.0), others fs below.1)
+
+one_folder : (f g : Folder) → InOrder f → InOrder g → ((q : List ℕ) → bytes_at f q ≡ bytes_at g q) → f ≡ g
+one_folder [] [] s t h = refl
+one_folder [] (y ∷ ys) s t h = never (h y.0 ∙ at_first y ys)
+one_folder (x ∷ xs) [] s t h = never (sym (h x.0) ∙ at_first x xs)
+one_folder (x ∷ xs) (y ∷ ys) s t h =
+    let rest : xs ≡ ys = one_folder xs ys (rest_sorted x.0 x xs s) (rest_sorted y.0 y ys t) (λ q. later q (bytes_eq q x.0) refl) in
+    λ i. (path i, bytes i) ∷ rest i
+  where
+    path : x.0 ≡ y.0
+    path = by_ordering (slice_cmp nat_cmp x.0 y.0)
+        (λ less. never (sym (none_in_front x.0 y ys t less) ∙ sym (h x.0) ∙ at_first x xs))
+        (exact_path x.0 y.0)
+        (λ more. never (sym (none_in_front y.0 x xs s (nat_list_cmp_total.antisymm y.0 x.0 ∙ ap ordering_reverse more)) ∙ h y.0 ∙ at_first y ys))
+
+    bytes : x.1 ≡ y.1
+    bytes = ap (λ o. unwrap_or o x.1) (sym (at_first x xs) ∙ h x.0 ∙ ap (bytes_at (y ∷ ys)) path ∙ at_first y ys)
+
+    later : (q : List ℕ) (b : Bool) → bytes_eq q x.0 ≡ b → bytes_at xs q ≡ bytes_at ys q
+    later q true same =
+        let at : q ≡ x.0 = bytes_same q x.0 same in
+        none_behind q x xs at s ∙ sym (none_behind q y ys (at ∙ path) t)
+    later q false apart = sym (behind_first x xs q apart) ∙ h q ∙ behind_first y ys q (sym (ap (bytes_eq q) path) ∙ apart)
+
+-- ---- the laws
+
+pub same_put : {I : Type 0} (eq : I → I → Bool) → ((x : I) → eq x x ≡ true) → (m : Meaning I) (f : Folder) → InOrder f → SamePutChangesNothing eq m f
+same_put eq itself m f s p b there =
+    let same : with_file f p b ≡ f = put_same p b f s there in
+    (same, ap (affected eq m f) same ∙ affected_same eq itself m f s)
+
+pub any_order : (f : Folder) → InOrder f → PutsInAnyOrder f
+any_order f s p b q c apart =
+    one_folder (with_file (with_file f p b) q c) (with_file (with_file f q c) p b)
+    (sorted_put q (with_file f p b) c (sorted_put p f b s)) (sorted_put p (with_file f q c) b (sorted_put q f c s))
+    (λ r. at r (bytes_eq r q) refl (bytes_eq r p) refl)
+  where
+    at : (r : List ℕ) (one : Bool) → bytes_eq r q ≡ one → (other : Bool) → bytes_eq r p ≡ other
+        → bytes_at (with_file (with_file f p b) q c) r ≡ bytes_at (with_file (with_file f q c) p b) r
+    at r true k true l = absurd (apart (sym (bytes_same r p l) ∙ bytes_same r q k))
+    at r true k false l = bytes_put q r (with_file f p b) c k ∙ sym (bytes_put_other p r (with_file f q c) b l ∙ bytes_put q r f c k)
+    at r false k true l = bytes_put_other q r (with_file f p b) c k ∙ bytes_put p r f b l ∙ sym (bytes_put p r (with_file f q c) b l)
+    at r false k false l =
+        bytes_put_other q r (with_file f p b) c k ∙ bytes_put_other p r f b l
+        ∙ sym (bytes_put_other p r (with_file f q c) b l ∙ bytes_put_other q r f c k)
+
+same_text : (o : Option (List ℕ)) (b : List ℕ) → is_same_text o b ≡ true → o ≡ Some b
+same_text None b h = absurd (wrong h)
+  where
+    wrong : false ≡ true → ⊥
+    wrong h = cc
+same_text (Some a) b h = ap Some ((bytes_eq-Decides a b).0 h)
+
+left : (a b : Bool) → not (a && b) ≡ false → a ≡ true
+left true b h = refl
+left false b h = absurd (wrong h)
+  where
+    wrong : true ≡ false → ⊥
+    wrong h = cc
+
+pub others_keep : {I : Type 0} (eq : I → I → Bool) → ((x y : I) → eq x y ≡ true → x ≡ y) → (m : Meaning I) (f : Folder) → OthersKeepFaults eq m f
+unfolding is_untouched
+others_keep eq exact m f g s q b there none =
+    let stays : is_affected eq m f g q ≡ false = sym (affected_member eq m f g s q) ∙ none in
+    let untouched : not (is_same_text (bytes_at f q) b && list_all (λ t. same_answer eq (answer m f t) (answer m g t)) (m.calls q b)) ≡ false =
+    sym (ap (λ (o : Option (List ℕ)). option_map_or
+    (λ x. not (is_same_text (bytes_at f q) x && list_all (λ t. same_answer eq (answer m f t) (answer m g t)) (m.calls q x))) o false) there) ∙ stays in
+    let before : bytes_at f q ≡ Some b = same_text (bytes_at f q) b (left _ _ untouched) in
+    ap (option_map (faults_in m g q)) there ∙ ap Some (faults_stay eq exact m f g q b there stays) ∙ sym (ap (option_map (faults_in m f q)) before)

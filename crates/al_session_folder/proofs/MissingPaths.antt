@@ -1,0 +1,52 @@
+-- What is missing of a folder: a path is among it just where it isn't there and a call has it as a candidate.
+use Rattle.std.proofs.Common.{◌≡◌, ℕ, Bool, true, false, ◌&&◌, ◌||◌, List, [], ◌∷◌, refl, sym, ◌∙◌, ap}
+use Rattle.std.specs.Prelude.{bytes_eq}
+use Rattle.std.specs.List.{flat_map, list_any}
+use Rattle.std.specs.Ordering.{nat_cmp}
+use Rattle.std.specs.Cmp.Lexicographic.{slice_cmp}
+use Rattle.std.proofs.lemmas.List.Folds.{list_any-append}
+use Rattle.std.proofs.lemmas.Map.Views.{any-filter_same}
+use Rattle.al_base.specs.InOrder.{in_order}
+use Rattle.al_session_folder.specs.Affected.{is_among}
+use Rattle.al_session_folder.specs.Folder.{Folder}
+use Rattle.al_session_folder.specs.Meaning.{Meaning, candidates, is_candidate}
+use Rattle.al_session_folder.specs.Missing.{absent_candidates, is_absent, is_missing, missing_in}
+use Rattle.al_session_folder.specs.declared.lint.Target.{Target}
+use Rattle.al_session_folder.proofs.Affecting.{among_put}
+use Rattle.al_session_folder.proofs.Views.{bytes_same}
+
+module _ (p : List ℕ) where
+  among_ordered : (ps : List (List ℕ)) → is_among p (in_order (slice_cmp nat_cmp) ps) ≡ is_among p ps
+  among_ordered [] = refl
+  among_ordered (q ∷ qs) = among_put p q (in_order (slice_cmp nat_cmp) qs) ∙ ap (λ t. bytes_eq p q || t) (among_ordered qs)
+
+  among_candidates : (ts : List Target) → is_among p (flat_map candidates ts) ≡ is_candidate ts p
+  among_candidates [] = refl
+  among_candidates (t ∷ ts) =
+      list_any-append (bytes_eq p) (candidates t) (flat_map candidates ts) ∙ ap (λ r. list_any (bytes_eq p) (candidates t) || r) (among_candidates ts)
+
+  among_absent : (f : Folder) (ts : List Target) → is_among p (absent_candidates f ts) ≡ (is_absent f p && is_candidate ts p)
+  among_absent f ts =
+      any-filter_same (bytes_eq p) (is_absent f) (is_absent f p) (λ q same. ap (is_absent f) (sym (bytes_same p q same))) (flat_map candidates ts)
+      ∙ ap (λ r. is_absent f p && r) (among_candidates ts)
+
+  either : (a b d : Bool) → ((a && b) || (a && d)) ≡ (a && (b || d))
+  either true b d = refl
+  either false b d = refl
+
+  never : (a : Bool) → false ≡ (a && false)
+  never true = refl
+  never false = refl
+
+  module _ {I : Type 0} (m : Meaning I) (f : Folder) where
+    among_all : (es : Folder) → is_among p (flat_map (λ e. absent_candidates f (m.calls e.0 e.1)) es) ≡ (is_absent f p && list_any (λ e. is_candidate (m.calls e.0 e.1) p) es)
+    among_all [] = never (is_absent f p)
+    among_all (e ∷ es) =
+        list_any-append (bytes_eq p) (absent_candidates f (m.calls e.0 e.1)) (flat_map (λ e. absent_candidates f (m.calls e.0 e.1)) es)
+        ∙ ap (λ r. is_among p (absent_candidates f (m.calls e.0 e.1)) || r) (among_all es)
+        ∙ ap (λ r. r || (is_absent f p && list_any (λ e. is_candidate (m.calls e.0 e.1) p) es)) (among_absent f (m.calls e.0 e.1))
+        ∙ either (is_absent f p) (is_candidate (m.calls e.0 e.1) p) (list_any (λ e. is_candidate (m.calls e.0 e.1) p) es)
+
+pub missing_members : {I : Type 0} (m : Meaning I) (f : Folder) (p : List ℕ) → is_among p (missing_in m f) ≡ is_missing m f p
+unfolding missing_in
+missing_members m f p = among_ordered p (flat_map (λ e. absent_candidates f (m.calls e.0 e.1)) f) ∙ among_all p m f f
