@@ -1,6 +1,6 @@
 //! The text of a key, and sets of keys.
 
-ghost use Rattle.al_tree.specs.Keys.{and_text, holds, key_of as key_in, key_text as text_in, keys_in};
+ghost use Rattle.al_tree.specs.Keys.{and_text, holds, holds_behind, key_of as key_in, key_text as text_in, keys_in, number_of};
 ghost use Rattle.al_tree.specs.Names.{among};
 ghost use Rattle.al_yaml_tree.specs.View.{entry_view, view};
 ghost use Rattle.std.specs.Prelude.{◌≡◌, [], ◌||◌, map, not, take, IfOk, OnErr, OnOk};
@@ -42,6 +42,17 @@ fn is_one_of(text: &[u8], keys: &[&[u8]]) -> bool
     false
 }
 
+/// The last eight bytes of a text as one number.
+fn last_bytes(text: &[u8]) -> u64
+    ensures { result ≡ number_of text.now }
+{
+    let mut number: u64 = 0;
+    for byte in text {
+        number = number.wrapping_mul(256).wrapping_add(u64::from(*byte));
+    }
+    number
+}
+
 /// A set of keys. Adding one and looking one up take time that grows with the logarithm of their number.
 #[derive(Drop)]
 pub struct KeySet<'a> {
@@ -49,8 +60,8 @@ pub struct KeySet<'a> {
     few: [&'a [u8]; FEW],
     // How many first keys there are.
     count: usize,
-    // Those behind them.
-    more: BTreeSet<&'a [u8]>,
+    // Those behind them, by their last bytes first: numbers are compared at once, and mostly differ.
+    more: BTreeSet<(u64, &'a [u8])>,
 }
 
 impl<'a> KeySet<'a> {
@@ -75,7 +86,7 @@ impl<'a> KeySet<'a> {
             self.few[self.count] = key;
             self.count += 1;
         } else {
-            self.more.insert(key)?;
+            self.more.insert((last_bytes(key), key))?;
         }
         Ok(())
     }
@@ -95,7 +106,7 @@ impl<'a> KeySet<'a> {
         if is_one_of(key, self.first_keys()) {
             return Ok(false);
         }
-        let added = self.more.insert(key)?;
+        let added = self.more.insert((last_bytes(key), key))?;
         Ok(added)
     }
 
@@ -108,11 +119,21 @@ impl<'a> KeySet<'a> {
         &few[..self.count.min(few.len())]
     }
 
+    /// Whether a key is behind the first ones.
+    fn contains_behind(&self, key: &'a [u8]) -> bool
+        ensures { result ≡ holds_behind self.now key.now }
+    {
+        if self.more.is_empty() {
+            return false;
+        }
+        self.more.contains(&(last_bytes(key), key))
+    }
+
     /// Whether a key is in the set.
     pub fn contains(&self, key: &'a [u8]) -> bool
         ensures { result ≡ holds self.now key.now }
     {
-        is_one_of(key, self.first_keys()) || self.more.contains(&key)
+        is_one_of(key, self.first_keys()) || self.contains_behind(key)
     }
 
     /// The keys of some entries. Fails with `AllocError` when out of memory.

@@ -177,7 +177,7 @@ fn first_members(alloc: Global, entries: &[Entry]) -> Result<Vec<Member<'_>>, Al
     ensures { IfOk result (λ v. map member_of v.items ≡ firsts [] (map entry_view entries.now)) }
 {
     let mut seen = KeySet::new(alloc);
-    let mut firsts = Vec::new(alloc);
+    let mut firsts = Vec::with_capacity(alloc, entries.len())?;
     for entry in entries {
         let is_new = seen.insert_new(key_of(entry))?;
         if is_new {

@@ -9,7 +9,7 @@ on_err (Err e) p = p
 
 pub returns-in_ok-insert-clause-set : goal.returns-in_ok-insert-clause-set
 returns-in_ok-insert-clause-set c =
-    inserted c.args.self.now (record { few = c.args.self.now.few; count = c.args.self.now.count; more = c.insert.new.self }) c.args.key refl refl
+    inserted c.args.self.now (record { few = c.args.self.now.few; count = c.args.self.now.count; more = c.insert.new.self }) c.args.key _ c.last_bytes.ensures refl refl
     c.in_ok-insert.ensures.updates
 
 pub returns-then-self-room-clause-set : goal.returns-then-self-room-clause-set
