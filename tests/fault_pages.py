@@ -1,7 +1,7 @@
 """Compares the pages of faults with the code, the definitions and the cases of tests/faults: fault_pages.py TOP [--write].
 
-Each fault code of al_base names its identifier (`/// K2: ..`), has its message in al_text's table, and has one entry on a page
-docs/FAULTS*.md (tests/fault_entries.py) with that message, why it matters, its repair, and a repair whose lines are those of its cases.
+Each fault code of al_base names its identifier (`/// K2: ..`), has its row of that number in specs/Codes.antt, and has one entry on a page
+docs/FAULTS*.md (tests/fault_entries.py) with the row's message, why it matters, its repair, and a repair whose lines are those of its cases.
 docs/FAULTS.md has indexes by code and by message, which `--write` writes anew, and a table of the definitions that decide each fault, which
 must exist.
 """
@@ -14,7 +14,11 @@ from fault_entries import entries, files_of, report_of
 
 CODE = re.compile(r"/// ([YKGXC][0-9]+): .*\n\s+([A-Za-z0-9]+),")
 DECIDED = re.compile(r"^\| `(\w+/specs/\w+\.antt)` \| (.*) \|$", re.MULTILINE)
-LETTERS = {"Y": "yaml", "K": "key", "G": "rule", "X": "expression", "C": "call"}
+ROW = re.compile(r"^code_row \(C\.(\w+) (\w+)(?: by)?\) = (\w+)(?: by)? (\d+) (.*)$", re.MULTILINE)
+EVERY_KIND = re.compile(r'^(\w+) number = row number "(.*)"$', re.MULTILINE)  # of all rows that this makes
+CALL_KIND = re.compile(r'^call_kind caller\.\w+ = "(.*)"$', re.MULTILINE)
+LETTERS = {"Yaml": "Y", "Key": "K", "Rule": "G", "Expression": "X", "Call": "C"}
+NO_ROW = "", "", []
 SUBJECTS = {"Y": "the file isn't YAML as this program reads it", "K": "keys and values that GitHub's syntax doesn't have",
             "G": "what GitHub refuses, or takes and never does", "X": "what stands in `${{ .. }}` and in conditions",
             "C": "calls of the folder's actions and workflows"}
@@ -30,16 +34,15 @@ def codes(top):
 
 
 def tables(top):
-    """The words of each variant's message, by letter and name, and its kinds."""
-    text = (top / "crates/al_text/specs/Messages.antt").read_text()
-    wordings, kinds = {}, {}
-    for letter, name in LETTERS.items():
-        own = dict(re.findall(rf'^{name}_kind (?:\w+\.)?(\w+) = codes "(.*)"$', text, re.MULTILINE))
-        whole = re.search(rf'^fault_kind \(C\.{name.title()} fault\) = codes "(.*)"$', text, re.MULTILINE)
-        for variant, words in re.findall(rf"^{name}_wording (\w+) = (.*)$", text, re.MULTILINE):
-            wordings[letter, variant] = words
-            kinds[letter, variant] = [own[variant]] if variant in own else [whole[1]] if whole else sorted(own.values())
-    return wordings, kinds
+    """The row of each variant, by letter and name: the number, the words of its message, and its kinds."""
+    text = (top / "crates/al_base/specs/Codes.antt").read_text()
+    every, of_calls = dict(EVERY_KIND.findall(text)), sorted(CALL_KIND.findall(text))
+    rows = {}
+    for group, variant, maker, number, words in ROW.findall(text):
+        own = re.match('"([^"]*)" ', words) if maker == "row" else None
+        kinds = of_calls if group == "Call" else [own[1] if own else every[maker]]
+        rows[LETTERS[group], variant] = number, words[own.end():] if own else words, kinds
+    return rows
 
 
 def shown_in(words, message):
@@ -148,14 +151,14 @@ def compare_index(top, head, wanted, write):
     return []
 
 
-def wrong_codes(every, wordings, found):
+def wrong_codes(every, rows, found):
     """What the codes and the entries differ in."""
     if len(every) < 76:
         yield f"only {len(every)} codes name their identifier"
     for name, variant in every:
-        words = wordings.get((name[0], variant))
-        if words is None:
-            yield f"{name}: the table of messages has no row for {variant}"
+        number, words, _ = rows.get((name[0], variant), NO_ROW)
+        if number != name[1:]:
+            yield f"{name}: the table of codes has no row of this number for {variant}"
         elif name not in found:
             yield f"{name} has no entry"
         elif not shown_in(words, found[name].message):
@@ -169,12 +172,12 @@ def main(folder, *write):
     listed = entries(top / "docs")
     found = {entry.code: entry for entry in listed}
     every = codes(top)
-    wordings, kinds = tables(top)
+    rows = tables(top)
     wrong = [f"{entry.code} has two entries" for entry in listed if found[entry.code] is not entry]
-    wrong += wrong_codes(every, wordings, found)
+    wrong += wrong_codes(every, rows, found)
     wrong += [f"{entry.code} {why}" for entry in listed for why in wrong_of(top, entry)]
     wrong += wrong_definitions(top, found.keys())
-    printed = {name: ["workflow-call"] if name in OF_JOBS else kinds.get((name[0], variant)) for name, variant in every}
+    printed = {name: ["workflow-call"] if name in OF_JOBS else rows.get((name[0], variant), NO_ROW)[2] for name, variant in every}
     wrong += compare_index(top, BY_CODE, by_code(listed), write)
     wrong += compare_index(top, BY_MESSAGE, by_message(listed, printed), write)
     if wrong:

@@ -72,27 +72,32 @@ expression_is BadCharacter BadCharacter = refl
 expression_is _ BadCharacter = refl
 expression_is _ _ = refl
 
-jobs_are : (a b : CallCode) → ordering_then (call.ghosts.cmp a b) (by_caller.ghosts.cmp caller.Job caller.Job) ≡ nat_cmp (place_in_kind (C.Call a caller.Job)) (place_in_kind (C.Call b caller.Job))
+jobs_are : (a b : CallCode) →
+    ordering_then (call.ghosts.cmp a b) (by_caller.ghosts.cmp caller.Job caller.Job) ≡ nat_cmp (place_in_kind (C.Call a caller.Job)) (place_in_kind (C.Call b caller.Job))
 jobs_are NoWorkflow NoWorkflow = refl
 jobs_are _ NoWorkflow = refl
 jobs_are _ _ = refl
 
-job_step : (a b : CallCode) → ordering_then (call.ghosts.cmp a b) (by_caller.ghosts.cmp caller.Job caller.Step) ≡ nat_cmp (place_in_kind (C.Call a caller.Job)) (place_in_kind (C.Call b caller.Step))
+job_step : (a b : CallCode) →
+    ordering_then (call.ghosts.cmp a b) (by_caller.ghosts.cmp caller.Job caller.Step) ≡ nat_cmp (place_in_kind (C.Call a caller.Job)) (place_in_kind (C.Call b caller.Step))
 job_step NoWorkflow NoWorkflow = refl
 job_step _ NoWorkflow = refl
 job_step _ _ = refl
 
-step_job : (a b : CallCode) → ordering_then (call.ghosts.cmp a b) (by_caller.ghosts.cmp caller.Step caller.Job) ≡ nat_cmp (place_in_kind (C.Call a caller.Step)) (place_in_kind (C.Call b caller.Job))
+step_job : (a b : CallCode) →
+    ordering_then (call.ghosts.cmp a b) (by_caller.ghosts.cmp caller.Step caller.Job) ≡ nat_cmp (place_in_kind (C.Call a caller.Step)) (place_in_kind (C.Call b caller.Job))
 step_job NoWorkflow NoWorkflow = refl
 step_job _ NoWorkflow = refl
 step_job _ _ = refl
 
-steps_are : (a b : CallCode) → ordering_then (call.ghosts.cmp a b) (by_caller.ghosts.cmp caller.Step caller.Step) ≡ nat_cmp (place_in_kind (C.Call a caller.Step)) (place_in_kind (C.Call b caller.Step))
+steps_are : (a b : CallCode) →
+    ordering_then (call.ghosts.cmp a b) (by_caller.ghosts.cmp caller.Step caller.Step) ≡ nat_cmp (place_in_kind (C.Call a caller.Step)) (place_in_kind (C.Call b caller.Step))
 steps_are NoWorkflow NoWorkflow = refl
 steps_are _ NoWorkflow = refl
 steps_are _ _ = refl
 
-call_is : (a : CallCode) (c : Caller) (b : CallCode) (d : Caller) → ordering_then (call.ghosts.cmp a b) (by_caller.ghosts.cmp c d) ≡ nat_cmp (place_in_kind (C.Call a c)) (place_in_kind (C.Call b d))
+call_is : (a : CallCode) (c : Caller) (b : CallCode) (d : Caller) →
+    ordering_then (call.ghosts.cmp a b) (by_caller.ghosts.cmp c d) ≡ nat_cmp (place_in_kind (C.Call a c)) (place_in_kind (C.Call b d))
 call_is a caller.Job b caller.Job = jobs_are a b
 call_is a caller.Job b caller.Step = job_step a b
 call_is a caller.Step b caller.Job = step_job a b

@@ -23,8 +23,8 @@ use Rattle.al_base.specs.declared.codes.ExpressionCode.TheVariants.{UnavailableF
 use Rattle.al_base.specs.declared.codes.ExpressionCode.TheVariants.{NotIndexable, NotComparable, WrongPlaceholder, UnusedArgument, NotText}
 use Rattle.al_base.specs.declared.codes.ExpressionCode.TheVariants.{Untrusted, UnclosedChunk}
 
--- a code's number among those of its group, by which they are ordered, the kind that a report names, and the words of its message
--- before, between and after its two arguments
+-- where a code stands among those of its group, by the number of its identifier, the kind that a report names, and the words of its
+-- message before, between and after its arguments
 pub record CodeRow : Type 0 where
   pub place : ℕ
   pub kind : List ℕ
@@ -54,7 +54,7 @@ abbrev pub called : Caller → ℕ → Text → Text → Text → CodeRow
 called by number = row (2 * number + turn by) (call_kind by)
 
 abbrev pub code_row : Code → CodeRow
--- a file that is not YAML as this program reads it
+-- Y, reading a file as YAML
 code_row (C.Yaml NotUtf8) = syntax 1 "file is not UTF-8" "" ""
 code_row (C.Yaml ControlCharacter) = syntax 2 "control character" "" ""
 code_row (C.Yaml TabInIndentation) = syntax 3 "tab in indentation" "" ""
@@ -73,7 +73,7 @@ code_row (C.Yaml TooManyNodes) = syntax 15 "too many nodes" "" ""
 code_row (C.Yaml WrongBlockHeader) = syntax 16 "wrong block scalar header" "" ""
 code_row (C.Yaml WrongKey) = syntax 17 "key is not a scalar on one line" "" ""
 code_row (C.Yaml UnknownAlias) = syntax 18 "unknown alias" "" ""
--- keys and their values
+-- K, keys and their values
 code_row (C.Key Unexpected) = syntax 1 "unexpected key \"" "\"" ""
 code_row (C.Key Missing) = syntax 2 "key \"" "\" is missing" ""
 code_row (C.Key Repeated) = syntax 3 "key \"" "\" is repeated" ""
@@ -81,7 +81,7 @@ code_row (C.Key WrongKind) = syntax 4 "wrong kind of value for \"" "\"" ""
 code_row (C.Key WrongType) = syntax 5 "wrong type of value for \"" "\"" ""
 code_row (C.Key NotBeside) = syntax 6 "\"" "\" cannot stand beside \"" "\""
 code_row (C.Key EmptyFile) = syntax 7 "file is empty" "" ""
--- rules inside a file
+-- G, rules of a file by itself
 code_row (C.Rule UnknownEvent) = row 1 "events" "unknown event \"" "\"" ""
 code_row (C.Rule UnknownActivity) = row 2 "events" "unknown activity type \"" "\"" ""
 code_row (C.Rule WrongPattern) = row 3 "glob" "wrong filter pattern \"" "\"" ""
@@ -104,7 +104,7 @@ code_row (C.Rule UnknownInputType) = row 19 "events" "unknown input type \"" "\"
 code_row (C.Rule UnknownUsing) = row 20 "action" "unknown using \"" "\"" ""
 code_row (C.Rule MissingShell) = row 21 "action" "shell is required here" "" ""
 code_row (C.Rule MissingOutputValue) = row 22 "action" "output \"" "\" needs a value" ""
--- expressions
+-- X, expressions
 code_row (C.Expression BadCharacter) = expression 1 "bad character in expression" "" ""
 code_row (C.Expression UnclosedText) = expression 2 "text in expression is not closed" "" ""
 code_row (C.Expression UnexpectedToken) = expression 3 "unexpected token \"" "\"" ""
@@ -125,7 +125,7 @@ code_row (C.Expression UnusedArgument) = expression 17 "argument " " of format i
 code_row (C.Expression NotText) = expression 18 "object or array in a text" "" ""
 code_row (C.Expression Untrusted) = expression 19 "\"" "\" is untrusted, pass it by env" ""
 code_row (C.Expression UnclosedChunk) = expression 20 "braces of expression are not closed" "" ""
--- calls
+-- C, calls
 code_row (C.Call NoWorkflow by) = called by 1 "workflow \"" "\" is not in the folder" ""
 code_row (C.Call UndefinedInput by) = called by 2 "input \"" "\" is not defined in \"" "\""
 code_row (C.Call MissingInput by) = called by 3 "required input \"" "\" of \"" "\" is missing"

@@ -9,7 +9,7 @@
 //! - the limits of the product, in `limits`
 //! - readers and writers that count, in `streams`, and why their callers stop, in `stops`
 //!
-//! How a fault is worded and printed is `al_text`'s.
+//! How a fault is printed is `al_text`'s, with the words that `specs/Codes.antt` has for its code.
 #![tactic(auto)]
 
 mod args;
