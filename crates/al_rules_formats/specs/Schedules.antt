@@ -2,6 +2,7 @@
 use Rattle.std.specs.Prelude.{ℕ, List, [], ◌∷◌, Bool, true, false, Option, Some, None, option_map, option_and_then, map}
 use Rattle.std.specs.Prelude.{◌-◌, ◌%◌, ◌==◌, nat_lt, nat_le, ◌&&◌, not, codes, if◌then◌else◌, find, is_some}
 use Rattle.std.specs.List.{list_all, list_any, filter, range_with_len}
+use Rattle.std.specs.Option.{option_or, unwrap_or}
 use Rattle.std.specs.Str.{bytes_eq}
 use Rattle.std.specs.Char.{is_ascii_digit}
 use Rattle.al_base.specs.Ascii as ascii
@@ -64,33 +65,22 @@ abbrev pub name_in : List (List ℕ × ℕ) → List ℕ → Option ℕ
 name_in names bs = option_map (λ p. p.1) (find (λ p. same_name bs p.0) names)
 
 -- a value: a name, or a number in the range
-abbrev pub value_or : Option ℕ → Option ℕ → Option ℕ
-value_or (Some n) other = Some n
-value_or None other = other
-
 abbrev pub value_in : Range → List ℕ → Option ℕ
-value_in r bs = value_or (name_in r.names bs) (number_in r.low r.high bs)
+value_in r bs = option_or (name_in r.names bs) (number_in r.low r.high bs)
 
 -- the numbers from one value to another in steps, if they don't descend
 abbrev pub from_to : ℕ → ℕ → ℕ → Option Item
 from_to step a b = if nat_le a b then Some (record { low = a; high = b; step = step }) else None
 
--- what is meant by `*`, by a value (with a step all from it on) and by value-value
-abbrev pub all_in : Range → Option ℕ → Option Item
-all_in r None = from_to 1 r.low r.high
-all_in r (Some step) = from_to step r.low r.high
-
+-- what is meant by a value, with a step all from it on
 abbrev pub from_value : Range → Option ℕ → ℕ → Option Item
 from_value r None a = from_to 1 a a
 from_value r (Some step) a = from_to step a r.high
 
-abbrev pub step_or_one : Option ℕ → ℕ
-step_or_one None = 1
-step_or_one (Some step) = step
-
+-- what is meant by `*`, by a value and by value-value
 abbrev pub head_of : Range → Option ℕ → List (List ℕ) → Option Item
-head_of r step (a ∷ []) = if bytes_eq a (codes "*") then all_in r step else option_and_then (from_value r step) (value_in r a)
-head_of r step (a ∷ b ∷ []) = option_and_then (λ m. option_and_then (from_to (step_or_one step) m) (value_in r b)) (value_in r a)
+head_of r step (a ∷ []) = if bytes_eq a (codes "*") then from_to (unwrap_or step 1) r.low r.high else option_and_then (from_value r step) (value_in r a)
+head_of r step (a ∷ b ∷ []) = option_and_then (λ m. option_and_then (from_to (unwrap_or step 1) m) (value_in r b)) (value_in r a)
 head_of r step _ = None
 
 -- a head, perhaps with a slash and a step from 1 to the greatest value

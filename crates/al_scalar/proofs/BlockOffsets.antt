@@ -1,6 +1,7 @@
 -- Offsets of a block scalar's text.
 use Rattle.std.proofs.Common.{◌≡◌, ℕ, ◌+◌, ◌-◌, ◌<◌, ◌≤◌, List, [], ◌∷◌, ◌++◌, drop, refl, sym, subst, arith, Bool, true, false, not}
 use Rattle.std.proofs.Common.{if◌then◌else◌, ◌&&◌, ◌||◌, nat_le, Option, Some, None, Result, Ok, Err}
+use Rattle.std.specs.Option.{is_some}
 use Rattle.al_base.specs.Ascii as ascii
 use Rattle.al_scalar.specs.Line.{Cell, Line, place, start, is_empty, begins, after_blanks, begins_blank, is_comment, indent, is_all_blank}
 use Rattle.al_scalar.specs.Block.{Chomping, strip, clip, keep, Header, header_end, after_digit, after_sign, header, is_digit, is_sign}
@@ -235,14 +236,14 @@ lines-lower low low' (l ∷ ls) a h = (climbing-lower low low' l.end l.text a h.
 block-by : (is_literal : Bool) (within low : ℕ) (l : Line) (ls : List Line) → low ≤ l.end → IsTail l.end l.last ls → (r : Result Header Fault) → EndsBefore l.end r
     → IsBlockTaken low (r >>= (λ h.
     let m = content_indent h.digit within ls in
-    let rs = (if l.last then record { rows = []; left = at_end l } else rows_at m (elim h.digit [ None ↦ false | Some d ↦ true ]) ls) in
+    let rs = (if l.last then record { rows = []; left = at_end l } else rows_at m (is_some h.digit) ls) in
     Ok (record { text = text_after is_literal h.chomping None [] rs.rows; end = rows_end h.end rs.rows; left = rs.left })))
 block-by is_literal within low l ls a k (Err e) r = tt
 block-by is_literal within low l ls a k (Ok h) r =
     let m = content_indent h.digit within ls in
-    let rs : Rows = (if l.last then record { rows = []; left = at_end l } else rows_at m (elim h.digit [ None ↦ false | Some d ↦ true ]) ls) in
+    let rs : Rows = (if l.last then record { rows = []; left = at_end l } else rows_at m (is_some h.digit) ls) in
     let rows : IsRows l.end rs = choose (IsRows l.end) l.last (λ _. omega arith)
-    (λ e. rows-from m (elim h.digit [ None ↦ false | Some d ↦ true ]) l.end ls (lines-lower (l.end + 1) l.end ls (omega arith) (tail-lines l.end l.last ls e k))) in
+    (λ e. rows-from m (is_some h.digit) l.end ls (lines-lower (l.end + 1) l.end ls (omega arith) (tail-lines l.end l.last ls e k))) in
     let none : ArePending low l.end l.end None [] = record { own = from-none low l.end a; since = from-none l.end l.end (omega arith) } in (
       text-from is_literal h.chomping low l.end l.end (start rs.left) None [] rs.rows none rows,
       text-before is_literal h.chomping low l.end l.end (start rs.left) None [] h.end rs.rows none rows r,

@@ -3,7 +3,7 @@ use Rattle.std.proofs.Common.{◌≡◌, ℕ, suc, ◌+◌, ◌-◌, ◌*◌, �
 use Rattle.std.proofs.Math.Nat.{pow-le-pow_right}
 use Rattle.std.proofs.Math.Seq.{take-append-add}
 use Rattle.al_scalar.specs.Line.{Cell}
-use Rattle.al_scalar.specs.Quoted.{hex_digit, hex_push, hex_value}
+use Rattle.al_scalar.specs.Quoted.{hex_digit, hex_value}
 use Rattle.al_scalar.specs.Places.{text_at}
 use Rattle.al_scalar.specs.LineEnds.{cells_between}
 use Rattle.al_scalar.specs.Private.Double.{Between}
@@ -14,10 +14,10 @@ use Rattle.al_scalar.proofs.SingleLemmas.{cell_at, same_then, IsInside}
 -- ---- the value of digits
 
 pub hex_value-step : (w d : ℕ) (c : Cell) (cs : List Cell) → hex_digit c.0 ≡ Some d → hex_value w (c ∷ cs) ≡ hex_value (16 * w + d) cs
-hex_value-step w d c cs e = ap (λ o. elim (hex_push o w) [ None ↦ None | Some v ↦ hex_value v cs ]) e
+hex_value-step w d c cs e = ap (λ o. elim o [ None ↦ None | Some d ↦ hex_value (16 * w + d) cs ]) e
 
 hex_value-wrong : (w : ℕ) (c : Cell) (cs : List Cell) → hex_digit c.0 ≡ None → hex_value w (c ∷ cs) ≡ None
-hex_value-wrong w c cs e = ap (λ o. elim (hex_push o w) [ None ↦ None | Some v ↦ hex_value v cs ]) e
+hex_value-wrong w c cs e = ap (λ o. elim o [ None ↦ None | Some d ↦ hex_value (16 * w + d) cs ]) e
 
 pub hex_value-append : (v w : ℕ) (xs ys : List Cell) → hex_value v xs ≡ Some w → hex_value v (xs ++ ys) ≡ hex_value w ys
 hex_value-append v w [] ys e = let same : v ≡ w = cc in ap (λ u. hex_value u ys) same

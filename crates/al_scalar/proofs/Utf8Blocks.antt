@@ -2,6 +2,7 @@
 use Rattle.std.proofs.Common.{◌≡◌, ℕ, zero, suc, ◌+◌, ◌≤◌, List, [], ◌∷◌, ◌++◌, drop, refl, arith, Bool, true, false, not, if◌then◌else◌, ◌&&◌, ◌||◌, ◌==◌, nat_le, Option, Some, None, Result, Ok, Err}
 use Rattle.std.proofs.lemmas.Bool.Decides.{nat_tests}
 use Rattle.std.proofs.lemmas.Str.{IsUtf8-nil}
+use Rattle.std.specs.Option.{is_some}
 use Rattle.al_base.specs.Ascii as ascii
 use Rattle.al_scalar.specs.Line.{Cell, Line, place, is_empty, indent, is_all_blank}
 use Rattle.al_scalar.specs.Block.{Chomping, strip, clip, keep, Header, header, content_indent, BlockLine, Rows, row_of, at_end, with_row}
@@ -78,13 +79,13 @@ rows-text is_literal k last empties (r ∷ rs) u =
 block-by : (is_literal : Bool) (within : ℕ) (l : Line) (ls : List Line) → AreUtf8 ls → (r : Result Header Fault)
     → TakesText (r >>= (λ h.
     let m = content_indent h.digit within ls in
-    let rs = (if l.last then record { rows = []; left = at_end l } else rows_at m (elim h.digit [ None ↦ false | Some d ↦ true ]) ls) in
+    let rs = (if l.last then record { rows = []; left = at_end l } else rows_at m (is_some h.digit) ls) in
     Ok (record { text = text_after is_literal h.chomping None [] rs.rows; end = rows_end h.end rs.rows; left = rs.left })))
 block-by is_literal within l ls u (Err e) = tt
 block-by is_literal within l ls u (Ok h) =
     let m = content_indent h.digit within ls in
-    let rs : Rows = (if l.last then record { rows = []; left = at_end l } else rows_at m (elim h.digit [ None ↦ false | Some d ↦ true ]) ls) in
-    rows-text is_literal h.chomping None [] rs.rows (choose RowsTexts l.last (λ _. tt) (λ _. rows-texts m (elim h.digit [ None ↦ false | Some d ↦ true ]) ls u))
+    let rs : Rows = (if l.last then record { rows = []; left = at_end l } else rows_at m (is_some h.digit) ls) in
+    rows-text is_literal h.chomping None [] rs.rows (choose RowsTexts l.last (λ _. tt) (λ _. rows-texts m (is_some h.digit) ls u))
 
 pub block-text : (is_literal : Bool) (within : ℕ) (ls : List Line) → AreUtf8 ls → TakesText (block_scalar is_literal within ls)
 block-text is_literal within [] u = tt

@@ -9,7 +9,7 @@ use Rattle.std.specs.Char.{IsScalar}
 use Rattle.std.proofs.lemmas.Str.{IsUtf8-append, IsUtf8-encode}
 use Rattle.al_base.specs.Ascii as ascii
 use Rattle.al_scalar.specs.Line.{Cell, Line}
-use Rattle.al_scalar.specs.Quoted.{QuotedLine, own_before, part_before, escape_table, digits_table, lookup, hex_digit, hex_push, hex_value}
+use Rattle.al_scalar.specs.Quoted.{QuotedLine, own_before, part_before, escape_table, digits_table, lookup, hex_digit, hex_value}
 use Rattle.al_scalar.specs.Quoted.{is_scalar_value, written, hex_escape, escape, double_part, double_quoted}
 use Rattle.al_scalar.specs.Taken.{Fault}
 use Rattle.al_scalar.proofs.OffsetLemmas.{choose}
@@ -105,7 +105,7 @@ digit-ascii b d e =
     (λ h. below-128 48 57 b (omega arith) h) (λ h. below-128 65 70 b (omega arith) h) (λ h. below-128 97 102 b (omega arith) h) e
 
 hex-by : (n : ℕ) (c : Cell) (cs : List Cell) (v code : ℕ) (o : Option ℕ) → ((d : ℕ) → o ≡ Some d → c.0 < 128) → ((v : ℕ) → hex_value v (take n cs) ≡ Some code → AreSkipped n cs)
-    → elim (hex_push o v) [ None ↦ None | Some v ↦ hex_value v (take n cs) ] ≡ Some code → AreSkipped (suc n) (c ∷ cs)
+    → elim o [ None ↦ None | Some d ↦ hex_value (16 * v + d) (take n cs) ] ≡ Some code → AreSkipped (suc n) (c ∷ cs)
 hex-by n c cs v code None f h e = absurd cc
 hex-by n c cs v code (Some d) f h e = (f d refl, h (16 * v + d) e)
 

@@ -3,6 +3,7 @@ use Rattle.std.proofs.Common.{ℕ, zero, suc, ◌+◌, ◌<◌, List, [], ◌∷
 use Rattle.std.proofs.Common.{false, not, if◌then◌else◌, ◌&&◌, ◌||◌, ◌==◌, nat_lt, Option, Some, None, Result, Ok, Err}
 use Rattle.std.proofs.lemmas.Str.{IsUtf8-nil}
 use Rattle.std.specs.Prelude.{IsUtf8}
+use Rattle.std.specs.Option.{is_some}
 use Rattle.al_base.specs.Ascii as ascii
 use Rattle.al_scalar.specs.Line.{Cell, Line, place, is_blank, after_blanks, is_empty, is_all_blank}
 use Rattle.al_scalar.specs.Block.{Header, header, content_indent, Rows, row_of, at_end, with_row, rows_at, text_after, rows_end, block_scalar}
@@ -216,12 +217,12 @@ rows-left m found (l ∷ ls) u =
 block-by : (is_literal : Bool) (within : ℕ) (l : Line) (ls : List Line) → AreUtf8 ls → (r : Result Header Fault)
     → LeavesText (r >>= (λ h.
     let m = content_indent h.digit within ls in
-    let rs = (if l.last then record { rows = []; left = at_end l } else rows_at m (elim h.digit [ None ↦ false | Some d ↦ true ]) ls) in
+    let rs = (if l.last then record { rows = []; left = at_end l } else rows_at m (is_some h.digit) ls) in
     Ok (record { text = text_after is_literal h.chomping None [] rs.rows; end = rows_end h.end rs.rows; left = rs.left })))
 block-by is_literal within l ls u (Err e) = tt
 block-by is_literal within l ls u (Ok h) =
     let m = content_indent h.digit within ls in
-    choose RowsLeave l.last (λ _. (IsUtf8-nil, tt)) (λ _. rows-left m (elim h.digit [ None ↦ false | Some d ↦ true ]) ls u)
+    choose RowsLeave l.last (λ _. (IsUtf8-nil, tt)) (λ _. rows-left m (is_some h.digit) ls u)
 
 pub block-left : (is_literal : Bool) (within : ℕ) (ls : List Line) → AreUtf8 ls → LeavesText (block_scalar is_literal within ls)
 block-left is_literal within [] u = tt

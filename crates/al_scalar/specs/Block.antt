@@ -1,6 +1,6 @@
 -- Block scalars (8.1).
-use Rattle.std.specs.Prelude.{ℕ, ◌+◌, ◌-◌, List, [], ◌∷◌, ◌++◌, drop, Bool, true, false, not, ◌&&◌, ◌||◌, ◌==◌, nat_le, if◌then◌else◌}
-use Rattle.std.specs.Prelude.{Option, Some, None, Result, Ok}
+use Rattle.std.specs.Prelude.{ℕ, ◌+◌, ◌-◌, List, [], ◌∷◌, ◌++◌, drop, Bool, true, not, ◌&&◌, ◌||◌, ◌==◌, nat_le, if◌then◌else◌}
+use Rattle.std.specs.Prelude.{Option, Some, None, is_some, Result, Ok}
 use Rattle.al_base.specs.Ascii as ascii
 use Rattle.al_base.specs.declared.codes.YamlCode.TheVariants as yaml
 use Rattle.al_scalar.specs.Line.{Cell, Line, place, after_blanks, indent, is_empty, is_all_blank, begins_blank, is_comment}
@@ -18,17 +18,14 @@ pub record Header : Type 0 where
   pub chomping : Chomping
   pub end : ℕ
 
-abbrev pub plus : ℕ
-plus = 43
-
 abbrev pub is_digit : ℕ → Bool
 is_digit b = nat_le 49 b && nat_le b 57
 
 abbrev pub is_sign : ℕ → Bool
-is_sign b = (b == plus) || (b == ascii.dash)
+is_sign b = (b == ascii.plus) || (b == ascii.dash)
 
 abbrev pub chomping_of : ℕ → Chomping
-chomping_of b = if b == plus then keep else strip
+chomping_of b = if b == ascii.plus then keep else strip
 
 -- Behind the indicators only blanks, and a comment after a blank.
 abbrev pub header_end : Header → List Cell → Result Header Fault
@@ -151,5 +148,5 @@ block_scalar is_literal within [] = fault yaml.UnexpectedCharacter 0
 block_scalar is_literal within (l ∷ ls) =
     header (place l.text l.end + 1) (drop 1 l.text) >>= (λ h.
     let m = content_indent h.digit within ls in
-    let rs = (if l.last then record { rows = []; left = at_end l } else rows_at m (elim h.digit [ None ↦ false | Some d ↦ true ]) ls) in
+    let rs = (if l.last then record { rows = []; left = at_end l } else rows_at m (is_some h.digit) ls) in
     Ok (record { text = text_after is_literal h.chomping None [] rs.rows; end = rows_end h.end rs.rows; left = rs.left }))

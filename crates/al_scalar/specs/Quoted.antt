@@ -1,6 +1,6 @@
 -- Quoted scalars (7.3.1 double-quoted, 7.3.2 single-quoted, 5.7 escaped characters, 6.5 line folding).
 use Rattle.std.specs.Prelude.{ℕ, zero, suc, ◌+◌, ◌*◌, ◌-◌, List, [], ◌∷◌, ◌++◌, length, map, take, Bool, true, false, not, ◌&&◌, ◌||◌}
-use Rattle.std.specs.Prelude.{◌==◌, nat_le, nat_lt, if◌then◌else◌, Option, Some, None, Result, Ok, Err, encode_utf8}
+use Rattle.std.specs.Prelude.{◌==◌, nat_le, nat_lt, if◌then◌else◌, Option, Some, None, Result, Ok, encode_utf8}
 use Rattle.al_base.specs.Ascii as ascii
 use Rattle.al_base.specs.declared.codes.YamlCode.TheVariants as yaml
 use Rattle.al_scalar.specs.Line.{Cell, Line, cut, is_blank, after_blanks, is_empty}
@@ -64,14 +64,10 @@ hex_digit b =
     else (if nat_le 65 b && nat_le b 70 then Some (b - 55)
     else (if nat_le 97 b && nat_le b 102 then Some (b - 87) else None))
 
-abbrev pub hex_push : Option ℕ → ℕ → Option ℕ
-hex_push None value = None
-hex_push (Some d) value = Some (16 * value + d)
-
 -- the value of hexadecimal digits, after those that make value
 abbrev pub hex_value : ℕ → List Cell → Option ℕ
 hex_value value [] = Some value
-hex_value value (c ∷ cs) = elim (hex_push (hex_digit c.0) value) [ None ↦ None | Some v ↦ hex_value v cs ]
+hex_value value (c ∷ cs) = elim (hex_digit c.0) [ None ↦ None | Some d ↦ hex_value (16 * value + d) cs ]
 
 abbrev pub is_scalar_value : ℕ → Bool
 is_scalar_value c = nat_lt c 0xd800 || (nat_le 0xe000 c && nat_lt c 0x110000)
@@ -81,12 +77,10 @@ abbrev pub written : ℕ → ℕ → List Cell
 written at code = map (λ b. (b, at)) (encode_utf8 code)
 
 abbrev pub part_before : List Cell → Result QuotedLine Fault → Result QuotedLine Fault
-part_before cs (Ok p) = Ok (with_cells cs p)
-part_before cs (Err e) = Err e
+part_before cs part = part >>= (λ p. Ok (with_cells cs p))
 
 abbrev pub own_before : Cell → Result QuotedLine Fault → Result QuotedLine Fault
-own_before c (Ok p) = Ok (with_own c p)
-own_before c (Err e) = Err e
+own_before c part = part >>= (λ p. Ok (with_own c p))
 
 -- An escape with digits, of which these stand on the line.
 abbrev pub hex_escape : ℕ → ℕ → List Cell → Option ℕ → Result QuotedLine Fault → Result QuotedLine Fault

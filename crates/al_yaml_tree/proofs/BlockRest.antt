@@ -1,6 +1,7 @@
 -- A block scalar ends before the lines left, which stand behind an offset where those did that it was read from.
 use Rattle.std.proofs.Common.{◌≡◌, ℕ, ◌+◌, ◌-◌, ◌≤◌, List, [], ◌∷◌, drop, arith, Bool, true, false, not}
 use Rattle.std.proofs.Common.{if◌then◌else◌, ◌&&◌, ◌||◌, nat_le, Option, Some, None, Result, Ok, Err}
+use Rattle.std.specs.Option.{is_some}
 use Rattle.al_scalar.specs.Block.{Chomping, clip, Header, header_end, after_digit, after_sign, header, is_digit, is_sign, chomping_of}
 use Rattle.al_scalar.specs.Block.{content_indent, Rows, row_of, at_end, with_row, rows_at, text_after, last_end, rows_end, block_scalar}
 use Rattle.al_scalar.specs.Line.{Cell, Line, place, start, is_empty, begins, after_blanks, begins_blank, is_comment, indent, is_all_blank}
@@ -115,17 +116,17 @@ module _ (size : ℕ) where
       → HeaderIn low l.end r
       → TakenIn low (r >>= (λ h.
       let m = content_indent h.digit within ls in
-      let rs = (if l.last then record { rows = []; left = at_end l } else rows_at m (elim h.digit [ None ↦ false | Some d ↦ true ]) ls) in
+      let rs = (if l.last then record { rows = []; left = at_end l } else rows_at m (is_some h.digit) ls) in
       Ok (record { text = text_after is_literal h.chomping None [] rs.rows; end = rows_end h.end rs.rows; left = rs.left })))
   block-by is_literal within low l ls k (Err e) r = let a = k.1.0 in omega (arith, r, a)
   block-by is_literal within low l ls k (Ok h) r =
       let m = content_indent h.digit within ls in
       let line = climbing-order low l.end l.text k.0.0 in
       let rs : Rows = (if l.last then record { rows = []; left = at_end l } else rows_at m
-      (elim h.digit [ None ↦ false | Some d ↦ true ]) ls) in
+      (is_some h.digit) ls) in
       let rows : RowsIn h.end l.end rs = choose (RowsIn h.end l.end) l.last
       (λ _. (omega arith, r.1, stand-at_end size l.end (record { text = []; end = l.end; last = l.last }) ls ((omega arith, k.0.1), k.1)))
-      (λ e. rows-in m (elim h.digit [ None ↦ false | Some d ↦ true ]) h.end l.end ls r.1
+      (λ e. rows-in m (is_some h.digit) h.end l.end ls r.1
       (stand-lower size (l.end + 1) l.end ls (omega arith) (stand-later size low l ls e k))) in
       let a = r.0 in
       let b = rows.0 in
