@@ -27,10 +27,10 @@ use Rattle.al_base.specs.declared.faults.Fault.{Fault}
 use Rattle.al_session_folder.specs.Meaning.{Meaning}
 use Rattle.al_session_folder.specs.Folder.{Folder, answers, faults_in}
 use Rattle.al_session_folder.specs.Kept.{Files, folder_of, referred, AllKept}
-use Rattle.al_session_folder.specs.Loops.{calls_graph, called, leads_back, fault_if, loop_faults, looping, reported}
+use Rattle.al_session_folder.specs.Loops.{calls_graph, called, leads_back, loop_faults, reported}
 use Rattle.al_session_folder.specs.declared.kept.KeptFile.{KeptFile}
 use Rattle.al_session_folder.specs.declared.lint.Target.{Target}
-use Rattle.al_session_folder.proofs.Looping.{kept_number}
+use Rattle.al_session_folder.proofs.Looping.{fault_if, kept_number, looping}
 use Rattle.al_session_folder.specs.Report.{status_of, report_of}
 use Rattle.al_session_folder.specs.Checked.{AllChecked}
 use Rattle.al_session_folder.specs.Printing.{AreNumbered, ArePrintable, joined_faults, listed, numbered_lines}

@@ -5,7 +5,7 @@ use Rattle.std.proofs.Common.{⊎_elim, inl, inr}
 use Rattle.std.specs.Prelude.{string_bytes, bytes_eq, Contains, IfSome, ◌↔◌, ◌&&◌, nat_le}
 use Rattle.std.specs.Global.{Global}
 use Rattle.std.specs.Bool.{◌==◌}
-use Rattle.std.specs.List.{AllByRecursion, cons_option, enumerate_from, filter_map, list_any, position, prefix_len}
+use Rattle.std.specs.List.{AllByRecursion, cons_option, enumerate_from, filter_map, flat_map, list_any, position, prefix_len, zip}
 use Rattle.std.specs.Option.{unwrap_or, option_map, option_eq}
 use Rattle.std.proofs.lemmas.Bool.{cases_lt}
 use Rattle.std.proofs.lemmas.Bool.Decides.{nat_tests}
@@ -24,11 +24,19 @@ use Rattle.al_graph.proofs.OneWay.{no_loop_before, no_loop_behind, part_tells}
 use Rattle.al_session_folder.specs.Meaning.{Meaning, candidates}
 use Rattle.al_session_folder.specs.Folder.{Folder, first_of, or_else, paths_of}
 use Rattle.al_session_folder.specs.Kept.{Files, folder_of, entry_of, AllKept, AreKept, IsKept}
-use Rattle.al_session_folder.specs.Loops.{called, calls_graph, leads_back, loop_faults, looping, fault_if, number_of}
+use Rattle.al_session_folder.specs.Loops.{called, calls_graph, leads_back, loop_faults, number_of}
 use Rattle.al_session_folder.specs.CallGraphs.{IsCallGraph, IsCalledBy, IsRow, NoneBackward, NoneForward, TellLoops, part_of}
 use Rattle.al_session_folder.specs.declared.kept.KeptFile.{KeptFile}
 use Rattle.al_session_folder.specs.declared.lint.Target.{Target}
 use Rattle.al_session_folder.proofs.Ways.{leads_before, leads_behind}
+
+-- what is said of a call, where it is on a call cycle
+abbrev pub fault_if : Bool → Fault → List Fault
+fault_if looping fault = cond looping (fault ∷ []) []
+
+-- of these calls of the file with this number, what is said of those on a call cycle
+abbrev pub looping : List (List ℕ) → Folder → ℕ → List Target → List Fault → List Fault
+looping graph f file ts ss = flat_map (λ x. fault_if (leads_back graph file (called f x.0)) x.1) (zip ts ss)
 
 -- ---- numbers of files
 

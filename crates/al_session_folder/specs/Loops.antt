@@ -1,7 +1,7 @@
 -- Call cycles: calls that come back to their own file, at once or by calls of further files.
 use Rattle.std.specs.Prelude.{ℕ, Bool, false, List, [], ◌∷◌, ◌++◌, Option, Some, None, bytes_eq, map}
 use Rattle.std.specs.Prelude.{if◌then◌else◌}
-use Rattle.std.specs.List.{filter_map, position}
+use Rattle.std.specs.List.{filter_map, flat_map, position, zip}
 use Rattle.al_base.specs.FaultLists.{fault_list}
 use Rattle.al_base.specs.declared.faults.Fault.{Fault}
 use Rattle.al_graph.specs.Within.{leads}
@@ -26,18 +26,10 @@ abbrev pub leads_back : List (List ℕ) → ℕ → Option ℕ → Bool
 leads_back graph file None = false
 leads_back graph file (Some to) = leads graph to file
 
--- what is said of such a call
-abbrev pub fault_if : Bool → Fault → List Fault
-fault_if looping fault = if looping then fault ∷ [] else []
-
--- of these calls of the file with this number, those on a call cycle
-abbrev pub looping : List (List ℕ) → Folder → ℕ → List Target → List Fault → List Fault
-looping graph f file [] sites = []
-looping graph f file (t ∷ ts) [] = []
-looping graph f file (t ∷ ts) (s ∷ ss) = fault_if (leads_back graph file (called f t)) s ++ looping graph f file ts ss
-
+-- what is said of the calls of the file with this number that are on a call cycle, in their order
 abbrev pub loop_faults : {I : Type 0} → Meaning I → Folder → ℕ → List ℕ → List ℕ → List Fault
-loop_faults m f file p b = looping (calls_graph m f) f file (m.calls p b) (m.sites p b)
+loop_faults m f file p b =
+    flat_map (λ x. if leads_back (calls_graph m f) file (called f x.0) then x.1 ∷ [] else []) (zip (m.calls p b) (m.sites p b))
 
 -- a file's faults as reports list them: its own, and those of its calls on a call cycle, in order, each once
 unfoldable pub reported : {I : Type 0} → Meaning I → Folder → ℕ → List ℕ → List ℕ → List Fault

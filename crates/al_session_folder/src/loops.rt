@@ -1,6 +1,6 @@
 //! Call cycles.
 
-ghost use Rattle.std.specs.Prelude.{◌≡◌, ◌<◌, ◌+◌, ◌++◌, ◌&&◌, ◌==◌, [], ℕ, List, None, Some, Contains, cond, length, not, true};
+ghost use Rattle.std.specs.Prelude.{◌≡◌, ◌<◌, ◌+◌, ◌++◌, ◌&&◌, ◌==◌, [], ◌∷◌, ℕ, List, None, Some, Contains, cond, length, not, true};
 ghost use Rattle.std.specs.Prelude.{nat_eq, nat_le, nat_lt, slice_get, slice_index_or};
 ghost use Rattle.std.specs.Prelude.{IfOk, IfSome, OnOk};
 ghost use Rattle.std.specs.List.{cons_option, filter_map, list_any};
@@ -255,7 +255,7 @@ fn fault_of(alloc: Global, site: Site<'_>) -> Result<Fault, AllocError>
 /// Adds the fault of a call, if it is on a cycle.
 fn add_fault_if(leads_back: bool, site: Site<'_>, faults: &mut FaultSink) -> Result<(), AllocError>
     ensures { OnOk result
-        (faults.new ≡ faults.old ++ loops.fault_if leads_back (fault_of site.entry)) }
+        (faults.new ≡ faults.old ++ cond leads_back (fault_of site.entry ∷ []) []) }
 {
     if leads_back {
         let fault = fault_of(faults.alloc(), site)?;

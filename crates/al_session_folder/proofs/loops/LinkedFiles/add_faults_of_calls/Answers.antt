@@ -5,10 +5,10 @@ use Rattle.std.specs.Prelude.{string_bytes}
 use Rattle.std.specs.Global.{Global}
 use Rattle.al_session_folder.specs.declared.kept.KeptFile.{KeptFile}
 use Rattle.al_session_folder.specs.Kept.{folder_of}
-use Rattle.al_session_folder.specs.Loops.{calls_graph, fault_if, leads_back}
+use Rattle.al_session_folder.specs.Loops.{calls_graph, leads_back}
 use Rattle.al_session_folder.specs.CallGraphs.{IsCalledBy, TellLoops}
 use Rattle.al_session_folder.specs.Sites.{fault_of}
-use Rattle.al_session_folder.proofs.Looping.{call_edge, entry_number, entry_there, if_called, kept_number, looping_end, looping_next, one_entry, row_of}
+use Rattle.al_session_folder.proofs.Looping.{call_edge, entry_number, entry_there, fault_if, if_called, kept_number, looping_end, looping_next, one_entry, row_of}
 use Rattle.al_session_folder.proofs.loops.LinkedFiles.add_faults_of_calls.Goals as goal
 
 pub called_again-to-requires-clause-row : goal.called_again-to-requires-clause-row

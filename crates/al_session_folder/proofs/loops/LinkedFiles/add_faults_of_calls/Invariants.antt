@@ -1,6 +1,7 @@
 use Rattle.std.proofs.Common.{◌≡◌, ◌++◌, drop, ℕ, List, Some, slice_get}
 use Rattle.al_session_folder.specs.Kept.{folder_of}
-use Rattle.al_session_folder.specs.Loops.{calls_graph, loop_faults, looping}
+use Rattle.al_session_folder.specs.Loops.{calls_graph, loop_faults}
+use Rattle.al_session_folder.proofs.Looping.{looping}
 use Rattle.al_session_folder.proofs.loops.LinkedFiles.add_faults_of_calls.Given as goal
 
 -- the faults so far, and those of the calls that are left
