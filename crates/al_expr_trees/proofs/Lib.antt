@@ -4,3 +4,4 @@ pub mod Added
 pub mod Positions
 pub mod TableFields
 pub mod Contexts
+pub mod ScalarsFused

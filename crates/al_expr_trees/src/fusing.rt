@@ -2,16 +2,17 @@
 
 ghost use Rattle.std.specs.Prelude.{◌≡◌, IfOk, Some, None, map};
 ghost use Rattle.al_types.specs.Indexes.{name_at};
-ghost use Rattle.al_types.specs.TypeParts.{fuse_with_form};
 ghost use Rattle.al_types.specs.Fused.{fuse_parts};
 ghost use Rattle.al_types.specs.Types.{Absent, NoField, fuse_optional, fuse_type, parts_with};
+ghost use Rattle.al_expr_types.specs.Types.{scalar_type};
 ghost use Rattle.al_expr_trees.specs.Listings.{parts_in};
 ghost use Rattle.al_expr_trees.specs.Trees.{field_of, field_parts, object_parts, rest_of, ty_of};
 
 use crate::copying::{copy, copy_field, copy_rest};
 use crate::listings::{Listing, position};
+use crate::taking::scalar_tree;
 use crate::trees::{Field, Ty};
-use al_types::Form;
+use al_expr_types::Scalar;
 use std::alloc::{AllocError, Global};
 
 /// What two types have in common: any with any or null, itself with itself, a string for two other scalars, an array of what the elements
@@ -25,17 +26,16 @@ pub fn fuse(alloc: Global, a: Ty, b: Ty) -> Result<Ty, AllocError>
 }
 
 // What a type has in common with one more.
-#[tactic(auto, using(al_types::proofs::FusedForms::by_form))]
 #[cycle(fusing)]
 fn fuse_more(alloc: Global, more: &Ty, ty: &Ty) -> Result<Ty, AllocError>
     ensures { IfOk result (λ t. ty_of t ≡ fuse_type (ty_of ty.now) (ty_of more.now)) }
 {
     match ty {
         Ty::Any => Ok(Ty::Any),
-        Ty::Null => Ok(fuse_scalar(Form::Null, more.form())),
-        Ty::Number => Ok(fuse_scalar(Form::Number, more.form())),
-        Ty::Bool => Ok(fuse_scalar(Form::Bool, more.form())),
-        Ty::String => Ok(fuse_scalar(Form::String, more.form())),
+        Ty::Null => Ok(fuse_scalar(Scalar::Null, more)),
+        Ty::Number => Ok(fuse_scalar(Scalar::Number, more)),
+        Ty::Bool => Ok(fuse_scalar(Scalar::Bool, more)),
+        Ty::String => Ok(fuse_scalar(Scalar::String, more)),
         Ty::Array(of) => match more {
             Ty::Array(other) => {
                 let both = fuse_more(alloc, other, of)?;
@@ -60,19 +60,19 @@ fn fuse_more(alloc: Global, more: &Ty, ty: &Ty) -> Result<Ty, AllocError>
     }
 }
 
-// A scalar with a type of this form.
-fn fuse_scalar(a: Form, b: Form) -> Ty
-    ensures { ty_of result ≡ fuse_with_form a b }
+// A scalar with a type.
+#[tactic(auto, using(crate::proofs::ScalarsFused::with_part))]
+fn fuse_scalar(scalar: Scalar, more: &Ty) -> Ty
+    ensures { ty_of result ≡ fuse_type (scalar_type scalar) (ty_of more.now) }
 {
-    match a {
-        Form::Null if b == Form::Null => Ty::Null,
-        Form::Number if b == Form::Number => Ty::Number,
-        Form::Bool if b == Form::Bool => Ty::Bool,
-        Form::Number | Form::Bool | Form::String => match b {
-            Form::Number | Form::Bool | Form::String => Ty::String,
-            Form::Any | Form::Null | Form::Array | Form::Object => Ty::Any,
-        },
-        Form::Any | Form::Null | Form::Array | Form::Object => Ty::Any,
+    match more {
+        Ty::Any => scalar_tree(scalar.fuse(Scalar::Any)),
+        Ty::Null => scalar_tree(scalar.fuse(Scalar::Null)),
+        Ty::Number => scalar_tree(scalar.fuse(Scalar::Number)),
+        Ty::Bool => scalar_tree(scalar.fuse(Scalar::Bool)),
+        Ty::String => scalar_tree(scalar.fuse(Scalar::String)),
+        Ty::Array(_) => Ty::Any,
+        Ty::Object { .. } => Ty::Any,
     }
 }
 

@@ -23,8 +23,8 @@ pub fn tree_of(alloc: Global, types: &Types<'_>, ty: al_expr_types::Ty) -> Resul
     Ok(tree)
 }
 
-// The tree of a scalar.
-fn scalar_tree(scalar: Scalar) -> Ty
+/// The tree of a scalar.
+pub(crate) fn scalar_tree(scalar: Scalar) -> Ty
     ensures { ty_of result ≡ scalar_type scalar }
 {
     match scalar {

@@ -5,34 +5,11 @@ use Rattle.std.specs.Prelude.{Contains, get_or}
 use Rattle.al_types.specs.Types.{Type', Any, Null, Number, Bool', String, ArrayOf, ObjectOf, Parts, assignable_type, fuse_type, is_array, object_type}
 use Rattle.al_types.specs.Fused.{fuse_parts, fused}
 use Rattle.al_types.proofs.FuseLaws.{fused_both, fused_one_more, optional_same, optional_turned, parts_assoc}
-use Rattle.al_expr_types.specs.Types.{arrays_of, base_type, fuse_scalars, is_any, scalar_type}
+use Rattle.al_expr_types.specs.Types.{arrays_of, base_type, is_any, scalar_type}
 use Rattle.al_expr_types.specs.declared.ty.Scalar.{Scalar}
 use Rattle.al_expr_types.specs.declared.ty.Scalar.TheVariants as scalar
 use Rattle.al_expr_types.specs.declared.ty.Base.{Base}
 use Rattle.al_expr_types.specs.declared.ty.Base.TheVariants as base
-
-pub scalar_fused : (a b : Scalar) → fuse_type (scalar_type a) (scalar_type b) ≡ scalar_type (fuse_scalars a b)
-scalar_fused scalar.Any b = refl
-scalar_fused scalar.Null scalar.Any = refl
-scalar_fused scalar.Null scalar.Null = refl
-scalar_fused scalar.Null scalar.Number = refl
-scalar_fused scalar.Null scalar.Bool = refl
-scalar_fused scalar.Null scalar.String = refl
-scalar_fused scalar.Number scalar.Any = refl
-scalar_fused scalar.Number scalar.Null = refl
-scalar_fused scalar.Number scalar.Number = refl
-scalar_fused scalar.Number scalar.Bool = refl
-scalar_fused scalar.Number scalar.String = refl
-scalar_fused scalar.Bool scalar.Any = refl
-scalar_fused scalar.Bool scalar.Null = refl
-scalar_fused scalar.Bool scalar.Number = refl
-scalar_fused scalar.Bool scalar.Bool = refl
-scalar_fused scalar.Bool scalar.String = refl
-scalar_fused scalar.String scalar.Any = refl
-scalar_fused scalar.String scalar.Null = refl
-scalar_fused scalar.String scalar.Number = refl
-scalar_fused scalar.String scalar.Bool = refl
-scalar_fused scalar.String scalar.String = refl
 
 pub scalar_object : (a : Scalar) (p : Parts) → fuse_type (scalar_type a) (object_type p) ≡ Any
 scalar_object scalar.Any p = refl

@@ -25,20 +25,6 @@ scalar_type scalar.Number = Number
 scalar_type scalar.Bool = Bool'
 scalar_type scalar.String = String
 
--- what two scalars have in common
-abbrev pub fuse_scalars : Scalar → Scalar → Scalar
-fuse_scalars scalar.Null scalar.Null = scalar.Null
-fuse_scalars scalar.Number scalar.Number = scalar.Number
-fuse_scalars scalar.Number scalar.Bool = scalar.String
-fuse_scalars scalar.Number scalar.String = scalar.String
-fuse_scalars scalar.Bool scalar.Number = scalar.String
-fuse_scalars scalar.Bool scalar.Bool = scalar.Bool
-fuse_scalars scalar.Bool scalar.String = scalar.String
-fuse_scalars scalar.String scalar.Number = scalar.String
-fuse_scalars scalar.String scalar.Bool = scalar.String
-fuse_scalars scalar.String scalar.String = scalar.String
-fuse_scalars a b = scalar.Any
-
 -- an object without fields
 abbrev pub no_parts : Parts
 no_parts = parts_with NoField Absent

@@ -1,9 +1,9 @@
 //! Types as they are passed on: numbers, which are copied.
 
 ghost use Rattle.std.specs.Prelude.{◌≡◌, List, MatchOption, false, nat_lt, ℕ};
-ghost use Rattle.al_types.specs.Types.{ArrayOf, Parts, assignable_type, is_array};
+ghost use Rattle.al_types.specs.Types.{ArrayOf, Parts, assignable_type, fuse_type, is_array};
 ghost use Rattle.al_types.specs.TypeParts.{form_of};
-ghost use Rattle.al_expr_types.specs.Types.{base_type, fuse_scalars, is_any, is_below, scalar_type, type_in};
+ghost use Rattle.al_expr_types.specs.Types.{base_type, is_any, is_below, scalar_type, type_in};
 ghost use Rattle.al_expr_types.specs.declared.ty.Base.TheVariants as base;
 
 use al_types::Form;
@@ -36,7 +36,7 @@ pub struct Ty {
 impl Scalar {
     /// What two have in common.
     pub fn fuse(self, other: Scalar) -> Scalar
-        ensures { result ≡ fuse_scalars self other }
+        ensures { scalar_type result ≡ fuse_type (scalar_type self) (scalar_type other) }
     {
         match self {
             Scalar::Any => Scalar::Any,

@@ -1,5 +1,4 @@
 pub mod FuseLaws
-pub mod FusedForms
 pub mod JoinedFields
 pub mod StringFields
 pub mod FieldsByName

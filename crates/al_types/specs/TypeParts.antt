@@ -13,20 +13,6 @@ form_of String = form.String
 form_of (ArrayOf a) = form.Array
 form_of (ObjectOf at rest all) = form.Object
 
--- `fuse_type` of a scalar with a type of this form
-abbrev pub fuse_with_form : Form → Form → Type'
-fuse_with_form form.Null form.Null = Null
-fuse_with_form form.Number form.Number = Number
-fuse_with_form form.Number form.Bool = String
-fuse_with_form form.Number form.String = String
-fuse_with_form form.Bool form.Bool = Bool'
-fuse_with_form form.Bool form.Number = String
-fuse_with_form form.Bool form.String = String
-fuse_with_form form.String form.String = String
-fuse_with_form form.String form.Number = String
-fuse_with_form form.String form.Bool = String
-fuse_with_form _ _ = Any
-
 -- what two types have in common, where both are there
 abbrev pub common_type : Option Type' → Option Type' → Option Type'
 common_type None o = o

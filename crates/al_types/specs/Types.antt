@@ -1,5 +1,5 @@
 -- The types of expressions: which may stand where another is wanted, and what two have in common.
-use Rattle.std.specs.Prelude.{ℕ, List, [], ◌∷◌, Bool, true, false, ◌||◌, if◌then◌else◌, Option, Some, None}
+use Rattle.std.specs.Prelude.{ℕ, List, [], ◌∷◌, Bool, true, false, ◌&&◌, ◌||◌, not, if◌then◌else◌, Option, Some, None}
 use Rattle.al_base.specs.Names.{same_name}
 
 mutual
@@ -26,45 +26,48 @@ abbrev pub option_of : Optional → Option Type'
 option_of Absent = None
 option_of (Present t) = Some t
 
+abbrev pub is_array : Type' → Bool
+is_array (ArrayOf a) = true
+is_array _ = false
+
+abbrev pub is_object : Type' → Bool
+is_object (ObjectOf at rest all) = true
+is_object _ = false
+
+abbrev pub is_collection : Type' → Bool
+is_collection t = is_array t || is_object t
+
+-- number, bool or string
+abbrev pub is_plain : Type' → Bool
+is_plain Number = true
+is_plain Bool' = true
+is_plain String = true
+is_plain _ = false
+
 -- Whether a value of the one type may stand where the other is wanted.
 abbrev pub assignable_type : Type' → Type' → Bool
 assignable_type Any to = true
 assignable_type from Any = true
+assignable_type from String = not (is_collection from)
 assignable_type Null Null = true
-assignable_type Null String = true
 assignable_type Number Number = true
-assignable_type Number String = true
 assignable_type Bool' Bool' = true
-assignable_type Bool' String = true
-assignable_type String String = true
 assignable_type (ArrayOf a) (ArrayOf b) = assignable_type a b
 assignable_type (ObjectOf at rest all) (ObjectOf bt other both) = true
 assignable_type from to = false
 
--- What two types have in common: any with any or null, a string for two other scalars, the elements' for arrays, all
--- fields of both for objects, those of one name fused.
+-- What two types have in common: each what it has with itself, a string for two other plain types, the elements' for arrays, all fields of
+-- both for objects, those of one name fused, else any.
 abbrev mutual
   pub fuse_type : Type' → Type' → Type'
   fuse_type Any b = Any
   fuse_type Null Null = Null
-  fuse_type Null b = Any
   fuse_type Number Number = Number
-  fuse_type Number Bool' = String
-  fuse_type Number String = String
-  fuse_type Number b = Any
   fuse_type Bool' Bool' = Bool'
-  fuse_type Bool' Number = String
-  fuse_type Bool' String = String
-  fuse_type Bool' b = Any
-  fuse_type String String = String
-  fuse_type String Number = String
-  fuse_type String Bool' = String
-  fuse_type String b = Any
   fuse_type (ArrayOf a) (ArrayOf b) = ArrayOf (fuse_type a b)
-  fuse_type (ArrayOf a) b = Any
   fuse_type (ObjectOf at rest all) (ObjectOf bt other both) =
       ObjectOf (λ n. fuse_optional (at n) (bt n)) (fuse_optional rest other) (fuse_optional all both)
-  fuse_type (ObjectOf at rest all) b = Any
+  fuse_type a b = if is_plain a && is_plain b then String else Any
 
   pub fuse_optional : Optional → Optional → Optional
   fuse_optional Absent o = o
@@ -123,21 +126,3 @@ or_else (Present t) o = Present t
 abbrev pub property_in : List ℕ → Type' → Option Type'
 property_in n (ObjectOf at rest all) = option_of (or_else (at n) rest)
 property_in n _ = None
-
-abbrev pub is_array : Type' → Bool
-is_array (ArrayOf a) = true
-is_array _ = false
-
-abbrev pub is_object : Type' → Bool
-is_object (ObjectOf at rest all) = true
-is_object _ = false
-
-abbrev pub is_collection : Type' → Bool
-is_collection t = is_array t || is_object t
-
--- number, bool or string
-abbrev pub is_plain : Type' → Bool
-is_plain Number = true
-is_plain Bool' = true
-is_plain String = true
-is_plain _ = false

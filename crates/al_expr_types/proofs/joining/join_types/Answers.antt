@@ -2,7 +2,7 @@ use Rattle.std.proofs.Common.{◌∙◌, ap, refl, sym}
 use Rattle.al_types.specs.Types.{Any, Present}
 use Rattle.al_expr_types.specs.Types.{object_in, scalar_type}
 use Rattle.al_expr_types.specs.declared.ty.Base.TheVariants as base
-use Rattle.al_expr_types.proofs.Fusing.{object_scalar, scalar_fused, scalar_object}
+use Rattle.al_expr_types.proofs.Fusing.{object_scalar, scalar_object}
 use Rattle.al_expr_types.proofs.Joins.{even, uneven}
 use Rattle.al_expr_types.proofs.joining.join_types.Goals as goal
 
@@ -13,7 +13,7 @@ returns-then-a-b-clause-ty c = λ ms.
 pub returns-in-Scalar-of-clause-ty : goal.returns-in-Scalar-of-clause-ty
 returns-in-Scalar-of-clause-ty c = λ ms.
     ap Present (even ms c.args.a c.args.b (base.Scalar c.in-Scalar.x) (base.Scalar c.in-Scalar-of.y) (scalar_type c.fuse.result) c.if-a-b.false c.in-Scalar.is
-    c.in-Scalar-of.is (scalar_fused c.in-Scalar.x c.in-Scalar-of.y ∙ ap scalar_type (sym c.fuse.ensures)))
+    c.in-Scalar-of.is (sym c.fuse.ensures))
 
 pub returns-in-Object-of-clause-ty : goal.returns-in-Object-of-clause-ty
 returns-in-Object-of-clause-ty c = λ ms.
