@@ -1,19 +1,18 @@
 -- The types of nodes that the program holds as a sequence or a mapping, and what combinations add to a matrix.
-use Rattle.std.proofs.Common.{◌≡◌, ◌<◌, ◌+◌, ℕ, List, [], ◌∷◌, ◌++◌, Option, Some, None, true, false, ap, refl, sym, drop, get_or, length, map, take, ◌∙◌}
+use Rattle.std.proofs.Common.{◌≡◌, ◌<◌, ◌+◌, ℕ, List, [], ◌∷◌, ◌++◌, Some, None, true, false, ap, refl, sym, drop, get_or, length, map, take, ◌∙◌}
 use Rattle.std.proofs.lemmas.List.{drop_more, map-append, take_more}
 use Rattle.std.specs.Prelude.{if◌then◌else◌}
 use Rattle.al_tree.specs.Keys.{key_of, key_text}
 use Rattle.al_tree.specs.Names.{is_combination_key}
 use Rattle.al_types.specs.FusedFields.{are_distinct}
 use Rattle.al_types.specs.Puts.{Typed, put, put_all, put_new}
-use Rattle.al_types.specs.Types.{Optional, Present, Type', fields_of, fuse_optional, optional, option_of}
-use Rattle.al_types.proofs.FuseLaws.{option_back}
+use Rattle.al_types.specs.Types.{Optional, Present, fields_of, fuse_optional}
 use Rattle.al_types.proofs.GatheredFields.{firsts_distinct}
 use Rattle.al_yaml_tree.specs.Node.{Entries, Node, entry, mapping, no_entries, scalar, sequence}
 use Rattle.al_yaml_tree.specs.View.{entries_of, entry_view, nodes_of, view}
 use Rattle.al_yaml_tree.specs.declared.node.Entry as code_entry
 use Rattle.al_yaml_tree.proofs.ViewLemmas.{entry_parts}
-use Rattle.al_check_contexts.specs.Matrix.{combination, entries_types, fused_with, include_all, items_type, node_type, row_field, row_type}
+use Rattle.al_check_contexts.specs.Matrix.{combination, entries_types, include_all, items_type, node_type, row_field, row_type}
 use Rattle.al_check_contexts.specs.Objects.{strictly}
 use Rattle.al_check_contexts.proofs.FieldLists.{put_together}
 
@@ -52,19 +51,13 @@ included_next g ts xs i x sofar new lt e old step =
 
 -- ---- what items have in common
 
-with_step : (o : Option Type') (t : Type') → option_of (fuse_optional (optional o) (Present t)) ≡ Some (fused_with o t)
-with_step None t = refl
-with_step (Some u) t = refl
-
 -- with one more
 pub items_next : {X : Type 0} (g : X → Node) (xs : List X) (i : ℕ) (x : X) (sofar new : Optional) → i < length xs → x ≡ get_or xs i x →
     new ≡ fuse_optional sofar (Present (node_type (g x))) →
-    items_type (option_of new) (nodes_of (map g (drop (i + 1) xs))) ≡ items_type (option_of sofar) (nodes_of (map g (drop i xs)))
+    items_type new (nodes_of (map g (drop (i + 1) xs))) ≡ items_type sofar (nodes_of (map g (drop i xs)))
 items_next g xs i x sofar new lt e step =
-    let rest = nodes_of (map g (drop (i + 1) xs)) in
-    ap (λ o. items_type (option_of o) rest) (step ∙ ap (λ o. fuse_optional o (Present (node_type (g x)))) (sym (option_back sofar)))
-    ∙ ap (λ o. items_type o rest) (with_step (option_of sofar) (node_type (g x)))
-    ∙ ap (λ ys. items_type (option_of sofar) (nodes_of (map g ys))) (ap (λ y. y ∷ drop (i + 1) xs) e ∙ sym (drop_more xs i x lt))
+    ap (λ o. items_type o (nodes_of (map g (drop (i + 1) xs)))) step
+    ∙ ap (λ ys. items_type sofar (nodes_of (map g ys))) (ap (λ y. y ∷ drop (i + 1) xs) e ∙ sym (drop_more xs i x lt))
 
 -- ---- fields of entries, with those of one more
 

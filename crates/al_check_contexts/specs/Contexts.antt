@@ -15,7 +15,7 @@ use Rattle.al_tree.specs.Values.{entries_at, items_at, text_at, texts_at}
 use Rattle.al_tree.specs.Files.{jobs_of}
 use Rattle.al_tree.specs.declared.files.FileKind.{FileKind}
 use Rattle.al_tree.specs.declared.files.FileKind.TheVariants as kind
-use Rattle.al_check_places.specs.Positions.{Position, Section, apart, in_on, in_job, Seen, no_step, before, every_step}
+use Rattle.al_check_places.specs.Positions.{Position, Section, apart, in_job, Seen, no_step, before, every_step}
 use Rattle.al_tree_declarations.specs.Declarations.{action_steps, has_value, is_composite, names_of}
 use Rattle.al_check_contexts.specs.Fixed.{github_type, runner_type, job_type, strategy_type}
 use Rattle.al_check_contexts.specs.Inputs.{workflow_inputs, action_inputs}
@@ -91,9 +91,8 @@ needs_type known root job = needs_type_of known (jobs_of root) job
 
 -- the job of a section, with its key; none where there is none
 abbrev pub job_among : List (Node × Node) → Section → Option (Node × Node)
-job_among jobs apart = None
-job_among jobs in_on = None
 job_among jobs (in_job k) = find (λ j. bytes_eq (key_of j) k) jobs
+job_among jobs _ = None
 
 abbrev pub job_in : Node → Section → Option (Node × Node)
 job_in root s = job_among (jobs_of root) s
@@ -104,36 +103,23 @@ type_in_job of job = option_map_or of job Any
 
 abbrev pub jobs_seen : Known → Node → Section → Type'
 jobs_seen known root apart = Any
-jobs_seen known root in_on = jobs_type known root
-jobs_seen known root (in_job k) = jobs_type known root
+jobs_seen known root _ = jobs_type known root
 
--- The table of a workflow's contexts, and of an action's.
-abbrev pub workflow_type : Known → Node → Position → Context → Type'
-workflow_type known root p context.Github = github_type
-workflow_type known root p context.Env = loose_strings
-workflow_type known root p context.Vars = loose_strings
-workflow_type known root p context.Secrets = loose_strings
-workflow_type known root p context.Runner = runner_type
-workflow_type known root p context.Job = job_type
-workflow_type known root p context.Strategy = type_in_job (λ j. strategy_type) (job_in root p.section)
-workflow_type known root p context.Needs = type_in_job (λ j. needs_type known root j.1) (job_in root p.section)
-workflow_type known root p context.Jobs = jobs_seen known root p.section
-workflow_type known root p context.Steps =
-    type_in_job (λ j. steps_type known (Some (key_of j)) (items_at (codes "steps") j.1) p.seen) (job_in root p.section)
-workflow_type known root p context.Matrix = type_in_job (λ j. matrix_type j.1) (job_in root p.section)
-workflow_type known root p context.Inputs = workflow_inputs root
-
-abbrev pub action_type : Known → Node → Position → Context → Type'
-action_type known root p context.Github = github_type
-action_type known root p context.Env = loose_strings
-action_type known root p context.Vars = loose_strings
-action_type known root p context.Secrets = loose_strings
-action_type known root p context.Runner = runner_type
-action_type known root p context.Job = job_type
-action_type known root p context.Steps = if is_composite root then steps_type known None (action_steps root) p.seen else Any
-action_type known root p context.Inputs = action_inputs root
-action_type known root p _ = Any
-
+-- The table of contexts. Some are the same in every file.
 abbrev pub type_at : FileKind → Known → Node → Position → Context → Type'
-type_at kind.Workflow = workflow_type
-type_at kind.Action = action_type
+type_at k known root p context.Github = github_type
+type_at k known root p context.Env = loose_strings
+type_at k known root p context.Vars = loose_strings
+type_at k known root p context.Secrets = loose_strings
+type_at k known root p context.Runner = runner_type
+type_at k known root p context.Job = job_type
+type_at kind.Workflow known root p context.Strategy = type_in_job (λ j. strategy_type) (job_in root p.section)
+type_at kind.Workflow known root p context.Needs = type_in_job (λ j. needs_type known root j.1) (job_in root p.section)
+type_at kind.Workflow known root p context.Jobs = jobs_seen known root p.section
+type_at kind.Workflow known root p context.Steps =
+    type_in_job (λ j. steps_type known (Some (key_of j)) (items_at (codes "steps") j.1) p.seen) (job_in root p.section)
+type_at kind.Workflow known root p context.Matrix = type_in_job (λ j. matrix_type j.1) (job_in root p.section)
+type_at kind.Workflow known root p context.Inputs = workflow_inputs root
+type_at kind.Action known root p context.Steps = if is_composite root then steps_type known None (action_steps root) p.seen else Any
+type_at kind.Action known root p context.Inputs = action_inputs root
+type_at kind.Action known root p _ = Any

@@ -7,7 +7,7 @@ use Rattle.al_tree.specs.Values.{items_at}
 use Rattle.al_tree.specs.Files.{jobs_of}
 use Rattle.al_tree.specs.declared.files.FileKind.{FileKind}
 use Rattle.al_tree.specs.declared.files.FileKind.TheVariants as kind
-use Rattle.al_check_places.specs.Positions.{Section, apart, in_on, in_job, Seen}
+use Rattle.al_check_places.specs.Positions.{Section, apart, Seen}
 use Rattle.al_check_contexts.specs.Contexts.{Known, job_in, jobs_type_of, needs_type, steps_type, type_in_job}
 use Rattle.al_tree_declarations.specs.Declarations.{action_steps, is_composite}
 use Rattle.al_check_contexts.specs.Fixed.{strategy_type}
@@ -23,13 +23,11 @@ owner_of j = (Some (key_of j), items_at (codes "steps") j.1)
 
 abbrev pub shows_jobs : Section → Bool
 shows_jobs apart = false
-shows_jobs in_on = true
-shows_jobs (in_job k) = true
+shows_jobs _ = true
 
 abbrev pub jobs_shown : Known → List (Node × Node) → Section → Type'
 jobs_shown known jobs apart = Any
-jobs_shown known jobs in_on = jobs_type_of known jobs
-jobs_shown known jobs (in_job k) = jobs_type_of known jobs
+jobs_shown known jobs _ = jobs_type_of known jobs
 
 abbrev pub owner_in : FileKind → Node → Section → Option Owner
 owner_in kind.Workflow root s = option_map owner_of (job_in root s)

@@ -7,7 +7,8 @@ use Rattle.al_scalar.specs.declared.styles.Class.{Class}
 use Rattle.al_scalar.specs.declared.styles.Class.TheVariants as class
 use Rattle.al_rules_formats.specs.Chunks.{is_lone_chunk}
 use Rattle.al_rules_formats.specs.declared.chunks.Around.TheVariants.{Nothing}
-use Rattle.al_types.specs.Types.{Type', Any, Null, Number, Bool', String, ArrayOf, fuse_type, or_any}
+use Rattle.al_types.specs.Types.{Type', Any, Null, Number, Bool', String, ArrayOf, Optional, Absent, Present}
+use Rattle.al_types.specs.Types.{fuse_optional, option_of, or_any}
 use Rattle.al_yaml_tree.specs.Node.{Node, Nodes, Entries, scalar, sequence, mapping, no_nodes, item, no_entries, entry}
 use Rattle.al_tree.specs.Faults.{has_chunk}
 use Rattle.al_tree.specs.Keys.{key_of, key_text}
@@ -27,21 +28,17 @@ class_type class.Str = String
 abbrev pub scalar_type : Scalar → Type'
 scalar_type s = if has_chunk (text_of s) then (if is_lone_chunk Nothing (text_of s) then Any else String) else class_type s.class
 
-abbrev pub fused_with : Option Type' → Type' → Type'
-fused_with None t = t
-fused_with (Some u) t = fuse_type u t
-
 -- The type of a value: of a list an array of what its items have in common, of a mapping a strict object, of equal names the first.
 abbrev mutual
   pub node_type : Node → Type'
   node_type (scalar s at) = scalar_type s
-  node_type (sequence ns at) = ArrayOf (or_any (items_type None ns))
+  node_type (sequence ns at) = ArrayOf (or_any (option_of (items_type Absent ns)))
   node_type (mapping es at) = strictly (entries_types [] es)
 
   -- what some types and those of these items have in common
-  pub items_type : Option Type' → Nodes → Option Type'
+  pub items_type : Optional → Nodes → Optional
   items_type sofar no_nodes = sofar
-  items_type sofar (item n ns) = items_type (Some (fused_with sofar (node_type n))) ns
+  items_type sofar (item n ns) = items_type (fuse_optional sofar (Present (node_type n))) ns
 
   -- fields, and those of these entries
   pub entries_types : List Typed → Entries → List Typed
@@ -50,9 +47,8 @@ abbrev mutual
 
 -- of a row: what its entries have in common
 abbrev pub row_type : Node → Type'
-row_type (sequence ns at) = or_any (items_type None ns)
-row_type (scalar s at) = Any
-row_type (mapping es at) = Any
+row_type (sequence ns at) = or_any (option_of (items_type Absent ns))
+row_type _ = Any
 
 -- the rows of a matrix, of which each has a name
 abbrev pub row_field : Node × Node → Option Typed
@@ -64,8 +60,7 @@ rows_of n = firsts (filter_map row_field (entries_in n))
 -- the entries of one combination
 abbrev pub combination : Node → List Typed
 combination (mapping es at) = entries_types [] es
-combination (scalar s at) = []
-combination (sequence ns at) = []
+combination _ = []
 
 abbrev pub include_all : List Typed → List Node → List Typed
 include_all ts [] = ts
@@ -73,8 +68,7 @@ include_all ts (n ∷ ns) = include_all (put_all put ts (combination n)) ns
 
 abbrev pub is_scalar : Node → Bool
 is_scalar (scalar s at) = true
-is_scalar (sequence ns at) = false
-is_scalar (mapping es at) = false
+is_scalar _ = false
 
 -- an `include` that isn't known before the workflow runs
 abbrev pub is_open_include : Node → Bool

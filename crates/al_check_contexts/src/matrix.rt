@@ -1,5 +1,5 @@
 //! The type of `matrix`.
-ghost use Rattle.std.specs.Prelude.{◌≡◌, [], codes, map, option_map, IfOk, List, OnOk, None, true};
+ghost use Rattle.std.specs.Prelude.{◌≡◌, [], codes, map, option_map, IfOk, List, OnOk, true};
 ghost use Rattle.std.specs.List.{list_any};
 ghost use Rattle.std.specs.Option.{option_to_list};
 ghost use Rattle.al_base.specs.Growth.{BeginsWith};
@@ -11,7 +11,7 @@ ghost use Rattle.al_expr_types.specs.Tables.{is_known, objects_of};
 ghost use Rattle.al_expr_types.specs.declared.types.Types as declared;
 ghost use Rattle.al_tree.specs.Values.{member_of, value_at};
 ghost use Rattle.al_types.specs.Puts.{Typed, put_all, put_new};
-ghost use Rattle.al_types.specs.Types.{ArrayOf, Type', or_any};
+ghost use Rattle.al_types.specs.Types.{Absent, ArrayOf, Type', option_of, or_any};
 ghost use Rattle.al_yaml_tree.specs.View.{entries_of, entry_view, nodes_of, view};
 
 use crate::field_lists::FieldList;
@@ -82,7 +82,8 @@ fn node_type<'a>(alloc: Global, types: &mut Types<'a>, node: &'a Node) -> Result
 #[cycle(values)]
 fn items_type<'a>(alloc: Global, types: &mut Types<'a>, nodes: &'a [Node]) -> Result<Ty, AllocError>
     ensures ty { IfOk result
-        (λ t. Means types.new t (or_any (items_type None (nodes_of (map view nodes.entry.now))))) }
+        (λ t. Means types.new t
+        (or_any (option_of (items_type Absent (nodes_of (map view nodes.entry.now)))))) }
     ensures kept { OnOk result (BeginsWith (objects_of types.new) (objects_of types.old)) }
 {
     let mut all = Join::Nothing;

@@ -1,6 +1,6 @@
-use Rattle.std.proofs.Common.{◌≡◌, [], drop, length, map, None, true}
+use Rattle.std.proofs.Common.{◌≡◌, [], drop, length, map, true}
 use Rattle.al_base.specs.Growth.{BeginsWith}
-use Rattle.al_types.specs.Types.{option_of}
+use Rattle.al_types.specs.Types.{Absent}
 use Rattle.al_yaml_tree.specs.View.{entries_of, entry_view, nodes_of, view}
 use Rattle.al_expr_types.specs.Joining.{is_join_below, join_in}
 use Rattle.al_expr_types.specs.Tables.{objects_of}
@@ -10,8 +10,8 @@ use Rattle.al_check_contexts.proofs.matrix.+values.Given as goal
 
 abbrev pub invariant-items_type-loop-node : goal.invariant-items_type-loop-node
 invariant-items_type-loop-node l = record {
-  all : items_type (option_of (join_in (objects_of l.types) l.all)) (nodes_of (map view (drop l.node-index l.nodes)))
-      ≡ items_type None (nodes_of (map view l.nodes));
+  all : items_type (join_in (objects_of l.types) l.all) (nodes_of (map view (drop l.node-index l.nodes)))
+      ≡ items_type Absent (nodes_of (map view l.nodes));
   below : is_join_below (length l.types.objects.items) l.all ≡ true;
   kept : BeginsWith (objects_of l.types) (objects_of l.fn.types);
 }
