@@ -19,9 +19,9 @@ use crate::fixed::strategy;
 use crate::job_lists::JobList;
 use crate::jobs::JobTypes;
 use crate::known::{Answers, Outputs};
-use crate::scopes::{context_set, function_set};
+use crate::scopes::{available, available_at};
 use crate::sections::{owned_steps, section_steps, section_types};
-use crate::start::{NO_CONTEXTS, NO_FUNCTIONS, first_owner, first_types};
+use crate::start::{first_owner, first_types};
 use crate::steps::StepFields;
 use al_check_places::{Place, Position, Section, Seen};
 use al_expr_types::{Ty, Types};
@@ -219,8 +219,7 @@ impl<'a> Env<'a> {
             types,
             scope: Scope {
                 types: contexts,
-                contexts: NO_CONTEXTS,
-                functions: NO_FUNCTIONS,
+                available: available(&[], &[]),
                 in_run: false,
             },
         })
@@ -246,8 +245,7 @@ impl<'a> Env<'a> {
             (BeginsWith (objects_of (self.new).types) (objects_of (self.old).types)) }
     {
         go(alloc, file, self, place.position)?;
-        self.scope.contexts = context_set(file.kind, place.available);
-        self.scope.functions = function_set(file.kind, place.available, place.is_condition);
+        self.scope.available = available_at(file.kind, place.available, place.is_condition);
         self.scope.in_run = place.is_script;
         Ok(())
     }

@@ -1,15 +1,38 @@
 //! What a place makes available, as the sets of a scope.
 ghost use Rattle.std.specs.Prelude.{◌≡◌, option_map};
 ghost use Rattle.al_check_contexts.specs.Scopes as scopes;
-ghost use Rattle.al_check_contexts.specs.Scopes.{is_context_at, is_function_at, lists_function};
 ghost use Rattle.al_check_places.specs.Availability.{row_of};
-ghost use Rattle.al_types.specs.Scopes.{is_allowed, is_available};
+ghost use Rattle.al_types.specs.Scopes.{available_of, is_allowed, is_available};
 ghost use Rattle.al_types.specs.declared.names.Context as context_names;
 ghost use Rattle.al_types.specs.declared.names.Function as function_names;
 
 use al_check_places::Row;
 use al_tree::FileKind;
-use al_types::{Context, ContextSet, Function, FunctionSet};
+use al_types::{Available, CONTEXTS, Context, ContextSet, Function, FunctionSet};
+
+/// The contexts of an action: all but `secrets`.
+const OF_ACTION: &[Context] = &[
+    Context::Github,
+    Context::Env,
+    Context::Vars,
+    Context::Runner,
+    Context::Job,
+    Context::Strategy,
+    Context::Needs,
+    Context::Jobs,
+    Context::Steps,
+    Context::Matrix,
+    Context::Inputs,
+];
+
+/// The special functions of an action's conditions: all.
+const OF_CONDITION: &[Function] = &[
+    Function::HashFiles,
+    Function::Always,
+    Function::Cancelled,
+    Function::Success,
+    Function::Failure,
+];
 
 /// Whether a context is one of some.
 fn has_context(contexts: &[Context], context: Context) -> bool
@@ -36,7 +59,7 @@ fn has_function(functions: &[Function], function: Function) -> bool
 }
 
 /// The set of some contexts.
-fn set_of(contexts: &[Context]) -> ContextSet
+fn context_set(contexts: &[Context]) -> ContextSet
     ensures { (c : context_names.Context) → is_available result c
         ≡ scopes.has_context contexts.now c }
 {
@@ -56,98 +79,49 @@ fn set_of(contexts: &[Context]) -> ContextSet
     }
 }
 
-/// All contexts, or all but `secrets`.
-fn all_contexts(has_secrets: bool) -> ContextSet
-    ensures { (c : context_names.Context) → is_available result c
-        ≡ scopes.is_among_all has_secrets c }
-{
-    ContextSet {
-        github: true,
-        env: true,
-        vars: true,
-        secrets: has_secrets,
-        runner: true,
-        job: true,
-        strategy: true,
-        needs: true,
-        jobs: true,
-        steps: true,
-        matrix: true,
-        inputs: true,
-    }
-}
-
-/// The contexts of a place in a workflow; without a row all.
-fn workflow_contexts(row: Option<&'static Row>) -> ContextSet
-    ensures { (c : context_names.Context) → is_available result c
-        ≡ scopes.is_in_row (option_map (λ r. row_of r.now) row.entry) c }
-{
-    match row {
-        Some(row) => set_of(row.contexts),
-        None => all_contexts(true),
-    }
-}
-
-/// The contexts of a place with a row of the table.
-pub(crate) fn context_set(kind: FileKind, row: Option<&'static Row>) -> ContextSet
-    ensures { (c : context_names.Context) → is_available result c
-        ≡ is_context_at kind (option_map (λ r. row_of r.now) row.entry) c }
-{
-    match kind {
-        FileKind::Workflow => workflow_contexts(row),
-        FileKind::Action => all_contexts(false),
-    }
-}
-
-/// Whether a row lists a function.
-fn lists(row: Option<&'static Row>, function: Function) -> bool
-    ensures { result ≡ lists_function (option_map (λ r. row_of r.now) row.entry) function }
-{
-    match row {
-        Some(row) => has_function(row.special, function),
-        None => false,
-    }
-}
-
-/// The special functions of a place in a workflow.
-fn workflow_functions(row: Option<&'static Row>) -> FunctionSet
-    ensures { (f : function_names.Function) → is_allowed result f
-        ≡ scopes.is_function_in_row (option_map (λ r. row_of r.now) row.entry) f }
+/// The set of some special functions.
+fn function_set(special: &[Function]) -> FunctionSet
+    ensures { (f : function_names.Function) → is_allowed result f ≡ scopes.can_call special.now f }
 {
     FunctionSet {
-        hash_files: lists(row, Function::HashFiles),
-        success: lists(row, Function::Success),
-        always: lists(row, Function::Always),
-        cancelled: lists(row, Function::Cancelled),
-        failure: lists(row, Function::Failure),
+        hash_files: has_function(special, Function::HashFiles),
+        success: has_function(special, Function::Success),
+        always: has_function(special, Function::Always),
+        cancelled: has_function(special, Function::Cancelled),
+        failure: has_function(special, Function::Failure),
     }
 }
 
-/// The special functions of a place in an action.
-fn action_functions(is_condition: bool) -> FunctionSet
-    ensures { (f : function_names.Function) → is_allowed result f
-        ≡ scopes.is_function_in_action is_condition f }
+/// Some contexts and special functions.
+pub(crate) fn available(contexts: &[Context], special: &[Function]) -> Available
+    ensures { available_of result ≡ scopes.available contexts.now special.now }
 {
-    FunctionSet {
-        hash_files: true,
-        success: is_condition,
-        always: is_condition,
-        cancelled: is_condition,
-        failure: is_condition,
+    Available {
+        contexts: context_set(contexts),
+        functions: function_set(special),
     }
 }
 
-/// The special functions of a place with a row of the table.
-pub(crate) fn function_set(
+/// What a place with a row of the table makes available.
+pub(crate) fn available_at(
     kind: FileKind,
     row: Option<&'static Row>,
     is_condition: bool,
-) -> FunctionSet
-    ensures { (f : function_names.Function) → is_allowed result f
-        ≡ is_function_at kind (option_map (λ r. row_of r.now) row.entry) is_condition f }
+) -> Available
+    ensures { available_of result
+        ≡ scopes.available_at kind (option_map (λ r. row_of r.now) row.entry) is_condition }
 {
     match kind {
-        FileKind::Workflow => workflow_functions(row),
-        FileKind::Action => action_functions(is_condition),
+        FileKind::Workflow => match row {
+            Some(row) => available(row.contexts, row.special),
+            None => available(&CONTEXTS, &[]),
+        },
+        FileKind::Action => {
+            if is_condition {
+                available(OF_ACTION, OF_CONDITION)
+            } else {
+                available(OF_ACTION, &[Function::HashFiles])
+            }
+        }
     }
 }

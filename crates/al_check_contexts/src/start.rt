@@ -20,32 +20,8 @@ use al_expr_types::{Ty, Types};
 use al_expr_typing::ContextTypes;
 use al_tree::FileKind;
 use al_tree_declarations::{action_steps, is_composite};
-use al_types::{ContextSet, FunctionSet};
 use al_yaml_tree::Node;
 use std::alloc::{AllocError, Global};
-
-pub(crate) const NO_CONTEXTS: ContextSet = ContextSet {
-    github: false,
-    env: false,
-    vars: false,
-    secrets: false,
-    runner: false,
-    job: false,
-    strategy: false,
-    needs: false,
-    jobs: false,
-    steps: false,
-    matrix: false,
-    inputs: false,
-};
-
-pub(crate) const NO_FUNCTIONS: FunctionSet = FunctionSet {
-    hash_files: false,
-    success: false,
-    always: false,
-    cancelled: false,
-    failure: false,
-};
 
 /// Whose steps are seen at the start of a file: those of a composite action, and of a workflow nobody's.
 pub(crate) fn first_owner(kind: FileKind, root: &Node) -> Option<Owner<'_>>

@@ -13,7 +13,7 @@ use Rattle.al_check_places.specs.declared.table.Key.TheVariants.{Named, Id}
 use Rattle.al_check_places.specs.declared.table.Row as rust
 
 -- a path of keys, where None stands for any key, with the contexts and special functions there
-pub record Available : Type 0 where
+pub record Row : Type 0 where
   pub path : List (Option (List ℕ))
   pub contexts : List Context
   pub special : List Function
@@ -36,16 +36,16 @@ of_job = of_strategy ++ Job ∷ Runner ∷ Env ∷ []
 abbrev pub status : List Function
 status = Always ∷ Cancelled ∷ Success ∷ Failure ∷ []
 
-abbrev pub row : List (Option (List ℕ)) → List Context → List Function → Available
+abbrev pub row : List (Option (List ℕ)) → List Context → List Function → Row
 row path contexts special = record { path = path; contexts = contexts; special = special }
 
-abbrev pub job_row : List (Option (List ℕ)) → List Context → List Function → Available
+abbrev pub job_row : List (Option (List ℕ)) → List Context → List Function → Row
 job_row path = row (key (codes "jobs") ∷ any ∷ path)
 
-abbrev pub step_row : List ℕ → List Context → List Function → Available
+abbrev pub step_row : List ℕ → List Context → List Function → Row
 step_row k = job_row (key (codes "steps") ∷ key k ∷ [])
 
-abbrev pub table : List Available
+abbrev pub table : List Row
 table =
     row (key (codes "run-name") ∷ []) (Github ∷ Inputs ∷ Vars ∷ []) []
     ∷ row (key (codes "concurrency") ∷ []) (Github ∷ Inputs ∷ Vars ∷ []) []
@@ -96,17 +96,17 @@ begins (p ∷ ps) [] = false
 begins (p ∷ ps) (k ∷ ks) = fits p k && begins ps ks
 
 -- the longer of two
-abbrev pub longer : Option Available → Available → Option Available
+abbrev pub longer : Option Row → Row → Option Row
 longer None r = Some r
 longer (Some q) r = if nat_lt (length q.path) (length r.path) then Some r else Some q
 
 -- the longest of the rows whose path begins the keys
-abbrev pub longest : List Available → List (List ℕ) → Option Available → Option Available
+abbrev pub longest : List Row → List (List ℕ) → Option Row → Option Row
 longest [] ks best = best
 longest (r ∷ rs) ks best = longest rs ks (if begins r.path ks then longer best r else best)
 
 -- None where everything is available
-abbrev pub availability : List (List ℕ) → Option Available
+abbrev pub availability : List (List ℕ) → Option Row
 availability ks = longest table ks None
 
 -- what the program's rows stand for
@@ -114,5 +114,5 @@ abbrev pub key_of : Key → Option (List ℕ)
 key_of Id = None
 key_of (Named k) = Some k.now
 
-abbrev pub row_of : rust.Row → Available
+abbrev pub row_of : rust.Row → Row
 row_of r = record { path = map key_of r.path.now; contexts = r.contexts.now; special = r.special.now }

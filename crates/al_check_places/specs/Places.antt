@@ -17,7 +17,7 @@ use Rattle.al_tree.specs.declared.table.ScalarSet.TheVariants.{AnyScalar}
 use Rattle.al_tree.specs.Files.{shape_of}
 use Rattle.al_tree.specs.declared.files.FileKind.{FileKind}
 use Rattle.al_tree.specs.declared.files.FileKind.TheVariants as kind
-use Rattle.al_check_places.specs.Availability.{Available, availability, row_of}
+use Rattle.al_check_places.specs.Availability.{Row, availability, row_of}
 use Rattle.al_check_places.specs.Ways.{WayStep, under, nth, keys_of, is_checked, is_one, conditions, scripts}
 use Rattle.al_check_places.specs.Positions.{Position, position_of, position_view}
 use Rattle.al_check_places.specs.declared.walk.Place as rust
@@ -28,7 +28,7 @@ pub record Place : Type 0 where
   pub word : Scalar
   pub at : Span
   pub is_scalar_only : Bool
-  pub available : Option Available
+  pub available : Option Row
   pub is_condition : Bool
   pub is_script : Bool
   pub position : Position
@@ -46,7 +46,7 @@ has_no_keys (keys o fs) = false
 abbrev pub takes_scalars_only : Rule → Bool
 takes_scalars_only r = option_map_or (λ s. false) r.items (has_no_keys r.keys_of)
 
-abbrev pub available_at : FileKind → List WayStep → Option Available
+abbrev pub available_at : FileKind → List WayStep → Option Row
 available_at kind.Workflow way = availability (keys_of way)
 available_at kind.Action way = None
 

@@ -9,8 +9,8 @@ pub use al_expr_grammar::{
 };
 pub use al_expr_trees::{ContextTypes, Field, Scope, Ty, assignable, fuse, type_of};
 pub use al_types::{
-    Context, ContextSet, Form, Function, FunctionSet, Parameters, Returned, Signature, Wanted,
-    signature_of,
+    Available, Context, ContextSet, Form, Function, FunctionSet, Parameters, Returned, Signature,
+    Wanted, signature_of,
 };
 
 #[cfg(test)]

@@ -1,8 +1,8 @@
 //! Tests of types and of the faults of meaning, by worked rows.
 
 use crate::{
-    ContextSet, ContextTypes, Field, Form, FunctionSet, Scope, Ty, assignable, fuse, parse_expr,
-    signature_of, type_of,
+    Available, ContextSet, ContextTypes, Field, Form, FunctionSet, Scope, Ty, assignable, fuse,
+    parse_expr, signature_of, type_of,
 };
 use al_base::{Code, ExpressionCode, Fault};
 use std::alloc::{AllocError, Global};
@@ -36,26 +36,28 @@ fn step_run(alloc: Global) -> Result<Scope, AllocError> {
             matrix: Ty::Any,
             inputs: Ty::Any,
         },
-        contexts: ContextSet {
-            github: true,
-            env: true,
-            vars: true,
-            secrets: false,
-            runner: true,
-            job: true,
-            strategy: true,
-            needs: true,
-            jobs: true,
-            steps: true,
-            matrix: true,
-            inputs: true,
-        },
-        functions: FunctionSet {
-            hash_files: true,
-            success: false,
-            always: false,
-            cancelled: false,
-            failure: false,
+        available: Available {
+            contexts: ContextSet {
+                github: true,
+                env: true,
+                vars: true,
+                secrets: false,
+                runner: true,
+                job: true,
+                strategy: true,
+                needs: true,
+                jobs: true,
+                steps: true,
+                matrix: true,
+                inputs: true,
+            },
+            functions: FunctionSet {
+                hash_files: true,
+                success: false,
+                always: false,
+                cancelled: false,
+                failure: false,
+            },
         },
         in_run: true,
     })

@@ -1,6 +1,6 @@
 -- What a place makes available, by trees.
 use Rattle.std.specs.Prelude.{◌≡◌, true}
-use Rattle.al_types.specs.Scopes.{Scope, is_allowed, is_available}
+use Rattle.al_types.specs.Scopes.{Scope, available_of}
 use Rattle.al_types.specs.Types.{Type'}
 use Rattle.al_types.specs.declared.names.Context.{Context}
 use Rattle.al_types.specs.declared.names.Context.TheVariants as context
@@ -28,7 +28,7 @@ type_of_context ts context.Inputs = ty_of ts.inputs
 
 abbrev pub scope_of : code.Scope → Scope
 scope_of s =
-    record { types = type_of_context s.types; available = is_available s.contexts; allowed = is_allowed s.functions; in_run = s.in_run }
+    record { types = type_of_context s.types; available = available_of s.available; in_run = s.in_run }
 
 -- numbers that stand for the types of the contexts
 pub record AreAt (types : Types) (ns : numbers.ContextTypes) (ts : ContextTypes) : Type 0 where

@@ -189,8 +189,7 @@ pub(crate) fn add_scope<'a>(
     let contexts = add_contexts(alloc, types, &scope.types)?;
     Ok(al_expr_typing::Scope {
         types: contexts,
-        contexts: scope.contexts,
-        functions: scope.functions,
+        available: scope.available,
         in_run: scope.in_run,
     })
 }

@@ -1,14 +1,13 @@
 //! What an expression can name at its place, its types as trees.
 
 use crate::trees::Ty;
-use al_types::{ContextSet, FunctionSet};
+use al_types::Available;
 
 /// What an expression can refer to at its place in a workflow or an action.
 #[derive(Drop)]
 pub struct Scope {
     pub types: ContextTypes,
-    pub contexts: ContextSet,
-    pub functions: FunctionSet,
+    pub available: Available,
     /// Whether the place is a step's `run`, where text from outside would become part of a script.
     pub in_run: bool,
 }

@@ -1,5 +1,5 @@
 -- Each fault of a meaning lies in the content that its tree lies in.
-use Rattle.std.proofs.Common.{◌≤◌, ◌+◌, ℕ, List, [], ◌∷◌, ◌++◌, length, arith, Bool, true, false, cond, ◌||◌, ◌&&◌, not, Option, Some, None}
+use Rattle.std.proofs.Common.{◌≤◌, ◌+◌, ℕ, List, [], ◌∷◌, ◌++◌, length, drop, arith, Bool, true, false, cond, ◌||◌, ◌&&◌, not, Option, Some, None}
 use Rattle.std.specs.List.{AllByRecursion}
 use Rattle.std.specs.Fmt.{decimal}
 use Rattle.al_base.specs.Spans.{LiesIn}
@@ -24,10 +24,10 @@ use Rattle.al_types.specs.declared.names.Function.TheVariants.{Format}
 use Rattle.al_types.specs.declared.signatures.Parameters.{Parameters}
 use Rattle.al_expr_typing.specs.Comparison.{comparable_types}
 use Rattle.al_expr_typing.specs.Literals.{literal_text}
-use Rattle.al_expr_typing.specs.Meaning.{AllTyped, all_typed, Typed, typed, all_of, and_then, argument_faults, array_of, base_name, before}
-use Rattle.al_expr_typing.specs.Meaning.{begins_logic, behind, called, called_with, chained, element_at, faults_in, format_faults, format_text}
+use Rattle.al_expr_typing.specs.Meaning.{AllTyped, all_typed, Typed, typed, all_of, and_then, argument_faults, array_of, before}
+use Rattle.al_expr_typing.specs.Meaning.{begins_logic, behind, called, called_with, chained, faults_in, format_faults, format_text}
 use Rattle.al_expr_typing.specs.Meaning.{give, index_of, indexed, is_logic, is_test, meaning, meanings, named, operated, or_fault, parts_of}
-use Rattle.al_expr_typing.specs.Meaning.{placeholder_faults, property_of, rest_of, typed_then, untrusted, untrusted_fault, untrusted_from}
+use Rattle.al_expr_typing.specs.Meaning.{placeholder_faults, property_of, typed_then, untrusted, untrusted_fault}
 use Rattle.al_expr_typing.specs.Meaning.{unused, walked, wrong_arguments}
 use Rattle.al_expr_typing.specs.Placeholders.{used_arguments}
 use Rattle.al_expr_typing.specs.Untrusted.{chain_among, untrusted_chains}
@@ -73,7 +73,7 @@ module _ (size : ℕ) where
 
   named_lies : (sc : Scope) (b : List ℕ) (s : Span) (o : Option Context) → LiesIn size s → TypedLies (named sc b s o)
   named_lies sc b s None i = (i, tt)
-  named_lies sc b s (Some c) i = if_typed (sc.available c) (typed (sc.types c) []) (typed Any (fault code.UnavailableContext s (b ∷ []) ∷ [])) tt (i, tt)
+  named_lies sc b s (Some c) i = if_typed (sc.available.contexts c) (typed (sc.types c) []) (typed Any (fault code.UnavailableContext s (b ∷ []) ∷ [])) tt (i, tt)
 
   array_lies : (x : Typed) → TypedLies x → TypedLies (array_of x)
   array_lies (typed t fs) a = a
@@ -94,15 +94,11 @@ module _ (size : ℕ) where
   all_lies whole (ObjectOf fields rest all) j = tt
   all_lies whole _ j = (j, tt)
 
-  element_lies : (whole : Span) (t i : Type') → LiesIn size whole → TypedLies (element_at whole t i)
-  element_lies whole t Any j = tt
-  element_lies whole t Number j = tt
-  element_lies whole t _ j = (j, tt)
-
   index_lies : (whole : Span) (u i : Type') → LiesIn size whole → TypedLies (index_of whole u i)
   index_lies whole Any i j = tt
   index_lies whole (ObjectOf fields rest all) i j = tt
-  index_lies whole (ArrayOf t) i j = element_lies whole t i j
+  index_lies whole (ArrayOf t) Any j = tt
+  index_lies whole (ArrayOf t) Number j = tt
   index_lies whole _ i j = (j, tt)
 
   indexed_lies : (o : Option (List ℕ × Span)) (whole : Span) (u : Type') (i : Typed) → LiteralLies o → LiesIn size whole → TypedLies i → TypedLies (indexed o whole u i)
@@ -130,13 +126,9 @@ module _ (size : ℕ) where
   chain_lies whole None i = tt
   chain_lies whole (Some c) i = (i, tt)
 
-  from_lies : (o : Option (List ℕ)) (ss : Steps) (whole : Span) → LiesIn size whole → AllLie size (untrusted_from o ss whole)
-  from_lies None ss whole i = tt
-  from_lies (Some b) ss whole i = chain_lies whole (chain_among untrusted_chains (b ∷ parts_of ss)) i
-
   untrusted_lies : (exposed : Bool) (t : Tree) (ss : Steps) → LiesIn size (extent (Path t ss)) → AllLie size (untrusted exposed t ss)
-  untrusted_lies true t ss i = from_lies (base_name t) ss (extent (Path t ss)) i
-  untrusted_lies false t ss i = tt
+  untrusted_lies true (Named b s) ss i = chain_lies (extent (Path (Named b s) ss)) (chain_among untrusted_chains (b ∷ parts_of ss)) i
+  untrusted_lies _ t ss i = tt
 
   operated_lies : (o : Operator) (s : Span) (t u : Type') → LiesIn size s → TypedLies (operated o s t u)
   operated_lies o s t u i =
@@ -169,12 +161,12 @@ module _ (size : ℕ) where
   text_lie None as' i l = tt
   text_lie (Some x) as' i l = placeholders_lie x.1 (used_arguments (length as') x.0) as' i l
 
-  rest_lies : (as' : List (Type' × Span)) → ArgsLie as' → ArgsLie (rest_of as')
+  rest_lies : (as' : List (Type' × Span)) → ArgsLie as' → ArgsLie (drop 1 as')
   rest_lies [] l = tt
   rest_lies (a ∷ as') l = l.1
 
   format_lie : (f : Function) (ts : Arguments) (low : ℕ) (as' : List (Type' × Span)) → ArgumentsLie size low ts → ArgsLie as' → AllLie size (format_faults f ts as')
-  format_lie Format (ArgumentThen t ts) low as' h l = text_lie (literal_text t) (rest_of as') (literal_lies t low h.0) (rest_lies as' l)
+  format_lie Format (ArgumentThen t ts) low as' h l = text_lie (literal_text t) (drop 1 as') (literal_lies t low h.0) (rest_lies as' l)
   format_lie Format NoArgument low as' h l = tt
   format_lie _ ts low as' h l = tt
 
@@ -182,9 +174,9 @@ module _ (size : ℕ) where
       LiesIn size s → ArgumentsLie size low ts → ArgsLie as' → TypedLies (called_with sc b s o ts as')
   with_lies sc b s None ts low as' i h l = (i, tt)
   with_lies sc b s (Some f) ts low as' i h l =
-      both_lie (give (not (sc.allowed f)) (fault code.UnavailableFunction s (b ∷ [])) ++ argument_faults b s (signature f).parameters as') (format_faults f ts as')
-      (both_lie (give (not (sc.allowed f)) (fault code.UnavailableFunction s (b ∷ []))) (argument_faults b s (signature f).parameters as')
-      (give_lies (not (sc.allowed f)) (fault code.UnavailableFunction s (b ∷ [])) i) (arguments_lie b s (signature f).parameters as' i l))
+      both_lie (give (not (sc.available.functions f)) (fault code.UnavailableFunction s (b ∷ [])) ++ argument_faults b s (signature f).parameters as') (format_faults f ts as')
+      (both_lie (give (not (sc.available.functions f)) (fault code.UnavailableFunction s (b ∷ []))) (argument_faults b s (signature f).parameters as')
+      (give_lies (not (sc.available.functions f)) (fault code.UnavailableFunction s (b ∷ [])) i) (arguments_lie b s (signature f).parameters as' i l))
       (format_lie f ts low as' h l)
 
   called_lies : (sc : Scope) (b : List ℕ) (s : Span) (o : Option Function) (ts : Arguments) (low : ℕ) (all : AllTyped) →

@@ -9,13 +9,14 @@ use Rattle.al_types.specs.declared.names.Function.{Function}
 use Rattle.al_expr_grammar.specs.Refusal.{fault}
 use Rattle.al_types.specs.Names.{context_of}
 use Rattle.al_types.specs.Types.{Type', Any}
-use Rattle.al_expr_grammar.specs.Tree.{Tree, Named, Path, Sign, sign, Arguments, StepTree, Property, All, Index, steps_of, operands_of, arguments_of}
+use Rattle.al_expr_grammar.specs.Tree.{Tree, Named, Path, Steps, Sign, sign, Arguments, StepTree, Property, All, Index, steps_of, operands_of, arguments_of}
 use Rattle.al_types.specs.Scopes.{Scope}
 use Rattle.al_expr_grammar.specs.Extents.{extent}
 use Rattle.al_expr_typing.specs.Untrusted.{part_of, chain_among, untrusted_chains, with_dots}
-use Rattle.al_expr_typing.specs.Meaning.{Typed, typed, behind, before, named, called, called_with, base_name, untrusted, untrusted_from}
+use Rattle.al_expr_typing.specs.Meaning.{Typed, typed, behind, before, named, called, called_with, untrusted}
 use Rattle.al_expr_typing.specs.Meaning.{untrusted_fault, and_then, AllTyped, all_typed, typed_then, all_behind, parts_of, stepped, indexed}
 use Rattle.al_expr_typing.specs.Meaning.{index_of, operated, meaning, walked, chained, meanings}
+use Rattle.al_expr_typing.specs.Steps.{base_name}
 use Rattle.al_expr_typing.proofs.TypedSteps.{follows, behind-behind, behind-before}
 
 pub parts_of-steps : (ss : List StepTree) → parts_of (steps_of ss) ≡ map part_of ss
@@ -84,10 +85,20 @@ fault_none : (whole : Span) (o : Option (List (List ℕ))) → None ≡ option_m
 fault_none whole None h = refl
 fault_none whole (Some c) h = absurd cc
 
+-- of a path that begins with a name
+chain_of : (name : List ℕ) (t : Tree) (ss : Steps) → Some name ≡ base_name t → untrusted true t ss
+    ≡ untrusted_fault (extent (Path t ss)) (chain_among untrusted_chains (name ∷ parts_of ss))
+chain_of name (Named b s) ss h = cc
+chain_of name t ss h = absurd cc
+
+pub nameless : (t : Tree) (ss : Steps) → None ≡ base_name t → untrusted true t ss ≡ []
+nameless (Named b s) ss h = absurd cc
+nameless t ss h = refl
+
 pub untrusted_none : (name : List ℕ) (t : Tree) (ss : List StepTree) → Some name ≡ base_name t → None
     ≡ option_map with_dots (chain_among untrusted_chains (name ∷ map part_of ss)) → untrusted true t (steps_of ss) ≡ []
 untrusted_none name t ss h k =
-    ap (λ o. untrusted_from o (steps_of ss) (extent (Path t (steps_of ss)))) (sym h)
+    chain_of name t (steps_of ss) h
     ∙ ap (λ ps. untrusted_fault (extent (Path t (steps_of ss))) (chain_among untrusted_chains (name ∷ ps))) (parts_of-steps ss)
     ∙ fault_none (extent (Path t (steps_of ss))) (chain_among untrusted_chains (name ∷ map part_of ss)) k
 
@@ -100,7 +111,7 @@ pub untrusted_some : (name : List ℕ) (t : Tree) (ss : List StepTree) (text : L
     ≡ option_map with_dots (chain_among untrusted_chains (name ∷ map part_of ss)) → untrusted true t (steps_of ss)
     ≡ fault code.Untrusted (extent (Path t (steps_of ss))) (text ∷ []) ∷ []
 untrusted_some name t ss text h k =
-    ap (λ o. untrusted_from o (steps_of ss) (extent (Path t (steps_of ss)))) (sym h)
+    chain_of name t (steps_of ss) h
     ∙ ap (λ ps. untrusted_fault (extent (Path t (steps_of ss))) (chain_among untrusted_chains (name ∷ ps))) (parts_of-steps ss)
     ∙ fault_some (extent (Path t (steps_of ss))) (chain_among untrusted_chains (name ∷ map part_of ss)) text k
 
@@ -111,5 +122,5 @@ indexed_on None whole u by v old mid new x h e f = f ∙ follows old mid by x (�
 indexed_on (Some n) whole u by v old mid new x h e f = absurd cc
 
 -- a name of a context that is available
-pub named_available : (sc : Scope) (b : List ℕ) (s : Span) (k : Context) → Some k ≡ context_of b → sc.available k ≡ true → (safe : Bool) → meaning sc safe (Named b s) ≡ typed (sc.types k) []
+pub named_available : (sc : Scope) (b : List ℕ) (s : Span) (k : Context) → Some k ≡ context_of b → sc.available.contexts k ≡ true → (safe : Bool) → meaning sc safe (Named b s) ≡ typed (sc.types k) []
 named_available sc b s k h a safe = ap (named sc b s) (sym h) ∙ ap (λ y. if y then typed (sc.types k) [] else typed Any (fault code.UnavailableContext s (b ∷ []) ∷ [])) a

@@ -1,7 +1,7 @@
 -- What numbers stand for, and what a scope shows, where the table has grown.
 use Rattle.std.proofs.Common.{◌≡◌, List, [], length, map, true, ap, ◌∙◌}
 use Rattle.al_base.specs.Growth.{BeginsWith}
-use Rattle.al_types.specs.Scopes.{is_allowed, is_available}
+use Rattle.al_types.specs.Scopes.{available_of}
 use Rattle.al_expr_types.specs.Tables.{is_known, objects_of, type_at}
 use Rattle.al_expr_types.specs.Types.{is_below, type_in}
 use Rattle.al_expr_types.specs.declared.ty.Ty.{Ty}
@@ -26,8 +26,7 @@ pub scope_stays : (new old : Types) (s : code.Scope) → BeginsWith (objects_of 
 scope_stays new old s b h =
     λ d. record {
       types = λ c. type_stays new old (number_of s.types c) b (h.known c) d;
-      available = is_available s.contexts;
-      allowed = is_allowed s.functions;
+      available = available_of s.available;
       in_run = s.in_run;
     }
 

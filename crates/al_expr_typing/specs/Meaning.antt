@@ -1,6 +1,6 @@
 -- The type of an expression under a scope, and the faults in it, in the order in which it is read.
 use Rattle.std.specs.Prelude.{ℕ, ◌+◌, List, [], ◌∷◌, ◌++◌, Bool, true, false, ◌&&◌, ◌||◌, not, if◌then◌else◌, Option, Some}
-use Rattle.std.specs.Prelude.{None, length}
+use Rattle.std.specs.Prelude.{None, drop, length}
 use Rattle.std.specs.Fmt.{decimal}
 use Rattle.al_base.specs.declared.codes.ExpressionCode.TheVariants as code
 use Rattle.al_base.specs.declared.faults.Fault.{Fault}
@@ -54,7 +54,7 @@ give false f = []
 -- A name is a context: X7 where there is none of it, X8 where it isn't available here.
 abbrev pub named : Scope → List ℕ → Span → Option Context → Typed
 named sc b s None = typed Any (fault code.UndefinedContext s (b ∷ []) ∷ [])
-named sc b s (Some c) = if sc.available c then typed (sc.types c) [] else typed Any (fault code.UnavailableContext s (b ∷ []) ∷ [])
+named sc b s (Some c) = if sc.available.contexts c then typed (sc.types c) [] else typed Any (fault code.UnavailableContext s (b ∷ []) ∷ [])
 
 abbrev pub or_fault : Fault → Option Type' → Typed
 or_fault f None = typed Any (f ∷ [])
@@ -83,16 +83,12 @@ all_of whole (ArrayOf t) = typed (ArrayOf t) []
 all_of whole (ObjectOf fields rest all) = typed (ArrayOf (or_any (option_of all))) []
 all_of whole _ = not_indexable whole
 
--- the element of an array, by an index of this type
-abbrev pub element_at : Span → Type' → Type' → Typed
-element_at whole t Any = typed t []
-element_at whole t Number = typed t []
-element_at whole t _ = not_indexable whole
-
+-- what an index of this type gives: of an array an element
 abbrev pub index_of : Span → Type' → Type' → Typed
 index_of whole Any i = typed Any []
 index_of whole (ObjectOf fields rest all) i = typed Any []
-index_of whole (ArrayOf t) i = element_at whole t i
+index_of whole (ArrayOf t) Any = typed t []
+index_of whole (ArrayOf t) Number = typed t []
 index_of whole _ i = not_indexable whole
 
 -- `['p']` is a property, any other index an element.
@@ -110,18 +106,10 @@ abbrev pub untrusted_fault : Span → Option (List (List ℕ)) → List Fault
 untrusted_fault whole None = []
 untrusted_fault whole (Some chain) = fault code.Untrusted whole (with_dots chain ∷ []) ∷ []
 
--- the name that a path begins with, if it begins with one: a bracket ends a chain
-abbrev pub base_name : Tree → Option (List ℕ)
-base_name (Named b s) = Some b
-base_name _ = None
-
-abbrev pub untrusted_from : Option (List ℕ) → Steps → Span → List Fault
-untrusted_from None ss whole = []
-untrusted_from (Some b) ss whole = untrusted_fault whole (chain_among untrusted_chains (b ∷ parts_of ss))
-
--- X19: a whole path that is an untrusted chain, where a text could do harm.
+-- X19: a whole path that is an untrusted chain, where a text could do harm. It begins with a name: a bracket ends a chain.
 abbrev pub untrusted : Bool → Tree → Steps → List Fault
-untrusted exposed t ss = if exposed then untrusted_from (base_name t) ss (extent (Path t ss)) else []
+untrusted true (Named b s) ss = untrusted_fault (extent (Path (Named b s) ss)) (chain_among untrusted_chains (b ∷ parts_of ss))
+untrusted _ t ss = []
 
 abbrev pub is_logic : Operator → Bool
 is_logic operator.Or = true
@@ -173,17 +161,13 @@ abbrev pub placeholder_faults : Span → Option (List Bool) → List (Type' × S
 placeholder_faults at None as' = fault code.WrongPlaceholder at [] ∷ []
 placeholder_faults at (Some used) as' = unused 0 used as'
 
-abbrev pub rest_of : List (Type' × Span) → List (Type' × Span)
-rest_of [] = []
-rest_of (a ∷ as') = as'
-
 abbrev pub format_text : Option (List ℕ × Span) → List (Type' × Span) → List Fault
 format_text None as' = []
 format_text (Some text) as' = placeholder_faults text.1 (used_arguments (length as') text.0) as'
 
 -- `format`, where its first argument is a text literal
 abbrev pub format_faults : Function → Arguments → List (Type' × Span) → List Fault
-format_faults function.Format (ArgumentThen t ts) as' = format_text (literal_text t) (rest_of as')
+format_faults function.Format (ArgumentThen t ts) as' = format_text (literal_text t) (drop 1 as')
 format_faults _ ts as' = []
 
 -- A call: X9 where there is no such function, X10 where it isn't available here.
@@ -191,7 +175,7 @@ abbrev pub called_with : Scope → List ℕ → Span → Option Function → Arg
 called_with sc b s None ts as' = typed Any (fault code.UndefinedFunction s (b ∷ []) ∷ [])
 called_with sc b s (Some f) ts as' =
     typed (returned_type (signature f).returned)
-    (give (not (sc.allowed f)) (fault code.UnavailableFunction s (b ∷ []))
+    (give (not (sc.available.functions f)) (fault code.UnavailableFunction s (b ∷ []))
     ++ argument_faults b s (signature f).parameters as' ++ format_faults f ts as')
 
 abbrev pub called : Scope → List ℕ → Span → Option Function → Arguments → AllTyped → Typed

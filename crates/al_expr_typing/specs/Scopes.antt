@@ -1,6 +1,6 @@
 -- What a place makes available, by a table of types.
 use Rattle.std.specs.Prelude.{◌≡◌, List, true}
-use Rattle.al_types.specs.Scopes.{Scope, is_allowed, is_available}
+use Rattle.al_types.specs.Scopes.{Scope, available_of}
 use Rattle.al_types.specs.declared.names.Context.{Context}
 use Rattle.al_types.specs.declared.names.Context.TheVariants as context
 use Rattle.al_types.specs.Types.{Parts}
@@ -27,12 +27,7 @@ number_of ts context.Inputs = ts.inputs
 
 abbrev pub scope_in : List Parts → code.Scope → Scope
 scope_in ms s =
-    record {
-      types = λ c. type_in ms (number_of s.types c);
-      available = is_available s.contexts;
-      allowed = is_allowed s.functions;
-      in_run = s.in_run;
-    }
+    record { types = λ c. type_in ms (number_of s.types c); available = available_of s.available; in_run = s.in_run }
 
 abbrev pub scope_at : Types → code.Scope → Scope
 scope_at types s = scope_in (objects_of types) s

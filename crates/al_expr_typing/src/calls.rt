@@ -1,9 +1,8 @@
 //! Calls of functions: whether one is known and may stand here, and what is wrong with its arguments.
 
-ghost use Rattle.std.specs.Prelude.{◌≡◌, ◌++◌, ◌+◌, ◌^◌, ◌<◌, IfOk, OnOk, List, not, map, length, string_bytes, true, ◌∷◌, [], ℕ};
+ghost use Rattle.std.specs.Prelude.{◌≡◌, ◌++◌, ◌+◌, ◌^◌, ◌<◌, IfOk, OnOk, List, not, map, length, string_bytes, drop, true, ◌∷◌, [], ℕ};
 ghost use Rattle.al_expr_typing.specs.Meaning.{typed, behind, give, is_test, called_with, argument_faults, wrong_arguments, format_faults};
 ghost use Rattle.al_expr_typing.specs.Meaning.{placeholder_faults, unused};
-ghost use Rattle.al_expr_typing.specs.Meaning as meaning;
 ghost use Rattle.al_expr_typing.specs.Placeholders.{used_arguments};
 ghost use Rattle.al_expr_grammar.specs.Refusal.{fault};
 ghost use Rattle.al_expr_typing.specs.Arguments.{argument_in};
@@ -116,10 +115,11 @@ fn check_available(
     faults: &mut FaultSink,
 ) -> Result<(), AllocError>
     ensures { OnOk result
-        (faults.new ≡ faults.old ++ give (not (is_allowed scope.now.functions function))
+        (faults.new ≡ faults.old
+        ++ give (not (is_allowed scope.now.available.functions function))
         (fault code.UnavailableFunction name.now.span (string_bytes name.now.text ∷ []))) }
 {
-    if !scope.functions.allows(function) {
+    if !scope.available.functions.allows(function) {
         report_text(
             name.span,
             ExpressionCode::UnavailableFunction,
@@ -217,7 +217,7 @@ fn check_format(
 
 fn behind_first(arguments: &[Argument]) -> &[Argument]
     ensures { (ms : List Parts) → map (argument_in ms) result.now
-        ≡ meaning.rest_of (map (argument_in ms) arguments.now) }
+        ≡ drop 1 (map (argument_in ms) arguments.now) }
 {
     match arguments {
         [] => &[],

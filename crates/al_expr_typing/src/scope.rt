@@ -4,14 +4,13 @@ ghost use Rattle.std.specs.Prelude.{◌≡◌};
 ghost use Rattle.al_expr_typing.specs.Scopes.{number_of};
 
 use al_expr_types::Ty;
-use al_types::{Context, ContextSet, FunctionSet};
+use al_types::{Available, Context};
 
 /// What an expression can refer to at its place in a workflow or an action.
 #[derive(Clone, Copy)]
 pub struct Scope {
     pub types: ContextTypes,
-    pub contexts: ContextSet,
-    pub functions: FunctionSet,
+    pub available: Available,
     /// Whether the place is a step's `run`, where text from outside would become part of a script.
     pub in_run: bool,
 }

@@ -4,7 +4,7 @@ ghost use Rattle.std.specs.Prelude.{◌≡◌, ◌<◌, ◌∷◌, [], IfOk, Lis
 ghost use Rattle.al_base.specs.Growth.{BeginsWith};
 ghost use Rattle.al_base.specs.declared.codes.ExpressionCode.TheVariants as code;
 ghost use Rattle.al_expr_grammar.specs.Refusal.{fault};
-ghost use Rattle.al_expr_typing.specs.Meaning.{typed, behind, or_fault, property_of, all_of, index_of, element_at, not_indexable};
+ghost use Rattle.al_expr_typing.specs.Meaning.{typed, behind, or_fault, property_of, all_of, index_of, not_indexable};
 ghost use Rattle.al_types.specs.Types.{ArrayOf, Parts, Type', object_type, or_any, property_in};
 ghost use Rattle.al_expr_typing.specs.Steps.{is_index};
 ghost use Rattle.al_expr_types.specs.Tables.{is_known, objects_of, type_at};
@@ -185,7 +185,7 @@ fn base_element(base: Base, whole: Span, faults: &mut FaultSink) -> Result<Ty, A
 #[tactic(auto, using(crate::proofs::TypedSteps::typing, crate::proofs::Forms::scalar_steps))]
 fn element_of(of: Ty, by: Ty, whole: Span, faults: &mut FaultSink) -> Result<Ty, AllocError>
     ensures ok { IfOk result (λ t. (ms : List Parts) → typed (type_in ms t) faults.new
-        ≡ behind faults.old (element_at whole (type_in ms of) (type_in ms by))) }
+        ≡ behind faults.old (index_of whole (ArrayOf (type_in ms of)) (type_in ms by))) }
     ensures known { IfOk result (λ t. (k : ℕ) → is_below k of ≡ true → is_below k t ≡ true) }
 {
     if is_index(by) {

@@ -9,7 +9,8 @@ ghost use Rattle.al_expr_types.specs.Types as numbers;
 ghost use Rattle.al_expr_types.specs.Tables.{is_known, objects_of, type_at};
 ghost use Rattle.al_base.specs.Growth.{BeginsWith};
 ghost use Rattle.al_expr_typing.specs.Meaning.{typed, type_in, faults_in, behind, meaning_of, walked, chained, meanings};
-ghost use Rattle.al_expr_typing.specs.Meaning.{begins_logic, untrusted, all_typed, all_behind, stepped, indexed, base_name};
+ghost use Rattle.al_expr_typing.specs.Meaning.{begins_logic, untrusted, all_typed, all_behind, stepped, indexed};
+ghost use Rattle.al_expr_typing.specs.Steps.{base_name};
 ghost use Rattle.al_expr_typing.specs.Meaning as meaning;
 ghost use Rattle.al_expr_typing.specs.Literals.{literal_text};
 ghost use Rattle.al_types.specs.Names.{context_of, function_of};
@@ -202,7 +203,7 @@ fn named(scope: &Scope, word: &Word, faults: &mut FaultSink) -> Result<Ty, Alloc
     let name = word.text.as_str();
     let code = match Context::named(name) {
         Some(context) => {
-            if scope.contexts.contains(context) {
+            if scope.available.contexts.contains(context) {
                 return Ok(scope.types.get(context));
             }
             ExpressionCode::UnavailableContext

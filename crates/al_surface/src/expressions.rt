@@ -1,9 +1,9 @@
 //! `al_expr`: tokens, trees, chunks, signatures and types.
 
 use al_expr::{
-    Chunk, ContextSet, ContextTypes, Expr, FunctionSet, Operand, Operator, Parameters, PathStep,
-    Returned, Scope, Signature, TokenKind, Ty, Wanted, Word, assignable, chunks, fuse, lex,
-    parse_expr, signature_of, type_of,
+    Available, Chunk, ContextSet, ContextTypes, Expr, FunctionSet, Operand, Operator, Parameters,
+    PathStep, Returned, Scope, Signature, TokenKind, Ty, Wanted, Word, assignable, chunks, fuse,
+    lex, parse_expr, signature_of, type_of,
 };
 use al_text::{Code, ExpressionCode, Fault};
 use std::alloc::{AllocError, Global};
@@ -233,26 +233,28 @@ fn scope(alloc: Global) -> Scope {
             matrix: Ty::Any,
             inputs: Ty::Any,
         },
-        contexts: ContextSet {
-            github: true,
-            env: false,
-            vars: false,
-            secrets: false,
-            runner: false,
-            job: false,
-            strategy: false,
-            needs: false,
-            jobs: false,
-            steps: false,
-            matrix: false,
-            inputs: false,
-        },
-        functions: FunctionSet {
-            hash_files: false,
-            success: false,
-            always: false,
-            cancelled: false,
-            failure: false,
+        available: Available {
+            contexts: ContextSet {
+                github: true,
+                env: false,
+                vars: false,
+                secrets: false,
+                runner: false,
+                job: false,
+                strategy: false,
+                needs: false,
+                jobs: false,
+                steps: false,
+                matrix: false,
+                inputs: false,
+            },
+            functions: FunctionSet {
+                hash_files: false,
+                success: false,
+                always: false,
+                cancelled: false,
+                failure: false,
+            },
         },
         in_run: false,
     }

@@ -4,16 +4,20 @@ use Rattle.al_types.specs.declared.names.Context.{Context}
 use Rattle.al_types.specs.declared.names.Context.TheVariants as context
 use Rattle.al_types.specs.declared.names.Function.{Function}
 use Rattle.al_types.specs.declared.names.Function.TheVariants as function
+use Rattle.al_types.specs.declared.scope.Available as code
 use Rattle.al_types.specs.declared.scope.ContextSet.{ContextSet}
 use Rattle.al_types.specs.declared.scope.FunctionSet.{FunctionSet}
 use Rattle.al_types.specs.Types.{Type'}
 
--- the types of the contexts, those that are available, the functions that can be called, and whether the place is a
--- step's `run`
+-- which contexts are there, and which functions can be called
+pub record Available : Type 0 where
+  pub contexts : Context → Bool
+  pub functions : Function → Bool
+
+-- the types of the contexts, what is available, and whether the place is a step's `run`
 pub record Scope : Type 0 where
   pub types : Context → Type'
-  pub available : Context → Bool
-  pub allowed : Function → Bool
+  pub available : Available
   pub in_run : Bool
 
 abbrev pub is_available : ContextSet → Context → Bool
@@ -37,3 +41,6 @@ is_allowed s function.Always = s.always
 is_allowed s function.Cancelled = s.cancelled
 is_allowed s function.Failure = s.failure
 is_allowed s _ = true
+
+abbrev pub available_of : code.Available → Available
+available_of a = record { contexts = is_available a.contexts; functions = is_allowed a.functions }

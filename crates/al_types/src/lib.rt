@@ -10,6 +10,6 @@ mod signatures;
 
 pub use forms::Form;
 pub use law::{objects_fuse, types_fuse};
-pub use names::{Context, Function};
-pub use scope::{ContextSet, FunctionSet};
+pub use names::{CONTEXTS, Context, Function};
+pub use scope::{Available, ContextSet, FunctionSet};
 pub use signatures::{Parameters, Returned, Signature, Wanted, signature_of};

@@ -40,7 +40,8 @@ pub enum Function {
     Failure,
 }
 
-const CONTEXTS: [Context; 12] = [
+/// All contexts.
+pub const CONTEXTS: [Context; 12] = [
     Context::Github,
     Context::Env,
     Context::Vars,

@@ -5,6 +5,13 @@ ghost use Rattle.al_types.specs.Scopes.{is_available, is_allowed};
 
 use crate::names::{Context, Function};
 
+/// What a place makes available.
+#[derive(Clone, Copy, PartialEq, Eq, Debug)]
+pub struct Available {
+    pub contexts: ContextSet,
+    pub functions: FunctionSet,
+}
+
 /// A set of contexts.
 #[derive(Clone, Copy, PartialEq, Eq, Debug)]
 pub struct ContextSet {

@@ -83,8 +83,8 @@ fn count_of_functions(set: &FunctionSet) -> usize {
 type Told = (&'static str, usize, usize, bool);
 
 fn is_told(scope: &Scope, told: &Told) -> bool {
-    count_of_contexts(&scope.contexts) == told.1
-        && count_of_functions(&scope.functions) == told.2
+    count_of_contexts(&scope.available.contexts) == told.1
+        && count_of_functions(&scope.available.functions) == told.2
         && scope.in_run == told.3
 }
 

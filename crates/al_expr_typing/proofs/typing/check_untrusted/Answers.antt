@@ -4,7 +4,8 @@ use Rattle.al_base.specs.declared.codes.ExpressionCode.TheVariants as code
 use Rattle.al_expr_grammar.specs.Refusal.{fault}
 use Rattle.al_expr_grammar.specs.Tree.{steps_of}
 use Rattle.al_expr_grammar.specs.View.{tree_of, step_of}
-use Rattle.al_expr_typing.specs.Meaning.{base_name, untrusted}
+use Rattle.al_expr_typing.specs.Meaning.{untrusted}
+use Rattle.al_expr_typing.specs.Steps.{base_name}
 use Rattle.al_expr_typing.proofs.Paths.{untrusted_none, untrusted_some}
 use Rattle.al_expr_typing.proofs.typing.check_untrusted.Goals as goal
 

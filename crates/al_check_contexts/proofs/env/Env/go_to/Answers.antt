@@ -26,7 +26,6 @@ pub returns-clause-scope : goal.returns-clause-scope
 returns-clause-scope c = λ i. record {
   types = λ x. ((c.in_ok-go.ensures.shows.each x).is
       ∙ table_right c.args.file.kind (known_of c.args.file.known) (view c.args.file.root.now) (position_view c.args.place.position) x) i;
-  available = λ x. c.context_set-self.ensures x i;
-  allowed = λ f. c.function_set-self.ensures f i;
+  available = c.available_at-self.ensures i;
   in_run = c.args.place.is_script;
 }

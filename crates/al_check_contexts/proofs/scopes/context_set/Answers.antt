@@ -1,6 +1,6 @@
 use Rattle.al_check_contexts.specs.Scopes.{has_context}
 use Rattle.al_check_contexts.proofs.Sets.{set_test}
-use Rattle.al_check_contexts.proofs.scopes.set_of.Goals as goal
+use Rattle.al_check_contexts.proofs.scopes.context_set.Goals as goal
 
 pub returns : goal.returns
 returns c = set_test _ (has_context c.args.contexts.now) (record {

@@ -1,0 +1,29 @@
+use Rattle.std.proofs.Common.{◌≡◌, ◌<◌, ◌+◌, ◌++◌, ℕ, List, ◌∷◌, ap, sym, ◌∙◌, append_assoc, drop, get_or, length, map}
+use Rattle.std.proofs.lemmas.List.{drop_more}
+use Rattle.std.specs.List.{flat_map}
+use Rattle.al_base.proofs.Growing.{begins_trans}
+use Rattle.al_base.specs.declared.faults.Fault.{Fault}
+use Rattle.al_yaml_tree.specs.View.{view}
+use Rattle.al_check_places.specs.Places.{Place, place_of}
+use Rattle.al_check_contexts.specs.Answered.{known_of}
+use Rattle.al_check_expressions.specs.FileExpressions.{faults_at}
+use Rattle.al_check_expressions.proofs.expressions.check_each.Goals as goal
+
+-- with those of one place more
+faults_next : {X : Type 0} (f : Place → List Fault) (g : X → Place) (xs : List X) (i : ℕ) (x : X) (old now : List Fault) → i < length xs → x ≡ get_or xs i x →
+    now ≡ old ++ f (g x) → now ++ flat_map f (map g (drop (i + 1) xs)) ≡ old ++ flat_map f (map g (drop i xs))
+faults_next f g xs i x old now lt e step =
+    let rest : List Fault = flat_map f (map g (drop (i + 1) xs)) in
+    ap (λ l. l ++ rest) step ∙ append_assoc old (f (g x)) rest
+    ∙ ap (λ ys. old ++ flat_map f (map g ys)) (ap (λ y. y ∷ drop (i + 1) xs) e ∙ sym (drop_more xs i x lt))
+
+pub loop-place-preserved : goal.loop-place-preserved
+loop-place-preserved c =
+    let was = c.loop-place.invariant in
+    let made = c.in_ok-check_at.ensures in
+    record {
+      stands = made.stands;
+      all = faults_next (faults_at c.args.file.kind (known_of c.args.file.known) (view c.args.file.root.now)) place_of c.args.places.now c.loop-place.place-index
+          c.place-item.result _ _ c.loop-place-test.true c.place-item.is made.faults ∙ was.all;
+      kept = begins_trans _ _ _ was.kept made.kept;
+    }
