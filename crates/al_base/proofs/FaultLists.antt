@@ -1,7 +1,7 @@
 -- The order of faults is the derived one, it is total, and it tells equal faults.
-use Rattle.std.proofs.Common.{◌≡◌, ℕ, List, [], ◌∷◌, get_or, pred, refl, sym, ap, ◌∙◌, arith}
+use Rattle.std.proofs.Common.{◌≡◌, ℕ, List, [], ◌∷◌, get_or, map, pred, refl, sym, ap, ◌∙◌, arith}
 use Rattle.std.specs.Cmp.{IsTotalOrder}
-use Rattle.std.specs.List.{AllByRecursion, Contains}
+use Rattle.std.specs.List.{AllByRecursion, Contains, flat_map}
 use Rattle.std.specs.List.Sorted.{IsPermutation, IsStrictlySortedBy}
 use Rattle.std.specs.FinMap.{IsAntisymmetric, nat_cmp-IsAntisymmetric, slice_cmp-IsAntisymmetric}
 use Rattle.std.specs.Ordering.{nat_cmp, ordering_then, eq_by_cmp, is_eq}
@@ -159,75 +159,40 @@ fault_cmp_total =
     (then_total (on_total (λ (fault : Fault). place_in_kind fault.code) nat_cmp_total)
     (on_total (λ (fault : Fault). fault.args) args_total))))
 
--- the code at each place
-yaml_at : ℕ → YamlCode
-yaml_at n = get_or (NotUtf8 ∷ ControlCharacter ∷ TabInIndentation ∷ WrongIndentation ∷ UnclosedQuote ∷ UnclosedFlow ∷ AnchorOrAlias ∷ Tag
+-- the code at each place of a group. Numbers begin at 1, those of calls at 2.
+code_at : ℕ → ℕ → Code
+code_at kind place = get_or (get_or (
+    (map C.Yaml (NotUtf8 ∷ ControlCharacter ∷ TabInIndentation ∷ WrongIndentation ∷ UnclosedQuote ∷ UnclosedFlow ∷ AnchorOrAlias ∷ Tag
     ∷ ExplicitKey ∷ Directive ∷ SecondDocument ∷ WrongEscape ∷ UnexpectedCharacter ∷ NestingTooDeep ∷ TooManyNodes ∷ WrongBlockHeader
-    ∷ WrongKey ∷ UnknownAlias ∷ []) (pred n) NotUtf8
-
-yaml_back : (a : YamlCode) → yaml_at (place_in_kind (C.Yaml a)) ≡ a
-unfolding yaml_at
-yaml_back NotUtf8 = refl
-yaml_back _ = refl
-
-key_at : ℕ → KeyCode
-key_at n = get_or (Unexpected ∷ Missing ∷ Repeated ∷ WrongKind ∷ WrongType ∷ NotBeside ∷ EmptyFile ∷ []) (pred n) Unexpected
-
-key_back : (a : KeyCode) → key_at (place_in_kind (C.Key a)) ≡ a
-unfolding key_at
-key_back Unexpected = refl
-key_back _ = refl
-
-rule_at : ℕ → RuleCode
-rule_at n = get_or (UnknownEvent ∷ UnknownActivity ∷ WrongPattern ∷ WrongSchedule ∷ ScheduleTooOften ∷ WrongId ∷ RepeatedId ∷ UndefinedJob
+    ∷ WrongKey ∷ UnknownAlias ∷ []))
+    ∷ (map C.Key (Unexpected ∷ Missing ∷ Repeated ∷ WrongKind ∷ WrongType ∷ NotBeside ∷ EmptyFile ∷ []))
+    ∷ (map C.Rule (UnknownEvent ∷ UnknownActivity ∷ WrongPattern ∷ WrongSchedule ∷ ScheduleTooOften ∷ WrongId ∷ RepeatedId ∷ UndefinedJob
     ∷ NeedsCycle ∷ WrongMatrix ∷ UnknownMatrixRow ∷ UnknownShell ∷ UnknownPermission ∷ WrongPermission ∷ WrongVariable
-    ∷ PasswordNotExpression ∷ DeprecatedCommand ∷ AlwaysTrue ∷ UnknownInputType ∷ UnknownUsing ∷ MissingShell ∷ MissingOutputValue ∷ []) (pred n)
-    UnknownEvent
-
-rule_back : (a : RuleCode) → rule_at (place_in_kind (C.Rule a)) ≡ a
-unfolding rule_at
-rule_back UnknownEvent = refl
-rule_back _ = refl
-
-expression_at : ℕ → ExpressionCode
-expression_at n = get_or (BadCharacter ∷ UnclosedText ∷ UnexpectedToken ∷ EndsEarly ∷ TooLong ∷ TooDeep ∷ UndefinedContext
+    ∷ PasswordNotExpression ∷ DeprecatedCommand ∷ AlwaysTrue ∷ UnknownInputType ∷ UnknownUsing ∷ MissingShell ∷ MissingOutputValue ∷ []))
+    ∷ (map C.Expression (BadCharacter ∷ UnclosedText ∷ UnexpectedToken ∷ EndsEarly ∷ TooLong ∷ TooDeep ∷ UndefinedContext
     ∷ UnavailableContext ∷ UndefinedFunction ∷ UnavailableFunction ∷ ArgumentCount ∷ ArgumentType ∷ UndefinedProperty ∷ NotIndexable
-    ∷ NotComparable ∷ WrongPlaceholder ∷ UnusedArgument ∷ NotText ∷ Untrusted ∷ UnclosedChunk ∷ []) (pred n) BadCharacter
+    ∷ NotComparable ∷ WrongPlaceholder ∷ UnusedArgument ∷ NotText ∷ Untrusted ∷ UnclosedChunk ∷ []))
+    ∷ (C.Key EmptyFile ∷ flat_map (λ a. C.Call a caller.Job ∷ C.Call a caller.Step ∷ []) (NoWorkflow ∷ UndefinedInput ∷ MissingInput
+    ∷ WrongInput ∷ UndefinedSecret ∷ MissingSecret ∷ WrongUses ∷ NotCallable ∷ LeadsBack ∷ []))
+    ∷ []) kind []) (pred place) (C.Key EmptyFile)
 
-expression_back : (a : ExpressionCode) → expression_at (place_in_kind (C.Expression a)) ≡ a
-unfolding expression_at
-expression_back BadCharacter = refl
-expression_back _ = refl
-
-call_at : ℕ → Code
-call_at n = get_or (C.Call NoWorkflow caller.Job ∷ C.Call NoWorkflow caller.Step ∷ C.Call UndefinedInput caller.Job
-    ∷ C.Call UndefinedInput caller.Step ∷ C.Call MissingInput caller.Job ∷ C.Call MissingInput caller.Step ∷ C.Call WrongInput caller.Job
-    ∷ C.Call WrongInput caller.Step ∷ C.Call UndefinedSecret caller.Job ∷ C.Call UndefinedSecret caller.Step
-    ∷ C.Call MissingSecret caller.Job ∷ C.Call MissingSecret caller.Step ∷ C.Call WrongUses caller.Job ∷ C.Call WrongUses caller.Step
-    ∷ C.Call NotCallable caller.Job ∷ C.Call NotCallable caller.Step ∷ C.Call LeadsBack caller.Job ∷ C.Call LeadsBack caller.Step ∷ []) (pred (pred n))
-    (C.Call NoWorkflow caller.Job)
-
-job_back : (a : CallCode) → call_at (place_in_kind (C.Call a caller.Job)) ≡ C.Call a caller.Job
-unfolding call_at
-job_back NoWorkflow = refl
-job_back _ = refl
-
-step_back : (a : CallCode) → call_at (place_in_kind (C.Call a caller.Step)) ≡ C.Call a caller.Step
-unfolding call_at
-step_back NoWorkflow = refl
-step_back _ = refl
-
-call_back : (a : CallCode) (c : Caller) → call_at (place_in_kind (C.Call a c)) ≡ C.Call a c
-call_back a caller.Job = job_back a
-call_back a caller.Step = step_back a
+code_back : (a : Code) → code_at (kind_place a) (place_in_kind a) ≡ a
+unfolding code_at
+code_back (C.Yaml NotUtf8) = refl
+code_back (C.Yaml _) = refl
+code_back (C.Key Unexpected) = refl
+code_back (C.Key _) = refl
+code_back (C.Rule UnknownEvent) = refl
+code_back (C.Rule _) = refl
+code_back (C.Expression BadCharacter) = refl
+code_back (C.Expression _) = refl
+code_back (C.Call NoWorkflow caller.Job) = refl
+code_back (C.Call _ caller.Job) = refl
+code_back (C.Call NoWorkflow caller.Step) = refl
+code_back (C.Call _ caller.Step) = refl
 
 one_code : (a b : Code) → kind_place a ≡ kind_place b → place_in_kind a ≡ place_in_kind b → a ≡ b
-one_code (C.Yaml a) (C.Yaml b) k p = ap C.Yaml (sym (yaml_back a) ∙ ap yaml_at p ∙ yaml_back b)
-one_code (C.Key a) (C.Key b) k p = ap C.Key (sym (key_back a) ∙ ap key_at p ∙ key_back b)
-one_code (C.Rule a) (C.Rule b) k p = ap C.Rule (sym (rule_back a) ∙ ap rule_at p ∙ rule_back b)
-one_code (C.Expression a) (C.Expression b) k p = ap C.Expression (sym (expression_back a) ∙ ap expression_at p ∙ expression_back b)
-one_code (C.Call a c) (C.Call b d) k p = sym (call_back a c) ∙ ap call_at p ∙ call_back b d
-one_code _ _ k p = absurd (omega arith)
+one_code a b k p = sym (code_back a) ∙ (λ i. code_at (k i) (p i)) ∙ code_back b
 
 both_equal : (r s : Ordering) → ordering_then r s ≡ Equal → (r ≡ Equal) × (s ≡ Equal)
 both_equal Less s e = absurd cc
