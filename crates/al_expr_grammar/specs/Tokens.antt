@@ -47,7 +47,8 @@ with_digits lead (suc n) = lead + suc n
 -- `0x` and hexadecimal digits
 abbrev pub hex_len : List ℕ → ℕ
 hex_len bs =
-    if begins_with ascii.digit_zero bs && begins_with ascii.small_x (drop 1 bs) then with_digits 2 (prefix_len is_ascii_hexdigit (drop 2 bs)) else 0
+    if begins_with ascii.digit_zero bs && begins_with ascii.small_x (drop 1 bs)
+    then with_digits 2 (prefix_len is_ascii_hexdigit (drop 2 bs)) else 0
 
 -- a dot and digits
 abbrev pub fraction_len : List ℕ → ℕ
@@ -57,7 +58,8 @@ fraction_len bs = if begins_with ascii.dot bs then with_digits 1 (prefix_len is_
 abbrev pub exponent_len : List ℕ → ℕ
 exponent_len bs =
     if first_is (λ b. b == ascii.capital_e || b == ascii.small_e) bs
-    then (if first_is is_sign (drop 1 bs) then with_digits 2 (prefix_len is_digit (drop 2 bs)) else with_digits 1 (prefix_len is_digit (drop 1 bs)))
+    then (if first_is is_sign (drop 1 bs) then with_digits 2 (prefix_len is_digit (drop 2 bs))
+        else with_digits 1 (prefix_len is_digit (drop 1 bs)))
     else 0
 
 -- what follows the digits of a decimal number

@@ -79,7 +79,8 @@ from_value r (Some step) a = from_to step a r.high
 
 -- what is meant by `*`, by a value and by value-value
 abbrev pub head_of : Range → Option ℕ → List (List ℕ) → Option Item
-head_of r step (a ∷ []) = if bytes_eq a (codes "*") then from_to (unwrap_or step 1) r.low r.high else option_and_then (from_value r step) (value_in r a)
+head_of r step (a ∷ []) =
+    if bytes_eq a (codes "*") then from_to (unwrap_or step 1) r.low r.high else option_and_then (from_value r step) (value_in r a)
 head_of r step (a ∷ b ∷ []) = option_and_then (λ m. option_and_then (from_to (unwrap_or step 1) m) (value_in r b)) (value_in r a)
 head_of r step _ = None
 
